@@ -1,0 +1,10 @@
+pub mod AreQuorums
+pub mod Ballot
+pub mod Counts
+pub mod Identifier
+pub mod Key
+pub mod KeyFields
+pub mod Quorums
+pub mod Sizes
+pub mod TxId
+pub mod Unless

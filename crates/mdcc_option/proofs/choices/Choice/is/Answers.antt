@@ -1,0 +1,6 @@
+use Rattle.std.proofs.lemmas.Bool.Decides.{same_from_decides}
+use Rattle.mdcc_option.proofs.Equal.{Decides-choice}
+use Rattle.mdcc_option.proofs.choices.Choice.is.Goals as goal
+
+pub returns : goal.returns
+returns c = same_from_decides _ _ c.same.ensures (Decides-choice _ _)

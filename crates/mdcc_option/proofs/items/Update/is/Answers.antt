@@ -1,0 +1,6 @@
+use Rattle.std.proofs.lemmas.Bool.Decides.{same_from_decides}
+use Rattle.mdcc_option.proofs.Equal.{Decides-update}
+use Rattle.mdcc_option.proofs.items.Update.is.Goals as goal
+
+pub returns : goal.returns
+returns c = same_from_decides _ _ c.same.ensures (Decides-update _ _)
