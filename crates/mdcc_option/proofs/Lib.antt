@@ -1,2 +1,4 @@
+pub mod Deltas
 pub mod Equal
 pub mod Ordered
+pub mod Stores

@@ -4,4 +4,5 @@ pub mod Held
 pub mod OneCopy
 pub mod Parts
 pub mod Schema
+pub mod StoreMap
 pub mod Transaction
