@@ -1,0 +1,12 @@
+//! Tests that call across crates: what no contract can say, such as that a call finds memory where
+//! there is some.
+#![tactic(auto)]
+
+#[cfg(test)]
+mod drafts;
+#[cfg(test)]
+mod names;
+#[cfg(test)]
+mod outside;
+#[cfg(test)]
+mod store;
