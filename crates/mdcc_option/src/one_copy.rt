@@ -1,10 +1,9 @@
 //! The one-copy store of versioned, bounded items.
-ghost use Rattle.std.specs.Prelude.{◌≡◌, ◌≤◌, List, ℕ, is_some, IfOk, OnOk, OnErr, option_map, vec_len, None, Some};
+ghost use Rattle.std.specs.Prelude.{◌≡◌, ◌≤◌, IfOk, IsOkAnd, OnOk, OnErr, option_map, vec_len, None};
 ghost use Rattle.std.specs.HashMap.{get, spare, IsUnchanged};
 ghost use Rattle.std.specs.Map.{update_all};
-ghost use Rattle.std.specs.Option.{option_copied};
 ghost use Rattle.mdcc_base.specs.Key.{key_eq};
-ghost use Rattle.mdcc_option.specs.OneCopy.{empty_store, if_in_bounds, updated, held_after, may_apply, stored, least_key, key_failed, answer_of, store_after, shown};
+ghost use Rattle.mdcc_option.specs.OneCopy.{empty_store, held_after, may_apply, stored, least_key, key_failed, answer_of, store_after, shown};
 ghost use Rattle.mdcc_option.specs.StoreMap.{store_of};
 
 use crate::held::{HeldItem, added, may_add, may_write, shown, written};
@@ -187,7 +186,7 @@ fn apply_to(
 impl OneCopy {
     /// The store in which no key was written.
     pub fn new(alloc: Global) -> Result<OneCopy, Memory>
-        ensures { IfOk result (λ store. store_of store ≡ empty_store) }
+        ensures { IsOkAnd result (λ store. store_of store ≡ empty_store) }
     {
         Ok(OneCopy {
             alloc,
