@@ -10,3 +10,5 @@ mod names;
 mod outside;
 #[cfg(test)]
 mod store;
+#[cfg(test)]
+mod structures;

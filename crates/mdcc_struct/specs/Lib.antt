@@ -1,0 +1,10 @@
+pub mod Counted
+pub mod Fields
+pub mod Forced
+pub mod Inclusion
+pub mod Joined
+pub mod Maps
+pub mod Options
+pub mod Places
+pub mod Steps
+pub mod Voted
