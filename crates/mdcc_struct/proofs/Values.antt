@@ -19,12 +19,12 @@ use Rattle.mdcc_struct.proofs.Ordered.{ascending-below, ascending-tail, value_of
 abbrev pub entry_value : {X : Type 0} → TxId × X → TxId → Option X
 entry_value e tx = cond (tx_eq e.0 tx) (Some e.1) None
 
-value_after_insert : {X : Type 0} (m : TxMap X) (e : TxId × X) (tx : TxId) → value_of m e.0 ≡ None → value_of (inserted m e) tx ≡ cond (tx_eq e.0 tx) (Some e.1) (value_of m tx)
-value_after_insert [] e tx h = refl
-value_after_insert (x ∷ xs) e tx h = let ih = value_after_insert xs e tx in grind (arith, ih, tx_eq-same)
+pub value_of-inserted : {X : Type 0} (m : TxMap X) (e : TxId × X) (tx : TxId) → value_of m e.0 ≡ None → value_of (inserted m e) tx ≡ cond (tx_eq e.0 tx) (Some e.1) (value_of m tx)
+value_of-inserted [] e tx h = refl
+value_of-inserted (x ∷ xs) e tx h = let ih = value_of-inserted xs e tx in grind (arith, ih, tx_eq-same)
 
-value_of-with_entry : {X : Type 0} (m : TxMap X) (e : TxId × X) (tx : TxId) → value_of (with_entry m e) tx ≡ option_or (value_of m tx) (entry_value e tx)
-value_of-with_entry m e tx = grind (arith, value_after_insert, tx_eq-same)
+pub value_of-with_entry : {X : Type 0} (m : TxMap X) (e : TxId × X) (tx : TxId) → value_of (with_entry m e) tx ≡ option_or (value_of m tx) (entry_value e tx)
+value_of-with_entry m e tx = grind (arith, value_of-inserted, tx_eq-same)
 
 pub value_of-union : {X : Type 0} (xs ys : TxMap X) (tx : TxId) → value_of (union xs ys) tx ≡ option_or (value_of xs tx) (value_of ys tx)
 value_of-union xs [] tx = grind arith

@@ -1,0 +1,12 @@
+pub mod Adds
+pub mod ByteValues
+pub mod Collisions
+pub mod Computing
+pub mod Crashes
+pub mod Dangling
+pub mod EachKind
+pub mod Inserts
+pub mod Refusals
+pub mod Replays
+pub mod Texts
+pub mod Versions

@@ -1,0 +1,100 @@
+-- What the examples of texts are about.
+use Rattle.std.specs.Prelude.{ℕ, ℤ, pos, List, [], ◌∷◌, ◌++◌, codes, Option, Some, None, Result, Ok, Err}
+use Rattle.mdcc_base.specs.declared.identifiers.TxId.{TxId}
+use Rattle.mdcc_option.specs.declared.cluster.Cluster.{Cluster}
+use Rattle.mdcc_option.specs.declared.items.Item.{Item}
+use Rattle.mdcc_option.specs.declared.items.Known.{Known}
+use Rattle.mdcc_option.specs.declared.items.Part.{Part}
+use Rattle.mdcc_option.specs.declared.items.Update.{Update}
+use Rattle.mdcc_protocol.specs.declared.events.Event.{Event}
+use Rattle.mdcc_protocol.specs.declared.events.Event.TheVariants.{Begin}
+use Rattle.mdcc_protocol.specs.declared.events.UpdateWord.{UpdateWord}
+use Rattle.mdcc_protocol.specs.declared.schedule.HeaderCause.{HeaderCause}
+use Rattle.mdcc_protocol.specs.declared.schedule.HeaderFault.{HeaderFault}
+use Rattle.mdcc_protocol.specs.declared.schedule.SchedCause.{SchedCause}
+use Rattle.mdcc_protocol.specs.declared.schedule.SchedFault.{SchedFault}
+use Rattle.mdcc_protocol.specs.Built.{all_built, nothing_built}
+use Rattle.mdcc_protocol.specs.Header.{header_of}
+use Rattle.mdcc_protocol.specs.Replay.{Output, output_of, replay_of}
+use Rattle.mdcc_protocol.specs.Schedule.{line_of}
+
+-- ---- lines
+
+-- quorums 5 3 4, one attribute from 0 to 1000
+abbrev pub five_centres : Cluster
+five_centres = record {
+  quorums = record { centres = 5; classic = 3; fast = 4 };
+  schema = (pos 0, pos 1000) ∷ [];
+  gamma = 100;
+  cells = 1048576;
+}
+
+abbrev pub line : List ℕ → Result (Option Event) SchedFault
+line text = line_of all_built five_centres text
+
+abbrev pub early_line : List ℕ → Result (Option Event) SchedFault
+early_line text = line_of nothing_built five_centres text
+
+abbrev pub event : Event → Result (Option Event) SchedFault
+event e = Ok (Some e)
+
+-- a begin at centre 1 with one update word
+abbrev pub begun : UpdateWord → Result (Option Event) SchedFault
+begun word = event (Begin 1 (word ∷ []))
+
+abbrev pub skipped : Result (Option Event) SchedFault
+skipped = Ok None
+
+abbrev pub fault : {A : Type 0} → ℕ → SchedCause → Result A SchedFault
+fault column cause = Err (record { column = column; cause = cause })
+
+abbrev pub item : List ℕ → List ℤ → Item
+item body values = record { body = body; values = values }
+
+-- ---- headers
+
+abbrev pub header : List ℕ → Result (Cluster × ℕ) HeaderFault
+header text = header_of all_built text
+
+abbrev pub early_header : List ℕ → Result (Cluster × ℕ) HeaderFault
+early_header text = header_of nothing_built text
+
+-- the cluster of a header that ends before this place
+abbrev pub accepted : Cluster → ℕ → Result (Cluster × ℕ) HeaderFault
+accepted cluster end = Ok (cluster, end)
+
+abbrev pub header_fault : ℕ → HeaderCause → Result (Cluster × ℕ) HeaderFault
+header_fault number cause = Err (record { line = number; cause = cause })
+
+-- a header with these lines between that of the quorums and the last
+abbrev pub header_with : List ℕ → List ℕ
+header_with lines = codes "mdcc-schedule 1\nquorums 5 3 4\n" ++ lines ++ codes "start\n"
+
+-- ---- reads
+
+abbrev pub tx : ℕ → ℕ → ℕ → TxId
+tx centre epoch seq = record { centre = centre; epoch = epoch; seq = seq }
+
+-- a read of `a` at version 3, after one delta on it
+abbrev pub read_a : Known
+read_a = record { key = codes "a"; token = record { version = 3; seen = tx 1 1 1 ∷ [] }; item = Some (item (255 ∷ []) (pos 7 ∷ [])) }
+
+-- a read of `b`, which was never written
+abbrev pub read_b : Known
+read_b = record { key = codes "b"; token = record { version = 0; seen = [] }; item = None }
+
+-- reads 1 and 3; read 2 was not made
+abbrev pub reads : List (Option Known)
+reads = Some read_a ∷ None ∷ Some read_b ∷ []
+
+abbrev pub part : List ℕ → ℕ → Update → Part
+part key version update = record { key = key; version = version; update = update }
+
+-- ---- whole inputs
+
+-- what a replay writes, where all is built
+abbrev pub replayed : List ℕ → Output
+replayed text = output_of (replay_of all_built text)
+
+abbrev pub output : List ℕ → ℕ → List ℕ → Output
+output text status error = record { text = text; status = status; error = error }

@@ -1,0 +1,252 @@
+-- The facts of one centre, the newest first, and what they say: epochs, promises, votes, outcomes, and what the centre holds.
+-- Each question is asked of one fact, and then of all. Where the first of several facts counts, the older ones stand on the left.
+use Rattle.std.specs.Option.{option_or}
+use Rattle.std.specs.Prelude.{Bool, List, None, Option, Some, [], filter, filter_map, fold, if◌then◌else◌, is_some, length, map, max, nat_le, not, option_and_then, option_map, ℕ, ◌&&◌, ◌++◌, ◌==◌, ◌∷◌}
+use Rattle.mdcc_base.specs.Ballot.{ballot_eq, ballot_lt, ballot_max, fast_ballot}
+use Rattle.mdcc_base.specs.Key.{key_eq}
+use Rattle.mdcc_base.specs.TxId.{tx_eq}
+use Rattle.mdcc_base.specs.declared.identifiers.Ballot.{Ballot}
+use Rattle.mdcc_base.specs.declared.identifiers.TxId.{TxId}
+use Rattle.mdcc_base.specs.declared.key.Key.{Key}
+use Rattle.mdcc_option.specs.OneCopy.{next_version}
+use Rattle.mdcc_option.specs.declared.choices.Choice.{Choice}
+use Rattle.mdcc_option.specs.declared.choices.Mark.{Mark}
+use Rattle.mdcc_option.specs.declared.choices.Outcome.{Outcome}
+use Rattle.mdcc_option.specs.declared.items.Item.{Item}
+use Rattle.mdcc_option.specs.declared.items.Token.{Token}
+use Rattle.mdcc_option.specs.declared.items.Update.{Update}
+use Rattle.mdcc_struct.specs.Maps.{TxMap, txs_of, union, value_of}
+use Rattle.mdcc_struct.specs.declared.options.Options.{Options}
+use Rattle.mdcc_struct.specs.declared.report.Report.{Report}
+use Rattle.mdcc_protocol.specs.Marks.{Amounts, accepts_in, choice_in, is_abort, is_write, rejects_in}
+use Rattle.mdcc_protocol.specs.declared.facts.Fact.{Fact}
+
+-- ---- epochs
+
+-- the epoch of the last boot
+abbrev pub epoch_of : List Fact → ℕ
+epoch_of [] = 0
+epoch_of (Fact.Booted epoch ∷ facts) = epoch
+epoch_of (fact ∷ facts) = epoch_of facts
+
+-- ---- promises
+
+-- the ballot below which a fact bars votes in an instance; the fast one where it bars none
+abbrev pub ballot_promised : Key → ℕ → Fact → Ballot
+ballot_promised key version (Fact.Promised key' low high ballot) = if nat_le low version && nat_le version high && key_eq key' key then ballot else fast_ballot
+ballot_promised key version (Fact.Voted key' version' ballot options offered) = if version' == version && key_eq key' key then ballot else fast_ballot
+ballot_promised key version _ = fast_ballot
+
+-- the promise: the greatest ballot that was promised for the instance, or voted at in it. (Fast Paxos.)
+abbrev pub promise_of : List Fact → Key → ℕ → Ballot
+promise_of [] key version = fast_ballot
+promise_of (fact ∷ facts) key version = ballot_max (promise_of facts key version) (ballot_promised key version fact)
+
+-- the high end of a promise of this ballot that begins at this version
+abbrev pub range_promised : Key → ℕ → Ballot → Fact → Option ℕ
+range_promised key version ballot (Fact.Promised key' low high ballot') = if low == version && ballot_eq ballot' ballot && key_eq key' key then Some high else None
+range_promised key version ballot _ = None
+
+-- the first such end
+abbrev pub promised_through : List Fact → Key → ℕ → Ballot → Option ℕ
+promised_through [] key version ballot = None
+promised_through (fact ∷ facts) key version ballot = option_or (promised_through facts key version ballot) (range_promised key version ballot fact)
+
+-- ---- votes
+
+-- the marks that a fact votes in an instance at a ballot
+abbrev pub marks_voted : Key → ℕ → Ballot → Fact → Options
+marks_voted key version ballot (Fact.Voted key' version' ballot' options offered) =
+    if version' == version && ballot_eq ballot' ballot && key_eq key' key then options else []
+marks_voted key version ballot _ = []
+
+-- all marks that were voted there. (Generalized Paxos.)
+abbrev pub votes_of : List Fact → Key → ℕ → Ballot → Options
+votes_of [] key version ballot = []
+votes_of (fact ∷ facts) key version ballot = union (votes_of facts key version ballot) (marks_voted key version ballot fact)
+
+-- the ballot at which a fact votes in an instance, where it is below another one; else the fast one
+abbrev pub ballot_voted : Key → ℕ → Ballot → Fact → Ballot
+ballot_voted key version below (Fact.Voted key' version' ballot options offered) =
+    if version' == version && ballot_lt ballot below && key_eq key' key then ballot else fast_ballot
+ballot_voted key version below _ = fast_ballot
+
+-- the greatest ballot below another one at which there is a vote in the instance
+abbrev pub last_ballot : List Fact → Key → ℕ → Ballot → Ballot
+last_ballot [] key version below = fast_ballot
+last_ballot (fact ∷ facts) key version below = ballot_max (last_ballot facts key version below) (ballot_voted key version below fact)
+
+-- what a centre reports to a leader: the votes at the greatest ballot below the leader's. (Fast Paxos.)
+abbrev pub report_of : ℕ → List Fact → Key → ℕ → Ballot → Report
+report_of centre facts key version below =
+    let ballot = last_ballot facts key version below in
+    record { centre = centre; ballot = ballot; votes = votes_of facts key version ballot }
+
+-- the mark that a fact votes of a transaction in an instance, with its ballot
+abbrev pub mark_voted : Key → ℕ → TxId → Fact → Option (Ballot × Mark)
+mark_voted key version tx (Fact.Voted key' version' ballot options offered) =
+    if version' == version && key_eq key' key then option_map (λ mark. (ballot, mark)) (value_of options tx) else None
+mark_voted key version tx _ = None
+
+-- the second vote where its ballot is greater, else the first
+abbrev pub later_vote : Option (Ballot × Mark) → Option (Ballot × Mark) → Option (Ballot × Mark)
+later_vote None b = b
+later_vote (Some a) None = Some a
+later_vote (Some a) (Some b) = if ballot_lt a.0 b.0 then Some b else Some a
+
+-- the vote on a transaction in an instance at the greatest ballot at which it was voted
+abbrev pub vote_of : List Fact → Key → ℕ → TxId → Option (Ballot × Mark)
+vote_of [] key version tx = None
+vote_of (fact ∷ facts) key version tx = later_vote (vote_of facts key version tx) (mark_voted key version tx fact)
+
+-- the choice where it is the transaction's
+abbrev pub choice_of_tx : TxId → Choice → Option Choice
+choice_of_tx tx choice = if tx_eq choice.tx tx then Some choice else None
+
+-- the choice of a transaction that a fact has in an instance, accepted or offered
+abbrev pub choice_voted : Key → ℕ → TxId → Fact → Option Choice
+choice_voted key version tx (Fact.Voted key' version' ballot options offered) =
+    if version' == version && key_eq key' key
+    then option_or (option_and_then choice_in (value_of options tx)) (option_and_then (choice_of_tx tx) offered)
+    else None
+choice_voted key version tx _ = None
+
+-- the first such choice
+abbrev pub choice_known : List Fact → Key → ℕ → TxId → Option Choice
+choice_known [] key version tx = None
+choice_known (fact ∷ facts) key version tx = option_or (choice_known facts key version tx) (choice_voted key version tx fact)
+
+-- ---- outcomes that were heard
+
+abbrev pub outcome_in : TxId → Fact → Option Outcome
+outcome_in tx (Fact.Heard tx' outcome) = if tx_eq tx' tx then Some outcome else None
+outcome_in tx _ = None
+
+-- the outcome that was heard of a transaction
+abbrev pub heard_of : List Fact → TxId → Option Outcome
+heard_of [] tx = None
+heard_of (fact ∷ facts) tx = option_or (heard_of facts tx) (outcome_in tx fact)
+
+abbrev pub is_heard : List Fact → TxId → Bool
+is_heard facts tx = is_some (heard_of facts tx)
+
+-- a transaction that was heard aborted is void
+abbrev pub is_void : List Fact → TxId → Bool
+is_void facts tx = is_abort (heard_of facts tx)
+
+-- ---- what the centre holds
+
+-- the version that a committed choice gives a key; 0 where it gives none
+abbrev pub version_given : Key → Choice → ℕ
+version_given key choice = if is_write choice.update && key_eq choice.key key then next_version choice.version else 0
+
+-- the version that a fact gives a key
+abbrev pub version_from : Key → Fact → ℕ
+version_from key (Fact.Heard tx (Outcome.Commit choices)) = fold (λ version choice. max version (version_given key choice)) 0 choices
+version_from key (Fact.Adopted key' version item adds) = if key_eq key' key then version else 0
+version_from key _ = 0
+
+-- the version that is held
+abbrev pub current_of : List Fact → Key → ℕ
+current_of [] key = 0
+current_of (fact ∷ facts) key = max (current_of facts key) (version_from key fact)
+
+abbrev pub item_written : Update → Option Item
+item_written (Update.Write item seen) = Some item
+item_written (Update.Add amounts) = None
+
+-- the base that a committed choice gives a version of a key
+abbrev pub base_given : Key → ℕ → Choice → Option Item
+base_given key version choice = if next_version choice.version == version && key_eq choice.key key then item_written choice.update else None
+
+-- the base that a fact gives it
+abbrev pub base_from : Key → ℕ → Fact → Option Item
+base_from key version (Fact.Heard tx (Outcome.Commit choices)) = fold (λ base choice. option_or base (base_given key version choice)) None choices
+base_from key version (Fact.Adopted key' version' item adds) = if version' == version && key_eq key' key then Some item else None
+base_from key version _ = None
+
+-- the base of a version, by the first fact that gives one
+abbrev pub base_at : List Fact → Key → ℕ → Option Item
+base_at [] key version = None
+base_at (fact ∷ facts) key version = option_or (base_at facts key version) (base_from key version fact)
+
+-- the base of the version that is held; there is none at version 0
+abbrev pub base_of : List Fact → Key → Option Item
+base_of facts key =
+    let version = current_of facts key in
+    if version == 0 then None else base_at facts key version
+
+abbrev pub amounts_added : Update → Option Amounts
+amounts_added (Update.Write item seen) = None
+amounts_added (Update.Add amounts) = Some amounts
+
+-- the delta that a committed choice brings at a version of a key
+abbrev pub delta_given : Key → ℕ → Choice → Option (TxId × Amounts)
+delta_given key version choice =
+    if choice.version == version && key_eq choice.key key then option_map (λ amounts. (choice.tx, amounts)) (amounts_added choice.update) else None
+
+-- the deltas that a fact brings there
+abbrev pub deltas_from : Key → ℕ → Fact → TxMap Amounts
+deltas_from key version (Fact.Heard tx (Outcome.Commit choices)) = filter_map (delta_given key version) choices
+deltas_from key version (Fact.Adopted key' version' item adds) =
+    if version' == version && key_eq key' key then map (λ delta. (delta.tx, delta.amounts)) adds else []
+deltas_from key version _ = []
+
+-- the deltas of a version that were heard committed or adopted
+abbrev pub deltas_at : List Fact → Key → ℕ → TxMap Amounts
+deltas_at [] key version = []
+deltas_at (fact ∷ facts) key version = union (deltas_at facts key version) (deltas_from key version fact)
+
+-- the executed deltas: those of the version that is held
+abbrev pub executed_of : List Fact → Key → TxMap Amounts
+executed_of facts key = deltas_at facts key (current_of facts key)
+
+-- what a reader sees of a key: the version held, and the transactions whose deltas are executed
+abbrev pub token_of : List Fact → Key → Token
+token_of facts key =
+    let version = current_of facts key in
+    record { version = version; seen = txs_of (deltas_at facts key version) }
+
+-- ---- live choices
+
+abbrev pub live_mark : TxId × Mark → Option (TxId × Update)
+live_mark e = option_map (λ choice. (e.0, choice.update)) (choice_in e.1)
+
+-- the updates that a fact makes live in an instance: accepted votes and executed deltas
+abbrev pub live_from : Key → ℕ → Fact → TxMap Update
+live_from key version (Fact.Voted key' version' ballot options offered) =
+    if version' == version && key_eq key' key then filter_map live_mark options else []
+live_from key version fact = map (λ e. (e.0, Update.Add e.1)) (deltas_from key version fact)
+
+abbrev pub live_and_void : List Fact → Key → ℕ → TxMap Update
+live_and_void [] key version = []
+live_and_void (fact ∷ facts) key version = union (live_and_void facts key version) (live_from key version fact)
+
+-- the live choices of an instance, each transaction once: those that may still be in the item's value
+abbrev pub live_of : List Fact → Key → ℕ → TxMap Update
+live_of facts key version = filter (λ e. not (is_void facts e.0)) (live_and_void facts key version)
+
+-- how many marks accept and how many reject in an instance at the fast ballot
+abbrev pub entries_of : List Fact → Key → ℕ → ℕ × ℕ
+entries_of facts key version =
+    let votes = votes_of facts key version fast_ballot in
+    (length (accepts_in votes), length (rejects_in votes))
+
+-- ---- transactions that are not resolved
+
+abbrev pub write_set_in : TxId × Mark → Option (TxId × List (Key × ℕ))
+write_set_in e = option_map (λ choice. (e.0, choice.write_set)) (choice_in e.1)
+
+-- the transactions of which a vote holds a choice, with their write sets
+abbrev pub write_sets_from : Fact → TxMap (List (Key × ℕ))
+write_sets_from (Fact.Voted key version ballot options None) = filter_map write_set_in options
+write_sets_from (Fact.Voted key version ballot options (Some choice)) = filter_map write_set_in options ++ (choice.tx, choice.write_set) ∷ []
+write_sets_from _ = []
+
+abbrev pub write_sets_of : List Fact → TxMap (List (Key × ℕ))
+write_sets_of [] = []
+write_sets_of (fact ∷ facts) = union (write_sets_of facts) (write_sets_from fact)
+
+-- those that were not heard, ascending
+abbrev pub unresolved_of : List Fact → TxMap (List (Key × ℕ))
+unresolved_of facts = filter (λ e. not (is_heard facts e.0)) (write_sets_of facts)

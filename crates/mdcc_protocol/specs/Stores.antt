@@ -1,0 +1,30 @@
+-- What a store of facts answers that its facts do not say as it stands: capped sums, and lists by place.
+use Rattle.std.specs.Prelude.{List, Option, option_map, slice_get, ℕ}
+use Rattle.mdcc_base.specs.declared.identifiers.Ballot.{Ballot}
+use Rattle.mdcc_base.specs.declared.identifiers.TxId.{TxId}
+use Rattle.mdcc_base.specs.declared.key.Key.{Key}
+use Rattle.mdcc_option.specs.declared.choices.Mark.{Mark}
+use Rattle.mdcc_option.specs.declared.items.Delta.{Delta}
+use Rattle.mdcc_struct.specs.Maps.{value_of}
+use Rattle.mdcc_protocol.specs.Facts.{executed_of, live_of, report_of, unresolved_of}
+use Rattle.mdcc_protocol.specs.Fit.{capped, load_of}
+use Rattle.mdcc_protocol.specs.declared.facts.Fact.{Fact}
+use Rattle.mdcc_protocol.specs.declared.fit.Load.{Load}
+
+-- the delta of an executed transaction
+abbrev pub delta_of : List Fact → Key → TxId → Option Delta
+delta_of facts key tx = option_map (λ amounts. record { tx = tx; amounts = amounts }) (value_of (executed_of facts key) tx)
+
+-- what the live choices of an instance weigh beside a seen set
+abbrev pub load_at : List Fact → Key → ℕ → List TxId → Load
+load_at facts key version seen = capped (load_of (live_of facts key version) seen)
+
+-- the mark at a place of the votes at the greatest ballot below another one
+abbrev pub mark_below : List Fact → Key → ℕ → Ballot → ℕ → Option (Ballot × TxId × Mark)
+mark_below facts key version below place =
+    let report = report_of 0 facts key version below in
+    option_map (λ e. (report.ballot, e.0, e.1)) (slice_get report.votes place)
+
+-- the unresolved transaction at a place, with its write set
+abbrev pub unresolved_at : List Fact → ℕ → Option (TxId × List (Key × ℕ))
+unresolved_at facts place = slice_get (unresolved_of facts) place
