@@ -1,3 +1,12 @@
+pub mod BackedShown
+pub mod BegunDecided
+pub mod Found
+pub mod LedgerShown
 pub mod Lengths
 pub mod Longest
+pub mod MayAddDecided
+pub mod SortedParts
+pub mod SubsetsAmong
+pub mod TestsDecide
+pub mod ValuedShown
 pub mod WellFormedTests

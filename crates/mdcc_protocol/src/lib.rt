@@ -4,6 +4,7 @@
 #![tactic(auto)]
 
 pub mod acceptor;
+pub mod allowed;
 pub mod events;
 pub mod facts;
 pub mod fit;

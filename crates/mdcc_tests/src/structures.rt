@@ -17,8 +17,9 @@ fn tx(seq: u32) -> TxId {
 fn rejections(alloc: Global, count: u32) -> Result<Options, Fail> {
     let mut options = Options::new(alloc)?;
     for seq in 1..=count {
-        if options.mark_of(tx(seq)).is_none() {
-            options.insert(tx(seq), Mark::Reject)?;
+        let next = tx(seq);
+        if options.mark_of(next).is_none() {
+            options.insert(next, Mark::Reject)?;
         }
     }
     Ok(options)
