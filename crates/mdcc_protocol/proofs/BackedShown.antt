@@ -11,7 +11,7 @@ use Rattle.mdcc_option.specs.declared.choices.Outcome.{Outcome}
 use Rattle.mdcc_option.specs.declared.cluster.Cluster.{Cluster}
 use Rattle.mdcc_option.specs.declared.items.Delta.{Delta}
 use Rattle.mdcc_option.specs.declared.items.Item.{Item}
-use Rattle.mdcc_option.proofs.Equal.{Decides-amounts, Decides-item, Decides-tx}
+use Rattle.mdcc_option.proofs.Equal.{Decides-amounts, Decides-choices, Decides-item, Decides-tx}
 use Rattle.mdcc_struct.specs.Maps.{TxMap, union}
 use Rattle.mdcc_protocol.specs.Allowed.{IsBacked, WasHeld}
 use Rattle.mdcc_protocol.specs.AllowedTest.{deltas_eq, did_hold, is_base_eq, is_fact_backed, outcome_eq, was_held}
@@ -19,7 +19,6 @@ use Rattle.mdcc_protocol.specs.Facts.{base_of, current_of, executed_of, votes_of
 use Rattle.mdcc_protocol.specs.Ledger.{Entry, facts_of, outcome_of}
 use Rattle.mdcc_protocol.specs.Marks.{Amounts}
 use Rattle.mdcc_protocol.specs.declared.facts.Fact.{Fact}
-use Rattle.mdcc_protocol.proofs.BegunDecided.{Decides-choices}
 use Rattle.mdcc_protocol.proofs.Found.{found}
 
 -- ---- what is heard

@@ -1,5 +1,5 @@
 -- The test of a begun transaction decides whether it is allowed.
-use Rattle.std.proofs.Common.{◌≡◌, ℕ, ◌+◌, Bool, true, false, cond, List, [], ◌∷◌, map, refl, ap, ◌∙◌, Option, Some, None, Ok, Err, is_ok, ◌==◌, length, nat_lt, Decides}
+use Rattle.std.proofs.Common.{◌≡◌, ℕ, ◌+◌, Bool, true, false, cond, List, map, refl, ap, ◌∙◌, Option, Some, None, Ok, Err, is_ok, ◌==◌, length, nat_lt, Decides}
 use Rattle.std.proofs.lemmas.Bool.{and_parts, and_from}
 use Rattle.std.proofs.lemmas.Bool.Decides.{Decides-eqb, Decides-and, Decides-like}
 use Rattle.mdcc_base.specs.declared.identifiers.TxId.{TxId}
@@ -11,21 +11,14 @@ use Rattle.mdcc_option.specs.declared.faults.DraftFault.{DraftFault}
 use Rattle.mdcc_option.specs.declared.faults.DraftFault.TheVariants.{Empty, TooMany, RepeatedKey}
 use Rattle.mdcc_option.specs.declared.items.Part.{Part}
 use Rattle.mdcc_option.specs.declared.schema.Schema.{Schema}
-use Rattle.mdcc_option.proofs.Equal.{Decides-choice}
+use Rattle.mdcc_option.proofs.Equal.{Decides-choices}
 use Rattle.mdcc_protocol.specs.Allowed.{IsAllowedBegun, part_in, seqs_begun}
-use Rattle.mdcc_protocol.specs.AllowedTest.{choices_eq, is_begun_allowed, is_draft}
+use Rattle.mdcc_protocol.specs.AllowedTest.{is_begun_allowed, is_draft}
 use Rattle.mdcc_protocol.specs.Facts.{epoch_of}
 use Rattle.mdcc_protocol.specs.Ledger.{Entry, facts_of}
 use Rattle.mdcc_protocol.specs.Manager.{parts_begin_fault}
 use Rattle.mdcc_protocol.proofs.SortedParts.{sorted_parts-ascending}
 use Rattle.mdcc_protocol.proofs.TestsDecide.{Decides-none}
-
-pub Decides-choices : (as' bs : List Choice) → Decides (choices_eq as' bs) (as' ≡ bs)
-Decides-choices [] [] = (λ e. refl, λ e. refl)
-Decides-choices [] (b ∷ bs) = (λ e. cc, λ e. cc)
-Decides-choices (a ∷ as') [] = (λ e. cc, λ e. cc)
-Decides-choices (a ∷ as') (b ∷ bs) =
-    Decides-like (choices_eq (a ∷ as') (b ∷ bs)) (λ h. cc) (λ e. (cc, cc)) (Decides-and _ _ (Decides-choice a b) (Decides-choices as' bs))
 
 -- what is a draft at all is the parts that were sorted
 drafted : (is_empty is_long is_repeated : Bool) (fault : Option DraftFault) (parts : List Part)

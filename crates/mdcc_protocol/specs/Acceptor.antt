@@ -1,4 +1,4 @@
--- The acceptor: what it answers to a proposal at the fast ballot, to a leader that asks for promises, and to a leader's structure. (Fast Paxos; MDCC.)
+-- The acceptor: what it answers to a proposal at the fast ballot, to a leader that asks for promises, and to a leader's structure. (Fast Paxos; MDCC. That an acceptor gives no vote at a passed share, or where an instance is full, is our own rule.)
 use Rattle.std.specs.Prelude.{List, None, Option, Some, [], filter, if◌then◌else◌, is_some, nat_le, nat_lt, not, ℕ, ◌∷◌}
 use Rattle.mdcc_base.specs.Ballot.{ballot_lt, is_fast}
 use Rattle.mdcc_base.specs.declared.identifiers.Ballot.{Ballot}

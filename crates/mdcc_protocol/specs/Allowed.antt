@@ -196,7 +196,7 @@ abbrev pub is_placed : List Entry → Key → ℕ → TxId → Bool
 is_placed before key version tx = list_any (λ choice. choice.version == version && key_eq choice.key key) (choices_begun before tx)
 
 -- a mark accepts its transaction's own choice in the instance, or rejects a transaction that has one there.
--- Without this a learner that counts votes could decide a transaction by votes on what it never chose
+-- Without this a learner that counts votes could decide a transaction by votes on a choice that is not its own
 abbrev pub is_own_mark : List Entry → Key → ℕ → TxId × Mark → Bool
 is_own_mark before key version (tx, Mark.Accept choice) =
     tx_eq choice.tx tx && choice.version == version && key_eq choice.key key && is_begun before choice

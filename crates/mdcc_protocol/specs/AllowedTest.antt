@@ -7,7 +7,7 @@ use Rattle.mdcc_base.specs.TxId.{tx_eq}
 use Rattle.mdcc_base.specs.declared.identifiers.Ballot.{Ballot}
 use Rattle.mdcc_base.specs.declared.identifiers.TxId.{TxId}
 use Rattle.mdcc_base.specs.declared.key.Key.{Key}
-use Rattle.mdcc_option.specs.Equality.{amounts_eq, choice_eq, item_eq}
+use Rattle.mdcc_option.specs.Equality.{amounts_eq, choices_eq, item_eq}
 use Rattle.mdcc_option.specs.Parts.{are_ascending}
 use Rattle.mdcc_option.specs.Transaction.{choices_of, transaction_of}
 use Rattle.mdcc_option.specs.declared.choices.Choice.{Choice}
@@ -30,11 +30,6 @@ use Rattle.mdcc_protocol.specs.Structures.{first_structure, with_claim}
 use Rattle.mdcc_protocol.specs.World.{first_world, run_of}
 use Rattle.mdcc_protocol.specs.declared.events.Event.{Event}
 use Rattle.mdcc_protocol.specs.declared.facts.Fact.{Fact}
-
-abbrev pub choices_eq : List Choice → List Choice → Bool
-choices_eq [] [] = true
-choices_eq (a ∷ as') (b ∷ bs) = choice_eq a b && choices_eq as' bs
-choices_eq _ _ = false
 
 abbrev pub outcome_eq : Outcome → Option Outcome → Bool
 outcome_eq (Outcome.Commit choices) (Some (Outcome.Commit choices')) = choices_eq choices choices'

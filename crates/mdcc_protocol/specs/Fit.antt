@@ -1,4 +1,4 @@
--- Whether a choice fits beside the live choices of its instance: by an acceptor's share of the room at the fast ballot (quorum demarcation, MDCC), and exactly at a leader.
+-- Whether a choice fits beside the live choices of its instance: by an acceptor's share of the room at the fast ballot, and exactly at a leader. The share, and the room of 64 for the number of deltas, are our own form of MDCC's quorum demarcation.
 use Rattle.std.specs.List.{list_any}
 use Rattle.std.specs.Prelude.{Bool, List, None, Option, Some, [], false, find, get_or, if◌then◌else◌, int_lt, map, min, nat_lt, neg_ℤ, negsuc, not, option_map, pos, sum, true, ℕ, ℤ, ◌*ℤ◌, ◌+ℤ◌, ◌+◌, ◌-ℤ◌, ◌-◌, ◌^◌, ◌∷◌}
 use Rattle.mdcc_base.specs.Counts.{number_of, sum_over}

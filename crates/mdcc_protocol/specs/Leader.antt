@@ -29,7 +29,7 @@ abbrev pub next_round : List Fact → Leading → Key → ℕ → ℕ
 next_round facts leader key version =
     1 + max (promise_of facts key version).round (max (number_at leader.refused_rounds key) (number_at leader.last_rounds key))
 
--- a lead over the version of the claim and as many behind it as a classic range has
+-- a lead over the version of the claim and as many above it as a classic range has
 abbrev pub lead_begun : Cluster → ℕ → ℕ → Claim → ℕ → Lead
 lead_begun cluster me epoch claim round = record {
   key = claim.key;

@@ -98,9 +98,9 @@ txs_begun [] = []
 txs_begun (Entry.Begun a tx choices ∷ entries) = with_tx (txs_begun entries) tx
 txs_begun (entry ∷ entries) = txs_begun entries
 
--- the transactions that an entry's votes name: no other outcome changes at it
+-- the transactions that an entry's votes name, ascending: in an allowed ledger no other outcome changes at it
 abbrev pub txs_voted : Entry → List TxId
-txs_voted (Added a (Fact.Voted key version ballot options offered)) = txs_of options
+txs_voted (Added a (Fact.Voted key version ballot options offered)) = fold with_tx [] (txs_of options)
 txs_voted _ = []
 
 -- an outcome that is there now and was not before

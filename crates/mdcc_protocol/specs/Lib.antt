@@ -10,6 +10,7 @@ pub mod Errors
 pub mod Facts
 pub mod Fit
 pub mod Header
+pub mod IsCluster
 pub mod Leader
 pub mod LeaderRules
 pub mod Learner

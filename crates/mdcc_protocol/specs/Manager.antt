@@ -1,4 +1,4 @@
--- The manager: it begins transactions, and decides them by the votes that it takes. (MDCC.)
+-- The manager: it begins transactions, and decides them by the votes that it takes. (MDCC; at which ticks what is done is our own rule.)
 use Rattle.std.specs.Option.{option_or}
 use Rattle.std.specs.Prelude.{Bool, Err, List, None, Ok, Option, Result, Some, [], filter, find, flat_map, fold, if◌then◌else◌, length, map, nat_le, not, option_and_then, option_map, ℕ, ◌%◌, ◌&&◌, ◌++◌, ◌+◌, ◌-◌, ◌==◌, ◌^◌, ◌∷◌}
 use Rattle.mdcc_base.specs.Key.{key_eq}

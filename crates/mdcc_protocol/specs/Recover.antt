@@ -1,4 +1,4 @@
--- The recovery of dangling transactions: those with a vote here whose outcome was not heard and that are not open here. (MDCC.)
+-- The recovery of dangling transactions: those with a vote here whose outcome was not heard and that are not open here. (After MDCC; at which ticks what is done is our own rule.)
 use Rattle.std.specs.List.{reduce}
 use Rattle.std.specs.Option.{option_or}
 use Rattle.std.specs.Prelude.{List, None, Option, Some, [], filter, filter_map, flat_map, fold, if◌then◌else◌, map, nat_le, not, option_map, unwrap_or, ℕ, ◌%◌, ◌&&◌, ◌==◌}
@@ -46,9 +46,13 @@ would_decide quorums facts recovery vote = (on_voted quorums facts recovery vote
 
 -- ---- the tick
 
--- the choice of a key that a counted vote accepts
-abbrev pub choice_received : List Vote → TxId → Key → Option Choice
-choice_received votes tx key = reduce (λ a b. a) (filter_map (λ vote. choice_in vote.mark) (votes_on votes tx key))
+-- the choice that a vote accepts at a version
+abbrev pub choice_accepted : ℕ → Vote → Option Choice
+choice_accepted version vote = if vote.version == version then choice_in vote.mark else None
+
+-- the choice of an instance that a counted vote accepts
+abbrev pub choice_received : List Vote → TxId → Key → ℕ → Option Choice
+choice_received votes tx key version = reduce (λ a b. a) (filter_map (choice_accepted version) (votes_on votes tx key))
 
 -- the claim of a transaction at a key, with the choice where a counted vote or an own vote has it
 abbrev pub claim_of_key : List Fact → Recovering → TxId → Key × ℕ → Claim
@@ -56,7 +60,7 @@ claim_of_key facts recovery tx (key, version) = record {
   tx = tx;
   key = key;
   version = version;
-  choice = option_or (choice_received recovery.votes tx key) (choice_known facts key version tx);
+  choice = option_or (choice_received recovery.votes tx key version) (choice_known facts key version tx);
 }
 
 abbrev pub ask_of : TxId → Key × ℕ → RecoverAct

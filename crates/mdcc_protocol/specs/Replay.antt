@@ -11,7 +11,7 @@ use Rattle.mdcc_protocol.specs.World.{World, first_world, event_of, end_line}
 
 -- ---- lines in turn
 
--- what is written, why the input was not read to its end, and the world where it was left
+-- what is written, why the input was not read to its end, and the world behind the last line that was not refused
 pub record Replay : Type 0 where
   pub text : List ℕ
   pub fault : Option ReplayFault

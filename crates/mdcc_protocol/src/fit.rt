@@ -20,7 +20,8 @@ pub struct Load {
 pub enum Fit {
     /// It may be accepted.
     Fits,
-    /// It is a write that has not seen a live option, or an add beside a live write.
+    /// It is a write that has not seen a live option, an add beside a live write, or an add
+    /// without an item.
     Conflict,
     /// It passes the share of this quantity's room that one acceptor may fill at the fast ballot.
     Limit(u8),
