@@ -12,3 +12,5 @@ mod outside;
 mod store;
 #[cfg(test)]
 mod structures;
+#[cfg(test)]
+mod votes;

@@ -1,0 +1,19 @@
+//! What the two fits have to do with one another, and with the loads that stores answer.
+ghost use Rattle.mdcc_escrow.specs.Laws.{CappedLoadsAreBounded, ExactFitHasNoLimit, FastFitsFitExactly, LimitsFitExactly, MisfitsAreTheSame};
+
+/// The exact fit never answers a limit.
+pub fn exact_fit_has_no_limit()
+    ensures { ExactFitHasNoLimit }
+{}
+
+/// The fast fit is the exact fit, but for the limit, which it answers to some of what fits exactly.
+pub fn fast_fit_is_exact_but_for_the_limit()
+    ensures fits { FastFitsFitExactly }
+    ensures limits { LimitsFitExactly }
+    ensures misfits { MisfitsAreTheSame }
+{}
+
+/// The load that a store answers meets the condition of the fits.
+pub fn capped_loads_are_bounded()
+    ensures { CappedLoadsAreBounded }
+{}

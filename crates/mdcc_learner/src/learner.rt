@@ -1,0 +1,95 @@
+//! What was voted on each transaction and key, and what that decides.
+ghost use Rattle.std.specs.Prelude.{◌≡◌, List, [], IsOkAnd, OnOk, OnErr};
+ghost use Rattle.mdcc_base.specs.AreQuorums.{AreQuorums};
+ghost use Rattle.mdcc_base.specs.Sizes.{Sizes};
+ghost use Rattle.mdcc_learner.specs.Stands.{Stands};
+ghost use Rattle.mdcc_protocol.specs.Learner.{with_vote, learned, collided, learned_with};
+ghost use Rattle.mdcc_protocol.specs.Volatile.{without_tx};
+ghost use Rattle.mdcc_protocol.specs.declared.votes.Vote.{Vote as AVote};
+
+use crate::decided::{is_collision, mark_decided};
+use crate::places::{VotesByTx, counted_on, forget, keep_counted, votes_at};
+use indexmap::IndexMap;
+use mdcc_base::{Key, Memory, Quorums, TxId};
+use mdcc_option::Mark;
+use mdcc_protocol::Vote;
+use std::alloc::Global;
+
+/// The votes that count, and what they decide.
+#[derive(Drop)]
+pub struct Learner {
+    alloc: Global,
+    quorums: Option<Quorums>,
+    votes: VotesByTx,
+}
+
+impl Learner {
+    /// A learner that took no vote.
+    pub fn new(alloc: Global) -> Result<Learner, Memory>
+        ensures { (quorums : Sizes) → AreQuorums quorums
+            → IsOkAnd result (λ learner. Stands learner quorums []) }
+    {
+        Ok(Learner {
+            alloc,
+            quorums: None,
+            votes: IndexMap::new(alloc),
+        })
+    }
+
+    /// Takes a vote. It counts if its centre is one of the cluster, and if no vote that counts on
+    /// its transaction and key has another version, or the same ballot and centre.
+    pub fn take(&mut self, quorums: &Quorums, vote: &Vote) -> Result<(), Memory>
+        ensures ok { (votes : List AVote) → Stands self.old quorums.now votes
+            → OnOk result (Stands self.new quorums.now (with_vote quorums.now votes vote.now)) }
+        ensures err { (known : Sizes) (votes : List AVote) → Stands self.old known votes
+            → OnErr result (Stands self.new known votes) }
+    {
+        keep_counted(self.alloc, quorums, &mut self.votes, vote)?;
+        if self.quorums.is_none() {
+            self.quorums = Some(*quorums);
+        }
+        Ok(())
+    }
+
+    /// The mark that a quorum has, at the least ballot where one has.
+    pub fn learned(&self, tx: TxId, key: &Key) -> Option<Mark>
+        ensures { (quorums : Sizes) (votes : List AVote) → Stands self.now quorums votes
+            → result ≡ learned quorums votes tx key.now }
+    {
+        match &self.quorums {
+            Some(quorums) => mark_decided(quorums, votes_at(&self.votes, &tx, key), &[]),
+            None => None,
+        }
+    }
+
+    /// Whether nothing is learned, and neither mark can be learned at the fast ballot.
+    pub fn collided(&self, tx: TxId, key: &Key) -> bool
+        ensures { (quorums : Sizes) (votes : List AVote) → Stands self.now quorums votes
+            → result ≡ collided quorums votes tx key.now }
+    {
+        match &self.quorums {
+            Some(quorums) => is_collision(quorums, votes_at(&self.votes, &tx, key)),
+            None => false,
+        }
+    }
+
+    /// What would be learned once this vote is taken.
+    pub fn learned_with(&self, quorums: &Quorums, vote: &Vote, tx: TxId, key: &Key) -> Option<Mark>
+        ensures { (votes : List AVote) → Stands self.now quorums.now votes
+            → result ≡ learned_with quorums.now votes vote.now tx key.now }
+    {
+        mark_decided(
+            quorums,
+            votes_at(&self.votes, &tx, key),
+            counted_on(quorums, &self.votes, vote, &tx, key),
+        )
+    }
+
+    /// Lets all votes on a transaction go.
+    pub fn forget(&mut self, tx: TxId)
+        ensures { (quorums : Sizes) (votes : List AVote) → Stands self.old quorums votes
+            → Stands self.new quorums (without_tx votes tx) }
+    {
+        forget(&mut self.votes, &tx);
+    }
+}

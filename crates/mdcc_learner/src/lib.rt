@@ -1,0 +1,10 @@
+//! The learner: votes as they are received, counted by transaction and key, and what they decide.
+#![tactic(auto)]
+
+mod counting;
+mod decided;
+pub mod learner;
+mod places;
+
+pub use learner::Learner;
+pub use mdcc_protocol::Vote;
