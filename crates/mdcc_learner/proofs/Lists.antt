@@ -1,5 +1,5 @@
 -- Counts and folds over lists.
-use Rattle.std.proofs.Common.{◌≡◌, ◌+◌, Bool, ◌&&◌, List, [], ◌∷◌, ◌++◌, Option, Some, None, refl, arith, fold}
+use Rattle.std.proofs.Common.{◌≡◌, ◌+◌, Bool, ◌&&◌, List, [], ◌∷◌, ◌++◌, Some, None, refl, arith, fold}
 use Rattle.std.specs.List.{filter, list_any, reduce}
 use Rattle.std.proofs.lemmas.List.Elements.{filter-append}
 use Rattle.std.proofs.lemmas.List.Sums.{fold-append}

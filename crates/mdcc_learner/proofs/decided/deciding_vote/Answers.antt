@@ -1,6 +1,4 @@
-use Rattle.std.proofs.Common.{◌++◌, ◌∙◌, sym, ap, fold, Option}
-use Rattle.mdcc_learner.specs.Decided.{lower_with, votes_backed}
-use Rattle.mdcc_protocol.specs.declared.votes.Vote.{Vote}
+use Rattle.std.proofs.Common.{◌++◌}
 use Rattle.mdcc_learner.proofs.Lists.{lowest_backed}
 use Rattle.mdcc_learner.proofs.decided.deciding_vote.Goals as goal
 

@@ -1,4 +1,4 @@
-use Rattle.std.proofs.Common.{◌≡◌, List, [], ◌∷◌, Option, Some, None, refl, ap}
+use Rattle.std.proofs.Common.{◌≡◌, List, [], ◌∷◌, Option, Some, refl}
 use Rattle.std.proofs.lemmas.Result.{err_from_is_err_and}
 use Rattle.std.specs.Prelude.{unwrap_or, is_some, true}
 use Rattle.indexmap.specs.IndexMap.{get}
@@ -16,8 +16,8 @@ returns-in_err-push-in-Some-clause-err c key =
     let some : is_some (get key_eq c.args.keys.now c.args.vote.now.key) ≡ true = rw (← there) in
     let updates = (c.get_mut.follows.holds c.push.new.self).3 some in
     let error = err_from_is_err_and c.from_residual.result c.from_residual.ensures.1 in
-    rw error.1 (put-same key_eq key_eq-same (get key_eq) read c.args.keys.now (c.get_mut.follows.lender c.push.new.self) c.args.vote.now.key key c.in-Some.votes.now c.push.new.self there
-    c.in_err-push-in-Some.ensures.err (updates.0 key))
+    rw error.1 (put-same key_eq key_eq-same (get key_eq) read c.args.keys.now (c.get_mut.follows.lender c.push.new.self)
+    c.args.vote.now.key key c.in-Some.votes.now c.push.new.self there c.in_err-push-in-Some.ensures.err (updates.0 key))
 
 pub returns-in_ok-insert-in-None-clause-ok : goal.returns-in_ok-insert-in-None-clause-ok
 returns-in_ok-insert-in-None-clause-ok c key =

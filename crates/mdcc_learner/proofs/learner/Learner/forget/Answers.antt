@@ -1,5 +1,3 @@
-use Rattle.std.proofs.Common.{◌≡◌, [], Some, None, Option, ap, refl, ◌∙◌}
-use Rattle.std.proofs.lemmas.Grind.{common_steps}
 use Rattle.mdcc_learner.proofs.Taken.{votes_on-without_tx, knows-without_tx}
 use Rattle.mdcc_learner.proofs.learner.Learner.forget.Goals as goal
 
