@@ -1,9 +1,11 @@
 //! The two fits: that of an acceptor at the fast ballot, and that of a leader.
 ghost use Rattle.std.specs.Prelude.{◌≡◌, Some};
+ghost use Rattle.mdcc_protocol.specs.declared.fit.Load.{Load as ALoad};
 ghost use Rattle.std.specs.Option.{option_copied};
-ghost use Rattle.mdcc_protocol.specs.Fit.{exact_fit, fast_fit, fit_in_room, fit_in_share, limit_of};
+ghost use Rattle.mdcc_protocol.specs.Fit.{capped, exact_fit, fast_fit, fit_in_room, fit_in_share, limit_of};
 ghost use Rattle.mdcc_escrow.specs.Sums.{IsBoundedLoad};
 
+use crate::declared::are_declared;
 use crate::quantity::{first_past_limit, first_past_room, quantities_of};
 use crate::{Fit, Load};
 use mdcc_option::{Amounts, Choice, Cluster, Item, Update};
@@ -60,13 +62,12 @@ fn limit_of(cluster: &Cluster, base: Option<&Item>, load: &Load, update: &Update
     }
 }
 
-/// How an option fits at a leader: it is no write beside what it has not seen, no add beside a
-/// write or without an item, and no sum passes its room.
-pub fn exact_fit(cluster: &Cluster, base: Option<&Item>, load: &Load, choice: &Choice) -> Fit
+// How an option fits exactly.
+fn fit_exactly(cluster: &Cluster, base: Option<&Item>, load: &Load, update: &Update) -> Fit
     requires { IsBoundedLoad load.now }
-    ensures { result ≡ exact_fit cluster.now (option_copied base.entry) load.now choice.now.update }
+    ensures { result ≡ exact_fit cluster.now (option_copied base.entry) load.now update.now }
 {
-    match (&choice.update, base) {
+    match (update, base) {
         (Update::Write(_, _), _) => {
             if load.unseen > 0 {
                 Fit::Conflict
@@ -79,12 +80,28 @@ pub fn exact_fit(cluster: &Cluster, base: Option<&Item>, load: &Load, choice: &C
     }
 }
 
+/// How an option fits at a leader: it is no write beside what it has not seen, no add beside a
+/// write or without an item, and no sum passes its room. It is the same for any load that a store
+/// answers this one for.
+#[tactic(auto, using(crate::proofs::Capped::capped_fits))]
+pub fn exact_fit(cluster: &Cluster, base: Option<&Item>, load: &Load, choice: &Choice) -> Fit
+    requires { IsBoundedLoad load.now }
+    ensures value { result ≡ exact_fit cluster.now (option_copied base.entry) load.now choice.now.update }
+    ensures whole { (whole : ALoad) → load.now ≡ capped whole → result ≡ exact_fit cluster.now (option_copied base.entry) whole choice.now.update }
+{
+    are_declared(cluster, base);
+    fit_exactly(cluster, base, load, &choice.update)
+}
+
 /// How an option fits at an acceptor at the fast ballot: what fits exactly may still be past the
-/// acceptor's share of the room.
+/// acceptor's share of the room. It is the same for any load that a store answers this one for.
+#[tactic(auto, using(crate::proofs::Capped::capped_fits))]
 pub fn fast_fit(cluster: &Cluster, base: Option<&Item>, load: &Load, choice: &Choice) -> Fit
     requires { IsBoundedLoad load.now }
-    ensures { result ≡ fast_fit cluster.now (option_copied base.entry) load.now choice.now.update }
+    ensures value { result ≡ fast_fit cluster.now (option_copied base.entry) load.now choice.now.update }
+    ensures whole { (whole : ALoad) → load.now ≡ capped whole → result ≡ fast_fit cluster.now (option_copied base.entry) whole choice.now.update }
 {
-    let fit = exact_fit(cluster, base, load, choice);
+    are_declared(cluster, base);
+    let fit = fit_exactly(cluster, base, load, &choice.update);
     fit_in_share(fit, limit_of(cluster, base, load, &choice.update))
 }

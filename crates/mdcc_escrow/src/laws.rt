@@ -1,4 +1,5 @@
 //! What the two fits have to do with one another, and with the loads that stores answer.
+ghost use Rattle.mdcc_escrow.specs.Capped.{ExactFitsOfCappedLoads, FastFitsOfCappedLoads};
 ghost use Rattle.mdcc_escrow.specs.Laws.{CappedLoadsAreBounded, ExactFitHasNoLimit, FastFitsFitExactly, LimitsFitExactly, MisfitsAreTheSame};
 
 /// The exact fit never answers a limit.
@@ -16,4 +17,11 @@ pub fn fast_fit_is_exact_but_for_the_limit()
 /// The load that a store answers meets the condition of the fits.
 pub fn capped_loads_are_bounded()
     ensures { CappedLoadsAreBounded }
+{}
+
+/// No answer depends on where the counts and sums of a load stop.
+#[tactic(auto, using(crate::proofs::Capped::capped_fits))]
+pub fn fits_of_capped_loads()
+    ensures exact { ExactFitsOfCappedLoads }
+    ensures fast { FastFitsOfCappedLoads }
 {}

@@ -3,6 +3,7 @@
 #![tactic(auto)]
 
 mod attributes;
+mod declared;
 pub mod fits;
 pub mod laws;
 mod quantity;

@@ -64,3 +64,7 @@ nothing_built = record {
   limit_on_log = false;
   limit_on_cells = false;
 }
+
+-- what is built now: the fast path
+abbrev pub built : Built
+built = record nothing_built { proposals = true; escalations = true; limit_on_events = true }

@@ -5,9 +5,11 @@ use Rattle.mdcc_protocol.specs.Ledger.{Entry}
 use Rattle.mdcc_protocol.specs.Marks.{is_commit}
 use Rattle.mdcc_protocol.specs.Volatile.{Volatile}
 use Rattle.mdcc_protocol.specs.declared.facts.Fact.{Fact}
+use Rattle.mdcc_protocol.specs.declared.facts.StoreFault.{StoreFault}
 use Rattle.mdcc_protocol.specs.declared.messages.Envelope.{Envelope}
 use Rattle.mdcc_protocol.specs.declared.node.Answer.{Answer}
 use Rattle.mdcc_protocol.specs.declared.node.Step.{Step}
+use Rattle.mdcc_protocol.specs.declared.node.StepFault.{StepFault}
 
 -- the ledger's entries that no log keeps (the newest first), at most one new fact, the messages in order, the answer, and what is kept afterwards.
 -- No step has both such entries and a fact
@@ -39,3 +41,9 @@ heard_by _ = None
 -- what a node's caller is given of a step
 abbrev pub step_given : NodeStep → Step
 step_given step = record { fact = step.fact; sends = step.sends; heard = heard_by step.fact; answer = step.answer }
+
+-- why a step's fact is not taken
+abbrev pub step_fault : StoreFault → StepFault
+step_fault (StoreFault.NoRoom needed spare) = StepFault.NoRoom needed spare
+step_fault StoreFault.Crowded = StepFault.Crowded
+step_fault StoreFault.Memory = StepFault.Memory

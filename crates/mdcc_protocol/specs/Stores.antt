@@ -1,12 +1,12 @@
 -- What a store of facts answers that its facts do not say as it stands: capped sums, and lists by place.
-use Rattle.std.specs.Prelude.{List, Option, option_map, slice_get, ℕ}
+use Rattle.std.specs.Prelude.{List, Option, min, option_map, slice_get, ℕ, ◌-◌, ◌^◌}
 use Rattle.mdcc_base.specs.declared.identifiers.Ballot.{Ballot}
 use Rattle.mdcc_base.specs.declared.identifiers.TxId.{TxId}
 use Rattle.mdcc_base.specs.declared.key.Key.{Key}
 use Rattle.mdcc_option.specs.declared.choices.Mark.{Mark}
 use Rattle.mdcc_option.specs.declared.items.Delta.{Delta}
 use Rattle.mdcc_struct.specs.Maps.{value_of}
-use Rattle.mdcc_protocol.specs.Facts.{executed_of, live_of, report_of, unresolved_of}
+use Rattle.mdcc_protocol.specs.Facts.{entries_of, executed_of, live_of, report_of, unresolved_of}
 use Rattle.mdcc_protocol.specs.Fit.{capped, load_of}
 use Rattle.mdcc_protocol.specs.declared.facts.Fact.{Fact}
 use Rattle.mdcc_protocol.specs.declared.fit.Load.{Load}
@@ -18,6 +18,12 @@ delta_of facts key tx = option_map (λ amounts. record { tx = tx; amounts = amou
 -- what the live choices of an instance weigh beside a seen set
 abbrev pub load_at : List Fact → Key → ℕ → List TxId → Load
 load_at facts key version seen = capped (load_of (live_of facts key version) seen)
+
+-- how many marks accept and how many reject in an instance at the fast ballot. Counts stop at 2^32 - 1
+abbrev pub entries_at : List Fact → Key → ℕ → ℕ × ℕ
+entries_at facts key version =
+    let entries = entries_of facts key version in
+    (min entries.0 (2 ^ 32 - 1), min entries.1 (2 ^ 32 - 1))
 
 -- the mark at a place of the votes at the greatest ballot below another one
 abbrev pub mark_below : List Fact → Key → ℕ → Ballot → ℕ → Option (Ballot × TxId × Mark)

@@ -1,7 +1,8 @@
 //! What a centre writes into its log, and keeps.
-use mdcc_base::{Ballot, HeapList, Key, TxId};
+use mdcc_base::{Ballot, HeapList, Key, Memory, TxId};
 use mdcc_option::{Choice, Delta, Item, Outcome};
 use mdcc_struct::Options;
+use std::alloc::{AllocError, AllocFailed};
 
 /// What a centre knows and never forgets.
 #[derive(Drop)]
@@ -48,4 +49,37 @@ pub enum StoreFault {
     Crowded,
     /// There was no memory, and the fact was not added.
     Memory,
+}
+
+impl From<AllocError> for StoreFault {
+    ghost use Rattle.std.specs.Prelude.{◌≡◌};
+    ghost use Rattle.mdcc_protocol.specs.declared.facts.StoreFault.TheVariants.{Memory};
+
+    ghost from_gives = { λ _ e. e ≡ Memory };
+
+    fn from(_: AllocError) -> StoreFault {
+        StoreFault::Memory
+    }
+}
+
+impl<T: Drop> From<AllocFailed<T>> for StoreFault {
+    ghost use Rattle.std.specs.Prelude.{◌≡◌};
+    ghost use Rattle.mdcc_protocol.specs.declared.facts.StoreFault.TheVariants.{Memory};
+
+    ghost from_gives = { λ _ e. e ≡ Memory };
+
+    fn from(_: AllocFailed<T>) -> StoreFault {
+        StoreFault::Memory
+    }
+}
+
+impl From<Memory> for StoreFault {
+    ghost use Rattle.std.specs.Prelude.{◌≡◌};
+    ghost use Rattle.mdcc_protocol.specs.declared.facts.StoreFault.TheVariants.{Memory};
+
+    ghost from_gives = { λ _ e. e ≡ Memory };
+
+    fn from(_: Memory) -> StoreFault {
+        StoreFault::Memory
+    }
 }

@@ -1,7 +1,8 @@
 //! What a node takes, and what it does.
-use crate::{Envelope, Fact, Reading};
-use mdcc_base::{HeapList, Key, TxId};
+use crate::{Envelope, Fact, Reading, StoreFault};
+use mdcc_base::{HeapList, Key, Memory, TxId};
 use mdcc_option::{BeginFault, Transaction};
+use std::alloc::AllocError;
 
 /// What a node is given.
 #[derive(Drop)]
@@ -54,6 +55,43 @@ pub enum StepFault {
     Memory,
 }
 
+impl From<StoreFault> for StepFault {
+    ghost use Rattle.std.specs.Prelude.{◌≡◌};
+    ghost use Rattle.mdcc_protocol.specs.Steps.{step_fault};
+
+    ghost from_gives = { λ fault e. e ≡ step_fault fault };
+
+    fn from(fault: StoreFault) -> StepFault {
+        match fault {
+            StoreFault::NoRoom { needed, spare } => StepFault::NoRoom { needed, spare },
+            StoreFault::Crowded => StepFault::Crowded,
+            StoreFault::Memory => StepFault::Memory,
+        }
+    }
+}
+
+impl From<Memory> for StepFault {
+    ghost use Rattle.std.specs.Prelude.{◌≡◌};
+    ghost use Rattle.mdcc_protocol.specs.declared.node.StepFault.TheVariants.{Memory};
+
+    ghost from_gives = { λ _ e. e ≡ Memory };
+
+    fn from(_: Memory) -> StepFault {
+        StepFault::Memory
+    }
+}
+
+impl From<AllocError> for StepFault {
+    ghost use Rattle.std.specs.Prelude.{◌≡◌};
+    ghost use Rattle.mdcc_protocol.specs.declared.node.StepFault.TheVariants.{Memory};
+
+    ghost from_gives = { λ _ e. e ≡ Memory };
+
+    fn from(_: AllocError) -> StepFault {
+        StepFault::Memory
+    }
+}
+
 /// Why a log gives no node.
 #[derive(Clone, Copy, Debug, PartialEq, Eq)]
 pub enum BootFault {
@@ -65,4 +103,15 @@ pub enum BootFault {
     Room { needed: u64, cells: u64 },
     /// There was no memory.
     Memory,
+}
+
+impl From<Memory> for BootFault {
+    ghost use Rattle.std.specs.Prelude.{◌≡◌};
+    ghost use Rattle.mdcc_protocol.specs.declared.node.BootFault.TheVariants.{Memory};
+
+    ghost from_gives = { λ _ e. e ≡ Memory };
+
+    fn from(_: Memory) -> BootFault {
+        BootFault::Memory
+    }
 }

@@ -2,8 +2,11 @@
 //! there is some.
 #![tactic(auto)]
 
+pub mod adding;
 #[cfg(test)]
 mod drafts;
+#[cfg(test)]
+mod facts;
 #[cfg(test)]
 mod names;
 #[cfg(test)]

@@ -1,0 +1,2 @@
+pub mod LastVotes
+pub mod NewMarks

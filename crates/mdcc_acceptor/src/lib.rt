@@ -1,0 +1,14 @@
+//! What an acceptor answers, by the facts of its centre: to proposals at the fast ballot, to leaders
+//! that ask for promises, and to leaders' structures.
+#![tactic(auto)]
+
+pub mod accept;
+mod bounded;
+pub mod prepare;
+pub mod propose;
+mod room;
+
+pub use accept::on_accept;
+pub use mdcc_protocol::{AcceptAnswer, PrepareAnswer, ProposeAnswer};
+pub use prepare::on_prepare;
+pub use propose::on_propose;

@@ -1,0 +1,138 @@
+//! What an acceptor answers to a proposal at the fast ballot. (Fast Paxos; MDCC.)
+ghost use Rattle.std.specs.Prelude.{◌≡◌, List, None};
+ghost use Rattle.mdcc_protocol.specs.declared.facts.Fact.{Fact as AFact};
+ghost use Rattle.mdcc_protocol.specs.Acceptor.{answer_after, answer_by_promise, answer_to_new, fit_of, on_propose, vote_by_fit, vote_on, vote_to_accept, vote_to_reject};
+ghost use Rattle.mdcc_protocol.specs.Facts.{vote_of};
+ghost use Rattle.mdcc_protocol.specs.Marks.{seen_in};
+
+use crate::bounded::is_bounded;
+use crate::room::{accept_room, reject_room};
+use mdcc_base::{Ballot, Plain, TxId};
+use mdcc_escrow::laws::capped_loads_are_bounded;
+use mdcc_escrow::{Fit, fast_fit};
+use mdcc_facts::FactStore;
+use mdcc_option::{Cause, Choice, Cluster, Mark, Update};
+use mdcc_protocol::ProposeAnswer;
+
+// The transactions that a write saw; an add has none.
+fn seen_in(update: &Update) -> &[TxId]
+    ensures { result.now ≡ seen_in update.now }
+{
+    match update {
+        Update::Write(_, seen) => seen.as_slice(),
+        Update::Add(_) => &[],
+    }
+}
+
+// How a choice fits beside the live choices of its instance.
+fn fit_of<S: FactStore>(store: &S, cluster: &Cluster, choice: &Choice) -> Fit
+    ensures { (facts : List AFact) → S.stands store.now facts → result ≡ fit_of cluster.now facts choice.now }
+{
+    capped_loads_are_bounded();
+    let base = store.base(&choice.key);
+    let load = store.load(&choice.key, choice.version, seen_in(&choice.update));
+    // Each load that a store answers is bounded.
+    if is_bounded(&load) {
+        fast_fit(cluster, base.as_ref(), &load, choice)
+    } else {
+        Fit::Conflict
+    }
+}
+
+// A vote that accepts, or Full where the instance has no room for one more such mark.
+fn vote_to_accept<S: FactStore>(store: &S, choice: &Choice) -> ProposeAnswer
+    ensures { (facts : List AFact) → S.stands store.now facts → result ≡ vote_to_accept facts choice.now }
+{
+    let (accepts, _) = store.entries(&choice.key, choice.version);
+    if accepts < accept_room(&choice.update) {
+        ProposeAnswer::Vote(Mark::Accept(choice.copy()))
+    } else {
+        ProposeAnswer::Escalate(Cause::Full)
+    }
+}
+
+// A vote that rejects, or Full where the instance has no room for one more such mark.
+fn vote_to_reject<S: FactStore>(store: &S, choice: &Choice) -> ProposeAnswer
+    ensures { (facts : List AFact) → S.stands store.now facts → result ≡ vote_to_reject facts choice.now }
+{
+    let (_, rejects) = store.entries(&choice.key, choice.version);
+    if rejects < reject_room() {
+        ProposeAnswer::Vote(Mark::Reject)
+    } else {
+        ProposeAnswer::Escalate(Cause::Full)
+    }
+}
+
+// What a fit gives: past the share of one acceptor there is no vote.
+fn vote_by_fit<S: FactStore>(store: &S, choice: &Choice, fit: Fit) -> ProposeAnswer
+    ensures { (facts : List AFact) → S.stands store.now facts → result ≡ vote_by_fit facts choice.now fit }
+{
+    match fit {
+        Fit::Fits => vote_to_accept(store, choice),
+        Fit::Conflict => vote_to_reject(store, choice),
+        Fit::Limit(quantity) => ProposeAnswer::Escalate(Cause::Limit(quantity)),
+        Fit::Breaks(_) => vote_to_reject(store, choice),
+    }
+}
+
+// The vote on a choice at or below the version held, in an instance without a classic promise.
+fn vote_on<S: FactStore>(store: &S, cluster: &Cluster, choice: &Choice) -> ProposeAnswer
+    ensures { (facts : List AFact) → S.stands store.now facts → result ≡ vote_on cluster.now facts choice.now }
+{
+    if choice.version < store.current(&choice.key) {
+        vote_to_reject(store, choice)
+    } else {
+        vote_by_fit(store, choice, fit_of(store, cluster, choice))
+    }
+}
+
+// The answer by the promise of the instance.
+fn answer_by_promise<S: FactStore>(
+    store: &S,
+    cluster: &Cluster,
+    choice: &Choice,
+    promise: Ballot,
+) -> ProposeAnswer
+    ensures { (facts : List AFact) → S.stands store.now facts → result ≡ answer_by_promise cluster.now facts choice.now promise }
+{
+    if promise.is(&Ballot::FAST) {
+        vote_on(store, cluster, choice)
+    } else {
+        ProposeAnswer::Escalate(Cause::Classic(promise))
+    }
+}
+
+// The answer to a proposal whose transaction was neither heard nor voted here.
+fn answer_to_new<S: FactStore>(store: &S, cluster: &Cluster, choice: &Choice) -> ProposeAnswer
+    ensures { (facts : List AFact) → S.stands store.now facts → result ≡ answer_to_new cluster.now facts choice.now }
+{
+    if store.current(&choice.key) < choice.version {
+        return ProposeAnswer::Escalate(Cause::Behind);
+    }
+    let promise = store.promise(&choice.key, choice.version);
+    answer_by_promise(store, cluster, choice, promise)
+}
+
+// The answer where the transaction was not heard: by what was voted on it in the instance.
+fn answer_to_unheard<S: FactStore>(store: &S, cluster: &Cluster, choice: &Choice) -> ProposeAnswer
+    ensures { (facts : List AFact) → S.stands store.now facts
+        → result ≡ answer_after cluster.now facts choice.now None (vote_of facts choice.now.key choice.now.version choice.now.tx) }
+{
+    match store.vote_of(&choice.key, choice.version, choice.tx) {
+        Some((ballot, mark)) => ProposeAnswer::Again(ballot, mark),
+        None => answer_to_new(store, cluster, choice),
+    }
+}
+
+/// What an acceptor answers to a proposal at the fast ballot, in this order: how the transaction
+/// ended, its vote in the instance, that it holds an older version, that it promised a classic
+/// ballot, and else a vote or why it gives none. It adds no fact: whoever sends a vote adds it
+/// first.
+pub fn on_propose<S: FactStore>(store: &S, cluster: &Cluster, choice: &Choice) -> ProposeAnswer
+    ensures { (facts : List AFact) → S.stands store.now facts → result ≡ on_propose cluster.now facts choice.now }
+{
+    match store.heard(choice.tx) {
+        Some(outcome) => ProposeAnswer::Known(outcome),
+        None => answer_to_unheard(store, cluster, choice),
+    }
+}

@@ -1,0 +1,200 @@
+-- What is live at an acceptor: each of it is what a begun choice of the instance takes, and each accepted vote is in it.
+use Rattle.std.proofs.Common.{◌≡◌, ℕ, ◌+◌, ◌-◌, ◌*◌, ◌≤◌, ◌==◌, true, false, ◌&&◌, List, [], ◌∷◌, length, refl, sym, ap, ◌∙◌, subst, arith, inl, inr, Some, None}
+use Rattle.std.proofs.Math.Nat.{mul-le-mul_left}
+use Rattle.std.proofs.lemmas.Bool.{cases_Bool, false≢true, and_parts, and_from, eqb-true}
+use Rattle.std.specs.Option.{option_or}
+use Rattle.std.specs.Prelude.{is_some}
+use Rattle.mdcc_base.specs.Ballot.{ballot_eq}
+use Rattle.mdcc_base.specs.Key.{key_eq}
+use Rattle.mdcc_base.specs.declared.identifiers.Ballot.{Ballot}
+use Rattle.mdcc_base.specs.declared.identifiers.TxId.{TxId}
+use Rattle.mdcc_base.specs.declared.key.Key.{Key}
+use Rattle.mdcc_option.specs.declared.choices.Choice.{Choice}
+use Rattle.mdcc_option.specs.declared.choices.Mark.TheVariants.{Accept}
+use Rattle.mdcc_option.specs.declared.cluster.Cluster.{Cluster}
+use Rattle.mdcc_option.specs.declared.items.Update.{Update}
+use Rattle.mdcc_option.specs.declared.items.Update.TheVariants.{Add}
+use Rattle.mdcc_struct.specs.Maps.{value_of}
+use Rattle.mdcc_protocol.specs.Facts as full
+use Rattle.mdcc_protocol.specs.Ledger as ledger
+use Rattle.mdcc_protocol.specs.Marks.{Amounts}
+use Rattle.mdcc_protocol.specs.declared.facts.Fact.{Fact}
+use Rattle.mdcc_struct.proofs.Values.{value_of-union}
+use Rattle.mdcc_struct.proofs.Reports.{cases_Option}
+use Rattle.mdcc_agreement.proofs.BegunOnce.{one_choice, executed_adds, HasAdd}
+use Rattle.mdcc_agreement.proofs.Reduction.{setup_of, reduced_fact, reduced, facts_reduced, facts_same}
+use Rattle.mdcc_agreement.proofs.FitsBound.{FitsFast, fast_exact, fast_within, exact_clear, total_found}
+use Rattle.mdcc_agreement.proofs.HeldReduced.{AllFine, In-union, executed_valued, deltas_same}
+use Rattle.mdcc_agreement.proofs.LedgersGrow.{IsTail-same}
+use Rattle.mdcc_agreement.proofs.LiveTotals.{In-left, In-right}
+use Rattle.mdcc_agreement.proofs.LiveAtLeader.{void_same, value_unvoid, value_In, updates_in, updates_value, updates_from, adds_of, adds_some, adds_from, some_or_left, some_or_right, some_value, delta_allowed, held_now, base_now}
+use Rattle.mdcc_agreement.proofs.SumsWithinRooms.{any_choice, listed_fact}
+use Rattle.mdcc_agreement.proofs.Setups.{IsSetup}
+use Rattle.mdcc_agreement.proofs.ReducedFacts.{ReducedFact, Voted, votes, void, executed, executed_by, base, IsAcceptedVote}
+use Rattle.mdcc_agreement.proofs.ReducedLedger.{facts_of, IsChoice, IsFit, Allowed}
+use Rattle.mdcc_agreement.proofs.ReducedOptions.{In, Place, spot, mark_of}
+use Rattle.mdcc_agreement.proofs.TestsDecide.{Decides-key, same_place}
+use Rattle.mdcc_agreement.proofs.Totals.{total}
+use Rattle.mdcc_agreement.proofs.ViewsReduced.{votes_same}
+
+-- an accepted vote makes its transaction live
+voted_live : (f : Fact) (key : Key) (version : ℕ) (k : Ballot) (t : TxId) (c : Choice) → value_of (full.marks_voted key version k f) t ≡ Some (Accept c) →
+    is_some (value_of (full.live_from key version f) t) ≡ true
+voted_live (Fact.Booted epoch) key version k t c h = absurd (cc)
+voted_live (Fact.Promised k' low high b) key version k t c h = absurd (cc)
+voted_live (Fact.Heard u o) key version k t c h = absurd (cc)
+voted_live (Fact.Adopted k' v item adds) key version k t c h = absurd (cc)
+voted_live (Fact.Voted k' v b options offered) key version k t c h =
+    elim (cases_Bool (((v == version) && ballot_eq b k) && key_eq k' key)) [
+      | inl e ↦
+          let given : value_of options t ≡ Some (Accept c) = rw e at h in
+          let one : (((v == version) && ballot_eq b k) ≡ true) × (key_eq k' key ≡ true) = and_parts _ _ e in
+          let two : ((v == version) ≡ true) × (ballot_eq b k ≡ true) = and_parts _ _ one.0 in
+          let test : ((v == version) && key_eq k' key) ≡ true = and_from _ _ two.0 one.1 in
+          rw test (ap is_some (updates_value options t c given))
+      | inr e ↦ (let bad : None ≡ Some (Accept c) = rw e at h in absurd (cc))
+    ]
+
+pub vote_live : (fs : List Fact) (key : Key) (version : ℕ) (k : Ballot) (t : TxId) (c : Choice) → value_of (full.votes_of fs key version k) t ≡ Some (Accept c) →
+    is_some (value_of (full.live_and_void fs key version) t) ≡ true
+vote_live [] key version k t c h = absurd (cc)
+vote_live (f ∷ fs) key version k t c h =
+    let both : option_or (value_of (full.votes_of fs key version k) t) (value_of (full.marks_voted key version k f) t) ≡ Some (Accept c) =
+    sym (value_of-union (full.votes_of fs key version k) (full.marks_voted key version k f) t) ∙ h in
+    ap is_some (value_of-union (full.live_and_void fs key version) (full.live_from key version f) t)
+    ∙ elim (cases_Option (value_of (full.votes_of fs key version k) t)) [
+      | inl none ↦ some_or_right (value_of (full.live_and_void fs key version) t) (value_of (full.live_from key version f) t)
+          (voted_live f key version k t c (let is : option_or None (value_of (full.marks_voted key version k f) t) ≡ Some (Accept c) = rw none at both in is))
+      | inr some ↦ some_or_left (value_of (full.live_and_void fs key version) t) (value_of (full.live_from key version f) t)
+          (vote_live fs key version k t c (some.1 ∙ (let is : Some some.0 ≡ Some (Accept c) = rw some.1 at both in is)))
+    ]
+
+-- and an executed delta does
+delta_in : (f : Fact) (key : Key) (version : ℕ) (t : TxId) → is_some (value_of (full.deltas_from key version f) t) ≡ true → is_some (value_of (full.live_from key version f) t) ≡ true
+delta_in (Fact.Booted epoch) key version t h = absurd (false≢true h)
+delta_in (Fact.Promised k' low high b) key version t h = absurd (false≢true h)
+delta_in (Fact.Voted k' v b options offered) key version t h = absurd (false≢true h)
+delta_in (Fact.Heard u o) key version t h = adds_some (full.deltas_from key version (Fact.Heard u o)) t h
+delta_in (Fact.Adopted k' v item adds) key version t h = adds_some (full.deltas_from key version (Fact.Adopted k' v item adds)) t h
+
+delta_live : (fs : List Fact) (key : Key) (version : ℕ) (t : TxId) → is_some (value_of (full.deltas_at fs key version) t) ≡ true → is_some (value_of (full.live_and_void fs key version) t) ≡ true
+delta_live [] key version t h = absurd (false≢true h)
+delta_live (f ∷ fs) key version t h =
+    let both : is_some (option_or (value_of (full.deltas_at fs key version) t) (value_of (full.deltas_from key version f) t)) ≡ true =
+    ap is_some (sym (value_of-union (full.deltas_at fs key version) (full.deltas_from key version f) t)) ∙ h in
+    ap is_some (value_of-union (full.live_and_void fs key version) (full.live_from key version f) t)
+    ∙ elim (cases_Option (value_of (full.deltas_at fs key version) t)) [
+      | inl none ↦ some_or_right (value_of (full.live_and_void fs key version) t) (value_of (full.live_from key version f) t)
+          (delta_in f key version t (let is : is_some (option_or None (value_of (full.deltas_from key version f) t)) ≡ true = rw none at both in is))
+      | inr some ↦ some_or_left (value_of (full.live_and_void fs key version) t) (value_of (full.live_from key version f) t)
+          (delta_live fs key version t (ap is_some some.1))
+    ]
+
+-- where each live update comes from
+live_from : (fs : List Fact) (key : Key) (version : ℕ) (p : TxId × Update) → In p (full.live_and_void fs key version) → (f : Fact) × In f fs × In p (full.live_from key version f)
+live_from [] key version p h = absurd h
+live_from (f ∷ fs) key version p h =
+    elim (In-union (full.live_and_void fs key version) (full.live_from key version f) p h) [
+      | inl before ↦ (let k : (g : Fact) × In g fs × In p (full.live_from key version g) = live_from fs key version p before in (k.0, inr k.1, k.2))
+      | inr now ↦ (f, inl refl, now)
+    ]
+
+In-reduced : (f : Fact) (fs : List Fact) → In f fs → In (reduced_fact f) (facts_reduced fs)
+In-reduced f [] h = h
+In-reduced f (g ∷ fs) h = elim h [ inl here ↦ inl (ap reduced_fact here) | inr there ↦ inr (In-reduced f fs there) ]
+
+executed_fact : (f : Fact) (fs : List Fact) (i : Place) (p : TxId × Amounts) → In f fs → In p (executed_by (reduced_fact f) i) → In p (executed (facts_reduced fs) i)
+executed_fact f [] i p h g = absurd h
+executed_fact f (e ∷ fs) i p h g =
+    elim h [
+      | inl here ↦ In-left p (executed_by (reduced_fact e) i) (executed (facts_reduced fs) i) (subst (λ z. In p (executed_by (reduced_fact z) i)) (sym here) g)
+      | inr there ↦ In-right p (executed_by (reduced_fact e) i) (executed (facts_reduced fs) i) (executed_fact f fs i p there g)
+    ]
+
+module _ (cluster : Cluster) (sizes : IsSetup (setup_of cluster)) (four : length cluster.schema ≤ 4) (es : List ledger.Entry) (allowed : Allowed (setup_of cluster) (reduced es))
+    (a : ℕ) (fine : AllFine (ledger.facts_of es a)) where
+  abbrev own_facts : List Fact
+  own_facts = ledger.facts_of es a
+
+  abbrev reduced_facts : List ReducedFact
+  reduced_facts = facts_of a (reduced es)
+
+  abbrev Origin : Place → TxId × Update → Type 0
+  Origin i p = (c : Choice) × IsChoice (reduced es) c × (c.tx ≡ p.0) × (spot c ≡ i) × (c.update ≡ p.1)
+
+  delta_origin : (i : Place) (p : TxId × Update) (f : Fact) → In f own_facts → In p (adds_of (full.deltas_from i.key i.version f)) → Origin i p
+  delta_origin i p f h g =
+      let from : (m : Amounts) × In (p.0, m) (full.deltas_from i.key i.version f) × (Add m ≡ p.1) = adds_from (full.deltas_from i.key i.version f) p g in
+      let listed : In (p.0, from.0) (executed (facts_reduced own_facts) i) = executed_fact f own_facts i (p.0, from.0) h (subst (In (p.0, from.0)) (deltas_same f i) from.1) in
+      let add : HasAdd (reduced es) (p.0, from.0) i = executed_adds (setup_of cluster) (reduced es) allowed (reduced es) (IsTail-same (reduced es)) a i (p.0, from.0)
+      (subst (λ fs. In (p.0, from.0) (executed fs i)) (sym (facts_same a es)) listed) in
+      (add.0, add.1, add.2, add.3, add.4 ∙ from.2)
+
+  origin : (i : Place) (p : TxId × Update) (f : Fact) → In f own_facts → In p (full.live_from i.key i.version f) → Origin i p
+  origin i p (Fact.Booted epoch) h g = absurd g
+  origin i p (Fact.Promised k' low high b) h g = absurd g
+  origin i p (Fact.Heard u o) h g = delta_origin i p (Fact.Heard u o) h g
+  origin i p (Fact.Adopted k' v item adds) h g = delta_origin i p (Fact.Adopted k' v item adds) h g
+  origin i p (Fact.Voted k' v b options offered) h g =
+      elim (cases_Bool ((v == i.version) && key_eq k' i.key)) [
+        | inl e ↦
+            let parts : ((v == i.version) ≡ true) × (key_eq k' i.key ≡ true) = and_parts _ _ e in
+            let listed : In p (updates_in options) = rw e at g in
+            let from : (c : Choice) × In (p.0, Accept c) options × (c.update ≡ p.1) = updates_from options p listed in
+            let there : In (Voted (record { key = k'; version = v }) b options) reduced_facts =
+            subst (In (Voted (record { key = k'; version = v }) b options)) (sym (facts_same a es)) (In-reduced (Fact.Voted k' v b options offered) own_facts h) in
+            let is : (from.0.tx ≡ p.0) × IsChoice (reduced es) from.0 × (spot from.0 ≡ record { key = k'; version = v }) =
+            listed_fact (setup_of cluster) sizes (reduced es) allowed a (reduced es) (IsTail-same (reduced es)) (record { key = k'; version = v }) b options there p.0 from.0 from.1 in
+            (from.0, is.1, is.0, is.2 ∙ same_place (record { key = k'; version = v }) i ((Decides-key k' i.key).0 parts.1, eqb-true v i.version parts.0), from.2)
+        | inr e ↦ (let none : ⊥ = rw e at g in absurd none)
+      ]
+
+  not_void : (t : TxId) → void reduced_facts t ≡ false → full.is_void own_facts t ≡ false
+  not_void t h = void_same own_facts t (subst (λ fs. void fs t ≡ false) (facts_same a es) h)
+
+  -- an accepted vote that is not void is live with its own update
+  accepted_live : (i : Place) (d : Choice) → IsAcceptedVote reduced_facts i d → void reduced_facts d.tx ≡ false → value_of (full.live_of own_facts i.key i.version) d.tx ≡ Some d.update
+  accepted_live i d vote free =
+      let given : value_of (full.votes_of own_facts i.key i.version vote.0) d.tx ≡ Some (Accept d) =
+      sym (votes_same own_facts i vote.0 d.tx) ∙ ap (λ fs. mark_of d.tx (votes fs i vote.0)) (sym (facts_same a es)) ∙ vote.1 in
+      let some : (x : Update) × (value_of (full.live_and_void own_facts i.key i.version) d.tx ≡ Some x) =
+      some_value (value_of (full.live_and_void own_facts i.key i.version) d.tx) (vote_live own_facts i.key i.version vote.0 d.tx d given) in
+      let from : (f : Fact) × In f own_facts × In (d.tx, some.0) (full.live_from i.key i.version f) =
+      live_from own_facts i.key i.version (d.tx, some.0) (value_In (full.live_and_void own_facts i.key i.version) d.tx some.0 some.1) in
+      let c : Origin i (d.tx, some.0) = origin i (d.tx, some.0) from.0 from.1 from.2 in
+      let is : (d.tx ≡ d.tx) × IsChoice (reduced es) d × (spot d ≡ i) = any_choice (setup_of cluster) sizes (reduced es) allowed i a vote.0 d.tx d vote.1 in
+      let same : c.0 ≡ d = one_choice (setup_of cluster) (reduced es) c.0 d allowed c.1 is.1 c.2 (c.3 ∙ sym is.2) in
+      value_unvoid own_facts (full.live_and_void own_facts i.key i.version) d.tx (not_void d.tx free) ∙ some.1 ∙ ap Some (sym c.4 ∙ ap (λ z. z.update) same)
+
+  pub acceptor_fit : (i : Place) (t : TxId) (c : Choice) → c.tx ≡ t → spot c ≡ i → IsChoice (reduced es) c →
+      full.current_of own_facts i.key ≡ i.version → FitsFast cluster (full.base_of own_facts i.key) (full.live_of own_facts i.key i.version) c.update →
+      IsFit (setup_of cluster) cluster.quorums.classic (cluster.quorums.fast + cluster.quorums.classic - cluster.quorums.centres) (reduced es) reduced_facts (IsAcceptedVote reduced_facts i) i t c
+  acceptor_fit i t c own here begun held fits =
+      let exact = fast_exact cluster (full.base_of own_facts i.key) (full.live_of own_facts i.key i.version) c.update fits in
+      record {
+        own = own;
+        here = here;
+        begun = begun;
+        held = held_now cluster four es a fine i.key ∙ held;
+        clear = record {
+          chosen = λ d g free. exact_clear cluster (full.base_of own_facts i.key) (full.live_of own_facts i.key i.version) c.update exact (d.tx, d.update)
+              (value_In (full.live_of own_facts i.key i.version) d.tx d.update (accepted_live i d g free));
+          deltas = λ p g free.
+              let there : is_some (value_of (full.live_and_void own_facts i.key i.version) p.0) ≡ true =
+              delta_live own_facts i.key i.version p.0 (executed_valued own_facts i p (subst (λ fs. In p (executed fs i)) (facts_same a es) g)) in
+              let some : (x : Update) × (value_of (full.live_and_void own_facts i.key i.version) p.0 ≡ Some x) = some_value (value_of (full.live_and_void own_facts i.key i.version) p.0) there in
+              delta_allowed c.update p.0 some.0 (exact_clear cluster (full.base_of own_facts i.key) (full.live_of own_facts i.key i.version) c.update exact (p.0, some.0)
+              (value_In (full.live_of own_facts i.key i.version) p.0 some.0
+              (value_unvoid own_facts (full.live_and_void own_facts i.key i.version) p.0 (not_void p.0 free) ∙ some.1)));
+        };
+        within = λ q is positive ds apart among.
+            let bound = fast_within cluster (full.base_of own_facts i.key) (full.live_of own_facts i.key i.version) c.update q four fits is positive in
+            let part : total (λ (d : Choice). q.amount d.update) ds ≤ total (λ (p : TxId × Update). q.amount p.1) (full.live_of own_facts i.key i.version) =
+            total_found q.amount ds (full.live_of own_facts i.key i.version) apart (λ d g. accepted_live i d (among d g).0 (among d g).1) in
+            let less : cluster.quorums.classic * (total (λ (d : Choice). q.amount d.update) ds + q.amount c.update)
+            ≤ cluster.quorums.classic * (total (λ (p : TxId × Update). q.amount p.1) (full.live_of own_facts i.key i.version) + q.amount c.update) = mul-le-mul_left cluster.quorums.classic (omega arith) in
+            let room : (cluster.quorums.fast + cluster.quorums.classic - cluster.quorums.centres) * q.room (base reduced_facts i.key)
+            ≡ (cluster.quorums.fast + cluster.quorums.classic - cluster.quorums.centres) * q.room (full.base_of own_facts i.key) =
+            ap (λ z. (cluster.quorums.fast + cluster.quorums.classic - cluster.quorums.centres) * q.room z) (base_now cluster four es a fine i.key) in
+            omega arith;
+      }

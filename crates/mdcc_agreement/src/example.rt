@@ -1,0 +1,16 @@
+//! An example, so that the laws do not speak of nothing.
+ghost use Rattle.std.specs.Prelude.{◌≡◌, [], ◌∷◌, Some};
+ghost use Rattle.mdcc_option.specs.declared.choices.Mark.{Mark};
+ghost use Rattle.mdcc_protocol.specs.Facts.{current_of};
+ghost use Rattle.mdcc_protocol.specs.Ledger.{chosen_of, committed_of, facts_of};
+ghost use Rattle.mdcc_agreement.specs.Example.{choice, key, ledger, three, tx};
+ghost use Rattle.mdcc_agreement.specs.Laws.{IsLedger};
+
+/// A ledger with an entry of each kind, and a forced mark in its structure, is allowed. Its one
+/// transaction is chosen accepted and committed, and the last centre holds what it wrote.
+pub fn allowed()
+    ensures ledger { IsLedger three ledger }
+    ensures chosen { chosen_of three.quorums ledger key 0 tx ≡ Some (Mark.Accept choice) }
+    ensures committed { committed_of three.quorums ledger ≡ (choice ∷ []) ∷ [] }
+    ensures held { current_of (facts_of ledger 3) key ≡ 1 }
+{}

@@ -1,0 +1,44 @@
+-- When a fact may be added to others, and what the store answers.
+use Rattle.std.specs.List.{list_any}
+use Rattle.std.specs.Prelude.{◌≡◌, Bool, Err, List, Ok, Result, false, if◌then◌else◌, is_some, nat_lt, true, ℕ}
+use Rattle.mdcc_struct.specs.Maps.{value_of}
+use Rattle.mdcc_protocol.specs.Facts.{is_heard, promised_through, votes_of}
+use Rattle.mdcc_protocol.specs.News.{is_crowding}
+use Rattle.mdcc_protocol.specs.declared.facts.Fact.{Fact}
+use Rattle.mdcc_protocol.specs.declared.facts.StoreFault.{StoreFault}
+
+-- ---- when it may be added
+
+-- an earlier promise begins at this one's version, at its ballot
+abbrev pub is_promised_before : List Fact → Fact → Bool
+is_promised_before facts (Fact.Promised key low high ballot) = is_some (promised_through facts key low ballot)
+is_promised_before facts _ = false
+
+-- one of its marks was voted before at its ballot
+abbrev pub is_voted_before : List Fact → Fact → Bool
+is_voted_before facts (Fact.Voted key version ballot options offered) =
+    list_any (λ e. is_some (value_of (votes_of facts key version ballot) e.0)) options
+is_voted_before facts _ = false
+
+-- its transaction was heard before
+abbrev pub is_heard_before : List Fact → Fact → Bool
+is_heard_before facts (Fact.Heard tx outcome) = is_heard facts tx
+is_heard_before facts _ = false
+
+-- it says nothing a second time
+pub record MayBeAdded (facts : List Fact) (fact : Fact) : Type 0 where
+  pub promised : is_promised_before facts fact ≡ false
+  pub voted : is_voted_before facts fact ≡ false
+  pub heard : is_heard_before facts fact ≡ false
+
+-- ---- what the store answers
+
+abbrev pub is_memory : StoreFault → Bool
+is_memory StoreFault.Memory = true
+is_memory _ = false
+
+-- a fact that needs more cells than are spare has no room, and one that would bring too many deltas is refused
+abbrev pub add_of : (spare needed : ℕ) → List Fact → Fact → Result (Unit {0}) StoreFault
+add_of spare needed facts fact =
+    if nat_lt spare needed then Err (StoreFault.NoRoom needed spare)
+    else (if is_crowding facts fact then Err StoreFault.Crowded else Ok tt)

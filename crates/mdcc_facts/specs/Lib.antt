@@ -1,0 +1,5 @@
+pub mod Adding
+pub mod Few
+pub mod Listed
+pub mod Walks
+pub mod Weights

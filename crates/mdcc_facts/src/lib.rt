@@ -1,0 +1,19 @@
+//! Facts, and stores of them.
+#![tactic(auto)]
+
+mod copies;
+mod deltas;
+mod held;
+pub mod list_facts;
+mod live;
+mod load;
+mod marks;
+mod next;
+mod promises;
+pub mod store;
+mod unresolved;
+mod votes;
+
+pub use list_facts::ListFacts;
+pub use mdcc_protocol::{Fact, StoreFault};
+pub use store::FactStore;

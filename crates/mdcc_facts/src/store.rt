@@ -1,0 +1,103 @@
+//! What a store of facts promises.
+ghost use Rattle.std.specs.Prelude.{◌≡◌, ◌+◌, ◌∷◌, ℕ, List, OnErr, OnOk};
+ghost use Rattle.mdcc_base.specs.Unless.{GivesUnless};
+ghost use Rattle.mdcc_protocol.specs.declared.facts.Fact.{Fact as AFact};
+ghost use Rattle.mdcc_protocol.specs.Facts.{base_of, choice_known, current_of, epoch_of, executed_of, heard_of, promise_of, promised_through, vote_of};
+ghost use Rattle.mdcc_protocol.specs.Stores.{delta_of, entries_at, load_at, mark_below, unresolved_at};
+ghost use Rattle.mdcc_struct.specs.Maps.{txs_of};
+ghost use Rattle.mdcc_facts.specs.Adding.{MayBeAdded, add_of, is_memory};
+
+use mdcc_base::{Ballot, BoundedList, Key, TxId};
+use mdcc_option::{Choice, Delta, Item, Mark, Outcome, Seen};
+use mdcc_protocol::{Fact, Load, StoreFault};
+
+/// A store of the facts of one centre. It answers what they say, and takes no memory for it.
+pub trait FactStore {
+    /// The lists of facts, the newest first, for which it stands.
+    ghost stands: { Self → List AFact → Type 0 };
+
+    /// How many cells are spare.
+    ghost room: { Self → ℕ };
+
+    /// How many cells a fact needs.
+    ghost cells_for: { Self → AFact → ℕ };
+
+    /// Adds a fact.
+    fn add(&mut self, fact: &Fact) -> Result<(), StoreFault>
+        requires { (facts : List AFact) → stands self.old facts → MayBeAdded facts fact.now }
+        ensures answer { (facts : List AFact) → stands self.old facts → GivesUnless is_memory result (add_of (room self.old) (cells_for self.old fact.now) facts fact.now) }
+        ensures ok { (facts : List AFact) → stands self.old facts → OnOk result (stands self.new (fact.now ∷ facts)) }
+        ensures used { OnOk result (room self.new + cells_for self.old fact.now ≡ room self.old) }
+        ensures err { (facts : List AFact) → stands self.old facts → OnErr result (stands self.new facts) }
+        ensures left { OnErr result (room self.new ≡ room self.old) };
+
+    /// The greatest ballot that was promised for the instance, or voted at in it.
+    fn promise(&self, key: &Key, version: u64) -> Ballot
+        ensures { (facts : List AFact) → stands self.now facts → result ≡ promise_of facts key.now version };
+
+    /// The high end of the promise of this ballot that begins at this version.
+    fn promised(&self, key: &Key, version: u64, ballot: Ballot) -> Option<u64>
+        ensures { (facts : List AFact) → stands self.now facts → result ≡ promised_through facts key.now version ballot };
+
+    /// The mark of a transaction in an instance at the greatest ballot at which it was voted.
+    fn vote_of(&self, key: &Key, version: u64, tx: TxId) -> Option<(Ballot, Mark)>
+        ensures { (facts : List AFact) → stands self.now facts → result ≡ vote_of facts key.now version tx };
+
+    /// The outcome that was heard of a transaction.
+    fn heard(&self, tx: TxId) -> Option<Outcome>
+        ensures { (facts : List AFact) → stands self.now facts → result ≡ heard_of facts tx };
+
+    /// The version that is held.
+    fn current(&self, key: &Key) -> u64
+        ensures { (facts : List AFact) → stands self.now facts → result ≡ current_of facts key.now };
+
+    /// The base of the version that is held; there is none at version 0.
+    fn base(&self, key: &Key) -> Option<Item>
+        ensures { (facts : List AFact) → stands self.now facts → result ≡ base_of facts key.now };
+
+    /// The transactions whose deltas are executed.
+    fn executed(&self, key: &Key) -> Seen
+        ensures { (facts : List AFact) → stands self.now facts → result ≡ txs_of (executed_of facts key.now) };
+
+    /// The delta of an executed transaction.
+    fn delta(&self, key: &Key, tx: TxId) -> Option<Delta>
+        ensures { (facts : List AFact) → stands self.now facts → result ≡ delta_of facts key.now tx };
+
+    /// What the live choices of an instance weigh beside a seen set. Counts stop at 2^32 - 1 and
+    /// sums at 2^96.
+    fn load(&self, key: &Key, version: u64, seen: &[TxId]) -> Load
+        ensures { (facts : List AFact) → stands self.now facts → result ≡ load_at facts key.now version seen.now };
+
+    /// How many marks accept and how many reject in an instance at the fast ballot, each at most
+    /// 2^32 - 1.
+    fn entries(&self, key: &Key, version: u64) -> (u32, u32)
+        ensures { (facts : List AFact) → stands self.now facts → result ≡ entries_at facts key.now version };
+
+    /// The mark at a place, from 0, of the votes at the greatest ballot below another one, with
+    /// that ballot.
+    fn marks(
+        &self,
+        key: &Key,
+        version: u64,
+        below: Ballot,
+        place: usize,
+    ) -> Option<(Ballot, TxId, Mark)>
+        ensures { (facts : List AFact) → stands self.now facts → result ≡ mark_below facts key.now version below place };
+
+    /// The transaction at a place, from 0, of those of which a vote holds a choice and whose
+    /// outcome was not heard, ascending, with its write set.
+    fn unresolved(&self, place: usize) -> Option<(TxId, BoundedList<(Key, u64), 8>)>
+        ensures { (facts : List AFact) → stands self.now facts → result ≡ unresolved_at facts place };
+
+    /// The first choice of a transaction that a vote in the instance accepts or has as offered.
+    fn choice_of(&self, key: &Key, version: u64, tx: TxId) -> Option<Choice>
+        ensures { (facts : List AFact) → stands self.now facts → result ≡ choice_known facts key.now version tx };
+
+    /// The epoch of the last boot.
+    fn epoch(&self) -> u32
+        ensures { (facts : List AFact) → stands self.now facts → result ≡ epoch_of facts };
+
+    /// How many cells are spare.
+    fn spare(&self) -> u64
+        ensures { result ≡ room self.now };
+}

@@ -1,0 +1,142 @@
+//! What facts say of votes and outcomes.
+ghost use Rattle.std.specs.Prelude.{◌≡◌, option_and_then, reverse};
+ghost use Rattle.std.specs.Option.{option_copied};
+ghost use Rattle.mdcc_protocol.specs.Facts.{choice_known, choice_of_tx, choice_voted, heard_of, later_vote, mark_voted, outcome_in, vote_of};
+ghost use Rattle.mdcc_protocol.specs.Marks.{choice_in};
+
+use mdcc_base::{Ballot, Key, Plain, TxId};
+use mdcc_option::{Choice, Mark, Outcome};
+use mdcc_protocol::Fact;
+
+// The mark that the fact votes of a transaction in an instance, with its ballot.
+fn mark_voted(fact: &Fact, key: &Key, version: u64, tx: &TxId) -> Option<(Ballot, Mark)>
+    ensures { result ≡ mark_voted key.now version tx.now fact.now }
+{
+    match fact {
+        Fact::Voted {
+            key: other,
+            version: voted,
+            ballot,
+            options,
+            offered: _,
+        } => {
+            if *voted == version && other.is(key) {
+                match options.mark_of(*tx) {
+                    Some(mark) => Some((*ballot, mark.copy())),
+                    None => None,
+                }
+            } else {
+                None
+            }
+        }
+        _ => None,
+    }
+}
+
+// The second vote where its ballot is greater, else the first.
+fn later_vote(a: Option<(Ballot, Mark)>, b: Option<(Ballot, Mark)>) -> Option<(Ballot, Mark)>
+    ensures { result ≡ later_vote a b }
+{
+    match (a, b) {
+        (None, b) => b,
+        (Some(a), None) => Some(a),
+        (Some(a), Some(b)) => { if a.0.is_below(&b.0) { Some(b) } else { Some(a) } }
+    }
+}
+
+/// The vote on a transaction in an instance at the greatest ballot at which it was voted.
+pub(crate) fn vote_of(facts: &[Fact], key: &Key, version: u64, tx: &TxId) -> Option<(Ballot, Mark)>
+    ensures { result ≡ vote_of (reverse facts.now) key.now version tx.now }
+{
+    let mut last = None;
+    for fact in facts {
+        last = later_vote(last, mark_voted(fact, key, version, tx));
+    }
+    last
+}
+
+// The choice that a mark accepts, where there is a mark.
+fn choice_in(mark: Option<&Mark>) -> Option<Choice>
+    ensures { result ≡ option_and_then choice_in (option_copied mark.entry) }
+{
+    match mark {
+        Some(Mark::Accept(choice)) => Some(choice.copy()),
+        _ => None,
+    }
+}
+
+// The choice where it is the transaction's.
+fn choice_of_tx(tx: &TxId, choice: &Option<Choice>) -> Option<Choice>
+    ensures { result ≡ option_and_then (choice_of_tx tx.now) choice.now }
+{
+    match choice {
+        Some(choice) => {
+            if choice.tx.is(tx) {
+                Some(choice.copy())
+            } else {
+                None
+            }
+        }
+        None => None,
+    }
+}
+
+// The choice of a transaction that the fact has in an instance, accepted or offered.
+fn choice_voted(fact: &Fact, key: &Key, version: u64, tx: &TxId) -> Option<Choice>
+    ensures { result ≡ choice_voted key.now version tx.now fact.now }
+{
+    match fact {
+        Fact::Voted {
+            key: other,
+            version: voted,
+            ballot: _,
+            options,
+            offered,
+        } => {
+            if *voted == version && other.is(key) {
+                choice_in(options.mark_of(*tx)).or(choice_of_tx(tx, offered))
+            } else {
+                None
+            }
+        }
+        _ => None,
+    }
+}
+
+/// The first such choice.
+pub(crate) fn choice_known(facts: &[Fact], key: &Key, version: u64, tx: &TxId) -> Option<Choice>
+    ensures { result ≡ choice_known (reverse facts.now) key.now version tx.now }
+{
+    let mut known = None;
+    for fact in facts {
+        known = known.or(choice_voted(fact, key, version, tx));
+    }
+    known
+}
+
+// The outcome that the fact says of a transaction.
+fn outcome_in(fact: &Fact, tx: &TxId) -> Option<Outcome>
+    ensures { result ≡ outcome_in tx.now fact.now }
+{
+    match fact {
+        Fact::Heard { tx: other, outcome } => {
+            if other.is(tx) {
+                Some(outcome.copy())
+            } else {
+                None
+            }
+        }
+        _ => None,
+    }
+}
+
+/// The outcome that was heard of a transaction.
+pub(crate) fn heard_of(facts: &[Fact], tx: &TxId) -> Option<Outcome>
+    ensures { result ≡ heard_of (reverse facts.now) tx.now }
+{
+    let mut heard = None;
+    for fact in facts {
+        heard = heard.or(outcome_in(fact, tx));
+    }
+    heard
+}

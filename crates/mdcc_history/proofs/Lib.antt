@@ -1,0 +1,9 @@
+pub mod CommitsFit
+pub mod CommitsListed
+pub mod CommitsOrdered
+pub mod CommitsRun
+pub mod Slots
+pub mod SlotsLeft
+pub mod Sorted
+pub mod StoreLikeSlots
+pub mod ValuesBounded

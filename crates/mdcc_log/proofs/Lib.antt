@@ -1,0 +1,7 @@
+mod Appends
+mod Bytes
+mod Calls
+mod Kept
+mod LogRead
+mod Moments
+mod Repairs

@@ -1,0 +1,44 @@
+use Rattle.std.proofs.Common.{arith}
+use Rattle.mdcc_log.specs.Crash.{IsShut, IsBetween}
+use Rattle.mdcc_log.proofs.Kept.{read_is, shut_stays, between_stays, fresh_stays, fresh_between}
+use Rattle.mdcc_log.proofs.Moments.{weakened}
+use Rattle.mdcc_log.proofs.frames.recover.Goals as goal
+
+pub returns-in_err-begin-clause-any_moment : goal.returns-in_err-begin-clause-any_moment
+returns-in_err-begin-clause-any_moment g c ps told shut =
+    weakened (IsShut ps) (c.begin.ensures.any_moment told) (λ x few. fresh_stays ps c.args.bytes.now x (omega arith) shut few)
+
+pub returns-in_err-begin-clause-any_moment_between : goal.returns-in_err-begin-clause-any_moment_between
+returns-in_err-begin-clause-any_moment_between g c ps p told was =
+    weakened (IsBetween ps p) (c.begin.ensures.any_moment told) (λ x few. fresh_between ps p c.args.bytes.now x (omega arith) was few)
+
+pub returns-then-bytes-le9-clause-any_moment : goal.returns-then-bytes-le9-clause-any_moment
+returns-then-bytes-le9-clause-any_moment g c ps told shut =
+    weakened (IsShut ps) (c.begin.ensures.any_moment told) (λ x few. fresh_stays ps c.args.bytes.now x (omega arith) shut few)
+
+pub returns-then-bytes-le9-clause-any_moment_between : goal.returns-then-bytes-le9-clause-any_moment_between
+returns-then-bytes-le9-clause-any_moment_between g c ps p told was =
+    weakened (IsBetween ps p) (c.begin.ensures.any_moment told) (λ x few. fresh_between ps p c.args.bytes.now x (omega arith) was few)
+
+pub returns-clause-payloads : goal.returns-clause-payloads
+returns-clause-payloads g c = read_is c.in_ok-payloads.payloads.items c.in_ok-payloads.gate c.args.bytes.now c.in_ok-payloads.ensures.read
+
+pub returns-in_err-repair-clause-any_moment : goal.returns-in_err-repair-clause-any_moment
+returns-in_err-repair-clause-any_moment g c ps told shut =
+    weakened (IsShut ps) (c.repair.ensures.any_moment told) (λ x may.
+    shut_stays c.in_ok-payloads.payloads.items ps c.in_ok-payloads.gate c.args.bytes.now x (omega arith) c.in_ok-payloads.ensures.read shut may)
+
+pub returns-in_err-repair-clause-any_moment_between : goal.returns-in_err-repair-clause-any_moment_between
+returns-in_err-repair-clause-any_moment_between g c ps p told was =
+    weakened (IsBetween ps p) (c.repair.ensures.any_moment told) (λ x may.
+    between_stays c.in_ok-payloads.payloads.items ps p c.in_ok-payloads.gate c.args.bytes.now x (omega arith) c.in_ok-payloads.ensures.read was may)
+
+pub returns-clause-any_moment : goal.returns-clause-any_moment
+returns-clause-any_moment g c ps told shut =
+    weakened (IsShut ps) (c.repair.ensures.any_moment told) (λ x may.
+    shut_stays c.in_ok-payloads.payloads.items ps c.in_ok-payloads.gate c.args.bytes.now x (omega arith) c.in_ok-payloads.ensures.read shut may)
+
+pub returns-clause-any_moment_between : goal.returns-clause-any_moment_between
+returns-clause-any_moment_between g c ps p told was =
+    weakened (IsBetween ps p) (c.repair.ensures.any_moment told) (λ x may.
+    between_stays c.in_ok-payloads.payloads.items ps p c.in_ok-payloads.gate c.args.bytes.now x (omega arith) c.in_ok-payloads.ensures.read was may)

@@ -1,0 +1,5 @@
+use Rattle.mdcc_log.proofs.Kept.{between_is_read}
+use Rattle.mdcc_log.proofs.laws.between_is_read.Goals as goal
+
+pub returns : goal.returns
+returns c = between_is_read

@@ -1,0 +1,7 @@
+use Rattle.std.proofs.Common.{rules}
+use Rattle.std.proofs.lemmas.List.Edits.{map_over_more}
+use Rattle.mdcc_manager.specs.Opened.{led_at}
+use Rattle.mdcc_manager.proofs.opened.OpenChoices.mark_led.Goals as goal
+
+pub loop-open-preserved : goal.loop-open-preserved
+loop-open-preserved c = rw c.mark_led.ensures (search (rules, map_over_more (led_at c.args.key.now)))

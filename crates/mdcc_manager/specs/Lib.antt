@@ -1,0 +1,5 @@
+pub mod Begin
+pub mod Numbered
+pub mod Opened
+pub mod Stands
+pub mod Ticks

@@ -1,0 +1,13 @@
+//! The manager: it begins the transactions of its centre, counts the votes on them, and decides them.
+#![tactic(auto)]
+
+mod begin;
+pub mod manager;
+mod marks;
+mod opened;
+mod ticks;
+
+pub use begin::key_refused;
+pub use manager::Manager;
+pub use mdcc_option::BeginFault;
+pub use mdcc_protocol::ManagerAct;

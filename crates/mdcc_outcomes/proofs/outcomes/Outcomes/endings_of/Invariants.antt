@@ -1,0 +1,11 @@
+use Rattle.std.proofs.Common.{◌≡◌, ◌++◌, List, drop, map}
+use Rattle.mdcc_base.specs.Sizes.{Sizes}
+use Rattle.mdcc_outcomes.specs.Endings.{with_ending_of}
+use Rattle.mdcc_outcomes.specs.Stands.{Stands}
+use Rattle.mdcc_protocol.specs.Ledger.{Entry}
+use Rattle.mdcc_struct.specs.Maps.{txs_of}
+use Rattle.mdcc_outcomes.proofs.outcomes.Outcomes.endings_of.Given as goal
+
+abbrev pub invariant-loop-i : goal.invariant-loop-i
+invariant-loop-i l = (quorums : Sizes) (entries : List Entry) → Stands l.self quorums entries →
+    l.endings ++ map (with_ending_of quorums entries) (txs_of (drop l.i l.options)) ≡ map (with_ending_of quorums entries) (txs_of l.options)

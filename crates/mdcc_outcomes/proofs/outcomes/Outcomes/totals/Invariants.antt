@@ -1,0 +1,13 @@
+use Rattle.std.proofs.Common.{◌≡◌, List, drop}
+use Rattle.std.specs.Map.{keys_of}
+use Rattle.mdcc_base.specs.Sizes.{Sizes}
+use Rattle.mdcc_outcomes.specs.Endings.{ending_of}
+use Rattle.mdcc_outcomes.specs.Stands.{Stands}
+use Rattle.mdcc_protocol.specs.Ledger.{Entry}
+use Rattle.mdcc_outcomes.proofs.Sums.{counted_on, none_ended}
+use Rattle.mdcc_outcomes.proofs.outcomes.Outcomes.totals.Given as goal
+
+abbrev pub invariant-loop-i : goal.invariant-loop-i
+invariant-loop-i l = (quorums : Sizes) (entries : List Entry) → Stands l.self quorums entries →
+    counted_on (ending_of quorums entries) l.totals (keys_of (drop l.i l.self.begun.entries))
+    ≡ counted_on (ending_of quorums entries) none_ended (keys_of l.self.begun.entries)

@@ -1,0 +1,4 @@
+pub mod Ballots
+pub mod Casts
+pub mod Endings
+pub mod Stands

@@ -1,0 +1,10 @@
+//! How transactions end: the votes of all centres, counted as they are cast.
+#![tactic(auto)]
+
+mod ballots;
+pub mod casts;
+mod chosen;
+mod endings;
+pub mod outcomes;
+
+pub use outcomes::{Outcomes, Totals};

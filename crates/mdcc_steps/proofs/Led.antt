@@ -1,0 +1,105 @@
+-- The leader's steps are well-formed.
+use Rattle.std.proofs.Common.{ℕ, ◌-◌, ◌^◌, List, [], Option, Some, None, Result, Ok, Err}
+use Rattle.std.specs.Int.{IsInRange}
+use Rattle.std.specs.List.{AllByRecursion}
+use Rattle.std.proofs.lemmas.Bool.{cond_both, ltb-true}
+use Rattle.mdcc_base.specs.AreQuorums.{AreQuorums}
+use Rattle.mdcc_base.specs.declared.identifiers.Ballot.{Ballot}
+use Rattle.mdcc_base.specs.declared.key.Key.{Key}
+use Rattle.mdcc_option.specs.declared.choices.Choice.{Choice}
+use Rattle.mdcc_option.specs.declared.choices.Claim.{Claim}
+use Rattle.mdcc_option.specs.declared.choices.Outcome.{Outcome}
+use Rattle.mdcc_option.specs.declared.cluster.Cluster.{Cluster}
+use Rattle.mdcc_protocol.specs.Built.{Built}
+use Rattle.mdcc_protocol.specs.Facts.{epoch_of, heard_of}
+use Rattle.mdcc_protocol.specs.Leader.{claim_of_choice, lead, on_promise}
+use Rattle.mdcc_protocol.specs.LeaderRules.{Led, lead_sent, lead_step, lead_step_after, led_by_answer, led_of, promise_sent, promise_step, promised_by_answer, refused_step, step_of_led}
+use Rattle.mdcc_protocol.specs.TickRules.{claim_led, led_or_left, ticked}
+use Rattle.mdcc_protocol.specs.Volatile.{Leading, Volatile}
+use Rattle.mdcc_protocol.specs.WellFormed.{IsWellFormedEnvelope}
+use Rattle.mdcc_protocol.specs.WellFormedParts.{IsWellFormedChoice, IsWellFormedHeard}
+use Rattle.mdcc_protocol.specs.declared.facts.Fact.{Fact}
+use Rattle.mdcc_protocol.specs.declared.leader.LeadAnswer.{LeadAnswer}
+use Rattle.mdcc_protocol.specs.declared.leader.LeadFault.{LeadFault}
+use Rattle.mdcc_protocol.specs.declared.leader.Promise.{Promise}
+use Rattle.mdcc_protocol.specs.declared.leader.PromiseAnswer.{PromiseAnswer}
+use Rattle.mdcc_protocol.specs.declared.messages.Message.{Message}
+use Rattle.mdcc_steps.specs.Keeping.{AreNodeFacts, IsWellFormedVolatile}
+use Rattle.mdcc_steps.proofs.Allowing.{OnStep}
+use Rattle.mdcc_steps.proofs.Claims.{IsFormedClaim, formed-choice}
+use Rattle.mdcc_steps.proofs.Formed.{IsFormed}
+use Rattle.mdcc_steps.proofs.Held.{HoldsIn}
+use Rattle.mdcc_steps.proofs.Leading.{AreLeads, IsFormedLeadAnswer, IsFormedLed, IsFormedPromise, IsFormedPromiseAnswer, IsFormedTaken, OnOkOf, led-formed, promised-formed, refused-leads}
+use Rattle.mdcc_steps.proofs.Opened.{epoch-fits}
+use Rattle.mdcc_steps.proofs.Sending.{sent-all, sent-one, sent-others}
+use Rattle.mdcc_steps.proofs.Ticked.{IsFormedTicked}
+use Rattle.mdcc_steps.proofs.Told.{heard-told}
+
+-- the leads that are left, and the messages
+abbrev pub IsFormedPart : Led → Type 0
+IsFormedPart led = AreLeads led.after × AllByRecursion IsWellFormedEnvelope led.sends
+
+module _ (cluster : Cluster) (me : ℕ) (facts : List Fact) (sizes : AreQuorums cluster.quorums) (of_me : IsInRange 1 9 me) (known : AreNodeFacts cluster facts) where
+  sent-lead : (claim : Claim) (answer : LeadAnswer) → IsFormedClaim claim → IsFormedLeadAnswer claim.key answer → AllByRecursion IsWellFormedEnvelope (lead_sent cluster.quorums me claim answer)
+  sent-lead claim LeadAnswer.Behind w h = sent-others cluster.quorums me (Message.SyncAsk claim.key) sizes of_me w.0.key_itself
+  sent-lead claim (LeadAnswer.Accept version ballot options) w h =
+      sent-all cluster.quorums me (Message.Accept claim.key version ballot options) sizes of_me (record { instance = h.0; classic = h.1; options_itself = h.2 })
+  sent-lead claim (LeadAnswer.Prepare version through ballot) w h = sent-all cluster.quorums me (Message.Prepare claim.key version through ballot) sizes of_me h
+  sent-lead claim LeadAnswer.Left w h = tt
+
+  led-part : (leader : Leading) (claim : Claim) (r : Result (LeadAnswer × Leading) LeadFault) → IsFormedClaim claim → OnOkOf (IsFormedLed claim.key) r → OnOkOf IsFormedPart (led_by_answer cluster.quorums me leader claim r)
+  led-part leader claim (Err fault) w h = tt
+  led-part leader claim (Ok (answer, after)) w h = (h.1, sent-lead claim answer w h.0)
+
+  of_epoch : IsInRange 1 (2 ^ 32 - 1) (epoch_of facts)
+  of_epoch = epoch-fits facts known.well_formed (ltb-true 0 (epoch_of facts) known.booted)
+
+  claim-part : (leader : Leading) (claim : Claim) → AreLeads leader → IsFormedClaim claim → OnOkOf IsFormedPart (led_of cluster me facts leader claim)
+  claim-part leader claim leads w =
+      led-part leader claim (lead cluster me (epoch_of facts) facts leader claim) w (led-formed cluster me (epoch_of facts) facts leader claim of_me of_epoch leads w)
+
+  -- ---- claims at a tick
+
+  left-formed : (volatile : Volatile) (r : Result Led LeadFault) → IsWellFormedVolatile volatile → OnOkOf IsFormedPart r → IsFormedTicked (led_or_left volatile r)
+  left-formed volatile (Err fault) kept h = (kept, tt)
+  left-formed volatile (Ok led) kept h = (record { opened = kept.opened; votes = kept.votes; watched = kept.watched; leads = h.0 }, h.1)
+
+  pub led-here : (built : Built) (volatile : Volatile) (claim : Claim) → IsWellFormedVolatile volatile → IsFormedClaim claim → IsFormedTicked (claim_led built cluster me facts volatile claim)
+  led-here built volatile claim kept w =
+      cond_both built.leading (led_or_left volatile (led_of cluster me facts volatile.leader claim)) (ticked volatile []) IsFormedTicked
+      (λ e. left-formed volatile (led_of cluster me facts volatile.leader claim) kept (claim-part volatile.leader claim kept.leads w)) (λ e. (kept, tt))
+
+  -- ---- messages
+
+  module _ (volatile : Volatile) (kept : IsWellFormedVolatile volatile) where
+    part-step : (r : Result Led LeadFault) → OnOkOf IsFormedPart r → OnStep IsFormed (step_of_led volatile r)
+    part-step (Err fault) h = tt
+    part-step (Ok led) h = (tt, h.1, kept.opened, h.0)
+
+    lead-by : (s : ℕ) (choice : Choice) (o : Option Outcome) → IsInRange 1 9 s → IsWellFormedChoice choice → HoldsIn (IsWellFormedHeard choice.tx) o
+        → OnStep IsFormed (lead_step_after cluster me facts volatile s choice o)
+    lead-by s choice (Some outcome) of_s w h = (tt, sent-one me s (Message.Outcome choice.tx outcome) of_me of_s h, kept.opened, kept.leads)
+    lead-by s choice None of_s w h =
+        part-step (led_of cluster me facts volatile.leader (claim_of_choice choice)) (claim-part volatile.leader (claim_of_choice choice) kept.leads (formed-choice choice w))
+
+    pub lead-step-formed : (s : ℕ) (choice : Choice) → IsInRange 1 9 s → IsWellFormedChoice choice → OnStep IsFormed (lead_step cluster me facts volatile s choice)
+    lead-step-formed s choice of_s w = lead-by s choice (heard_of facts choice.tx) of_s w (heard-told facts choice.tx known.well_formed)
+
+    sent-promised : (key : Key) (answer : PromiseAnswer) → IsFormedPromiseAnswer key answer → AllByRecursion IsWellFormedEnvelope (promise_sent cluster.quorums me key answer)
+    sent-promised key (PromiseAnswer.Accept version ballot options) h =
+        sent-all cluster.quorums me (Message.Accept key version ballot options) sizes of_me (record { instance = h.0; classic = h.1; options_itself = h.2 })
+    sent-promised key PromiseAnswer.Ignored h = tt
+    sent-promised key (PromiseAnswer.Waiting n) h = tt
+    sent-promised key PromiseAnswer.Counted h = tt
+
+    promised-part : (key : Key) (r : Result (PromiseAnswer × Leading) LeadFault) → OnOkOf (IsFormedTaken key) r → OnOkOf IsFormedPart (promised_by_answer cluster.quorums me key r)
+    promised-part key (Err fault) h = tt
+    promised-part key (Ok (answer, after)) h = (h.1, sent-promised key answer h.0)
+
+    pub promise-step-formed : (from : ℕ) (promise : Promise) → IsFormedPromise promise → OnStep IsFormed (promise_step cluster me facts volatile from promise)
+    promise-step-formed from promise w =
+        part-step (promised_by_answer cluster.quorums me promise.key (on_promise cluster facts volatile.leader from promise))
+        (promised-part promise.key (on_promise cluster facts volatile.leader from promise) (promised-formed cluster facts volatile.leader from promise kept.leads w))
+
+    pub refused-step-formed : (key : Key) (ballot promised : Ballot) → IsFormed (refused_step volatile key ballot promised)
+    refused-step-formed key ballot promised = (tt, tt, kept.opened, refused-leads volatile.leader key ballot promised kept.leads)

@@ -1,0 +1,130 @@
+-- No message is answered to the node's client.
+use Rattle.std.proofs.Common.{◌≡◌, ℕ, ◌&&◌, List, refl, Option, Some, None, Result, Ok, Err, not}
+use Rattle.std.proofs.lemmas.Bool.{cond_both}
+use Rattle.mdcc_base.specs.declared.identifiers.Ballot.{Ballot}
+use Rattle.mdcc_base.specs.declared.identifiers.TxId.{TxId}
+use Rattle.mdcc_base.specs.declared.key.Key.{Key}
+use Rattle.mdcc_option.specs.declared.choices.Cause.{Cause}
+use Rattle.mdcc_option.specs.declared.choices.Choice.{Choice}
+use Rattle.mdcc_option.specs.declared.choices.Mark.{Mark}
+use Rattle.mdcc_option.specs.declared.choices.Outcome.{Outcome}
+use Rattle.mdcc_option.specs.declared.cluster.Cluster.{Cluster}
+use Rattle.mdcc_struct.specs.declared.options.Options.{Options}
+use Rattle.mdcc_protocol.specs.Acceptor.{on_accept, on_prepare, on_propose}
+use Rattle.mdcc_protocol.specs.AcceptorRules.{accepted_step, ask_step_by, prepared_step, proposed_step}
+use Rattle.mdcc_protocol.specs.Built.{Built}
+use Rattle.mdcc_protocol.specs.Facts.{heard_of, is_heard, vote_of}
+use Rattle.mdcc_protocol.specs.Leader.{claim_of_choice}
+use Rattle.mdcc_protocol.specs.LeaderRules.{Led, lead_step_after, led_of, promise_step, step_of_led}
+use Rattle.mdcc_protocol.specs.Learner.{is_learned}
+use Rattle.mdcc_protocol.specs.Manager
+use Rattle.mdcc_protocol.specs.Manager.{act_on_cause, acted, vote_taken}
+use Rattle.mdcc_protocol.specs.ManagerRules.{acted_step, escalate_step, opened_step, undecided_step, voted_step, watched_step}
+use Rattle.mdcc_protocol.specs.Node.{message_step}
+use Rattle.mdcc_protocol.specs.Recover
+use Rattle.mdcc_protocol.specs.Steps.{NodeStep, nothing_done}
+use Rattle.mdcc_protocol.specs.SyncRules.{outcome_step_by, sync_give_step_by}
+use Rattle.mdcc_protocol.specs.Visible.{on_outcome, on_sync_give}
+use Rattle.mdcc_protocol.specs.Volatile.{Managing, Volatile, is_open, with_manager}
+use Rattle.mdcc_protocol.specs.declared.acceptor.AcceptAnswer.{AcceptAnswer}
+use Rattle.mdcc_protocol.specs.declared.acceptor.PrepareAnswer.{PrepareAnswer}
+use Rattle.mdcc_protocol.specs.declared.acceptor.ProposeAnswer.{ProposeAnswer}
+use Rattle.mdcc_protocol.specs.declared.facts.Fact.{Fact}
+use Rattle.mdcc_protocol.specs.declared.leader.LeadFault.{LeadFault}
+use Rattle.mdcc_protocol.specs.declared.manager.ManagerAct.{ManagerAct}
+use Rattle.mdcc_protocol.specs.declared.messages.Message.{Message}
+use Rattle.mdcc_protocol.specs.declared.votes.Vote.{Vote}
+use Rattle.mdcc_steps.proofs.Allowing.{OnStep, on_rule}
+
+abbrev pub IsQuiet : NodeStep → Type 0
+IsQuiet step = step.answer ≡ None
+
+module _ (built : Built) (cluster : Cluster) (me : ℕ) (facts : List Fact) (volatile : Volatile) where
+  quiet-proposed : (s : ℕ) (choice : Choice) (answer : ProposeAnswer) → IsQuiet (proposed_step me volatile s choice answer)
+  quiet-proposed s choice (ProposeAnswer.Known outcome) = refl
+  quiet-proposed s choice (ProposeAnswer.Again ballot mark) = refl
+  quiet-proposed s choice (ProposeAnswer.Vote mark) = refl
+  quiet-proposed s choice (ProposeAnswer.Escalate cause) = refl
+
+  quiet-undecided : (vote : Vote) → IsQuiet (undecided_step built cluster me facts volatile vote)
+  quiet-undecided vote =
+      cond_both built.escalations (acted_step me facts volatile (Manager.on_voted cluster.quorums volatile.manager vote))
+      (nothing_done (with_manager volatile (vote_taken cluster.quorums volatile.manager vote))) IsQuiet (λ e. refl) (λ e. refl)
+
+  quiet-opened : (vote : Vote) (o : Option Outcome) → IsQuiet (opened_step built cluster me facts volatile vote o)
+  quiet-opened vote (Some outcome) = refl
+  quiet-opened vote None = quiet-undecided vote
+
+  quiet-watched : (vote : Vote) (o : Option (TxId × Outcome)) → IsQuiet (watched_step cluster me facts volatile vote o)
+  quiet-watched vote (Some decided) = refl
+  quiet-watched vote None = refl
+
+  quiet-voted : (vote : Vote) → IsQuiet (voted_step built cluster me facts volatile vote)
+  quiet-voted vote =
+      cond_both (is_heard facts vote.tx) (nothing_done volatile) _ IsQuiet (λ e. refl) (λ e.
+      cond_both (is_open volatile.manager vote.tx)
+      (opened_step built cluster me facts volatile vote (Manager.would_decide cluster.quorums volatile.manager vote))
+      (watched_step cluster me facts volatile vote (Recover.would_decide cluster.quorums facts volatile.recovery vote))
+      IsQuiet
+      (λ f. quiet-opened vote (Manager.would_decide cluster.quorums volatile.manager vote))
+      (λ f. quiet-watched vote (Recover.would_decide cluster.quorums facts volatile.recovery vote)))
+
+  quiet-escalate : (s : ℕ) (key : Key) (tx : TxId) (cause : Cause) → IsQuiet (escalate_step cluster me facts volatile s key tx cause)
+  quiet-escalate s key tx cause =
+      cond_both (is_open volatile.manager tx && not (is_learned cluster.quorums volatile.manager.votes tx key))
+      (acted volatile.manager (act_on_cause cluster.quorums volatile.manager s tx key cause)) (None, volatile.manager)
+      (λ (r : Option ManagerAct × Managing). IsQuiet (acted_step me facts volatile r)) (λ e. refl) (λ e. refl)
+
+  quiet-outcome : (tx : TxId) (o : Option Fact) → IsQuiet (outcome_step_by volatile tx o)
+  quiet-outcome tx None = refl
+  quiet-outcome tx (Some fact) = refl
+
+  quiet-led : (r : Result Led LeadFault) → OnStep IsQuiet (step_of_led volatile r)
+  quiet-led (Ok led) = refl
+  quiet-led (Err fault) = tt
+
+  quiet-lead : (s : ℕ) (choice : Choice) (o : Option Outcome) → OnStep IsQuiet (lead_step_after cluster me facts volatile s choice o)
+  quiet-lead s choice (Some outcome) = refl
+  quiet-lead s choice None = quiet-led (led_of cluster me facts volatile.leader (claim_of_choice choice))
+
+  quiet-prepared : (l : ℕ) (key : Key) (version : ℕ) (ballot : Ballot) (answer : PrepareAnswer) → IsQuiet (prepared_step me facts volatile l key version ballot answer)
+  quiet-prepared l key version ballot (PrepareAnswer.Refused promise) = refl
+  quiet-prepared l key version ballot (PrepareAnswer.Again high) = refl
+  quiet-prepared l key version ballot (PrepareAnswer.Promise high) = refl
+
+  quiet-accepted : (l : ℕ) (key : Key) (version : ℕ) (ballot : Ballot) (options : Options) (answer : AcceptAnswer) → IsQuiet (accepted_step me facts volatile l key version ballot options answer)
+  quiet-accepted l key version ballot options (AcceptAnswer.Refused promise) = refl
+  quiet-accepted l key version ballot options (AcceptAnswer.Behind current) = refl
+  quiet-accepted l key version ballot options AcceptAnswer.Older = refl
+  quiet-accepted l key version ballot options AcceptAnswer.Vote = refl
+
+  quiet-asked : (s : ℕ) (tx : TxId) (key : Key) (version : ℕ) (o : Option Outcome) (vote : Option (Ballot × Mark)) → IsQuiet (ask_step_by me volatile s tx key version o vote)
+  quiet-asked s tx key version (Some outcome) vote = refl
+  quiet-asked s tx key version None (Some vote) = refl
+  quiet-asked s tx key version None None = refl
+
+  quiet-given : (o : Option Fact) → IsQuiet (sync_give_step_by volatile o)
+  quiet-given None = refl
+  quiet-given (Some fact) = refl
+
+  pub quiet-message : (s : ℕ) (message : Message) → OnStep IsQuiet (message_step built cluster me facts volatile s message)
+  quiet-message s (Message.Propose choice) = on_rule IsQuiet built.proposals volatile _ refl (quiet-proposed s choice (on_propose cluster facts choice))
+  quiet-message s (Message.Voted key version ballot tx mark) =
+      on_rule IsQuiet built.proposals volatile _ refl (quiet-voted (record { from = s; key = key; version = version; ballot = ballot; tx = tx; mark = mark }))
+  quiet-message s (Message.Escalate key version tx cause) = on_rule IsQuiet built.escalations volatile _ refl (quiet-escalate s key tx cause)
+  quiet-message s (Message.Lead choice) = on_rule IsQuiet built.leading volatile _ refl (quiet-lead s choice (heard_of facts choice.tx))
+  quiet-message s (Message.Prepare key version through ballot) =
+      on_rule IsQuiet built.leading volatile _ refl (quiet-prepared s key version ballot (on_prepare facts key version through ballot))
+  quiet-message s (Message.Promise key version through ballot reported votes) =
+      on_rule IsQuiet built.leading volatile (promise_step cluster me facts volatile s (record { key = key; version = version; through = through; ballot = ballot; reported = reported; votes = votes })) refl (quiet-led _)
+  quiet-message s (Message.Accept key version ballot options) =
+      on_rule IsQuiet built.leading volatile _ refl (quiet-accepted s key version ballot options (on_accept facts key version ballot options))
+  quiet-message s (Message.Refused key version ballot promised) = on_rule IsQuiet built.leading volatile _ refl refl
+  quiet-message s (Message.Outcome tx outcome) = on_rule IsQuiet built.proposals volatile _ refl (quiet-outcome tx (on_outcome facts tx outcome))
+  quiet-message s (Message.Ask tx key version) = on_rule IsQuiet built.recovery volatile _ refl (quiet-asked s tx key version (heard_of facts tx) (vote_of facts key version tx))
+  quiet-message s (Message.SyncAsk key) = on_rule IsQuiet built.catching_up volatile _ refl refl
+  quiet-message s (Message.SyncGive key version item adds) =
+      on_rule IsQuiet built.catching_up volatile _ refl (quiet-given (on_sync_give facts (record { key = key; version = version; item = item; adds = adds })))
+  quiet-message s (Message.ClientRead serial key) = refl
+  quiet-message s (Message.ClientBegin serial parts) = refl
+  quiet-message s (Message.ClientAnswer serial answer) = refl

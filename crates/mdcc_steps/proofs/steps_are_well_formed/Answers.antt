@@ -1,0 +1,19 @@
+use Rattle.mdcc_steps.proofs.Answered.{answer-formed}
+use Rattle.mdcc_steps.proofs.Dispatched.{fact-formed, node-stays, sends-formed}
+use Rattle.mdcc_steps.proofs.Roomy.{room-stays}
+use Rattle.mdcc_steps.proofs.steps_are_well_formed.Goals as goal
+
+pub returns-clause-fact : goal.returns-clause-fact
+returns-clause-fact c built cluster me facts volatile input step fact node well_formed made is = fact-formed built cluster me facts volatile input step node well_formed made fact is
+
+pub returns-clause-sends : goal.returns-clause-sends
+returns-clause-sends c built cluster me facts volatile input step room node well_formed made = sends-formed built cluster me facts volatile input step node well_formed made room
+
+pub returns-clause-answer : goal.returns-clause-answer
+returns-clause-answer c = answer-formed
+
+pub returns-clause-stays : goal.returns-clause-stays
+returns-clause-stays c = node-stays
+
+pub returns-clause-room : goal.returns-clause-room
+returns-clause-room c = room-stays

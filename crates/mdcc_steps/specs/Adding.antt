@@ -1,0 +1,65 @@
+-- A fact that a step adds is allowed after the node's facts.
+use Rattle.std.specs.List.{AllByRecursion}
+use Rattle.std.specs.Prelude.{IsTrue, List, Ok, Some, nat_lt, ℕ, ◌∷◌, ◌≡◌}
+use Rattle.mdcc_option.specs.declared.cluster.Cluster.{Cluster}
+use Rattle.mdcc_protocol.specs.Allowed.{are_allowed_facts, is_allowed_fact}
+use Rattle.mdcc_protocol.specs.Belongs.{mark_belongs}
+use Rattle.mdcc_protocol.specs.Built.{Built}
+use Rattle.mdcc_protocol.specs.Facts.{epoch_of}
+use Rattle.mdcc_protocol.specs.Node.{step_of}
+use Rattle.mdcc_protocol.specs.Steps.{NodeStep}
+use Rattle.mdcc_protocol.specs.Volatile.{Volatile, nothing_kept}
+use Rattle.mdcc_protocol.specs.declared.facts.Fact.{Fact}
+use Rattle.mdcc_protocol.specs.declared.node.Input.{Input}
+use Rattle.mdcc_protocol.specs.declared.votes.Vote.{Vote}
+use Rattle.mdcc_steps.specs.Inputs.{IsWellFormedInput}
+
+-- the vote's mark is of the cluster
+abbrev pub IsVoteOf : Cluster → Vote → Type 0
+IsVoteOf cluster vote = IsTrue (mark_belongs cluster vote.mark)
+
+-- what holds of a node's volatile state at every moment: the votes that are counted are of the cluster
+pub record AreVotesOf (cluster : Cluster) (volatile : Volatile) : Type 0 where
+  pub manager : AllByRecursion (IsVoteOf cluster) volatile.manager.votes
+  pub recovery : AllByRecursion (IsVoteOf cluster) volatile.recovery.votes
+
+-- the node was booted
+abbrev pub IsBooted : List Fact → Type 0
+IsBooted facts = IsTrue (nat_lt 0 (epoch_of facts))
+
+-- what a step of a booted node adds is allowed after its facts
+abbrev pub AddedFactIsAllowed : Type 0
+AddedFactIsAllowed =
+    (built : Built) (cluster : Cluster) (me : ℕ) (facts : List Fact) (volatile : Volatile) (input : Input) (step : NodeStep) (fact : Fact)
+    → IsBooted facts → AreVotesOf cluster volatile → IsWellFormedInput input
+    → step_of built cluster me facts volatile input ≡ Ok step → step.fact ≡ Some fact
+    → IsTrue (is_allowed_fact cluster facts fact)
+
+-- so facts that are allowed in turn stay so
+abbrev pub FactsStayAllowed : Type 0
+FactsStayAllowed =
+    (built : Built) (cluster : Cluster) (me : ℕ) (facts : List Fact) (volatile : Volatile) (input : Input) (step : NodeStep) (fact : Fact)
+    → IsTrue (are_allowed_facts cluster facts)
+    → IsBooted facts → AreVotesOf cluster volatile → IsWellFormedInput input
+    → step_of built cluster me facts volatile input ≡ Ok step → step.fact ≡ Some fact
+    → IsTrue (are_allowed_facts cluster (fact ∷ facts))
+
+-- and the node stays booted
+abbrev pub NodeStaysBooted : Type 0
+NodeStaysBooted =
+    (built : Built) (cluster : Cluster) (me : ℕ) (facts : List Fact) (volatile : Volatile) (input : Input) (step : NodeStep) (fact : Fact)
+    → IsBooted facts → AreVotesOf cluster volatile → IsWellFormedInput input
+    → step_of built cluster me facts volatile input ≡ Ok step → step.fact ≡ Some fact
+    → IsBooted (fact ∷ facts)
+
+-- no vote is counted after a boot
+abbrev pub NoVotesAtBoot : Type 0
+NoVotesAtBoot = (cluster : Cluster) → AreVotesOf cluster nothing_kept
+
+-- the counted votes stay of the cluster
+abbrev pub VotesStayOf : Type 0
+VotesStayOf =
+    (built : Built) (cluster : Cluster) (me : ℕ) (facts : List Fact) (volatile : Volatile) (input : Input) (step : NodeStep)
+    → AreVotesOf cluster volatile
+    → step_of built cluster me facts volatile input ≡ Ok step
+    → AreVotesOf cluster step.after

@@ -1,0 +1,98 @@
+-- What a node adds, keeps and sends is well-formed.
+use Rattle.std.specs.List.{AllByRecursion}
+use Rattle.std.specs.Prelude.{IsTrue, List, None, Ok, Option, Some, [], ℕ, ◌++◌, ◌∷◌, ◌≡◌, ◌≤◌}
+use Rattle.mdcc_option.specs.declared.cluster.Cluster.{Cluster}
+use Rattle.mdcc_protocol.specs.Allowed.{are_allowed_facts}
+use Rattle.mdcc_protocol.specs.Belongs.{is_centre}
+use Rattle.mdcc_protocol.specs.Boot.{boot_of, booted_by}
+use Rattle.mdcc_protocol.specs.Built.{Built}
+use Rattle.mdcc_protocol.specs.IsCluster.{IsCluster}
+use Rattle.mdcc_protocol.specs.Lengths.{cells_used}
+use Rattle.mdcc_protocol.specs.Node.{step_of}
+use Rattle.mdcc_protocol.specs.Steps.{NodeStep}
+use Rattle.mdcc_protocol.specs.Volatile.{Volatile, nothing_kept}
+use Rattle.mdcc_protocol.specs.WellFormed.{IsWellFormedEnvelope, IsWellFormedFact}
+use Rattle.mdcc_protocol.specs.declared.facts.Fact.{Fact}
+use Rattle.mdcc_protocol.specs.declared.node.Input.{Input}
+use Rattle.mdcc_steps.specs.Adding.{AreVotesOf}
+use Rattle.mdcc_steps.specs.Inputs.{IsWellFormedInput}
+use Rattle.mdcc_steps.specs.Keeping.{AreNodeFacts, IsWellFormedVolatile}
+
+-- what holds of a node at every moment
+pub record IsNode (cluster : Cluster) (me : ℕ) (facts : List Fact) (volatile : Volatile) : Type 0 where
+  pub cluster_itself : IsCluster cluster
+  pub centre : IsTrue (is_centre cluster me)
+  pub facts_themselves : AreNodeFacts cluster facts
+  pub votes : AreVotesOf cluster volatile
+  pub volatile_itself : IsWellFormedVolatile volatile
+
+-- the fact that a step adds is well-formed
+abbrev pub AddedFactIsWellFormed : Type 0
+AddedFactIsWellFormed =
+    (built : Built) (cluster : Cluster) (me : ℕ) (facts : List Fact) (volatile : Volatile) (input : Input) (step : NodeStep) (fact : Fact)
+    → IsNode cluster me facts volatile → IsWellFormedInput input
+    → step_of built cluster me facts volatile input ≡ Ok step → step.fact ≡ Some fact
+    → IsWellFormedFact fact
+
+-- where leading is built, the facts lie in as many cells as a node may have. So the votes that a promise reports are fewer than 2^32
+abbrev pub HasRoom : Built → List Fact → Type 0
+HasRoom built facts = IsTrue built.leading → cells_used facts ≤ 4194304
+
+-- so is each message that it sends
+abbrev pub SendsAreWellFormed : Type 0
+SendsAreWellFormed =
+    (built : Built) (cluster : Cluster) (me : ℕ) (facts : List Fact) (volatile : Volatile) (input : Input) (step : NodeStep)
+    → HasRoom built facts
+    → IsNode cluster me facts volatile → IsWellFormedInput input
+    → step_of built cluster me facts volatile input ≡ Ok step
+    → AllByRecursion IsWellFormedEnvelope step.sends
+
+-- a node's facts with a new one
+abbrev pub with_new : List Fact → Option Fact → List Fact
+with_new facts None = facts
+with_new facts (Some fact) = fact ∷ facts
+
+-- and a node stays one
+abbrev pub NodeStays : Type 0
+NodeStays =
+    (built : Built) (cluster : Cluster) (me : ℕ) (facts : List Fact) (volatile : Volatile) (input : Input) (step : NodeStep)
+    → IsNode cluster me facts volatile → IsWellFormedInput input
+    → step_of built cluster me facts volatile input ≡ Ok step
+    → IsNode cluster me (with_new facts step.fact) step.after
+
+-- where cells are limited, the facts stay within them
+abbrev pub RoomStays : Type 0
+RoomStays =
+    (built : Built) (cluster : Cluster) (me : ℕ) (facts : List Fact) (volatile : Volatile) (input : Input) (step : NodeStep)
+    → IsTrue built.limit_on_cells → cells_used facts ≤ cluster.cells
+    → step_of built cluster me facts volatile input ≡ Ok step
+    → cells_used (with_new facts step.fact) ≤ cluster.cells
+
+-- a node is one after a boot from well-formed facts
+abbrev pub BootGivesNode : Type 0
+BootGivesNode =
+    (built : Built) (cluster : Cluster) (me : ℕ) (payloads : List (Option Fact)) (facts : List Fact)
+    → IsCluster cluster → IsTrue (is_centre cluster me)
+    → AllByRecursion (λ payload. (fact : Fact) → payload ≡ Some fact → IsWellFormedFact fact) payloads
+    → boot_of built cluster payloads ≡ Ok facts
+    → IsNode cluster me facts nothing_kept
+
+-- and its facts lie within the cells, where those are limited
+abbrev pub BootKeepsRoom : Type 0
+BootKeepsRoom =
+    (built : Built) (cluster : Cluster) (payloads : List (Option Fact)) (facts : List Fact)
+    → IsTrue built.limit_on_cells → boot_of built cluster payloads ≡ Ok facts
+    → cells_used facts ≤ cluster.cells
+
+-- facts as payloads of a log, the oldest first
+abbrev pub payloads_of : List Fact → List (Option Fact)
+payloads_of [] = []
+payloads_of (fact ∷ facts) = payloads_of facts ++ Some fact ∷ []
+
+-- facts that are allowed in turn, and lie in the cells where those are limited, are what a boot reads from their payloads
+abbrev pub BootReadsFacts : Type 0
+BootReadsFacts =
+    (built : Built) (cluster : Cluster) (facts : List Fact)
+    → IsTrue (are_allowed_facts cluster facts)
+    → (IsTrue built.limit_on_cells → cells_used facts ≤ cluster.cells)
+    → boot_of built cluster (payloads_of facts) ≡ booted_by built cluster (Ok facts)

@@ -1,0 +1,12 @@
+//! What a centre hears, shows to readers, and passes on to others that are behind.
+#![tactic(auto)]
+
+mod deltas;
+pub mod outcomes;
+pub mod reading;
+pub mod sync;
+
+pub use mdcc_protocol::{Fact, Give, Reading};
+pub use outcomes::on_outcome;
+pub use reading::{read, rebase_due};
+pub use sync::{on_sync_ask, on_sync_give};
