@@ -1,0 +1,6 @@
+pub mod Beginning
+pub mod Marks
+pub mod Ranges
+pub mod Rooms
+pub mod Standing
+pub mod Unvoted

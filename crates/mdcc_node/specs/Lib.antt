@@ -1,0 +1,4 @@
+pub mod Laws
+pub mod Stands
+pub mod Stepping
+pub mod Telling

@@ -1,0 +1,97 @@
+-- What a node answers to an input over a store with so many spare cells, and what it is afterwards.
+use Rattle.std.specs.Bool.{OnFalse, OnTrue}
+use Rattle.std.specs.Prelude.{Bool, Err, List, None, Ok, Option, Result, Some, false, if◌then◌else◌, nat_lt, true, ⊤, ℕ, ◌∷◌}
+use Rattle.mdcc_facts.specs.Adding.{add_of}
+use Rattle.mdcc_option.specs.declared.cluster.Cluster.{Cluster}
+use Rattle.mdcc_protocol.specs.Built.{Built}
+use Rattle.mdcc_protocol.specs.Node.{is_own_message, message_step, step_of}
+use Rattle.mdcc_protocol.specs.Steps.{NodeStep, step_fault, step_given}
+use Rattle.mdcc_protocol.specs.Volatile.{Volatile}
+use Rattle.mdcc_protocol.specs.WellFormed.{IsWellFormedEnvelope}
+use Rattle.mdcc_protocol.specs.declared.facts.Fact.{Fact}
+use Rattle.mdcc_protocol.specs.declared.facts.StoreFault.{StoreFault}
+use Rattle.mdcc_protocol.specs.declared.node.BootFault.{BootFault}
+use Rattle.mdcc_protocol.specs.declared.node.Input.{Input}
+use Rattle.mdcc_protocol.specs.declared.node.Step.{Step}
+use Rattle.mdcc_protocol.specs.declared.node.StepFault.{StepFault}
+
+-- ---- the store's room
+
+-- the cells of a store: how many are spare, and how many a fact needs
+pub record Room : Type 0 where
+  pub spare : ℕ
+  pub needed : Fact → ℕ
+
+abbrev pub room_of : {S : Type 0} → (S → ℕ) → (S → Fact → ℕ) → S → Room
+room_of spare needed store = record { spare = spare store; needed = needed store }
+
+-- the step, where the store takes its fact
+abbrev pub if_added : NodeStep → Result (Unit {0}) StoreFault → Result NodeStep StepFault
+if_added step (Ok _) = Ok step
+if_added step (Err fault) = Err (step_fault fault)
+
+abbrev pub with_fact : Room → List Fact → NodeStep → Option Fact → Result NodeStep StepFault
+with_fact room facts step None = Ok step
+with_fact room facts step (Some fact) = if_added step (add_of room.spare (room.needed fact) facts fact)
+
+abbrev pub with_store : Room → List Fact → Result NodeStep StepFault → Result NodeStep StepFault
+with_store room facts (Err fault) = Err fault
+with_store room facts (Ok step) = with_fact room facts step step.fact
+
+-- ---- the step
+
+-- what an input does at a node over such a store
+abbrev pub step_by : Room → Built → Cluster → ℕ → List Fact → Volatile → Input → Result NodeStep StepFault
+step_by room built cluster me facts volatile (Input.Message envelope) =
+    if is_own_message cluster me envelope
+    then with_store room facts (message_step built cluster me facts volatile envelope.from envelope.message)
+    else Err StepFault.Foreign
+step_by room built cluster me facts volatile input = step_of built cluster me facts volatile input
+
+-- what the caller is given
+abbrev pub given : Result NodeStep StepFault → Result Step StepFault
+given (Ok step) = Ok (step_given step)
+given (Err fault) = Err fault
+
+-- ---- what is left
+
+abbrev pub is_memory : StepFault → Bool
+is_memory StepFault.Memory = true
+is_memory _ = false
+
+abbrev pub with_new : List Fact → Option Fact → List Fact
+with_new facts None = facts
+with_new facts (Some fact) = fact ∷ facts
+
+abbrev pub facts_left : List Fact → Result NodeStep StepFault → List Fact
+facts_left facts (Ok step) = with_new facts step.fact
+facts_left facts (Err fault) = facts
+
+abbrev pub volatile_left : Volatile → Result NodeStep StepFault → Volatile
+volatile_left volatile (Ok step) = step.after
+volatile_left volatile (Err fault) = volatile
+
+-- what holds of every answer but that there was no memory
+abbrev pub UnlessMemory : {T : Type 0} → Result T StepFault → Type 0 → Type 0
+UnlessMemory (Ok x) P = P
+UnlessMemory (Err fault) P = OnFalse (is_memory fault) P
+
+-- what holds where there was none
+abbrev pub OnMemory : {T : Type 0} → Result T StepFault → Type 0 → Type 0
+OnMemory (Ok x) P = ⊤
+OnMemory (Err fault) P = OnTrue (is_memory fault) P
+
+-- ---- inputs and starts
+
+-- a message is well-formed
+abbrev pub IsGiven : Input → Type 0
+IsGiven (Input.Message envelope) = IsWellFormedEnvelope envelope
+IsGiven input = ⊤
+
+abbrev pub is_boot_memory : BootFault → Bool
+is_boot_memory BootFault.Memory = true
+is_boot_memory _ = false
+
+-- the fact of the first boot, where there are cells for it
+abbrev pub started : (spare needed : ℕ) → Result Fact BootFault
+started spare needed = if nat_lt spare needed then Err (BootFault.Room needed spare) else Ok (Fact.Booted 1)

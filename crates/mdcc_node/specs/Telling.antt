@@ -1,0 +1,57 @@
+-- What a step is made of.
+use Rattle.std.specs.Prelude.{Err, List, None, Ok, Option, Result, Some, [], if◌then◌else◌, not, ℕ, ◌==◌, ◌∷◌}
+use Rattle.mdcc_base.specs.Ballot.{fast_ballot}
+use Rattle.mdcc_base.specs.declared.key.Key.{Key}
+use Rattle.mdcc_node.specs.declared.node.Node.{Node}
+use Rattle.mdcc_option.specs.declared.choices.Choice.{Choice}
+use Rattle.mdcc_option.specs.declared.choices.Mark.{Mark}
+use Rattle.mdcc_option.specs.declared.faults.BeginFault.{BeginFault}
+use Rattle.mdcc_protocol.specs.Marks.{is_accept}
+use Rattle.mdcc_protocol.specs.Steps.{heard_by}
+use Rattle.mdcc_protocol.specs.declared.facts.Fact.{Fact}
+use Rattle.mdcc_protocol.specs.declared.facts.StoreFault.{StoreFault}
+use Rattle.mdcc_protocol.specs.declared.messages.Envelope.{Envelope}
+use Rattle.mdcc_protocol.specs.declared.messages.Message.{Message}
+use Rattle.mdcc_protocol.specs.declared.node.Answer.{Answer}
+use Rattle.mdcc_protocol.specs.declared.node.BootFault.{BootFault}
+use Rattle.mdcc_protocol.specs.declared.node.Step.{Step}
+use Rattle.mdcc_protocol.specs.declared.node.StepFault.{StepFault}
+
+-- messages alone
+abbrev pub sent : List Envelope → Step
+sent sends = record { fact = None; sends = sends; heard = None; answer = None }
+
+-- messages and an answer to a client
+abbrev pub replied : List Envelope → Answer → Step
+replied sends answer = record { fact = None; sends = sends; heard = None; answer = Some answer }
+
+-- messages behind a fact
+abbrev pub added : Fact → List Envelope → Step
+added fact sends = record { fact = Some fact; sends = sends; heard = heard_by (Some fact); answer = None }
+
+-- a message to a centre, where it is another one
+abbrev pub to_other : ℕ → ℕ → Message → List Envelope
+to_other from to message = if not (to == from) then record { from = from; to = to; message = message } ∷ [] else []
+
+-- what is given where the manager refuses to begin: want of memory is no answer
+abbrev pub refused_given : Key → BeginFault → Result Step StepFault
+refused_given key BeginFault.Memory = Err StepFault.Memory
+refused_given key fault = Ok (replied [] (Answer.Refused key fault))
+
+-- the choice that stands beside a mark: a rejected one
+abbrev pub offered : Choice → Mark → Option Choice
+offered choice mark = if is_accept mark then None else Some choice
+
+-- the vote of an acceptor on one choice at the fast ballot
+abbrev pub vote_fact : Choice → Mark → Fact
+vote_fact choice mark = Fact.Voted choice.key choice.version fast_ballot ((choice.tx, mark) ∷ []) (offered choice mark)
+
+-- why a node has no first fact
+abbrev pub boot_fault : StoreFault → BootFault
+boot_fault (StoreFault.NoRoom needed spare) = BootFault.Room needed spare
+boot_fault _ = BootFault.Memory
+
+-- the fact of a start
+abbrev pub started_fact : {S : Type 0} → Result (Node S × Fact) BootFault → Result Fact BootFault
+started_fact (Ok r) = Ok r.1
+started_fact (Err fault) = Err fault

@@ -1,0 +1,13 @@
+//! The node of one centre: it takes one input at a time, and gives at most one fact, its messages and
+//! its answer.
+#![tactic(auto)]
+
+mod belongs;
+pub mod laws;
+pub mod node;
+mod parts_belong;
+mod sends;
+mod steps;
+
+pub use mdcc_protocol::{Answer, BootFault, Input, Step, StepFault};
+pub use node::Node;

@@ -1,0 +1,427 @@
+//! One node.
+ghost use Rattle.std.specs.Prelude.{◌≡◌, ◌∷◌, ◌&&◌, [], List, ℕ, IfOk, Ok, false, not, true};
+ghost use Rattle.mdcc_base.specs.Unless.{GivesUnless};
+ghost use Rattle.mdcc_facts.specs.Adding.{MayBeAdded};
+ghost use Rattle.mdcc_node.specs.Stands.{Left, Stands};
+ghost use Rattle.mdcc_node.specs.Stepping.{IsGiven, OnMemory, UnlessMemory, given, is_boot_memory, is_memory, room_of, started, step_by, with_store};
+ghost use Rattle.mdcc_node.specs.Telling.{refused_given, replied, sent, started_fact, vote_fact};
+ghost use Rattle.mdcc_option.specs.Transaction.{choices_of};
+ghost use Rattle.mdcc_option.specs.declared.choices.Mark.{Mark as AMark};
+ghost use Rattle.mdcc_option.specs.declared.cluster.Cluster.{Cluster as ACluster};
+ghost use Rattle.mdcc_protocol.specs.AcceptorRules.{propose_step, proposed_step};
+ghost use Rattle.mdcc_protocol.specs.Belongs.{is_centre};
+ghost use Rattle.mdcc_protocol.specs.Built.{built};
+ghost use Rattle.mdcc_protocol.specs.Facts.{epoch_of, is_heard};
+ghost use Rattle.mdcc_protocol.specs.Manager.{would_decide};
+ghost use Rattle.mdcc_protocol.specs.ManagerRules.{act_sent, begin_step, decided_step, escalate_step, key_refused as key_refused_of, opened_step, proposals_sent as proposals_of, undecided_step, voted_step};
+ghost use Rattle.mdcc_protocol.specs.Messages.{to_one};
+ghost use Rattle.mdcc_protocol.specs.Node.{message_step};
+ghost use Rattle.mdcc_protocol.specs.Steps.{adding};
+ghost use Rattle.mdcc_protocol.specs.SyncRules.{give_sent, outcome_step};
+ghost use Rattle.mdcc_protocol.specs.Visible.{read as read_of};
+ghost use Rattle.mdcc_protocol.specs.Volatile.{Volatile as AVolatile, closed, is_open, nothing_kept};
+ghost use Rattle.mdcc_protocol.specs.WellFormed.{IsWellFormedEnvelope, IsWellFormedMessage};
+ghost use Rattle.mdcc_protocol.specs.WellFormedParts.{IsWellFormedCause};
+ghost use Rattle.mdcc_protocol.specs.declared.acceptor.ProposeAnswer.{ProposeAnswer as AProposeAnswer};
+ghost use Rattle.mdcc_protocol.specs.declared.facts.Fact.{Fact as AFact};
+ghost use Rattle.mdcc_protocol.specs.declared.node.Answer.{Answer as AnAnswer};
+ghost use Rattle.mdcc_protocol.specs.declared.node.Input.{Input as AInput};
+
+use crate::belongs::sender_of;
+use crate::sends::{outcome_sent, proposals_sent, to_one};
+use crate::steps::{added, boot_fault, replied, sent, vote_fact, voted_message};
+use mdcc_acceptor::on_propose;
+use mdcc_base::{Ballot, Centre, HeapList, Key, Memory, Plain, TxId};
+use mdcc_facts::FactStore;
+use mdcc_manager::{Manager, key_refused};
+use mdcc_option::{BeginFault, Cause, Choice, Cluster, Outcome, Transaction};
+use mdcc_protocol::{
+    Answer, BootFault, Envelope, Fact, Input, ManagerAct, Message, ProposeAnswer, Reading, Step,
+    StepFault, Vote,
+};
+use mdcc_visible::{on_outcome, on_sync_ask, read};
+use std::alloc::Global;
+
+/// The node of one centre, over a store of its facts.
+#[derive(Drop)]
+pub struct Node<S> {
+    alloc: Global,
+    cluster: Cluster,
+    centre: Centre,
+    store: S,
+    manager: Manager,
+}
+
+impl<S: FactStore + Drop> Node<S> {
+    /// A node that is booted for the first time, over an empty store, with the fact of its boot. It
+    /// is refused where the store has no room for that fact.
+    pub fn start(
+        alloc: Global,
+        cluster: Cluster,
+        centre: Centre,
+        store: S,
+    ) -> Result<(Node<S>, Fact), BootFault>
+        requires among { is_centre cluster centre ≡ true }
+        requires empty { S.stands store [] }
+        ensures answer { GivesUnless is_boot_memory (started_fact result) (started (S.room store) (S.cells_for store (AFact.Booted 1))) }
+        ensures stands { IfOk result (λ r. Stands S.stands r.0 cluster centre (AFact.Booted 1 ∷ []) nothing_kept) }
+    {
+        let manager = Manager::new(alloc, centre, 1)?;
+        let mut store = store;
+        let fact = Fact::Booted(1);
+        match store.add(&fact) {
+            Ok(()) => {
+                let node = Node {
+                    alloc,
+                    cluster,
+                    centre,
+                    store,
+                    manager,
+                };
+                Ok((node, fact))
+            }
+            Err(fault) => Err(boot_fault(fault)),
+        }
+    }
+
+    /// The epoch of the node's last boot.
+    pub fn epoch(&self) -> u32
+        ensures { (cluster : ACluster) (me : ℕ) (facts : List AFact) (volatile : AVolatile)
+            → Stands S.stands self.now cluster me facts volatile → result ≡ epoch_of facts }
+    {
+        self.store.epoch()
+    }
+
+    /// What a client is shown of a key.
+    pub fn read(&self, key: &Key) -> Reading
+        ensures { (cluster : ACluster) (me : ℕ) (facts : List AFact) (volatile : AVolatile)
+            → Stands S.stands self.now cluster me facts volatile → result ≡ read_of facts key.now }
+    {
+        read(&self.store, key)
+    }
+
+    // Adds a fact, which is let out before the messages.
+    fn add(&mut self, fact: Fact, sends: HeapList<Envelope>) -> Result<Step, StepFault>
+        requires new { (facts : List AFact) → S.stands self.old.store facts → MayBeAdded facts fact }
+        requires no_boot { (facts : List AFact) → S.stands self.old.store facts → epoch_of (fact ∷ facts) ≡ epoch_of facts }
+        ensures answer { (cluster : ACluster) (me : ℕ) (facts : List AFact) (volatile : AVolatile) → Stands S.stands self.old cluster me facts volatile
+            → GivesUnless is_memory result (given (with_store (room_of S.room S.cells_for self.old.store) facts (Ok (adding volatile fact sends)))) }
+        ensures left { (cluster : ACluster) (me : ℕ) (facts : List AFact) (volatile : AVolatile) → Stands S.stands self.old cluster me facts volatile
+            → UnlessMemory result (Left S.stands self.new cluster me facts volatile (with_store (room_of S.room S.cells_for self.old.store) facts (Ok (adding volatile fact sends)))) }
+        ensures memory { (facts : List AFact) → S.stands self.old.store facts → OnMemory result (S.stands self.new.store facts) }
+    {
+        self.store.add(&fact)?;
+        Ok(added(fact, sends))
+    }
+
+    // Adds a fact that ends a transaction.
+    fn end(&mut self, tx: TxId, heard: Fact, sends: HeapList<Envelope>) -> Result<Step, StepFault>
+        requires new { (facts : List AFact) → S.stands self.old.store facts → MayBeAdded facts heard }
+        requires no_boot { (facts : List AFact) → S.stands self.old.store facts → epoch_of (heard ∷ facts) ≡ epoch_of facts }
+        ensures answer { (cluster : ACluster) (me : ℕ) (facts : List AFact) (volatile : AVolatile) → Stands S.stands self.old cluster me facts volatile
+            → GivesUnless is_memory result (given (with_store (room_of S.room S.cells_for self.old.store) facts (Ok (adding (closed volatile tx) heard sends)))) }
+        ensures left { (cluster : ACluster) (me : ℕ) (facts : List AFact) (volatile : AVolatile) → Stands S.stands self.old cluster me facts volatile
+            → UnlessMemory result (Left S.stands self.new cluster me facts volatile (with_store (room_of S.room S.cells_for self.old.store) facts (Ok (adding (closed volatile tx) heard sends)))) }
+        ensures memory { (facts : List AFact) → S.stands self.old.store facts → OnMemory result (S.stands self.new.store facts) }
+    {
+        self.store.add(&heard)?;
+        self.manager.close(tx);
+        Ok(added(heard, sends))
+    }
+
+    // A message to a centre.
+    fn reply(&self, to: u8, message: Message) -> Result<Step, StepFault>
+        ensures { GivesUnless is_memory result (Ok (sent (to_one self.now.centre to message))) }
+    {
+        Ok(sent(to_one(self.alloc, self.centre.number(), to, message)?))
+    }
+
+    // What the acceptor's answer to a choice adds and sends.
+    fn proposed(
+        &mut self,
+        from: u8,
+        choice: &Choice,
+        acceptor: ProposeAnswer,
+    ) -> Result<Step, StepFault>
+        requires { (facts : List AFact) (mark : AMark) → S.stands self.old.store facts → acceptor ≡ AProposeAnswer.Vote mark → MayBeAdded facts (vote_fact choice.now mark) }
+        ensures answer { (cluster : ACluster) (me : ℕ) (facts : List AFact) (volatile : AVolatile) → Stands S.stands self.old cluster me facts volatile
+            → GivesUnless is_memory result (given (with_store (room_of S.room S.cells_for self.old.store) facts (Ok (proposed_step me volatile from choice.now acceptor)))) }
+        ensures left { (cluster : ACluster) (me : ℕ) (facts : List AFact) (volatile : AVolatile) → Stands S.stands self.old cluster me facts volatile
+            → UnlessMemory result (Left S.stands self.new cluster me facts volatile (with_store (room_of S.room S.cells_for self.old.store) facts (Ok (proposed_step me volatile from choice.now acceptor)))) }
+        ensures memory { (facts : List AFact) → S.stands self.old.store facts → OnMemory result (S.stands self.new.store facts) }
+    {
+        match acceptor {
+            ProposeAnswer::Known(outcome) => {
+                let tx = choice.tx;
+                self.reply(from, Message::Outcome { tx, outcome })
+            }
+            ProposeAnswer::Again(ballot, mark) => {
+                self.reply(from, voted_message(choice, ballot, mark))
+            }
+            ProposeAnswer::Escalate(cause) => {
+                let message = Message::Escalate {
+                    key: choice.key,
+                    version: choice.version,
+                    tx: choice.tx,
+                    cause,
+                };
+                self.reply(from, message)
+            }
+            ProposeAnswer::Vote(mark) => {
+                let message = voted_message(choice, Ballot::FAST, mark.copy());
+                let sends = to_one(self.alloc, self.centre.number(), from, message)?;
+                let fact = vote_fact(self.alloc, choice, mark)?;
+                self.add(fact, sends)
+            }
+        }
+    }
+
+    // A choice was proposed.
+    fn propose(&mut self, from: u8, choice: &Choice) -> Result<Step, StepFault>
+        ensures answer { (cluster : ACluster) (me : ℕ) (facts : List AFact) (volatile : AVolatile) → Stands S.stands self.old cluster me facts volatile
+            → GivesUnless is_memory result (given (with_store (room_of S.room S.cells_for self.old.store) facts (Ok (propose_step cluster me facts volatile from choice.now)))) }
+        ensures left { (cluster : ACluster) (me : ℕ) (facts : List AFact) (volatile : AVolatile) → Stands S.stands self.old cluster me facts volatile
+            → UnlessMemory result (Left S.stands self.new cluster me facts volatile (with_store (room_of S.room S.cells_for self.old.store) facts (Ok (propose_step cluster me facts volatile from choice.now)))) }
+        ensures memory { (facts : List AFact) → S.stands self.old.store facts → OnMemory result (S.stands self.new.store facts) }
+    {
+        let acceptor = on_propose(&self.store, &self.cluster, choice);
+        self.proposed(from, choice, acceptor)
+    }
+
+    // A transaction that was not heard is decided here.
+    fn decide(&mut self, tx: TxId, outcome: Outcome) -> Result<Step, StepFault>
+        requires { (facts : List AFact) → S.stands self.old.store facts → is_heard facts tx ≡ false }
+        ensures answer { (cluster : ACluster) (me : ℕ) (facts : List AFact) (volatile : AVolatile) → Stands S.stands self.old cluster me facts volatile
+            → GivesUnless is_memory result (given (with_store (room_of S.room S.cells_for self.old.store) facts (Ok (decided_step cluster me volatile tx outcome)))) }
+        ensures left { (cluster : ACluster) (me : ℕ) (facts : List AFact) (volatile : AVolatile) → Stands S.stands self.old cluster me facts volatile
+            → UnlessMemory result (Left S.stands self.new cluster me facts volatile (with_store (room_of S.room S.cells_for self.old.store) facts (Ok (decided_step cluster me volatile tx outcome)))) }
+        ensures memory { (facts : List AFact) → S.stands self.old.store facts → OnMemory result (S.stands self.new.store facts) }
+    {
+        let centre = self.centre.number();
+        let sends = outcome_sent(self.alloc, &self.cluster.quorums, centre, tx, &outcome)?;
+        self.end(tx, Fact::Heard { tx, outcome }, sends)
+    }
+
+    // What this node holds of a key, for a centre.
+    fn give_sent(&self, to: u8, key: &Key) -> Result<HeapList<Envelope>, Memory>
+        ensures { (facts : List AFact) → S.stands self.now.store facts
+            → IfOk result (λ sends. sends ≡ give_sent self.now.centre facts to key.now) }
+    {
+        match on_sync_ask(self.alloc, &self.store, key)? {
+            Some(give) => {
+                let message = Message::SyncGive {
+                    key: give.key,
+                    version: give.version,
+                    item: give.item,
+                    adds: give.adds,
+                };
+                to_one(self.alloc, self.centre.number(), to, message)
+            }
+            None => Ok(HeapList::new(self.alloc)),
+        }
+    }
+
+    // What an act of the manager sends.
+    fn act_sent(&self, act: &Option<ManagerAct>) -> Result<HeapList<Envelope>, Memory>
+        ensures { (facts : List AFact) → S.stands self.now.store facts
+            → IfOk result (λ sends. sends ≡ act_sent self.now.centre facts act.now) }
+    {
+        match act {
+            Some(ManagerAct::Lead(leader, choice)) => {
+                let message = Message::Lead(choice.copy());
+                to_one(self.alloc, self.centre.number(), leader.number(), message)
+            }
+            Some(ManagerAct::Give(centre, key)) => self.give_sent(centre.number(), key),
+            _ => Ok(HeapList::new(self.alloc)),
+        }
+    }
+
+    // A vote on an open transaction that decides nothing.
+    fn undecided(&mut self, vote: &Vote) -> Result<Step, StepFault>
+        ensures answer { (cluster : ACluster) (me : ℕ) (facts : List AFact) (volatile : AVolatile) → Stands S.stands self.old cluster me facts volatile
+            → GivesUnless is_memory result (given (with_store (room_of S.room S.cells_for self.old.store) facts (Ok (undecided_step built cluster me facts volatile vote.now)))) }
+        ensures left { (cluster : ACluster) (me : ℕ) (facts : List AFact) (volatile : AVolatile) → Stands S.stands self.old cluster me facts volatile
+            → UnlessMemory result (Left S.stands self.new cluster me facts volatile (with_store (room_of S.room S.cells_for self.old.store) facts (Ok (undecided_step built cluster me facts volatile vote.now)))) }
+        ensures memory { (facts : List AFact) → S.stands self.old.store facts → OnMemory result (S.stands self.new.store facts) }
+    {
+        let act = self.manager.on_voted(&self.cluster, vote)?;
+        Ok(sent(self.act_sent(&act)?))
+    }
+
+    // A vote on an open transaction that was not heard. One that decides is not taken, since its
+    // transaction is closed.
+    fn opened(&mut self, vote: &Vote) -> Result<Step, StepFault>
+        requires { (facts : List AFact) → S.stands self.old.store facts → is_heard facts vote.now.tx ≡ false }
+        ensures answer { (cluster : ACluster) (me : ℕ) (facts : List AFact) (volatile : AVolatile) → Stands S.stands self.old cluster me facts volatile
+            → GivesUnless is_memory result (given (with_store (room_of S.room S.cells_for self.old.store) facts (Ok (opened_step built cluster me facts volatile vote.now (would_decide cluster.quorums volatile.manager vote.now))))) }
+        ensures left { (cluster : ACluster) (me : ℕ) (facts : List AFact) (volatile : AVolatile) → Stands S.stands self.old cluster me facts volatile
+            → UnlessMemory result (Left S.stands self.new cluster me facts volatile (with_store (room_of S.room S.cells_for self.old.store) facts (Ok (opened_step built cluster me facts volatile vote.now (would_decide cluster.quorums volatile.manager vote.now))))) }
+        ensures memory { (facts : List AFact) → S.stands self.old.store facts → OnMemory result (S.stands self.new.store facts) }
+    {
+        match self.manager.would_decide(&self.cluster, vote) {
+            Some(outcome) => self.decide(vote.tx, outcome),
+            None => self.undecided(vote),
+        }
+    }
+
+    // A vote came. One on a transaction that is not open here changes nothing.
+    fn voted(&mut self, vote: &Vote) -> Result<Step, StepFault>
+        ensures answer { (cluster : ACluster) (me : ℕ) (facts : List AFact) (volatile : AVolatile) → Stands S.stands self.old cluster me facts volatile
+            → GivesUnless is_memory result (given (with_store (room_of S.room S.cells_for self.old.store) facts (Ok (voted_step built cluster me facts volatile vote.now)))) }
+        ensures left { (cluster : ACluster) (me : ℕ) (facts : List AFact) (volatile : AVolatile) → Stands S.stands self.old cluster me facts volatile
+            → UnlessMemory result (Left S.stands self.new cluster me facts volatile (with_store (room_of S.room S.cells_for self.old.store) facts (Ok (voted_step built cluster me facts volatile vote.now)))) }
+        ensures memory { (facts : List AFact) → S.stands self.old.store facts → OnMemory result (S.stands self.new.store facts) }
+    {
+        if self.store.heard(vote.tx).is_some() || !self.manager.is_open(vote.tx) {
+            return Ok(sent(HeapList::new(self.alloc)));
+        }
+        self.opened(vote)
+    }
+
+    // A centre gives no vote.
+    fn escalate(
+        &mut self,
+        from: Centre,
+        key: &Key,
+        tx: TxId,
+        cause: Cause,
+    ) -> Result<Step, StepFault>
+        requires { IsWellFormedCause cause }
+        ensures answer { (cluster : ACluster) (me : ℕ) (facts : List AFact) (volatile : AVolatile) → Stands S.stands self.old cluster me facts volatile
+            → GivesUnless is_memory result (given (with_store (room_of S.room S.cells_for self.old.store) facts (Ok (escalate_step cluster me facts volatile from key.now tx cause)))) }
+        ensures left { (cluster : ACluster) (me : ℕ) (facts : List AFact) (volatile : AVolatile) → Stands S.stands self.old cluster me facts volatile
+            → UnlessMemory result (Left S.stands self.new cluster me facts volatile (with_store (room_of S.room S.cells_for self.old.store) facts (Ok (escalate_step cluster me facts volatile from key.now tx cause)))) }
+        ensures memory { (facts : List AFact) → S.stands self.old.store facts → OnMemory result (S.stands self.new.store facts) }
+    {
+        let act = self
+            .manager
+            .on_escalate(&self.cluster, from, tx, key, cause);
+        Ok(sent(self.act_sent(&act)?))
+    }
+
+    // The outcome of a transaction came.
+    fn hear(&mut self, tx: TxId, outcome: &Outcome) -> Result<Step, StepFault>
+        ensures answer { (cluster : ACluster) (me : ℕ) (facts : List AFact) (volatile : AVolatile) → Stands S.stands self.old cluster me facts volatile
+            → GivesUnless is_memory result (given (with_store (room_of S.room S.cells_for self.old.store) facts (Ok (outcome_step facts volatile tx outcome.now)))) }
+        ensures left { (cluster : ACluster) (me : ℕ) (facts : List AFact) (volatile : AVolatile) → Stands S.stands self.old cluster me facts volatile
+            → UnlessMemory result (Left S.stands self.new cluster me facts volatile (with_store (room_of S.room S.cells_for self.old.store) facts (Ok (outcome_step facts volatile tx outcome.now)))) }
+        ensures memory { (facts : List AFact) → S.stands self.old.store facts → OnMemory result (S.stands self.new.store facts) }
+    {
+        let sends = HeapList::new(self.alloc);
+        match on_outcome(&self.store, tx, outcome) {
+            Some(fact) => self.end(tx, fact, sends),
+            None => Ok(sent(sends)),
+        }
+    }
+
+    // A message of the cluster came to this node.
+    fn take(&mut self, from: Centre, message: &Message) -> Result<Step, StepFault>
+        requires { IsWellFormedMessage message.now }
+        ensures answer { (cluster : ACluster) (me : ℕ) (facts : List AFact) (volatile : AVolatile) → Stands S.stands self.old cluster me facts volatile
+            → GivesUnless is_memory result (given (with_store (room_of S.room S.cells_for self.old.store) facts (message_step built cluster me facts volatile from message.now))) }
+        ensures left { (cluster : ACluster) (me : ℕ) (facts : List AFact) (volatile : AVolatile) → Stands S.stands self.old cluster me facts volatile
+            → UnlessMemory result (Left S.stands self.new cluster me facts volatile (with_store (room_of S.room S.cells_for self.old.store) facts (message_step built cluster me facts volatile from message.now))) }
+        ensures memory { (facts : List AFact) → S.stands self.old.store facts → OnMemory result (S.stands self.new.store facts) }
+    {
+        match message {
+            Message::Propose(choice) => self.propose(from.number(), choice),
+            Message::Voted {
+                key,
+                version,
+                ballot,
+                tx,
+                mark,
+            } => {
+                let vote = Vote {
+                    from,
+                    key: *key,
+                    version: *version,
+                    ballot: *ballot,
+                    tx: *tx,
+                    mark: mark.copy(),
+                };
+                self.voted(&vote)
+            }
+            Message::Escalate { key, tx, cause, .. } => self.escalate(from, key, *tx, *cause),
+            Message::Outcome { tx, outcome } => self.hear(*tx, outcome),
+            _ => Ok(sent(HeapList::new(self.alloc))),
+        }
+    }
+
+    /// A message comes. It is refused where it is for another centre or not of the cluster, and
+    /// where its fact is; the node is then as it was.
+    pub fn deliver(&mut self, envelope: &Envelope) -> Result<Step, StepFault>
+        requires { IsWellFormedEnvelope envelope.now }
+        ensures answer { (cluster : ACluster) (me : ℕ) (facts : List AFact) (volatile : AVolatile) → Stands S.stands self.old cluster me facts volatile
+            → GivesUnless is_memory result (given (step_by (room_of S.room S.cells_for self.old.store) built cluster me facts volatile (AInput.Message envelope.now))) }
+        ensures left { (cluster : ACluster) (me : ℕ) (facts : List AFact) (volatile : AVolatile) → Stands S.stands self.old cluster me facts volatile
+            → UnlessMemory result (Left S.stands self.new cluster me facts volatile (step_by (room_of S.room S.cells_for self.old.store) built cluster me facts volatile (AInput.Message envelope.now))) }
+        ensures memory { (facts : List AFact) → S.stands self.old.store facts → OnMemory result (S.stands self.new.store facts) }
+    {
+        match sender_of(&self.cluster, self.centre.number(), envelope) {
+            Some(from) => self.take(from, &envelope.message),
+            None => Err(StepFault::Foreign),
+        }
+    }
+
+    // The transaction was begun.
+    fn begun(&self, tx: TxId, transaction: &Transaction) -> Result<Step, StepFault>
+        ensures { GivesUnless is_memory result
+            (Ok (replied (proposals_of self.now.cluster.quorums self.now.centre (choices_of tx transaction.now)) (AnAnswer.Begun tx))) }
+    {
+        let choices = transaction.choices(tx);
+        let (quorums, centre) = (&self.cluster.quorums, self.centre.number());
+        let sends = proposals_sent(self.alloc, quorums, centre, choices.as_slice())?;
+        Ok(replied(sends, Answer::Begun(tx)))
+    }
+
+    // No transaction was begun.
+    fn refused(&self, transaction: &Transaction, fault: BeginFault) -> Result<Step, StepFault>
+        ensures { (facts : List AFact) → S.stands self.now.store facts
+            → result ≡ refused_given (key_refused_of facts transaction.now) fault }
+    {
+        match fault {
+            BeginFault::Memory => Err(StepFault::Memory),
+            fault => {
+                let key = key_refused(&self.store, transaction);
+                Ok(replied(HeapList::new(self.alloc), Answer::Refused(key, fault)))
+            }
+        }
+    }
+
+    /// A client begins a transaction, which was made under the cluster's schema.
+    pub fn begin(&mut self, transaction: &Transaction) -> Result<Step, StepFault>
+        ensures answer { (cluster : ACluster) (me : ℕ) (facts : List AFact) (volatile : AVolatile) → Stands S.stands self.old cluster me facts volatile
+            → GivesUnless is_memory result (given (Ok (begin_step cluster me facts volatile transaction.now))) }
+        ensures left { (cluster : ACluster) (me : ℕ) (facts : List AFact) (volatile : AVolatile) → Stands S.stands self.old cluster me facts volatile
+            → UnlessMemory result (Left S.stands self.new cluster me facts volatile (Ok (begin_step cluster me facts volatile transaction.now))) }
+        ensures memory { (facts : List AFact) → S.stands self.old.store facts → OnMemory result (S.stands self.new.store facts) }
+    {
+        match self.manager.begin(&self.store, transaction) {
+            Ok(tx) => self.begun(tx, transaction),
+            Err(fault) => self.refused(transaction, fault),
+        }
+    }
+
+    /// One input: at most one fact, the messages in order, and the answer to a client. The caller
+    /// makes the fact durable before it lets anything out. After a refusal the node is as it was,
+    /// but where there was no memory only its facts are, and it is to be booted again.
+    pub fn step(&mut self, input: &Input) -> Result<Step, StepFault>
+        requires { IsGiven input.now }
+        ensures answer { (cluster : ACluster) (me : ℕ) (facts : List AFact) (volatile : AVolatile) → Stands S.stands self.old cluster me facts volatile
+            → GivesUnless is_memory result (given (step_by (room_of S.room S.cells_for self.old.store) built cluster me facts volatile input.now)) }
+        ensures left { (cluster : ACluster) (me : ℕ) (facts : List AFact) (volatile : AVolatile) → Stands S.stands self.old cluster me facts volatile
+            → UnlessMemory result (Left S.stands self.new cluster me facts volatile (step_by (room_of S.room S.cells_for self.old.store) built cluster me facts volatile input.now)) }
+        ensures memory { (facts : List AFact) → S.stands self.old.store facts → OnMemory result (S.stands self.new.store facts) }
+    {
+        match input {
+            Input::Message(envelope) => self.deliver(envelope),
+            Input::Tick => Ok(sent(HeapList::new(self.alloc))),
+            Input::Read(key) => {
+                let answer = Answer::Read(self.read(key));
+                Ok(replied(HeapList::new(self.alloc), answer))
+            }
+            Input::Begin(transaction) => self.begin(transaction),
+        }
+    }
+}
