@@ -1,0 +1,196 @@
+//! Disks in memory, and the log on them.
+use mdcc_base::{Failed, HeapList, Image};
+use mdcc_disks::{Disks, MemoryDisks};
+use mdcc_log::{Frames, LogFault};
+use std::alloc::Global;
+use std::test::Fail;
+
+const IMAGES: [Image; 3] = [Image::Lost, Image::Kept, Image::Torn];
+
+// Of each call of an opening and of three appends, by its number: how many payloads were acknowledged when it failed, and how
+// many are read where all that was written is kept. An opening of an empty disk makes five calls, and an append four.
+const CALLS: [(u32, usize, usize); 17] = [
+    (1, 0, 0),
+    (2, 0, 0),
+    (3, 0, 0),
+    (4, 0, 0),
+    (5, 0, 0),
+    (6, 0, 0),
+    (7, 0, 0),
+    (8, 0, 1),
+    (9, 0, 1),
+    (10, 1, 1),
+    (11, 1, 1),
+    (12, 1, 2),
+    (13, 1, 2),
+    (14, 2, 2),
+    (15, 2, 2),
+    (16, 2, 3),
+    (17, 2, 3),
+];
+
+// Whether these are the first so many of three payloads.
+fn are_first(payloads: &[HeapList<u8>], count: usize) -> bool {
+    let all = [b"a".as_slice(), b"bc".as_slice(), b"def".as_slice()];
+    payloads.len() == count
+        && payloads
+            .iter()
+            .zip(all)
+            .all(|(payload, expected)| payload.as_slice() == expected)
+}
+
+// Opens the log and appends three payloads. Counts those that were acknowledged.
+fn append_three(
+    alloc: Global,
+    disks: &mut MemoryDisks,
+    acknowledged: &mut usize,
+) -> Result<(), LogFault> {
+    let (mut log, _payloads) = Frames::open(alloc, disks, 1)?;
+    log.append(disks, b"a".as_slice())?;
+    *acknowledged = 1;
+    log.append(disks, b"bc".as_slice())?;
+    *acknowledged = 2;
+    log.append(disks, b"def".as_slice())?;
+    *acknowledged = 3;
+    Ok(())
+}
+
+#[test]
+fn the_log_of_a_first_boot_has_19_bytes(rt: HostRuntime) -> Result<(), Fail> {
+    let alloc = rt.alloc();
+    let mut disks = MemoryDisks::new(alloc, 1, &[])?;
+    let (mut log, payloads) = Frames::open(alloc, &mut disks, 1)?;
+    assert_eq!(rt; payloads.len(), 0);
+    assert_eq!(rt; disks.bytes(1), b"MDCCLOG1\x00".as_slice());
+    log.append(&mut disks, [1, 1, 0, 0, 0].as_slice())?;
+    assert_eq!(rt;
+        disks.bytes(1),
+        b"MDCCLOG1\x01\x05\x00\x00\x00\x01\x01\x00\x00\x00\x00".as_slice()
+    );
+    assert_eq!(rt; log.size(), 19);
+    let (again, read) = Frames::open(alloc, &mut disks, 1)?;
+    assert_eq!(rt; again.size(), 19);
+    assert_eq!(rt; read.len(), 1);
+    assert_eq!(rt; read[0].as_slice(), [1, 1, 0, 0, 0].as_slice());
+    Ok(())
+}
+
+#[test]
+fn each_call_may_fail(rt: HostRuntime) -> Result<(), Fail> {
+    let alloc = rt.alloc();
+    for (call, acknowledged, kept) in CALLS {
+        let mut disks = MemoryDisks::new(alloc, 1, &[call])?;
+        let mut done = 0;
+        let outcome = append_three(alloc, &mut disks, &mut done);
+        assert_eq!(rt; outcome, Err(LogFault::DiskFault));
+        assert_eq!(rt; done, acknowledged);
+        let (_log, payloads) = Frames::open(alloc, &mut disks, 1)?;
+        assert!(rt; are_first(payloads.as_slice(), kept));
+    }
+    Ok(())
+}
+
+#[test]
+fn a_crash_may_come_in_each_call(rt: HostRuntime) -> Result<(), Fail> {
+    let alloc = rt.alloc();
+    for (call, acknowledged, kept) in CALLS {
+        for image in IMAGES {
+            let mut disks = MemoryDisks::new(alloc, 1, &[call])?;
+            let mut done = 0;
+            let outcome = append_three(alloc, &mut disks, &mut done);
+            assert_eq!(rt; outcome, Err(LogFault::DiskFault));
+            disks.crash(1, image);
+            let (_log, payloads) = Frames::open(alloc, &mut disks, 1)?;
+            let count = if image == Image::Kept {
+                kept
+            } else {
+                acknowledged
+            };
+            assert!(rt; are_first(payloads.as_slice(), count));
+        }
+    }
+    Ok(())
+}
+
+// A log of three payloads, as such an image of what an append of one more left when it stopped in the call of this number. The
+// calls before that append are 20: 17 as above, and three of an opening that has nothing to repair.
+fn left_behind(alloc: Global, call: u32, image: Image) -> Result<MemoryDisks, LogFault> {
+    let Ok(mut disks) = MemoryDisks::new(alloc, 1, &[call]) else {
+        return Err(LogFault::Memory);
+    };
+    let mut done = 0;
+    append_three(alloc, &mut disks, &mut done)?;
+    let (mut log, _payloads) = Frames::open(alloc, &mut disks, 1)?;
+    let _outcome = log.append(&mut disks, b"ghij".as_slice());
+    disks.crash(1, image);
+    Ok(disks)
+}
+
+// Opens the log, with the call of this number failing, and crashes. Then three payloads are read.
+fn reads_three(
+    alloc: Global,
+    disks: &mut MemoryDisks,
+    call: u32,
+    image: Image,
+) -> Result<bool, LogFault> {
+    disks.arm(1, call);
+    let failed = Frames::open(alloc, disks, 1).is_err();
+    disks.crash(1, image);
+    let (_log, payloads) = Frames::open(alloc, disks, 1)?;
+    Ok(failed && are_first(payloads.as_slice(), 3))
+}
+
+#[test]
+fn an_opening_that_repairs_may_fail_and_crash_in_each_call(rt: HostRuntime) -> Result<(), Fail> {
+    let alloc = rt.alloc();
+    for image in IMAGES {
+        // A frame behind a closed gate: sync, length, read, cut, sync.
+        for call in 1..6 {
+            let mut disks = left_behind(alloc, 22, Image::Kept)?;
+            assert!(rt; reads_three(alloc, &mut disks, call, image)?);
+        }
+        // A gate that is torn: sync, length, read, write, sync, cut, sync.
+        for call in 1..8 {
+            let mut disks = left_behind(alloc, 23, Image::Torn)?;
+            assert!(rt; reads_three(alloc, &mut disks, call, image)?);
+        }
+    }
+    Ok(())
+}
+
+#[test]
+fn bytes_that_are_no_log_are_refused(rt: HostRuntime) -> Result<(), Fail> {
+    let alloc = rt.alloc();
+    let mut disks = MemoryDisks::new(alloc, 2, &[])?;
+    disks.write_at(1, 0, b"MDCCLOG2\x00\x00".as_slice())?;
+    assert_eq!(rt;
+        Frames::open(alloc, &mut disks, 1).err(),
+        Some(LogFault::NotALog(0))
+    );
+    disks.write_at(
+        2,
+        0,
+        b"MDCCLOG1\x01\x01\x00\x00\x00a\x01\x02\x00\x00\x00bc".as_slice(),
+    )?;
+    assert_eq!(rt;
+        Frames::open(alloc, &mut disks, 2).err(),
+        Some(LogFault::NotALog(14))
+    );
+    Ok(())
+}
+
+#[test]
+fn a_disk_in_memory_fails_by_place_and_script(rt: HostRuntime) -> Result<(), Fail> {
+    let alloc = rt.alloc();
+    let mut disks = MemoryDisks::new(alloc, 1, &[2])?;
+    disks.reserve(1, 8, 64)?;
+    assert_eq!(rt; disks.write_at(1, 0, b"abc".as_slice()), Ok(()));
+    assert_eq!(rt; disks.sync(1), Err(Failed));
+    assert_eq!(rt; disks.sync(2), Err(Failed));
+    assert_eq!(rt; disks.length(1), Ok(3));
+    disks.crash(1, Image::Torn);
+    assert_eq!(rt; disks.bytes(1), [165, 165, 165].as_slice());
+    disks.crash(1, Image::Lost);
+    assert_eq!(rt; disks.bytes(1), [165, 165, 165].as_slice());
+    Ok(())
+}
