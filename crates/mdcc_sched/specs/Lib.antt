@@ -1,0 +1,8 @@
+pub mod Begun
+pub mod Bytes
+pub mod Centres
+pub mod Free
+pub mod Numbers
+pub mod PartsOfWords
+pub mod Spelled
+pub mod Texts

@@ -1,0 +1,153 @@
+//! The lines of a header, each with its line end.
+ghost use Rattle.std.specs.Prelude.{◌≡◌, ◌≤◌, ◌<◌, ◌^◌, ◌+◌, codes, length, IfOk, OnOk};
+ghost use Rattle.mdcc_protocol.specs.Header.{in_order, whole_line, is_version, version_of, last_number, sizes_of, bound_of};
+ghost use Rattle.mdcc_protocol.specs.Words.{end_at, word_at, natural_of};
+ghost use Rattle.mdcc_sched.specs.Begun.{begun};
+
+use crate::lines::{bytes_of_line, few_bytes, line_end_of};
+use crate::words::{begins_with, word_at, word_behind, word_end};
+use mdcc_protocol::{SchedCause, SchedFault};
+use mdcc_words::numbers::{natural_of, value_of};
+use mdcc_words::places::{end_at, refused, text_eq};
+
+// Whether a line begins with the word that the order allows there.
+fn in_order(word: &[u8], line: &[u8]) -> Result<(), SchedFault>
+    ensures value { result ≡ in_order word.now line.now }
+    ensures within { OnOk result (length word.now ≤ length line.now) }
+{
+    if begins_with(word, line) {
+        return Ok(());
+    }
+    refused(1, SchedCause::Order)
+}
+
+// Whether a line is short enough, and begins with this word.
+fn begun(word: &[u8], text: &[u8]) -> Result<(), SchedFault>
+    ensures value { result ≡ begun word.now text.now }
+    ensures few { OnOk result (length text.now ≤ 4096) }
+    ensures within { OnOk result (length word.now ≤ length text.now) }
+{
+    few_bytes(text)?;
+    in_order(word, text)
+}
+
+// The number behind a place, which ends the line.
+fn last_number(low: u64, high: u64, at: usize, line: &[u8]) -> Result<u64, SchedFault>
+    requires place { at ≤ length line.now }
+    requires few { length line.now ≤ 4096 }
+    ensures value { result ≡ last_number low high at line.now }
+    ensures within { IfOk result (λ number. number ≤ high) }
+{
+    let start = word_behind(at, line)?;
+    let number = natural_of(word_at(start, line), start as u32 + 1, low, high)?;
+    end_at(word_end(start, line), line, 1)?;
+    Ok(number)
+}
+
+// The version of the language.
+fn is_version(word: &[u8], column: u32) -> Result<(), SchedFault>
+    ensures { result ≡ is_version word.now column }
+{
+    if text_eq(word, b"1") {
+        return Ok(());
+    }
+    refused(column, SchedCause::Word)
+}
+
+fn version_of(line: &[u8]) -> Result<(), SchedFault>
+    requires place { 13 ≤ length line.now }
+    requires few { length line.now ≤ 4096 }
+    ensures { result ≡ version_of line.now }
+{
+    let start = word_behind(13, line)?;
+    is_version(word_at(start, line), start as u32 + 1)?;
+    end_at(word_end(start, line), line, 1)
+}
+
+// A number of a line of quorums, from 0 to 255.
+fn size_of(at: usize, line: &[u8]) -> Result<u8, SchedFault>
+    requires place { at ≤ length line.now }
+    requires few { length line.now ≤ 4096 }
+    ensures { result ≡ natural_of (word_at at line.now) (at + 1) 0 255 }
+{
+    Ok(natural_of(word_at(at, line), at as u32 + 1, 0, 255)? as u8)
+}
+
+fn sizes_of(line: &[u8]) -> Result<(u8, u8, u8), SchedFault>
+    requires place { 7 ≤ length line.now }
+    requires few { length line.now ≤ 4096 }
+    ensures { result ≡ sizes_of line.now }
+{
+    let first = word_behind(7, line)?;
+    let n = size_of(first, line)?;
+    let second = word_behind(word_end(first, line), line)?;
+    let c = size_of(second, line)?;
+    let f = last_number(0, 255, word_end(second, line), line)?;
+    Ok((n, c, f as u8))
+}
+
+fn bound_of(line: &[u8]) -> Result<(i64, i64), SchedFault>
+    requires place { 5 ≤ length line.now }
+    requires few { length line.now ≤ 4096 }
+    ensures { result ≡ bound_of line.now }
+{
+    let start = word_behind(5, line)?;
+    let lower = value_of(word_at(start, line), start as u32 + 1)?;
+    let next = word_behind(word_end(start, line), line)?;
+    let upper = value_of(word_at(next, line), next as u32 + 1)?;
+    end_at(word_end(next, line), line, 1)?;
+    Ok((lower, upper))
+}
+
+/// `mdcc-schedule 1`
+pub fn version_line(line: &[u8]) -> Result<(), SchedFault>
+    ensures { result ≡ whole_line (codes "mdcc-schedule") version_of line.now }
+{
+    let text = bytes_of_line(line);
+    begun(b"mdcc-schedule", text)?;
+    version_of(text)?;
+    line_end_of(text, line)
+}
+
+/// `quorums N C F`
+pub fn quorums_line(line: &[u8]) -> Result<(u8, u8, u8), SchedFault>
+    ensures { result ≡ whole_line (codes "quorums") sizes_of line.now }
+{
+    let text = bytes_of_line(line);
+    begun(b"quorums", text)?;
+    let sizes = sizes_of(text)?;
+    line_end_of(text, line)?;
+    Ok(sizes)
+}
+
+/// `gamma G`
+pub fn gamma_line(line: &[u8]) -> Result<u64, SchedFault>
+    ensures { result ≡ whole_line (codes "gamma") (last_number 0 1000 5) line.now }
+{
+    let text = bytes_of_line(line);
+    begun(b"gamma", text)?;
+    let gamma = last_number(0, 1000, 5, text)?;
+    line_end_of(text, line)?;
+    Ok(gamma)
+}
+
+/// `bound LOWER UPPER`
+pub fn bound_line(line: &[u8]) -> Result<(i64, i64), SchedFault>
+    ensures { result ≡ whole_line (codes "bound") bound_of line.now }
+{
+    let text = bytes_of_line(line);
+    begun(b"bound", text)?;
+    let bounds = bound_of(text)?;
+    line_end_of(text, line)?;
+    Ok(bounds)
+}
+
+/// `start`
+pub fn start_line(line: &[u8]) -> Result<(), SchedFault>
+    ensures { result ≡ whole_line (codes "start") (λ text. end_at 5 text 1) line.now }
+{
+    let text = bytes_of_line(line);
+    begun(b"start", text)?;
+    end_at(5, text, 1)?;
+    line_end_of(text, line)
+}

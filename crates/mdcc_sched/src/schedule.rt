@@ -1,0 +1,141 @@
+//! Lines of a schedule.
+ghost use Rattle.std.specs.Prelude.{◌≡◌, ◌≤◌, length};
+ghost use Rattle.mdcc_base.specs.Unless.{GivesUnless};
+ghost use Rattle.mdcc_protocol.specs.Schedule.{last_centre, tick_of, read_of, begin_of, deliver_of, settle_of, event_of, event_or_none, line_of};
+ghost use Rattle.mdcc_sched.specs.Free.{is_memory};
+ghost use Rattle.mdcc_words.specs.Today.{built};
+
+use crate::lines::{bytes_of_line, few_bytes, line_end_of};
+use crate::lists::{centre_of, centres_from, numbers_from, updates_from};
+use crate::words::{begins_with, word_at, word_behind, word_end};
+use mdcc_base::{Centre, HeapList};
+use mdcc_option::Cluster;
+use mdcc_protocol::{Event, SchedCause, SchedFault};
+use mdcc_words::parse_key;
+use mdcc_words::places::{end_at, refused};
+use std::alloc::Global;
+
+// The centre behind a place, which ends the line.
+fn last_centre(cluster: &Cluster, at: usize, line: &[u8]) -> Result<Centre, SchedFault>
+    requires place { at ≤ length line.now }
+    requires few { length line.now ≤ 4096 }
+    ensures { result ≡ last_centre cluster.now at line.now }
+{
+    let start = word_behind(at, line)?;
+    let centre = centre_of(cluster, word_at(start, line), start as u32 + 1)?;
+    end_at(word_end(start, line), line, 1)?;
+    Ok(centre)
+}
+
+// `tick K`
+fn tick_of(cluster: &Cluster, line: &[u8]) -> Result<Event, SchedFault>
+    requires place { 4 ≤ length line.now }
+    requires few { length line.now ≤ 4096 }
+    ensures { result ≡ tick_of cluster.now line.now }
+{
+    let centre = last_centre(cluster, 4, line)?;
+    Ok(Event::Tick(centre))
+}
+
+// `read K KEY`
+fn read_of(cluster: &Cluster, line: &[u8]) -> Result<Event, SchedFault>
+    requires place { 4 ≤ length line.now }
+    requires few { length line.now ≤ 4096 }
+    ensures { result ≡ read_of cluster.now line.now }
+{
+    let start = word_behind(4, line)?;
+    let centre = centre_of(cluster, word_at(start, line), start as u32 + 1)?;
+    let next = word_behind(word_end(start, line), line)?;
+    let key = parse_key(word_at(next, line), next as u32 + 1)?;
+    end_at(word_end(next, line), line, 1)?;
+    Ok(Event::Read(centre, key))
+}
+
+// `begin K UPDATE ..`
+fn begin_of(alloc: Global, cluster: &Cluster, line: &[u8]) -> Result<Event, SchedFault>
+    requires place { 5 ≤ length line.now }
+    requires few { length line.now ≤ 4096 }
+    ensures { GivesUnless is_memory result (begin_of built cluster.now line.now) }
+{
+    let start = word_behind(5, line)?;
+    let centre = centre_of(cluster, word_at(start, line), start as u32 + 1)?;
+    let next = word_behind(word_end(start, line), line)?;
+    let updates = updates_from(alloc, next, line)?;
+    Ok(Event::Begin(centre, updates))
+}
+
+// `deliver M ..`
+fn deliver_of(alloc: Global, line: &[u8]) -> Result<Event, SchedFault>
+    requires place { 7 ≤ length line.now }
+    requires few { length line.now ≤ 4096 }
+    ensures { GivesUnless is_memory result (deliver_of line.now) }
+{
+    let start = word_behind(7, line)?;
+    let numbers = numbers_from(alloc, start, line)?;
+    Ok(Event::Deliver(numbers))
+}
+
+// `settle` or `settle K ..`
+fn settle_of(alloc: Global, cluster: &Cluster, line: &[u8]) -> Result<Event, SchedFault>
+    requires place { 6 ≤ length line.now }
+    requires few { length line.now ≤ 4096 }
+    ensures { GivesUnless is_memory result (settle_of cluster.now line.now) }
+{
+    if line.len() == 6 {
+        return Ok(Event::Settle(HeapList::new(alloc)));
+    }
+    let centres = centres_from(alloc, cluster, 7, line)?;
+    Ok(Event::Settle(centres))
+}
+
+// The event of a line that is not skipped.
+fn event_of(alloc: Global, cluster: &Cluster, line: &[u8]) -> Result<Event, SchedFault>
+    requires { length line.now ≤ 4096 }
+    ensures { GivesUnless is_memory result (event_of built cluster.now line.now) }
+{
+    if begins_with(b"read", line) {
+        read_of(cluster, line)
+    } else if begins_with(b"begin", line) {
+        begin_of(alloc, cluster, line)
+    } else if begins_with(b"deliver", line) {
+        deliver_of(alloc, line)
+    } else if begins_with(b"settle", line) {
+        settle_of(alloc, cluster, line)
+    } else if begins_with(b"tick", line) {
+        tick_of(cluster, line)
+    } else {
+        refused(1, SchedCause::Word)
+    }
+}
+
+// The event of a line; an empty one and one that begins with `#` are skipped.
+fn event_or_none(alloc: Global, cluster: &Cluster, line: &[u8]) -> Result<Option<Event>, SchedFault>
+    requires { length line.now ≤ 4096 }
+    ensures { GivesUnless is_memory result (event_or_none built cluster.now line.now) }
+{
+    match line {
+        [] => Ok(None),
+        [b'#', ..] => Ok(None),
+        _ => {
+            let event = event_of(alloc, cluster, line)?;
+            Ok(Some(event))
+        }
+    }
+}
+
+/// Reads a line with its line end, in a cluster. It is none where the line is empty or a comment.
+/// A refusal names the first byte that is refused by its column, from 1. Want of memory is the
+/// cause Memory at column 1, which no word gives.
+pub fn parse_line(
+    alloc: Global,
+    line: &[u8],
+    cluster: &Cluster,
+) -> Result<Option<Event>, SchedFault>
+    ensures { GivesUnless is_memory result (line_of built cluster.now line.now) }
+{
+    let text = bytes_of_line(line);
+    few_bytes(text)?;
+    let event = event_or_none(alloc, cluster, text)?;
+    line_end_of(text, line)?;
+    Ok(event)
+}

@@ -1,0 +1,55 @@
+//! Words of a line, which are separated by one space. The line has no line end.
+ghost use Rattle.std.specs.Prelude.{◌≡◌, ◌+◌, ◌≤◌, ◌<◌, ◌^◌, IsTrue, IfOk, length};
+ghost use Rattle.mdcc_protocol.specs.Words.{word_at, word_end, not_empty, word_behind};
+ghost use Rattle.mdcc_protocol.specs.Schedule.{begins_with};
+
+use mdcc_protocol::{SchedCause, SchedFault};
+use mdcc_words::places::{behind, part_at, part_end, refused, text_eq};
+
+/// The word that begins at a place.
+pub fn word_at(at: usize, line: &[u8]) -> &[u8]
+    requires { at ≤ length line.now }
+    ensures word { result.now ≡ word_at at line.now }
+    ensures within { at + length result.now ≤ length line.now }
+{
+    part_at(b' ', at, line)
+}
+
+/// The place behind the word that begins at a place.
+pub fn word_end(at: usize, line: &[u8]) -> usize
+    requires { at ≤ length line.now }
+    ensures place { result ≡ word_end at line.now }
+    ensures within { result ≤ length line.now }
+{
+    part_end(b' ', at, line)
+}
+
+/// Whether a word has a byte; else a separator is too much.
+pub fn not_empty(word: &[u8], column: u32) -> Result<(), SchedFault>
+    ensures { result ≡ not_empty word.now column }
+{
+    match word {
+        [] => refused(column, SchedCause::Word),
+        _ => Ok(()),
+    }
+}
+
+/// The place of the next word, behind the space at a place.
+pub fn word_behind(at: usize, line: &[u8]) -> Result<usize, SchedFault>
+    requires place { at ≤ length line.now }
+    requires few { length line.now ≤ 4096 }
+    ensures place { result ≡ word_behind at line.now }
+    ensures within { IfOk result (λ start. start ≤ length line.now) }
+{
+    let start = behind(b' ', at, line, 1)?;
+    not_empty(word_at(start, line), start as u32 + 1)?;
+    Ok(start)
+}
+
+/// Whether a line begins with this word.
+pub fn begins_with(word: &[u8], line: &[u8]) -> bool
+    ensures value { result ≡ begins_with word.now line.now }
+    ensures within { IsTrue result → length word.now ≤ length line.now }
+{
+    text_eq(word_at(0, line), word)
+}

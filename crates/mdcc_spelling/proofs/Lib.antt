@@ -1,0 +1,13 @@
+pub mod Answers
+pub mod Choices
+pub mod Common
+pub mod FactsRead
+pub mod Identifiers
+pub mod Items
+pub mod Lists
+pub mod MessagesRead
+pub mod Numbers
+pub mod PartsRead
+pub mod Places
+pub mod Steps
+pub mod Whole

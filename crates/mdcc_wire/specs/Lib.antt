@@ -1,0 +1,4 @@
+pub mod Counts
+pub mod Encoding
+pub mod Marks
+pub mod Views

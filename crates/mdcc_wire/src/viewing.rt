@@ -1,0 +1,188 @@
+//! Views of messages: bytes that were found to spell one.
+ghost use Rattle.std.specs.Prelude.{◌≡◌, Ok, IfOk};
+ghost use Rattle.mdcc_base.specs.Unless.{GivesUnless};
+ghost use Rattle.mdcc_parts.specs.Reads.{is_memory};
+ghost use Rattle.mdcc_protocol.specs.ReadingSteps.{checked, u8_at};
+ghost use Rattle.mdcc_protocol.specs.Reading.{known, endpoint, view_of};
+ghost use Rattle.mdcc_protocol.specs.Spelling.{kind_of};
+ghost use Rattle.mdcc_protocol.specs.ReadingParts.{choice_at};
+ghost use Rattle.mdcc_wire.specs.Views.{viewed, passed, choice_in, marks_in, kind_or_none, choice_or_none, choice_by};
+
+use crate::marks::{MarkViews, marks_by};
+use crate::memory_bodies::{check_body, read_body};
+use mdcc_base::Memory;
+use mdcc_option::Choice;
+use mdcc_parts::choices::read_choice;
+use mdcc_parts::numbers::u8_at;
+use mdcc_protocol::{Envelope, WireFault};
+use std::alloc::Global;
+use std::marker::Model;
+
+/// The bytes of a message. Nothing is copied out of them before it is asked for.
+#[derive(Drop)]
+pub struct Viewed<'a> {
+    bytes: &'a [u8],
+}
+
+impl<'a> Model for Viewed<'a> {
+    ghost use Rattle.std.specs.Prelude.{List, ℕ, IsOk};
+    ghost use Rattle.mdcc_protocol.specs.Reading.{view_of};
+
+    ghost Value = { List ℕ };
+
+    ghost view = { λ v. v.bytes.now };
+
+    ghost invariant = { λ v. IsOk (view_of v.bytes.now) };
+}
+
+// The byte at a place, the number of a format or a kind up to the highest that is known.
+fn known_at(highest: u8, bytes: &[u8], at: usize) -> Result<(u8, usize), WireFault>
+    ensures { result ≡ checked (known highest) (u8_at bytes.now at) }
+{
+    let (number, after) = u8_at(bytes, at)?;
+    if 1 <= number && number <= highest {
+        Ok((number, after))
+    } else {
+        Err(WireFault::Kind)
+    }
+}
+
+// The byte at a place, a centre's number, or 16 more for its client.
+fn endpoint_at(bytes: &[u8], at: usize) -> Result<(u8, usize), WireFault>
+    ensures { result ≡ checked (endpoint at) (u8_at bytes.now at) }
+{
+    let (number, after) = u8_at(bytes, at)?;
+    if (1 <= number && number <= 9) || (17 <= number && number <= 25) {
+        Ok((number, after))
+    } else {
+        Err(WireFault::Range(at as u64))
+    }
+}
+
+// Whether the bytes spell a message.
+fn check_message(bytes: &[u8]) -> Result<(), WireFault>
+    ensures { result ≡ passed bytes.now }
+{
+    let (_format, after) = known_at(1, bytes, 0)?;
+    let (kind, after) = known_at(15, bytes, after)?;
+    let (_from, after) = endpoint_at(bytes, after)?;
+    let (_to, after) = endpoint_at(bytes, after)?;
+    let end = check_body(kind, bytes, after)?;
+    if end == bytes.len() {
+        Ok(())
+    } else {
+        Err(WireFault::Trailing(end as u64))
+    }
+}
+
+/// A view of the message that the bytes spell. Else the fault at the first byte in reading order that is
+/// not of the grammar. No memory is taken, and nothing is copied.
+pub fn view(bytes: &[u8]) -> Result<Viewed<'_>, WireFault>
+    ensures { result ≡ viewed bytes.now }
+{
+    match check_message(bytes) {
+        Ok(_) => Ok(Viewed { bytes }),
+        Err(fault) => Err(fault),
+    }
+}
+
+// The message that the bytes spell.
+fn envelope_of(alloc: Global, bytes: &[u8]) -> Result<Envelope, WireFault>
+    ensures { GivesUnless is_memory result (view_of bytes.now) }
+{
+    let (_format, after) = known_at(1, bytes, 0)?;
+    let (kind, after) = known_at(15, bytes, after)?;
+    let (from, after) = endpoint_at(bytes, after)?;
+    let (to, after) = endpoint_at(bytes, after)?;
+    let (message, end) = read_body(alloc, kind, bytes, after)?;
+    if end == bytes.len() {
+        Ok(Envelope { from, to, message })
+    } else {
+        Err(WireFault::Trailing(end as u64))
+    }
+}
+
+// The byte that is the number of a message's kind.
+fn kind_byte(bytes: &[u8]) -> u8
+    ensures { result ≡ kind_or_none (u8_at bytes.now 1) }
+{
+    match u8_at(bytes, 1) {
+        Ok((kind, _)) => kind,
+        Err(_) => 0,
+    }
+}
+
+// The choice at a place.
+fn choice_or_none(bytes: &[u8], at: usize) -> Option<Choice>
+    ensures { result ≡ choice_or_none (choice_at bytes.now at) }
+{
+    match read_choice(bytes, at) {
+        Ok((choice, _)) => Some(choice),
+        Err(_) => None,
+    }
+}
+
+// The choice of a message of this kind, whose body is at a place.
+fn choice_by(kind: u8, bytes: &[u8], at: usize) -> Option<Choice>
+    ensures { result ≡ choice_by kind bytes.now at }
+{
+    if kind == 1 || kind == 4 {
+        choice_or_none(bytes, at)
+    } else {
+        None
+    }
+}
+
+// The kind of the message that the bytes spell.
+fn kind_at(bytes: &[u8]) -> u8
+    ensures { IfOk (view_of bytes.now) (λ envelope. result ≡ kind_of envelope.message) }
+{
+    kind_byte(bytes)
+}
+
+// The choice of the message that the bytes spell.
+fn choice_of(bytes: &[u8]) -> Option<Choice>
+    ensures { IfOk (view_of bytes.now) (λ envelope. result ≡ choice_in envelope.message) }
+{
+    choice_by(kind_byte(bytes), bytes, 4)
+}
+
+// The marks of the message that the bytes spell.
+fn marks_of(bytes: &[u8]) -> MarkViews<'_>
+    ensures { IfOk (view_of bytes.now) (λ envelope. result ≡ marks_in envelope.message) }
+{
+    marks_by(kind_byte(bytes), bytes, 4)
+}
+
+impl<'a> Viewed<'a> {
+    /// The message.
+    pub fn envelope(&self, alloc: Global) -> Result<Envelope, Memory>
+        ensures { IfOk result (λ envelope. view_of self.now ≡ Ok envelope) }
+    {
+        match envelope_of(alloc, self.bytes) {
+            Ok(envelope) => Ok(envelope),
+            Err(_) => Err(Memory),
+        }
+    }
+
+    /// The number of its kind, from 1 to 15.
+    pub fn kind(&self) -> u8
+        ensures { IfOk (view_of self.now) (λ envelope. result ≡ kind_of envelope.message) }
+    {
+        kind_at(self.bytes)
+    }
+
+    /// The choice that is proposed, or for which a leader is asked.
+    pub fn choice(&self) -> Option<Choice>
+        ensures { IfOk (view_of self.now) (λ envelope. result ≡ choice_in envelope.message) }
+    {
+        choice_of(self.bytes)
+    }
+
+    /// The marks of its structure, one after another. A kind without a structure has none.
+    pub fn marks(&self) -> MarkViews<'a>
+        ensures { IfOk (view_of self.now) (λ envelope. result ≡ marks_in envelope.message) }
+    {
+        marks_of(self.bytes)
+    }
+}

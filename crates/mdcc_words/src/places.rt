@@ -1,0 +1,82 @@
+//! Places in a text, which count from 0, and columns, which count from 1.
+ghost use Rattle.std.specs.Prelude.{◌≡◌, ◌+◌, ◌<◌, ◌≤◌, ◌^◌, ◌==◌, IsTrue, IfOk, IfSome, length, position};
+ghost use Rattle.mdcc_protocol.specs.Words.{refused, text_eq, part_len, part_at, part_end, behind, end_at};
+
+use mdcc_protocol::{SchedCause, SchedFault};
+
+/// A refusal of what stands at a column.
+pub fn refused<A>(column: u32, cause: SchedCause) -> Result<A, SchedFault>
+    ensures { result ≡ refused column cause }
+{
+    Err(SchedFault { column, cause })
+}
+
+/// Whether two texts are one.
+pub fn text_eq(a: &[u8], b: &[u8]) -> bool
+    ensures { result ≡ text_eq a.now b.now }
+{
+    a == b
+}
+
+// Where the first separator stands.
+fn first_place(separator: u8, rest: &[u8]) -> Option<usize>
+    ensures place { result ≡ position (λ b. b == separator) rest.now }
+    ensures within { IfSome result (λ place. place < length rest.now) }
+{
+    rest.iter().position(|b| *b == separator)
+}
+
+// How many bytes stand before the first separator.
+fn part_len(separator: u8, rest: &[u8]) -> usize
+    ensures value { result ≡ part_len separator rest.now }
+    ensures within { result ≤ length rest.now }
+{
+    match first_place(separator, rest) {
+        Some(place) => place,
+        None => rest.len(),
+    }
+}
+
+/// The bytes from a place up to the next separator.
+pub fn part_at(separator: u8, at: usize, text: &[u8]) -> &[u8]
+    requires { at ≤ length text.now }
+    ensures part { result.now ≡ part_at separator at text.now }
+    ensures within { at + length result.now ≤ length text.now }
+{
+    let (_, rest) = text.split_at(at);
+    &rest[..part_len(separator, rest)]
+}
+
+/// The place behind these bytes.
+pub fn part_end(separator: u8, at: usize, text: &[u8]) -> usize
+    requires { at ≤ length text.now }
+    ensures place { result ≡ part_end separator at text.now }
+    ensures within { result ≤ length text.now }
+{
+    at + part_at(separator, at, text).len()
+}
+
+/// The place behind the separator that stands at a place of a text; the text begins at a column.
+pub fn behind(separator: u8, at: usize, text: &[u8], column: u32) -> Result<usize, SchedFault>
+    requires place { at ≤ length text.now }
+    requires fits { column + length text.now < 2 ^ 32 }
+    ensures place { result ≡ behind separator at text.now column }
+    ensures within { IfOk result (λ next. next ≤ length text.now) }
+{
+    if at < text.len() && text[at] == separator {
+        return Ok(at + 1);
+    }
+    refused(column + at as u32, SchedCause::Word)
+}
+
+/// Whether the last part of a text, which begins at a column, ends at a place, and the text with it.
+pub fn end_at(at: usize, text: &[u8], column: u32) -> Result<(), SchedFault>
+    requires place { at ≤ length text.now }
+    requires fits { column + length text.now < 2 ^ 32 }
+    ensures { result ≡ end_at at text.now column }
+{
+    if at == text.len() {
+        return Ok(());
+    }
+    refused(column + at as u32 + 1, SchedCause::Word)
+}

@@ -1,0 +1,86 @@
+//! Update words.
+ghost use Rattle.std.specs.Prelude.{◌≡◌, ◌+◌, ◌<◌, ◌≤◌, ◌^◌, IsTrue, length};
+ghost use Rattle.mdcc_protocol.specs.Updates.{item_of, new_of, set_of, keep_of, is_named, update_of};
+ghost use Rattle.mdcc_words.specs.Today.{built};
+
+use crate::bodies::parse_body;
+use crate::keys::parse_key;
+use crate::numbers::count_of;
+use crate::places::{behind, end_at, part_at, part_end, refused, text_eq};
+use crate::values::parse_values;
+use mdcc_option::Item;
+use mdcc_protocol::{SchedCause, SchedFault, UpdateWord};
+
+// The item whose two parts stand behind a place and end the word.
+fn item_of(at: usize, word: &[u8], column: u32) -> Result<Item, SchedFault>
+    requires place { at ≤ length word.now }
+    requires fits { column + length word.now < 2 ^ 32 }
+    ensures { result ≡ item_of at word.now column }
+{
+    let start = behind(b':', at, word, column)?;
+    let body = parse_body(part_at(b':', start, word), column + start as u32)?;
+    let next = behind(b':', part_end(b':', start, word), word, column)?;
+    let values = parse_values(part_at(b':', next, word), column + next as u32)?;
+    end_at(part_end(b':', next, word), word, column)?;
+    Ok(Item { body, values })
+}
+
+// `new:KEY:BODY:VALUES`
+fn new_of(word: &[u8], column: u32) -> Result<UpdateWord, SchedFault>
+    requires place { 3 ≤ length word.now }
+    requires fits { column + length word.now < 2 ^ 32 }
+    ensures { result ≡ new_of word.now column }
+{
+    let start = behind(b':', 3, word, column)?;
+    let key = parse_key(part_at(b':', start, word), column + start as u32)?;
+    let item = item_of(part_end(b':', start, word), word, column)?;
+    Ok(UpdateWord::New(key, item))
+}
+
+// `set:R:BODY:VALUES`
+fn set_of(word: &[u8], column: u32) -> Result<UpdateWord, SchedFault>
+    requires place { 3 ≤ length word.now }
+    requires fits { column + length word.now < 2 ^ 32 }
+    ensures { result ≡ set_of word.now column }
+{
+    let start = behind(b':', 3, word, column)?;
+    let read = count_of(part_at(b':', start, word), column + start as u32)?;
+    let item = item_of(part_end(b':', start, word), word, column)?;
+    Ok(UpdateWord::Set(read, item))
+}
+
+// `keep:R`
+fn keep_of(word: &[u8], column: u32) -> Result<UpdateWord, SchedFault>
+    requires place { 4 ≤ length word.now }
+    requires fits { column + length word.now < 2 ^ 32 }
+    ensures { result ≡ keep_of word.now column }
+{
+    let start = behind(b':', 4, word, column)?;
+    let read = count_of(part_at(b':', start, word), column + start as u32)?;
+    end_at(part_end(b':', start, word), word, column)?;
+    Ok(UpdateWord::Keep(read))
+}
+
+// Whether the first part of a word is this one.
+fn is_named(name: &[u8], word: &[u8]) -> bool
+    ensures value { result ≡ is_named name.now word.now }
+    ensures within { IsTrue result → length name.now ≤ length word.now }
+{
+    text_eq(part_at(b':', 0, word), name)
+}
+
+/// Reads an update word that begins at a column.
+pub fn parse_update(word: &[u8], column: u32) -> Result<UpdateWord, SchedFault>
+    requires { column + length word.now < 2 ^ 32 }
+    ensures { result ≡ update_of built word.now column }
+{
+    if is_named(b"new", word) {
+        new_of(word, column)
+    } else if is_named(b"set", word) {
+        set_of(word, column)
+    } else if is_named(b"keep", word) {
+        keep_of(word, column)
+    } else {
+        refused(column, SchedCause::Word)
+    }
+}
