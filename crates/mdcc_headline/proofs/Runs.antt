@@ -1,0 +1,49 @@
+-- Every run is reported, and so is every replay.
+use Rattle.std.proofs.Common.{List, subst, sym, ℕ, ◌-◌, ◌≡◌, ◌≤◌, length}
+use Rattle.std.specs.Prelude.{map, ◌^◌}
+use Rattle.mdcc_base.specs.Counts.{number_of}
+use Rattle.mdcc_option.specs.declared.cluster.Cluster.{Cluster}
+use Rattle.mdcc_protocol.specs.Built.{built}
+use Rattle.mdcc_protocol.specs.Header.{all_of}
+use Rattle.mdcc_protocol.specs.IsCluster.{IsCluster}
+use Rattle.mdcc_protocol.specs.Ledger.{committed_of, outcome_of, txs_begun}
+use Rattle.mdcc_protocol.specs.World.{first_world, is_commit_found, run_of}
+use Rattle.mdcc_protocol.specs.declared.events.Event.{Event}
+use Rattle.mdcc_agreement.specs.Laws.{IsLedger}
+use Rattle.mdcc_history.proofs.CommitsRun.{commits_run}
+use Rattle.mdcc_trace.proofs.Laws as trace
+use Rattle.mdcc_reports.proofs.Headers.{header-cluster}
+use Rattle.mdcc_reports.proofs.Origins.{runs-tell}
+use Rattle.mdcc_reports.proofs.Replays.{replayed}
+use Rattle.mdcc_headline.specs.Headline.{IsHeadline, IsReportedRun}
+use Rattle.mdcc_headline.proofs.Ends.{commits-counted}
+use Rattle.mdcc_headline.proofs.Lines.{lines-told}
+use Rattle.mdcc_headline.proofs.Short.{short-ledger}
+
+-- the premise of all laws of ledgers
+abbrev pub ShortLedgers : Type 0
+ShortLedgers = (cluster : Cluster) (events : List Event) → IsCluster cluster → length (run_of built (first_world cluster) events).world.ledger ≤ 2 ^ 64 - 1
+
+module _ (short : ShortLedgers) where
+  pub run-ledger : (cluster : Cluster) (events : List Event) → IsCluster cluster → IsLedger cluster (run_of built (first_world cluster) events).world.ledger
+  run-ledger cluster events is = record { of_cluster = is; allowed = trace.allowed built cluster is events; short = short cluster events is }
+
+pub run-reported : (cluster : Cluster) (events : List Event) → IsCluster cluster → IsReportedRun cluster (run_of built (first_world cluster) events)
+run-reported cluster events is =
+    let h = run-ledger short-ledger cluster events is in
+    let told = runs-tell built (first_world cluster) events in
+    record {
+      ledger_itself = h;
+      committed_run = commits_run cluster (run_of built (first_world cluster) events).world.ledger h;
+      told = lines-told cluster (run_of built (first_world cluster) events).world.ledger h (run_of built (first_world cluster) events).lines told.1;
+      end_told =
+          subst (λ (c : Cluster). number_of is_commit_found (map (outcome_of c.quorums (run_of built (first_world cluster) events).world.ledger) (txs_begun (run_of built (first_world cluster) events).world.ledger))
+          ≡ length (committed_of cluster.quorums (run_of built (first_world cluster) events).world.ledger))
+          (sym told.0.same) (commits-counted cluster (run_of built (first_world cluster) events).world.ledger h);
+    }
+
+pub headline : (input : List ℕ) → IsHeadline input
+headline input header accepted =
+    let is = header-cluster built (all_of input) header accepted.header_itself in
+    let run = replayed built input header accepted in
+    (run.0, record { of_cluster = is; replayed = run.1; reported = λ first rest e. run-reported header.0 first is })

@@ -1,0 +1,14 @@
+//! The law that the protocol is for, of whole replays: what is committed is a run of the one-copy store, and the report tells the
+//! truth of it.
+#![tactic(auto)]
+
+ghost use Rattle.std.specs.Prelude.{List, ℕ};
+ghost use Rattle.mdcc_headline.specs.Headline.{IsHeadline, RunsAreReported};
+
+/// In every run the committed transactions, in the order in which they were chosen, are a run of the one-copy store; every
+/// reported commit is in it, no reported abort is, and every reported read is an item version of it with some of its committed
+/// deltas. A replay prints such a run.
+pub fn headline()
+    ensures runs { RunsAreReported }
+    ensures replays { (input : List ℕ) → IsHeadline input }
+{}

@@ -1,0 +1,9 @@
+//! The messages of a world: what was sent, what was delivered, and which message is to be delivered next.
+#![tactic(auto)]
+
+pub mod laws;
+pub mod letters;
+pub mod mail;
+
+pub use mail::Mail;
+pub use mdcc_protocol::Envelope;

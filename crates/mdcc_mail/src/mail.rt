@@ -1,0 +1,130 @@
+//! All messages of a world, by number.
+ghost use Rattle.std.specs.Prelude.{◌≡◌, ◌≤◌, ◌<◌, ◌^◌, ◌-◌, ◌++◌, ◌∷◌, [], ◌↔◌, IsTrue, Ok, OnOk, length, map};
+ghost use Rattle.std.specs.Option.{option_copied, option_map};
+ghost use Rattle.mdcc_mail.specs.Waiting.{before_first, first_to, waits_for};
+ghost use Rattle.mdcc_protocol.specs.World.{numbered, unsent, with_delivered};
+
+use crate::letters::{Letter, next_place};
+use mdcc_base::{Centre, HeapList, Memory};
+use mdcc_protocol::Envelope;
+use std::alloc::Global;
+use std::marker::Model;
+
+/// The messages that were sent, numbered from 1, each with whether it was delivered. Each centre has
+/// a cursor: no message before it waits for the centre.
+#[derive(Drop)]
+pub struct Mail {
+    letters: Vec<Letter>,
+    cursors: [usize; 9],
+}
+
+impl Model for Mail {
+    ghost use Rattle.std.specs.Prelude.{◌<◌, ◌-◌, ◌^◌, List, length, map};
+    ghost use Rattle.mdcc_mail.specs.Letters.{AreCursors, sent_of};
+    ghost use Rattle.mdcc_protocol.specs.World.{Sent};
+
+    ghost Value = { List Sent };
+
+    ghost view = { λ mail. map sent_of mail.letters.items };
+
+    ghost invariant = { λ mail. AreCursors mail.cursors mail.letters.items × (length mail.letters.items < 2 ^ 32 - 1) };
+}
+
+impl Mail {
+    /// Nothing was sent.
+    pub fn new(alloc: Global) -> Result<Mail, Memory>
+        ensures { result ≡ Ok [] }
+    {
+        Ok(Mail {
+            letters: Vec::new(alloc),
+            cursors: [0; 9],
+        })
+    }
+
+    /// How many were sent: at most 2^32 - 2, so that the next one has a number.
+    pub fn len(&self) -> usize
+        ensures value { result ≡ length self.now }
+        ensures few { length self.now < 2 ^ 32 - 1 }
+    {
+        self.letters.len()
+    }
+
+    /// Whether none was.
+    pub fn is_empty(&self) -> bool
+        ensures { IsTrue result ↔ (self.now ≡ []) }
+    {
+        self.letters.is_empty()
+    }
+
+    // One message is sent.
+    fn push(&mut self, envelope: Envelope) -> Result<(), Memory>
+        ensures { OnOk result (self.new ≡ self.old ++ unsent envelope ∷ []) }
+    {
+        if self.letters.len() >= u32::MAX as usize - 1 {
+            return Err(Memory);
+        }
+        self.letters.push(Letter {
+            envelope,
+            is_delivered: false,
+        })?;
+        Ok(())
+    }
+
+    /// These are sent, in order. There is no memory where more than 2^32 - 2 would be.
+    pub fn send(&mut self, envelopes: HeapList<Envelope>) -> Result<(), Memory>
+        ensures { OnOk result (self.new ≡ self.old ++ map unsent envelopes) }
+    {
+        for envelope in envelopes.into_vec() {
+            self.push(envelope)?;
+        }
+        Ok(())
+    }
+
+    /// The message of a number.
+    pub fn envelope(&self, number: u32) -> Option<&Envelope>
+        ensures { option_copied result ≡ option_map (λ sent. sent.envelope) (numbered self.now number) }
+    {
+        if number == 0 || number as usize > self.letters.len() {
+            return None;
+        }
+        Some(&self.letters[number as usize - 1].envelope)
+    }
+
+    /// The message of a number was delivered, also where it was before.
+    pub fn deliver(&mut self, number: u32)
+        requires { 1 ≤ number }
+        ensures { self.new ≡ with_delivered self.old (number - 1) }
+    {
+        let place = number as usize - 1;
+        if place < self.letters.len() {
+            self.letters[place].is_delivered = true;
+        }
+    }
+
+    // How many messages stand before the first that waits for the centre: its cursor moves there.
+    fn advance(&mut self, centre: Centre) -> usize
+        ensures value { result ≡ before_first (waits_for centre) self.old }
+        ensures kept { self.new ≡ self.old }
+    {
+        let place = usize::from(centre.number()) - 1;
+        let next = next_place(&self.letters, self.cursors[place], centre.number());
+        self.cursors[place] = next;
+        next
+    }
+
+    /// The least number of a message that was not delivered, and goes to one of these centres.
+    pub fn first_waiting(&mut self, centres: &[Centre]) -> Option<u32>
+        ensures number { result ≡ first_to centres.now self.old }
+        ensures kept { self.new ≡ self.old }
+    {
+        let mut least = self.len();
+        for centre in centres {
+            least = least.min(self.advance(*centre));
+        }
+        if least < self.len() {
+            Some(least as u32 + 1)
+        } else {
+            None
+        }
+    }
+}

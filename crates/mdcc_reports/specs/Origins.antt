@@ -1,0 +1,49 @@
+-- Where the lines of a report come from.
+use Rattle.std.specs.List.{AllByRecursion}
+use Rattle.std.specs.Prelude.{Contains, List, ℕ, ⊤, ◌++◌, ◌∷◌, ◌≡◌}
+use Rattle.mdcc_base.specs.Sizes.{Sizes}
+use Rattle.mdcc_base.specs.declared.identifiers.TxId.{TxId}
+use Rattle.mdcc_option.specs.declared.choices.Outcome.{Outcome}
+use Rattle.mdcc_option.specs.declared.items.Known.{Known}
+use Rattle.mdcc_protocol.specs.Built.{Built}
+use Rattle.mdcc_protocol.specs.Ledger.{Added, Entry, facts_of, new_outcomes}
+use Rattle.mdcc_protocol.specs.Marks.{is_commit}
+use Rattle.mdcc_protocol.specs.Visible
+use Rattle.mdcc_protocol.specs.World.{World, known_of, run_of}
+use Rattle.mdcc_protocol.specs.declared.events.Event.{Event}
+use Rattle.mdcc_protocol.specs.declared.facts.Fact.{Fact}
+use Rattle.mdcc_protocol.specs.declared.lines.Line.{Line}
+
+-- the outcome came to be at an entry of the ledger
+pub record Came (quorums : Sizes) (ledger : List Entry) (tx : TxId) (outcome : Outcome) : Type 0 where
+  pub later : List Entry
+  pub entry : Entry
+  pub before : List Entry
+  pub parts : ledger ≡ later ++ entry ∷ before
+  pub is_new : Contains (new_outcomes quorums entry before) (tx, outcome)
+
+-- a centre added the fact that it heard the outcome
+pub record WasHeard (ledger : List Entry) (a : ℕ) (tx : TxId) (outcome : Outcome) : Type 0 where
+  pub later : List Entry
+  pub before : List Entry
+  pub parts : ledger ≡ later ++ Added a (Fact.Heard tx outcome) ∷ before
+
+-- a centre showed this of a key, by the facts that it had when the ledger was this far
+pub record WasRead (ledger : List Entry) (a : ℕ) (known : Known) : Type 0 where
+  pub later : List Entry
+  pub before : List Entry
+  pub parts : ledger ≡ later ++ before
+  pub shown : known ≡ known_of known.key (Visible.read (facts_of before a) known.key)
+
+-- a line on an outcome is told where the outcome came or was heard, and a read where it was made; of other lines nothing is said
+abbrev pub HasOrigin : Sizes → List Entry → Line → Type 0
+HasOrigin quorums ledger (Line.Chosen tx is_committed) = (outcome : Outcome) × (is_commit outcome ≡ is_committed) × Came quorums ledger tx outcome
+HasOrigin quorums ledger (Line.Heard a tx is_committed) = (outcome : Outcome) × (is_commit outcome ≡ is_committed) × WasHeard ledger a tx outcome
+HasOrigin quorums ledger (Line.Read number a known) = WasRead ledger a known
+HasOrigin quorums ledger line = ⊤
+
+-- each line of a run has its origin in the run's ledger, whatever is built, in whatever world it begins
+abbrev pub LinesHaveOrigins : Type 0
+LinesHaveOrigins =
+    (built : Built) (w : World) (events : List Event)
+    → AllByRecursion (HasOrigin w.cluster.quorums (run_of built w events).world.ledger) (run_of built w events).lines

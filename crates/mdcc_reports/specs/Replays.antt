@@ -1,0 +1,71 @@
+-- A replay is a run of events.
+use Rattle.std.specs.Prelude.{List, None, Ok, Option, Result, Some, [], length, ℕ, ◌++◌, ◌+◌, ◌∷◌, ◌≡◌, ◌≤◌}
+use Rattle.mdcc_option.specs.declared.cluster.Cluster.{Cluster}
+use Rattle.mdcc_protocol.specs.Built.{Built}
+use Rattle.mdcc_protocol.specs.Errors.{AtEvent, AtLine, ReplayFault, most_input}
+use Rattle.mdcc_protocol.specs.Header.{Left, all_of, header_lines}
+use Rattle.mdcc_protocol.specs.IsCluster.{IsCluster}
+use Rattle.mdcc_protocol.specs.Replay.{replay_of}
+use Rattle.mdcc_protocol.specs.Report.{header_text, lines_text}
+use Rattle.mdcc_protocol.specs.Schedule.{line_of}
+use Rattle.mdcc_protocol.specs.Words.{◌>>=◌}
+use Rattle.mdcc_protocol.specs.World.{World, end_line, first_world, run_of}
+use Rattle.mdcc_protocol.specs.declared.events.Event.{Event}
+use Rattle.mdcc_protocol.specs.declared.lines.Line.{Line}
+use Rattle.mdcc_protocol.specs.declared.schedule.SchedFault.{SchedFault}
+
+-- ---- the events of lines
+
+-- an empty line and a comment have none
+abbrev pub event_listed : Option Event → List Event
+event_listed None = []
+event_listed (Some event) = event ∷ []
+
+-- the events of lines in turn, where no line is refused
+abbrev pub events_read : Built → Cluster → List (List ℕ) → Result (List Event) SchedFault
+events_read built cluster [] = Ok []
+events_read built cluster (line ∷ lines) = line_of built cluster line >>= λ event. events_read built cluster lines >>= λ events. Ok (event_listed event ++ events)
+
+-- ---- runs that are printed
+
+-- the last line, where the input was read to its end
+abbrev pub end_told : Option ReplayFault → World → List Line
+end_told None w = end_line w ∷ []
+end_told (Some fault) w = []
+
+-- what is left of the lines from this number on: nothing at the end of the input, else the line that is refused and those behind it
+abbrev pub IsLeft : ℕ → Option ReplayFault → List (List ℕ) → Type 0
+IsLeft number None rest = rest ≡ []
+IsLeft number (Some (AtLine n fault)) rest = (n ≡ number) × (rest ≡ [] → ⊥)
+IsLeft number (Some (AtEvent n fault)) rest = (n ≡ number) × (rest ≡ [] → ⊥)
+IsLeft number (Some _) rest = ⊥
+
+-- the replay of an input is the run of these events, which are those of the lines behind the header, up to the end or to the first line that is
+-- refused. Its text is the header, the lines of the run, and at the end of the input the last line; and its world is that of the run
+pub record IsReplayed (built : Built) (input : List ℕ) (header : Cluster × Left) (events : List Event) : Type 0 where
+  pub taken : List (List ℕ)
+  pub rest : List (List ℕ)
+  pub parts : header.1.lines ≡ taken ++ rest
+  pub left : IsLeft (header.1.number + length taken) (replay_of built input).fault rest
+  pub read : events_read built header.0 taken ≡ Ok events
+  pub whole : (run_of built (first_world header.0) events).fault ≡ None
+  pub text : (replay_of built input).text
+      ≡ header_text header.1.at input
+      ++ lines_text ((run_of built (first_world header.0) events).lines ++ end_told (replay_of built input).fault (run_of built (first_world header.0) events).world)
+  pub world : (replay_of built input).world ≡ Some (run_of built (first_world header.0) events).world
+
+-- the input is not too long, and its header is accepted
+pub record IsAccepted (built : Built) (input : List ℕ) (header : Cluster × Left) : Type 0 where
+  pub within : length input ≤ most_input
+  pub header_itself : header_lines built (all_of input) ≡ Ok header
+
+-- each such replay is a run
+abbrev pub ReplaysAreRuns : Type 0
+ReplaysAreRuns =
+    (built : Built) (input : List ℕ) (header : Cluster × Left) → IsAccepted built input header
+    → (events : List Event) × IsReplayed built input header events
+
+-- a header that is accepted is of a cluster
+abbrev pub HeadersAreOfClusters : Type 0
+HeadersAreOfClusters =
+    (built : Built) (input : List ℕ) (header : Cluster × Left) → IsAccepted built input header → IsCluster header.0

@@ -1,0 +1,41 @@
+-- The laws of all traces, from the law that allowed ledgers have one mark.
+use Rattle.std.proofs.Common.{List, subst}
+use Rattle.mdcc_option.specs.declared.cluster.Cluster.{Cluster}
+use Rattle.mdcc_protocol.specs.Allowed.{IsAllowed}
+use Rattle.mdcc_protocol.specs.Built.{Built}
+use Rattle.mdcc_protocol.specs.IsCluster.{IsCluster}
+use Rattle.mdcc_protocol.specs.World.{Sent, first_world, run_of}
+use Rattle.mdcc_protocol.specs.declared.events.Event.{Event}
+use Rattle.mdcc_trace_states.specs.Words.{Each}
+use Rattle.mdcc_trace_states.specs.Invariant.{Holds}
+use Rattle.mdcc_trace_states.specs.Sound.{IsSound}
+use Rattle.mdcc_trace_states.specs.Standing.{IsBackedMessage, Stands}
+use Rattle.mdcc_trace_states.specs.Steps.{AreGood}
+use Rattle.mdcc_trace_states.proofs.Schedules.{trace-holds}
+use Rattle.mdcc_trace.proofs.Full.{OneMarkLaw, full-good}
+use Rattle.mdcc_trace.proofs.Single.{one-mark}
+use Rattle.mdcc_trace_states.proofs.Lists.{Each-like}
+use Rattle.mdcc_trace.proofs.Lasting.{backed-message}
+
+pub law : OneMarkLaw
+law cluster es sizes legal sound = one-mark cluster es sizes legal
+
+-- every step of a node is good
+pub all-good : (built : Built) → AreGood built IsSound
+all-good built = full-good law built
+
+pub holds : (built : Built) (cluster : Cluster) → IsCluster cluster → (events : List Event) → Holds IsSound cluster (run_of built (first_world cluster) events).world
+holds built cluster is events = trace-holds built IsSound cluster (all-good built) is.quorums events
+
+pub allowed : (built : Built) (cluster : Cluster) → IsCluster cluster → (events : List Event) → IsAllowed cluster (run_of built (first_world cluster) events).world.ledger
+allowed built cluster is events =
+    let h = holds built cluster is events in subst (λ z. IsAllowed z (run_of built (first_world cluster) events).world.ledger) h.same h.legal
+
+pub all_sent : (built : Built) (cluster : Cluster) → IsCluster cluster → (events : List Event) →
+    Each (λ (s : Sent). IsBackedMessage cluster (run_of built (first_world cluster) events).world.ledger s.envelope) (run_of built (first_world cluster) events).world.sent
+all_sent built cluster is events =
+    let h = holds built cluster is events in
+    Each-like (λ (s : Sent). Stands cluster (run_of built (first_world cluster) events).world.ledger s.envelope) (λ (s : Sent). IsBackedMessage cluster (run_of built (first_world cluster) events).world.ledger s.envelope)
+    (run_of built (first_world cluster) events).world.sent
+    (λ s g. backed-message cluster is.quorums (run_of built (first_world cluster) events).world.ledger (allowed built cluster is events) s.envelope g)
+    (subst (λ z. Each (λ (s : Sent). Stands z (run_of built (first_world cluster) events).world.ledger s.envelope) (run_of built (first_world cluster) events).world.sent) h.same h.sent)

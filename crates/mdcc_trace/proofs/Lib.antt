@@ -1,0 +1,15 @@
+pub mod Claiming
+pub mod Claims
+pub mod Full
+pub mod Kin
+pub mod Lasting
+pub mod Laws
+pub mod Leaders
+pub mod Leading
+pub mod Making
+pub mod Own
+pub mod Safety
+pub mod Single
+pub mod Sound
+pub mod Structuring
+pub mod Watching

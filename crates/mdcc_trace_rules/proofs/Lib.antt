@@ -1,0 +1,16 @@
+pub mod Accepting
+pub mod Begins
+pub mod Chains
+pub mod Chosen
+pub mod Deciding
+pub mod Dispatch
+pub mod Limits
+pub mod Order
+pub mod Outcomes
+pub mod Promises
+pub mod Proposals
+pub mod Rules
+pub mod Syncs
+pub mod Ticks
+pub mod Votes
+pub mod Votings

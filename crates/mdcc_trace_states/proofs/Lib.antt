@@ -1,0 +1,13 @@
+pub mod Belonging
+pub mod Boots
+pub mod Events
+pub mod Kept
+pub mod Keys
+pub mod Led
+pub mod Ledgers
+pub mod Lists
+pub mod Maps
+pub mod Schedules
+pub mod Sorting
+pub mod Tests
+pub mod Walk

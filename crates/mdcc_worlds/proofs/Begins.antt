@@ -1,0 +1,61 @@
+-- The first world.
+use Rattle.std.proofs.Common.{◌≡◌, ℕ, zero, suc, ◌-◌, ◌≤◌, ◌<◌, ◌==◌, true, false, [], ◌∷◌, refl, sym, ◌∙◌, inl, inr, arith, nat_le}
+use Rattle.std.proofs.lemmas.Bool.{cases_Bool, eq-eqb, eqb-true, leb-false, leb-true}
+use Rattle.std.proofs.lemmas.List.{get_or-replicate, length-replicate}
+use Rattle.mdcc_option.specs.declared.cluster.Cluster.{Cluster}
+use Rattle.mdcc_protocol.specs.Belongs.{is_centre}
+use Rattle.mdcc_protocol.specs.Built.{built}
+use Rattle.mdcc_protocol.specs.IsCluster.{IsCluster}
+use Rattle.mdcc_protocol.specs.Ledger.{facts_of}
+use Rattle.mdcc_protocol.specs.Volatile.{nothing_kept}
+use Rattle.mdcc_protocol.specs.World.{booted, booted_to, centre_at, first_world}
+use Rattle.mdcc_protocol.specs.declared.facts.Fact.{Fact}
+use Rattle.mdcc_steps.proofs.Booting.{boot-node}
+use Rattle.mdcc_steps.specs.Forming.{IsNode}
+use Rattle.mdcc_worlds.proofs.Stays.{some-centre}
+use Rattle.mdcc_worlds.specs.Standing.{IsWorld}
+
+first-none : (n a : ℕ) → n < a → facts_of (booted_to n) a ≡ []
+first-none zero a above = refl
+first-none (suc n) a above = elim (cases_Bool (suc n == a)) [
+  | inl e ↦ let same : suc n ≡ a = eqb-true (suc n) a e in absurd (omega (same, above, arith))
+  | inr e ↦ rw e (first-none n a (omega (above, arith)))
+]
+
+below : (n a : ℕ) → a ≤ suc n → (suc n == a) ≡ false → a ≤ n
+below n a within other = elim (cases_Bool (nat_le a n)) [
+  | inl e ↦ leb-true a n e
+  | inr e ↦
+      let past = leb-false a n e in
+      let same : suc n ≡ a = omega (past, within, arith) in
+      let clash : true ≡ false = sym (eq-eqb (suc n) a same) ∙ other in
+      absurd (cc)
+]
+
+pub first-facts : (n a : ℕ) → 1 ≤ a → a ≤ n → facts_of (booted_to n) a ≡ Fact.Booted 1 ∷ []
+first-facts zero a some within = absurd (omega (some, within, arith))
+first-facts (suc n) a some within = elim (cases_Bool (suc n == a)) [
+  | inl e ↦ let same : suc n ≡ a = eqb-true (suc n) a e in rw (e, first-none n a (omega (same, arith))) refl
+  | inr e ↦ rw e (first-facts n a some (below n a within e))
+]
+
+pub first-site : (cluster : Cluster) (a : ℕ) → is_centre cluster a ≡ true → centre_at (first_world cluster) a ≡ booted
+first-site cluster a h =
+    let both = some-centre cluster a h in
+    get_or-replicate cluster.quorums.centres (a - 1) booted booted (omega (both.0, both.1, arith))
+
+pub first-node : (cluster : Cluster) (a : ℕ) → IsCluster cluster → is_centre cluster a ≡ true → IsNode cluster a (Fact.Booted 1 ∷ []) nothing_kept
+first-node cluster a itself h = boot-node built cluster a [] (Fact.Booted 1 ∷ []) itself h tt refl
+
+pub first-stands : (cluster : Cluster) → IsCluster cluster → IsWorld (first_world cluster)
+first-stands cluster itself = record {
+  cluster_itself = itself;
+  sites = length-replicate cluster.quorums.centres booted;
+  up = λ a h. rw (first-site cluster a h) refl;
+  unstopped = λ a h. rw (first-site cluster a h) refl;
+  nodes = λ a h.
+      let both = some-centre cluster a h in
+      rw (first-site cluster a h, first-facts cluster.quorums.centres a both.0 both.1) (first-node cluster a itself h);
+  sent = tt;
+  reads = tt;
+}

@@ -1,0 +1,11 @@
+pub mod Begins
+pub mod Counts
+pub mod Delivers
+pub mod Drafting
+pub mod Events
+pub mod Fitting
+pub mod Numbers
+pub mod Settles
+pub mod Staying
+pub mod Stays
+pub mod Within

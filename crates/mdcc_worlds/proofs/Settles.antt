@@ -1,0 +1,110 @@
+-- Settle lines, delivery by delivery.
+use Rattle.std.proofs.Common.{◌≡◌, ℕ, zero, suc, ◌+◌, ◌-◌, ◌≤◌, ◌<◌, true, List, refl, sym, ap, ◌∙◌, inl, inr, Option, Some, None, Result, Ok, Err, nat_le, arith}
+use Rattle.std.proofs.lemmas.Bool.{cases_Bool, le-leb}
+use Rattle.mdcc_protocol.specs.Built.{built}
+use Rattle.mdcc_protocol.specs.World.{Happened, World, after_lines, counted_event, delivered, event_of, first_waiting, most_events, settled_line, settled_of, within_events}
+use Rattle.mdcc_protocol.specs.declared.events.Event.{Event}
+use Rattle.mdcc_protocol.specs.declared.messages.Envelope.{Envelope}
+use Rattle.mdcc_protocol.specs.declared.world.EventFault.{EventFault}
+use Rattle.mdcc_protocol.specs.declared.world.LimitName.{LimitName}
+use Rattle.mdcc_worlds.proofs.Counts.{delivery-events, limit-open}
+use Rattle.mdcc_worlds.proofs.Events.{delivered-is, open-is}
+use Rattle.mdcc_worlds.proofs.Numbers.{waiting-numbered}
+use Rattle.mdcc_worlds.specs.Delivering.{delivery}
+use Rattle.mdcc_worlds.specs.Happening.{if_open}
+use Rattle.mdcc_worlds.specs.Settling.{IsSettling, settle_told, settled}
+
+abbrev passed : EventFault
+passed = EventFault.Limit LimitName.Events most_events
+
+-- ---- one delivery
+
+pub settled-none : (left : ℕ) (listed : List ℕ) (h : Happened) (deliveries : ℕ) → first_waiting h.world listed 1 h.world.sent ≡ None
+    → settled_of left built listed h deliveries ≡ Ok (h, deliveries)
+settled-none zero listed h deliveries e = rw (e, settled_of) refl
+settled-none (suc left) listed h deliveries e = rw (e, settled_of) refl
+
+pub settled-limit : (listed : List ℕ) (h : Happened) (deliveries : ℕ) (next : ℕ × Envelope) → first_waiting h.world listed 1 h.world.sent ≡ Some next
+    → settled_of 0 built listed h deliveries ≡ Err passed
+settled-limit listed h deliveries next e = rw (e, settled_of) refl
+
+settled-by : (left : ℕ) (listed : List ℕ) (h after : Happened) (deliveries : ℕ) (next : ℕ × Envelope) → first_waiting h.world listed 1 h.world.sent ≡ Some next
+    → delivered built h.world next.0 next.1 ≡ Ok after
+    → settled_of (suc left) built listed h deliveries ≡ settled_of left built listed (after_lines h.lines after) (deliveries + 1)
+settled-by left listed h after deliveries next e f = rw (e, f, settled_of) refl
+
+pub settled-next : (left : ℕ) (listed : List ℕ) (h : Happened) (deliveries : ℕ) (next : ℕ × Envelope) → first_waiting h.world listed 1 h.world.sent ≡ Some next
+    → settled_of (suc left) built listed h deliveries ≡ settled_of left built listed (after_lines h.lines (delivery h.world next.0)) (deliveries + 1)
+settled-next left listed h deliveries next e =
+    let is = waiting-numbered h.world listed h.world.sent next e in
+    settled-by left listed h (delivery h.world next.0) deliveries next e
+    (ap (λ (envelope : Envelope). delivered built h.world next.0 envelope) (sym is.envelope) ∙ delivered-is h.world next.0 is.sent is.there)
+
+-- the delivery of the message that waits first is an event
+pub waiting-events : (w : World) (listed : List ℕ) (next : ℕ × Envelope) → first_waiting w listed 1 w.sent ≡ Some next → (delivery w next.0).world.events ≡ w.events + 1
+waiting-events w listed next e =
+    let is = waiting-numbered w listed w.sent next e in
+    delivery-events w next.0 is.sent is.there
+
+-- ---- the line
+
+pub settling-begins : (w : World) (listed : List ℕ) → IsSettling w listed (settle_told w listed) 0
+settling-begins w listed = record { answer = refl; count = omega arith }
+
+pub settling-goes_on : (w : World) (listed : List ℕ) (reached : Happened) (deliveries : ℕ) (next : ℕ × Envelope) → IsSettling w listed reached deliveries
+    → first_waiting reached.world listed 1 reached.world.sent ≡ Some next → reached.world.events < most_events
+    → IsSettling w listed (after_lines reached.lines (delivery reached.world next.0)) (deliveries + 1)
+settling-goes_on w listed reached deliveries next so_far waits few =
+    let counted = waiting-events reached.world listed next waits in
+    let left = most_events - (delivery reached.world next.0).world.events in
+    let more : most_events - reached.world.events ≡ suc left = omega (counted, few, arith) in
+    let count = so_far.count in
+    record {
+      answer = so_far.answer
+          ∙ ap (λ (n : ℕ). settled_of n built listed reached deliveries) more
+          ∙ settled-next left listed reached deliveries next waits;
+      count = omega (counted, count, arith);
+    }
+
+-- ---- its ends
+
+-- what comes of the line
+abbrev line_of : World → Result (Happened × ℕ) EventFault → Result Happened EventFault
+line_of w r = within_events built w (settled_line r)
+
+past-limit : (w : World) → line_of w (Err passed) ≡ Err passed
+past-limit w = elim (cases_Bool (nat_le most_events w.events)) [ inl e ↦ rw e refl | inr e ↦ rw e refl ]
+
+-- none waits
+pub settling-ends : (w : World) (listed : List ℕ) (reached : Happened) (deliveries : ℕ) → IsSettling w listed reached deliveries
+    → first_waiting reached.world listed 1 reached.world.sent ≡ None → w.events < most_events
+    → event_of built w (Event.Settle listed) ≡ Ok (settled reached deliveries)
+settling-ends w listed reached deliveries so_far none few =
+    ap (line_of w) (so_far.answer ∙ settled-none (most_events - reached.world.events) listed reached deliveries none)
+    ∙ open-is w (settled reached deliveries)
+    ∙ ap (λ (r : Result (Unit {0}) EventFault). if_open r (settled reached deliveries)) (limit-open w few)
+
+-- one waits, and there were as many events as there may be
+pub settling-stops : (w : World) (listed : List ℕ) (reached : Happened) (deliveries : ℕ) (next : ℕ × Envelope) → IsSettling w listed reached deliveries
+    → first_waiting reached.world listed 1 reached.world.sent ≡ Some next → most_events ≤ reached.world.events
+    → event_of built w (Event.Settle listed) ≡ Err (EventFault.Limit LimitName.Events most_events)
+settling-stops w listed reached deliveries next so_far waits full =
+    let none : most_events - reached.world.events ≡ 0 = omega (full, arith) in
+    ap (line_of w) (so_far.answer
+    ∙ ap (λ (n : ℕ). settled_of n built listed reached deliveries) none
+    ∙ settled-limit listed reached deliveries next waits)
+    ∙ past-limit w
+
+-- there were as many before the line
+pub settle-closed : (w : World) (listed : List ℕ) → most_events ≤ w.events
+    → event_of built w (Event.Settle listed) ≡ Err (EventFault.Limit LimitName.Events most_events)
+settle-closed w listed full = by_waiting (first_waiting (counted_event w) listed 1 w.sent) refl
+  where
+    past : nat_le most_events w.events ≡ true
+    past = le-leb most_events w.events full
+
+    by_waiting : (o : Option (ℕ × Envelope)) → first_waiting (counted_event w) listed 1 w.sent ≡ o → event_of built w (Event.Settle listed) ≡ Err passed
+    by_waiting None e =
+        ap (line_of w) (settled-none (most_events - (w.events + 1)) listed (settle_told w listed) 0 e)
+        ∙ rw past refl
+    by_waiting (Some next) e = settling-stops w listed (settle_told w listed) 0 next (settling-begins w listed) e (omega (full, arith))

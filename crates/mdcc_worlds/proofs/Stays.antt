@@ -1,0 +1,187 @@
+-- What holds of a world holds after a step.
+use Rattle.std.proofs.Common.{◌≡◌, ℕ, zero, suc, ◌-◌, ◌≤◌, ◌==◌, true, false, List, [], ◌∷◌, ◌++◌, refl, sym, ap, ◌∙◌, subst, inl, inr, Option, Some, None, Result, Ok, Err, arith, length, map, get_or, nat_le, if◌then◌else◌}
+use Rattle.std.specs.List.{AllByRecursion}
+use Rattle.std.specs.Prelude.{set}
+use Rattle.std.proofs.lemmas.Bool.{and_parts, cases_Bool, eq-eqb, eqb-true, leb-true}
+use Rattle.std.proofs.lemmas.List.{get_or-set_other, get_or-set_same, length-set}
+use Rattle.mdcc_base.specs.Key.{IsKey}
+use Rattle.mdcc_base.specs.declared.key.Key.{Key}
+use Rattle.mdcc_option.specs.declared.cluster.Cluster.{Cluster}
+use Rattle.mdcc_protocol.specs.Belongs.{is_centre}
+use Rattle.mdcc_protocol.specs.Built.{built}
+use Rattle.mdcc_protocol.specs.Ledger.{Entry, facts_of}
+use Rattle.mdcc_protocol.specs.Steps.{NodeStep, answering}
+use Rattle.mdcc_protocol.specs.Visible
+use Rattle.mdcc_protocol.specs.WellFormed.{IsWellFormedEnvelope}
+use Rattle.mdcc_protocol.specs.World.{Sent, Site, World, booted, centre_at, counted_event, fact_happened, input_happened, known_of, read_happened, step_at, step_happened, step_happened_by, unsent, with_delivered}
+use Rattle.mdcc_protocol.specs.declared.facts.Fact.{Fact}
+use Rattle.mdcc_protocol.specs.declared.messages.Envelope.{Envelope}
+use Rattle.mdcc_protocol.specs.declared.node.Answer.{Answer}
+use Rattle.mdcc_protocol.specs.declared.node.Input.{Input}
+use Rattle.mdcc_protocol.specs.declared.node.StepFault.{StepFault}
+use Rattle.mdcc_steps.proofs.Answered.{answer-formed}
+use Rattle.mdcc_steps.proofs.Dispatched.{node-stays, sends-formed}
+use Rattle.mdcc_steps.proofs.Each.{each-append}
+use Rattle.mdcc_steps.specs.Forming.{IsNode, with_new}
+use Rattle.mdcc_steps.specs.Inputs.{IsWellFormedInput}
+use Rattle.mdcc_worlds.proofs.Within.{made-stays}
+use Rattle.mdcc_worlds.specs.Sending.{GoesWithin, StaysWithin}
+use Rattle.mdcc_worlds.specs.Standing.{IsRead, IsSent, IsWorld}
+use Rattle.mdcc_worlds.specs.Taking.{taken, with_fact, world_taken}
+
+-- ---- centres
+
+pub some-centre : (cluster : Cluster) (a : ℕ) → is_centre cluster a ≡ true → (1 ≤ a) × (a ≤ cluster.quorums.centres)
+some-centre cluster a h =
+    let both = and_parts (nat_le 1 a) (nat_le a cluster.quorums.centres) h in
+    (leb-true 1 a both.0, leb-true a cluster.quorums.centres both.1)
+
+pub site-same : (sites : List Site) (a : ℕ) (site : Site) → 1 ≤ a → a ≤ length sites → get_or (set sites (a - 1) site) (a - 1) booted ≡ site
+site-same sites a site some few = get_or-set_same sites (a - 1) site booted (omega (some, few, arith))
+
+pub site-other : (sites : List Site) (a b : ℕ) (site : Site) → 1 ≤ a → 1 ≤ b → (a == b) ≡ false
+    → get_or (set sites (a - 1) site) (b - 1) booted ≡ get_or sites (b - 1) booted
+site-other sites a b site some some' other =
+    get_or-set_other sites (a - 1) (b - 1) site booted (λ e.
+    let same : a ≡ b = omega (e, some, some', arith) in
+    let clash : true ≡ false = sym (eq-eqb a b same) ∙ other in
+    absurd (cc))
+
+-- ---- facts
+
+pub facts-with : (a b : ℕ) (o : Option Fact) (entries : List Entry)
+    → facts_of (with_fact a o entries) b ≡ (if a == b then with_new (facts_of entries b) o else facts_of entries b)
+facts-with a b None entries = elim (cases_Bool (a == b)) [ inl e ↦ rw e refl | inr e ↦ rw e refl ]
+facts-with a b (Some fact) entries = refl
+
+-- ---- what happens is that the step is taken
+
+pub happened-taken : (w : World) (a : ℕ) (step : NodeStep) → (centre_at w a).stop ≡ None → step_happened w a step ≡ taken w a step
+happened-taken w a step unstopped = by_fact step.fact refl
+  where
+    by_fact : (o : Option Fact) → step.fact ≡ o → step_happened_by w a step o ≡ taken w a step
+    by_fact None e = rw e refl
+    by_fact (Some fact) e =
+        let rest : fact_happened w a step fact None ≡ taken w a step = rw e refl in
+        ap (fact_happened w a step fact) unstopped ∙ rest
+
+-- a refusal changes nothing
+pub refused-same : (w : World) (a : ℕ) (fault : StepFault) → (input_happened w a (Err fault)).world ≡ w
+refused-same w a StepFault.Foreign = refl
+refused-same w a (StepFault.NoRoom needed spare) = refl
+refused-same w a StepFault.Crowded = refl
+refused-same w a StepFault.Exhausted = refl
+refused-same w a StepFault.Memory = refl
+
+-- ---- a step
+
+each-sent : (cluster : Cluster) (envelopes : List Envelope) → AllByRecursion IsWellFormedEnvelope envelopes → AllByRecursion (GoesWithin cluster) envelopes
+    → AllByRecursion (IsSent cluster) (map unsent envelopes)
+each-sent cluster [] h k = tt
+each-sent cluster (e ∷ es) h k = (record { envelope_itself = h.0; within = k.0 }, each-sent cluster es h.1 k.1)
+
+module _ (w : World) (a : ℕ) (step : NodeStep) (stands : IsWorld w) (centre : is_centre w.cluster a ≡ true) (stays : StaysWithin w.cluster step) where
+  site : Site
+  site = record (centre_at w a) { volatile = step.after }
+
+  few : a ≤ length w.centres
+  few = rw stands.sites (some-centre w.cluster a centre).1
+
+  pub site-here : centre_at (world_taken w a step) a ≡ record (centre_at w a) { volatile = step.after }
+  site-here = site-same w.centres a (record (centre_at w a) { volatile = step.after }) (some-centre w.cluster a centre).0 few
+
+  pub site-there : (b : ℕ) → 1 ≤ b → (a == b) ≡ false → centre_at (world_taken w a step) b ≡ centre_at w b
+  site-there b some other = site-other w.centres a b (record (centre_at w a) { volatile = step.after }) (some-centre w.cluster a centre).0 some other
+
+  pub facts-here : facts_of (world_taken w a step).ledger a ≡ with_new (facts_of w.ledger a) step.fact
+  facts-here =
+      let same : (a == a) ≡ true = eq-eqb a a refl in
+      facts-with a a step.fact (step.entries ++ w.ledger) ∙ rw (same, stays.entries w.ledger a) refl
+
+  pub facts-there : (b : ℕ) → (a == b) ≡ false → facts_of (world_taken w a step).ledger b ≡ facts_of w.ledger b
+  facts-there b other = facts-with a b step.fact (step.entries ++ w.ledger) ∙ rw (other, stays.entries w.ledger b) refl
+
+  -- what holds of each centre with its facts holds after the step
+  pub each-stays : (P : ℕ → List Fact → Site → Type 0) → ((b : ℕ) → 1 ≤ b → (a == b) ≡ false → P b (facts_of w.ledger b) (centre_at w b))
+      → P a (with_new (facts_of w.ledger a) step.fact) (record (centre_at w a) { volatile = step.after })
+      → (b : ℕ) → 1 ≤ b → P b (facts_of (world_taken w a step).ledger b) (centre_at (world_taken w a step) b)
+  each-stays P others here b some = elim (cases_Bool (a == b)) [
+    | inl e ↦
+        let same : a ≡ b = eqb-true a b e in
+        subst (λ (n : ℕ). P n (facts_of (world_taken w a step).ledger n) (centre_at (world_taken w a step) n)) same (rw (facts-here, site-here) here)
+    | inr e ↦ rw (facts-there b e, site-there b some e) (others b some e)
+  ]
+
+  pub world-stays : IsNode w.cluster a (with_new (facts_of w.ledger a) step.fact) step.after → AllByRecursion IsWellFormedEnvelope step.sends → IsWorld (world_taken w a step)
+  world-stays node formed = record {
+    cluster_itself = stands.cluster_itself;
+    sites = length-set w.centres (a - 1) (record (centre_at w a) { volatile = step.after }) ∙ stands.sites;
+    up = λ b h. each-stays (λ b facts s. is_centre w.cluster b ≡ true → s.is_up ≡ true) (λ b some e h. stands.up b h) (λ h. stands.up a h) b (some-centre w.cluster b h).0 h;
+    unstopped = λ b h. each-stays (λ b facts s. is_centre w.cluster b ≡ true → s.stop ≡ None) (λ b some e h. stands.unstopped b h) (λ h. stands.unstopped a h) b (some-centre w.cluster b h).0 h;
+    nodes = λ b h. each-stays (λ b facts s. is_centre w.cluster b ≡ true → IsNode w.cluster b facts s.volatile) (λ b some e h. stands.nodes b h) (λ h. node) b (some-centre w.cluster b h).0 h;
+    sent = each-append (IsSent w.cluster) w.sent (map unsent step.sends) stands.sent (each-sent w.cluster step.sends formed stays.sends);
+    reads = stands.reads;
+  }
+
+pub input-stays : (w : World) (a : ℕ) (input : Input) → IsWorld w → is_centre w.cluster a ≡ true → IsWellFormedInput input
+    → IsWorld (input_happened w a (step_at built w a input)).world
+input-stays w a input stands centre formed = by_result (step_at built w a input) refl
+  where
+    by_result : (r : Result NodeStep StepFault) → step_at built w a input ≡ r → IsWorld (input_happened w a r).world
+    by_result (Err fault) e = rw (refused-same w a fault) stands
+    by_result (Ok step) e =
+        let node = stands.nodes a centre in
+        let within = made-stays w.cluster a (facts_of w.ledger a) (centre_at w a).volatile input step stands.cluster_itself.quorums formed e in
+        let sends = sends-formed built w.cluster a (facts_of w.ledger a) (centre_at w a).volatile input step node formed e (λ f. absurd (cc)) in
+        rw (happened-taken w a step (stands.unstopped a centre))
+        (world-stays w a step stands centre within
+        (node-stays built w.cluster a (facts_of w.ledger a) (centre_at w a).volatile input step node formed e) sends)
+
+-- ---- a delivery
+
+pub delivered-sent : (cluster : Cluster) (sent : List Sent) (place : ℕ) → AllByRecursion (IsSent cluster) sent → AllByRecursion (IsSent cluster) (with_delivered sent place)
+delivered-sent cluster [] place h = tt
+delivered-sent cluster (s ∷ ss) zero h = (record { envelope_itself = h.0.envelope_itself; within = h.0.within }, h.1)
+delivered-sent cluster (s ∷ ss) (suc place) h = (h.0, delivered-sent cluster ss place h.1)
+
+pub delivered-stays : (w : World) (place events : ℕ) → IsWorld w → IsWorld (record w { sent = with_delivered w.sent place; events = events })
+delivered-stays w place events stands = record {
+  cluster_itself = stands.cluster_itself;
+  sites = stands.sites;
+  up = stands.up;
+  unstopped = stands.unstopped;
+  nodes = stands.nodes;
+  sent = delivered-sent w.cluster w.sent place stands.sent;
+  reads = stands.reads;
+}
+
+-- ---- an event is counted
+
+pub counted-stays : (w : World) → IsWorld w → IsWorld (counted_event w)
+counted-stays w stands = record {
+  cluster_itself = stands.cluster_itself;
+  sites = stands.sites;
+  up = stands.up;
+  unstopped = stands.unstopped;
+  nodes = stands.nodes;
+  sent = stands.sent;
+  reads = stands.reads;
+}
+
+-- ---- a read
+
+pub read-stays : (w : World) (a : ℕ) (key : Key) → IsWorld w → is_centre w.cluster a ≡ true → IsKey key → IsWorld (read_happened w a key).world
+read-stays w a key stands centre is =
+    let shown = answer-formed built w.cluster a (facts_of w.ledger a) (centre_at w a).volatile (Input.Read key)
+    (answering (centre_at w a).volatile (Answer.Read (Visible.read (facts_of w.ledger a) key)))
+    (Answer.Read (Visible.read (facts_of w.ledger a) key)) (stands.nodes a centre) is refl refl in
+    record {
+      cluster_itself = stands.cluster_itself;
+      sites = stands.sites;
+      up = stands.up;
+      unstopped = stands.unstopped;
+      nodes = stands.nodes;
+      sent = stands.sent;
+      reads = each-append IsRead w.reads (known_of key (Visible.read (facts_of w.ledger a) key) ∷ []) stands.reads
+          (record { key_itself = is; token_itself = shown.0; item_itself = shown.1 }, tt);
+    }

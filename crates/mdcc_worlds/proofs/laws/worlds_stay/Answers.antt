@@ -1,0 +1,18 @@
+use Rattle.mdcc_worlds.proofs.Begins.{first-stands}
+use Rattle.mdcc_worlds.proofs.Stays.{counted-stays, delivered-stays, input-stays, read-stays}
+use Rattle.mdcc_worlds.proofs.laws.worlds_stay.Goals as goal
+
+pub returns-clause-first : goal.returns-clause-first
+returns-clause-first c = first-stands
+
+pub returns-clause-input : goal.returns-clause-input
+returns-clause-input c = input-stays
+
+pub returns-clause-delivered : goal.returns-clause-delivered
+returns-clause-delivered c = delivered-stays
+
+pub returns-clause-counted : goal.returns-clause-counted
+returns-clause-counted c = counted-stays
+
+pub returns-clause-read : goal.returns-clause-read
+returns-clause-read c = read-stays

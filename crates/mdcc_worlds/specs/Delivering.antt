@@ -1,0 +1,77 @@
+-- What a delivery does, why a message is not delivered, and how far a deliver line has come.
+use Rattle.std.specs.Prelude.{◌≡◌, Err, List, None, Ok, Option, Result, Some, [], ℕ, ◌+◌, ◌-◌, ◌∷◌}
+use Rattle.mdcc_protocol.specs.Built.{built}
+use Rattle.mdcc_protocol.specs.World.{Happened, Sent, World, after_lines, deliver_line, deliveries_before, deliveries_of, delivery_of, event_of, input_happened, numbered, step_at, with_delivered}
+use Rattle.mdcc_protocol.specs.declared.events.Event.{Event}
+use Rattle.mdcc_protocol.specs.declared.messages.Envelope.{Envelope}
+use Rattle.mdcc_protocol.specs.declared.node.Input.{Input}
+use Rattle.mdcc_protocol.specs.declared.world.EventFault.{EventFault}
+use Rattle.mdcc_worlds.specs.Happening.{at_limit, if_open}
+use Rattle.mdcc_worlds.specs.Standing.{IsWorld}
+
+-- a message counts as delivered, which is an event
+abbrev pub message_counted : World → ℕ → World
+message_counted w number = record w { sent = with_delivered w.sent (number - 1); events = w.events + 1 }
+
+-- and comes to its centre
+abbrev pub delivery_to : World → ℕ → Envelope → Happened
+delivery_to w number envelope =
+    let after = message_counted w number in
+    input_happened after envelope.to (step_at built after envelope.to (Input.Message envelope))
+
+abbrev pub delivery_by : World → ℕ → Option Sent → Happened
+delivery_by w number None = record { world = w; lines = [] }
+delivery_by w number (Some sent) = delivery_to w number sent.envelope
+
+-- the message of a number comes to its centre
+abbrev pub delivery : World → ℕ → Happened
+delivery w number = delivery_by w number (numbered w.sent number)
+
+-- the same behind its line
+abbrev pub delivery_told : World → ℕ → Happened
+delivery_told w number = let h = delivery w number in after_lines (deliver_line number h.world) h
+
+-- why the message of a number is not delivered
+abbrev pub message_by : World → ℕ → Option Sent → Result (Unit {0}) EventFault
+message_by w number None = Err (EventFault.NoMessage number)
+message_by w number (Some sent) = at_limit w
+
+abbrev pub at_message : World → ℕ → Result (Unit {0}) EventFault
+at_message w number = message_by w number (numbered w.sent number)
+
+-- one number of a deliver line is this
+abbrev pub DeliveriesHappen : Type 0
+DeliveriesHappen = (w : World) (number : ℕ) → IsWorld w → delivery_of built w number ≡ if_open (at_message w number) (delivery_told w number)
+
+-- nothing has happened yet
+abbrev pub unmoved : World → Happened
+unmoved w = record { world = w; lines = [] }
+
+-- so much of a deliver line has happened that these numbers are left
+pub record IsDelivering (w : World) (whole left : List ℕ) (reached : Happened) : Type 0 where
+  pub answer : deliveries_of built whole (unmoved w) ≡ deliveries_of built left reached
+  pub rest : deliveries_before built whole (unmoved w) ≡ deliveries_before built left reached
+
+-- a deliver line begins so
+abbrev pub DeliversBegin : Type 0
+DeliversBegin = (w : World) (whole : List ℕ) → IsDelivering w whole whole (unmoved w)
+
+-- the message of the next number is delivered, where nothing keeps it back
+abbrev pub DeliversGoOn : Type 0
+DeliversGoOn =
+    (w : World) (whole left rest : List ℕ) (number : ℕ) (reached : Happened) → left ≡ number ∷ rest → IsWorld reached.world
+    → IsDelivering w whole left reached → at_message reached.world number ≡ Ok tt
+    → IsDelivering w whole rest (after_lines reached.lines (delivery_told reached.world number))
+
+-- where no number is left, that is the line
+abbrev pub DeliversEnd : Type 0
+DeliversEnd =
+    (w : World) (whole left : List ℕ) (reached : Happened) → left ≡ [] → IsDelivering w whole left reached
+    → (event_of built w (Event.Deliver whole) ≡ Ok reached) × (deliveries_before built whole (unmoved w) ≡ reached)
+
+-- and a number that is refused refuses the line
+abbrev pub DeliversStop : Type 0
+DeliversStop =
+    (w : World) (whole left rest : List ℕ) (number : ℕ) (reached : Happened) (fault : EventFault) → left ≡ number ∷ rest → IsWorld reached.world
+    → IsDelivering w whole left reached → at_message reached.world number ≡ Err fault
+    → (event_of built w (Event.Deliver whole) ≡ Err fault) × (deliveries_before built whole (unmoved w) ≡ reached)

@@ -1,0 +1,18 @@
+-- What holds of a world after an event.
+use Rattle.std.specs.Prelude.{◌≡◌, IsTrue, Ok, ◌≤◌}
+use Rattle.mdcc_protocol.specs.Built.{built}
+use Rattle.mdcc_protocol.specs.World.{Happened, World, event_of, most_events}
+use Rattle.mdcc_protocol.specs.declared.events.Event.{Event}
+use Rattle.mdcc_worlds.specs.Standing.{IsWorld}
+use Rattle.mdcc_worlds.specs.Words.{IsGivenEvent, is_built}
+
+-- what a world is at every moment between events
+pub record IsBetween (w : World) : Type 0 where
+  pub itself : IsWorld w
+  pub few : w.events ≤ most_events
+
+-- it is so after each event that happens
+abbrev pub EventsStay : Type 0
+EventsStay =
+    (w : World) (event : Event) (h : Happened) → IsBetween w → IsTrue (is_built event) → IsGivenEvent event
+    → event_of built w event ≡ Ok h → IsBetween h.world

@@ -1,0 +1,9 @@
+pub mod Beginning
+pub mod Delivering
+pub mod Events
+pub mod Happening
+pub mod Sending
+pub mod Settling
+pub mod Standing
+pub mod Taking
+pub mod Words

@@ -1,0 +1,58 @@
+-- How far a settle has come.
+use Rattle.std.specs.Prelude.{◌≡◌, ◌<◌, ◌≤◌, Err, List, None, Ok, Result, Some, [], ℕ, ◌+◌, ◌++◌, ◌-◌, ◌∷◌}
+use Rattle.mdcc_protocol.specs.Built.{built}
+use Rattle.mdcc_protocol.specs.World.{Happened, World, after_lines, counted_event, event_of, first_waiting, most_events, next_message, settled_of}
+use Rattle.mdcc_protocol.specs.declared.events.Event.{Event}
+use Rattle.mdcc_protocol.specs.declared.lines.Line.{Line}
+use Rattle.mdcc_protocol.specs.declared.messages.Envelope.{Envelope}
+use Rattle.mdcc_protocol.specs.declared.world.EventFault.{EventFault}
+use Rattle.mdcc_protocol.specs.declared.world.LimitName.{LimitName}
+use Rattle.mdcc_worlds.specs.Delivering.{delivery}
+
+-- the line is counted and told
+abbrev pub settle_told : World → List ℕ → Happened
+settle_told w listed = record { world = counted_event w; lines = Line.Settle listed ∷ [] }
+
+-- what comes of a settle that has come so far, with so many deliveries
+abbrev pub settling : List ℕ → Happened → ℕ → Result (Happened × ℕ) EventFault
+settling listed h deliveries = settled_of (most_events - h.world.events) built listed h deliveries
+
+-- it is told behind the others how many messages were delivered
+abbrev pub settled : Happened → ℕ → Happened
+settled h deliveries = record { world = h.world; lines = h.lines ++ Line.Settled deliveries (next_message h.world) ∷ [] }
+
+-- so much of a settle line has happened, with so many deliveries
+pub record IsSettling (w : World) (listed : List ℕ) (reached : Happened) (deliveries : ℕ) : Type 0 where
+  pub answer : settling listed (settle_told w listed) 0 ≡ settling listed reached deliveries
+  pub count : reached.world.events ≡ w.events + 1 + deliveries
+
+-- a settle begins so
+abbrev pub SettlesBegin : Type 0
+SettlesBegin = (w : World) (listed : List ℕ) → IsSettling w listed (settle_told w listed) 0
+
+-- while a message waits, the first that does is delivered
+abbrev pub SettlesGoOn : Type 0
+SettlesGoOn =
+    (w : World) (listed : List ℕ) (reached : Happened) (deliveries : ℕ) (next : ℕ × Envelope) → IsSettling w listed reached deliveries
+    → first_waiting reached.world listed 1 reached.world.sent ≡ Some next → reached.world.events < most_events
+    → IsSettling w listed (after_lines reached.lines (delivery reached.world next.0)) (deliveries + 1)
+
+-- where none waits, that is told
+abbrev pub SettlesEnd : Type 0
+SettlesEnd =
+    (w : World) (listed : List ℕ) (reached : Happened) (deliveries : ℕ) → IsSettling w listed reached deliveries
+    → first_waiting reached.world listed 1 reached.world.sent ≡ None → w.events < most_events
+    → event_of built w (Event.Settle listed) ≡ Ok (settled reached deliveries)
+
+-- where one waits after as many events as there may be, the line is refused
+abbrev pub SettlesStop : Type 0
+SettlesStop =
+    (w : World) (listed : List ℕ) (reached : Happened) (deliveries : ℕ) (next : ℕ × Envelope) → IsSettling w listed reached deliveries
+    → first_waiting reached.world listed 1 reached.world.sent ≡ Some next → most_events ≤ reached.world.events
+    → event_of built w (Event.Settle listed) ≡ Err (EventFault.Limit LimitName.Events most_events)
+
+-- and so it is where there were as many before it
+abbrev pub SettlesFail : Type 0
+SettlesFail =
+    (w : World) (listed : List ℕ) → most_events ≤ w.events
+    → event_of built w (Event.Settle listed) ≡ Err (EventFault.Limit LimitName.Events most_events)

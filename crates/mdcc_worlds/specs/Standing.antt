@@ -1,0 +1,61 @@
+-- What holds of a world of the built rules at every moment.
+use Rattle.std.specs.List.{AllByRecursion}
+use Rattle.std.specs.Prelude.{◌≡◌, None, length, true, ℕ}
+use Rattle.mdcc_base.specs.Key.{IsKey}
+use Rattle.mdcc_base.specs.declared.key.Key.{Key}
+use Rattle.mdcc_option.specs.declared.cluster.Cluster.{Cluster}
+use Rattle.mdcc_option.specs.declared.items.Known.{Known}
+use Rattle.mdcc_protocol.specs.Belongs.{is_centre}
+use Rattle.mdcc_protocol.specs.Built.{built}
+use Rattle.mdcc_protocol.specs.IsCluster.{IsCluster}
+use Rattle.mdcc_protocol.specs.Ledger.{facts_of}
+use Rattle.mdcc_protocol.specs.WellFormed.{IsWellFormedEnvelope, IsWellFormedRead}
+use Rattle.mdcc_protocol.specs.World.{Sent, World, centre_at, counted_event, first_world, input_happened, read_happened, step_at, with_delivered}
+use Rattle.mdcc_protocol.specs.declared.node.Input.{Input}
+use Rattle.mdcc_steps.specs.Forming.{IsNode}
+use Rattle.mdcc_steps.specs.Inputs.{IsWellFormedInput}
+use Rattle.mdcc_worlds.specs.Sending.{GoesWithin}
+
+-- a message that was sent is well-formed, and goes to a centre of the cluster
+pub record IsSent (cluster : Cluster) (sent : Sent) : Type 0 where
+  pub envelope_itself : IsWellFormedEnvelope sent.envelope
+  pub within : GoesWithin cluster sent.envelope
+
+-- what a read showed is well-formed
+abbrev pub IsRead : Known → Type 0
+IsRead known = IsWellFormedRead known.key known.token known.item
+
+-- all centres are up, and no stop is armed; each has a node; and all messages and reads are such
+pub record IsWorld (w : World) : Type 0 where
+  pub cluster_itself : IsCluster w.cluster
+  pub sites : length w.centres ≡ w.cluster.quorums.centres
+  pub up : (a : ℕ) → is_centre w.cluster a ≡ true → (centre_at w a).is_up ≡ true
+  pub unstopped : (a : ℕ) → is_centre w.cluster a ≡ true → (centre_at w a).stop ≡ None
+  pub nodes : (a : ℕ) → is_centre w.cluster a ≡ true → IsNode w.cluster a (facts_of w.ledger a) (centre_at w a).volatile
+  pub sent : AllByRecursion (IsSent w.cluster) w.sent
+  pub reads : AllByRecursion IsRead w.reads
+
+-- it holds of the first world
+abbrev pub FirstStands : Type 0
+FirstStands = (cluster : Cluster) → IsCluster cluster → IsWorld (first_world cluster)
+
+-- and after each input of a centre
+abbrev pub WorldStays : Type 0
+WorldStays =
+    (w : World) (a : ℕ) (input : Input) → IsWorld w → is_centre w.cluster a ≡ true → IsWellFormedInput input
+    → IsWorld (input_happened w a (step_at built w a input)).world
+
+-- and where a message counts as delivered
+abbrev pub DeliveredStays : Type 0
+DeliveredStays =
+    (w : World) (place events : ℕ) → IsWorld w → IsWorld (record w { sent = with_delivered w.sent place; events = events })
+
+-- and where an event is counted
+abbrev pub CountedStays : Type 0
+CountedStays = (w : World) → IsWorld w → IsWorld (counted_event w)
+
+-- and after a read
+abbrev pub ReadStays : Type 0
+ReadStays =
+    (w : World) (a : ℕ) (key : Key) → IsWorld w → is_centre w.cluster a ≡ true → IsKey key
+    → IsWorld (read_happened w a key).world
