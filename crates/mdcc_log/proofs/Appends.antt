@@ -12,18 +12,18 @@ use Rattle.mdcc_log.proofs.LogRead.{front_of_more, short_more}
 abbrev pub staged : List (List ℕ) → List ℕ → List ℕ
 staged ps p = log_front ps ++ 0 ∷ (frame_body p ++ 0 ∷ [])
 
-end_shut : (ps : List (List ℕ)) (n : ℕ) (c : List ℕ) → AreShort ps → IsTorn (length (log_bytes ps)) n (log_bytes ps) c → IsShut ps c
-end_shut ps n c short torn = record {
+end_shut : {tears : ℕ → Type 0} (ps : List (List ℕ)) (written c : List ℕ) → AreShort ps → IsTorn tears (length (log_bytes ps)) written (log_bytes ps) c → IsShut ps c
+end_shut ps written c short torn = record {
   short = short;
-  file = inr (drop (length (log_bytes ps)) c, end_torn (log_bytes ps) c n torn ∙ append_assoc (log_front ps) (0 ∷ []) (drop (length (log_bytes ps)) c));
+  file = inr (drop (length (log_bytes ps)) c, end_torn (log_bytes ps) c written torn ∙ append_assoc (log_front ps) (0 ∷ []) (drop (length (log_bytes ps)) c));
 }
 
 -- the closed gate stands in each outcome of the first step
-pub stage_leaves : (ps : List (List ℕ)) (p : List ℕ) (size n : ℕ) (bytes : List ℕ) (may_leave : List ℕ → Type 0) (c : List ℕ) → IsAtRest ps size bytes may_leave → IsTorn size n bytes c → IsBetween ps p c
-stage_leaves ps p size n bytes may_leave c rest torn =
+pub stage_leaves : {tears : ℕ → Type 0} (ps : List (List ℕ)) (p : List ℕ) (size : ℕ) (written bytes : List ℕ) (may_leave : List ℕ → Type 0) (c : List ℕ) → IsAtRest ps size bytes may_leave → IsTorn tears size written bytes c → IsBetween ps p c
+stage_leaves {tears} ps p size written bytes may_leave c rest torn =
     let here : size ≡ length (log_bytes ps) = rest.counted ∙ ap (λ (l : List ℕ). length l) rest.file in
-    let there : IsTorn size n (log_bytes ps) c = subst (λ (l : List ℕ). IsTorn size n l c) rest.file torn in
-    inl (end_shut ps n c rest.short (subst (λ (k : ℕ). IsTorn k n (log_bytes ps) c) here there))
+    let there : IsTorn tears size written (log_bytes ps) c = subst (λ (l : List ℕ). IsTorn tears size written l c) rest.file torn in
+    inl (end_shut ps written c rest.short (subst (λ (k : ℕ). IsTorn tears k written (log_bytes ps) c) here there))
 
 pub stage_makes : (ps : List (List ℕ)) (p : List ℕ) (size : ℕ) (bytes : List ℕ) (may_leave : List ℕ → Type 0) (mid : List ℕ) → IsAtRest ps size bytes may_leave → Holds bytes size (frame_body p ++ 0 ∷ []) mid → mid ≡ staged ps p
 stage_makes ps p size bytes may_leave mid rest holds =
@@ -48,19 +48,19 @@ gate_within : (ps : List (List ℕ)) (p : List ℕ) (size : ℕ) → size ≡ le
 gate_within ps p size is = omega (arith, gate_is ps size is, length-append (log_front ps) (0 ∷ (frame_body p ++ 0 ∷ [])))
 
 -- the frame stands whole in each outcome of the second
-gate_torn : (ps : List (List ℕ)) (p : List ℕ) (size : ℕ) (c : List ℕ) → AreShort ps → length p ≤ payload_limit → size ≡ length (log_bytes ps) → IsTorn (size - 1) 1 (staged ps p) c → IsBetween ps p c
+gate_torn : {tears : ℕ → Type 0} (ps : List (List ℕ)) (p : List ℕ) (size : ℕ) (c : List ℕ) → AreShort ps → length p ≤ payload_limit → size ≡ length (log_bytes ps) → IsTorn tears (size - 1) (1 ∷ []) (staged ps p) c → IsBetween ps p c
 gate_torn ps p size c short fits is torn = inr (record {
   short = short;
   fits = fits;
   gate = get_or c (size - 1) 0;
-  file = one_torn (staged ps p) c (size - 1) (gate_within ps p size is) torn
+  file = one_torn 1 (staged ps p) c (size - 1) (gate_within ps p size is) torn
       ∙ ap (λ (l : List ℕ). l ++ get_or c (size - 1) 0 ∷ drop (size - 1 + 1) (staged ps p)) (front_is ps p size is)
       ∙ ap (λ (l : List ℕ). log_front ps ++ get_or c (size - 1) 0 ∷ l) (back_is ps p size is);
 })
 
-pub gate_leaves : (ps : List (List ℕ)) (p : List ℕ) (size : ℕ) (bytes mid : List ℕ) (may_leave : List ℕ → Type 0) (c : List ℕ) → IsAtRest ps size bytes may_leave → length p ≤ payload_limit → mid ≡ staged ps p → IsTorn (size - 1) 1 mid c → IsBetween ps p c
-gate_leaves ps p size bytes mid may_leave c rest fits is torn =
-    gate_torn ps p size c rest.short fits (rest.counted ∙ ap (λ (l : List ℕ). length l) rest.file) (subst (λ (l : List ℕ). IsTorn (size - 1) 1 l c) is torn)
+pub gate_leaves : {tears : ℕ → Type 0} (ps : List (List ℕ)) (p : List ℕ) (size : ℕ) (bytes mid : List ℕ) (may_leave : List ℕ → Type 0) (c : List ℕ) → IsAtRest ps size bytes may_leave → length p ≤ payload_limit → mid ≡ staged ps p → IsTorn tears (size - 1) (1 ∷ []) mid c → IsBetween ps p c
+gate_leaves {tears} ps p size bytes mid may_leave c rest fits is torn =
+    gate_torn ps p size c rest.short fits (rest.counted ∙ ap (λ (l : List ℕ). length l) rest.file) (subst (λ (l : List ℕ). IsTorn tears (size - 1) (1 ∷ []) l c) is torn)
 
 gate_written : (ps : List (List ℕ)) (p : List ℕ) (size : ℕ) (new : List ℕ) → size ≡ length (log_bytes ps) → Holds (staged ps p) (size - 1) (1 ∷ []) new → new ≡ log_bytes (ps ++ p ∷ [])
 gate_written ps p size new is holds =

@@ -5,8 +5,8 @@ use Rattle.std.proofs.Math.Seq.{take-add}
 use Rattle.mdcc_disks.specs.Disks.{Holds, IsTorn, IsCut}
 
 -- one byte is another, and the rest is the same
-pub one_torn : (old c : List ℕ) (at : ℕ) → at < length old → IsTorn at 1 old c → c ≡ take at old ++ get_or c at 0 ∷ drop (at + 1) old
-one_torn old c at within torn =
+pub one_torn : {tears : ℕ → Type 0} (byte : ℕ) (old c : List ℕ) (at : ℕ) → at < length old → IsTorn tears at (byte ∷ []) old c → c ≡ take at old ++ get_or c at 0 ∷ drop (at + 1) old
+one_torn byte old c at within torn =
     sym (take-append-drop at c)
     ∙ ap (λ (l : List ℕ). l ++ drop at c) torn.before
     ∙ ap (λ (l : List ℕ). take at old ++ l) (drop_more c at 0 (omega (arith, torn.no_shorter)) ∙ ap (λ (l : List ℕ). get_or c at 0 ∷ l) torn.after)
@@ -15,8 +15,8 @@ pub one_written : (old new : List ℕ) (at byte : ℕ) → Holds old at (byte �
 one_written old new at byte holds = holds ∙ append_assoc (take at old) (byte ∷ []) (drop (at + 1) old)
 
 -- a file whose part from here on is torn keeps its front
-pub end_torn : (old c : List ℕ) (n : ℕ) → IsTorn (length old) n old c → c ≡ old ++ drop (length old) c
-end_torn old c n torn =
+pub end_torn : {tears : ℕ → Type 0} (old c bytes : List ℕ) → IsTorn tears (length old) bytes old c → c ≡ old ++ drop (length old) c
+end_torn old c bytes torn =
     sym (take-append-drop (length old) c)
     ∙ ap (λ (l : List ℕ). l ++ drop (length old) c) (torn.before ∙ take_all (length old) old (omega arith))
 

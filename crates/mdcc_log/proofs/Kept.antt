@@ -17,7 +17,7 @@ read_is ps gate bytes read =
 same_payloads : (ps qs : List (List ℕ)) (bytes : List ℕ) → read_log bytes ≡ Ok ps → read_log bytes ≡ Ok qs → ps ≡ qs
 same_payloads ps qs bytes one two = cc
 
-not_open : (gate : ℕ) (rest : List ℕ) → gate ≢ 1 → is_open (gate ∷ rest) ≡ false
+pub not_open : (gate : ℕ) (rest : List ℕ) → gate ≢ 1 → is_open (gate ∷ rest) ≡ false
 not_open gate rest shut = grind (arith, nat_tests)
 
 -- the same payloads stand before the same gate
@@ -48,19 +48,19 @@ end_changed : (qs : List (List ℕ)) (gate : ℕ) (bytes c : List ℕ) (at_gate 
 end_changed qs gate bytes c at_gate rest short there change =
     record { short = short; file = inr (change.rest, change.is ∙ ap (λ (l : List ℕ). l ++ 0 ∷ change.rest) there.front) }
 
-closed_kept : (qs : List (List ℕ)) (gate : ℕ) (bytes c rest : List ℕ) → IsShut qs bytes → Aligned qs gate bytes 0 rest → MayRepair gate bytes c → IsShut qs c
+closed_kept : {tears : ℕ → Type 0} (qs : List (List ℕ)) (gate : ℕ) (bytes c rest : List ℕ) → IsShut qs bytes → Aligned qs gate bytes 0 rest → MayRepair tears gate bytes c → IsShut qs c
 closed_kept qs gate bytes c rest shut there (inl same) = subst (IsShut qs) (sym same) shut
 closed_kept qs gate bytes c rest shut there (inr (inl change)) = absurd (change.was there.at)
 closed_kept qs gate bytes c rest shut there (inr (inr change)) = end_changed qs gate bytes c 0 rest shut.short there change
 
 -- a closed log stays one of the same payloads
-pub shut_stays : (ps qs : List (List ℕ)) (gate : ℕ) (bytes c : List ℕ) → 9 < length bytes → IsRead ps gate bytes → IsShut qs bytes → MayRepair gate bytes c → IsShut qs c
+pub shut_stays : {tears : ℕ → Type 0} (ps qs : List (List ℕ)) (gate : ℕ) (bytes c : List ℕ) → 9 < length bytes → IsRead ps gate bytes → IsShut qs bytes → MayRepair tears gate bytes c → IsShut qs c
 shut_stays ps qs gate bytes c long read shut may = elim shut.file [
   | inl fresh ↦ absurd (omega (arith, fresh.1))
   | inr closed ↦ closed_kept qs gate bytes c closed.0 shut (aligned ps qs gate bytes 0 closed.0 read shut.short closed.1 (omega arith)) may
 ]
 
-undecided_kept : (qs : List (List ℕ)) (p : List ℕ) (gate : ℕ) (bytes c : List ℕ) (u : IsUndecided qs p bytes) → Aligned qs gate bytes u.gate (frame_body p ++ 0 ∷ []) → MayRepair gate bytes c → IsBetween qs p c
+undecided_kept : {tears : ℕ → Type 0} (qs : List (List ℕ)) (p : List ℕ) (gate : ℕ) (bytes c : List ℕ) (u : IsUndecided qs p bytes) → Aligned qs gate bytes u.gate (frame_body p ++ 0 ∷ []) → MayRepair tears gate bytes c → IsBetween qs p c
 undecided_kept qs p gate bytes c u there (inl same) = inr (subst (IsUndecided qs p) (sym same) u)
 undecided_kept qs p gate bytes c u there (inr (inl change)) = inr (record {
   short = u.short;
@@ -74,19 +74,19 @@ undecided_kept qs p gate bytes c u there (inr (inr change)) = inl (end_changed q
 open_is_more : (qs : List (List ℕ)) (p bytes : List ℕ) (u : IsUndecided qs p bytes) → u.gate ≡ 1 → bytes ≡ log_bytes (qs ++ p ∷ [])
 open_is_more qs p bytes u is = u.file ∙ ap (λ (g : ℕ). log_front qs ++ g ∷ (frame_body p ++ 0 ∷ [])) is ∙ sym (front_of_more qs p (0 ∷ []))
 
-opened_kept : (qs : List (List ℕ)) (p : List ℕ) (gate : ℕ) (bytes c : List ℕ) → IsBetween qs p bytes → Aligned (qs ++ p ∷ []) gate bytes 0 [] → MayRepair gate bytes c → IsBetween qs p c
+opened_kept : {tears : ℕ → Type 0} (qs : List (List ℕ)) (p : List ℕ) (gate : ℕ) (bytes c : List ℕ) → IsBetween qs p bytes → Aligned (qs ++ p ∷ []) gate bytes 0 [] → MayRepair tears gate bytes c → IsBetween qs p c
 opened_kept qs p gate bytes c was there (inl same) = subst (IsBetween qs p) (sym same) was
 opened_kept qs p gate bytes c was there (inr (inl change)) = absurd (change.was there.at)
 opened_kept qs p gate bytes c was there (inr (inr change)) = absurd (omega (arith, change.longer, there.size))
 
-undecided_stays : (ps qs : List (List ℕ)) (p : List ℕ) (gate : ℕ) (bytes c : List ℕ) → IsRead ps gate bytes → IsUndecided qs p bytes → MayRepair gate bytes c → IsBetween qs p c
+undecided_stays : {tears : ℕ → Type 0} (ps qs : List (List ℕ)) (p : List ℕ) (gate : ℕ) (bytes c : List ℕ) → IsRead ps gate bytes → IsUndecided qs p bytes → MayRepair tears gate bytes c → IsBetween qs p c
 undecided_stays ps qs p gate bytes c read u may = elim (cases_eq u.gate 1) [
   | inl is ↦ opened_kept qs p gate bytes c (inr u) (aligned ps (qs ++ p ∷ []) gate bytes 0 [] read (short_more qs p u.short u.fits) (open_is_more qs p bytes u is) (omega arith)) may
   | inr is_not ↦ undecided_kept qs p gate bytes c u (aligned ps qs gate bytes u.gate (frame_body p ++ 0 ∷ []) read u.short u.file is_not) may
 ]
 
 -- what a crash of an append left stays so
-pub between_stays : (ps qs : List (List ℕ)) (p : List ℕ) (gate : ℕ) (bytes c : List ℕ) → 9 < length bytes → IsRead ps gate bytes → IsBetween qs p bytes → MayRepair gate bytes c → IsBetween qs p c
+pub between_stays : {tears : ℕ → Type 0} (ps qs : List (List ℕ)) (p : List ℕ) (gate : ℕ) (bytes c : List ℕ) → 9 < length bytes → IsRead ps gate bytes → IsBetween qs p bytes → MayRepair tears gate bytes c → IsBetween qs p c
 between_stays ps qs p gate bytes c long read (inl shut) may = inl (shut_stays ps qs gate bytes c long read shut may)
 between_stays ps qs p gate bytes c long read (inr u) may = undecided_stays ps qs p gate bytes c read u may
 

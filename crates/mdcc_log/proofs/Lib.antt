@@ -1,3 +1,4 @@
+mod Again
 mod Appends
 mod Bytes
 mod Calls

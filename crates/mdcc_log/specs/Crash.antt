@@ -35,10 +35,11 @@ pub record IsRead (payloads : List (List ℕ)) (last_gate : ℕ) (bytes : List �
   pub shut : is_open (drop last_gate bytes) ≡ false
   pub short : AreShort payloads
 
--- the bytes with another last gate, where it was not closed
-pub record IsGateChanged (gate : ℕ) (bytes c : List ℕ) : Type 0 where
+-- the bytes with another last gate, where it was not closed: it is closed, or torn
+pub record IsGateChanged (tears : ℕ → Type 0) (gate : ℕ) (bytes c : List ℕ) : Type 0 where
   pub was : slice_index bytes gate ≢ 0
   pub becomes : ℕ
+  pub from : (becomes ≡ slice_index bytes gate) ⊎ ((becomes ≡ 0) ⊎ tears becomes)
   pub is : c ≡ take gate bytes ++ becomes ∷ drop (gate + 1) bytes
 
 -- the bytes with a closed last gate and something behind it, where something was
@@ -48,8 +49,22 @@ pub record IsEndChanged (gate : ℕ) (bytes c : List ℕ) : Type 0 where
   pub is : c ≡ take gate bytes ++ 0 ∷ rest
 
 -- what a crash may leave while the last gate is closed and the end is cut off
-abbrev pub MayRepair : ℕ → List ℕ → List ℕ → Type 0
-MayRepair gate bytes c = (c ≡ bytes) ⊎ (IsGateChanged gate bytes c ⊎ IsEndChanged gate bytes c)
+abbrev pub MayRepair : (ℕ → Type 0) → ℕ → List ℕ → List ℕ → Type 0
+MayRepair tears gate bytes c = (c ≡ bytes) ⊎ (IsGateChanged tears gate bytes c ⊎ IsEndChanged gate bytes c)
+
+-- a log whose last gate was neither open nor closed, with that gate open
+pub record IsTornOpen (bytes c : List ℕ) : Type 0 where
+  pub payloads : List (List ℕ)
+  pub short : AreShort payloads
+  pub gate : ℕ
+  pub rest : List ℕ
+  pub was : bytes ≡ log_front payloads ++ gate ∷ rest
+  pub torn : (gate ≢ 0) × (gate ≢ 1)
+  pub is : c ≡ log_front payloads ++ 1 ∷ rest
+
+-- The same is read again; or a last gate that was neither open nor closed is open, where a byte may be torn to 1.
+abbrev pub ReadsAgain : (ℕ → Type 0) → List ℕ → List ℕ → Type 0
+ReadsAgain tears bytes c = (read_log c ≡ read_log bytes) ⊎ (IsTornOpen bytes c × tears 1)
 
 -- what opening reads of what a crash leaves
 abbrev pub ShutIsRead : Type 0

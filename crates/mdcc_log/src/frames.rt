@@ -3,7 +3,7 @@ ghost use Rattle.std.specs.Prelude.{◌≡◌, ◌≤◌, ◌<◌, ◌+◌, ◌-
 ghost use Rattle.mdcc_base.specs.Causes.{Rose, HasCause};
 ghost use Rattle.mdcc_disks.specs.Disks.{Only, Within, KeepsOthers, LeavesOnly};
 ghost use Rattle.mdcc_log.specs.Log.{frame_body, read_log, log_limit, payload_limit};
-ghost use Rattle.mdcc_log.specs.Crash.{IsShut, IsBetween, MayRepair};
+ghost use Rattle.mdcc_log.specs.Crash.{IsShut, IsBetween, MayRepair, ReadsAgain};
 ghost use Rattle.mdcc_log.specs.Frames.{IsAtRest, IsSettled, append_calls, MadeSome, added};
 
 use crate::LogFault;
@@ -81,7 +81,7 @@ fn close_gate<D: Disks>(disks: &mut D, place: u8, bytes: &[u8], gate: usize) -> 
     ensures durable { IsTrue (D.disk disks.old place).told
         → OnOk result (Only (D.disk disks.new place).bytes (D.may_leave disks.new place)) }
     ensures any_moment { IsTrue (D.disk disks.old place).told
-        → LeavesOnly D.moment D.left_since disks.old disks.new place (MayRepair gate bytes.now) }
+        → LeavesOnly D.moment D.left_since disks.old disks.new place (MayRepair D.tears gate bytes.now) }
     ensures others { KeepsOthers D.disk D.may_leave D.moment D.left_since disks.old disks.new place }
     ensures cause { HasCause (D.disk disks.old place).faults (D.disk disks.new place).faults result }
 {
@@ -103,7 +103,7 @@ fn cut_end<D: Disks>(disks: &mut D, place: u8, bytes: &[u8], gate: usize) -> Res
     ensures durable { IsTrue (D.disk disks.old place).told
         → OnOk result (Only (D.disk disks.new place).bytes (D.may_leave disks.new place)) }
     ensures any_moment { IsTrue (D.disk disks.old place).told
-        → LeavesOnly D.moment D.left_since disks.old disks.new place (MayRepair gate bytes.now) }
+        → LeavesOnly D.moment D.left_since disks.old disks.new place (MayRepair D.tears gate bytes.now) }
     ensures others { KeepsOthers D.disk D.may_leave D.moment D.left_since disks.old disks.new place }
     ensures cause { HasCause (D.disk disks.old place).faults (D.disk disks.new place).faults result }
 {
@@ -125,7 +125,7 @@ fn repair<D: Disks>(disks: &mut D, place: u8, bytes: &[u8], gate: usize) -> Resu
     ensures durable { IsTrue (D.disk disks.old place).told
         → OnOk result (Only (D.disk disks.new place).bytes (D.may_leave disks.new place)) }
     ensures any_moment { IsTrue (D.disk disks.old place).told
-        → LeavesOnly D.moment D.left_since disks.old disks.new place (MayRepair gate bytes.now) }
+        → LeavesOnly D.moment D.left_since disks.old disks.new place (MayRepair D.tears gate bytes.now) }
     ensures others { KeepsOthers D.disk D.may_leave D.moment D.left_since disks.old disks.new place }
     ensures cause { HasCause (D.disk disks.old place).faults (D.disk disks.new place).faults result }
 {
@@ -153,6 +153,8 @@ fn recover<D: Disks>(
     ensures any_moment_between { (payloads : List (List ℕ)) (payload : List ℕ) → IsTrue (D.disk disks.old place).told
         → IsBetween payloads payload bytes.now
         → LeavesOnly D.moment D.left_since disks.old disks.new place (IsBetween payloads payload) }
+    ensures any_moment_again { IsTrue (D.disk disks.old place).told
+        → LeavesOnly D.moment D.left_since disks.old disks.new place (ReadsAgain D.tears bytes.now) }
     ensures others { KeepsOthers D.disk D.may_leave D.moment D.left_since disks.old disks.new place }
     ensures disk_fault { IsErrOf result LogFault.DiskFault
         → Rose (D.disk disks.old place).faults (D.disk disks.new place).faults }
@@ -234,8 +236,20 @@ impl Frames {
             → IfOk result (λ r. IsSettled r.0.size (D.disk disks.new place).bytes (D.may_leave disks.new place)) }
         ensures place { IfOk result (λ r. r.0.place ≡ place) }
 
-        // After a crash at any moment of it, opening gives the same payloads; and where a frame stands behind a last gate that
-        // is neither open nor closed, as a crash of an append may leave it, those with that one or without.
+        // After a crash at any moment of it, opening reads the same again, whatever stood there; but a last gate that was neither
+        // open nor closed, as a crash of an append may leave it, may be open where a byte may be torn to 1.
+        ensures any_moment_again { IsTrue (D.disk disks.old place).told
+            → LeavesOnly D.moment D.left_since disks.old disks.new place
+            (λ c. D.may_leave disks.old place c ⊎ ReadsAgain D.tears (D.disk disks.old place).bytes c) }
+
+        // Where no byte is torn to 1, opening gives the same payloads after a crash at any moment of it.
+        ensures any_moment_same { (payloads : List (List ℕ)) → IsTrue (D.disk disks.old place).told
+            → (D.tears 1 → ⊥)
+            → Within (λ c. read_log c ≡ Ok payloads) (D.may_leave disks.old place)
+            → LeavesOnly D.moment D.left_since disks.old disks.new place (λ c. read_log c ≡ Ok payloads) }
+
+        // However often it crashes, a closed log stays one of its payloads, and what a crash of an append left stays a log of
+        // the payloads from before it, or of those and the new one.
         ensures any_moment { (payloads : List (List ℕ)) → IsTrue (D.disk disks.old place).told
             → Within (IsShut payloads) (D.may_leave disks.old place)
             → LeavesOnly D.moment D.left_since disks.old disks.new place (IsShut payloads) }

@@ -9,6 +9,6 @@ mod steps;
 
 pub use fault::LogFault;
 pub use frames::{Frames, LOG_LIMIT};
-pub use laws::{between_is_read, rest_is_read, shut_is_read};
+pub use laws::{between_is_read, no_gate_is_torn_open, rest_is_read, shut_is_read};
 pub use mdcc_disks::{Disks, MemoryDisks};
 pub use reading::PAYLOAD_LIMIT;

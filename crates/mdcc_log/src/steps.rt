@@ -27,7 +27,7 @@ pub fn write_through<D: Disks>(
         → OnOk result (Only (D.disk disks.new place).bytes (D.may_leave disks.new place)) }
     ensures any_moment { IsTrue (D.disk disks.old place).told
         → LeavesOnly D.moment D.left_since disks.old disks.new place
-        (IsTorn offset (length bytes.now) (D.disk disks.old place).bytes) }
+        (IsTorn D.tears offset bytes.now (D.disk disks.old place).bytes) }
     ensures others { KeepsOthers D.disk D.may_leave D.moment D.left_since disks.old disks.new place }
     ensures cause { HasCause (D.disk disks.old place).faults (D.disk disks.new place).faults result }
     ensures calls { MadeSome (Write offset bytes.now ∷ Sync ∷ [])

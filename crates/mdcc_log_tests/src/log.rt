@@ -7,6 +7,14 @@ use std::test::Fail;
 
 const IMAGES: [Image; 3] = [Image::Lost, Image::Kept, Image::Torn];
 
+// No crash behind a call that fails, and each crash.
+const CRASHES: [Option<Image>; 4] = [
+    None,
+    Some(Image::Lost),
+    Some(Image::Kept),
+    Some(Image::Torn),
+];
+
 // Of each call of an opening and of three appends, by its number: how many payloads were acknowledged when it failed, and how
 // many are read where all that was written is kept. An opening of an empty disk makes five calls, and an append four.
 const CALLS: [(u32, usize, usize); 17] = [
@@ -29,9 +37,29 @@ const CALLS: [(u32, usize, usize); 17] = [
     (17, 2, 3),
 ];
 
-// Whether these are the first so many of three payloads.
+// Where an append behind those stopped and what a crash left of it: the number of its call, the image, how many calls the
+// opening behind it makes, and how many payloads are read. Before it come 17 calls as above and three of an opening that has
+// nothing to repair. The opening makes these: sync, length, read; where the last gate is torn write, sync; where bytes stand
+// behind it cut, sync.
+const LEFT: [(u32, Image, u32, usize); 8] = [
+    (21, Image::Lost, 3, 3),
+    (21, Image::Kept, 5, 3),
+    (21, Image::Torn, 5, 3),
+    (22, Image::Kept, 5, 3),
+    (23, Image::Lost, 5, 3),
+    (23, Image::Kept, 3, 4),
+    (23, Image::Torn, 7, 3),
+    (24, Image::Torn, 7, 3),
+];
+
+// Whether these are the first so many of four payloads.
 fn are_first(payloads: &[HeapList<u8>], count: usize) -> bool {
-    let all = [b"a".as_slice(), b"bc".as_slice(), b"def".as_slice()];
+    let all = [
+        b"a".as_slice(),
+        b"bc".as_slice(),
+        b"def".as_slice(),
+        b"ghij".as_slice(),
+    ];
     payloads.len() == count
         && payloads
             .iter()
@@ -112,8 +140,21 @@ fn a_crash_may_come_in_each_call(rt: HostRuntime) -> Result<(), Fail> {
     Ok(())
 }
 
-// A log of three payloads, as such an image of what an append of one more left when it stopped in the call of this number. The
-// calls before that append are 20: 17 as above, and three of an opening that has nothing to repair.
+#[test]
+fn what_was_acknowledged_is_read_after_each_crash(rt: HostRuntime) -> Result<(), Fail> {
+    let alloc = rt.alloc();
+    for image in IMAGES {
+        let mut disks = MemoryDisks::new(alloc, 1, &[])?;
+        let mut done = 0;
+        append_three(alloc, &mut disks, &mut done)?;
+        disks.crash(1, image);
+        let (_log, payloads) = Frames::open(alloc, &mut disks, 1)?;
+        assert!(rt; are_first(payloads.as_slice(), 3));
+    }
+    Ok(())
+}
+
+// A log of three payloads, as such an image of what an append of one more left when it stopped in the call of this number.
 fn left_behind(alloc: Global, call: u32, image: Image) -> Result<MemoryDisks, LogFault> {
     let Ok(mut disks) = MemoryDisks::new(alloc, 1, &[call]) else {
         return Err(LogFault::Memory);
@@ -126,34 +167,41 @@ fn left_behind(alloc: Global, call: u32, image: Image) -> Result<MemoryDisks, Lo
     Ok(disks)
 }
 
-// Opens the log, with the call of this number failing, and crashes. Then three payloads are read.
-fn reads_three(
+// Opens the log, with the call of this number failing, and crashes. Tells whether that opening failed, and whether the next
+// one gives so many payloads and leaves a file of its size.
+fn opens_twice(
     alloc: Global,
     disks: &mut MemoryDisks,
     call: u32,
-    image: Image,
-) -> Result<bool, LogFault> {
+    crash: Option<Image>,
+    count: usize,
+) -> Result<(bool, bool), LogFault> {
     disks.arm(1, call);
     let failed = Frames::open(alloc, disks, 1).is_err();
-    disks.crash(1, image);
-    let (_log, payloads) = Frames::open(alloc, disks, 1)?;
-    Ok(failed && are_first(payloads.as_slice(), 3))
+    if let Some(image) = crash {
+        disks.crash(1, image);
+    }
+    let (log, payloads) = Frames::open(alloc, disks, 1)?;
+    let cut = disks.bytes(1).len() as u64 == log.size();
+    Ok((failed, cut && are_first(payloads.as_slice(), count)))
 }
 
 #[test]
-fn an_opening_that_repairs_may_fail_and_crash_in_each_call(rt: HostRuntime) -> Result<(), Fail> {
+fn an_opening_may_fail_and_crash_in_each_call(rt: HostRuntime) -> Result<(), Fail> {
     let alloc = rt.alloc();
-    for image in IMAGES {
-        // A frame behind a closed gate: sync, length, read, cut, sync.
-        for call in 1..6 {
-            let mut disks = left_behind(alloc, 22, Image::Kept)?;
-            assert!(rt; reads_three(alloc, &mut disks, call, image)?);
+    for (stopped, image, calls, count) in LEFT {
+        for crash in CRASHES {
+            for call in 1..calls + 1 {
+                let mut disks = left_behind(alloc, stopped, image)?;
+                let outcome = opens_twice(alloc, &mut disks, call, crash, count)?;
+                assert_eq!(rt; outcome, (true, true));
+            }
         }
-        // A gate that is torn: sync, length, read, write, sync, cut, sync.
-        for call in 1..8 {
-            let mut disks = left_behind(alloc, 23, Image::Torn)?;
-            assert!(rt; reads_three(alloc, &mut disks, call, image)?);
-        }
+
+        // It makes no more calls than these.
+        let mut disks = left_behind(alloc, stopped, image)?;
+        let outcome = opens_twice(alloc, &mut disks, calls + 1, None, count);
+        assert_eq!(rt; outcome, Err(LogFault::DiskFault));
     }
     Ok(())
 }

@@ -1,4 +1,4 @@
-use Rattle.std.proofs.Common.{◌-◌, ◌∷◌, [], List, ℕ, length, ◌∙◌, ap, subst, Option}
+use Rattle.std.proofs.Common.{◌-◌, ◌∷◌, [], List, ℕ, ◌∙◌, ap, subst, Option}
 use Rattle.mdcc_disks.specs.Disks.{Holds, DiskCall}
 use Rattle.mdcc_disks.specs.Disks.DiskCall.{Write, Sync}
 use Rattle.mdcc_log.specs.Crash.{IsBetween}
@@ -10,7 +10,7 @@ use Rattle.mdcc_log.proofs.frames.append_frame.Goals as goal
 
 pub returns-in_err-write_through-clause-any_moment : goal.returns-in_err-write_through-clause-any_moment
 returns-in_err-write_through-clause-any_moment g c ps told rest =
-    weakened (IsBetween ps c.args.payload.now) (c.write_through.ensures.any_moment told) (λ x torn. stage_leaves ps c.args.payload.now c.args.size (length c.args.body.now) _ _ x rest torn)
+    weakened (IsBetween ps c.args.payload.now) (c.write_through.ensures.any_moment told) (λ x torn. stage_leaves ps c.args.payload.now c.args.size c.args.body.now _ _ x rest torn)
 
 pub returns-in_err-write_through-2-clause-any_moment : goal.returns-in_err-write_through-2-clause-any_moment
 returns-in_err-write_through-2-clause-any_moment g c ps told rest =
@@ -18,7 +18,7 @@ returns-in_err-write_through-2-clause-any_moment g c ps told rest =
     let holds = subst (λ b. Holds (g.D.Disks.disk c.args.disks.now c.args.place).bytes c.args.size b mid) c.requires.body (c.in_ok-write_through.ensures.written told) in
     let is = stage_makes ps c.args.payload.now c.args.size _ _ mid rest holds in
     both
-    (weakened (IsBetween ps c.args.payload.now) (c.write_through.ensures.any_moment told) (λ x torn. stage_leaves ps c.args.payload.now c.args.size (length c.args.body.now) _ _ x rest torn))
+    (weakened (IsBetween ps c.args.payload.now) (c.write_through.ensures.any_moment told) (λ x torn. stage_leaves ps c.args.payload.now c.args.size c.args.body.now _ _ x rest torn))
     (weakened (IsBetween ps c.args.payload.now) (c.write_through-2.ensures.any_moment (c.write_through.ensures.others.told ∙ told)) (λ x torn. gate_leaves ps c.args.payload.now c.args.size _ mid _ x rest c.requires.short is torn))
 
 pub returns-clause-any_moment : goal.returns-clause-any_moment
@@ -27,7 +27,7 @@ returns-clause-any_moment g c ps told rest =
     let holds = subst (λ b. Holds (g.D.Disks.disk c.args.disks.now c.args.place).bytes c.args.size b mid) c.requires.body (c.in_ok-write_through.ensures.written told) in
     let is = stage_makes ps c.args.payload.now c.args.size _ _ mid rest holds in
     both
-    (weakened (IsBetween ps c.args.payload.now) (c.write_through.ensures.any_moment told) (λ x torn. stage_leaves ps c.args.payload.now c.args.size (length c.args.body.now) _ _ x rest torn))
+    (weakened (IsBetween ps c.args.payload.now) (c.write_through.ensures.any_moment told) (λ x torn. stage_leaves ps c.args.payload.now c.args.size c.args.body.now _ _ x rest torn))
     (weakened (IsBetween ps c.args.payload.now) (c.write_through-2.ensures.any_moment (c.write_through.ensures.others.told ∙ told)) (λ x torn. gate_leaves ps c.args.payload.now c.args.size _ mid _ x rest c.requires.short is torn))
 
 pub returns-clause-acknowledged : goal.returns-clause-acknowledged

@@ -7,8 +7,8 @@ use Rattle.mdcc_log.proofs.frames.cut_end.Goals as goal
 
 pub returns-then-bytes-gate-clause-any_moment : goal.returns-then-bytes-gate-clause-any_moment
 returns-then-bytes-gate-clause-any_moment g c told =
-    started g.D.Disks.moment g.D.Disks.left_since c.args.disks.now c.args.place (MayRepair c.args.gate c.args.bytes.now) (λ x left.
-    closed_leaves c.args.gate c.args.bytes.now x c.requires.gate (c.requires.durable told x (g.met.D.Disks.only_now c.args.disks.now c.args.place x left) ∙ c.requires.file told))
+    started g.D.Disks.moment g.D.Disks.left_since c.args.disks.now c.args.place (MayRepair g.D.Disks.tears c.args.gate c.args.bytes.now) (λ x left.
+    closed_leaves g.D.Disks.tears c.args.gate c.args.bytes.now x c.requires.gate (c.requires.durable told x (g.met.D.Disks.only_now c.args.disks.now c.args.place x left) ∙ c.requires.file told))
 
 pub returns-clause-cut : goal.returns-clause-cut
 returns-clause-cut g c told =
@@ -19,5 +19,5 @@ returns-clause-cut g c told =
 pub returns-clause-any_moment : goal.returns-clause-any_moment
 returns-clause-any_moment g c told =
     let longer : c.args.gate + 1 < length c.args.bytes.now = omega arith in
-    weakened (MayRepair c.args.gate c.args.bytes.now) (c.cut_through.ensures.any_moment told) (λ x cut.
-    cut_leaves c.args.gate c.args.bytes.now (drop (c.args.gate + 1) c.args.bytes.now) x c.requires.gate longer (subst (λ l. IsCut (c.args.gate + 1) l x) (c.requires.file told) cut))
+    weakened (MayRepair g.D.Disks.tears c.args.gate c.args.bytes.now) (c.cut_through.ensures.any_moment told) (λ x cut.
+    cut_leaves g.D.Disks.tears c.args.gate c.args.bytes.now (drop (c.args.gate + 1) c.args.bytes.now) x c.requires.gate longer (subst (λ l. IsCut (c.args.gate + 1) l x) (c.requires.file told) cut))

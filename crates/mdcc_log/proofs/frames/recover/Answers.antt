@@ -1,8 +1,27 @@
 use Rattle.std.proofs.Common.{arith}
-use Rattle.mdcc_log.specs.Crash.{IsShut, IsBetween}
+use Rattle.mdcc_log.specs.Crash.{IsShut, IsBetween, ReadsAgain}
+use Rattle.mdcc_log.proofs.Again.{fresh_again, repaired_again}
 use Rattle.mdcc_log.proofs.Kept.{read_is, shut_stays, between_stays, fresh_stays, fresh_between}
 use Rattle.mdcc_log.proofs.Moments.{weakened}
 use Rattle.mdcc_log.proofs.frames.recover.Goals as goal
+
+pub returns-in_err-begin-clause-any_moment_again : goal.returns-in_err-begin-clause-any_moment_again
+returns-in_err-begin-clause-any_moment_again g c told =
+    weakened (ReadsAgain g.D.Disks.tears c.args.bytes.now) (c.begin.ensures.any_moment told) (λ x few. fresh_again g.D.Disks.tears c.args.bytes.now x (omega arith) few)
+
+pub returns-then-bytes-le9-clause-any_moment_again : goal.returns-then-bytes-le9-clause-any_moment_again
+returns-then-bytes-le9-clause-any_moment_again g c told =
+    weakened (ReadsAgain g.D.Disks.tears c.args.bytes.now) (c.begin.ensures.any_moment told) (λ x few. fresh_again g.D.Disks.tears c.args.bytes.now x (omega arith) few)
+
+pub returns-in_err-repair-clause-any_moment_again : goal.returns-in_err-repair-clause-any_moment_again
+returns-in_err-repair-clause-any_moment_again g c told =
+    weakened (ReadsAgain g.D.Disks.tears c.args.bytes.now) (c.repair.ensures.any_moment told) (λ x may.
+    repaired_again g.D.Disks.tears c.in_ok-payloads.payloads.items c.in_ok-payloads.gate c.args.bytes.now c.in_ok-payloads.ensures.read x may)
+
+pub returns-clause-any_moment_again : goal.returns-clause-any_moment_again
+returns-clause-any_moment_again g c told =
+    weakened (ReadsAgain g.D.Disks.tears c.args.bytes.now) (c.repair.ensures.any_moment told) (λ x may.
+    repaired_again g.D.Disks.tears c.in_ok-payloads.payloads.items c.in_ok-payloads.gate c.args.bytes.now c.in_ok-payloads.ensures.read x may)
 
 pub returns-in_err-begin-clause-any_moment : goal.returns-in_err-begin-clause-any_moment
 returns-in_err-begin-clause-any_moment g c ps told shut =
