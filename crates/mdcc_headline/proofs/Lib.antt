@@ -2,4 +2,3 @@ pub mod Ends
 pub mod Lines
 pub mod Reported
 pub mod Runs
-pub mod Short

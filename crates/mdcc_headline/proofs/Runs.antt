@@ -1,9 +1,10 @@
 -- Every run is reported, and so is every replay.
-use Rattle.std.proofs.Common.{List, subst, sym, ℕ, ◌-◌, ◌≡◌, ◌≤◌, length}
-use Rattle.std.specs.Prelude.{map, ◌^◌}
+use Rattle.std.proofs.Common.{List, length, refl, subst, sym, true, ℕ, ◌≡◌}
+use Rattle.std.specs.Prelude.{map}
 use Rattle.mdcc_base.specs.Counts.{number_of}
 use Rattle.mdcc_option.specs.declared.cluster.Cluster.{Cluster}
-use Rattle.mdcc_protocol.specs.Built.{built}
+use Rattle.mdcc_protocol.specs.Built as today
+use Rattle.mdcc_protocol.specs.Built.{Built}
 use Rattle.mdcc_protocol.specs.Header.{all_of}
 use Rattle.mdcc_protocol.specs.IsCluster.{IsCluster}
 use Rattle.mdcc_protocol.specs.Ledger.{committed_of, outcome_of, txs_begun}
@@ -12,25 +13,21 @@ use Rattle.mdcc_protocol.specs.declared.events.Event.{Event}
 use Rattle.mdcc_agreement.specs.Laws.{IsLedger}
 use Rattle.mdcc_history.proofs.CommitsRun.{commits_run}
 use Rattle.mdcc_trace.proofs.Laws as trace
+use Rattle.mdcc_trace_limits.proofs.Short as limits
 use Rattle.mdcc_reports.proofs.Headers.{header-cluster}
 use Rattle.mdcc_reports.proofs.Origins.{runs-tell}
 use Rattle.mdcc_reports.proofs.Replays.{replayed}
-use Rattle.mdcc_headline.specs.Headline.{IsHeadline, IsReportedRun}
+use Rattle.mdcc_headline.specs.Headline.{IsHeadline, IsReportedRun, IsReplayReported}
 use Rattle.mdcc_headline.proofs.Ends.{commits-counted}
 use Rattle.mdcc_headline.proofs.Lines.{lines-told}
-use Rattle.mdcc_headline.proofs.Short.{short-ledger}
 
 -- the premise of all laws of ledgers
-abbrev pub ShortLedgers : Type 0
-ShortLedgers = (cluster : Cluster) (events : List Event) → IsCluster cluster → length (run_of built (first_world cluster) events).world.ledger ≤ 2 ^ 64 - 1
+run-ledger : (built : Built) → built.limit_on_events ≡ true → (cluster : Cluster) (events : List Event) → IsCluster cluster → IsLedger cluster (run_of built (first_world cluster) events).world.ledger
+run-ledger built limited cluster events is = record { of_cluster = is; allowed = trace.allowed built cluster is events; short = limits.ledger-short built limited cluster is events }
 
-module _ (short : ShortLedgers) where
-  pub run-ledger : (cluster : Cluster) (events : List Event) → IsCluster cluster → IsLedger cluster (run_of built (first_world cluster) events).world.ledger
-  run-ledger cluster events is = record { of_cluster = is; allowed = trace.allowed built cluster is events; short = short cluster events is }
-
-pub run-reported : (cluster : Cluster) (events : List Event) → IsCluster cluster → IsReportedRun cluster (run_of built (first_world cluster) events)
-run-reported cluster events is =
-    let h = run-ledger short-ledger cluster events is in
+pub run-reported : (built : Built) → built.limit_on_events ≡ true → (cluster : Cluster) (events : List Event) → IsCluster cluster → IsReportedRun cluster (run_of built (first_world cluster) events)
+run-reported built limited cluster events is =
+    let h = run-ledger built limited cluster events is in
     let told = runs-tell built (first_world cluster) events in
     record {
       ledger_itself = h;
@@ -42,8 +39,11 @@ run-reported cluster events is =
           (sym told.0.same) (commits-counted cluster (run_of built (first_world cluster) events).world.ledger h);
     }
 
-pub headline : (input : List ℕ) → IsHeadline input
-headline input header accepted =
+pub replay-reported : (built : Built) → built.limit_on_events ≡ true → (input : List ℕ) → IsReplayReported built input
+replay-reported built limited input header accepted =
     let is = header-cluster built (all_of input) header accepted.header_itself in
     let run = replayed built input header accepted in
-    (run.0, record { of_cluster = is; replayed = run.1; reported = λ first rest e. run-reported header.0 first is })
+    (run.0, record { of_cluster = is; replayed = run.1; reported = λ first rest e. run-reported built limited header.0 first is })
+
+pub headline : (input : List ℕ) → IsHeadline input
+headline input = replay-reported today.built refl input

@@ -1,9 +1,10 @@
 -- What a replay promises.
 use Rattle.std.specs.List.{AllByRecursion}
-use Rattle.std.specs.Prelude.{List, ℕ, ◌++◌, ◌≡◌}
+use Rattle.std.specs.Prelude.{List, true, ℕ, ◌++◌, ◌≡◌}
 use Rattle.mdcc_option.specs.OneCopy.{IsRun}
 use Rattle.mdcc_option.specs.declared.cluster.Cluster.{Cluster}
-use Rattle.mdcc_protocol.specs.Built.{built}
+use Rattle.mdcc_protocol.specs.Built as today
+use Rattle.mdcc_protocol.specs.Built.{Built}
 use Rattle.mdcc_protocol.specs.Header.{Left}
 use Rattle.mdcc_protocol.specs.IsCluster.{IsCluster}
 use Rattle.mdcc_protocol.specs.Ledger.{Entry, committed_of}
@@ -25,16 +26,25 @@ pub record IsReport (cluster : Cluster) (ledger : List Entry) (lines : List Line
 abbrev pub IsReportedRun : Cluster → Run → Type 0
 IsReportedRun cluster run = IsReport cluster run.world.ledger run.lines (end_line run.world)
 
--- so it is with every run of events from the first world on
+-- so it is with every run of events from the first world on, whatever rules are built, where the number of events is limited
 abbrev pub RunsAreReported : Type 0
-RunsAreReported = (cluster : Cluster) (events : List Event) → IsCluster cluster → IsReportedRun cluster (run_of built (first_world cluster) events)
+RunsAreReported =
+    (built : Built) → built.limit_on_events ≡ true → (cluster : Cluster) (events : List Event) → IsCluster cluster
+    → IsReportedRun cluster (run_of built (first_world cluster) events)
 
 -- a replay prints the run of these events; and so it is at the end and at every moment, after each of the events
-pub record IsReportedReplay (input : List ℕ) (header : Cluster × Left) (events : List Event) : Type 0 where
+pub record IsReportedReplay (built : Built) (input : List ℕ) (header : Cluster × Left) (events : List Event) : Type 0 where
   pub of_cluster : IsCluster header.0
   pub replayed : IsReplayed built input header events
   pub reported : (first rest : List Event) → events ≡ first ++ rest → IsReportedRun header.0 (run_of built (first_world header.0) first)
 
 -- where the input is not too long and its header is accepted, its replay prints the run of some events
+abbrev pub IsReplayReported : Built → List ℕ → Type 0
+IsReplayReported built input = (header : Cluster × Left) → IsAccepted built input header → (events : List Event) × IsReportedReplay built input header events
+
+abbrev pub ReplaysAreReported : Type 0
+ReplaysAreReported = (built : Built) → built.limit_on_events ≡ true → (input : List ℕ) → IsReplayReported built input
+
+-- so it is with the rules of today
 abbrev pub IsHeadline : List ℕ → Type 0
-IsHeadline input = (header : Cluster × Left) → IsAccepted built input header → (events : List Event) × IsReportedReplay input header events
+IsHeadline input = IsReplayReported today.built input

@@ -16,7 +16,7 @@ use Rattle.mdcc_protocol.specs.Schedule.{centre_of, above, numbers_from, updates
 use Rattle.mdcc_protocol.specs.Updates.{update_of}
 use Rattle.mdcc_protocol.specs.Words.{◌>>=◌, refused, part_at, parts_from, behind, end_at, word_at, word_end, not_empty, word_behind, count_of, key_of}
 use Rattle.mdcc_words.specs.Spelled.{update_text}
-use Rattle.mdcc_words.specs.Today.{built}
+use Rattle.mdcc_protocol.specs.Built.{built}
 use Rattle.mdcc_words.proofs.Parts.{part_len_is, place_within}
 use Rattle.mdcc_words.proofs.Seams.{bind_ok, guard_ok, part_seam, front_seam, behind_ok, end_ok, drop_all}
 use Rattle.mdcc_words.proofs.Spelled.{natural_spelled, count_spelled, key_spelled, update_spelled}

@@ -8,7 +8,7 @@ use Rattle.mdcc_protocol.specs.Updates.{update_of}
 use Rattle.mdcc_protocol.specs.Words.{◌>>=◌, part_at, not_empty, count_of}
 use Rattle.mdcc_sched.specs.Centres.{centre_above}
 use Rattle.mdcc_sched.specs.Numbers.{number_of_word}
-use Rattle.mdcc_words.specs.Today.{built}
+use Rattle.mdcc_protocol.specs.Built.{built}
 use Rattle.mdcc_words.proofs.Onto.{onto, onto_more}
 use Rattle.mdcc_words.proofs.Parts.{parts_left, parts_first}
 

@@ -8,7 +8,7 @@ use Rattle.mdcc_protocol.specs.Schedule.{line_of}
 use Rattle.mdcc_protocol.specs.declared.events.Event.{Event}
 use Rattle.mdcc_protocol.specs.declared.events.Event.TheVariants.{Read, Begin, Deliver, Settle, Tick, Crash, Restart, Stop}
 use Rattle.mdcc_words.specs.Spelled.{update_text}
-use Rattle.mdcc_words.specs.Today.{built}
+use Rattle.mdcc_protocol.specs.Built.{built}
 
 -- numbers with spaces between them
 abbrev pub numbers_text : List ℕ → List ℕ

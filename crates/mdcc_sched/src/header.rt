@@ -3,7 +3,7 @@ ghost use Rattle.std.specs.Prelude.{◌≡◌, ◌++◌, ◌∷◌, [], ◌+◌,
 ghost use Rattle.mdcc_option.specs.Bounds.{IsSchema, is_bound};
 ghost use Rattle.mdcc_protocol.specs.Header.{header_line, version_of, quorums_line, last_number, bound_line, bounds_lines, header_lines, header_of};
 ghost use Rattle.mdcc_protocol.specs.Words.{end_at};
-ghost use Rattle.mdcc_words.specs.Today.{built};
+ghost use Rattle.mdcc_protocol.specs.Built.{built};
 
 use crate::header_lines;
 use crate::left::Left;

@@ -6,7 +6,7 @@ ghost use Rattle.mdcc_protocol.specs.Words.{parts_from};
 ghost use Rattle.mdcc_sched.specs.Centres.{centre_above};
 ghost use Rattle.mdcc_sched.specs.Free.{is_memory};
 ghost use Rattle.mdcc_sched.specs.Numbers.{number_of_word};
-ghost use Rattle.mdcc_words.specs.Today.{built};
+ghost use Rattle.mdcc_protocol.specs.Built.{built};
 
 use crate::words::{not_empty, word_at};
 use mdcc_base::{Centre, HeapList};

@@ -3,7 +3,7 @@ ghost use Rattle.std.specs.Prelude.{◌≡◌, ◌≤◌, length};
 ghost use Rattle.mdcc_base.specs.Unless.{GivesUnless};
 ghost use Rattle.mdcc_protocol.specs.Schedule.{last_centre, tick_of, read_of, begin_of, deliver_of, settle_of, event_of, event_or_none, line_of};
 ghost use Rattle.mdcc_sched.specs.Free.{is_memory};
-ghost use Rattle.mdcc_words.specs.Today.{built};
+ghost use Rattle.mdcc_protocol.specs.Built.{built};
 
 use crate::lines::{bytes_of_line, few_bytes, line_end_of};
 use crate::lists::{centre_of, centres_from, numbers_from, updates_from};

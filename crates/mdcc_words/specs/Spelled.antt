@@ -7,7 +7,7 @@ use Rattle.mdcc_protocol.specs.declared.events.UpdateWord.{UpdateWord}
 use Rattle.mdcc_protocol.specs.declared.events.UpdateWord.TheVariants.{New, Set, Keep}
 use Rattle.mdcc_protocol.specs.Report.{body_text, values_text}
 use Rattle.mdcc_protocol.specs.Updates.{update_of}
-use Rattle.mdcc_words.specs.Today.{built}
+use Rattle.mdcc_protocol.specs.Built.{built}
 
 -- a body and values, each behind a colon
 abbrev pub item_text : Item → List ℕ

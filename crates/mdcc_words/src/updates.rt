@@ -1,7 +1,7 @@
 //! Update words.
 ghost use Rattle.std.specs.Prelude.{◌≡◌, ◌+◌, ◌<◌, ◌≤◌, ◌^◌, IsTrue, length};
 ghost use Rattle.mdcc_protocol.specs.Updates.{item_of, new_of, set_of, keep_of, is_named, update_of};
-ghost use Rattle.mdcc_words.specs.Today.{built};
+ghost use Rattle.mdcc_protocol.specs.Built.{built};
 
 use crate::bodies::parse_body;
 use crate::keys::parse_key;

@@ -6,4 +6,7 @@ pub returns-clause-runs : goal.returns-clause-runs
 returns-clause-runs c = runs.run-reported
 
 pub returns-clause-replays : goal.returns-clause-replays
-returns-clause-replays c = runs.headline
+returns-clause-replays c = runs.replay-reported
+
+pub returns-clause-today : goal.returns-clause-today
+returns-clause-today c = runs.headline

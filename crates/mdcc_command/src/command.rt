@@ -1,0 +1,62 @@
+//! The top call.
+ghost use Rattle.std.specs.Prelude.{◌≡◌, ◌≢◌, ◌↔◌, ◌∷◌, [], codes, map, IfSome};
+ghost use Rattle.std.specs.Bool.{OnFalse, OnTrue};
+ghost use Rattle.std.specs.Io.KnownBytes.{Appends, IsAtEnd};
+ghost use Rattle.std.specs.String.{string_bytes};
+ghost use Rattle.mdcc_base.specs.Causes.{Rose};
+ghost use Rattle.mdcc_headline.specs.Headline.{IsHeadline};
+ghost use Rattle.mdcc_protocol.specs.Built.{built};
+ghost use Rattle.mdcc_protocol.specs.Replay.{output_of, replay_of};
+ghost use Rattle.mdcc_replay.specs.Runs.{is_own, own_line};
+ghost use Rattle.mdcc_replay.specs.Writing.{Front, Tells};
+
+use crate::simulation::Replayed;
+use mdcc_base::{Sink, Source};
+use mdcc_headline::headline;
+use mdcc_replay::run_on;
+use std::alloc::Global;
+
+/// All that the program does, with its words behind its own name: the status that it ends with.
+///
+/// The words are `replay` alone. It reads the whole input, a schedule, and writes the report to
+/// `out`; where it ends early it writes one line to `err`, that of the status. Status 3 is a header
+/// that is refused, 4 a line or its event, 11 a limit; 2 other words, 5 a read that failed, 6 a
+/// write to `out` that failed, 10 want of memory. A write to `err` that fails changes no status.
+pub fn run<S: Source, O: Sink, E: Sink>(
+    alloc: Global,
+    words: &[String],
+    source: &mut S,
+    out: &mut O,
+    err: &mut E,
+) -> u8
+    // At statuses 0, 3, 4 and 11 the definition of the input's replay gives the status and all that
+    // was written.
+    ensures whole { IfSome (S.left source.old) (λ input. let output = output_of (replay_of built input) in
+        OnFalse (is_own result) ((result ≡ output.status) × Appends (O.held out.old) (O.held out.new) output.text)) }
+    ensures end { result ≡ 0 → IsAtEnd (S.left source.new) }
+
+    // At each status a front of it was written, and nothing at 2 and 5.
+    ensures front { IfSome (S.left source.old) (λ input.
+        Front (O.held out.old) (O.held out.new) (output_of (replay_of built input)).text) }
+    ensures silent { result ≡ 2 → Appends (O.held out.old) (O.held out.new) [] }
+    ensures nothing { result ≡ 5 → Appends (O.held out.old) (O.held out.new) [] }
+
+    // The other statuses have their causes; 10 may come at any time.
+    ensures words { (result ≡ 2) ↔ (map string_bytes words.now ≢ codes "replay" ∷ []) }
+    ensures read { result ≡ 5 → Rose (S.faults source.old) (S.faults source.new) }
+    ensures write { result ≡ 6 → Rose (O.faults out.old) (O.faults out.new) }
+
+    // The replay of the input is a run in which the committed transactions, in the order in which they were chosen, are
+    // a run of the one-copy store; every reported commit is in it, no reported abort is, and every reported read is an
+    // item version of it with some of its committed deltas.
+    ensures headline { IfSome (S.left source.old) (λ input. IsHeadline input) }
+
+    // The line on the error stream.
+    ensures quiet { result ≡ 0 → Appends (E.held err.old) (E.held err.new) [] }
+    ensures own { OnTrue (is_own result) (Tells (E.held err.old) (E.held err.new) (E.faults err.old) (E.faults err.new) (own_line result)) }
+    ensures line { IfSome (S.left source.old) (λ input. OnFalse (is_own result)
+        (Tells (E.held err.old) (E.held err.new) (E.faults err.old) (E.faults err.new) (output_of (replay_of built input)).error)) }
+{
+    headline();
+    run_on::<Replayed, S, O, E>(alloc, words, source, out, err)
+}

@@ -1,0 +1,32 @@
+//! The world of nodes, as what the events of a schedule happen to.
+use mdcc_base::{HeapList, Memory};
+use mdcc_option::Cluster;
+use mdcc_protocol::{Event, EventFault, Line};
+use mdcc_replay::Simulation;
+use mdcc_world::World;
+use std::alloc::Global;
+
+/// A world of nodes that a schedule runs.
+#[derive(Drop)]
+pub(crate) struct Replayed {
+    world: World,
+}
+
+impl Simulation for Replayed {
+    ghost use Rattle.mdcc_world.specs.Stands.{Stands};
+
+    ghost stands = { λ replayed w. Stands replayed.world w };
+
+    fn start(alloc: Global, cluster: Cluster) -> Result<Replayed, Memory> {
+        let world = World::new(alloc, cluster)?;
+        Ok(Replayed { world })
+    }
+
+    fn take(&mut self, event: &Event, lines: &mut HeapList<Line>) -> Result<(), EventFault> {
+        self.world.event(event, lines)
+    }
+
+    fn last_line(&self) -> Line {
+        self.world.end()
+    }
+}

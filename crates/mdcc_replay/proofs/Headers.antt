@@ -1,0 +1,219 @@
+-- What a header that is read says of its cluster, and of what is left behind it.
+use Rattle.std.proofs.Common.{◌≡◌, ◌+◌, ◌≤◌, ◌==◌, ◌&&◌, ◌∷◌, [], List, ℕ, ℤ, pos, negsuc, nat_abs, int_le, int_lt, ◌≤ℤ◌, ◌||◌, Bool, true, false, cond, zero, suc, length, drop, get_or, codes, Result, Ok, Err, IfOk, refl, sym, ap, ◌∙◌, subst, arith, T, leb→le}
+use Rattle.std.specs.List.{onto_first}
+use Rattle.std.specs.Str.Parse.{signed_digits_value}
+use Rattle.std.proofs.lemmas.Bool.{and_parts}
+use Rattle.std.proofs.lemmas.List.{drop-drop}
+use Rattle.mdcc_base.specs.Quorums.{quorums_of}
+use Rattle.mdcc_option.specs.declared.cluster.Cluster.{Cluster}
+use Rattle.mdcc_protocol.specs.Built.{built}
+use Rattle.mdcc_protocol.specs.Header.{Left, all_of, next_line, without_next, in_line, is_next, whole_line, in_order, header_line, version_of, last_number, sizes_of, bound_of, quorums_in, quorums_line, bounds_in, bound_line, Bounds, more_bounds, bounds_lines, header_lines, header_of, default_cells}
+use Rattle.mdcc_protocol.specs.Lines.{lines_in, text_of, line_end_of}
+use Rattle.mdcc_protocol.specs.Words.{◌>>=◌, are_plain_digits, is_negative, refused, within, number_of, natural_of, end_at, word_at, word_behind, word_end}
+use Rattle.mdcc_replay.proofs.Steps.{bind_ok}
+use Rattle.mdcc_protocol.specs.declared.schedule.HeaderFault.{HeaderFault}
+use Rattle.mdcc_protocol.specs.declared.schedule.SchedFault.{SchedFault}
+use Rattle.mdcc_protocol.specs.declared.schedule.SchedCause.TheVariants.{Number, Range}
+
+-- ---- steps
+
+abbrev Any : {A : Type 0} → A → Type 0
+Any a = Unit {0}
+
+any_ok : {A E : Type 0} (r : Result A E) → IfOk r (λ (a : A). Any a)
+any_ok (Ok a) = tt
+any_ok (Err e) = tt
+
+-- ---- lines
+
+onto_case : (b : ℕ) (bs : List ℕ) (lines : List (List ℕ)) → lines_in (drop (length (get_or lines 0 [])) bs) ≡ drop 1 lines
+    → lines_in (drop (length (get_or (onto_first b lines) 0 [])) (b ∷ bs)) ≡ drop 1 (onto_first b lines)
+onto_case b bs [] h = h
+onto_case b bs (line ∷ lines) h = h
+
+others_by : (b : ℕ) (bs : List ℕ) (t : Bool) → lines_in (drop (length (get_or (lines_in bs) 0 [])) bs) ≡ drop 1 (lines_in bs)
+    → lines_in (drop (length (get_or (cond t ((b ∷ []) ∷ lines_in bs) (onto_first b (lines_in bs))) 0 [])) (b ∷ bs)) ≡ drop 1 (cond t ((b ∷ []) ∷ lines_in bs) (onto_first b (lines_in bs)))
+others_by b bs true h = refl
+others_by b bs false h = onto_case b bs (lines_in bs) h
+
+-- the lines of a text behind its first line
+others : (text : List ℕ) → lines_in (drop (length (get_or (lines_in text) 0 [])) text) ≡ drop 1 (lines_in text)
+others [] = refl
+others (b ∷ bs) = others_by b bs (b == 10) (others bs)
+
+-- what is left of a text at this line
+pub record IsLeft (text : List ℕ) (n : ℕ) (left : Left) : Type 0 where
+  pub same : left.lines ≡ lines_in (drop left.at text)
+  pub counted : left.number ≡ n
+
+next_left : (text : List ℕ) (n : ℕ) (left : Left) → IsLeft text n left → IsLeft text (n + 1) (without_next left)
+next_left text n left h = record {
+  same =
+      ap (drop 1) h.same
+      ∙ sym (others (drop left.at text))
+      ∙ ap (λ (lines : List (List ℕ)). lines_in (drop (length (get_or lines 0 [])) (drop left.at text))) (sym h.same)
+      ∙ ap lines_in (drop-drop (length (next_line left)) left.at text);
+  counted = ap (λ (k : ℕ). k + 1) h.counted;
+}
+
+-- a value, and what is left behind its line
+abbrev Read : {A : Type 0} → (A → Type 0) → List ℕ → ℕ → A × Left → Type 0
+Read P text n read = P read.0 × IsLeft text n read.1
+
+in_line_ok : {A : Type 0} (P : A → Type 0) (left : Left) (r : Result A SchedFault) → IfOk r P → IfOk (in_line left r) P
+in_line_ok P left (Ok a) p = p
+in_line_ok P left (Err fault) p = tt
+
+line_read : {A : Type 0} (P : A → Type 0) (text word : List ℕ) (read : List ℕ → Result A SchedFault) (n : ℕ) (left : Left) → IfOk (whole_line word read (next_line left)) P
+    → IsLeft text n left → IfOk (header_line word read left) (Read P text (n + 1))
+line_read P text word read n left p h =
+    bind_ok P (Read P text (n + 1)) (in_line left (whole_line word read (next_line left))) (λ value. Ok (value, without_next left)) (in_line_ok P left (whole_line word read (next_line left)) p)
+    (λ value good. (good, next_left text n left h))
+
+-- ---- numbers
+
+passed : (a b : ℤ) → int_le a b ≡ true → a ≤ℤ b
+passed a b e = record { le = subst T (sym e) tt }
+
+below : (low high : ℕ) (value : ℤ) → int_le (pos low) value ≡ true → int_le value (pos high) ≡ true → nat_abs value ≤ high
+below low high (pos n) e f = let le = passed (pos n) (pos high) f in leb→le n high le.le
+below low high (negsuc n) e f = let le = passed (pos low) (negsuc n) e in absurd le.le
+
+within_ok : (column low high : ℕ) (value : ℤ) → IfOk (within column (pos low) (pos high) value) (λ v. nat_abs v ≤ high)
+within_ok column low high value = by (int_le (pos low) value && int_le value (pos high)) refl
+  where
+    by : (test : Bool) → (int_le (pos low) value && int_le value (pos high)) ≡ test → IfOk (cond test (Ok value) (refused column Range)) (λ v. nat_abs v ≤ high)
+    by true e = let parts = and_parts (int_le (pos low) value) (int_le value (pos high)) e in below low high value parts.0 parts.1
+    by false e = tt
+
+either_ok : {A : Type 0} (P : A → Type 0) (test : Bool) (r : Result A SchedFault) (column : ℕ) → IfOk r P → IfOk (cond test r (refused column Number)) P
+either_ok P true r column p = p
+either_ok P false r column p = tt
+
+natural_ok : (word : List ℕ) (column low high : ℕ) → IfOk (natural_of word column low high) (λ n. n ≤ high)
+natural_ok word column low high =
+    bind_ok (λ (v : ℤ). nat_abs v ≤ high) (λ (n : ℕ). n ≤ high) (number_of word column (pos low) (pos high)) (λ number. Ok (nat_abs number))
+    (either_ok (λ (v : ℤ). nat_abs v ≤ high) (are_plain_digits word || (int_lt (pos low) (pos 0) && is_negative word)) (within column (pos low) (pos high) (signed_digits_value 10 word)) column
+    (within_ok column low high (signed_digits_value 10 word)))
+    (λ v good. good)
+
+last_ok : (low high at : ℕ) (line : List ℕ) → IfOk (last_number low high at line) (λ n. n ≤ high)
+last_ok low high at line =
+    bind_ok Any _ (word_behind at line) _ (any_ok (word_behind at line)) (λ start _.
+    bind_ok (λ (n : ℕ). n ≤ high) _ (natural_of (word_at start line) (start + 1) low high) _ (natural_ok (word_at start line) (start + 1) low high) (λ number good.
+    bind_ok Any _ (end_at (word_end start line) line 1) _ (any_ok (end_at (word_end start line) line 1)) (λ _ _. good)))
+
+whole_ok : {A : Type 0} (P : A → Type 0) (word : List ℕ) (read : List ℕ → Result A SchedFault) (line : List ℕ) → ((text : List ℕ) → IfOk (read text) P) → IfOk (whole_line word read line) P
+whole_ok P word read line p =
+    bind_ok Any P (text_of line) _ (any_ok (text_of line)) (λ text _.
+    bind_ok Any P (in_order word text) _ (any_ok (in_order word text)) (λ _ _.
+    bind_ok P P (read text) _ (p text) (λ value good.
+    bind_ok Any P (line_end_of text line) _ (any_ok (line_end_of text line)) (λ _ _. good))))
+
+-- ---- the lines of a header
+
+any_read : {A : Type 0} (text word : List ℕ) (read : List ℕ → Result A SchedFault) (n : ℕ) (left : Left) → IsLeft text n left → IfOk (header_line word read left) (Read Any text (n + 1))
+any_read text word read n left h = line_read Any text word read n left (any_ok (whole_line word read (next_line left))) h
+
+quorums_read : (text : List ℕ) (n : ℕ) (left : Left) → IsLeft text n left → IfOk (quorums_line left) (Read Any text (n + 1))
+quorums_read text n left h =
+    bind_ok (Read Any text (n + 1)) (Read Any text (n + 1)) (header_line (codes "quorums") sizes_of left) _ (any_read text (codes "quorums") sizes_of n left h) (λ sizes read.
+    bind_ok Any (Read Any text (n + 1)) (quorums_in left (quorums_of sizes.0.0 sizes.0.1 sizes.0.2)) _ (any_ok (quorums_in left (quorums_of sizes.0.0 sizes.0.1 sizes.0.2))) (λ quorums _. (tt, read.1)))
+
+bound_read : (text : List ℕ) (k n : ℕ) (left : Left) → IsLeft text n left → IfOk (bound_line k left) (Read Any text (n + 1))
+bound_read text k n left h =
+    bind_ok (Read Any text (n + 1)) (Read Any text (n + 1)) (header_line (codes "bound") bound_of left) _ (any_read text (codes "bound") bound_of n left h) (λ bounds read.
+    bind_ok Any (Read Any text (n + 1)) (bounds_in k left bounds.0) _ (any_ok (bounds_in k left bounds.0)) (λ bounds _. (tt, read.1)))
+
+-- as many lines as bounds
+abbrev AreRead : List ℕ → ℕ → Bounds × Left → Type 0
+AreRead text n read = IsLeft text (n + length read.0) read.1
+
+one_more : (text : List ℕ) (n : ℕ) (one : ℤ × ℤ) (rest : Bounds × Left) → AreRead text (n + 1) rest → AreRead text n (one ∷ rest.0, rest.1)
+one_more text n one rest h = record { same = h.same; counted = omega (arith, h.counted) }
+
+none_more : (text : List ℕ) (n : ℕ) (left : Left) → IsLeft text n left → AreRead text n ([], left)
+none_more text n left h = record { same = h.same; counted = omega (arith, h.counted) }
+
+abbrev with_bound : ℤ × ℤ → Bounds × Left → Result (Bounds × Left) HeaderFault
+with_bound one rest = Ok (one ∷ rest.0, rest.1)
+
+abbrev none_left : Left → Result (Bounds × Left) HeaderFault
+none_left left = Ok ([], left)
+
+abbrev more_by : ℕ → ℕ → Left → Bool → Result (Bounds × Left) HeaderFault
+more_by more k left test = cond test (bound_line k left >>= λ one. more_bounds more (k + 1) one.1 >>= λ rest. with_bound one.0 rest) (none_left left)
+
+more_test : (text : List ℕ) (more k n : ℕ) (left : Left) → IsLeft text n left → ((one : Left) → IsLeft text (n + 1) one → IfOk (more_bounds more (k + 1) one) (AreRead text (n + 1))) → (test : Bool)
+    → IfOk (more_by more k left test) (AreRead text n)
+more_test text more k n left h next true =
+    bind_ok (Read Any text (n + 1)) (AreRead text n) (bound_line k left) _ (bound_read text k n left h) (λ one read.
+    bind_ok (AreRead text (n + 1)) (AreRead text n) (more_bounds more (k + 1) one.1) _ (next one.1 read.1) (λ rest good. one_more text n one.0 rest good))
+more_test text more k n left h next false = none_more text n left h
+
+more_read : (text : List ℕ) (more k n : ℕ) (left : Left) → IsLeft text n left → IfOk (more_bounds more k left) (AreRead text n)
+more_read text zero k n left h = none_more text n left h
+more_read text (suc more) k n left h = more_test text more k n left h (λ one good. more_read text more (k + 1) (n + 1) one good) (is_next (codes "bound") left)
+
+bounds_read : (text : List ℕ) (n : ℕ) (left : Left) → IsLeft text n left → IfOk (bounds_lines left) (AreRead text n)
+bounds_read text n left h =
+    bind_ok (Read Any text (n + 1)) (AreRead text n) (bound_line 1 left) _ (bound_read text 1 n left h) (λ one read.
+    bind_ok (AreRead text (n + 1)) (AreRead text n) (more_bounds 3 2 one.1) _ (more_read text 3 2 (n + 1) one.1 read.1) (λ rest good. one_more text n one.0 rest good))
+
+-- the range of a cluster and its cells are in their limits, and the lines behind the header begin at this number
+pub record IsRead (text : List ℕ) (header : Cluster × Left) : Type 0 where
+  pub range : header.0.gamma ≤ 1000
+  pub cells : header.0.cells ≡ default_cells
+  pub left : IsLeft text (5 + length header.0.schema) header.1
+
+all_left : (text : List ℕ) → IsLeft text 1 (all_of text)
+all_left text = record { same = refl; counted = refl }
+
+pub header_read : (text : List ℕ) → IfOk (header_lines built (all_of text)) (IsRead text)
+header_read text =
+    bind_ok (Read Any text 2) _ (header_line (codes "mdcc-schedule") version_of (all_of text)) _ (any_read text (codes "mdcc-schedule") version_of 1 (all_of text) (all_left text)) (λ version a.
+    bind_ok (Read Any text 3) _ (quorums_line version.1) _ (quorums_read text 2 version.1 a.1) (λ quorums b.
+    bind_ok (Read (λ (g : ℕ). g ≤ 1000) text 4) _ (header_line (codes "gamma") (last_number 0 1000 5) quorums.1) _
+    (line_read (λ (g : ℕ). g ≤ 1000) text (codes "gamma") (last_number 0 1000 5) 3 quorums.1 (whole_ok (λ (g : ℕ). g ≤ 1000) (codes "gamma") (last_number 0 1000 5) (next_line quorums.1) (last_ok 0 1000 5)) b.1) (λ gamma c.
+    bind_ok (AreRead text 4) _ (bounds_lines gamma.1) _ (bounds_read text 4 gamma.1 c.1) (λ bounds d.
+    bind_ok (Read Any text (4 + length bounds.0 + 1)) _ (header_line (codes "start") (λ line. end_at 5 line 1) bounds.1) _ (any_read text (codes "start") (λ line. end_at 5 line 1) (4 + length bounds.0) bounds.1 d) (λ start e.
+    record { range = c.0; cells = refl; left = record { same = e.1.same; counted = omega (arith, e.1.counted) } })))))
+
+-- ---- the cluster and the place that a header gives
+
+pub record IsHeader (text : List ℕ) (cluster : Cluster) (end : ℕ) : Type 0 where
+  pub range : cluster.gamma ≤ 1000
+  pub cells : cluster.cells ≡ default_cells
+  pub left : Left
+  pub read : header_lines built (all_of text) ≡ Ok (cluster, left)
+  pub at : left.at ≡ end
+  pub is_left : IsLeft text (5 + length cluster.schema) left
+
+abbrev place_of : Cluster × Left → Result (Cluster × ℕ) HeaderFault
+place_of header = Ok (header.0, header.1.at)
+
+abbrev pair : Cluster → ℕ → Cluster × ℕ
+pair cluster place = (cluster, place)
+
+abbrev place_or : Cluster × ℕ → Result (Cluster × ℕ) HeaderFault → Cluster × ℕ
+place_or other (Ok place) = place
+place_or other (Err fault) = other
+
+given_by : (text : List ℕ) (cluster : Cluster) (end : ℕ) (r : Result (Cluster × Left) HeaderFault) → header_lines built (all_of text) ≡ r → IfOk r (IsRead text)
+    → (r >>= place_of) ≡ Ok (cluster, end) → IsHeader text cluster end
+given_by text cluster end (Ok (found, left)) e h f =
+    let both : pair found left.at ≡ pair cluster end = ap (place_or (pair found left.at)) f in
+    let same : found ≡ cluster = ap (λ (p : Cluster × ℕ). p.0) both in
+    let at : left.at ≡ end = ap (λ (p : Cluster × ℕ). p.1) both in
+    record {
+      range = subst (λ (c : Cluster). c.gamma ≤ 1000) same h.range;
+      cells = subst (λ (c : Cluster). c.cells ≡ default_cells) same h.cells;
+      left = left;
+      read = e ∙ ap (λ (c : Cluster). let r : Result (Cluster × Left) HeaderFault = Ok (c, left) in r) same;
+      at = at;
+      is_left = subst (λ (c : Cluster). IsLeft text (5 + length c.schema) left) same h.left;
+    }
+given_by text cluster end (Err fault) e h f = absurd (cc)
+
+pub header_given : (text : List ℕ) (cluster : Cluster) (end : ℕ) → header_of built text ≡ Ok (cluster, end) → IsHeader text cluster end
+header_given text cluster end e = given_by text cluster end (header_lines built (all_of text)) refl (header_read text) e

@@ -1,0 +1,76 @@
+-- What a whole input adds to a replay.
+use Rattle.std.proofs.Common.{◌≡◌, ◌+◌, ◌≤◌, ◌<◌, [], List, ℕ, Bool, true, false, cond, nat_lt, length, drop, Option, Some, None, Result, Ok, refl, sym, ap, ◌∙◌, subst, arith}
+use Rattle.std.specs.Io.KnownBytes.{Appends}
+use Rattle.std.proofs.KnownBytes.{Appends-nil}
+use Rattle.std.proofs.lemmas.Bool.Decides.{nat_tests}
+use Rattle.mdcc_base.specs.AreQuorums.{AreQuorums}
+use Rattle.mdcc_option.specs.Bounds.{IsSchema}
+use Rattle.mdcc_option.specs.declared.cluster.Cluster.{Cluster}
+use Rattle.mdcc_protocol.specs.Built.{built}
+use Rattle.mdcc_protocol.specs.Errors.{TooLong, most_input}
+use Rattle.mdcc_protocol.specs.Header.{Left, all_of, header_lines, header_of}
+use Rattle.mdcc_protocol.specs.IsCluster.{IsCluster}
+use Rattle.mdcc_protocol.specs.Lines.{lines_in}
+use Rattle.mdcc_protocol.specs.Replay.{Replay, after_text, ended, lines_replayed, replay_behind, replay_of}
+use Rattle.mdcc_protocol.specs.Report.{header_text}
+use Rattle.mdcc_protocol.specs.World.{first_world}
+use Rattle.mdcc_replay.proofs.Fronts.{front_of_first}
+use Rattle.mdcc_replay.proofs.Headers.{header_given}
+use Rattle.mdcc_replay.proofs.Taken.{finish}
+use Rattle.mdcc_replay.specs.Writing.{Ends, Front, Progress, Replayed}
+use Rattle.mdcc_replay.specs.declared.refusals.Refusal.{Refusal}
+use Rattle.mdcc_replay.specs.declared.writing.Failure.{Failure}
+
+-- ---- clusters
+
+pub cluster_given : (text : List ℕ) (cluster : Cluster) (end : ℕ) → header_of built text ≡ Ok (cluster, end) → AreQuorums cluster.quorums → IsSchema cluster.schema → IsCluster cluster
+cluster_given text cluster end e quorums schema =
+    let header = header_given text cluster end e in
+    record { quorums = quorums; schema = schema; range = header.range; some_cells = omega (arith, header.cells); cells = omega (arith, header.cells) }
+
+-- ---- lengths
+
+not_past : (a b : ℕ) → b ≤ a → nat_lt a b ≡ false
+not_past a b h = grind (arith, nat_tests)
+
+past : (a b : ℕ) → a < b → nat_lt a b ≡ true
+past a b h = grind (arith, nat_tests)
+
+short_by : (input : List ℕ) → length input ≤ 67108864 → replay_of built input ≡ replay_behind built input (header_lines built (all_of input))
+short_by input h = ap (λ (t : Bool). cond t (ended None [] (Some TooLong)) (replay_behind built input (header_lines built (all_of input)))) (not_past most_input (length input) h)
+
+pub long_ended : (a : Option (List ℕ)) (input : List ℕ) → 67108864 < length input → Ends a a (replay_of built input) (Some Refusal.TooLong)
+long_ended a input h =
+    subst (λ (t : Bool). Ends a a (cond t (ended None [] (Some TooLong)) (replay_behind built input (header_lines built (all_of input)))) (Some Refusal.TooLong)) (sym (past most_input (length input) h))
+    (record { wrote = Appends-nil a; fault = refl })
+
+-- ---- headers
+
+-- the lines behind a header
+abbrev pub behind_header : List ℕ → Cluster → ℕ → Replay
+behind_header input cluster end = lines_replayed built cluster (5 + length cluster.schema) (first_world cluster) (lines_in (drop end input))
+
+abbrev numbered : Cluster → Left → ℕ → Replay
+numbered cluster left number = lines_replayed built cluster number (first_world cluster) left.lines
+
+pub replay_given : (input : List ℕ) (cluster : Cluster) (end : ℕ) → length input ≤ 67108864 → header_of built input ≡ Ok (cluster, end)
+    → replay_of built input ≡ after_text (header_text end input) (behind_header input cluster end)
+replay_given input cluster end h e =
+    let header = header_given input cluster end e in
+    let left = header.left in
+    short_by input h
+    ∙ ap (replay_behind built input) header.read
+    ∙ ap (λ (n : ℕ). after_text (header_text left.at input) (numbered cluster left n)) header.is_left.counted
+    ∙ ap (λ (lines : List (List ℕ)). after_text (header_text left.at input) (lines_replayed built cluster (5 + length cluster.schema) (first_world cluster) lines)) header.is_left.same
+    ∙ ap (λ (at : ℕ). after_text (header_text at input) (behind_header input cluster at)) header.at
+
+pub behind_written : (a b c : Option (List ℕ)) (input : List ℕ) (cluster : Cluster) (end : ℕ) (r : Result (Option Refusal) Failure) → length input ≤ 67108864 → header_of built input ≡ Ok (cluster, end)
+    → Appends a b (header_text end input) → Replayed b c (behind_header input cluster end) r → Replayed a c (replay_of built input) r
+behind_written a b c input cluster end r h e wrote next =
+    let progress : Progress a b (replay_of built input) (behind_header input cluster end) = record { part = header_text end input; wrote = wrote; same = replay_given input cluster end h e } in
+    finish a b c (replay_of built input) (behind_header input cluster end) r progress next
+
+pub header_failed : (a b : Option (List ℕ)) (input : List ℕ) (cluster : Cluster) (end : ℕ) → length input ≤ 67108864 → header_of built input ≡ Ok (cluster, end)
+    → Front a b (header_text end input) → Front a b (replay_of built input).text
+header_failed a b input cluster end h e front =
+    subst (λ (r : Replay). Front a b r.text) (sym (replay_given input cluster end h e)) (front_of_first a b (header_text end input) (behind_header input cluster end).text front)

@@ -1,0 +1,9 @@
+pub mod Events
+pub mod Fronts
+pub mod Headers
+pub mod Inputs
+pub mod Splits
+pub mod Statuses
+pub mod Steps
+pub mod Taken
+pub mod Words

@@ -1,0 +1,42 @@
+-- One line of a replay after another.
+use Rattle.std.proofs.Common.{◌≡◌, ◌+◌, ◌∷◌, [], List, ℕ, Option, Some, None, Result, Ok, Err, subst}
+use Rattle.mdcc_option.specs.declared.cluster.Cluster.{Cluster}
+use Rattle.mdcc_protocol.specs.Built.{built}
+use Rattle.mdcc_protocol.specs.Replay.{Replay, lines_replayed}
+use Rattle.mdcc_protocol.specs.World.{World}
+use Rattle.mdcc_replay.proofs.Fronts.{ends_behind, front_behind, reached_on}
+use Rattle.mdcc_replay.specs.Writing.{Progress, Reached, Replayed, ReplayedTo}
+use Rattle.mdcc_replay.specs.declared.refusals.Refusal.{Refusal}
+use Rattle.mdcc_replay.specs.declared.writing.Failure.{Failure}
+
+-- the lines that are left, in the world that is left
+abbrev pub left_lines : Cluster → ℕ → List (List ℕ) → World → Replay
+left_lines cluster number lines w = lines_replayed built cluster number w lines
+
+go_on : (is_now : World → Type 0) (a b c : Option (List ℕ)) (whole mid : Replay) (left : World → Replay) (r : Result (Option Refusal) Failure) → Progress a b whole mid
+    → ReplayedTo is_now b c mid left r → ReplayedTo is_now a c whole left r
+go_on is_now a b c whole mid left (Ok None) p h = reached_on is_now a b c whole mid left p h
+go_on is_now a b c whole mid left (Ok (Some refusal)) p h = ends_behind a b c whole mid (Some refusal) p h
+go_on is_now a b c whole mid left (Err failure) p h = front_behind a b c whole mid p h
+
+-- a line behind those that were taken
+pub line_taken : (was is_now : World → Type 0) (a b c : Option (List ℕ)) (cluster : Cluster) (number : ℕ) (lines : List (List ℕ)) (line : List ℕ) (others : List (List ℕ)) (whole : Replay)
+    (r : Result (Option Refusal) Failure) → lines ≡ line ∷ others → Reached was a b whole (left_lines cluster number lines)
+    → ((w : World) (behind : List (List ℕ)) → was w → ReplayedTo is_now b c (lines_replayed built cluster number w (line ∷ behind)) (left_lines cluster (number + 1) behind) r)
+    → ReplayedTo is_now a c whole (left_lines cluster (number + 1) others) r
+line_taken was is_now a b c cluster number lines line others whole r e h next =
+    let at_lines : List (List ℕ) → Type 0 = λ ls. Progress a b whole (left_lines cluster number ls h.world) in
+    go_on is_now a b c whole (left_lines cluster number (line ∷ others) h.world) (left_lines cluster (number + 1) others) r (subst at_lines e h.progress) (next h.world others h.stands)
+
+pub finish : (a b c : Option (List ℕ)) (whole mid : Replay) (r : Result (Option Refusal) Failure) → Progress a b whole mid → Replayed b c mid r → Replayed a c whole r
+finish a b c whole mid (Ok refusal) p h = ends_behind a b c whole mid refusal p h
+finish a b c whole mid (Err failure) p h = front_behind a b c whole mid p h
+
+-- the end behind them
+pub all_taken : (is_now : World → Type 0) (a b c : Option (List ℕ)) (cluster : Cluster) (number : ℕ) (lines : List (List ℕ)) (whole : Replay) (r : Result (Option Refusal) Failure) → lines ≡ []
+    → Reached is_now a b whole (left_lines cluster number lines)
+    → ((w : World) (cluster : Cluster) (number : ℕ) → is_now w → Replayed b c (lines_replayed built cluster number w []) r)
+    → Replayed a c whole r
+all_taken is_now a b c cluster number lines whole r e h last =
+    let at_lines : List (List ℕ) → Type 0 = λ ls. Progress a b whole (left_lines cluster number ls h.world) in
+    finish a b c whole (left_lines cluster number [] h.world) r (subst at_lines e h.progress) (last h.world cluster number h.stands)

@@ -1,0 +1,19 @@
+-- Why a replay ends early, as the program keeps it.
+use Rattle.std.specs.Prelude.{Bool, false, true, Option, option_map}
+use Rattle.mdcc_protocol.specs.Errors.{ReplayFault, TooLong, AtHeader, AtLine, AtEvent}
+use Rattle.mdcc_protocol.specs.declared.world.EventFault.{EventFault}
+use Rattle.mdcc_replay.specs.declared.refusals.Refusal.{Refusal}
+
+abbrev pub fault_of : Refusal → ReplayFault
+fault_of Refusal.TooLong = TooLong
+fault_of (Refusal.Header fault) = AtHeader fault
+fault_of (Refusal.Line number fault) = AtLine number fault
+fault_of (Refusal.Event number fault) = AtEvent number fault
+
+abbrev pub faults_of : Option Refusal → Option ReplayFault
+faults_of refusal = option_map fault_of refusal
+
+-- want of memory, which may come at any time
+abbrev pub is_memory : EventFault → Bool
+is_memory EventFault.Memory = true
+is_memory _ = false

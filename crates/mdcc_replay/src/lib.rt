@@ -1,0 +1,17 @@
+//! A replay from bytes to bytes: it reads a schedule, runs it on the nodes of a cluster in memory,
+//! and writes the report.
+#![tactic(auto)]
+
+mod command;
+mod error_lines;
+mod lines;
+mod refusals;
+mod reports;
+pub mod simulation;
+mod writing;
+
+pub use command::run_on;
+pub use refusals::Refusal;
+pub use reports::replay;
+pub use simulation::Simulation;
+pub use writing::Failure;

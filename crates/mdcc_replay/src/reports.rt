@@ -1,0 +1,221 @@
+//! Replays an input, line by line.
+ghost use Rattle.std.specs.Prelude.{◌≡◌, ◌+◌, ◌<◌, ◌≤◌, ◌^◌, ◌∷◌, [], List, ℕ, length, IfErr, IfOk, IsErrOf, IsOkAnd, IsTrue, Ok};
+ghost use Rattle.std.specs.Bool.{OnFalse};
+ghost use Rattle.mdcc_base.specs.AreQuorums.{AreQuorums};
+ghost use Rattle.mdcc_base.specs.Causes.{Rose};
+ghost use Rattle.mdcc_option.specs.Bounds.{IsSchema};
+ghost use Rattle.mdcc_option.specs.declared.cluster.Cluster.{Cluster as ACluster};
+ghost use Rattle.mdcc_protocol.specs.Built.{built};
+ghost use Rattle.mdcc_protocol.specs.Header.{header_of};
+ghost use Rattle.mdcc_protocol.specs.Lines.{lines_in};
+ghost use Rattle.mdcc_protocol.specs.Replay.{lines_replayed, replay_of};
+ghost use Rattle.mdcc_protocol.specs.Report.{lines_text};
+ghost use Rattle.mdcc_protocol.specs.World.{World as AWorld, event_of};
+ghost use Rattle.mdcc_replay.specs.Refusals.{is_memory};
+ghost use Rattle.mdcc_replay.specs.Runs.{event_told};
+ghost use Rattle.mdcc_replay.specs.Writing.{Replayed, ReplayedTo};
+ghost use Rattle.mdcc_replay.specs.Words.{is_built};
+
+use crate::lines::{behind, header_text, is_memory, read_line, split_line};
+use crate::writing::{line_text, lines_text, write_text};
+use crate::{Failure, Refusal, Simulation};
+use mdcc_base::{HeapList, LIMIT, Plain, Sink};
+use mdcc_option::Cluster;
+use mdcc_protocol::{Event, EventFault};
+use mdcc_sched::parse_header;
+use std::alloc::Global;
+
+// Whether it is want of memory.
+fn is_event_memory(fault: &EventFault) -> bool
+    ensures { result ≡ is_memory fault.now }
+{
+    match fault {
+        EventFault::Memory => true,
+        _ => false,
+    }
+}
+
+// The text that an event adds.
+fn event_text<W: Simulation>(
+    alloc: Global,
+    world: &mut W,
+    event: &Event,
+) -> Result<Vec<u8>, EventFault>
+    requires word { IsTrue (is_built event.now) }
+    requires known { (w : AWorld) × W.stands world.old w }
+    ensures ok { (w : AWorld) → W.stands world.old w → IfOk result (λ text.
+        IsOkAnd (event_of built w event.now) (λ h. (text.items ≡ lines_text h.lines) × W.stands world.new h.world)) }
+    ensures err { (w : AWorld) → W.stands world.old w → IfErr result (λ fault.
+        OnFalse (is_memory fault) (event_of built w event.now ≡ Err fault)) }
+{
+    let mut lines = HeapList::new(alloc);
+    world.take(event, &mut lines)?;
+    match lines_text(alloc, lines.as_slice()) {
+        Ok(text) => Ok(text),
+        Err(_) => Err(EventFault::Memory),
+    }
+}
+
+// Takes an event, and writes its lines where it is not refused.
+fn replay_event<W: Simulation, O: Sink>(
+    alloc: Global,
+    world: &mut W,
+    number: u32,
+    event: &Event,
+    out: &mut O,
+) -> Result<Option<Refusal>, Failure>
+    requires word { IsTrue (is_built event.now) }
+    requires known { (w : AWorld) × W.stands world.old w }
+    ensures written { (w : AWorld) (cluster : ACluster) (lines : List (List ℕ)) → W.stands world.old w
+        → ReplayedTo (λ next. W.stands world.new next) (O.held out.old) (O.held out.new) (event_told built cluster number w lines (event_of built w event.now))
+        (λ next. lines_replayed built cluster (number + 1) next lines) result }
+    ensures later { O.faults out.old ≤ O.faults out.new }
+    ensures failed { IsErrOf result Failure.Output → Rose (O.faults out.old) (O.faults out.new) }
+{
+    match event_text(alloc, world, event) {
+        Ok(text) => {
+            write_text(out, text.as_slice())?;
+            Ok(None)
+        }
+        Err(fault) => {
+            if is_event_memory(&fault) {
+                return Err(Failure::Memory);
+            }
+            Ok(Some(Refusal::Event(number, fault)))
+        }
+    }
+}
+
+// Takes a line.
+fn replay_line<W: Simulation, O: Sink>(
+    alloc: Global,
+    cluster: &Cluster,
+    world: &mut W,
+    number: u32,
+    line: &[u8],
+    out: &mut O,
+) -> Result<Option<Refusal>, Failure>
+    requires { (w : AWorld) × W.stands world.old w }
+    ensures written { (w : AWorld) (lines : List (List ℕ)) → W.stands world.old w
+        → ReplayedTo (λ next. W.stands world.new next) (O.held out.old) (O.held out.new) (lines_replayed built cluster.now number w (line.now ∷ lines))
+        (λ next. lines_replayed built cluster.now (number + 1) next lines) result }
+    ensures later { O.faults out.old ≤ O.faults out.new }
+    ensures failed { IsErrOf result Failure.Output → Rose (O.faults out.old) (O.faults out.new) }
+{
+    match read_line(alloc, line, cluster) {
+        Ok(None) => Ok(None),
+        Ok(Some(event)) => replay_event(alloc, world, number, &event, out),
+        Err(fault) => {
+            if is_memory(&fault) {
+                return Err(Failure::Memory);
+            }
+            Ok(Some(Refusal::Line(number, fault)))
+        }
+    }
+}
+
+// Writes the last line.
+fn write_end<W: Simulation, O: Sink>(
+    alloc: Global,
+    world: &W,
+    out: &mut O,
+) -> Result<Option<Refusal>, Failure>
+    ensures written { (w : AWorld) (cluster : ACluster) (number : ℕ) → W.stands world.now w
+        → Replayed (O.held out.old) (O.held out.new) (lines_replayed built cluster number w []) result }
+    ensures later { O.faults out.old ≤ O.faults out.new }
+    ensures failed { IsErrOf result Failure.Output → Rose (O.faults out.old) (O.faults out.new) }
+{
+    let line = world.last_line();
+    let text = line_text(alloc, &line)?;
+    write_text(out, text.as_slice())?;
+    Ok(None)
+}
+
+// Takes the lines of a text, up to the first that is refused. The first has this number.
+fn replay_lines<W: Simulation, O: Sink>(
+    alloc: Global,
+    cluster: &Cluster,
+    world: &mut W,
+    first: u32,
+    text: &[u8],
+    out: &mut O,
+) -> Result<Option<Refusal>, Failure>
+    requires few { first + length text.now < 2 ^ 32 }
+    requires known { (w : AWorld) × W.stands world.old w }
+    ensures written { (w : AWorld) → W.stands world.old w
+        → Replayed (O.held out.old) (O.held out.new) (lines_replayed built cluster.now first w (lines_in text.now)) result }
+    ensures later { O.faults out.old ≤ O.faults out.new }
+    ensures failed { IsErrOf result Failure.Output → Rose (O.faults out.old) (O.faults out.new) }
+{
+    let mut number = first;
+    let mut rest = text;
+    while !rest.is_empty() {
+        let (line, others) = split_line(rest);
+        if let Some(refusal) = replay_line(alloc, cluster, world, number, line, out)? {
+            return Ok(Some(refusal));
+        }
+        number += 1;
+        rest = others;
+    }
+    write_end(alloc, world, out)
+}
+
+// The number of the first line behind a header.
+fn first_line(cluster: &Cluster) -> u32
+    ensures value { result ≡ 5 + length cluster.now.schema }
+    ensures small { result ≤ 9 }
+{
+    5 + cluster.schema.bounds().len() as u32
+}
+
+// Quorums meet and bounds are good, by their types.
+fn types_hold(cluster: &Cluster)
+    ensures quorums { AreQuorums cluster.now.quorums }
+    ensures schema { IsSchema cluster.now.schema }
+{
+    let _ = cluster.quorums.centres();
+    let _ = cluster.schema.bounds();
+}
+
+// Replays an input behind its header, which ends before this place.
+fn replay_behind<W: Simulation + Drop, O: Sink>(
+    alloc: Global,
+    cluster: &Cluster,
+    end: usize,
+    input: &[u8],
+    out: &mut O,
+) -> Result<Option<Refusal>, Failure>
+    requires short { length input.now ≤ LIMIT }
+    requires header { header_of built input.now ≡ Ok (cluster.now, end) }
+    ensures written { Replayed (O.held out.old) (O.held out.new) (replay_of built input.now) result }
+    ensures later { O.faults out.old ≤ O.faults out.new }
+    ensures failed { IsErrOf result Failure.Output → Rose (O.faults out.old) (O.faults out.new) }
+{
+    let header = header_text(alloc, end, input)?;
+    types_hold(cluster);
+    let mut world = W::start(alloc, cluster.copy())?;
+    write_text(out, header.as_slice())?;
+    let first = first_line(cluster);
+    replay_lines(alloc, cluster, &mut world, first, behind(end, input), out)
+}
+
+/// Replays an input: it writes the report and answers why it ended before the end of the input. At
+/// want of memory or a write that failed a front of the report was written; nothing is written of
+/// a line whose event is refused.
+pub fn replay<W: Simulation + Drop, O: Sink>(
+    alloc: Global,
+    input: &[u8],
+    out: &mut O,
+) -> Result<Option<Refusal>, Failure>
+    ensures written { Replayed (O.held out.old) (O.held out.new) (replay_of built input.now) result }
+    ensures later { O.faults out.old ≤ O.faults out.new }
+    ensures failed { IsErrOf result Failure.Output → Rose (O.faults out.old) (O.faults out.new) }
+{
+    if input.len() > LIMIT {
+        return Ok(Some(Refusal::TooLong));
+    }
+    match parse_header(input) {
+        Ok((cluster, end)) => replay_behind::<W, O>(alloc, &cluster, end, input, out),
+        Err(fault) => Ok(Some(Refusal::Header(fault))),
+    }
+}

@@ -1,0 +1,37 @@
+//! What the events of a schedule happen to.
+ghost use Rattle.std.specs.Prelude.{◌≡◌, ◌++◌, IfErr, IfOk, IsOkAnd, IsTrue, OnOk};
+ghost use Rattle.std.specs.Bool.{OnFalse};
+ghost use Rattle.mdcc_protocol.specs.Built.{built};
+ghost use Rattle.mdcc_protocol.specs.IsCluster.{IsCluster};
+ghost use Rattle.mdcc_protocol.specs.World.{World as AWorld, end_line, event_of, first_world};
+ghost use Rattle.mdcc_replay.specs.Refusals.{is_memory};
+ghost use Rattle.mdcc_replay.specs.Words.{is_built};
+
+use mdcc_base::{HeapList, Memory};
+use mdcc_option::Cluster;
+use mdcc_protocol::{Event, EventFault, Line};
+use std::alloc::Global;
+
+/// Nodes of a cluster and the messages between them, to which the events of a schedule happen.
+pub trait Simulation {
+    /// The worlds of the definitions that it stands for.
+    ghost stands: { Self → AWorld → Type 0 };
+
+    /// All centres are booted for the first time.
+    fn start(alloc: Global, cluster: Cluster) -> Result<Self, Memory>
+        requires { IsCluster cluster }
+        ensures { IfOk result (λ world. stands world (first_world cluster)) };
+
+    /// An event of a built word happens, and its lines are put behind the others.
+    fn take(&mut self, event: &Event, lines: &mut HeapList<Line>) -> Result<(), EventFault>
+        requires word { IsTrue (is_built event.now) }
+        requires known { (w : AWorld) × stands self.old w }
+        ensures ok { (w : AWorld) → stands self.old w → OnOk result (IsOkAnd (event_of built w event.now)
+            (λ h. (lines.new ≡ lines.old ++ h.lines) × stands self.new h.world)) }
+        ensures err { (w : AWorld) → stands self.old w → IfErr result (λ fault.
+            OnFalse (is_memory fault) (event_of built w event.now ≡ Err fault)) };
+
+    /// The last line of a report.
+    fn last_line(&self) -> Line
+        ensures { (w : AWorld) → stands self.now w → result ≡ end_line w };
+}

@@ -1,0 +1,294 @@
+-- How far the step on a message raises the rounds of a key.
+use Rattle.std.proofs.Common.{Bool, Err, List, None, Ok, Option, Result, Some, [], ap, arith, cond, false, get_or, inl, inr, length, max, not, refl, set, subst, suc, sym, true, zero, ℕ, ◌&&◌, ◌*◌, ◌++◌, ◌+◌, ◌-◌, ◌<◌, ◌==◌, ◌∙◌, ◌∷◌, ◌≡◌, ◌≤◌}
+use Rattle.std.specs.Option.{option_or}
+use Rattle.std.specs.Prelude.{filter, flat_map, fold, map, nat_le, nat_lt, ⊤, ◌%◌, ◌^◌}
+use Rattle.std.proofs.lemmas.Bool.{cases_Bool, leb-false}
+use Rattle.std.proofs.lemmas.Nat.{mul-le}
+use Rattle.mdcc_base.specs.AreQuorums.{AreQuorums}
+use Rattle.mdcc_base.specs.Ballot.{ballot_lt, fast_ballot}
+use Rattle.mdcc_base.specs.Counts.{number_of}
+use Rattle.mdcc_base.specs.Key.{key_eq, key_lt}
+use Rattle.mdcc_base.specs.Quorums.{all_centres}
+use Rattle.mdcc_base.specs.Sizes.{Sizes}
+use Rattle.mdcc_base.specs.declared.identifiers.Ballot.{Ballot}
+use Rattle.mdcc_base.specs.declared.identifiers.TxId.{TxId}
+use Rattle.mdcc_base.specs.declared.key.Key.{Key}
+use Rattle.mdcc_base.specs.declared.outside.Image.{Image}
+use Rattle.mdcc_option.specs.Parts.{are_ascending}
+use Rattle.mdcc_option.specs.declared.choices.Cause.{Cause}
+use Rattle.mdcc_option.specs.declared.choices.Choice.{Choice}
+use Rattle.mdcc_option.specs.declared.choices.Claim.{Claim}
+use Rattle.mdcc_option.specs.declared.choices.Mark.{Mark}
+use Rattle.mdcc_option.specs.declared.choices.Outcome.{Outcome}
+use Rattle.mdcc_option.specs.declared.cluster.Cluster.{Cluster}
+use Rattle.mdcc_option.specs.declared.items.Part.{Part}
+use Rattle.mdcc_struct.specs.Maps.{TxMap}
+use Rattle.mdcc_struct.specs.declared.options.Options.{Options}
+use Rattle.mdcc_protocol.specs.Acceptor.{answer_to_marks, new_marks, on_accept, on_prepare, on_propose, promise_answer, range_end}
+use Rattle.mdcc_protocol.specs.AcceptorRules.{accepted_step, all_votes_sent, ask_step_by, prepared_step, promise_message, proposed_step, votes_sent}
+use Rattle.mdcc_protocol.specs.Allowed.{part_in}
+use Rattle.mdcc_protocol.specs.Built.{Built}
+use Rattle.mdcc_protocol.specs.Facts.{ballot_promised, current_of, epoch_of, heard_of, is_heard, promise_of, promised_through, vote_of}
+use Rattle.mdcc_protocol.specs.Leader.{claim_of_choice, is_marked, lead, on_promise, refused_by}
+use Rattle.mdcc_protocol.specs.LeaderRules.{Led, lead_entries, lead_sent, lead_step_after, led_by_answer, led_of, promise_entries, promise_sent, promised_by_answer, step_of_led}
+use Rattle.mdcc_protocol.specs.Learner.{is_learned}
+use Rattle.mdcc_protocol.specs.Ledger.{Added, Entry, Valued, choices_begun, facts_of}
+use Rattle.mdcc_protocol.specs.Manager
+use Rattle.mdcc_protocol.specs.Manager.{act_at, act_on_cause, acted, acts_at, begin_by, begin_fault, choices_unlearned, is_odd, keys_of_choices, ticked_transaction, vote_taken}
+use Rattle.mdcc_protocol.specs.ManagerRules.{act_sent, acted_step, begin_step_by, decided_step, escalate_step, opened_step, proposals_sent, undecided_step, voted_step, watched_step}
+use Rattle.mdcc_protocol.specs.Messages.{to_all, to_each, to_one, to_others}
+use Rattle.mdcc_protocol.specs.Marks.{is_accept}
+use Rattle.mdcc_protocol.specs.News.{is_crowding, is_news}
+use Rattle.mdcc_protocol.specs.Node.{checked, is_without_room, message_step, rule, step_of, with_room}
+use Rattle.mdcc_protocol.specs.Recover
+use Rattle.mdcc_protocol.specs.Recover.{acts_on, ask_of, claim_of_key, counted_tick, dangling, keys_led}
+use Rattle.mdcc_protocol.specs.Steps.{NodeStep, adding, answering, nothing_done, sending}
+use Rattle.mdcc_protocol.specs.SyncRules.{give_sent, give_sent_by, outcome_step_by, sync_give_step_by}
+use Rattle.mdcc_protocol.specs.TickRules.{Ticked, and_then, claim_led, led_or_left, manager_act, manager_ticked, recovery_act, recovery_ticked, tick_parts, ticked}
+use Rattle.mdcc_protocol.specs.Visible.{on_outcome, on_sync_ask, on_sync_give}
+use Rattle.mdcc_protocol.specs.Volatile.{Leading, Managing, Recovering, Undecided, Volatile, closed, counter_of, is_open, lead_of, next_count, number_at, txs_opened, with_manager, with_recovery}
+use Rattle.mdcc_protocol.specs.declared.acceptor.AcceptAnswer.{AcceptAnswer}
+use Rattle.mdcc_protocol.specs.declared.acceptor.PrepareAnswer.{PrepareAnswer}
+use Rattle.mdcc_protocol.specs.declared.acceptor.ProposeAnswer.{ProposeAnswer}
+use Rattle.mdcc_protocol.specs.declared.facts.Fact.{Fact}
+use Rattle.mdcc_protocol.specs.declared.leader.LeadAnswer.{LeadAnswer}
+use Rattle.mdcc_protocol.specs.declared.leader.LeadFault.{LeadFault}
+use Rattle.mdcc_protocol.specs.declared.leader.PromiseAnswer.{PromiseAnswer}
+use Rattle.mdcc_protocol.specs.declared.manager.ManagerAct.{ManagerAct}
+use Rattle.mdcc_protocol.specs.declared.messages.Envelope.{Envelope}
+use Rattle.mdcc_protocol.specs.declared.messages.Message.{Message}
+use Rattle.mdcc_protocol.specs.declared.node.StepFault.{StepFault}
+use Rattle.mdcc_protocol.specs.declared.recover.RecoverAct.{RecoverAct}
+use Rattle.mdcc_protocol.specs.declared.visible.Give.{Give}
+use Rattle.mdcc_protocol.specs.declared.votes.Vote.{Vote}
+use Rattle.mdcc_trace_states.specs.Words.{Each, In}
+use Rattle.mdcc_trace_states.proofs.Lists.{Each-append, Each-like}
+use Rattle.mdcc_trace_rules.proofs.Begins.{Each-flat_map}
+use Rattle.mdcc_trace_limits.proofs.RoundSteps.{AreRoundFacts, AreRoundSends, IsRound, IsRoundFact, IsRoundLeader, IsRoundLed, each-round, facts-round, leader-more, led-round, promise-round, promised-round, raised, refused-round, sends-more, voted-round}
+
+-- ---- single steps
+
+-- a step keeps the rounds of a key within a number
+pub record IsRoundStep (key : Key) (r : ℕ) (step : NodeStep) : Type 0 where
+  pub fact : (f : Fact) → step.fact ≡ Some f → IsRoundFact key r f
+  pub leader : IsRoundLeader key r step.after.leader
+  pub sends : AreRoundSends key r step.sends
+  pub plain : (es : List Entry) (a : ℕ) → facts_of (step.entries ++ es) a ≡ facts_of es a
+
+abbrev pub IsRoundResult : Key → ℕ → Result NodeStep StepFault → Type 0
+IsRoundResult key r (Ok step) = IsRoundStep key r step
+IsRoundResult key r (Err fault) = ⊤
+
+fact-more : (key : Key) (r s : ℕ) (f : Fact) → r ≤ s → IsRoundFact key r f → IsRoundFact key s f
+fact-more key r s f h g = λ v. let x = g v in omega (arith, h, x)
+
+step-more : (key : Key) (r s : ℕ) (step : NodeStep) → r ≤ s → IsRoundStep key r step → IsRoundStep key s step
+step-more key r s step h g = record {
+  fact = λ f e. fact-more key r s f h (g.fact f e);
+  leader = leader-more key r s step.after.leader h g.leader;
+  sends = sends-more key r s step.sends h g.sends;
+  plain = g.plain;
+}
+
+sending-round : (key : Key) (r : ℕ) (after : Volatile) (sends : List Envelope) → IsRoundLeader key r after.leader → AreRoundSends key r sends → IsRoundStep key r (sending after sends)
+sending-round key r after sends l s = record { fact = λ f e. absurd (cc); leader = l; sends = s; plain = λ es a. refl }
+
+done-round : (key : Key) (r : ℕ) (after : Volatile) → IsRoundLeader key r after.leader → IsRoundStep key r (nothing_done after)
+done-round key r after l = record { fact = λ f e. absurd (cc); leader = l; sends = tt; plain = λ es a. refl }
+
+adding-round : (key : Key) (r : ℕ) (after : Volatile) (fact : Fact) (sends : List Envelope) → IsRoundFact key r fact → IsRoundLeader key r after.leader → AreRoundSends key r sends → IsRoundStep key r (adding after fact sends)
+adding-round key r after fact sends g l s = record { fact = λ f e. let same : fact ≡ f = cc in subst (IsRoundFact key r) same g; leader = l; sends = s; plain = λ es a. refl }
+
+-- a fact that is neither a promise nor a vote names no ballot
+heard-round : (key : Key) (r : ℕ) (t : TxId) (o : Outcome) → IsRoundFact key r (Fact.Heard t o)
+heard-round key r t o = λ v. omega arith
+
+proposed-fine : (key : Key) (r me : ℕ) (volatile : Volatile) (s : ℕ) (choice : Choice) (answer : ProposeAnswer) → IsRoundLeader key r volatile.leader → IsRoundStep key r (proposed_step me volatile s choice answer)
+proposed-fine key r me volatile s choice (ProposeAnswer.Known outcome) l = sending-round key r volatile _ l (tt, tt)
+proposed-fine key r me volatile s choice (ProposeAnswer.Again ballot mark) l = sending-round key r volatile _ l (tt, tt)
+proposed-fine key r me volatile s choice (ProposeAnswer.Escalate cause) l = sending-round key r volatile _ l (tt, tt)
+proposed-fine key r me volatile s choice (ProposeAnswer.Vote mark) l = adding-round key r volatile _ _ (voted-round key r choice.key choice.version fast_ballot ((choice.tx, mark) ∷ []) (cond (is_accept mark) None (Some choice)) (λ e. omega arith)) l (tt, tt)
+
+prepared-fine : (key : Key) (r me : ℕ) (facts : List Fact) (volatile : Volatile) (s : ℕ) (k : Key) (v w : ℕ) (b : Ballot) → AreRoundFacts key r facts → IsRoundLeader key r volatile.leader → (k ≡ key → b.round ≤ r) →
+    IsRoundStep key r (prepared_step me facts volatile s k v b (on_prepare facts k v w b))
+prepared-fine key r me facts volatile s k v w b f l h = pick (ballot_lt b (promise_of facts k v)) (promised_through facts k v b)
+  where
+    pick : (x : Bool) (o : Option ℕ) → IsRoundStep key r (prepared_step me facts volatile s k v b (cond x (PrepareAnswer.Refused (promise_of facts k v)) (promise_answer o (range_end facts k v w))))
+    pick true o = sending-round key r volatile _ l ((λ e. subst (λ z. (promise_of facts z v).round ≤ r) (sym e) (f v)), tt)
+    pick false (Some high) = sending-round key r volatile _ l (tt, tt)
+    pick false None = adding-round key r volatile _ _ (promised-round key r k v (range_end facts k v w) b h) l (tt, tt)
+
+all-votes-fine : (key : Key) (r me : ℕ) (facts : List Fact) (k : Key) (v : ℕ) (b : Ballot) (os : Options) → AreRoundSends key r (all_votes_sent me facts k v b os)
+all-votes-fine key r me facts k v b os =
+    Each-flat_map (λ (env : Envelope). IsRound key r env.message) (votes_sent me k v b) (filter (λ (e : TxId × Mark). not (is_heard facts e.0)) os) (λ e i. each-round key r me (Message.Voted k v b e.0 e.1) _ tt)
+
+accepted-fine : (key : Key) (r me : ℕ) (facts : List Fact) (volatile : Volatile) (s : ℕ) (k : Key) (v : ℕ) (b : Ballot) (os : Options) → AreRoundFacts key r facts → IsRoundLeader key r volatile.leader → (k ≡ key → b.round ≤ r) →
+    IsRoundStep key r (accepted_step me facts volatile s k v b os (on_accept facts k v b os))
+accepted-fine key r me facts volatile s k v b os f l h = pick (ballot_lt b (promise_of facts k v)) (nat_lt (current_of facts k) v) (new_marks facts k v b os)
+  where
+    pick : (x y : Bool) (ms : Options) → IsRoundStep key r (accepted_step me facts volatile s k v b os (cond x (AcceptAnswer.Refused (promise_of facts k v)) (cond y (AcceptAnswer.Behind (current_of facts k)) (answer_to_marks ms))))
+    pick true y ms = sending-round key r volatile _ l ((λ e. subst (λ z. (promise_of facts z v).round ≤ r) (sym e) (f v)), tt)
+    pick false true ms = sending-round key r volatile _ l (tt, tt)
+    pick false false [] = sending-round key r volatile _ l (all-votes-fine key r me facts k v b os)
+    pick false false (m ∷ ms) = adding-round key r volatile _ _ (voted-round key r k v b (new_marks facts k v b os) None h) l (all-votes-fine key r me facts k v b (new_marks facts k v b os))
+
+asked-fine : (key : Key) (r me : ℕ) (volatile : Volatile) (s : ℕ) (t : TxId) (k : Key) (v : ℕ) (o : Option Outcome) (x : Option (Ballot × Mark)) → IsRoundLeader key r volatile.leader → IsRoundStep key r (ask_step_by me volatile s t k v o x)
+asked-fine key r me volatile s t k v (Some o) x l = sending-round key r volatile _ l (tt, tt)
+asked-fine key r me volatile s t k v None (Some x) l = sending-round key r volatile _ l (tt, tt)
+asked-fine key r me volatile s t k v None None l = done-round key r volatile l
+
+outcome-fine : (key : Key) (r : ℕ) (volatile : Volatile) (facts : List Fact) (t : TxId) (o : Outcome) → IsRoundLeader key r volatile.leader → IsRoundStep key r (outcome_step_by volatile t (on_outcome facts t o))
+outcome-fine key r volatile facts t o l = pick (is_heard facts t)
+  where
+    pick : (b : Bool) → IsRoundStep key r (outcome_step_by volatile t (cond b None (Some (Fact.Heard t o))))
+    pick true = done-round key r volatile l
+    pick false = adding-round key r (closed volatile t) (Fact.Heard t o) [] (heard-round key r t o) l tt
+
+given-fine : (key : Key) (r : ℕ) (volatile : Volatile) (b : Bool) (give : Give) → IsRoundLeader key r volatile.leader → IsRoundStep key r (sync_give_step_by volatile (cond b (Some (Fact.Adopted give.key give.version give.item give.adds)) None))
+given-fine key r volatile true give l = adding-round key r volatile (Fact.Adopted give.key give.version give.item give.adds) [] (λ v. omega arith) l tt
+given-fine key r volatile false give l = done-round key r volatile l
+
+give-sends : (key : Key) (r me s : ℕ) (o : Option Give) → AreRoundSends key r (give_sent_by me s o)
+give-sends key r me s (Some give) = (tt, tt)
+give-sends key r me s None = tt
+
+-- ---- the manager
+
+act-sends : (key : Key) (r me : ℕ) (facts : List Fact) (act : Option ManagerAct) → AreRoundSends key r (act_sent me facts act)
+act-sends key r me facts None = tt
+act-sends key r me facts (Some (ManagerAct.Lead leader choice)) = (tt, tt)
+act-sends key r me facts (Some (ManagerAct.Give centre k)) = give-sends key r me centre (on_sync_ask facts k)
+act-sends key r me facts (Some (ManagerAct.Decide tx outcome)) = tt
+act-sends key r me facts (Some (ManagerAct.Propose choice)) = tt
+act-sends key r me facts (Some (ManagerAct.LeadHere choice)) = tt
+
+acted-fine : (key : Key) (r me : ℕ) (facts : List Fact) (volatile : Volatile) (x : Option ManagerAct × Managing) → IsRoundLeader key r volatile.leader → IsRoundStep key r (acted_step me facts volatile x)
+acted-fine key r me facts volatile (act, manager) l = sending-round key r (with_manager volatile manager) _ l (act-sends key r me facts act)
+
+decided-fine : (key : Key) (r : ℕ) (cluster : Cluster) (me : ℕ) (volatile : Volatile) (t : TxId) (o : Outcome) → IsRoundLeader key r volatile.leader → IsRoundStep key r (decided_step cluster me volatile t o)
+decided-fine key r cluster me volatile t o l = adding-round key r (closed volatile t) _ _ (heard-round key r t o) l (each-round key r me (Message.Outcome t o) _ tt)
+
+voted-fine : (key : Key) (r : ℕ) (built : Built) (cluster : Cluster) (me : ℕ) (facts : List Fact) (volatile : Volatile) (vote : Vote) → IsRoundLeader key r volatile.leader → IsRoundStep key r (voted_step built cluster me facts volatile vote)
+voted-fine key r built cluster me facts volatile vote l =
+    elim (cases_Bool (is_heard facts vote.tx)) [
+      | inl e ↦ rw e (done-round key r volatile l)
+      | inr e ↦ rw e (elim (cases_Bool (is_open volatile.manager vote.tx)) [ inl f ↦ rw f (opened _) | inr f ↦ rw f (watched _) ])
+    ]
+  where
+    undecided : IsRoundStep key r (undecided_step built cluster me facts volatile vote)
+    undecided =
+        elim (cases_Bool built.escalations) [
+          | inl e ↦ rw e (acted-fine key r me facts volatile (Manager.on_voted cluster.quorums volatile.manager vote) l)
+          | inr e ↦ rw e (done-round key r (with_manager volatile (vote_taken cluster.quorums volatile.manager vote)) l)
+        ]
+
+    opened : (o : Option Outcome) → IsRoundStep key r (opened_step built cluster me facts volatile vote o)
+    opened (Some o) = decided-fine key r cluster me volatile vote.tx o l
+    opened None = undecided
+
+    watched : (o : Option (TxId × Outcome)) → IsRoundStep key r (watched_step cluster me facts volatile vote o)
+    watched (Some d) = decided-fine key r cluster me volatile d.0 d.1 l
+    watched None = done-round key r (with_recovery volatile (Recover.on_voted cluster.quorums facts volatile.recovery vote).1) l
+
+-- ---- the leader
+
+led-fine : (key : Key) (r : ℕ) (volatile : Volatile) (x : Result Led LeadFault) → ((es : List Entry) (a : ℕ) (led : Led) → x ≡ Ok led → facts_of (led.entries ++ es) a ≡ facts_of es a) → IsRoundLed key r x → IsRoundResult key r (step_of_led volatile x)
+led-fine key r volatile (Ok led) plain h = record { fact = λ f e. absurd (cc); leader = h.0; sends = h.1; plain = λ es a. plain es a led refl }
+led-fine key r volatile (Err fault) plain h = tt
+
+led-plain : (quorums : Sizes) (me : ℕ) (leader : Leading) (claim : Claim) (x : Result (LeadAnswer × Leading) LeadFault) (es : List Entry) (a : ℕ) (led : Led) → led_by_answer quorums me leader claim x ≡ Ok led → facts_of (led.entries ++ es) a ≡ facts_of es a
+led-plain quorums me leader claim (Err fault) es a led e = absurd (cc)
+led-plain quorums me leader claim (Ok (answer, after)) es a led e =
+    let same : record { after = after; entries = lead_entries me leader claim answer; sends = lead_sent quorums me claim answer } ≡ led = cc in
+    subst (λ (z : Led). facts_of (z.entries ++ es) a ≡ facts_of es a) same (by_answer answer)
+  where
+    pick : (b : Bool) (k : Key) (v : ℕ) (m : Ballot) (os : Options) → facts_of (cond b [] (Valued me k v m os ∷ []) ++ es) a ≡ facts_of es a
+    pick true k v m os = refl
+    pick false k v m os = refl
+
+    by_answer : (answer : LeadAnswer) → facts_of (lead_entries me leader claim answer ++ es) a ≡ facts_of es a
+    by_answer LeadAnswer.Behind = refl
+    by_answer (LeadAnswer.Prepare v w b) = refl
+    by_answer LeadAnswer.Left = refl
+    by_answer (LeadAnswer.Accept v b os) = pick (is_marked leader claim) claim.key v b os
+
+pub led-of-plain : (cluster : Cluster) (me : ℕ) (facts : List Fact) (leader : Leading) (claim : Claim) (es : List Entry) (a : ℕ) (led : Led) → led_of cluster me facts leader claim ≡ Ok led → facts_of (led.entries ++ es) a ≡ facts_of es a
+led-of-plain cluster me facts leader claim es a led e = led-plain cluster.quorums me leader claim (lead cluster me (epoch_of facts) facts leader claim) es a led e
+
+promised-plain : (quorums : Sizes) (me : ℕ) (k : Key) (x : Result (PromiseAnswer × Leading) LeadFault) (es : List Entry) (a : ℕ) (led : Led) → promised_by_answer quorums me k x ≡ Ok led → facts_of (led.entries ++ es) a ≡ facts_of es a
+promised-plain quorums me k (Err fault) es a led e = absurd (cc)
+promised-plain quorums me k (Ok (answer, after)) es a led e =
+    let same : record { after = after; entries = promise_entries me k answer; sends = promise_sent quorums me k answer } ≡ led = cc in
+    subst (λ (z : Led). facts_of (z.entries ++ es) a ≡ facts_of es a) same (by_answer answer)
+  where
+    by_answer : (answer : PromiseAnswer) → facts_of (promise_entries me k answer ++ es) a ≡ facts_of es a
+    by_answer PromiseAnswer.Ignored = refl
+    by_answer (PromiseAnswer.Waiting n) = refl
+    by_answer PromiseAnswer.Counted = refl
+    by_answer (PromiseAnswer.Accept v b os) = refl
+
+raised-most : (key k : Key) (r : ℕ) → raised key k r ≤ r + 1
+raised-most key k r = elim (cases_Bool (key_eq k key)) [ inl e ↦ rw e (omega arith) | inr e ↦ rw e (omega arith) ]
+
+result-more : (key : Key) (r s : ℕ) (x : Result NodeStep StepFault) → r ≤ s → IsRoundResult key r x → IsRoundResult key s x
+result-more key r s (Ok step) h g = step-more key r s step h g
+result-more key r s (Err fault) h g = tt
+
+lead-fine : (key : Key) (r : ℕ) (cluster : Cluster) (me : ℕ) (facts : List Fact) (volatile : Volatile) (s : ℕ) (choice : Choice) (o : Option Outcome) → AreRoundFacts key r facts → IsRoundLeader key r volatile.leader →
+    IsRoundResult key (r + 1) (lead_step_after cluster me facts volatile s choice o)
+lead-fine key r cluster me facts volatile s choice (Some o) f l = sending-round key (r + 1) volatile _ (leader-more key r (r + 1) volatile.leader (omega arith) l) (tt, tt)
+lead-fine key r cluster me facts volatile s choice None f l =
+    result-more key (raised key choice.key r) (r + 1) (step_of_led volatile (led_of cluster me facts volatile.leader (claim_of_choice choice))) (raised-most key choice.key r)
+    (led-fine key (raised key choice.key r) volatile (led_of cluster me facts volatile.leader (claim_of_choice choice)) (λ es a led e. led-of-plain cluster me facts volatile.leader (claim_of_choice choice) es a led e)
+    (led-round key r cluster me facts volatile.leader (claim_of_choice choice) f l))
+
+-- ---- messages
+
+rule-fine : (key : Key) (r : ℕ) (is_built : Bool) (volatile : Volatile) (x : Result NodeStep StepFault) → IsRoundLeader key r volatile.leader → IsRoundResult key (r + 1) x → IsRoundResult key (r + 1) (rule is_built volatile x)
+rule-fine key r true volatile x l h = h
+rule-fine key r false volatile x l h = done-round key (r + 1) volatile (leader-more key r (r + 1) volatile.leader (omega arith) l)
+
+message-fine : (key : Key) (r : ℕ) (built : Built) (cluster : Cluster) (me : ℕ) (facts : List Fact) (volatile : Volatile) (s : ℕ) (m : Message) → AreRoundFacts key r facts → IsRoundLeader key r volatile.leader → IsRound key r m →
+    IsRoundResult key (r + 1) (message_step built cluster me facts volatile s m)
+message-fine key r built cluster me facts volatile s m f l h = by_message m h
+  where
+    more : (step : NodeStep) → IsRoundStep key r step → IsRoundStep key (r + 1) step
+    more step g = step-more key r (r + 1) step (omega arith) g
+
+    by_message : (m : Message) → IsRound key r m → IsRoundResult key (r + 1) (message_step built cluster me facts volatile s m)
+    by_message (Message.Propose choice) h = rule-fine key r built.proposals volatile _ l (more _ (proposed-fine key r me volatile s choice (on_propose cluster facts choice) l))
+    by_message (Message.Voted k v b t x) h = rule-fine key r built.proposals volatile _ l (more _ (voted-fine key r built cluster me facts volatile _ l))
+    by_message (Message.Escalate k v t cause) h = rule-fine key r built.escalations volatile _ l (more _ (acted-fine key r me facts volatile (Manager.on_escalate cluster.quorums volatile.manager s t k cause) l))
+    by_message (Message.Lead choice) h = rule-fine key r built.leading volatile _ l (lead-fine key r cluster me facts volatile s choice (heard_of facts choice.tx) f l)
+    by_message (Message.Prepare k v w b) h = rule-fine key r built.leading volatile _ l (more _ (prepared-fine key r me facts volatile s k v w b f l h))
+    by_message (Message.Promise k v w b q os) h =
+        rule-fine key r built.leading volatile _ l
+        (result-more key r (r + 1) (step_of_led volatile (promised_by_answer cluster.quorums me k (on_promise cluster facts volatile.leader s (record { key = k; version = v; through = w; ballot = b; reported = q; votes = os })))) (omega arith)
+        (led-fine key r volatile (promised_by_answer cluster.quorums me k (on_promise cluster facts volatile.leader s (record { key = k; version = v; through = w; ballot = b; reported = q; votes = os })))
+        (λ es a led e. promised-plain cluster.quorums me k (on_promise cluster facts volatile.leader s (record { key = k; version = v; through = w; ballot = b; reported = q; votes = os })) es a led e)
+        (promise-round key r cluster me facts volatile.leader s (record { key = k; version = v; through = w; ballot = b; reported = q; votes = os }) l)))
+    by_message (Message.Accept k v b os) h = rule-fine key r built.leading volatile _ l (more _ (accepted-fine key r me facts volatile s k v b os f l h))
+    by_message (Message.Refused k v b p) h = rule-fine key r built.leading volatile _ l (more _ (done-round key r _ (refused-round key r volatile.leader k b p (lead_of volatile.leader k) refl h l)))
+    by_message (Message.Outcome t o) h = rule-fine key r built.proposals volatile _ l (more _ (outcome-fine key r volatile facts t o l))
+    by_message (Message.Ask t k v) h = rule-fine key r built.recovery volatile _ l (more _ (asked-fine key r me volatile s t k v (heard_of facts t) (vote_of facts k v t) l))
+    by_message (Message.SyncAsk k) h = rule-fine key r built.catching_up volatile _ l (more _ (sending-round key r volatile _ l (give-sends key r me s (on_sync_ask facts k))))
+    by_message (Message.SyncGive k v item adds) h = rule-fine key r built.catching_up volatile _ l (more _ (given-fine key r volatile (is_news facts k v adds) (record { key = k; version = v; item = item; adds = adds }) l))
+    by_message (Message.ClientRead n k) h = more _ (done-round key r volatile l)
+    by_message (Message.ClientBegin n ps) h = more _ (done-round key r volatile l)
+    by_message (Message.ClientAnswer n x) h = more _ (done-round key r volatile l)
+
+pub checked-fine : (key : Key) (r : ℕ) (built : Built) (cluster : Cluster) (me : ℕ) (facts : List Fact) (volatile : Volatile) (s : ℕ) (m : Message) → AreRoundFacts key r facts → IsRoundLeader key r volatile.leader → IsRound key r m →
+    IsRoundResult key (r + 1) (checked built cluster facts (message_step built cluster me facts volatile s m))
+checked-fine key r built cluster me facts volatile s m f l h = by_case (message_step built cluster me facts volatile s m) (message-fine key r built cluster me facts volatile s m f l h)
+  where
+    room : (step : NodeStep) (o : Option Fact) → IsRoundStep key (r + 1) step → IsRoundResult key (r + 1) (with_room built cluster facts step o)
+    room step None g = g
+    room step (Some fact) g =
+        elim (cases_Bool (is_without_room built cluster facts fact)) [
+          | inl e ↦ rw e tt
+          | inr e ↦ rw e (elim (cases_Bool (is_crowding facts fact)) [ inl i ↦ rw i tt | inr i ↦ rw i g ])
+        ]
+
+    by_case : (x : Result NodeStep StepFault) → IsRoundResult key (r + 1) x → IsRoundResult key (r + 1) (checked built cluster facts x)
+    by_case (Ok step) g = room step step.fact g
+    by_case (Err fault) g = tt

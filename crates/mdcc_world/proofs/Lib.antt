@@ -1,0 +1,13 @@
+mod BeginSaid
+mod BeginTaken
+mod Counted
+mod Delivered
+mod Delivering
+mod Ended
+mod Ending
+mod Happened
+mod Named
+mod NodesStay
+mod Roomy
+mod Settled
+mod Took

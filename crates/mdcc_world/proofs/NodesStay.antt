@@ -1,0 +1,220 @@
+-- The nodes of a world after a step of one of them.
+use Rattle.std.proofs.Common.{◌≡◌, ℕ, zero, suc, ◌+◌, ◌-◌, ◌≤◌, ◌<◌, ◌==◌, ◌⊎◌, Bool, true, false, List, [], ◌∷◌, ◌++◌, refl, sym, ap, ◌∙◌, subst, inl, inr, Option, Some, None, Result, Ok, Err, arith, length, get_or, nat_le}
+use Rattle.std.specs.Bool.{OnFalse}
+use Rattle.std.specs.Prelude.{IfOk, OnOk, set, slice_get}
+use Rattle.std.proofs.lemmas.Bool.{and_from, le-leb}
+use Rattle.std.proofs.lemmas.List.{length-set}
+use Rattle.std.proofs.lemmas.Option.{slice_get-get_or}
+use Rattle.mdcc_facts.specs.declared.list_facts.ListFacts.{ListFacts}
+use Rattle.mdcc_base.specs.Unless.{GivesUnless}
+use Rattle.mdcc_base.specs.declared.faults.Memory.{Memory}
+use Rattle.mdcc_node.specs.Stepping.{UnlessMemory, facts_left, is_memory, volatile_left, with_new}
+use Rattle.mdcc_node.specs.declared.node.Node.{Node}
+use Rattle.mdcc_option.specs.declared.cluster.Cluster.{Cluster}
+use Rattle.mdcc_protocol.specs.Belongs.{is_centre}
+use Rattle.mdcc_protocol.specs.Built.{built}
+use Rattle.mdcc_protocol.specs.Ledger.{facts_of}
+use Rattle.mdcc_protocol.specs.Steps.{NodeStep}
+use Rattle.mdcc_protocol.specs.Volatile.{nothing_kept}
+use Rattle.mdcc_protocol.specs.World.{World, centre_at, first_world, input_happened, step_at}
+use Rattle.mdcc_protocol.specs.declared.facts.Fact.{Fact}
+use Rattle.mdcc_protocol.specs.declared.node.Input.{Input}
+use Rattle.mdcc_protocol.specs.declared.node.Step.{Step}
+use Rattle.mdcc_protocol.specs.declared.node.StepFault.{StepFault}
+use Rattle.mdcc_steps.specs.Forming.{with_new as with_new_fact}
+use Rattle.mdcc_steps.specs.Inputs.{IsWellFormedInput}
+use Rattle.mdcc_worlds.proofs.Begins.{first-facts, first-site}
+use Rattle.mdcc_worlds.proofs.Stays.{facts-here, facts-there, happened-taken, refused-same, site-here, site-there}
+use Rattle.mdcc_worlds.proofs.Within.{made-stays}
+use Rattle.mdcc_world.specs.Nodes.{AreStarted, IsNodeOf, NodesStand, is_memory_made}
+use Rattle.mdcc_worlds.specs.Sending.{StaysWithin}
+use Rattle.mdcc_worlds.specs.Standing.{IsWorld}
+use Rattle.mdcc_worlds.specs.Taking.{world_taken}
+
+-- ---- places
+
+pub set-get : {X : Type 0} (xs : List X) (i j : ℕ) (v x : X) → slice_get (set xs i v) j ≡ Some x
+    → ((j ≡ i) × (v ≡ x)) ⊎ (((i == j) ≡ false) × (slice_get xs j ≡ Some x))
+set-get [] i j v x at = absurd (cc)
+set-get (y ∷ ys) zero zero v x at = let same : v ≡ x = cc in inl (refl, same)
+set-get (y ∷ ys) zero (suc j) v x at = let other : (zero == suc j) ≡ false = grind arith in inr (other, at)
+set-get (y ∷ ys) (suc i) zero v x at = let other : (suc i == zero) ≡ false = grind arith in inr (other, at)
+set-get (y ∷ ys) (suc i) (suc j) v x at = elim (set-get ys i j v x at) [
+  | inl here ↦ inl (ap (λ (n : ℕ). suc n) here.0, here.1)
+  | inr there ↦ inr (grind (there.0, arith), there.1)
+]
+
+pub got-within : {X : Type 0} (xs : List X) (i : ℕ) (x : X) → slice_get xs i ≡ Some x → i < length xs
+got-within [] i x at = absurd (cc)
+got-within (y ∷ ys) zero x at = omega arith
+got-within (y ∷ ys) (suc i) x at = let ih = got-within ys i x at in omega (ih, arith)
+
+pub node-there : {X : Type 0} (xs : List X) (i : ℕ) (x : X) → i < length xs → x ≡ get_or xs i x → slice_get xs i ≡ Some x
+node-there {X = X} xs i x within is = slice_get-get_or xs i x within ∙ ap (λ (y : X). Some y) (sym is)
+
+pub centre-there : (cluster : Cluster) (place : ℕ) → place < cluster.quorums.centres → is_centre cluster (place + 1) ≡ true
+centre-there cluster place within =
+    and_from (nat_le 1 (place + 1)) (nat_le (place + 1) cluster.quorums.centres) (le-leb 1 (place + 1) (omega arith)) (le-leb (place + 1) cluster.quorums.centres (omega (within, arith)))
+
+same-new : (facts : List Fact) (o : Option Fact) → with_new facts o ≡ with_new_fact facts o
+same-new facts None = refl
+same-new facts (Some fact) = refl
+
+-- ---- unless there was no memory
+
+on_false : (b : Bool) {P Q : Type 0} → (P → Q) → OnFalse b P → OnFalse b Q
+on_false true f h = h
+on_false false f h = f h
+
+pub unless-weaker : {T P Q : Type 0} (r : Result T StepFault) → (P → Q) → UnlessMemory r P → UnlessMemory r Q
+unless-weaker (Ok x) f h = f h
+unless-weaker (Err fault) f h = on_false (is_memory fault) f h
+
+-- ---- a step
+
+module _ (nodes : List (Node ListFacts)) (w : World) (place : ℕ) (node : Node ListFacts)
+    (standing : NodesStand nodes w) (world : IsWorld w) (within : place < length nodes) where
+  pub centre-here : is_centre w.cluster (place + 1) ≡ true
+  centre-here = centre-there w.cluster place (omega (within, standing.as_many, arith))
+
+  refused : IsNodeOf node w.cluster (place + 1) (facts_of w.ledger (place + 1)) (centre_at w (place + 1)).volatile
+      → NodesStand (set nodes place node) w
+  refused after = record {
+    as_many = length-set nodes place node ∙ standing.as_many;
+    each = λ j x at. elim (set-get nodes place j node x at) [
+      | inl here ↦ rw (here.0, ← here.1) after
+      | inr there ↦ standing.each j x there.1
+    ];
+  }
+
+  made : (step : NodeStep) → StaysWithin w.cluster step
+      → IsNodeOf node w.cluster (place + 1) (with_new (facts_of w.ledger (place + 1)) step.fact) step.after
+      → NodesStand (set nodes place node) (world_taken w (place + 1) step)
+  made step stays after = record {
+    as_many = length-set nodes place node ∙ standing.as_many;
+    each = λ j x at. elim (set-get nodes place j node x at) [
+      | inl here ↦
+          rw (here.0, ← here.1, facts-here w (place + 1) step world centre-here stays, site-here w (place + 1) step world centre-here stays)
+          (subst (λ (facts : List Fact). IsNodeOf node w.cluster (place + 1) facts step.after) (same-new (facts_of w.ledger (place + 1)) step.fact) after)
+      | inr there ↦
+          let other : ((place + 1) == (j + 1)) ≡ false = grind (there.0, arith) in
+          rw (facts-there w (place + 1) step world centre-here stays (j + 1) other, site-there w (place + 1) step world centre-here stays (j + 1) (omega arith) other)
+          (standing.each j x there.1)
+    ];
+  }
+
+  pub nodes-stay : (input : Input) → IsWellFormedInput input → (r : Result NodeStep StepFault) → step_at built w (place + 1) input ≡ r
+      → IsNodeOf node w.cluster (place + 1) (facts_left (facts_of w.ledger (place + 1)) r) (volatile_left (centre_at w (place + 1)).volatile r)
+      → NodesStand (set nodes place node) (input_happened w (place + 1) r).world
+  nodes-stay input formed (Err fault) e after = rw (refused-same w (place + 1) fault) (refused after)
+  nodes-stay input formed (Ok step) e after =
+      rw (happened-taken w (place + 1) step (world.unstopped (place + 1) centre-here))
+      (made step (made-stays w.cluster (place + 1) (facts_of w.ledger (place + 1)) (centre_at w (place + 1)).volatile input step world.cluster_itself.quorums formed e) after)
+
+-- ---- the first nodes
+
+pushed-get : {X : Type 0} (xs : List X) (v x : X) (i : ℕ) → slice_get (xs ++ v ∷ []) i ≡ Some x → (slice_get xs i ≡ Some x) ⊎ ((i ≡ length xs) × (v ≡ x))
+pushed-get [] v x zero at = let same : v ≡ x = cc in inr (refl, same)
+pushed-get [] v x (suc i) at = absurd (cc)
+pushed-get (y ∷ ys) v x zero at = inl at
+pushed-get (y ∷ ys) v x (suc i) at = elim (pushed-get ys v x i at) [
+  | inl there ↦ inl there
+  | inr here ↦ inr (ap (λ (n : ℕ). suc n) here.0, here.1)
+]
+
+length-more : {X : Type 0} (xs : List X) (v : X) → length (xs ++ v ∷ []) ≡ length xs + 1
+length-more [] v = refl
+length-more (y ∷ ys) v = let ih = length-more ys v in omega (ih, arith)
+
+pub none-started : (cluster : Cluster) → AreStarted [] cluster 0
+none-started cluster = record { as_many = refl; each = λ place node at. absurd (cc) }
+
+pub one-started : (nodes : List (Node ListFacts)) (cluster : Cluster) (count number : ℕ) (node : Node ListFacts)
+    → AreStarted nodes cluster count → number ≡ count + 1 → IsNodeOf node cluster number (Fact.Booted 1 ∷ []) nothing_kept
+    → AreStarted (nodes ++ node ∷ []) cluster number
+one-started nodes cluster count number node are next more = record {
+  as_many = length-more nodes node ∙ omega (are.as_many, next, arith);
+  each = λ place other at. elim (pushed-get nodes node other place at) [
+    | inl there ↦ are.each place other there
+    | inr here ↦ let same : number ≡ place + 1 = omega (here.0, are.as_many, next, arith) in rw (← same, ← here.1) more
+  ];
+}
+
+pub first-nodes : (nodes : List (Node ListFacts)) (cluster : Cluster)
+    → AreStarted nodes cluster cluster.quorums.centres → NodesStand nodes (first_world cluster)
+first-nodes nodes cluster are = record {
+  as_many = are.as_many;
+  each = λ place node at.
+      let within : place < cluster.quorums.centres = omega (got-within nodes place node at, are.as_many, arith) in
+      rw (first-site cluster (place + 1) (centre-there cluster place within), first-facts cluster.quorums.centres (place + 1) (omega arith) (omega (within, arith)))
+      (are.each place node at);
+}
+
+-- ---- what a node made of an input, want of memory apart
+
+pub exact : (r expected : Result Step StepFault) → GivesUnless is_memory r expected → is_memory_made r ≡ false → r ≡ expected
+exact (Ok step) expected gives some = gives
+exact (Err fault) expected gives some = rw some at gives
+
+pub kept : (r : Result Step StepFault) {P : Type 0} → UnlessMemory r P → is_memory_made r ≡ false → P
+kept (Ok step) h some = h
+kept (Err fault) h some = rw some at h
+
+-- ---- the node of a centre
+
+pub node-at : (nodes : List (Node ListFacts)) (w : World) (a : ℕ) (node : Node ListFacts) → NodesStand nodes w → 1 ≤ a → a ≤ length nodes
+    → node ≡ get_or nodes (a - 1) node → IsNodeOf node w.cluster a (facts_of w.ledger a) (centre_at w a).volatile
+node-at nodes w a node standing some few is =
+    let back : a - 1 + 1 ≡ a = omega (some, arith) in
+    let within : a - 1 < length nodes = omega (some, few, arith) in
+    subst (λ (b : ℕ). IsNodeOf node w.cluster b (facts_of w.ledger b) (centre_at w b).volatile) back
+    (standing.each (a - 1) node (node-there nodes (a - 1) node within is))
+
+pub after-step : (nodes : List (Node ListFacts)) (w : World) (a : ℕ) (node : Node ListFacts) (input : Input) → NodesStand nodes w → IsWorld w
+    → 1 ≤ a → a ≤ length nodes → IsWellFormedInput input
+    → IsNodeOf node w.cluster a (facts_left (facts_of w.ledger a) (step_at built w a input)) (volatile_left (centre_at w a).volatile (step_at built w a input))
+    → NodesStand (set nodes (a - 1) node) (input_happened w a (step_at built w a input)).world
+after-step nodes w a node input standing world some few formed =
+    let back : a - 1 + 1 ≡ a = omega (some, arith) in
+    let within : a - 1 < length nodes = omega (some, few, arith) in
+    subst (λ (b : ℕ).
+    IsNodeOf node w.cluster b (facts_left (facts_of w.ledger b) (step_at built w b input)) (volatile_left (centre_at w b).volatile (step_at built w b input))
+    → NodesStand (set nodes (a - 1) node) (input_happened w b (step_at built w b input)).world) back
+    (λ after. nodes-stay nodes w (a - 1) node standing world within input formed (step_at built w (a - 1 + 1) input) refl after)
+
+-- ---- what is made of an input
+
+pub made-is : (result : Result (Result Step StepFault) Memory) (step expected : Result Step StepFault) → IfOk result (λ made. made ≡ step)
+    → OnOk result (is_memory_made step ≡ false) → GivesUnless is_memory step expected → IfOk result (λ made. made ≡ expected)
+made-is (Ok x) step expected same some gives = same ∙ exact step expected gives some
+made-is (Err fault) step expected same some gives = tt
+
+pub made-kept : (result : Result (Result Step StepFault) Memory) (step : Result Step StepFault) (P : Type 0) → OnOk result (is_memory_made step ≡ false)
+    → UnlessMemory step P → OnOk result P
+made-kept (Ok x) step P some left = kept step left some
+made-kept (Err fault) step P some left = tt
+
+-- the nodes after a step that is as the definition's
+pub stepped : (nodes : List (Node ListFacts)) (w : World) (a place : ℕ) (node : Node ListFacts) (input : Input) → NodesStand nodes w → IsWorld w
+    → 1 ≤ a → a ≤ length nodes → place ≡ a → IsWellFormedInput input → (expected : Result NodeStep StepFault) → expected ≡ step_at built w a input
+    → {T : Type 0} (step : Result T StepFault)
+    → UnlessMemory step (IsNodeOf node w.cluster a (facts_left (facts_of w.ledger a) expected) (volatile_left (centre_at w a).volatile expected))
+    → UnlessMemory step (NodesStand (set nodes (place - 1) node) (input_happened w a (step_at built w a input)).world)
+stepped nodes w a place node input standing world some few there formed expected is step left =
+    unless-weaker step (λ after.
+    subst (λ (n : ℕ). NodesStand (set nodes (n - 1) node) (input_happened w a (step_at built w a input)).world) (sym there)
+    (after-step nodes w a node input standing world some few formed
+    (subst (λ (r : Result NodeStep StepFault). IsNodeOf node w.cluster a (facts_left (facts_of w.ledger a) r) (volatile_left (centre_at w a).volatile r)) is after)))
+    left
+
+pub node-in : (nodes : List (Node ListFacts)) (w : World) (a place : ℕ) (node : Node ListFacts) → NodesStand nodes w → 1 ≤ a → a ≤ length nodes → place ≡ a
+    → node ≡ get_or nodes (place - 1) node → IsNodeOf node w.cluster a (facts_of w.ledger a) (centre_at w a).volatile
+node-in nodes w a place node standing some few there is =
+    node-at nodes w a node standing some few (subst (λ (n : ℕ). node ≡ get_or nodes (n - 1) node) there is)
+
+-- as it stands in the list
+pub node-under : (nodes : List (Node ListFacts)) (w : World) (a place : ℕ) (node : Node ListFacts) → NodesStand nodes w → 1 ≤ a → a ≤ length nodes → place ≡ a
+    → node ≡ get_or nodes (place - 1) node → IsNodeOf (get_or nodes (place - 1) node) w.cluster a (facts_of w.ledger a) (centre_at w a).volatile
+node-under nodes w a place node standing some few there is =
+    subst (λ (n : Node ListFacts). IsNodeOf n w.cluster a (facts_of w.ledger a) (centre_at w a).volatile) is
+    (node-in nodes w a place node standing some few there is)

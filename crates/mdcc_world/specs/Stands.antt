@@ -1,0 +1,74 @@
+-- Which world of the definitions a world stands for.
+use Rattle.std.specs.Bool.{OnFalse}
+use Rattle.std.specs.Prelude.{◌≡◌, ◌≤◌, ◌++◌, Err, List, Ok, Result, Some, [], length, map, true, ℕ}
+use Rattle.mdcc_node.specs.Stepping.{given}
+use Rattle.mdcc_outcomes.specs.Stands.{Stands as OutcomesStand}
+use Rattle.mdcc_protocol.specs.Belongs.{is_centre}
+use Rattle.mdcc_protocol.specs.Built.{built}
+use Rattle.mdcc_protocol.specs.Ledger.{Entry}
+use Rattle.mdcc_protocol.specs.Steps.{NodeStep}
+use Rattle.mdcc_protocol.specs.World.{Happened, World, step_at}
+use Rattle.mdcc_protocol.specs.declared.lines.Line.{Line}
+use Rattle.mdcc_protocol.specs.declared.node.Input.{Input}
+use Rattle.mdcc_protocol.specs.declared.node.Step.{Step}
+use Rattle.mdcc_protocol.specs.declared.node.StepFault.{StepFault}
+use Rattle.mdcc_protocol.specs.declared.world.EventFault.{EventFault}
+use Rattle.mdcc_steps.specs.Inputs.{IsWellFormedInput}
+use Rattle.mdcc_world.specs.Faults.{is_memory}
+use Rattle.mdcc_world.specs.Nodes.{NodesStand}
+use Rattle.mdcc_world.specs.declared.world.World.{World as TheWorld}
+use Rattle.mdcc_worlds.specs.Standing.{IsWorld}
+
+-- its cluster, its messages, the reads that were made and the number of events. What the messages weigh is not kept
+pub record RecordsStand (world : TheWorld) (w : World) : Type 0 where
+  pub itself : IsWorld w
+  pub cluster : world.cluster ≡ w.cluster
+  pub mail : world.mail ≡ w.sent
+  pub reads : world.reads ≡ map Some w.reads
+  pub few_reads : length w.reads ≤ w.events
+  pub events : world.events ≡ w.events
+
+-- with these go the votes that were counted, and the nodes
+pub record IsLike (world : TheWorld) (w : World) : Type 0 where
+  pub records : RecordsStand world w
+  pub outcomes : OutcomesStand world.outcomes w.cluster.quorums w.ledger
+  pub nodes : NodesStand world.nodes.items w
+
+-- and there were no more events than there may be
+pub record Stands (world : TheWorld) (w : World) : Type 0 where
+  pub like : IsLike world w
+  pub few : w.events ≤ 100000
+
+-- the entries of the ledger that a step tells beside its fact
+abbrev pub entries_of : Result NodeStep StepFault → List Entry
+entries_of (Ok step) = step.entries
+entries_of (Err fault) = []
+
+-- before what a centre made of an input is taken: all but its node is as before, and its entries were told
+pub record IsBeforeTaking (world : TheWorld) (w : World) (a : ℕ) (input : Input) (step : Result Step StepFault) : Type 0 where
+  pub records : RecordsStand world w
+  pub centre : is_centre w.cluster a ≡ true
+  pub well_formed : IsWellFormedInput input
+  pub outcomes : OutcomesStand world.outcomes w.cluster.quorums (entries_of (step_at built w a input) ++ w.ledger)
+  pub step_itself : step ≡ given (step_at built w a input)
+
+-- and after it
+pub record IsTaken (world : TheWorld) (before after : List Line) (h : Happened) : Type 0 where
+  pub records : RecordsStand world h.world
+  pub outcomes : OutcomesStand world.outcomes h.world.cluster.quorums h.world.ledger
+  pub lines : after ≡ before ++ h.lines
+
+-- the world stands for what happened, and its lines stand behind the others
+pub record HasHappened (world : TheWorld) (before after : List Line) (h : Happened) : Type 0 where
+  pub like : IsLike world h.world
+  pub lines : after ≡ before ++ h.lines
+
+-- the world is like some world
+abbrev pub IsLikeSome : TheWorld → Type 0
+IsLikeSome world = (w : World) × IsLike world w
+
+-- what is to happen has happened, or is refused as it is to be; there may always be no memory
+abbrev pub Happens : {T : Type 0} → TheWorld → List Line → List Line → Result T EventFault → Result Happened EventFault → Type 0
+Happens world before after (Ok x) (Ok h) = HasHappened world before after h
+Happens world before after (Ok x) (Err fault) = ⊥
+Happens world before after (Err fault) expected = OnFalse (is_memory fault) (expected ≡ Err fault)

@@ -1,0 +1,2 @@
+-- Which events are built.
+pub use Rattle.mdcc_worlds.specs.Words.{is_built}

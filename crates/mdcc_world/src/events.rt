@@ -1,0 +1,46 @@
+//! One event of each kind.
+ghost use Rattle.std.specs.Bool.{OnFalse};
+ghost use Rattle.std.specs.Prelude.{◌≡◌, ◌≤◌, ◌++◌, Err, IfErr, IsOkAnd, IsTrue, OnOk};
+ghost use Rattle.mdcc_protocol.specs.Built.{built};
+ghost use Rattle.mdcc_protocol.specs.World.{World as AWorld, event_of};
+ghost use Rattle.mdcc_world.specs.Faults.{is_memory};
+ghost use Rattle.mdcc_world.specs.Stands.{Happens, IsLike, IsLikeSome, Stands};
+ghost use Rattle.mdcc_world.specs.Words.{is_built};
+
+use crate::world::World;
+use mdcc_base::HeapList;
+use mdcc_protocol::{Event, EventFault, Line};
+
+impl World {
+    // An event of each built kind.
+    fn happen(&mut self, event: &Event, lines: &mut HeapList<Line>) -> Result<(), EventFault>
+        requires word { IsTrue (is_built event.now) }
+        requires few { self.old.events ≤ 100000 }
+        requires like { IsLikeSome self.old }
+        ensures happens { (w : AWorld) → IsLike self.old w
+            → Happens self.new lines.old lines.new result (event_of built w event.now) }
+        ensures few { OnOk result (self.new.events ≤ 100000) }
+    {
+        match event {
+            Event::Read(centre, key) => self.read(*centre, key, lines),
+            Event::Begin(centre, words) => self.begin(*centre, words.as_slice(), lines),
+            Event::Deliver(numbers) => self.deliver(numbers.as_slice(), lines),
+            Event::Settle(listed) => self.settle(listed, lines),
+            Event::Tick(centre) => self.tick(*centre, lines),
+            Event::Crash(_) | Event::Restart(_) | Event::Stop(_, _, _) => Ok(()),
+        }
+    }
+
+    /// One event: its lines stand behind the others. Where it is refused, or there was no memory,
+    /// the world is to be let go.
+    pub fn event(&mut self, event: &Event, lines: &mut HeapList<Line>) -> Result<(), EventFault>
+        requires word { IsTrue (is_built event.now) }
+        requires known { (w : AWorld) × Stands self.old w }
+        ensures ok { (w : AWorld) → Stands self.old w
+            → OnOk result (IsOkAnd (event_of built w event.now) (λ h. (lines.new ≡ lines.old ++ h.lines) × Stands self.new h.world)) }
+        ensures err { (w : AWorld) → Stands self.old w
+            → IfErr result (λ fault. OnFalse (is_memory fault) (event_of built w event.now ≡ Err fault)) }
+    {
+        self.happen(event, lines)
+    }
+}
