@@ -1,13 +1,15 @@
 //! Facts written to bytes.
 ghost use Rattle.std.specs.Prelude.{◌≡◌, ◌≤◌, ◌+◌, ◌++◌, ◌^◌, vec_len, vec_capacity, IsOk, OnOk, OnErr};
+ghost use Rattle.mdcc_protocol.specs.Bytes.{u8_bytes, u64_bytes};
+ghost use Rattle.mdcc_protocol.specs.SpelledParts.{key_bytes, ballot_bytes};
 ghost use Rattle.mdcc_protocol.specs.Spelling.{offered_bytes, fact_bytes};
-ghost use Rattle.mdcc_protocol.specs.Lengths.{offered_length, fact_length};
+ghost use Rattle.mdcc_protocol.specs.Lengths.{key_length, offered_length, fact_length};
 ghost use Rattle.mdcc_journal.specs.Counts.{HasCounts};
 
 use mdcc_append::appending::{put_ballot, put_choice, put_key, put_u8, put_u32, put_u64};
 use mdcc_append::lengths::{choice_length, given_length, heard_length, key_length, options_length};
 use mdcc_append::marks::{put_given, put_heard, put_options};
-use mdcc_base::Memory;
+use mdcc_base::{Ballot, Key, Memory};
 use mdcc_option::Choice;
 use mdcc_protocol::Fact;
 
@@ -63,6 +65,18 @@ fn put_offered(offered: &Option<Choice>, out: &mut Vec<u8>)
     }
 }
 
+// Appends a promise, as a fact.
+fn put_promised(key: &Key, low: u64, high: u64, ballot: &Ballot, out: &mut Vec<u8>)
+    requires { vec_len out.old + (26 + key_length key.now) ≤ vec_capacity out.old }
+    ensures { out.new.items ≡ out.old.items ++ (u8_bytes 2 ++ key_bytes key.now ++ u64_bytes low ++ u64_bytes high ++ ballot_bytes ballot.now) }
+{
+    put_u8(2, out);
+    put_key(key, out);
+    put_u64(low, out);
+    put_u64(high, out);
+    put_ballot(ballot, out);
+}
+
 // Appends a fact.
 fn put_fact(fact: &Fact, out: &mut Vec<u8>)
     requires counts { HasCounts fact.now }
@@ -79,13 +93,7 @@ fn put_fact(fact: &Fact, out: &mut Vec<u8>)
             low,
             high,
             ballot,
-        } => {
-            put_u8(2, out);
-            put_key(key, out);
-            put_u64(*low, out);
-            put_u64(*high, out);
-            put_ballot(ballot, out);
-        }
+        } => put_promised(key, *low, *high, ballot, out),
         Fact::Voted {
             key,
             version,

@@ -20,9 +20,13 @@ is_no_memory Memory = true
 
 -- ---- kinds
 
--- about a ballot of a leader
+-- about a ballot of a leader, with versions or another ballot
 abbrev pub is_of_ballot : ℕ → Bool
-is_of_ballot kind = is_in_range 5 8 kind
+is_of_ballot kind = kind == 5 || kind == 8
+
+-- about a ballot of a leader, with a structure
+abbrev pub is_of_structure : ℕ → Bool
+is_of_structure kind = kind == 6 || kind == 7
 
 -- of what a centre holds, or between a node and its client
 abbrev pub is_of_state : ℕ → Bool

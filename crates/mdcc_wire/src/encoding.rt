@@ -7,7 +7,7 @@ ghost use Rattle.mdcc_protocol.specs.SpelledParts.{key_bytes, part_bytes};
 ghost use Rattle.mdcc_protocol.specs.Spelling.{kind_of, body_bytes, message_bytes};
 ghost use Rattle.mdcc_protocol.specs.Lengths.{key_length, part_length, body_length, message_length};
 ghost use Rattle.mdcc_wire.specs.Counts.{HasCounts};
-ghost use Rattle.mdcc_wire.specs.Encoding.{is_too_long, is_no_memory, encoded, is_of_option, is_of_ballot, is_of_state};
+ghost use Rattle.mdcc_wire.specs.Encoding.{is_too_long, is_no_memory, encoded, is_of_option, is_of_ballot, is_of_structure, is_of_state};
 
 use crate::answer_bytes::put_answer;
 use crate::body_lengths::{kind_of, message_length};
@@ -105,10 +105,9 @@ fn put_option_body(message: &Message, out: &mut Vec<u8>)
     }
 }
 
-// Appends the body of a message about a ballot of a leader: of kind 5 to 8.
+// Appends the body of a message about a ballot of a leader, with versions or another ballot: of kind 5 or 8.
 fn put_ballot_body(message: &Message, out: &mut Vec<u8>)
     requires kind { is_of_ballot (kind_of message.now) ≡ true }
-    requires counts { HasCounts message.now }
     requires room { vec_len out.old + body_length message.now ≤ vec_capacity out.old }
     ensures bytes { out.new.items ≡ out.old.items ++ body_bytes message.now }
     ensures capacity { vec_capacity out.old ≤ vec_capacity out.new }
@@ -124,6 +123,29 @@ fn put_ballot_body(message: &Message, out: &mut Vec<u8>)
             put_u64(*through, out);
             put_ballot(ballot, out);
         }
+        Message::Refused {
+            key,
+            version,
+            ballot,
+            promised,
+        } => {
+            put_instance(key, *version, out);
+            put_ballot(ballot, out);
+            put_ballot(promised, out);
+        }
+        _ => {}
+    }
+}
+
+// Appends the body of a message with a structure: of kind 6 or 7.
+fn put_structure_body(message: &Message, out: &mut Vec<u8>)
+    requires kind { is_of_structure (kind_of message.now) ≡ true }
+    requires counts { HasCounts message.now }
+    requires room { vec_len out.old + body_length message.now ≤ vec_capacity out.old }
+    ensures bytes { out.new.items ≡ out.old.items ++ body_bytes message.now }
+    ensures capacity { vec_capacity out.old ≤ vec_capacity out.new }
+{
+    match message {
         Message::Promise {
             key,
             version,
@@ -147,16 +169,6 @@ fn put_ballot_body(message: &Message, out: &mut Vec<u8>)
             put_instance(key, *version, out);
             put_ballot(ballot, out);
             put_options(options, out);
-        }
-        Message::Refused {
-            key,
-            version,
-            ballot,
-            promised,
-        } => {
-            put_instance(key, *version, out);
-            put_ballot(ballot, out);
-            put_ballot(promised, out);
         }
         _ => {}
     }
@@ -202,7 +214,8 @@ fn put_body(kind: u8, message: &Message, out: &mut Vec<u8>)
     ensures bytes { out.new.items ≡ out.old.items ++ body_bytes message.now }
 {
     match kind {
-        5 | 6 | 7 | 8 => put_ballot_body(message, out),
+        5 | 8 => put_ballot_body(message, out),
+        6 | 7 => put_structure_body(message, out),
         11 | 12 | 13 | 14 | 15 => put_state_body(message, out),
         _ => put_option_body(message, out),
     }

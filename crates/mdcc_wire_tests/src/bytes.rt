@@ -17,6 +17,9 @@ pub const PLACE: [u8; 10] = [1, 97, 7, 0, 0, 0, 0, 0, 0, 0];
 /// Ballot 2.3.4.
 pub const BALLOT: [u8; 9] = [2, 0, 0, 0, 3, 0, 0, 0, 4];
 
+/// Ballot 5.6.7.
+pub const GREATER: [u8; 9] = [5, 0, 0, 0, 6, 0, 0, 0, 7];
+
 /// The fast ballot.
 pub const FAST: [u8; 9] = [0; 9];
 
@@ -60,6 +63,14 @@ pub fn ballot() -> Ballot {
     }
 }
 
+pub fn greater() -> Ballot {
+    Ballot {
+        round: 5,
+        epoch: 6,
+        centre: 7,
+    }
+}
+
 pub fn item() -> Item {
     Item {
         body: BoundedList::from_slice(&[255]).unwrap_or_default(),
@@ -84,6 +95,32 @@ pub fn choice() -> Choice {
         update: Update::Add(amounts()),
         write_set,
     }
+}
+
+/// Transaction 2.1.258 writes the item to key a at version 7 and has seen 1.1.1. It writes key bc at version 256 too.
+pub fn writing_choice() -> Choice {
+    let other = Key::new(b"bc").unwrap_or_default();
+    let write_set: WriteSet = BoundedList::from_slice(&[
+        (key(), 7),
+        (other, 256),
+    ]).unwrap_or_default();
+    let before: Seen = BoundedList::from_slice(&[tx()]).unwrap_or_default();
+    Choice {
+        tx: next_tx(),
+        key: key(),
+        version: 7,
+        update: Update::Write(item(), before),
+        write_set,
+    }
+}
+
+/// The bytes of that choice.
+pub fn writing_bytes(alloc: Global) -> Result<Vec<u8>, Fail> {
+    let before = joined(alloc, &[&NEXT_TX, &PLACE, &[1], &ITEM, &[1], &TX])?;
+    joined(
+        alloc,
+        &[&before, &[2], &PLACE, &[2, 98, 99, 0, 1, 0, 0, 0, 0, 0, 0]],
+    )
 }
 
 /// The choice is accepted, and transaction 2.1.258 is rejected.

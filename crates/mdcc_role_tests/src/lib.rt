@@ -1,0 +1,13 @@
+//! Tests of the roles of a centre, and of the outcomes of a cluster, over the list store.
+#![tactic(auto)]
+
+#[cfg(test)]
+mod acceptor;
+#[cfg(test)]
+mod manager;
+#[cfg(test)]
+mod outcomes;
+#[cfg(test)]
+mod values;
+#[cfg(test)]
+mod visible;

@@ -1,0 +1,75 @@
+//! What a centre shows, and what it gives another one.
+use crate::values::{decrease, holding, insert, item, key, six, tx};
+use mdcc_base::{BoundedList, Plain};
+use mdcc_facts::ListFacts;
+use mdcc_option::{Delta, Outcome, Token};
+use mdcc_protocol::Give;
+use mdcc_visible::{on_outcome, on_sync_ask, on_sync_give, read, rebase_due};
+use std::test::Fail;
+
+// 10 less 4, seen with the transaction that took them.
+#[test]
+fn a_read_shows_the_executed_deltas(rt: HostRuntime) -> Result<(), Fail> {
+    let store = six(rt.alloc())?;
+    let shown = read(&store, &key(b'a'));
+    let token = Token {
+        version: 1,
+        seen: BoundedList::from_slice(&[tx(2)]).unwrap_or_default(),
+    };
+    assert_eq!(rt; shown.token, token);
+    assert_eq!(rt; shown.item, Some(item(6)));
+    assert!(rt; !shown.due);
+    assert!(rt; !rebase_due(&store, &key(b'a')));
+    Ok(())
+}
+
+#[test]
+fn an_outcome_is_heard_once(rt: HostRuntime) -> Result<(), Fail> {
+    let store = six(rt.alloc())?;
+    assert!(rt; on_outcome(&store, tx(2), &Outcome::Abort).is_none());
+    assert!(rt; on_outcome(&store, tx(3), &Outcome::Abort).is_some());
+    Ok(())
+}
+
+// Whether this is version 1 of key a with one decrease.
+fn is_whole(give: &Give) -> bool {
+    let delta = Delta {
+        tx: tx(2),
+        amounts: BoundedList::from_slice(&[(1, -4)]).unwrap_or_default(),
+    };
+    give.version == 1
+        && give.item.same(&item(10))
+        && give.adds.len() == 1
+        && give.adds.as_slice()[0].same(&delta)
+}
+
+// What a centre holds goes to one that holds nothing, and brings it no news a second time.
+#[test]
+fn a_centre_gives_what_it_holds(rt: HostRuntime) -> Result<(), Fail> {
+    let store = six(rt.alloc())?;
+    assert!(rt; on_sync_ask(rt.alloc(), &store, &key(b'b'))?.is_none());
+    let give = on_sync_ask(rt.alloc(), &store, &key(b'a'))?.ok_or("version 1")?;
+    assert!(rt; is_whole(&give));
+    assert!(rt; on_sync_give(rt.alloc(), &store, &give)?.is_none());
+    let behind = ListFacts::new(rt.alloc())?;
+    assert!(rt; on_sync_give(rt.alloc(), &behind, &give)?.is_some());
+    Ok(())
+}
+
+// From 32 deltas on the value is to be written anew.
+#[test]
+fn a_rebase_is_due_at_32(rt: HostRuntime) -> Result<(), Fail> {
+    let mut choices = vec![in rt.alloc(); insert()]?;
+    for seq in 2..33 {
+        choices.push(decrease(seq))?;
+    }
+    let store = holding(rt.alloc(), choices)?;
+    assert!(rt; !rebase_due(&store, &key(b'a')));
+    let mut choices = vec![in rt.alloc(); insert()]?;
+    for seq in 2..34 {
+        choices.push(decrease(seq))?;
+    }
+    let store = holding(rt.alloc(), choices)?;
+    assert!(rt; rebase_due(&store, &key(b'a')));
+    Ok(())
+}
