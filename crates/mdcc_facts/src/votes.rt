@@ -1,6 +1,6 @@
 //! What facts say of votes and outcomes.
 ghost use Rattle.std.specs.Prelude.{◌≡◌, option_and_then, reverse};
-ghost use Rattle.std.specs.Option.{option_copied};
+ghost use Rattle.std.specs.Option.{option_copied, option_or};
 ghost use Rattle.mdcc_protocol.specs.Facts.{choice_known, choice_of_tx, choice_voted, heard_of, later_vote, mark_voted, outcome_in, vote_of};
 ghost use Rattle.mdcc_protocol.specs.Marks.{choice_in};
 
@@ -114,19 +114,17 @@ pub(crate) fn choice_known(facts: &[Fact], key: &Key, version: u64, tx: &TxId) -
     known
 }
 
-// The outcome that the fact says of a transaction.
-fn outcome_in(fact: &Fact, tx: &TxId) -> Option<Outcome>
-    ensures { result ≡ outcome_in tx.now fact.now }
+// Keeps what the fact says of a transaction, where nothing was heard of it before.
+fn hear(heard: &mut Option<Outcome>, fact: &Fact, tx: &TxId)
+    ensures { heard.new ≡ option_or heard.old (outcome_in tx.now fact.now) }
 {
-    match fact {
-        Fact::Heard { tx: other, outcome } => {
-            if other.is(tx) {
-                Some(outcome.copy())
-            } else {
-                None
-            }
+    if heard.is_some() {
+        return;
+    }
+    if let Fact::Heard { tx: other, outcome } = fact {
+        if other.is(tx) {
+            *heard = Some(outcome.copy());
         }
-        _ => None,
     }
 }
 
@@ -136,7 +134,7 @@ pub(crate) fn heard_of(facts: &[Fact], tx: &TxId) -> Option<Outcome>
 {
     let mut heard = None;
     for fact in facts {
-        heard = heard.or(outcome_in(fact, tx));
+        hear(&mut heard, fact, tx);
     }
     heard
 }

@@ -1,6 +1,6 @@
 -- Each step of a node is good, with all rules, where ledgers with sound marks have one mark.
 use Rattle.std.proofs.Common.{Bool, Err, List, None, Ok, Option, Result, Some, [], cond, false, inl, inr, not, refl, subst, sym, true, ℕ, ◌&&◌, ◌++◌, ◌==◌, ◌∙◌, ◌∷◌, ◌≡◌}
-use Rattle.std.specs.Prelude.{filter, flat_map, fold, map, nat_le, ⊤, ◌%◌}
+use Rattle.std.specs.Prelude.{filter, flat_map, fold, map, nat_le, ◌%◌}
 use Rattle.std.specs.Option.{option_or}
 use Rattle.std.proofs.lemmas.Bool.{and_parts, cases_Bool}
 use Rattle.mdcc_base.specs.AreQuorums.{AreQuorums}

@@ -16,7 +16,7 @@ use Rattle.mdcc_option.specs.declared.choices.Choice.{Choice}
 use Rattle.mdcc_option.specs.declared.cluster.Cluster.{Cluster}
 use Rattle.mdcc_option.specs.declared.choices.Mark.{Mark}
 use Rattle.mdcc_struct.specs.declared.options.Options.{Options}
-use Rattle.mdcc_struct.specs.Maps.{TxMap, inserted, union, value_of, with_entry}
+use Rattle.mdcc_struct.specs.Maps.{TxMap, inserted, union, value_of}
 use Rattle.mdcc_struct.specs.declared.report.Report.{Report}
 use Rattle.mdcc_struct.specs.Forced.{ballot_reported, forced_of, marks_reported, reports_with}
 use Rattle.mdcc_protocol.specs.Marks.{choice_in}

@@ -1,7 +1,7 @@
 -- A message that tells the truth is of the cluster.
-use Rattle.std.proofs.Common.{Bool, List, None, Option, Some, [], ap, arith, false, inl, inr, length, map, refl, subst, sym, true, ℕ, ◌&&◌, ◌<◌, ◌==◌, ◌∙◌, ◌∷◌, ◌≡◌, ◌||◌}
-use Rattle.std.specs.List.{list_all, list_any}
-use Rattle.std.proofs.lemmas.Bool.{and_from, and_parts, cases_Bool, or_cases, or_right}
+use Rattle.std.proofs.Common.{Bool, List, Option, Some, [], ap, arith, inl, inr, length, map, refl, subst, sym, true, ℕ, ◌&&◌, ◌<◌, ◌==◌, ◌∷◌, ◌≡◌}
+use Rattle.std.specs.List.{list_any}
+use Rattle.std.proofs.lemmas.Bool.{and_from, and_parts, or_cases, or_right}
 use Rattle.mdcc_base.specs.AreQuorums.{AreQuorums}
 use Rattle.mdcc_base.specs.Ballot.{ballot_eq, is_fast}
 use Rattle.mdcc_base.specs.Key.{key_eq}
@@ -14,12 +14,11 @@ use Rattle.mdcc_option.specs.declared.choices.Mark.{Mark}
 use Rattle.mdcc_option.specs.declared.choices.Outcome.{Outcome}
 use Rattle.mdcc_option.specs.declared.cluster.Cluster.{Cluster}
 use Rattle.mdcc_option.specs.declared.items.Delta.{Delta}
-use Rattle.mdcc_option.specs.declared.items.Item.{Item}
 use Rattle.mdcc_struct.specs.declared.options.Options.{Options}
 use Rattle.mdcc_struct.specs.declared.report.Report.{Report}
-use Rattle.mdcc_protocol.specs.Allowed.{IsAllowed, are_begun, is_begun, is_own_mark, is_placed, is_valued, is_valued_as}
+use Rattle.mdcc_protocol.specs.Allowed.{IsAllowed, are_begun, is_begun, is_own_mark, is_valued, is_valued_as}
 use Rattle.mdcc_protocol.specs.Belongs.{adds_belong, amounts_belong, ballot_belongs, cause_belongs, choice_belongs, is_centre, item_belongs, mark_belongs, message_belongs, options_belong, outcome_belongs, tx_belongs, update_belongs}
-use Rattle.mdcc_protocol.specs.Facts.{current_of, executed_of, last_ballot, report_of, votes_of}
+use Rattle.mdcc_protocol.specs.Facts.{current_of, last_ballot, votes_of}
 use Rattle.mdcc_protocol.specs.Ledger.{Added, Entry, Valued, choices_begun, chosen_of, facts_of, outcome_of}
 use Rattle.mdcc_protocol.specs.Marks.{Amounts, options_eq}
 use Rattle.mdcc_protocol.specs.declared.messages.Message.{Message}

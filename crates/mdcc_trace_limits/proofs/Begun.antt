@@ -1,5 +1,5 @@
 -- How many transactions were begun, and with how many choices.
-use Rattle.std.proofs.Common.{Bool, Err, List, None, Ok, Option, Some, [], ap, arith, cond, false, inl, inr, length, map, not, refl, subst, sym, true, ℕ, ◌++◌, ◌+◌, ◌<◌, ◌==◌, ◌∙◌, ◌∷◌, ◌≡◌, ◌≤◌}
+use Rattle.std.proofs.Common.{Bool, Err, List, None, Ok, [], ap, arith, cond, false, inl, inr, length, map, not, refl, subst, true, ℕ, ◌+◌, ◌<◌, ◌==◌, ◌∷◌, ◌≡◌, ◌≤◌}
 use Rattle.std.specs.Prelude.{filter, nat_lt}
 use Rattle.std.proofs.lemmas.Bool.{cases_Bool, ltb-false}
 use Rattle.mdcc_base.specs.Counts.{number_of}
@@ -27,7 +27,7 @@ use Rattle.mdcc_trace_rules.specs.Closed.{HasSet}
 use Rattle.mdcc_trace_rules.proofs.Chains.{HasOnce, once-filter, once-value}
 use Rattle.mdcc_trace_rules.proofs.Deciding.{set-keys, some-in}
 use Rattle.mdcc_trace.proofs.Full.{once-sets}
-use Rattle.mdcc_trace_limits.proofs.Small.{filter-few, is_begin, map-length}
+use Rattle.mdcc_trace_limits.proofs.Small.{is_begin, map-length}
 
 -- ---- choices
 

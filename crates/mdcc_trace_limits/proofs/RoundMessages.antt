@@ -1,52 +1,38 @@
 -- How far the step on a message raises the rounds of a key.
-use Rattle.std.proofs.Common.{Bool, Err, List, None, Ok, Option, Result, Some, [], ap, arith, cond, false, get_or, inl, inr, length, max, not, refl, set, subst, suc, sym, true, zero, ℕ, ◌&&◌, ◌*◌, ◌++◌, ◌+◌, ◌-◌, ◌<◌, ◌==◌, ◌∙◌, ◌∷◌, ◌≡◌, ◌≤◌}
-use Rattle.std.specs.Option.{option_or}
-use Rattle.std.specs.Prelude.{filter, flat_map, fold, map, nat_le, nat_lt, ⊤, ◌%◌, ◌^◌}
-use Rattle.std.proofs.lemmas.Bool.{cases_Bool, leb-false}
-use Rattle.std.proofs.lemmas.Nat.{mul-le}
-use Rattle.mdcc_base.specs.AreQuorums.{AreQuorums}
+use Rattle.std.proofs.Common.{Bool, Err, List, None, Ok, Option, Result, Some, [], arith, cond, false, inl, inr, not, refl, subst, sym, true, ℕ, ◌++◌, ◌+◌, ◌∷◌, ◌≡◌, ◌≤◌}
+use Rattle.std.specs.Prelude.{filter, nat_lt, ⊤}
+use Rattle.std.proofs.lemmas.Bool.{cases_Bool}
 use Rattle.mdcc_base.specs.Ballot.{ballot_lt, fast_ballot}
-use Rattle.mdcc_base.specs.Counts.{number_of}
-use Rattle.mdcc_base.specs.Key.{key_eq, key_lt}
-use Rattle.mdcc_base.specs.Quorums.{all_centres}
+use Rattle.mdcc_base.specs.Key.{key_eq}
 use Rattle.mdcc_base.specs.Sizes.{Sizes}
 use Rattle.mdcc_base.specs.declared.identifiers.Ballot.{Ballot}
 use Rattle.mdcc_base.specs.declared.identifiers.TxId.{TxId}
 use Rattle.mdcc_base.specs.declared.key.Key.{Key}
-use Rattle.mdcc_base.specs.declared.outside.Image.{Image}
-use Rattle.mdcc_option.specs.Parts.{are_ascending}
-use Rattle.mdcc_option.specs.declared.choices.Cause.{Cause}
 use Rattle.mdcc_option.specs.declared.choices.Choice.{Choice}
 use Rattle.mdcc_option.specs.declared.choices.Claim.{Claim}
 use Rattle.mdcc_option.specs.declared.choices.Mark.{Mark}
 use Rattle.mdcc_option.specs.declared.choices.Outcome.{Outcome}
 use Rattle.mdcc_option.specs.declared.cluster.Cluster.{Cluster}
-use Rattle.mdcc_option.specs.declared.items.Part.{Part}
-use Rattle.mdcc_struct.specs.Maps.{TxMap}
 use Rattle.mdcc_struct.specs.declared.options.Options.{Options}
 use Rattle.mdcc_protocol.specs.Acceptor.{answer_to_marks, new_marks, on_accept, on_prepare, on_propose, promise_answer, range_end}
-use Rattle.mdcc_protocol.specs.AcceptorRules.{accepted_step, all_votes_sent, ask_step_by, prepared_step, promise_message, proposed_step, votes_sent}
-use Rattle.mdcc_protocol.specs.Allowed.{part_in}
+use Rattle.mdcc_protocol.specs.AcceptorRules.{accepted_step, all_votes_sent, ask_step_by, prepared_step, proposed_step, votes_sent}
 use Rattle.mdcc_protocol.specs.Built.{Built}
-use Rattle.mdcc_protocol.specs.Facts.{ballot_promised, current_of, epoch_of, heard_of, is_heard, promise_of, promised_through, vote_of}
-use Rattle.mdcc_protocol.specs.Leader.{claim_of_choice, is_marked, lead, on_promise, refused_by}
+use Rattle.mdcc_protocol.specs.Facts.{current_of, epoch_of, heard_of, is_heard, promise_of, promised_through, vote_of}
+use Rattle.mdcc_protocol.specs.Leader.{claim_of_choice, is_marked, lead, on_promise}
 use Rattle.mdcc_protocol.specs.LeaderRules.{Led, lead_entries, lead_sent, lead_step_after, led_by_answer, led_of, promise_entries, promise_sent, promised_by_answer, step_of_led}
-use Rattle.mdcc_protocol.specs.Learner.{is_learned}
-use Rattle.mdcc_protocol.specs.Ledger.{Added, Entry, Valued, choices_begun, facts_of}
+use Rattle.mdcc_protocol.specs.Ledger.{Entry, Valued, facts_of}
 use Rattle.mdcc_protocol.specs.Manager
 use Rattle.mdcc_protocol.specs.Manager.{act_at, act_on_cause, acted, acts_at, begin_by, begin_fault, choices_unlearned, is_odd, keys_of_choices, ticked_transaction, vote_taken}
-use Rattle.mdcc_protocol.specs.ManagerRules.{act_sent, acted_step, begin_step_by, decided_step, escalate_step, opened_step, proposals_sent, undecided_step, voted_step, watched_step}
-use Rattle.mdcc_protocol.specs.Messages.{to_all, to_each, to_one, to_others}
+use Rattle.mdcc_protocol.specs.ManagerRules.{act_sent, acted_step, decided_step, opened_step, undecided_step, voted_step, watched_step}
 use Rattle.mdcc_protocol.specs.Marks.{is_accept}
 use Rattle.mdcc_protocol.specs.News.{is_crowding, is_news}
-use Rattle.mdcc_protocol.specs.Node.{checked, is_without_room, message_step, rule, step_of, with_room}
+use Rattle.mdcc_protocol.specs.Node.{checked, is_without_room, message_step, rule, with_room}
 use Rattle.mdcc_protocol.specs.Recover
 use Rattle.mdcc_protocol.specs.Recover.{acts_on, ask_of, claim_of_key, counted_tick, dangling, keys_led}
-use Rattle.mdcc_protocol.specs.Steps.{NodeStep, adding, answering, nothing_done, sending}
-use Rattle.mdcc_protocol.specs.SyncRules.{give_sent, give_sent_by, outcome_step_by, sync_give_step_by}
-use Rattle.mdcc_protocol.specs.TickRules.{Ticked, and_then, claim_led, led_or_left, manager_act, manager_ticked, recovery_act, recovery_ticked, tick_parts, ticked}
-use Rattle.mdcc_protocol.specs.Visible.{on_outcome, on_sync_ask, on_sync_give}
-use Rattle.mdcc_protocol.specs.Volatile.{Leading, Managing, Recovering, Undecided, Volatile, closed, counter_of, is_open, lead_of, next_count, number_at, txs_opened, with_manager, with_recovery}
+use Rattle.mdcc_protocol.specs.Steps.{NodeStep, adding, nothing_done, sending}
+use Rattle.mdcc_protocol.specs.SyncRules.{give_sent_by, outcome_step_by, sync_give_step_by}
+use Rattle.mdcc_protocol.specs.Visible.{on_outcome, on_sync_ask}
+use Rattle.mdcc_protocol.specs.Volatile.{Leading, Managing, Volatile, closed, is_open, lead_of, with_manager, with_recovery}
 use Rattle.mdcc_protocol.specs.declared.acceptor.AcceptAnswer.{AcceptAnswer}
 use Rattle.mdcc_protocol.specs.declared.acceptor.PrepareAnswer.{PrepareAnswer}
 use Rattle.mdcc_protocol.specs.declared.acceptor.ProposeAnswer.{ProposeAnswer}
@@ -58,13 +44,10 @@ use Rattle.mdcc_protocol.specs.declared.manager.ManagerAct.{ManagerAct}
 use Rattle.mdcc_protocol.specs.declared.messages.Envelope.{Envelope}
 use Rattle.mdcc_protocol.specs.declared.messages.Message.{Message}
 use Rattle.mdcc_protocol.specs.declared.node.StepFault.{StepFault}
-use Rattle.mdcc_protocol.specs.declared.recover.RecoverAct.{RecoverAct}
 use Rattle.mdcc_protocol.specs.declared.visible.Give.{Give}
 use Rattle.mdcc_protocol.specs.declared.votes.Vote.{Vote}
-use Rattle.mdcc_trace_states.specs.Words.{Each, In}
-use Rattle.mdcc_trace_states.proofs.Lists.{Each-append, Each-like}
 use Rattle.mdcc_trace_rules.proofs.Begins.{Each-flat_map}
-use Rattle.mdcc_trace_limits.proofs.RoundSteps.{AreRoundFacts, AreRoundSends, IsRound, IsRoundFact, IsRoundLeader, IsRoundLed, each-round, facts-round, leader-more, led-round, promise-round, promised-round, raised, refused-round, sends-more, voted-round}
+use Rattle.mdcc_trace_limits.proofs.RoundSteps.{AreRoundFacts, AreRoundSends, IsRound, IsRoundFact, IsRoundLeader, IsRoundLed, each-round, leader-more, led-round, promise-round, promised-round, raised, refused-round, sends-more, voted-round}
 
 -- ---- single steps
 

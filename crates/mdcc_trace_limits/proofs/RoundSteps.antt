@@ -1,28 +1,22 @@
 -- How far a step raises the rounds of the ballots of a key.
-use Rattle.std.proofs.Common.{Bool, Err, List, None, Ok, Option, Result, Some, [], ap, arith, cond, false, inl, inr, length, max, not, refl, subst, sym, true, ℕ, ◌&&◌, ◌++◌, ◌+◌, ◌<◌, ◌==◌, ◌∙◌, ◌∷◌, ◌≡◌, ◌≤◌}
-use Rattle.std.specs.Option.{option_or}
-use Rattle.std.specs.Prelude.{filter, flat_map, fold, is_some, map, nat_le, nat_lt, ⊤, ◌^◌}
+use Rattle.std.proofs.Common.{Bool, Err, List, None, Ok, Option, Result, Some, [], arith, cond, false, inl, inr, length, max, not, refl, subst, sym, true, ℕ, ◌&&◌, ◌+◌, ◌==◌, ◌∙◌, ◌∷◌, ◌≡◌, ◌≤◌}
+use Rattle.std.specs.Prelude.{is_some, nat_le, nat_lt, ⊤, ◌^◌}
 use Rattle.std.proofs.lemmas.Bool.{and_parts, cases_Bool}
-use Rattle.mdcc_base.specs.Ballot.{ballot_eq, ballot_lt, ballot_max, fast_ballot}
+use Rattle.mdcc_base.specs.Ballot.{ballot_eq, ballot_lt, ballot_max}
 use Rattle.mdcc_base.specs.Key.{key_eq}
 use Rattle.mdcc_base.specs.Quorums.{all_centres}
 use Rattle.mdcc_base.specs.Sizes.{Sizes}
 use Rattle.mdcc_base.specs.declared.identifiers.Ballot.{Ballot}
-use Rattle.mdcc_base.specs.declared.identifiers.TxId.{TxId}
 use Rattle.mdcc_base.specs.declared.key.Key.{Key}
-use Rattle.mdcc_option.specs.declared.choices.Cause.{Cause}
 use Rattle.mdcc_option.specs.declared.choices.Choice.{Choice}
 use Rattle.mdcc_option.specs.declared.choices.Claim.{Claim}
-use Rattle.mdcc_option.specs.declared.choices.Mark.{Mark}
-use Rattle.mdcc_option.specs.declared.choices.Outcome.{Outcome}
 use Rattle.mdcc_option.specs.declared.cluster.Cluster.{Cluster}
 use Rattle.mdcc_struct.specs.Maps.{value_of}
 use Rattle.mdcc_struct.specs.declared.options.Options.{Options}
 use Rattle.mdcc_protocol.specs.Facts.{ballot_promised, current_of, epoch_of, promise_of}
-use Rattle.mdcc_protocol.specs.Leader.{counted_promise, is_covered, is_marked, is_promise_counted, is_waiting, lead, lead_begun, led_again, led_anew, led_by, led_on, next_round, on_promise, promise_taken, refused_by, structure_made, with_promise, with_refused, with_round_refused}
-use Rattle.mdcc_protocol.specs.LeaderRules.{Led, lead_entries, lead_sent, led_by_answer, led_of, promised_by_answer}
-use Rattle.mdcc_protocol.specs.Ledger.{Entry}
-use Rattle.mdcc_protocol.specs.Messages.{to_all, to_each, to_one, to_others}
+use Rattle.mdcc_protocol.specs.Leader.{counted_promise, is_covered, is_promise_counted, is_waiting, lead, lead_begun, led_again, led_anew, led_by, led_on, next_round, on_promise, promise_taken, refused_by, structure_made, with_promise, with_refused}
+use Rattle.mdcc_protocol.specs.LeaderRules.{Led, lead_sent, led_by_answer, led_of, promised_by_answer}
+use Rattle.mdcc_protocol.specs.Messages.{to_all, to_each, to_others}
 use Rattle.mdcc_protocol.specs.Structures.{first_structure, is_crowded, with_choice, with_claim}
 use Rattle.mdcc_protocol.specs.Leader.{reports_of}
 use Rattle.mdcc_protocol.specs.Volatile.{Lead, Leading, lead_of, number_at, structure_at, with_lead, with_number, with_structure}
@@ -34,7 +28,7 @@ use Rattle.mdcc_protocol.specs.declared.leader.PromiseAnswer.{PromiseAnswer}
 use Rattle.mdcc_protocol.specs.declared.messages.Envelope.{Envelope}
 use Rattle.mdcc_protocol.specs.declared.messages.Message.{Message}
 use Rattle.mdcc_trace_states.specs.Words.{Each, In}
-use Rattle.mdcc_trace_states.proofs.Lists.{Each-at, Each-filter, Each-from, Each-like, In-filter}
+use Rattle.mdcc_trace_states.proofs.Lists.{Each-at, Each-filter, Each-like}
 use Rattle.mdcc_trace_states.proofs.Tests.{Decides-key}
 use Rattle.mdcc_trace.proofs.Leading.{lead-in, number-grows, number-other, number-same}
 

@@ -1,6 +1,6 @@
 -- How far a tick raises the rounds of a key: by the claims on it, of which each transaction has one.
-use Rattle.std.proofs.Common.{Bool, Err, List, None, Ok, Option, Result, Some, [], ap, arith, cond, false, inl, inr, length, map, not, refl, subst, sym, true, ℕ, ◌&&◌, ◌++◌, ◌+◌, ◌<◌, ◌==◌, ◌∙◌, ◌∷◌, ◌≡◌, ◌≤◌}
-use Rattle.std.specs.Prelude.{filter, flat_map, fold, nat_le, ⊤, ◌%◌}
+use Rattle.std.proofs.Common.{Bool, Err, List, Ok, Result, [], ap, arith, cond, false, inl, inr, length, map, not, refl, subst, true, ℕ, ◌&&◌, ◌++◌, ◌+◌, ◌==◌, ◌∙◌, ◌∷◌, ◌≡◌, ◌≤◌}
+use Rattle.std.specs.Prelude.{filter, flat_map, fold, nat_le, ◌%◌}
 use Rattle.std.proofs.lemmas.Bool.{cases_Bool}
 use Rattle.mdcc_base.specs.Counts.{number_of}
 use Rattle.mdcc_base.specs.Key.{key_eq, key_lt}
@@ -12,7 +12,6 @@ use Rattle.mdcc_option.specs.Parts.{are_ascending}
 use Rattle.mdcc_option.specs.declared.choices.Choice.{Choice}
 use Rattle.mdcc_option.specs.declared.choices.Claim.{Claim}
 use Rattle.mdcc_option.specs.declared.cluster.Cluster.{Cluster}
-use Rattle.mdcc_struct.specs.Maps.{TxMap}
 use Rattle.mdcc_protocol.specs.Allowed.{IsAllowed, part_in}
 use Rattle.mdcc_protocol.specs.Built.{Built}
 use Rattle.mdcc_protocol.specs.Leader.{claim_of_choice}
@@ -21,10 +20,9 @@ use Rattle.mdcc_protocol.specs.Learner.{is_learned}
 use Rattle.mdcc_protocol.specs.Ledger.{Entry, choices_begun, facts_of}
 use Rattle.mdcc_protocol.specs.Manager
 use Rattle.mdcc_protocol.specs.Manager.{act_at, acts_at, choices_unlearned, is_odd, keys_of_choices}
-use Rattle.mdcc_protocol.specs.Messages.{to_all}
 use Rattle.mdcc_protocol.specs.Recover.{acts_on, ask_of, claim_of_key, counted_tick, dangling, keys_led}
 use Rattle.mdcc_protocol.specs.TickRules.{Ticked, and_then, claim_led, led_or_left, manager_act, manager_ticked, recovery_act, recovery_ticked, tick_parts, ticked}
-use Rattle.mdcc_protocol.specs.Volatile.{Managing, Recovering, Undecided, Volatile, counter_of, next_count, txs_opened, with_manager, with_recovery}
+use Rattle.mdcc_protocol.specs.Volatile.{Recovering, Undecided, Volatile, counter_of, next_count, txs_opened, with_manager, with_recovery}
 use Rattle.mdcc_protocol.specs.World.{World, centre_at}
 use Rattle.mdcc_protocol.specs.declared.facts.Fact.{Fact}
 use Rattle.mdcc_protocol.specs.declared.leader.LeadFault.{LeadFault}

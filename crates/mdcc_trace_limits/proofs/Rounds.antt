@@ -1,6 +1,5 @@
 -- No round in a trace within its events reaches 2^32 - 1.
-use Rattle.std.proofs.Common.{Bool, Err, List, None, Ok, Option, Result, Some, [], ap, arith, cond, false, get_or, inl, inr, length, max, refl, set, subst, suc, sym, true, zero, ℕ, ◌&&◌, ◌*◌, ◌++◌, ◌+◌, ◌-◌, ◌<◌, ◌==◌, ◌^◌, ◌∙◌, ◌∷◌, ◌≡◌, ◌≤◌, ◌⊎◌}
-use Rattle.std.specs.Option.{option_or}
+use Rattle.std.proofs.Common.{Bool, Err, List, None, Ok, Option, Result, Some, [], ap, arith, cond, false, get_or, inl, inr, max, refl, set, subst, suc, sym, true, zero, ℕ, ◌*◌, ◌++◌, ◌+◌, ◌-◌, ◌<◌, ◌==◌, ◌^◌, ◌∙◌, ◌∷◌, ◌≡◌, ◌≤◌, ◌⊎◌}
 use Rattle.std.specs.Prelude.{map, nat_le, ⊤}
 use Rattle.std.proofs.lemmas.Bool.{cases_Bool, leb-false, leb-true}
 use Rattle.std.proofs.lemmas.Nat.{mul-le}
@@ -12,7 +11,7 @@ use Rattle.mdcc_option.specs.declared.choices.Choice.{Choice}
 use Rattle.mdcc_option.specs.declared.cluster.Cluster.{Cluster}
 use Rattle.mdcc_option.specs.declared.faults.BeginFault.{BeginFault}
 use Rattle.mdcc_option.specs.declared.items.Part.{Part}
-use Rattle.mdcc_protocol.specs.Belongs.{is_centre, message_belongs}
+use Rattle.mdcc_protocol.specs.Belongs.{is_centre}
 use Rattle.mdcc_protocol.specs.Built.{Built}
 use Rattle.mdcc_protocol.specs.Facts.{epoch_of, promise_of}
 use Rattle.mdcc_protocol.specs.IsCluster.{IsCluster}
@@ -21,23 +20,20 @@ use Rattle.mdcc_protocol.specs.Ledger.{Added, Entry, facts_of}
 use Rattle.mdcc_protocol.specs.Manager.{begin_by, begin_fault}
 use Rattle.mdcc_protocol.specs.ManagerRules.{begin_step_by, proposals_sent}
 use Rattle.mdcc_protocol.specs.Messages.{to_all}
-use Rattle.mdcc_protocol.specs.Node.{checked, message_step, step_of}
+use Rattle.mdcc_protocol.specs.Node.{checked, message_step}
 use Rattle.mdcc_protocol.specs.Steps.{NodeStep}
-use Rattle.mdcc_protocol.specs.Volatile.{Leading, Managing, Volatile, number_at}
-use Rattle.mdcc_protocol.specs.World.{Happened, Sent, Site, World, booted, booted_to, centre_at, down, fact_happened, first_world, input_happened, is_frame_kept, is_up_at, most_events, restart_happened, run_of, step_at, step_happened_by, step_stopped, unsent, with_centre, with_delivered}
+use Rattle.mdcc_protocol.specs.Volatile.{Volatile, number_at}
+use Rattle.mdcc_protocol.specs.World.{Sent, Site, World, booted, booted_to, centre_at, down, fact_happened, first_world, input_happened, is_frame_kept, restart_happened, run_of, step_at, step_happened_by, step_stopped, unsent}
 use Rattle.mdcc_protocol.specs.declared.events.Event.{Event}
 use Rattle.mdcc_protocol.specs.declared.facts.Fact.{Fact}
 use Rattle.mdcc_protocol.specs.declared.messages.Envelope.{Envelope}
 use Rattle.mdcc_protocol.specs.declared.messages.Message.{Message}
 use Rattle.mdcc_protocol.specs.declared.node.Input.{Input}
 use Rattle.mdcc_protocol.specs.declared.node.StepFault.{StepFault}
-use Rattle.mdcc_option.specs.declared.items.Known.{Known}
-use Rattle.mdcc_option.specs.Transaction.{choices_of}
 use Rattle.mdcc_base.specs.Quorums.{all_centres}
-use Rattle.mdcc_base.specs.declared.identifiers.TxId.{TxId}
 use Rattle.mdcc_trace_states.specs.Invariant.{Holds}
 use Rattle.mdcc_trace_states.specs.Sound.{IsSound}
-use Rattle.mdcc_trace_states.specs.Steps.{IsFair, IsUp}
+use Rattle.mdcc_trace_states.specs.Steps.{IsUp}
 use Rattle.mdcc_trace_states.specs.Words.{Each, In}
 use Rattle.mdcc_trace_states.proofs.Boots.{replicated}
 use Rattle.mdcc_trace_states.proofs.Events.{delivered-sent, is-up}

@@ -1,7 +1,7 @@
 -- The ledger of a trace grows by a few entries with each step, and a tick adds no more than the begun transactions can ask for.
-use Rattle.std.proofs.Common.{Bool, Err, List, None, Ok, Option, Result, Some, [], ap, arith, cond, false, get_or, inl, inr, length, refl, set, subst, suc, sym, true, zero, ℕ, ◌&&◌, ◌*◌, ◌++◌, ◌+◌, ◌-◌, ◌<◌, ◌==◌, ◌^◌, ◌∙◌, ◌∷◌, ◌≡◌, ◌≤◌}
+use Rattle.std.proofs.Common.{Bool, Err, List, None, Ok, Option, Result, Some, [], ap, arith, cond, false, get_or, inl, inr, length, refl, set, subst, suc, sym, true, zero, ℕ, ◌*◌, ◌++◌, ◌+◌, ◌-◌, ◌<◌, ◌==◌, ◌^◌, ◌∙◌, ◌∷◌, ◌≡◌, ◌≤◌}
 use Rattle.std.specs.Option.{option_or}
-use Rattle.std.specs.Prelude.{flat_map, fold, map, nat_le, ⊤}
+use Rattle.std.specs.Prelude.{flat_map, fold, nat_le, ⊤}
 use Rattle.std.proofs.lemmas.Bool.{cases_Bool, leb-false}
 use Rattle.std.proofs.lemmas.Nat.{mul-le}
 use Rattle.mdcc_base.specs.AreQuorums.{AreQuorums}
@@ -11,31 +11,27 @@ use Rattle.mdcc_base.specs.declared.key.Key.{Key}
 use Rattle.mdcc_base.specs.declared.outside.Image.{Image}
 use Rattle.mdcc_option.specs.declared.cluster.Cluster.{Cluster}
 use Rattle.mdcc_option.specs.declared.faults.BeginFault.{BeginFault}
-use Rattle.mdcc_option.specs.declared.items.Known.{Known}
 use Rattle.mdcc_option.specs.declared.items.Part.{Part}
 use Rattle.mdcc_struct.specs.Maps.{TxMap}
-use Rattle.mdcc_protocol.specs.Allowed.{IsAllowed}
-use Rattle.mdcc_protocol.specs.Belongs.{is_centre, message_belongs}
+use Rattle.mdcc_protocol.specs.Belongs.{is_centre}
 use Rattle.mdcc_protocol.specs.Built.{Built}
 use Rattle.mdcc_protocol.specs.Facts.{epoch_of}
 use Rattle.mdcc_protocol.specs.IsCluster.{IsCluster}
-use Rattle.mdcc_protocol.specs.Ledger.{Added, Entry, choices_begun, facts_of}
+use Rattle.mdcc_protocol.specs.Ledger.{choices_begun, facts_of}
 use Rattle.mdcc_protocol.specs.Manager
 use Rattle.mdcc_protocol.specs.Manager.{acts_at, begin_by, begin_fault, parts_begin_fault, ticked_transaction}
 use Rattle.mdcc_protocol.specs.ManagerRules.{begin_step_by}
 use Rattle.mdcc_protocol.specs.Node.{checked, message_step, step_of}
 use Rattle.mdcc_protocol.specs.Recover.{acts_on, counted_tick, dangling}
 use Rattle.mdcc_protocol.specs.Steps.{NodeStep}
-use Rattle.mdcc_protocol.specs.TickRules.{Ticked, and_then, manager_act, manager_ticked, recovery_act, recovery_ticked, tick_parts, ticked}
-use Rattle.mdcc_protocol.specs.Volatile.{Managing, Recovering, Undecided, Volatile, nothing_kept, txs_opened, with_manager, with_recovery}
-use Rattle.mdcc_protocol.specs.World.{Happened, Sent, Site, World, booted, booted_to, centre_at, down, fact_happened, first_world, input_happened, is_frame_kept, is_up_at, most_events, restart_happened, run_of, step_at, step_happened_by, step_stopped, with_centre, with_delivered}
+use Rattle.mdcc_protocol.specs.TickRules.{Ticked, manager_act, manager_ticked, recovery_act, recovery_ticked, tick_parts, ticked}
+use Rattle.mdcc_protocol.specs.Volatile.{Managing, Recovering, Undecided, Volatile, txs_opened, with_manager, with_recovery}
+use Rattle.mdcc_protocol.specs.World.{Site, World, booted, booted_to, centre_at, down, fact_happened, first_world, input_happened, is_frame_kept, is_up_at, run_of, step_at, step_happened_by, step_stopped}
 use Rattle.mdcc_protocol.specs.declared.events.Event.{Event}
 use Rattle.mdcc_protocol.specs.declared.facts.Fact.{Fact}
-use Rattle.mdcc_protocol.specs.declared.manager.ManagerAct.{ManagerAct}
 use Rattle.mdcc_protocol.specs.declared.messages.Envelope.{Envelope}
 use Rattle.mdcc_protocol.specs.declared.node.Input.{Input}
 use Rattle.mdcc_protocol.specs.declared.node.StepFault.{StepFault}
-use Rattle.mdcc_protocol.specs.declared.recover.RecoverAct.{RecoverAct}
 use Rattle.mdcc_trace_states.specs.Invariant.{Holds}
 use Rattle.mdcc_trace_states.specs.Keeping.{IsOpened}
 use Rattle.mdcc_trace_states.specs.Sound.{IsSound}
@@ -47,7 +43,7 @@ use Rattle.mdcc_trace_states.proofs.Lists.{Each-like}
 use Rattle.mdcc_trace_states.proofs.Walk.{bounds, centre-set}
 use Rattle.mdcc_trace.proofs.Laws.{all-good}
 use Rattle.mdcc_trace_limits.proofs.Begun.{begun-few, dangling-few, dangling-keys}
-use Rattle.mdcc_trace_limits.proofs.Small.{IsSmall, IsSmallResult, IsTickSmall, acts-few, checked-small, facts_in, flat-few, fold-small, is_begin, length-both, manager-act-small, map-length, number-append, opened_in, recover-few, recovery-act-small, ticked-small}
+use Rattle.mdcc_trace_limits.proofs.Small.{IsSmallResult, IsTickSmall, acts-few, checked-small, facts_in, flat-few, fold-small, is_begin, length-both, manager-act-small, map-length, number-append, opened_in, recover-few, recovery-act-small, ticked-small}
 use Rattle.mdcc_trace_limits.proofs.Walks.{IsReached, IsWalk, others_in, ticks_in, trace-reached}
 
 -- no centre has more than 256 transactions open

@@ -1,9 +1,8 @@
 -- What holds of a world of a trace after so many ticks and other steps, where each step keeps it.
-use Rattle.std.proofs.Common.{Bool, Err, List, None, Ok, Option, Result, Some, [], ap, arith, cond, false, inl, inr, length, refl, subst, suc, sym, true, zero, ℕ, ◌&&◌, ◌++◌, ◌+◌, ◌-◌, ◌<◌, ◌==◌, ◌||◌, ◌∷◌, ◌≡◌, ◌≤◌}
-use Rattle.std.specs.List.{list_any}
+use Rattle.std.proofs.Common.{Bool, Err, List, None, Ok, Option, Result, Some, [], ap, arith, false, inl, inr, refl, subst, suc, sym, true, zero, ℕ, ◌&&◌, ◌+◌, ◌-◌, ◌<◌, ◌∷◌, ◌≡◌, ◌≤◌}
 use Rattle.std.specs.Option.{option_or}
 use Rattle.std.specs.Prelude.{map, nat_le, ⊤}
-use Rattle.std.proofs.lemmas.Bool.{and_parts, cases_Bool, leb-false, leb-true}
+use Rattle.std.proofs.lemmas.Bool.{cases_Bool, leb-false}
 use Rattle.mdcc_base.specs.AreQuorums.{AreQuorums}
 use Rattle.mdcc_base.specs.declared.outside.Image.{Image}
 use Rattle.mdcc_option.specs.Transaction.{transaction_of}
@@ -17,7 +16,7 @@ use Rattle.mdcc_protocol.specs.Facts.{epoch_of}
 use Rattle.mdcc_protocol.specs.Ledger.{facts_of}
 use Rattle.mdcc_protocol.specs.Resolve.{resolve}
 use Rattle.mdcc_protocol.specs.Steps.{NodeStep}
-use Rattle.mdcc_protocol.specs.World.{Happened, Sent, Site, World, after_lines, answer_in, begin_lines, begin_of, begun_by, cells_limit, centre_at, counted_event, deliver_line, delivered, deliveries_of, delivery_by, delivery_of, down, event_of, fact_happened, first_waiting, first_world, happened_of, if_up, input_happened, input_taken, is_deliver, is_frame_kept, is_limit, is_past_events, is_up_at, is_waiting_for, limit_if, log_limit, most_events, numbered, parts_begun, restart_happened, restart_of, run_from, run_of, settled_line, settled_of, step_at, step_happened_by, step_limit, step_stopped, tick_line, tick_of, unless, with_centre, with_delivered, with_lines, within_events}
+use Rattle.mdcc_protocol.specs.World.{Happened, Sent, World, after_lines, answer_in, begin_lines, begin_of, begun_by, cells_limit, centre_at, counted_event, deliver_line, delivered, deliveries_of, delivery_by, delivery_of, down, event_of, fact_happened, first_waiting, first_world, happened_of, if_up, input_happened, input_taken, is_frame_kept, is_limit, is_past_events, is_up_at, log_limit, most_events, numbered, parts_begun, restart_happened, restart_of, run_from, run_of, settled_line, settled_of, step_at, step_happened_by, step_limit, step_stopped, tick_line, tick_of, unless, with_centre, with_delivered, with_lines, within_events}
 use Rattle.mdcc_protocol.specs.declared.events.Event.{Event}
 use Rattle.mdcc_protocol.specs.declared.facts.Fact.{Fact}
 use Rattle.mdcc_protocol.specs.declared.lines.Line.{Line}
@@ -26,7 +25,6 @@ use Rattle.mdcc_protocol.specs.declared.node.Input.{Input}
 use Rattle.mdcc_protocol.specs.declared.node.StepFault.{StepFault}
 use Rattle.mdcc_protocol.specs.declared.schedule.ResolveFault.{ResolveFault}
 use Rattle.mdcc_protocol.specs.declared.world.EventFault.{EventFault}
-use Rattle.mdcc_protocol.specs.declared.world.LimitName.{LimitName}
 use Rattle.mdcc_trace_states.specs.Invariant.{Holds}
 use Rattle.mdcc_trace_states.specs.Sound.{IsSound}
 use Rattle.mdcc_trace_states.specs.Standing.{Stands}

@@ -1,13 +1,12 @@
 -- The quantity that a limit names is the number of deltas, or an attribute.
-use Rattle.std.proofs.Common.{Bool, List, arith, None, Option, Some, [], ap, cond, false, inl, inr, length, map, refl, subst, true, ℕ, ℤ, ◌&&◌, ◌∙◌, ◌∷◌, ◌≡◌}
-use Rattle.std.specs.Prelude.{find, nat_le, negsuc, option_map, pos}
-use Rattle.std.specs.List.{list_all}
+use Rattle.std.proofs.Common.{Bool, List, arith, None, Option, Some, [], ap, cond, false, inl, inr, length, map, refl, subst, true, ℕ, ℤ, ◌∙◌, ◌∷◌, ◌≡◌}
+use Rattle.std.specs.Prelude.{nat_le, negsuc, pos}
 use Rattle.std.proofs.lemmas.Bool.{and_parts, cases_Bool, le-leb}
 use Rattle.mdcc_option.specs.declared.cluster.Cluster.{Cluster}
 use Rattle.mdcc_option.specs.declared.items.Item.{Item}
 use Rattle.mdcc_option.specs.declared.items.Update.{Update}
 use Rattle.mdcc_protocol.specs.Belongs.{amounts_belong, is_attribute, update_belongs}
-use Rattle.mdcc_protocol.specs.Fit.{Quantity, delta_count, exact_fit, fast_fit, first_number, fit_in_room, fit_in_share, is_past_limit, is_past_room, limit_of, quantities_of, quantity_at}
+use Rattle.mdcc_protocol.specs.Fit.{Quantity, exact_fit, fast_fit, first_number, fit_in_room, fit_in_share, is_past_limit, is_past_room, limit_of, quantities_of, quantity_at}
 use Rattle.mdcc_protocol.specs.Marks.{Amounts}
 use Rattle.mdcc_protocol.specs.declared.fit.Fit.{Fit}
 use Rattle.mdcc_protocol.specs.declared.fit.Load.{Load}

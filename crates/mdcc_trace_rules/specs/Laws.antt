@@ -1,5 +1,5 @@
 -- What of an allowed ledger lasts, and in what order its structures stand.
-use Rattle.std.specs.Prelude.{IsTrue, List, Some, false, true, ℕ, ◌-◌, ◌^◌, ◌≡◌, ◌≤◌, ◌⊎◌}
+use Rattle.std.specs.Prelude.{List, Some, false, true, ℕ, ◌-◌, ◌^◌, ◌≡◌, ◌≤◌, ◌⊎◌}
 use Rattle.mdcc_base.specs.Ballot.{ballot_lt, is_fast}
 use Rattle.mdcc_base.specs.declared.identifiers.Ballot.{Ballot}
 use Rattle.mdcc_base.specs.declared.identifiers.TxId.{TxId}

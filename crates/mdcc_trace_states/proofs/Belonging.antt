@@ -1,9 +1,9 @@
 -- What is of the cluster: the facts of an allowed ledger, what they say, and begun choices.
-use Rattle.std.proofs.Common.{Bool, Err, List, None, Ok, Option, Result, Some, [], ap, arith, cond, false, inl, inr, length, not, refl, subst, sym, true, ℕ, ◌&&◌, ◌<◌, ◌==◌, ◌∙◌, ◌∷◌, ◌≡◌, ◌||◌, ℤ}
-use Rattle.std.specs.Prelude.{filter_map, fold, is_some, map, nat_le, nat_lt, option_map}
-use Rattle.std.specs.List.{cons_option, list_all, list_any}
+use Rattle.std.proofs.Common.{Bool, Err, List, None, Ok, Option, Some, [], arith, cond, false, inl, inr, length, not, refl, subst, sym, true, ℕ, ◌&&◌, ◌==◌, ◌∙◌, ◌∷◌, ◌≡◌, ◌||◌, ℤ}
+use Rattle.std.specs.Prelude.{filter_map, fold, map, nat_le, nat_lt, option_map}
+use Rattle.std.specs.List.{cons_option, list_all}
 use Rattle.std.specs.Option.{option_or}
-use Rattle.std.proofs.lemmas.Bool.{and_from, and_parts, cases_Bool, eqb-true, le-leb, ltb-true, not-true}
+use Rattle.std.proofs.lemmas.Bool.{and_from, and_parts, cases_Bool, le-leb, ltb-true}
 use Rattle.mdcc_base.specs.Ballot.{ballot_eq, ballot_lt, ballot_max, fast_ballot}
 use Rattle.mdcc_base.specs.Key.{key_eq}
 use Rattle.mdcc_base.specs.TxId.{tx_eq}
@@ -24,19 +24,19 @@ use Rattle.mdcc_option.specs.declared.items.Delta.{Delta}
 use Rattle.mdcc_option.specs.declared.items.Item.{Item}
 use Rattle.mdcc_option.specs.declared.items.Part.{Part}
 use Rattle.mdcc_option.specs.declared.items.Update.{Update}
-use Rattle.mdcc_struct.specs.Maps.{TxMap, txs_of, union, value_of}
+use Rattle.mdcc_struct.specs.Maps.{TxMap, txs_of, value_of}
 use Rattle.mdcc_struct.specs.declared.options.Options.{Options}
-use Rattle.mdcc_protocol.specs.Allowed.{IsAllowed, IsAllowedBegun, part_in}
-use Rattle.mdcc_protocol.specs.Belongs.{adds_belong, amounts_belong, ballot_belongs, choice_belongs, fact_belongs, is_attribute, is_centre, item_belongs, mark_belongs, offered_belongs, options_belong, outcome_belongs, tx_belongs, txs_belong, update_belongs}
+use Rattle.mdcc_protocol.specs.Allowed.{IsAllowed, part_in}
+use Rattle.mdcc_protocol.specs.Belongs.{adds_belong, amounts_belong, ballot_belongs, choice_belongs, fact_belongs, is_attribute, is_centre, item_belongs, mark_belongs, offered_belongs, options_belong, tx_belongs, txs_belong, update_belongs}
 use Rattle.mdcc_protocol.specs.Facts.{amounts_added, ballot_promised, ballot_voted, base_at, base_from, base_given, base_of, current_of, delta_given, deltas_at, deltas_from, item_written, last_ballot, marks_voted, promise_of, promised_through, range_promised, token_of, votes_of}
 use Rattle.mdcc_protocol.specs.Ledger.{Added, Entry, Valued, choices_begun, facts_of, mark_given}
 use Rattle.mdcc_protocol.specs.Manager.{part_begin_fault, parts_begin_fault, update_begin_fault}
 use Rattle.mdcc_protocol.specs.Marks.{Amounts}
 use Rattle.mdcc_protocol.specs.declared.facts.Fact.{Fact}
-use Rattle.mdcc_trace_states.specs.Words.{Each, In}
+use Rattle.mdcc_trace_states.specs.Words.{Each}
 use Rattle.mdcc_trace_states.proofs.Tests.{Decides-ballot, Decides-txs}
-use Rattle.mdcc_trace_states.proofs.Lists.{Each-at, Each-like, Each-map}
-use Rattle.mdcc_trace_states.proofs.Maps.{each-union, each-value, tx-true, value_of-union}
+use Rattle.mdcc_trace_states.proofs.Lists.{Each-map}
+use Rattle.mdcc_trace_states.proofs.Maps.{each-union, each-value, value_of-union}
 use Rattle.mdcc_trace_states.proofs.Sorting.{checked-ok}
 
 pub all-each : {A : Type 0} (p : A → Bool) (xs : List A) → list_all p xs ≡ true → Each (λ x. p x ≡ true) xs

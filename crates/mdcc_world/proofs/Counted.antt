@@ -28,13 +28,6 @@ centre-of world w a like some within =
     let few : a ≤ w.cluster.quorums.centres = subst (λ (cluster : Cluster). a ≤ cluster.quorums.centres) like.records.cluster within in
     and_from (nat_le 1 a) (nat_le a w.cluster.quorums.centres) (le-leb 1 a some) (le-leb a w.cluster.quorums.centres few)
 
--- there is a node for each centre
-pub node-for : (world : TheWorld) (w : World) (a : ℕ) → IsLike world w → a ≤ world.cluster.quorums.centres → a ≤ length world.nodes.items
-node-for world w a like within =
-    let few : a ≤ w.cluster.quorums.centres = subst (λ (cluster : Cluster). a ≤ cluster.quorums.centres) like.records.cluster within in
-    let many = like.nodes.as_many in
-    omega (few, many, arith)
-
 pub counted-nodes : (nodes : List (Node ListFacts)) (w : World) → NodesStand nodes w → NodesStand nodes (counted_event w)
 counted-nodes nodes w standing = record { as_many = standing.as_many; each = standing.each }
 

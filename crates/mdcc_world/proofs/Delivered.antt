@@ -1,5 +1,5 @@
 -- A message comes to its centre.
-use Rattle.std.proofs.Common.{◌≡◌, ℕ, ◌+◌, ◌-◌, ◌≤◌, true, List, [], ◌++◌, refl, sym, ap, ◌∙◌, subst, Option, Some, None, Result, Ok, Err, arith, length}
+use Rattle.std.proofs.Common.{◌≡◌, ℕ, ◌+◌, ◌-◌, ◌≤◌, true, List, [], refl, sym, ap, ◌∙◌, subst, Option, Some, None, Result, Ok, Err, arith, length}
 use Rattle.std.specs.Option.{option_map}
 use Rattle.mdcc_node.specs.Stepping.{given}
 use Rattle.mdcc_protocol.specs.Belongs.{is_centre}
@@ -16,7 +16,7 @@ use Rattle.mdcc_protocol.specs.declared.node.StepFault.{StepFault}
 use Rattle.mdcc_world.specs.Nodes.{NodesStand}
 use Rattle.mdcc_world.specs.Stands.{HasHappened, IsBeforeTaking, IsLike, IsTaken, entries_of}
 use Rattle.mdcc_world.specs.declared.world.World.{World as TheWorld}
-use Rattle.mdcc_worlds.proofs.Numbers.{each-numbered, sent-number}
+use Rattle.mdcc_worlds.proofs.Numbers.{each-numbered}
 use Rattle.mdcc_worlds.proofs.Stays.{delivered-stays, some-centre}
 use Rattle.mdcc_worlds.proofs.Within.{made-quiet}
 use Rattle.mdcc_worlds.specs.Delivering.{delivery, delivery_by, delivery_to, message_counted}
@@ -42,23 +42,6 @@ some-sent w number envelope mail are some = by_sent (numbered w.sent number) ref
         ∙ ap (λ (o : Option Sent). option_map (λ (sent : Sent). sent.envelope) o) e in
         let same : sent.envelope ≡ envelope = cc in
         record { sent = sent; there = e; same = same }
-
-pub none-sent : (w : World) (number : ℕ) (mail : List Sent) → mail ≡ w.sent
-    → None ≡ option_map (λ (sent : Sent). sent.envelope) (numbered mail number) → numbered w.sent number ≡ None
-none-sent w number mail are none = by_sent (numbered w.sent number) refl
-  where
-    by_sent : (o : Option Sent) → numbered w.sent number ≡ o → o ≡ None
-    by_sent None e = refl
-    by_sent (Some sent) e =
-        let is : None ≡ Some sent.envelope = none ∙ ap (λ (xs : List Sent). option_map (λ (sent : Sent). sent.envelope) (numbered xs number)) are
-        ∙ ap (λ (o : Option Sent). option_map (λ (sent : Sent). sent.envelope) o) e in
-        absurd (cc)
-
--- a number that was not sent brings nothing
-pub nothing-delivered : (world : TheWorld) (w : World) (number : ℕ) (lines : List Line) → IsLike world w → numbered w.sent number ≡ None
-    → lines ≡ lines ++ [] → HasHappened world lines lines (delivery w number)
-nothing-delivered world w number lines like none nil =
-    subst (λ (o : Option Sent). HasHappened world lines lines (delivery_by w number o)) (sym none) (record { like = like; lines = nil })
 
 quiet : (w : World) (a : ℕ) (envelope : Envelope) → IsWorld w → IsWellFormedEnvelope envelope → (r : Result NodeStep StepFault) → step_at built w a (Input.Message envelope) ≡ r
     → entries_of r ≡ []
@@ -108,9 +91,6 @@ module _ (world : TheWorld) (w : World) (number : ℕ) (envelope : Envelope) (li
       subst (λ (o : Option Sent). HasHappened new before lines (delivery_by w number o)) (sym is.there)
       (subst (λ (e : Envelope). HasHappened new before lines (delivery_to w number e)) (sym is.same)
       (record { like = record { records = taken.records; outcomes = taken.outcomes; nodes = nodes }; lines = taken.lines }))
-
-  pub some-number : 1 ≤ number
-  some-number = (sent-number w.sent number is.sent is.there).0
 
   pub sent-node : envelope.to ≤ length world.nodes.items
   sent-node =

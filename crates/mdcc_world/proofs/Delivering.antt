@@ -1,13 +1,13 @@
 -- A deliver line, number by number.
-use Rattle.std.proofs.Common.{◌≡◌, ℕ, ◌∷◌, [], List, Ok, Err, sym, append-nil}
+use Rattle.std.proofs.Common.{◌≡◌, ℕ, ◌∷◌, List, Ok, Err, sym, append-nil}
 use Rattle.mdcc_protocol.specs.Built.{built}
 use Rattle.mdcc_protocol.specs.World.{Happened, World, after_lines, deliveries_of}
 use Rattle.mdcc_protocol.specs.declared.lines.Line.{Line}
 use Rattle.mdcc_protocol.specs.declared.world.EventFault.{EventFault}
 use Rattle.mdcc_world.proofs.Happened.{happened-then}
-use Rattle.mdcc_world.specs.Stands.{HasHappened, Happens, IsLike}
+use Rattle.mdcc_world.specs.Stands.{HasHappened, IsLike}
 use Rattle.mdcc_world.specs.declared.world.World.{World as TheWorld}
-use Rattle.mdcc_worlds.proofs.Delivers.{delivering-begins, delivering-ends, delivering-goes_on, delivering-refused}
+use Rattle.mdcc_worlds.proofs.Delivers.{delivering-begins, delivering-goes_on, delivering-refused}
 use Rattle.mdcc_worlds.specs.Delivering.{IsDelivering, at_message, delivery_told, unmoved}
 
 -- the world stands for what a deliver line has brought where these numbers are left
@@ -42,8 +42,3 @@ module _ (world : TheWorld) (before lines : List Line) (w : World) (whole left :
   delivers-refused number rest fault first closed =
       (delivering-refused w whole left rest number has.reached fault first has.happened.like.records.itself has.so_far
       (sym (closed has.reached.world has.happened.like))).0
-
-  pub delivers-end : {T : Type 0} (x : T) → left ≡ [] → Happens world before lines (Ok x) (deliveries_of built whole (unmoved w))
-  delivers-end x none =
-      let ends : deliveries_of built whole (unmoved w) ≡ Ok has.reached = (delivering-ends w whole left has.reached none has.so_far).0 in
-      rw ends has.happened

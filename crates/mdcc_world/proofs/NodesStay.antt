@@ -126,9 +126,6 @@ length-more : {X : Type 0} (xs : List X) (v : X) → length (xs ++ v ∷ []) ≡
 length-more [] v = refl
 length-more (y ∷ ys) v = let ih = length-more ys v in omega (ih, arith)
 
-pub none-started : (cluster : Cluster) → AreStarted [] cluster 0
-none-started cluster = record { as_many = refl; each = λ place node at. absurd (cc) }
-
 pub one-started : (nodes : List (Node ListFacts)) (cluster : Cluster) (count number : ℕ) (node : Node ListFacts)
     → AreStarted nodes cluster count → number ≡ count + 1 → IsNodeOf node cluster number (Fact.Booted 1 ∷ []) nothing_kept
     → AreStarted (nodes ++ node ∷ []) cluster number

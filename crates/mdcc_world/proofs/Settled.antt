@@ -19,10 +19,10 @@ use Rattle.mdcc_world.specs.Settling.{AreNamed, EndsAfter, HasSettled, IsFull, i
 use Rattle.mdcc_world.specs.Stands.{HasHappened, IsLike}
 use Rattle.mdcc_world.specs.declared.world.World.{World as TheWorld}
 use Rattle.mdcc_worlds.proofs.Events.{up-there}
-use Rattle.mdcc_worlds.proofs.Settles.{settle-closed, settling-begins, settling-ends, settling-goes_on, settling-stops}
+use Rattle.mdcc_worlds.proofs.Settles.{settle-closed, settling-ends, settling-goes_on, settling-stops}
 use Rattle.mdcc_worlds.specs.Delivering.{delivery}
 use Rattle.mdcc_worlds.specs.Happening.{at_limit}
-use Rattle.mdcc_worlds.specs.Settling.{IsSettling, settle_told, settled}
+use Rattle.mdcc_worlds.specs.Settling.{IsSettling, settled}
 use Rattle.mdcc_worlds.specs.Standing.{IsWorld}
 
 -- ---- the message that waits first
@@ -82,10 +82,6 @@ none-waits w listed centres mail stands are same first =
     first-is w listed centres stands are ∙ ap (λ (o : Option ℕ). message_of w.sent o) (sym here)
 
 -- ---- the settle
-
-pub settle-begins : (world : TheWorld) (before lines : List Line) (w : World) (listed : List ℕ) → HasHappened world before lines (settle_told w listed)
-    → HasSettled world before lines w listed 0
-settle-begins world before lines w listed happened = record { reached = settle_told w listed; happened = happened; so_far = settling-begins w listed }
 
 module _ (world : TheWorld) (before lines : List Line) (w : World) (listed centres : List ℕ) (deliveries : ℕ) (has : HasSettled world before lines w listed deliveries)
     (named : AreNamed world.cluster listed centres) (mail : List Sent) (kept : mail ≡ world.mail) where

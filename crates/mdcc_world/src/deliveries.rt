@@ -1,5 +1,5 @@
 //! Messages come to their centres.
-ghost use Rattle.std.specs.Prelude.{◌≡◌, ◌≤◌, ◌<◌, ◌+◌, OnOk, OnErr};
+ghost use Rattle.std.specs.Prelude.{◌≡◌, ◌≤◌, ◌<◌, ◌+◌, OnOk};
 ghost use Rattle.mdcc_protocol.specs.Built.{built};
 ghost use Rattle.mdcc_protocol.specs.World.{World as AWorld, deliveries_of};
 ghost use Rattle.mdcc_world.specs.Stands.{Happens, HasHappened, IsLike, IsLikeSome};

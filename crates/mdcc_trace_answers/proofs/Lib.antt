@@ -1,0 +1,5 @@
+pub mod Among
+pub mod Answers
+pub mod Committed
+pub mod Crowding
+pub mod Traces

@@ -1,0 +1,23 @@
+-- Why a node may refuse a message in a trace.
+use Rattle.std.specs.Prelude.{Err, Ok, Result, ⊤}
+use Rattle.mdcc_protocol.specs.Built.{Built}
+use Rattle.mdcc_protocol.specs.Steps.{NodeStep}
+use Rattle.mdcc_protocol.specs.World.{Sent, World, is_up_at, step_at}
+use Rattle.mdcc_protocol.specs.declared.node.Input.{Input}
+use Rattle.mdcc_protocol.specs.declared.node.StepFault.{StepFault}
+use Rattle.std.specs.Prelude.{true, ◌≡◌}
+use Rattle.mdcc_trace_states.specs.Words.{Each}
+
+-- the fact of the step needs more cells than are spare
+abbrev pub IsRefusedForRoom : StepFault → Type 0
+IsRefusedForRoom (StepFault.NoRoom needed spare) = ⊤
+IsRefusedForRoom _ = ⊥
+
+-- a step is taken, or refused for want of room
+abbrev pub IsAnswered : Result NodeStep StepFault → Type 0
+IsAnswered (Ok step) = ⊤
+IsAnswered (Err fault) = IsRefusedForRoom fault
+
+-- so it is with each message that was sent, where the centre that it goes to is up
+abbrev pub AreAnswered : Built → World → Type 0
+AreAnswered built w = Each (λ (s : Sent). is_up_at w s.envelope.to ≡ true → IsAnswered (step_at built w s.envelope.to (Input.Message s.envelope))) w.sent
