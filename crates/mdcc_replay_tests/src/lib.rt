@@ -1,0 +1,7 @@
+//! Tests of whole replays over objects in memory: what the program writes and answers.
+#![tactic(auto)]
+
+#[cfg(test)]
+mod replay_rows;
+#[cfg(test)]
+mod replays;
