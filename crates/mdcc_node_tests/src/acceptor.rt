@@ -1,0 +1,121 @@
+//! What a node votes.
+use crate::bytes::{FAST, INSERT, PLACE, TX, is_added, is_sent};
+use crate::nodes::{deliver, item, key, one_of_five};
+use mdcc_facts::ListFacts;
+use mdcc_node::{Answer, Input, Node, Step};
+use std::alloc::Global;
+use std::test::*;
+
+// Transaction 2.1.1 writes a first item under key a too, with the value 2.
+const OTHER: [u8; 42] = [
+    2, 1, 0, 0, 0, 1, 0, 0, 0, 1, 97, 0, 0, 0, 0, 0, 0, 0, 0, 1, 0, 1, 2, 0, 0, 0, 0, 0, 0, 0, 0,
+    1, 1, 97, 0, 0, 0, 0, 0, 0, 0, 0,
+];
+
+// Transaction 1.1.2 adds -4 to the first attribute of key a at version 1.
+const LESS: [u8; 41] = [
+    1, 1, 0, 0, 0, 2, 0, 0, 0, 1, 97, 1, 0, 0, 0, 0, 0, 0, 0, 2, 1, 1, 252, 255, 255, 255, 255,
+    255, 255, 255, 1, 1, 97, 1, 0, 0, 0, 0, 0, 0, 0,
+];
+
+// Transaction 1.1.3 does the same.
+const MORE: [u8; 41] = [
+    1, 1, 0, 0, 0, 3, 0, 0, 0, 1, 97, 1, 0, 0, 0, 0, 0, 0, 0, 2, 1, 1, 252, 255, 255, 255, 255,
+    255, 255, 255, 1, 1, 97, 1, 0, 0, 0, 0, 0, 0, 0,
+];
+
+// Key a at version 1.
+const NEXT_PLACE: [u8; 10] = [1, 97, 1, 0, 0, 0, 0, 0, 0, 0];
+
+// A second insert is rejected beside the first, and stands beside its mark.
+#[test]
+fn the_first_of_two_inserts_is_accepted(rt: HostRuntime) -> Result<(), Fail> {
+    let alloc = rt.alloc();
+    let mut node = one_of_five(alloc, 2)?;
+    let step = deliver(alloc, &mut node, &[&[1, 1, 1, 2], &INSERT])?;
+    let vote: [&[u8]; 5] = [&[1, 2, 2, 1], &PLACE, &FAST, &[1], &INSERT];
+    assert!(rt; is_sent(alloc, &step, 0, &vote)?);
+    let step = deliver(alloc, &mut node, &[&[1, 1, 2, 2], &OTHER])?;
+    assert!(rt; is_rejection(alloc, &step)?);
+    // A repeat is answered by the same vote, and adds no fact.
+    let step = deliver(alloc, &mut node, &[&[1, 1, 1, 2], &INSERT])?;
+    assert!(rt; step.fact.is_none());
+    assert_eq!(rt; step.sends.len(), 1);
+    assert!(rt; is_sent(alloc, &step, 0, &vote)?);
+    Ok(())
+}
+
+// Whether the step is the rejection of the other insert.
+fn is_rejection(alloc: Global, step: &Step) -> Result<bool, Fail> {
+    let tx = &OTHER[..9];
+    let vote: [&[u8]; 5] = [&[1, 2, 2, 2], &PLACE, &FAST, &[0], tx];
+    let fact: [&[u8]; 7] = [&[3], &PLACE, &FAST, &[1, 0, 0, 0, 0], tx, &[1], &OTHER];
+    Ok(step.sends.len() == 1 && is_sent(alloc, step, 0, &vote)? && is_added(alloc, step, &fact)?)
+}
+
+// A node at centre 2 that heard the insert committed.
+fn holding(alloc: Global) -> Result<Node<ListFacts>, Fail> {
+    let mut node = one_of_five(alloc, 2)?;
+    let _step = deliver(alloc, &mut node, &[&[1, 9, 1, 2], &TX, &[1, 1], &INSERT])?;
+    Ok(node)
+}
+
+// The first decrease of 4 from 10 is accepted. The second is past this centre's share, since 3 * 8
+// is above 2 * 10.
+#[test]
+fn a_decrease_past_the_share_is_escalated(rt: HostRuntime) -> Result<(), Fail> {
+    let alloc = rt.alloc();
+    let mut node = holding(alloc)?;
+    let step = deliver(alloc, &mut node, &[&[1, 1, 1, 2], &LESS])?;
+    let vote: [&[u8]; 5] = [&[1, 2, 2, 1], &NEXT_PLACE, &FAST, &[1], &LESS];
+    assert!(rt; step.fact.is_some());
+    assert!(rt; is_sent(alloc, &step, 0, &vote)?);
+    let step = deliver(alloc, &mut node, &[&[1, 1, 1, 2], &MORE])?;
+    let limit: [&[u8]; 4] = [&[1, 3, 2, 1], &NEXT_PLACE, &MORE[..9], &[3, 1]];
+    assert!(rt; step.fact.is_none());
+    assert!(rt; is_sent(alloc, &step, 0, &limit)?);
+    Ok(())
+}
+
+// A decrease at version 1 comes to a centre that holds nothing.
+#[test]
+fn a_centre_that_is_behind_gives_no_vote(rt: HostRuntime) -> Result<(), Fail> {
+    let alloc = rt.alloc();
+    let mut node = one_of_five(alloc, 2)?;
+    let step = deliver(alloc, &mut node, &[&[1, 1, 1, 2], &LESS])?;
+    let behind: [&[u8]; 4] = [&[1, 3, 2, 1], &NEXT_PLACE, &LESS[..9], &[1]];
+    assert!(rt; step.fact.is_none());
+    assert_eq!(rt; step.sends.len(), 1);
+    assert!(rt; is_sent(alloc, &step, 0, &behind)?);
+    Ok(())
+}
+
+// A decrease is shown once its outcome is heard, and not while it is voted alone.
+#[test]
+fn a_read_shows_what_is_heard(rt: HostRuntime) -> Result<(), Fail> {
+    let alloc = rt.alloc();
+    let mut node = holding(alloc)?;
+    let _step = deliver(alloc, &mut node, &[&[1, 1, 1, 2], &LESS])?;
+    assert_eq!(rt; node.read(&key(b'a')).item, Some(item(10)));
+    let tx = &LESS[..9];
+    let step = deliver(alloc, &mut node, &[&[1, 9, 1, 2], tx, &[1, 1], &LESS])?;
+    assert!(rt; is_added(alloc, &step, &[&[4], tx, &[1, 1], &LESS])?);
+    assert!(rt; step.sends.is_empty());
+    let step = node.step(&Input::Read(key(b'a')))?;
+    assert!(rt; step.fact.is_none());
+    assert!(rt; is_six(&step));
+    Ok(())
+}
+
+// Whether the answer shows 6 at version 1 with one delta in it.
+fn is_six(step: &Step) -> bool {
+    match &step.answer {
+        Some(Answer::Read(reading)) => {
+            reading.token.version == 1
+                && reading.token.seen.len() == 1
+                && reading.item == Some(item(6))
+                && !reading.due
+        }
+        _ => false,
+    }
+}

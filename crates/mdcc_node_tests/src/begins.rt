@@ -1,0 +1,95 @@
+//! What a client is answered that begins a transaction.
+use crate::bytes::{INSERT, TX, is_sent};
+use crate::nodes::{add, begin, deliver, insert, key, one_of_five, transaction};
+use mdcc_base::{Key, Plain};
+use mdcc_facts::ListFacts;
+use mdcc_node::{Answer, Input, Node, Step};
+use mdcc_option::BeginFault;
+use std::alloc::Global;
+use std::test::*;
+
+// Why a transaction was not begun, and for which key.
+fn refused(step: &Step) -> Option<(Key, BeginFault)> {
+    match &step.answer {
+        Some(Answer::Refused(key, fault)) => Some((*key, fault.copy())),
+        _ => None,
+    }
+}
+
+// A node that heard the insert committed.
+fn holding(alloc: Global) -> Result<Node<ListFacts>, Fail> {
+    let mut node = one_of_five(alloc, 1)?;
+    let _step = deliver(alloc, &mut node, &[&[1, 9, 2, 1], &TX, &[1, 1], &INSERT])?;
+    Ok(node)
+}
+
+// Transaction 1.1.1 writes first items under keys a and b: each has both in its write set.
+const BOTH: [u8; 21] = [
+    2, 1, 97, 0, 0, 0, 0, 0, 0, 0, 0, 1, 98, 0, 0, 0, 0, 0, 0, 0, 0,
+];
+
+// A first item under key a with the value 1, and under key b with 2.
+const A_1: [u8; 22] = [
+    1, 97, 0, 0, 0, 0, 0, 0, 0, 0, 1, 0, 1, 1, 0, 0, 0, 0, 0, 0, 0, 0,
+];
+
+const B_2: [u8; 22] = [
+    1, 98, 0, 0, 0, 0, 0, 0, 0, 0, 1, 0, 1, 2, 0, 0, 0, 0, 0, 0, 0, 0,
+];
+
+#[test]
+fn each_key_is_proposed_to_all_centres(rt: HostRuntime) -> Result<(), Fail> {
+    let alloc = rt.alloc();
+    let mut node = one_of_five(alloc, 1)?;
+    let step = begin(&mut node, &[insert(b'b', 2), insert(b'a', 1)])?;
+    assert_eq!(rt; step.sends.len(), 10);
+    for to in 1..6u8 {
+        let head = [1, 1, 1, to];
+        let first: [&[u8]; 4] = [&head, &TX, &A_1, &BOTH];
+        assert!(rt; is_sent(alloc, &step, usize::from(to) - 1, &first)?);
+        let second: [&[u8]; 4] = [&head, &TX, &B_2, &BOTH];
+        assert!(rt; is_sent(alloc, &step, usize::from(to) + 4, &second)?);
+    }
+    Ok(())
+}
+
+// 256 transactions are open, and no more.
+#[test]
+fn the_257th_open_transaction_is_refused(rt: HostRuntime) -> Result<(), Fail> {
+    let mut node = one_of_five(rt.alloc(), 1)?;
+    let inserts = transaction(&[insert(b'b', 2), insert(b'a', 1)])?;
+    for _ in 0..256 {
+        let step = node.begin(&inserts)?;
+        assert!(rt; matches!(step.answer, Some(Answer::Begun(_))));
+    }
+    let step = node.step(&Input::Begin(inserts))?;
+    assert!(rt; step.sends.is_empty());
+    assert_eq!(rt; refused(&step), Some((key(b'a'), BeginFault::Busy)));
+    Ok(())
+}
+
+// Key a is held at version 1, and key b not at all.
+#[test]
+fn what_was_not_seen_is_not_begun(rt: HostRuntime) -> Result<(), Fail> {
+    let mut node = holding(rt.alloc())?;
+    let step = begin(&mut node, &[insert(b'a', 1)])?;
+    assert!(rt; step.sends.is_empty());
+    assert!(rt; is_stale(&step));
+    let step = begin(&mut node, &[add(b'a', 0, -4)])?;
+    assert_eq!(rt; refused(&step), Some((key(b'a'), BeginFault::Unseen(1))));
+    let step = begin(&mut node, &[add(b'a', 1, -4), add(b'b', 0, 1)])?;
+    assert_eq!(rt; refused(&step), Some((key(b'b'), BeginFault::NoItem)));
+    let step = begin(&mut node, &[add(b'a', 1, -4), insert(b'b', 1)])?;
+    assert_eq!(rt; step.sends.len(), 10);
+    Ok(())
+}
+
+// Whether a write to key a would have had to see version 1 without deltas.
+fn is_stale(step: &Step) -> bool {
+    match &step.answer {
+        Some(Answer::Refused(name, BeginFault::Stale(token))) => {
+            name.same(&key(b'a')) && token.version == 1 && token.seen.is_empty()
+        }
+        _ => false,
+    }
+}
