@@ -1,0 +1,9 @@
+pub mod Addable
+pub mod Alike
+pub mod Exact
+pub mod Fresh
+pub mod Marks
+pub mod Settled
+pub mod Several
+pub mod Single
+pub mod Taking

@@ -1,0 +1,4 @@
+pub mod Admission
+pub mod Boots
+pub mod Laws
+pub mod Loading

@@ -1,0 +1,139 @@
+-- What is read from the payloads of a log over a store with so many cells, and what a boot adds to it.
+use Rattle.std.specs.Bool.{OnFalse}
+use Rattle.std.specs.Prelude.{Bool, Err, List, None, Ok, Option, Result, Some, [], false, if◌then◌else◌, min, nat_le, nat_lt, not, ℕ, ◌+◌, ◌-◌, ◌^◌, true, ◌&&◌, ◌||◌, ◌∷◌, ◌≡◌}
+use Rattle.mdcc_admission.specs.Admission.{is_admitted}
+use Rattle.mdcc_admission.specs.Laws.{AreCounted}
+use Rattle.mdcc_base.specs.Counts.{sum_over}
+use Rattle.mdcc_option.specs.declared.cluster.Cluster.{Cluster}
+use Rattle.mdcc_protocol.specs.Allowed.{is_allowed_fact}
+use Rattle.mdcc_protocol.specs.Facts.{epoch_of}
+use Rattle.mdcc_protocol.specs.News.{is_crowding}
+use Rattle.mdcc_protocol.specs.Reading.{fact_of}
+use Rattle.mdcc_protocol.specs.declared.facts.Fact.{Fact}
+use Rattle.mdcc_protocol.specs.declared.facts.StoreFault.{StoreFault}
+use Rattle.mdcc_protocol.specs.declared.node.BootFault.{BootFault}
+use Rattle.mdcc_protocol.specs.declared.wire.WireFault.{WireFault}
+
+-- ---- payloads
+
+abbrev pub fact_in : Result Fact WireFault → Option Fact
+fact_in (Ok fact) = Some fact
+fact_in (Err fault) = None
+
+-- the fact that a payload spells
+abbrev pub fact_read : List ℕ → Option Fact
+fact_read payload = fact_in (fact_of payload)
+
+-- ---- cells
+
+-- the cells of an empty store, and those that a fact needs
+pub record Cells : Type 0 where
+  pub total : ℕ
+  pub needed : Fact → ℕ
+
+-- those of a store that has room for any number of facts
+abbrev pub list_cells : Cells
+list_cells = record { total = 2 ^ 64 - 1; needed = λ fact. 0 }
+
+abbrev pub cells_with : Cells → List Fact → Fact → ℕ
+cells_with cells facts fact = sum_over cells.needed facts + cells.needed fact
+
+-- whether the fact needs more cells than the others leave
+abbrev pub is_past : Cells → List Fact → Fact → Bool
+is_past cells facts fact = nat_lt cells.total (cells_with cells facts fact)
+
+-- the number of cells stops at 2^64 - 1
+abbrev pub past_fault : Cells → List Fact → Fact → BootFault
+past_fault cells facts fact = BootFault.Room (min (cells_with cells facts fact) (2 ^ 64 - 1)) cells.total
+
+-- ---- what is read, and what a boot adds
+
+-- the payloads in turn, each as its fact where it is one, onto the facts so far, which are as many as the number says
+abbrev pub loaded_by : Cells → Cluster → List Fact → ℕ → List (Option Fact) → Result (List Fact) BootFault
+loaded_by cells cluster facts n [] = Ok facts
+loaded_by cells cluster facts n (None ∷ payloads) = Err (BootFault.NotARun (n + 1))
+loaded_by cells cluster facts n (Some fact ∷ payloads) =
+    if not (is_allowed_fact cluster facts fact) then Err (BootFault.NotARun (n + 1))
+    else (if is_past cells facts fact then Err (past_fault cells facts fact)
+    else loaded_by cells cluster (fact ∷ facts) (n + 1) payloads)
+
+-- the next epoch begins
+abbrev pub next_by : Cells → Result (List Fact) BootFault → Result (List Fact) BootFault
+next_by cells (Err fault) = Err fault
+next_by cells (Ok facts) =
+    let fact = Fact.Booted (epoch_of facts + 1) in
+    if nat_le (2 ^ 32 - 1) (epoch_of facts) then Err BootFault.Epochs
+    else (if is_past cells facts fact then Err (past_fault cells facts fact) else Ok (fact ∷ facts))
+
+-- the facts of a node that is booted from these payloads, the newest first, or why there is none
+abbrev pub boot_by : Cells → Cluster → List (Option Fact) → Result (List Fact) BootFault
+boot_by cells cluster payloads = next_by cells (loaded_by cells cluster [] 0 payloads)
+
+-- ---- the same in the order of a store, which has room or not before it looks for too many deltas
+
+-- why the payload behind so many others is not taken
+abbrev pub Refusal : Type 0
+Refusal = ℕ × BootFault
+
+abbrev pub taken_by : Cells → Cluster → List Fact → ℕ → Option Fact → Result (List Fact) Refusal
+taken_by cells cluster facts n None = Err (n, BootFault.NotARun (n + 1))
+taken_by cells cluster facts n (Some fact) =
+    if not (is_admitted cluster facts fact) then Err (n, BootFault.NotARun (n + 1))
+    else (if is_past cells facts fact then Err (n, past_fault cells facts fact)
+    else (if is_crowding facts fact then Err (n, BootFault.NotARun (n + 1)) else Ok (fact ∷ facts)))
+
+abbrev pub after : (List Fact → Result (List Fact) Refusal) → Result (List Fact) Refusal → Result (List Fact) Refusal
+after rest (Ok facts) = rest facts
+after rest (Err refusal) = Err refusal
+
+abbrev pub run_by : Cells → Cluster → List Fact → ℕ → List (Option Fact) → Result (List Fact) Refusal
+run_by cells cluster facts n [] = Ok facts
+run_by cells cluster facts n (payload ∷ payloads) = after (λ more. run_by cells cluster more (n + 1) payloads) (taken_by cells cluster facts n payload)
+
+abbrev pub is_memory : BootFault → Bool
+is_memory BootFault.Memory = true
+is_memory _ = false
+
+abbrev pub is_memory_at : Refusal → Bool
+is_memory_at refusal = is_memory refusal.1
+
+abbrev pub is_room : BootFault → Bool
+is_room (BootFault.Room needed cells) = true
+is_room _ = false
+
+-- the fault, where the payloads are refused so over these cells and so over as many cells as there may be: a fact that brings too many deltas is no fact of the run, also where there is no room for it
+abbrev pub settle : {T : Type 0} → Refusal → Result T Refusal → BootFault
+settle refusal (Ok facts) = refusal.1
+settle refusal (Err other) = if is_room refusal.1 && (is_memory other.1 || nat_le other.0 refusal.0) then other.1 else refusal.1
+
+-- ---- what the parts answer
+
+-- by what a store answers to a fact behind so many others
+abbrev pub store_fault : ℕ → ℕ → StoreFault → BootFault
+store_fault cells n (StoreFault.NoRoom needed spare) = BootFault.Room (min (cells - spare + needed) (2 ^ 64 - 1)) cells
+store_fault cells n StoreFault.Crowded = BootFault.NotARun (n + 1)
+store_fault cells n StoreFault.Memory = BootFault.Memory
+
+-- by what is wrong with the payload behind so many others
+abbrev pub read_fault : ℕ → WireFault → BootFault
+read_fault n WireFault.Memory = BootFault.Memory
+read_fault n fault = BootFault.NotARun (n + 1)
+
+-- ---- stores
+
+-- a store that had so many cells when it was empty stands for the facts
+pub record Holds {S : Type 0} (stands : S → List Fact → Type 0) (room : S → ℕ) (cells_for : S → Fact → ℕ) (cells : Cells) (store : S) (facts : List Fact) : Type 0 where
+  pub list : stands store facts
+  pub spare : room store + sum_over cells.needed facts ≡ cells.total
+  pub needs : (s : S) (fact : Fact) → cells_for s fact ≡ cells.needed fact
+  pub counted : AreCounted facts
+
+-- the expected facts, of which something holds, or the expected fault, unless it is one that may come at any time
+abbrev pub LoadsUnless : {E : Type 0} → (E → Bool) → Result (Unit {0}) E → Result (List Fact) E → (List Fact → Type 0) → Type 0
+LoadsUnless free (Ok u) expected P = (facts : List Fact) × (expected ≡ Ok facts) × P facts
+LoadsUnless free (Err e) expected P = OnFalse (free e) (expected ≡ Err e)
+
+-- the same, of which the newest is the boot of an epoch
+abbrev pub BootsUnless : (BootFault → Bool) → Result ℕ BootFault → Result (List Fact) BootFault → (List Fact → Type 0) → Type 0
+BootsUnless free (Ok epoch) expected P = (facts : List Fact) × (expected ≡ Ok (Fact.Booted epoch ∷ facts)) × P (Fact.Booted epoch ∷ facts)
+BootsUnless free (Err e) expected P = OnFalse (free e) (expected ≡ Err e)

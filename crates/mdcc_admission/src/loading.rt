@@ -1,0 +1,245 @@
+//! The payloads of a log, taken into a store, and the boot after them.
+ghost use Rattle.std.specs.Prelude.{◌≡◌, ◌-◌, ◌<◌, ◌^◌, [], List, Ok, Some, length, map, slice_get, true};
+ghost use Rattle.std.specs.Bool.{OnFalse};
+ghost use Rattle.mdcc_admission.specs.Loading.{BootsUnless, Cells, Holds, LoadsUnless, boot_by, fact_read, is_memory, is_memory_at, is_room, list_cells, loaded_by, next_by, read_fault, run_by, settle, store_fault, taken_by};
+ghost use Rattle.mdcc_protocol.specs.declared.facts.Fact.{Fact as AFact};
+
+use crate::admitted::is_admitted;
+use crate::laws::admitted_may_be_added;
+use mdcc_base::HeapList;
+use mdcc_facts::{FactStore, ListFacts};
+use mdcc_journal::decode_fact;
+use mdcc_option::Cluster;
+use mdcc_protocol::{BootFault, Fact, StoreFault, WireFault};
+use std::alloc::Global;
+
+// How many payloads were taken before one was not, and why.
+type Refusal = (u64, BootFault);
+
+// ---- faults
+
+// By what a store answers to a fact behind so many others.
+fn store_fault(cells: u64, taken: u64, fault: StoreFault) -> BootFault
+    requires { taken < 2 ^ 64 - 1 }
+    ensures { result ≡ store_fault cells taken fault }
+{
+    match fault {
+        StoreFault::NoRoom { needed, spare } => BootFault::Room {
+            needed: cells.saturating_sub(spare).saturating_add(needed),
+            cells,
+        },
+        StoreFault::Crowded => BootFault::NotARun(taken + 1),
+        StoreFault::Memory => BootFault::Memory,
+    }
+}
+
+// By what is wrong with the payload behind so many others.
+fn read_fault(taken: u64, fault: WireFault) -> BootFault
+    requires { taken < 2 ^ 64 - 1 }
+    ensures { result ≡ read_fault taken fault }
+{
+    match fault {
+        WireFault::Memory => BootFault::Memory,
+        _ => BootFault::NotARun(taken + 1),
+    }
+}
+
+fn is_memory(fault: &BootFault) -> bool
+    ensures { result ≡ is_memory fault.now }
+{
+    match fault {
+        BootFault::Memory => true,
+        _ => false,
+    }
+}
+
+fn is_room(fault: &BootFault) -> bool
+    ensures { result ≡ is_room fault.now }
+{
+    match fault {
+        BootFault::Room { .. } => true,
+        _ => false,
+    }
+}
+
+// ---- one payload after the other
+
+// Adds a fact that may stand after those of the store.
+fn take_fact<S: FactStore>(
+    cluster: &Cluster,
+    store: &mut S,
+    cells: u64,
+    taken: u64,
+    fact: &Fact,
+) -> Result<(), Refusal>
+    requires { taken < 2 ^ 64 - 1 }
+    ensures { (all : Cells) (facts : List AFact) → Holds S.stands S.room S.cells_for all store.old facts → all.total ≡ cells
+        → LoadsUnless is_memory_at result (taken_by all cluster.now facts taken (Some fact.now)) (Holds S.stands S.room S.cells_for all store.new) }
+{
+    admitted_may_be_added();
+    if !is_admitted(store, cluster, fact) {
+        return Err((taken, BootFault::NotARun(taken + 1)));
+    }
+    match store.add(fact) {
+        Ok(()) => Ok(()),
+        Err(fault) => Err((taken, store_fault(cells, taken, fault))),
+    }
+}
+
+// Adds the fact of a payload.
+fn take_payload<S: FactStore>(
+    alloc: Global,
+    cluster: &Cluster,
+    store: &mut S,
+    cells: u64,
+    taken: u64,
+    payload: &[u8],
+) -> Result<(), Refusal>
+    requires { taken < 2 ^ 64 - 1 }
+    ensures { (all : Cells) (facts : List AFact) → Holds S.stands S.room S.cells_for all store.old facts → all.total ≡ cells
+        → LoadsUnless is_memory_at result (taken_by all cluster.now facts taken (fact_read payload.now)) (Holds S.stands S.room S.cells_for all store.new) }
+{
+    match decode_fact(alloc, payload) {
+        Ok(fact) => take_fact(cluster, store, cells, taken, &fact),
+        Err(fault) => Err((taken, read_fault(taken, fault))),
+    }
+}
+
+// The payload at a place.
+fn payload_at(payloads: &[HeapList<u8>], place: usize) -> &[u8]
+    requires { place < length payloads.now }
+    ensures { slice_get payloads.now place ≡ Some result.now }
+{
+    payloads[place].as_slice()
+}
+
+// Adds the facts of payloads to an empty store, in turn.
+fn run<S: FactStore>(
+    alloc: Global,
+    cluster: &Cluster,
+    store: &mut S,
+    payloads: &[HeapList<u8>],
+) -> Result<(), Refusal>
+    ensures { (all : Cells) → Holds S.stands S.room S.cells_for all store.old []
+        → LoadsUnless is_memory_at result (run_by all cluster.now [] 0 (map fact_read payloads.now)) (Holds S.stands S.room S.cells_for all store.new) }
+{
+    let cells = store.spare();
+    for place in 0..payloads.len() {
+        let payload = payload_at(payloads, place);
+        match take_payload(alloc, cluster, store, cells, place as u64, payload) {
+            Ok(()) => {}
+            Err(refusal) => return Err(refusal),
+        }
+    }
+    Ok(())
+}
+
+// ---- all payloads
+
+// The fault, where payloads are refused so by a store, and so by one that never lacks room.
+fn settle(taken: u64, fault: BootFault, other: Result<(), Refusal>) -> BootFault
+    ensures { result ≡ settle (taken, fault) other }
+{
+    match other {
+        Ok(()) => fault,
+        Err((place, why)) => {
+            if is_room(&fault) && (is_memory(&why) || place <= taken) {
+                why
+            } else {
+                fault
+            }
+        }
+    }
+}
+
+// The fault, where payloads are refused for want of room, by a run over a list.
+fn settled_by_list(
+    alloc: Global,
+    cluster: &Cluster,
+    payloads: &[HeapList<u8>],
+    taken: u64,
+    fault: BootFault,
+) -> BootFault
+    requires { is_room fault ≡ true }
+    ensures { OnFalse (is_memory result) (result ≡ settle (taken, fault) (run_by list_cells cluster.now [] 0 (map fact_read payloads.now))) }
+{
+    match ListFacts::new(alloc) {
+        Ok(list) => {
+            let mut list = list;
+            let other = run(alloc, cluster, &mut list, payloads);
+            settle(taken, fault, other)
+        }
+        Err(_) => BootFault::Memory,
+    }
+}
+
+// The fault, where payloads are refused so by a store: a fact for which there is no room is no fact
+// of the run where it brings too many deltas as well.
+#[tactic(auto, using(crate::proofs::Settled::not_room))]
+fn settled(
+    alloc: Global,
+    cluster: &Cluster,
+    payloads: &[HeapList<u8>],
+    taken: u64,
+    fault: BootFault,
+) -> BootFault
+    ensures { OnFalse (is_memory result) (result ≡ settle (taken, fault) (run_by list_cells cluster.now [] 0 (map fact_read payloads.now))) }
+{
+    if is_room(&fault) {
+        settled_by_list(alloc, cluster, payloads, taken, fault)
+    } else {
+        fault
+    }
+}
+
+// Adds the facts of payloads to an empty store.
+fn load<S: FactStore>(
+    alloc: Global,
+    cluster: &Cluster,
+    store: &mut S,
+    payloads: &[HeapList<u8>],
+) -> Result<(), BootFault>
+    ensures { (all : Cells) → Holds S.stands S.room S.cells_for all store.old []
+        → LoadsUnless is_memory result (loaded_by all cluster.now [] 0 (map fact_read payloads.now)) (Holds S.stands S.room S.cells_for all store.new) }
+{
+    match run(alloc, cluster, store, payloads) {
+        Ok(()) => Ok(()),
+        Err((taken, fault)) => Err(settled(alloc, cluster, payloads, taken, fault)),
+    }
+}
+
+// Adds the boot of the next epoch.
+fn begin_epoch<S: FactStore>(store: &mut S, cells: u64) -> Result<u32, BootFault>
+    ensures { (all : Cells) (facts : List AFact) → Holds S.stands S.room S.cells_for all store.old facts → all.total ≡ cells
+        → BootsUnless is_memory result (next_by all (Ok facts)) (Holds S.stands S.room S.cells_for all store.new) }
+{
+    let last = store.epoch();
+    if last == u32::MAX {
+        return Err(BootFault::Epochs);
+    }
+    let epoch = last + 1;
+    match store.add(&Fact::Booted(epoch)) {
+        Ok(()) => Ok(epoch),
+        Err(fault) => Err(store_fault(cells, 0, fault)),
+    }
+}
+
+/// Adds the facts of the payloads of a log to an empty store, and then the boot of the next epoch,
+/// which it gives. A payload that spells no fact, or one that may not stand after those before it, is
+/// `NotARun`; one that needs more cells than are left is `Room`; after the last epoch, 2^32 - 1, it is
+/// `Epochs`. What the store stands for after a fault is not told.
+pub fn boot_store<S: FactStore>(
+    alloc: Global,
+    cluster: &Cluster,
+    store: &mut S,
+    payloads: &[HeapList<u8>],
+) -> Result<u32, BootFault>
+    ensures { (all : Cells) → Holds S.stands S.room S.cells_for all store.old []
+        → BootsUnless is_memory result (boot_by all cluster.now (map fact_read payloads.now)) (Holds S.stands S.room S.cells_for all store.new) }
+{
+    let cells = store.spare();
+    match load(alloc, cluster, store, payloads) {
+        Ok(()) => begin_epoch(store, cells),
+        Err(fault) => Err(fault),
+    }
+}

@@ -1,0 +1,185 @@
+//! Votes that may stand after the facts before them.
+ghost use Rattle.std.specs.Prelude.{◌≡◌, ◌&&◌, List, false, is_some, length, nat_le, nat_lt, not};
+ghost use Rattle.mdcc_admission.specs.Admission.{are_new, is_allowed_single, is_allowed_vote};
+ghost use Rattle.mdcc_base.specs.Ballot.{ballot_lt};
+ghost use Rattle.mdcc_protocol.specs.Allowed.{is_allowed_classic_vote, is_allowed_fast_vote, is_allowed_mark, is_answer};
+ghost use Rattle.mdcc_protocol.specs.Facts.{current_of, promise_of, votes_of};
+ghost use Rattle.mdcc_protocol.specs.declared.facts.Fact.{Fact as AFact};
+ghost use Rattle.mdcc_struct.specs.Maps.{value_of};
+
+use mdcc_acceptor::on_propose;
+use mdcc_base::{Ballot, Key, TxId};
+use mdcc_facts::FactStore;
+use mdcc_option::{Choice, Cluster, Mark};
+use mdcc_protocol::ProposeAnswer;
+use mdcc_struct::Options;
+
+// ---- at the fast ballot
+
+// Whether the acceptor answers with a vote of this mark.
+fn is_answer(mark: &Mark, answer: &ProposeAnswer) -> bool
+    ensures { result ≡ is_answer mark.now answer.now }
+{
+    match answer {
+        ProposeAnswer::Vote(other) => mark.is(other),
+        _ => false,
+    }
+}
+
+// Whether the mark is the acceptor's own of this choice.
+#[tactic(auto, using(crate::proofs::Single::answered))]
+fn is_allowed_mark<S: FactStore>(
+    store: &S,
+    cluster: &Cluster,
+    key: &Key,
+    version: u64,
+    tx: &TxId,
+    mark: &Mark,
+    choice: &Choice,
+) -> bool
+    ensures { (facts : List AFact) → S.stands store.now facts
+        → result ≡ is_allowed_mark cluster.now facts key.now version tx.now mark.now choice.now }
+{
+    choice.tx.is(tx)
+        && choice.version == version
+        && choice.key.is(key)
+        && is_answer(mark, &on_propose(store, cluster, choice))
+}
+
+// Whether the one mark of a vote is, with the choice offered exactly where it is a rejection.
+fn is_allowed_single<S: FactStore>(
+    store: &S,
+    cluster: &Cluster,
+    key: &Key,
+    version: u64,
+    tx: &TxId,
+    mark: &Mark,
+    offered: &Option<Choice>,
+) -> bool
+    ensures { (facts : List AFact) → S.stands store.now facts
+        → result ≡ is_allowed_single cluster.now facts key.now version tx.now mark.now offered.now }
+{
+    match mark {
+        Mark::Accept(choice) => match offered {
+            Some(_) => false,
+            None => is_allowed_mark(store, cluster, key, version, tx, mark, choice),
+        },
+        Mark::Reject => match offered {
+            Some(choice) => is_allowed_mark(store, cluster, key, version, tx, mark, choice),
+            None => false,
+        },
+    }
+}
+
+// Whether a vote at the fast ballot may. (Fast Paxos; MDCC.)
+#[tactic(auto, using(crate::proofs::Single::one_mark, crate::proofs::Single::other_marks))]
+fn is_allowed_fast_vote<S: FactStore>(
+    store: &S,
+    cluster: &Cluster,
+    key: &Key,
+    version: u64,
+    options: &Options,
+    offered: &Option<Choice>,
+) -> bool
+    ensures { (facts : List AFact) → S.stands store.now facts
+        → result ≡ is_allowed_fast_vote cluster.now facts key.now version options.now offered.now }
+{
+    if options.len() == 1 {
+        let (tx, mark) = options.at(0);
+        is_allowed_single(store, cluster, key, version, &tx, mark, offered)
+    } else {
+        false
+    }
+}
+
+// ---- at a classic ballot
+
+// Whether the transaction was voted at the ballot. As no vote is above it, it is the last one.
+fn is_voted<S: FactStore>(store: &S, key: &Key, version: u64, ballot: Ballot, tx: TxId) -> bool
+    ensures { (facts : List AFact) → S.stands store.now facts → ballot_lt ballot (promise_of facts key.now version) ≡ false
+        → result ≡ is_some (value_of (votes_of facts key.now version ballot) tx) }
+{
+    match store.vote_of(key, version, tx) {
+        Some((last, _)) => last.is(&ballot),
+        None => false,
+    }
+}
+
+// Whether no mark of the structure was voted at the ballot.
+fn are_new<S: FactStore>(
+    store: &S,
+    key: &Key,
+    version: u64,
+    ballot: Ballot,
+    options: &Options,
+) -> bool
+    ensures { (facts : List AFact) → S.stands store.now facts → ballot_lt ballot (promise_of facts key.now version) ≡ false
+        → result ≡ are_new facts key.now version ballot options.now }
+{
+    for place in 0..options.len() {
+        let (tx, _) = options.at(place);
+        if is_voted(store, key, version, ballot, tx) {
+            return false;
+        }
+    }
+    true
+}
+
+// Whether a vote at a classic ballot may that is not below the promise.
+fn is_new_vote<S: FactStore>(
+    store: &S,
+    key: &Key,
+    version: u64,
+    ballot: &Ballot,
+    options: &Options,
+    offered: &Option<Choice>,
+) -> bool
+    ensures { (facts : List AFact) → S.stands store.now facts → ballot_lt ballot.now (promise_of facts key.now version) ≡ false
+        → result ≡ (nat_le version (current_of facts key.now) && nat_lt 0 (length options.now)
+        && are_new facts key.now version ballot.now options.now && not (is_some offered.now)) }
+{
+    version <= store.current(key)
+        && 0 < options.len()
+        && are_new(store, key, version, *ballot, options)
+        && offered.is_none()
+}
+
+// Whether a vote at a classic ballot may. (Generalized Paxos.)
+#[tactic(auto, using(crate::proofs::Several::classic_vote, crate::proofs::Several::no_vote))]
+fn is_allowed_classic_vote<S: FactStore>(
+    store: &S,
+    key: &Key,
+    version: u64,
+    ballot: &Ballot,
+    options: &Options,
+    offered: &Option<Choice>,
+) -> bool
+    ensures { (facts : List AFact) → S.stands store.now facts
+        → result ≡ is_allowed_classic_vote facts key.now version ballot.now options.now offered.now }
+{
+    let _count = options.len();
+    if ballot.is_below(&store.promise(key, version)) {
+        return false;
+    }
+    is_new_vote(store, key, version, ballot, options, offered)
+}
+
+/// Whether a vote may.
+pub(crate) fn is_allowed_vote<S: FactStore>(
+    store: &S,
+    cluster: &Cluster,
+    key: &Key,
+    version: u64,
+    ballot: &Ballot,
+    options: &Options,
+    offered: &Option<Choice>,
+) -> bool
+    ensures { (facts : List AFact) → S.stands store.now facts
+        → result ≡ is_allowed_vote cluster.now facts key.now version ballot.now options.now offered.now }
+{
+    if ballot.is(&Ballot::FAST) {
+        is_allowed_fast_vote(store, cluster, key, version, options, offered)
+    } else {
+        is_allowed_classic_vote(store, key, version, ballot, options, offered)
+    }
+}
