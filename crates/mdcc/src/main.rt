@@ -4,22 +4,35 @@
 mod streams;
 
 use crate::streams::{Reading, Writing};
-use mdcc_base::write_all;
+use mdcc_base::{Sink, write_all};
 use mdcc_command::run;
+use std::env;
+use std::io::ErrorKind;
 use std::process::ExitCode;
-use std::{env, io};
+
+// Ends for want of memory.
+fn end_without_memory<E: Sink>(err: &mut E) -> ExitCode {
+    let _ = write_all(err, b"mdcc: memory\n");
+    ExitCode::from(10)
+}
 
 fn main(rt: HostRuntime) -> ExitCode {
     let mut source = Reading::new(rt.stdin());
     let mut out = Writing::new(rt.stdout());
     let mut err = Writing::new(rt.stderr());
     let mut words = Vec::new(rt.alloc());
-    // Words that are no text are none that the program knows.
-    if let Ok(arguments) = env::args(&rt) {
-        for word in arguments.skip(1) {
-            if words.push(word).is_err() {
-                let _ = write_all(&mut err, b"mdcc: memory\n");
-                return ExitCode::from(10);
+    match env::args(&rt) {
+        Ok(arguments) => {
+            for word in arguments.skip(1) {
+                if words.push(word).is_err() {
+                    return end_without_memory(&mut err);
+                }
+            }
+        }
+        // Words that are no text are none that the program knows.
+        Err(error) => {
+            if error.kind() == ErrorKind::OutOfMemory {
+                return end_without_memory(&mut err);
             }
         }
     }

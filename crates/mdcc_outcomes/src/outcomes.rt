@@ -64,7 +64,8 @@ impl Outcomes {
         )
     }
 
-    /// A transaction is begun with these choices. At most 2^32 - 1 are.
+    /// A transaction is begun with these choices. At most 2^32 - 1 are. After want of memory the
+    /// outcomes are to be let go, since a part of it may be counted.
     pub fn begin(&mut self, tx: TxId, choices: &[Choice]) -> Result<(), Memory>
         ensures { (quorums : Sizes) (entries : List Entry) (centre : ℕ) → Stands self.old quorums entries
             → OnOk result (Stands self.new quorums (Begun centre tx choices.now ∷ entries)) }
@@ -135,7 +136,8 @@ impl Outcomes {
     }
 
     /// A centre adds a fact. It gives the transactions that end with it, in ascending order: true
-    /// is commit.
+    /// is commit. After want of memory the outcomes are to be let go, since a part of the fact may be
+    /// counted.
     pub fn add(&mut self, centre: u8, fact: &Fact) -> Result<HeapList<(TxId, bool)>, Memory>
         ensures stands { (quorums : Sizes) (entries : List Entry) → Stands self.old quorums entries
             → OnOk result (Stands self.new quorums (Added centre fact.now ∷ entries)) }

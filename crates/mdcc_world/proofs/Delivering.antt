@@ -1,7 +1,7 @@
 -- A deliver line, number by number.
-use Rattle.std.proofs.Common.{◌≡◌, ℕ, ◌∷◌, List, Ok, Err, sym, append-nil}
+use Rattle.std.proofs.Common.{◌≡◌, ℕ, ◌∷◌, List, Ok, Err, sym, subst, append-nil}
 use Rattle.mdcc_protocol.specs.Built.{built}
-use Rattle.mdcc_protocol.specs.World.{Happened, World, after_lines, deliveries_of}
+use Rattle.mdcc_protocol.specs.World.{Happened, World, after_lines, deliveries_before, deliveries_of}
 use Rattle.mdcc_protocol.specs.declared.lines.Line.{Line}
 use Rattle.mdcc_protocol.specs.declared.world.EventFault.{EventFault}
 use Rattle.mdcc_world.proofs.Happened.{happened-then}
@@ -42,3 +42,11 @@ module _ (world : TheWorld) (before lines : List Line) (w : World) (whole left :
   delivers-refused number rest fault first closed =
       (delivering-refused w whole left rest number has.reached fault first has.happened.like.records.itself has.so_far
       (sym (closed has.reached.world has.happened.like))).0
+
+  pub delivers-left : (number : ℕ) (rest : List ℕ) (fault : EventFault) → left ≡ number ∷ rest
+      → ((v : World) → IsLike world v → Err fault ≡ at_message v number)
+      → HasHappened world before lines (deliveries_before built whole (unmoved w))
+  delivers-left number rest fault first closed =
+      let reached = (delivering-refused w whole left rest number has.reached fault first has.happened.like.records.itself has.so_far
+      (sym (closed has.reached.world has.happened.like))).1 in
+      subst (λ (h : Happened). HasHappened world before lines h) (sym reached) has.happened

@@ -6,6 +6,7 @@ mod Delivering
 mod Ended
 mod Ending
 mod Happened
+mod Left
 mod Named
 mod NodesStay
 mod Roomy

@@ -1,7 +1,17 @@
 -- Which refusals may come at any time.
-use Rattle.std.specs.Prelude.{Bool, false, true}
+use Rattle.std.specs.Bool.{OnFalse}
+use Rattle.std.specs.Prelude.{Bool, IfErr, Result, false, true, ◌||◌}
+use Rattle.mdcc_protocol.specs.World.{is_limit}
 use Rattle.mdcc_protocol.specs.declared.world.EventFault.{EventFault}
 
 abbrev pub is_memory : EventFault → Bool
 is_memory EventFault.Memory = true
 is_memory _ = false
+
+-- want of memory, or a limit: such a refusal may come in the middle of a line
+abbrev pub is_free : EventFault → Bool
+is_free fault = is_memory fault || is_limit fault
+
+-- where an answer is a refusal of another kind
+abbrev pub OnRefusal : {T : Type 0} → Result T EventFault → Type 0 → Type 0
+OnRefusal result P = IfErr result (λ fault. OnFalse (is_free fault) P)

@@ -9,6 +9,7 @@ ghost use Rattle.mdcc_protocol.specs.Ledger.{Entry};
 ghost use Rattle.mdcc_protocol.specs.World.{World as AWorld, begin_lines, counted_event, event_of, no_item};
 ghost use Rattle.mdcc_protocol.specs.declared.events.Event.{Event as AEvent};
 ghost use Rattle.mdcc_steps.specs.Inputs.{AreWellFormedParts};
+ghost use Rattle.mdcc_world.specs.Faults.{OnRefusal};
 ghost use Rattle.mdcc_world.specs.Telling.{begun_entries, begun_tx, lines_begun};
 ghost use Rattle.mdcc_world.specs.Stands.{Happens, HasHappened, IsLike, IsLikeSome};
 ghost use Rattle.mdcc_worlds.specs.Beginning.{begin_by, begun, begun_if};
@@ -97,6 +98,7 @@ impl World {
         ensures happens { (w : AWorld) → IsLike self.old w
             → Happens self.new lines.old lines.new result (if_open (at_limit w) (begun w centre transaction.now)) }
         ensures few { OnOk result (self.new.events ≤ 100000) }
+        ensures kept { OnRefusal result ((self.new ≡ self.old) × (lines.new ≡ lines.old)) }
     {
         self.at_limit()?;
         match self.begin_at(centre, transaction, lines) {
@@ -118,6 +120,7 @@ impl World {
         ensures happens { (w : AWorld) → IsLike self.old w
             → Happens self.new lines.old lines.new result (begun_if w centre (transaction_of w.cluster.schema parts.now)) }
         ensures few { OnOk result (self.new.events ≤ 100000) }
+        ensures kept { OnRefusal result ((self.new ≡ self.old) × (lines.new ≡ lines.old)) }
     {
         match Transaction::new(&self.cluster.schema, parts) {
             Ok(transaction) => self.begin_transaction(centre, &transaction, lines),
@@ -131,6 +134,7 @@ impl World {
         ensures happens { (w : AWorld) → IsLike self.old w
             → Happens self.new lines.old lines.new result (if_open (at_limit w) (no_item (counted_event w) key.now)) }
         ensures few { OnOk result (self.new.events ≤ 100000) }
+        ensures kept { OnRefusal result ((self.new ≡ self.old) × (lines.new ≡ lines.old)) }
     {
         self.at_limit()?;
         match lines.push(Line::Refused(*key, BeginFault::NoItem)) {
@@ -152,6 +156,7 @@ impl World {
         ensures happens { (w : AWorld) (a : ℕ) → IsLike self.old w
             → Happens self.new lines.old lines.new result (begin_by w a (Err fault.now)) }
         ensures few { OnOk result (self.new.events ≤ 100000) }
+        ensures kept { OnRefusal result ((self.new ≡ self.old) × (lines.new ≡ lines.old)) }
     {
         match fault {
             ResolveFault::NoRead(number) => Err(EventFault::NoRead(*number)),
@@ -172,6 +177,7 @@ impl World {
         ensures happens { (w : AWorld) → IsLike self.old w
             → Happens self.new lines.old lines.new result (event_of built w (AEvent.Begin centre words.now)) }
         ensures few { OnOk result (self.new.events ≤ 100000) }
+        ensures kept { OnRefusal result ((self.new ≡ self.old) × (lines.new ≡ lines.old)) }
     {
         if centre.number() > self.cluster.quorums.centres() {
             return Err(EventFault::Down(centre));

@@ -1,7 +1,8 @@
 //! Messages come to their centres.
 ghost use Rattle.std.specs.Prelude.{◌≡◌, ◌≤◌, ◌<◌, ◌+◌, OnOk};
 ghost use Rattle.mdcc_protocol.specs.Built.{built};
-ghost use Rattle.mdcc_protocol.specs.World.{World as AWorld, deliveries_of};
+ghost use Rattle.mdcc_protocol.specs.World.{World as AWorld, deliveries_before, deliveries_of};
+ghost use Rattle.mdcc_world.specs.Faults.{OnRefusal};
 ghost use Rattle.mdcc_world.specs.Stands.{Happens, HasHappened, IsLike, IsLikeSome};
 ghost use Rattle.mdcc_worlds.specs.Delivering.{at_message, delivery, delivery_told, unmoved};
 
@@ -63,7 +64,7 @@ impl World {
         Ok(())
     }
 
-    // A deliver line: the numbers in turn, up to the first that is refused.
+    // A deliver line: the numbers in turn, up to the first that is refused. Those before it stand.
     pub(crate) fn deliver(
         &mut self,
         numbers: &[u32],
@@ -74,6 +75,9 @@ impl World {
         ensures happens { (w : AWorld) → IsLike self.old w
             → Happens self.new lines.old lines.new result (deliveries_of built numbers.now (unmoved w)) }
         ensures few { OnOk result (self.new.events ≤ 100000) }
+        ensures left { (w : AWorld) → IsLike self.old w
+            → OnRefusal result (HasHappened self.new lines.old lines.new (deliveries_before built numbers.now (unmoved w))) }
+        ensures few_left { OnRefusal result (self.new.events ≤ 100000) }
     {
         for number in numbers {
             self.at_message(*number)?;

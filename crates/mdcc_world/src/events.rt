@@ -2,9 +2,9 @@
 ghost use Rattle.std.specs.Bool.{OnFalse};
 ghost use Rattle.std.specs.Prelude.{◌≡◌, ◌≤◌, ◌++◌, Err, IfErr, IsOkAnd, IsTrue, OnOk};
 ghost use Rattle.mdcc_protocol.specs.Built.{built};
-ghost use Rattle.mdcc_protocol.specs.World.{World as AWorld, event_of};
-ghost use Rattle.mdcc_world.specs.Faults.{is_memory};
-ghost use Rattle.mdcc_world.specs.Stands.{Happens, IsLike, IsLikeSome, Stands};
+ghost use Rattle.mdcc_protocol.specs.World.{World as AWorld, event_of, left_of};
+ghost use Rattle.mdcc_world.specs.Faults.{OnRefusal, is_memory};
+ghost use Rattle.mdcc_world.specs.Stands.{Happens, HasHappened, IsLike, IsLikeSome, Stands};
 ghost use Rattle.mdcc_world.specs.Words.{is_built};
 
 use crate::world::World;
@@ -20,6 +20,9 @@ impl World {
         ensures happens { (w : AWorld) → IsLike self.old w
             → Happens self.new lines.old lines.new result (event_of built w event.now) }
         ensures few { OnOk result (self.new.events ≤ 100000) }
+        ensures left { (w : AWorld) → IsLike self.old w
+            → OnRefusal result (HasHappened self.new lines.old lines.new (left_of built w event.now)) }
+        ensures few_left { OnRefusal result (self.new.events ≤ 100000) }
     {
         match event {
             Event::Read(centre, key) => self.read(*centre, key, lines),
@@ -31,8 +34,9 @@ impl World {
         }
     }
 
-    /// One event: its lines stand behind the others. Where it is refused, or there was no memory,
-    /// the world is to be let go.
+    /// One event: its lines stand behind the others. Where it is refused nothing has changed, but of
+    /// a deliver line the deliveries before the refused one stand, and so do their lines. Where
+    /// there was no memory, or a limit was reached, the world is to be let go.
     pub fn event(&mut self, event: &Event, lines: &mut HeapList<Line>) -> Result<(), EventFault>
         requires word { IsTrue (is_built event.now) }
         requires known { (w : AWorld) × Stands self.old w }
@@ -40,6 +44,10 @@ impl World {
             → OnOk result (IsOkAnd (event_of built w event.now) (λ h. (lines.new ≡ lines.old ++ h.lines) × Stands self.new h.world)) }
         ensures err { (w : AWorld) → Stands self.old w
             → IfErr result (λ fault. OnFalse (is_memory fault) (event_of built w event.now ≡ Err fault)) }
+        ensures left { (w : AWorld) → Stands self.old w
+            → OnRefusal result (HasHappened self.new lines.old lines.new (left_of built w event.now)) }
+        ensures stands { (w : AWorld) → Stands self.old w
+            → OnRefusal result (Stands self.new (left_of built w event.now).world) }
     {
         self.happen(event, lines)
     }

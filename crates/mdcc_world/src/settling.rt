@@ -1,10 +1,11 @@
 //! Settle lines: messages are delivered until none waits.
 ghost use Rattle.std.specs.List.{list_any};
-ghost use Rattle.std.specs.Prelude.{◌≡◌, ◌≤◌, ◌<◌, ◌==◌, IfOk, OnOk, List, ℕ};
+ghost use Rattle.std.specs.Prelude.{◌≡◌, ◌≤◌, ◌<◌, ◌==◌, IfErr, IfOk, OnOk, List, true, ℕ};
 ghost use Rattle.mdcc_protocol.specs.Built.{built};
 ghost use Rattle.mdcc_protocol.specs.World.{World as AWorld, event_of};
 ghost use Rattle.mdcc_protocol.specs.declared.events.Event.{Event as AEvent};
 ghost use Rattle.mdcc_protocol.specs.declared.lines.Line.{Line as ALine};
+ghost use Rattle.mdcc_world.specs.Faults.{is_free};
 ghost use Rattle.mdcc_world.specs.Settling.{AreNamed, EndsAs, IsSettledAs, is_named};
 ghost use Rattle.mdcc_world.specs.Stands.{Happens, HasHappened, IsLike, IsLikeSome};
 ghost use Rattle.mdcc_worlds.specs.Settling.{settle_told};
@@ -105,6 +106,7 @@ impl World {
         ensures happens { (w : AWorld) → IsLike self.old w
             → Happens self.new lines.old lines.new result (event_of built w (AEvent.Settle listed.now)) }
         ensures few { OnOk result (self.new.events ≤ 100000) }
+        ensures free { IfErr result (λ fault. is_free fault ≡ true) }
     {
         self.at_limit()?;
         match self.settle_at(listed, lines) {

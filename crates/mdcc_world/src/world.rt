@@ -1,11 +1,12 @@
 //! A world: the nodes of a cluster, the messages between them, and what happens to them.
-ghost use Rattle.std.specs.Prelude.{◌≡◌, ◌≤◌, ◌<◌, ◌++◌, ◌+◌, IfOk, OnOk, List, length, map};
+ghost use Rattle.std.specs.Prelude.{◌≡◌, ◌≤◌, ◌<◌, ◌++◌, ◌+◌, IfErr, IfOk, OnOk, List, length, map, true};
 ghost use Rattle.mdcc_base.specs.Key.{IsKey};
 ghost use Rattle.mdcc_protocol.specs.IsCluster.{IsCluster};
 ghost use Rattle.mdcc_protocol.specs.Built.{built};
 ghost use Rattle.mdcc_protocol.specs.World.{World as AWorld, end_line, event_of, first_world, input_happened, known_of, read_happened, counted_event, step_at};
 ghost use Rattle.mdcc_protocol.specs.declared.events.Event.{Event as AEvent};
 ghost use Rattle.mdcc_protocol.specs.declared.node.Input.{Input as AInput};
+ghost use Rattle.mdcc_world.specs.Faults.{OnRefusal, is_free};
 ghost use Rattle.mdcc_world.specs.Stands.{Happens, HasHappened, IsBeforeTaking, IsLike, IsLikeSome, IsTaken, RecordsStand, Stands};
 ghost use Rattle.mdcc_worlds.specs.Happening.{at_centre, at_limit, ticked};
 
@@ -79,6 +80,7 @@ impl World {
     // Why nothing happens any more.
     pub(crate) fn at_limit(&self) -> Result<(), EventFault>
         ensures limit { (w : AWorld) → IsLike self.now w → result ≡ at_limit w }
+        ensures free { IfErr result (λ fault. is_free fault ≡ true) }
         ensures few { OnOk result (self.now.events < 100000) }
     {
         if self.events >= MOST_EVENTS {
@@ -175,6 +177,7 @@ impl World {
         ensures happens { (w : AWorld) → IsLike self.old w
             → Happens self.new lines.old lines.new result (event_of built w (AEvent.Read centre key.now)) }
         ensures few { OnOk result (self.new.events ≤ 100000) }
+        ensures kept { OnRefusal result ((self.new ≡ self.old) × (lines.new ≡ lines.old)) }
     {
         self.at_centre(centre)?;
         match self.read_at(centre, key, lines) {
@@ -193,6 +196,7 @@ impl World {
         ensures happens { (w : AWorld) → IsLike self.old w
             → Happens self.new lines.old lines.new result (event_of built w (AEvent.Tick centre)) }
         ensures few { OnOk result (self.new.events ≤ 100000) }
+        ensures kept { OnRefusal result ((self.new ≡ self.old) × (lines.new ≡ lines.old)) }
     {
         self.at_centre(centre)?;
         match self.tick_at(centre, lines) {

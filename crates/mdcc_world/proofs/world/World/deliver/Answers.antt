@@ -1,7 +1,8 @@
 use Rattle.std.proofs.Common.{◌≡◌, ◌+◌, ◌∷◌, ◌<◌, arith, drop, get_or, length}
 use Rattle.std.proofs.lemmas.List.{drop_more}
-use Rattle.mdcc_world.proofs.Delivering.{delivers-begin, delivers-go_on, delivers-refused}
+use Rattle.mdcc_world.proofs.Delivering.{delivers-begin, delivers-go_on, delivers-left, delivers-refused}
 use Rattle.mdcc_world.proofs.Happened.{any-fault, residual}
+use Rattle.mdcc_world.proofs.Left.{refusal-always}
 use Rattle.mdcc_world.specs.Faults.{is_memory}
 use Rattle.mdcc_worlds.specs.Delivering.{delivery_told}
 use Rattle.mdcc_world.proofs.world.World.deliver.Goals as goal
@@ -24,6 +25,17 @@ returns-in_err-at_message-clause-happens c w like =
     let closed = delivers-refused at.self c.args.lines.now at.lines w numbers (drop i numbers) (at.invariant.has w like) (get_or numbers i 0) (drop (i + 1) numbers) fault first
     c.in_err-at_message.ensures.message in
     rw (residual c.from_residual.result fault c.from_residual.ensures.1) (any-fault (is_memory fault) closed)
+
+pub returns-in_err-at_message-clause-left : goal.returns-in_err-at_message-clause-left
+returns-in_err-at_message-clause-left c w like =
+    let at = c.loop-number in
+    let numbers = c.args.numbers.now in
+    let i = at.number-index in
+    let within : i < length numbers = omega arith in
+    let first : drop i numbers ≡ get_or numbers i 0 ∷ drop (i + 1) numbers = drop_more numbers i 0 within in
+    let left = delivers-left at.self c.args.lines.now at.lines w numbers (drop i numbers) (at.invariant.has w like) (get_or numbers i 0) (drop (i + 1) numbers) c.in_err-at_message.field-0.0 first
+    c.in_err-at_message.ensures.message in
+    refusal-always c.from_residual.result left
 
 pub loop-number-preserved : goal.loop-number-preserved
 loop-number-preserved c =

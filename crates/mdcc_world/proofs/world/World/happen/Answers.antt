@@ -1,10 +1,32 @@
+use Rattle.mdcc_world.proofs.Left.{left-few, left-unmoved}
 use Rattle.mdcc_world.proofs.world.World.happen.Goals as goal
 
 pub returns-in-Read-clause-happens : goal.returns-in-Read-clause-happens
 returns-in-Read-clause-happens c w like = rw c.in-Read.is (c.read.ensures.happens w like)
 
+pub returns-in-Read-clause-left : goal.returns-in-Read-clause-left
+returns-in-Read-clause-left c w like =
+    rw c.in-Read.is (left-unmoved c.read.result c.args.self.now c.read.new.self c.args.lines.now c.read.new.lines w like c.read.ensures.kept)
+
+pub returns-in-Read-clause-few_left : goal.returns-in-Read-clause-few_left
+returns-in-Read-clause-few_left c = left-few c.read.result c.args.self.now c.read.new.self c.args.lines.now c.read.new.lines c.requires.few c.read.ensures.kept
+
 pub returns-in-Begin-clause-happens : goal.returns-in-Begin-clause-happens
 returns-in-Begin-clause-happens c w like = rw (c.in-Begin.is, ← c.as_slice.ensures) (c.begin.ensures.happens w like)
 
+pub returns-in-Begin-clause-left : goal.returns-in-Begin-clause-left
+returns-in-Begin-clause-left c w like =
+    rw c.in-Begin.is (left-unmoved c.begin.result c.args.self.now c.begin.new.self c.args.lines.now c.begin.new.lines w like c.begin.ensures.kept)
+
+pub returns-in-Begin-clause-few_left : goal.returns-in-Begin-clause-few_left
+returns-in-Begin-clause-few_left c = left-few c.begin.result c.args.self.now c.begin.new.self c.args.lines.now c.begin.new.lines c.requires.few c.begin.ensures.kept
+
 pub returns-in-Tick-clause-happens : goal.returns-in-Tick-clause-happens
 returns-in-Tick-clause-happens c w like = rw c.in-Tick.is (c.tick.ensures.happens w like)
+
+pub returns-in-Tick-clause-left : goal.returns-in-Tick-clause-left
+returns-in-Tick-clause-left c w like =
+    rw c.in-Tick.is (left-unmoved c.tick.result c.args.self.now c.tick.new.self c.args.lines.now c.tick.new.lines w like c.tick.ensures.kept)
+
+pub returns-in-Tick-clause-few_left : goal.returns-in-Tick-clause-few_left
+returns-in-Tick-clause-few_left c = left-few c.tick.result c.args.self.now c.tick.new.self c.args.lines.now c.tick.new.lines c.requires.few c.tick.ensures.kept
