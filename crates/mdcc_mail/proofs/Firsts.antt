@@ -1,14 +1,12 @@
 -- How many messages stand before the first that waits.
-use Rattle.std.proofs.Common.{◌≡◌, ◌⊎◌, ℕ, suc, zero, ◌+◌, ◌-◌, ◌≤◌, ◌<◌, Bool, true, List, [], ◌∷◌, ◌++◌, Some, None, refl, sym, ◌∙◌, ap, arith, inl, inr, length, drop, map, get_or}
+use Rattle.std.proofs.Common.{◌≡◌, ◌⊎◌, ℕ, suc, zero, ◌+◌, ◌-◌, ◌≤◌, ◌<◌, Bool, List, [], ◌∷◌, ◌++◌, Some, None, refl, sym, ◌∙◌, ap, arith, inl, inr, length, drop, get_or}
 use Rattle.std.specs.Prelude.{set, slice_get, min}
-use Rattle.std.specs.Option.{option_map}
 use Rattle.std.proofs.lemmas.Bool.{cases_Bool}
-use Rattle.std.proofs.lemmas.List.{length-append, map-append}
-use Rattle.std.proofs.lemmas.Option.{slice_get-map, slice_get-get_or}
+use Rattle.std.proofs.lemmas.List.{length-append}
+use Rattle.std.proofs.lemmas.Option.{slice_get-get_or}
 use Rattle.std.proofs.Math.Numerals.{add-one}
-use Rattle.mdcc_mail.specs.Letters.{AreCursors, sent_of}
+use Rattle.mdcc_mail.specs.Letters.{AreCursors, delivered}
 use Rattle.mdcc_mail.specs.Waiting.{before_first, waits_among, waits_for}
-use Rattle.mdcc_mail.specs.declared.letters.Letter.{Letter}
 use Rattle.mdcc_protocol.specs.World.{Sent, numbered, with_delivered}
 
 pub first_within : {X : Type 0} (test : X → Bool) (xs : List X) → before_first test xs ≤ length xs
@@ -57,18 +55,12 @@ pub min_among : (least centre : ℕ) (centres : List ℕ) (xs : List Sent)
     ≡ min least (before_first (waits_among (centre ∷ centres)) xs)
 min_among least centre centres xs = rw (among_next centre centres xs) (omega arith)
 
-pub map_drop : {X Y : Type 0} (f : X → Y) (xs : List X) (from : ℕ) → map f (drop from xs) ≡ drop from (map f xs)
-map_drop f xs zero = refl
-map_drop f [] (suc from) = refl
-map_drop f (x ∷ xs) (suc from) = map_drop f xs from
-
 -- ---- deliveries
 
-pub map_delivered : (letters : List Letter) (place : ℕ) (letter : Letter) → slice_get letters place ≡ Some letter
-    → map sent_of (set letters place (record letter { is_delivered = true })) ≡ with_delivered (map sent_of letters) place
-map_delivered [] place letter at = absurd (cc)
-map_delivered (x ∷ xs) zero letter at = let same : x ≡ letter = cc in rw same refl
-map_delivered (x ∷ xs) (suc place) letter at = ap (λ ys. sent_of x ∷ ys) (map_delivered xs place letter at)
+pub set_delivered : (xs : List Sent) (place : ℕ) (x : Sent) → slice_get xs place ≡ Some x → set xs place (delivered x) ≡ with_delivered xs place
+set_delivered [] place x at = absurd (cc)
+set_delivered (y ∷ xs) zero x at = let same : y ≡ x = cc in rw same refl
+set_delivered (y ∷ xs) (suc place) x at = ap (λ ys. y ∷ ys) (set_delivered xs place x at)
 
 pub delivered_past : (xs : List Sent) (place : ℕ) → length xs ≤ place → with_delivered xs place ≡ xs
 delivered_past [] place past = refl
@@ -77,9 +69,8 @@ delivered_past (x ∷ xs) (suc place) past = ap (λ ys. x ∷ ys) (delivered_pas
 
 -- ---- numbers
 
-pub letter_there : (letters : List Letter) (place : ℕ) (letter : Letter) → place < length letters → letter ≡ get_or letters place letter
-    → slice_get letters place ≡ Some letter
-letter_there letters place letter within is = slice_get-get_or letters place letter within ∙ ap (λ (l : Letter). Some l) (sym is)
+pub letter_there : (xs : List Sent) (place : ℕ) (x : Sent) → place < length xs → x ≡ get_or xs place x → slice_get xs place ≡ Some x
+letter_there xs place x within is = slice_get-get_or xs place x within ∙ ap (λ (y : Sent). Some y) (sym is)
 
 pub numbered_at : {X : Type 0} (xs : List X) (place : ℕ) → numbered xs (place + 1) ≡ slice_get xs place
 numbered_at xs place = rw (add-one place) refl
@@ -88,19 +79,6 @@ pub past : {X : Type 0} (xs : List X) (place : ℕ) → length xs ≤ place → 
 past [] place far = refl
 past (x ∷ xs) zero far = absurd (omega (far, arith))
 past (x ∷ xs) (suc place) far = past xs place (omega (far, arith))
-
--- the message of a number, of those that are kept
-pub message_there : (letters : List Letter) (number : ℕ) (letter : Letter) → 1 ≤ number → slice_get letters (number - 1) ≡ Some letter
-    → Some letter.envelope ≡ option_map (λ (sent : Sent). sent.envelope) (numbered (map sent_of letters) number)
-message_there letters number letter some at =
-    let same : number ≡ number - 1 + 1 = omega (some, arith) in
-    rw (same, numbered_at (map sent_of letters) (number - 1), slice_get-map sent_of letters (number - 1), at) refl
-
-pub message_none : (letters : List Letter) (number : ℕ) → 1 ≤ number → length letters ≤ number - 1
-    → None ≡ option_map (λ (sent : Sent). sent.envelope) (numbered (map sent_of letters) number)
-message_none letters number some far =
-    let same : number ≡ number - 1 + 1 = omega (some, arith) in
-    rw (same, numbered_at (map sent_of letters) (number - 1), slice_get-map sent_of letters (number - 1), past letters (number - 1) far) refl
 
 -- ---- cursors
 
@@ -114,18 +92,24 @@ set_either (x ∷ xs) (suc i) (suc j) v = elim (set_either xs i j v) [
   | inr moved ↦ inr (ap (λ (n : ℕ). suc n) moved.0, moved.1)
 ]
 
-pub cursors_moved : (cursors : List ℕ) (letters : List Letter) (centre next : ℕ) → AreCursors cursors letters → 1 ≤ centre
-    → next ≤ before_first (waits_for centre) (map sent_of letters) → AreCursors (set cursors (centre - 1) next) letters
-cursors_moved cursors letters centre next are some within other there = elim (set_either cursors (centre - 1) (other - 1) next) [
+pub cursors_moved : (cursors : List ℕ) (xs : List Sent) (centre next : ℕ) → AreCursors cursors xs → 1 ≤ centre
+    → next ≤ before_first (waits_for centre) xs → AreCursors (set cursors (centre - 1) next) xs
+cursors_moved cursors xs centre next are some within other there = elim (set_either cursors (centre - 1) (other - 1) next) [
   | inl same ↦ rw same (are other there)
   | inr moved ↦ let e : other ≡ centre = omega (moved.0, some, there, arith) in rw (moved.1, e) within
 ]
 
-pub cursors_front : (cursors : List ℕ) (letters more : List Letter) → AreCursors cursors letters → AreCursors cursors (letters ++ more)
-cursors_front cursors letters more are centre some =
-    let front = first_front (waits_for centre) (map sent_of letters) (map sent_of more) in
+pub cursors_front : (cursors : List ℕ) (xs more : List Sent) → AreCursors cursors xs → AreCursors cursors (xs ++ more)
+cursors_front cursors xs more are centre some =
+    let front = first_front (waits_for centre) xs more in
     let was = are centre some in
-    rw (map-append sent_of letters more) (omega (was, front, arith))
+    omega (was, front, arith)
 
-pub length_under : (letters : List Letter) (letter : Letter) (limit : ℕ) → length letters + 1 < limit → length (letters ++ letter ∷ []) < limit
-length_under letters letter limit under = rw (length-append letters (letter ∷ [])) under
+pub cursors_delivered : (cursors : List ℕ) (xs : List Sent) (place : ℕ) → AreCursors cursors xs → AreCursors cursors (with_delivered xs place)
+cursors_delivered cursors xs place are centre some =
+    let later = first_delivered centre xs place in
+    let was = are centre some in
+    omega (was, later, arith)
+
+pub length_under : (xs more : List Sent) (limit : ℕ) → length xs + length more < limit → length (xs ++ more) < limit
+length_under xs more limit under = rw (length-append xs more) under

@@ -1,32 +1,99 @@
-//! One message after another.
-ghost use Rattle.std.specs.Prelude.{◌≡◌, ◌≤◌, length, map};
-ghost use Rattle.mdcc_mail.specs.Letters.{sent_of};
+//! Messages as their bytes, one after another.
+ghost use Rattle.std.specs.Prelude.{◌≡◌, ◌≤◌, length, IfOk};
+ghost use Rattle.mdcc_mail.specs.Letters.{delivered};
 ghost use Rattle.mdcc_mail.specs.Waiting.{before_first, waits_for};
+ghost use Rattle.mdcc_protocol.specs.Lengths.{message_length};
+ghost use Rattle.mdcc_protocol.specs.WellFormed.{IsWellFormedEnvelope};
+ghost use Rattle.mdcc_protocol.specs.World.{unsent};
 
+use mdcc_base::Memory;
 use mdcc_protocol::Envelope;
+use mdcc_wire::{view, write_message};
+use std::alloc::Global;
+use std::marker::Model;
 
-/// A message, and whether it was delivered.
+/// A message as its bytes, to whom it goes, and whether it was delivered.
 #[derive(Drop)]
 pub struct Letter {
-    pub envelope: Envelope,
-    pub is_delivered: bool,
+    bytes: Vec<u8>,
+    to: u8,
+    is_delivered: bool,
 }
 
-// Whether a message waits for the centre.
-fn waits_for(letter: &Letter, centre: u8) -> bool
-    ensures { result ≡ waits_for centre (sent_of letter.now) }
-{
-    !letter.is_delivered && letter.envelope.to == centre
+impl Model for Letter {
+    ghost use Rattle.mdcc_protocol.specs.World.{Sent};
+
+    ghost Value = { Sent };
+
+    ghost use Rattle.mdcc_mail.specs.Letters.{IsLetter, sent_of};
+
+    ghost view = { λ letter. sent_of letter.bytes.items letter.is_delivered };
+
+    ghost invariant = { λ letter. IsLetter letter.bytes.items letter.to };
+}
+
+impl Letter {
+    /// Writes a message, which is not delivered yet.
+    pub fn write(alloc: Global, envelope: &Envelope) -> Result<Letter, Memory>
+        requires { IsWellFormedEnvelope envelope.now }
+        ensures { IfOk result (λ letter. letter ≡ unsent envelope.now) }
+    {
+        let mut bytes = Vec::new(alloc);
+        write_message(envelope, &mut bytes)?;
+        Ok(Letter {
+            bytes,
+            to: envelope.to,
+            is_delivered: false,
+        })
+    }
+
+    /// How many bytes it has.
+    pub fn length(&self) -> usize
+        ensures { result ≡ message_length self.now.envelope }
+    {
+        self.bytes.len()
+    }
+
+    /// To whom it goes.
+    pub fn addressee(&self) -> u8
+        ensures { result ≡ self.now.envelope.to }
+    {
+        self.to
+    }
+
+    /// The message, decoded from its bytes.
+    pub fn envelope(&self, alloc: Global) -> Result<Envelope, Memory>
+        ensures { IfOk result (λ envelope. envelope ≡ self.now.envelope) }
+    {
+        match view(&self.bytes) {
+            Ok(viewed) => viewed.envelope(alloc),
+            Err(_) => Err(Memory),
+        }
+    }
+
+    /// It was delivered, maybe also before.
+    pub fn deliver(&mut self)
+        ensures { self.new ≡ delivered self.old }
+    {
+        self.is_delivered = true;
+    }
+
+    // Whether it waits for the centre.
+    fn waits_for(&self, centre: u8) -> bool
+        ensures { result ≡ waits_for centre self.now }
+    {
+        !self.is_delivered && self.to == centre
+    }
 }
 
 // How many messages stand before the first that waits for the centre.
 fn before_first(letters: &[Letter], centre: u8) -> usize
-    ensures value { result ≡ before_first (waits_for centre) (map sent_of letters.now) }
+    ensures value { result ≡ before_first (waits_for centre) letters.now }
     ensures bound { result ≤ length letters.now }
 {
     let mut place = 0;
     for letter in letters {
-        if waits_for(letter, centre) {
+        if letter.waits_for(centre) {
             return place;
         }
         place += 1;
@@ -36,8 +103,8 @@ fn before_first(letters: &[Letter], centre: u8) -> usize
 
 /// The same, where so many are known not to wait for it.
 pub(crate) fn next_place(letters: &[Letter], cursor: usize, centre: u8) -> usize
-    requires { cursor ≤ before_first (waits_for centre) (map sent_of letters.now) }
-    ensures { result ≡ before_first (waits_for centre) (map sent_of letters.now) }
+    requires { cursor ≤ before_first (waits_for centre) letters.now }
+    ensures { result ≡ before_first (waits_for centre) letters.now }
 {
     let rest = letters.split_at(cursor).1;
     cursor + before_first(rest, centre)

@@ -1,9 +1,11 @@
-//! The messages of a world: what was sent, what was delivered, and which message is to be delivered next.
+//! The messages of a world, kept as bytes: what was sent, what was delivered, and which message is to be delivered next.
 #![tactic(auto)]
 
 pub mod laws;
 pub mod letters;
 pub mod mail;
+pub mod outgoing;
 
 pub use mail::Mail;
 pub use mdcc_protocol::Envelope;
+pub use outgoing::Outgoing;

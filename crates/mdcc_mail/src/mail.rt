@@ -1,11 +1,12 @@
 //! All messages of a world, by number.
-ghost use Rattle.std.specs.Prelude.{◌≡◌, ◌≤◌, ◌<◌, ◌^◌, ◌-◌, ◌++◌, ◌∷◌, [], ◌↔◌, IsTrue, Ok, OnOk, length, map};
+ghost use Rattle.std.specs.Prelude.{◌≡◌, ◌≤◌, ◌<◌, ◌^◌, ◌-◌, ◌++◌, [], ◌↔◌, IsTrue, Ok, OnOk, OnErr, IfOk, length, map};
 ghost use Rattle.std.specs.Option.{option_copied, option_map};
 ghost use Rattle.mdcc_mail.specs.Waiting.{before_first, first_to, waits_for};
 ghost use Rattle.mdcc_protocol.specs.World.{numbered, unsent, with_delivered};
 
 use crate::letters::{Letter, next_place};
-use mdcc_base::{Centre, HeapList, Memory};
+use crate::outgoing::Outgoing;
+use mdcc_base::{Centre, Memory};
 use mdcc_protocol::Envelope;
 use std::alloc::Global;
 use std::marker::Model;
@@ -19,13 +20,13 @@ pub struct Mail {
 }
 
 impl Model for Mail {
-    ghost use Rattle.std.specs.Prelude.{◌<◌, ◌-◌, ◌^◌, List, length, map};
-    ghost use Rattle.mdcc_mail.specs.Letters.{AreCursors, sent_of};
+    ghost use Rattle.std.specs.Prelude.{◌<◌, ◌-◌, ◌^◌, List, length};
+    ghost use Rattle.mdcc_mail.specs.Letters.{AreCursors};
     ghost use Rattle.mdcc_protocol.specs.World.{Sent};
 
     ghost Value = { List Sent };
 
-    ghost view = { λ mail. map sent_of mail.letters.items };
+    ghost view = { λ mail. mail.letters.items };
 
     ghost invariant = { λ mail. AreCursors mail.cursors mail.letters.items × (length mail.letters.items < 2 ^ 32 - 1) };
 }
@@ -56,38 +57,51 @@ impl Mail {
         self.letters.is_empty()
     }
 
-    // One message is sent.
-    fn push(&mut self, envelope: Envelope) -> Result<(), Memory>
-        ensures { OnOk result (self.new ≡ self.old ++ unsent envelope ∷ []) }
+    /// Sends what was written, in order. There is no memory where more than 2^32 - 2 would be sent;
+    /// nothing is sent then.
+    pub fn send(&mut self, outgoing: Outgoing) -> Result<(), Memory>
+        ensures ok { OnOk result (self.new ≡ self.old ++ map unsent outgoing) }
+        ensures err { OnErr result (self.new ≡ self.old) }
     {
-        if self.letters.len() >= u32::MAX as usize - 1 {
+        let mut letters = outgoing.into_letters();
+        if letters.len() > u32::MAX as usize - 1 - self.letters.len() {
             return Err(Memory);
         }
-        self.letters.push(Letter {
-            envelope,
-            is_delivered: false,
-        })?;
+        self.letters.append(&mut letters)?;
         Ok(())
     }
 
-    /// These are sent, in order. There is no memory where more than 2^32 - 2 would be.
-    pub fn send(&mut self, envelopes: HeapList<Envelope>) -> Result<(), Memory>
-        ensures { OnOk result (self.new ≡ self.old ++ map unsent envelopes) }
+    // The letter of a number.
+    fn letter(&self, number: u32) -> Option<&Letter>
+        ensures { option_copied result ≡ numbered self.now number }
     {
-        for envelope in envelopes.into_vec() {
-            self.push(envelope)?;
+        match number {
+            0 => None,
+            _ => self.letters.get(number as usize - 1),
         }
-        Ok(())
     }
 
-    /// The message of a number.
-    pub fn envelope(&self, number: u32) -> Option<&Envelope>
-        ensures { option_copied result ≡ option_map (λ sent. sent.envelope) (numbered self.now number) }
+    /// The addressee of the message of a number.
+    pub fn addressee(&self, number: u32) -> Option<u8>
+        ensures { result ≡ option_map (λ sent. sent.envelope.to) (numbered self.now number) }
     {
-        if number == 0 || number as usize > self.letters.len() {
-            return None;
+        match self.letter(number) {
+            Some(letter) => Some(letter.addressee()),
+            None => None,
         }
-        Some(&self.letters[number as usize - 1].envelope)
+    }
+
+    /// The message of a number, decoded from its bytes.
+    pub fn envelope(&self, alloc: Global, number: u32) -> Result<Option<Envelope>, Memory>
+        ensures { IfOk result (λ envelope. envelope ≡ option_map (λ sent. sent.envelope) (numbered self.now number)) }
+    {
+        match self.letter(number) {
+            Some(letter) => {
+                let envelope = letter.envelope(alloc)?;
+                Ok(Some(envelope))
+            }
+            None => Ok(None),
+        }
     }
 
     /// The message of a number was delivered, also where it was before.
@@ -97,7 +111,7 @@ impl Mail {
     {
         let place = number as usize - 1;
         if place < self.letters.len() {
-            self.letters[place].is_delivered = true;
+            self.letters[place].deliver();
         }
     }
 

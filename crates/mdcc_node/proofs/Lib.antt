@@ -1,5 +1,4 @@
 pub mod Beginning
-pub mod Marks
 pub mod Ranges
 pub mod Rooms
 pub mod Standing

@@ -1,11 +1,11 @@
 -- What a node gives and leaves, by what its store answers.
-use Rattle.std.proofs.Common.{◌≡◌, ℕ, Bool, true, false, List, [], ◌∷◌, Some, None, Ok, Err, Result, refl, nat_lt, if◌then◌else◌}
+use Rattle.std.proofs.Common.{◌≡◌, ℕ, Bool, true, false, List, ◌∷◌, Some, None, Ok, Err, Result, refl, if◌then◌else◌}
 use Rattle.std.specs.Bool.{OnFalse, OnTrue}
 use Rattle.mdcc_base.specs.Unless.{GivesUnless}
 use Rattle.mdcc_facts.specs.Adding as store
 use Rattle.mdcc_node.specs.Stands.{Left, Stands}
-use Rattle.mdcc_node.specs.Stepping.{OnMemory, Room, UnlessMemory, given, if_added, is_boot_memory, is_memory, started, step_by, with_store}
-use Rattle.mdcc_node.specs.Telling.{added, boot_fault, vote_fact}
+use Rattle.mdcc_node.specs.Stepping.{OnMemory, Room, UnlessMemory, given, if_added, is_memory, step_by, with_store}
+use Rattle.mdcc_node.specs.Telling.{added, vote_fact}
 use Rattle.mdcc_node.specs.declared.node.Node.{Node}
 use Rattle.mdcc_base.specs.Ballot.{fast_ballot}
 use Rattle.mdcc_option.specs.declared.choices.Choice.{Choice}
@@ -24,7 +24,6 @@ use Rattle.mdcc_protocol.specs.Volatile.{Volatile}
 use Rattle.mdcc_protocol.specs.declared.facts.Fact.{Fact}
 use Rattle.mdcc_protocol.specs.declared.facts.StoreFault.{StoreFault}
 use Rattle.mdcc_protocol.specs.declared.messages.Envelope.{Envelope}
-use Rattle.mdcc_protocol.specs.declared.node.BootFault.{BootFault}
 use Rattle.mdcc_protocol.specs.declared.node.Step.{Step}
 use Rattle.mdcc_protocol.specs.declared.node.StepFault.{StepFault}
 
@@ -40,33 +39,6 @@ gives_fault step StoreFault.Memory answer e = tt
 pub gives_added : (after : Volatile) (fact : Fact) (sends : List Envelope) (answer : Result (Unit {0}) StoreFault) → Ok tt ≡ answer
     → GivesUnless is_memory (Ok (added fact sends)) (given (if_added (adding after fact sends) answer))
 gives_added after fact sends answer e = rw (← e) refl
-
--- ---- starts
-
-abbrev added_by : (spare needed : ℕ) → Bool → Result (Unit {0}) StoreFault
-added_by spare needed lacks = if lacks then Err (StoreFault.NoRoom needed spare) else Ok tt
-
-first_by : (spare needed : ℕ) (lacks : Bool) → Ok tt ≡ added_by spare needed lacks
-    → Ok (Fact.Booted 1) ≡ (if lacks then Err (BootFault.Room needed spare) else Ok (Fact.Booted 1))
-first_by spare needed true e = absurd (cc)
-first_by spare needed false e = refl
-
-pub starts : (spare needed : ℕ) → Ok tt ≡ store.add_of spare needed [] (Fact.Booted 1) → Ok (Fact.Booted 1) ≡ started spare needed
-starts spare needed e = first_by spare needed (nat_lt spare needed) e
-
-first_fault : (spare needed : ℕ) (lacks : Bool) (fault : StoreFault)
-    → GivesUnless store.is_memory (Err fault) (added_by spare needed lacks)
-    → GivesUnless is_boot_memory (Err (boot_fault fault)) (if lacks then Err (BootFault.Room needed spare) else Ok (Fact.Booted 1))
-first_fault spare needed true (StoreFault.NoRoom n s) e = let same : StoreFault.NoRoom n s ≡ StoreFault.NoRoom needed spare = cc in let a : n ≡ needed = cc in let b : s ≡ spare = cc in rw (a, b) refl
-first_fault spare needed true StoreFault.Crowded e = absurd (cc)
-first_fault spare needed true StoreFault.Memory e = tt
-first_fault spare needed false (StoreFault.NoRoom n s) e = absurd (cc)
-first_fault spare needed false StoreFault.Crowded e = absurd (cc)
-first_fault spare needed false StoreFault.Memory e = tt
-
-pub starts_not : (spare needed : ℕ) (fault : StoreFault) → GivesUnless store.is_memory (Err fault) (store.add_of spare needed [] (Fact.Booted 1))
-    → GivesUnless is_boot_memory (Err (boot_fault fault)) (started spare needed)
-starts_not spare needed fault e = first_fault spare needed (nat_lt spare needed) fault e
 
 -- ---- what holds whatever comes
 

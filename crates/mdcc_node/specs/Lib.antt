@@ -1,3 +1,4 @@
+pub mod Booting
 pub mod Laws
 pub mod Stands
 pub mod Stepping

@@ -1,6 +1,6 @@
 -- What a node answers to an input over a store with so many spare cells, and what it is afterwards.
 use Rattle.std.specs.Bool.{OnFalse, OnTrue}
-use Rattle.std.specs.Prelude.{Bool, Err, List, None, Ok, Option, Result, Some, false, if◌then◌else◌, nat_lt, true, ⊤, ℕ, ◌∷◌}
+use Rattle.std.specs.Prelude.{Bool, Err, List, None, Ok, Option, Result, Some, false, if◌then◌else◌, true, ⊤, ℕ, ◌∷◌}
 use Rattle.mdcc_facts.specs.Adding.{add_of}
 use Rattle.mdcc_option.specs.declared.cluster.Cluster.{Cluster}
 use Rattle.mdcc_protocol.specs.Built.{Built}
@@ -10,7 +10,6 @@ use Rattle.mdcc_protocol.specs.Volatile.{Volatile}
 use Rattle.mdcc_protocol.specs.WellFormed.{IsWellFormedEnvelope}
 use Rattle.mdcc_protocol.specs.declared.facts.Fact.{Fact}
 use Rattle.mdcc_protocol.specs.declared.facts.StoreFault.{StoreFault}
-use Rattle.mdcc_protocol.specs.declared.node.BootFault.{BootFault}
 use Rattle.mdcc_protocol.specs.declared.node.Input.{Input}
 use Rattle.mdcc_protocol.specs.declared.node.Step.{Step}
 use Rattle.mdcc_protocol.specs.declared.node.StepFault.{StepFault}
@@ -81,17 +80,9 @@ abbrev pub OnMemory : {T : Type 0} → Result T StepFault → Type 0 → Type 0
 OnMemory (Ok x) P = ⊤
 OnMemory (Err fault) P = OnTrue (is_memory fault) P
 
--- ---- inputs and starts
+-- ---- inputs
 
 -- a message is well-formed
 abbrev pub IsGiven : Input → Type 0
 IsGiven (Input.Message envelope) = IsWellFormedEnvelope envelope
 IsGiven input = ⊤
-
-abbrev pub is_boot_memory : BootFault → Bool
-is_boot_memory BootFault.Memory = true
-is_boot_memory _ = false
-
--- the fact of the first boot, where there are cells for it
-abbrev pub started : (spare needed : ℕ) → Result Fact BootFault
-started spare needed = if nat_lt spare needed then Err (BootFault.Room needed spare) else Ok (Fact.Booted 1)

@@ -2,18 +2,15 @@
 use Rattle.std.specs.Prelude.{Err, List, None, Ok, Option, Result, Some, [], if◌then◌else◌, not, ℕ, ◌==◌, ◌∷◌}
 use Rattle.mdcc_base.specs.Ballot.{fast_ballot}
 use Rattle.mdcc_base.specs.declared.key.Key.{Key}
-use Rattle.mdcc_node.specs.declared.node.Node.{Node}
 use Rattle.mdcc_option.specs.declared.choices.Choice.{Choice}
 use Rattle.mdcc_option.specs.declared.choices.Mark.{Mark}
 use Rattle.mdcc_option.specs.declared.faults.BeginFault.{BeginFault}
 use Rattle.mdcc_protocol.specs.Marks.{is_accept}
 use Rattle.mdcc_protocol.specs.Steps.{heard_by}
 use Rattle.mdcc_protocol.specs.declared.facts.Fact.{Fact}
-use Rattle.mdcc_protocol.specs.declared.facts.StoreFault.{StoreFault}
 use Rattle.mdcc_protocol.specs.declared.messages.Envelope.{Envelope}
 use Rattle.mdcc_protocol.specs.declared.messages.Message.{Message}
 use Rattle.mdcc_protocol.specs.declared.node.Answer.{Answer}
-use Rattle.mdcc_protocol.specs.declared.node.BootFault.{BootFault}
 use Rattle.mdcc_protocol.specs.declared.node.Step.{Step}
 use Rattle.mdcc_protocol.specs.declared.node.StepFault.{StepFault}
 
@@ -45,13 +42,3 @@ offered choice mark = if is_accept mark then None else Some choice
 -- the vote of an acceptor on one choice at the fast ballot
 abbrev pub vote_fact : Choice → Mark → Fact
 vote_fact choice mark = Fact.Voted choice.key choice.version fast_ballot ((choice.tx, mark) ∷ []) (offered choice mark)
-
--- why a node has no first fact
-abbrev pub boot_fault : StoreFault → BootFault
-boot_fault (StoreFault.NoRoom needed spare) = BootFault.Room needed spare
-boot_fault _ = BootFault.Memory
-
--- the fact of a start
-abbrev pub started_fact : {S : Type 0} → Result (Node S × Fact) BootFault → Result Fact BootFault
-started_fact (Ok r) = Ok r.1
-started_fact (Err fault) = Err fault

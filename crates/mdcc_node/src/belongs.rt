@@ -3,7 +3,7 @@ ghost use Rattle.std.specs.Prelude.{◌≡◌, ◌&&◌, None, Some, if◌then�
 ghost use Rattle.mdcc_protocol.specs.Belongs.{ballot_belongs, begin_fault_belongs, client_answer_belongs, is_centre, item_read_belongs, mark_belongs, message_belongs, options_belong, tx_belongs};
 ghost use Rattle.mdcc_protocol.specs.Node.{is_own_message};
 
-use crate::parts_belong::{
+use mdcc_admission::parts_belong::{
     adds_belong, ballot_belongs, cause_belongs, choice_belongs, is_centre, item_belongs,
     mark_belongs, options_belong, outcome_belongs, tx_belongs, txs_belong, updates_belong,
 };

@@ -3,9 +3,9 @@
 #![tactic(auto)]
 
 mod belongs;
+pub mod boot;
 pub mod laws;
 pub mod node;
-mod parts_belong;
 mod sends;
 mod steps;
 

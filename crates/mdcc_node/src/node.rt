@@ -3,8 +3,8 @@ ghost use Rattle.std.specs.Prelude.{◌≡◌, ◌∷◌, ◌&&◌, [], List, �
 ghost use Rattle.mdcc_base.specs.Unless.{GivesUnless};
 ghost use Rattle.mdcc_facts.specs.Adding.{MayBeAdded};
 ghost use Rattle.mdcc_node.specs.Stands.{Left, Stands};
-ghost use Rattle.mdcc_node.specs.Stepping.{IsGiven, OnMemory, UnlessMemory, given, is_boot_memory, is_memory, room_of, started, step_by, with_store};
-ghost use Rattle.mdcc_node.specs.Telling.{refused_given, replied, sent, started_fact, vote_fact};
+ghost use Rattle.mdcc_node.specs.Stepping.{IsGiven, OnMemory, UnlessMemory, given, is_memory, room_of, step_by, with_store};
+ghost use Rattle.mdcc_node.specs.Telling.{refused_given, replied, sent, vote_fact};
 ghost use Rattle.mdcc_option.specs.Transaction.{choices_of};
 ghost use Rattle.mdcc_option.specs.declared.choices.Mark.{Mark as AMark};
 ghost use Rattle.mdcc_option.specs.declared.cluster.Cluster.{Cluster as ACluster};
@@ -29,15 +29,15 @@ ghost use Rattle.mdcc_protocol.specs.declared.node.Input.{Input as AInput};
 
 use crate::belongs::sender_of;
 use crate::sends::{outcome_sent, proposals_sent, to_one};
-use crate::steps::{added, boot_fault, replied, sent, vote_fact, voted_message};
+use crate::steps::{added, replied, sent, vote_fact, voted_message};
 use mdcc_acceptor::on_propose;
 use mdcc_base::{Ballot, Centre, HeapList, Key, Memory, Plain, TxId};
 use mdcc_facts::FactStore;
 use mdcc_manager::{Manager, key_refused};
 use mdcc_option::{BeginFault, Cause, Choice, Cluster, Outcome, Transaction};
 use mdcc_protocol::{
-    Answer, BootFault, Envelope, Fact, Input, ManagerAct, Message, ProposeAnswer, Reading, Step,
-    StepFault, Vote,
+    Answer, Envelope, Fact, Input, ManagerAct, Message, ProposeAnswer, Reading, Step, StepFault,
+    Vote,
 };
 use mdcc_visible::{on_outcome, on_sync_ask, read};
 use std::alloc::Global;
@@ -53,34 +53,25 @@ pub struct Node<S> {
 }
 
 impl<S: FactStore + Drop> Node<S> {
-    /// A node that is booted for the first time, over an empty store, with the fact of its boot. It
-    /// is refused where the store has no room for that fact.
-    pub fn start(
+    // A node of these parts.
+    pub(crate) fn of_parts(
         alloc: Global,
         cluster: Cluster,
         centre: Centre,
         store: S,
-    ) -> Result<(Node<S>, Fact), BootFault>
-        requires among { is_centre cluster centre ≡ true }
-        requires empty { S.stands store [] }
-        ensures answer { GivesUnless is_boot_memory (started_fact result) (started (S.room store) (S.cells_for store (AFact.Booted 1))) }
-        ensures stands { IfOk result (λ r. Stands S.stands r.0 cluster centre (AFact.Booted 1 ∷ []) nothing_kept) }
+        manager: Manager,
+    ) -> Node<S>
+        ensures of { result.cluster ≡ cluster }
+        ensures at { result.centre ≡ centre }
+        ensures store { result.store ≡ store }
+        ensures manager { result.manager ≡ manager }
     {
-        let manager = Manager::new(alloc, centre, 1)?;
-        let mut store = store;
-        let fact = Fact::Booted(1);
-        match store.add(&fact) {
-            Ok(()) => {
-                let node = Node {
-                    alloc,
-                    cluster,
-                    centre,
-                    store,
-                    manager,
-                };
-                Ok((node, fact))
-            }
-            Err(fault) => Err(boot_fault(fault)),
+        Node {
+            alloc,
+            cluster,
+            centre,
+            store,
+            manager,
         }
     }
 

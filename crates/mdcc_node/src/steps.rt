@@ -1,12 +1,12 @@
 //! What steps are made of.
 ghost use Rattle.std.specs.Prelude.{◌≡◌, IfOk, Some};
-ghost use Rattle.mdcc_node.specs.Telling.{added, boot_fault, offered, replied, sent, vote_fact};
+ghost use Rattle.mdcc_node.specs.Telling.{added, offered, replied, sent, vote_fact};
 ghost use Rattle.mdcc_protocol.specs.Steps.{heard_by};
 ghost use Rattle.mdcc_protocol.specs.declared.messages.Message.{Message as AMessage};
 
 use mdcc_base::{Ballot, HeapList, Memory, Plain, TxId};
 use mdcc_option::{Choice, Mark, Outcome};
-use mdcc_protocol::{Answer, BootFault, Envelope, Fact, Message, Step, StoreFault};
+use mdcc_protocol::{Answer, Envelope, Fact, Message, Step};
 use mdcc_struct::Options;
 use std::alloc::Global;
 
@@ -96,18 +96,5 @@ pub(crate) fn voted_message(choice: &Choice, ballot: Ballot, mark: Mark) -> Mess
         ballot,
         tx: choice.tx,
         mark,
-    }
-}
-
-/// Why a node has no first fact.
-pub(crate) fn boot_fault(fault: StoreFault) -> BootFault
-    ensures { result ≡ boot_fault fault }
-{
-    match fault {
-        StoreFault::NoRoom { needed, spare } => BootFault::Room {
-            needed,
-            cells: spare,
-        },
-        _ => BootFault::Memory,
     }
 }

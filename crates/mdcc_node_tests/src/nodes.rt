@@ -29,7 +29,7 @@ pub fn booted(
         return Err("no centre of the cluster".into());
     }
     let store = ListFacts::new(alloc)?;
-    Ok(Node::start(alloc, cluster, centre, store)?)
+    Ok(Node::boot(alloc, cluster, centre, store, &[])?)
 }
 
 /// A centre of five, of which three are a classic quorum and four a fast one.

@@ -65,6 +65,13 @@ nothing_built = record {
   limit_on_cells = false;
 }
 
--- what is built now: the fast path
+-- what is built now: the fast path, crashes and restarts, and the limits on events, messages and logs
 abbrev pub built : Built
-built = record nothing_built { proposals = true; escalations = true; limit_on_events = true }
+built = record nothing_built {
+  proposals = true;
+  escalations = true;
+  restarts = true;
+  limit_on_events = true;
+  limit_on_bytes = true;
+  limit_on_log = true;
+}

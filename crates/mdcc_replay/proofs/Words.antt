@@ -4,7 +4,7 @@ use Rattle.mdcc_base.specs.Unless.{GivesUnless}
 use Rattle.mdcc_option.specs.declared.cluster.Cluster.{Cluster}
 use Rattle.mdcc_protocol.specs.Built.{built}
 use Rattle.mdcc_protocol.specs.Lines.{text_of, line_end_of}
-use Rattle.mdcc_protocol.specs.Schedule.{updates_from, centres_from, numbers_from, last_centre, centre_of, tick_of, read_of, begin_of, deliver_of, settle_of, begins_with, event_of, event_or_none, line_of}
+use Rattle.mdcc_protocol.specs.Schedule.{updates_from, centres_from, numbers_from, last_centre, centre_of, tick_of, crash_of, restart_of, read_of, begin_of, deliver_of, settle_of, begins_with, event_of, event_or_none, line_of}
 use Rattle.mdcc_protocol.specs.Words.{◌>>=◌, parts_from, word_at, word_behind, word_end, key_of, end_at}
 use Rattle.mdcc_protocol.specs.declared.events.Event.{Event}
 use Rattle.mdcc_protocol.specs.declared.schedule.SchedFault.{SchedFault}
@@ -53,13 +53,21 @@ settle_word cluster line =
 tick_word : (cluster : Cluster) (line : List ℕ) → IfOk (tick_of cluster line) IsWord
 tick_word cluster line = bind_each IsWord (last_centre cluster 4 line) _ (λ centre. refl)
 
+crash_word : (cluster : Cluster) (line : List ℕ) → IfOk (crash_of cluster line) IsWord
+crash_word cluster line = bind_each IsWord (last_centre cluster 5 line) _ (λ centre. refl)
+
+restart_word : (cluster : Cluster) (line : List ℕ) → IfOk (restart_of cluster line) IsWord
+restart_word cluster line = bind_each IsWord (last_centre cluster 7 line) _ (λ centre. refl)
+
 event_word : (cluster : Cluster) (line : List ℕ) → IfOk (event_of built cluster line) IsWord
 event_word cluster line =
     if_ok IsWord (begins_with (codes "read") line) _ _ (read_word cluster line)
     (if_ok IsWord (begins_with (codes "begin") line) _ _ (begin_word cluster line)
     (if_ok IsWord (begins_with (codes "deliver") line) _ _ (deliver_word line)
     (if_ok IsWord (begins_with (codes "settle") line) _ _ (settle_word cluster line)
-    (if_ok IsWord (begins_with (codes "tick") line) _ _ (tick_word cluster line) tt))))
+    (if_ok IsWord (begins_with (codes "tick") line) _ _ (tick_word cluster line)
+    (if_ok IsWord (begins_with (codes "crash") line) _ _ (crash_word cluster line)
+    (if_ok IsWord (begins_with (codes "restart") line) _ _ (restart_word cluster line) tt))))))
 
 abbrev IsWordFound : Option Event → Type 0
 IsWordFound event = IfSome event IsWord

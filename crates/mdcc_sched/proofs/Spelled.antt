@@ -7,12 +7,12 @@ use Rattle.std.proofs.lemmas.List.Splits.{join_with_byte-slice_split, length-sli
 use Rattle.mdcc_base.specs.AreQuorums.{AreQuorums}
 use Rattle.mdcc_option.specs.declared.cluster.Cluster.{Cluster}
 use Rattle.mdcc_protocol.specs.declared.events.Event.{Event}
-use Rattle.mdcc_protocol.specs.declared.events.Event.TheVariants.{Read, Begin, Deliver, Settle, Tick}
+use Rattle.mdcc_protocol.specs.declared.events.Event.TheVariants.{Read, Begin, Deliver, Settle, Tick, Crash, Restart}
 use Rattle.mdcc_protocol.specs.declared.events.UpdateWord.{UpdateWord}
 use Rattle.mdcc_protocol.specs.declared.schedule.SchedFault.{SchedFault}
 use Rattle.mdcc_protocol.specs.declared.schedule.SchedCause.TheVariants.{Word, Range}
 use Rattle.mdcc_protocol.specs.Lines.{bytes_of_line, most_bytes, text_of, line_end_by, line_end_of}
-use Rattle.mdcc_protocol.specs.Schedule.{centre_of, above, numbers_from, updates_from, centres_from, last_centre, tick_of, read_of, begin_of, deliver_of, settle_of, begins_with, event_of, event_or_none, line_of}
+use Rattle.mdcc_protocol.specs.Schedule.{centre_of, above, numbers_from, updates_from, centres_from, last_centre, tick_of, crash_of, restart_of, read_of, begin_of, deliver_of, settle_of, begins_with, event_of, event_or_none, line_of}
 use Rattle.mdcc_protocol.specs.Updates.{update_of}
 use Rattle.mdcc_protocol.specs.Words.{◌>>=◌, refused, part_at, parts_from, behind, end_at, word_at, word_end, not_empty, word_behind, count_of, key_of}
 use Rattle.mdcc_words.specs.Spelled.{update_text}
@@ -96,6 +96,18 @@ tick_spelled cluster line event h b e =
     let centre = bind_ok (last_centre cluster 4 line) _ event e in
     let same : Tick centre.0 ≡ event = cc (centre.2) in
     begun (codes "tick") line b ∙ ap (λ rest. codes "tick" ++ rest) (last_spelled cluster 4 line centre.0 h centre.1) ∙ ap event_text same
+
+crash_spelled : (cluster : Cluster) (line : List ℕ) (event : Event) → AreQuorums cluster.quorums → begins_with (codes "crash") line ≡ true → crash_of cluster line ≡ Ok event → line ≡ event_text event
+crash_spelled cluster line event h b e =
+    let centre = bind_ok (last_centre cluster 5 line) _ event e in
+    let same : Crash centre.0 ≡ event = cc (centre.2) in
+    begun (codes "crash") line b ∙ ap (λ rest. codes "crash" ++ rest) (last_spelled cluster 5 line centre.0 h centre.1) ∙ ap event_text same
+
+restart_spelled : (cluster : Cluster) (line : List ℕ) (event : Event) → AreQuorums cluster.quorums → begins_with (codes "restart") line ≡ true → restart_of cluster line ≡ Ok event → line ≡ event_text event
+restart_spelled cluster line event h b e =
+    let centre = bind_ok (last_centre cluster 7 line) _ event e in
+    let same : Restart centre.0 ≡ event = cc (centre.2) in
+    begun (codes "restart") line b ∙ ap (λ rest. codes "restart" ++ rest) (last_spelled cluster 7 line centre.0 h centre.1) ∙ ap event_text same
 
 read_spelled : (cluster : Cluster) (line : List ℕ) (event : Event) → AreQuorums cluster.quorums → begins_with (codes "read") line ≡ true → read_of cluster line ≡ Ok event → line ≡ event_text event
 read_spelled cluster line event h b e =
@@ -201,20 +213,31 @@ settle_spelled cluster line event h b e = by (length line == 6) refl e
         begun (codes "settle") line b ∙ ap (λ n. codes "settle" ++ drop n line) (sym len) ∙ ap (λ rest. codes "settle" ++ rest) (drop_all line) ∙ ap event_text same
     by false more e = settle_on cluster line event h b more (drop 6 line) refl e
 
+-- a line of `tick`, `crash` or `restart`
+last_words_spelled : (cluster : Cluster) (line : List ℕ) (event : Event) → AreQuorums cluster.quorums → (t : Bool) → begins_with (codes "tick") line ≡ t
+    → (c : Bool) → begins_with (codes "crash") line ≡ c → (r : Bool) → begins_with (codes "restart") line ≡ r
+    → cond t (tick_of cluster line) (cond c (crash_of cluster line) (cond r (restart_of cluster line) (refused 1 Word))) ≡ Ok event → line ≡ event_text event
+last_words_spelled cluster line event h true i c j r k e = tick_spelled cluster line event h i e
+last_words_spelled cluster line event h false i true j r k e = crash_spelled cluster line event h j e
+last_words_spelled cluster line event h false i false j true k e = restart_spelled cluster line event h k e
+last_words_spelled cluster line event h false i false j false k e = absurd (cc)
+
 event_spelled : (cluster : Cluster) (line : List ℕ) (event : Event) → AreQuorums cluster.quorums → event_of built cluster line ≡ Ok event → line ≡ event_text event
 event_spelled cluster line event h e =
-    by (begins_with (codes "read") line) refl (begins_with (codes "begin") line) refl (begins_with (codes "deliver") line) refl (begins_with (codes "settle") line) refl (begins_with (codes "tick") line) refl e
+    by (begins_with (codes "read") line) refl (begins_with (codes "begin") line) refl (begins_with (codes "deliver") line) refl (begins_with (codes "settle") line) refl e
   where
+    last : Result Event SchedFault
+    last = cond (begins_with (codes "tick") line) (tick_of cluster line) (cond (begins_with (codes "crash") line) (crash_of cluster line) (cond (begins_with (codes "restart") line) (restart_of cluster line) (refused 1 Word)))
+
     by : (r : Bool) → begins_with (codes "read") line ≡ r → (b : Bool) → begins_with (codes "begin") line ≡ b → (d : Bool) → begins_with (codes "deliver") line ≡ d
-        → (s : Bool) → begins_with (codes "settle") line ≡ s → (t : Bool) → begins_with (codes "tick") line ≡ t
-        → cond r (read_of cluster line) (cond b (begin_of built cluster line) (cond d (deliver_of line) (cond s (settle_of cluster line) (cond t (tick_of cluster line) (refused 1 Word))))) ≡ Ok event
+        → (s : Bool) → begins_with (codes "settle") line ≡ s
+        → cond r (read_of cluster line) (cond b (begin_of built cluster line) (cond d (deliver_of line) (cond s (settle_of cluster line) last))) ≡ Ok event
         → line ≡ event_text event
-    by true i b j d k s l t m e = read_spelled cluster line event h i e
-    by false i true j d k s l t m e = begin_spelled cluster line event h j e
-    by false i false j true k s l t m e = deliver_spelled line event k e
-    by false i false j false k true l t m e = settle_spelled cluster line event h l e
-    by false i false j false k false l true m e = tick_spelled cluster line event h m e
-    by false i false j false k false l false m e = absurd (cc)
+    by true i b j d k s l e = read_spelled cluster line event h i e
+    by false i true j d k s l e = begin_spelled cluster line event h j e
+    by false i false j true k s l e = deliver_spelled line event k e
+    by false i false j false k true l e = settle_spelled cluster line event h l e
+    by false i false j false k false l e = last_words_spelled cluster line event h (begins_with (codes "tick") line) refl (begins_with (codes "crash") line) refl (begins_with (codes "restart") line) refl e
 
 -- ---- lines
 

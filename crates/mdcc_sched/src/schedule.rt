@@ -1,7 +1,7 @@
 //! Lines of a schedule.
 ghost use Rattle.std.specs.Prelude.{◌≡◌, ◌≤◌, length};
 ghost use Rattle.mdcc_base.specs.Unless.{GivesUnless};
-ghost use Rattle.mdcc_protocol.specs.Schedule.{last_centre, tick_of, read_of, begin_of, deliver_of, settle_of, event_of, event_or_none, line_of};
+ghost use Rattle.mdcc_protocol.specs.Schedule.{last_centre, tick_of, crash_of, restart_of, read_of, begin_of, deliver_of, settle_of, event_of, event_or_none, line_of};
 ghost use Rattle.mdcc_sched.specs.Free.{is_memory};
 ghost use Rattle.mdcc_protocol.specs.Built.{built};
 
@@ -35,6 +35,26 @@ fn tick_of(cluster: &Cluster, line: &[u8]) -> Result<Event, SchedFault>
 {
     let centre = last_centre(cluster, 4, line)?;
     Ok(Event::Tick(centre))
+}
+
+// `crash K`
+fn crash_of(cluster: &Cluster, line: &[u8]) -> Result<Event, SchedFault>
+    requires place { 5 ≤ length line.now }
+    requires few { length line.now ≤ 4096 }
+    ensures { result ≡ crash_of cluster.now line.now }
+{
+    let centre = last_centre(cluster, 5, line)?;
+    Ok(Event::Crash(centre))
+}
+
+// `restart K`
+fn restart_of(cluster: &Cluster, line: &[u8]) -> Result<Event, SchedFault>
+    requires place { 7 ≤ length line.now }
+    requires few { length line.now ≤ 4096 }
+    ensures { result ≡ restart_of cluster.now line.now }
+{
+    let centre = last_centre(cluster, 7, line)?;
+    Ok(Event::Restart(centre))
 }
 
 // `read K KEY`
@@ -103,6 +123,10 @@ fn event_of(alloc: Global, cluster: &Cluster, line: &[u8]) -> Result<Event, Sche
         settle_of(alloc, cluster, line)
     } else if begins_with(b"tick", line) {
         tick_of(cluster, line)
+    } else if begins_with(b"crash", line) {
+        crash_of(cluster, line)
+    } else if begins_with(b"restart", line) {
+        restart_of(cluster, line)
     } else {
         refused(1, SchedCause::Word)
     }

@@ -50,6 +50,20 @@ fn tick_of(event: Event) -> Option<Centre> {
     }
 }
 
+fn crash_of(event: Event) -> Option<Centre> {
+    match event {
+        Event::Crash(centre) => Some(centre),
+        _ => None,
+    }
+}
+
+fn restart_of(event: Event) -> Option<Centre> {
+    match event {
+        Event::Restart(centre) => Some(centre),
+        _ => None,
+    }
+}
+
 fn is_item(item: &Item, body: &[u8], values: &[i64]) -> bool {
     item.body.as_slice() == body && item.values.as_slice() == values
 }
@@ -108,6 +122,22 @@ fn ticks(rt: HostRuntime) {
     for (line, centre) in [("tick 1\n", 1), ("tick 5\n", 5)] {
         let tick = tick_of(event_of(&rt, rt.alloc(), line)).expect(&rt, "a tick");
         assert_eq!(rt; tick.number(), centre, "{line}");
+    }
+}
+
+#[test]
+fn crashes(rt: HostRuntime) {
+    for (line, centre) in [("crash 1\n", 1), ("crash 2\n", 2), ("crash 5\n", 5)] {
+        let crash = crash_of(event_of(&rt, rt.alloc(), line)).expect(&rt, "a crash");
+        assert_eq!(rt; crash.number(), centre, "{line}");
+    }
+}
+
+#[test]
+fn restarts(rt: HostRuntime) {
+    for (line, centre) in [("restart 1\n", 1), ("restart 2\n", 2), ("restart 5\n", 5)] {
+        let restart = restart_of(event_of(&rt, rt.alloc(), line)).expect(&rt, "a restart");
+        assert_eq!(rt; restart.number(), centre, "{line}");
     }
 }
 

@@ -49,9 +49,10 @@ fn whole_lines(rt: HostRuntime) {
             ("reads 1 a\n", 1, Word),
             ("settled\n", 1, Word),
             ("tic 1\n", 1, Word),
-            ("crash 1\n", 1, Word),
-            ("restart 1\n", 1, Word),
+            ("crashes 1\n", 1, Word),
+            ("Restart 1\n", 1, Word),
             ("stop 1 1 lost\n", 1, Word),
+            ("stop 1 2 kept\n", 1, Word),
             ("start\n", 1, Word),
             ("end events 0\n", 1, Word),
         ],
@@ -118,6 +119,39 @@ fn ticks_and_deliveries(rt: HostRuntime) {
             ("deliver 1 \n", 11, Word),
             ("deliver 1 2", 12, Word),
             ("deliver 12 34 0\n", 15, Range),
+        ],
+    );
+}
+
+#[test]
+fn crashes_and_restarts(rt: HostRuntime) {
+    check(
+        &rt,
+        rt.alloc(),
+        &[
+            ("crash\n", 6, Word),
+            ("crash", 6, Word),
+            ("crash \n", 7, Word),
+            ("crash  2\n", 7, Word),
+            ("crash 0\n", 7, Range),
+            ("crash 6\n", 7, Range),
+            ("crash 9\n", 7, Range),
+            ("crash 9", 7, Range),
+            ("crash 02\n", 7, Number),
+            ("crash x\n", 7, Number),
+            ("crash 2 3\n", 9, Word),
+            ("crash 2 \n", 9, Word),
+            ("crash 2", 8, Word),
+            ("restart\n", 8, Word),
+            ("restart \n", 9, Word),
+            ("restart  2\n", 9, Word),
+            ("restart 0\n", 9, Range),
+            ("restart 6\n", 9, Range),
+            ("restart 9\n", 9, Range),
+            ("restart -2\n", 9, Number),
+            ("restart 2 epoch 2\n", 11, Word),
+            ("restart 2 \n", 11, Word),
+            ("restart 2", 10, Word),
         ],
     );
 }

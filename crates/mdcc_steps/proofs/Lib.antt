@@ -22,6 +22,7 @@ pub mod Proposing
 pub mod Quiet
 pub mod Roomy
 pub mod Sending
+pub mod Shortness
 pub mod Stepping
 pub mod Structuring
 pub mod Ticked

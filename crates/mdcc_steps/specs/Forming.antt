@@ -1,13 +1,13 @@
 -- What a node adds, keeps and sends is well-formed.
 use Rattle.std.specs.List.{AllByRecursion}
-use Rattle.std.specs.Prelude.{IsTrue, List, None, Ok, Option, Some, [], ℕ, ◌++◌, ◌∷◌, ◌≡◌, ◌≤◌}
+use Rattle.std.specs.Prelude.{IsTrue, List, None, Ok, Option, Some, [], false, ℕ, ◌++◌, ◌∷◌, ◌≡◌, ◌≤◌}
 use Rattle.mdcc_option.specs.declared.cluster.Cluster.{Cluster}
 use Rattle.mdcc_protocol.specs.Allowed.{are_allowed_facts}
 use Rattle.mdcc_protocol.specs.Belongs.{is_centre}
 use Rattle.mdcc_protocol.specs.Boot.{boot_of, booted_by}
 use Rattle.mdcc_protocol.specs.Built.{Built}
 use Rattle.mdcc_protocol.specs.IsCluster.{IsCluster}
-use Rattle.mdcc_protocol.specs.Lengths.{cells_used}
+use Rattle.mdcc_protocol.specs.Lengths.{cells_used, fact_length}
 use Rattle.mdcc_protocol.specs.Node.{step_of}
 use Rattle.mdcc_protocol.specs.Steps.{NodeStep}
 use Rattle.mdcc_protocol.specs.Volatile.{Volatile, nothing_kept}
@@ -96,3 +96,12 @@ BootReadsFacts =
     → IsTrue (are_allowed_facts cluster facts)
     → (IsTrue built.limit_on_cells → cells_used facts ≤ cluster.cells)
     → boot_of built cluster (payloads_of facts) ≡ booted_by built cluster (Ok facts)
+
+-- where leading is not built, the fact that a step adds is short enough for a frame of a log
+abbrev pub AddedFactIsShort : Type 0
+AddedFactIsShort =
+    (built : Built) (cluster : Cluster) (me : ℕ) (facts : List Fact) (volatile : Volatile) (input : Input) (step : NodeStep) (fact : Fact)
+    → built.leading ≡ false
+    → IsNode cluster me facts volatile → IsWellFormedInput input
+    → step_of built cluster me facts volatile input ≡ Ok step → step.fact ≡ Some fact
+    → fact_length fact ≤ 2097152

@@ -3,7 +3,7 @@
 
 ghost use Rattle.mdcc_steps.specs.Adding.{AddedFactIsAllowed, FactsStayAllowed, NoVotesAtBoot, NodeStaysBooted, VotesStayOf};
 ghost use Rattle.mdcc_steps.specs.Answering.{AnswerIsWellFormed};
-ghost use Rattle.mdcc_steps.specs.Forming.{AddedFactIsWellFormed, BootGivesNode, BootKeepsRoom, BootReadsFacts, NodeStays, RoomStays, SendsAreWellFormed};
+ghost use Rattle.mdcc_steps.specs.Forming.{AddedFactIsShort, AddedFactIsWellFormed, BootGivesNode, BootKeepsRoom, BootReadsFacts, NodeStays, RoomStays, SendsAreWellFormed};
 
 /// A fact that a step adds is allowed after the node's facts, so that a boot over the log accepts it.
 pub fn added_facts_are_allowed()
@@ -18,9 +18,10 @@ pub fn votes_stay_of_the_cluster()
     ensures stays { VotesStayOf }
 {}
 
-/// From well-formed input a step adds a well-formed fact and sends well-formed messages, and the node stays what it is to be.
+/// From well-formed input a step adds a well-formed fact (one that fits a frame of a log, where leading is not built) and sends well-formed messages, and the node stays what it is to be.
 pub fn steps_are_well_formed()
     ensures fact { AddedFactIsWellFormed }
+    ensures short { AddedFactIsShort }
     ensures sends { SendsAreWellFormed }
     ensures answer { AnswerIsWellFormed }
     ensures stays { NodeStays }

@@ -15,10 +15,9 @@ use mdcc_append::appending::{
     put_ballot, put_choice, put_key, put_part, put_tx, put_u8, put_u32, put_u64,
 };
 use mdcc_append::marks::{put_cause, put_entry, put_given, put_heard, put_options};
-use mdcc_base::Key;
+use mdcc_base::{Key, Memory};
 use mdcc_option::Part;
 use mdcc_protocol::{Envelope, Message};
-use std::alloc::AllocError;
 
 /// Why a message is not written. Nothing of it is.
 #[derive(Clone, Copy, Debug, PartialEq, Eq)]
@@ -29,13 +28,13 @@ pub enum EncodeFault {
     Memory,
 }
 
-impl From<AllocError> for EncodeFault {
+impl From<Memory> for EncodeFault {
     ghost use Rattle.std.specs.Prelude.{◌≡◌};
-    ghost use Rattle.mdcc_wire.specs.declared.encoding.EncodeFault.TheVariants.{Memory};
+    ghost use Rattle.mdcc_wire.specs.declared.encoding.EncodeFault.TheVariants as faults;
 
-    ghost from_gives = { λ _ e. e ≡ Memory };
+    ghost from_gives = { λ _ e. e ≡ faults.Memory };
 
-    fn from(_: AllocError) -> EncodeFault {
+    fn from(_: Memory) -> EncodeFault {
         EncodeFault::Memory
     }
 }
@@ -221,6 +220,23 @@ fn put_body(kind: u8, message: &Message, out: &mut Vec<u8>)
     }
 }
 
+/// Writes a message behind the bytes that are there, however long it is.
+pub fn write_message(envelope: &Envelope, out: &mut Vec<u8>) -> Result<(), Memory>
+    requires { HasCounts envelope.now.message }
+    ensures ok { OnOk result (out.new.items ≡ out.old.items ++ message_bytes envelope.now) }
+    ensures err { OnErr result (out.new.items ≡ out.old.items) }
+    ensures succeeds { vec_len out.old + message_length envelope.now ≤ vec_capacity out.old → IsOk result }
+{
+    out.try_reserve(message_length(envelope))?;
+    let kind = kind_of(&envelope.message);
+    put_u8(1, out);
+    put_u8(kind, out);
+    put_u8(envelope.from, out);
+    put_u8(envelope.to, out);
+    put_body(kind, &envelope.message, out);
+    Ok(())
+}
+
 /// Writes a message behind the bytes that are there.
 pub fn encode(envelope: &Envelope, out: &mut Vec<u8>) -> Result<(), EncodeFault>
     requires { HasCounts envelope.now.message }
@@ -236,12 +252,6 @@ pub fn encode(envelope: &Envelope, out: &mut Vec<u8>) -> Result<(), EncodeFault>
     if length > 2_097_152 {
         return Err(EncodeFault::TooLong);
     }
-    out.try_reserve(length)?;
-    let kind = kind_of(&envelope.message);
-    put_u8(1, out);
-    put_u8(kind, out);
-    put_u8(envelope.from, out);
-    put_u8(envelope.to, out);
-    put_body(kind, &envelope.message, out);
+    write_message(envelope, out)?;
     Ok(())
 }

@@ -12,7 +12,7 @@ pub mod memory_bodies;
 pub mod viewing;
 
 pub use body_lengths::{kind_of, message_length};
-pub use encoding::{EncodeFault, encode};
+pub use encoding::{EncodeFault, encode, write_message};
 pub use marks::MarkViews;
 pub use mdcc_protocol::{ClientAnswer, Envelope, Message, WireFault};
 pub use viewing::{Viewed, view};

@@ -6,10 +6,9 @@ use Rattle.mdcc_option.specs.Transaction.{transaction_of}
 use Rattle.mdcc_option.specs.declared.cluster.Cluster.{Cluster}
 use Rattle.mdcc_option.specs.declared.items.Known.{Known}
 use Rattle.mdcc_option.specs.declared.items.Part.{Part}
-use Rattle.mdcc_protocol.specs.Belongs.{is_centre}
 use Rattle.mdcc_protocol.specs.Built.{built}
 use Rattle.mdcc_protocol.specs.Resolve.{resolve}
-use Rattle.mdcc_protocol.specs.World.{World, event_of}
+use Rattle.mdcc_protocol.specs.World.{World, event_of, is_up_at}
 use Rattle.mdcc_protocol.specs.declared.events.Event.{Event}
 use Rattle.mdcc_protocol.specs.declared.events.UpdateWord.{UpdateWord}
 use Rattle.mdcc_protocol.specs.declared.lines.Line.{Line}
@@ -25,14 +24,14 @@ use Rattle.mdcc_worlds.proofs.Events.{begin-is}
 use Rattle.mdcc_worlds.specs.Beginning.{begin_by, begin_told}
 use Rattle.mdcc_worlds.specs.Words.{IsGivenWord}
 
-module _ (world : TheWorld) (w : World) (a : ℕ) (words : List UpdateWord) (like : IsLike world w) (centre : is_centre w.cluster a ≡ true) where
+module _ (world : TheWorld) (w : World) (a : ℕ) (words : List UpdateWord) (like : IsLike world w) (up : is_up_at w a ≡ true) where
   told : begin_told w a words ≡ begin_by w a (resolve words (map (λ (k : Known). Some k) w.reads))
-  told = rw centre refl
+  told = rw up refl
 
   -- it is what its words stand for by the reads that are kept
   pub begin-as : (r : Result (List Part) ResolveFault) → r ≡ resolve words world.reads → event_of built w (Event.Begin a words) ≡ begin_by w a r
   begin-as r is =
-      begin-is w a words like.records.itself ∙ told
+      begin-is w a words ∙ told
       ∙ ap (λ (reads : List (Option Known)). begin_by w a (resolve words reads)) (sym like.records.reads)
       ∙ ap (λ (r : Result (List Part) ResolveFault). begin_by w a r) (sym is)
 

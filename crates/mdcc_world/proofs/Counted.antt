@@ -1,85 +1,105 @@
--- Events at one centre: reads and ticks.
-use Rattle.std.proofs.Common.{◌≡◌, ℕ, ◌+◌, ◌≤◌, true, List, [], ◌∷◌, ◌++◌, sym, ap, ◌∙◌, subst, Option, Some, Result, arith, length, map, nat_le}
-use Rattle.std.proofs.lemmas.Bool.{and_from, le-leb}
+-- Events at one centre.
+use Rattle.std.proofs.Common.{◌≡◌, ℕ, ◌+◌, ◌≤◌, true, List, [], ◌∷◌, ◌++◌, sym, ap, ◌∙◌, subst, Option, Some, Result, arith, length, map}
+use Rattle.std.proofs.lemmas.Bool.{and_parts}
 use Rattle.std.proofs.lemmas.List.{length-append, length-map, map-append}
 use Rattle.mdcc_base.specs.Key.{IsKey}
 use Rattle.mdcc_base.specs.declared.key.Key.{Key}
 use Rattle.mdcc_facts.specs.declared.list_facts.ListFacts.{ListFacts}
 use Rattle.mdcc_node.specs.Stepping.{given}
 use Rattle.mdcc_node.specs.declared.node.Node.{Node}
-use Rattle.mdcc_option.specs.declared.cluster.Cluster.{Cluster}
 use Rattle.mdcc_option.specs.declared.items.Known.{Known}
+use Rattle.mdcc_outcomes.specs.Stands.{Stands as OutcomesStand}
 use Rattle.mdcc_protocol.specs.Belongs.{is_centre}
 use Rattle.mdcc_protocol.specs.Built.{built}
 use Rattle.mdcc_protocol.specs.Ledger.{facts_of}
 use Rattle.mdcc_protocol.specs.Visible
-use Rattle.mdcc_protocol.specs.World.{World, counted_event, known_of, read_happened, step_at}
+use Rattle.mdcc_protocol.specs.World.{World, centre_at, counted_event, input_happened, is_up_at, known_of, read_happened, step_at}
 use Rattle.mdcc_protocol.specs.declared.lines.Line.{Line}
 use Rattle.mdcc_protocol.specs.declared.node.Input.{Input}
 use Rattle.mdcc_protocol.specs.declared.node.Step.{Step}
 use Rattle.mdcc_protocol.specs.declared.node.StepFault.{StepFault}
+use Rattle.mdcc_steps.specs.Inputs.{IsWellFormedInput}
+use Rattle.mdcc_world.specs.Making.{IsMade}
 use Rattle.mdcc_world.specs.Nodes.{NodesStand}
-use Rattle.mdcc_world.specs.Stands.{HasHappened, IsBeforeTaking, IsLike}
+use Rattle.mdcc_world.specs.Stands.{HasHappened, IsLike, entries_of}
 use Rattle.mdcc_world.specs.declared.world.World.{World as TheWorld}
-use Rattle.mdcc_worlds.proofs.Stays.{counted-stays, read-stays}
+use Rattle.mdcc_worlds.proofs.Stays.{counted-stays, read-stays, some-centre}
 
-pub centre-of : (world : TheWorld) (w : World) (a : ℕ) → IsLike world w → 1 ≤ a → a ≤ world.cluster.quorums.centres → is_centre w.cluster a ≡ true
-centre-of world w a like some within =
-    let few : a ≤ w.cluster.quorums.centres = subst (λ (cluster : Cluster). a ≤ cluster.quorums.centres) like.records.cluster within in
-    and_from (nat_le 1 a) (nat_le a w.cluster.quorums.centres) (le-leb 1 a some) (le-leb a w.cluster.quorums.centres few)
+-- a centre that is up is one of the cluster
+pub up-centre : (w : World) (a : ℕ) → is_up_at w a ≡ true → is_centre w.cluster a ≡ true
+up-centre w a up = (and_parts (is_centre w.cluster a) (centre_at w a).is_up up).0
+
+-- and has a node
+pub up-within : (nodes : List (Node ListFacts)) (w : World) (a : ℕ) → NodesStand nodes w → is_up_at w a ≡ true → a ≤ length nodes
+up-within nodes w a stand up =
+    let few = (some-centre w.cluster a (up-centre w a up)).1 in
+    let many = stand.as_many in
+    omega (few, many, arith)
 
 pub counted-nodes : (nodes : List (Node ListFacts)) (w : World) → NodesStand nodes w → NodesStand nodes (counted_event w)
 counted-nodes nodes w standing = record { as_many = standing.as_many; each = standing.each }
 
 -- ---- reads
 
-pub has-read : (world new : TheWorld) (w : World) (a : ℕ) (key : Key) (known : Known) (before lines : List Line) → IsLike world w → is_centre w.cluster a ≡ true → IsKey key
+pub has-read : (world new : TheWorld) (w : World) (a : ℕ) (key : Key) (known : Known) (before lines : List Line) → IsLike world w → is_up_at w a ≡ true → IsKey key
     → known ≡ known_of key (Visible.read (facts_of w.ledger a) key)
-    → new.cluster ≡ world.cluster → new.mail ≡ world.mail → new.outcomes ≡ world.outcomes → new.nodes ≡ world.nodes
-    → new.reads ≡ world.reads ++ Some known ∷ [] → new.events ≡ world.events + 1
+    → new ≡ record world { reads = new.reads; events = world.events + 1 }
+    → new.reads ≡ world.reads ++ Some known ∷ []
     → lines ≡ before ++ Line.Read (length new.reads) a known ∷ []
     → HasHappened new before lines (read_happened (counted_event w) a key)
-has-read world new w a key known before lines like centre key_itself shown cluster mail outcomes nodes reads events told =
+has-read world new w a key known before lines like up key_itself shown rest reads told =
     let all : new.reads ≡ map (λ (k : Known). Some k) (w.reads ++ known ∷ []) =
     reads ∙ ap (λ (xs : List (Option Known)). xs ++ Some known ∷ []) like.records.reads ∙ sym (map-append (λ (k : Known). Some k) w.reads (known ∷ [])) in
     let many : length (w.reads ++ known ∷ []) ≡ length w.reads + 1 = length-append w.reads (known ∷ []) in
     let number : length new.reads ≡ length w.reads + 1 =
     ap (λ (xs : List (Option Known)). length xs) all ∙ length-map (w.reads ++ known ∷ []) (λ (k : Known). Some k) ∙ many in
     let few = like.records.few_reads in
-    let stays = read-stays (counted_event w) a key (counted-stays w like.records.itself) centre key_itself in
+    let stays = read-stays (counted_event w) a key (counted-stays w like.records.itself) (up-centre w a up) key_itself in
     record {
       like = record {
         records = record {
           itself = stays;
-          cluster = cluster ∙ like.records.cluster;
-          mail = mail ∙ like.records.mail;
+          cluster = ap (λ (x : TheWorld). x.cluster) rest ∙ like.records.cluster;
+          mail = ap (λ (x : TheWorld). x.mail) rest ∙ like.records.mail;
+          bytes = ap (λ (x : TheWorld). x.bytes) rest ∙ like.records.bytes;
           reads = all ∙ ap (λ (k : Known). map (λ (k : Known). Some k) (w.reads ++ k ∷ [])) shown;
           few_reads = subst (λ (k : Known). length (w.reads ++ k ∷ []) ≤ w.events + 1) shown (omega (many, few, arith));
-          events = events ∙ ap (λ (n : ℕ). n + 1) like.records.events;
+          events = ap (λ (x : TheWorld). x.events) rest ∙ ap (λ (n : ℕ). n + 1) like.records.events;
+          ups = rw rest like.records.ups;
         };
-        outcomes = rw outcomes like.outcomes;
-        nodes = rw nodes (record { as_many = like.nodes.as_many; each = like.nodes.each });
+        outcomes = rw rest like.outcomes;
+        nodes = rw rest (record { as_many = like.nodes.as_many; each = like.nodes.each });
+        logs = rw rest like.logs;
       };
       lines = told ∙ ap (λ (n : ℕ). before ++ Line.Read n a known ∷ []) number ∙ ap (λ (k : Known). before ++ Line.Read (length w.reads + 1) a k ∷ []) shown;
     }
 
--- ---- ticks
+-- ---- inputs of one centre
 
-pub before-tick : (world mid : TheWorld) (w : World) (a : ℕ) (made : Result Step StepFault) → IsLike world w → is_centre w.cluster a ≡ true
-    → mid.cluster ≡ world.cluster → mid.mail ≡ world.mail → mid.outcomes ≡ world.outcomes → mid.reads ≡ world.reads → mid.events ≡ world.events + 1
-    → made ≡ given (step_at built (counted_event w) a Input.Tick)
-    → IsBeforeTaking mid (counted_event w) a Input.Tick made
-before-tick world mid w a made like centre cluster mail outcomes reads events itself = record {
-  records = record {
-    itself = counted-stays w like.records.itself;
-    cluster = cluster ∙ like.records.cluster;
-    mail = mail ∙ like.records.mail;
-    reads = reads ∙ like.records.reads;
-    few_reads = (let few = like.records.few_reads in omega (few, arith));
-    events = events ∙ ap (λ (n : ℕ). n + 1) like.records.events;
+-- its node has taken an input, which is an event
+pub made-counted : (world new : TheWorld) (w : World) (a : ℕ) (input : Input) (made : Result Step StepFault) → IsLike world w → is_up_at w a ≡ true → IsWellFormedInput input
+    → new ≡ record world { nodes = new.nodes; outcomes = new.outcomes; events = world.events + 1 }
+    → OutcomesStand new.outcomes w.cluster.quorums (entries_of (step_at built (counted_event w) a input) ++ w.ledger)
+    → made ≡ given (step_at built (counted_event w) a input)
+    → NodesStand new.nodes.items (input_happened (counted_event w) a (step_at built (counted_event w) a input)).world
+    → IsMade new (counted_event w) a input made
+made-counted world new w a input made like up formed rest outcomes itself nodes = record {
+  before = record {
+    records = record {
+      itself = counted-stays w like.records.itself;
+      cluster = ap (λ (x : TheWorld). x.cluster) rest ∙ like.records.cluster;
+      mail = ap (λ (x : TheWorld). x.mail) rest ∙ like.records.mail;
+      bytes = ap (λ (x : TheWorld). x.bytes) rest ∙ like.records.bytes;
+      reads = ap (λ (x : TheWorld). x.reads) rest ∙ like.records.reads;
+      few_reads = (let few = like.records.few_reads in omega (few, arith));
+      events = ap (λ (x : TheWorld). x.events) rest ∙ ap (λ (n : ℕ). n + 1) like.records.events;
+      ups = rw rest like.records.ups;
+    };
+    centre = up-centre w a up;
+    well_formed = formed;
+    outcomes = outcomes;
+    logs = rw rest like.logs;
+    step_itself = itself;
   };
-  centre = centre;
-  well_formed = tt;
-  outcomes = rw outcomes like.outcomes;
-  step_itself = itself;
+  nodes = nodes;
 }

@@ -1,47 +1,64 @@
 -- A message comes to its centre.
-use Rattle.std.proofs.Common.{◌≡◌, ℕ, ◌+◌, ◌-◌, ◌≤◌, true, List, [], refl, sym, ap, ◌∙◌, subst, Option, Some, None, Result, Ok, Err, arith, length}
+use Rattle.std.proofs.Common.{◌≡◌, ℕ, ◌+◌, ◌-◌, ◌≤◌, true, List, [], refl, sym, ap, ◌∙◌, subst, inl, inr, Option, Some, None, Result, Ok, Err, arith, length}
 use Rattle.std.specs.Option.{option_map}
+use Rattle.std.proofs.lemmas.Bool.{cases_Bool}
 use Rattle.mdcc_node.specs.Stepping.{given}
-use Rattle.mdcc_protocol.specs.Belongs.{is_centre}
 use Rattle.mdcc_protocol.specs.Built.{built}
+use Rattle.mdcc_protocol.specs.Ledger.{facts_of}
 use Rattle.mdcc_protocol.specs.Steps.{NodeStep}
 use Rattle.mdcc_protocol.specs.WellFormed.{IsWellFormedEnvelope}
-use Rattle.mdcc_protocol.specs.World.{Sent, World, centre_at, input_happened, numbered, step_at, with_delivered}
-use Rattle.mdcc_protocol.specs.Ledger.{facts_of}
-use Rattle.mdcc_protocol.specs.declared.lines.Line.{Line}
+use Rattle.mdcc_protocol.specs.World.{Sent, World, centre_at, input_happened, is_up_at, numbered, step_at, with_delivered}
 use Rattle.mdcc_protocol.specs.declared.messages.Envelope.{Envelope}
 use Rattle.mdcc_protocol.specs.declared.node.Input.{Input}
 use Rattle.mdcc_protocol.specs.declared.node.Step.{Step}
 use Rattle.mdcc_protocol.specs.declared.node.StepFault.{StepFault}
+use Rattle.mdcc_protocol.specs.declared.world.EventFault.{EventFault}
+use Rattle.mdcc_world.proofs.Counted.{up-centre, up-within}
+use Rattle.mdcc_world.specs.Making.{IsMade, IsMessageMade}
 use Rattle.mdcc_world.specs.Nodes.{NodesStand}
-use Rattle.mdcc_world.specs.Stands.{HasHappened, IsBeforeTaking, IsLike, IsTaken, entries_of}
+use Rattle.mdcc_world.specs.Stands.{IsLike, entries_of}
 use Rattle.mdcc_world.specs.declared.world.World.{World as TheWorld}
 use Rattle.mdcc_worlds.proofs.Numbers.{each-numbered}
 use Rattle.mdcc_worlds.proofs.Stays.{delivered-stays, some-centre}
 use Rattle.mdcc_worlds.proofs.Within.{made-quiet}
-use Rattle.mdcc_worlds.specs.Delivering.{delivery, delivery_by, delivery_to, message_counted}
+use Rattle.mdcc_worlds.specs.Delivering.{at_message, delivery_by, message_by, message_counted}
+use Rattle.mdcc_worlds.specs.Happening.{at_centre}
 use Rattle.mdcc_worlds.specs.Standing.{IsSent, IsWorld}
 
--- the message that was sent under a number
+-- the message that was sent under a number, to a centre that is up
 pub record IsSentAs (w : World) (number : ℕ) (envelope : Envelope) : Type 0 where
   pub sent : Sent
   pub there : numbered w.sent number ≡ Some sent
   pub same : sent.envelope ≡ envelope
+  pub up : is_up_at w envelope.to ≡ true
 
-pub some-sent : (w : World) (number : ℕ) (envelope : Envelope) (mail : List Sent) → mail ≡ w.sent
+up-addressee : (w : World) (number : ℕ) (sent : Sent) → numbered w.sent number ≡ Some sent → at_message w number ≡ Ok tt → is_up_at w sent.envelope.to ≡ true
+up-addressee w number sent e clear = elim (cases_Bool (is_up_at w sent.envelope.to)) [
+  | inl up ↦ up
+  | inr down ↦
+      let here : message_by w number (Some sent) ≡ Ok tt = ap (λ (o : Option Sent). message_by w number o) (sym e) ∙ clear in
+      let bad : Err (EventFault.Down sent.envelope.to) ≡ Ok tt = rw down at here in absurd (cc)
+]
+
+pub some-sent : (w : World) (number : ℕ) (envelope : Envelope) (mail : List Sent) → mail ≡ w.sent → at_message w number ≡ Ok tt
     → Some envelope ≡ option_map (λ (sent : Sent). sent.envelope) (numbered mail number) → IsSentAs w number envelope
-some-sent w number envelope mail are some = by_sent (numbered w.sent number) refl
+some-sent w number envelope mail are clear some = by_sent (numbered w.sent number) refl
   where
+    here : Some envelope ≡ option_map (λ (sent : Sent). sent.envelope) (numbered w.sent number)
+    here = some ∙ ap (λ (xs : List Sent). option_map (λ (sent : Sent). sent.envelope) (numbered xs number)) are
+
     by_sent : (o : Option Sent) → numbered w.sent number ≡ o → IsSentAs w number envelope
     by_sent None e =
-        let none : Some envelope ≡ None = some ∙ ap (λ (xs : List Sent). option_map (λ (sent : Sent). sent.envelope) (numbered xs number)) are
-        ∙ ap (λ (o : Option Sent). option_map (λ (sent : Sent). sent.envelope) o) e in
-        absurd (cc)
+        let none : Some envelope ≡ None = here ∙ ap (λ (o : Option Sent). option_map (λ (sent : Sent). sent.envelope) o) e in absurd (cc)
     by_sent (Some sent) e =
-        let is : Some envelope ≡ Some sent.envelope = some ∙ ap (λ (xs : List Sent). option_map (λ (sent : Sent). sent.envelope) (numbered xs number)) are
-        ∙ ap (λ (o : Option Sent). option_map (λ (sent : Sent). sent.envelope) o) e in
+        let is : Some envelope ≡ Some sent.envelope = here ∙ ap (λ (o : Option Sent). option_map (λ (sent : Sent). sent.envelope) o) e in
         let same : sent.envelope ≡ envelope = cc in
-        record { sent = sent; there = e; same = same }
+        record {
+          sent = sent;
+          there = e;
+          same = same;
+          up = subst (λ (x : Envelope). is_up_at w x.to ≡ true) same (up-addressee w number sent e clear);
+        }
 
 quiet : (w : World) (a : ℕ) (envelope : Envelope) → IsWorld w → IsWellFormedEnvelope envelope → (r : Result NodeStep StepFault) → step_at built w a (Input.Message envelope) ≡ r
     → entries_of r ≡ []
@@ -53,66 +70,99 @@ module _ (world : TheWorld) (w : World) (number : ℕ) (envelope : Envelope) (li
   pub sent-formed : IsWellFormedEnvelope envelope
   sent-formed = subst (λ (e : Envelope). IsWellFormedEnvelope e) is.same (each-numbered (IsSent w.cluster) w.sent number is.sent like.records.itself.sent is.there).envelope_itself
 
-  pub sent-within : is_centre w.cluster envelope.to ≡ true
-  sent-within =
-      subst (λ (e : Envelope). is_centre w.cluster e.to ≡ true) is.same (each-numbered (IsSent w.cluster) w.sent number is.sent like.records.itself.sent is.there).within
+  pub sent-node : envelope.to ≤ length world.nodes.items
+  sent-node = up-within world.nodes.items w envelope.to like.nodes is.up
+
+  pub sent-centre : (1 ≤ envelope.to) × (envelope.to ≤ w.cluster.quorums.centres)
+  sent-centre = some-centre w.cluster envelope.to (up-centre w envelope.to is.up)
 
   pub counted-world : IsWorld (message_counted w number)
-  counted-world = delivered-stays w (number - 1) (w.events + 1) like.records.itself
+  counted-world = delivered-stays w (number - 1) (w.events + 1) (omega arith) like.records.itself
 
   pub counted-nodes : NodesStand world.nodes.items (message_counted w number)
   counted-nodes = record { as_many = like.nodes.as_many; each = like.nodes.each }
 
-  pub before-taking : (mid : TheWorld) (made : Result Step StepFault) → mid.cluster ≡ world.cluster → mid.mail ≡ with_delivered world.mail (number - 1)
-      → mid.outcomes ≡ world.outcomes → mid.reads ≡ world.reads → mid.events ≡ world.events + 1
+  made-there : (new : TheWorld) (made : Result Step StepFault)
+      → new ≡ record world { nodes = new.nodes; mail = new.mail; events = world.events + 1 }
+      → new.mail ≡ with_delivered world.mail (number - 1)
       → made ≡ given (step_at built (message_counted w number) envelope.to (Input.Message envelope))
-      → IsBeforeTaking mid (message_counted w number) envelope.to (Input.Message envelope) made
-  before-taking mid made cluster mail outcomes reads events itself =
+      → NodesStand new.nodes.items (input_happened (message_counted w number) envelope.to (step_at built (message_counted w number) envelope.to (Input.Message envelope))).world
+      → IsMade new (message_counted w number) envelope.to (Input.Message envelope) made
+  made-there new made rest mail itself nodes =
       let after = message_counted w number in
       let told = quiet after envelope.to envelope counted-world sent-formed (step_at built after envelope.to (Input.Message envelope)) refl in
+      let few = like.records.few_reads in
       record {
-        records = record {
-          itself = counted-world;
-          cluster = cluster ∙ like.records.cluster;
-          mail = mail ∙ ap (λ (sent : List Sent). with_delivered sent (number - 1)) like.records.mail;
-          reads = reads ∙ like.records.reads;
-          few_reads = (let few = like.records.few_reads in omega (few, arith));
-          events = events ∙ ap (λ (n : ℕ). n + 1) like.records.events;
+        before = record {
+          records = record {
+            itself = counted-world;
+            cluster = ap (λ (x : TheWorld). x.cluster) rest ∙ like.records.cluster;
+            mail = mail ∙ ap (λ (sent : List Sent). with_delivered sent (number - 1)) like.records.mail;
+            bytes = ap (λ (x : TheWorld). x.bytes) rest ∙ like.records.bytes;
+            reads = ap (λ (x : TheWorld). x.reads) rest ∙ like.records.reads;
+            few_reads = omega (few, arith);
+            events = ap (λ (x : TheWorld). x.events) rest ∙ ap (λ (n : ℕ). n + 1) like.records.events;
+            ups = rw rest like.records.ups;
+          };
+          centre = up-centre w envelope.to is.up;
+          well_formed = sent-formed;
+          outcomes = rw (told, rest) like.outcomes;
+          logs = rw rest like.logs;
+          step_itself = itself;
         };
-        centre = sent-within;
-        well_formed = sent-formed;
-        outcomes = rw (told, outcomes) like.outcomes;
-        step_itself = itself;
+        nodes = nodes;
       }
 
-  pub has-delivered : (new : TheWorld) (before lines : List Line) → IsTaken new before lines (delivery_to w number envelope)
-      → NodesStand new.nodes.items (delivery_to w number envelope).world → HasHappened new before lines (delivery w number)
-  has-delivered new before lines taken nodes =
-      subst (λ (o : Option Sent). HasHappened new before lines (delivery_by w number o)) (sym is.there)
-      (subst (λ (e : Envelope). HasHappened new before lines (delivery_to w number e)) (sym is.same)
-      (record { like = record { records = taken.records; outcomes = taken.outcomes; nodes = nodes }; lines = taken.lines }))
-
-  pub sent-node : envelope.to ≤ length world.nodes.items
-  sent-node =
-      let both = some-centre w.cluster envelope.to sent-within in
-      let few = both.1 in
-      let many = like.nodes.as_many in
-      omega (few, many, arith)
-
-  -- the centre that the code finds is the one that the message goes to
-  pub delivered-at : (mid new : TheWorld) (a : ℕ) (made : Result Step StepFault) (before lines : List Line) → a ≡ envelope.to
-      → mid.cluster ≡ world.cluster → mid.mail ≡ with_delivered world.mail (number - 1)
-      → mid.outcomes ≡ world.outcomes → mid.reads ≡ world.reads → mid.events ≡ world.events + 1 → new.nodes ≡ mid.nodes
+  -- the centre that the code finds is the one to which the message goes
+  pub message-made : (new : TheWorld) (a : ℕ) (made : Result Step StepFault) → a ≡ envelope.to
+      → new ≡ record world { nodes = new.nodes; mail = new.mail; events = world.events + 1 }
+      → new.mail ≡ with_delivered world.mail (number - 1)
       → made ≡ given (step_at built (message_counted w number) a (Input.Message envelope))
-      → (IsBeforeTaking mid (message_counted w number) a (Input.Message envelope) made
-      → IsTaken new before lines (input_happened (message_counted w number) a (step_at built (message_counted w number) a (Input.Message envelope))))
-      → NodesStand mid.nodes.items (input_happened (message_counted w number) a (step_at built (message_counted w number) a (Input.Message envelope))).world
-      → HasHappened new before lines (delivery w number)
-  delivered-at mid new a made before lines same cluster mail outcomes reads events kept =
+      → NodesStand new.nodes.items (input_happened (message_counted w number) a (step_at built (message_counted w number) a (Input.Message envelope))).world
+      → IsMessageMade new w number a made
+  message-made new a made same rest mail =
       subst (λ (x : ℕ).
       made ≡ given (step_at built (message_counted w number) x (Input.Message envelope))
-      → (IsBeforeTaking mid (message_counted w number) x (Input.Message envelope) made
-      → IsTaken new before lines (input_happened (message_counted w number) x (step_at built (message_counted w number) x (Input.Message envelope))))
-      → NodesStand mid.nodes.items (input_happened (message_counted w number) x (step_at built (message_counted w number) x (Input.Message envelope))).world
-      → HasHappened new before lines (delivery w number)) (sym same)
-      (λ itself taken nodes. has-delivered new before lines (taken (before-taking mid made cluster mail outcomes reads events itself)) (rw kept nodes))
+      → NodesStand new.nodes.items (input_happened (message_counted w number) x (step_at built (message_counted w number) x (Input.Message envelope))).world
+      → IsMessageMade new w number x made) (sym same)
+      (λ itself nodes. record {
+        envelope = envelope;
+        itself = made-there new made rest mail itself nodes;
+        comes = ap (λ (o : Option Sent). delivery_by w number o) is.there ∙ subst (λ (e : Envelope). delivery_by w number (Some is.sent) ≡ delivery_by w number (Some (record is.sent { envelope = e }))) is.same refl;
+      })
+
+-- to whom a message goes
+pub addressee-within : (w : World) (number a : ℕ) (mail : List Sent) → IsWorld w → mail ≡ w.sent
+    → Some a ≡ option_map (λ (sent : Sent). sent.envelope.to) (numbered mail number) → (1 ≤ a) × (a ≤ 9)
+addressee-within w number a mail world are some = by_sent (numbered w.sent number) refl
+  where
+    here : Some a ≡ option_map (λ (sent : Sent). sent.envelope.to) (numbered w.sent number)
+    here = some ∙ ap (λ (xs : List Sent). option_map (λ (sent : Sent). sent.envelope.to) (numbered xs number)) are
+
+    by_sent : (o : Option Sent) → numbered w.sent number ≡ o → (1 ≤ a) × (a ≤ 9)
+    by_sent None e =
+        let none : Some a ≡ None = here ∙ ap (λ (o : Option Sent). option_map (λ (sent : Sent). sent.envelope.to) o) e in absurd (cc)
+    by_sent (Some sent) e =
+        let is : Some a ≡ Some sent.envelope.to = here ∙ ap (λ (o : Option Sent). option_map (λ (sent : Sent). sent.envelope.to) o) e in
+        let same : a ≡ sent.envelope.to = cc in
+        let both = some-centre w.cluster sent.envelope.to (each-numbered (IsSent w.cluster) w.sent number sent world.sent e).within in
+        let nine = world.cluster_itself.quorums.nine_centres in
+        let some = both.0 in
+        let few = both.1 in
+        (omega (same, some, arith), omega (same, few, nine, arith))
+
+-- why nothing is delivered to it
+pub addressee-at : (w : World) (number a : ℕ) (mail : List Sent) → mail ≡ w.sent
+    → Some a ≡ option_map (λ (sent : Sent). sent.envelope.to) (numbered mail number) → at_centre w a ≡ at_message w number
+addressee-at w number a mail are some = by_sent (numbered w.sent number) refl
+  where
+    here : Some a ≡ option_map (λ (sent : Sent). sent.envelope.to) (numbered w.sent number)
+    here = some ∙ ap (λ (xs : List Sent). option_map (λ (sent : Sent). sent.envelope.to) (numbered xs number)) are
+
+    by_sent : (o : Option Sent) → numbered w.sent number ≡ o → at_centre w a ≡ at_message w number
+    by_sent None e =
+        let none : Some a ≡ None = here ∙ ap (λ (o : Option Sent). option_map (λ (sent : Sent). sent.envelope.to) o) e in absurd (cc)
+    by_sent (Some sent) e =
+        let is : Some a ≡ Some sent.envelope.to = here ∙ ap (λ (o : Option Sent). option_map (λ (sent : Sent). sent.envelope.to) o) e in
+        let same : a ≡ sent.envelope.to = cc in
+        ap (λ (n : ℕ). at_centre w n) same ∙ sym (ap (λ (o : Option Sent). message_by w number o) e)

@@ -1,14 +1,16 @@
 -- A deliver line, number by number.
-use Rattle.std.proofs.Common.{◌≡◌, ℕ, ◌∷◌, List, Ok, Err, sym, subst, append-nil}
+use Rattle.std.proofs.Common.{◌≡◌, ℕ, ◌∷◌, ◌||◌, Bool, true, false, List, Ok, Err, sym, subst, append-nil}
+use Rattle.std.specs.Bool.{OnFalse}
 use Rattle.mdcc_protocol.specs.Built.{built}
-use Rattle.mdcc_protocol.specs.World.{Happened, World, after_lines, deliveries_before, deliveries_of}
+use Rattle.mdcc_protocol.specs.World.{Happened, World, after_lines, deliveries_before, deliveries_of, delivery_of, is_limit}
 use Rattle.mdcc_protocol.specs.declared.lines.Line.{Line}
 use Rattle.mdcc_protocol.specs.declared.world.EventFault.{EventFault}
-use Rattle.mdcc_world.proofs.Happened.{happened-then}
-use Rattle.mdcc_world.specs.Stands.{HasHappened, IsLike}
+use Rattle.mdcc_world.proofs.Happened.{fault-then, happened-then, has-come}
+use Rattle.mdcc_world.specs.Faults.{OnRefusal, is_memory}
+use Rattle.mdcc_world.specs.Stands.{HasHappened, Happens, IsLike}
 use Rattle.mdcc_world.specs.declared.world.World.{World as TheWorld}
 use Rattle.mdcc_worlds.proofs.Delivers.{delivering-begins, delivering-goes_on, delivering-refused}
-use Rattle.mdcc_worlds.specs.Delivering.{IsDelivering, at_message, delivery_told, unmoved}
+use Rattle.mdcc_worlds.specs.Delivering.{IsDelivering, unmoved}
 
 -- the world stands for what a deliver line has brought where these numbers are left
 pub record HasDelivered (world : TheWorld) (before after : List Line) (w : World) (whole left : List ℕ) : Type 0 where
@@ -23,30 +25,41 @@ delivers-begin world lines w whole like = record {
   so_far = delivering-begins w whole;
 }
 
+-- a refusal that is neither for want of memory nor for a limit
+both : (a b : Bool) {P Q R : Type 0} → (P → Q → R) → OnFalse (a || b) P → OnFalse a Q → OnFalse (a || b) R
+both true b f p q = tt
+both false true f p q = tt
+both false false f p q = f p q
+
+pub refusal-and : (fault : EventFault) {P Q R : Type 0} → (P → Q → R) → OnRefusal {T = Unit {0}} (Err fault) P → OnFalse (is_memory fault) Q → OnRefusal {T = Unit {0}} (Err fault) R
+refusal-and fault f p q = both (is_memory fault) (is_limit fault) f p q
+
 module _ (world : TheWorld) (before lines : List Line) (w : World) (whole left : List ℕ) (has : HasDelivered world before lines w whole left) where
   pub delivers-go_on : (new : TheWorld) (after : List Line) (number : ℕ) (rest : List ℕ) → left ≡ number ∷ rest
-      → ((v : World) → IsLike world v → Ok tt ≡ at_message v number)
-      → ((v : World) → IsLike world v → HasHappened new lines after (delivery_told v number))
+      → ((v : World) → IsLike world v → Happens {T = Unit {0}} new lines after (Ok tt) (delivery_of built v number))
       → HasDelivered new before after w whole rest
-  delivers-go_on new after number rest first clear happens =
+  delivers-go_on new after number rest first happens =
+      let come = has-come {T = Unit {0}} tt new lines after (delivery_of built has.reached.world number) (happens has.reached.world has.happened.like) in
       record {
-        reached = after_lines has.reached.lines (delivery_told has.reached.world number);
-        happened = happened-then world new before lines after has.reached (delivery_told has.reached.world number) has.happened (happens has.reached.world has.happened.like);
-        so_far = delivering-goes_on w whole left rest number has.reached first has.happened.like.records.itself has.so_far
-            (sym (clear has.reached.world has.happened.like));
+        reached = after_lines has.reached.lines come.h;
+        happened = happened-then world new before lines after has.reached come.h has.happened come.happened;
+        so_far = delivering-goes_on w whole left rest number has.reached come.h first has.so_far come.is;
       }
 
   pub delivers-refused : (number : ℕ) (rest : List ℕ) (fault : EventFault) → left ≡ number ∷ rest
-      → ((v : World) → IsLike world v → Err fault ≡ at_message v number)
-      → deliveries_of built whole (unmoved w) ≡ Err fault
+      → ((v : World) → IsLike world v → OnFalse (is_memory fault) (delivery_of built v number ≡ Err fault))
+      → OnFalse (is_memory fault) (deliveries_of built whole (unmoved w) ≡ Err fault)
   delivers-refused number rest fault first closed =
-      (delivering-refused w whole left rest number has.reached fault first has.happened.like.records.itself has.so_far
-      (sym (closed has.reached.world has.happened.like))).0
+      fault-then (is_memory fault) (λ (e : delivery_of built has.reached.world number ≡ Err fault).
+      (delivering-refused w whole left rest number has.reached fault first has.so_far e).0)
+      (closed has.reached.world has.happened.like)
 
-  pub delivers-left : (number : ℕ) (rest : List ℕ) (fault : EventFault) → left ≡ number ∷ rest
-      → ((v : World) → IsLike world v → Err fault ≡ at_message v number)
-      → HasHappened world before lines (deliveries_before built whole (unmoved w))
-  delivers-left number rest fault first closed =
-      let reached = (delivering-refused w whole left rest number has.reached fault first has.happened.like.records.itself has.so_far
-      (sym (closed has.reached.world has.happened.like))).1 in
-      subst (λ (h : Happened). HasHappened world before lines h) (sym reached) has.happened
+  pub delivers-left : (new : TheWorld) (after : List Line) (number : ℕ) (rest : List ℕ) (fault : EventFault) → left ≡ number ∷ rest
+      → ((v : World) → IsLike world v → OnFalse (is_memory fault) (delivery_of built v number ≡ Err fault))
+      → OnRefusal {T = Unit {0}} (Err fault) ((new ≡ world) × (after ≡ lines))
+      → OnRefusal {T = Unit {0}} (Err fault) (HasHappened new before after (deliveries_before built whole (unmoved w)))
+  delivers-left new after number rest fault first closed kept =
+      refusal-and fault (λ (same : (new ≡ world) × (after ≡ lines)) (e : delivery_of built has.reached.world number ≡ Err fault).
+      let reached = (delivering-refused w whole left rest number has.reached fault first has.so_far e).1 in
+      rw (same.0, same.1) (subst (λ (h : Happened). HasHappened world before lines h) (sym reached) has.happened))
+      kept (closed has.reached.world has.happened.like)

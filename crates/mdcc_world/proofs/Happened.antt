@@ -1,15 +1,12 @@
 -- What happened, and then more.
-use Rattle.std.proofs.Common.{Global, Vec, arith, ◌≡◌, ℕ, ◌+◌, length, ◌++◌, ◌∷◌, [], Bool, true, false, List, Result, Ok, Err, sym, ap, ◌∙◌, subst, append_assoc}
+use Rattle.std.proofs.Common.{◌≡◌, ℕ, ◌+◌, length, ◌++◌, [], Bool, true, false, List, Option, Some, None, Result, Ok, Err, arith, refl, sym, ap, ◌∙◌, subst, append_assoc}
 use Rattle.std.specs.Bool.{OnFalse}
-use Rattle.std.specs.Prelude.{IsErrAnd}
-use Rattle.mdcc_facts.specs.declared.list_facts.ListFacts.{ListFacts}
-use Rattle.mdcc_node.specs.declared.node.Node.{Node}
-use Rattle.mdcc_protocol.specs.World.{Happened, Sent, World, after_lines, counted_event, next_message}
+use Rattle.std.specs.Prelude.{IfErr, IsErrAnd, OnOk}
+use Rattle.mdcc_protocol.specs.World.{Happened, Sent, World, after_lines, counted_event, next_message, unless, with_lines}
 use Rattle.mdcc_protocol.specs.declared.lines.Line.{Line}
 use Rattle.mdcc_protocol.specs.declared.world.EventFault.{EventFault}
-use Rattle.mdcc_world.specs.Faults.{is_memory}
-use Rattle.mdcc_world.specs.Nodes.{NodesStand}
-use Rattle.mdcc_world.specs.Stands.{HasHappened, Happens, IsLike, IsTaken}
+use Rattle.mdcc_world.specs.Faults.{OnRefusal, is_free, is_memory}
+use Rattle.mdcc_world.specs.Stands.{HasHappened, Happens, IsLike}
 use Rattle.mdcc_world.specs.declared.world.World.{World as TheWorld}
 use Rattle.mdcc_worlds.proofs.Stays.{counted-stays}
 use Rattle.mdcc_worlds.specs.Happening.{if_open}
@@ -21,48 +18,15 @@ happened-then first second before mid after h k one two = record {
   lines = two.lines ∙ ap (λ (lines : List Line). lines ++ k.lines) one.lines ∙ append_assoc before h.lines k.lines;
 }
 
--- a line before what happened
-pub told-first : (world : TheWorld) (before mid after told : List Line) (line : Line) (h : Happened)
-    → HasHappened world [] told h → mid ≡ before ++ line ∷ [] → after ≡ mid ++ told
-    → HasHappened world before after (after_lines (line ∷ []) h)
-told-first world before mid after told line h one pushed put = record {
-  like = one.like;
-  lines = put ∙ ap (λ (lines : List Line). mid ++ lines) one.lines ∙ ap (λ (lines : List Line). lines ++ h.lines) pushed
-      ∙ append_assoc before (line ∷ []) h.lines;
-}
+-- ---- refusals
 
 pub any-fault : (b : Bool) {P : Type 0} → P → OnFalse b P
 any-fault true p = tt
 any-fault false p = p
 
--- what is open happens
-pub opened : {T : Type 0} (x : T) (world : TheWorld) (before after : List Line) (expected : Result Happened EventFault) (may : Result (Unit {0}) EventFault) (h : Happened)
-    → expected ≡ if_open may h → Ok tt ≡ may → HasHappened world before after h → Happens world before after (Ok x) expected
-opened x world before after expected may h is none happened =
-    let same : expected ≡ Ok h = is ∙ ap (λ (o : Result (Unit {0}) EventFault). if_open o h) (sym none) in
-    subst (λ (e : Result Happened EventFault). Happens world before after (Ok x) e) (sym same) happened
-
--- and what is not is refused
-pub refused-is : (expected : Result Happened EventFault) (may : Result (Unit {0}) EventFault) (h : Happened) (fault : EventFault)
-    → expected ≡ if_open may h → Err fault ≡ may → OnFalse (is_memory fault) (expected ≡ Err fault)
-refused-is expected may h fault is none =
-    any-fault (is_memory fault) (is ∙ ap (λ (o : Result (Unit {0}) EventFault). if_open o h) (sym none))
-
--- the same, where the line tells the number of the next message
-pub told-line : (world : TheWorld) (before mid after told : List Line) (next : ℕ) (line : ℕ → Line) (h : Happened)
-    → HasHappened world [] told h → next ≡ length world.mail + 1 → mid ≡ before ++ line next ∷ [] → after ≡ mid ++ told
-    → HasHappened world before after (after_lines (line (next_message h.world) ∷ []) h)
-told-line world before mid after told next line h one number pushed put =
-    let same : next ≡ next_message h.world = number ∙ ap (λ (sent : List Sent). length sent + 1) one.like.records.mail in
-    told-first world before mid after told (line (next_message h.world)) h one (pushed ∙ ap (λ (n : ℕ). before ++ line n ∷ []) same) put
-
--- what was taken, with the nodes
-pub taken-happened : (world : TheWorld) (nodes : Vec (Node ListFacts) Global) (before after : List Line) (h : Happened) → IsTaken world before after h
-    → world.nodes ≡ nodes → NodesStand nodes.items h.world → HasHappened world before after h
-taken-happened world nodes before after h taken same stand = record {
-  like = record { records = taken.records; outcomes = taken.outcomes; nodes = rw same stand };
-  lines = taken.lines;
-}
+pub fault-then : (b : Bool) {P Q : Type 0} → (P → Q) → OnFalse b P → OnFalse b Q
+fault-then true f p = tt
+fault-then false f p = f p
 
 -- a fault that is passed on
 pub residual : {T : Type 0} (r : Result T EventFault) (fault : EventFault) → IsErrAnd r (λ e. e ≡ fault) → r ≡ Err fault
@@ -81,6 +45,73 @@ memory-happens (Err (EventFault.Begin fault)) world before after expected h = ab
 memory-happens (Err (EventFault.Limit name n)) world before after expected h = absurd (cc)
 memory-happens (Err EventFault.Memory) world before after expected h = tt
 
+-- a fault that is want of memory says nothing
+pub memory-free : (fault : EventFault) (expected : Result Happened EventFault) → fault ≡ EventFault.Memory → OnFalse (is_memory fault) (expected ≡ Err fault)
+memory-free fault expected e = rw e tt
+
+-- what comes about has happened
+pub record HasCome (world : TheWorld) (before after : List Line) (expected : Result Happened EventFault) : Type 0 where
+  pub h : Happened
+  pub is : expected ≡ Ok h
+  pub happened : HasHappened world before after h
+
+pub has-come : {T : Type 0} (x : T) (world : TheWorld) (before after : List Line) (expected : Result Happened EventFault)
+    → Happens world before after (Ok x) expected → HasCome world before after expected
+has-come x world before after (Ok h) happens = record { h = h; is = refl; happened = happens }
+has-come x world before after (Err fault) happens = absurd happens
+
+-- ---- what is open and what is not
+
+-- what is open happens
+pub opened : {T : Type 0} (result : Result T EventFault) (world : TheWorld) (before after : List Line) (expected : Result Happened EventFault)
+    (may : Result (Unit {0}) EventFault) (r : Result Happened EventFault)
+    → expected ≡ if_open may r → Ok tt ≡ may → Happens world before after result r → Happens world before after result expected
+opened result world before after expected may r is none happens =
+    let same : expected ≡ r = is ∙ ap (λ (o : Result (Unit {0}) EventFault). if_open o r) (sym none) in
+    subst (λ (e : Result Happened EventFault). Happens world before after result e) (sym same) happens
+
+-- and what is not is refused
+pub refused-is : (expected : Result Happened EventFault) (may : Result (Unit {0}) EventFault) (r : Result Happened EventFault) (fault : EventFault)
+    → expected ≡ if_open may r → Err fault ≡ may → OnFalse (is_memory fault) (expected ≡ Err fault)
+refused-is expected may r fault is none =
+    any-fault (is_memory fault) (is ∙ ap (λ (o : Result (Unit {0}) EventFault). if_open o r) (sym none))
+
+-- ---- limits
+
+-- nothing happens where a limit would be passed
+abbrev pub may_be : Option EventFault → Result (Unit {0}) EventFault
+may_be o = unless o tt
+
+abbrev pub clear : Result (Unit {0}) EventFault
+clear = Ok tt
+
+pub unlimited : (o : Option EventFault) → clear ≡ may_be o → o ≡ None
+unlimited None e = refl
+unlimited (Some fault) e = absurd (cc)
+
+pub limited : (o : Option EventFault) (fault : EventFault) → Err fault ≡ may_be o → o ≡ Some fault
+limited None fault e = absurd (cc)
+limited (Some other) fault e = let same : fault ≡ other = cc in rw same refl
+
+-- ---- lines before what happened
+
+pub told-happens : (world : TheWorld) (before after told first : List Line) (line : World → List Line) (expected : Result Happened EventFault)
+    → Happens {T = Unit {0}} world [] told (Ok tt) expected → ((w : World) → IsLike world w → first ≡ line w) → after ≡ before ++ (first ++ told)
+    → Happens {T = Unit {0}} world before after (Ok tt) (with_lines line expected)
+told-happens world before after told first line (Ok h) one is put = record {
+  like = one.like;
+  lines = put ∙ ap (λ (xs : List Line). before ++ (xs ++ told)) (is h.world one.like) ∙ ap (λ (xs : List Line). before ++ (line h.world ++ xs)) one.lines;
+}
+told-happens world before after told first line (Err fault) one is put = absurd one
+
+pub told-refused : (fault : EventFault) (line : World → List Line) (expected : Result Happened EventFault)
+    → OnFalse (is_memory fault) (expected ≡ Err fault) → OnFalse (is_memory fault) (with_lines line expected ≡ Err fault)
+told-refused fault line expected refused = fault-then (is_memory fault) (λ (e : expected ≡ Err fault). ap (with_lines line) e) refused
+
+-- the number of the next message
+pub next-is : (world : TheWorld) (w : World) (next : ℕ) → IsLike world w → next ≡ length world.mail + 1 → next ≡ next_message w
+next-is world w next like number = number ∙ ap (λ (sent : List Sent). length sent + 1) like.records.mail
+
 -- ---- what stays like a world
 
 pub like-counted : (world : TheWorld) (w : World) → IsLike world w → IsLike (record world { events = world.events + 1 }) (counted_event w)
@@ -89,12 +120,15 @@ like-counted world w like = record {
     itself = counted-stays w like.records.itself;
     cluster = like.records.cluster;
     mail = like.records.mail;
+    bytes = like.records.bytes;
     reads = like.records.reads;
     few_reads = (let few = like.records.few_reads in omega (few, arith));
     events = ap (λ (n : ℕ). n + 1) like.records.events;
+    ups = like.records.ups;
   };
   outcomes = like.outcomes;
   nodes = record { as_many = like.nodes.as_many; each = like.nodes.each };
+  logs = like.logs;
 }
 
 pub like-mail : (world : TheWorld) (mail : List Sent) (w : World) → mail ≡ world.mail → IsLike world w → IsLike (record world { mail = mail }) w
@@ -103,10 +137,35 @@ like-mail world mail w kept like = record {
     itself = like.records.itself;
     cluster = like.records.cluster;
     mail = kept ∙ like.records.mail;
+    bytes = like.records.bytes;
     reads = like.records.reads;
     few_reads = like.records.few_reads;
     events = like.records.events;
+    ups = like.records.ups;
   };
   outcomes = like.outcomes;
   nodes = like.nodes;
+  logs = like.logs;
 }
+
+-- ---- calls that pass on what was made
+
+pub on-ok : {T : Type 0} (r : Result T EventFault) {P : Type 0} → P → OnOk r P
+on-ok (Ok x) p = p
+on-ok (Err fault) p = tt
+
+-- such a fault may come in the middle of a line
+pub free-refusal : {T : Type 0} (r : Result T EventFault) (P : Type 0) → IfErr r (λ fault. is_free fault ≡ true) → OnRefusal r P
+free-refusal (Ok x) P h = tt
+free-refusal (Err fault) P h = rw h tt
+
+pub memory-is-free : {T : Type 0} (r : Result T EventFault) → IfErr r (λ fault. fault ≡ EventFault.Memory) → IfErr r (λ fault. is_free fault ≡ true)
+memory-is-free (Ok x) h = tt
+memory-is-free (Err fault) h = rw h refl
+
+-- what is told, unless there was no memory
+pub told-result : (r : Result (Unit {0}) EventFault) (world : TheWorld) (before after : List Line) (expected : Result Happened EventFault) {P : Type 0}
+    → OnOk r P → IfErr r (λ fault. fault ≡ EventFault.Memory) → (P → Happens {T = Unit {0}} world before after (Ok tt) expected)
+    → Happens {T = Unit {0}} world before after r expected
+told-result (Ok x) world before after expected p memory f = f p
+told-result (Err fault) world before after expected p memory f = memory-free fault expected memory

@@ -1,12 +1,15 @@
 mod BeginSaid
 mod BeginTaken
 mod Counted
+mod Crashed
 mod Delivered
 mod Delivering
 mod Ended
 mod Ending
+mod Firsts
 mod Happened
 mod Left
+mod Limits
 mod Named
 mod NodesStay
 mod Roomy

@@ -1,8 +1,8 @@
 -- The nodes of a world after a step of one of them.
-use Rattle.std.proofs.Common.{◌≡◌, ℕ, zero, suc, ◌+◌, ◌-◌, ◌≤◌, ◌<◌, ◌==◌, ◌⊎◌, Bool, true, false, List, [], ◌∷◌, ◌++◌, refl, sym, ap, ◌∙◌, subst, inl, inr, Option, Some, None, Result, Ok, Err, arith, length, get_or, nat_le}
+use Rattle.std.proofs.Common.{◌≡◌, ℕ, zero, suc, ◌+◌, ◌-◌, ◌≤◌, ◌<◌, ◌==◌, ◌⊎◌, Bool, true, false, List, [], ◌∷◌, refl, sym, ap, ◌∙◌, subst, inl, inr, Option, Some, None, Result, Ok, Err, arith, length, get_or, nat_le}
 use Rattle.std.specs.Bool.{OnFalse}
 use Rattle.std.specs.Prelude.{IfOk, OnOk, set, slice_get}
-use Rattle.std.proofs.lemmas.Bool.{and_from, le-leb}
+use Rattle.std.proofs.lemmas.Bool.{and_from, and_parts, cases_Bool, eq-eqb, eqb-true, le-leb}
 use Rattle.std.proofs.lemmas.List.{length-set}
 use Rattle.std.proofs.lemmas.Option.{slice_get-get_or}
 use Rattle.mdcc_facts.specs.declared.list_facts.ListFacts.{ListFacts}
@@ -15,8 +15,7 @@ use Rattle.mdcc_protocol.specs.Belongs.{is_centre}
 use Rattle.mdcc_protocol.specs.Built.{built}
 use Rattle.mdcc_protocol.specs.Ledger.{facts_of}
 use Rattle.mdcc_protocol.specs.Steps.{NodeStep}
-use Rattle.mdcc_protocol.specs.Volatile.{nothing_kept}
-use Rattle.mdcc_protocol.specs.World.{World, centre_at, first_world, input_happened, step_at}
+use Rattle.mdcc_protocol.specs.World.{Site, World, centre_at, first_world, input_happened, is_up_at, step_at}
 use Rattle.mdcc_protocol.specs.declared.facts.Fact.{Fact}
 use Rattle.mdcc_protocol.specs.declared.node.Input.{Input}
 use Rattle.mdcc_protocol.specs.declared.node.Step.{Step}
@@ -26,7 +25,8 @@ use Rattle.mdcc_steps.specs.Inputs.{IsWellFormedInput}
 use Rattle.mdcc_worlds.proofs.Begins.{first-facts, first-site}
 use Rattle.mdcc_worlds.proofs.Stays.{facts-here, facts-there, happened-taken, refused-same, site-here, site-there}
 use Rattle.mdcc_worlds.proofs.Within.{made-stays}
-use Rattle.mdcc_world.specs.Nodes.{AreStarted, IsNodeOf, NodesStand, is_memory_made}
+use Rattle.mdcc_logs.specs.Nodes.{AreStarted, IsNodeOf}
+use Rattle.mdcc_world.specs.Nodes.{NodesStand, is_memory_made}
 use Rattle.mdcc_worlds.specs.Sending.{StaysWithin}
 use Rattle.mdcc_worlds.specs.Standing.{IsWorld}
 use Rattle.mdcc_worlds.specs.Taking.{world_taken}
@@ -60,6 +60,16 @@ same-new : (facts : List Fact) (o : Option Fact) → with_new facts o ≡ with_n
 same-new facts None = refl
 same-new facts (Some fact) = refl
 
+other-next : (i j : ℕ) → (i == j) ≡ false → ((i + 1) == (j + 1)) ≡ false
+other-next i j other = elim (cases_Bool ((i + 1) == (j + 1))) [
+  | inl e ↦
+      let same = eqb-true (i + 1) (j + 1) e in
+      let place : i ≡ j = omega (same, arith) in
+      let clash : true ≡ false = sym (eq-eqb i j place) ∙ other in
+      absurd (cc)
+  | inr e ↦ e
+]
+
 -- ---- unless there was no memory
 
 on_false : (b : Bool) {P Q : Type 0} → (P → Q) → OnFalse b P → OnFalse b Q
@@ -81,9 +91,9 @@ module _ (nodes : List (Node ListFacts)) (w : World) (place : ℕ) (node : Node 
       → NodesStand (set nodes place node) w
   refused after = record {
     as_many = length-set nodes place node ∙ standing.as_many;
-    each = λ j x at. elim (set-get nodes place j node x at) [
+    each = λ j x at up. elim (set-get nodes place j node x at) [
       | inl here ↦ rw (here.0, ← here.1) after
-      | inr there ↦ standing.each j x there.1
+      | inr there ↦ standing.each j x there.1 up
     ];
   }
 
@@ -92,14 +102,16 @@ module _ (nodes : List (Node ListFacts)) (w : World) (place : ℕ) (node : Node 
       → NodesStand (set nodes place node) (world_taken w (place + 1) step)
   made step stays after = record {
     as_many = length-set nodes place node ∙ standing.as_many;
-    each = λ j x at. elim (set-get nodes place j node x at) [
+    each = λ j x at up. elim (set-get nodes place j node x at) [
       | inl here ↦
           rw (here.0, ← here.1, facts-here w (place + 1) step world centre-here stays, site-here w (place + 1) step world centre-here stays)
           (subst (λ (facts : List Fact). IsNodeOf node w.cluster (place + 1) facts step.after) (same-new (facts_of w.ledger (place + 1)) step.fact) after)
       | inr there ↦
-          let other : ((place + 1) == (j + 1)) ≡ false = grind (there.0, arith) in
-          rw (facts-there w (place + 1) step world centre-here stays (j + 1) other, site-there w (place + 1) step world centre-here stays (j + 1) (omega arith) other)
-          (standing.each j x there.1)
+          let other = other-next place j there.0 in
+          let site = site-there w (place + 1) step world centre-here stays (j + 1) (omega arith) other in
+          let was : (centre_at w (j + 1)).is_up ≡ true = ap (λ (s : Site). s.is_up) (sym site) ∙ up in
+          rw (facts-there w (place + 1) step world centre-here stays (j + 1) other, site)
+          (standing.each j x there.1 was)
     ];
   }
 
@@ -113,35 +125,11 @@ module _ (nodes : List (Node ListFacts)) (w : World) (place : ℕ) (node : Node 
 
 -- ---- the first nodes
 
-pushed-get : {X : Type 0} (xs : List X) (v x : X) (i : ℕ) → slice_get (xs ++ v ∷ []) i ≡ Some x → (slice_get xs i ≡ Some x) ⊎ ((i ≡ length xs) × (v ≡ x))
-pushed-get [] v x zero at = let same : v ≡ x = cc in inr (refl, same)
-pushed-get [] v x (suc i) at = absurd (cc)
-pushed-get (y ∷ ys) v x zero at = inl at
-pushed-get (y ∷ ys) v x (suc i) at = elim (pushed-get ys v x i at) [
-  | inl there ↦ inl there
-  | inr here ↦ inr (ap (λ (n : ℕ). suc n) here.0, here.1)
-]
-
-length-more : {X : Type 0} (xs : List X) (v : X) → length (xs ++ v ∷ []) ≡ length xs + 1
-length-more [] v = refl
-length-more (y ∷ ys) v = let ih = length-more ys v in omega (ih, arith)
-
-pub one-started : (nodes : List (Node ListFacts)) (cluster : Cluster) (count number : ℕ) (node : Node ListFacts)
-    → AreStarted nodes cluster count → number ≡ count + 1 → IsNodeOf node cluster number (Fact.Booted 1 ∷ []) nothing_kept
-    → AreStarted (nodes ++ node ∷ []) cluster number
-one-started nodes cluster count number node are next more = record {
-  as_many = length-more nodes node ∙ omega (are.as_many, next, arith);
-  each = λ place other at. elim (pushed-get nodes node other place at) [
-    | inl there ↦ are.each place other there
-    | inr here ↦ let same : number ≡ place + 1 = omega (here.0, are.as_many, next, arith) in rw (← same, ← here.1) more
-  ];
-}
-
 pub first-nodes : (nodes : List (Node ListFacts)) (cluster : Cluster)
     → AreStarted nodes cluster cluster.quorums.centres → NodesStand nodes (first_world cluster)
 first-nodes nodes cluster are = record {
   as_many = are.as_many;
-  each = λ place node at.
+  each = λ place node at up.
       let within : place < cluster.quorums.centres = omega (got-within nodes place node at, are.as_many, arith) in
       rw (first-site cluster (place + 1) (centre-there cluster place within), first-facts cluster.quorums.centres (place + 1) (omega arith) (omega (within, arith)))
       (are.each place node at);
@@ -159,13 +147,14 @@ kept (Err fault) h some = rw some at h
 
 -- ---- the node of a centre
 
-pub node-at : (nodes : List (Node ListFacts)) (w : World) (a : ℕ) (node : Node ListFacts) → NodesStand nodes w → 1 ≤ a → a ≤ length nodes
+pub node-at : (nodes : List (Node ListFacts)) (w : World) (a : ℕ) (node : Node ListFacts) → NodesStand nodes w → is_up_at w a ≡ true → 1 ≤ a → a ≤ length nodes
     → node ≡ get_or nodes (a - 1) node → IsNodeOf node w.cluster a (facts_of w.ledger a) (centre_at w a).volatile
-node-at nodes w a node standing some few is =
+node-at nodes w a node standing up some few is =
     let back : a - 1 + 1 ≡ a = omega (some, arith) in
     let within : a - 1 < length nodes = omega (some, few, arith) in
-    subst (λ (b : ℕ). IsNodeOf node w.cluster b (facts_of w.ledger b) (centre_at w b).volatile) back
-    (standing.each (a - 1) node (node-there nodes (a - 1) node within is))
+    let there : (centre_at w a).is_up ≡ true = (and_parts (is_centre w.cluster a) (centre_at w a).is_up up).1 in
+    subst (λ (b : ℕ). (centre_at w b).is_up ≡ true → IsNodeOf node w.cluster b (facts_of w.ledger b) (centre_at w b).volatile) back
+    (standing.each (a - 1) node (node-there nodes (a - 1) node within is)) there
 
 pub after-step : (nodes : List (Node ListFacts)) (w : World) (a : ℕ) (node : Node ListFacts) (input : Input) → NodesStand nodes w → IsWorld w
     → 1 ≤ a → a ≤ length nodes → IsWellFormedInput input
@@ -204,14 +193,14 @@ stepped nodes w a place node input standing world some few there formed expected
     (subst (λ (r : Result NodeStep StepFault). IsNodeOf node w.cluster a (facts_left (facts_of w.ledger a) r) (volatile_left (centre_at w a).volatile r)) is after)))
     left
 
-pub node-in : (nodes : List (Node ListFacts)) (w : World) (a place : ℕ) (node : Node ListFacts) → NodesStand nodes w → 1 ≤ a → a ≤ length nodes → place ≡ a
+pub node-in : (nodes : List (Node ListFacts)) (w : World) (a place : ℕ) (node : Node ListFacts) → NodesStand nodes w → is_up_at w a ≡ true → 1 ≤ a → a ≤ length nodes → place ≡ a
     → node ≡ get_or nodes (place - 1) node → IsNodeOf node w.cluster a (facts_of w.ledger a) (centre_at w a).volatile
-node-in nodes w a place node standing some few there is =
-    node-at nodes w a node standing some few (subst (λ (n : ℕ). node ≡ get_or nodes (n - 1) node) there is)
+node-in nodes w a place node standing up some few there is =
+    node-at nodes w a node standing up some few (subst (λ (n : ℕ). node ≡ get_or nodes (n - 1) node) there is)
 
 -- as it stands in the list
-pub node-under : (nodes : List (Node ListFacts)) (w : World) (a place : ℕ) (node : Node ListFacts) → NodesStand nodes w → 1 ≤ a → a ≤ length nodes → place ≡ a
+pub node-under : (nodes : List (Node ListFacts)) (w : World) (a place : ℕ) (node : Node ListFacts) → NodesStand nodes w → is_up_at w a ≡ true → 1 ≤ a → a ≤ length nodes → place ≡ a
     → node ≡ get_or nodes (place - 1) node → IsNodeOf (get_or nodes (place - 1) node) w.cluster a (facts_of w.ledger a) (centre_at w a).volatile
-node-under nodes w a place node standing some few there is =
+node-under nodes w a place node standing up some few there is =
     subst (λ (n : Node ListFacts). IsNodeOf n w.cluster a (facts_of w.ledger a) (centre_at w a).volatile) is
-    (node-in nodes w a place node standing some few there is)
+    (node-in nodes w a place node standing up some few there is)

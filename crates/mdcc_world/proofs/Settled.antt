@@ -1,46 +1,36 @@
--- A settle, delivery by delivery.
-use Rattle.std.proofs.Common.{append_assoc, nat_le, ◌≡◌, ℕ, zero, suc, ◌+◌, ◌≤◌, ◌<◌, ◌&&◌, Bool, List, [], ◌∷◌, ◌++◌, refl, sym, ap, ◌∙◌, subst, inl, inr, Option, Some, None, Ok, Err, arith, length}
+-- A settle line, delivery by delivery.
+use Rattle.std.proofs.Common.{◌≡◌, ℕ, suc, ◌+◌, ◌≤◌, ◌<◌, ◌==◌, ◌&&◌, Bool, true, List, [], ◌∷◌, ◌++◌, refl, sym, ap, ◌∙◌, subst, inl, inr, Option, Some, None, Ok, Err, arith, length, nat_lt, append_assoc, nat_le}
+use Rattle.std.specs.Bool.{OnFalse}
+use Rattle.std.specs.List.{list_any}
 use Rattle.std.specs.Option.{option_map}
-use Rattle.std.specs.Prelude.{nat_lt, slice_get}
-use Rattle.std.proofs.lemmas.Bool.{cases_Bool, leb-true, ltb-true}
+use Rattle.std.specs.Prelude.{slice_get, not}
+use Rattle.std.proofs.lemmas.Bool.{and_parts, cases_Bool, leb-true, ltb-true}
 use Rattle.mdcc_mail.proofs.Next.{found, next_from}
-use Rattle.mdcc_mail.specs.Waiting.{AreAsked, before_first, first_to, message_of, number_at, waits_among, with_number}
-use Rattle.mdcc_option.specs.declared.cluster.Cluster.{Cluster}
-use Rattle.mdcc_protocol.specs.Belongs.{is_centre}
+use Rattle.mdcc_mail.specs.Waiting.{AreAsked, before_first, first_to, message_of, waits_among, with_number}
 use Rattle.mdcc_protocol.specs.Built.{built}
-use Rattle.mdcc_protocol.specs.World.{Happened, Sent, World, after_lines, event_of, first_waiting, is_up_at, most_events, next_message, numbered}
+use Rattle.mdcc_protocol.specs.World.{Sent, World, after_lines, event_of, first_waiting, is_up_at, most_events, next_message, numbered}
 use Rattle.mdcc_protocol.specs.declared.events.Event.{Event}
 use Rattle.mdcc_protocol.specs.declared.lines.Line.{Line}
 use Rattle.mdcc_protocol.specs.declared.messages.Envelope.{Envelope}
 use Rattle.mdcc_protocol.specs.declared.world.EventFault.{EventFault}
 use Rattle.mdcc_protocol.specs.declared.world.LimitName.{LimitName}
-use Rattle.mdcc_world.proofs.Happened.{happened-then}
-use Rattle.mdcc_world.specs.Settling.{AreNamed, EndsAfter, HasSettled, IsFull, is_named}
-use Rattle.mdcc_world.specs.Stands.{HasHappened, IsLike}
+use Rattle.mdcc_world.proofs.Happened.{fault-then, happened-then, has-come}
+use Rattle.mdcc_world.specs.Faults.{is_memory}
+use Rattle.mdcc_world.specs.Settling.{AreUp, EndsAfter, HasSettled, is_named}
+use Rattle.mdcc_world.specs.Stands.{HasHappened, Happens, IsLike}
 use Rattle.mdcc_world.specs.declared.world.World.{World as TheWorld}
-use Rattle.mdcc_worlds.proofs.Events.{up-there}
-use Rattle.mdcc_worlds.proofs.Settles.{settle-closed, settling-ends, settling-goes_on, settling-stops}
-use Rattle.mdcc_worlds.specs.Delivering.{delivery}
+use Rattle.mdcc_worlds.proofs.Delivers.{up-stays}
+use Rattle.mdcc_worlds.proofs.Settles.{settle-closed, settling-begins, settling-breaks, settling-ends, settling-goes_on, settling-stops}
+use Rattle.mdcc_worlds.specs.Delivering.{at_message, delivery, message_by}
 use Rattle.mdcc_worlds.specs.Happening.{at_limit}
-use Rattle.mdcc_worlds.specs.Settling.{IsSettling, settled}
-use Rattle.mdcc_worlds.specs.Standing.{IsWorld}
+use Rattle.mdcc_worlds.specs.Settling.{settle_told}
 
 -- ---- the message that waits first
 
-up-is : (w : World) (a : ℕ) → IsWorld w → is_up_at w a ≡ is_centre w.cluster a
-up-is w a stands = elim (cases_Bool (is_centre w.cluster a)) [
-  | inl e ↦ up-there w a stands e ∙ sym e
-  | inr e ↦ rw e refl
-]
-
-asked : (w : World) (listed centres : List ℕ) → IsWorld w → AreNamed w.cluster listed centres → AreAsked w listed centres
-asked w listed centres stands are a = are a ∙ ap (λ (b : Bool). b && is_named listed a) (sym (up-is w a stands))
-
 -- where it is looked for
-first-is : (w : World) (listed centres : List ℕ) → IsWorld w → AreNamed w.cluster listed centres
+first-is : (w : World) (listed centres : List ℕ) → AreAsked w listed centres
     → first_waiting w listed 1 w.sent ≡ message_of w.sent (first_to centres w.sent)
-first-is w listed centres stands are =
-    next_from w listed centres (asked w listed centres stands are) 1 w.sent ∙ found w.sent (before_first (waits_among centres) w.sent)
+first-is w listed centres are = next_from w listed centres are 1 w.sent ∙ found w.sent (before_first (waits_among centres) w.sent)
 
 -- the number of a message that waits first
 pub record WaitsFirst (w : World) (listed : List ℕ) (number : ℕ) : Type 0 where
@@ -48,93 +38,147 @@ pub record WaitsFirst (w : World) (listed : List ℕ) (number : ℕ) : Type 0 wh
   pub waits : first_waiting w listed 1 w.sent ≡ Some next
   pub numbers : next.0 ≡ number
 
-slice-there : (sent : List Sent) (place : ℕ) → place < length sent → (s : Sent) × (slice_get sent place ≡ Some s)
-slice-there [] place within = absurd (omega (within, arith))
-slice-there (s ∷ ss) zero within = (s, refl)
-slice-there (s ∷ ss) (suc place) within = slice-there ss place (omega (within, arith))
+-- the first that passes does
+passes : (centres : List ℕ) (sent : List Sent) → before_first (waits_among centres) sent < length sent
+    → (s : Sent) × ((slice_get sent (before_first (waits_among centres) sent) ≡ Some s) × (waits_among centres s ≡ true))
+passes centres [] within = absurd (omega (within, arith))
+passes centres (s ∷ ss) within = elim (cases_Bool (waits_among centres s)) [
+  | inl e ↦ rw e (s, (refl, e))
+  | inr e ↦
+      let within : before_first (waits_among centres) ss + 1 < suc (length ss) = rw e at within in
+      let rest = passes centres ss (omega (within, arith)) in
+      rw e (rest.0, (next (before_first (waits_among centres) ss) s ss ∙ rest.1.0, rest.1.1))
+]
+  where
+    next : (n : ℕ) (s : Sent) (ss : List Sent) → slice_get (s ∷ ss) (n + 1) ≡ slice_get ss n
+    next n s ss = let more : n + 1 ≡ suc n = omega arith in ap (λ (k : ℕ). slice_get (s ∷ ss) k) more
 
-number-there : (sent : List Sent) (place number : ℕ) → Some number ≡ number_at place (length sent) → (s : Sent) × (numbered sent number ≡ Some s)
-number-there sent place number at = elim (cases_Bool (nat_lt place (length sent))) [
+-- the message of that number: it is there, and goes to one of the centres
+pub record IsFirst (centres : List ℕ) (sent : List Sent) (number : ℕ) : Type 0 where
+  pub message : Sent
+  pub there : numbered sent number ≡ Some message
+  pub among : list_any (λ centre. centre == message.envelope.to) centres ≡ true
+
+pub first-there : (centres : List ℕ) (sent : List Sent) (number : ℕ) → Some number ≡ first_to centres sent → IsFirst centres sent number
+first-there centres sent number at = elim (cases_Bool (nat_lt (before_first (waits_among centres) sent) (length sent))) [
   | inl e ↦
+      let place = before_first (waits_among centres) sent in
       let is : Some number ≡ Some (place + 1) = rw e at at in
       let same : number ≡ place + 1 = cc in
       let next : number ≡ suc place = omega (same, arith) in
-      subst (λ (n : ℕ). (s : Sent) × (numbered sent n ≡ Some s)) (sym next) (slice-there sent place (ltb-true place (length sent) e))
+      let first = passes centres sent (ltb-true place (length sent) e) in
+      record {
+        message = first.0;
+        there = ap (λ (n : ℕ). numbered sent n) next ∙ first.1.0;
+        among = (and_parts (not first.0.is_delivered) (list_any (λ centre. centre == first.0.envelope.to) centres) first.1.1).1;
+      }
   | inr e ↦ let is : Some number ≡ None = rw e at at in absurd (cc)
 ]
 
-pub some-waits : (w : World) (listed centres : List ℕ) (mail : List Sent) (number : ℕ) → IsWorld w → AreNamed w.cluster listed centres → mail ≡ w.sent
+pub some-waits : (w : World) (listed centres : List ℕ) (mail : List Sent) (number : ℕ) → AreAsked w listed centres → mail ≡ w.sent
     → Some number ≡ first_to centres mail → WaitsFirst w listed number
-some-waits w listed centres mail number stands are same first =
+some-waits w listed centres mail number are same first =
     let here : Some number ≡ first_to centres w.sent = first ∙ ap (λ (sent : List Sent). first_to centres sent) same in
-    let there = number-there w.sent (before_first (waits_among centres) w.sent) number here in
+    let there = first-there centres w.sent number here in
     record {
-      next = (number, there.0.envelope);
-      waits = first-is w listed centres stands are ∙ ap (λ (o : Option ℕ). message_of w.sent o) (sym here)
-          ∙ ap (λ (o : Option Sent). option_map (with_number number) o) there.1;
+      next = (number, there.message.envelope);
+      waits = first-is w listed centres are ∙ ap (λ (o : Option ℕ). message_of w.sent o) (sym here)
+          ∙ ap (λ (o : Option Sent). option_map (with_number number) o) there.there;
       numbers = refl;
     }
 
-pub none-waits : (w : World) (listed centres : List ℕ) (mail : List Sent) → IsWorld w → AreNamed w.cluster listed centres → mail ≡ w.sent
+pub none-waits : (w : World) (listed centres : List ℕ) (mail : List Sent) → AreAsked w listed centres → mail ≡ w.sent
     → None ≡ first_to centres mail → first_waiting w listed 1 w.sent ≡ None
-none-waits w listed centres mail stands are same first =
+none-waits w listed centres mail are same first =
     let here : None ≡ first_to centres w.sent = first ∙ ap (λ (sent : List Sent). first_to centres sent) same in
-    first-is w listed centres stands are ∙ ap (λ (o : Option ℕ). message_of w.sent o) (sym here)
+    first-is w listed centres are ∙ ap (λ (o : Option ℕ). message_of w.sent o) (sym here)
+
+-- nothing keeps it back, where there may be one more event
+open-limit : (w : World) → w.events < most_events → at_limit w ≡ Ok tt
+open-limit w few = elim (cases_Bool (nat_le most_events w.events)) [
+  | inl e ↦ let full = leb-true most_events w.events e in absurd (omega (few, full, arith))
+  | inr e ↦ rw e refl
+]
+
+pub clear-first : (world : TheWorld) (centres : List ℕ) (number : ℕ) (w : World) → AreUp world.up centres → world.events < 100000
+    → Some number ≡ first_to centres world.mail → IsLike world w → at_message w number ≡ Ok tt
+clear-first world centres number w ups few first like =
+    let there = first-there centres world.mail number first in
+    let at : numbered w.sent number ≡ Some there.message = ap (λ (sent : List Sent). numbered sent number) (sym like.records.mail) ∙ there.there in
+    let up = ups there.message.envelope.to there.among in
+    let is : is_up_at w there.message.envelope.to ≡ true = sym (like.records.ups there.message.envelope.to up.0 up.1.0) ∙ up.1.1 in
+    let events = like.records.events in
+    let clear : message_by w number (Some there.message) ≡ Ok tt = rw is (open-limit w (omega (events, few, arith))) in
+    ap (λ (o : Option Sent). message_by w number o) at ∙ clear
 
 -- ---- the settle
 
-module _ (world : TheWorld) (before lines : List Line) (w : World) (listed centres : List ℕ) (deliveries : ℕ) (has : HasSettled world before lines w listed deliveries)
-    (named : AreNamed world.cluster listed centres) (mail : List Sent) (kept : mail ≡ world.mail) where
-  here-world : IsWorld has.reached.world
-  here-world = has.happened.like.records.itself
-
-  here-named : AreNamed has.reached.world.cluster listed centres
-  here-named = subst (λ (cluster : Cluster). AreNamed cluster listed centres) has.happened.like.records.cluster named
-
+module _ (world : TheWorld) (before lines : List Line) (w : World) (listed centres : List ℕ) (deliveries : ℕ) (has : HasSettled world before lines w listed centres deliveries)
+    (mail : List Sent) (kept : mail ≡ world.mail) where
   here-mail : mail ≡ has.reached.world.sent
   here-mail = kept ∙ has.happened.like.records.mail
 
   pub settle-goes_on : (new : TheWorld) (after : List Line) (number : ℕ) → Some number ≡ first_to centres mail → world.events < 100000
-      → HasHappened new lines after (delivery has.reached.world number)
-      → HasSettled new before after w listed (deliveries + 1)
-  settle-goes_on new after number first few happened =
-      let waits = some-waits has.reached.world listed centres mail number here-world here-named here-mail first in
+      → Happens {T = Unit {0}} new lines after (Ok tt) (delivery has.reached.world number)
+      → HasSettled new before after w listed centres (deliveries + 1)
+  settle-goes_on new after number first few happens =
+      let waits = some-waits has.reached.world listed centres mail number has.asked here-mail first in
+      let come = has-come {T = Unit {0}} tt new lines after (delivery has.reached.world number) happens in
       let events = has.happened.like.records.events in
-      let so_far = settling-goes_on w listed has.reached deliveries waits.next has.so_far waits.waits (omega (events, few, arith)) in
+      let is : delivery has.reached.world waits.next.0 ≡ Ok come.h = ap (λ (n : ℕ). delivery has.reached.world n) waits.numbers ∙ come.is in
       record {
-        reached = after_lines has.reached.lines (delivery has.reached.world number);
-        happened = happened-then world new before lines after has.reached (delivery has.reached.world number) has.happened happened;
-        so_far = subst (λ (n : ℕ). IsSettling w listed (after_lines has.reached.lines (delivery has.reached.world n)) (deliveries + 1)) waits.numbers so_far;
+        reached = after_lines has.reached.lines come.h;
+        happened = happened-then world new before lines after has.reached come.h has.happened come.happened;
+        so_far = settling-goes_on w listed has.reached come.h deliveries waits.next has.so_far waits.waits (omega (events, few, arith)) is;
+        asked = λ a. has.asked a ∙ ap (λ (b : Bool). b && is_named listed a) (sym (up-stays has.reached.world number a come.h has.happened.like.records.itself come.is));
       }
+
+  pub settle-breaks : (number : ℕ) (fault : EventFault) → Some number ≡ first_to centres mail → world.events < 100000 → w.events < 100000
+      → OnFalse (is_memory fault) (delivery has.reached.world number ≡ Err fault)
+      → OnFalse (is_memory fault) (event_of built w (Event.Settle listed) ≡ Err fault)
+  settle-breaks number fault first few begun refused =
+      let waits = some-waits has.reached.world listed centres mail number has.asked here-mail first in
+      let events = has.happened.like.records.events in
+      fault-then (is_memory fault) (λ (e : delivery has.reached.world number ≡ Err fault).
+      settling-breaks w listed has.reached deliveries waits.next fault has.so_far waits.waits (omega (events, few, arith)) begun
+      (ap (λ (n : ℕ). delivery has.reached.world n) waits.numbers ∙ e)) refused
 
   pub settle-ends : (new : TheWorld) → IsLike new has.reached.world → None ≡ first_to centres mail → w.events < 100000 → EndsAfter new before lines w listed deliveries
   settle-ends new like first few = record {
     reached = has.reached;
     happened = record { like = like; lines = has.happened.lines };
-    answer = settling-ends w listed has.reached deliveries has.so_far (none-waits has.reached.world listed centres mail here-world here-named here-mail first) few;
+    answer = settling-ends w listed has.reached deliveries has.so_far (none-waits has.reached.world listed centres mail has.asked here-mail first) few;
   }
 
-  pub settle-stops : (number : ℕ) → Some number ≡ first_to centres mail → 100000 ≤ world.events → IsFull w listed
+  pub settle-stops : (number : ℕ) → Some number ≡ first_to centres mail → 100000 ≤ world.events
+      → event_of built w (Event.Settle listed) ≡ Err (EventFault.Limit LimitName.Events most_events)
   settle-stops number first full =
-      let waits = some-waits has.reached.world listed centres mail number here-world here-named here-mail first in
+      let waits = some-waits has.reached.world listed centres mail number has.asked here-mail first in
       let events = has.happened.like.records.events in
       settling-stops w listed has.reached deliveries waits.next has.so_far waits.waits (omega (events, full, arith))
+
+-- a settle begins with no delivery
+pub settle-begins : (world : TheWorld) (before lines : List Line) (w : World) (listed centres : List ℕ) → AreAsked w listed centres
+    → HasHappened world before lines (settle_told w listed) → HasSettled world before lines w listed centres 0
+settle-begins world before lines w listed centres asked happened = record {
+  reached = settle_told w listed;
+  happened = happened;
+  so_far = settling-begins w listed;
+  asked = asked;
+}
 
 -- the line of the end
 pub settle-told : (world : TheWorld) (before lines after : List Line) (w : World) (listed : List ℕ) (deliveries next : ℕ) → EndsAfter world before lines w listed deliveries
     → next ≡ length world.mail + 1 → after ≡ lines ++ Line.Settled deliveries next ∷ []
-    → (h : Happened) × HasHappened world before after h × (event_of built w (Event.Settle listed) ≡ Ok h)
+    → Happens {T = Unit {0}} world before after (Ok tt) (event_of built w (Event.Settle listed))
 settle-told world before lines after w listed deliveries next ends number told =
-    let same : next ≡ next_message ends.reached.world = number ∙ ap (λ (sent : List Sent). length sent + 1) ends.happened.like.records.mail in (
-      settled ends.reached deliveries,
-      record {
-        like = ends.happened.like;
-        lines = told ∙ ap (λ (n : ℕ). lines ++ Line.Settled deliveries n ∷ []) same
-            ∙ ap (λ (ls : List Line). ls ++ Line.Settled deliveries (next_message ends.reached.world) ∷ []) ends.happened.lines
-            ∙ append_assoc before ends.reached.lines (Line.Settled deliveries (next_message ends.reached.world) ∷ []);
-      },
-      ends.answer,
-    )
+    let same : next ≡ next_message ends.reached.world = number ∙ ap (λ (sent : List Sent). length sent + 1) ends.happened.like.records.mail in
+    rw ends.answer (record {
+      like = ends.happened.like;
+      lines = told ∙ ap (λ (n : ℕ). lines ++ Line.Settled deliveries n ∷ []) same
+          ∙ ap (λ (ls : List Line). ls ++ Line.Settled deliveries (next_message ends.reached.world) ∷ []) ends.happened.lines
+          ∙ append_assoc before ends.reached.lines (Line.Settled deliveries (next_message ends.reached.world) ∷ []);
+    })
 
 -- where there were as many events as there may be before the line
 pub settle-at_limit : (w : World) (listed : List ℕ) (fault : EventFault) → Err fault ≡ at_limit w → event_of built w (Event.Settle listed) ≡ Err fault

@@ -1,7 +1,11 @@
 -- What a step brings is taken.
-use Rattle.std.proofs.Common.{◌≡◌, ℕ, zero, suc, true, List, [], ◌∷◌, ◌++◌, refl, sym, ap, ◌∙◌, subst, Result, Ok, Err, map, append-nil}
+use Rattle.std.proofs.Common.{◌≡◌, ℕ, zero, suc, ◌+◌, ◌≤◌, ◌==◌, ◌&&◌, Bool, true, List, [], ◌∷◌, ◌++◌, refl, sym, ap, ◌∙◌, subst, inl, inr, Option, Some, None, Result, Ok, Err, map, append-nil}
+use Rattle.std.specs.Bool.{OnFalse}
+use Rattle.std.proofs.lemmas.Bool.{cases_Bool, eqb-true}
 use Rattle.mdcc_base.specs.Sizes.{Sizes}
 use Rattle.mdcc_base.specs.declared.faults.Memory.{Memory}
+use Rattle.mdcc_logs.specs.Stands.{IsLogOf, LogsStand}
+use Rattle.mdcc_logs.specs.declared.logs.Logs.{Logs}
 use Rattle.mdcc_node.specs.Stepping.{given}
 use Rattle.mdcc_outcomes.specs.Endings.{new_endings}
 use Rattle.mdcc_outcomes.specs.Stands.{Stands as OutcomesStand}
@@ -9,21 +13,31 @@ use Rattle.mdcc_outcomes.specs.declared.outcomes.Outcomes.{Outcomes}
 use Rattle.mdcc_option.specs.declared.choices.Outcome.{Outcome}
 use Rattle.mdcc_protocol.specs.Belongs.{is_centre}
 use Rattle.mdcc_protocol.specs.Built.{built}
-use Rattle.mdcc_protocol.specs.Ledger.{Added, Entry, new_outcomes}
+use Rattle.mdcc_protocol.specs.Ledger.{Added, Entry, facts_of, new_outcomes}
+use Rattle.mdcc_protocol.specs.Lengths.{messages_length}
 use Rattle.mdcc_protocol.specs.Marks.{is_commit}
 use Rattle.mdcc_protocol.specs.Steps.{NodeStep, step_given}
-use Rattle.mdcc_protocol.specs.World.{Happened, Sent, World, booted_to, chosen_lines, input_happened, step_at, unsent}
+use Rattle.mdcc_protocol.specs.World.{Happened, Sent, Site, World, booted_to, centre_at, chosen_lines, input_happened, input_limited, step_at, unless, unsent}
 use Rattle.mdcc_protocol.specs.declared.facts.Fact.{Fact}
 use Rattle.mdcc_protocol.specs.declared.lines.Line.{Line}
+use Rattle.mdcc_protocol.specs.declared.messages.Envelope.{Envelope}
 use Rattle.mdcc_protocol.specs.declared.node.Input.{Input}
 use Rattle.mdcc_protocol.specs.declared.node.Step.{Step}
 use Rattle.mdcc_protocol.specs.declared.node.StepFault.{StepFault}
-use Rattle.mdcc_steps.specs.Inputs.{IsWellFormedInput}
+use Rattle.mdcc_protocol.specs.declared.world.EventFault.{EventFault}
 use Rattle.mdcc_struct.specs.Maps.{TxMap}
-use Rattle.mdcc_worlds.proofs.Stays.{happened-taken, input-stays, refused-same}
+use Rattle.mdcc_worlds.proofs.Events.{input-is}
+use Rattle.mdcc_worlds.proofs.Stays.{happened-taken, input-stays, refused-same, site-here, site-there}
+use Rattle.mdcc_worlds.proofs.Within.{made-stays}
+use Rattle.mdcc_worlds.specs.Sending.{StaysWithin}
 use Rattle.mdcc_worlds.specs.Standing.{IsWorld}
-use Rattle.mdcc_world.specs.Stands.{IsTaken, RecordsStand, entries_of}
-use Rattle.mdcc_worlds.specs.Taking.{chosen_line, step_lines, with_fact}
+use Rattle.mdcc_worlds.specs.Taking.{chosen_line, limit_of, step_lines, step_told, taken, with_fact, world_taken}
+use Rattle.mdcc_world.proofs.Happened.{any-fault, limited, may_be}
+use Rattle.mdcc_world.specs.Faults.{is_memory}
+use Rattle.mdcc_world.specs.Letting.{facts_with}
+use Rattle.mdcc_world.specs.Making.{IsMade}
+use Rattle.mdcc_world.specs.Nodes.{NodesStand, UpsStand}
+use Rattle.mdcc_world.specs.Stands.{Happens, entries_of}
 use Rattle.mdcc_world.specs.Telling.{dropped_lines}
 use Rattle.mdcc_world.specs.declared.world.World.{World as TheWorld}
 
@@ -39,11 +53,11 @@ endings-lines (e ∷ es) = ap (λ (lines : List Line). Line.Chosen e.0 (is_commi
 pub chosen-is : (quorums : Sizes) (entry : Entry) (before : List Entry) → map chosen_line (new_endings quorums entry before) ≡ chosen_lines quorums entry before
 chosen-is quorums entry before = endings-lines (new_outcomes quorums entry before)
 
--- ---- the first ledger
+-- ---- boots
 
-booted-counted : (outcomes : Outcomes) (quorums : Sizes) (entries : List Entry) (a : ℕ) → OutcomesStand outcomes quorums entries
-    → OutcomesStand outcomes quorums (Added a (Fact.Booted 1) ∷ entries)
-booted-counted outcomes quorums entries a stands = record {
+pub booted-counted : (outcomes : Outcomes) (quorums : Sizes) (entries : List Entry) (a epoch : ℕ) → OutcomesStand outcomes quorums entries
+    → OutcomesStand outcomes quorums (Added a (Fact.Booted epoch) ∷ entries)
+booted-counted outcomes quorums entries a epoch stands = record {
   knows = stands.knows;
   begun = stands.begun;
   casts = λ tx. stands.casts tx ∙ sym (append-nil _);
@@ -54,7 +68,7 @@ booted-counted outcomes quorums entries a stands = record {
 
 pub first-counted : (outcomes : Outcomes) (quorums : Sizes) (n : ℕ) → OutcomesStand outcomes quorums [] → OutcomesStand outcomes quorums (booted_to n)
 first-counted outcomes quorums zero stands = stands
-first-counted outcomes quorums (suc n) stands = booted-counted outcomes quorums (booted_to n) (suc n) (first-counted outcomes quorums n stands)
+first-counted outcomes quorums (suc n) stands = booted-counted outcomes quorums (booted_to n) (suc n) 1 (first-counted outcomes quorums n stands)
 
 -- ---- what a node gave
 
@@ -73,69 +87,133 @@ refused-lines w a StepFault.Crowded = refl
 refused-lines w a StepFault.Exhausted = refl
 refused-lines w a StepFault.Memory = refl
 
+-- ---- what stands of the centres after a step
+
+-- logs stand for the same facts
+pub logs-same : (logs : Logs) (centres : ℕ) (facts others : ℕ → List Fact) → ((a : ℕ) → 1 ≤ a → a ≤ centres → facts a ≡ others a) → LogsStand logs centres facts
+    → LogsStand logs centres others
+logs-same logs centres facts others same stand = record {
+  as_many = stand.as_many;
+  each = λ a some within. subst (λ (x : List Fact). IsLogOf logs a x) (same a some within) (stand.each a some within);
+}
+
+module _ (w : World) (a : ℕ) (step : NodeStep) (world : IsWorld w) (centre : is_centre w.cluster a ≡ true) (stays : StaysWithin w.cluster step) where
+  facts-here : (o : Option Fact) (b : ℕ) → facts_with (facts_of w.ledger) a o b ≡ facts_of (with_fact a o (step.entries ++ w.ledger)) b
+  facts-here None b = sym (stays.entries w.ledger b)
+  facts-here (Some fact) b = elim (cases_Bool (a == b)) [
+    | inl e ↦ rw (e, stays.entries w.ledger b) refl
+    | inr e ↦ rw (e, stays.entries w.ledger b) refl
+  ]
+
+  pub facts-taken : (b : ℕ) → facts_with (facts_of w.ledger) a step.fact b ≡ facts_of (world_taken w a step).ledger b
+  facts-taken b = facts-here step.fact b
+
+  up-same : (b : ℕ) → 1 ≤ b → (centre_at (world_taken w a step) b).is_up ≡ (centre_at w b).is_up
+  up-same b some = elim (cases_Bool (a == b)) [
+    | inl e ↦
+        let same : a ≡ b = eqb-true a b e in
+        subst (λ (n : ℕ). (centre_at (world_taken w a step) n).is_up ≡ (centre_at w n).is_up) same (ap (λ (s : Site). s.is_up) (site-here w a step world centre stays))
+    | inr e ↦ ap (λ (s : Site). s.is_up) (site-there w a step world centre stays b some e)
+  ]
+
+  pub ups-taken : (ups : List Bool) → UpsStand ups w → UpsStand ups (world_taken w a step)
+  ups-taken ups stand b some few = stand b some few ∙ ap (λ (x : Bool). is_centre w.cluster b && x) (sym (up-same b some))
+
 -- ---- what is taken
 
-module _ (world after : TheWorld) (w : World) (a : ℕ) (input : Input) (before lines : List Line) (records : RecordsStand world w)
-    (centre : is_centre w.cluster a ≡ true) (formed : IsWellFormedInput input)
-    (cluster : after.cluster ≡ world.cluster) (reads : after.reads ≡ world.reads) (events : after.events ≡ world.events) where
-  pub took : (s : NodeStep) → step_at built w a input ≡ Ok s
-      → after.mail ≡ world.mail ++ map unsent s.sends
-      → OutcomesStand after.outcomes w.cluster.quorums (with_fact a s.fact (s.entries ++ w.ledger))
-      → lines ≡ before ++ step_lines w.cluster.quorums a s.fact (s.entries ++ w.ledger)
-      → IsTaken after before lines (input_happened w a (step_at built w a input))
-  took s e mail outcomes told =
-      let stays = input-stays w a input records.itself centre formed in
-      let happens = ap (input_happened w a) e ∙ happened-taken w a s (records.itself.unstopped a centre) in
-      subst (λ (h : Happened). IsTaken after before lines h) (sym happens) (record {
-        records = record {
-          itself = subst (λ (h : Happened). IsWorld h.world) happens stays;
-          cluster = cluster ∙ records.cluster;
-          mail = mail ∙ ap (λ (sent : List Sent). sent ++ map unsent s.sends) records.mail;
-          reads = reads ∙ records.reads;
-          few_reads = records.few_reads;
-          events = events ∙ records.events;
-        };
-        outcomes = outcomes;
-        lines = told;
-      })
+module _ (world : TheWorld) (w : World) (a : ℕ) (input : Input) (step : Step) (made : IsMade world w a input (Ok step)) where
+  abbrev result : Result NodeStep StepFault
+  result = step_at built w a input
 
-  pub left : (fault : StepFault) → step_at built w a input ≡ Err fault → after.mail ≡ world.mail
-      → OutcomesStand after.outcomes w.cluster.quorums w.ledger
-      → lines ≡ before ++ (input_happened w a (Err fault)).lines
-      → IsTaken after before lines (input_happened w a (step_at built w a input))
-  left fault e mail outcomes told =
-      rw e (record {
-        records = rw (refused-same w a fault) (record {
-          itself = records.itself;
-          cluster = cluster ∙ records.cluster;
-          mail = mail ∙ records.mail;
-          reads = reads ∙ records.reads;
-          few_reads = records.few_reads;
-          events = events ∙ records.events;
-        });
-        outcomes = rw (refused-same w a fault) outcomes;
-        lines = told;
-      })
+  abbrev gave : (s : NodeStep) × (result ≡ Ok s) × (step ≡ step_given s)
+  gave = ok-given step result made.before.step_itself
 
-  pub left-step : (fault : StepFault) → Err fault ≡ given (step_at built w a input) → after.mail ≡ world.mail
-      → after.outcomes ≡ world.outcomes → OutcomesStand world.outcomes w.cluster.quorums (entries_of (step_at built w a input) ++ w.ledger)
-      → lines ≡ before ++ dropped_lines a fault → IsTaken after before lines (input_happened w a (step_at built w a input))
-  left-step fault itself mail same stands told =
-      let e = err-given fault (step_at built w a input) itself in
-      let here : OutcomesStand world.outcomes w.cluster.quorums w.ledger =
-      subst (λ (r : Result NodeStep StepFault). OutcomesStand world.outcomes w.cluster.quorums (entries_of r ++ w.ledger)) e stands in
-      left fault e mail (rw same here) (told ∙ ap (λ (more : List Line). before ++ more) (sym (refused-lines w a fault)))
+  abbrev pub s : NodeStep
+  s = gave.0
 
-  pub took-step : (step : Step) → Ok step ≡ given (step_at built w a input) → after.mail ≡ world.mail ++ map unsent step.sends
-      → ((quorums : Sizes) (entries : List Entry) → OutcomesStand world.outcomes quorums entries → OutcomesStand after.outcomes quorums (with_fact a step.fact entries))
+  fact-is : step.fact ≡ s.fact
+  fact-is = ap (λ (x : Step). x.fact) gave.2
+
+  sends-are : step.sends ≡ s.sends
+  sends-are = ap (λ (x : Step). x.sends) gave.2
+
+  world-is : IsWorld w
+  world-is = made.before.records.itself
+
+  pub step-stays : StaysWithin w.cluster s
+  step-stays = made-stays w.cluster a (facts_of w.ledger a) (centre_at w a).volatile input s world-is.cluster_itself.quorums made.before.well_formed gave.1
+
+  happens : input_happened w a result ≡ taken w a s
+  happens = ap (input_happened w a) gave.1 ∙ happened-taken w a s (world-is.unstopped a made.before.centre)
+
+  comes : input_limited built w a result ≡ unless (limit_of w a s.fact s.sends) (taken w a s)
+  comes = input-is w a result world-is made.before.centre ∙ ap (step_told w a) gave.1
+
+  limit-is : limit_of w a step.fact step.sends ≡ limit_of w a s.fact s.sends
+  limit-is = ap (λ (o : Option Fact). limit_of w a o step.sends) fact-is ∙ ap (λ (xs : List Envelope). limit_of w a s.fact xs) sends-are
+
+  -- a limit that would be passed refuses it
+  pub step-refused : (fault : EventFault) → Err fault ≡ may_be (limit_of w a step.fact step.sends)
+      → OnFalse (is_memory fault) (input_limited built w a (step_at built w a input) ≡ Err fault)
+  step-refused fault stopped =
+      let passed : limit_of w a s.fact s.sends ≡ Some fault = sym limit-is ∙ limited (limit_of w a step.fact step.sends) fault stopped in
+      any-fault (is_memory fault) (comes ∙ ap (λ (o : Option EventFault). unless o (taken w a s)) passed)
+
+  pub step-taken : (new : TheWorld) (before lines : List Line)
+      → new ≡ record world { logs = new.logs; mail = new.mail; bytes = new.bytes; outcomes = new.outcomes }
+      → limit_of w a step.fact step.sends ≡ None
+      → new.mail ≡ world.mail ++ map unsent step.sends → new.bytes ≡ world.bytes + messages_length step.sends
+      → LogsStand new.logs w.cluster.quorums.centres (facts_with (facts_of w.ledger) a step.fact)
+      → ((quorums : Sizes) (entries : List Entry) → OutcomesStand world.outcomes quorums entries → OutcomesStand new.outcomes quorums (with_fact a step.fact entries))
       → ((quorums : Sizes) (entries : List Entry) → OutcomesStand world.outcomes quorums entries → lines ≡ before ++ step_lines quorums a step.fact entries)
-      → OutcomesStand world.outcomes w.cluster.quorums (entries_of (step_at built w a input) ++ w.ledger)
-      → IsTaken after before lines (input_happened w a (step_at built w a input))
-  took-step step itself mail ledger told stands =
-      let made = ok-given step (step_at built w a input) itself in
-      let s = made.0 in
+      → Happens {T = Unit {0}} new before lines (Ok tt) (input_limited built w a (step_at built w a input))
+  step-taken new before lines rest within mail bytes logs ledger told =
+      let records = made.before.records in
+      let clear : limit_of w a s.fact s.sends ≡ None = sym limit-is ∙ within in
+      let is : input_limited built w a result ≡ Ok (taken w a s) = comes ∙ ap (λ (o : Option EventFault). unless o (taken w a s)) clear in
       let here : OutcomesStand world.outcomes w.cluster.quorums (s.entries ++ w.ledger) =
-      subst (λ (r : Result NodeStep StepFault). OutcomesStand world.outcomes w.cluster.quorums (entries_of r ++ w.ledger)) made.1 stands in
-      took s made.1 (mail ∙ ap (λ (x : Step). world.mail ++ map unsent x.sends) made.2)
-      (subst (λ (x : Step). OutcomesStand after.outcomes w.cluster.quorums (with_fact a x.fact (s.entries ++ w.ledger))) made.2 (ledger w.cluster.quorums (s.entries ++ w.ledger) here))
-      (told w.cluster.quorums (s.entries ++ w.ledger) here ∙ ap (λ (x : Step). before ++ step_lines w.cluster.quorums a x.fact (s.entries ++ w.ledger)) made.2)
+      subst (λ (r : Result NodeStep StepFault). OutcomesStand world.outcomes w.cluster.quorums (entries_of r ++ w.ledger)) gave.1 made.before.outcomes in
+      let kept : LogsStand new.logs w.cluster.quorums.centres (facts_with (facts_of w.ledger) a s.fact) =
+      subst (λ (o : Option Fact). LogsStand new.logs w.cluster.quorums.centres (facts_with (facts_of w.ledger) a o)) fact-is logs in
+      let nodes : NodesStand new.nodes.items (taken w a s).world =
+      rw rest (subst (λ (h : Happened). NodesStand world.nodes.items h.world) happens made.nodes) in
+      subst (λ (r : Result Happened EventFault). Happens {T = Unit {0}} new before lines (Ok tt) r) (sym is) (record {
+        like = record {
+          records = record {
+            itself = subst (λ (h : Happened). IsWorld h.world) happens (input-stays w a input world-is made.before.centre made.before.well_formed);
+            cluster = ap (λ (x : TheWorld). x.cluster) rest ∙ records.cluster;
+            mail = mail ∙ ap (λ (xs : List Envelope). world.mail ++ map unsent xs) sends-are ∙ ap (λ (sent : List Sent). sent ++ map unsent s.sends) records.mail;
+            bytes = bytes ∙ ap (λ (xs : List Envelope). world.bytes + messages_length xs) sends-are ∙ ap (λ (n : ℕ). n + messages_length s.sends) records.bytes;
+            reads = ap (λ (x : TheWorld). x.reads) rest ∙ records.reads;
+            few_reads = records.few_reads;
+            events = ap (λ (x : TheWorld). x.events) rest ∙ records.events;
+            ups = ups-taken w a s world-is made.before.centre step-stays new.up (rw rest records.ups);
+          };
+          outcomes = subst (λ (o : Option Fact). OutcomesStand new.outcomes w.cluster.quorums (with_fact a o (s.entries ++ w.ledger))) fact-is (ledger w.cluster.quorums (s.entries ++ w.ledger) here);
+          nodes = nodes;
+          logs = logs-same new.logs w.cluster.quorums.centres (facts_with (facts_of w.ledger) a s.fact) (facts_of (world_taken w a s).ledger) (λ b some within. facts-taken w a s world-is made.before.centre step-stays b) kept;
+        };
+        lines = told w.cluster.quorums (s.entries ++ w.ledger) here ∙ ap (λ (o : Option Fact). before ++ step_lines w.cluster.quorums a o (s.entries ++ w.ledger)) fact-is;
+      })
+
+-- a step that its node refuses changes nothing
+pub step-left : (world : TheWorld) (w : World) (a : ℕ) (input : Input) (fault : StepFault) (made : IsMade world w a input (Err fault)) (before lines : List Line)
+    → lines ≡ before ++ dropped_lines a fault
+    → Happens {T = Unit {0}} world before lines (Ok tt) (input_limited built w a (step_at built w a input))
+step-left world w a input fault made before lines told =
+    let records = made.before.records in
+    let result = step_at built w a input in
+    let e : result ≡ Err fault = err-given fault result made.before.step_itself in
+    let same : (input_happened w a result).world ≡ w = ap (λ (r : Result NodeStep StepFault). (input_happened w a r).world) e ∙ refused-same w a fault in
+    let is : input_limited built w a result ≡ Ok (input_happened w a (Err fault)) = input-is w a result records.itself made.before.centre ∙ ap (step_told w a) e in
+    let here : OutcomesStand world.outcomes w.cluster.quorums w.ledger =
+    subst (λ (r : Result NodeStep StepFault). OutcomesStand world.outcomes w.cluster.quorums (entries_of r ++ w.ledger)) e made.before.outcomes in
+    subst (λ (r : Result Happened EventFault). Happens {T = Unit {0}} world before lines (Ok tt) r) (sym is) (record {
+      like = rw (refused-same w a fault) (record {
+        records = records;
+        outcomes = here;
+        nodes = subst (λ (x : World). NodesStand world.nodes.items x) same made.nodes;
+        logs = made.before.logs;
+      });
+      lines = told ∙ ap (λ (more : List Line). before ++ more) (sym (refused-lines w a fault));
+    })

@@ -1,37 +1,24 @@
 -- Which nodes stand for the centres of a world.
-use Rattle.std.specs.Prelude.{◌≡◌, ◌+◌, ◌∷◌, [], Bool, Err, List, Ok, Result, Some, false, length, slice_get, ℕ}
-use Rattle.mdcc_facts.specs.Listed.{AreListed}
+use Rattle.std.specs.Prelude.{◌≡◌, ◌+◌, ◌-◌, ◌≤◌, Bool, Err, List, Ok, Result, Some, false, get_or, length, slice_get, true, ℕ}
 use Rattle.mdcc_facts.specs.declared.list_facts.ListFacts.{ListFacts}
-use Rattle.mdcc_node.specs.Stands.{Stands as NodeStands}
+use Rattle.mdcc_logs.specs.Nodes.{IsNodeOf}
 use Rattle.mdcc_node.specs.Stepping.{is_memory}
 use Rattle.mdcc_node.specs.declared.node.Node.{Node}
-use Rattle.mdcc_option.specs.declared.cluster.Cluster.{Cluster}
 use Rattle.mdcc_protocol.specs.Ledger.{facts_of}
-use Rattle.mdcc_protocol.specs.Volatile.{Volatile, nothing_kept}
-use Rattle.mdcc_protocol.specs.World.{World, centre_at}
-use Rattle.mdcc_protocol.specs.declared.facts.Fact.{Fact}
+use Rattle.mdcc_protocol.specs.World.{World, centre_at, is_up_at}
 use Rattle.mdcc_protocol.specs.declared.node.Step.{Step}
 use Rattle.mdcc_protocol.specs.declared.node.StepFault.{StepFault}
 
--- a store of a list stands for the facts that it lists
-abbrev pub are_stored : ListFacts → List Fact → Type 0
-are_stored store facts = AreListed store.facts.items facts
-
--- a node over such a store
-abbrev pub IsNodeOf : Node ListFacts → Cluster → ℕ → List Fact → Volatile → Type 0
-IsNodeOf node cluster me facts volatile = NodeStands are_stored node cluster me facts volatile
-
--- so many nodes, each booted for the first time
-pub record AreStarted (nodes : List (Node ListFacts)) (cluster : Cluster) (count : ℕ) : Type 0 where
-  pub as_many : length nodes ≡ count
-  pub each : (place : ℕ) (node : Node ListFacts) → slice_get nodes place ≡ Some node
-      → IsNodeOf node cluster (place + 1) (Fact.Booted 1 ∷ []) nothing_kept
-
--- a node for each centre, over a store of what the centre added
+-- a node for each centre; that of a centre that is up stands over a store of what the centre added, and that of another counts
+-- for nothing
 pub record NodesStand (nodes : List (Node ListFacts)) (w : World) : Type 0 where
   pub as_many : length nodes ≡ w.cluster.quorums.centres
-  pub each : (place : ℕ) (node : Node ListFacts) → slice_get nodes place ≡ Some node
+  pub each : (place : ℕ) (node : Node ListFacts) → slice_get nodes place ≡ Some node → (centre_at w (place + 1)).is_up ≡ true
       → IsNodeOf node w.cluster (place + 1) (facts_of w.ledger (place + 1)) (centre_at w (place + 1)).volatile
+
+-- which centres are up
+abbrev pub UpsStand : List Bool → World → Type 0
+UpsStand ups w = (a : ℕ) → 1 ≤ a → a ≤ 9 → get_or ups (a - 1) false ≡ is_up_at w a
 
 -- whether there was no memory for an input
 abbrev pub is_memory_made : Result Step StepFault → Bool

@@ -1,11 +1,12 @@
 -- Which world of the definitions a world stands for.
 use Rattle.std.specs.Bool.{OnFalse}
 use Rattle.std.specs.Prelude.{◌≡◌, ◌≤◌, ◌++◌, Err, List, Ok, Result, Some, [], length, map, true, ℕ}
+use Rattle.mdcc_logs.specs.Stands.{LogsStand}
 use Rattle.mdcc_node.specs.Stepping.{given}
 use Rattle.mdcc_outcomes.specs.Stands.{Stands as OutcomesStand}
 use Rattle.mdcc_protocol.specs.Belongs.{is_centre}
 use Rattle.mdcc_protocol.specs.Built.{built}
-use Rattle.mdcc_protocol.specs.Ledger.{Entry}
+use Rattle.mdcc_protocol.specs.Ledger.{Entry, facts_of}
 use Rattle.mdcc_protocol.specs.Steps.{NodeStep}
 use Rattle.mdcc_protocol.specs.World.{Happened, World, step_at}
 use Rattle.mdcc_protocol.specs.declared.lines.Line.{Line}
@@ -15,24 +16,27 @@ use Rattle.mdcc_protocol.specs.declared.node.StepFault.{StepFault}
 use Rattle.mdcc_protocol.specs.declared.world.EventFault.{EventFault}
 use Rattle.mdcc_steps.specs.Inputs.{IsWellFormedInput}
 use Rattle.mdcc_world.specs.Faults.{is_memory}
-use Rattle.mdcc_world.specs.Nodes.{NodesStand}
+use Rattle.mdcc_world.specs.Nodes.{NodesStand, UpsStand}
 use Rattle.mdcc_world.specs.declared.world.World.{World as TheWorld}
 use Rattle.mdcc_worlds.specs.Standing.{IsWorld}
 
--- its cluster, its messages, the reads that were made and the number of events. What the messages weigh is not kept
+-- its cluster, its messages and their bytes, the reads that were made, the number of events, and which centres are up
 pub record RecordsStand (world : TheWorld) (w : World) : Type 0 where
   pub itself : IsWorld w
   pub cluster : world.cluster ≡ w.cluster
   pub mail : world.mail ≡ w.sent
+  pub bytes : world.bytes ≡ w.bytes
   pub reads : world.reads ≡ map Some w.reads
   pub few_reads : length w.reads ≤ w.events
   pub events : world.events ≡ w.events
+  pub ups : UpsStand world.up w
 
--- with these go the votes that were counted, and the nodes
+-- with these go the votes that were counted, the nodes, and the logs: on the disk of each centre stand its facts of the ledger
 pub record IsLike (world : TheWorld) (w : World) : Type 0 where
   pub records : RecordsStand world w
   pub outcomes : OutcomesStand world.outcomes w.cluster.quorums w.ledger
   pub nodes : NodesStand world.nodes.items w
+  pub logs : LogsStand world.logs w.cluster.quorums.centres (facts_of w.ledger)
 
 -- and there were no more events than there may be
 pub record Stands (world : TheWorld) (w : World) : Type 0 where
@@ -45,17 +49,23 @@ entries_of (Ok step) = step.entries
 entries_of (Err fault) = []
 
 -- before what a centre made of an input is taken: all but its node is as before, and its entries were told
-pub record IsBeforeTaking (world : TheWorld) (w : World) (a : ℕ) (input : Input) (step : Result Step StepFault) : Type 0 where
+pub record IsBeforeTaking (world : TheWorld) (w : World) (a : ℕ) (input : Input) (made : Result Step StepFault) : Type 0 where
   pub records : RecordsStand world w
   pub centre : is_centre w.cluster a ≡ true
   pub well_formed : IsWellFormedInput input
   pub outcomes : OutcomesStand world.outcomes w.cluster.quorums (entries_of (step_at built w a input) ++ w.ledger)
-  pub step_itself : step ≡ given (step_at built w a input)
+  pub logs : LogsStand world.logs w.cluster.quorums.centres (facts_of w.ledger)
+  pub step_itself : made ≡ given (step_at built w a input)
+
+-- it is so for some world and input
+abbrev pub IsBeforeSome : TheWorld → ℕ → Result Step StepFault → Type 0
+IsBeforeSome world a made = (w : World) × (input : Input) × IsBeforeTaking world w a input made
 
 -- and after it
 pub record IsTaken (world : TheWorld) (before after : List Line) (h : Happened) : Type 0 where
   pub records : RecordsStand world h.world
   pub outcomes : OutcomesStand world.outcomes h.world.cluster.quorums h.world.ledger
+  pub logs : LogsStand world.logs h.world.cluster.quorums.centres (facts_of h.world.ledger)
   pub lines : after ≡ before ++ h.lines
 
 -- the world stands for what happened, and its lines stand behind the others
@@ -67,8 +77,15 @@ pub record HasHappened (world : TheWorld) (before after : List Line) (h : Happen
 abbrev pub IsLikeSome : TheWorld → Type 0
 IsLikeSome world = (w : World) × IsLike world w
 
--- what is to happen has happened, or is refused as it is to be; there may always be no memory
+-- what is to happen has come about as this says, or is refused as it is to be; there may always be no memory
+abbrev pub ComesAs : {T : Type 0} → (Happened → Type 0) → Result T EventFault → Result Happened EventFault → Type 0
+ComesAs P (Ok x) (Ok h) = P h
+ComesAs P (Ok x) (Err fault) = ⊥
+ComesAs P (Err fault) expected = OnFalse (is_memory fault) (expected ≡ Err fault)
+
 abbrev pub Happens : {T : Type 0} → TheWorld → List Line → List Line → Result T EventFault → Result Happened EventFault → Type 0
-Happens world before after (Ok x) (Ok h) = HasHappened world before after h
-Happens world before after (Ok x) (Err fault) = ⊥
-Happens world before after (Err fault) expected = OnFalse (is_memory fault) (expected ≡ Err fault)
+Happens world before after result expected = ComesAs (HasHappened world before after) result expected
+
+-- what a centre made is taken, its node apart
+abbrev pub Takes : {T : Type 0} → TheWorld → List Line → List Line → Result T EventFault → Result Happened EventFault → Type 0
+Takes world before after result expected = ComesAs (IsTaken world before after) result expected

@@ -1,88 +1,65 @@
 //! Begin lines.
-ghost use Rattle.std.specs.Prelude.{◌≡◌, ◌≤◌, ◌<◌, ◌++◌, Err, List, Ok, OnOk, ℕ};
-ghost use Rattle.mdcc_base.specs.Sizes.{Sizes};
+ghost use Rattle.std.specs.Prelude.{◌≡◌, ◌≤◌, ◌<◌, Err, IfErr, List, Ok, OnOk, true, ℕ};
 ghost use Rattle.mdcc_option.specs.Transaction.{transaction_of};
 ghost use Rattle.mdcc_option.specs.declared.items.Part.{Part as APart};
-ghost use Rattle.mdcc_outcomes.specs.Stands.{Stands as OutcomesStand};
 ghost use Rattle.mdcc_protocol.specs.Built.{built};
-ghost use Rattle.mdcc_protocol.specs.Ledger.{Entry};
-ghost use Rattle.mdcc_protocol.specs.World.{World as AWorld, begin_lines, counted_event, event_of, no_item};
+ghost use Rattle.mdcc_protocol.specs.World.{World as AWorld, begin_taken, counted_event, event_of, is_up_at, no_item, step_at};
 ghost use Rattle.mdcc_protocol.specs.declared.events.Event.{Event as AEvent};
+ghost use Rattle.mdcc_protocol.specs.declared.node.Input.{Input as AInput};
 ghost use Rattle.mdcc_steps.specs.Inputs.{AreWellFormedParts};
-ghost use Rattle.mdcc_world.specs.Faults.{OnRefusal};
-ghost use Rattle.mdcc_world.specs.Telling.{begun_entries, begun_tx, lines_begun};
-ghost use Rattle.mdcc_world.specs.Stands.{Happens, HasHappened, IsLike, IsLikeSome};
+ghost use Rattle.mdcc_world.specs.Faults.{OnRefusal, is_free};
+ghost use Rattle.mdcc_world.specs.Making.{IsMade, IsMadeSome};
+ghost use Rattle.mdcc_world.specs.Stands.{Happens, IsLike, IsLikeSome};
 ghost use Rattle.mdcc_worlds.specs.Beginning.{begin_by, begun, begun_if};
 ghost use Rattle.mdcc_worlds.specs.Happening.{at_limit, if_open};
 
 use crate::given::words_given;
-use crate::nodes::begin;
+use crate::telling::tell_begun;
 use crate::world::World;
-use mdcc_base::{Centre, HeapList, Key, Memory, Plain, TxId};
+use mdcc_base::{Centre, HeapList, Key};
 use mdcc_option::{BeginFault, Part, Transaction};
-use mdcc_outcomes::Outcomes;
-use mdcc_protocol::{Answer, EventFault, Line, ResolveFault, UpdateWord};
+use mdcc_protocol::{EventFault, Line, ResolveFault, Step, UpdateWord};
 use mdcc_sched::resolve;
 
-// The transaction that was begun.
-fn begun_tx(answer: &Option<Answer>) -> Option<TxId>
-    ensures { result ≡ begun_tx answer.now }
-{
-    match answer {
-        Some(Answer::Begun(tx)) => Some(*tx),
-        _ => None,
-    }
-}
-
-// A transaction that was begun is counted.
-fn count(
-    outcomes: &mut Outcomes,
-    transaction: &Transaction,
-    answer: &Option<Answer>,
-) -> Result<(), Memory>
-    ensures { (quorums : Sizes) (entries : List Entry) (a : ℕ) → OutcomesStand outcomes.old quorums entries
-        → OnOk result (OutcomesStand outcomes.new quorums (begun_entries a transaction.now (begun_tx answer.now) ++ entries)) }
-{
-    if let Some(tx) = begun_tx(answer) {
-        outcomes.begin(tx, transaction.choices(tx).as_slice())?;
-    }
-    Ok(())
-}
-
-// The line of a begin, before the next message.
-fn tell(lines: &mut HeapList<Line>, answer: &Option<Answer>, next: u32) -> Result<(), Memory>
-    ensures { OnOk result (lines.new ≡ lines.old ++ lines_begun answer.now next) }
-{
-    match answer {
-        Some(Answer::Begun(tx)) => lines.push(Line::Begun(*tx, next))?,
-        Some(Answer::Refused(key, fault)) => lines.push(Line::Refused(*key, fault.copy()))?,
-        _ => {}
-    }
-    Ok(())
-}
-
 impl World {
-    // A transaction is begun at a centre, or refused by it. A begin adds no fact.
+    // What a centre made of a begin is taken, behind the line of the begin. A begin adds no fact.
+    fn begin_taken(
+        &mut self,
+        centre: Centre,
+        step: &Step,
+        lines: &mut HeapList<Line>,
+    ) -> Result<(), EventFault>
+        requires some { IsMadeSome self.old centre (Ok step.now) }
+        ensures happens { (w : AWorld) (input : AInput) → IsMade self.old w centre input (Ok step.now)
+            → Happens self.new lines.old lines.new result (begin_taken built w centre (step_at built w centre input)) }
+        ensures free { IfErr result (λ fault. is_free fault ≡ true) }
+        ensures events { self.new.events ≡ self.old.events }
+    {
+        let mut told = HeapList::new(self.alloc);
+        self.take(centre, step, &mut told)?;
+        tell_begun(lines, &step.answer, self.next_message(), told)
+    }
+
+    // A transaction is begun at a centre, or refused by it.
     fn begin_at(
         &mut self,
         centre: Centre,
         transaction: &Transaction,
         lines: &mut HeapList<Line>,
-    ) -> Result<(), Memory>
-        requires centre { centre ≤ self.old.cluster.quorums.centres }
+    ) -> Result<(), EventFault>
         requires few { self.old.events < 100000 }
         requires formed { AreWellFormedParts transaction.now }
         requires like { IsLikeSome self.old }
-        ensures happened { (w : AWorld) → IsLike self.old w
-            → OnOk result (HasHappened self.new lines.old lines.new (begun w centre transaction.now)) }
+        requires up { (w : AWorld) → IsLike self.old w → is_up_at w centre ≡ true }
+        ensures happens { (w : AWorld) → IsLike self.old w
+            → Happens self.new lines.old lines.new result (begun w centre transaction.now) }
+        ensures free { IfErr result (λ fault. is_free fault ≡ true) }
         ensures few { OnOk result (self.new.events ≤ 100000) }
     {
-        self.events += 1;
-        let step = begin(&mut self.nodes, centre, transaction)?;
-        count(&mut self.outcomes, transaction, &step.answer)?;
-        self.mail.send(step.sends)?;
-        tell(lines, &step.answer, self.next_message())?;
-        Ok(())
+        match self.begin_made(centre, transaction) {
+            Ok(step) => self.begin_taken(centre, &step, lines),
+            Err(_) => Err(EventFault::Memory),
+        }
     }
 
     // A transaction is begun, where there may be one more event.
@@ -92,19 +69,16 @@ impl World {
         transaction: &Transaction,
         lines: &mut HeapList<Line>,
     ) -> Result<(), EventFault>
-        requires centre { centre ≤ self.old.cluster.quorums.centres }
         requires formed { AreWellFormedParts transaction.now }
         requires like { IsLikeSome self.old }
+        requires up { (w : AWorld) → IsLike self.old w → is_up_at w centre ≡ true }
         ensures happens { (w : AWorld) → IsLike self.old w
             → Happens self.new lines.old lines.new result (if_open (at_limit w) (begun w centre transaction.now)) }
         ensures few { OnOk result (self.new.events ≤ 100000) }
         ensures kept { OnRefusal result ((self.new ≡ self.old) × (lines.new ≡ lines.old)) }
     {
         self.at_limit()?;
-        match self.begin_at(centre, transaction, lines) {
-            Ok(()) => Ok(()),
-            Err(_) => Err(EventFault::Memory),
-        }
+        self.begin_at(centre, transaction, lines)
     }
 
     // The transaction of these parts is begun, where they make one.
@@ -114,9 +88,9 @@ impl World {
         parts: &[Part],
         lines: &mut HeapList<Line>,
     ) -> Result<(), EventFault>
-        requires centre { centre ≤ self.old.cluster.quorums.centres }
         requires formed { (made : List APart) → transaction_of self.old.cluster.schema parts.now ≡ Ok made → AreWellFormedParts made }
         requires like { IsLikeSome self.old }
+        requires up { (w : AWorld) → IsLike self.old w → is_up_at w centre ≡ true }
         ensures happens { (w : AWorld) → IsLike self.old w
             → Happens self.new lines.old lines.new result (begun_if w centre (transaction_of w.cluster.schema parts.now)) }
         ensures few { OnOk result (self.new.events ≤ 100000) }
@@ -132,7 +106,7 @@ impl World {
     fn refuse(&mut self, key: &Key, lines: &mut HeapList<Line>) -> Result<(), EventFault>
         requires { IsLikeSome self.old }
         ensures happens { (w : AWorld) → IsLike self.old w
-            → Happens self.new lines.old lines.new result (if_open (at_limit w) (no_item (counted_event w) key.now)) }
+            → Happens self.new lines.old lines.new result (if_open (at_limit w) (Ok (no_item (counted_event w) key.now))) }
         ensures few { OnOk result (self.new.events ≤ 100000) }
         ensures kept { OnRefusal result ((self.new ≡ self.old) × (lines.new ≡ lines.old)) }
     {
@@ -179,7 +153,7 @@ impl World {
         ensures few { OnOk result (self.new.events ≤ 100000) }
         ensures kept { OnRefusal result ((self.new ≡ self.old) × (lines.new ≡ lines.old)) }
     {
-        if centre.number() > self.cluster.quorums.centres() {
+        if !self.is_up(centre) {
             return Err(EventFault::Down(centre));
         }
         words_given(words);

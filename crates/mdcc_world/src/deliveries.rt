@@ -1,14 +1,15 @@
 //! Messages come to their centres.
-ghost use Rattle.std.specs.Prelude.{◌≡◌, ◌≤◌, ◌<◌, ◌+◌, OnOk};
+ghost use Rattle.std.specs.Prelude.{◌≡◌, ◌≤◌, ◌<◌, ◌+◌, IfErr, Ok, OnOk, true};
 ghost use Rattle.mdcc_protocol.specs.Built.{built};
-ghost use Rattle.mdcc_protocol.specs.World.{World as AWorld, deliveries_before, deliveries_of};
-ghost use Rattle.mdcc_world.specs.Faults.{OnRefusal};
+ghost use Rattle.mdcc_protocol.specs.World.{World as AWorld, deliveries_before, deliveries_of, delivery_of};
+ghost use Rattle.mdcc_world.specs.Faults.{OnRefusal, is_free};
 ghost use Rattle.mdcc_world.specs.Stands.{Happens, HasHappened, IsLike, IsLikeSome};
 ghost use Rattle.mdcc_worlds.specs.Delivering.{at_message, delivery, delivery_told, unmoved};
+ghost use Rattle.mdcc_worlds.specs.Happening.{at_centre};
 
-use crate::nodes::deliver;
-use crate::world::{World, append};
-use mdcc_base::{Centre, HeapList, Memory};
+use crate::telling::tell;
+use crate::world::World;
+use mdcc_base::{Centre, HeapList};
 use mdcc_protocol::{EventFault, Line};
 
 impl World {
@@ -17,51 +18,73 @@ impl World {
         &mut self,
         number: u32,
         lines: &mut HeapList<Line>,
-    ) -> Result<(), Memory>
+    ) -> Result<(), EventFault>
         requires few { self.old.events < 100000 }
         requires like { IsLikeSome self.old }
-        ensures cluster { self.new.cluster ≡ self.old.cluster }
-        ensures happened { (w : AWorld) → IsLike self.old w
-            → OnOk result (HasHappened self.new lines.old lines.new (delivery w number)) }
+        requires clear { (w : AWorld) → IsLike self.old w → at_message w number ≡ Ok tt }
+        ensures happens { (w : AWorld) → IsLike self.old w
+            → Happens self.new lines.old lines.new result (delivery w number) }
+        ensures free { IfErr result (λ fault. is_free fault ≡ true) }
         ensures few { self.new.events ≤ self.old.events + 1 }
+        ensures up { self.new.up ≡ self.old.up }
     {
-        let Some(envelope) = self.mail.envelope(number) else {
-            return Ok(());
-        };
-        let Some(centre) = Centre::new(envelope.to) else {
-            return Ok(());
-        };
-        self.events += 1;
-        let made = deliver(&mut self.nodes, centre, envelope)?;
-        self.mail.deliver(number);
-        self.taken(centre, made, lines)?;
-        Ok(())
+        match self.message_made(number) {
+            Ok((centre, made)) => self.taken(centre, &made, lines),
+            Err(_) => Err(EventFault::Memory),
+        }
+    }
+
+    // Why no message is delivered to a centre.
+    fn at_addressee(&self, centre: u8) -> Result<(), EventFault>
+        requires some { 1 ≤ centre }
+        requires few { centre ≤ 9 }
+        ensures centre { (w : AWorld) → IsLike self.now w → result ≡ at_centre w centre }
+        ensures few { OnOk result (self.now.events < 100000) }
+    {
+        match Centre::new(centre) {
+            Some(centre) => self.at_centre(centre),
+            None => self.at_limit(),
+        }
     }
 
     // Why the message of a number is not delivered.
     fn at_message(&self, number: u32) -> Result<(), EventFault>
+        requires { IsLikeSome self.now }
         ensures message { (w : AWorld) → IsLike self.now w → result ≡ at_message w number }
         ensures few { OnOk result (self.now.events < 100000) }
     {
-        if self.mail.envelope(number).is_none() {
-            return Err(EventFault::NoMessage(number));
+        match self.mail.addressee(number) {
+            Some(centre) => self.at_addressee(centre),
+            None => Err(EventFault::NoMessage(number)),
         }
-        self.at_limit()
     }
 
     // The message of a number is delivered, behind its line.
-    fn deliver_at(&mut self, number: u32, lines: &mut HeapList<Line>) -> Result<(), Memory>
+    fn deliver_told(&mut self, number: u32, lines: &mut HeapList<Line>) -> Result<(), EventFault>
         requires few { self.old.events < 100000 }
         requires like { IsLikeSome self.old }
-        ensures happened { (w : AWorld) → IsLike self.old w
-            → OnOk result (HasHappened self.new lines.old lines.new (delivery_told w number)) }
+        requires clear { (w : AWorld) → IsLike self.old w → at_message w number ≡ Ok tt }
+        ensures happens { (w : AWorld) → IsLike self.old w
+            → Happens self.new lines.old lines.new result (delivery_told w number) }
+        ensures free { IfErr result (λ fault. is_free fault ≡ true) }
         ensures few { OnOk result (self.new.events ≤ 100000) }
     {
         let mut told = HeapList::new(self.alloc);
         self.delivered(number, &mut told)?;
-        lines.push(Line::Deliver(number, self.next_message()))?;
-        append(lines, told)?;
-        Ok(())
+        tell(lines, Line::Deliver(number, self.next_message()), told)
+    }
+
+    // One number of a deliver line.
+    fn deliver_at(&mut self, number: u32, lines: &mut HeapList<Line>) -> Result<(), EventFault>
+        requires few { self.old.events ≤ 100000 }
+        requires like { IsLikeSome self.old }
+        ensures happens { (w : AWorld) → IsLike self.old w
+            → Happens self.new lines.old lines.new result (delivery_of built w number) }
+        ensures kept { OnRefusal result ((self.new ≡ self.old) × (lines.new ≡ lines.old)) }
+        ensures few { OnOk result (self.new.events ≤ 100000) }
+    {
+        self.at_message(number)?;
+        self.deliver_told(number, lines)
     }
 
     // A deliver line: the numbers in turn, up to the first that is refused. Those before it stand.
@@ -80,11 +103,7 @@ impl World {
         ensures few_left { OnRefusal result (self.new.events ≤ 100000) }
     {
         for number in numbers {
-            self.at_message(*number)?;
-            match self.deliver_at(*number, lines) {
-                Ok(()) => {}
-                Err(_) => return Err(EventFault::Memory),
-            }
+            self.deliver_at(*number, lines)?;
         }
         Ok(())
     }

@@ -30,7 +30,9 @@ impl World {
             Event::Deliver(numbers) => self.deliver(numbers.as_slice(), lines),
             Event::Settle(listed) => self.settle(listed, lines),
             Event::Tick(centre) => self.tick(*centre, lines),
-            Event::Crash(_) | Event::Restart(_) | Event::Stop(_, _, _) => Ok(()),
+            Event::Crash(centre) => self.crash(*centre, lines),
+            Event::Restart(centre) => self.restart(*centre, lines),
+            Event::Stop(_, _, _) => Ok(()),
         }
     }
 

@@ -1,12 +1,13 @@
 //! Settle lines: messages are delivered until none waits.
 ghost use Rattle.std.specs.List.{list_any};
-ghost use Rattle.std.specs.Prelude.{◌≡◌, ◌≤◌, ◌<◌, ◌==◌, IfErr, IfOk, OnOk, List, true, ℕ};
+ghost use Rattle.std.specs.Prelude.{◌≡◌, ◌≤◌, ◌<◌, ◌==◌, ◌&&◌, ◌-◌, IfErr, IfOk, List, OnOk, false, get_or, true, ℕ};
+ghost use Rattle.mdcc_mail.specs.Waiting.{AreAsked};
 ghost use Rattle.mdcc_protocol.specs.Built.{built};
 ghost use Rattle.mdcc_protocol.specs.World.{World as AWorld, event_of};
 ghost use Rattle.mdcc_protocol.specs.declared.events.Event.{Event as AEvent};
 ghost use Rattle.mdcc_protocol.specs.declared.lines.Line.{Line as ALine};
 ghost use Rattle.mdcc_world.specs.Faults.{is_free};
-ghost use Rattle.mdcc_world.specs.Settling.{AreNamed, EndsAs, IsSettledAs, is_named};
+ghost use Rattle.mdcc_world.specs.Settling.{AreUp, SettlesTo, is_named};
 ghost use Rattle.mdcc_world.specs.Stands.{Happens, HasHappened, IsLike, IsLikeSome};
 ghost use Rattle.mdcc_worlds.specs.Settling.{settle_told};
 
@@ -29,14 +30,22 @@ fn is_named(listed: &[Centre], centre: Centre) -> bool
 }
 
 impl World {
+    // Whether a settle delivers for a centre.
+    fn is_asked(&self, listed: &[Centre], centre: Centre) -> bool
+        ensures { result ≡ (get_or self.now.up (centre - 1) false && is_named listed.now centre) }
+    {
+        self.is_up(centre) && is_named(listed, centre)
+    }
+
     // The centres for which a settle delivers.
-    fn named(&self, listed: &[Centre]) -> Result<HeapList<Centre>, Memory>
-        ensures { IfOk result (λ centres. AreNamed self.now.cluster listed.now centres) }
+    fn asked(&self, listed: &[Centre]) -> Result<HeapList<Centre>, Memory>
+        ensures asked { (w : AWorld) → IsLike self.now w → IfOk result (λ centres. AreAsked w listed.now centres) }
+        ensures up { IfOk result (λ centres. AreUp self.now.up centres) }
     {
         let mut centres = HeapList::new(self.alloc);
-        for number in 1..self.cluster.quorums.centres() + 1 {
+        for number in 1..10 {
             if let Some(centre) = Centre::new(number) {
-                if is_named(listed, centre) {
+                if self.is_asked(listed, centre) {
                     centres.push(centre)?;
                 }
             }
@@ -44,55 +53,76 @@ impl World {
         Ok(centres)
     }
 
-    // Messages for these centres are delivered, until none waits or there are as many events as
-    // there may be: how many were, where none waits.
+    // Messages for these centres are delivered, until none waits: how many were. It is refused where
+    // there are as many events as there may be, and one waits.
     fn settle_for(
         &mut self,
         centres: &[Centre],
         lines: &mut HeapList<Line>,
-    ) -> Result<Option<u32>, Memory>
+    ) -> Result<u32, EventFault>
         requires few { self.old.events ≤ 100000 }
         requires like { IsLikeSome self.old }
+        requires up { AreUp self.old.up centres.now }
         ensures ends { (w : AWorld) (listed : List ℕ) (before : List ALine)
-            → w.events < 100000 → AreNamed self.old.cluster listed centres.now
+            → w.events < 100000 → AreAsked w listed centres.now
             → HasHappened self.old before lines.old (settle_told w listed)
-            → IfOk result (EndsAs self.new before lines.new w listed) }
+            → SettlesTo self.new before lines.new w listed result }
+        ensures free { IfErr result (λ fault. is_free fault ≡ true) }
         ensures few { OnOk result (self.new.events ≤ 100000) }
     {
         let left = MOST_EVENTS - self.events;
         for deliveries in 0..left {
             match self.mail.first_waiting(centres) {
                 Some(number) => self.delivered(number, lines)?,
-                None => return Ok(Some(deliveries)),
+                None => return Ok(deliveries),
             }
         }
         match self.mail.first_waiting(centres) {
-            Some(_) => Ok(None),
-            None => Ok(Some(left)),
+            Some(_) => Err(EventFault::Limit(LimitName::Events, u64::from(MOST_EVENTS))),
+            None => Ok(left),
         }
     }
 
-    // A settle line, which is an event: whether it came to its end.
-    fn settle_at(
+    // A settle line is an event: the centres for which it delivers.
+    fn settle_begun(
         &mut self,
         listed: &HeapList<Centre>,
         lines: &mut HeapList<Line>,
-    ) -> Result<bool, Memory>
+    ) -> Result<HeapList<Centre>, Memory>
         requires few { self.old.events < 100000 }
         requires like { IsLikeSome self.old }
-        ensures settled { (w : AWorld) → IsLike self.old w
-            → IfOk result (IsSettledAs self.new lines.old lines.new w listed.now) }
-        ensures few { OnOk result (self.new.events ≤ 100000) }
+        ensures told { (w : AWorld) → IsLike self.old w
+            → OnOk result (HasHappened self.new lines.old lines.new (settle_told w listed.now)) }
+        ensures asked { (w : AWorld) → IsLike self.old w → IfOk result (λ centres. AreAsked w listed.now centres) }
+        ensures up { IfOk result (λ centres. AreUp self.new.up centres) }
+        ensures few { self.new.events ≤ 100000 }
     {
+        let centres = self.asked(listed.as_slice())?;
         self.events += 1;
         lines.push(Line::Settle(listed.copy(self.alloc)?))?;
-        let centres = self.named(listed.as_slice())?;
-        match self.settle_for(centres.as_slice(), lines)? {
-            Some(deliveries) => {
-                lines.push(Line::Settled(deliveries, self.next_message()))?;
-                Ok(true)
-            }
-            None => Ok(false),
+        Ok(centres)
+    }
+
+    // Messages are delivered for the centres, and it is told how many were.
+    fn settle_at(
+        &mut self,
+        centres: &[Centre],
+        lines: &mut HeapList<Line>,
+    ) -> Result<(), EventFault>
+        requires few { self.old.events ≤ 100000 }
+        requires like { IsLikeSome self.old }
+        requires up { AreUp self.old.up centres.now }
+        ensures settled { (w : AWorld) (listed : List ℕ) (before : List ALine)
+            → w.events < 100000 → AreAsked w listed centres.now
+            → HasHappened self.old before lines.old (settle_told w listed)
+            → Happens self.new before lines.new result (event_of built w (AEvent.Settle listed)) }
+        ensures free { IfErr result (λ fault. is_free fault ≡ true) }
+        ensures few { OnOk result (self.new.events ≤ 100000) }
+    {
+        let deliveries = self.settle_for(centres, lines)?;
+        match lines.push(Line::Settled(deliveries, self.next_message())) {
+            Ok(()) => Ok(()),
+            Err(_) => Err(EventFault::Memory),
         }
     }
 
@@ -109,9 +139,8 @@ impl World {
         ensures free { IfErr result (λ fault. is_free fault ≡ true) }
     {
         self.at_limit()?;
-        match self.settle_at(listed, lines) {
-            Ok(true) => Ok(()),
-            Ok(false) => Err(EventFault::Limit(LimitName::Events, u64::from(MOST_EVENTS))),
+        match self.settle_begun(listed, lines) {
+            Ok(centres) => self.settle_at(centres.as_slice(), lines),
             Err(_) => Err(EventFault::Memory),
         }
     }

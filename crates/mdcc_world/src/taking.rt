@@ -1,18 +1,23 @@
-//! What a step brings: messages, a fact in the ledger, and lines of the report.
-ghost use Rattle.std.specs.Prelude.{◌≡◌, ◌++◌, ◌∷◌, List, OnOk, map};
+//! What a step lets out: its fact, once it is durable, then its messages, and lines of the report.
+ghost use Rattle.std.specs.Prelude.{◌≡◌, ◌≤◌, ◌++◌, ◌∷◌, List, OnErr, OnOk, false, length, map, true, ℕ};
 ghost use Rattle.mdcc_base.specs.Sizes.{Sizes};
+ghost use Rattle.mdcc_logs.specs.Stands.{LogsStand};
 ghost use Rattle.mdcc_outcomes.specs.Stands.{Stands as OutcomesStand};
 ghost use Rattle.mdcc_protocol.specs.Ledger.{Added, Entry};
 ghost use Rattle.mdcc_protocol.specs.Marks.{is_commit};
 ghost use Rattle.mdcc_protocol.specs.World.{heard_lines, unsent};
+ghost use Rattle.mdcc_protocol.specs.declared.facts.Fact.{Fact as AFact};
+ghost use Rattle.mdcc_world.specs.Letting.{IsFramed, facts_with};
 ghost use Rattle.mdcc_world.specs.Telling.{dropped_lines};
 ghost use Rattle.mdcc_worlds.specs.Taking.{chosen_line, fact_lines, step_lines, with_fact};
 
 use mdcc_base::{Centre, HeapList, Memory, TxId};
-use mdcc_mail::Mail;
+use mdcc_logs::Logs;
+use mdcc_mail::{Mail, Outgoing};
 use mdcc_option::Outcome;
 use mdcc_outcomes::Outcomes;
-use mdcc_protocol::{Fact, Line, Step, StepFault};
+use mdcc_protocol::{Fact, Line, StepFault};
+use std::alloc::Global;
 
 // Whether a transaction committed.
 fn is_commit(outcome: &Outcome) -> bool
@@ -45,12 +50,12 @@ fn push_heard(lines: &mut HeapList<Line>, centre: Centre, fact: &Fact) -> Result
 pub(crate) fn push_dropped(
     lines: &mut HeapList<Line>,
     centre: Centre,
-    fault: StepFault,
+    fault: &StepFault,
 ) -> Result<(), Memory>
-    ensures { OnOk result (lines.new ≡ lines.old ++ dropped_lines centre fault) }
+    ensures { OnOk result (lines.new ≡ lines.old ++ dropped_lines centre fault.now) }
 {
     if let StepFault::NoRoom { needed, spare } = fault {
-        lines.push(Line::Dropped(centre, needed, spare))?;
+        lines.push(Line::Dropped(centre, *needed, *spare))?;
     }
     Ok(())
 }
@@ -73,26 +78,63 @@ fn add_fact(
     Ok(())
 }
 
-/// The messages of a centre's step are sent, and its fact is added.
-pub(crate) fn take(
-    mail: &mut Mail,
+/// The fact of a step counts, where it has one.
+pub(crate) fn tell_fact(
     outcomes: &mut Outcomes,
     centre: Centre,
-    step: Step,
+    fact: &Option<Fact>,
     lines: &mut HeapList<Line>,
 ) -> Result<(), Memory>
-    ensures sent { OnOk result (mail.new ≡ mail.old ++ map unsent step.sends) }
     ensures ledger { (quorums : Sizes) (entries : List Entry) → OutcomesStand outcomes.old quorums entries
-        → OnOk result (OutcomesStand outcomes.new quorums (with_fact centre step.fact entries)) }
+        → OnOk result (OutcomesStand outcomes.new quorums (with_fact centre fact.now entries)) }
     ensures lines { (quorums : Sizes) (entries : List Entry) → OutcomesStand outcomes.old quorums entries
-        → OnOk result (lines.new ≡ lines.old ++ step_lines quorums centre step.fact entries) }
+        → OnOk result (lines.new ≡ lines.old ++ step_lines quorums centre fact.now entries) }
 {
-    mail.send(step.sends)?;
-    match &step.fact {
+    match fact {
         Some(fact) => {
             add_fact(outcomes, centre, fact, lines)?;
             Ok(())
         }
         None => Ok(()),
     }
+}
+
+// The fact of a step is made durable, where it has one.
+fn append_fact(
+    alloc: Global,
+    logs: &mut Logs,
+    centre: Centre,
+    fact: &Option<Fact>,
+) -> Result<(), Memory>
+    requires within { centre ≤ length logs.old.open.items }
+    requires framed { IsFramed logs.old fact.now }
+    ensures { (centres : ℕ) (facts : ℕ → List AFact) → LogsStand logs.old centres facts → centre ≤ centres
+        → OnOk result (LogsStand logs.new centres (facts_with facts centre fact.now)) }
+{
+    match fact {
+        Some(fact) => logs.append(alloc, centre, fact),
+        None => Ok(()),
+    }
+}
+
+/// The fact of a step is made durable, and only then its messages count as sent. After a refusal
+/// what was sent is as it was.
+pub(crate) fn let_out(
+    alloc: Global,
+    logs: &mut Logs,
+    mail: &mut Mail,
+    centre: Centre,
+    fact: &Option<Fact>,
+    outgoing: Outgoing,
+) -> Result<(), Memory>
+    requires within { centre ≤ length logs.old.open.items }
+    requires framed { IsFramed logs.old fact.now }
+    ensures logs { (centres : ℕ) (facts : ℕ → List AFact) → LogsStand logs.old centres facts → centre ≤ centres
+        → OnOk result (LogsStand logs.new centres (facts_with facts centre fact.now)) }
+    ensures sent { OnOk result (mail.new ≡ mail.old ++ map unsent outgoing) }
+    ensures unsent { OnErr result (mail.new ≡ mail.old) }
+{
+    append_fact(alloc, logs, centre, fact)?;
+    mail.send(outgoing)?;
+    Ok(())
 }

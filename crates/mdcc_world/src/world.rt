@@ -1,59 +1,91 @@
-//! A world: the nodes of a cluster, the messages between them, and what happens to them.
-ghost use Rattle.std.specs.Prelude.{◌≡◌, ◌≤◌, ◌<◌, ◌++◌, ◌+◌, IfErr, IfOk, OnOk, List, length, map, true};
-ghost use Rattle.mdcc_base.specs.Key.{IsKey};
+//! A world: the nodes of a cluster, their logs on disks in memory, the messages between them, and what happens to them.
+ghost use Rattle.std.specs.Prelude.{◌≡◌, ◌≤◌, ◌<◌, ◌+◌, ◌-◌, IfErr, IfOk, OnOk, get_or, length, nat_le, true, false, ℕ};
 ghost use Rattle.mdcc_protocol.specs.IsCluster.{IsCluster};
-ghost use Rattle.mdcc_protocol.specs.Built.{built};
-ghost use Rattle.mdcc_protocol.specs.World.{World as AWorld, end_line, event_of, first_world, input_happened, known_of, read_happened, counted_event, step_at};
-ghost use Rattle.mdcc_protocol.specs.declared.events.Event.{Event as AEvent};
-ghost use Rattle.mdcc_protocol.specs.declared.node.Input.{Input as AInput};
-ghost use Rattle.mdcc_world.specs.Faults.{OnRefusal, is_free};
-ghost use Rattle.mdcc_world.specs.Stands.{Happens, HasHappened, IsBeforeTaking, IsLike, IsLikeSome, IsTaken, RecordsStand, Stands};
-ghost use Rattle.mdcc_worlds.specs.Happening.{at_centre, at_limit, ticked};
+ghost use Rattle.mdcc_protocol.specs.World.{World as AWorld, end_line, first_world, is_up_at};
+ghost use Rattle.mdcc_world.specs.Disks.{DisksShow};
+ghost use Rattle.mdcc_world.specs.Faults.{is_free};
+ghost use Rattle.mdcc_world.specs.Stands.{IsLike, Stands};
+ghost use Rattle.mdcc_worlds.specs.Happening.{at_centre, at_limit};
 
-use crate::nodes::{read, start_all, tick};
-use crate::taking::{push_dropped, take};
-use mdcc_base::{Centre, HeapList, Key, Memory, Plain};
+use mdcc_base::{Centre, HeapList, Memory};
+use mdcc_disks::MemoryDisks;
 use mdcc_facts::ListFacts;
+use mdcc_log::rest_is_read;
+use mdcc_logs::{Logs, boot_all};
 use mdcc_mail::Mail;
 use mdcc_node::Node;
 use mdcc_option::{Cluster, Known};
 use mdcc_outcomes::Outcomes;
-use mdcc_protocol::{EventFault, LimitName, Line, Reading, Step, StepFault};
+use mdcc_protocol::{EventFault, LimitName, Line};
 use std::alloc::Global;
 
 /// How many events there may be.
 pub(crate) const MOST_EVENTS: u32 = 100_000;
 
-/// The nodes of a cluster, all messages between them, and the reads that were made.
+/// The nodes of a cluster with their logs, all messages between them as bytes, and the reads that
+/// were made. The node of a centre that is down counts for nothing; its log is what it starts from.
 #[derive(Drop)]
 pub struct World {
     pub(crate) alloc: Global,
     pub(crate) cluster: Cluster,
     pub(crate) nodes: Vec<Node<ListFacts>>,
+    pub(crate) up: [bool; 9],
+    pub(crate) logs: Logs,
     pub(crate) mail: Mail,
+    pub(crate) bytes: u64,
     pub(crate) outcomes: Outcomes,
     pub(crate) reads: HeapList<Option<Known>>,
     pub(crate) events: u32,
 }
 
+// The first so many centres are up.
+fn first_ups(centres: u8) -> [bool; 9]
+    ensures { (a : ℕ) → 1 ≤ a → a ≤ 9 → get_or result (a - 1) false ≡ nat_le a centres }
+{
+    [
+        1 <= centres,
+        2 <= centres,
+        3 <= centres,
+        4 <= centres,
+        5 <= centres,
+        6 <= centres,
+        7 <= centres,
+        8 <= centres,
+        9 <= centres,
+    ]
+}
+
 impl World {
-    /// All centres are booted for the first time.
+    /// All centres are booted for the first time, from empty disks.
     pub fn new(alloc: Global, cluster: Cluster) -> Result<World, Memory>
         requires { IsCluster cluster }
         ensures { IfOk result (λ world. Stands world (first_world cluster)) }
     {
-        let nodes = start_all(alloc, &cluster)?;
+        let (nodes, logs) = boot_all(alloc, &cluster)?;
         let mail = Mail::new(alloc)?;
         let outcomes = Outcomes::new(alloc, &cluster.quorums)?;
+        let up = first_ups(cluster.quorums.centres());
         Ok(World {
             alloc,
             cluster,
             nodes,
+            up,
+            logs,
             mail,
+            bytes: 0,
             outcomes,
             reads: HeapList::new(alloc),
             events: 0,
         })
+    }
+
+    /// The disks of the centres: that of centre K is at place K, and its log has all that the centre
+    /// added to the ledger.
+    pub fn disks(&self) -> &MemoryDisks
+        ensures { (w : AWorld) → Stands self.now w → DisksShow result.now w }
+    {
+        rest_is_read();
+        self.logs.disks()
     }
 
     /// The last line of a report.
@@ -77,6 +109,14 @@ impl World {
         self.mail.len() as u32 + 1
     }
 
+    // Whether a centre is up.
+    pub(crate) fn is_up(&self, centre: Centre) -> bool
+        ensures value { result ≡ get_or self.now.up (centre - 1) false }
+        ensures up { (w : AWorld) → IsLike self.now w → result ≡ is_up_at w centre }
+    {
+        self.up[usize::from(centre.number()) - 1]
+    }
+
     // Why nothing happens any more.
     pub(crate) fn at_limit(&self) -> Result<(), EventFault>
         ensures limit { (w : AWorld) → IsLike self.now w → result ≡ at_limit w }
@@ -90,141 +130,14 @@ impl World {
     }
 
     // Why nothing happens at a centre.
-    fn at_centre(&self, centre: Centre) -> Result<(), EventFault>
+    pub(crate) fn at_centre(&self, centre: Centre) -> Result<(), EventFault>
         ensures centre { (w : AWorld) → IsLike self.now w → result ≡ at_centre w centre }
-        ensures within { OnOk result (centre ≤ self.now.cluster.quorums.centres) }
+        ensures up { (w : AWorld) → IsLike self.now w → OnOk result (is_up_at w centre ≡ true) }
         ensures few { OnOk result (self.now.events < 100000) }
     {
-        if centre.number() > self.cluster.quorums.centres() {
+        if !self.is_up(centre) {
             return Err(EventFault::Down(centre));
         }
         self.at_limit()
     }
-
-    // What a centre made of an input is taken.
-    pub(crate) fn taken(
-        &mut self,
-        centre: Centre,
-        made: Result<Step, StepFault>,
-        lines: &mut HeapList<Line>,
-    ) -> Result<(), Memory>
-        ensures cluster { self.new.cluster ≡ self.old.cluster }
-        ensures nodes { self.new.nodes ≡ self.old.nodes }
-        ensures events { self.new.events ≡ self.old.events }
-        ensures taken { (w : AWorld) (input : AInput) → IsBeforeTaking self.old w centre input made
-            → OnOk result (IsTaken self.new lines.old lines.new (input_happened w centre (step_at built w centre input))) }
-    {
-        match made {
-            Ok(step) => {
-                take(&mut self.mail, &mut self.outcomes, centre, step, lines)?;
-                Ok(())
-            }
-            Err(fault) => {
-                push_dropped(lines, centre, fault)?;
-                Ok(())
-            }
-        }
-    }
-
-    // A key is read at a centre.
-    fn read_at(
-        &mut self,
-        centre: Centre,
-        key: &Key,
-        lines: &mut HeapList<Line>,
-    ) -> Result<(), Memory>
-        requires centre { centre ≤ self.old.cluster.quorums.centres }
-        requires few { self.old.events < 100000 }
-        requires like { IsLikeSome self.old }
-        ensures happened { (w : AWorld) → IsLike self.old w
-            → OnOk result (HasHappened self.new lines.old lines.new (read_happened (counted_event w) centre key.now)) }
-        ensures few { OnOk result (self.new.events ≤ 100000) }
-    {
-        let reading = read(&self.nodes, centre, key);
-        let known = known_of(key, reading);
-        self.events += 1;
-        self.reads.push(Some(known.copy()))?;
-        lines.push(Line::Read(self.reads.len() as u32, centre, known))?;
-        Ok(())
-    }
-
-    // Time passes at a centre.
-    fn tick_at(&mut self, centre: Centre, lines: &mut HeapList<Line>) -> Result<(), Memory>
-        requires centre { centre ≤ self.old.cluster.quorums.centres }
-        requires few { self.old.events < 100000 }
-        requires like { IsLikeSome self.old }
-        ensures happened { (w : AWorld) → IsLike self.old w
-            → OnOk result (HasHappened self.new lines.old lines.new (ticked w centre)) }
-        ensures few { OnOk result (self.new.events ≤ 100000) }
-    {
-        self.events += 1;
-        let made = tick(&mut self.nodes, centre)?;
-        let mut told = HeapList::new(self.alloc);
-        self.taken(centre, made, &mut told)?;
-        lines.push(Line::Tick(centre, self.next_message()))?;
-        append(lines, told)?;
-        Ok(())
-    }
-
-    // A read line.
-    pub(crate) fn read(
-        &mut self,
-        centre: Centre,
-        key: &Key,
-        lines: &mut HeapList<Line>,
-    ) -> Result<(), EventFault>
-        requires { IsLikeSome self.old }
-        ensures happens { (w : AWorld) → IsLike self.old w
-            → Happens self.new lines.old lines.new result (event_of built w (AEvent.Read centre key.now)) }
-        ensures few { OnOk result (self.new.events ≤ 100000) }
-        ensures kept { OnRefusal result ((self.new ≡ self.old) × (lines.new ≡ lines.old)) }
-    {
-        self.at_centre(centre)?;
-        match self.read_at(centre, key, lines) {
-            Ok(()) => Ok(()),
-            Err(_) => Err(EventFault::Memory),
-        }
-    }
-
-    // A tick line.
-    pub(crate) fn tick(
-        &mut self,
-        centre: Centre,
-        lines: &mut HeapList<Line>,
-    ) -> Result<(), EventFault>
-        requires { IsLikeSome self.old }
-        ensures happens { (w : AWorld) → IsLike self.old w
-            → Happens self.new lines.old lines.new result (event_of built w (AEvent.Tick centre)) }
-        ensures few { OnOk result (self.new.events ≤ 100000) }
-        ensures kept { OnRefusal result ((self.new ≡ self.old) × (lines.new ≡ lines.old)) }
-    {
-        self.at_centre(centre)?;
-        match self.tick_at(centre, lines) {
-            Ok(()) => Ok(()),
-            Err(_) => Err(EventFault::Memory),
-        }
-    }
-}
-
-// What a read shows of a key.
-fn known_of(key: &Key, reading: Reading) -> Known
-    ensures known { result ≡ known_of key.now reading }
-    ensures key { IsKey key.now }
-{
-    let _bytes = key.bytes();
-    Known {
-        key: *key,
-        token: reading.token,
-        item: reading.item,
-    }
-}
-
-/// Puts lines behind others.
-pub(crate) fn append(lines: &mut HeapList<Line>, more: HeapList<Line>) -> Result<(), Memory>
-    ensures { OnOk result (lines.new ≡ lines.old ++ more) }
-{
-    for line in more.into_vec() {
-        lines.push(line)?;
-    }
-    Ok(())
 }

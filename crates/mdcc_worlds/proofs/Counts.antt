@@ -2,13 +2,15 @@
 use Rattle.std.proofs.Common.{◌≡◌, ℕ, ◌+◌, ◌≤◌, ◌<◌, Bool, refl, ap, inl, inr, Option, Some, None, Result, Ok, Err, nat_le, arith}
 use Rattle.std.proofs.lemmas.Bool.{cases_Bool, le-leb, leb-false, leb-true}
 use Rattle.mdcc_base.specs.declared.outside.Image.{Image}
+use Rattle.mdcc_protocol.specs.Built.{built}
 use Rattle.mdcc_protocol.specs.Steps.{NodeStep}
-use Rattle.mdcc_protocol.specs.World.{Sent, World, centre_at, fact_happened, input_happened, is_frame_kept, limit_if, most_events, numbered, step_happened_by, unless}
+use Rattle.mdcc_protocol.specs.World.{Happened, Sent, World, centre_at, fact_happened, input_happened, input_limited, is_frame_kept, limit_if, most_events, numbered, step_at, step_happened_by, step_limit, unless}
 use Rattle.mdcc_protocol.specs.declared.facts.Fact.{Fact}
+use Rattle.mdcc_protocol.specs.declared.node.Input.{Input}
 use Rattle.mdcc_protocol.specs.declared.node.StepFault.{StepFault}
 use Rattle.mdcc_protocol.specs.declared.world.EventFault.{EventFault}
 use Rattle.mdcc_protocol.specs.declared.world.LimitName.{LimitName}
-use Rattle.mdcc_worlds.specs.Delivering.{delivery, delivery_by}
+use Rattle.mdcc_worlds.specs.Delivering.{delivery, delivery_by, message_counted}
 use Rattle.mdcc_worlds.specs.Happening.{at_limit}
 
 -- ---- the limit
@@ -49,11 +51,22 @@ happened-events w a (Ok step) = by_fact step.fact
     by_fact None = refl
     by_fact (Some fact) = by_stop fact (centre_at w a).stop
 
+-- what happens where no limit is passed
+pub unless-happened : (o : Option EventFault) (h after : Happened) → unless o h ≡ Ok after → h ≡ after
+unless-happened None h after e = cc
+unless-happened (Some fault) h after e = absurd (cc)
+
+pub limited-events : (w : World) (a : ℕ) (r : Result NodeStep StepFault) (h : Happened) → input_limited built w a r ≡ Ok h → h.world.events ≡ w.events
+limited-events w a r h e =
+    let same = unless-happened (step_limit built w a r) (input_happened w a r) h e in
+    rw (← same) (happened-events w a r)
+
 -- ---- and a delivery is one event
 
-pub delivery-events : (w : World) (number : ℕ) (sent : Sent) → numbered w.sent number ≡ Some sent → (delivery w number).world.events ≡ w.events + 1
-delivery-events w number sent at = by_sent (numbered w.sent number) at
+pub delivery-events : (w : World) (number : ℕ) (sent : Sent) (h : Happened) → numbered w.sent number ≡ Some sent → delivery w number ≡ Ok h → h.world.events ≡ w.events + 1
+delivery-events w number sent h at e = by_sent (numbered w.sent number) e
   where
-    by_sent : (o : Option Sent) → o ≡ Some sent → (delivery_by w number o).world.events ≡ w.events + 1
-    by_sent None e = absurd (cc)
-    by_sent (Some other) e = happened-events _ other.envelope.to _
+    by_sent : (o : Option Sent) → delivery_by w number o ≡ Ok h → h.world.events ≡ w.events + 1
+    by_sent None k = absurd (cc)
+    by_sent (Some other) k =
+        limited-events (message_counted w number) other.envelope.to (step_at built (message_counted w number) other.envelope.to (Input.Message other.envelope)) h k

@@ -1,13 +1,21 @@
 -- Deliver lines, number by number.
-use Rattle.std.proofs.Common.{◌≡◌, ℕ, List, [], ◌∷◌, refl, ap, ◌∙◌, Result, Ok, Err}
+use Rattle.std.proofs.Common.{◌≡◌, ℕ, ◌+◌, ◌-◌, ◌&&◌, Bool, true, List, [], ◌∷◌, refl, sym, ap, subst, ◌∙◌, inl, inr, Option, Some, None, Result, Ok, Err, arith}
+use Rattle.std.proofs.lemmas.Bool.{cases_Bool}
+use Rattle.mdcc_protocol.specs.Belongs.{is_centre}
 use Rattle.mdcc_protocol.specs.Built.{built}
-use Rattle.mdcc_protocol.specs.World.{Happened, World, after_lines, deliveries_before, deliveries_of, delivery_of, event_of}
+use Rattle.mdcc_protocol.specs.Steps.{NodeStep}
+use Rattle.mdcc_protocol.specs.World.{Happened, Sent, World, after_lines, centre_at, deliveries_before, deliveries_of, delivery_of, event_of, input_happened, input_limited, is_up_at, numbered, step_at}
 use Rattle.mdcc_protocol.specs.declared.events.Event.{Event}
+use Rattle.mdcc_protocol.specs.declared.node.Input.{Input}
+use Rattle.mdcc_protocol.specs.declared.node.StepFault.{StepFault}
 use Rattle.mdcc_protocol.specs.declared.world.EventFault.{EventFault}
-use Rattle.mdcc_worlds.proofs.Events.{delivery-is}
-use Rattle.mdcc_worlds.specs.Delivering.{IsDelivering, at_message, delivery_told, unmoved}
-use Rattle.mdcc_worlds.specs.Happening.{if_open}
-use Rattle.mdcc_worlds.specs.Standing.{IsWorld}
+use Rattle.mdcc_worlds.proofs.Counts.{unless-happened}
+use Rattle.mdcc_worlds.proofs.Events.{input-is}
+use Rattle.mdcc_worlds.proofs.Numbers.{each-numbered}
+use Rattle.mdcc_worlds.proofs.Stays.{delivered-stays, each-put, refused-same, some-centre}
+use Rattle.mdcc_worlds.specs.Delivering.{IsDelivering, delivery, delivery_by, message_counted, unmoved}
+use Rattle.mdcc_worlds.specs.Standing.{IsSent, IsWorld}
+use Rattle.mdcc_worlds.specs.Taking.{limit_of, taken, world_taken}
 
 pub deliver-is : (w : World) (numbers : List ℕ) → event_of built w (Event.Deliver numbers) ≡ deliveries_of built numbers (unmoved w)
 deliver-is w numbers = refl
@@ -35,16 +43,13 @@ refused-before number left h fault e = rw (e, deliveries_before) refl
 pub delivering-begins : (w : World) (whole : List ℕ) → IsDelivering w whole whole (unmoved w)
 delivering-begins w whole = record { answer = refl; rest = refl }
 
-pub delivering-goes_on : (w : World) (whole left rest : List ℕ) (number : ℕ) (reached : Happened) → left ≡ number ∷ rest → IsWorld reached.world
-    → IsDelivering w whole left reached → at_message reached.world number ≡ Ok tt
-    → IsDelivering w whole rest (after_lines reached.lines (delivery_told reached.world number))
-delivering-goes_on w whole left rest number reached first stands so_far clear =
-    let is : delivery_of built reached.world number ≡ Ok (delivery_told reached.world number) =
-    delivery-is reached.world number stands ∙ ap (λ (r : Result (Unit {0}) EventFault). if_open r (delivery_told reached.world number)) clear in
-    record {
-      answer = so_far.answer ∙ ap (λ (numbers : List ℕ). deliveries_of built numbers reached) first ∙ next-of number rest reached (delivery_told reached.world number) is;
-      rest = so_far.rest ∙ ap (λ (numbers : List ℕ). deliveries_before built numbers reached) first ∙ next-before number rest reached (delivery_told reached.world number) is;
-    }
+pub delivering-goes_on : (w : World) (whole left rest : List ℕ) (number : ℕ) (reached next : Happened) → left ≡ number ∷ rest
+    → IsDelivering w whole left reached → delivery_of built reached.world number ≡ Ok next
+    → IsDelivering w whole rest (after_lines reached.lines next)
+delivering-goes_on w whole left rest number reached next first so_far is = record {
+  answer = so_far.answer ∙ ap (λ (numbers : List ℕ). deliveries_of built numbers reached) first ∙ next-of number rest reached next is;
+  rest = so_far.rest ∙ ap (λ (numbers : List ℕ). deliveries_before built numbers reached) first ∙ next-before number rest reached next is;
+}
 
 pub delivering-ends : (w : World) (whole left : List ℕ) (reached : Happened) → left ≡ [] → IsDelivering w whole left reached
     → (event_of built w (Event.Deliver whole) ≡ Ok reached) × (deliveries_before built whole (unmoved w) ≡ reached)
@@ -53,12 +58,44 @@ delivering-ends w whole left reached none so_far = (
   so_far.rest ∙ ap (λ (numbers : List ℕ). deliveries_before built numbers reached) none,
 )
 
-pub delivering-refused : (w : World) (whole left rest : List ℕ) (number : ℕ) (reached : Happened) (fault : EventFault) → left ≡ number ∷ rest → IsWorld reached.world
-    → IsDelivering w whole left reached → at_message reached.world number ≡ Err fault
+pub delivering-refused : (w : World) (whole left rest : List ℕ) (number : ℕ) (reached : Happened) (fault : EventFault) → left ≡ number ∷ rest
+    → IsDelivering w whole left reached → delivery_of built reached.world number ≡ Err fault
     → (event_of built w (Event.Deliver whole) ≡ Err fault) × (deliveries_before built whole (unmoved w) ≡ reached)
-delivering-refused w whole left rest number reached fault first stands so_far closed =
-    let is : delivery_of built reached.world number ≡ Err fault =
-    delivery-is reached.world number stands ∙ ap (λ (r : Result (Unit {0}) EventFault). if_open r (delivery_told reached.world number)) closed in (
-      so_far.answer ∙ ap (λ (numbers : List ℕ). deliveries_of built numbers reached) first ∙ refused-of number rest reached fault is,
-      so_far.rest ∙ ap (λ (numbers : List ℕ). deliveries_before built numbers reached) first ∙ refused-before number rest reached fault is,
-    )
+delivering-refused w whole left rest number reached fault first so_far is = (
+  so_far.answer ∙ ap (λ (numbers : List ℕ). deliveries_of built numbers reached) first ∙ refused-of number rest reached fault is,
+  so_far.rest ∙ ap (λ (numbers : List ℕ). deliveries_before built numbers reached) first ∙ refused-before number rest reached fault is,
+)
+
+-- ---- centres that are up
+
+-- a step leaves them
+up-taken : (w : World) (a b : ℕ) (step : NodeStep) → IsWorld w → is_centre w.cluster a ≡ true → is_up_at (world_taken w a step) b ≡ is_up_at w b
+up-taken w a b step stands centre = elim (cases_Bool (is_centre w.cluster b)) [
+  | inl e ↦ ap (λ (up : Bool). is_centre w.cluster b && up) (site e)
+  | inr e ↦ rw e refl
+]
+  where
+    site : is_centre w.cluster b ≡ true → (centre_at (world_taken w a step) b).is_up ≡ (centre_at w b).is_up
+    site e =
+        each-put w a (record (centre_at w a) { volatile = step.after }) None (λ n facts s. s.is_up ≡ (centre_at w n).is_up) stands centre (λ n. refl) refl b
+        (some-centre w.cluster b e).0
+
+-- and so does an input
+pub input-up : (w : World) (a b : ℕ) (result : Result NodeStep StepFault) (h : Happened) → IsWorld w → is_centre w.cluster a ≡ true
+    → input_limited built w a result ≡ Ok h → is_up_at h.world b ≡ is_up_at w b
+input-up w a b (Err fault) h stands centre e =
+    let same = unless-happened None (input_happened w a (Err fault)) h e in
+    subst (λ (x : Happened). is_up_at x.world b ≡ is_up_at w b) same (ap (λ (x : World). is_up_at x b) (refused-same w a fault))
+input-up w a b (Ok step) h stands centre e =
+    let same = unless-happened (limit_of w a step.fact step.sends) (taken w a step) h (sym (input-is w a (Ok step) stands centre) ∙ e) in
+    subst (λ (x : Happened). is_up_at x.world b ≡ is_up_at w b) same (up-taken w a b step stands centre)
+
+pub up-stays : (w : World) (number a : ℕ) (h : Happened) → IsWorld w → delivery w number ≡ Ok h → is_up_at h.world a ≡ is_up_at w a
+up-stays w number a h stands e = by_sent (numbered w.sent number) refl e
+  where
+    by_sent : (o : Option Sent) → numbered w.sent number ≡ o → delivery_by w number o ≡ Ok h → is_up_at h.world a ≡ is_up_at w a
+    by_sent None f k = absurd (cc)
+    by_sent (Some sent) f k =
+        let is = each-numbered (IsSent w.cluster) w.sent number sent stands.sent f in
+        let after = message_counted w number in
+        input-up after sent.envelope.to a (step_at built after sent.envelope.to (Input.Message sent.envelope)) h (delivered-stays w (number - 1) (w.events + 1) (omega arith) stands) is.within k

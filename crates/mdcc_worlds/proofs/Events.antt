@@ -1,8 +1,10 @@
--- What events do, where no limit but that of events is built.
-use Rattle.std.proofs.Common.{◌≡◌, ℕ, true, List, refl, sym, ap, ◌∙◌, inl, inr, Option, Some, None, Result, Ok, Err, nat_le, map}
+-- What events do.
+use Rattle.std.proofs.Common.{◌≡◌, ℕ, Bool, true, false, List, refl, sym, ap, ◌∙◌, inl, inr, Option, Some, None, Result, Ok, Err, if◌then◌else◌, nat_le, map}
+use Rattle.std.specs.Option.{option_or}
 use Rattle.std.specs.Prelude.{is_some}
-use Rattle.std.proofs.lemmas.Bool.{and_from, cases_Bool}
+use Rattle.std.proofs.lemmas.Bool.{cases_Bool, cond_both}
 use Rattle.mdcc_base.specs.declared.key.Key.{Key}
+use Rattle.mdcc_base.specs.declared.outside.Image.{Image}
 use Rattle.mdcc_option.specs.Transaction.{transaction_of}
 use Rattle.mdcc_option.specs.declared.faults.DraftFault.{DraftFault}
 use Rattle.mdcc_option.specs.declared.items.Part.{Part}
@@ -10,88 +12,148 @@ use Rattle.mdcc_protocol.specs.Belongs.{is_centre}
 use Rattle.mdcc_protocol.specs.Built.{built}
 use Rattle.mdcc_protocol.specs.Resolve.{resolve}
 use Rattle.mdcc_protocol.specs.Steps.{NodeStep}
-use Rattle.mdcc_protocol.specs.World.{Happened, Sent, World, answer_in, begin_lines, begin_of, begin_taken, begun_by, centre_at, counted_event, deliver_line, delivered, delivery_of, event_of, if_up, input_happened, input_limited, input_taken, is_up_at, limit_if, most_events, no_item, numbered, parts_begun, read_happened, step_at, step_limit, step_limit_by, tick_line, tick_of, unless, with_delivered, with_lines, within_events}
+use Rattle.mdcc_protocol.specs.World.{Happened, Sent, World, answer_in, begin_lines, begin_of, begun_by, bytes_limit, centre_at, counted_event, crash_happened, deliver_line, delivered, delivery_of, event_of, input_limited, input_taken, is_limit, is_up_at, limit_if, log_limit, most_events, no_item, numbered, parts_begun, read_happened, restart_happened, restart_of, step_at, step_happened, step_limit, step_limit_by, tick_line, unless, with_lines, within_events}
 use Rattle.mdcc_protocol.specs.World as Worlds
 use Rattle.mdcc_protocol.specs.declared.events.Event.{Event}
 use Rattle.mdcc_protocol.specs.declared.events.UpdateWord.{UpdateWord}
 use Rattle.mdcc_protocol.specs.declared.facts.Fact.{Fact}
+use Rattle.mdcc_protocol.specs.declared.lines.Line.{Line}
 use Rattle.mdcc_protocol.specs.declared.node.Input.{Input}
 use Rattle.mdcc_protocol.specs.declared.node.StepFault.{StepFault}
 use Rattle.mdcc_protocol.specs.declared.schedule.ResolveFault.{ResolveFault}
 use Rattle.mdcc_protocol.specs.declared.world.EventFault.{EventFault}
-use Rattle.mdcc_worlds.proofs.Numbers.{each-numbered}
+use Rattle.mdcc_protocol.specs.declared.world.LimitName.{LimitName}
+use Rattle.mdcc_worlds.proofs.Stays.{happened-taken}
 use Rattle.mdcc_worlds.specs.Beginning.{begin_by, begin_told, begun, begun_if}
 use Rattle.mdcc_worlds.specs.Delivering.{at_message, delivery, delivery_by, delivery_told, message_by, message_counted}
-use Rattle.mdcc_worlds.specs.Happening.{at_centre, at_limit, if_open, ticked}
-use Rattle.mdcc_worlds.specs.Standing.{IsSent, IsWorld}
+use Rattle.mdcc_worlds.specs.Happening.{at_centre, at_limit, at_restart, if_open, next_epoch, restarted, ticked}
+use Rattle.mdcc_worlds.specs.Standing.{IsWorld}
+use Rattle.mdcc_worlds.specs.Taking.{limit_of, step_told, taken}
 
 -- ---- limits
 
-no-limit : (w : World) (a : ℕ) (r : Result NodeStep StepFault) → step_limit built w a r ≡ None
-no-limit w a (Err fault) = refl
-no-limit w a (Ok step) = by_fact step.fact
+-- a fault that is a limit
+abbrev pub IsLimit : Option EventFault → Type 0
+IsLimit None = Unit {0}
+IsLimit (Some fault) = is_limit fault ≡ true
+
+-- nothing but a limit stands against it
+abbrev pub OnlyLimits : Result Happened EventFault → Type 0
+OnlyLimits (Ok h) = Unit {0}
+OnlyLimits (Err fault) = is_limit fault ≡ true
+
+limit-if : (is_passed : Bool) (name : LimitName) (number : ℕ) → IsLimit (limit_if is_passed name number)
+limit-if true name number = refl
+limit-if false name number = tt
+
+limit-or : (o p : Option EventFault) → IsLimit o → IsLimit p → IsLimit (option_or o p)
+limit-or None p h k = k
+limit-or (Some fault) p h k = h
+
+unless-limited : (o : Option EventFault) (h : Happened) → IsLimit o → OnlyLimits (unless o h)
+unless-limited None h k = tt
+unless-limited (Some fault) h k = k
+
+lines-limited : (lines : World → List Line) (r : Result Happened EventFault) → OnlyLimits r → OnlyLimits (with_lines lines r)
+lines-limited lines (Ok h) k = tt
+lines-limited lines (Err fault) k = k
+
+log-limited : (w : World) (a : ℕ) (fact : Fact) → IsLimit (log_limit built w a fact)
+log-limited w a fact = limit-if _ LimitName.Log _
+
+step-limited : (w : World) (a : ℕ) (r : Result NodeStep StepFault) → IsLimit (step_limit built w a r)
+step-limited w a (Err fault) = tt
+step-limited w a (Ok step) = by_fact step.fact
   where
-    by_fact : (o : Option Fact) → step_limit_by built w a step o ≡ None
-    by_fact None = refl
-    by_fact (Some fact) = elim (cases_Bool (is_some (centre_at w a).stop)) [ inl e ↦ rw e refl | inr e ↦ rw e refl ]
+    by_fact : (o : Option Fact) → IsLimit (step_limit_by built w a step o)
+    by_fact None = limit-if _ LimitName.Bytes _
+    by_fact (Some fact) =
+        limit-or (log_limit built w a fact) (if is_some (centre_at w a).stop then None else bytes_limit built w step.sends) (log-limited w a fact)
+        (cond_both (is_some (centre_at w a).stop) None (bytes_limit built w step.sends) IsLimit (λ e. tt) (λ e. limit-if _ LimitName.Bytes _))
 
-pub limited-is : (w : World) (a : ℕ) (r : Result NodeStep StepFault) → input_limited built w a r ≡ Ok (input_happened w a r)
-limited-is w a r = ap (λ (o : Option EventFault). unless o (input_happened w a r)) (no-limit w a r)
+-- an input is refused by a limit only
+pub input-limits : (w : World) (a : ℕ) (r : Result NodeStep StepFault) → OnlyLimits (input_limited built w a r)
+input-limits w a r = unless-limited (step_limit built w a r) (Worlds.input_happened w a r) (step-limited w a r)
 
-pub taken-is : (w : World) (a : ℕ) (input : Input) → input_taken built w a input ≡ Ok (input_happened w a (step_at built w a input))
-taken-is w a input = limited-is w a (step_at built w a input)
+-- what only limits stand against does so within the limit of events
+pub open-is : (w : World) (r : Result Happened EventFault) → OnlyLimits r → within_events built w r ≡ if_open (at_limit w) r
+open-is w (Ok h) only = elim (cases_Bool (nat_le most_events w.events)) [ inl e ↦ rw e refl | inr e ↦ rw e refl ]
+open-is w (Err fault) only = elim (cases_Bool (nat_le most_events w.events)) [ inl e ↦ rw (only, e) refl | inr e ↦ rw (only, e) refl ]
 
--- what happens does so within the limit
-pub open-is : (w : World) (h : Happened) → within_events built w (Ok h) ≡ if_open (at_limit w) h
-open-is w h = elim (cases_Bool (nat_le most_events w.events)) [ inl e ↦ rw e refl | inr e ↦ rw e refl ]
+-- ---- inputs
 
--- ---- centres
+-- an input comes to its step, where no limit is passed
+pub input-is : (w : World) (a : ℕ) (result : Result NodeStep StepFault) → IsWorld w → is_centre w.cluster a ≡ true
+    → input_limited built w a result ≡ step_told w a result
+input-is w a (Err fault) stands centre = refl
+input-is w a (Ok step) stands centre = by_fact step.fact
+  where
+    same : step_happened w a step ≡ taken w a step
+    same = happened-taken w a step (stands.unstopped a centre)
 
-pub up-there : (w : World) (a : ℕ) → IsWorld w → is_centre w.cluster a ≡ true → is_up_at w a ≡ true
-up-there w a stands centre = and_from (is_centre w.cluster a) (centre_at w a).is_up centre (stands.up a centre)
+    by_fact : (o : Option Fact) → unless (step_limit_by built w a step o) (step_happened w a step) ≡ unless (limit_of w a o step.sends) (taken w a step)
+    by_fact None = ap (λ (h : Happened). unless (bytes_limit built w step.sends) h) same
+    by_fact (Some fact) =
+        ap (λ (o : Option (ℕ × Image)). unless (option_or (log_limit built w a fact) (if is_some o then None else bytes_limit built w step.sends)) (step_happened w a step)) (stands.unstopped a centre)
+        ∙ ap (λ (h : Happened). unless (option_or (log_limit built w a fact) (bytes_limit built w step.sends)) h) same
 
--- a centre is up exactly where it is one of the cluster
-pub up-is : (w : World) (a : ℕ) → IsWorld w → is_up_at w a ≡ is_centre w.cluster a
-up-is w a stands = elim (cases_Bool (is_centre w.cluster a)) [ inl e ↦ rw (e, stands.up a e) refl | inr e ↦ rw e refl ]
+-- ---- events at a centre
 
 -- what is refused or happens at a centre
-at-centre-is : (w : World) (a : ℕ) (h : Happened) → IsWorld w → within_events built w (if_up w a (Ok h)) ≡ if_open (at_centre w a) h
-at-centre-is w a h stands = elim (cases_Bool (is_centre w.cluster a)) [
-  | inl e ↦ rw (up-is w a stands, e) (open-is w h)
-  | inr e ↦ rw (up-is w a stands, e) refl
-]
+pub at-centre-is : (w : World) (a : ℕ) (r : Result Happened EventFault) → OnlyLimits r → within_events built w (Worlds.if_up w a r) ≡ if_open (at_centre w a) r
+at-centre-is w a r only = by_up (is_up_at w a)
+  where
+    by_up : (b : Bool) → within_events built w (if b then r else Err (EventFault.Down a)) ≡ if_open (if b then at_limit w else Err (EventFault.Down a)) r
+    by_up true = open-is w r only
+    by_up false = refl
 
--- ---- reads and ticks
+pub read-is : (w : World) (a : ℕ) (key : Key) → event_of built w (Event.Read a key) ≡ if_open (at_centre w a) (Ok (read_happened (counted_event w) a key))
+read-is w a key = at-centre-is w a (Ok (read_happened (counted_event w) a key)) tt
 
-pub read-is : (w : World) (a : ℕ) (key : Key) → IsWorld w
-    → event_of built w (Event.Read a key) ≡ if_open (at_centre w a) (read_happened (counted_event w) a key)
-read-is w a key stands = at-centre-is w a (read_happened (counted_event w) a key) stands
+pub tick-is : (w : World) (a : ℕ) → event_of built w (Event.Tick a) ≡ if_open (at_centre w a) (ticked w a)
+tick-is w a =
+    at-centre-is w a (ticked w a)
+    (lines-limited (tick_line a) (input_taken built (counted_event w) a Input.Tick) (input-limits (counted_event w) a (step_at built (counted_event w) a Input.Tick)))
 
-pub tick-is : (w : World) (a : ℕ) → IsWorld w → event_of built w (Event.Tick a) ≡ if_open (at_centre w a) (ticked w a)
-tick-is w a stands =
-    ap (λ (r : Result Happened EventFault). within_events built w (if_up w a (with_lines (tick_line a) r))) (taken-is (counted_event w) a Input.Tick)
-    ∙ at-centre-is w a (ticked w a) stands
+pub crash-is : (w : World) (a : ℕ) → event_of built w (Event.Crash a) ≡ if_open (at_centre w a) (Ok (crash_happened (counted_event w) a))
+crash-is w a = at-centre-is w a (Ok (crash_happened (counted_event w) a)) tt
+
+-- ---- restarts
+
+pub restart-is : (w : World) (a : ℕ) → event_of built w (Event.Restart a) ≡ if_open (at_restart w a) (restarted w a)
+restart-is w a = by_up (is_up_at w a) (is_centre w.cluster a)
+  where
+    only : OnlyLimits (restarted w a)
+    only = unless-limited (log_limit built w a (Fact.Booted (next_epoch w a))) (restart_happened (counted_event w) a (next_epoch w a)) (log-limited w a (Fact.Booted (next_epoch w a)))
+
+    by_up : (b c : Bool) → within_events built w (if b then Err (EventFault.Up a) else (if c then restart_of built (counted_event w) a else Err (EventFault.Down a)))
+        ≡ if_open (if b then Err (EventFault.Up a) else (if c then at_limit w else Err (EventFault.Down a))) (restarted w a)
+    by_up true c = refl
+    by_up false true = open-is w (restarted w a) only
+    by_up false false = refl
 
 -- ---- deliveries
 
 -- the message of a number is delivered
-pub delivered-is : (w : World) (number : ℕ) (sent : Sent) → numbered w.sent number ≡ Some sent
-    → delivered built w number sent.envelope ≡ Ok (delivery w number)
-delivered-is w number sent at =
-    taken-is (message_counted w number) sent.envelope.to (Input.Message sent.envelope) ∙ ap (λ (o : Option Sent). Ok (delivery_by w number o)) (sym at)
+pub delivered-is : (w : World) (number : ℕ) (sent : Sent) → numbered w.sent number ≡ Some sent → delivered built w number sent.envelope ≡ delivery w number
+delivered-is w number sent at = ap (delivery_by w number) (sym at)
 
-pub delivery-is : (w : World) (number : ℕ) → IsWorld w → delivery_of built w number ≡ if_open (at_message w number) (delivery_told w number)
-delivery-is w number stands = by_sent (numbered w.sent number) refl
+pub delivery-is : (w : World) (number : ℕ) → delivery_of built w number ≡ if_open (at_message w number) (delivery_told w number)
+delivery-is w number = by_sent (numbered w.sent number) refl
   where
-    told : Happened → Happened
-    told h = Worlds.after_lines (deliver_line number h.world) h
+    by_up : (b : Bool) (a : ℕ) (r : Result Happened EventFault) → OnlyLimits r
+        → (if b then within_events built w r else Err (EventFault.Down a)) ≡ if_open (if b then at_limit w else Err (EventFault.Down a)) r
+    by_up true a r only = open-is w r only
+    by_up false a r only = refl
 
     by_sent : (o : Option Sent) → numbered w.sent number ≡ o → Worlds.delivery_by built w number o ≡ if_open (message_by w number o) (delivery_told w number)
     by_sent None e = refl
     by_sent (Some sent) e =
-        let within : is_centre w.cluster sent.envelope.to ≡ true = (each-numbered (IsSent w.cluster) w.sent number sent stands.sent e).within in
-        ap (λ (r : Result Happened EventFault). if_up w sent.envelope.to (within_events built w (with_lines (deliver_line number) r))) (delivered-is w number sent e)
-        ∙ rw (up-there w sent.envelope.to stands within) (open-is w (delivery_told w number))
+        let after = message_counted w number in
+        let result = delivered built w number sent.envelope in
+        let only : OnlyLimits result = input-limits after sent.envelope.to (step_at built after sent.envelope.to (Input.Message sent.envelope)) in
+        by_up (is_up_at w sent.envelope.to) sent.envelope.to (with_lines (deliver_line number) result) (lines-limited (deliver_line number) result only)
+        ∙ ap (λ (r : Result Happened EventFault). if_open (message_by w number (Some sent)) (with_lines (deliver_line number) r)) (delivered-is w number sent e)
 
 -- ---- begins
 
@@ -99,17 +161,18 @@ drafted-is : (w : World) (a : ℕ) (r : Result (List Part) DraftFault) → withi
 drafted-is w a (Err fault) = refl
 drafted-is w a (Ok parts) =
     let result = step_at built (counted_event w) a (Input.Begin parts) in
-    ap (λ (r : Result Happened EventFault). within_events built w (with_lines (begin_lines (answer_in result)) r)) (limited-is (counted_event w) a result)
-    ∙ open-is w (begun w a parts)
+    open-is w (begun w a parts) (lines-limited (begin_lines (answer_in result)) (input_limited built (counted_event w) a result) (input-limits (counted_event w) a result))
 
 resolved-is : (w : World) (a : ℕ) (r : Result (List Part) ResolveFault) → within_events built w (parts_begun built (counted_event w) a r) ≡ begin_by w a r
 resolved-is w a (Err (ResolveFault.NoRead number)) = refl
-resolved-is w a (Err (ResolveFault.NoItem key)) = open-is w (no_item (counted_event w) key)
+resolved-is w a (Err (ResolveFault.NoItem key)) = open-is w (Ok (no_item (counted_event w) key)) tt
 resolved-is w a (Err ResolveFault.Memory) = refl
 resolved-is w a (Ok parts) = drafted-is w a (transaction_of w.cluster.schema parts)
 
-pub begin-is : (w : World) (a : ℕ) (words : List UpdateWord) → IsWorld w → event_of built w (Event.Begin a words) ≡ begin_told w a words
-begin-is w a words stands = elim (cases_Bool (is_centre w.cluster a)) [
-  | inl e ↦ rw (up-is w a stands, e) (resolved-is w a (resolve words (map Some w.reads)))
-  | inr e ↦ rw (up-is w a stands, e) refl
-]
+pub begin-is : (w : World) (a : ℕ) (words : List UpdateWord) → event_of built w (Event.Begin a words) ≡ begin_told w a words
+begin-is w a words = by_up (is_up_at w a)
+  where
+    by_up : (b : Bool) → within_events built w (if b then begin_of built (counted_event w) a words else Err (EventFault.Down a))
+        ≡ (if b then begin_by w a (resolve words (map Some w.reads)) else Err (EventFault.Down a))
+    by_up true = resolved-is w a (resolve words (map Some w.reads))
+    by_up false = refl

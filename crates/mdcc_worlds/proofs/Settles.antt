@@ -1,8 +1,8 @@
 -- Settle lines, delivery by delivery.
-use Rattle.std.proofs.Common.{◌≡◌, ℕ, zero, suc, ◌+◌, ◌-◌, ◌≤◌, ◌<◌, true, List, refl, sym, ap, ◌∙◌, inl, inr, Option, Some, None, Result, Ok, Err, nat_le, arith}
-use Rattle.std.proofs.lemmas.Bool.{cases_Bool, le-leb}
+use Rattle.std.proofs.Common.{◌≡◌, ℕ, zero, suc, ◌+◌, ◌-◌, ◌≤◌, ◌<◌, ◌&&◌, Bool, true, false, List, refl, sym, ap, ◌∙◌, inl, inr, Option, Some, None, Result, Ok, Err, if◌then◌else◌, nat_le, arith}
+use Rattle.std.proofs.lemmas.Bool.{cases_Bool, le-leb, lt-leb}
 use Rattle.mdcc_protocol.specs.Built.{built}
-use Rattle.mdcc_protocol.specs.World.{Happened, World, after_lines, counted_event, delivered, event_of, first_waiting, most_events, settled_line, settled_of, within_events}
+use Rattle.mdcc_protocol.specs.World.{Happened, World, after_lines, counted_event, delivered, event_of, first_waiting, is_limit, most_events, settled_line, settled_of, within_events}
 use Rattle.mdcc_protocol.specs.declared.events.Event.{Event}
 use Rattle.mdcc_protocol.specs.declared.messages.Envelope.{Envelope}
 use Rattle.mdcc_protocol.specs.declared.world.EventFault.{EventFault}
@@ -33,36 +33,47 @@ settled-by : (left : ℕ) (listed : List ℕ) (h after : Happened) (deliveries :
     → settled_of (suc left) built listed h deliveries ≡ settled_of left built listed (after_lines h.lines after) (deliveries + 1)
 settled-by left listed h after deliveries next e f = rw (e, f, settled_of) refl
 
-pub settled-next : (left : ℕ) (listed : List ℕ) (h : Happened) (deliveries : ℕ) (next : ℕ × Envelope) → first_waiting h.world listed 1 h.world.sent ≡ Some next
-    → settled_of (suc left) built listed h deliveries ≡ settled_of left built listed (after_lines h.lines (delivery h.world next.0)) (deliveries + 1)
-settled-next left listed h deliveries next e =
-    let is = waiting-numbered h.world listed h.world.sent next e in
-    settled-by left listed h (delivery h.world next.0) deliveries next e
-    (ap (λ (envelope : Envelope). delivered built h.world next.0 envelope) (sym is.envelope) ∙ delivered-is h.world next.0 is.sent is.there)
+-- what comes of the message that waits first is what comes of its number
+waiting-is : (w : World) (listed : List ℕ) (next : ℕ × Envelope) → first_waiting w listed 1 w.sent ≡ Some next → delivered built w next.0 next.1 ≡ delivery w next.0
+waiting-is w listed next e =
+    let is = waiting-numbered w listed w.sent next e in
+    ap (λ (envelope : Envelope). delivered built w next.0 envelope) (sym is.envelope) ∙ delivered-is w next.0 is.sent is.there
+
+pub settled-next : (left : ℕ) (listed : List ℕ) (h after : Happened) (deliveries : ℕ) (next : ℕ × Envelope) → first_waiting h.world listed 1 h.world.sent ≡ Some next
+    → delivery h.world next.0 ≡ Ok after
+    → settled_of (suc left) built listed h deliveries ≡ settled_of left built listed (after_lines h.lines after) (deliveries + 1)
+settled-next left listed h after deliveries next e f = settled-by left listed h after deliveries next e (waiting-is h.world listed next e ∙ f)
+
+pub settled-refused : (left : ℕ) (listed : List ℕ) (h : Happened) (deliveries : ℕ) (next : ℕ × Envelope) (fault : EventFault) → first_waiting h.world listed 1 h.world.sent ≡ Some next
+    → delivery h.world next.0 ≡ Err fault
+    → settled_of (suc left) built listed h deliveries ≡ Err fault
+settled-refused left listed h deliveries next fault e f = let is = waiting-is h.world listed next e ∙ f in rw (e, is, settled_of) refl
 
 -- the delivery of the message that waits first is an event
-pub waiting-events : (w : World) (listed : List ℕ) (next : ℕ × Envelope) → first_waiting w listed 1 w.sent ≡ Some next → (delivery w next.0).world.events ≡ w.events + 1
-waiting-events w listed next e =
+pub waiting-events : (w : World) (listed : List ℕ) (next : ℕ × Envelope) (after : Happened) → first_waiting w listed 1 w.sent ≡ Some next → delivery w next.0 ≡ Ok after
+    → after.world.events ≡ w.events + 1
+waiting-events w listed next after e f =
     let is = waiting-numbered w listed w.sent next e in
-    delivery-events w next.0 is.sent is.there
+    delivery-events w next.0 is.sent after is.there f
 
 -- ---- the line
 
 pub settling-begins : (w : World) (listed : List ℕ) → IsSettling w listed (settle_told w listed) 0
 settling-begins w listed = record { answer = refl; count = omega arith }
 
-pub settling-goes_on : (w : World) (listed : List ℕ) (reached : Happened) (deliveries : ℕ) (next : ℕ × Envelope) → IsSettling w listed reached deliveries
+pub settling-goes_on : (w : World) (listed : List ℕ) (reached after : Happened) (deliveries : ℕ) (next : ℕ × Envelope) → IsSettling w listed reached deliveries
     → first_waiting reached.world listed 1 reached.world.sent ≡ Some next → reached.world.events < most_events
-    → IsSettling w listed (after_lines reached.lines (delivery reached.world next.0)) (deliveries + 1)
-settling-goes_on w listed reached deliveries next so_far waits few =
-    let counted = waiting-events reached.world listed next waits in
-    let left = most_events - (delivery reached.world next.0).world.events in
+    → delivery reached.world next.0 ≡ Ok after
+    → IsSettling w listed (after_lines reached.lines after) (deliveries + 1)
+settling-goes_on w listed reached after deliveries next so_far waits few is =
+    let counted = waiting-events reached.world listed next after waits is in
+    let left = most_events - after.world.events in
     let more : most_events - reached.world.events ≡ suc left = omega (counted, few, arith) in
     let count = so_far.count in
     record {
       answer = so_far.answer
           ∙ ap (λ (n : ℕ). settled_of n built listed reached deliveries) more
-          ∙ settled-next left listed reached deliveries next waits;
+          ∙ settled-next left listed reached after deliveries next waits is;
       count = omega (counted, count, arith);
     }
 
@@ -75,14 +86,35 @@ line_of w r = within_events built w (settled_line r)
 past-limit : (w : World) → line_of w (Err passed) ≡ Err passed
 past-limit w = elim (cases_Bool (nat_le most_events w.events)) [ inl e ↦ rw e refl | inr e ↦ rw e refl ]
 
+-- a fault of the line, within the limit of events
+within-limit : (w : World) (fault : EventFault) → w.events < most_events → line_of w (Err fault) ≡ Err fault
+within-limit w fault few = by_limit (is_limit fault) (nat_le most_events w.events) (lt-leb most_events w.events few) (Err passed) (Err fault)
+  where
+    by_limit : (b c : Bool) → c ≡ false → (x y : Result Happened EventFault) → (if b && c then x else y) ≡ y
+    by_limit true c e x y = rw e refl
+    by_limit false c e x y = refl
+
+-- a delivery is refused
+pub settling-breaks : (w : World) (listed : List ℕ) (reached : Happened) (deliveries : ℕ) (next : ℕ × Envelope) (fault : EventFault) → IsSettling w listed reached deliveries
+    → first_waiting reached.world listed 1 reached.world.sent ≡ Some next → reached.world.events < most_events → w.events < most_events
+    → delivery reached.world next.0 ≡ Err fault
+    → event_of built w (Event.Settle listed) ≡ Err fault
+settling-breaks w listed reached deliveries next fault so_far waits few first is =
+    let left = most_events - (reached.world.events + 1) in
+    let more : most_events - reached.world.events ≡ suc left = omega (few, arith) in
+    ap (line_of w) (so_far.answer
+    ∙ ap (λ (n : ℕ). settled_of n built listed reached deliveries) more
+    ∙ settled-refused left listed reached deliveries next fault waits is)
+    ∙ within-limit w fault first
+
 -- none waits
 pub settling-ends : (w : World) (listed : List ℕ) (reached : Happened) (deliveries : ℕ) → IsSettling w listed reached deliveries
     → first_waiting reached.world listed 1 reached.world.sent ≡ None → w.events < most_events
     → event_of built w (Event.Settle listed) ≡ Ok (settled reached deliveries)
 settling-ends w listed reached deliveries so_far none few =
     ap (line_of w) (so_far.answer ∙ settled-none (most_events - reached.world.events) listed reached deliveries none)
-    ∙ open-is w (settled reached deliveries)
-    ∙ ap (λ (r : Result (Unit {0}) EventFault). if_open r (settled reached deliveries)) (limit-open w few)
+    ∙ open-is w (Ok (settled reached deliveries)) tt
+    ∙ ap (λ (r : Result (Unit {0}) EventFault). if_open r (Ok (settled reached deliveries))) (limit-open w few)
 
 -- one waits, and there were as many events as there may be
 pub settling-stops : (w : World) (listed : List ℕ) (reached : Happened) (deliveries : ℕ) (next : ℕ × Envelope) → IsSettling w listed reached deliveries

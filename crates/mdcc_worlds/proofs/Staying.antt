@@ -1,8 +1,8 @@
 -- A world stays one of the built rules after each event.
-use Rattle.std.proofs.Common.{◌≡◌, ℕ, zero, suc, ◌+◌, ◌-◌, ◌≤◌, ◌<◌, ◌⊎◌, ◌&&◌, true, false, List, [], ◌∷◌, refl, sym, ap, ◌∙◌, subst, inl, inr, Option, Some, None, Result, Ok, Err, nat_le, map, arith}
+use Rattle.std.proofs.Common.{◌≡◌, ℕ, zero, suc, ◌+◌, ◌-◌, ◌≤◌, ◌<◌, ◌⊎◌, ◌&&◌, Bool, true, false, List, [], ◌∷◌, refl, sym, ap, ◌∙◌, subst, inl, inr, Option, Some, None, Result, Ok, Err, if◌then◌else◌, nat_le, map, arith}
 use Rattle.std.specs.List.{AllByRecursion}
 use Rattle.std.specs.Prelude.{IsTrue}
-use Rattle.std.proofs.lemmas.Bool.{cases_Bool, leb-false, leb-true}
+use Rattle.std.proofs.lemmas.Bool.{and_parts, cases_Bool, leb-false, leb-true}
 use Rattle.mdcc_base.specs.Key.{IsKey}
 use Rattle.mdcc_base.specs.declared.key.Key.{Key}
 use Rattle.mdcc_option.specs.Transaction.{transaction_of}
@@ -11,145 +11,205 @@ use Rattle.mdcc_option.specs.declared.items.Part.{Part}
 use Rattle.mdcc_protocol.specs.Belongs.{is_centre}
 use Rattle.mdcc_protocol.specs.Built.{built}
 use Rattle.mdcc_protocol.specs.Resolve.{resolve}
-use Rattle.mdcc_protocol.specs.World.{Happened, Sent, World, after_lines, counted_event, deliveries_of, delivery_of, event_of, first_waiting, input_happened, is_limit, is_past_events, most_events, no_item, numbered, read_happened, settled_line, settled_of, step_at, within_events}
+use Rattle.mdcc_protocol.specs.World.{Happened, Sent, World, after_lines, answer_in, begin_lines, centre_at, counted_event, crash_happened, deliver_line, deliveries_of, delivery_of, event_of, first_waiting, input_happened, input_taken, is_limit, is_past_events, is_up_at, log_limit, most_events, no_item, numbered, read_happened, restart_happened, settled_line, settled_of, step_at, step_limit, tick_line, with_lines, within_events}
 use Rattle.mdcc_protocol.specs.declared.events.Event.{Event}
 use Rattle.mdcc_protocol.specs.declared.events.UpdateWord.{UpdateWord}
+use Rattle.mdcc_protocol.specs.declared.facts.Fact.{Fact}
+use Rattle.mdcc_protocol.specs.declared.lines.Line.{Line}
 use Rattle.mdcc_protocol.specs.declared.messages.Envelope.{Envelope}
 use Rattle.mdcc_protocol.specs.declared.node.Input.{Input}
 use Rattle.mdcc_protocol.specs.declared.schedule.ResolveFault.{ResolveFault}
 use Rattle.mdcc_protocol.specs.declared.world.EventFault.{EventFault}
 use Rattle.mdcc_protocol.specs.declared.world.LimitName.{LimitName}
 use Rattle.mdcc_steps.specs.Inputs.{IsWellFormedInput}
-use Rattle.mdcc_worlds.proofs.Counts.{delivery-events, happened-events, open-few}
+use Rattle.mdcc_worlds.proofs.Counts.{delivery-events, limited-events, open-few, unless-happened}
 use Rattle.mdcc_worlds.proofs.Delivers.{next-of, refused-of}
 use Rattle.mdcc_worlds.proofs.Drafting.{parts-formed}
-use Rattle.mdcc_worlds.proofs.Events.{begin-is, delivery-is, open-is, read-is, tick-is}
+use Rattle.mdcc_worlds.proofs.Events.{begin-is, crash-is, delivery-is, open-is, read-is, restart-is, tick-is}
 use Rattle.mdcc_worlds.proofs.Numbers.{each-numbered}
-use Rattle.mdcc_worlds.proofs.Settles.{settle-closed, settled-limit, settled-next, settled-none, waiting-events}
-use Rattle.mdcc_worlds.proofs.Stays.{counted-stays, delivered-stays, input-stays, read-stays}
-use Rattle.mdcc_worlds.specs.Beginning.{begin_by, begin_told, begun_if}
+use Rattle.mdcc_worlds.proofs.Settles.{settle-closed, settled-limit, settled-next, settled-none, settled-refused, waiting-events}
+use Rattle.mdcc_worlds.proofs.Stays.{counted-stays, crash-stays, delivered-stays, input-stays, read-stays, restart-stays}
+use Rattle.mdcc_worlds.specs.Beginning.{begin_by, begun, begun_if}
 use Rattle.mdcc_worlds.specs.Delivering.{at_message, delivery, delivery_by, delivery_told, message_by, message_counted, unmoved}
 use Rattle.mdcc_worlds.specs.Events.{IsBetween}
-use Rattle.mdcc_worlds.specs.Happening.{at_centre, at_limit, if_open, ticked}
+use Rattle.mdcc_worlds.specs.Happening.{at_centre, at_limit, at_restart, if_open, next_epoch, restarted, ticked}
 use Rattle.mdcc_worlds.specs.Settling.{settle_told, settled}
 use Rattle.mdcc_worlds.specs.Standing.{IsSent, IsWorld}
 use Rattle.mdcc_worlds.specs.Words.{IsGivenEvent, IsGivenWord, is_built}
 
 -- ---- a delivery
 
-pub delivery-stays : (w : World) (number : ℕ) → IsWorld w → IsWorld (delivery w number).world
-delivery-stays w number stands = by_sent (numbered w.sent number) refl
+-- an input that no limit refuses
+pub limited-stays : (w : World) (a : ℕ) (input : Input) (h : Happened) → IsWorld w → is_centre w.cluster a ≡ true → IsWellFormedInput input
+    → input_taken built w a input ≡ Ok h → IsWorld h.world
+limited-stays w a input h stands centre formed e =
+    let result = step_at built w a input in
+    let same = unless-happened (step_limit built w a result) (input_happened w a result) h e in
+    subst (λ (x : Happened). IsWorld x.world) same (input-stays w a input stands centre formed)
+
+pub delivery-stays : (w : World) (number : ℕ) (h : Happened) → IsWorld w → delivery w number ≡ Ok h → IsWorld h.world
+delivery-stays w number h stands e = by_sent (numbered w.sent number) refl e
   where
-    by_sent : (o : Option Sent) → numbered w.sent number ≡ o → IsWorld (delivery_by w number o).world
-    by_sent None e = stands
-    by_sent (Some sent) e =
-        let is = each-numbered (IsSent w.cluster) w.sent number sent stands.sent e in
-        input-stays (message_counted w number) sent.envelope.to (Input.Message sent.envelope) (delivered-stays w (number - 1) (w.events + 1) stands) is.within is.envelope_itself
+    by_sent : (o : Option Sent) → numbered w.sent number ≡ o → delivery_by w number o ≡ Ok h → IsWorld h.world
+    by_sent None f k = absurd (cc)
+    by_sent (Some sent) f k =
+        let is = each-numbered (IsSent w.cluster) w.sent number sent stands.sent f in
+        limited-stays (message_counted w number) sent.envelope.to (Input.Message sent.envelope) h
+        (delivered-stays w (number - 1) (w.events + 1) (omega arith) stands) is.within is.envelope_itself k
 
 -- ---- what is not refused
 
-opened : (r : Result (Unit {0}) EventFault) (h after : Happened) → if_open r h ≡ Ok after → (r ≡ Ok tt) × (h ≡ after)
-opened (Ok x) h after e = (refl, cc)
-opened (Err fault) h after e = absurd (cc)
+opened : (r : Result (Unit {0}) EventFault) (result : Result Happened EventFault) (after : Happened) → if_open r result ≡ Ok after → (r ≡ Ok tt) × (result ≡ Ok after)
+opened (Ok x) result after e = (refl, e)
+opened (Err fault) result after e = absurd (cc)
+
+-- behind its lines
+told : (lines : World → List Line) (r : Result Happened EventFault) (after : Happened) → with_lines lines r ≡ Ok after → (h : Happened) × (r ≡ Ok h) × (h.world ≡ after.world)
+told lines (Ok h) after e =
+    let same : after_lines (lines h.world) h ≡ after = cc in
+    (h, refl, ap (λ (x : Happened). x.world) same)
+told lines (Err fault) after e = absurd (cc)
+
+up-centre : (w : World) (a : ℕ) → is_up_at w a ≡ true → is_centre w.cluster a ≡ true
+up-centre w a up = (and_parts (is_centre w.cluster a) (centre_at w a).is_up up).0
 
 open-centre : (w : World) (a : ℕ) → at_centre w a ≡ Ok tt → (is_centre w.cluster a ≡ true) × (w.events < most_events)
-open-centre w a clear = elim (cases_Bool (is_centre w.cluster a)) [
-  | inl e ↦ let within : at_limit w ≡ Ok tt = rw e at clear in (e, open-few w within)
-  | inr e ↦ let bad : Err (EventFault.Down a) ≡ Ok tt = rw e at clear in absurd (cc)
-]
+open-centre w a clear = by_up (is_up_at w a) refl clear
+  where
+    by_up : (b : Bool) → is_up_at w a ≡ b → (if b then at_limit w else Err (EventFault.Down a)) ≡ Ok tt → (is_centre w.cluster a ≡ true) × (w.events < most_events)
+    by_up true e k = (up-centre w a e, open-few w k)
+    by_up false e k = absurd (cc)
+
+open-restart : (w : World) (a : ℕ) → at_restart w a ≡ Ok tt → (is_centre w.cluster a ≡ true) × (w.events < most_events)
+open-restart w a clear = by_up (is_up_at w a) (is_centre w.cluster a) refl clear
+  where
+    by_up : (b c : Bool) → is_centre w.cluster a ≡ c → (if b then Err (EventFault.Up a) else (if c then at_limit w else Err (EventFault.Down a))) ≡ Ok tt
+        → (is_centre w.cluster a ≡ true) × (w.events < most_events)
+    by_up true c e k = absurd (cc)
+    by_up false true e k = (e, open-few w k)
+    by_up false false e k = absurd (cc)
 
 open-message : (w : World) (number : ℕ) → at_message w number ≡ Ok tt → (sent : Sent) × (numbered w.sent number ≡ Some sent) × (w.events < most_events)
 open-message w number clear = by_sent (numbered w.sent number) refl clear
   where
+    by_up : (b : Bool) (a : ℕ) → (if b then at_limit w else Err (EventFault.Down a)) ≡ Ok tt → w.events < most_events
+    by_up true a k = open-few w k
+    by_up false a k = absurd (cc)
+
     by_sent : (o : Option Sent) → numbered w.sent number ≡ o → message_by w number o ≡ Ok tt → (sent : Sent) × (numbered w.sent number ≡ Some sent) × (w.events < most_events)
     by_sent None e k = absurd (cc)
-    by_sent (Some sent) e k = (sent, e, open-few w k)
+    by_sent (Some sent) e k = (sent, e, by_up (is_up_at w sent.envelope.to) sent.envelope.to k)
 
 -- ---- an event at a centre
 
 -- one event more, and what an input did
-input-between : (w : World) (a : ℕ) (input : Input) → IsBetween w → is_centre w.cluster a ≡ true → w.events < most_events → IsWellFormedInput input
-    → IsBetween (input_happened (counted_event w) a (step_at built (counted_event w) a input)).world
-input-between w a input between centre few formed = record {
-  itself = input-stays (counted_event w) a input (counted-stays w between.itself) centre formed;
+input-between : (w : World) (a : ℕ) (input : Input) (h : Happened) → IsBetween w → is_centre w.cluster a ≡ true → w.events < most_events → IsWellFormedInput input
+    → input_taken built (counted_event w) a input ≡ Ok h → IsBetween h.world
+input-between w a input h between centre few formed e = record {
+  itself = limited-stays (counted_event w) a input h (counted-stays w between.itself) centre formed e;
   few =
-      let same = happened-events (counted_event w) a (step_at built (counted_event w) a input) in
+      let same = limited-events (counted_event w) a (step_at built (counted_event w) a input) h e in
       omega (same, few, arith);
 }
+
+-- the same behind its lines
+lines-between : (w : World) (a : ℕ) (input : Input) (lines : World → List Line) (h : Happened) → IsBetween w → is_centre w.cluster a ≡ true → w.events < most_events → IsWellFormedInput input
+    → with_lines lines (input_taken built (counted_event w) a input) ≡ Ok h → IsBetween h.world
+lines-between w a input lines h between centre few formed e =
+    let there = told lines (input_taken built (counted_event w) a input) h e in
+    subst IsBetween there.2 (input-between w a input there.0 between centre few formed there.1)
 
 counted-between : (w : World) → IsBetween w → w.events < most_events → IsBetween (counted_event w)
 counted-between w between few = record { itself = counted-stays w between.itself; few = omega (few, arith) }
 
+-- what happens is this
+abbrev happens : Happened → Result Happened EventFault
+happens h = Ok h
+
+happened-between : (h after : Happened) → happens h ≡ Ok after → IsBetween h.world → IsBetween after.world
+happened-between h after e between = let same : h ≡ after = cc in subst (λ (x : Happened). IsBetween x.world) same between
+
 read-between : (w : World) (a : ℕ) (key : Key) (h : Happened) → IsBetween w → IsKey key → event_of built w (Event.Read a key) ≡ Ok h → IsBetween h.world
 read-between w a key h between is e =
-    let both = opened (at_centre w a) (read_happened (counted_event w) a key) h (sym (read-is w a key between.itself) ∙ e) in
+    let both = opened (at_centre w a) (Ok (read_happened (counted_event w) a key)) h (sym (read-is w a key) ∙ e) in
     let there = open-centre w a both.0 in
     let few = there.1 in
-    subst (λ (after : Happened). IsBetween after.world) both.1
+    happened-between (read_happened (counted_event w) a key) h both.1
     (record { itself = read-stays (counted_event w) a key (counted-stays w between.itself) there.0 is; few = omega (few, arith) })
 
 tick-between : (w : World) (a : ℕ) (h : Happened) → IsBetween w → event_of built w (Event.Tick a) ≡ Ok h → IsBetween h.world
 tick-between w a h between e =
-    let both = opened (at_centre w a) (ticked w a) h (sym (tick-is w a between.itself) ∙ e) in
+    let both = opened (at_centre w a) (ticked w a) h (sym (tick-is w a) ∙ e) in
     let there = open-centre w a both.0 in
-    let after = input-between w a Input.Tick between there.0 there.1 tt in
-    subst (λ (after : Happened). IsBetween after.world) both.1 (record { itself = after.itself; few = after.few })
+    lines-between w a Input.Tick (tick_line a) h between there.0 there.1 tt both.1
+
+crash-between : (w : World) (a : ℕ) (h : Happened) → IsBetween w → event_of built w (Event.Crash a) ≡ Ok h → IsBetween h.world
+crash-between w a h between e =
+    let both = opened (at_centre w a) (Ok (crash_happened (counted_event w) a)) h (sym (crash-is w a) ∙ e) in
+    let there = open-centre w a both.0 in
+    let few = there.1 in
+    happened-between (crash_happened (counted_event w) a) h both.1
+    (record { itself = crash-stays (counted_event w) a (counted-stays w between.itself) there.0; few = omega (few, arith) })
+
+restart-between : (w : World) (a : ℕ) (h : Happened) → IsBetween w → event_of built w (Event.Restart a) ≡ Ok h → IsBetween h.world
+restart-between w a h between e =
+    let both = opened (at_restart w a) (restarted w a) h (sym (restart-is w a) ∙ e) in
+    let there = open-restart w a both.0 in
+    let few = there.1 in
+    let after = restart_happened (counted_event w) a (next_epoch w a) in
+    let same = unless-happened (log_limit built w a (Fact.Booted (next_epoch w a))) after h both.1 in
+    subst (λ (x : Happened). IsBetween x.world) same
+    (record { itself = restart-stays w a between.itself there.0 few; few = omega (few, arith) })
 
 begin-between : (w : World) (a : ℕ) (words : List UpdateWord) (h : Happened) → IsBetween w → AllByRecursion IsGivenWord words → event_of built w (Event.Begin a words) ≡ Ok h → IsBetween h.world
-begin-between w a words h between given e = by_centre (cases_Bool (is_centre w.cluster a))
+begin-between w a words h between given e = by_up (is_up_at w a) refl (sym (begin-is w a words) ∙ e)
   where
-    told : begin_told w a words ≡ Ok h
-    told = sym (begin-is w a words between.itself) ∙ e
-
     drafted : (resolved : List Part) → resolve words (map Some w.reads) ≡ Ok resolved → is_centre w.cluster a ≡ true
         → (r : Result (List Part) DraftFault) → transaction_of w.cluster.schema resolved ≡ r → begun_if w a r ≡ Ok h → IsBetween h.world
     drafted resolved found centre (Err fault) made k = absurd (cc)
     drafted resolved found centre (Ok parts) made k =
-        let both = opened (at_limit w) _ h k in
+        let both = opened (at_limit w) (begun w a parts) h k in
         let formed = parts-formed w.cluster.schema w.reads words resolved parts between.itself.cluster_itself.schema between.itself.reads given found made in
-        let after = input-between w a (Input.Begin parts) between centre (open-few w both.0) formed in
-        subst (λ (after : Happened). IsBetween after.world) both.1 (record { itself = after.itself; few = after.few })
+        lines-between w a (Input.Begin parts) (begin_lines (answer_in (step_at built (counted_event w) a (Input.Begin parts)))) h between centre (open-few w both.0) formed both.1
 
     resolved-by : (r : Result (List Part) ResolveFault) → resolve words (map Some w.reads) ≡ r → is_centre w.cluster a ≡ true → begin_by w a r ≡ Ok h → IsBetween h.world
     resolved-by (Err (ResolveFault.NoRead number)) found centre k = absurd (cc)
     resolved-by (Err (ResolveFault.NoItem key)) found centre k =
-        let both = opened (at_limit w) (no_item (counted_event w) key) h k in
-        subst (λ (after : Happened). IsBetween after.world) both.1 (counted-between w between (open-few w both.0))
+        let both = opened (at_limit w) (Ok (no_item (counted_event w) key)) h k in
+        happened-between (no_item (counted_event w) key) h both.1 (counted-between w between (open-few w both.0))
     resolved-by (Err ResolveFault.Memory) found centre k = absurd (cc)
     resolved-by (Ok resolved) found centre k = drafted resolved found centre (transaction_of w.cluster.schema resolved) refl k
 
-    by_centre : (is_centre w.cluster a ≡ true) ⊎ (is_centre w.cluster a ≡ false) → IsBetween h.world
-    by_centre (inl c) = resolved-by (resolve words (map Some w.reads)) refl c (rw c at told)
-    by_centre (inr c) = let bad : Err (EventFault.Down a) ≡ Ok h = rw c at told in absurd (cc)
+    by_up : (b : Bool) → is_up_at w a ≡ b → (if b then begin_by w a (resolve words (map Some w.reads)) else Err (EventFault.Down a)) ≡ Ok h → IsBetween h.world
+    by_up true up k = resolved-by (resolve words (map Some w.reads)) refl (up-centre w a up) k
+    by_up false up k = absurd (cc)
 
 -- ---- deliveries
 
-told-between : (w : World) (number : ℕ) (sent : Sent) → IsBetween w → numbered w.sent number ≡ Some sent → w.events < most_events → IsBetween (delivery w number).world
-told-between w number sent between at few = record {
-  itself = delivery-stays w number between.itself;
-  few = let counted = delivery-events w number sent at in omega (counted, few, arith);
-}
+told-between : (w : World) (number : ℕ) (h : Happened) → IsBetween w → delivery_of built w number ≡ Ok h → IsBetween h.world
+told-between w number h between e =
+    let both = opened (at_message w number) (delivery_told w number) h (sym (delivery-is w number) ∙ e) in
+    let sent = open-message w number both.0 in
+    let there = told (deliver_line number) (delivery w number) h both.1 in
+    let counted = delivery-events w number sent.0 there.0 sent.1 there.1 in
+    let few = sent.2 in
+    subst IsBetween there.2 (record { itself = delivery-stays w number there.0 between.itself there.1; few = omega (counted, few, arith) })
 
 delivery-between : (number : ℕ) (numbers : List ℕ) (h after : Happened) → IsBetween h.world → deliveries_of built (number ∷ numbers) h ≡ Ok after
     → ((next : Happened) → IsBetween next.world → deliveries_of built numbers next ≡ Ok after → IsBetween after.world)
     → IsBetween after.world
-delivery-between number numbers h after between e go = by_answer (at_message h.world number) refl
+delivery-between number numbers h after between e go = by_answer (delivery_of built h.world number) refl
   where
-    is : (r : Result (Unit {0}) EventFault) → at_message h.world number ≡ r → delivery_of built h.world number ≡ if_open r (delivery_told h.world number)
-    is r f = delivery-is h.world number between.itself ∙ ap (λ (r : Result (Unit {0}) EventFault). if_open r (delivery_told h.world number)) f
-
-    by_answer : (r : Result (Unit {0}) EventFault) → at_message h.world number ≡ r → IsBetween after.world
+    by_answer : (r : Result Happened EventFault) → delivery_of built h.world number ≡ r → IsBetween after.world
     by_answer (Err fault) f =
-        let bad : Err fault ≡ Ok after = sym (refused-of number numbers h fault (is (Err fault) f)) ∙ e in
+        let bad : Err fault ≡ Ok after = sym (refused-of number numbers h fault f) ∙ e in
         absurd (cc)
-    by_answer (Ok x) f =
-        let there = open-message h.world number f in
-        let next = told-between h.world number there.0 between there.1 there.2 in
-        go (after_lines h.lines (delivery_told h.world number)) (record { itself = next.itself; few = next.few })
-        (sym (next-of number numbers h (delivery_told h.world number) (is (Ok x) f)) ∙ e)
+    by_answer (Ok next) f =
+        let stays = told-between h.world number next between f in
+        go (after_lines h.lines next) (record { itself = stays.itself; few = stays.few }) (sym (next-of number numbers h next f) ∙ e)
 
 deliveries-between : (numbers : List ℕ) (h after : Happened) → IsBetween h.world → deliveries_of built numbers h ≡ Ok after → IsBetween after.world
-deliveries-between [] h after between e = let same : h ≡ after = cc in subst (λ (x : Happened). IsBetween x.world) same between
+deliveries-between [] h after between e = happened-between h after e between
 deliveries-between (number ∷ numbers) h after between e =
     delivery-between number numbers h after between e (λ next stands k. deliveries-between numbers next after stands k)
 
@@ -181,10 +241,16 @@ settled-between (suc left) listed h deliveries after stands few e =
     by_waiting : ((h : Happened) (deliveries : ℕ) → IsWorld h.world → left + h.world.events ≤ most_events → settled_of left built listed h deliveries ≡ Ok after → IsBetween after.0.world)
         → (o : Option (ℕ × Envelope)) → first_waiting h.world listed 1 h.world.sent ≡ o → IsBetween after.0.world
     by_waiting go None f = settled-done (suc left) listed h deliveries after stands few e f
-    by_waiting go (Some next) f =
-        let counted = waiting-events h.world listed next f in
-        go (after_lines h.lines (delivery h.world next.0)) (deliveries + 1) (delivery-stays h.world next.0 stands) (omega (counted, few, arith))
-        (sym (settled-next left listed h deliveries next f) ∙ e)
+    by_waiting go (Some next) f = by_delivery (delivery h.world next.0) refl
+      where
+        by_delivery : (r : Result Happened EventFault) → delivery h.world next.0 ≡ r → IsBetween after.0.world
+        by_delivery (Err fault) g =
+            let bad : Err fault ≡ Ok after = sym (settled-refused left listed h deliveries next fault f g) ∙ e in
+            absurd (cc)
+        by_delivery (Ok reached) g =
+            let counted = waiting-events h.world listed next reached f g in
+            go (after_lines h.lines reached) (deliveries + 1) (delivery-stays h.world next.0 reached stands g) (omega (counted, few, arith))
+            (sym (settled-next left listed h reached deliveries next f g) ∙ e)
 
 settle-between : (w : World) (listed : List ℕ) (h : Happened) → IsBetween w → event_of built w (Event.Settle listed) ≡ Ok h → IsBetween h.world
 settle-between w listed h between e = by_limit (cases_Bool (nat_le most_events w.events))
@@ -199,9 +265,9 @@ settle-between w listed h between e = by_limit (cases_Bool (nat_le most_events w
           | inr g ↦ let bad : Err fault ≡ Ok h = rw g at k in cc
         ]
     by_result (Ok after) f few k =
-        let both = opened (at_limit w) _ h (sym (open-is w (settled after.0 after.1)) ∙ k) in
+        let both = opened (at_limit w) (Ok (settled after.0 after.1)) h (sym (open-is w (Ok (settled after.0 after.1)) tt) ∙ k) in
         let ends = settled-between (most_events - (w.events + 1)) listed (settle_told w listed) 0 after (counted-stays w between.itself) (omega (few, arith)) f in
-        subst (λ (x : Happened). IsBetween x.world) both.1 (record { itself = ends.itself; few = ends.few })
+        happened-between (settled after.0 after.1) h both.1 (record { itself = ends.itself; few = ends.few })
 
     by_limit : (nat_le most_events w.events ≡ true) ⊎ (nat_le most_events w.events ≡ false) → IsBetween h.world
     by_limit (inl full) =
@@ -216,6 +282,6 @@ event-between w (Event.Begin a words) h between word given e = begin-between w a
 event-between w (Event.Deliver numbers) h between word given e = deliveries-between numbers (unmoved w) h between e
 event-between w (Event.Settle listed) h between word given e = settle-between w listed h between e
 event-between w (Event.Tick a) h between word given e = tick-between w a h between e
-event-between w (Event.Crash a) h between word given e = absurd (cc)
-event-between w (Event.Restart a) h between word given e = absurd (cc)
+event-between w (Event.Crash a) h between word given e = crash-between w a h between e
+event-between w (Event.Restart a) h between word given e = restart-between w a h between e
 event-between w (Event.Stop a call image) h between word given e = absurd (cc)

@@ -1,30 +1,34 @@
--- What holds of a world holds after a step.
-use Rattle.std.proofs.Common.{◌≡◌, ℕ, zero, suc, ◌-◌, ◌≤◌, ◌==◌, true, false, List, [], ◌∷◌, ◌++◌, refl, sym, ap, ◌∙◌, subst, inl, inr, Option, Some, None, Result, Ok, Err, arith, length, map, get_or, nat_le, if◌then◌else◌}
+-- What holds of a world holds after a step, a delivery, a read, a crash and a restart.
+use Rattle.std.proofs.Common.{◌≡◌, ℕ, zero, suc, ◌-◌, ◌≤◌, ◌<◌, ◌+◌, ◌^◌, ◌==◌, true, false, List, [], ◌∷◌, ◌++◌, refl, sym, ap, ◌∙◌, subst, inl, inr, Option, Some, None, Result, Ok, Err, arith, length, map, get_or, nat_le, if◌then◌else◌}
 use Rattle.std.specs.List.{AllByRecursion}
 use Rattle.std.specs.Prelude.{set}
-use Rattle.std.proofs.lemmas.Bool.{and_parts, cases_Bool, eq-eqb, eqb-true, leb-true}
+use Rattle.std.proofs.lemmas.Bool.{and_parts, cases_Bool, eq-eqb, eqb-true, leb-true, lt-leb}
 use Rattle.std.proofs.lemmas.List.{get_or-set_other, get_or-set_same, length-set}
 use Rattle.mdcc_base.specs.Key.{IsKey}
 use Rattle.mdcc_base.specs.declared.key.Key.{Key}
 use Rattle.mdcc_option.specs.declared.cluster.Cluster.{Cluster}
 use Rattle.mdcc_protocol.specs.Belongs.{is_centre}
+use Rattle.mdcc_protocol.specs.Boot.{booted_by}
 use Rattle.mdcc_protocol.specs.Built.{built}
+use Rattle.mdcc_protocol.specs.Facts.{epoch_of}
 use Rattle.mdcc_protocol.specs.Ledger.{Entry, facts_of}
 use Rattle.mdcc_protocol.specs.Steps.{NodeStep, answering}
 use Rattle.mdcc_protocol.specs.Visible
-use Rattle.mdcc_protocol.specs.WellFormed.{IsWellFormedEnvelope}
-use Rattle.mdcc_protocol.specs.World.{Sent, Site, World, booted, centre_at, counted_event, fact_happened, input_happened, known_of, read_happened, step_at, step_happened, step_happened_by, unsent, with_delivered}
+use Rattle.mdcc_protocol.specs.Volatile.{Volatile, nothing_kept}
+use Rattle.mdcc_protocol.specs.WellFormed.{IsWellFormedEnvelope, IsWellFormedFact}
+use Rattle.mdcc_protocol.specs.World.{Sent, Site, World, booted, centre_at, counted_event, crash_happened, down, fact_happened, input_happened, known_of, most_events, read_happened, restart_happened, step_at, step_happened, step_happened_by, unsent, with_centre, with_delivered}
 use Rattle.mdcc_protocol.specs.declared.facts.Fact.{Fact}
 use Rattle.mdcc_protocol.specs.declared.messages.Envelope.{Envelope}
 use Rattle.mdcc_protocol.specs.declared.node.Answer.{Answer}
 use Rattle.mdcc_protocol.specs.declared.node.Input.{Input}
 use Rattle.mdcc_protocol.specs.declared.node.StepFault.{StepFault}
 use Rattle.mdcc_steps.proofs.Answered.{answer-formed}
+use Rattle.mdcc_steps.proofs.Booting.{boot-node, boot-reads}
 use Rattle.mdcc_steps.proofs.Dispatched.{node-stays, sends-formed}
 use Rattle.mdcc_steps.proofs.Each.{each-append}
-use Rattle.mdcc_steps.specs.Forming.{IsNode, with_new}
+use Rattle.mdcc_steps.specs.Forming.{IsNode, payloads_of, with_new}
 use Rattle.mdcc_steps.specs.Inputs.{IsWellFormedInput}
-use Rattle.mdcc_worlds.proofs.Within.{made-stays}
+use Rattle.mdcc_worlds.proofs.Within.{LeavesEpoch, made-epoch, made-stays}
 use Rattle.mdcc_worlds.specs.Sending.{GoesWithin, StaysWithin}
 use Rattle.mdcc_worlds.specs.Standing.{IsRead, IsSent, IsWorld}
 use Rattle.mdcc_worlds.specs.Taking.{taken, with_fact, world_taken}
@@ -53,6 +57,25 @@ pub facts-with : (a b : ℕ) (o : Option Fact) (entries : List Entry)
     → facts_of (with_fact a o entries) b ≡ (if a == b then with_new (facts_of entries b) o else facts_of entries b)
 facts-with a b None entries = elim (cases_Bool (a == b)) [ inl e ↦ rw e refl | inr e ↦ rw e refl ]
 facts-with a b (Some fact) entries = refl
+
+-- what holds of each centre with its facts holds where one is put, with a new fact of its own or without
+pub each-put : (w : World) (a : ℕ) (site : Site) (new : Option Fact) (P : ℕ → List Fact → Site → Type 0) → IsWorld w → is_centre w.cluster a ≡ true
+    → ((b : ℕ) → P b (facts_of w.ledger b) (centre_at w b)) → P a (with_new (facts_of w.ledger a) new) site
+    → (b : ℕ) → 1 ≤ b → P b (facts_of (with_fact a new w.ledger) b) (centre_at (with_centre w a site) b)
+each-put w a site new P stands centre others here b some = elim (cases_Bool (a == b)) [
+  | inl e ↦
+      let same : a ≡ b = eqb-true a b e in
+      subst (λ (n : ℕ). P n (facts_of (with_fact a new w.ledger) n) (centre_at (with_centre w a site) n)) same (rw (facts, there) here)
+  | inr e ↦
+      let rest : facts_of (with_fact a new w.ledger) b ≡ facts_of w.ledger b = facts-with a b new w.ledger ∙ rw e refl in
+      rw (rest, site-other w.centres a b site (some-centre w.cluster a centre).0 some e) (others b)
+]
+  where
+    facts : facts_of (with_fact a new w.ledger) a ≡ with_new (facts_of w.ledger a) new
+    facts = let same : (a == a) ≡ true = eq-eqb a a refl in facts-with a a new w.ledger ∙ rw same refl
+
+    there : centre_at (with_centre w a site) a ≡ site
+    there = site-same w.centres a site (some-centre w.cluster a centre).0 (rw stands.sites (some-centre w.cluster a centre).1)
 
 -- ---- what happens is that the step is taken
 
@@ -112,13 +135,15 @@ module _ (w : World) (a : ℕ) (step : NodeStep) (stands : IsWorld w) (centre : 
     | inr e ↦ rw (facts-there b e, site-there b some e) (others b some e)
   ]
 
-  pub world-stays : IsNode w.cluster a (with_new (facts_of w.ledger a) step.fact) step.after → AllByRecursion IsWellFormedEnvelope step.sends → IsWorld (world_taken w a step)
-  world-stays node formed = record {
+  pub world-stays : IsNode w.cluster a (with_new (facts_of w.ledger a) step.fact) step.after → LeavesEpoch step.fact → AllByRecursion IsWellFormedEnvelope step.sends
+      → IsWorld (world_taken w a step)
+  world-stays node epoch formed = record {
     cluster_itself = stands.cluster_itself;
     sites = length-set w.centres (a - 1) (record (centre_at w a) { volatile = step.after }) ∙ stands.sites;
-    up = λ b h. each-stays (λ b facts s. is_centre w.cluster b ≡ true → s.is_up ≡ true) (λ b some e h. stands.up b h) (λ h. stands.up a h) b (some-centre w.cluster b h).0 h;
     unstopped = λ b h. each-stays (λ b facts s. is_centre w.cluster b ≡ true → s.stop ≡ None) (λ b some e h. stands.unstopped b h) (λ h. stands.unstopped a h) b (some-centre w.cluster b h).0 h;
     nodes = λ b h. each-stays (λ b facts s. is_centre w.cluster b ≡ true → IsNode w.cluster b facts s.volatile) (λ b some e h. stands.nodes b h) (λ h. node) b (some-centre w.cluster b h).0 h;
+    epochs = λ b h. each-stays (λ b facts s. is_centre w.cluster b ≡ true → epoch_of facts ≤ w.events + 1) (λ b some e h. stands.epochs b h)
+        (λ h. rw (epoch (facts_of w.ledger a)) (stands.epochs a h)) b (some-centre w.cluster b h).0 h;
     sent = each-append (IsSent w.cluster) w.sent (map unsent step.sends) stands.sent (each-sent w.cluster step.sends formed stays.sends);
     reads = stands.reads;
   }
@@ -135,7 +160,8 @@ input-stays w a input stands centre formed = by_result (step_at built w a input)
         let sends = sends-formed built w.cluster a (facts_of w.ledger a) (centre_at w a).volatile input step node formed e (λ f. absurd (cc)) in
         rw (happened-taken w a step (stands.unstopped a centre))
         (world-stays w a step stands centre within
-        (node-stays built w.cluster a (facts_of w.ledger a) (centre_at w a).volatile input step node formed e) sends)
+        (node-stays built w.cluster a (facts_of w.ledger a) (centre_at w a).volatile input step node formed e)
+        (made-epoch w.cluster a (facts_of w.ledger a) (centre_at w a).volatile input step stands.cluster_itself.quorums formed e) sends)
 
 -- ---- a delivery
 
@@ -144,16 +170,19 @@ delivered-sent cluster [] place h = tt
 delivered-sent cluster (s ∷ ss) zero h = (record { envelope_itself = h.0.envelope_itself; within = h.0.within }, h.1)
 delivered-sent cluster (s ∷ ss) (suc place) h = (h.0, delivered-sent cluster ss place h.1)
 
-pub delivered-stays : (w : World) (place events : ℕ) → IsWorld w → IsWorld (record w { sent = with_delivered w.sent place; events = events })
-delivered-stays w place events stands = record {
+pub delivered-stays : (w : World) (place events : ℕ) → w.events ≤ events → IsWorld w → IsWorld (record w { sent = with_delivered w.sent place; events = events })
+delivered-stays w place events more stands = record {
   cluster_itself = stands.cluster_itself;
   sites = stands.sites;
-  up = stands.up;
   unstopped = stands.unstopped;
   nodes = stands.nodes;
+  epochs = λ a h. later (epoch_of (facts_of w.ledger a)) w.events events (stands.epochs a h) more;
   sent = delivered-sent w.cluster w.sent place stands.sent;
   reads = stands.reads;
 }
+  where
+    later : (epoch before after : ℕ) → epoch ≤ before + 1 → before ≤ after → epoch ≤ after + 1
+    later epoch before after h k = omega (h, k, arith)
 
 -- ---- an event is counted
 
@@ -161,12 +190,15 @@ pub counted-stays : (w : World) → IsWorld w → IsWorld (counted_event w)
 counted-stays w stands = record {
   cluster_itself = stands.cluster_itself;
   sites = stands.sites;
-  up = stands.up;
   unstopped = stands.unstopped;
   nodes = stands.nodes;
+  epochs = λ a h. later (epoch_of (facts_of w.ledger a)) w.events (stands.epochs a h);
   sent = stands.sent;
   reads = stands.reads;
 }
+  where
+    later : (epoch events : ℕ) → epoch ≤ events + 1 → epoch ≤ events + 1 + 1
+    later epoch events h = omega (h, arith)
 
 -- ---- a read
 
@@ -178,10 +210,80 @@ read-stays w a key stands centre is =
     record {
       cluster_itself = stands.cluster_itself;
       sites = stands.sites;
-      up = stands.up;
       unstopped = stands.unstopped;
       nodes = stands.nodes;
+      epochs = stands.epochs;
       sent = stands.sent;
       reads = each-append IsRead w.reads (known_of key (Visible.read (facts_of w.ledger a) key) ∷ []) stands.reads
           (record { key_itself = is; token_itself = shown.0; item_itself = shown.1 }, tt);
     }
+
+-- ---- a crash
+
+-- a node keeps its facts where it loses all else
+node-lost : (cluster : Cluster) (a : ℕ) (facts : List Fact) (volatile : Volatile) → IsNode cluster a facts volatile → IsNode cluster a facts nothing_kept
+node-lost cluster a facts volatile node = record {
+  cluster_itself = node.cluster_itself;
+  centre = node.centre;
+  facts_themselves = node.facts_themselves;
+  votes = record { manager = tt; recovery = tt };
+  volatile_itself = record { opened = tt; votes = tt; watched = tt; leads = tt };
+}
+
+pub crash-stays : (w : World) (a : ℕ) → IsWorld w → is_centre w.cluster a ≡ true → IsWorld (crash_happened w a).world
+crash-stays w a stands centre = record {
+  cluster_itself = stands.cluster_itself;
+  sites = length-set w.centres (a - 1) down ∙ stands.sites;
+  unstopped = λ b h. each-put w a down None (λ b facts s. is_centre w.cluster b ≡ true → s.stop ≡ None) stands centre stands.unstopped (λ h. refl) b (some-centre w.cluster b h).0 h;
+  nodes = λ b h. each-put w a down None (λ b facts s. is_centre w.cluster b ≡ true → IsNode w.cluster b facts s.volatile) stands centre stands.nodes
+      (λ h. node-lost w.cluster a (facts_of w.ledger a) (centre_at w a).volatile (stands.nodes a h)) b (some-centre w.cluster b h).0 h;
+  epochs = stands.epochs;
+  sent = stands.sent;
+  reads = stands.reads;
+}
+
+-- ---- a restart
+
+-- the epochs of a replay are not used up
+below-last : (epoch events : ℕ) → epoch ≤ events + 1 → events < most_events → epoch < 2 ^ 32 - 1
+below-last epoch events h few = omega (h, few, arith)
+
+payloads-formed : (facts : List Fact) → AllByRecursion IsWellFormedFact facts → AllByRecursion (λ (payload : Option Fact). (fact : Fact) → payload ≡ Some fact → IsWellFormedFact fact) (payloads_of facts)
+payloads-formed [] h = tt
+payloads-formed (fact ∷ facts) h =
+    each-append (λ (payload : Option Fact). (fact : Fact) → payload ≡ Some fact → IsWellFormedFact fact) (payloads_of facts) (Some fact ∷ []) (payloads-formed facts h.1)
+    (λ other e. let same : fact ≡ other = cc in subst IsWellFormedFact same h.0, tt)
+
+-- a boot where epochs are left
+booted-next : (cluster : Cluster) (facts : List Fact) → nat_le (2 ^ 32 - 1) (epoch_of facts) ≡ false → booted_by built cluster (Ok facts) ≡ Ok (Fact.Booted (epoch_of facts + 1) ∷ facts)
+booted-next cluster facts e = rw e refl
+
+restarted-node : (cluster : Cluster) (a : ℕ) (facts : List Fact) (volatile : Volatile) → IsNode cluster a facts volatile → epoch_of facts < 2 ^ 32 - 1
+    → IsNode cluster a (Fact.Booted (epoch_of facts + 1) ∷ facts) nothing_kept
+restarted-node cluster a facts volatile node below =
+    boot-node built cluster a (payloads_of facts) (Fact.Booted (epoch_of facts + 1) ∷ facts) node.cluster_itself node.centre (payloads-formed facts node.facts_themselves.well_formed)
+    (boot-reads built cluster facts node.facts_themselves.allowed (λ e. absurd (cc)) ∙ booted-next cluster facts (lt-leb (2 ^ 32 - 1) (epoch_of facts) below))
+
+pub restart-stays : (w : World) (a : ℕ) → IsWorld w → is_centre w.cluster a ≡ true → w.events < most_events
+    → IsWorld (restart_happened (counted_event w) a (epoch_of (facts_of w.ledger a) + 1)).world
+restart-stays w a stands centre few = record {
+  cluster_itself = stands.cluster_itself;
+  sites = length-set w.centres (a - 1) booted ∙ stands.sites;
+  unstopped = λ b h. each-put w a booted (Some fact) (λ b facts s. is_centre w.cluster b ≡ true → s.stop ≡ None) stands centre stands.unstopped (λ h. refl) b (some-centre w.cluster b h).0 h;
+  nodes = λ b h. each-put w a booted (Some fact) (λ b facts s. is_centre w.cluster b ≡ true → IsNode w.cluster b facts s.volatile) stands centre stands.nodes
+      (λ h. restarted-node w.cluster a (facts_of w.ledger a) (centre_at w a).volatile (stands.nodes a h) (below-last (epoch_of (facts_of w.ledger a)) w.events (stands.epochs a h) few))
+      b (some-centre w.cluster b h).0 h;
+  epochs = λ b h. each-put w a booted (Some fact) (λ b facts s. is_centre w.cluster b ≡ true → epoch_of facts ≤ w.events + 1 + 1) stands centre
+      (λ b h. later (epoch_of (facts_of w.ledger b)) w.events (stands.epochs b h)) (λ h. next (epoch_of (facts_of w.ledger a)) w.events (stands.epochs a h)) b (some-centre w.cluster b h).0 h;
+  sent = stands.sent;
+  reads = stands.reads;
+}
+  where
+    fact : Fact
+    fact = Fact.Booted (epoch_of (facts_of w.ledger a) + 1)
+
+    later : (epoch events : ℕ) → epoch ≤ events + 1 → epoch ≤ events + 1 + 1
+    later epoch events h = omega (h, arith)
+
+    next : (epoch events : ℕ) → epoch ≤ events + 1 → epoch + 1 ≤ events + 1 + 1
+    next epoch events h = omega (h, arith)

@@ -1,4 +1,4 @@
--- Messages of the built rules stay within the cluster.
+-- Messages of the built rules stay within the cluster, and no fact of theirs begins an epoch.
 use Rattle.std.proofs.Common.{◌≡◌, ℕ, zero, suc, ◌+◌, ◌&&◌, ◌==◌, ◌≤◌, Bool, true, false, List, [], ◌∷◌, refl, Option, Some, None, Result, Ok, Err, not, nat_le, filter, arith}
 use Rattle.std.specs.List.{AllByRecursion, range_with_len}
 use Rattle.std.proofs.lemmas.Bool.{and_from, and_parts, cond_both, eqb-true, le-leb}
@@ -42,6 +42,7 @@ use Rattle.mdcc_protocol.specs.declared.node.Input.{Input}
 use Rattle.mdcc_protocol.specs.declared.node.StepFault.{StepFault}
 use Rattle.mdcc_protocol.specs.declared.visible.Give.{Give}
 use Rattle.mdcc_protocol.specs.declared.votes.Vote.{Vote}
+use Rattle.mdcc_steps.specs.Forming.{with_new}
 use Rattle.mdcc_steps.specs.Inputs.{IsWellFormedInput}
 use Rattle.mdcc_steps.proofs.Allowing.{OnStep, on_checked}
 use Rattle.mdcc_steps.proofs.Each.{each-kept}
@@ -49,15 +50,23 @@ use Rattle.mdcc_steps.proofs.Sending.{each-flat_map}
 use Rattle.mdcc_steps.proofs.Stepping.{on_made}
 use Rattle.mdcc_worlds.specs.Sending.{GoesWithin, StaysWithin, TellNoFact}
 
--- a step without entries, whose messages stay within
+-- a new fact begins no epoch
+abbrev pub LeavesEpoch : Option Fact → Type 0
+LeavesEpoch new = (facts : List Fact) → epoch_of (with_new facts new) ≡ epoch_of facts
+
+-- a step without entries, whose messages stay within, and whose fact begins no epoch
 abbrev IsQuiet : Cluster → NodeStep → Type 0
-IsQuiet cluster step = (step.entries ≡ []) × AllByRecursion (GoesWithin cluster) step.sends
+IsQuiet cluster step = (step.entries ≡ []) × AllByRecursion (GoesWithin cluster) step.sends × LeavesEpoch step.fact
+
+-- what holds of every step
+abbrev pub IsStaying : Cluster → NodeStep → Type 0
+IsStaying cluster step = StaysWithin cluster step × LeavesEpoch step.fact
 
 no_fact : (step : NodeStep) → step.entries ≡ [] → TellNoFact step.entries
 no_fact step e ledger a = rw e refl
 
-quiet-stays : (cluster : Cluster) (step : NodeStep) → IsQuiet cluster step → StaysWithin cluster step
-quiet-stays cluster step h = record { entries = no_fact step h.0; sends = h.1 }
+quiet-stays : (cluster : Cluster) (step : NodeStep) → IsQuiet cluster step → IsStaying cluster step
+quiet-stays cluster step h = (record { entries = no_fact step h.0; sends = h.1 }, h.2)
 
 module _ (cluster : Cluster) (me : ℕ) (facts : List Fact) (volatile : Volatile) (sizes : AreQuorums cluster.quorums) where
   centre-within : (a : ℕ) → 1 ≤ a → a ≤ cluster.quorums.centres → is_centre cluster a ≡ true
@@ -101,19 +110,20 @@ module _ (cluster : Cluster) (me : ℕ) (facts : List Fact) (volatile : Volatile
   lead-within leader h (Some choice) = h
 
   nothing : IsQuiet cluster (nothing_done volatile)
-  nothing = (refl, tt)
+  nothing = (refl, tt, λ facts. refl)
 
   proposed : (s : ℕ) (choice : Choice) (answer : ProposeAnswer) → is_centre cluster s ≡ true → IsQuiet cluster (proposed_step me volatile s choice answer)
-  proposed s choice (ProposeAnswer.Known outcome) h = (refl, (h, tt))
-  proposed s choice (ProposeAnswer.Again ballot mark) h = (refl, (h, tt))
-  proposed s choice (ProposeAnswer.Escalate cause) h = (refl, (h, tt))
-  proposed s choice (ProposeAnswer.Vote mark) h = (refl, (h, tt))
+  proposed s choice (ProposeAnswer.Known outcome) h = (refl, (h, tt), λ facts. refl)
+  proposed s choice (ProposeAnswer.Again ballot mark) h = (refl, (h, tt), λ facts. refl)
+  proposed s choice (ProposeAnswer.Escalate cause) h = (refl, (h, tt), λ facts. refl)
+  proposed s choice (ProposeAnswer.Vote mark) h = (refl, (h, tt), λ facts. refl)
 
   decided : (tx : TxId) (outcome : Outcome) → IsQuiet cluster (decided_step cluster me volatile tx outcome)
   decided tx outcome = (
     refl,
     each-within (filter (λ to. not (to == me)) (all_centres cluster.quorums)) (Message.Outcome tx outcome)
         (each-kept (λ (b : ℕ). is_centre cluster b ≡ true) (λ to. not (to == me)) (all_centres cluster.quorums) all-within),
+    λ facts. refl,
   )
 
   vote-act : (manager : Managing) (vote : Vote) (o : Option Outcome) → ActsWithin (act_on_vote cluster.quorums manager vote o)
@@ -126,7 +136,7 @@ module _ (cluster : Cluster) (me : ℕ) (facts : List Fact) (volatile : Volatile
   undecided vote =
       let taken = vote_taken cluster.quorums volatile.manager vote in
       let act = act_on_vote cluster.quorums taken vote (Manager.decision cluster.quorums taken vote.tx) in
-      (refl, act-within act (vote-act taken vote (Manager.decision cluster.quorums taken vote.tx)))
+      (refl, act-within act (vote-act taken vote (Manager.decision cluster.quorums taken vote.tx)), λ facts. refl)
 
   opened : (vote : Vote) (o : Option Outcome) → IsQuiet cluster (opened_step built cluster me facts volatile vote o)
   opened vote (Some outcome) = decided vote.tx outcome
@@ -134,7 +144,7 @@ module _ (cluster : Cluster) (me : ℕ) (facts : List Fact) (volatile : Volatile
 
   watched : (vote : Vote) (o : Option (TxId × Outcome)) → IsQuiet cluster (watched_step cluster me facts volatile vote o)
   watched vote (Some d) = decided d.0 d.1
-  watched vote None = (refl, tt)
+  watched vote None = (refl, tt, λ facts. refl)
 
   voted : (vote : Vote) → IsQuiet cluster (voted_step built cluster me facts volatile vote)
   voted vote =
@@ -173,11 +183,12 @@ module _ (cluster : Cluster) (me : ℕ) (facts : List Fact) (volatile : Volatile
       cond_both (is_open volatile.manager tx && not (is_learned cluster.quorums volatile.manager.votes tx key))
       (acted volatile.manager (act_on_cause cluster.quorums volatile.manager s tx key cause)) (None, volatile.manager)
       (λ (r : Option ManagerAct × Managing). IsQuiet cluster (acted_step me facts volatile r))
-      (λ e. (refl, act-within (act_on_cause cluster.quorums volatile.manager s tx key cause) (cause-act s tx key cause h w b))) (λ e. (refl, tt))
+      (λ e. (refl, act-within (act_on_cause cluster.quorums volatile.manager s tx key cause) (cause-act s tx key cause h w b), λ facts. refl)) (λ e. (refl, tt, λ facts. refl))
 
-  heard : (tx : TxId) (o : Option Fact) → IsQuiet cluster (outcome_step_by volatile tx o)
-  heard tx None = (refl, tt)
-  heard tx (Some fact) = (refl, tt)
+  heard : (tx : TxId) (outcome : Outcome) → IsQuiet cluster (outcome_step_by volatile tx (on_outcome facts tx outcome))
+  heard tx outcome =
+      cond_both (is_heard facts tx) None (Some (Fact.Heard tx outcome)) (λ (o : Option Fact). IsQuiet cluster (outcome_step_by volatile tx o))
+      (λ e. (refl, tt, λ facts. refl)) (λ e. (refl, tt, λ facts. refl))
 
   message-quiet : (s : ℕ) (message : Message) → is_centre cluster s ≡ true → message_belongs cluster message ≡ true → IsWellFormedMessage message
       → OnStep (IsQuiet cluster) (message_step built cluster me facts volatile s message)
@@ -190,7 +201,7 @@ module _ (cluster : Cluster) (me : ℕ) (facts : List Fact) (volatile : Volatile
   message-quiet s (Message.Promise key version through ballot reported votes) h b w = nothing
   message-quiet s (Message.Accept key version ballot options) h b w = nothing
   message-quiet s (Message.Refused key version ballot promised) h b w = nothing
-  message-quiet s (Message.Outcome tx outcome) h b w = heard tx (on_outcome facts tx outcome)
+  message-quiet s (Message.Outcome tx outcome) h b w = heard tx outcome
   message-quiet s (Message.Ask tx key version) h b w = nothing
   message-quiet s (Message.SyncAsk key) h b w = nothing
   message-quiet s (Message.SyncGive key version item adds) h b w = nothing
@@ -207,32 +218,41 @@ module _ (cluster : Cluster) (me : ℕ) (facts : List Fact) (volatile : Volatile
       (message-quiet envelope.from envelope.message (and_parts (envelope.to == me) (is_centre cluster envelope.from) own.0).1 own.1 w))
       (λ e. tt)
 
-  begun-within : (parts : List Part) (r : Result (TxId × Managing) BeginFault) → StaysWithin cluster (begin_step_by cluster me facts volatile parts r)
-  begun-within parts (Err fault) = record { entries = λ ledger a. refl; sends = tt }
-  begun-within parts (Ok (tx, manager)) = record {
-    entries = λ ledger a. refl;
-    sends = each-flat_map (λ (choice : Choice). Unit {0}) (GoesWithin cluster) (λ choice. to_all cluster.quorums me (Message.Propose choice)) (choices_of tx parts)
-        (λ choice h. each-within (all_centres cluster.quorums) (Message.Propose choice) all-within) (each-any (choices_of tx parts));
-  }
+  begun-within : (parts : List Part) (r : Result (TxId × Managing) BeginFault) → IsStaying cluster (begin_step_by cluster me facts volatile parts r)
+  begun-within parts (Err fault) = (record { entries = λ ledger a. refl; sends = tt }, λ facts. refl)
+  begun-within parts (Ok (tx, manager)) = (
+    record {
+      entries = λ ledger a. refl;
+      sends = each-flat_map (λ (choice : Choice). Unit {0}) (GoesWithin cluster) (λ choice. to_all cluster.quorums me (Message.Propose choice)) (choices_of tx parts)
+          (λ choice h. each-within (all_centres cluster.quorums) (Message.Propose choice) all-within) (each-any (choices_of tx parts));
+    },
+    λ facts. refl,
+  )
     where
       each-any : (choices : List Choice) → AllByRecursion (λ (choice : Choice). Unit {0}) choices
       each-any [] = tt
       each-any (c ∷ cs) = (tt, each-any cs)
 
-  on_stays : (r : Result NodeStep StepFault) → OnStep (IsQuiet cluster) r → OnStep (StaysWithin cluster) r
+  on_stays : (r : Result NodeStep StepFault) → OnStep (IsQuiet cluster) r → OnStep (IsStaying cluster) r
   on_stays (Ok step) h = quiet-stays cluster step h
   on_stays (Err fault) h = tt
 
-  pub step-stays : (input : Input) → IsWellFormedInput input → OnStep (StaysWithin cluster) (step_of built cluster me facts volatile input)
+  pub step-stays : (input : Input) → IsWellFormedInput input → OnStep (IsStaying cluster) (step_of built cluster me facts volatile input)
   step-stays (Input.Message envelope) w = on_stays (step_of built cluster me facts volatile (Input.Message envelope)) (envelope-quiet envelope w.message)
-  step-stays Input.Tick w = record { entries = λ ledger a. refl; sends = tt }
-  step-stays (Input.Read key) w = record { entries = λ ledger a. refl; sends = tt }
+  step-stays Input.Tick w = (record { entries = λ ledger a. refl; sends = tt }, λ facts. refl)
+  step-stays (Input.Read key) w = (record { entries = λ ledger a. refl; sends = tt }, λ facts. refl)
   step-stays (Input.Begin parts) w = begun-within parts (Manager.begin me (epoch_of facts) facts volatile.manager parts)
 
 pub made-stays : (cluster : Cluster) (me : ℕ) (facts : List Fact) (volatile : Volatile) (input : Input) (step : NodeStep)
     → AreQuorums cluster.quorums → IsWellFormedInput input → step_of built cluster me facts volatile input ≡ Ok step → StaysWithin cluster step
 made-stays cluster me facts volatile input step sizes w made =
-    on_made (StaysWithin cluster) _ step (step-stays cluster me facts volatile sizes input w) made
+    (on_made (IsStaying cluster) _ step (step-stays cluster me facts volatile sizes input w) made).0
+
+-- the fact of a step begins no epoch
+pub made-epoch : (cluster : Cluster) (me : ℕ) (facts : List Fact) (volatile : Volatile) (input : Input) (step : NodeStep)
+    → AreQuorums cluster.quorums → IsWellFormedInput input → step_of built cluster me facts volatile input ≡ Ok step → LeavesEpoch step.fact
+made-epoch cluster me facts volatile input step sizes w made =
+    (on_made (IsStaying cluster) _ step (step-stays cluster me facts volatile sizes input w) made).1
 
 pub made-quiet : (cluster : Cluster) (me : ℕ) (facts : List Fact) (volatile : Volatile) (envelope : Envelope) (step : NodeStep)
     → AreQuorums cluster.quorums → IsWellFormedMessage envelope.message → step_of built cluster me facts volatile (Input.Message envelope) ≡ Ok step → step.entries ≡ []

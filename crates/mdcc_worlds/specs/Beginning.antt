@@ -6,10 +6,9 @@ use Rattle.mdcc_option.specs.Transaction.{transaction_of}
 use Rattle.mdcc_option.specs.declared.faults.DraftFault.{DraftFault}
 use Rattle.mdcc_option.specs.declared.items.Known.{Known}
 use Rattle.mdcc_option.specs.declared.items.Part.{Part}
-use Rattle.mdcc_protocol.specs.Belongs.{is_centre}
 use Rattle.mdcc_protocol.specs.Built.{built}
 use Rattle.mdcc_protocol.specs.Resolve.{resolve}
-use Rattle.mdcc_protocol.specs.World.{Happened, World, after_lines, answer_in, begin_lines, counted_event, event_of, input_happened, no_item, step_at}
+use Rattle.mdcc_protocol.specs.World.{Happened, World, begin_taken, counted_event, event_of, is_up_at, no_item, step_at}
 use Rattle.mdcc_protocol.specs.declared.events.Event.{Event}
 use Rattle.mdcc_protocol.specs.declared.events.UpdateWord.{UpdateWord}
 use Rattle.mdcc_protocol.specs.declared.node.Input.{Input}
@@ -17,15 +16,12 @@ use Rattle.mdcc_protocol.specs.declared.schedule.ResolveFault.{ResolveFault}
 use Rattle.mdcc_protocol.specs.declared.world.EventFault.{EventFault}
 use Rattle.mdcc_steps.specs.Inputs.{AreWellFormedParts}
 use Rattle.mdcc_worlds.specs.Happening.{at_limit, if_open}
-use Rattle.mdcc_worlds.specs.Standing.{IsRead, IsWorld}
+use Rattle.mdcc_worlds.specs.Standing.{IsRead}
 use Rattle.mdcc_worlds.specs.Words.{IsGivenWord}
 
 -- a transaction of these parts is begun, or is refused by the centre
-abbrev pub begun : World → ℕ → List Part → Happened
-begun w a parts =
-    let result = step_at built (counted_event w) a (Input.Begin parts) in
-    let h = input_happened (counted_event w) a result in
-    after_lines (begin_lines (answer_in result) h.world) h
+abbrev pub begun : World → ℕ → List Part → Result Happened EventFault
+begun w a parts = begin_taken built (counted_event w) a (step_at built (counted_event w) a (Input.Begin parts))
 
 -- the parts in key order come before the limit of events
 abbrev pub begun_if : World → ℕ → Result (List Part) DraftFault → Result Happened EventFault
@@ -35,17 +31,17 @@ begun_if w a (Ok parts) = if_open (at_limit w) (begun w a parts)
 -- and the parts that the words stand for before these
 abbrev pub begin_by : World → ℕ → Result (List Part) ResolveFault → Result Happened EventFault
 begin_by w a (Err (ResolveFault.NoRead number)) = Err (EventFault.NoRead number)
-begin_by w a (Err (ResolveFault.NoItem key)) = if_open (at_limit w) (no_item (counted_event w) key)
+begin_by w a (Err (ResolveFault.NoItem key)) = if_open (at_limit w) (Ok (no_item (counted_event w) key))
 begin_by w a (Err ResolveFault.Memory) = Err EventFault.Memory
 begin_by w a (Ok parts) = begun_if w a (transaction_of w.cluster.schema parts)
 
 -- and the centre before all
 abbrev pub begin_told : World → ℕ → List UpdateWord → Result Happened EventFault
-begin_told w a words = if is_centre w.cluster a then begin_by w a (resolve words (map Some w.reads)) else Err (EventFault.Down a)
+begin_told w a words = if is_up_at w a then begin_by w a (resolve words (map Some w.reads)) else Err (EventFault.Down a)
 
 -- a begin line is this
 abbrev pub BeginsHappen : Type 0
-BeginsHappen = (w : World) (a : ℕ) (words : List UpdateWord) → IsWorld w → event_of built w (Event.Begin a words) ≡ begin_told w a words
+BeginsHappen = (w : World) (a : ℕ) (words : List UpdateWord) → event_of built w (Event.Begin a words) ≡ begin_told w a words
 
 -- the parts of a transaction of words are well-formed
 abbrev pub PartsAreWellFormed : Type 0

@@ -1,10 +1,8 @@
 -- What a delivery does, why a message is not delivered, and how far a deliver line has come.
-use Rattle.std.specs.Prelude.{◌≡◌, Err, List, None, Ok, Option, Result, Some, [], ℕ, ◌+◌, ◌-◌, ◌∷◌}
+use Rattle.std.specs.Prelude.{◌≡◌, Err, List, None, Ok, Option, Result, Some, [], if◌then◌else◌, ℕ, ◌+◌, ◌-◌, ◌∷◌}
 use Rattle.mdcc_protocol.specs.Built.{built}
-use Rattle.mdcc_protocol.specs.World.{Happened, Sent, World, after_lines, deliver_line, deliveries_before, deliveries_of, delivery_of, event_of, input_happened, numbered, step_at, with_delivered}
+use Rattle.mdcc_protocol.specs.World.{Happened, Sent, World, after_lines, deliver_line, delivered, deliveries_before, deliveries_of, delivery_of, event_of, is_up_at, numbered, with_delivered, with_lines}
 use Rattle.mdcc_protocol.specs.declared.events.Event.{Event}
-use Rattle.mdcc_protocol.specs.declared.messages.Envelope.{Envelope}
-use Rattle.mdcc_protocol.specs.declared.node.Input.{Input}
 use Rattle.mdcc_protocol.specs.declared.world.EventFault.{EventFault}
 use Rattle.mdcc_worlds.specs.Happening.{at_limit, if_open}
 use Rattle.mdcc_worlds.specs.Standing.{IsWorld}
@@ -13,35 +11,29 @@ use Rattle.mdcc_worlds.specs.Standing.{IsWorld}
 abbrev pub message_counted : World → ℕ → World
 message_counted w number = record w { sent = with_delivered w.sent (number - 1); events = w.events + 1 }
 
--- and comes to its centre
-abbrev pub delivery_to : World → ℕ → Envelope → Happened
-delivery_to w number envelope =
-    let after = message_counted w number in
-    input_happened after envelope.to (step_at built after envelope.to (Input.Message envelope))
+abbrev pub delivery_by : World → ℕ → Option Sent → Result Happened EventFault
+delivery_by w number None = Err (EventFault.NoMessage number)
+delivery_by w number (Some sent) = delivered built w number sent.envelope
 
-abbrev pub delivery_by : World → ℕ → Option Sent → Happened
-delivery_by w number None = record { world = w; lines = [] }
-delivery_by w number (Some sent) = delivery_to w number sent.envelope
-
--- the message of a number comes to its centre
-abbrev pub delivery : World → ℕ → Happened
+-- what comes of it where the message of a number comes to its centre
+abbrev pub delivery : World → ℕ → Result Happened EventFault
 delivery w number = delivery_by w number (numbered w.sent number)
 
 -- the same behind its line
-abbrev pub delivery_told : World → ℕ → Happened
-delivery_told w number = let h = delivery w number in after_lines (deliver_line number h.world) h
+abbrev pub delivery_told : World → ℕ → Result Happened EventFault
+delivery_told w number = with_lines (deliver_line number) (delivery w number)
 
 -- why the message of a number is not delivered
 abbrev pub message_by : World → ℕ → Option Sent → Result (Unit {0}) EventFault
 message_by w number None = Err (EventFault.NoMessage number)
-message_by w number (Some sent) = at_limit w
+message_by w number (Some sent) = if is_up_at w sent.envelope.to then at_limit w else Err (EventFault.Down sent.envelope.to)
 
 abbrev pub at_message : World → ℕ → Result (Unit {0}) EventFault
 at_message w number = message_by w number (numbered w.sent number)
 
 -- one number of a deliver line is this
 abbrev pub DeliveriesHappen : Type 0
-DeliveriesHappen = (w : World) (number : ℕ) → IsWorld w → delivery_of built w number ≡ if_open (at_message w number) (delivery_told w number)
+DeliveriesHappen = (w : World) (number : ℕ) → delivery_of built w number ≡ if_open (at_message w number) (delivery_told w number)
 
 -- nothing has happened yet
 abbrev pub unmoved : World → Happened
@@ -56,12 +48,12 @@ pub record IsDelivering (w : World) (whole left : List ℕ) (reached : Happened)
 abbrev pub DeliversBegin : Type 0
 DeliversBegin = (w : World) (whole : List ℕ) → IsDelivering w whole whole (unmoved w)
 
--- the message of the next number is delivered, where nothing keeps it back
+-- the message of the next number is delivered
 abbrev pub DeliversGoOn : Type 0
 DeliversGoOn =
-    (w : World) (whole left rest : List ℕ) (number : ℕ) (reached : Happened) → left ≡ number ∷ rest → IsWorld reached.world
-    → IsDelivering w whole left reached → at_message reached.world number ≡ Ok tt
-    → IsDelivering w whole rest (after_lines reached.lines (delivery_told reached.world number))
+    (w : World) (whole left rest : List ℕ) (number : ℕ) (reached next : Happened) → left ≡ number ∷ rest
+    → IsDelivering w whole left reached → delivery_of built reached.world number ≡ Ok next
+    → IsDelivering w whole rest (after_lines reached.lines next)
 
 -- where no number is left, that is the line
 abbrev pub DeliversEnd : Type 0
@@ -72,6 +64,10 @@ DeliversEnd =
 -- and a number that is refused refuses the line
 abbrev pub DeliversStop : Type 0
 DeliversStop =
-    (w : World) (whole left rest : List ℕ) (number : ℕ) (reached : Happened) (fault : EventFault) → left ≡ number ∷ rest → IsWorld reached.world
-    → IsDelivering w whole left reached → at_message reached.world number ≡ Err fault
+    (w : World) (whole left rest : List ℕ) (number : ℕ) (reached : Happened) (fault : EventFault) → left ≡ number ∷ rest
+    → IsDelivering w whole left reached → delivery_of built reached.world number ≡ Err fault
     → (event_of built w (Event.Deliver whole) ≡ Err fault) × (deliveries_before built whole (unmoved w) ≡ reached)
+
+-- no centre goes up or down by a delivery
+abbrev pub UpStays : Type 0
+UpStays = (w : World) (number a : ℕ) (h : Happened) → IsWorld w → delivery w number ≡ Ok h → is_up_at h.world a ≡ is_up_at w a

@@ -1,39 +1,60 @@
 -- What events at a centre do, and why nothing happens.
-use Rattle.std.specs.Prelude.{◌≡◌, Err, Ok, Result, if◌then◌else◌, nat_le, ℕ}
+use Rattle.std.specs.Prelude.{◌≡◌, ◌+◌, Err, Ok, Result, if◌then◌else◌, nat_le, ℕ}
 use Rattle.mdcc_base.specs.declared.key.Key.{Key}
 use Rattle.mdcc_protocol.specs.Belongs.{is_centre}
 use Rattle.mdcc_protocol.specs.Built.{built}
-use Rattle.mdcc_protocol.specs.World.{Happened, World, after_lines, counted_event, event_of, input_happened, limit_if, most_events, read_happened, step_at, tick_line, unless}
+use Rattle.mdcc_protocol.specs.Facts.{epoch_of}
+use Rattle.mdcc_protocol.specs.Ledger.{facts_of}
+use Rattle.mdcc_protocol.specs.World.{Happened, World, counted_event, crash_happened, event_of, input_taken, is_up_at, limit_if, log_limit, most_events, read_happened, restart_happened, tick_line, unless, with_lines}
 use Rattle.mdcc_protocol.specs.declared.events.Event.{Event}
+use Rattle.mdcc_protocol.specs.declared.facts.Fact.{Fact}
 use Rattle.mdcc_protocol.specs.declared.node.Input.{Input}
 use Rattle.mdcc_protocol.specs.declared.world.EventFault.{EventFault}
 use Rattle.mdcc_protocol.specs.declared.world.LimitName.{LimitName}
-use Rattle.mdcc_worlds.specs.Standing.{IsWorld}
 
 -- nothing happens where there were as many events as there may be
 abbrev pub at_limit : World → Result (Unit {0}) EventFault
 at_limit w = unless (limit_if (nat_le most_events w.events) LimitName.Events most_events) tt
 
--- nor at a centre that is not of the cluster
+-- nor at a centre that is down
 abbrev pub at_centre : World → ℕ → Result (Unit {0}) EventFault
-at_centre w a = if is_centre w.cluster a then at_limit w else Err (EventFault.Down a)
+at_centre w a = if is_up_at w a then at_limit w else Err (EventFault.Down a)
 
-abbrev pub if_open : Result (Unit {0}) EventFault → Happened → Result Happened EventFault
-if_open (Ok _) h = Ok h
-if_open (Err fault) h = Err fault
+-- nor is a centre restarted that is up
+abbrev pub at_restart : World → ℕ → Result (Unit {0}) EventFault
+at_restart w a = if is_up_at w a then Err (EventFault.Up a) else (if is_centre w.cluster a then at_limit w else Err (EventFault.Down a))
 
--- what a tick does
-abbrev pub ticked : World → ℕ → Happened
-ticked w a =
-    let h = input_happened (counted_event w) a (step_at built (counted_event w) a Input.Tick) in
-    after_lines (tick_line a h.world) h
+-- what comes of it, where nothing stands against it
+abbrev pub if_open : Result (Unit {0}) EventFault → Result Happened EventFault → Result Happened EventFault
+if_open (Ok _) r = r
+if_open (Err fault) r = Err fault
+
+-- what comes of a tick
+abbrev pub ticked : World → ℕ → Result Happened EventFault
+ticked w a = with_lines (tick_line a) (input_taken built (counted_event w) a Input.Tick)
+
+-- the epoch that a restart begins
+abbrev pub next_epoch : World → ℕ → ℕ
+next_epoch w a = epoch_of (facts_of w.ledger a) + 1
+
+-- what comes of a restart
+abbrev pub restarted : World → ℕ → Result Happened EventFault
+restarted w a = unless (log_limit built w a (Fact.Booted (next_epoch w a))) (restart_happened (counted_event w) a (next_epoch w a))
 
 -- a read line is this
 abbrev pub ReadsHappen : Type 0
 ReadsHappen =
-    (w : World) (a : ℕ) (key : Key) → IsWorld w
-    → event_of built w (Event.Read a key) ≡ if_open (at_centre w a) (read_happened (counted_event w) a key)
+    (w : World) (a : ℕ) (key : Key)
+    → event_of built w (Event.Read a key) ≡ if_open (at_centre w a) (Ok (read_happened (counted_event w) a key))
 
 -- and a tick line is this
 abbrev pub TicksHappen : Type 0
-TicksHappen = (w : World) (a : ℕ) → IsWorld w → event_of built w (Event.Tick a) ≡ if_open (at_centre w a) (ticked w a)
+TicksHappen = (w : World) (a : ℕ) → event_of built w (Event.Tick a) ≡ if_open (at_centre w a) (ticked w a)
+
+-- and so is a crash line
+abbrev pub CrashesHappen : Type 0
+CrashesHappen = (w : World) (a : ℕ) → event_of built w (Event.Crash a) ≡ if_open (at_centre w a) (Ok (crash_happened (counted_event w) a))
+
+-- and a restart line
+abbrev pub RestartsHappen : Type 0
+RestartsHappen = (w : World) (a : ℕ) → event_of built w (Event.Restart a) ≡ if_open (at_restart w a) (restarted w a)

@@ -33,9 +33,18 @@ SettlesBegin = (w : World) (listed : List ℕ) → IsSettling w listed (settle_t
 -- while a message waits, the first that does is delivered
 abbrev pub SettlesGoOn : Type 0
 SettlesGoOn =
-    (w : World) (listed : List ℕ) (reached : Happened) (deliveries : ℕ) (next : ℕ × Envelope) → IsSettling w listed reached deliveries
+    (w : World) (listed : List ℕ) (reached after : Happened) (deliveries : ℕ) (next : ℕ × Envelope) → IsSettling w listed reached deliveries
     → first_waiting reached.world listed 1 reached.world.sent ≡ Some next → reached.world.events < most_events
-    → IsSettling w listed (after_lines reached.lines (delivery reached.world next.0)) (deliveries + 1)
+    → delivery reached.world next.0 ≡ Ok after
+    → IsSettling w listed (after_lines reached.lines after) (deliveries + 1)
+
+-- a delivery that is refused refuses the line
+abbrev pub SettlesBreak : Type 0
+SettlesBreak =
+    (w : World) (listed : List ℕ) (reached : Happened) (deliveries : ℕ) (next : ℕ × Envelope) (fault : EventFault) → IsSettling w listed reached deliveries
+    → first_waiting reached.world listed 1 reached.world.sent ≡ Some next → reached.world.events < most_events → w.events < most_events
+    → delivery reached.world next.0 ≡ Err fault
+    → event_of built w (Event.Settle listed) ≡ Err fault
 
 -- where none waits, that is told
 abbrev pub SettlesEnd : Type 0

@@ -1,16 +1,17 @@
 -- What holds of a world of the built rules at every moment.
 use Rattle.std.specs.List.{AllByRecursion}
-use Rattle.std.specs.Prelude.{◌≡◌, None, length, true, ℕ}
+use Rattle.std.specs.Prelude.{◌≡◌, ◌<◌, ◌≤◌, ◌+◌, None, length, true, ℕ}
 use Rattle.mdcc_base.specs.Key.{IsKey}
 use Rattle.mdcc_base.specs.declared.key.Key.{Key}
 use Rattle.mdcc_option.specs.declared.cluster.Cluster.{Cluster}
 use Rattle.mdcc_option.specs.declared.items.Known.{Known}
 use Rattle.mdcc_protocol.specs.Belongs.{is_centre}
 use Rattle.mdcc_protocol.specs.Built.{built}
+use Rattle.mdcc_protocol.specs.Facts.{epoch_of}
 use Rattle.mdcc_protocol.specs.IsCluster.{IsCluster}
 use Rattle.mdcc_protocol.specs.Ledger.{facts_of}
 use Rattle.mdcc_protocol.specs.WellFormed.{IsWellFormedEnvelope, IsWellFormedRead}
-use Rattle.mdcc_protocol.specs.World.{Sent, World, centre_at, counted_event, first_world, input_happened, read_happened, step_at, with_delivered}
+use Rattle.mdcc_protocol.specs.World.{Sent, World, centre_at, counted_event, crash_happened, first_world, input_happened, most_events, read_happened, restart_happened, step_at, with_delivered}
 use Rattle.mdcc_protocol.specs.declared.node.Input.{Input}
 use Rattle.mdcc_steps.specs.Forming.{IsNode}
 use Rattle.mdcc_steps.specs.Inputs.{IsWellFormedInput}
@@ -25,13 +26,14 @@ pub record IsSent (cluster : Cluster) (sent : Sent) : Type 0 where
 abbrev pub IsRead : Known → Type 0
 IsRead known = IsWellFormedRead known.key known.token known.item
 
--- all centres are up, and no stop is armed; each has a node; and all messages and reads are such
+-- no stop is armed; what each centre added and keeps is that of a node, also where it is down; its epochs are no more than the
+-- events and one; and all messages and reads are such
 pub record IsWorld (w : World) : Type 0 where
   pub cluster_itself : IsCluster w.cluster
   pub sites : length w.centres ≡ w.cluster.quorums.centres
-  pub up : (a : ℕ) → is_centre w.cluster a ≡ true → (centre_at w a).is_up ≡ true
   pub unstopped : (a : ℕ) → is_centre w.cluster a ≡ true → (centre_at w a).stop ≡ None
   pub nodes : (a : ℕ) → is_centre w.cluster a ≡ true → IsNode w.cluster a (facts_of w.ledger a) (centre_at w a).volatile
+  pub epochs : (a : ℕ) → is_centre w.cluster a ≡ true → epoch_of (facts_of w.ledger a) ≤ w.events + 1
   pub sent : AllByRecursion (IsSent w.cluster) w.sent
   pub reads : AllByRecursion IsRead w.reads
 
@@ -48,7 +50,7 @@ WorldStays =
 -- and where a message counts as delivered
 abbrev pub DeliveredStays : Type 0
 DeliveredStays =
-    (w : World) (place events : ℕ) → IsWorld w → IsWorld (record w { sent = with_delivered w.sent place; events = events })
+    (w : World) (place events : ℕ) → w.events ≤ events → IsWorld w → IsWorld (record w { sent = with_delivered w.sent place; events = events })
 
 -- and where an event is counted
 abbrev pub CountedStays : Type 0
@@ -59,3 +61,13 @@ abbrev pub ReadStays : Type 0
 ReadStays =
     (w : World) (a : ℕ) (key : Key) → IsWorld w → is_centre w.cluster a ≡ true → IsKey key
     → IsWorld (read_happened w a key).world
+
+-- and after a crash
+abbrev pub CrashStays : Type 0
+CrashStays = (w : World) (a : ℕ) → IsWorld w → is_centre w.cluster a ≡ true → IsWorld (crash_happened w a).world
+
+-- and after a restart, which is counted
+abbrev pub RestartStays : Type 0
+RestartStays =
+    (w : World) (a : ℕ) → IsWorld w → is_centre w.cluster a ≡ true → w.events < most_events
+    → IsWorld (restart_happened (counted_event w) a (epoch_of (facts_of w.ledger a) + 1)).world

@@ -1,12 +1,19 @@
 -- What a step brings to the ledger and the report.
-use Rattle.std.specs.Prelude.{Bool, List, None, Option, Some, [], ℕ, ◌++◌, ◌∷◌}
+use Rattle.std.specs.Option.{option_or}
+use Rattle.std.specs.Prelude.{◌≡◌, Bool, Err, List, None, Ok, Option, Result, Some, [], true, ℕ, ◌++◌, ◌∷◌}
 use Rattle.mdcc_base.specs.Sizes.{Sizes}
 use Rattle.mdcc_base.specs.declared.identifiers.TxId.{TxId}
+use Rattle.mdcc_protocol.specs.Belongs.{is_centre}
+use Rattle.mdcc_protocol.specs.Built.{built}
 use Rattle.mdcc_protocol.specs.Ledger.{Added, Entry}
 use Rattle.mdcc_protocol.specs.Steps.{NodeStep}
-use Rattle.mdcc_protocol.specs.World.{Happened, World, chosen_lines, heard_lines, step_taken}
+use Rattle.mdcc_protocol.specs.World.{Happened, World, bytes_limit, chosen_lines, heard_lines, input_happened, input_limited, log_limit, step_taken, unless}
 use Rattle.mdcc_protocol.specs.declared.facts.Fact.{Fact}
 use Rattle.mdcc_protocol.specs.declared.lines.Line.{Line}
+use Rattle.mdcc_protocol.specs.declared.messages.Envelope.{Envelope}
+use Rattle.mdcc_protocol.specs.declared.node.StepFault.{StepFault}
+use Rattle.mdcc_protocol.specs.declared.world.EventFault.{EventFault}
+use Rattle.mdcc_worlds.specs.Standing.{IsWorld}
 
 -- the ledger with a fact of a centre, where there is one
 abbrev pub with_fact : ℕ → Option Fact → List Entry → List Entry
@@ -35,3 +42,19 @@ taken w a step = record {
   world = world_taken w a step;
   lines = step_lines w.cluster.quorums a step.fact (step.entries ++ w.ledger);
 }
+
+-- the limit that a step would pass at a centre where no stop is armed
+abbrev pub limit_of : World → ℕ → Option Fact → List Envelope → Option EventFault
+limit_of w a None sends = bytes_limit built w sends
+limit_of w a (Some fact) sends = option_or (log_limit built w a fact) (bytes_limit built w sends)
+
+-- what comes of a step
+abbrev pub step_told : World → ℕ → Result NodeStep StepFault → Result Happened EventFault
+step_told w a (Ok step) = unless (limit_of w a step.fact step.sends) (taken w a step)
+step_told w a (Err fault) = Ok (input_happened w a (Err fault))
+
+-- an input comes to this
+abbrev pub InputsHappen : Type 0
+InputsHappen =
+    (w : World) (a : ℕ) (result : Result NodeStep StepFault) → IsWorld w → is_centre w.cluster a ≡ true
+    → input_limited built w a result ≡ step_told w a result

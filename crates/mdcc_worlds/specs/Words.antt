@@ -6,10 +6,8 @@ use Rattle.mdcc_option.specs.declared.items.Item.{Item}
 use Rattle.mdcc_protocol.specs.declared.events.Event.{Event}
 use Rattle.mdcc_protocol.specs.declared.events.UpdateWord.{UpdateWord}
 
--- centres stay up
+-- no stop is armed
 abbrev pub is_built : Event → Bool
-is_built (Event.Crash a) = false
-is_built (Event.Restart a) = false
 is_built (Event.Stop a call image) = false
 is_built event = true
 

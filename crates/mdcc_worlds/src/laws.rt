@@ -1,11 +1,12 @@
 //! What holds of a world at every moment, and what its events do.
 ghost use Rattle.mdcc_worlds.specs.Beginning.{BeginsHappen, PartsAreWellFormed};
-ghost use Rattle.mdcc_worlds.specs.Delivering.{DeliveriesHappen, DeliversBegin, DeliversEnd, DeliversGoOn, DeliversStop};
+ghost use Rattle.mdcc_worlds.specs.Delivering.{DeliveriesHappen, DeliversBegin, DeliversEnd, DeliversGoOn, DeliversStop, UpStays};
 ghost use Rattle.mdcc_worlds.specs.Events.{EventsStay};
-ghost use Rattle.mdcc_worlds.specs.Happening.{ReadsHappen, TicksHappen};
+ghost use Rattle.mdcc_worlds.specs.Happening.{CrashesHappen, ReadsHappen, RestartsHappen, TicksHappen};
 ghost use Rattle.mdcc_worlds.specs.Sending.{MessagesBeginNothing, StepsStayWithin};
-ghost use Rattle.mdcc_worlds.specs.Settling.{SettlesBegin, SettlesEnd, SettlesFail, SettlesGoOn, SettlesStop};
-ghost use Rattle.mdcc_worlds.specs.Standing.{CountedStays, DeliveredStays, FirstStands, ReadStays, WorldStays};
+ghost use Rattle.mdcc_worlds.specs.Settling.{SettlesBegin, SettlesBreak, SettlesEnd, SettlesFail, SettlesGoOn, SettlesStop};
+ghost use Rattle.mdcc_worlds.specs.Standing.{CountedStays, CrashStays, DeliveredStays, FirstStands, ReadStays, RestartStays, WorldStays};
+ghost use Rattle.mdcc_worlds.specs.Taking.{InputsHappen};
 
 /// Messages of the built rules go to centres of the cluster, and no step tells a fact but its own.
 pub fn steps_stay_within()
@@ -13,14 +14,17 @@ pub fn steps_stay_within()
     ensures quiet { MessagesBeginNothing }
 {}
 
-/// In a world each centre is up and has a node, and all messages are well-formed and for centres of
-/// the cluster: at first, after each input of a centre, and after each delivery.
+/// In a world each centre has a node, also one that is down, no stop is armed, and all messages are
+/// well-formed and for centres of the cluster: at first, after each input of a centre, after each
+/// delivery and read, and after a crash and a restart.
 pub fn worlds_stay()
     ensures first { FirstStands }
     ensures input { WorldStays }
     ensures delivered { DeliveredStays }
     ensures counted { CountedStays }
     ensures read { ReadStays }
+    ensures crash { CrashStays }
+    ensures restart { RestartStays }
 {}
 
 /// It is so after each event that happens, and there are no more events than there may be.
@@ -28,13 +32,17 @@ pub fn events_stay()
     ensures { EventsStay }
 {}
 
-/// What a read, a tick, a delivery and a begin do, and for which cause nothing happens: the causes
-/// stand in the order in which they are asked.
+/// What a read, a tick, a crash, a restart, a delivery and a begin do, and for which cause nothing
+/// happens: the causes stand in the order in which they are asked. An input of a centre comes to its
+/// step, unless that would pass a limit: that of the log is asked before that of the messages.
 pub fn events_happen()
     ensures read { ReadsHappen }
     ensures tick { TicksHappen }
+    ensures crash { CrashesHappen }
+    ensures restart { RestartsHappen }
     ensures delivery { DeliveriesHappen }
     ensures begin { BeginsHappen }
+    ensures input { InputsHappen }
 {}
 
 /// The parts of a transaction that words stand for are well-formed.
@@ -43,19 +51,22 @@ pub fn begun_parts_are_well_formed()
 {}
 
 /// A deliver line delivers its messages in turn, and the first that is refused refuses the line. What
-/// was delivered before stays so.
+/// was delivered before stays so. No centre goes up or down by a delivery.
 pub fn delivers_deliver()
     ensures begins { DeliversBegin }
     ensures goes_on { DeliversGoOn }
     ensures ends { DeliversEnd }
     ensures stops { DeliversStop }
+    ensures up { UpStays }
 {}
 
-/// A settle delivers the first message that waits, again and again until none does. It fails where
-/// there were as many events as there may be before it, or where there are and one waits.
+/// A settle delivers the first message that waits for a centre that is up, again and again until none
+/// does. It fails where a delivery is refused, where there were as many events as there may be before
+/// it, or where there are and a message waits.
 pub fn settles_deliver()
     ensures begins { SettlesBegin }
     ensures goes_on { SettlesGoOn }
+    ensures breaks { SettlesBreak }
     ensures ends { SettlesEnd }
     ensures stops { SettlesStop }
     ensures fails { SettlesFail }

@@ -1,10 +1,14 @@
 use Rattle.mdcc_steps.proofs.Answered.{answer-formed}
 use Rattle.mdcc_steps.proofs.Dispatched.{fact-formed, node-stays, sends-formed}
 use Rattle.mdcc_steps.proofs.Roomy.{room-stays}
+use Rattle.mdcc_steps.proofs.Shortness.{fact-short}
 use Rattle.mdcc_steps.proofs.steps_are_well_formed.Goals as goal
 
 pub returns-clause-fact : goal.returns-clause-fact
 returns-clause-fact c built cluster me facts volatile input step fact node well_formed made is = fact-formed built cluster me facts volatile input step node well_formed made fact is
+
+pub returns-clause-short : goal.returns-clause-short
+returns-clause-short c = fact-short
 
 pub returns-clause-sends : goal.returns-clause-sends
 returns-clause-sends c built cluster me facts volatile input step room node well_formed made = sends-formed built cluster me facts volatile input step node well_formed made room

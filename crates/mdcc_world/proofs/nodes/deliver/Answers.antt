@@ -11,22 +11,22 @@ use Rattle.mdcc_world.proofs.Roomy.{step-roomy}
 use Rattle.mdcc_world.proofs.nodes.deliver.Goals as goal
 
 pub returns-clause-answer : goal.returns-clause-answer
-returns-clause-answer c w standing =
+returns-clause-answer c w standing up =
     let a = c.args.centre in
     let place : c.from.result ≡ a = cc in
     let some : 1 ≤ a = (let e : c.number.result ≡ a = c.number.ensures.value in subst (λ n. 1 ≤ n) e c.number.ensures.range.0) in
-    let node = node-under c.args.nodes.now w a c.from.result c.index-nodes-from.result standing some c.requires.within place c.index-nodes-from.is in
+    let node = node-under c.args.nodes.now w a c.from.result c.index-nodes-from.result standing up some c.requires.within place c.index-nodes-from.is in
     let input = Input.Message c.args.envelope.now in
     let gives = c.deliver.ensures.answer w.cluster a (facts_of w.ledger a) (centre_at w a).volatile node in
     made-is c.made.result c.deliver.result _ c.made.ensures.same c.made.ensures.memory
     (subst (λ (r : Result NodeStep StepFault). GivesUnless is_memory c.deliver.result (given r)) (step-roomy w.cluster a (facts_of w.ledger a) (centre_at w a).volatile input) gives)
 
 pub returns-clause-left : goal.returns-clause-left
-returns-clause-left c w world standing =
+returns-clause-left c w world standing up =
     let a = c.args.centre in
     let place : c.from.result ≡ a = cc in
     let some : 1 ≤ a = (let e : c.number.result ≡ a = c.number.ensures.value in subst (λ n. 1 ≤ n) e c.number.ensures.range.0) in
-    let node = node-under c.args.nodes.now w a c.from.result c.index-nodes-from.result standing some c.requires.within place c.index-nodes-from.is in
+    let node = node-under c.args.nodes.now w a c.from.result c.index-nodes-from.result standing up some c.requires.within place c.index-nodes-from.is in
     let input = Input.Message c.args.envelope.now in
     let left = c.deliver.ensures.left w.cluster a (facts_of w.ledger a) (centre_at w a).volatile node in
     made-kept c.made.result c.deliver.result _ c.made.ensures.memory

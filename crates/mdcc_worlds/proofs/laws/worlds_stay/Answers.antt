@@ -1,5 +1,5 @@
 use Rattle.mdcc_worlds.proofs.Begins.{first-stands}
-use Rattle.mdcc_worlds.proofs.Stays.{counted-stays, delivered-stays, input-stays, read-stays}
+use Rattle.mdcc_worlds.proofs.Stays.{counted-stays, crash-stays, delivered-stays, input-stays, read-stays, restart-stays}
 use Rattle.mdcc_worlds.proofs.laws.worlds_stay.Goals as goal
 
 pub returns-clause-first : goal.returns-clause-first
@@ -16,3 +16,9 @@ returns-clause-counted c = counted-stays
 
 pub returns-clause-read : goal.returns-clause-read
 returns-clause-read c = read-stays
+
+pub returns-clause-crash : goal.returns-clause-crash
+returns-clause-crash c = crash-stays
+
+pub returns-clause-restart : goal.returns-clause-restart
+returns-clause-restart c = restart-stays

@@ -30,3 +30,23 @@ returns-in-Tick-clause-left c w like =
 
 pub returns-in-Tick-clause-few_left : goal.returns-in-Tick-clause-few_left
 returns-in-Tick-clause-few_left c = left-few c.tick.result c.args.self.now c.tick.new.self c.args.lines.now c.tick.new.lines c.requires.few c.tick.ensures.kept
+
+pub returns-in-Crash-clause-happens : goal.returns-in-Crash-clause-happens
+returns-in-Crash-clause-happens c w like = rw c.in-Crash.is (c.crash.ensures.happens w like)
+
+pub returns-in-Crash-clause-left : goal.returns-in-Crash-clause-left
+returns-in-Crash-clause-left c w like =
+    rw c.in-Crash.is (left-unmoved c.crash.result c.args.self.now c.crash.new.self c.args.lines.now c.crash.new.lines w like c.crash.ensures.kept)
+
+pub returns-in-Crash-clause-few_left : goal.returns-in-Crash-clause-few_left
+returns-in-Crash-clause-few_left c = left-few c.crash.result c.args.self.now c.crash.new.self c.args.lines.now c.crash.new.lines c.requires.few c.crash.ensures.kept
+
+pub returns-in-Restart-clause-happens : goal.returns-in-Restart-clause-happens
+returns-in-Restart-clause-happens c w like = rw c.in-Restart.is (c.restart.ensures.happens w like)
+
+pub returns-in-Restart-clause-left : goal.returns-in-Restart-clause-left
+returns-in-Restart-clause-left c w like =
+    rw c.in-Restart.is (left-unmoved c.restart.result c.args.self.now c.restart.new.self c.args.lines.now c.restart.new.lines w like c.restart.ensures.kept)
+
+pub returns-in-Restart-clause-few_left : goal.returns-in-Restart-clause-few_left
+returns-in-Restart-clause-few_left c = left-few c.restart.result c.args.self.now c.restart.new.self c.args.lines.now c.restart.new.lines c.requires.few c.restart.ensures.kept

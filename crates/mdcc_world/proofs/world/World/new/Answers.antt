@@ -1,21 +1,28 @@
 use Rattle.std.proofs.Common.{[], arith, refl}
+use Rattle.mdcc_world.proofs.Firsts.{first-logs, first-ups}
+use Rattle.mdcc_world.proofs.NodesStay.{first-nodes}
 use Rattle.mdcc_world.proofs.Took.{first-counted, value-of}
 use Rattle.mdcc_worlds.proofs.Begins.{first-stands}
 use Rattle.mdcc_world.proofs.world.World.new.Goals as goal
 
 pub returns : goal.returns
-returns c = record {
-  like = record {
-    records = record {
-      itself = first-stands c.args.cluster c.requires;
-      cluster = refl;
-      mail = value-of c.in_ok-mail.mail [] c.in_ok-mail.ensures;
-      reads = c.new-3.ensures;
-      few_reads = omega arith;
-      events = refl;
-    };
-    outcomes = first-counted c.in_ok-outcomes.outcomes c.args.cluster.quorums c.args.cluster.quorums.centres c.in_ok-outcomes.ensures;
-    nodes = c.in_ok-nodes.ensures;
-  };
-  few = omega arith;
-}
+returns c =
+    let cluster = c.args.cluster in
+    record {
+      like = record {
+        records = record {
+          itself = first-stands cluster c.requires;
+          cluster = refl;
+          mail = value-of c.in_ok-mail.mail [] c.in_ok-mail.ensures;
+          bytes = refl;
+          reads = c.new-3.ensures;
+          few_reads = omega arith;
+          events = refl;
+          ups = first-ups c.first_ups-up.result cluster (rw (c.centres.ensures.value) at c.first_ups-up.ensures);
+        };
+        outcomes = first-counted c.in_ok-outcomes.outcomes cluster.quorums cluster.quorums.centres c.in_ok-outcomes.ensures;
+        nodes = first-nodes c.in_ok-nodes.nodes.items cluster c.in_ok-nodes.ensures.nodes;
+        logs = first-logs c.in_ok-nodes.logs cluster c.in_ok-nodes.ensures.logs;
+      };
+      few = omega arith;
+    }

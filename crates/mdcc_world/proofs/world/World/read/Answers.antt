@@ -1,3 +1,4 @@
+use Rattle.std.proofs.Common.{Ok}
 use Rattle.mdcc_protocol.specs.World.{counted_event, read_happened}
 use Rattle.mdcc_world.proofs.Happened.{opened, refused-is, residual}
 use Rattle.mdcc_worlds.proofs.Events.{read-is}
@@ -6,12 +7,15 @@ use Rattle.mdcc_world.proofs.world.World.read.Goals as goal
 
 pub returns-in_err-at_centre-clause-happens : goal.returns-in_err-at_centre-clause-happens
 returns-in_err-at_centre-clause-happens c w like =
+    let a = c.args.centre in
+    let key = c.args.key.now in
     let fault = c.in_err-at_centre.field-0.0 in
     rw (residual c.from_residual.result fault c.from_residual.ensures.1)
-    (refused-is _ (at_centre w c.args.centre) (read_happened (counted_event w) c.args.centre c.args.key.now) fault (read-is w c.args.centre c.args.key.now like.records.itself) (c.in_err-at_centre.ensures.centre w like))
+    (refused-is _ (at_centre w a) (Ok (read_happened (counted_event w) a key)) fault (read-is w a key) (c.in_err-at_centre.ensures.centre w like))
 
 pub returns-in-Ok-clause-happens : goal.returns-in-Ok-clause-happens
 returns-in-Ok-clause-happens c w like =
     let a = c.args.centre in
-    opened {T = Unit {0}} tt _ _ _ _ (at_centre w a) (read_happened (counted_event w) a c.args.key.now) (read-is w a c.args.key.now like.records.itself)
+    let key = c.args.key.now in
+    opened {T = Unit {0}} (Ok tt) _ _ _ _ (at_centre w a) (Ok (read_happened (counted_event w) a key)) (read-is w a key)
     (c.in_ok-at_centre.ensures.centre w like) (c.in-Ok.ensures.happened w like)

@@ -1,13 +1,13 @@
-use Rattle.std.proofs.Common.{refl, sym, ◌∙◌}
-use Rattle.mdcc_world.proofs.Took.{left-step, took-step}
+use Rattle.std.proofs.Common.{Result, subst}
+use Rattle.mdcc_protocol.specs.declared.node.Step.{Step}
+use Rattle.mdcc_protocol.specs.declared.node.StepFault.{StepFault}
+use Rattle.mdcc_world.specs.Making.{IsMade}
 use Rattle.mdcc_world.proofs.world.World.taken.Goals as goal
 
-pub returns-in_ok-take-in-Ok-clause-taken : goal.returns-in_ok-take-in-Ok-clause-taken
-returns-in_ok-take-in-Ok-clause-taken c w input before =
-    took-step c.args.self.now _ w c.args.centre input c.args.lines.now _ before.records before.centre before.well_formed refl refl refl
-    c.in-Ok.step (sym c.in-Ok.is ∙ before.step_itself) c.in_ok-take-in-Ok.ensures.sent c.in_ok-take-in-Ok.ensures.ledger c.in_ok-take-in-Ok.ensures.lines before.outcomes
+pub returns-in-Ok-clause-happens : goal.returns-in-Ok-clause-happens
+returns-in-Ok-clause-happens c w input made =
+    c.take.ensures.happens w input (subst (λ (r : Result Step StepFault). IsMade c.args.self.now w c.args.centre input r) c.in-Ok.is made)
 
-pub returns-in_ok-push_dropped-in-Err-clause-taken : goal.returns-in_ok-push_dropped-in-Err-clause-taken
-returns-in_ok-push_dropped-in-Err-clause-taken c w input before =
-    left-step c.args.self.now c.args.self.now w c.args.centre input c.args.lines.now _ before.records before.centre before.well_formed refl refl refl
-    c.in-Err.fault (sym c.in-Err.is ∙ before.step_itself) refl refl before.outcomes c.in_ok-push_dropped-in-Err.ensures
+pub returns-in-Err-clause-happens : goal.returns-in-Err-clause-happens
+returns-in-Err-clause-happens c w input made =
+    c.refuse_step.ensures.happens w input (subst (λ (r : Result Step StepFault). IsMade c.args.self.now w c.args.centre input r) c.in-Err.is made)

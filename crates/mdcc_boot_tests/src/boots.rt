@@ -1,0 +1,80 @@
+//! Boots from a few payloads.
+use crate::setup::{BOOTED, HEARD, PROMISED, five_centres};
+use mdcc_admission::parts_belong::is_centre;
+use mdcc_base::{Centre, HeapList};
+use mdcc_facts::ListFacts;
+use mdcc_node::{BootFault, Node};
+use mdcc_protocol::Fact;
+use std::alloc::Global;
+use std::process::Abort;
+use std::test::*;
+
+// Of no kind of facts.
+const NO_FACT: [u8; 1] = [6];
+
+// The payloads of a log.
+fn logged(alloc: Global, payloads: &[&[u8]]) -> Result<Vec<HeapList<u8>>, Fail> {
+    let mut log = Vec::new(alloc);
+    for payload in payloads {
+        let mut bytes = Vec::new(alloc);
+        bytes.extend_from_slice(payload)?;
+        log.push(HeapList::from_vec(bytes))?;
+    }
+    Ok(log)
+}
+
+// The epoch that a boot begins.
+fn epoch_in(fact: &Fact) -> u32 {
+    match fact {
+        Fact::Booted(epoch) => *epoch,
+        _ => 0,
+    }
+}
+
+// The epoch of the node that is booted, where its fact is the boot of that epoch, or why there is none.
+fn booted(
+    rt: &impl Abort,
+    alloc: Global,
+    payloads: &[&[u8]],
+) -> Result<Result<u32, BootFault>, Fail> {
+    let cluster = five_centres(rt);
+    let centre = Centre::new(1).unwrap_or_default();
+    let log = logged(alloc, payloads)?;
+    let store = ListFacts::new(alloc).ok().ok_or("a store")?;
+    if !is_centre(&cluster, centre.number()) {
+        return Ok(Ok(0));
+    }
+    match Node::boot(alloc, cluster, centre, store, log.as_slice()) {
+        Ok((node, fact)) => {
+            let epoch = epoch_in(&fact);
+            Ok(Ok(if epoch == node.epoch() { epoch } else { 0 }))
+        }
+        Err(fault) => Ok(Err(fault)),
+    }
+}
+
+#[test]
+fn a_run_of_facts(rt: HostRuntime) -> Result<(), Fail> {
+    let alloc = rt.alloc();
+    assert_eq!(rt; booted(&rt, alloc, &[])?, Ok(1));
+    assert_eq!(rt; booted(&rt, alloc, &[&BOOTED, &PROMISED, &HEARD])?, Ok(2));
+    Ok(())
+}
+
+#[test]
+fn no_run(rt: HostRuntime) -> Result<(), Fail> {
+    let alloc = rt.alloc();
+    assert_eq!(rt;
+        booted(&rt, alloc, &[&BOOTED, &PROMISED, &HEARD, &HEARD])?,
+        Err(BootFault::NotARun(4))
+    );
+    assert_eq!(rt;
+        booted(&rt, alloc, &[&BOOTED, &NO_FACT])?,
+        Err(BootFault::NotARun(2))
+    );
+    assert_eq!(rt;
+        booted(&rt, alloc, &[&PROMISED])?,
+        Err(BootFault::NotARun(1))
+    );
+    Ok(())
+}

@@ -1,0 +1,137 @@
+//! Restarts over disks in memory, and after a crash in each call of an append.
+use crate::setup::{BOOTED, HEARD, PROMISED, five_centres};
+use mdcc_admission::parts_belong::is_centre;
+use mdcc_base::{Centre, Image};
+use mdcc_disks::MemoryDisks;
+use mdcc_facts::ListFacts;
+use mdcc_log::{Frames, LogFault};
+use mdcc_restart::{BootFault, RestartFault, restart};
+use std::alloc::Global;
+use std::process::Abort;
+use std::test::*;
+
+// Booted in epoch 2.
+const BOOTED_AGAIN: [u8; 5] = [1, 2, 0, 0, 0];
+
+// Where the append of a third fact was struck and what a crash left of it: the number of its call, the image, and whether
+// the fact is there. An opening of an empty disk makes five calls, and an append four: the frame is written behind the
+// closed gate, sync, the gate is opened, sync.
+const STRUCK: [(u32, Image, bool); 12] = [
+    (14, Image::Lost, false),
+    (14, Image::Kept, false),
+    (14, Image::Torn, false),
+    (15, Image::Lost, false),
+    (15, Image::Kept, false),
+    (15, Image::Torn, false),
+    (16, Image::Lost, false),
+    (16, Image::Kept, true),
+    (16, Image::Torn, false),
+    (17, Image::Lost, false),
+    (17, Image::Kept, true),
+    (17, Image::Torn, false),
+];
+
+// The epoch of the centre that starts over the disks, where its node is of that epoch, or why none starts.
+fn restarted(
+    rt: &impl Abort,
+    alloc: Global,
+    disks: &mut MemoryDisks,
+) -> Result<Result<u32, RestartFault>, Fail> {
+    let cluster = five_centres(rt);
+    let centre = Centre::new(1).unwrap_or_default();
+    let store = ListFacts::new(alloc).ok().ok_or("a store")?;
+    if !is_centre(&cluster, centre.number()) {
+        return Ok(Ok(0));
+    }
+    match restart(alloc, cluster, centre, store, disks) {
+        Ok(running) => {
+            let epoch = running.epoch;
+            Ok(Ok(if epoch == running.node.epoch() {
+                epoch
+            } else {
+                0
+            }))
+        }
+        Err(fault) => Ok(Err(fault)),
+    }
+}
+
+// Whether the log has these payloads.
+fn has_payloads(
+    alloc: Global,
+    disks: &mut MemoryDisks,
+    expected: &[&[u8]],
+) -> Result<bool, LogFault> {
+    let (_log, payloads) = Frames::open(alloc, disks, 1)?;
+    Ok(
+        payloads.len() == expected.len()
+            && payloads
+                .iter()
+                .zip(expected)
+                .all(|(payload, bytes)| payload.as_slice() == *bytes),
+    )
+}
+
+// A log of a boot and a promise, and behind them what a crash left of a third fact, whose append stopped in the call of
+// this number.
+fn left_behind(
+    rt: &impl Abort,
+    alloc: Global,
+    call: u32,
+    image: Image,
+) -> Result<MemoryDisks, Fail> {
+    let mut disks = MemoryDisks::new(alloc, 1, &[call])?;
+    let (mut log, _payloads) = Frames::open(alloc, &mut disks, 1)?;
+    log.append(&mut disks, &BOOTED)?;
+    log.append(&mut disks, &PROMISED)?;
+    let outcome = log.append(&mut disks, &HEARD);
+    assert_eq!(rt; outcome, Err(LogFault::DiskFault));
+    disks.crash(1, image);
+    Ok(disks)
+}
+
+#[test]
+fn after_a_crash_in_each_call_of_an_append(rt: HostRuntime) -> Result<(), Fail> {
+    let alloc = rt.alloc();
+    let with: [&[u8]; 4] = [&BOOTED, &PROMISED, &HEARD, &BOOTED_AGAIN];
+    let without: [&[u8]; 3] = [&BOOTED, &PROMISED, &BOOTED_AGAIN];
+    for (call, image, is_there) in STRUCK {
+        let mut disks = left_behind(&rt, alloc, call, image)?;
+        assert_eq!(rt; restarted(&rt, alloc, &mut disks)?, Ok(2));
+        assert_eq!(rt; has_payloads(alloc, &mut disks, &with)?, is_there);
+        assert_eq!(rt; has_payloads(alloc, &mut disks, &without)?, !is_there);
+    }
+    Ok(())
+}
+
+#[test]
+fn the_first_start(rt: HostRuntime) -> Result<(), Fail> {
+    let alloc = rt.alloc();
+    let mut disks = MemoryDisks::new(alloc, 1, &[])?;
+    assert_eq!(rt; restarted(&rt, alloc, &mut disks)?, Ok(1));
+    assert_eq!(rt;
+        disks.bytes(1),
+        b"MDCCLOG1\x01\x05\x00\x00\x00\x01\x01\x00\x00\x00\x00".as_slice()
+    );
+    assert_eq!(rt; restarted(&rt, alloc, &mut disks)?, Ok(2));
+    let both: [&[u8]; 2] = [&BOOTED, &BOOTED_AGAIN];
+    assert!(rt; has_payloads(alloc, &mut disks, &both)?);
+    Ok(())
+}
+
+#[test]
+fn no_start(rt: HostRuntime) -> Result<(), Fail> {
+    let alloc = rt.alloc();
+    let mut disks = MemoryDisks::new(alloc, 1, &[1])?;
+    assert_eq!(rt;
+        restarted(&rt, alloc, &mut disks)?,
+        Err(RestartFault::Log(LogFault::DiskFault))
+    );
+    let (mut log, _payloads) = Frames::open(alloc, &mut disks, 1)?;
+    log.append(&mut disks, &HEARD)?;
+    assert_eq!(rt;
+        restarted(&rt, alloc, &mut disks)?,
+        Err(RestartFault::Boot(BootFault::NotARun(1)))
+    );
+    Ok(())
+}

@@ -1,0 +1,6 @@
+mod Begun
+mod Calls
+mod Nodes
+mod Payloads
+mod Standing
+mod Starts

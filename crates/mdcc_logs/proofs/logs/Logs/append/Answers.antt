@@ -1,0 +1,32 @@
+use Rattle.std.proofs.Common.{◌≡◌, ◌-◌, ◌≤◌, ap, arith, length, set, ◌∙◌, ℕ}
+use Rattle.mdcc_logs.proofs.Calls.{appended, settled-there}
+use Rattle.mdcc_logs.proofs.Standing.{log-is, reserved}
+use Rattle.mdcc_logs.proofs.logs.Logs.append.Goals as goal
+use Rattle.mdcc_protocol.proofs.Lengths.{length-fact}
+
+pub append-requires-clause-short : goal.append-requires-clause-short
+append-requires-clause-short c =
+    let same = c.deref.ensures.value ∙ c.in_ok-payload.ensures in
+    omega (ap length same, length-fact c.args.fact.now, c.requires.short, arith)
+
+pub append-requires-clause-settled : goal.append-requires-clause-settled
+append-requires-clause-settled c told =
+    let a = c.args.centre in
+    let place : c.from.result ≡ a = c.from.ensures ∙ c.number-place.ensures.value in
+    let some : 1 ≤ a = omega arith in
+    settled-there c.args.self.now c.reserve.new.self a c.index_mut.result.now c.requires.stand some c.requires.within
+    (log-is c.args.self.now c.from.result a c.index_mut.result.now place some c.requires.within c.index_mut.ensures.value)
+    (reserved c.args.self.now.disks c.reserve.new.self c.number-place.result c.reserve.ensures.others c.reserve.ensures.place)
+
+pub returns-clause-appended : goal.returns-clause-appended
+returns-clause-appended c centres facts stand =
+    let a = c.args.centre in
+    let place : c.from.result ≡ a = c.from.ensures ∙ c.number-place.ensures.value in
+    let some : 1 ≤ a = omega arith in
+    let log = c.index_mut.result.now in
+    appended c.args.self.now _ c.reserve.new.self log c.append.new.log a c.args.fact.now c.deref.result.now c.append.result centres facts stand some c.requires.within
+    (log-is c.args.self.now c.from.result a log place some c.requires.within c.index_mut.ensures.value)
+    (c.deref.ensures.value ∙ c.in_ok-payload.ensures)
+    (reserved c.args.self.now.disks c.reserve.new.self c.number-place.result c.reserve.ensures.others c.reserve.ensures.place)
+    (ap (λ (n : ℕ). set c.args.self.now.open.items (n - 1) c.append.new.log) place)
+    c.append.ensures.place c.append.ensures.others c.append.ensures.acknowledged

@@ -1,0 +1,30 @@
+use Rattle.std.proofs.Common.{◌≡◌, ◌-◌, ◌≤◌, Ok, Option, ap, arith, set, subst, ℕ, ◌∙◌}
+use Rattle.mdcc_disks.specs.Memory.{disk_of, may_leave_of}
+use Rattle.mdcc_facts.specs.declared.list_facts.ListFacts.{ListFacts}
+use Rattle.mdcc_logs.proofs.Standing.{reserved}
+use Rattle.mdcc_logs.proofs.Starts.{full-log, reads, restarted}
+use Rattle.mdcc_logs.proofs.logs.Logs.restart.Goals as goal
+use Rattle.mdcc_logs.specs.Starting.{StartsOver}
+use Rattle.mdcc_restart.specs.declared.restarting.Restarted.{Restarted}
+
+pub returns-in-Some-clause-started : goal.returns-in-Some-clause-started
+returns-in-Some-clause-started c centres facts stand logged cluster few =
+    let a = c.args.centre in
+    let some : 1 ≤ a = omega arith in
+    let place : c.from.result ≡ a = c.from.ensures ∙ c.number-place.ensures.value in
+    let same = reserved c.args.self.now.disks c.reserve.new.self c.number-place.result c.reserve.ensures.others c.reserve.ensures.place in
+    let read = reads c.rest_is_read.ensures c.args.self.now c.reserve.new.self a (facts a) (stand.each a some (omega (c.requires.within, stand.as_many, arith))) (same a) in
+    let runs = subst (λ (o : Option (Restarted ListFacts)). StartsOver (Ok o) c.args.cluster.now a (facts a) (disk_of c.start.new.disks a).bytes (may_leave_of c.start.new.disks a)) c.in-Some.is
+    (c.in_ok-started.ensures.starts (facts a) logged read few) in
+    restarted c.args.self.now _ c.reserve.new.self c.in-Some.started c.args.cluster.now a centres facts stand some c.requires.within same c.start.ensures.others
+    (ap (λ (n : ℕ). set c.args.self.now.open.items (n - 1) c.in-Some.started.log) place) runs
+
+pub returns-in-None-clause-started : goal.returns-in-None-clause-started
+returns-in-None-clause-started c centres facts stand logged cluster few =
+    let a = c.args.centre in
+    let some : 1 ≤ a = omega arith in
+    let same = reserved c.args.self.now.disks c.reserve.new.self c.number-place.result c.reserve.ensures.others c.reserve.ensures.place in
+    let read = reads c.rest_is_read.ensures c.args.self.now c.reserve.new.self a (facts a) (stand.each a some (omega (c.requires.within, stand.as_many, arith))) (same a) in
+    full-log (facts a)
+    (subst (λ (o : Option (Restarted ListFacts)). StartsOver (Ok o) c.args.cluster.now a (facts a) (disk_of c.start.new.disks a).bytes (may_leave_of c.start.new.disks a)) c.in-None.is
+    (c.in_ok-started.ensures.starts (facts a) logged read few))

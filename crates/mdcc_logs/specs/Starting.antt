@@ -1,0 +1,55 @@
+-- What comes of a start of a centre.
+use Rattle.std.specs.Prelude.{◌≡◌, ◌≤◌, ◌+◌, ◌<◌, ◌∷◌, [], Err, List, None, Ok, Option, Result, Some, nat_lt, true, false, ℕ, ⊤}
+use Rattle.mdcc_base.specs.declared.faults.Memory.{Memory}
+use Rattle.mdcc_disks.specs.Memory.{disk_of, is_there}
+use Rattle.mdcc_facts.specs.declared.list_facts.ListFacts.{ListFacts}
+use Rattle.mdcc_log.specs.Log.{log_limit}
+use Rattle.mdcc_logs.specs.Nodes.{IsNodeOf, are_stored}
+use Rattle.mdcc_logs.specs.Stands.{LogsStand, with_fact_at}
+use Rattle.mdcc_logs.specs.declared.logs.Logs.{Logs}
+use Rattle.mdcc_logs.specs.declared.starting.Started.{Started}
+use Rattle.mdcc_node.specs.declared.node.Node.{Node}
+use Rattle.mdcc_option.specs.declared.cluster.Cluster.{Cluster}
+use Rattle.mdcc_protocol.specs.Facts.{epoch_of}
+use Rattle.mdcc_protocol.specs.Lengths.{log_length}
+use Rattle.mdcc_protocol.specs.Volatile.{nothing_kept}
+use Rattle.mdcc_protocol.specs.World.{most_log}
+use Rattle.mdcc_protocol.specs.declared.facts.Fact.{Fact}
+use Rattle.mdcc_restart.specs.Restarting.{Runs, size_with_boot}
+use Rattle.mdcc_restart.specs.declared.restarting.Restarted.{Restarted}
+
+-- ---- over the disk of a centre
+
+-- a centre that runs; or none, where the new boot would pass the limit of its log; or there was no memory
+abbrev pub StartsOver : Result (Option (Restarted ListFacts)) Memory → Cluster → ℕ → List Fact → List ℕ → (List ℕ → Type 0) → Type 0
+StartsOver (Ok (Some centre)) cluster me facts bytes may_leave = Runs are_stored centre cluster me facts bytes may_leave
+StartsOver (Ok None) cluster me facts bytes may_leave = log_limit < size_with_boot facts
+StartsOver (Err fault) cluster me facts bytes may_leave = ⊤
+
+-- ---- among the centres
+
+-- The node of a centre has its facts and the boot of the next epoch, and so has its log, which lies within the limit.
+pub record HasStarted (node : Node ListFacts) (epoch : ℕ) (logs : Logs) (cluster : Cluster) (centres a : ℕ) (facts : ℕ → List Fact) : Type 0 where
+  pub next : epoch ≡ epoch_of (facts a) + 1
+  pub node_of : IsNodeOf node cluster a (Fact.Booted epoch ∷ facts a) nothing_kept
+  pub stand : LogsStand logs centres (with_fact_at facts a (Fact.Booted epoch))
+  pub room : nat_lt most_log (log_length (Fact.Booted epoch ∷ facts a)) ≡ false
+
+-- it has started; or the new boot would pass the limit of the log; or there was no memory
+abbrev pub Starts : Result Started Memory → Logs → Cluster → (centres a : ℕ) → (ℕ → List Fact) → Type 0
+Starts (Ok (Started.Node node epoch)) logs cluster centres a facts = HasStarted node epoch logs cluster centres a facts
+Starts (Ok Started.Full) logs cluster centres a facts =
+    nat_lt most_log (log_length (Fact.Booted (epoch_of (facts a) + 1) ∷ facts a)) ≡ true
+Starts (Err fault) logs cluster centres a facts = ⊤
+
+-- ---- all centres, one after another
+
+-- each centre that has booted did so for the first time
+abbrev pub first_facts : ℕ → List Fact
+first_facts a = Fact.Booted 1 ∷ []
+
+-- So many of the centres have booted for the first time, and the disks of the others are empty.
+pub record AreBegun (logs : Logs) (centres count : ℕ) : Type 0 where
+  pub stand : LogsStand logs count first_facts
+  pub there : (a : ℕ) → count < a → a ≤ centres → is_there logs.disks a ≡ true
+  pub empty : (a : ℕ) → count < a → a ≤ centres → (disk_of logs.disks a).bytes ≡ []

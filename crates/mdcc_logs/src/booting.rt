@@ -1,0 +1,69 @@
+//! The first boot of all centres.
+ghost use Rattle.std.specs.Prelude.{◌≡◌, ◌≤◌, ◌-◌, ◌∷◌, [], IfOk, OnOk, length, true};
+ghost use Rattle.mdcc_logs.specs.Nodes.{AreStarted, IsNodeOf};
+ghost use Rattle.mdcc_logs.specs.Stands.{LogsStand};
+ghost use Rattle.mdcc_logs.specs.Starting.{AreBegun, first_facts};
+ghost use Rattle.mdcc_protocol.specs.Belongs.{is_centre};
+ghost use Rattle.mdcc_protocol.specs.IsCluster.{IsCluster};
+ghost use Rattle.mdcc_protocol.specs.Volatile.{nothing_kept};
+
+use crate::Logs;
+use crate::starting::start;
+use mdcc_base::{Centre, Memory};
+use mdcc_disks::MemoryDisks;
+use mdcc_facts::ListFacts;
+use mdcc_node::Node;
+use mdcc_option::Cluster;
+use mdcc_restart::Restarted;
+use std::alloc::Global;
+
+// The next centre boots for the first time. The log of no facts has room for its boot.
+fn boot(
+    alloc: Global,
+    cluster: &Cluster,
+    centre: Centre,
+    logs: &mut Logs,
+) -> Result<Node<ListFacts>, Memory>
+    requires among { is_centre cluster.now centre ≡ true }
+    requires begun { AreBegun logs.old cluster.now.quorums.centres (centre - 1) }
+    ensures node { IfOk result (λ node. IsNodeOf node cluster.now centre (first_facts centre) nothing_kept) }
+    ensures begun { OnOk result (AreBegun logs.new cluster.now.quorums.centres centre) }
+{
+    logs.disks.reserve(centre.number(), 16, 32)?;
+    match start(alloc, cluster, centre, &mut logs.disks)? {
+        Some(started) => {
+            let Restarted { node, log, .. } = started;
+            logs.open.push(log)?;
+            Ok(node)
+        }
+        None => Err(Memory),
+    }
+}
+
+// Empty disks, and no centre has booted.
+fn none_begun(alloc: Global, cluster: &Cluster) -> Result<Logs, Memory>
+    ensures { IfOk result (λ logs. AreBegun logs cluster.now.quorums.centres 0) }
+{
+    let disks = MemoryDisks::new(alloc, cluster.quorums.centres(), &[])?;
+    Ok(Logs {
+        disks,
+        open: Vec::new(alloc),
+    })
+}
+
+/// All centres boot for the first time, from empty disks: their nodes in order, and their logs.
+pub fn boot_all(alloc: Global, cluster: &Cluster) -> Result<(Vec<Node<ListFacts>>, Logs), Memory>
+    requires { IsCluster cluster.now }
+    ensures nodes { IfOk result (λ r. AreStarted r.0.items cluster.now cluster.now.quorums.centres) }
+    ensures logs { IfOk result (λ r. LogsStand r.1 cluster.now.quorums.centres first_facts) }
+{
+    let mut logs = none_begun(alloc, cluster)?;
+    let mut nodes = Vec::new(alloc);
+    for number in 1..cluster.quorums.centres() + 1 {
+        if let Some(centre) = Centre::new(number) {
+            let node = boot(alloc, cluster, centre, &mut logs)?;
+            nodes.push(node)?;
+        }
+    }
+    Ok((nodes, logs))
+}

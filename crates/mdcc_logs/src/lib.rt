@@ -1,0 +1,10 @@
+//! The logs of the centres of a world, on disks in memory.
+#![tactic(auto)]
+
+pub mod booting;
+pub mod logs;
+pub mod starting;
+
+pub use booting::boot_all;
+pub use logs::Logs;
+pub use starting::Started;

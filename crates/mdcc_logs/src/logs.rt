@@ -1,0 +1,154 @@
+//! The logs of the centres.
+ghost use Rattle.std.specs.Prelude.{◌≡◌, ◌≤◌, ◌<◌, ◌+◌, ◌-◌, ◌^◌, ◌∷◌, ◌++◌, [], List, ℕ, length, nat_lt, IfOk, IsTrue, OnOk, true};
+ghost use Rattle.mdcc_disks.specs.Disks.{KeepsOthers};
+ghost use Rattle.mdcc_disks.specs.Memory.{disk_of, may_leave_of, moment_of, left_since_of};
+ghost use Rattle.mdcc_log.specs.Frames.{IsAtRest, IsSettled};
+ghost use Rattle.mdcc_logs.specs.Stands.{AreLogs, LogsStand, with_fact_at};
+ghost use Rattle.mdcc_logs.specs.Starting.{Starts};
+ghost use Rattle.mdcc_protocol.specs.Belongs.{is_centre};
+ghost use Rattle.mdcc_protocol.specs.Facts.{epoch_of};
+ghost use Rattle.mdcc_protocol.specs.IsCluster.{IsCluster};
+ghost use Rattle.mdcc_protocol.specs.Lengths.{fact_length, frame_length, log_length};
+ghost use Rattle.mdcc_protocol.specs.Spelling.{fact_bytes};
+ghost use Rattle.mdcc_protocol.specs.WellFormed.{IsWellFormedFact};
+ghost use Rattle.mdcc_protocol.specs.World.{most_log};
+ghost use Rattle.mdcc_protocol.specs.declared.facts.Fact.{Fact as AFact};
+ghost use Rattle.mdcc_restart.specs.Logged.{AreLogged};
+
+use crate::starting::{Started, start};
+use mdcc_base::{Centre, Image, Memory};
+use mdcc_disks::{MemoryDisks, crash_leaves_the_image};
+use mdcc_journal::counts::well_formed_facts_have_counts;
+use mdcc_journal::{encode_fact, fact_length};
+use mdcc_log::{Frames, LOG_LIMIT, rest_is_read};
+use mdcc_option::Cluster;
+use mdcc_protocol::Fact;
+use mdcc_restart::Restarted;
+use std::alloc::Global;
+
+/// The logs of the centres, each on its disk in memory, where only want of memory lets a call fail. The
+/// log of a centre has all its facts, each of them durable.
+#[derive(Drop)]
+pub struct Logs {
+    pub(crate) disks: MemoryDisks,
+    pub(crate) open: Vec<Frames>,
+}
+
+// How many bytes a fact has in a log.
+fn frame_length(fact: &Fact) -> u64
+    requires { IsWellFormedFact fact.now }
+    ensures { result ≡ frame_length fact.now }
+{
+    well_formed_facts_have_counts();
+    fact_length(fact) as u64 + 5
+}
+
+// The bytes of a fact.
+fn payload_of(alloc: Global, fact: &Fact) -> Result<Vec<u8>, Memory>
+    requires { IsWellFormedFact fact.now }
+    ensures { IfOk result (λ payload. payload.items ≡ fact_bytes fact.now) }
+{
+    well_formed_facts_have_counts();
+    let mut payload = Vec::new(alloc);
+    encode_fact(fact, &mut payload)?;
+    Ok(payload)
+}
+
+// Makes a payload durable at the end of a log. No call of these disks fails but for want of memory.
+fn append(log: &mut Frames, disks: &mut MemoryDisks, payload: &[u8]) -> Result<(), Memory>
+    requires short { length payload.now ≤ 2097152 }
+    requires settled { IsTrue (disk_of disks.old log.old.place).told
+        → IsSettled log.old.size (disk_of disks.old log.old.place).bytes (may_leave_of disks.old log.old.place) }
+    ensures acknowledged { (payloads : List (List ℕ)) → IsTrue (disk_of disks.old log.old.place).told
+        → IsAtRest payloads log.old.size (disk_of disks.old log.old.place).bytes (may_leave_of disks.old log.old.place)
+        → OnOk result (IsAtRest (payloads ++ payload.now ∷ []) log.new.size
+        (disk_of disks.new log.old.place).bytes (may_leave_of disks.new log.old.place)) }
+    ensures others { KeepsOthers disk_of may_leave_of moment_of left_since_of disks.old disks.new log.old.place }
+    ensures place { log.new.place ≡ log.old.place }
+{
+    match log.append(disks, payload) {
+        Ok(()) => Ok(()),
+        Err(_) => Err(Memory),
+    }
+}
+
+impl Logs {
+    /// The disks, as they stand.
+    pub fn disks(&self) -> &MemoryDisks
+        ensures { result.now ≡ self.now.disks }
+    {
+        &self.disks
+    }
+
+    /// Whether the log of a centre would pass 2^30 bytes with one fact more.
+    pub fn is_full(&self, centre: Centre, fact: &Fact) -> bool
+        requires within { centre ≤ length self.now.open.items }
+        requires formed { IsWellFormedFact fact.now }
+        ensures { (centres : ℕ) (facts : ℕ → List AFact) → LogsStand self.now centres facts → 1 ≤ centre → centre ≤ centres
+            → result ≡ nat_lt most_log (log_length (fact.now ∷ facts centre)) }
+    {
+        let size = self.open[usize::from(centre.number()) - 1].size();
+        size.saturating_add(frame_length(fact)) > LOG_LIMIT
+    }
+
+    /// Makes a fact durable at the end of a centre's log, which is asked first whether it is full: a full
+    /// one is refused as well. After a refusal the logs of the other centres are as before, and that of
+    /// this one is to be opened again.
+    pub fn append(&mut self, alloc: Global, centre: Centre, fact: &Fact) -> Result<(), Memory>
+        requires within { centre ≤ length self.old.open.items }
+        requires formed { IsWellFormedFact fact.now }
+        requires short { fact_length fact.now ≤ 2097152 }
+        requires stand { AreLogs self.old }
+        ensures as_many { length self.new.open.items ≡ length self.old.open.items }
+        ensures appended { (centres : ℕ) (facts : ℕ → List AFact) → LogsStand self.old centres facts
+            → OnOk result (LogsStand self.new centres (with_fact_at facts centre fact.now)) }
+    {
+        let payload = payload_of(alloc, fact)?;
+        let place = centre.number();
+        self.disks.reserve(place, 4, payload.len() as u64 + 6)?;
+        append(
+            &mut self.open[usize::from(place) - 1],
+            &mut self.disks,
+            &payload,
+        )
+    }
+
+    /// A centre crashes: what was not synced is lost, which is nothing.
+    pub fn crash(&mut self, centre: Centre)
+        requires { centre ≤ length self.old.open.items }
+        ensures as_many { length self.new.open.items ≡ length self.old.open.items }
+        ensures kept { (centres : ℕ) (facts : ℕ → List AFact) → LogsStand self.old centres facts
+            → LogsStand self.new centres facts }
+    {
+        crash_leaves_the_image();
+        self.disks.crash(centre.number(), Image::Lost);
+    }
+
+    /// A centre starts again from its log: it has the facts of its log and the new boot. After `Full` and
+    /// after want of memory the logs of the other centres are as before, and that of this one is to be
+    /// opened again.
+    pub fn restart(
+        &mut self,
+        alloc: Global,
+        cluster: &Cluster,
+        centre: Centre,
+    ) -> Result<Started, Memory>
+        requires among { is_centre cluster.now centre ≡ true }
+        requires within { centre ≤ length self.old.open.items }
+        ensures as_many { length self.new.open.items ≡ length self.old.open.items }
+        ensures started { (centres : ℕ) (facts : ℕ → List AFact) → LogsStand self.old centres facts → AreLogged cluster.now (facts centre)
+            → IsCluster cluster.now → epoch_of (facts centre) < 2 ^ 32 - 1 → Starts result self.new cluster.now centres centre facts }
+    {
+        let place = centre.number();
+        rest_is_read();
+        self.disks.reserve(place, 16, 32)?;
+        match start(alloc, cluster, centre, &mut self.disks)? {
+            Some(started) => {
+                let Restarted { node, log, epoch } = started;
+                self.open[usize::from(place) - 1] = log;
+                Ok(Started::Node(node, epoch))
+            }
+            None => Ok(Started::Full),
+        }
+    }
+}

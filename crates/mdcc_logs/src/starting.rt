@@ -1,0 +1,50 @@
+//! The start of one centre.
+ghost use Rattle.std.specs.Prelude.{◌≡◌, ◌<◌, ◌-◌, ◌^◌, List, true};
+ghost use Rattle.mdcc_disks.specs.Disks.{KeepsOthers};
+ghost use Rattle.mdcc_disks.specs.Memory.{disk_of, may_leave_of, moment_of, left_since_of};
+ghost use Rattle.mdcc_logs.specs.Starting.{StartsOver};
+ghost use Rattle.mdcc_protocol.specs.Belongs.{is_centre};
+ghost use Rattle.mdcc_protocol.specs.Facts.{epoch_of};
+ghost use Rattle.mdcc_protocol.specs.declared.facts.Fact.{Fact as AFact};
+ghost use Rattle.mdcc_restart.specs.Logged.{AreLogged};
+ghost use Rattle.mdcc_restart.specs.Restarting.{IsLogOf};
+
+use mdcc_base::{Centre, Memory, Plain};
+use mdcc_disks::MemoryDisks;
+use mdcc_facts::ListFacts;
+use mdcc_log::LogFault;
+use mdcc_node::Node;
+use mdcc_option::Cluster;
+use mdcc_restart::{RestartFault, Restarted, restart};
+use std::alloc::Global;
+
+/// What comes of a restart.
+#[derive(Drop)]
+pub enum Started {
+    /// The node of the centre, and the epoch that its boot began.
+    Node(Node<ListFacts>, u32),
+    /// The log would pass 2^30 bytes with the new boot.
+    Full,
+}
+
+/// A centre that starts over its disk; there is none where the new boot would pass the limit of its
+/// log. That a call of the disk failed is for want of memory, and so is each refusal that cannot come
+/// over a log of what the centre added.
+pub(crate) fn start(
+    alloc: Global,
+    cluster: &Cluster,
+    centre: Centre,
+    disks: &mut MemoryDisks,
+) -> Result<Option<Restarted<ListFacts>>, Memory>
+    requires { is_centre cluster.now centre ≡ true }
+    ensures starts { (facts : List AFact) → AreLogged cluster.now facts → IsLogOf facts (disk_of disks.old centre) → epoch_of facts < 2 ^ 32 - 1
+        → StartsOver result cluster.now centre facts (disk_of disks.new centre).bytes (may_leave_of disks.new centre) }
+    ensures others { KeepsOthers disk_of may_leave_of moment_of left_since_of disks.old disks.new centre }
+{
+    let store = ListFacts::new(alloc)?;
+    match restart(alloc, cluster.copy(), centre, store, disks) {
+        Ok(centre) => Ok(Some(centre)),
+        Err(RestartFault::Log(LogFault::LogFull)) => Ok(None),
+        Err(_) => Err(Memory),
+    }
+}

@@ -1,0 +1,18 @@
+use Rattle.std.proofs.Common.{rules, refl}
+use Rattle.mdcc_node.proofs.node.Node.boot.Goals as goal
+
+pub returns-in_ok-manager-in-Ok : goal.returns-in_ok-manager-in-Ok
+returns-in_ok-manager-in-Ok g c all held =
+    let booted = c.in-Ok.ensures all held in (
+      booted.0,
+      booted.1,
+      record {
+        of = c.of_parts-node.ensures.of;
+        at = c.of_parts-node.ensures.at;
+        among = c.requires.among;
+        store = rw c.of_parts-node.ensures.store booted.2.list;
+        manager = rw c.of_parts-node.ensures.manager (c.in_ok-manager-in-Ok.ensures c.args.cluster.quorums (search rules));
+        leader = refl;
+        recovery = refl;
+      },
+    )

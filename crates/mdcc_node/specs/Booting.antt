@@ -1,0 +1,16 @@
+-- What a boot gives: a node that stands for the facts of its log and of the boot.
+use Rattle.std.specs.Bool.{OnFalse}
+use Rattle.std.specs.Prelude.{Err, List, Ok, Result, ℕ, ◌∷◌, ◌≡◌}
+use Rattle.mdcc_admission.specs.Loading.{is_memory}
+use Rattle.mdcc_node.specs.Stands.{Stands}
+use Rattle.mdcc_node.specs.declared.node.Node.{Node}
+use Rattle.mdcc_option.specs.declared.cluster.Cluster.{Cluster}
+use Rattle.mdcc_protocol.specs.Volatile.{nothing_kept}
+use Rattle.mdcc_protocol.specs.declared.facts.Fact.{Fact}
+use Rattle.mdcc_protocol.specs.declared.node.BootFault.{BootFault}
+
+-- the node stands for the expected facts with nothing kept, and the newest fact is given; or the expected fault, where memory does not lack
+abbrev pub Boots : {S : Type 0} → (S → List Fact → Type 0) → Result (Node S × Fact) BootFault → Cluster → ℕ → Result (List Fact) BootFault → Type 0
+Boots stands (Ok r) cluster me expected =
+    (facts : List Fact) × (expected ≡ Ok (r.1 ∷ facts)) × Stands stands r.0 cluster me (r.1 ∷ facts) nothing_kept
+Boots stands (Err fault) cluster me expected = OnFalse (is_memory fault) (expected ≡ Err fault)

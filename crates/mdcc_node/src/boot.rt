@@ -1,0 +1,46 @@
+//! The boot of a node from the payloads of its log.
+ghost use Rattle.std.specs.Prelude.{◌≡◌, [], map, true};
+ghost use Rattle.mdcc_admission.specs.Loading.{Cells, Holds, boot_by, fact_read};
+ghost use Rattle.mdcc_node.specs.Booting.{Boots};
+ghost use Rattle.mdcc_protocol.specs.Belongs.{is_centre};
+
+use crate::node::Node;
+use mdcc_admission::boot_store;
+use mdcc_base::{Centre, HeapList};
+use mdcc_facts::FactStore;
+use mdcc_manager::Manager;
+use mdcc_option::Cluster;
+use mdcc_protocol::{BootFault, Fact};
+use std::alloc::Global;
+
+impl<S: FactStore + Drop> Node<S> {
+    /// A node from the payloads of its log, the oldest first, over an empty store, with the fact of
+    /// the boot, which the caller makes durable. `NotARun` is the number of the first payload, from 1,
+    /// that spells no fact or one that may not stand after those before it; `Room` comes where an
+    /// allowed fact needs more cells than are left, with the cells in use and its own, up to
+    /// 2^64 - 1, and all cells; after the payloads `Epochs` comes where the last epoch is 2^32 - 1, and
+    /// last `Room` for the new boot. The store is given up with a refusal. A boot without memory may
+    /// be tried again.
+    pub fn boot(
+        alloc: Global,
+        cluster: Cluster,
+        centre: Centre,
+        store: S,
+        payloads: &[HeapList<u8>],
+    ) -> Result<(Node<S>, Fact), BootFault>
+        requires among { is_centre cluster centre ≡ true }
+        requires empty { S.stands store [] }
+        ensures { (all : Cells) → Holds S.stands S.room S.cells_for all store []
+            → Boots S.stands result cluster centre (boot_by all cluster (map fact_read payloads.now)) }
+    {
+        let mut store = store;
+        match boot_store(alloc, &cluster, &mut store, payloads) {
+            Ok(epoch) => {
+                let manager = Manager::new(alloc, centre, epoch)?;
+                let node = Node::of_parts(alloc, cluster, centre, store, manager);
+                Ok((node, Fact::Booted(epoch)))
+            }
+            Err(fault) => Err(fault),
+        }
+    }
+}

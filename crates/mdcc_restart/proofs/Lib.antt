@@ -1,0 +1,4 @@
+pub mod Ample
+pub mod Logged
+pub mod Short
+pub mod Starts

@@ -1,0 +1,71 @@
+-- What comes of a restart over a log of facts.
+use Rattle.std.specs.Prelude.{Err, IsTrue, List, Ok, Result, [], length, ℕ, ◌+◌, ◌-◌, ◌<◌, ◌^◌, ◌∷◌, ◌≡◌, ◌≤◌, ⊤}
+use Rattle.mdcc_admission.specs.Boots.{AreAmple}
+use Rattle.mdcc_admission.specs.Loading.{Cells, Holds}
+use Rattle.mdcc_disks.specs.Disks.{Disk}
+use Rattle.mdcc_log.specs.Frames.{IsAtRest}
+use Rattle.mdcc_log.specs.Log.{log_bytes, log_limit, read_log}
+use Rattle.mdcc_log.specs.declared.fault.LogFault.{LogFault}
+use Rattle.mdcc_node.specs.Stands.{Stands}
+use Rattle.mdcc_node.specs.declared.node.Node.{Node}
+use Rattle.mdcc_option.specs.declared.cluster.Cluster.{Cluster}
+use Rattle.mdcc_protocol.specs.Facts.{epoch_of}
+use Rattle.mdcc_protocol.specs.Volatile.{nothing_kept}
+use Rattle.mdcc_protocol.specs.declared.facts.Fact.{Fact}
+use Rattle.mdcc_protocol.specs.declared.node.BootFault.{BootFault}
+use Rattle.mdcc_restart.specs.Logged.{logged}
+use Rattle.mdcc_restart.specs.declared.fault.RestartFault.{RestartFault}
+use Rattle.mdcc_restart.specs.declared.restarting.Restarted.{Restarted}
+
+-- ---- what stands before it
+
+-- an empty store in which cells never lack
+pub record IsAmple {S : Type 0} (stands : S → List Fact → Type 0) (room : S → ℕ) (cells_for : S → Fact → ℕ) (store : S) : Type 0 where
+  pub cells : Cells
+  pub empty : Holds stands room cells_for cells store []
+  pub ample : AreAmple cells
+
+-- a disk that tells its bytes, of which these facts are read
+pub record IsLogOf (facts : List Fact) (disk : Disk) : Type 0 where
+  pub told : IsTrue disk.told
+  pub read : read_log disk.bytes ≡ Ok (logged facts)
+
+-- ---- what comes of it
+
+-- the boot that comes after these facts
+abbrev pub next_boot : List Fact → Fact
+next_boot facts = Fact.Booted (epoch_of facts + 1)
+
+-- how many bytes the log has with it
+abbrev pub size_with_boot : List Fact → ℕ
+size_with_boot facts = length (log_bytes (logged (next_boot facts ∷ facts)))
+
+-- A centre that runs: its node has these facts and the new boot, and its log, which lies within the limit, has them too, all of it durable.
+pub record Runs {S : Type 0} (stands : S → List Fact → Type 0) (centre : Restarted S) (cluster : Cluster) (me : ℕ) (facts : List Fact) (bytes : List ℕ) (may_leave : List ℕ → Type 0) : Type 0 where
+  pub epoch : centre.epoch ≡ epoch_of facts + 1
+  pub below : epoch_of facts < 2 ^ 32 - 1
+  pub node : Stands stands centre.node cluster me (next_boot facts ∷ facts) nothing_kept
+  pub place : centre.log.place ≡ me
+  pub at_rest : IsAtRest (logged (next_boot facts ∷ facts)) centre.log.size bytes may_leave
+  pub within : size_with_boot facts ≤ log_limit
+
+-- Why no centre runs. A fault of the disk and want of memory may come at any time.
+abbrev pub IsRefused : List Fact → RestartFault → Type 0
+IsRefused facts (RestartFault.Boot BootFault.Epochs) = 2 ^ 32 - 1 ≤ epoch_of facts
+IsRefused facts (RestartFault.Log LogFault.LogFull) = (epoch_of facts < 2 ^ 32 - 1) × (log_limit < size_with_boot facts)
+IsRefused facts (RestartFault.Log LogFault.DiskFault) = ⊤
+IsRefused facts RestartFault.Memory = ⊤
+IsRefused facts _ = ⊥
+
+abbrev pub Restarts : {S : Type 0} → (S → List Fact → Type 0) → Result (Restarted S) RestartFault → Cluster → ℕ → List Fact → List ℕ → (List ℕ → Type 0) → Type 0
+Restarts stands (Ok centre) cluster me facts bytes may_leave = Runs stands centre cluster me facts bytes may_leave
+Restarts stands (Err fault) cluster me facts bytes may_leave = IsRefused facts fault
+
+-- ---- its boot
+
+-- a node of these facts and the new boot, or the fault: the epochs are used up, or there was no memory
+abbrev pub BootsNode : {S : Type 0} → (S → List Fact → Type 0) → Result (Node S) RestartFault → Cluster → ℕ → List Fact → Type 0
+BootsNode stands (Ok node) cluster me facts = (epoch_of facts < 2 ^ 32 - 1) × Stands stands node cluster me (next_boot facts ∷ facts) nothing_kept
+BootsNode stands (Err (RestartFault.Boot BootFault.Epochs)) cluster me facts = 2 ^ 32 - 1 ≤ epoch_of facts
+BootsNode stands (Err RestartFault.Memory) cluster me facts = ⊤
+BootsNode stands (Err fault) cluster me facts = ⊥

@@ -1,0 +1,11 @@
+//! What a centre does when it starts: it opens its log, boots its node from the payloads, and makes the
+//! new boot durable.
+#![tactic(auto)]
+
+pub mod fault;
+pub mod restarting;
+
+pub use fault::RestartFault;
+pub use mdcc_log::{Frames, LogFault};
+pub use mdcc_node::{BootFault, Node};
+pub use restarting::{Restarted, restart};

@@ -1,0 +1,102 @@
+//! The start of a centre.
+ghost use Rattle.std.specs.Prelude.{◌≡◌, ◌≤◌, ◌⊎◌, ◌∷◌, [], List, IfOk, IsErrOf, IsTrue, length, true};
+ghost use Rattle.mdcc_base.specs.Causes.{Rose};
+ghost use Rattle.mdcc_disks.specs.Disks.{KeepsOthers};
+ghost use Rattle.mdcc_log.specs.Crash.{IsBetween};
+ghost use Rattle.mdcc_log.specs.Log.{payload_limit};
+ghost use Rattle.mdcc_protocol.specs.Belongs.{is_centre};
+ghost use Rattle.mdcc_protocol.specs.Spelling.{fact_bytes};
+ghost use Rattle.mdcc_protocol.specs.declared.facts.Fact.{Fact as AFact};
+ghost use Rattle.mdcc_restart.specs.Logged.{AreLogged, logged};
+ghost use Rattle.mdcc_restart.specs.Restarting.{BootsNode, IsAmple, IsLogOf, Restarts};
+
+use crate::RestartFault;
+use mdcc_base::{Centre, HeapList, Memory};
+use mdcc_disks::Disks;
+use mdcc_facts::FactStore;
+use mdcc_journal::encode_fact;
+use mdcc_log::{Frames, LogFault, between_is_read};
+use mdcc_node::Node;
+use mdcc_option::Cluster;
+use mdcc_protocol::{BootFault, Fact};
+use std::alloc::Global;
+
+/// A running centre: its node, its open log, and the epoch that its last boot began.
+#[derive(Drop)]
+pub struct Restarted<S> {
+    pub node: Node<S>,
+    pub log: Frames,
+    pub epoch: u32,
+}
+
+// A node from the payloads of its log.
+fn boot_node<S: FactStore + Drop>(
+    alloc: Global,
+    cluster: Cluster,
+    centre: Centre,
+    store: S,
+    payloads: &[HeapList<u8>],
+) -> Result<Node<S>, RestartFault>
+    requires among { is_centre cluster centre ≡ true }
+    requires empty { S.stands store [] }
+    ensures node { (facts : List AFact) → IsAmple S.stands S.room S.cells_for store → AreLogged cluster facts
+        → payloads.now ≡ logged facts → BootsNode S.stands result cluster centre facts }
+    ensures no_log { (fault : LogFault) → IsErrOf result (RestartFault.Log fault) → ⊥ }
+    ensures memory { IsErrOf result (RestartFault.Boot BootFault.Memory) → ⊥ }
+{
+    let (node, _) = Node::boot(alloc, cluster, centre, store, payloads)?;
+    Ok(node)
+}
+
+// The payload of a boot.
+fn boot_payload(alloc: Global, epoch: u32) -> Result<Vec<u8>, Memory>
+    ensures bytes { IfOk result (λ v. v.items ≡ fact_bytes (AFact.Booted epoch)) }
+    ensures short { IfOk result (λ v. length v.items ≡ 5) }
+{
+    let mut bytes = Vec::new(alloc);
+    encode_fact(&Fact::Booted(epoch), &mut bytes)?;
+    Ok(bytes)
+}
+
+/// Starts a centre over an empty store: opens its log, boots its node from the payloads, and appends
+/// the boot of the next epoch. So no two starts of a centre begin the same epoch, and at `Ok` each
+/// later crash leaves a log that has the new boot. Want of memory is always `Memory`. After a refusal
+/// it may be tried again.
+pub fn restart<D: Disks, S: FactStore + Drop>(
+    alloc: Global,
+    cluster: Cluster,
+    centre: Centre,
+    store: S,
+    disks: &mut D,
+) -> Result<Restarted<S>, RestartFault>
+    requires among { is_centre cluster centre ≡ true }
+    requires empty { S.stands store [] }
+
+    // Over a log of facts that the centre may have added it has just these and the new boot. It is
+    // refused where the epochs are used up, and where the new boot would pass the limit of the log.
+    ensures restarts { (facts : List AFact) → IsAmple S.stands S.room S.cells_for store → AreLogged cluster facts
+        → IsLogOf facts (D.disk disks.old centre)
+        → Restarts S.stands result cluster centre facts (D.disk disks.new centre).bytes (D.may_leave disks.new centre) }
+
+    // So too where a crash came at any moment of an append: with the fact that was being added, or
+    // without it.
+    ensures after_crash { (facts : List AFact) (fact : AFact) → IsAmple S.stands S.room S.cells_for store → AreLogged cluster (fact ∷ facts)
+        → IsTrue (D.disk disks.old centre).told → IsBetween (logged facts) (fact_bytes fact) (D.disk disks.old centre).bytes
+        → Restarts S.stands result cluster centre facts (D.disk disks.new centre).bytes (D.may_leave disks.new centre)
+        ⊎ Restarts S.stands result cluster centre (fact ∷ facts) (D.disk disks.new centre).bytes (D.may_leave disks.new centre) }
+    ensures others { KeepsOthers D.disk D.may_leave D.moment D.left_since disks.old disks.new centre }
+    ensures later { (D.disk disks.old centre).faults ≤ (D.disk disks.new centre).faults }
+    ensures disk_fault { IsErrOf result (RestartFault.Log LogFault.DiskFault)
+        → Rose (D.disk disks.old centre).faults (D.disk disks.new centre).faults }
+    ensures log_memory { IsErrOf result (RestartFault.Log LogFault.Memory) → ⊥ }
+    ensures boot_memory { IsErrOf result (RestartFault.Boot BootFault.Memory) → ⊥ }
+{
+    between_is_read();
+    let (log, payloads) = Frames::open(alloc, disks, centre.number())?;
+    let mut log = log;
+    let node = boot_node(alloc, cluster, centre, store, payloads.as_slice())?;
+    let epoch = node.epoch();
+    let payload = boot_payload(alloc, epoch)?;
+    log.append(disks, &payload)?;
+    Ok(Restarted { node, log, epoch })
+}

@@ -1,0 +1,222 @@
+-- A centre crashes, or starts again.
+use Rattle.std.proofs.Common.{◌≡◌, ℕ, ◌+◌, ◌-◌, ◌≤◌, ◌<◌, ◌^◌, ◌==◌, ◌&&◌, Bool, true, false, List, [], ◌∷◌, ◌++◌, refl, sym, ap, ◌∙◌, subst, inl, inr, Ok, Err, arith, length, get_or, nat_lt}
+use Rattle.std.specs.Prelude.{set}
+use Rattle.std.proofs.lemmas.Bool.{cases_Bool, eqb-true, eq-eqb}
+use Rattle.std.proofs.lemmas.List.{get_or-set_other, get_or-set_same, length-set}
+use Rattle.mdcc_disks.specs.Memory.{disk_of}
+use Rattle.mdcc_facts.specs.declared.list_facts.ListFacts.{ListFacts}
+use Rattle.mdcc_log.specs.Frames.{RestIsRead}
+use Rattle.mdcc_logs.specs.Nodes.{IsNodeOf}
+use Rattle.mdcc_logs.specs.Stands.{LogsStand, with_fact_at}
+use Rattle.mdcc_logs.specs.declared.logs.Logs.{Logs}
+use Rattle.mdcc_node.specs.declared.node.Node.{Node}
+use Rattle.mdcc_protocol.specs.Belongs.{is_centre}
+use Rattle.mdcc_protocol.specs.Facts.{epoch_of}
+use Rattle.mdcc_protocol.specs.Ledger.{Added, facts_of}
+use Rattle.mdcc_protocol.specs.Lengths.{log_length}
+use Rattle.mdcc_protocol.specs.Volatile.{nothing_kept}
+use Rattle.mdcc_protocol.specs.World.{Site, World, booted, centre_at, counted_event, crash_happened, down, is_up_at, most_log, restart_happened}
+use Rattle.mdcc_protocol.specs.declared.facts.Fact.{Fact}
+use Rattle.mdcc_protocol.specs.declared.lines.Line.{Line}
+use Rattle.mdcc_protocol.specs.declared.world.EventFault.{EventFault}
+use Rattle.mdcc_protocol.specs.declared.world.LimitName.{LimitName}
+use Rattle.mdcc_restart.specs.Logged.{AreLogged, logged}
+use Rattle.mdcc_world.proofs.Counted.{up-centre}
+use Rattle.mdcc_world.proofs.NodesStay.{set-get}
+use Rattle.mdcc_world.proofs.Took.{booted-counted, logs-same}
+use Rattle.mdcc_world.specs.Disks.{DisksShow}
+use Rattle.mdcc_world.specs.Nodes.{NodesStand, UpsStand}
+use Rattle.mdcc_world.specs.Stands.{HasHappened, Happens, IsLike}
+use Rattle.mdcc_world.specs.declared.world.World.{World as TheWorld}
+use Rattle.mdcc_worlds.proofs.Stays.{counted-stays, crash-stays, restart-stays, site-other, site-same, some-centre}
+use Rattle.mdcc_worlds.specs.Happening.{next_epoch, restarted}
+use Rattle.mdcc_worlds.specs.Standing.{IsWorld}
+
+-- ---- sites
+
+module _ (w : World) (a : ℕ) (site : Site) (world : IsWorld w) (centre : is_centre w.cluster a ≡ true) where
+  sites : List Site
+  sites = set w.centres (a - 1) site
+
+  some : 1 ≤ a
+  some = (some-centre w.cluster a centre).0
+
+  pub site-at : get_or (set w.centres (a - 1) site) (a - 1) booted ≡ site
+  site-at = site-same w.centres a site some (rw world.sites (some-centre w.cluster a centre).1)
+
+  pub site-elsewhere : (b : ℕ) → 1 ≤ b → (a == b) ≡ false → get_or (set w.centres (a - 1) site) (b - 1) booted ≡ centre_at w b
+  site-elsewhere b positive other = site-other w.centres a b site some positive other
+
+  -- which centres are up
+  pub ups-set : (ups : List Bool) (up : Bool) → length ups ≡ 9 → a ≤ 9 → site.is_up ≡ up → UpsStand ups w
+      → (b : ℕ) → 1 ≤ b → b ≤ 9 → get_or (set ups (a - 1) up) (b - 1) false ≡ (is_centre w.cluster b && (get_or (set w.centres (a - 1) site) (b - 1) booted).is_up)
+  ups-set ups up many nine is stand b positive few = elim (cases_Bool (a == b)) [
+    | inl e ↦
+        let same : a ≡ b = eqb-true a b e in
+        let here : get_or (set ups (a - 1) up) (a - 1) false ≡ up = get_or-set_same ups (a - 1) up false (omega (some, many, nine, arith)) in
+        subst (λ (n : ℕ). get_or (set ups (a - 1) up) (n - 1) false ≡ (is_centre w.cluster n && (get_or (set w.centres (a - 1) site) (n - 1) booted).is_up)) same
+        (here ∙ rw (site-at, centre) (sym is))
+    | inr e ↦
+        let there : get_or (set ups (a - 1) up) (b - 1) false ≡ get_or ups (b - 1) false = get_or-set_other ups (a - 1) (b - 1) up false (λ f.
+        let same : a ≡ b = omega (f, some, positive, arith) in
+        let clash : true ≡ false = sym (eq-eqb a b same) ∙ e in
+        absurd (cc)) in
+        there ∙ stand b positive few ∙ ap (λ (s : Site). is_centre w.cluster b && s.is_up) (sym (site-elsewhere b positive e))
+  ]
+
+other-place : (a j : ℕ) → 1 ≤ a → ((a - 1) == j) ≡ false → (a == (j + 1)) ≡ false
+other-place a j some other = elim (cases_Bool (a == (j + 1))) [
+  | inl e ↦
+      let same = eqb-true a (j + 1) e in
+      let place : a - 1 ≡ j = omega (same, some, arith) in
+      let clash : true ≡ false = sym (eq-eqb (a - 1) j place) ∙ other in
+      absurd (cc)
+  | inr e ↦ e
+]
+
+-- ---- a crash
+
+crashed-nodes : (nodes : List (Node ListFacts)) (w : World) (a : ℕ) → IsWorld w → is_centre w.cluster a ≡ true → NodesStand nodes w
+    → NodesStand nodes (crash_happened w a).world
+crashed-nodes nodes w a world centre stand = record {
+  as_many = stand.as_many;
+  each = λ j node at up. elim (cases_Bool (a == (j + 1))) [
+    | inl e ↦
+        let same : a ≡ j + 1 = eqb-true a (j + 1) e in
+        let here : get_or (set w.centres (a - 1) down) (j + 1 - 1) booted ≡ down = subst (λ (n : ℕ). get_or (set w.centres (a - 1) down) (n - 1) booted ≡ down) same (site-at w a down world centre) in
+        let bad : false ≡ true = ap (λ (s : Site). s.is_up) (sym here) ∙ up in
+        absurd (cc)
+    | inr e ↦
+        let there = site-elsewhere w a down world centre (j + 1) (omega arith) e in
+        rw there (stand.each j node at (ap (λ (s : Site). s.is_up) (sym there) ∙ up))
+  ];
+}
+
+pub has-crashed : (world new : TheWorld) (w : World) (a : ℕ) (before lines : List Line) → IsLike world w → is_up_at w a ≡ true
+    → length world.up ≡ 9 → a ≤ 9
+    → new ≡ record world { up = set world.up (a - 1) false; logs = new.logs; events = world.events + 1 }
+    → LogsStand new.logs w.cluster.quorums.centres (facts_of w.ledger)
+    → lines ≡ before ++ Line.Crash a ∷ []
+    → HasHappened new before lines (crash_happened (counted_event w) a)
+has-crashed world new w a before lines like up many nine rest logs told =
+    let centre = up-centre w a up in
+    let counted = counted-stays w like.records.itself in
+    let few = like.records.few_reads in
+    let nodes : NodesStand world.nodes.items (counted_event w) = record { as_many = like.nodes.as_many; each = like.nodes.each } in
+    record {
+      like = record {
+        records = record {
+          itself = crash-stays (counted_event w) a counted centre;
+          cluster = ap (λ (x : TheWorld). x.cluster) rest ∙ like.records.cluster;
+          mail = ap (λ (x : TheWorld). x.mail) rest ∙ like.records.mail;
+          bytes = ap (λ (x : TheWorld). x.bytes) rest ∙ like.records.bytes;
+          reads = ap (λ (x : TheWorld). x.reads) rest ∙ like.records.reads;
+          few_reads = omega (few, arith);
+          events = ap (λ (x : TheWorld). x.events) rest ∙ ap (λ (n : ℕ). n + 1) like.records.events;
+          ups = rw rest (ups-set (counted_event w) a down counted centre world.up false many nine refl like.records.ups);
+        };
+        outcomes = rw rest like.outcomes;
+        nodes = rw rest (crashed-nodes world.nodes.items (counted_event w) a counted centre nodes);
+        logs = logs;
+      };
+      lines = told;
+    }
+
+-- ---- a restart
+
+restarted-nodes : (nodes : List (Node ListFacts)) (node : Node ListFacts) (w : World) (a epoch : ℕ) → IsWorld w → is_centre w.cluster a ≡ true → NodesStand nodes w
+    → IsNodeOf node w.cluster a (Fact.Booted epoch ∷ facts_of w.ledger a) nothing_kept
+    → NodesStand (set nodes (a - 1) node) (restart_happened w a epoch).world
+restarted-nodes nodes node w a epoch world centre stand is = record {
+  as_many = length-set nodes (a - 1) node ∙ stand.as_many;
+  each = λ j x at up. elim (set-get nodes (a - 1) j node x at) [
+    | inl here ↦
+        let some = (some-centre w.cluster a centre).0 in
+        let place : j + 1 ≡ a = (let e = here.0 in omega (e, some, arith)) in
+        let same : (a == a) ≡ true = eq-eqb a a refl in
+        rw (place, ← here.1, same, site-at w a booted world centre) is
+    | inr there ↦
+        let some = (some-centre w.cluster a centre).0 in
+        let other = other-place a j some there.0 in
+        let site = site-elsewhere w a booted world centre (j + 1) (omega arith) other in
+        rw (other, site) (stand.each j x there.1 (ap (λ (s : Site). s.is_up) (sym site) ∙ up))
+  ];
+}
+
+-- the limit of its log
+pub restart-limit : (w : World) (a : ℕ) → nat_lt most_log (log_length (Fact.Booted (next_epoch w a) ∷ facts_of w.ledger a)) ≡ true
+    → restarted w a ≡ Err (EventFault.Limit LimitName.Log most_log)
+restart-limit w a full = rw full refl
+
+pub restart-within : (w : World) (a : ℕ) → nat_lt most_log (log_length (Fact.Booted (next_epoch w a) ∷ facts_of w.ledger a)) ≡ false
+    → restarted w a ≡ Ok (restart_happened (counted_event w) a (next_epoch w a))
+restart-within w a room = rw room refl
+
+facts-restarted : (w : World) (a epoch b : ℕ) → with_fact_at (facts_of w.ledger) a (Fact.Booted epoch) b ≡ facts_of (Added a (Fact.Booted epoch) ∷ w.ledger) b
+facts-restarted w a epoch b = refl
+
+pub has-restarted : (world new : TheWorld) (kept : Logs) (w : World) (a epoch : ℕ) (node : Node ListFacts) (before lines : List Line) → IsLike world w → is_centre w.cluster a ≡ true
+    → w.events < 100000 → length world.up ≡ 9 → a ≤ 9
+    → new ≡ record world { nodes = new.nodes; up = set world.up (a - 1) true; logs = kept; events = world.events + 1 }
+    → new.nodes.items ≡ set world.nodes.items (a - 1) node
+    → epoch ≡ next_epoch w a
+    → IsNodeOf node w.cluster a (Fact.Booted epoch ∷ facts_of w.ledger a) nothing_kept
+    → LogsStand kept w.cluster.quorums.centres (with_fact_at (facts_of w.ledger) a (Fact.Booted epoch))
+    → nat_lt most_log (log_length (Fact.Booted epoch ∷ facts_of w.ledger a)) ≡ false
+    → lines ≡ before ++ Line.Restart a epoch ∷ []
+    → Happens {T = Unit {0}} new before lines (Ok tt) (restarted w a)
+has-restarted world new kept w a epoch node before lines like centre early many nine rest nodes same is logs room told =
+    let counted = counted-stays w like.records.itself in
+    let few = like.records.few_reads in
+    let standing : NodesStand world.nodes.items (counted_event w) = record { as_many = like.nodes.as_many; each = like.nodes.each } in
+    let within : restarted w a ≡ Ok (restart_happened (counted_event w) a epoch) =
+    restart-within w a (subst (λ (n : ℕ). nat_lt most_log (log_length (Fact.Booted n ∷ facts_of w.ledger a)) ≡ false) same room)
+    ∙ ap (λ (n : ℕ). Ok (restart_happened (counted_event w) a n)) (sym same) in
+    let itself : IsWorld (restart_happened (counted_event w) a epoch).world =
+    subst (λ (n : ℕ). IsWorld (restart_happened (counted_event w) a n).world) (sym same) (restart-stays w a like.records.itself centre early) in
+    let ups : UpsStand (set world.up (a - 1) true) (restart_happened (counted_event w) a epoch).world = ups-set (counted_event w) a booted counted centre world.up true many nine refl like.records.ups in
+    let standing-logs : LogsStand kept w.cluster.quorums.centres (facts_of (Added a (Fact.Booted epoch) ∷ w.ledger)) =
+    logs-same kept w.cluster.quorums.centres (with_fact_at (facts_of w.ledger) a (Fact.Booted epoch)) (facts_of (Added a (Fact.Booted epoch) ∷ w.ledger)) (λ b some within. facts-restarted w a epoch b) logs in
+    rw within (record {
+      like = record {
+        records = record {
+          itself = itself;
+          cluster = ap (λ (x : TheWorld). x.cluster) rest ∙ like.records.cluster;
+          mail = ap (λ (x : TheWorld). x.mail) rest ∙ like.records.mail;
+          bytes = ap (λ (x : TheWorld). x.bytes) rest ∙ like.records.bytes;
+          reads = ap (λ (x : TheWorld). x.reads) rest ∙ like.records.reads;
+          few_reads = omega (few, arith);
+          events = ap (λ (x : TheWorld). x.events) rest ∙ ap (λ (n : ℕ). n + 1) like.records.events;
+          ups = rw (ap (λ (x : TheWorld). x.up) rest) ups;
+        };
+        outcomes = rw (ap (λ (x : TheWorld). x.outcomes) rest) (booted-counted world.outcomes w.cluster.quorums w.ledger a epoch like.outcomes);
+        nodes = rw nodes (restarted-nodes world.nodes.items node (counted_event w) a epoch counted centre standing is);
+        logs = rw (ap (λ (x : TheWorld). x.logs) rest) standing-logs;
+      };
+      lines = told;
+    })
+
+-- ---- what the disks show
+
+pub disks-show : RestIsRead → (world : TheWorld) (w : World) → IsLike world w → DisksShow world.logs.disks w
+disks-show read world w like a centre =
+    let both = some-centre w.cluster a centre in
+    let log = like.logs.each a both.0 both.1 in
+    read (logged (facts_of w.ledger a)) (disk_of world.logs.disks a).bytes log.at_rest.short log.at_rest.file
+
+-- ---- what a restart asks for
+
+-- what a centre added is in its log
+pub may-restart : (w : World) (a : ℕ) → IsWorld w → is_centre w.cluster a ≡ true → AreLogged w.cluster (facts_of w.ledger a)
+may-restart w a world centre =
+    let facts = (world.nodes a centre).facts_themselves in
+    record { allowed = facts.allowed; well_formed = facts.well_formed }
+
+-- and its epochs are not used up
+pub more-epochs : (w : World) (a : ℕ) → IsWorld w → is_centre w.cluster a ≡ true → w.events < 100000 → epoch_of (facts_of w.ledger a) < 2 ^ 32 - 1
+more-epochs w a world centre few =
+    let epochs = world.epochs a centre in
+    below (epoch_of (facts_of w.ledger a)) (omega (epochs, few, arith))
+  where
+    below : (n : ℕ) → n < 200000 → n < 2 ^ 32 - 1
+    below n few = omega (few, arith)

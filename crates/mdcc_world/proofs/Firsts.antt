@@ -1,0 +1,33 @@
+-- The first world.
+use Rattle.std.proofs.Common.{◌≡◌, ℕ, ◌-◌, ◌≤◌, ◌&&◌, Bool, true, false, List, [], ◌∷◌, sym, ap, ◌∙◌, inl, inr, get_or, nat_le}
+use Rattle.std.proofs.lemmas.Bool.{and_from, cases_Bool, le-leb}
+use Rattle.mdcc_logs.specs.Stands.{LogsStand}
+use Rattle.mdcc_logs.specs.declared.logs.Logs.{Logs}
+use Rattle.mdcc_option.specs.declared.cluster.Cluster.{Cluster}
+use Rattle.mdcc_protocol.specs.Belongs.{is_centre}
+use Rattle.mdcc_protocol.specs.Ledger.{facts_of}
+use Rattle.mdcc_protocol.specs.World.{Site, booted_to, centre_at, first_world}
+use Rattle.mdcc_protocol.specs.declared.facts.Fact.{Fact}
+use Rattle.mdcc_worlds.proofs.Begins.{first-facts, first-site}
+use Rattle.mdcc_world.proofs.Took.{logs-same}
+use Rattle.mdcc_world.specs.Nodes.{UpsStand}
+
+within-is : (cluster : Cluster) (a : ℕ) → 1 ≤ a → is_centre cluster a ≡ nat_le a cluster.quorums.centres
+within-is cluster a some = ap (λ (b : Bool). b && nat_le a cluster.quorums.centres) (le-leb 1 a some)
+
+-- all its centres are up
+pub first-ups : (ups : List Bool) (cluster : Cluster) → ((a : ℕ) → 1 ≤ a → a ≤ 9 → get_or ups (a - 1) false ≡ nat_le a cluster.quorums.centres)
+    → UpsStand ups (first_world cluster)
+first-ups ups cluster are a some few = are a some few ∙ elim (cases_Bool (is_centre cluster a)) [
+  | inl e ↦
+      let up : (centre_at (first_world cluster) a).is_up ≡ true = ap (λ (s : Site). s.is_up) (first-site cluster a e) in
+      sym (within-is cluster a some) ∙ e ∙ sym (and_from (is_centre cluster a) (centre_at (first_world cluster) a).is_up e up)
+  | inr e ↦ sym (within-is cluster a some) ∙ e ∙ sym (ap (λ (b : Bool). b && (centre_at (first_world cluster) a).is_up) e)
+]
+
+-- and each log has the first boot
+pub first-logs : (logs : Logs) (cluster : Cluster) → LogsStand logs cluster.quorums.centres (λ a. Fact.Booted 1 ∷ [])
+    → LogsStand logs cluster.quorums.centres (facts_of (first_world cluster).ledger)
+first-logs logs cluster stand =
+    logs-same logs cluster.quorums.centres (λ a. Fact.Booted 1 ∷ []) (facts_of (booted_to cluster.quorums.centres))
+    (λ a some within. sym (first-facts cluster.quorums.centres a some within)) stand

@@ -1,0 +1,19 @@
+use Rattle.std.proofs.Common.{Ok}
+use Rattle.mdcc_protocol.specs.World.{counted_event, crash_happened}
+use Rattle.mdcc_world.proofs.Happened.{opened, refused-is, residual}
+use Rattle.mdcc_worlds.proofs.Events.{crash-is}
+use Rattle.mdcc_worlds.specs.Happening.{at_centre}
+use Rattle.mdcc_world.proofs.world.World.crash.Goals as goal
+
+pub returns-in_err-at_centre-clause-happens : goal.returns-in_err-at_centre-clause-happens
+returns-in_err-at_centre-clause-happens c w like =
+    let a = c.args.centre in
+    let fault = c.in_err-at_centre.field-0.0 in
+    rw (residual c.from_residual.result fault c.from_residual.ensures.1)
+    (refused-is _ (at_centre w a) (Ok (crash_happened (counted_event w) a)) fault (crash-is w a) (c.in_err-at_centre.ensures.centre w like))
+
+pub returns-in-Ok-clause-happens : goal.returns-in-Ok-clause-happens
+returns-in-Ok-clause-happens c w like =
+    let a = c.args.centre in
+    opened {T = Unit {0}} (Ok tt) _ _ _ _ (at_centre w a) (Ok (crash_happened (counted_event w) a)) (crash-is w a)
+    (c.in_ok-at_centre.ensures.centre w like) (c.in-Ok.ensures.happened w like)

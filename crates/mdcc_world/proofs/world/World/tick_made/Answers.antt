@@ -1,0 +1,21 @@
+use Rattle.std.proofs.Common.{◌≡◌, arith, length, refl}
+use Rattle.std.proofs.lemmas.List.{with_items_is}
+use Rattle.std.specs.Vec.{with_items}
+use Rattle.mdcc_protocol.specs.Built.{built}
+use Rattle.mdcc_protocol.specs.World.{counted_event, input_happened, step_at}
+use Rattle.mdcc_protocol.specs.declared.node.Input.{Input}
+use Rattle.mdcc_world.proofs.Counted.{counted-nodes, made-counted}
+use Rattle.mdcc_world.specs.Nodes.{NodesStand}
+use Rattle.mdcc_worlds.proofs.Stays.{counted-stays}
+use Rattle.mdcc_world.proofs.world.World.tick_made.Goals as goal
+
+pub returns-clause-made : goal.returns-clause-made
+returns-clause-made c w like =
+    let a = c.args.centre in
+    let up = c.requires.up w like in
+    let here : NodesStand c.deref_mut.result.now (counted_event w) = rw c.deref_mut.ensures.value (counted-nodes c.args.self.now.nodes.items w like.nodes) in
+    let many : length c.tick.new.nodes ≡ c.args.self.now.nodes.len = omega arith in
+    let h = input_happened (counted_event w) a (step_at built (counted_event w) a Input.Tick) in
+    let left = c.in_ok-made.ensures.left (counted_event w) (counted-stays w like.records.itself) here up in
+    let nodes : NodesStand (with_items c.args.self.now.nodes c.tick.new.nodes).items h.world = rw (with_items_is c.args.self.now.nodes c.tick.new.nodes many) left in
+    made-counted c.args.self.now _ w a Input.Tick c.in_ok-made.made like up tt refl like.outcomes (c.in_ok-made.ensures.answer (counted_event w) here up) nodes

@@ -1,5 +1,0 @@
-use Rattle.std.proofs.Common.{◌≡◌, ◌++◌}
-use Rattle.mdcc_world.proofs.world.append.Given as goal
-
-abbrev pub invariant-loop-line : goal.invariant-loop-line
-invariant-loop-line l = l.lines ++ l.line-iterator.rest.items ≡ l.fn.lines ++ l.fn.more

@@ -1,0 +1,27 @@
+-- What a centre made of an input, before it is let out.
+use Rattle.std.specs.Prelude.{◌≡◌, Result, ℕ}
+use Rattle.mdcc_protocol.specs.Built.{built}
+use Rattle.mdcc_protocol.specs.World.{World, input_happened, input_taken, step_at}
+use Rattle.mdcc_protocol.specs.declared.messages.Envelope.{Envelope}
+use Rattle.mdcc_protocol.specs.declared.node.Input.{Input}
+use Rattle.mdcc_protocol.specs.declared.node.Step.{Step}
+use Rattle.mdcc_protocol.specs.declared.node.StepFault.{StepFault}
+use Rattle.mdcc_world.specs.Nodes.{NodesStand}
+use Rattle.mdcc_world.specs.Stands.{IsBeforeTaking}
+use Rattle.mdcc_world.specs.declared.world.World.{World as TheWorld}
+use Rattle.mdcc_worlds.specs.Delivering.{delivery, message_counted}
+
+-- its node has taken the input, and all else is as before
+pub record IsMade (world : TheWorld) (w : World) (a : ℕ) (input : Input) (made : Result Step StepFault) : Type 0 where
+  pub before : IsBeforeTaking world w a input made
+  pub nodes : NodesStand world.nodes.items (input_happened w a (step_at built w a input)).world
+
+-- it is so of some world and input
+abbrev pub IsMadeSome : TheWorld → ℕ → Result Step StepFault → Type 0
+IsMadeSome world a made = (w : World) × (input : Input) × IsMade world w a input made
+
+-- the same of the message of a number, at the centre to which it goes
+pub record IsMessageMade (world : TheWorld) (w : World) (number a : ℕ) (made : Result Step StepFault) : Type 0 where
+  pub envelope : Envelope
+  pub itself : IsMade world (message_counted w number) a (Input.Message envelope) made
+  pub comes : delivery w number ≡ input_taken built (message_counted w number) a (Input.Message envelope)

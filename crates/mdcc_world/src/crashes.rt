@@ -1,0 +1,132 @@
+//! Crashes and restarts.
+ghost use Rattle.std.specs.Prelude.{◌≡◌, ◌≤◌, ◌<◌, ◌+◌, ◌-◌, ◌++◌, ◌∷◌, [], IfErr, OnOk, length, set, true};
+ghost use Rattle.mdcc_protocol.specs.Belongs.{is_centre};
+ghost use Rattle.mdcc_protocol.specs.Built.{built};
+ghost use Rattle.mdcc_protocol.specs.World.{World as AWorld, counted_event, crash_happened, event_of, is_up_at};
+ghost use Rattle.mdcc_protocol.specs.declared.events.Event.{Event as AEvent};
+ghost use Rattle.mdcc_protocol.specs.declared.lines.Line.{Line as ALine};
+ghost use Rattle.mdcc_protocol.specs.declared.world.EventFault.{EventFault as AFault};
+ghost use Rattle.mdcc_world.specs.Faults.{OnRefusal, is_free};
+ghost use Rattle.mdcc_world.specs.Stands.{Happens, HasHappened, IsLike, IsLikeSome};
+ghost use Rattle.mdcc_worlds.specs.Happening.{at_restart, restarted};
+
+use crate::stepping::MOST_LOG;
+use crate::world::World;
+use mdcc_base::{Centre, HeapList, Memory};
+use mdcc_facts::ListFacts;
+use mdcc_logs::Started;
+use mdcc_node::Node;
+use mdcc_protocol::{EventFault, LimitName, Line};
+
+impl World {
+    // A centre loses all but its log, which is an event.
+    fn crash_at(&mut self, centre: Centre, lines: &mut HeapList<Line>) -> Result<(), Memory>
+        requires few { self.old.events < 100000 }
+        requires like { IsLikeSome self.old }
+        requires up { (w : AWorld) → IsLike self.old w → is_up_at w centre ≡ true }
+        ensures happened { (w : AWorld) → IsLike self.old w
+            → OnOk result (HasHappened self.new lines.old lines.new (crash_happened (counted_event w) centre)) }
+        ensures few { OnOk result (self.new.events ≤ 100000) }
+    {
+        lines.push(Line::Crash(centre))?;
+        self.events += 1;
+        self.up[usize::from(centre.number()) - 1] = false;
+        self.logs.crash(centre);
+        Ok(())
+    }
+
+    // A crash line.
+    pub(crate) fn crash(
+        &mut self,
+        centre: Centre,
+        lines: &mut HeapList<Line>,
+    ) -> Result<(), EventFault>
+        requires { IsLikeSome self.old }
+        ensures happens { (w : AWorld) → IsLike self.old w
+            → Happens self.new lines.old lines.new result (event_of built w (AEvent.Crash centre)) }
+        ensures few { OnOk result (self.new.events ≤ 100000) }
+        ensures kept { OnRefusal result ((self.new ≡ self.old) × (lines.new ≡ lines.old)) }
+    {
+        self.at_centre(centre)?;
+        match self.crash_at(centre, lines) {
+            Ok(()) => Ok(()),
+            Err(_) => Err(EventFault::Memory),
+        }
+    }
+
+    // Why a centre is not restarted.
+    fn at_restart(&self, centre: Centre) -> Result<(), EventFault>
+        ensures centre { (w : AWorld) → IsLike self.now w → result ≡ at_restart w centre }
+        ensures among { (w : AWorld) → IsLike self.now w → OnOk result (is_centre w.cluster centre ≡ true) }
+        ensures few { OnOk result (self.now.events < 100000) }
+    {
+        if self.is_up(centre) {
+            return Err(EventFault::Up(centre));
+        }
+        if centre.number() > self.cluster.quorums.centres() {
+            return Err(EventFault::Down(centre));
+        }
+        self.at_limit()
+    }
+
+    // A centre is up again with the node of its log, which is an event.
+    fn rise(&mut self, centre: Centre, node: Node<ListFacts>)
+        requires few { self.old.events < 100000 }
+        requires within { centre ≤ length self.old.nodes.items }
+        ensures rest { self.new ≡ record self.old { nodes = self.new.nodes; up = self.new.up; events = self.old.events + 1 } }
+        ensures nodes { self.new.nodes.items ≡ set self.old.nodes.items (centre - 1) node }
+        ensures up { self.new.up ≡ set self.old.up (centre - 1) true }
+    {
+        let place = usize::from(centre.number()) - 1;
+        self.nodes[place] = node;
+        self.up[place] = true;
+        self.events += 1;
+    }
+
+    // A centre starts again from its log.
+    fn restart_at(&mut self, centre: Centre, lines: &mut HeapList<Line>) -> Result<(), EventFault>
+        requires few { self.old.events < 100000 }
+        requires like { IsLikeSome self.old }
+        requires among { (w : AWorld) → IsLike self.old w → is_centre w.cluster centre ≡ true }
+        ensures happens { (w : AWorld) → IsLike self.old w
+            → Happens self.new lines.old lines.new result (restarted w centre) }
+        ensures free { IfErr result (λ fault. is_free fault ≡ true) }
+        ensures few { OnOk result (self.new.events ≤ 100000) }
+    {
+        match self.logs.restart(self.alloc, &self.cluster, centre) {
+            Ok(Started::Node(node, epoch)) => {
+                self.rise(centre, node);
+                tell_restart(lines, centre, epoch)
+            }
+            Ok(Started::Full) => Err(EventFault::Limit(LimitName::Log, MOST_LOG)),
+            Err(_) => Err(EventFault::Memory),
+        }
+    }
+
+    // A restart line.
+    pub(crate) fn restart(
+        &mut self,
+        centre: Centre,
+        lines: &mut HeapList<Line>,
+    ) -> Result<(), EventFault>
+        requires { IsLikeSome self.old }
+        ensures happens { (w : AWorld) → IsLike self.old w
+            → Happens self.new lines.old lines.new result (event_of built w (AEvent.Restart centre)) }
+        ensures few { OnOk result (self.new.events ≤ 100000) }
+        ensures kept { OnRefusal result ((self.new ≡ self.old) × (lines.new ≡ lines.old)) }
+    {
+        self.at_restart(centre)?;
+        self.restart_at(centre, lines)
+    }
+}
+
+// The line of a restart.
+fn tell_restart(lines: &mut HeapList<Line>, centre: Centre, epoch: u32) -> Result<(), EventFault>
+    ensures ok { OnOk result (lines.new ≡ lines.old ++ ALine.Restart centre epoch ∷ []) }
+    ensures memory { IfErr result (λ fault. fault ≡ AFault.Memory) }
+{
+    match lines.push(Line::Restart(centre, epoch)) {
+        Ok(()) => Ok(()),
+        Err(_) => Err(EventFault::Memory),
+    }
+}

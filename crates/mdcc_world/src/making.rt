@@ -1,0 +1,105 @@
+//! What the nodes of centres make of inputs, before it is let out.
+ghost use Rattle.std.specs.Prelude.{◌≡◌, ◌≤◌, ◌<◌, ◌+◌, ◌++◌, IfOk, List, Ok, OnOk, true, ℕ};
+ghost use Rattle.mdcc_base.specs.Sizes.{Sizes};
+ghost use Rattle.mdcc_outcomes.specs.Stands.{Stands as OutcomesStand};
+ghost use Rattle.mdcc_protocol.specs.Ledger.{Entry};
+ghost use Rattle.mdcc_protocol.specs.World.{World as AWorld, counted_event, is_up_at};
+ghost use Rattle.mdcc_protocol.specs.declared.node.Input.{Input as AInput};
+ghost use Rattle.mdcc_steps.specs.Inputs.{AreWellFormedParts};
+ghost use Rattle.mdcc_world.specs.Making.{IsMade, IsMessageMade};
+ghost use Rattle.mdcc_world.specs.Stands.{IsLike, IsLikeSome};
+ghost use Rattle.mdcc_world.specs.Telling.{begun_entries, begun_tx};
+ghost use Rattle.mdcc_worlds.specs.Delivering.{at_message};
+
+use crate::nodes::{begin, deliver, tick};
+use crate::world::World;
+use mdcc_base::{Centre, Memory, TxId};
+use mdcc_option::Transaction;
+use mdcc_outcomes::Outcomes;
+use mdcc_protocol::{Answer, Step, StepFault};
+
+// The transaction that was begun.
+fn begun_tx(answer: &Option<Answer>) -> Option<TxId>
+    ensures { result ≡ begun_tx answer.now }
+{
+    match answer {
+        Some(Answer::Begun(tx)) => Some(*tx),
+        _ => None,
+    }
+}
+
+// A transaction that was begun is counted.
+fn count(
+    outcomes: &mut Outcomes,
+    transaction: &Transaction,
+    answer: &Option<Answer>,
+) -> Result<(), Memory>
+    ensures { (quorums : Sizes) (entries : List Entry) (a : ℕ) → OutcomesStand outcomes.old quorums entries
+        → OnOk result (OutcomesStand outcomes.new quorums (begun_entries a transaction.now (begun_tx answer.now) ++ entries)) }
+{
+    if let Some(tx) = begun_tx(answer) {
+        outcomes.begin(tx, transaction.choices(tx).as_slice())?;
+    }
+    Ok(())
+}
+
+impl World {
+    // Time passes at a centre, which is an event.
+    pub(crate) fn tick_made(&mut self, centre: Centre) -> Result<Result<Step, StepFault>, Memory>
+        requires few { self.old.events < 100000 }
+        requires like { IsLikeSome self.old }
+        requires up { (w : AWorld) → IsLike self.old w → is_up_at w centre ≡ true }
+        ensures made { (w : AWorld) → IsLike self.old w
+            → IfOk result (λ made. IsMade self.new (counted_event w) centre AInput.Tick made) }
+        ensures few { self.new.events ≤ self.old.events + 1 }
+    {
+        self.events += 1;
+        let made = tick(&mut self.nodes, centre)?;
+        Ok(made)
+    }
+
+    // A transaction is begun at a centre, or refused by it, which is an event.
+    pub(crate) fn begin_made(
+        &mut self,
+        centre: Centre,
+        transaction: &Transaction,
+    ) -> Result<Step, Memory>
+        requires few { self.old.events < 100000 }
+        requires formed { AreWellFormedParts transaction.now }
+        requires like { IsLikeSome self.old }
+        requires up { (w : AWorld) → IsLike self.old w → is_up_at w centre ≡ true }
+        ensures made { (w : AWorld) → IsLike self.old w
+            → IfOk result (λ step. IsMade self.new (counted_event w) centre (AInput.Begin transaction.now) (Ok step)) }
+        ensures few { self.new.events ≤ self.old.events + 1 }
+    {
+        self.events += 1;
+        let step = begin(&mut self.nodes, centre, transaction)?;
+        count(&mut self.outcomes, transaction, &step.answer)?;
+        Ok(step)
+    }
+
+    // The message of a number comes to its centre, which is an event. Message and centre are there.
+    pub(crate) fn message_made(
+        &mut self,
+        number: u32,
+    ) -> Result<(Centre, Result<Step, StepFault>), Memory>
+        requires few { self.old.events < 100000 }
+        requires like { IsLikeSome self.old }
+        requires clear { (w : AWorld) → IsLike self.old w → at_message w number ≡ Ok tt }
+        ensures made { (w : AWorld) → IsLike self.old w
+            → IfOk result (λ r. IsMessageMade self.new w number r.0 r.1) }
+        ensures few { self.new.events ≤ self.old.events + 1 }
+        ensures up { self.new.up ≡ self.old.up }
+    {
+        let Some(envelope) = self.mail.envelope(self.alloc, number)? else {
+            return Err(Memory);
+        };
+        let Some(centre) = Centre::new(envelope.to) else {
+            return Err(Memory);
+        };
+        self.events += 1;
+        let made = deliver(&mut self.nodes, centre, &envelope)?;
+        self.mail.deliver(number);
+        Ok((centre, made))
+    }
+}

@@ -1,0 +1,186 @@
+//! A step is taken: what it lets out, or the limit that it would pass.
+ghost use Rattle.std.specs.Prelude.{◌≡◌, ◌≤◌, ◌<◌, ◌+◌, ◌^◌, ◌++◌, Err, IfErr, List, Ok, OnOk, length, map, true, ℕ};
+ghost use Rattle.mdcc_base.specs.Sizes.{Sizes};
+ghost use Rattle.mdcc_logs.specs.Stands.{LogsStand};
+ghost use Rattle.mdcc_outcomes.specs.Stands.{Stands as OutcomesStand};
+ghost use Rattle.mdcc_protocol.specs.Built.{built};
+ghost use Rattle.mdcc_protocol.specs.Ledger.{Entry};
+ghost use Rattle.mdcc_protocol.specs.Lengths.{messages_length};
+ghost use Rattle.mdcc_protocol.specs.WellFormed.{IsWellFormedFact};
+ghost use Rattle.mdcc_protocol.specs.World.{World as AWorld, bytes_limit, input_limited, log_limit, step_at, unless, unsent};
+ghost use Rattle.mdcc_protocol.specs.declared.facts.Fact.{Fact as AFact};
+ghost use Rattle.mdcc_protocol.specs.declared.node.Input.{Input as AInput};
+ghost use Rattle.mdcc_world.specs.Faults.{is_free};
+ghost use Rattle.mdcc_world.specs.Letting.{Measures, IsFormed, IsFramed, facts_with};
+ghost use Rattle.mdcc_world.specs.Making.{IsMade, IsMadeSome};
+ghost use Rattle.mdcc_world.specs.Stands.{Happens};
+ghost use Rattle.mdcc_worlds.specs.Taking.{limit_of, step_lines, with_fact};
+
+use crate::taking::{let_out, push_dropped, tell_fact};
+use crate::world::World;
+use mdcc_base::{Centre, HeapList, Memory};
+use mdcc_mail::Outgoing;
+use mdcc_protocol::{EventFault, Fact, LimitName, Line, Step, StepFault};
+
+// How many bytes of messages there may be.
+const MOST_BYTES: u64 = 536_870_912;
+
+/// How many bytes a log may have.
+pub(crate) const MOST_LOG: u64 = 1 << 30;
+
+impl World {
+    // Why a fact is not appended to the log of a centre.
+    fn at_log_limit(&self, centre: Centre, fact: &Fact) -> Result<(), EventFault>
+        requires within { centre ≤ length self.now.logs.open.items }
+        requires formed { IsWellFormedFact fact.now }
+        ensures limit { (w : AWorld) → Measures self.now w centre → result ≡ unless (log_limit built w centre fact.now) tt }
+        ensures free { IfErr result (λ fault. is_free fault ≡ true) }
+    {
+        if self.logs.is_full(centre, fact) {
+            return Err(EventFault::Limit(LimitName::Log, MOST_LOG));
+        }
+        Ok(())
+    }
+
+    // Why messages are not sent.
+    fn at_bytes_limit(&self, outgoing: &Outgoing) -> Result<(), EventFault>
+        ensures limit { (w : AWorld) (a : ℕ) → Measures self.now w a → result ≡ unless (bytes_limit built w outgoing.now) tt }
+        ensures free { IfErr result (λ fault. is_free fault ≡ true) }
+        ensures few { OnOk result (self.now.bytes + messages_length outgoing.now < 2 ^ 64) }
+    {
+        if self.bytes.saturating_add(outgoing.length()) > MOST_BYTES {
+            return Err(EventFault::Limit(LimitName::Bytes, MOST_BYTES));
+        }
+        Ok(())
+    }
+
+    // Why neither is let out: the limit of the log is asked before that of all messages.
+    fn at_limits(
+        &self,
+        centre: Centre,
+        fact: &Option<Fact>,
+        outgoing: &Outgoing,
+    ) -> Result<(), EventFault>
+        requires within { centre ≤ length self.now.logs.open.items }
+        requires formed { IsFormed fact.now }
+        ensures limit { (w : AWorld) → Measures self.now w centre → result ≡ unless (limit_of w centre fact.now outgoing.now) tt }
+        ensures free { IfErr result (λ fault. is_free fault ≡ true) }
+        ensures few { OnOk result (self.now.bytes + messages_length outgoing.now < 2 ^ 64) }
+    {
+        if let Some(fact) = fact {
+            self.at_log_limit(centre, fact)?;
+        }
+        self.at_bytes_limit(outgoing)
+    }
+
+    // A fact is made durable, then messages are sent and the fact counts.
+    fn let_out(
+        &mut self,
+        centre: Centre,
+        fact: &Option<Fact>,
+        outgoing: Outgoing,
+        lines: &mut HeapList<Line>,
+    ) -> Result<(), Memory>
+        requires within { centre ≤ length self.old.logs.open.items }
+        requires framed { IsFramed self.old.logs fact.now }
+        requires few { self.old.bytes + messages_length outgoing < 2 ^ 64 }
+        ensures rest { self.new ≡ record self.old { logs = self.new.logs; mail = self.new.mail; bytes = self.new.bytes; outcomes = self.new.outcomes } }
+        ensures logs { (centres : ℕ) (facts : ℕ → List AFact) → LogsStand self.old.logs centres facts → centre ≤ centres
+            → OnOk result (LogsStand self.new.logs centres (facts_with facts centre fact.now)) }
+        ensures sent { OnOk result (self.new.mail ≡ self.old.mail ++ map unsent outgoing) }
+        ensures bytes { OnOk result (self.new.bytes ≡ self.old.bytes + messages_length outgoing) }
+        ensures ledger { (quorums : Sizes) (entries : List Entry) → OutcomesStand self.old.outcomes quorums entries
+            → OnOk result (OutcomesStand self.new.outcomes quorums (with_fact centre fact.now entries)) }
+        ensures lines { (quorums : Sizes) (entries : List Entry) → OutcomesStand self.old.outcomes quorums entries
+            → OnOk result (lines.new ≡ lines.old ++ step_lines quorums centre fact.now entries) }
+    {
+        let length = outgoing.length();
+        let (logs, mail) = (&mut self.logs, &mut self.mail);
+        let_out(self.alloc, logs, mail, centre, fact, outgoing)?;
+        self.bytes += length;
+        tell_fact(&mut self.outcomes, centre, fact, lines)?;
+        Ok(())
+    }
+
+    // The fact and the messages of a step are let out, unless they would pass a limit.
+    fn let_step(
+        &mut self,
+        centre: Centre,
+        step: &Step,
+        outgoing: Outgoing,
+        lines: &mut HeapList<Line>,
+    ) -> Result<(), EventFault>
+        requires some { IsMadeSome self.old centre (Ok step.now) }
+        requires written { outgoing ≡ step.now.sends }
+        ensures happens { (w : AWorld) (input : AInput) → IsMade self.old w centre input (Ok step.now)
+            → Happens self.new lines.old lines.new result (input_limited built w centre (step_at built w centre input)) }
+        ensures free { IfErr result (λ fault. is_free fault ≡ true) }
+        ensures events { self.new.events ≡ self.old.events }
+        ensures up { self.new.up ≡ self.old.up }
+    {
+        self.at_limits(centre, &step.fact, &outgoing)?;
+        match self.let_out(centre, &step.fact, outgoing, lines) {
+            Ok(()) => Ok(()),
+            Err(_) => Err(EventFault::Memory),
+        }
+    }
+
+    // A step of a centre is taken.
+    pub(crate) fn take(
+        &mut self,
+        centre: Centre,
+        step: &Step,
+        lines: &mut HeapList<Line>,
+    ) -> Result<(), EventFault>
+        requires some { IsMadeSome self.old centre (Ok step.now) }
+        ensures happens { (w : AWorld) (input : AInput) → IsMade self.old w centre input (Ok step.now)
+            → Happens self.new lines.old lines.new result (input_limited built w centre (step_at built w centre input)) }
+        ensures free { IfErr result (λ fault. is_free fault ≡ true) }
+        ensures events { self.new.events ≡ self.old.events }
+        ensures up { self.new.up ≡ self.old.up }
+    {
+        match Outgoing::write(self.alloc, step.sends.as_slice()) {
+            Ok(outgoing) => self.let_step(centre, step, outgoing, lines),
+            Err(_) => Err(EventFault::Memory),
+        }
+    }
+
+    // The step that a centre refused changes nothing.
+    fn refuse_step(
+        &mut self,
+        centre: Centre,
+        fault: &StepFault,
+        lines: &mut HeapList<Line>,
+    ) -> Result<(), EventFault>
+        ensures happens { (w : AWorld) (input : AInput) → IsMade self.old w centre input (Err fault.now)
+            → Happens self.new lines.old lines.new result (input_limited built w centre (step_at built w centre input)) }
+        ensures free { IfErr result (λ fault. is_free fault ≡ true) }
+        ensures events { self.new.events ≡ self.old.events }
+        ensures up { self.new.up ≡ self.old.up }
+    {
+        match push_dropped(lines, centre, fault) {
+            Ok(()) => Ok(()),
+            Err(_) => Err(EventFault::Memory),
+        }
+    }
+
+    // What a centre made of an input is taken.
+    pub(crate) fn taken(
+        &mut self,
+        centre: Centre,
+        made: &Result<Step, StepFault>,
+        lines: &mut HeapList<Line>,
+    ) -> Result<(), EventFault>
+        requires some { IsMadeSome self.old centre made.now }
+        ensures happens { (w : AWorld) (input : AInput) → IsMade self.old w centre input made.now
+            → Happens self.new lines.old lines.new result (input_limited built w centre (step_at built w centre input)) }
+        ensures free { IfErr result (λ fault. is_free fault ≡ true) }
+        ensures events { self.new.events ≡ self.old.events }
+        ensures up { self.new.up ≡ self.old.up }
+    {
+        match made {
+            Ok(step) => self.take(centre, step, lines),
+            Err(fault) => self.refuse_step(centre, fault, lines),
+        }
+    }
+}

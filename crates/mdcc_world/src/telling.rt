@@ -1,0 +1,83 @@
+//! Lines of the report, one behind the other.
+ghost use Rattle.std.specs.Prelude.{◌≡◌, ◌++◌, ◌∷◌, IfErr, OnOk};
+ghost use Rattle.mdcc_protocol.specs.declared.world.EventFault.{EventFault as AFault};
+ghost use Rattle.mdcc_world.specs.Telling.{lines_begun};
+
+use mdcc_base::{HeapList, Memory, Plain};
+use mdcc_protocol::{Answer, EventFault, Line};
+
+// Puts lines behind others.
+fn append(lines: &mut HeapList<Line>, more: HeapList<Line>) -> Result<(), Memory>
+    ensures { OnOk result (lines.new ≡ lines.old ++ more) }
+{
+    for line in more.into_vec() {
+        lines.push(line)?;
+    }
+    Ok(())
+}
+
+// A line and those that come after it.
+fn put(lines: &mut HeapList<Line>, first: Line, told: HeapList<Line>) -> Result<(), Memory>
+    ensures { OnOk result (lines.new ≡ lines.old ++ first ∷ told) }
+{
+    lines.push(first)?;
+    append(lines, told)?;
+    Ok(())
+}
+
+/// A line and those that come after it.
+pub(crate) fn tell(
+    lines: &mut HeapList<Line>,
+    first: Line,
+    told: HeapList<Line>,
+) -> Result<(), EventFault>
+    ensures ok { OnOk result (lines.new ≡ lines.old ++ first ∷ told) }
+    ensures memory { IfErr result (λ fault. fault ≡ AFault.Memory) }
+{
+    match put(lines, first, told) {
+        Ok(()) => Ok(()),
+        Err(_) => Err(EventFault::Memory),
+    }
+}
+
+// The line of a begin, before the next message.
+fn push_begun(lines: &mut HeapList<Line>, answer: &Option<Answer>, next: u32) -> Result<(), Memory>
+    ensures { OnOk result (lines.new ≡ lines.old ++ lines_begun answer.now next) }
+{
+    match answer {
+        Some(Answer::Begun(tx)) => lines.push(Line::Begun(*tx, next))?,
+        Some(Answer::Refused(key, fault)) => lines.push(Line::Refused(*key, fault.copy()))?,
+        _ => {}
+    }
+    Ok(())
+}
+
+// The same, and the lines that come after it.
+fn put_begun(
+    lines: &mut HeapList<Line>,
+    answer: &Option<Answer>,
+    next: u32,
+    told: HeapList<Line>,
+) -> Result<(), Memory>
+    ensures { OnOk result (lines.new ≡ lines.old ++ (lines_begun answer.now next ++ told)) }
+{
+    push_begun(lines, answer, next)?;
+    append(lines, told)?;
+    Ok(())
+}
+
+/// The line of a begin, before the next message, and those that come after it.
+pub(crate) fn tell_begun(
+    lines: &mut HeapList<Line>,
+    answer: &Option<Answer>,
+    next: u32,
+    told: HeapList<Line>,
+) -> Result<(), EventFault>
+    ensures ok { OnOk result (lines.new ≡ lines.old ++ (lines_begun answer.now next ++ told)) }
+    ensures memory { IfErr result (λ fault. fault ≡ AFault.Memory) }
+{
+    match put_begun(lines, answer, next, told) {
+        Ok(()) => Ok(()),
+        Err(_) => Err(EventFault::Memory),
+    }
+}

@@ -1,0 +1,67 @@
+//! Ticks.
+ghost use Rattle.std.specs.Prelude.{◌≡◌, ◌≤◌, ◌<◌, IfErr, OnOk, true};
+ghost use Rattle.mdcc_protocol.specs.Built.{built};
+ghost use Rattle.mdcc_protocol.specs.World.{World as AWorld, event_of, input_limited, is_up_at, step_at, tick_line, with_lines};
+ghost use Rattle.mdcc_protocol.specs.declared.events.Event.{Event as AEvent};
+ghost use Rattle.mdcc_protocol.specs.declared.node.Input.{Input as AInput};
+ghost use Rattle.mdcc_world.specs.Faults.{OnRefusal, is_free};
+ghost use Rattle.mdcc_world.specs.Making.{IsMade, IsMadeSome};
+ghost use Rattle.mdcc_world.specs.Stands.{Happens, IsLike, IsLikeSome};
+ghost use Rattle.mdcc_worlds.specs.Happening.{ticked};
+
+use crate::telling::tell;
+use crate::world::World;
+use mdcc_base::{Centre, HeapList};
+use mdcc_protocol::{EventFault, Line, Step, StepFault};
+
+impl World {
+    // What a centre made of a tick is taken, behind the line of the tick.
+    fn tick_taken(
+        &mut self,
+        centre: Centre,
+        made: &Result<Step, StepFault>,
+        lines: &mut HeapList<Line>,
+    ) -> Result<(), EventFault>
+        requires some { IsMadeSome self.old centre made.now }
+        ensures happens { (w : AWorld) (input : AInput) → IsMade self.old w centre input made.now
+            → Happens self.new lines.old lines.new result (with_lines (tick_line centre) (input_limited built w centre (step_at built w centre input))) }
+        ensures free { IfErr result (λ fault. is_free fault ≡ true) }
+        ensures events { self.new.events ≡ self.old.events }
+    {
+        let mut told = HeapList::new(self.alloc);
+        self.taken(centre, made, &mut told)?;
+        tell(lines, Line::Tick(centre, self.next_message()), told)
+    }
+
+    // Time passes at a centre.
+    fn tick_at(&mut self, centre: Centre, lines: &mut HeapList<Line>) -> Result<(), EventFault>
+        requires few { self.old.events < 100000 }
+        requires like { IsLikeSome self.old }
+        requires up { (w : AWorld) → IsLike self.old w → is_up_at w centre ≡ true }
+        ensures happens { (w : AWorld) → IsLike self.old w
+            → Happens self.new lines.old lines.new result (ticked w centre) }
+        ensures free { IfErr result (λ fault. is_free fault ≡ true) }
+        ensures few { OnOk result (self.new.events ≤ 100000) }
+    {
+        match self.tick_made(centre) {
+            Ok(made) => self.tick_taken(centre, &made, lines),
+            Err(_) => Err(EventFault::Memory),
+        }
+    }
+
+    // A tick line.
+    pub(crate) fn tick(
+        &mut self,
+        centre: Centre,
+        lines: &mut HeapList<Line>,
+    ) -> Result<(), EventFault>
+        requires { IsLikeSome self.old }
+        ensures happens { (w : AWorld) → IsLike self.old w
+            → Happens self.new lines.old lines.new result (event_of built w (AEvent.Tick centre)) }
+        ensures few { OnOk result (self.new.events ≤ 100000) }
+        ensures kept { OnRefusal result ((self.new ≡ self.old) × (lines.new ≡ lines.old)) }
+    {
+        self.at_centre(centre)?;
+        self.tick_at(centre, lines)
+    }
+}
