@@ -92,8 +92,7 @@ impl Logs {
     }
 
     /// Makes a fact durable at the end of a centre's log, which is asked first whether it is full: a full
-    /// one is refused as well. After a refusal the logs of the other centres are as before, and that of
-    /// this one is to be opened again.
+    /// one is refused as well. After a refusal the logs are to be let go.
     pub fn append(&mut self, alloc: Global, centre: Centre, fact: &Fact) -> Result<(), Memory>
         requires within { centre ≤ length self.old.open.items }
         requires formed { IsWellFormedFact fact.now }
@@ -125,8 +124,7 @@ impl Logs {
     }
 
     /// A centre starts again from its log: it has the facts of its log and the new boot. After `Full` and
-    /// after want of memory the logs of the other centres are as before, and that of this one is to be
-    /// opened again.
+    /// after want of memory the logs are to be let go.
     pub fn restart(
         &mut self,
         alloc: Global,

@@ -60,8 +60,7 @@ fn boot_payload(alloc: Global, epoch: u32) -> Result<Vec<u8>, Memory>
 
 /// Starts a centre over an empty store: opens its log, boots its node from the payloads, and appends
 /// the boot of the next epoch. So no two starts of a centre begin the same epoch, and at `Ok` each
-/// later crash leaves a log that has the new boot. Want of memory is always `Memory`. After a refusal
-/// it may be tried again.
+/// later crash leaves a log that has the new boot. Want of memory is always `Memory`.
 pub fn restart<D: Disks, S: FactStore + Drop>(
     alloc: Global,
     cluster: Cluster,
