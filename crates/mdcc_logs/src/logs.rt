@@ -1,7 +1,7 @@
 //! The logs of the centres.
 ghost use Rattle.std.specs.Prelude.{◌≡◌, ◌≤◌, ◌<◌, ◌+◌, ◌-◌, ◌^◌, ◌∷◌, ◌++◌, [], List, ℕ, length, nat_lt, IfOk, IsTrue, OnOk, true};
 ghost use Rattle.mdcc_disks.specs.Disks.{KeepsOthers};
-ghost use Rattle.mdcc_disks.specs.Memory.{disk_of, may_leave_of, moment_of, left_since_of};
+ghost use Rattle.mdcc_disks.specs.Memory.{IsBut, at_place, crashed, disk_of, may_leave_of, moment_of, left_since_of};
 ghost use Rattle.mdcc_log.specs.Frames.{IsAtRest, IsSettled};
 ghost use Rattle.mdcc_logs.specs.Stands.{AreLogs, LogsStand, with_fact_at};
 ghost use Rattle.mdcc_logs.specs.Starting.{Starts};
@@ -116,6 +116,7 @@ impl Logs {
     pub fn crash(&mut self, centre: Centre)
         requires { centre ≤ length self.old.open.items }
         ensures as_many { length self.new.open.items ≡ length self.old.open.items }
+        ensures crashed { IsBut (crashed Image.Lost (at_place self.old.disks centre)) (at_place self.new.disks centre) }
         ensures kept { (centres : ℕ) (facts : ℕ → List AFact) → LogsStand self.old centres facts
             → LogsStand self.new centres facts }
     {

@@ -59,8 +59,9 @@ fn boot_payload(alloc: Global, epoch: u32) -> Result<Vec<u8>, Memory>
 }
 
 /// Starts a centre over an empty store: opens its log, boots its node from the payloads, and appends
-/// the boot of the next epoch. So no two starts of a centre begin the same epoch, and at `Ok` each
-/// later crash leaves a log that has the new boot. Want of memory is always `Memory`.
+/// the boot of the next epoch. So no two starts that succeed begin the same epoch, and at `Ok` each
+/// later crash leaves a log that has the new boot. Want of memory is always `Memory`. The store is given
+/// up with a refusal.
 pub fn restart<D: Disks, S: FactStore + Drop>(
     alloc: Global,
     cluster: Cluster,
