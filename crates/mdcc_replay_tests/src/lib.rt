@@ -5,3 +5,5 @@
 mod replay_rows;
 #[cfg(test)]
 mod replays;
+#[cfg(test)]
+mod restarts;

@@ -62,9 +62,16 @@ fn behind(alloc: Global, header: &str, text: &str) -> Result<String, Fail> {
     Ok(whole)
 }
 
-fn check_row(rt: &impl Abort, alloc: Global, row: &Row) -> Result<(), Fail> {
-    let input = behind(alloc, SCHEDULE, row.lines)?;
-    let report = behind(alloc, REPORT, row.report)?;
+/// What a replay of a row writes and answers, behind the header of a schedule and that of its report.
+pub(crate) fn check_behind(
+    rt: &impl Abort,
+    alloc: Global,
+    schedule: &str,
+    report: &str,
+    row: &Row,
+) -> Result<(), Fail> {
+    let input = behind(alloc, schedule, row.lines)?;
+    let report = behind(alloc, report, row.report)?;
     check(
         rt,
         alloc,
@@ -74,6 +81,10 @@ fn check_row(rt: &impl Abort, alloc: Global, row: &Row) -> Result<(), Fail> {
         row.error,
         row.status,
     )
+}
+
+fn check_row(rt: &impl Abort, alloc: Global, row: &Row) -> Result<(), Fail> {
+    check_behind(rt, alloc, SCHEDULE, REPORT, row)
 }
 
 #[test]
