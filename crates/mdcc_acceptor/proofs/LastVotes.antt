@@ -12,7 +12,7 @@ use Rattle.mdcc_option.specs.declared.choices.Mark.{Mark}
 use Rattle.mdcc_struct.specs.Maps.{value_of}
 use Rattle.mdcc_struct.proofs.Values.{value_of-union}
 use Rattle.mdcc_protocol.specs.Facts.{ballot_promised, later_vote, mark_voted, marks_voted, promise_of, vote_of, votes_of}
-use Rattle.mdcc_protocol.specs.declared.facts.Fact.{Fact}
+use Rattle.mdcc_messages.specs.declared.facts.Fact.{Fact}
 
 -- whether the vote is at the ballot
 abbrev pub is_at : Ballot → Option (Ballot × Mark) → Bool

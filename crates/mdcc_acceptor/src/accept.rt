@@ -1,7 +1,7 @@
 //! What an acceptor answers to a leader's structure. (Generalized Paxos.)
 ghost use Rattle.std.specs.Prelude.{◌≡◌, List, false, is_some};
 ghost use Rattle.mdcc_base.specs.Ballot.{ballot_lt};
-ghost use Rattle.mdcc_protocol.specs.declared.facts.Fact.{Fact as AFact};
+ghost use Rattle.mdcc_messages.specs.declared.facts.Fact.{Fact as AFact};
 ghost use Rattle.mdcc_protocol.specs.Acceptor.{answer_to_marks, new_marks, on_accept};
 ghost use Rattle.mdcc_protocol.specs.Facts.{promise_of, votes_of};
 ghost use Rattle.mdcc_struct.specs.Maps.{value_of};

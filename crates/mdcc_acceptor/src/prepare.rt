@@ -1,6 +1,6 @@
 //! What an acceptor answers to a leader that asks for its promise. (Fast Paxos.)
 ghost use Rattle.std.specs.Prelude.{◌≡◌, List};
-ghost use Rattle.mdcc_protocol.specs.declared.facts.Fact.{Fact as AFact};
+ghost use Rattle.mdcc_messages.specs.declared.facts.Fact.{Fact as AFact};
 ghost use Rattle.mdcc_protocol.specs.Acceptor.{on_prepare, promise_answer, range_end};
 
 use mdcc_base::{Ballot, Key};

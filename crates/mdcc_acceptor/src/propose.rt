@@ -1,6 +1,6 @@
 //! What an acceptor answers to a proposal at the fast ballot. (Fast Paxos; MDCC.)
 ghost use Rattle.std.specs.Prelude.{◌≡◌, List, None};
-ghost use Rattle.mdcc_protocol.specs.declared.facts.Fact.{Fact as AFact};
+ghost use Rattle.mdcc_messages.specs.declared.facts.Fact.{Fact as AFact};
 ghost use Rattle.mdcc_protocol.specs.Acceptor.{answer_after, answer_by_promise, answer_to_new, fit_of, on_propose, vote_by_fit, vote_on, vote_to_accept, vote_to_reject};
 ghost use Rattle.mdcc_protocol.specs.Facts.{vote_of};
 ghost use Rattle.mdcc_protocol.specs.Marks.{seen_in};

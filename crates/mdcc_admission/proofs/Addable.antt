@@ -20,12 +20,13 @@ use Rattle.mdcc_option.specs.declared.cluster.Cluster.{Cluster}
 use Rattle.mdcc_struct.specs.Maps.{value_of}
 use Rattle.mdcc_struct.specs.declared.options.Options.{Options}
 use Rattle.mdcc_protocol.specs.Acceptor.{new_marks, vote_on}
-use Rattle.mdcc_protocol.specs.Allowed.{are_apart, is_allowed_classic_vote, is_allowed_fast_vote, is_allowed_mark, is_answer, is_booted}
+use Rattle.mdcc_ledger.specs.AllowedFacts.{are_apart, is_booted}
+use Rattle.mdcc_ledger.specs.BootTest.{is_allowed_classic_vote, is_allowed_fast_vote, is_allowed_mark, is_answer}
 use Rattle.mdcc_protocol.specs.Belongs.{fact_belongs}
 use Rattle.mdcc_protocol.specs.Facts.{current_of, epoch_of, is_heard, promise_of, vote_of, votes_of}
-use Rattle.mdcc_protocol.specs.declared.facts.Fact.{Fact}
-use Rattle.mdcc_protocol.proofs.MayAddDecided.{Decides-promise}
-use Rattle.mdcc_protocol.proofs.TestsDecide.{Decides-fast, Decides-none}
+use Rattle.mdcc_messages.specs.declared.facts.Fact.{Fact}
+use Rattle.mdcc_ledger_laws.proofs.MayAddDecided.{Decides-promise}
+use Rattle.mdcc_ledger_laws.proofs.TestsDecide.{Decides-fast, Decides-none}
 
 not-true : (b : Bool) → not b ≡ true → b ≡ false
 not-true false h = refl

@@ -6,13 +6,13 @@ use Rattle.mdcc_admission.specs.Boots.{AreAmple, BootsWithAmpleCells, BootsWithi
 use Rattle.mdcc_admission.specs.Loading.{Cells, boot_by, is_past, loaded_by, next_by, past_fault}
 use Rattle.mdcc_base.specs.Counts.{sum_over}
 use Rattle.mdcc_option.specs.declared.cluster.Cluster.{Cluster}
-use Rattle.mdcc_protocol.specs.Allowed.{is_allowed_fact}
-use Rattle.mdcc_protocol.specs.Boot.{boot_of, booted_by, is_past_cells, loaded_from, room_fault}
-use Rattle.mdcc_protocol.specs.Built.{Built}
+use Rattle.mdcc_ledger.specs.BootTest.{is_allowed_fact}
+use Rattle.mdcc_rules.specs.Boot.{boot_of, booted_by, is_past_cells, loaded_from, room_fault}
+use Rattle.mdcc_switches.specs.Built.{Built}
 use Rattle.mdcc_protocol.specs.Facts.{epoch_of}
-use Rattle.mdcc_protocol.specs.Lengths.{cells_needed, cells_used}
-use Rattle.mdcc_protocol.specs.declared.facts.Fact.{Fact}
-use Rattle.mdcc_protocol.specs.declared.node.BootFault.{BootFault}
+use Rattle.mdcc_messages.specs.Lengths.{cells_needed, cells_used}
+use Rattle.mdcc_messages.specs.declared.facts.Fact.{Fact}
+use Rattle.mdcc_rules.specs.declared.node.BootFault.{BootFault}
 
 -- the same test, and the same fault where it is refused
 record SameRoom (cells : Cells) (built : Built) (cluster : Cluster) (facts : List Fact) (fact : Fact) : Type 0 where

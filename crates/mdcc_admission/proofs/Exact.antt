@@ -5,11 +5,12 @@ use Rattle.mdcc_admission.specs.Admission.{is_admitted, is_admitted_kind}
 use Rattle.mdcc_admission.specs.Laws.{AdmissionIsExact, AllowedEpochsAreCounted, AreCounted, EpochsStayCounted}
 use Rattle.mdcc_base.specs.Counts.{number_of}
 use Rattle.mdcc_option.specs.declared.cluster.Cluster.{Cluster}
-use Rattle.mdcc_protocol.specs.Allowed.{are_allowed_facts, is_allowed_fact, is_booted}
+use Rattle.mdcc_ledger.specs.BootTest.{are_allowed_facts, is_allowed_fact}
+use Rattle.mdcc_ledger.specs.AllowedFacts.{is_booted}
 use Rattle.mdcc_protocol.specs.Belongs.{fact_belongs}
 use Rattle.mdcc_protocol.specs.Facts.{epoch_of, is_heard}
 use Rattle.mdcc_protocol.specs.News.{is_crowding, is_news}
-use Rattle.mdcc_protocol.specs.declared.facts.Fact.{Fact}
+use Rattle.mdcc_messages.specs.declared.facts.Fact.{Fact}
 
 and-true : (b : Bool) → b ≡ (b && true)
 and-true true = refl

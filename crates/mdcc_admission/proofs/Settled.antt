@@ -8,10 +8,10 @@ use Rattle.mdcc_admission.specs.Loading.{Cells, LoadsUnless, Refusal, after, is_
 use Rattle.mdcc_admission.proofs.Exact.{admission_exact, stay_counted}
 use Rattle.mdcc_base.specs.Counts.{sum_over}
 use Rattle.mdcc_option.specs.declared.cluster.Cluster.{Cluster}
-use Rattle.mdcc_protocol.specs.Allowed.{is_allowed_fact}
+use Rattle.mdcc_ledger.specs.BootTest.{is_allowed_fact}
 use Rattle.mdcc_protocol.specs.News.{is_crowding}
-use Rattle.mdcc_protocol.specs.declared.facts.Fact.{Fact}
-use Rattle.mdcc_protocol.specs.declared.node.BootFault.{BootFault}
+use Rattle.mdcc_messages.specs.declared.facts.Fact.{Fact}
+use Rattle.mdcc_rules.specs.declared.node.BootFault.{BootFault}
 
 -- ---- a store that keeps its facts in a list
 

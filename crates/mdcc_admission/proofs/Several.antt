@@ -11,9 +11,10 @@ use Rattle.mdcc_option.specs.declared.choices.Choice.{Choice}
 use Rattle.mdcc_struct.specs.Maps.{are_ascending, value_of}
 use Rattle.mdcc_struct.specs.declared.options.Options.{Options}
 use Rattle.mdcc_struct.proofs.Ordered.{ascending-below, ascending-tail, value_of-below}
-use Rattle.mdcc_protocol.specs.Allowed.{are_apart, is_allowed_classic_vote}
+use Rattle.mdcc_ledger.specs.AllowedFacts.{are_apart}
+use Rattle.mdcc_ledger.specs.BootTest.{is_allowed_classic_vote}
 use Rattle.mdcc_protocol.specs.Facts.{current_of, promise_of, votes_of}
-use Rattle.mdcc_protocol.specs.declared.facts.Fact.{Fact}
+use Rattle.mdcc_messages.specs.declared.facts.Fact.{Fact}
 
 -- ascending transactions are apart
 pub ascending-apart : (options : Options) → are_ascending options ≡ true → are_apart options ≡ true

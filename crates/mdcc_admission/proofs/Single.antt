@@ -16,9 +16,9 @@ use Rattle.mdcc_option.specs.declared.cluster.Cluster.{Cluster}
 use Rattle.mdcc_option.proofs.Equal.{Decides-tx, Decides-key}
 use Rattle.mdcc_struct.specs.declared.options.Options.{Options}
 use Rattle.mdcc_protocol.specs.Acceptor.{answer_after, answer_to_new, on_propose, vote_on}
-use Rattle.mdcc_protocol.specs.Allowed.{is_allowed_fast_vote, is_allowed_mark, is_answer}
+use Rattle.mdcc_ledger.specs.BootTest.{is_allowed_fast_vote, is_allowed_mark, is_answer}
 use Rattle.mdcc_protocol.specs.Facts.{current_of, heard_of, is_heard, promise_of, vote_of}
-use Rattle.mdcc_protocol.specs.declared.facts.Fact.{Fact}
+use Rattle.mdcc_messages.specs.declared.facts.Fact.{Fact}
 
 -- ---- the acceptor's answer
 

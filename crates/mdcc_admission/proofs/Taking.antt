@@ -3,7 +3,7 @@ use Rattle.std.proofs.Common.{◌≡◌, ℕ, ◌+◌, Bool, true, false, List, 
 use Rattle.std.specs.Bool.{OnFalse}
 use Rattle.mdcc_admission.specs.Loading.{Cells, Refusal, after, fact_read, run_by, taken_by}
 use Rattle.mdcc_option.specs.declared.cluster.Cluster.{Cluster}
-use Rattle.mdcc_protocol.specs.declared.facts.Fact.{Fact}
+use Rattle.mdcc_messages.specs.declared.facts.Fact.{Fact}
 use Rattle.mdcc_struct.proofs.Walks.{drop-get}
 
 module _ (cells : Cells) (cluster : Cluster) (facts : List Fact) (payloads : List (List ℕ)) (place : ℕ) (payload : List ℕ)

@@ -10,11 +10,12 @@ use Rattle.mdcc_option.specs.declared.choices.Mark.{Mark}
 use Rattle.mdcc_option.specs.declared.cluster.Cluster.{Cluster}
 use Rattle.mdcc_struct.specs.Maps.{value_of}
 use Rattle.mdcc_struct.specs.declared.options.Options.{Options}
-use Rattle.mdcc_protocol.specs.Allowed.{is_allowed_classic_vote, is_allowed_fast_vote, is_allowed_mark, is_allowed_promise, is_booted}
+use Rattle.mdcc_ledger.specs.BootTest.{is_allowed_classic_vote, is_allowed_fast_vote, is_allowed_mark, is_allowed_promise}
+use Rattle.mdcc_ledger.specs.AllowedFacts.{is_booted}
 use Rattle.mdcc_protocol.specs.Belongs.{fact_belongs}
 use Rattle.mdcc_protocol.specs.Facts.{epoch_of, is_heard, votes_of}
 use Rattle.mdcc_protocol.specs.News.{is_news}
-use Rattle.mdcc_protocol.specs.declared.facts.Fact.{Fact}
+use Rattle.mdcc_messages.specs.declared.facts.Fact.{Fact}
 
 -- one mark at the fast ballot, with the choice offered exactly where it is a rejection
 abbrev pub is_allowed_single : Cluster → List Fact → Key → ℕ → TxId → Mark → Option Choice → Bool

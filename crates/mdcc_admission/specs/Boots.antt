@@ -3,10 +3,10 @@ use Rattle.std.specs.Prelude.{List, Option, Some, false, true, ◌<◌, ◌^◌,
 use Rattle.std.specs.List.{AllByRecursion}
 use Rattle.mdcc_admission.specs.Loading.{Cells, boot_by, cells_with}
 use Rattle.mdcc_option.specs.declared.cluster.Cluster.{Cluster}
-use Rattle.mdcc_protocol.specs.Boot.{boot_of}
-use Rattle.mdcc_protocol.specs.Built.{Built}
-use Rattle.mdcc_protocol.specs.Lengths.{cells_needed}
-use Rattle.mdcc_protocol.specs.declared.facts.Fact.{Fact}
+use Rattle.mdcc_rules.specs.Boot.{boot_of}
+use Rattle.mdcc_switches.specs.Built.{Built}
+use Rattle.mdcc_messages.specs.Lengths.{cells_needed}
+use Rattle.mdcc_messages.specs.declared.facts.Fact.{Fact}
 
 -- no fact lacks cells, whatever the others are
 abbrev pub AreAmple : Cells → Type 0

@@ -4,10 +4,11 @@ use Rattle.mdcc_base.specs.Counts.{number_of}
 use Rattle.mdcc_facts.specs.Adding.{MayBeAdded}
 use Rattle.mdcc_admission.specs.Admission.{is_admitted}
 use Rattle.mdcc_option.specs.declared.cluster.Cluster.{Cluster}
-use Rattle.mdcc_protocol.specs.Allowed.{are_allowed_facts, is_allowed_fact, is_booted}
+use Rattle.mdcc_ledger.specs.BootTest.{are_allowed_facts, is_allowed_fact}
+use Rattle.mdcc_ledger.specs.AllowedFacts.{is_booted}
 use Rattle.mdcc_protocol.specs.Facts.{epoch_of}
 use Rattle.mdcc_protocol.specs.News.{is_crowding}
-use Rattle.mdcc_protocol.specs.declared.facts.Fact.{Fact}
+use Rattle.mdcc_messages.specs.declared.facts.Fact.{Fact}
 
 -- the last epoch is the number of boots
 abbrev pub AreCounted : List Fact → Type 0

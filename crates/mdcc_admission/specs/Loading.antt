@@ -5,14 +5,14 @@ use Rattle.mdcc_admission.specs.Admission.{is_admitted}
 use Rattle.mdcc_admission.specs.Laws.{AreCounted}
 use Rattle.mdcc_base.specs.Counts.{sum_over}
 use Rattle.mdcc_option.specs.declared.cluster.Cluster.{Cluster}
-use Rattle.mdcc_protocol.specs.Allowed.{is_allowed_fact}
+use Rattle.mdcc_ledger.specs.BootTest.{is_allowed_fact}
 use Rattle.mdcc_protocol.specs.Facts.{epoch_of}
 use Rattle.mdcc_protocol.specs.News.{is_crowding}
-use Rattle.mdcc_protocol.specs.Reading.{fact_of}
-use Rattle.mdcc_protocol.specs.declared.facts.Fact.{Fact}
-use Rattle.mdcc_protocol.specs.declared.facts.StoreFault.{StoreFault}
-use Rattle.mdcc_protocol.specs.declared.node.BootFault.{BootFault}
-use Rattle.mdcc_protocol.specs.declared.wire.WireFault.{WireFault}
+use Rattle.mdcc_messages.specs.Reading.{fact_of}
+use Rattle.mdcc_messages.specs.declared.facts.Fact.{Fact}
+use Rattle.mdcc_protocol.specs.declared.stores.StoreFault.{StoreFault}
+use Rattle.mdcc_rules.specs.declared.node.BootFault.{BootFault}
+use Rattle.mdcc_messages.specs.declared.wire.WireFault.{WireFault}
 
 -- ---- payloads
 

@@ -1,8 +1,8 @@
 //! Whether a fact may stand after those before it.
 ghost use Rattle.std.specs.Prelude.{◌≡◌, List};
 ghost use Rattle.mdcc_admission.specs.Admission.{is_admitted, is_admitted_kind, is_next_epoch};
-ghost use Rattle.mdcc_protocol.specs.Allowed.{is_booted};
-ghost use Rattle.mdcc_protocol.specs.declared.facts.Fact.{Fact as AFact};
+ghost use Rattle.mdcc_ledger.specs.AllowedFacts.{is_booted};
+ghost use Rattle.mdcc_messages.specs.declared.facts.Fact.{Fact as AFact};
 
 use crate::facts_belong::fact_belongs;
 use crate::news::is_news;
@@ -10,7 +10,7 @@ use crate::promises::is_allowed_promise;
 use crate::votes::is_allowed_vote;
 use mdcc_facts::FactStore;
 use mdcc_option::Cluster;
-use mdcc_protocol::Fact;
+use mdcc_messages::Fact;
 
 fn is_booted(fact: &Fact) -> bool
     ensures { result ≡ is_booted fact.now }

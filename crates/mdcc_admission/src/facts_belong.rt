@@ -7,7 +7,7 @@ use crate::parts_belong::{
     tx_belongs,
 };
 use mdcc_option::{Choice, Cluster};
-use mdcc_protocol::Fact;
+use mdcc_messages::Fact;
 
 // Whether the choice that stands beside a rejection is.
 fn offered_belongs(cluster: &Cluster, offered: &Option<Choice>) -> bool

@@ -13,4 +13,5 @@ mod votes;
 
 pub use admitted::is_admitted;
 pub use loading::boot_store;
-pub use mdcc_protocol::{BootFault, Fact};
+pub use mdcc_messages::Fact;
+pub use mdcc_rules::BootFault;

@@ -2,7 +2,7 @@
 ghost use Rattle.std.specs.Prelude.{◌≡◌, ◌-◌, ◌<◌, ◌^◌, [], List, Ok, Some, length, map, slice_get, true};
 ghost use Rattle.std.specs.Bool.{OnFalse};
 ghost use Rattle.mdcc_admission.specs.Loading.{BootsUnless, Cells, Holds, LoadsUnless, boot_by, fact_read, is_memory, is_memory_at, is_room, list_cells, loaded_by, next_by, read_fault, run_by, settle, store_fault, taken_by};
-ghost use Rattle.mdcc_protocol.specs.declared.facts.Fact.{Fact as AFact};
+ghost use Rattle.mdcc_messages.specs.declared.facts.Fact.{Fact as AFact};
 
 use crate::admitted::is_admitted;
 use crate::laws::admitted_may_be_added;
@@ -10,7 +10,9 @@ use mdcc_base::HeapList;
 use mdcc_facts::{FactStore, ListFacts};
 use mdcc_journal::decode_fact;
 use mdcc_option::Cluster;
-use mdcc_protocol::{BootFault, Fact, StoreFault, WireFault};
+use mdcc_messages::{Fact, WireFault};
+use mdcc_protocol::StoreFault;
+use mdcc_rules::BootFault;
 use std::alloc::Global;
 
 // How many payloads were taken before one was not, and why.

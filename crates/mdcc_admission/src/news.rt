@@ -4,7 +4,7 @@ ghost use Rattle.std.specs.Prelude.{◌≡◌, List, is_some, not};
 ghost use Rattle.mdcc_protocol.specs.Facts.{executed_of};
 ghost use Rattle.mdcc_protocol.specs.Fit.{has_tx};
 ghost use Rattle.mdcc_protocol.specs.News.{is_news};
-ghost use Rattle.mdcc_protocol.specs.declared.facts.Fact.{Fact as AFact};
+ghost use Rattle.mdcc_messages.specs.declared.facts.Fact.{Fact as AFact};
 ghost use Rattle.mdcc_struct.specs.Maps.{value_of};
 
 use mdcc_base::{Key, TxId};

@@ -1,7 +1,7 @@
 //! Promises that may stand after the facts before them.
 ghost use Rattle.std.specs.Prelude.{◌≡◌, List};
-ghost use Rattle.mdcc_protocol.specs.Allowed.{is_allowed_promise};
-ghost use Rattle.mdcc_protocol.specs.declared.facts.Fact.{Fact as AFact};
+ghost use Rattle.mdcc_ledger.specs.BootTest.{is_allowed_promise};
+ghost use Rattle.mdcc_messages.specs.declared.facts.Fact.{Fact as AFact};
 
 use mdcc_base::{Ballot, Key};
 use mdcc_facts::FactStore;

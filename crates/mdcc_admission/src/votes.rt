@@ -2,9 +2,9 @@
 ghost use Rattle.std.specs.Prelude.{◌≡◌, ◌&&◌, List, false, is_some, length, nat_le, nat_lt, not};
 ghost use Rattle.mdcc_admission.specs.Admission.{are_new, is_allowed_single, is_allowed_vote};
 ghost use Rattle.mdcc_base.specs.Ballot.{ballot_lt};
-ghost use Rattle.mdcc_protocol.specs.Allowed.{is_allowed_classic_vote, is_allowed_fast_vote, is_allowed_mark, is_answer};
+ghost use Rattle.mdcc_ledger.specs.BootTest.{is_allowed_classic_vote, is_allowed_fast_vote, is_allowed_mark, is_answer};
 ghost use Rattle.mdcc_protocol.specs.Facts.{current_of, promise_of, votes_of};
-ghost use Rattle.mdcc_protocol.specs.declared.facts.Fact.{Fact as AFact};
+ghost use Rattle.mdcc_messages.specs.declared.facts.Fact.{Fact as AFact};
 ghost use Rattle.mdcc_struct.specs.Maps.{value_of};
 
 use mdcc_acceptor::on_propose;

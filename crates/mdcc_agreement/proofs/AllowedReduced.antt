@@ -13,10 +13,11 @@ use Rattle.mdcc_option.specs.declared.cluster.Cluster.{Cluster}
 use Rattle.mdcc_option.specs.declared.items.Delta.{Delta}
 use Rattle.mdcc_option.specs.declared.items.Item.{Item}
 use Rattle.mdcc_struct.specs.declared.options.Options.{Options}
-use Rattle.mdcc_protocol.specs.Allowed as full_allowed
+use Rattle.mdcc_ledger.specs.AllowedFacts as facts_allowed
+use Rattle.mdcc_ledger.specs.AllowedLedgers as full_allowed
 use Rattle.mdcc_protocol.specs.Facts as full
-use Rattle.mdcc_protocol.specs.Ledger as ledger
-use Rattle.mdcc_protocol.specs.declared.facts.Fact.{Fact}
+use Rattle.mdcc_ledger.specs.Ledger as ledger
+use Rattle.mdcc_messages.specs.declared.facts.Fact.{Fact}
 use Rattle.mdcc_agreement.proofs.Ballots.{fast, Below}
 use Rattle.mdcc_agreement.proofs.OutcomeToReduced.{decided}
 use Rattle.mdcc_agreement.proofs.Reduction.{setup_of, IsSetup-of, reduced_fact, reduced, facts_same, delta_pair}
@@ -91,7 +92,7 @@ module _ (cluster : Cluster) (is : IsCluster cluster) (es : List ledger.Entry) (
       }
 
   may_vote : (a : ℕ) (key : Key) (version : ℕ) (ballot : Ballot) (options : Options) (offered : Option Choice) →
-      full_allowed.MayAddKind cluster (ledger.facts_of es a) (Fact.Voted key version ballot options offered) →
+      facts_allowed.MayAddKind cluster (ledger.facts_of es a) (Fact.Voted key version ballot options offered) →
       full_allowed.IsBacked cluster es a (Fact.Voted key version ballot options offered) → MayVote (setup_of cluster) (reduced es) a (record { key = key; version = version }) ballot options
   may_vote a key version ballot options offered h backed =
       let fine : AllFine (ledger.facts_of es a) = all_fine (setup_of cluster) es allowed short a in
@@ -103,7 +104,7 @@ module _ (cluster : Cluster) (is : IsCluster cluster) (es : List ledger.Entry) (
         | inr e ↦ classic_may cluster sizes is.schema.few es allowed a fine (record { key = key; version = version }) ballot options offered e (MatchBool-at_false _ _ e h) (MatchBool-at_false _ _ e backed)
       ]
 
-  may_happen : (a : ℕ) (f : Fact) → full_allowed.MayAdd cluster (ledger.facts_of es a) f → full_allowed.IsBacked cluster es a f →
+  may_happen : (a : ℕ) (f : Fact) → facts_allowed.MayAdd cluster (ledger.facts_of es a) f → full_allowed.IsBacked cluster es a f →
       MayHappen (setup_of cluster) (reduced es) a (reduced_fact f)
   may_happen a (Fact.Booted epoch) h backed = tt
   may_happen a (Fact.Promised key low high ballot) h backed =

@@ -20,12 +20,12 @@ use Rattle.mdcc_option.specs.declared.items.Token.{Token}
 use Rattle.mdcc_option.specs.declared.items.Update.{Update}
 use Rattle.mdcc_option.specs.declared.items.Update.TheVariants.{Write, Add}
 use Rattle.mdcc_struct.specs.Maps.{TxMap, txs_of}
-use Rattle.mdcc_protocol.specs.Allowed.{IsAllowedBegun, IsAllowed, seqs_begun, part_in}
+use Rattle.mdcc_ledger.specs.AllowedLedgers.{IsAllowedBegun, IsAllowed, seqs_begun, part_in}
 use Rattle.mdcc_protocol.specs.Facts as full
-use Rattle.mdcc_protocol.specs.Ledger as ledger
+use Rattle.mdcc_ledger.specs.Ledger as ledger
 use Rattle.mdcc_protocol.specs.Manager.{write_fault, add_fault, part_begin_fault, parts_begin_fault, update_begin_fault}
 use Rattle.mdcc_protocol.specs.Marks.{Amounts}
-use Rattle.mdcc_protocol.specs.declared.facts.Fact.{Fact}
+use Rattle.mdcc_messages.specs.declared.facts.Fact.{Fact}
 use Rattle.mdcc_agreement.proofs.Reduction.{reduced, facts_reduced, facts_same}
 use Rattle.mdcc_agreement.proofs.HeldReduced.{AllFine, current_same, executed_listed}
 use Rattle.mdcc_agreement.proofs.ReducedFacts.{current, executed}

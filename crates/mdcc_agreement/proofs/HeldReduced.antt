@@ -15,7 +15,7 @@ use Rattle.mdcc_option.specs.declared.items.Item.{Item}
 use Rattle.mdcc_struct.specs.Maps.{TxMap, value_of, inserted, with_entry, union}
 use Rattle.mdcc_protocol.specs.Facts as full
 use Rattle.mdcc_protocol.specs.Marks.{Amounts}
-use Rattle.mdcc_protocol.specs.declared.facts.Fact.{Fact}
+use Rattle.mdcc_messages.specs.declared.facts.Fact.{Fact}
 use Rattle.mdcc_struct.proofs.Values.{value_of-union}
 use Rattle.mdcc_agreement.proofs.BegunOnce.{In-append}
 use Rattle.mdcc_agreement.proofs.Reduction.{reduced_fact, facts_reduced, delta_pair, and_swap}

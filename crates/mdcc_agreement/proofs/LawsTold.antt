@@ -16,10 +16,10 @@ use Rattle.mdcc_option.specs.declared.items.Update.{Update}
 use Rattle.mdcc_option.specs.declared.items.Update.TheVariants.{Write, Add}
 use Rattle.mdcc_struct.specs.Maps.{value_of}
 use Rattle.mdcc_struct.specs.declared.options.Options.{Options}
-use Rattle.mdcc_protocol.specs.Allowed.{IsAllowed}
+use Rattle.mdcc_ledger.specs.AllowedLedgers.{IsAllowed}
 use Rattle.mdcc_protocol.specs.Facts as full
 use Rattle.mdcc_protocol.specs.Fit.{has_tx}
-use Rattle.mdcc_protocol.specs.Ledger as ledger
+use Rattle.mdcc_ledger.specs.Ledger as ledger
 use Rattle.mdcc_agreement.specs.Laws as law
 use Rattle.mdcc_agreement.specs.Laws.{IsLedger, IsChosenAt, IsAbort, IsCommit, IsAcceptedBy, Agree, do_agree}
 use Rattle.mdcc_agreement.proofs.AcceptedAgree as agreement

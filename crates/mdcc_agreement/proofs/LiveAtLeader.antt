@@ -18,10 +18,10 @@ use Rattle.mdcc_option.specs.declared.items.Update.TheVariants.{Write, Add}
 use Rattle.mdcc_struct.specs.Maps.{TxMap, value_of, union}
 use Rattle.mdcc_struct.specs.declared.options.Options.{Options}
 use Rattle.mdcc_protocol.specs.Facts as full
-use Rattle.mdcc_protocol.specs.Ledger as ledger
+use Rattle.mdcc_ledger.specs.Ledger as ledger
 use Rattle.mdcc_protocol.specs.Marks.{is_abort, Amounts}
 use Rattle.mdcc_protocol.specs.Structures.{live_at_leader}
-use Rattle.mdcc_protocol.specs.declared.facts.Fact.{Fact}
+use Rattle.mdcc_messages.specs.declared.facts.Fact.{Fact}
 use Rattle.mdcc_struct.proofs.Values.{value_of-union}
 use Rattle.mdcc_agreement.proofs.Reduction.{setup_of, reduced_fact, reduced, facts_reduced, facts_same}
 use Rattle.mdcc_agreement.proofs.FitsBound.{FitsExactly, exact_clear, exact_within, total_found}

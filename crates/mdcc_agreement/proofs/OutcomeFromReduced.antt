@@ -14,8 +14,8 @@ use Rattle.mdcc_option.specs.declared.choices.Outcome.TheVariants.{Commit, Abort
 use Rattle.mdcc_option.specs.declared.cluster.Cluster.{Cluster}
 use Rattle.mdcc_option.specs.declared.faults.DraftFault.TheVariants.{Empty}
 use Rattle.mdcc_option.specs.declared.items.Part.{Part}
-use Rattle.mdcc_protocol.specs.Allowed.{IsAllowed, IsAllowedBegun, part_in}
-use Rattle.mdcc_protocol.specs.Ledger as ledger
+use Rattle.mdcc_ledger.specs.AllowedLedgers.{IsAllowed, IsAllowedBegun, part_in}
+use Rattle.mdcc_ledger.specs.Ledger as ledger
 use Rattle.mdcc_protocol.specs.Marks.{is_reject_found, choice_in, outcome_of_marks}
 use Rattle.mdcc_agreement.proofs.AcceptedAgree.{IsAborted-tail}
 use Rattle.mdcc_agreement.proofs.OneBase.{IsCommitted-tail}

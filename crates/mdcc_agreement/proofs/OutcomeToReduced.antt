@@ -13,7 +13,7 @@ use Rattle.mdcc_option.specs.declared.choices.Mark.TheVariants.{Accept, Reject}
 use Rattle.mdcc_option.specs.declared.choices.Outcome.{Outcome}
 use Rattle.mdcc_option.specs.declared.choices.Outcome.TheVariants.{Commit, Abort}
 use Rattle.mdcc_option.specs.declared.cluster.Cluster.{Cluster}
-use Rattle.mdcc_protocol.specs.Ledger as ledger
+use Rattle.mdcc_ledger.specs.Ledger as ledger
 use Rattle.mdcc_protocol.specs.Marks.{is_reject_found, choice_in, outcome_of_marks}
 use Rattle.mdcc_agreement.proofs.BegunOnce.{begun_own, one_choice}
 use Rattle.mdcc_agreement.proofs.ReportsCounted.{some_counted}

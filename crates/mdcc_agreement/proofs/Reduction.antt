@@ -8,9 +8,9 @@ use Rattle.mdcc_base.specs.declared.identifiers.TxId.{TxId}
 use Rattle.mdcc_option.specs.declared.choices.Mark.{Mark}
 use Rattle.mdcc_option.specs.declared.cluster.Cluster.{Cluster}
 use Rattle.mdcc_option.specs.declared.items.Delta.{Delta}
-use Rattle.mdcc_protocol.specs.Ledger as ledger
+use Rattle.mdcc_ledger.specs.Ledger as ledger
 use Rattle.mdcc_protocol.specs.Marks.{Amounts}
-use Rattle.mdcc_protocol.specs.declared.facts.Fact.{Fact}
+use Rattle.mdcc_messages.specs.declared.facts.Fact.{Fact}
 use Rattle.mdcc_agreement.proofs.Setups.{Setup, IsSetup}
 use Rattle.mdcc_agreement.proofs.ReducedFacts.{ReducedFact, Booted, Promised, Voted, Heard, Adopted}
 use Rattle.mdcc_agreement.proofs.ReducedLedger.{Entry, Happened, Begun, Valued, facts_of}

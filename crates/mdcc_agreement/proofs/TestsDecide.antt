@@ -9,7 +9,7 @@ pub use Rattle.mdcc_option.proofs.Equal.{Decides-tx, Decides-key, Decides-txs, D
 use Rattle.mdcc_struct.specs.Options.{is_mark}
 use Rattle.mdcc_struct.specs.declared.options.Options.{Options}
 use Rattle.mdcc_protocol.specs.Marks.{options_eq}
-pub use Rattle.mdcc_protocol.proofs.TestsDecide.{Decides-ballot}
+pub use Rattle.mdcc_ledger_laws.proofs.TestsDecide.{Decides-ballot}
 use Rattle.mdcc_agreement.proofs.Ballots.{Below}
 use Rattle.mdcc_agreement.proofs.ReducedOptions.{Place, place_eq}
 

@@ -6,8 +6,8 @@ use Rattle.mdcc_base.specs.declared.identifiers.TxId.{TxId}
 use Rattle.mdcc_base.specs.declared.key.Key.{Key}
 use Rattle.mdcc_option.specs.declared.choices.Choice.{Choice}
 use Rattle.mdcc_option.specs.declared.choices.Outcome.TheVariants.{Commit, Abort}
-use Rattle.mdcc_protocol.specs.Ledger as ledger
-use Rattle.mdcc_protocol.specs.declared.facts.Fact.{Fact}
+use Rattle.mdcc_ledger.specs.Ledger as ledger
+use Rattle.mdcc_messages.specs.declared.facts.Fact.{Fact}
 use Rattle.mdcc_agreement.proofs.BegunOnce.{begun_apart}
 use Rattle.mdcc_agreement.proofs.Reduction.{reduced_fact, reduced}
 use Rattle.mdcc_agreement.proofs.ChoicesGive.{Update-is, last_version}

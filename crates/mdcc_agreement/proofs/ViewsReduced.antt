@@ -14,11 +14,11 @@ use Rattle.mdcc_option.specs.Equality.{mark_eq}
 use Rattle.mdcc_option.specs.declared.choices.Mark.{Mark}
 use Rattle.mdcc_option.specs.declared.cluster.Cluster.{Cluster}
 use Rattle.mdcc_struct.specs.Maps.{value_of}
-use Rattle.mdcc_protocol.specs.Allowed.{has_promised_in}
+use Rattle.mdcc_ledger.specs.AllowedLedgers.{has_promised_in}
 use Rattle.mdcc_protocol.specs.Facts as full
 use Rattle.mdcc_struct.specs.Options.{is_mark}
-use Rattle.mdcc_protocol.specs.Ledger as ledger
-use Rattle.mdcc_protocol.specs.declared.facts.Fact.{Fact}
+use Rattle.mdcc_ledger.specs.Ledger as ledger
+use Rattle.mdcc_messages.specs.declared.facts.Fact.{Fact}
 use Rattle.mdcc_struct.proofs.Values.{value_of-union}
 use Rattle.mdcc_agreement.proofs.BallotOrder.{Below-cases, Below-trans, Below-irrefl}
 use Rattle.mdcc_agreement.proofs.Ballots.{fast}

@@ -20,13 +20,16 @@ use Rattle.mdcc_option.specs.declared.items.Update.TheVariants.{Write, Add}
 use Rattle.mdcc_struct.specs.Maps.{value_of, union}
 use Rattle.mdcc_struct.specs.declared.options.Options.{Options}
 use Rattle.mdcc_protocol.specs.Acceptor as acceptor
-use Rattle.mdcc_protocol.specs.Allowed.{MayVoteFast, MayVoteClassic, is_answer, are_apart, is_begun, are_begun, is_own_mark, is_fast_vote_begun, is_valued, is_valued_as}
-use Rattle.mdcc_protocol.specs.Allowed as full_allowed
+use Rattle.mdcc_ledger.specs.AllowedFacts.{MayVoteFast, MayVoteClassic, are_apart}
+use Rattle.mdcc_ledger.specs.BootTest.{is_answer}
+use Rattle.mdcc_ledger.specs.AllowedLedgers.{is_begun, are_begun, is_own_mark, is_fast_vote_begun, is_valued, is_valued_as}
+use Rattle.mdcc_ledger.specs.AllowedFacts as facts_allowed
+use Rattle.mdcc_ledger.specs.AllowedLedgers as full_allowed
 use Rattle.mdcc_protocol.specs.Facts as full
-use Rattle.mdcc_protocol.specs.Ledger as ledger
+use Rattle.mdcc_ledger.specs.Ledger as ledger
 use Rattle.mdcc_protocol.specs.Marks.{options_eq, accepts_in, rejects_in}
 use Rattle.mdcc_protocol.specs.Structures.{accept_room, reject_room}
-use Rattle.mdcc_protocol.specs.declared.facts.Fact.{Fact}
+use Rattle.mdcc_messages.specs.declared.facts.Fact.{Fact}
 use Rattle.mdcc_protocol.specs.declared.fit.Fit.{Fit}
 use Rattle.mdcc_struct.proofs.Values.{value_of-union}
 use Rattle.mdcc_agreement.proofs.BallotOrder.{Below-irrefl}
@@ -254,7 +257,7 @@ module _ (cluster : Cluster) (sizes : IsSetup (setup_of cluster)) (four : length
       }
 
   -- the two forms of a vote at the fast ballot
-  pub fast_may : (i : Place) (options : Options) (offered : Option Choice) → full_allowed.IsFastVote cluster own_facts i.key i.version options offered →
+  pub fast_may : (i : Place) (options : Options) (offered : Option Choice) → facts_allowed.IsFastVote cluster own_facts i.key i.version options offered →
       is_fast_vote_begun es i.key i.version options offered ≡ true → MayVote (setup_of cluster) (reduced es) a i fast options
   fast_may i [] None h begun = absurd h
   fast_may i [] (Some c) h begun = absurd h

@@ -13,8 +13,8 @@ use Rattle.mdcc_option.specs.declared.cluster.Cluster.{Cluster}
 use Rattle.mdcc_option.specs.declared.items.Item.{Item}
 use Rattle.mdcc_option.specs.declared.items.Update.{Update}
 use Rattle.mdcc_struct.specs.declared.options.Options.{Options}
-use Rattle.mdcc_protocol.specs.Ledger.{Added, Entry, Valued}
-use Rattle.mdcc_protocol.specs.declared.facts.Fact.{Fact}
+use Rattle.mdcc_ledger.specs.Ledger.{Added, Entry, Valued}
+use Rattle.mdcc_messages.specs.declared.facts.Fact.{Fact}
 
 -- three centres, one attribute from 0 to 100
 abbrev pub three : Cluster

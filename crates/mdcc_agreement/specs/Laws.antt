@@ -10,10 +10,10 @@ use Rattle.mdcc_option.specs.declared.cluster.Cluster.{Cluster}
 use Rattle.mdcc_option.specs.declared.items.Update.{Update}
 use Rattle.mdcc_struct.specs.Maps.{value_of}
 use Rattle.mdcc_struct.specs.declared.options.Options.{Options}
-use Rattle.mdcc_protocol.specs.Allowed.{IsAllowed, is_valued}
+use Rattle.mdcc_ledger.specs.AllowedLedgers.{IsAllowed, is_valued}
 use Rattle.mdcc_protocol.specs.Fit.{has_tx}
 use Rattle.mdcc_protocol.specs.IsCluster.{IsCluster}
-use Rattle.mdcc_protocol.specs.Ledger.{Entry, is_chosen_at, outcome_of}
+use Rattle.mdcc_ledger.specs.Ledger.{Entry, is_chosen_at, outcome_of}
 
 -- an allowed ledger of a cluster, too short for a version to come to its end
 pub record IsLedger (cluster : Cluster) (entries : List Entry) : Type 0 where

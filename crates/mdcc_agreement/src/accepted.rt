@@ -8,7 +8,7 @@ ghost use Rattle.mdcc_option.specs.declared.choices.Mark.{Mark};
 ghost use Rattle.mdcc_option.specs.declared.cluster.Cluster.{Cluster};
 ghost use Rattle.mdcc_struct.specs.declared.options.Options.{Options};
 ghost use Rattle.mdcc_protocol.specs.Facts.{votes_of};
-ghost use Rattle.mdcc_protocol.specs.Ledger.{Entry, facts_of};
+ghost use Rattle.mdcc_ledger.specs.Ledger.{Entry, facts_of};
 ghost use Rattle.mdcc_agreement.specs.Laws.{Agree, IsAbort, IsAcceptedBy, IsChosenAt, IsLedger, WasSent};
 
 /// Two accepted choices of one instance whose transactions are not aborted agree: they are not both

@@ -2,7 +2,7 @@
 ghost use Rattle.std.specs.Prelude.{◌≡◌, [], ◌∷◌, Some};
 ghost use Rattle.mdcc_option.specs.declared.choices.Mark.{Mark};
 ghost use Rattle.mdcc_protocol.specs.Facts.{current_of};
-ghost use Rattle.mdcc_protocol.specs.Ledger.{chosen_of, committed_of, facts_of};
+ghost use Rattle.mdcc_ledger.specs.Ledger.{chosen_of, committed_of, facts_of};
 ghost use Rattle.mdcc_agreement.specs.Example.{choice, key, ledger, three, tx};
 ghost use Rattle.mdcc_agreement.specs.Laws.{IsLedger};
 

@@ -10,7 +10,7 @@ ghost use Rattle.mdcc_option.specs.declared.choices.Outcome.{Outcome};
 ghost use Rattle.mdcc_option.specs.declared.cluster.Cluster.{Cluster};
 ghost use Rattle.mdcc_struct.specs.Maps.{value_of};
 ghost use Rattle.mdcc_struct.specs.declared.options.Options.{Options};
-ghost use Rattle.mdcc_protocol.specs.Ledger.{Entry, choices_begun, chosen_of, outcome_of};
+ghost use Rattle.mdcc_ledger.specs.Ledger.{Entry, choices_begun, chosen_of, outcome_of};
 ghost use Rattle.mdcc_agreement.specs.Laws.{IsChosenAt, IsCommit, IsLedger, WasSent};
 
 /// No transaction has two marks chosen in one instance. A mark that is chosen at a ballot stands in

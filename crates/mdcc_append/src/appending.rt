@@ -1,8 +1,8 @@
 //! Parts appended to bytes, where the capacity is there.
 ghost use Rattle.std.specs.Prelude.{◌≡◌, ◌≤◌, ◌+◌, ◌*◌, ◌++◌, length, vec_len, vec_capacity};
-ghost use Rattle.mdcc_protocol.specs.Bytes.{u8_bytes, u32_bytes, u64_bytes, i64_bytes, counted};
-ghost use Rattle.mdcc_protocol.specs.SpelledParts.{key_bytes, tx_bytes, ballot_bytes, item_bytes, seen_bytes, amount_bytes, amounts_bytes, update_bytes, part_bytes, delta_bytes, written_bytes, write_set_bytes, choice_bytes};
-ghost use Rattle.mdcc_protocol.specs.Lengths.{key_length, item_length, seen_length, amounts_length, update_length, part_length, delta_length, written_length, write_set_length, choice_length};
+ghost use Rattle.mdcc_messages.specs.Bytes.{u8_bytes, u32_bytes, u64_bytes, i64_bytes, counted};
+ghost use Rattle.mdcc_messages.specs.SpelledParts.{key_bytes, tx_bytes, ballot_bytes, item_bytes, seen_bytes, amount_bytes, amounts_bytes, update_bytes, part_bytes, delta_bytes, written_bytes, write_set_bytes, choice_bytes};
+ghost use Rattle.mdcc_messages.specs.Lengths.{key_length, item_length, seen_length, amounts_length, update_length, part_length, delta_length, written_length, write_set_length, choice_length};
 
 use mdcc_base::{Ballot, Key, TxId};
 use mdcc_option::{Choice, Delta, Item, Part, Update};

@@ -1,7 +1,7 @@
 //! How many bytes parts have.
 ghost use Rattle.std.specs.Prelude.{◌≡◌, ◌≤◌, ◌<◌, ◌+◌, ◌*◌, ◌^◌, length};
 ghost use Rattle.mdcc_base.specs.Counts.{sum_over};
-ghost use Rattle.mdcc_protocol.specs.Lengths.{key_length, item_length, seen_length, amounts_length, update_length, part_length, delta_length, written_length, write_set_length, choice_length, entry_length, options_length, outcome_length, heard_length, given_length, cause_length};
+ghost use Rattle.mdcc_messages.specs.Lengths.{key_length, item_length, seen_length, amounts_length, update_length, part_length, delta_length, written_length, write_set_length, choice_length, entry_length, options_length, outcome_length, heard_length, given_length, cause_length};
 
 use mdcc_base::{Key, TxId};
 use mdcc_option::{Cause, Choice, Delta, Item, Mark, Outcome, Part, Update};

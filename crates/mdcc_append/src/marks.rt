@@ -1,9 +1,9 @@
 //! Marks, structures and outcomes appended to bytes, where the capacity is there.
 ghost use Rattle.std.specs.Prelude.{◌≡◌, ◌≤◌, ◌<◌, ◌+◌, ◌++◌, ◌^◌, length, vec_len, vec_capacity};
 ghost use Rattle.mdcc_base.specs.Counts.{sum_over};
-ghost use Rattle.mdcc_protocol.specs.Bytes.{counted};
-ghost use Rattle.mdcc_protocol.specs.SpelledParts.{choice_bytes, delta_bytes, entry_bytes, options_bytes, outcome_bytes, cause_bytes, heard_bytes, given_bytes};
-ghost use Rattle.mdcc_protocol.specs.Lengths.{choice_length, delta_length, entry_length, options_length, outcome_length, cause_length, heard_length, given_length};
+ghost use Rattle.mdcc_messages.specs.Bytes.{counted};
+ghost use Rattle.mdcc_messages.specs.SpelledParts.{choice_bytes, delta_bytes, entry_bytes, options_bytes, outcome_bytes, cause_bytes, heard_bytes, given_bytes};
+ghost use Rattle.mdcc_messages.specs.Lengths.{choice_length, delta_length, entry_length, options_length, outcome_length, cause_length, heard_length, given_length};
 
 use crate::appending::{
     put_ballot, put_choice, put_delta, put_item, put_key, put_tx, put_u8, put_u32, put_u64,

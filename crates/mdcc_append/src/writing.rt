@@ -1,7 +1,7 @@
 //! Parts written to bytes, where memory is found for them.
 ghost use Rattle.std.specs.Prelude.{◌≡◌, ◌≤◌, ◌<◌, ◌+◌, ◌++◌, ◌^◌, length, vec_len, vec_capacity, IsOk, OnOk, OnErr};
-ghost use Rattle.mdcc_protocol.specs.SpelledParts.{key_bytes, tx_bytes, ballot_bytes, item_bytes, seen_bytes, amounts_bytes, update_bytes, delta_bytes, write_set_bytes, choice_bytes, entry_bytes, options_bytes};
-ghost use Rattle.mdcc_protocol.specs.Lengths.{key_length, item_length, seen_length, amounts_length, update_length, delta_length, write_set_length, choice_length, entry_length, options_length};
+ghost use Rattle.mdcc_messages.specs.SpelledParts.{key_bytes, tx_bytes, ballot_bytes, item_bytes, seen_bytes, amounts_bytes, update_bytes, delta_bytes, write_set_bytes, choice_bytes, entry_bytes, options_bytes};
+ghost use Rattle.mdcc_messages.specs.Lengths.{key_length, item_length, seen_length, amounts_length, update_length, delta_length, write_set_length, choice_length, entry_length, options_length};
 
 use crate::appending::{
     put_amounts, put_ballot, put_choice, put_delta, put_item, put_key, put_seen, put_tx,

@@ -4,7 +4,7 @@ use mdcc_admission::parts_belong::is_centre;
 use mdcc_base::{Centre, HeapList};
 use mdcc_facts::ListFacts;
 use mdcc_node::{BootFault, Node};
-use mdcc_protocol::Fact;
+use mdcc_messages::Fact;
 use std::alloc::Global;
 use std::process::Abort;
 use std::test::*;

@@ -15,13 +15,13 @@ use Rattle.mdcc_option.specs.declared.choices.Outcome.TheVariants as outcomes
 use Rattle.mdcc_option.specs.declared.faults.BeginFault.TheVariants as begins
 use Rattle.mdcc_option.specs.declared.faults.DraftFault.TheVariants as drafts
 use Rattle.mdcc_struct.specs.Options.{Marks}
-use Rattle.mdcc_protocol.specs.declared.messages.ClientAnswer.{ClientAnswer}
-use Rattle.mdcc_protocol.specs.declared.messages.ClientAnswer.TheVariants as answers
-use Rattle.mdcc_protocol.specs.declared.messages.Envelope.{Envelope}
-use Rattle.mdcc_protocol.specs.declared.messages.Message.{Message}
-use Rattle.mdcc_protocol.specs.declared.messages.Message.TheVariants as messages
-use Rattle.mdcc_protocol.specs.declared.facts.Fact.{Fact}
-use Rattle.mdcc_protocol.specs.declared.facts.Fact.TheVariants as facts
+use Rattle.mdcc_messages.specs.declared.messages.ClientAnswer.{ClientAnswer}
+use Rattle.mdcc_messages.specs.declared.messages.ClientAnswer.TheVariants as answers
+use Rattle.mdcc_messages.specs.declared.messages.Envelope.{Envelope}
+use Rattle.mdcc_messages.specs.declared.messages.Message.{Message}
+use Rattle.mdcc_messages.specs.declared.messages.Message.TheVariants as messages
+use Rattle.mdcc_messages.specs.declared.facts.Fact.{Fact}
+use Rattle.mdcc_messages.specs.declared.facts.Fact.TheVariants as facts
 use Rattle.mdcc_examples.specs.ByteValues.{first_tx, key_a, key_b, ten}
 
 abbrev pub second_tx : TxId

@@ -1,11 +1,11 @@
 -- What is asked of a replay, computed from one: what it writes, that the committed transactions are a run, and that the ledger is allowed.
 use Rattle.std.specs.Prelude.{Bool, List, None, Option, Some, false, is_some, true, ℕ}
 use Rattle.mdcc_option.specs.OneCopy.{empty_store, store_run}
-use Rattle.mdcc_protocol.specs.AllowedTest.{is_ledger_allowed}
-use Rattle.mdcc_protocol.specs.Built.{all_built}
-use Rattle.mdcc_protocol.specs.Ledger.{committed_of}
-use Rattle.mdcc_protocol.specs.Replay.{Output, Replay, output_of, replay_of}
-use Rattle.mdcc_protocol.specs.World.{World}
+use Rattle.mdcc_ledger_laws.specs.LedgerTest.{is_ledger_allowed}
+use Rattle.mdcc_switches.specs.Built.{all_built}
+use Rattle.mdcc_ledger.specs.Ledger.{committed_of}
+use Rattle.mdcc_simulation.specs.Replay.{Output, Replay, output_of, replay_of}
+use Rattle.mdcc_simulation.specs.State.{World}
 
 -- the transactions that committed are a run of the one-copy store
 abbrev pub is_run_in : Option World → Bool

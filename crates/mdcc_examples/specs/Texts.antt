@@ -6,17 +6,17 @@ use Rattle.mdcc_option.specs.declared.items.Item.{Item}
 use Rattle.mdcc_option.specs.declared.items.Known.{Known}
 use Rattle.mdcc_option.specs.declared.items.Part.{Part}
 use Rattle.mdcc_option.specs.declared.items.Update.{Update}
-use Rattle.mdcc_protocol.specs.declared.events.Event.{Event}
-use Rattle.mdcc_protocol.specs.declared.events.Event.TheVariants.{Begin}
-use Rattle.mdcc_protocol.specs.declared.events.UpdateWord.{UpdateWord}
-use Rattle.mdcc_protocol.specs.declared.schedule.HeaderCause.{HeaderCause}
-use Rattle.mdcc_protocol.specs.declared.schedule.HeaderFault.{HeaderFault}
-use Rattle.mdcc_protocol.specs.declared.schedule.SchedCause.{SchedCause}
-use Rattle.mdcc_protocol.specs.declared.schedule.SchedFault.{SchedFault}
-use Rattle.mdcc_protocol.specs.Built.{all_built, nothing_built}
-use Rattle.mdcc_protocol.specs.Header.{header_of}
-use Rattle.mdcc_protocol.specs.Replay.{Output, output_of, replay_of}
-use Rattle.mdcc_protocol.specs.Schedule.{line_of}
+use Rattle.mdcc_language.specs.declared.events.Event.{Event}
+use Rattle.mdcc_language.specs.declared.events.Event.TheVariants.{Begin}
+use Rattle.mdcc_language.specs.declared.events.UpdateWord.{UpdateWord}
+use Rattle.mdcc_language.specs.declared.schedule.HeaderCause.{HeaderCause}
+use Rattle.mdcc_language.specs.declared.schedule.HeaderFault.{HeaderFault}
+use Rattle.mdcc_language.specs.declared.schedule.SchedCause.{SchedCause}
+use Rattle.mdcc_language.specs.declared.schedule.SchedFault.{SchedFault}
+use Rattle.mdcc_switches.specs.Built.{all_built, nothing_built}
+use Rattle.mdcc_language.specs.Header.{header_of}
+use Rattle.mdcc_simulation.specs.Replay.{Output, output_of, replay_of}
+use Rattle.mdcc_language.specs.Schedule.{line_of}
 
 -- ---- lines
 

@@ -1,12 +1,13 @@
 //! Bytes of messages, of facts and of a log.
 ghost use Rattle.std.specs.Prelude.{◌≡◌, ◌∷◌, ◌++◌, [], IsTrue, map, take, set, Ok, Err};
 ghost use Rattle.std.specs.List.{list_all};
-ghost use Rattle.mdcc_protocol.specs.declared.facts.Fact.TheVariants.{Booted};
-ghost use Rattle.mdcc_protocol.specs.declared.wire.WireFault.TheVariants.{Truncated, Trailing, Kind, Range, NotCanonical};
-ghost use Rattle.mdcc_protocol.specs.Spelling.{message_bytes, fact_bytes, log_bytes};
-ghost use Rattle.mdcc_protocol.specs.Lengths.{message_length, log_length, cells_needed};
-ghost use Rattle.mdcc_protocol.specs.WellFormed.{is_well_formed_envelope, is_well_formed_fact};
-ghost use Rattle.mdcc_protocol.specs.Reading.{view_of, fact_of};
+ghost use Rattle.mdcc_messages.specs.declared.facts.Fact.TheVariants.{Booted};
+ghost use Rattle.mdcc_messages.specs.declared.wire.WireFault.TheVariants.{Truncated, Trailing, Kind, Range, NotCanonical};
+ghost use Rattle.mdcc_log.specs.Log.{log_bytes};
+ghost use Rattle.mdcc_messages.specs.Spelling.{message_bytes, fact_bytes};
+ghost use Rattle.mdcc_messages.specs.Lengths.{message_length, log_length, cells_needed};
+ghost use Rattle.mdcc_messages.specs.WellFormed.{is_well_formed_envelope, is_well_formed_fact};
+ghost use Rattle.mdcc_messages.specs.Reading.{view_of, fact_of};
 ghost use Rattle.mdcc_examples.specs.ByteValues.{proposal, proposal_spelled, question, question_rest, question_spelled, first_boot, first_log};
 ghost use Rattle.mdcc_examples.specs.EachKind.{all_envelopes, all_facts};
 
@@ -35,7 +36,7 @@ pub fn question_is_refused()
 
 /// After its first boot a log has 19 bytes, and the fact takes one cell.
 pub fn log_is_spelled()
-    ensures bytes { log_bytes first_boot ≡ first_log }
+    ensures bytes { log_bytes (map fact_bytes first_boot) ≡ first_log }
     ensures length { log_length first_boot ≡ 19 }
     ensures cells { cells_needed (Booted 1) ≡ 1 }
     ensures read { fact_of (1 ∷ 1 ∷ 0 ∷ 0 ∷ 0 ∷ []) ≡ Ok (Booted 1) }

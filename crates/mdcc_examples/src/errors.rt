@@ -3,13 +3,13 @@ ghost use Rattle.std.specs.Prelude.{◌≡◌, [], codes, Some, None};
 ghost use Rattle.mdcc_base.specs.declared.quorums.QuorumFault.TheVariants.{FastMeet};
 ghost use Rattle.mdcc_option.specs.declared.faults.DraftFault.TheVariants.{TooMany, RepeatedKey, BadAttribute, ZeroAmount, OutOfBounds};
 ghost use Rattle.mdcc_option.specs.declared.schema.SchemaFault.TheVariants.{Bound};
-ghost use Rattle.mdcc_protocol.specs.declared.schedule.HeaderCause.TheVariants.{Sched, Quorums, Schema};
-ghost use Rattle.mdcc_protocol.specs.declared.schedule.SchedCause.{SchedCause};
-ghost use Rattle.mdcc_protocol.specs.declared.schedule.SchedCause.TheVariants.{Word, Key, Order};
-ghost use Rattle.mdcc_protocol.specs.declared.world.EventFault.{EventFault};
-ghost use Rattle.mdcc_protocol.specs.declared.world.EventFault.TheVariants.{NoMessage, Down, Up, NoRead, Begin, Limit};
-ghost use Rattle.mdcc_protocol.specs.declared.world.LimitName.TheVariants.{Events, Cells, Log, Bytes};
-ghost use Rattle.mdcc_protocol.specs.Errors.{TooLong, AtHeader, AtLine, AtEvent, status_of, error_text};
+ghost use Rattle.mdcc_language.specs.declared.schedule.HeaderCause.TheVariants.{Sched, Quorums, Schema};
+ghost use Rattle.mdcc_language.specs.declared.schedule.SchedCause.{SchedCause};
+ghost use Rattle.mdcc_language.specs.declared.schedule.SchedCause.TheVariants.{Word, Key, Order};
+ghost use Rattle.mdcc_language.specs.declared.world.EventFault.{EventFault};
+ghost use Rattle.mdcc_language.specs.declared.world.EventFault.TheVariants.{NoMessage, Down, Up, NoRead, Begin, Limit};
+ghost use Rattle.mdcc_language.specs.declared.world.LimitName.TheVariants.{Events, Cells, Log, Bytes};
+ghost use Rattle.mdcc_language.specs.Errors.{TooLong, AtHeader, AtLine, AtEvent, status_of, error_text};
 
 // ---- Each fault
 

@@ -2,8 +2,8 @@
 ghost use Rattle.std.specs.Prelude.{◌≡◌, pos, negsuc, [], ◌∷◌, ◌++◌, codes, replicate};
 ghost use Rattle.mdcc_base.specs.declared.quorums.QuorumFault.TheVariants.{Centres, ClassicRange, FastRange, ClassicMeet, FastMeet};
 ghost use Rattle.mdcc_option.specs.declared.schema.SchemaFault.TheVariants.{Bound};
-ghost use Rattle.mdcc_protocol.specs.declared.schedule.HeaderCause.TheVariants.{Sched, Quorums, Schema};
-ghost use Rattle.mdcc_protocol.specs.declared.schedule.SchedCause.TheVariants.{Word, Number, Range, Order};
+ghost use Rattle.mdcc_language.specs.declared.schedule.HeaderCause.TheVariants.{Sched, Quorums, Schema};
+ghost use Rattle.mdcc_language.specs.declared.schedule.SchedCause.TheVariants.{Word, Number, Range, Order};
 ghost use Rattle.mdcc_examples.specs.Texts.{header, early_header, accepted, header_fault, five_centres};
 
 // ---- Accepted headers

@@ -1,12 +1,12 @@
 //! Lines of schedules, and what they are read as.
 ghost use Rattle.std.specs.Prelude.{◌≡◌, pos, negsuc, [], ◌∷◌, ◌++◌, codes, replicate, Ok};
 ghost use Rattle.mdcc_base.specs.declared.outside.Image.TheVariants.{Lost, Kept, Torn};
-ghost use Rattle.mdcc_protocol.specs.declared.events.Event.TheVariants.{Read, Begin, Deliver, Settle, Tick, Crash, Restart, Stop};
-ghost use Rattle.mdcc_protocol.specs.declared.events.UpdateWord.TheVariants.{New, Set, Add, Keep};
-ghost use Rattle.mdcc_protocol.specs.declared.schedule.SchedCause.TheVariants.{Word, Number, Key, Range, Order};
-ghost use Rattle.mdcc_protocol.specs.Built.{all_built};
-ghost use Rattle.mdcc_protocol.specs.Updates.{update_of};
-ghost use Rattle.mdcc_protocol.specs.Words.{number_of};
+ghost use Rattle.mdcc_language.specs.declared.events.Event.TheVariants.{Read, Begin, Deliver, Settle, Tick, Crash, Restart, Stop};
+ghost use Rattle.mdcc_language.specs.declared.events.UpdateWord.TheVariants.{New, Set, Add, Keep};
+ghost use Rattle.mdcc_language.specs.declared.schedule.SchedCause.TheVariants.{Word, Number, Key, Range, Order};
+ghost use Rattle.mdcc_switches.specs.Built.{all_built};
+ghost use Rattle.mdcc_language.specs.Updates.{update_of};
+ghost use Rattle.mdcc_language.specs.Words.{number_of};
 ghost use Rattle.mdcc_examples.specs.Texts.{line, early_line, event, begun, skipped, fault, item};
 
 // ---- Each word

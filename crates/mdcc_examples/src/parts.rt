@@ -2,9 +2,9 @@
 ghost use Rattle.std.specs.Prelude.{◌≡◌, pos, [], ◌∷◌, codes, Ok, Err};
 ghost use Rattle.mdcc_option.specs.declared.items.Update.{Update};
 ghost use Rattle.mdcc_option.specs.declared.items.Update.TheVariants.{Write};
-ghost use Rattle.mdcc_protocol.specs.declared.events.UpdateWord.TheVariants.{New, Set, Add, Keep};
-ghost use Rattle.mdcc_protocol.specs.declared.schedule.ResolveFault.TheVariants.{NoRead, NoItem};
-ghost use Rattle.mdcc_protocol.specs.Resolve.{resolve};
+ghost use Rattle.mdcc_language.specs.declared.events.UpdateWord.TheVariants.{New, Set, Add, Keep};
+ghost use Rattle.mdcc_language.specs.declared.schedule.ResolveFault.TheVariants.{NoRead, NoItem};
+ghost use Rattle.mdcc_language.specs.Resolve.{resolve};
 ghost use Rattle.mdcc_examples.specs.Texts.{item, tx, reads, part};
 
 // ---- Read 1 showed an item, read 2 was not made, read 3 showed none

@@ -2,8 +2,8 @@
 ghost use Rattle.std.specs.Prelude.{◌≡◌, pos, negsuc, true, false, [], ◌∷◌, codes, Some};
 ghost use Rattle.mdcc_option.specs.declared.faults.BeginFault.TheVariants.{Stale, Unseen, NoItem, Sequence, Busy};
 ghost use Rattle.mdcc_base.specs.declared.outside.Image.TheVariants.{Lost, Kept, Torn};
-ghost use Rattle.mdcc_protocol.specs.declared.lines.Line.TheVariants.{Read, Begun, Refused, Deliver, Settle, Settled, Tick, Crash, Stop, Restart, Stopped, Dropped, Chosen, Heard, End};
-ghost use Rattle.mdcc_protocol.specs.Report.{line_text, header_text};
+ghost use Rattle.mdcc_language.specs.declared.lines.Line.TheVariants.{Read, Begun, Refused, Deliver, Settle, Settled, Tick, Crash, Stop, Restart, Stopped, Dropped, Chosen, Heard, End};
+ghost use Rattle.mdcc_language.specs.Report.{line_text, header_text};
 ghost use Rattle.mdcc_examples.specs.Texts.{item, tx, read_a, read_b};
 
 // ---- Each line

@@ -11,7 +11,7 @@ use Rattle.mdcc_option.specs.declared.items.Update.{Update}
 use Rattle.mdcc_struct.specs.Maps.{are_ascending, value_of}
 use Rattle.mdcc_struct.proofs.Walks.{ascending-union}
 use Rattle.mdcc_protocol.specs.Facts.{live_and_void, live_from, marks_voted, votes_of, write_sets_from, write_sets_of}
-use Rattle.mdcc_protocol.specs.declared.facts.Fact.{Fact}
+use Rattle.mdcc_messages.specs.declared.facts.Fact.{Fact}
 use Rattle.mdcc_facts.specs.Walks.{is_next, least_from, next_tx}
 use Rattle.mdcc_facts.proofs.Walking.{least_union, value_union}
 

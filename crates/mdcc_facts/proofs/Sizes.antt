@@ -17,7 +17,7 @@ use Rattle.mdcc_struct.specs.Places.{place_of}
 use Rattle.mdcc_struct.proofs.Ordered.{inserted-place}
 use Rattle.mdcc_facts.specs.Few.{if_few, is_few}
 use Rattle.mdcc_protocol.specs.Facts.{deltas_at, deltas_from}
-use Rattle.mdcc_protocol.specs.declared.facts.Fact.{Fact}
+use Rattle.mdcc_messages.specs.declared.facts.Fact.{Fact}
 
 pub length-inserted : {X : Type 0} (m : TxMap X) (e : TxId × X) → length (inserted m e) ≡ length m + 1
 length-inserted [] e = refl

@@ -4,8 +4,8 @@ use Rattle.std.specs.Prelude.{◌≡◌, Bool, Err, List, Ok, Result, false, if�
 use Rattle.mdcc_struct.specs.Maps.{value_of}
 use Rattle.mdcc_protocol.specs.Facts.{is_heard, promised_through, votes_of}
 use Rattle.mdcc_protocol.specs.News.{is_crowding}
-use Rattle.mdcc_protocol.specs.declared.facts.Fact.{Fact}
-use Rattle.mdcc_protocol.specs.declared.facts.StoreFault.{StoreFault}
+use Rattle.mdcc_messages.specs.declared.facts.Fact.{Fact}
+use Rattle.mdcc_protocol.specs.declared.stores.StoreFault.{StoreFault}
 
 -- ---- when it may be added
 

@@ -7,7 +7,7 @@ use Rattle.mdcc_option.specs.declared.items.Update.{Update}
 use Rattle.mdcc_struct.specs.Maps.{TxMap}
 use Rattle.mdcc_protocol.specs.Facts.{is_heard, is_void}
 use Rattle.mdcc_protocol.specs.Marks.{Amounts}
-use Rattle.mdcc_protocol.specs.declared.facts.Fact.{Fact}
+use Rattle.mdcc_messages.specs.declared.facts.Fact.{Fact}
 
 -- above the last one; each is where there is no last one
 abbrev pub is_above : Option TxId → TxId → Bool

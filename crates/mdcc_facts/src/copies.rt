@@ -2,7 +2,7 @@
 ghost use Rattle.std.specs.Prelude.{◌≡◌, IfOk};
 
 use mdcc_base::{Memory, Plain};
-use mdcc_protocol::Fact;
+use mdcc_messages::Fact;
 use std::alloc::Global;
 
 /// An equal fact.

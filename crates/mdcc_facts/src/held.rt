@@ -7,7 +7,7 @@ ghost use Rattle.mdcc_protocol.specs.Marks.{is_write};
 
 use mdcc_base::{Key, Plain};
 use mdcc_option::{Choice, Item, Outcome, Update};
-use mdcc_protocol::Fact;
+use mdcc_messages::Fact;
 
 // A version plus one stops at 2^64 - 1.
 fn next_version(version: u64) -> u64

@@ -15,5 +15,6 @@ mod unresolved;
 mod votes;
 
 pub use list_facts::ListFacts;
-pub use mdcc_protocol::{Fact, StoreFault};
+pub use mdcc_messages::Fact;
+pub use mdcc_protocol::StoreFault;
 pub use store::FactStore;

@@ -12,7 +12,8 @@ use crate::votes::{choice_known, heard_of, vote_of};
 use crate::{FactStore, StoreFault};
 use mdcc_base::{Ballot, Key, Memory, TxId};
 use mdcc_option::{Choice, Delta, Item, Mark, Outcome, Seen, WriteSet};
-use mdcc_protocol::{Fact, Load};
+use mdcc_messages::Fact;
+use mdcc_protocol::Load;
 use std::alloc::Global;
 
 /// Facts in the order in which they were added. It has room for any number of them.

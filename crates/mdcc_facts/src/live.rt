@@ -9,7 +9,7 @@ use crate::next::{is_above, is_lower};
 use crate::votes::heard_of;
 use mdcc_base::{Key, Plain, TxId};
 use mdcc_option::{Choice, Delta, Mark, Outcome, Update};
-use mdcc_protocol::Fact;
+use mdcc_messages::Fact;
 use mdcc_struct::Options;
 
 // Whether the transaction was heard aborted.

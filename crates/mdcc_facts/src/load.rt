@@ -12,7 +12,8 @@ use crate::live::{next_live, update_at};
 use crate::marks::counted;
 use mdcc_base::{Key, TxId};
 use mdcc_option::Update;
-use mdcc_protocol::{Fact, Load};
+use mdcc_messages::Fact;
+use mdcc_protocol::Load;
 
 // What nothing weighs.
 const NO_LOAD: Load = Load {

@@ -4,7 +4,7 @@ ghost use Rattle.mdcc_base.specs.Ballot.{ballot_max};
 ghost use Rattle.mdcc_protocol.specs.Facts.{ballot_promised, epoch_of, promise_of, promised_through, range_promised};
 
 use mdcc_base::{Ballot, Key};
-use mdcc_protocol::Fact;
+use mdcc_messages::Fact;
 
 /// The epoch of the last boot.
 pub(crate) fn epoch_of(facts: &[Fact]) -> u32

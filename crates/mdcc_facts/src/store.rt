@@ -1,7 +1,7 @@
 //! What a store of facts promises.
 ghost use Rattle.std.specs.Prelude.{◌≡◌, ◌+◌, ◌∷◌, ℕ, List, OnErr, OnOk};
 ghost use Rattle.mdcc_base.specs.Unless.{GivesUnless};
-ghost use Rattle.mdcc_protocol.specs.declared.facts.Fact.{Fact as AFact};
+ghost use Rattle.mdcc_messages.specs.declared.facts.Fact.{Fact as AFact};
 ghost use Rattle.mdcc_protocol.specs.Facts.{base_of, choice_known, current_of, epoch_of, executed_of, heard_of, promise_of, promised_through, vote_of};
 ghost use Rattle.mdcc_protocol.specs.Stores.{delta_of, entries_at, load_at, mark_below, unresolved_at};
 ghost use Rattle.mdcc_struct.specs.Maps.{txs_of};
@@ -9,7 +9,8 @@ ghost use Rattle.mdcc_facts.specs.Adding.{MayBeAdded, add_of, is_memory};
 
 use mdcc_base::{Ballot, BoundedList, Key, TxId};
 use mdcc_option::{Choice, Delta, Item, Mark, Outcome, Seen};
-use mdcc_protocol::{Fact, Load, StoreFault};
+use mdcc_messages::Fact;
+use mdcc_protocol::{Load, StoreFault};
 
 /// A store of the facts of one centre. It answers what they say, and takes no memory for it.
 pub trait FactStore {

@@ -6,7 +6,7 @@ ghost use Rattle.mdcc_protocol.specs.Marks.{choice_in};
 
 use mdcc_base::{Ballot, Key, Plain, TxId};
 use mdcc_option::{Choice, Mark, Outcome};
-use mdcc_protocol::Fact;
+use mdcc_messages::Fact;
 
 // The mark that the fact votes of a transaction in an instance, with its ballot.
 fn mark_voted(fact: &Fact, key: &Key, version: u64, tx: &TxId) -> Option<(Ballot, Mark)>

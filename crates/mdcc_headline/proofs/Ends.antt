@@ -9,8 +9,8 @@ use Rattle.mdcc_option.specs.declared.choices.Choice.{Choice}
 use Rattle.mdcc_option.specs.declared.choices.Outcome.{Outcome}
 use Rattle.mdcc_option.specs.declared.choices.Outcome.TheVariants.{Abort, Commit}
 use Rattle.mdcc_option.specs.declared.cluster.Cluster.{Cluster}
-use Rattle.mdcc_protocol.specs.Ledger.{Entry, choices_committed, committed_of, new_outcomes, outcome_of, txs_begun}
-use Rattle.mdcc_protocol.specs.World.{is_commit_found}
+use Rattle.mdcc_ledger.specs.Ledger.{Entry, choices_committed, committed_of, new_outcomes, outcome_of, txs_begun}
+use Rattle.mdcc_simulation.specs.Runs.{is_commit_found}
 use Rattle.mdcc_agreement.specs.Laws.{IsLedger}
 use Rattle.mdcc_agreement.proofs.LawsTold.{allowed, setup_fine}
 use Rattle.mdcc_agreement.proofs.OutcomeFromReduced.{begun_some, outcome_committed}

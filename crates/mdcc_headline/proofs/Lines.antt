@@ -5,10 +5,10 @@ use Rattle.mdcc_base.specs.declared.identifiers.TxId.{TxId}
 use Rattle.mdcc_option.specs.declared.choices.Outcome.{Outcome}
 use Rattle.mdcc_option.specs.declared.cluster.Cluster.{Cluster}
 use Rattle.mdcc_option.specs.declared.items.Known.{Known}
-use Rattle.mdcc_protocol.specs.Ledger.{Added, Entry, new_outcome, new_outcomes, outcome_come, outcome_of, txs_voted}
+use Rattle.mdcc_ledger.specs.Ledger.{Added, Entry, new_outcome, new_outcomes, outcome_come, outcome_of, txs_voted}
 use Rattle.mdcc_protocol.specs.Marks.{is_commit}
-use Rattle.mdcc_protocol.specs.declared.facts.Fact.{Fact}
-use Rattle.mdcc_protocol.specs.declared.lines.Line.{Line}
+use Rattle.mdcc_messages.specs.declared.facts.Fact.{Fact}
+use Rattle.mdcc_language.specs.declared.lines.Line.{Line}
 use Rattle.mdcc_agreement.specs.Laws.{IsLedger}
 use Rattle.mdcc_agreement.proofs.LawsTold.{outcome_kept}
 use Rattle.mdcc_agreement.proofs.ReducedOptions.{In}

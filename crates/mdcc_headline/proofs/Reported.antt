@@ -8,14 +8,14 @@ use Rattle.mdcc_option.specs.declared.choices.Outcome.{Outcome}
 use Rattle.mdcc_option.specs.declared.cluster.Cluster.{Cluster}
 use Rattle.mdcc_option.specs.declared.items.Item.{Item}
 use Rattle.mdcc_struct.specs.Maps.{TxMap, are_ascending, txs_of}
-use Rattle.mdcc_protocol.specs.Allowed.{IsAllowed}
+use Rattle.mdcc_ledger.specs.AllowedLedgers.{IsAllowed}
 use Rattle.mdcc_protocol.specs.Facts.{base_of, current_of, deltas_at, deltas_from, executed_of}
-use Rattle.mdcc_protocol.specs.Ledger.{Entry, committed_of, facts_of, outcome_of}
+use Rattle.mdcc_ledger.specs.Ledger.{Entry, committed_of, facts_of, outcome_of}
 use Rattle.mdcc_protocol.specs.Marks.{Amounts}
 use Rattle.mdcc_protocol.specs.Visible
 use Rattle.mdcc_protocol.specs.Visible.{item_read}
-use Rattle.mdcc_protocol.specs.World.{known_of}
-use Rattle.mdcc_protocol.specs.declared.facts.Fact.{Fact}
+use Rattle.mdcc_simulation.specs.Clients.{known_of}
+use Rattle.mdcc_messages.specs.declared.facts.Fact.{Fact}
 use Rattle.mdcc_agreement.specs.Laws.{IsAbort, IsCommit, IsLedger}
 use Rattle.mdcc_agreement.proofs.BegunOnce.{begun_own}
 use Rattle.mdcc_agreement.proofs.LawsTold.{allowed, outcome_kept, setup_fine}

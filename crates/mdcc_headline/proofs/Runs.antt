@@ -3,13 +3,14 @@ use Rattle.std.proofs.Common.{List, length, refl, subst, sym, true, ℕ, ◌≡�
 use Rattle.std.specs.Prelude.{map}
 use Rattle.mdcc_base.specs.Counts.{number_of}
 use Rattle.mdcc_option.specs.declared.cluster.Cluster.{Cluster}
-use Rattle.mdcc_protocol.specs.Built as today
-use Rattle.mdcc_protocol.specs.Built.{Built}
-use Rattle.mdcc_protocol.specs.Header.{all_of}
+use Rattle.mdcc_switches.specs.Built as today
+use Rattle.mdcc_switches.specs.Built.{Built}
+use Rattle.mdcc_language.specs.Header.{all_of}
 use Rattle.mdcc_protocol.specs.IsCluster.{IsCluster}
-use Rattle.mdcc_protocol.specs.Ledger.{committed_of, outcome_of, txs_begun}
-use Rattle.mdcc_protocol.specs.World.{first_world, is_commit_found, run_of}
-use Rattle.mdcc_protocol.specs.declared.events.Event.{Event}
+use Rattle.mdcc_ledger.specs.Ledger.{committed_of, outcome_of, txs_begun}
+use Rattle.mdcc_simulation.specs.State.{first_world}
+use Rattle.mdcc_simulation.specs.Runs.{is_commit_found, run_of}
+use Rattle.mdcc_language.specs.declared.events.Event.{Event}
 use Rattle.mdcc_agreement.specs.Laws.{IsLedger}
 use Rattle.mdcc_history.proofs.CommitsRun.{commits_run}
 use Rattle.mdcc_trace.proofs.Laws as trace

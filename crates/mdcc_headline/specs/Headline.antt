@@ -3,14 +3,15 @@ use Rattle.std.specs.List.{AllByRecursion}
 use Rattle.std.specs.Prelude.{List, true, ℕ, ◌++◌, ◌≡◌}
 use Rattle.mdcc_option.specs.OneCopy.{IsRun}
 use Rattle.mdcc_option.specs.declared.cluster.Cluster.{Cluster}
-use Rattle.mdcc_protocol.specs.Built as today
-use Rattle.mdcc_protocol.specs.Built.{Built}
-use Rattle.mdcc_protocol.specs.Header.{Left}
+use Rattle.mdcc_switches.specs.Built as today
+use Rattle.mdcc_switches.specs.Built.{Built}
+use Rattle.mdcc_language.specs.Header.{Left}
 use Rattle.mdcc_protocol.specs.IsCluster.{IsCluster}
-use Rattle.mdcc_protocol.specs.Ledger.{Entry, committed_of}
-use Rattle.mdcc_protocol.specs.World.{Run, end_line, first_world, run_of}
-use Rattle.mdcc_protocol.specs.declared.events.Event.{Event}
-use Rattle.mdcc_protocol.specs.declared.lines.Line.{Line}
+use Rattle.mdcc_ledger.specs.Ledger.{Entry, committed_of}
+use Rattle.mdcc_simulation.specs.Runs.{Run, end_line, run_of}
+use Rattle.mdcc_simulation.specs.State.{first_world}
+use Rattle.mdcc_language.specs.declared.events.Event.{Event}
+use Rattle.mdcc_language.specs.declared.lines.Line.{Line}
 use Rattle.mdcc_agreement.specs.Laws.{IsLedger}
 use Rattle.mdcc_reports.specs.Replays.{IsAccepted, IsReplayed}
 use Rattle.mdcc_headline.specs.Told.{IsEndTold, IsTold}

@@ -8,10 +8,10 @@ use Rattle.mdcc_option.specs.declared.items.Item.{Item}
 use Rattle.mdcc_option.specs.declared.items.Known.{Known}
 use Rattle.mdcc_option.specs.declared.items.Update.{Update}
 use Rattle.mdcc_struct.specs.Maps.{TxMap, are_ascending, txs_of}
-use Rattle.mdcc_protocol.specs.Ledger.{Entry, committed_of}
+use Rattle.mdcc_ledger.specs.Ledger.{Entry, committed_of}
 use Rattle.mdcc_protocol.specs.Marks.{Amounts}
 use Rattle.mdcc_protocol.specs.Visible.{item_read}
-use Rattle.mdcc_protocol.specs.declared.lines.Line.{Line}
+use Rattle.mdcc_language.specs.declared.lines.Line.{Line}
 use Rattle.mdcc_agreement.specs.Laws.{IsAbort, IsCommit}
 
 -- the transactions are listed each as its choices: committed is such a list

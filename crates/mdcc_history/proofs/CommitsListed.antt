@@ -6,7 +6,7 @@ use Rattle.mdcc_option.specs.declared.choices.Choice.{Choice}
 use Rattle.mdcc_option.specs.declared.choices.Outcome.{Outcome}
 use Rattle.mdcc_option.specs.declared.choices.Outcome.TheVariants.{Commit, Abort}
 use Rattle.mdcc_option.specs.declared.cluster.Cluster.{Cluster}
-use Rattle.mdcc_protocol.specs.Ledger as ledger
+use Rattle.mdcc_ledger.specs.Ledger as ledger
 use Rattle.mdcc_struct.proofs.Reports.{cases_Option}
 use Rattle.mdcc_agreement.proofs.ReducedLedger.{ApartTx}
 use Rattle.mdcc_agreement.proofs.ReducedOptions.{In}

@@ -13,8 +13,8 @@ use Rattle.mdcc_option.specs.declared.choices.Outcome.TheVariants.{Commit, Abort
 use Rattle.mdcc_option.specs.declared.cluster.Cluster.{Cluster}
 use Rattle.mdcc_struct.specs.Maps.{txs_of}
 use Rattle.mdcc_struct.specs.declared.options.Options.{Options}
-use Rattle.mdcc_protocol.specs.Ledger as ledger
-use Rattle.mdcc_protocol.specs.declared.facts.Fact.{Fact}
+use Rattle.mdcc_ledger.specs.Ledger as ledger
+use Rattle.mdcc_messages.specs.declared.facts.Fact.{Fact}
 use Rattle.mdcc_struct.proofs.Reports.{cases_Option}
 use Rattle.mdcc_agreement.proofs.AcceptedAgree.{IsAborted-tail}
 use Rattle.mdcc_agreement.proofs.OneBase.{one_outcome}

@@ -24,11 +24,11 @@ use Rattle.mdcc_option.specs.declared.items.Update.{Update}
 use Rattle.mdcc_option.specs.declared.items.Update.TheVariants.{Write}
 use Rattle.mdcc_option.specs.declared.schema.Schema.{Schema}
 use Rattle.mdcc_struct.specs.Maps.{txs_of}
-use Rattle.mdcc_protocol.specs.Allowed.{IsAllowed, IsAllowedBegun, part_in}
+use Rattle.mdcc_ledger.specs.AllowedLedgers.{IsAllowed, IsAllowedBegun, part_in}
 use Rattle.mdcc_protocol.specs.Facts as full
-use Rattle.mdcc_protocol.specs.Ledger as ledger
+use Rattle.mdcc_ledger.specs.Ledger as ledger
 use Rattle.mdcc_protocol.specs.Manager.{update_begin_fault}
-use Rattle.mdcc_protocol.specs.declared.facts.Fact.{Fact}
+use Rattle.mdcc_messages.specs.declared.facts.Fact.{Fact}
 use Rattle.mdcc_struct.proofs.Reports.{cases_Option}
 use Rattle.mdcc_agreement.proofs.BegunOnce.{In-append}
 use Rattle.mdcc_agreement.proofs.OutcomeToReduced.{decided}

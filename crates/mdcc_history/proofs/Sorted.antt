@@ -9,7 +9,7 @@ use Rattle.mdcc_base.specs.declared.identifiers.TxId.{TxId}
 use Rattle.mdcc_option.specs.OneCopy.{seen_of, with_delta}
 use Rattle.mdcc_option.specs.declared.items.Delta.{Delta}
 use Rattle.mdcc_struct.specs.Maps.{TxMap, value_of, inserted, with_entry, union, txs_of}
-use Rattle.mdcc_protocol.specs.Ledger.{with_tx}
+use Rattle.mdcc_ledger.specs.Ledger.{with_tx}
 use Rattle.mdcc_agreement.proofs.ReducedLedger.{ApartTx}
 use Rattle.mdcc_agreement.proofs.ReducedOptions.{In}
 use Rattle.mdcc_agreement.proofs.TestsDecide.{Decides-tx}

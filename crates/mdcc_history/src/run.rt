@@ -4,7 +4,7 @@ ghost use Rattle.mdcc_base.specs.declared.identifiers.TxId.{TxId};
 ghost use Rattle.mdcc_option.specs.OneCopy.{IsRun};
 ghost use Rattle.mdcc_option.specs.declared.choices.Choice.{Choice};
 ghost use Rattle.mdcc_option.specs.declared.cluster.Cluster.{Cluster};
-ghost use Rattle.mdcc_protocol.specs.Ledger.{Entry, committed_of};
+ghost use Rattle.mdcc_ledger.specs.Ledger.{Entry, committed_of};
 ghost use Rattle.mdcc_agreement.specs.Laws.{IsCommit, IsLedger};
 
 /// The committed transactions, in the order in which they became so, are a run of the one-copy store;

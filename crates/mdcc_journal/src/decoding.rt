@@ -2,8 +2,8 @@
 ghost use Rattle.std.specs.Prelude.{◌≡◌};
 ghost use Rattle.mdcc_base.specs.Unless.{GivesUnless};
 ghost use Rattle.mdcc_parts.specs.Reads.{is_memory};
-ghost use Rattle.mdcc_protocol.specs.ReadingSteps.{checked, u8_at};
-ghost use Rattle.mdcc_protocol.specs.Reading.{known, booted_at, promised_at, some_offered_at, offered_at, vote_at, heard_fact_at, adopted_at, fact_at, fact_of};
+ghost use Rattle.mdcc_messages.specs.ReadingSteps.{checked, u8_at};
+ghost use Rattle.mdcc_messages.specs.Reading.{known, booted_at, promised_at, some_offered_at, offered_at, vote_at, heard_fact_at, adopted_at, fact_at, fact_of};
 
 use mdcc_base::Key;
 use mdcc_option::Choice;
@@ -12,7 +12,7 @@ use mdcc_parts::given::{read_given, read_heard, read_instance};
 use mdcc_parts::identifiers::read_ballot;
 use mdcc_parts::marks::read_options;
 use mdcc_parts::numbers::{u8_at, u8_within, u32_within, u64_at};
-use mdcc_protocol::{Fact, WireFault};
+use mdcc_messages::{Fact, WireFault};
 use std::alloc::Global;
 
 // A start.

@@ -16,7 +16,7 @@ use Rattle.mdcc_logs.specs.Stands.{IsLogOf, log_at, no_log}
 use Rattle.mdcc_logs.specs.Starting.{AreBegun, first_facts}
 use Rattle.mdcc_logs.specs.declared.logs.Logs.{Logs}
 use Rattle.mdcc_option.specs.declared.cluster.Cluster.{Cluster}
-use Rattle.mdcc_protocol.specs.declared.facts.Fact.{Fact}
+use Rattle.mdcc_messages.specs.declared.facts.Fact.{Fact}
 use Rattle.mdcc_restart.specs.Logged.{AreLogged, logged}
 use Rattle.mdcc_restart.specs.Restarting.{IsLogOf as IsReadAs}
 

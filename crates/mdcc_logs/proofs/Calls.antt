@@ -9,15 +9,16 @@ use Rattle.mdcc_disks.specs.Contents.{Contents, IsImage, durable}
 use Rattle.mdcc_disks.specs.Disks.{KeepsOthers, Only}
 use Rattle.mdcc_disks.specs.Memory.{AllMemory, CrashLeaves, IsBut, KeepsPlaces, at_place, crashed, disk_of, is_there, left_since_of, may_leave_of, moment_of, standing}
 use Rattle.mdcc_log.specs.Frames.{IsAtRest, IsSettled, OpenLog}
-use Rattle.mdcc_logs.proofs.Payloads.{log-more, logged-length}
+use Rattle.mdcc_logs.proofs.Payloads.{log-more}
+use Rattle.mdcc_restart.proofs.Logged.{logged-length}
 use Rattle.mdcc_logs.proofs.Standing.{IsSame, both-same, elsewhere, logs-stay, put, rests, unchanged}
 use Rattle.mdcc_restart.specs.Logged.{logged}
 use Rattle.mdcc_logs.specs.Stands.{AreLogs, LogsStand, log_at, with_fact_at}
 use Rattle.mdcc_logs.specs.declared.logs.Logs.{Logs}
-use Rattle.mdcc_protocol.specs.Lengths.{frame_length, log_length}
-use Rattle.mdcc_protocol.specs.Spelling.{fact_bytes}
-use Rattle.mdcc_protocol.specs.World.{most_log}
-use Rattle.mdcc_protocol.specs.declared.facts.Fact.{Fact}
+use Rattle.mdcc_messages.specs.Lengths.{frame_length, log_length}
+use Rattle.mdcc_messages.specs.Spelling.{fact_bytes}
+use Rattle.mdcc_simulation.specs.Limits.{most_log}
+use Rattle.mdcc_messages.specs.declared.facts.Fact.{Fact}
 
 -- ---- a crash
 

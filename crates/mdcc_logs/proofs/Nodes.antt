@@ -6,7 +6,7 @@ use Rattle.mdcc_logs.specs.Nodes.{AreStarted, IsNodeOf}
 use Rattle.mdcc_node.specs.declared.node.Node.{Node}
 use Rattle.mdcc_option.specs.declared.cluster.Cluster.{Cluster}
 use Rattle.mdcc_protocol.specs.Volatile.{nothing_kept}
-use Rattle.mdcc_protocol.specs.declared.facts.Fact.{Fact}
+use Rattle.mdcc_messages.specs.declared.facts.Fact.{Fact}
 
 pushed-get : {X : Type 0} (xs : List X) (v x : X) (i : ℕ) → slice_get (xs ++ v ∷ []) i ≡ Some x → (slice_get xs i ≡ Some x) ⊎ ((i ≡ length xs) × (v ≡ x))
 pushed-get [] v x zero at = let same : v ≡ x = cc in inr (refl, same)

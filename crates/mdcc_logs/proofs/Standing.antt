@@ -9,7 +9,7 @@ use Rattle.mdcc_log.specs.Frames.{IsAtRest, OpenLog}
 use Rattle.mdcc_restart.specs.Logged.{logged}
 use Rattle.mdcc_logs.specs.Stands.{IsLogOf, LogsStand, log_at, no_log, with_fact_at}
 use Rattle.mdcc_logs.specs.declared.logs.Logs.{Logs}
-use Rattle.mdcc_protocol.specs.declared.facts.Fact.{Fact}
+use Rattle.mdcc_messages.specs.declared.facts.Fact.{Fact}
 
 -- ---- a disk that gives the same
 

@@ -8,17 +8,17 @@ use Rattle.mdcc_facts.specs.declared.list_facts.ListFacts.{ListFacts}
 use Rattle.mdcc_log.specs.Frames.{IsAtRest, RestIsRead}
 use Rattle.mdcc_log.specs.Log.{log_limit}
 use Rattle.mdcc_log.specs.declared.fault.LogFault.{LogFault}
-use Rattle.mdcc_logs.proofs.Payloads.{logged-length}
+use Rattle.mdcc_restart.proofs.Logged.{logged-length}
 use Rattle.mdcc_logs.proofs.Standing.{IsSame, both-same, elsewhere, put, rests}
 use Rattle.mdcc_logs.specs.Nodes.{IsNodeOf, are_stored}
 use Rattle.mdcc_logs.specs.Stands.{IsLogOf, LogsStand, log_at}
 use Rattle.mdcc_logs.specs.Starting.{HasStarted}
 use Rattle.mdcc_logs.specs.declared.logs.Logs.{Logs}
 use Rattle.mdcc_option.specs.declared.cluster.Cluster.{Cluster}
-use Rattle.mdcc_protocol.specs.Lengths.{log_length}
+use Rattle.mdcc_messages.specs.Lengths.{log_length}
 use Rattle.mdcc_protocol.specs.Volatile.{nothing_kept}
-use Rattle.mdcc_protocol.specs.World.{most_log}
-use Rattle.mdcc_protocol.specs.declared.facts.Fact.{Fact}
+use Rattle.mdcc_simulation.specs.Limits.{most_log}
+use Rattle.mdcc_messages.specs.declared.facts.Fact.{Fact}
 use Rattle.mdcc_restart.proofs.Ample.{ample-as-list}
 use Rattle.mdcc_restart.specs.Logged.{logged}
 use Rattle.mdcc_restart.specs.Restarting.{IsAmple, IsLogOf as IsReadAs, IsRefused, Runs, next_boot, size_with_boot}

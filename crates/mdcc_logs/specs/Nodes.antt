@@ -6,7 +6,7 @@ use Rattle.mdcc_node.specs.Stands.{Stands as NodeStands}
 use Rattle.mdcc_node.specs.declared.node.Node.{Node}
 use Rattle.mdcc_option.specs.declared.cluster.Cluster.{Cluster}
 use Rattle.mdcc_protocol.specs.Volatile.{Volatile, nothing_kept}
-use Rattle.mdcc_protocol.specs.declared.facts.Fact.{Fact}
+use Rattle.mdcc_messages.specs.declared.facts.Fact.{Fact}
 
 -- a store of a list stands for the facts that it lists
 abbrev pub are_stored : ListFacts → List Fact → Type 0

@@ -4,7 +4,7 @@ use Rattle.mdcc_disks.specs.Memory.{disk_of, is_there, may_leave_of}
 use Rattle.mdcc_log.specs.Frames.{IsAtRest, OpenLog}
 use Rattle.mdcc_restart.specs.Logged.{logged}
 use Rattle.mdcc_logs.specs.declared.logs.Logs.{Logs}
-use Rattle.mdcc_protocol.specs.declared.facts.Fact.{Fact}
+use Rattle.mdcc_messages.specs.declared.facts.Fact.{Fact}
 
 -- the log of no centre
 abbrev pub no_log : OpenLog

@@ -11,10 +11,10 @@ use Rattle.mdcc_logs.specs.declared.starting.Started.{Started}
 use Rattle.mdcc_node.specs.declared.node.Node.{Node}
 use Rattle.mdcc_option.specs.declared.cluster.Cluster.{Cluster}
 use Rattle.mdcc_protocol.specs.Facts.{epoch_of}
-use Rattle.mdcc_protocol.specs.Lengths.{log_length}
+use Rattle.mdcc_messages.specs.Lengths.{log_length}
 use Rattle.mdcc_protocol.specs.Volatile.{nothing_kept}
-use Rattle.mdcc_protocol.specs.World.{most_log}
-use Rattle.mdcc_protocol.specs.declared.facts.Fact.{Fact}
+use Rattle.mdcc_simulation.specs.Limits.{most_log}
+use Rattle.mdcc_messages.specs.declared.facts.Fact.{Fact}
 use Rattle.mdcc_restart.specs.Restarting.{Runs, size_with_boot}
 use Rattle.mdcc_restart.specs.declared.restarting.Restarted.{Restarted}
 

@@ -8,11 +8,11 @@ ghost use Rattle.mdcc_logs.specs.Starting.{Starts};
 ghost use Rattle.mdcc_protocol.specs.Belongs.{is_centre};
 ghost use Rattle.mdcc_protocol.specs.Facts.{epoch_of};
 ghost use Rattle.mdcc_protocol.specs.IsCluster.{IsCluster};
-ghost use Rattle.mdcc_protocol.specs.Lengths.{fact_length, frame_length, log_length};
-ghost use Rattle.mdcc_protocol.specs.Spelling.{fact_bytes};
-ghost use Rattle.mdcc_protocol.specs.WellFormed.{IsWellFormedFact};
-ghost use Rattle.mdcc_protocol.specs.World.{most_log};
-ghost use Rattle.mdcc_protocol.specs.declared.facts.Fact.{Fact as AFact};
+ghost use Rattle.mdcc_messages.specs.Lengths.{fact_length, frame_length, log_length};
+ghost use Rattle.mdcc_messages.specs.Spelling.{fact_bytes};
+ghost use Rattle.mdcc_messages.specs.WellFormed.{IsWellFormedFact};
+ghost use Rattle.mdcc_simulation.specs.Limits.{most_log};
+ghost use Rattle.mdcc_messages.specs.declared.facts.Fact.{Fact as AFact};
 ghost use Rattle.mdcc_restart.specs.Logged.{AreLogged};
 
 use crate::starting::{Started, start};
@@ -22,7 +22,7 @@ use mdcc_journal::counts::well_formed_facts_have_counts;
 use mdcc_journal::{encode_fact, fact_length};
 use mdcc_log::{Frames, LOG_LIMIT, rest_is_read};
 use mdcc_option::Cluster;
-use mdcc_protocol::Fact;
+use mdcc_messages::Fact;
 use mdcc_restart::Restarted;
 use std::alloc::Global;
 

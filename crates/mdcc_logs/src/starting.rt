@@ -5,7 +5,7 @@ ghost use Rattle.mdcc_disks.specs.Memory.{disk_of, may_leave_of, moment_of, left
 ghost use Rattle.mdcc_logs.specs.Starting.{StartsOver};
 ghost use Rattle.mdcc_protocol.specs.Belongs.{is_centre};
 ghost use Rattle.mdcc_protocol.specs.Facts.{epoch_of};
-ghost use Rattle.mdcc_protocol.specs.declared.facts.Fact.{Fact as AFact};
+ghost use Rattle.mdcc_messages.specs.declared.facts.Fact.{Fact as AFact};
 ghost use Rattle.mdcc_restart.specs.Logged.{AreLogged};
 ghost use Rattle.mdcc_restart.specs.Restarting.{IsLogOf};
 

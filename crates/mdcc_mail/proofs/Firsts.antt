@@ -7,7 +7,7 @@ use Rattle.std.proofs.lemmas.Option.{slice_get-get_or}
 use Rattle.std.proofs.Math.Numerals.{add-one}
 use Rattle.mdcc_mail.specs.Letters.{AreCursors, delivered}
 use Rattle.mdcc_mail.specs.Waiting.{before_first, waits_among, waits_for}
-use Rattle.mdcc_protocol.specs.World.{Sent, numbered, with_delivered}
+use Rattle.mdcc_messages.specs.Mailbox.{Sent, numbered, with_delivered}
 
 pub first_within : {X : Type 0} (test : X → Bool) (xs : List X) → before_first test xs ≤ length xs
 first_within test [] = grind arith

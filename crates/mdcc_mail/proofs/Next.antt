@@ -6,8 +6,10 @@ use Rattle.std.proofs.lemmas.Bool.{cases_Bool, ltb-false}
 use Rattle.std.proofs.Math.Numerals.{add-one}
 use Rattle.mdcc_mail.proofs.Firsts.{numbered_at, past}
 use Rattle.mdcc_mail.specs.Waiting.{AreAsked, before_first, message_of, number_at, waits_among, with_number}
-use Rattle.mdcc_protocol.specs.World.{Sent, World, first_waiting, is_waiting_for}
-use Rattle.mdcc_protocol.specs.declared.messages.Envelope.{Envelope}
+use Rattle.mdcc_messages.specs.Mailbox.{Sent}
+use Rattle.mdcc_simulation.specs.State.{World}
+use Rattle.mdcc_simulation.specs.Deliveries.{first_waiting, is_waiting_for}
+use Rattle.mdcc_messages.specs.declared.messages.Envelope.{Envelope}
 
 abbrev at_place : ℕ → List Sent → ℕ → Option (ℕ × Envelope)
 at_place number sent place = option_map (with_number (number + place)) (slice_get sent place)

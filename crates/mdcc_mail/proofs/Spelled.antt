@@ -3,13 +3,13 @@ use Rattle.std.proofs.Common.{◌≡◌, ℕ, ◌+◌, List, [], ◌∷◌, ◌+
 use Rattle.std.proofs.lemmas.List.{map-append}
 use Rattle.mdcc_base.specs.Counts.{sum_over}
 use Rattle.mdcc_mail.specs.Letters.{AreOutgoing, IsLetter, envelope_in, envelope_or_empty, envelopes_of}
-use Rattle.mdcc_protocol.proofs.Lengths.{length-message}
-use Rattle.mdcc_protocol.specs.Lengths.{message_length, messages_length}
-use Rattle.mdcc_protocol.specs.Reading.{view_of}
-use Rattle.mdcc_protocol.specs.Spelling.{message_bytes}
-use Rattle.mdcc_protocol.specs.WellFormed.{IsWellFormedEnvelope}
-use Rattle.mdcc_protocol.specs.World.{Sent, unsent}
-use Rattle.mdcc_protocol.specs.declared.messages.Envelope.{Envelope}
+use Rattle.mdcc_spelling.proofs.Lengths.{length-message}
+use Rattle.mdcc_messages.specs.Lengths.{message_length, messages_length}
+use Rattle.mdcc_messages.specs.Reading.{view_of}
+use Rattle.mdcc_messages.specs.Spelling.{message_bytes}
+use Rattle.mdcc_messages.specs.WellFormed.{IsWellFormedEnvelope}
+use Rattle.mdcc_messages.specs.Mailbox.{Sent, unsent}
+use Rattle.mdcc_messages.specs.declared.messages.Envelope.{Envelope}
 use Rattle.mdcc_spelling.proofs.Whole.{message_again}
 
 -- ---- one message

@@ -1,12 +1,12 @@
 -- Messages as they are kept: their bytes, whether they were delivered, and the cursors of the centres.
 use Rattle.std.specs.Prelude.{◌≡◌, ◌≤◌, Bool, Err, List, Ok, Result, [], get_or, length, map, true, ℕ, ◌-◌}
 use Rattle.mdcc_mail.specs.Waiting.{before_first, waits_for}
-use Rattle.mdcc_protocol.specs.Lengths.{message_length, messages_length}
-use Rattle.mdcc_protocol.specs.Reading.{view_of}
-use Rattle.mdcc_protocol.specs.World.{Sent, unsent}
-use Rattle.mdcc_protocol.specs.declared.messages.Envelope.{Envelope}
-use Rattle.mdcc_protocol.specs.declared.messages.Message.{Message}
-use Rattle.mdcc_protocol.specs.declared.wire.WireFault.{WireFault}
+use Rattle.mdcc_messages.specs.Lengths.{message_length, messages_length}
+use Rattle.mdcc_messages.specs.Reading.{view_of}
+use Rattle.mdcc_messages.specs.Mailbox.{Sent, unsent}
+use Rattle.mdcc_messages.specs.declared.messages.Envelope.{Envelope}
+use Rattle.mdcc_messages.specs.declared.messages.Message.{Message}
+use Rattle.mdcc_messages.specs.declared.wire.WireFault.{WireFault}
 
 -- ---- one message
 

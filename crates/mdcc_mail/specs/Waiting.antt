@@ -2,8 +2,10 @@
 use Rattle.std.specs.List.{list_any}
 use Rattle.std.specs.Option.{option_map}
 use Rattle.std.specs.Prelude.{◌≡◌, Bool, List, None, Option, Some, [], if◌then◌else◌, length, nat_lt, not, ℕ, ◌&&◌, ◌+◌, ◌==◌, ◌||◌, ◌∷◌}
-use Rattle.mdcc_protocol.specs.World.{Sent, World, first_waiting, is_up_at, numbered}
-use Rattle.mdcc_protocol.specs.declared.messages.Envelope.{Envelope}
+use Rattle.mdcc_messages.specs.Mailbox.{Sent, numbered}
+use Rattle.mdcc_simulation.specs.State.{World, is_up_at}
+use Rattle.mdcc_simulation.specs.Deliveries.{first_waiting}
+use Rattle.mdcc_messages.specs.declared.messages.Envelope.{Envelope}
 
 -- whether a message waits for a centre
 abbrev pub waits_for : ℕ → Sent → Bool

@@ -2,12 +2,12 @@
 ghost use Rattle.std.specs.Prelude.{◌≡◌, ◌≤◌, length, IfOk};
 ghost use Rattle.mdcc_mail.specs.Letters.{delivered};
 ghost use Rattle.mdcc_mail.specs.Waiting.{before_first, waits_for};
-ghost use Rattle.mdcc_protocol.specs.Lengths.{message_length};
-ghost use Rattle.mdcc_protocol.specs.WellFormed.{IsWellFormedEnvelope};
-ghost use Rattle.mdcc_protocol.specs.World.{unsent};
+ghost use Rattle.mdcc_messages.specs.Lengths.{message_length};
+ghost use Rattle.mdcc_messages.specs.WellFormed.{IsWellFormedEnvelope};
+ghost use Rattle.mdcc_messages.specs.Mailbox.{unsent};
 
 use mdcc_base::Memory;
-use mdcc_protocol::Envelope;
+use mdcc_messages::Envelope;
 use mdcc_wire::{view, write_message};
 use std::alloc::Global;
 use std::marker::Model;
@@ -21,7 +21,7 @@ pub struct Letter {
 }
 
 impl Model for Letter {
-    ghost use Rattle.mdcc_protocol.specs.World.{Sent};
+    ghost use Rattle.mdcc_messages.specs.Mailbox.{Sent};
 
     ghost Value = { Sent };
 

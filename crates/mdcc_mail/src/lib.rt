@@ -7,5 +7,5 @@ pub mod mail;
 pub mod outgoing;
 
 pub use mail::Mail;
-pub use mdcc_protocol::Envelope;
+pub use mdcc_messages::Envelope;
 pub use outgoing::Outgoing;

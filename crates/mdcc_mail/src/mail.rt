@@ -2,12 +2,12 @@
 ghost use Rattle.std.specs.Prelude.{◌≡◌, ◌≤◌, ◌<◌, ◌^◌, ◌-◌, ◌++◌, [], ◌↔◌, IsTrue, Ok, OnOk, OnErr, IfOk, length, map};
 ghost use Rattle.std.specs.Option.{option_copied, option_map};
 ghost use Rattle.mdcc_mail.specs.Waiting.{before_first, first_to, waits_for};
-ghost use Rattle.mdcc_protocol.specs.World.{numbered, unsent, with_delivered};
+ghost use Rattle.mdcc_messages.specs.Mailbox.{numbered, unsent, with_delivered};
 
 use crate::letters::{Letter, next_place};
 use crate::outgoing::Outgoing;
 use mdcc_base::{Centre, Memory};
-use mdcc_protocol::Envelope;
+use mdcc_messages::Envelope;
 use std::alloc::Global;
 use std::marker::Model;
 
@@ -22,7 +22,7 @@ pub struct Mail {
 impl Model for Mail {
     ghost use Rattle.std.specs.Prelude.{◌<◌, ◌-◌, ◌^◌, List, length};
     ghost use Rattle.mdcc_mail.specs.Letters.{AreCursors};
-    ghost use Rattle.mdcc_protocol.specs.World.{Sent};
+    ghost use Rattle.mdcc_messages.specs.Mailbox.{Sent};
 
     ghost Value = { List Sent };
 

@@ -1,13 +1,13 @@
 //! Messages that are to be sent.
 ghost use Rattle.std.specs.Prelude.{◌≡◌, ◌++◌, ◌∷◌, [], map, IfOk, OnOk};
 ghost use Rattle.std.specs.List.{AllByRecursion};
-ghost use Rattle.mdcc_protocol.specs.Lengths.{messages_length};
-ghost use Rattle.mdcc_protocol.specs.WellFormed.{IsWellFormedEnvelope};
-ghost use Rattle.mdcc_protocol.specs.World.{unsent};
+ghost use Rattle.mdcc_messages.specs.Lengths.{messages_length};
+ghost use Rattle.mdcc_messages.specs.WellFormed.{IsWellFormedEnvelope};
+ghost use Rattle.mdcc_messages.specs.Mailbox.{unsent};
 
 use crate::letters::Letter;
 use mdcc_base::Memory;
-use mdcc_protocol::Envelope;
+use mdcc_messages::Envelope;
 use std::alloc::Global;
 use std::marker::Model;
 
@@ -20,7 +20,7 @@ pub struct Outgoing {
 
 impl Model for Outgoing {
     ghost use Rattle.std.specs.Prelude.{List};
-    ghost use Rattle.mdcc_protocol.specs.declared.messages.Envelope.{Envelope};
+    ghost use Rattle.mdcc_messages.specs.declared.messages.Envelope.{Envelope};
 
     ghost Value = { List Envelope };
 

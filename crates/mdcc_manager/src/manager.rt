@@ -10,8 +10,8 @@ ghost use Rattle.mdcc_manager.specs.Stands.{Stands};
 ghost use Rattle.mdcc_protocol.specs.Learner.{is_learned};
 ghost use Rattle.mdcc_protocol.specs.Manager.{act_on_cause, act_on_vote, acted, after_act, begin, begun, choice_unled, decision, lead_act, on_escalate, on_voted, tick, vote_taken, would_decide};
 ghost use Rattle.mdcc_protocol.specs.Volatile.{Managing, is_open, manager_closed, txs_opened, with_led};
-ghost use Rattle.mdcc_protocol.specs.WellFormedParts.{IsWellFormedCause};
-ghost use Rattle.mdcc_protocol.specs.declared.facts.Fact.{Fact as AFact};
+ghost use Rattle.mdcc_messages.specs.WellFormedParts.{IsWellFormedCause};
+ghost use Rattle.mdcc_messages.specs.declared.facts.Fact.{Fact as AFact};
 
 use crate::begin::parts_begin_fault;
 use crate::marks::{marks_learned, marks_with, outcome_of_marks};

@@ -3,16 +3,16 @@ use Rattle.std.proofs.Common.{◌≡◌, ℕ, Bool, true, false, List, Option, S
 use Rattle.mdcc_node.specs.Laws.{StepsWithAmpleCells, StepsWithinCells}
 use Rattle.mdcc_node.specs.Stepping.{Room, if_added, step_by, with_fact, with_store}
 use Rattle.mdcc_option.specs.declared.cluster.Cluster.{Cluster}
-use Rattle.mdcc_protocol.specs.Built.{Built}
-use Rattle.mdcc_protocol.specs.Lengths.{cells_needed}
+use Rattle.mdcc_switches.specs.Built.{Built}
+use Rattle.mdcc_messages.specs.Lengths.{cells_needed}
 use Rattle.mdcc_protocol.specs.News.{is_crowding}
-use Rattle.mdcc_protocol.specs.Node.{cells_spare, checked, message_step, step_of, with_room}
-use Rattle.mdcc_protocol.specs.Steps.{NodeStep}
+use Rattle.mdcc_rules.specs.Node.{cells_spare, checked, message_step, step_of, with_room}
+use Rattle.mdcc_rules.specs.Steps.{NodeStep}
 use Rattle.mdcc_protocol.specs.Volatile.{Volatile}
-use Rattle.mdcc_protocol.specs.declared.facts.Fact.{Fact}
-use Rattle.mdcc_protocol.specs.declared.facts.StoreFault.{StoreFault}
-use Rattle.mdcc_protocol.specs.declared.node.Input.{Input}
-use Rattle.mdcc_protocol.specs.declared.node.StepFault.{StepFault}
+use Rattle.mdcc_messages.specs.declared.facts.Fact.{Fact}
+use Rattle.mdcc_protocol.specs.declared.stores.StoreFault.{StoreFault}
+use Rattle.mdcc_rules.specs.declared.node.Input.{Input}
+use Rattle.mdcc_rules.specs.declared.node.StepFault.{StepFault}
 
 -- the store refuses a fact just as the protocol does
 abbrev IsAlike : Room → Built → Cluster → List Fact → Type 0

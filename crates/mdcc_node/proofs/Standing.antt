@@ -11,21 +11,21 @@ use Rattle.mdcc_base.specs.Ballot.{fast_ballot}
 use Rattle.mdcc_option.specs.declared.choices.Choice.{Choice}
 use Rattle.mdcc_option.specs.declared.choices.Mark.{Mark}
 use Rattle.mdcc_option.specs.declared.cluster.Cluster.{Cluster}
-use Rattle.mdcc_protocol.specs.AcceptorRules.{proposed_step}
-use Rattle.mdcc_protocol.specs.Built.{Built}
-use Rattle.mdcc_protocol.specs.Messages.{to_one}
-use Rattle.mdcc_protocol.specs.Node.{is_own_message}
+use Rattle.mdcc_rules.specs.AcceptorRules.{proposed_step}
+use Rattle.mdcc_switches.specs.Built.{Built}
+use Rattle.mdcc_rules.specs.Messages.{to_one}
+use Rattle.mdcc_rules.specs.Node.{is_own_message}
 use Rattle.mdcc_protocol.specs.declared.acceptor.ProposeAnswer.{ProposeAnswer}
-use Rattle.mdcc_protocol.specs.declared.messages.Message.{Message}
-use Rattle.mdcc_protocol.specs.declared.node.Input.{Input}
+use Rattle.mdcc_messages.specs.declared.messages.Message.{Message}
+use Rattle.mdcc_rules.specs.declared.node.Input.{Input}
 use Rattle.mdcc_protocol.specs.Facts.{epoch_of}
-use Rattle.mdcc_protocol.specs.Steps.{NodeStep, adding, step_fault}
+use Rattle.mdcc_rules.specs.Steps.{NodeStep, adding, step_fault}
 use Rattle.mdcc_protocol.specs.Volatile.{Volatile}
-use Rattle.mdcc_protocol.specs.declared.facts.Fact.{Fact}
-use Rattle.mdcc_protocol.specs.declared.facts.StoreFault.{StoreFault}
-use Rattle.mdcc_protocol.specs.declared.messages.Envelope.{Envelope}
-use Rattle.mdcc_protocol.specs.declared.node.Step.{Step}
-use Rattle.mdcc_protocol.specs.declared.node.StepFault.{StepFault}
+use Rattle.mdcc_messages.specs.declared.facts.Fact.{Fact}
+use Rattle.mdcc_protocol.specs.declared.stores.StoreFault.{StoreFault}
+use Rattle.mdcc_messages.specs.declared.messages.Envelope.{Envelope}
+use Rattle.mdcc_rules.specs.declared.node.Step.{Step}
+use Rattle.mdcc_rules.specs.declared.node.StepFault.{StepFault}
 
 -- ---- what is given
 

@@ -16,7 +16,7 @@ use Rattle.mdcc_protocol.specs.Acceptor.{answer_after, on_propose}
 use Rattle.mdcc_protocol.specs.Facts.{epoch_of, heard_of, is_heard, later_vote, mark_voted, marks_voted, vote_of, votes_of}
 use Rattle.mdcc_protocol.specs.Visible.{on_outcome}
 use Rattle.mdcc_protocol.specs.declared.acceptor.ProposeAnswer.{ProposeAnswer}
-use Rattle.mdcc_protocol.specs.declared.facts.Fact.{Fact}
+use Rattle.mdcc_messages.specs.declared.facts.Fact.{Fact}
 use Rattle.mdcc_struct.specs.Maps.{value_of}
 use Rattle.mdcc_struct.specs.declared.options.Options.{Options}
 use Rattle.mdcc_struct.proofs.Values.{value_of-union}

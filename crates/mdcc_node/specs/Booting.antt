@@ -6,8 +6,8 @@ use Rattle.mdcc_node.specs.Stands.{Stands}
 use Rattle.mdcc_node.specs.declared.node.Node.{Node}
 use Rattle.mdcc_option.specs.declared.cluster.Cluster.{Cluster}
 use Rattle.mdcc_protocol.specs.Volatile.{nothing_kept}
-use Rattle.mdcc_protocol.specs.declared.facts.Fact.{Fact}
-use Rattle.mdcc_protocol.specs.declared.node.BootFault.{BootFault}
+use Rattle.mdcc_messages.specs.declared.facts.Fact.{Fact}
+use Rattle.mdcc_rules.specs.declared.node.BootFault.{BootFault}
 
 -- the node stands for the expected facts with nothing kept, and the newest fact is given; or the expected fault, where memory does not lack
 abbrev pub Boots : {S : Type 0} → (S → List Fact → Type 0) → Result (Node S × Fact) BootFault → Cluster → ℕ → Result (List Fact) BootFault → Type 0

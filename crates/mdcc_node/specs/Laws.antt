@@ -2,12 +2,12 @@
 use Rattle.std.specs.Prelude.{◌≡◌, ◌≤◌, List, false, true, ℕ}
 use Rattle.mdcc_node.specs.Stepping.{Room, step_by}
 use Rattle.mdcc_option.specs.declared.cluster.Cluster.{Cluster}
-use Rattle.mdcc_protocol.specs.Built.{Built}
-use Rattle.mdcc_protocol.specs.Lengths.{cells_needed}
-use Rattle.mdcc_protocol.specs.Node.{cells_spare, step_of}
+use Rattle.mdcc_switches.specs.Built.{Built}
+use Rattle.mdcc_messages.specs.Lengths.{cells_needed}
+use Rattle.mdcc_rules.specs.Node.{cells_spare, step_of}
 use Rattle.mdcc_protocol.specs.Volatile.{Volatile}
-use Rattle.mdcc_protocol.specs.declared.facts.Fact.{Fact}
-use Rattle.mdcc_protocol.specs.declared.node.Input.{Input}
+use Rattle.mdcc_messages.specs.declared.facts.Fact.{Fact}
+use Rattle.mdcc_rules.specs.declared.node.Input.{Input}
 
 -- while cells have no limit, over a store in which they never lack
 abbrev pub StepsWithAmpleCells : Type 0

@@ -1,7 +1,7 @@
 //! Whether messages are for a node, and of its cluster.
 ghost use Rattle.std.specs.Prelude.{◌≡◌, ◌&&◌, None, Some, if◌then◌else◌, true};
 ghost use Rattle.mdcc_protocol.specs.Belongs.{ballot_belongs, begin_fault_belongs, client_answer_belongs, is_centre, item_read_belongs, mark_belongs, message_belongs, options_belong, tx_belongs};
-ghost use Rattle.mdcc_protocol.specs.Node.{is_own_message};
+ghost use Rattle.mdcc_rules.specs.Node.{is_own_message};
 
 use mdcc_admission::parts_belong::{
     adds_belong, ballot_belongs, cause_belongs, choice_belongs, is_centre, item_belongs,
@@ -9,7 +9,7 @@ use mdcc_admission::parts_belong::{
 };
 use mdcc_base::{Ballot, Centre, TxId};
 use mdcc_option::{BeginFault, Cluster, Item, Mark};
-use mdcc_protocol::{ClientAnswer, Envelope, Message};
+use mdcc_messages::{ClientAnswer, Envelope, Message};
 use mdcc_struct::Options;
 
 // Whether the item, where there is one, has a value for each attribute.

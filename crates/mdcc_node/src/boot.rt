@@ -10,7 +10,8 @@ use mdcc_base::{Centre, HeapList};
 use mdcc_facts::FactStore;
 use mdcc_manager::Manager;
 use mdcc_option::Cluster;
-use mdcc_protocol::{BootFault, Fact};
+use mdcc_messages::Fact;
+use mdcc_rules::BootFault;
 use std::alloc::Global;
 
 impl<S: FactStore + Drop> Node<S> {

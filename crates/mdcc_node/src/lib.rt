@@ -9,5 +9,5 @@ pub mod node;
 mod sends;
 mod steps;
 
-pub use mdcc_protocol::{Answer, BootFault, Input, Step, StepFault};
+pub use mdcc_rules::{Answer, BootFault, Input, Step, StepFault};
 pub use node::Node;

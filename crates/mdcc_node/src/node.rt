@@ -8,24 +8,25 @@ ghost use Rattle.mdcc_node.specs.Telling.{refused_given, replied, sent, vote_fac
 ghost use Rattle.mdcc_option.specs.Transaction.{choices_of};
 ghost use Rattle.mdcc_option.specs.declared.choices.Mark.{Mark as AMark};
 ghost use Rattle.mdcc_option.specs.declared.cluster.Cluster.{Cluster as ACluster};
-ghost use Rattle.mdcc_protocol.specs.AcceptorRules.{propose_step, proposed_step};
+ghost use Rattle.mdcc_rules.specs.AcceptorRules.{propose_step, proposed_step};
 ghost use Rattle.mdcc_protocol.specs.Belongs.{is_centre};
-ghost use Rattle.mdcc_protocol.specs.Built.{built};
+ghost use Rattle.mdcc_built.specs.Built.{built};
 ghost use Rattle.mdcc_protocol.specs.Facts.{epoch_of, is_heard};
 ghost use Rattle.mdcc_protocol.specs.Manager.{would_decide};
-ghost use Rattle.mdcc_protocol.specs.ManagerRules.{act_sent, begin_step, decided_step, escalate_step, key_refused as key_refused_of, opened_step, proposals_sent as proposals_of, undecided_step, voted_step};
-ghost use Rattle.mdcc_protocol.specs.Messages.{to_one};
-ghost use Rattle.mdcc_protocol.specs.Node.{message_step};
-ghost use Rattle.mdcc_protocol.specs.Steps.{adding};
-ghost use Rattle.mdcc_protocol.specs.SyncRules.{give_sent, outcome_step};
+ghost use Rattle.mdcc_rules.specs.ManagerRules.{act_sent, begin_step, decided_step, escalate_step, opened_step, proposals_sent as proposals_of, undecided_step, voted_step};
+ghost use Rattle.mdcc_protocol.specs.Manager.{key_refused as key_refused_of};
+ghost use Rattle.mdcc_rules.specs.Messages.{to_one};
+ghost use Rattle.mdcc_rules.specs.Node.{message_step};
+ghost use Rattle.mdcc_rules.specs.Steps.{adding};
+ghost use Rattle.mdcc_rules.specs.SyncRules.{give_sent, outcome_step};
 ghost use Rattle.mdcc_protocol.specs.Visible.{read as read_of};
 ghost use Rattle.mdcc_protocol.specs.Volatile.{Volatile as AVolatile, closed, is_open, nothing_kept};
-ghost use Rattle.mdcc_protocol.specs.WellFormed.{IsWellFormedEnvelope, IsWellFormedMessage};
-ghost use Rattle.mdcc_protocol.specs.WellFormedParts.{IsWellFormedCause};
+ghost use Rattle.mdcc_messages.specs.WellFormed.{IsWellFormedEnvelope, IsWellFormedMessage};
+ghost use Rattle.mdcc_messages.specs.WellFormedParts.{IsWellFormedCause};
 ghost use Rattle.mdcc_protocol.specs.declared.acceptor.ProposeAnswer.{ProposeAnswer as AProposeAnswer};
-ghost use Rattle.mdcc_protocol.specs.declared.facts.Fact.{Fact as AFact};
-ghost use Rattle.mdcc_protocol.specs.declared.node.Answer.{Answer as AnAnswer};
-ghost use Rattle.mdcc_protocol.specs.declared.node.Input.{Input as AInput};
+ghost use Rattle.mdcc_messages.specs.declared.facts.Fact.{Fact as AFact};
+ghost use Rattle.mdcc_rules.specs.declared.node.Answer.{Answer as AnAnswer};
+ghost use Rattle.mdcc_rules.specs.declared.node.Input.{Input as AInput};
 
 use crate::belongs::sender_of;
 use crate::sends::{outcome_sent, proposals_sent, to_one};
@@ -35,10 +36,9 @@ use mdcc_base::{Ballot, Centre, HeapList, Key, Memory, Plain, TxId};
 use mdcc_facts::FactStore;
 use mdcc_manager::{Manager, key_refused};
 use mdcc_option::{BeginFault, Cause, Choice, Cluster, Outcome, Transaction};
-use mdcc_protocol::{
-    Answer, Envelope, Fact, Input, ManagerAct, Message, ProposeAnswer, Reading, Step, StepFault,
-    Vote,
-};
+use mdcc_messages::{Envelope, Fact, Message};
+use mdcc_protocol::{ManagerAct, ProposeAnswer, Reading, Vote};
+use mdcc_rules::{Answer, Input, Step, StepFault};
 use mdcc_visible::{on_outcome, on_sync_ask, read};
 use std::alloc::Global;
 

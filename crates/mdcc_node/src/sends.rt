@@ -1,13 +1,13 @@
 //! Messages, by whom they go to.
 ghost use Rattle.std.specs.Prelude.{◌≡◌, ◌++◌, IfOk, OnOk};
 ghost use Rattle.mdcc_node.specs.Telling.{to_other};
-ghost use Rattle.mdcc_protocol.specs.ManagerRules.{proposals_sent};
-ghost use Rattle.mdcc_protocol.specs.Messages.{to_all, to_one, to_others};
-ghost use Rattle.mdcc_protocol.specs.declared.messages.Message.{Message as AMessage};
+ghost use Rattle.mdcc_rules.specs.ManagerRules.{proposals_sent};
+ghost use Rattle.mdcc_rules.specs.Messages.{to_all, to_one, to_others};
+ghost use Rattle.mdcc_messages.specs.declared.messages.Message.{Message as AMessage};
 
 use mdcc_base::{HeapList, Memory, Plain, Quorums, TxId};
 use mdcc_option::{Choice, Outcome};
-use mdcc_protocol::{Envelope, Message};
+use mdcc_messages::{Envelope, Message};
 use std::alloc::Global;
 
 /// One message to one centre.

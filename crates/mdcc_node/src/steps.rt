@@ -1,12 +1,13 @@
 //! What steps are made of.
 ghost use Rattle.std.specs.Prelude.{◌≡◌, IfOk, Some};
 ghost use Rattle.mdcc_node.specs.Telling.{added, offered, replied, sent, vote_fact};
-ghost use Rattle.mdcc_protocol.specs.Steps.{heard_by};
-ghost use Rattle.mdcc_protocol.specs.declared.messages.Message.{Message as AMessage};
+ghost use Rattle.mdcc_rules.specs.Steps.{heard_by};
+ghost use Rattle.mdcc_messages.specs.declared.messages.Message.{Message as AMessage};
 
 use mdcc_base::{Ballot, HeapList, Memory, Plain, TxId};
 use mdcc_option::{Choice, Mark, Outcome};
-use mdcc_protocol::{Answer, Envelope, Fact, Message, Step};
+use mdcc_messages::{Envelope, Fact, Message};
+use mdcc_rules::{Answer, Step};
 use mdcc_struct::Options;
 use std::alloc::Global;
 

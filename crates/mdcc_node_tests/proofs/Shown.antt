@@ -1,8 +1,8 @@
 -- Messages that are shown by views are well-formed.
 use Rattle.std.proofs.Common.{◌≡◌, ℕ, ◌<◌, ◌^◌, List, [], ◌∷◌, Ok, get_or, subst, suc, sym}
-use Rattle.mdcc_protocol.specs.Reading.{view_of}
-use Rattle.mdcc_protocol.specs.WellFormed.{IsWellFormedEnvelope}
-use Rattle.mdcc_protocol.specs.declared.messages.Envelope.{Envelope}
+use Rattle.mdcc_messages.specs.Reading.{view_of}
+use Rattle.mdcc_messages.specs.WellFormed.{IsWellFormedEnvelope}
+use Rattle.mdcc_messages.specs.declared.messages.Envelope.{Envelope}
 use Rattle.mdcc_spelling.proofs.Steps.{bind_ok, ok_is}
 use Rattle.mdcc_spelling.specs.Laws.{AreBytes, MessagesReadAreWellFormed}
 use Rattle.mdcc_wire.specs.Views.{viewed}

@@ -4,7 +4,7 @@ use crate::nodes::{begin, booted, cluster, deliver, insert, item, key};
 use mdcc_base::{Centre, Plain, TxId};
 use mdcc_facts::ListFacts;
 use mdcc_node::{Answer, Node};
-use mdcc_protocol::Fact;
+use mdcc_messages::Fact;
 use std::alloc::Global;
 use std::process::Abort;
 use std::test::*;

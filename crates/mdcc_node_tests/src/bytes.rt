@@ -1,11 +1,11 @@
 //! Messages and facts as bytes, written out by hand from the tables of the formats.
 ghost use Rattle.std.specs.Prelude.{IfOk};
 ghost use Rattle.mdcc_spelling.specs.Laws.{AreBytes};
-ghost use Rattle.mdcc_protocol.specs.WellFormed.{IsWellFormedEnvelope};
+ghost use Rattle.mdcc_messages.specs.WellFormed.{IsWellFormedEnvelope};
 
 use mdcc_journal::encode_fact;
 use mdcc_node::Step;
-use mdcc_protocol::{Envelope, Fact, Message};
+use mdcc_messages::{Envelope, Fact, Message};
 use mdcc_spelling::messages::messages_read_are_well_formed;
 use mdcc_wire::{encode, view};
 use std::alloc::Global;

@@ -4,7 +4,7 @@ use mdcc_base::{BoundedList, Centre, Key, Quorums};
 use mdcc_facts::ListFacts;
 use mdcc_node::{Node, Step, StepFault};
 use mdcc_option::{Cluster, Item, Part, Schema, Transaction, Update};
-use mdcc_protocol::Fact;
+use mdcc_messages::Fact;
 use std::alloc::Global;
 use std::test::Fail;
 

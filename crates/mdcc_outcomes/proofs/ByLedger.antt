@@ -17,9 +17,9 @@ use Rattle.mdcc_base.specs.declared.key.Key.{Key}
 use Rattle.mdcc_option.specs.declared.choices.Choice.{Choice}
 use Rattle.mdcc_option.specs.declared.choices.Mark.{Mark}
 use Rattle.mdcc_protocol.specs.Facts.{votes_of}
-use Rattle.mdcc_protocol.specs.Ledger.{Added, Begun, Entry, Valued, chosen_at, chosen_of, ballots_voted, choices_begun, facts_of, mark_given}
+use Rattle.mdcc_ledger.specs.Ledger.{Added, Begun, Entry, Valued, chosen_at, chosen_of, ballots_voted, choices_begun, facts_of, mark_given}
 use Rattle.mdcc_protocol.specs.Marks.{is_commit, is_reject_found, outcome_of_marks}
-use Rattle.mdcc_protocol.specs.declared.facts.Fact.{Fact}
+use Rattle.mdcc_messages.specs.declared.facts.Fact.{Fact}
 use Rattle.mdcc_struct.proofs.Values.{value_of-union}
 use Rattle.mdcc_struct.specs.Maps.{union, value_of}
 use Rattle.mdcc_struct.specs.declared.options.Options.{Options}

@@ -11,8 +11,8 @@ use Rattle.mdcc_base.specs.TxId.{tx_eq}
 use Rattle.mdcc_base.specs.declared.identifiers.TxId.{TxId}
 use Rattle.mdcc_base.specs.declared.key.Key.{Key}
 use Rattle.mdcc_option.specs.declared.choices.Choice.{Choice}
-use Rattle.mdcc_protocol.specs.Ledger.{Added, Begun, Entry, ballots_voted, choices_begun, with_ballot}
-use Rattle.mdcc_protocol.specs.declared.facts.Fact.{Fact}
+use Rattle.mdcc_ledger.specs.Ledger.{Added, Begun, Entry, ballots_voted, choices_begun, with_ballot}
+use Rattle.mdcc_messages.specs.declared.facts.Fact.{Fact}
 use Rattle.mdcc_struct.specs.declared.options.Options.{Options}
 use Rattle.mdcc_outcomes.specs.Ballots.{BallotsByKey, ballots_at, pushed_new, voted_with}
 use Rattle.mdcc_outcomes.specs.Endings.{Instances, InstancesByTx, instance_of, instances_at}

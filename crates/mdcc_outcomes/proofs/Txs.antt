@@ -10,7 +10,7 @@ use Rattle.mdcc_base.specs.Counts.{number_of}
 use Rattle.mdcc_base.specs.TxId.{tx_eq, tx_lt}
 use Rattle.mdcc_base.specs.declared.identifiers.TxId.{TxId}
 use Rattle.mdcc_option.specs.declared.choices.Choice.{Choice}
-use Rattle.mdcc_protocol.specs.Ledger.{Added, Begun, Entry, Valued, txs_begun, with_tx}
+use Rattle.mdcc_ledger.specs.Ledger.{Added, Begun, Entry, Valued, txs_begun, with_tx}
 use Rattle.mdcc_struct.proofs.Order.{tx_eq-sym, tx_lt-apart_back, tx_lt-other, tx_lt-trans}
 use Rattle.mdcc_struct.proofs.Ordered.{IsBelow, ascending-below, ascending-tail}
 use Rattle.mdcc_struct.specs.Maps.{TxMap, are_ascending, txs_of}

@@ -10,7 +10,7 @@ use Rattle.mdcc_base.specs.declared.identifiers.TxId.{TxId}
 use Rattle.mdcc_base.specs.declared.key.Key.{Key}
 use Rattle.mdcc_option.specs.declared.choices.Mark.{Mark}
 use Rattle.mdcc_option.specs.declared.choices.Outcome.{Outcome}
-use Rattle.mdcc_protocol.specs.Ledger.{Entry, new_outcome, outcome_come, outcome_of}
+use Rattle.mdcc_ledger.specs.Ledger.{Entry, new_outcome, outcome_come, outcome_of}
 use Rattle.mdcc_protocol.specs.Marks.{is_commit}
 use Rattle.mdcc_struct.proofs.Walks.{drop-get}
 use Rattle.mdcc_struct.specs.declared.options.Options.{Options}

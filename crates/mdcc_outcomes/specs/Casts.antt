@@ -14,8 +14,8 @@ use Rattle.mdcc_base.specs.declared.identifiers.TxId.{TxId}
 use Rattle.mdcc_base.specs.declared.key.Key.{Key}
 use Rattle.mdcc_option.specs.declared.choices.Mark.{Mark}
 use Rattle.mdcc_outcomes.specs.declared.casts.Cast.{Cast}
-use Rattle.mdcc_protocol.specs.Ledger.{Added, Entry, is_mark_of_quorum}
-use Rattle.mdcc_protocol.specs.declared.facts.Fact.{Fact}
+use Rattle.mdcc_ledger.specs.Ledger.{Added, Entry, is_mark_of_quorum}
+use Rattle.mdcc_messages.specs.declared.facts.Fact.{Fact}
 use Rattle.mdcc_struct.specs.declared.options.Options.{Options}
 
 -- ---- the votes of a ledger

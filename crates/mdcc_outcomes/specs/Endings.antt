@@ -15,7 +15,7 @@ use Rattle.mdcc_outcomes.specs.Ballots.{BallotsByKey, ballots_at}
 use Rattle.mdcc_outcomes.specs.Casts.{chosen_cast}
 use Rattle.mdcc_outcomes.specs.declared.casts.Cast.{Cast}
 use Rattle.mdcc_outcomes.specs.declared.outcomes.Totals.{Totals}
-use Rattle.mdcc_protocol.specs.Ledger.{Entry, new_outcomes, outcome_of}
+use Rattle.mdcc_ledger.specs.Ledger.{Entry, new_outcomes, outcome_of}
 use Rattle.mdcc_protocol.specs.Marks.{is_commit, is_reject_found}
 
 -- ---- the instances of begun transactions

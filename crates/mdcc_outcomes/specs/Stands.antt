@@ -9,7 +9,7 @@ use Rattle.mdcc_outcomes.specs.Ballots.{ballots_at}
 use Rattle.mdcc_outcomes.specs.Casts.{casts_at, casts_of}
 use Rattle.mdcc_outcomes.specs.Endings.{instance_of, instances_at}
 use Rattle.mdcc_outcomes.specs.declared.outcomes.Outcomes.{Outcomes}
-use Rattle.mdcc_protocol.specs.Ledger.{Entry, ballots_voted, choices_begun, txs_begun}
+use Rattle.mdcc_ledger.specs.Ledger.{Entry, ballots_voted, choices_begun, txs_begun}
 
 -- in a cluster with these quorums they stand for this ledger: they have the instances of each transaction that was begun, the
 -- votes that were cast on it, and the ballots at which each instance was voted, in their order; and just the begun transactions

@@ -5,8 +5,8 @@ ghost use Rattle.mdcc_base.specs.Sizes.{Sizes};
 ghost use Rattle.mdcc_outcomes.specs.Endings.{ending_of, endings_come, instance_of, new_endings, totals_of, with_ending, with_ending_of};
 ghost use Rattle.mdcc_outcomes.specs.Stands.{Stands};
 ghost use Rattle.mdcc_option.specs.declared.choices.Choice.{Choice as AChoice};
-ghost use Rattle.mdcc_protocol.specs.Ledger.{Added, Begun, Entry, txs_begun};
-ghost use Rattle.mdcc_protocol.specs.declared.facts.Fact.{Fact as AFact};
+ghost use Rattle.mdcc_ledger.specs.Ledger.{Added, Begun, Entry, txs_begun};
+ghost use Rattle.mdcc_messages.specs.declared.facts.Fact.{Fact as AFact};
 ghost use Rattle.mdcc_struct.specs.Maps.{are_ascending, txs_of};
 
 use crate::ballots::{BallotsByKey, keep_ballot};
@@ -15,7 +15,7 @@ use crate::endings::{InstancesByTx, ending_cast, ending_come, instances_at};
 use indexmap::IndexMap;
 use mdcc_base::{Ballot, HeapList, Key, Memory, Quorums, TxId};
 use mdcc_option::Choice;
-use mdcc_protocol::Fact;
+use mdcc_messages::Fact;
 use mdcc_struct::Options;
 use std::alloc::Global;
 

@@ -1,9 +1,9 @@
 //! What messages and facts have in common, read from bytes.
 ghost use Rattle.std.specs.Prelude.{◌≡◌, ◌++◌, ◌∷◌, [], None, OnOk, IfErr};
 ghost use Rattle.mdcc_base.specs.Unless.{GivesUnless};
-ghost use Rattle.mdcc_protocol.specs.ReadingSteps.{u64_at, checked, elements_at, list_at};
-ghost use Rattle.mdcc_protocol.specs.ReadingParts.{delta_behind};
-ghost use Rattle.mdcc_protocol.specs.Reading.{instance_at, at_least, heard_at, given_at};
+ghost use Rattle.mdcc_messages.specs.ReadingSteps.{u64_at, checked, elements_at, list_at};
+ghost use Rattle.mdcc_messages.specs.ReadingParts.{delta_behind};
+ghost use Rattle.mdcc_messages.specs.Reading.{instance_at, at_least, heard_at, given_at};
 ghost use Rattle.mdcc_parts.specs.Reads.{end_of, is_memory};
 
 use crate::identifiers::{read_key, read_tx};
@@ -12,7 +12,7 @@ use crate::marks::read_outcome;
 use crate::numbers::{u8_within, u64_at};
 use mdcc_base::{HeapList, Key, TxId};
 use mdcc_option::{Delta, Item, Outcome};
-use mdcc_protocol::WireFault;
+use mdcc_messages::WireFault;
 use std::alloc::Global;
 
 /// The key and the version at a place.

@@ -1,14 +1,14 @@
 //! Items, and what is done to them, read from bytes.
 ghost use Rattle.std.specs.Prelude.{◌≡◌, ◌≤◌, None, nat_lt, take, drop};
 ghost use Rattle.mdcc_base.specs.Key.{key_lt};
-ghost use Rattle.mdcc_protocol.specs.ReadingSteps.{i64_at, checked, behind, u8_within, elements_at};
-ghost use Rattle.mdcc_protocol.specs.ReadingParts.{body_by, item_at, tx_behind, seen_at, not_zero, amount_behind, amounts_at, write_at, add_at, update_at, part_behind, delta_behind, delta_at};
+ghost use Rattle.mdcc_messages.specs.ReadingSteps.{i64_at, checked, behind, u8_within, elements_at};
+ghost use Rattle.mdcc_messages.specs.ReadingParts.{body_by, item_at, tx_behind, seen_at, not_zero, amount_behind, amounts_at, write_at, add_at, update_at, part_behind, delta_behind, delta_at};
 
 use crate::identifiers::{read_key_behind, read_tx_behind};
 use crate::numbers::{i64_at, run_at, truncated, u8_within, u64_at};
 use mdcc_base::{BoundedList, Key, TxId};
 use mdcc_option::{Amounts, Body, Delta, Item, Part, Seen, Update, Values};
-use mdcc_protocol::WireFault;
+use mdcc_messages::WireFault;
 
 // So many bytes at a place.
 fn body_at(bytes: &[u8], count: usize, at: usize) -> Result<(Body, usize), WireFault>

@@ -16,4 +16,4 @@ pub use mdcc_append::{
     write_amounts, write_ballot, write_choice, write_delta, write_entry, write_item, write_key,
     write_options, write_seen, write_tx, write_update, write_write_set,
 };
-pub use mdcc_protocol::WireFault;
+pub use mdcc_messages::WireFault;

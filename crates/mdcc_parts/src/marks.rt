@@ -3,8 +3,8 @@ ghost use Rattle.std.specs.Prelude.{◌≡◌, ◌≤◌, ◌++◌, ◌∷◌, [
 ghost use Rattle.mdcc_base.specs.TxId.{tx_lt};
 ghost use Rattle.mdcc_base.specs.Unless.{GivesUnless};
 ghost use Rattle.mdcc_struct.specs.Maps.{are_ascending};
-ghost use Rattle.mdcc_protocol.specs.ReadingSteps.{is_after, elements_at};
-ghost use Rattle.mdcc_protocol.specs.ReadingParts.{reject_behind, accept_behind, entry_behind, entry_at, options_at, choice_behind, commit_at, outcome_at, classic_cause_at, limit_cause_at, cause_by, cause_at};
+ghost use Rattle.mdcc_messages.specs.ReadingSteps.{is_after, elements_at};
+ghost use Rattle.mdcc_messages.specs.ReadingParts.{reject_behind, accept_behind, entry_behind, entry_at, options_at, choice_behind, commit_at, outcome_at, classic_cause_at, limit_cause_at, cause_by, cause_at};
 ghost use Rattle.mdcc_parts.specs.Reads.{end_of, name_and_end, is_memory};
 
 use crate::choices::{read_choice_behind, read_mark_choice};
@@ -12,7 +12,7 @@ use crate::identifiers::{read_classic, read_tx_behind};
 use crate::numbers::{u8_within, u32_at};
 use mdcc_base::{BoundedList, Key, TxId};
 use mdcc_option::{Cause, Choice, Mark, Outcome};
-use mdcc_protocol::WireFault;
+use mdcc_messages::WireFault;
 use mdcc_struct::Options;
 use std::alloc::Global;
 

@@ -15,9 +15,9 @@ use Rattle.mdcc_option.specs.declared.items.Item.{Item}
 use Rattle.mdcc_option.specs.declared.items.Update.{Update}
 use Rattle.mdcc_struct.specs.declared.options.Options.{Options}
 use Rattle.mdcc_protocol.specs.Marks.{Amounts}
-use Rattle.mdcc_protocol.specs.declared.facts.Fact.{Fact}
-use Rattle.mdcc_protocol.specs.declared.messages.ClientAnswer.{ClientAnswer}
-use Rattle.mdcc_protocol.specs.declared.messages.Message.{Message}
+use Rattle.mdcc_messages.specs.declared.facts.Fact.{Fact}
+use Rattle.mdcc_messages.specs.declared.messages.ClientAnswer.{ClientAnswer}
+use Rattle.mdcc_messages.specs.declared.messages.Message.{Message}
 
 abbrev pub is_centre : Cluster → ℕ → Bool
 is_centre cluster a = nat_le 1 a && nat_le a cluster.quorums.centres

@@ -19,7 +19,7 @@ use Rattle.mdcc_struct.specs.Maps.{TxMap, txs_of, union, value_of}
 use Rattle.mdcc_struct.specs.declared.options.Options.{Options}
 use Rattle.mdcc_struct.specs.declared.report.Report.{Report}
 use Rattle.mdcc_protocol.specs.Marks.{Amounts, accepts_in, choice_in, is_abort, is_write, rejects_in}
-use Rattle.mdcc_protocol.specs.declared.facts.Fact.{Fact}
+use Rattle.mdcc_messages.specs.declared.facts.Fact.{Fact}
 
 -- ---- epochs
 

@@ -16,7 +16,7 @@ use Rattle.mdcc_struct.specs.declared.report.Report.{Report}
 use Rattle.mdcc_protocol.specs.Facts.{current_of, promise_of}
 use Rattle.mdcc_protocol.specs.Structures.{first_structure, is_crowded, with_choice, with_claim}
 use Rattle.mdcc_protocol.specs.Volatile.{Counted, Lead, Leading, lead_of, number_at, structure_at, with_lead, with_number, with_structure}
-use Rattle.mdcc_protocol.specs.declared.facts.Fact.{Fact}
+use Rattle.mdcc_messages.specs.declared.facts.Fact.{Fact}
 use Rattle.mdcc_protocol.specs.declared.leader.LeadAnswer.{LeadAnswer}
 use Rattle.mdcc_protocol.specs.declared.leader.LeadFault.{LeadFault}
 use Rattle.mdcc_protocol.specs.declared.leader.Promise.{Promise}

@@ -1,6 +1,6 @@
 -- The manager: it begins transactions, and decides them by the votes that it takes. (MDCC; at which ticks what is done is our own rule.)
 use Rattle.std.specs.Option.{option_or}
-use Rattle.std.specs.Prelude.{Bool, Err, List, None, Ok, Option, Result, Some, [], filter, find, flat_map, fold, if◌then◌else◌, length, map, nat_le, not, option_and_then, option_map, ℕ, ◌%◌, ◌&&◌, ◌++◌, ◌+◌, ◌-◌, ◌==◌, ◌^◌, ◌∷◌}
+use Rattle.std.specs.Prelude.{Bool, Err, List, None, Ok, Option, Result, Some, [], filter, find, flat_map, fold, if◌then◌else◌, length, map, nat_le, not, option_and_then, option_map, unwrap_or, ℕ, ◌%◌, ◌&&◌, ◌++◌, ◌+◌, ◌-◌, ◌==◌, ◌^◌, ◌∷◌}
 use Rattle.mdcc_base.specs.Key.{key_eq}
 use Rattle.mdcc_base.specs.Quorums.{home_of}
 use Rattle.mdcc_base.specs.Sizes.{Sizes}
@@ -18,7 +18,7 @@ use Rattle.mdcc_option.specs.declared.items.Update.{Update}
 use Rattle.mdcc_protocol.specs.Facts.{current_of, token_of}
 use Rattle.mdcc_protocol.specs.Learner.{collided, decision_of, is_learned, with_vote}
 use Rattle.mdcc_protocol.specs.Volatile.{Managing, Undecided, has_key, is_open, next_count, opened_of, with_led}
-use Rattle.mdcc_protocol.specs.declared.facts.Fact.{Fact}
+use Rattle.mdcc_messages.specs.declared.facts.Fact.{Fact}
 use Rattle.mdcc_protocol.specs.declared.manager.ManagerAct.{ManagerAct}
 use Rattle.mdcc_protocol.specs.declared.votes.Vote.{Vote}
 
@@ -49,6 +49,10 @@ parts_begin_fault facts (part ∷ parts) =
 abbrev pub first_key : List Part → Key
 first_key [] = []
 first_key (part ∷ parts) = part.key
+
+-- the key that is named for a refusal: that of the first part that cannot be begun, else the first
+abbrev pub key_refused : List Fact → List Part → Key
+key_refused facts parts = unwrap_or (option_map (λ fault. fault.0) (parts_begin_fault facts parts)) (first_key parts)
 
 -- why parts in key order begin no transaction, with the key that is named for it
 abbrev pub begin_fault : List Fact → Managing → List Part → Option (Key × BeginFault)

@@ -6,7 +6,7 @@ use Rattle.mdcc_option.specs.declared.choices.Outcome.{Outcome}
 use Rattle.mdcc_option.specs.declared.items.Delta.{Delta}
 use Rattle.mdcc_struct.specs.Maps.{value_of}
 use Rattle.mdcc_protocol.specs.Facts.{current_of, deltas_at, executed_of}
-use Rattle.mdcc_protocol.specs.declared.facts.Fact.{Fact}
+use Rattle.mdcc_messages.specs.declared.facts.Fact.{Fact}
 
 -- whether data of a key bring a higher version than is held, or a delta of the held one that is not executed
 abbrev pub is_news : List Fact → Key → ℕ → List Delta → Bool

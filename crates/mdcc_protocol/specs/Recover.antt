@@ -14,7 +14,7 @@ use Rattle.mdcc_protocol.specs.Fit.{has_tx}
 use Rattle.mdcc_protocol.specs.Learner.{decision_of, is_learned, votes_on, with_vote}
 use Rattle.mdcc_protocol.specs.Marks.{choice_in}
 use Rattle.mdcc_protocol.specs.Volatile.{Recovering, counter_of, is_watched, next_count, with_counter}
-use Rattle.mdcc_protocol.specs.declared.facts.Fact.{Fact}
+use Rattle.mdcc_messages.specs.declared.facts.Fact.{Fact}
 use Rattle.mdcc_protocol.specs.declared.recover.RecoverAct.{RecoverAct}
 use Rattle.mdcc_protocol.specs.declared.votes.Vote.{Vote}
 

@@ -8,7 +8,7 @@ use Rattle.mdcc_option.specs.declared.items.Delta.{Delta}
 use Rattle.mdcc_struct.specs.Maps.{value_of}
 use Rattle.mdcc_protocol.specs.Facts.{entries_of, executed_of, live_of, report_of, unresolved_of}
 use Rattle.mdcc_protocol.specs.Fit.{capped, load_of}
-use Rattle.mdcc_protocol.specs.declared.facts.Fact.{Fact}
+use Rattle.mdcc_messages.specs.declared.facts.Fact.{Fact}
 use Rattle.mdcc_protocol.specs.declared.fit.Load.{Load}
 
 -- the delta of an executed transaction

@@ -15,7 +15,7 @@ use Rattle.mdcc_struct.specs.declared.report.Report.{Report}
 use Rattle.mdcc_protocol.specs.Facts.{base_of, current_of, deltas_at, is_void, live_mark}
 use Rattle.mdcc_protocol.specs.Fit.{exact_fit, is_fitting, load_of}
 use Rattle.mdcc_protocol.specs.Marks.{accepts_in, choice_in, rejects_in, seen_in}
-use Rattle.mdcc_protocol.specs.declared.facts.Fact.{Fact}
+use Rattle.mdcc_messages.specs.declared.facts.Fact.{Fact}
 use Rattle.mdcc_protocol.specs.declared.fit.Fit.{Fit}
 
 -- most accepted marks of a structure, or of an instance at the fast ballot, before an Add or a Write is accepted

@@ -10,7 +10,7 @@ use Rattle.mdcc_struct.specs.Maps.{TxMap}
 use Rattle.mdcc_protocol.specs.Facts.{base_of, current_of, executed_of, is_heard, token_of}
 use Rattle.mdcc_protocol.specs.Marks.{Amounts}
 use Rattle.mdcc_protocol.specs.News.{is_news}
-use Rattle.mdcc_protocol.specs.declared.facts.Fact.{Fact}
+use Rattle.mdcc_messages.specs.declared.facts.Fact.{Fact}
 use Rattle.mdcc_protocol.specs.declared.visible.Give.{Give}
 use Rattle.mdcc_protocol.specs.declared.visible.Reading.{Reading}
 

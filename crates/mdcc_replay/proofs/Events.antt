@@ -2,14 +2,15 @@
 use Rattle.std.proofs.Common.{◌≡◌, ◌+◌, ◌∷◌, List, ℕ, Option, Some, Result, Ok, Err, IsOkAnd, sym, ap, subst}
 use Rattle.std.specs.Io.KnownBytes.{Appends}
 use Rattle.mdcc_option.specs.declared.cluster.Cluster.{Cluster}
-use Rattle.mdcc_protocol.specs.Built.{built}
-use Rattle.mdcc_protocol.specs.Replay.{after_text, lines_replayed}
-use Rattle.mdcc_protocol.specs.Report.{lines_text}
-use Rattle.mdcc_protocol.specs.Schedule.{line_of}
-use Rattle.mdcc_protocol.specs.World.{Happened, World, event_of}
-use Rattle.mdcc_protocol.specs.declared.events.Event.{Event}
-use Rattle.mdcc_protocol.specs.declared.schedule.SchedFault.{SchedFault}
-use Rattle.mdcc_protocol.specs.declared.world.EventFault.{EventFault}
+use Rattle.mdcc_built.specs.Built.{built}
+use Rattle.mdcc_simulation.specs.Replay.{after_text, lines_replayed}
+use Rattle.mdcc_language.specs.Report.{lines_text}
+use Rattle.mdcc_language.specs.Schedule.{line_of}
+use Rattle.mdcc_simulation.specs.State.{Happened, World}
+use Rattle.mdcc_simulation.specs.Events.{event_of}
+use Rattle.mdcc_language.specs.declared.events.Event.{Event}
+use Rattle.mdcc_language.specs.declared.schedule.SchedFault.{SchedFault}
+use Rattle.mdcc_language.specs.declared.world.EventFault.{EventFault}
 use Rattle.mdcc_replay.proofs.Fronts.{front_of_first}
 use Rattle.mdcc_replay.proofs.Taken.{left_lines}
 use Rattle.mdcc_replay.specs.Runs.{event_told, line_told}

@@ -4,8 +4,8 @@ use Rattle.std.specs.Io.KnownBytes.{Appends}
 use Rattle.std.proofs.KnownBytes.{Appends-nil, Appends-trans}
 use Rattle.mdcc_base.specs.Causes.{HasCause}
 use Rattle.mdcc_base.specs.declared.faults.Failed.{Failed}
-use Rattle.mdcc_protocol.specs.Replay.{Replay, after_text}
-use Rattle.mdcc_protocol.specs.World.{World}
+use Rattle.mdcc_simulation.specs.Replay.{Replay, after_text}
+use Rattle.mdcc_simulation.specs.State.{World}
 use Rattle.mdcc_replay.specs.Writing.{Front, Progress, Ends, Reached, Tells}
 use Rattle.mdcc_replay.specs.declared.refusals.Refusal.{Refusal}
 

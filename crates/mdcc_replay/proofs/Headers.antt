@@ -6,14 +6,14 @@ use Rattle.std.proofs.lemmas.Bool.{and_parts}
 use Rattle.std.proofs.lemmas.List.{drop-drop}
 use Rattle.mdcc_base.specs.Quorums.{quorums_of}
 use Rattle.mdcc_option.specs.declared.cluster.Cluster.{Cluster}
-use Rattle.mdcc_protocol.specs.Built.{built}
-use Rattle.mdcc_protocol.specs.Header.{Left, all_of, next_line, without_next, in_line, is_next, whole_line, in_order, header_line, version_of, last_number, sizes_of, bound_of, quorums_in, quorums_line, bounds_in, bound_line, Bounds, more_bounds, bounds_lines, header_lines, header_of, default_cells}
-use Rattle.mdcc_protocol.specs.Lines.{lines_in, text_of, line_end_of}
-use Rattle.mdcc_protocol.specs.Words.{◌>>=◌, are_plain_digits, is_negative, refused, within, number_of, natural_of, end_at, word_at, word_behind, word_end}
+use Rattle.mdcc_built.specs.Built.{built}
+use Rattle.mdcc_language.specs.Header.{Left, all_of, next_line, without_next, in_line, is_next, whole_line, in_order, header_line, version_of, last_number, sizes_of, bound_of, quorums_in, quorums_line, bounds_in, bound_line, Bounds, more_bounds, bounds_lines, header_lines, header_of, default_cells}
+use Rattle.mdcc_language.specs.Lines.{lines_in, text_of, line_end_of}
+use Rattle.mdcc_language.specs.Words.{◌>>=◌, are_plain_digits, is_negative, refused, within, number_of, natural_of, end_at, word_at, word_behind, word_end}
 use Rattle.mdcc_replay.proofs.Steps.{bind_ok}
-use Rattle.mdcc_protocol.specs.declared.schedule.HeaderFault.{HeaderFault}
-use Rattle.mdcc_protocol.specs.declared.schedule.SchedFault.{SchedFault}
-use Rattle.mdcc_protocol.specs.declared.schedule.SchedCause.TheVariants.{Number, Range}
+use Rattle.mdcc_language.specs.declared.schedule.HeaderFault.{HeaderFault}
+use Rattle.mdcc_language.specs.declared.schedule.SchedFault.{SchedFault}
+use Rattle.mdcc_language.specs.declared.schedule.SchedCause.TheVariants.{Number, Range}
 
 -- ---- steps
 

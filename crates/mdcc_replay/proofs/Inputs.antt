@@ -6,14 +6,14 @@ use Rattle.std.proofs.lemmas.Bool.Decides.{nat_tests}
 use Rattle.mdcc_base.specs.AreQuorums.{AreQuorums}
 use Rattle.mdcc_option.specs.Bounds.{IsSchema}
 use Rattle.mdcc_option.specs.declared.cluster.Cluster.{Cluster}
-use Rattle.mdcc_protocol.specs.Built.{built}
-use Rattle.mdcc_protocol.specs.Errors.{TooLong, most_input}
-use Rattle.mdcc_protocol.specs.Header.{Left, all_of, header_lines, header_of}
+use Rattle.mdcc_built.specs.Built.{built}
+use Rattle.mdcc_language.specs.Errors.{TooLong, most_input}
+use Rattle.mdcc_language.specs.Header.{Left, all_of, header_lines, header_of}
 use Rattle.mdcc_protocol.specs.IsCluster.{IsCluster}
-use Rattle.mdcc_protocol.specs.Lines.{lines_in}
-use Rattle.mdcc_protocol.specs.Replay.{Replay, after_text, ended, lines_replayed, replay_behind, replay_of}
-use Rattle.mdcc_protocol.specs.Report.{header_text}
-use Rattle.mdcc_protocol.specs.World.{first_world}
+use Rattle.mdcc_language.specs.Lines.{lines_in}
+use Rattle.mdcc_simulation.specs.Replay.{Replay, after_text, ended, lines_replayed, replay_behind, replay_of}
+use Rattle.mdcc_language.specs.Report.{header_text}
+use Rattle.mdcc_simulation.specs.State.{first_world}
 use Rattle.mdcc_replay.proofs.Fronts.{front_of_first}
 use Rattle.mdcc_replay.proofs.Headers.{header_given}
 use Rattle.mdcc_replay.proofs.Taken.{finish}

@@ -3,7 +3,7 @@ use Rattle.std.proofs.Common.{◌≡◌, ◌+◌, ◌<◌, ◌≤◌, ◌==◌, 
 use Rattle.std.proofs.Math.Seq.{drop-length}
 use Rattle.std.proofs.lemmas.Bool.{eqb-true}
 use Rattle.std.specs.List.{onto_first}
-use Rattle.mdcc_protocol.specs.Lines.{lines_in, bytes_of_line}
+use Rattle.mdcc_language.specs.Lines.{lines_in, bytes_of_line}
 use Rattle.mdcc_sched.proofs.FirstLines.{first_len, front_line, other_lines, ended, unended}
 
 first_and_rest : (lines : List (List ℕ)) → 0 < length lines → lines ≡ get_or lines 0 [] ∷ drop 1 lines

@@ -2,8 +2,8 @@
 use Rattle.std.proofs.Common.{◌≡◌, List, ℕ, Bool, true, false, Option, Some, None, Result, Ok, Err, IfSome, inl, inr, refl, sym, ap, ◌∙◌, subst}
 use Rattle.std.specs.Bool.{OnFalse}
 use Rattle.std.specs.Io.KnownBytes.{Appends}
-use Rattle.mdcc_protocol.specs.Errors.{error_text, status_of}
-use Rattle.mdcc_protocol.specs.Replay.{Replay}
+use Rattle.mdcc_language.specs.Errors.{error_text, status_of}
+use Rattle.mdcc_simulation.specs.Replay.{Replay}
 use Rattle.mdcc_replay.proofs.Fronts.{all_written}
 use Rattle.mdcc_replay.specs.Refusals.{faults_of}
 use Rattle.mdcc_replay.specs.Runs.{IsStatus, is_own, refusal_line}

@@ -1,6 +1,6 @@
 -- Steps that may be refused, one after another.
 use Rattle.std.proofs.Common.{Bool, true, false, cond, Result, Ok, Err, IfOk}
-use Rattle.mdcc_protocol.specs.Words.{◌>>=◌}
+use Rattle.mdcc_language.specs.Words.{◌>>=◌}
 
 pub bind_ok : {A B E : Type 0} (P : A → Type 0) (Q : B → Type 0) (r : Result A E) (f : A → Result B E) → IfOk r P → ((a : A) → P a → IfOk (f a) Q) → IfOk (r >>= f) Q
 bind_ok P Q (Ok a) f p next = next a p

@@ -1,9 +1,9 @@
 -- One line of a replay after another.
 use Rattle.std.proofs.Common.{◌≡◌, ◌+◌, ◌∷◌, [], List, ℕ, Option, Some, None, Result, Ok, Err, subst}
 use Rattle.mdcc_option.specs.declared.cluster.Cluster.{Cluster}
-use Rattle.mdcc_protocol.specs.Built.{built}
-use Rattle.mdcc_protocol.specs.Replay.{Replay, lines_replayed}
-use Rattle.mdcc_protocol.specs.World.{World}
+use Rattle.mdcc_built.specs.Built.{built}
+use Rattle.mdcc_simulation.specs.Replay.{Replay, lines_replayed}
+use Rattle.mdcc_simulation.specs.State.{World}
 use Rattle.mdcc_replay.proofs.Fronts.{ends_behind, front_behind, reached_on}
 use Rattle.mdcc_replay.specs.Writing.{Progress, Reached, Replayed, ReplayedTo}
 use Rattle.mdcc_replay.specs.declared.refusals.Refusal.{Refusal}

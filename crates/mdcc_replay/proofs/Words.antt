@@ -2,12 +2,12 @@
 use Rattle.std.proofs.Common.{◌+◌, ◌==◌, ◌∷◌, [], List, ℕ, length, codes, Option, Some, Result, Ok, Err, IfOk, IfSome, IsTrue, refl, sym, subst}
 use Rattle.mdcc_base.specs.Unless.{GivesUnless}
 use Rattle.mdcc_option.specs.declared.cluster.Cluster.{Cluster}
-use Rattle.mdcc_protocol.specs.Built.{built}
-use Rattle.mdcc_protocol.specs.Lines.{text_of, line_end_of}
-use Rattle.mdcc_protocol.specs.Schedule.{updates_from, centres_from, numbers_from, last_centre, centre_of, tick_of, crash_of, restart_of, read_of, begin_of, deliver_of, settle_of, begins_with, event_of, event_or_none, line_of}
-use Rattle.mdcc_protocol.specs.Words.{◌>>=◌, parts_from, word_at, word_behind, word_end, key_of, end_at}
-use Rattle.mdcc_protocol.specs.declared.events.Event.{Event}
-use Rattle.mdcc_protocol.specs.declared.schedule.SchedFault.{SchedFault}
+use Rattle.mdcc_built.specs.Built.{built}
+use Rattle.mdcc_language.specs.Lines.{text_of, line_end_of}
+use Rattle.mdcc_language.specs.Schedule.{updates_from, centres_from, numbers_from, last_centre, centre_of, tick_of, crash_of, restart_of, read_of, begin_of, deliver_of, settle_of, begins_with, event_of, event_or_none, line_of}
+use Rattle.mdcc_language.specs.Words.{◌>>=◌, parts_from, word_at, word_behind, word_end, key_of, end_at}
+use Rattle.mdcc_language.specs.declared.events.Event.{Event}
+use Rattle.mdcc_language.specs.declared.schedule.SchedFault.{SchedFault}
 use Rattle.mdcc_replay.proofs.Steps.{bind_each, if_ok}
 use Rattle.mdcc_sched.specs.Free.{is_memory}
 use Rattle.mdcc_replay.specs.Words.{is_built}

@@ -1,7 +1,7 @@
 -- Why a replay ends early, as the program keeps it.
 use Rattle.std.specs.Prelude.{Bool, false, true, Option, option_map}
-use Rattle.mdcc_protocol.specs.Errors.{ReplayFault, TooLong, AtHeader, AtLine, AtEvent}
-use Rattle.mdcc_protocol.specs.declared.world.EventFault.{EventFault}
+use Rattle.mdcc_language.specs.Errors.{ReplayFault, TooLong, AtHeader, AtLine, AtEvent}
+use Rattle.mdcc_language.specs.declared.world.EventFault.{EventFault}
 use Rattle.mdcc_replay.specs.declared.refusals.Refusal.{Refusal}
 
 abbrev pub fault_of : Refusal → ReplayFault

@@ -1,14 +1,15 @@
 -- The statuses of a run, and what it writes on the error stream.
 use Rattle.std.specs.Prelude.{◌≡◌, ◌⊎◌, ◌==◌, ◌||◌, Bool, if◌then◌else◌, List, [], Option, Some, None, Result, Ok, Err, codes, ℕ, ◌+◌}
-use Rattle.mdcc_protocol.specs.Errors.{AtEvent, AtLine, error_line, error_text, memory_text, status_of}
-use Rattle.mdcc_protocol.specs.World.{Happened, World, event_of}
-use Rattle.mdcc_protocol.specs.Built.{Built}
-use Rattle.mdcc_protocol.specs.Replay.{Replay, after_text, ended, lines_replayed}
+use Rattle.mdcc_language.specs.Errors.{AtEvent, AtLine, error_line, error_text, memory_text, status_of}
+use Rattle.mdcc_simulation.specs.State.{Happened, World}
+use Rattle.mdcc_simulation.specs.Events.{event_of}
+use Rattle.mdcc_switches.specs.Built.{Built}
+use Rattle.mdcc_simulation.specs.Replay.{Replay, after_text, ended, lines_replayed}
 use Rattle.mdcc_option.specs.declared.cluster.Cluster.{Cluster}
-use Rattle.mdcc_protocol.specs.declared.events.Event.{Event}
-use Rattle.mdcc_protocol.specs.declared.schedule.SchedFault.{SchedFault}
-use Rattle.mdcc_protocol.specs.declared.world.EventFault.{EventFault}
-use Rattle.mdcc_protocol.specs.Report.{lines_text}
+use Rattle.mdcc_language.specs.declared.events.Event.{Event}
+use Rattle.mdcc_language.specs.declared.schedule.SchedFault.{SchedFault}
+use Rattle.mdcc_language.specs.declared.world.EventFault.{EventFault}
+use Rattle.mdcc_language.specs.Report.{lines_text}
 use Rattle.mdcc_replay.specs.Refusals.{faults_of}
 use Rattle.mdcc_replay.specs.declared.refusals.Refusal.{Refusal}
 use Rattle.mdcc_replay.specs.declared.writing.Failure.{Failure}

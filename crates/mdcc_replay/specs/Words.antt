@@ -1,7 +1,7 @@
 -- The words of a schedule that are built.
 use Rattle.std.specs.Prelude.{Bool, true, false}
-use Rattle.mdcc_protocol.specs.declared.events.Event.{Event}
-use Rattle.mdcc_protocol.specs.declared.events.Event.TheVariants.{Stop}
+use Rattle.mdcc_language.specs.declared.events.Event.{Event}
+use Rattle.mdcc_language.specs.declared.events.Event.TheVariants.{Stop}
 
 -- `stop` is not yet
 abbrev pub is_built : Event → Bool

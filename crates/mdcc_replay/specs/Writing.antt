@@ -2,8 +2,8 @@
 use Rattle.std.specs.Prelude.{◌≡◌, ◌⊎◌, ◌++◌, List, Option, Some, None, Result, Ok, Err, ℕ}
 use Rattle.std.specs.Io.KnownBytes.{Appends}
 use Rattle.mdcc_base.specs.Causes.{Rose}
-use Rattle.mdcc_protocol.specs.Replay.{Replay, after_text}
-use Rattle.mdcc_protocol.specs.World.{World}
+use Rattle.mdcc_simulation.specs.Replay.{Replay, after_text}
+use Rattle.mdcc_simulation.specs.State.{World}
 use Rattle.mdcc_replay.specs.Refusals.{faults_of}
 use Rattle.mdcc_replay.specs.declared.refusals.Refusal.{Refusal}
 use Rattle.mdcc_replay.specs.declared.writing.Failure.{Failure}

@@ -4,9 +4,9 @@ ghost use Rattle.std.specs.Bool.{OnFalse, OnTrue};
 ghost use Rattle.std.specs.Io.KnownBytes.{Appends, IsAtEnd};
 ghost use Rattle.std.specs.String.{string_bytes};
 ghost use Rattle.mdcc_base.specs.Causes.{Rose};
-ghost use Rattle.mdcc_protocol.specs.Built.{built};
-ghost use Rattle.mdcc_protocol.specs.Errors.{error_text};
-ghost use Rattle.mdcc_protocol.specs.Replay.{output_of, replay_of};
+ghost use Rattle.mdcc_built.specs.Built.{built};
+ghost use Rattle.mdcc_language.specs.Errors.{error_text};
+ghost use Rattle.mdcc_simulation.specs.Replay.{output_of, replay_of};
 ghost use Rattle.mdcc_replay.specs.Runs.{IsStatus, is_own, own_line, refusal_line};
 ghost use Rattle.mdcc_replay.specs.Writing.{Front, Tells};
 

@@ -1,13 +1,13 @@
 //! Lines on the error stream.
 ghost use Rattle.std.specs.Prelude.{◌≡◌, ◌++◌, IfOk, OnOk, Some};
 ghost use Rattle.std.specs.String.{string_bytes};
-ghost use Rattle.mdcc_protocol.specs.Errors.{cause_text, quorum_fault_text, schema_fault_text, header_cause_text, draft_fault_text, limit_text, sched_fault_text, event_fault_text, fault_text, error_text};
+ghost use Rattle.mdcc_language.specs.Errors.{cause_text, quorum_fault_text, schema_fault_text, header_cause_text, draft_fault_text, limit_text, sched_fault_text, event_fault_text, fault_text, error_text};
 ghost use Rattle.mdcc_replay.specs.Refusals.{fault_of};
 
 use crate::Refusal;
 use mdcc_base::{LIMIT, QuorumFault};
 use mdcc_option::{DraftFault, SchemaFault};
-use mdcc_protocol::{EventFault, HeaderCause, LimitName, SchedCause, SchedFault};
+use mdcc_language::{EventFault, HeaderCause, LimitName, SchedCause, SchedFault};
 use std::alloc::{AllocError, Global};
 
 // The name of a cause.

@@ -1,16 +1,16 @@
 //! Parts of an input.
 ghost use Rattle.std.specs.Prelude.{◌≡◌, ◌++◌, ◌+◌, ◌∷◌, ◌<◌, ◌≤◌, codes, drop, length, take, IfOk, IfSome, IsTrue};
 ghost use Rattle.mdcc_base.specs.Unless.{GivesUnless};
-ghost use Rattle.mdcc_protocol.specs.Built.{built};
-ghost use Rattle.mdcc_protocol.specs.Lines.{lines_in};
-ghost use Rattle.mdcc_protocol.specs.Report.{header_text};
-ghost use Rattle.mdcc_protocol.specs.Schedule.{line_of};
+ghost use Rattle.mdcc_built.specs.Built.{built};
+ghost use Rattle.mdcc_language.specs.Lines.{lines_in};
+ghost use Rattle.mdcc_language.specs.Report.{header_text};
+ghost use Rattle.mdcc_language.specs.Schedule.{line_of};
 ghost use Rattle.mdcc_sched.specs.Free.{is_memory};
 ghost use Rattle.mdcc_replay.specs.Words.{is_built};
 
 use mdcc_base::Memory;
 use mdcc_option::Cluster;
-use mdcc_protocol::{Event, SchedCause, SchedFault};
+use mdcc_language::{Event, SchedCause, SchedFault};
 use mdcc_sched::parse_line;
 use mdcc_words::places::part_at;
 use std::alloc::Global;

@@ -1,9 +1,9 @@
 //! Why a replay ends early.
 ghost use Rattle.std.specs.Prelude.{◌≡◌, ◌≢◌, Some};
-ghost use Rattle.mdcc_protocol.specs.Errors.{status_of, status_at_line, status_at_event};
+ghost use Rattle.mdcc_language.specs.Errors.{status_of, status_at_line, status_at_event};
 ghost use Rattle.mdcc_replay.specs.Refusals.{fault_of};
 
-use mdcc_protocol::{EventFault, HeaderFault, SchedCause, SchedFault};
+use mdcc_language::{EventFault, HeaderFault, SchedCause, SchedFault};
 
 /// Why a replay ended before the end of its input. Lines are numbered from 1.
 #[derive(Debug, Drop)]

@@ -1,15 +1,17 @@
 //! What the events of a schedule happen to.
 ghost use Rattle.std.specs.Prelude.{◌≡◌, ◌++◌, IfErr, IfOk, IsOkAnd, IsTrue, OnOk};
 ghost use Rattle.std.specs.Bool.{OnFalse};
-ghost use Rattle.mdcc_protocol.specs.Built.{built};
+ghost use Rattle.mdcc_built.specs.Built.{built};
 ghost use Rattle.mdcc_protocol.specs.IsCluster.{IsCluster};
-ghost use Rattle.mdcc_protocol.specs.World.{World as AWorld, end_line, event_of, first_world};
+ghost use Rattle.mdcc_simulation.specs.State.{World as AWorld, first_world};
+ghost use Rattle.mdcc_simulation.specs.Runs.{end_line};
+ghost use Rattle.mdcc_simulation.specs.Events.{event_of};
 ghost use Rattle.mdcc_replay.specs.Refusals.{is_memory};
 ghost use Rattle.mdcc_replay.specs.Words.{is_built};
 
 use mdcc_base::{HeapList, Memory};
 use mdcc_option::Cluster;
-use mdcc_protocol::{Event, EventFault, Line};
+use mdcc_language::{Event, EventFault, Line};
 use std::alloc::Global;
 
 /// Nodes of a cluster and the messages between them, to which the events of a schedule happen.

@@ -2,11 +2,11 @@
 ghost use Rattle.std.specs.Prelude.{◌≡◌, ◌≤◌, ◌++◌, IfOk, IsErrOf, OnErr, OnOk};
 ghost use Rattle.std.specs.Io.KnownBytes.{Appends};
 ghost use Rattle.mdcc_base.specs.Causes.{Rose};
-ghost use Rattle.mdcc_protocol.specs.Report.{line_text, lines_text};
+ghost use Rattle.mdcc_language.specs.Report.{line_text, lines_text};
 ghost use Rattle.mdcc_replay.specs.Writing.{Front, Tells};
 
 use mdcc_base::{Memory, Sink, write_all};
-use mdcc_protocol::Line;
+use mdcc_language::Line;
 use mdcc_sched::print_line;
 use std::alloc::{AllocError, Global};
 

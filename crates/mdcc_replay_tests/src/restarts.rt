@@ -1,7 +1,7 @@
 //! Centres that crash and restart: whole replays, and the bytes of the logs.
 ghost use Rattle.std.specs.Prelude.{IfOk, IsTrue, OnOk};
 ghost use Rattle.mdcc_protocol.specs.IsCluster.{IsCluster};
-ghost use Rattle.mdcc_protocol.specs.World.{World as AWorld};
+ghost use Rattle.mdcc_simulation.specs.State.{World as AWorld};
 ghost use Rattle.mdcc_world.specs.Stands.{Stands};
 ghost use Rattle.mdcc_world.specs.Words.{is_built};
 
@@ -9,7 +9,7 @@ use crate::replay_rows::{REPORT, Row, SCHEDULE};
 use crate::replays::check_behind;
 use mdcc_base::{Centre, HeapList, Quorums};
 use mdcc_option::{Cluster, Schema};
-use mdcc_protocol::{Event, EventFault};
+use mdcc_language::{Event, EventFault};
 use mdcc_world::World;
 use std::alloc::Global;
 use std::test::Fail;

@@ -9,12 +9,12 @@ use Rattle.mdcc_base.specs.Sizes.{Sizes}
 use Rattle.mdcc_base.specs.declared.quorums.QuorumFault.{QuorumFault}
 use Rattle.mdcc_option.specs.Bounds.{IsSchema, is_bound}
 use Rattle.mdcc_option.specs.declared.cluster.Cluster.{Cluster}
-use Rattle.mdcc_protocol.specs.Built.{Built}
-use Rattle.mdcc_protocol.specs.Header.{Bounds, Left, bound_line, bound_of, bounds_in, bounds_lines, cells_line, default_cells, header_line, header_lines, in_line, in_order, is_next, last_number, more_bounds, next_line, quorums_in, quorums_line, sizes_of, version_of, whole_line}
+use Rattle.mdcc_switches.specs.Built.{Built}
+use Rattle.mdcc_language.specs.Header.{Bounds, Left, bound_line, bound_of, bounds_in, bounds_lines, cells_line, default_cells, header_line, header_lines, in_line, in_order, is_next, last_number, more_bounds, next_line, quorums_in, quorums_line, sizes_of, version_of, whole_line}
 use Rattle.mdcc_protocol.specs.IsCluster.{IsCluster}
-use Rattle.mdcc_protocol.specs.Lines.{line_end_of, text_of}
-use Rattle.mdcc_protocol.specs.Words.{are_plain_digits, end_at, is_negative, natural_of, number_of, within, word_at, word_behind, word_end, ◌>>=◌}
-use Rattle.mdcc_protocol.specs.declared.schedule.SchedFault.{SchedFault}
+use Rattle.mdcc_language.specs.Lines.{line_end_of, text_of}
+use Rattle.mdcc_language.specs.Words.{are_plain_digits, end_at, is_negative, natural_of, number_of, within, word_at, word_behind, word_end, ◌>>=◌}
+use Rattle.mdcc_language.specs.declared.schedule.SchedFault.{SchedFault}
 
 -- ---- steps in turn
 

@@ -7,15 +7,17 @@ use Rattle.mdcc_base.specs.Sizes.{Sizes}
 use Rattle.mdcc_base.specs.declared.identifiers.TxId.{TxId}
 use Rattle.mdcc_base.specs.declared.outside.Image.{Image}
 use Rattle.mdcc_option.specs.declared.choices.Outcome.{Outcome}
-use Rattle.mdcc_protocol.specs.Built.{Built}
-use Rattle.mdcc_protocol.specs.Ledger.{Added, Entry, new_outcomes}
+use Rattle.mdcc_switches.specs.Built.{Built}
+use Rattle.mdcc_ledger.specs.Ledger.{Added, Entry, new_outcomes}
 use Rattle.mdcc_protocol.specs.Marks.{is_commit}
-use Rattle.mdcc_protocol.specs.Steps.{NodeStep}
-use Rattle.mdcc_protocol.specs.World.{World, centre_at, chosen_lines, fact_happened, heard_lines, input_happened, is_frame_kept, run_of, step_happened_by, step_stopped}
-use Rattle.mdcc_protocol.specs.declared.events.Event.{Event}
-use Rattle.mdcc_protocol.specs.declared.facts.Fact.{Fact}
-use Rattle.mdcc_protocol.specs.declared.lines.Line.{Line}
-use Rattle.mdcc_protocol.specs.declared.node.StepFault.{StepFault}
+use Rattle.mdcc_rules.specs.Steps.{NodeStep}
+use Rattle.mdcc_simulation.specs.State.{World, centre_at}
+use Rattle.mdcc_simulation.specs.Stepping.{chosen_lines, fact_happened, heard_lines, input_happened, is_frame_kept, step_happened_by, step_stopped}
+use Rattle.mdcc_simulation.specs.Runs.{run_of}
+use Rattle.mdcc_language.specs.declared.events.Event.{Event}
+use Rattle.mdcc_messages.specs.declared.facts.Fact.{Fact}
+use Rattle.mdcc_language.specs.declared.lines.Line.{Line}
+use Rattle.mdcc_rules.specs.declared.node.StepFault.{StepFault}
 use Rattle.mdcc_reports.specs.Growth.{Grows}
 use Rattle.mdcc_reports.specs.Origins.{HasOrigin}
 use Rattle.mdcc_reports.proofs.Lists.{each-append, each-weaker, together}

@@ -1,11 +1,13 @@
 -- The run of the first events of a run.
 use Rattle.std.proofs.Common.{Err, List, None, Ok, Result, Some, [], ap, refl, ◌++◌, ◌∙◌, ◌∷◌, ◌≡◌, sym}
 use Rattle.std.proofs.lemmas.List.{append-nil}
-use Rattle.mdcc_protocol.specs.Built.{Built}
-use Rattle.mdcc_protocol.specs.World.{Happened, Run, World, after_lines, event_of, run_from, run_of}
-use Rattle.mdcc_protocol.specs.declared.events.Event.{Event}
-use Rattle.mdcc_protocol.specs.declared.lines.Line.{Line}
-use Rattle.mdcc_protocol.specs.declared.world.EventFault.{EventFault}
+use Rattle.mdcc_switches.specs.Built.{Built}
+use Rattle.mdcc_simulation.specs.State.{Happened, World, after_lines}
+use Rattle.mdcc_simulation.specs.Runs.{Run, run_from, run_of}
+use Rattle.mdcc_simulation.specs.Events.{event_of}
+use Rattle.mdcc_language.specs.declared.events.Event.{Event}
+use Rattle.mdcc_language.specs.declared.lines.Line.{Line}
+use Rattle.mdcc_language.specs.declared.world.EventFault.{EventFault}
 use Rattle.mdcc_reports.specs.Growth.{told_before}
 use Rattle.mdcc_reports.proofs.Lists.{together}
 

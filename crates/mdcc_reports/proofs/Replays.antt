@@ -3,18 +3,20 @@ use Rattle.std.proofs.Common.{Err, List, None, Ok, Option, Result, Some, [], ap,
 use Rattle.std.specs.Prelude.{false, length, nat_lt, ◌≤◌}
 use Rattle.std.proofs.lemmas.List.{append-nil}
 use Rattle.mdcc_option.specs.declared.cluster.Cluster.{Cluster}
-use Rattle.mdcc_protocol.specs.Built.{Built}
-use Rattle.mdcc_protocol.specs.Errors.{AtEvent, AtLine, ReplayFault, most_input}
-use Rattle.mdcc_protocol.specs.Header.{Left}
-use Rattle.mdcc_protocol.specs.Replay.{Replay, after_text, ended, lines_replayed, replay_of}
-use Rattle.mdcc_protocol.specs.Report.{header_text, line_text, lines_text}
-use Rattle.mdcc_protocol.specs.Schedule.{line_of}
-use Rattle.mdcc_protocol.specs.Words.{◌>>=◌}
-use Rattle.mdcc_protocol.specs.World.{Happened, Run, World, end_line, event_of, first_world, run_from, run_of}
-use Rattle.mdcc_protocol.specs.declared.events.Event.{Event}
-use Rattle.mdcc_protocol.specs.declared.lines.Line.{Line}
-use Rattle.mdcc_protocol.specs.declared.schedule.SchedFault.{SchedFault}
-use Rattle.mdcc_protocol.specs.declared.world.EventFault.{EventFault}
+use Rattle.mdcc_switches.specs.Built.{Built}
+use Rattle.mdcc_language.specs.Errors.{AtEvent, AtLine, ReplayFault, most_input}
+use Rattle.mdcc_language.specs.Header.{Left}
+use Rattle.mdcc_simulation.specs.Replay.{Replay, after_text, ended, lines_replayed, replay_of}
+use Rattle.mdcc_language.specs.Report.{header_text, line_text, lines_text}
+use Rattle.mdcc_language.specs.Schedule.{line_of}
+use Rattle.mdcc_language.specs.Words.{◌>>=◌}
+use Rattle.mdcc_simulation.specs.State.{Happened, World, first_world}
+use Rattle.mdcc_simulation.specs.Runs.{Run, end_line, run_from, run_of}
+use Rattle.mdcc_simulation.specs.Events.{event_of}
+use Rattle.mdcc_language.specs.declared.events.Event.{Event}
+use Rattle.mdcc_language.specs.declared.lines.Line.{Line}
+use Rattle.mdcc_language.specs.declared.schedule.SchedFault.{SchedFault}
+use Rattle.mdcc_language.specs.declared.world.EventFault.{EventFault}
 use Rattle.mdcc_reports.specs.Replays.{IsAccepted, IsLeft, IsReplayed, end_told, event_listed, events_read}
 use Rattle.mdcc_reports.specs.Growth.{told_before}
 use Rattle.mdcc_reports.proofs.Lists.{together}

@@ -9,23 +9,31 @@ use Rattle.mdcc_base.specs.declared.key.Key.{Key}
 use Rattle.mdcc_option.specs.Transaction.{transaction_of}
 use Rattle.mdcc_option.specs.declared.faults.DraftFault.{DraftFault}
 use Rattle.mdcc_option.specs.declared.items.Part.{Part}
-use Rattle.mdcc_protocol.specs.Built.{Built}
+use Rattle.mdcc_switches.specs.Built.{Built}
 use Rattle.mdcc_protocol.specs.Facts.{epoch_of}
-use Rattle.mdcc_protocol.specs.Ledger.{facts_of}
-use Rattle.mdcc_protocol.specs.Resolve.{resolve}
-use Rattle.mdcc_protocol.specs.World.{Happened, Sent, Site, World, after_lines, answer_in, begin_lines, begin_of, begun_by, cells_limit, centre_at, counted_event, deliver_line, delivered, deliveries_of, delivery_by, delivery_of, down, event_of, fact_happened, first_waiting, happened_of, if_up, input_happened, is_deliver, is_frame_kept, is_limit, is_past_events, is_up_at, is_waiting_for, log_limit, most_events, next_message, numbered, parts_begun, read_happened, restart_happened, restart_of, run_from, run_of, settle_of, settled_line, settled_of, step_at, step_happened_by, step_limit, step_stopped, tick_line, tick_of, unless, with_centre, with_delivered, with_lines, within_events}
-use Rattle.mdcc_protocol.specs.declared.events.Event.{Event}
-use Rattle.mdcc_protocol.specs.declared.facts.Fact.{Fact}
-use Rattle.mdcc_protocol.specs.declared.lines.Line.{Line}
-use Rattle.mdcc_protocol.specs.declared.messages.Envelope.{Envelope}
-use Rattle.mdcc_protocol.specs.declared.node.Answer.{Answer}
-use Rattle.mdcc_protocol.specs.declared.node.Input.{Input}
-use Rattle.mdcc_protocol.specs.declared.node.StepFault.{StepFault}
-use Rattle.mdcc_protocol.specs.Steps.{NodeStep}
+use Rattle.mdcc_ledger.specs.Ledger.{facts_of}
+use Rattle.mdcc_language.specs.Resolve.{resolve}
+use Rattle.mdcc_simulation.specs.State.{Happened, Site, World, after_lines, centre_at, counted_event, down, is_up_at, next_message, with_centre}
+use Rattle.mdcc_messages.specs.Mailbox.{Sent, numbered, with_delivered}
+use Rattle.mdcc_simulation.specs.Clients.{answer_in, begin_lines, begin_of, begun_by, parts_begun, read_happened}
+use Rattle.mdcc_simulation.specs.Limits.{cells_limit, if_up, is_limit, is_past_events, log_limit, most_events, step_limit, unless, with_lines, within_events}
+use Rattle.mdcc_simulation.specs.Deliveries.{deliver_line, delivered, deliveries_of, delivery_by, delivery_of, first_waiting, is_waiting_for, settle_of, settled_line, settled_of}
+use Rattle.mdcc_simulation.specs.Events.{event_of, happened_of, is_deliver}
+use Rattle.mdcc_simulation.specs.Stepping.{fact_happened, input_happened, is_frame_kept, step_at, step_happened_by, step_stopped}
+use Rattle.mdcc_simulation.specs.Centres.{restart_happened, restart_of, tick_line, tick_of}
+use Rattle.mdcc_simulation.specs.Runs.{run_from, run_of}
+use Rattle.mdcc_language.specs.declared.events.Event.{Event}
+use Rattle.mdcc_messages.specs.declared.facts.Fact.{Fact}
+use Rattle.mdcc_language.specs.declared.lines.Line.{Line}
+use Rattle.mdcc_messages.specs.declared.messages.Envelope.{Envelope}
+use Rattle.mdcc_rules.specs.declared.node.Answer.{Answer}
+use Rattle.mdcc_rules.specs.declared.node.Input.{Input}
+use Rattle.mdcc_rules.specs.declared.node.StepFault.{StepFault}
+use Rattle.mdcc_rules.specs.Steps.{NodeStep}
 use Rattle.mdcc_protocol.specs.Belongs.{is_centre}
 use Rattle.mdcc_base.specs.declared.outside.Image.{Image}
-use Rattle.mdcc_protocol.specs.declared.schedule.ResolveFault.{ResolveFault}
-use Rattle.mdcc_protocol.specs.declared.world.EventFault.{EventFault}
+use Rattle.mdcc_language.specs.declared.schedule.ResolveFault.{ResolveFault}
+use Rattle.mdcc_language.specs.declared.world.EventFault.{EventFault}
 
 -- ---- single things
 

@@ -1,10 +1,11 @@
 -- How ledgers grow.
 use Rattle.std.specs.Prelude.{List, None, ◌++◌, ◌≡◌}
-use Rattle.mdcc_protocol.specs.Built.{Built}
-use Rattle.mdcc_protocol.specs.Ledger.{Entry}
-use Rattle.mdcc_protocol.specs.World.{Run, World, run_of}
-use Rattle.mdcc_protocol.specs.declared.events.Event.{Event}
-use Rattle.mdcc_protocol.specs.declared.lines.Line.{Line}
+use Rattle.mdcc_switches.specs.Built.{Built}
+use Rattle.mdcc_ledger.specs.Ledger.{Entry}
+use Rattle.mdcc_simulation.specs.Runs.{Run, run_of}
+use Rattle.mdcc_simulation.specs.State.{World}
+use Rattle.mdcc_language.specs.declared.events.Event.{Event}
+use Rattle.mdcc_language.specs.declared.lines.Line.{Line}
 
 -- the second world has the first one's cluster and its ledger, with later entries in front
 pub record Grows (w w' : World) : Type 0 where

@@ -5,14 +5,16 @@ use Rattle.mdcc_base.specs.Sizes.{Sizes}
 use Rattle.mdcc_base.specs.declared.identifiers.TxId.{TxId}
 use Rattle.mdcc_option.specs.declared.choices.Outcome.{Outcome}
 use Rattle.mdcc_option.specs.declared.items.Known.{Known}
-use Rattle.mdcc_protocol.specs.Built.{Built}
-use Rattle.mdcc_protocol.specs.Ledger.{Added, Entry, facts_of, new_outcomes}
+use Rattle.mdcc_switches.specs.Built.{Built}
+use Rattle.mdcc_ledger.specs.Ledger.{Added, Entry, facts_of, new_outcomes}
 use Rattle.mdcc_protocol.specs.Marks.{is_commit}
 use Rattle.mdcc_protocol.specs.Visible
-use Rattle.mdcc_protocol.specs.World.{World, known_of, run_of}
-use Rattle.mdcc_protocol.specs.declared.events.Event.{Event}
-use Rattle.mdcc_protocol.specs.declared.facts.Fact.{Fact}
-use Rattle.mdcc_protocol.specs.declared.lines.Line.{Line}
+use Rattle.mdcc_simulation.specs.State.{World}
+use Rattle.mdcc_simulation.specs.Clients.{known_of}
+use Rattle.mdcc_simulation.specs.Runs.{run_of}
+use Rattle.mdcc_language.specs.declared.events.Event.{Event}
+use Rattle.mdcc_messages.specs.declared.facts.Fact.{Fact}
+use Rattle.mdcc_language.specs.declared.lines.Line.{Line}
 
 -- the outcome came to be at an entry of the ledger
 pub record Came (quorums : Sizes) (ledger : List Entry) (tx : TxId) (outcome : Outcome) : Type 0 where

@@ -1,18 +1,19 @@
 -- A replay is a run of events.
 use Rattle.std.specs.Prelude.{List, None, Ok, Option, Result, Some, [], length, ℕ, ◌++◌, ◌+◌, ◌∷◌, ◌≡◌, ◌≤◌}
 use Rattle.mdcc_option.specs.declared.cluster.Cluster.{Cluster}
-use Rattle.mdcc_protocol.specs.Built.{Built}
-use Rattle.mdcc_protocol.specs.Errors.{AtEvent, AtLine, ReplayFault, most_input}
-use Rattle.mdcc_protocol.specs.Header.{Left, all_of, header_lines}
+use Rattle.mdcc_switches.specs.Built.{Built}
+use Rattle.mdcc_language.specs.Errors.{AtEvent, AtLine, ReplayFault, most_input}
+use Rattle.mdcc_language.specs.Header.{Left, all_of, header_lines}
 use Rattle.mdcc_protocol.specs.IsCluster.{IsCluster}
-use Rattle.mdcc_protocol.specs.Replay.{replay_of}
-use Rattle.mdcc_protocol.specs.Report.{header_text, lines_text}
-use Rattle.mdcc_protocol.specs.Schedule.{line_of}
-use Rattle.mdcc_protocol.specs.Words.{◌>>=◌}
-use Rattle.mdcc_protocol.specs.World.{World, end_line, first_world, run_of}
-use Rattle.mdcc_protocol.specs.declared.events.Event.{Event}
-use Rattle.mdcc_protocol.specs.declared.lines.Line.{Line}
-use Rattle.mdcc_protocol.specs.declared.schedule.SchedFault.{SchedFault}
+use Rattle.mdcc_simulation.specs.Replay.{replay_of}
+use Rattle.mdcc_language.specs.Report.{header_text, lines_text}
+use Rattle.mdcc_language.specs.Schedule.{line_of}
+use Rattle.mdcc_language.specs.Words.{◌>>=◌}
+use Rattle.mdcc_simulation.specs.State.{World, first_world}
+use Rattle.mdcc_simulation.specs.Runs.{end_line, run_of}
+use Rattle.mdcc_language.specs.declared.events.Event.{Event}
+use Rattle.mdcc_language.specs.declared.lines.Line.{Line}
+use Rattle.mdcc_language.specs.declared.schedule.SchedFault.{SchedFault}
 
 -- ---- the events of lines
 

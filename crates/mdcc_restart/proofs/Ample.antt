@@ -4,7 +4,7 @@ use Rattle.mdcc_admission.proofs.Settled.{list_spare}
 use Rattle.mdcc_admission.specs.Boots.{AreAmple}
 use Rattle.mdcc_admission.specs.Loading.{list_cells}
 use Rattle.mdcc_base.specs.Counts.{sum_over}
-use Rattle.mdcc_protocol.specs.declared.facts.Fact.{Fact}
+use Rattle.mdcc_messages.specs.declared.facts.Fact.{Fact}
 use Rattle.mdcc_restart.specs.Restarting.{IsAmple}
 
 none-used : (facts : List Fact) → sum_over {X = Fact} (λ fact. 0) facts ≡ 0

@@ -6,11 +6,11 @@ use Rattle.std.specs.List.{AllByRecursion, flat_map}
 use Rattle.mdcc_admission.specs.Loading.{fact_in, fact_read}
 use Rattle.mdcc_base.specs.Counts.{sum_over}
 use Rattle.mdcc_log.specs.Log.{frame_bytes, log_bytes, log_mark}
-use Rattle.mdcc_protocol.proofs.Lengths.{length-fact}
-use Rattle.mdcc_protocol.specs.Lengths.{frame_length, log_length}
-use Rattle.mdcc_protocol.specs.Spelling.{fact_bytes}
-use Rattle.mdcc_protocol.specs.WellFormed.{IsWellFormedFact}
-use Rattle.mdcc_protocol.specs.declared.facts.Fact.{Fact}
+use Rattle.mdcc_spelling.proofs.Lengths.{length-fact}
+use Rattle.mdcc_messages.specs.Lengths.{frame_length, log_length}
+use Rattle.mdcc_messages.specs.Spelling.{fact_bytes}
+use Rattle.mdcc_messages.specs.WellFormed.{IsWellFormedFact}
+use Rattle.mdcc_messages.specs.declared.facts.Fact.{Fact}
 use Rattle.mdcc_restart.specs.Logged.{logged}
 use Rattle.mdcc_spelling.proofs.Whole.{fact_again}
 use Rattle.mdcc_steps.specs.Forming.{payloads_of}

@@ -8,13 +8,13 @@ use Rattle.mdcc_base.specs.declared.key.Key.{Key}
 use Rattle.mdcc_option.specs.declared.choices.Choice.{Choice}
 use Rattle.mdcc_option.specs.declared.choices.Mark.{Mark}
 use Rattle.mdcc_option.specs.declared.choices.Outcome.{Outcome}
-use Rattle.mdcc_protocol.proofs.Lengths.{length-fact}
-use Rattle.mdcc_protocol.proofs.Longest.{longest_choice}
-use Rattle.mdcc_protocol.specs.Lengths.{choice_length, entry_length, fact_length, offered_length, outcome_length}
-use Rattle.mdcc_protocol.specs.Spelling.{fact_bytes}
-use Rattle.mdcc_protocol.specs.WellFormed.{IsWellFormedFact, IsWellFormedOffered}
-use Rattle.mdcc_protocol.specs.WellFormedParts.{IsWellFormedEntry, IsWellFormedOf, IsWellFormedOutcome}
-use Rattle.mdcc_protocol.specs.declared.facts.Fact.{Fact}
+use Rattle.mdcc_spelling.proofs.Lengths.{length-fact}
+use Rattle.mdcc_spelling.proofs.Longest.{longest_choice}
+use Rattle.mdcc_messages.specs.Lengths.{choice_length, entry_length, fact_length, offered_length, outcome_length}
+use Rattle.mdcc_messages.specs.Spelling.{fact_bytes}
+use Rattle.mdcc_messages.specs.WellFormed.{IsWellFormedFact, IsWellFormedOffered}
+use Rattle.mdcc_messages.specs.WellFormedParts.{IsWellFormedEntry, IsWellFormedOf, IsWellFormedOutcome}
+use Rattle.mdcc_messages.specs.declared.facts.Fact.{Fact}
 
 longest-choices : (tx : TxId) (choices : List Choice) → AllByRecursion (IsWellFormedOf tx) choices → sum_over choice_length choices ≤ 1119 * length choices
 longest-choices tx [] w = omega arith

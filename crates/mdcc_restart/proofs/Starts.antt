@@ -12,14 +12,14 @@ use Rattle.mdcc_node.specs.Booting.{Boots}
 use Rattle.mdcc_node.specs.Stands.{Stands}
 use Rattle.mdcc_node.specs.declared.node.Node.{Node}
 use Rattle.mdcc_option.specs.declared.cluster.Cluster.{Cluster}
-use Rattle.mdcc_protocol.specs.Allowed.{are_allowed_facts, is_allowed_fact}
-use Rattle.mdcc_protocol.specs.Boot.{booted_by}
-use Rattle.mdcc_protocol.specs.Built.{nothing_built}
+use Rattle.mdcc_ledger.specs.BootTest.{are_allowed_facts, is_allowed_fact}
+use Rattle.mdcc_rules.specs.Boot.{booted_by}
+use Rattle.mdcc_switches.specs.Built.{nothing_built}
 use Rattle.mdcc_protocol.specs.Facts.{epoch_of}
-use Rattle.mdcc_protocol.specs.Spelling.{fact_bytes}
+use Rattle.mdcc_messages.specs.Spelling.{fact_bytes}
 use Rattle.mdcc_protocol.specs.Volatile.{nothing_kept}
-use Rattle.mdcc_protocol.specs.declared.facts.Fact.{Fact}
-use Rattle.mdcc_protocol.specs.declared.node.BootFault.{BootFault}
+use Rattle.mdcc_messages.specs.declared.facts.Fact.{Fact}
+use Rattle.mdcc_rules.specs.declared.node.BootFault.{BootFault}
 use Rattle.mdcc_restart.proofs.Logged.{log-grows, payloads-read}
 use Rattle.mdcc_restart.specs.Faults.{of_boot, of_log}
 use Rattle.mdcc_restart.specs.Logged.{AreLogged, logged}

@@ -2,10 +2,10 @@
 use Rattle.std.specs.List.{AllByRecursion}
 use Rattle.std.specs.Prelude.{IsTrue, List, [], ℕ, ◌++◌, ◌∷◌}
 use Rattle.mdcc_option.specs.declared.cluster.Cluster.{Cluster}
-use Rattle.mdcc_protocol.specs.Allowed.{are_allowed_facts}
-use Rattle.mdcc_protocol.specs.Spelling.{fact_bytes}
-use Rattle.mdcc_protocol.specs.WellFormed.{IsWellFormedFact}
-use Rattle.mdcc_protocol.specs.declared.facts.Fact.{Fact}
+use Rattle.mdcc_ledger.specs.BootTest.{are_allowed_facts}
+use Rattle.mdcc_messages.specs.Spelling.{fact_bytes}
+use Rattle.mdcc_messages.specs.WellFormed.{IsWellFormedFact}
+use Rattle.mdcc_messages.specs.declared.facts.Fact.{Fact}
 
 -- the payloads of the log of these facts, the oldest first
 abbrev pub logged : List Fact → List (List ℕ)

@@ -11,8 +11,8 @@ use Rattle.mdcc_node.specs.declared.node.Node.{Node}
 use Rattle.mdcc_option.specs.declared.cluster.Cluster.{Cluster}
 use Rattle.mdcc_protocol.specs.Facts.{epoch_of}
 use Rattle.mdcc_protocol.specs.Volatile.{nothing_kept}
-use Rattle.mdcc_protocol.specs.declared.facts.Fact.{Fact}
-use Rattle.mdcc_protocol.specs.declared.node.BootFault.{BootFault}
+use Rattle.mdcc_messages.specs.declared.facts.Fact.{Fact}
+use Rattle.mdcc_rules.specs.declared.node.BootFault.{BootFault}
 use Rattle.mdcc_restart.specs.Logged.{logged}
 use Rattle.mdcc_restart.specs.declared.fault.RestartFault.{RestartFault}
 use Rattle.mdcc_restart.specs.declared.restarting.Restarted.{Restarted}

@@ -1,7 +1,7 @@
 //! Why a centre did not start.
 use mdcc_base::Memory;
 use mdcc_log::LogFault;
-use mdcc_protocol::BootFault;
+use mdcc_rules::BootFault;
 
 #[derive(Clone, Copy, Debug, PartialEq, Eq)]
 pub enum RestartFault {

@@ -5,8 +5,8 @@ ghost use Rattle.mdcc_disks.specs.Disks.{KeepsOthers};
 ghost use Rattle.mdcc_log.specs.Crash.{IsBetween};
 ghost use Rattle.mdcc_log.specs.Log.{payload_limit};
 ghost use Rattle.mdcc_protocol.specs.Belongs.{is_centre};
-ghost use Rattle.mdcc_protocol.specs.Spelling.{fact_bytes};
-ghost use Rattle.mdcc_protocol.specs.declared.facts.Fact.{Fact as AFact};
+ghost use Rattle.mdcc_messages.specs.Spelling.{fact_bytes};
+ghost use Rattle.mdcc_messages.specs.declared.facts.Fact.{Fact as AFact};
 ghost use Rattle.mdcc_restart.specs.Logged.{AreLogged, logged};
 ghost use Rattle.mdcc_restart.specs.Restarting.{BootsNode, IsAmple, IsLogOf, Restarts};
 
@@ -18,7 +18,8 @@ use mdcc_journal::encode_fact;
 use mdcc_log::{Frames, LogFault, between_is_read};
 use mdcc_node::Node;
 use mdcc_option::Cluster;
-use mdcc_protocol::{BootFault, Fact};
+use mdcc_messages::Fact;
+use mdcc_rules::BootFault;
 use std::alloc::Global;
 
 /// A running centre: its node, its open log, and the epoch that its last boot began.

@@ -3,7 +3,7 @@ use crate::values::{cluster, insert, key, tx};
 use mdcc_base::{Ballot, Plain};
 use mdcc_option::{Choice, Mark};
 use mdcc_outcomes::{Outcomes, Totals};
-use mdcc_protocol::Fact;
+use mdcc_messages::Fact;
 use mdcc_struct::Options;
 use std::alloc::Global;
 use std::process::Abort;

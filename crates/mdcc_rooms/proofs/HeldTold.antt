@@ -7,7 +7,7 @@ use Rattle.mdcc_option.specs.declared.choices.Outcome.TheVariants.{Commit}
 use Rattle.mdcc_option.specs.declared.cluster.Cluster.{Cluster}
 use Rattle.mdcc_option.specs.declared.items.Item.{Item}
 use Rattle.mdcc_protocol.specs.Facts as full
-use Rattle.mdcc_protocol.specs.Ledger as ledger
+use Rattle.mdcc_ledger.specs.Ledger as ledger
 use Rattle.mdcc_protocol.specs.Marks.{Amounts}
 use Rattle.mdcc_agreement.specs.Laws.{IsLedger, IsCommit}
 use Rattle.mdcc_agreement.proofs.OneBase as bases

@@ -9,7 +9,7 @@ use Rattle.mdcc_option.specs.declared.choices.Mark.{Mark}
 use Rattle.mdcc_option.specs.declared.choices.Mark.TheVariants.{Accept, Reject}
 use Rattle.mdcc_option.specs.declared.cluster.Cluster.{Cluster}
 use Rattle.mdcc_struct.specs.declared.options.Options.{Options}
-use Rattle.mdcc_protocol.specs.Ledger as ledger
+use Rattle.mdcc_ledger.specs.Ledger as ledger
 use Rattle.mdcc_protocol.specs.Marks.{accepts_in, rejects_in}
 use Rattle.mdcc_agreement.specs.Laws as law
 use Rattle.mdcc_agreement.specs.Laws.{IsLedger}

@@ -10,7 +10,7 @@ use Rattle.mdcc_option.specs.declared.items.Item.{Item}
 use Rattle.mdcc_option.specs.declared.items.Update.{Update}
 use Rattle.mdcc_option.specs.declared.items.Update.TheVariants.{Write, Add}
 use Rattle.mdcc_struct.specs.declared.options.Options.{Options}
-use Rattle.mdcc_protocol.specs.Ledger as ledger
+use Rattle.mdcc_ledger.specs.Ledger as ledger
 use Rattle.mdcc_protocol.specs.Marks.{is_write}
 use Rattle.mdcc_agreement.specs.Laws.{IsLedger, IsChosenAt, IsAbort, IsAcceptedBy, WasSent}
 use Rattle.mdcc_agreement.proofs.MapValues.{total_sum}

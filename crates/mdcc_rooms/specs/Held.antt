@@ -6,7 +6,7 @@ use Rattle.mdcc_option.specs.declared.choices.Choice.{Choice}
 use Rattle.mdcc_option.specs.declared.cluster.Cluster.{Cluster}
 use Rattle.mdcc_option.specs.declared.items.Item.{Item}
 use Rattle.mdcc_option.specs.declared.items.Update.{Update}
-use Rattle.mdcc_protocol.specs.Ledger.{Entry}
+use Rattle.mdcc_ledger.specs.Ledger.{Entry}
 use Rattle.mdcc_protocol.specs.Marks.{Amounts}
 use Rattle.mdcc_agreement.specs.Laws.{IsCommit}
 

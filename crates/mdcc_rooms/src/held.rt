@@ -6,7 +6,7 @@ ghost use Rattle.mdcc_option.specs.declared.choices.Choice.{Choice};
 ghost use Rattle.mdcc_option.specs.declared.cluster.Cluster.{Cluster};
 ghost use Rattle.mdcc_option.specs.declared.items.Item.{Item};
 ghost use Rattle.mdcc_protocol.specs.Facts.{base_of, current_of, executed_of};
-ghost use Rattle.mdcc_protocol.specs.Ledger.{Entry, facts_of};
+ghost use Rattle.mdcc_ledger.specs.Ledger.{Entry, facts_of};
 ghost use Rattle.mdcc_protocol.specs.Marks.{Amounts};
 ghost use Rattle.mdcc_agreement.specs.Laws.{IsLedger};
 ghost use Rattle.mdcc_rooms.specs.Held.{IsBase, IsCommittedAdd, IsWrite};

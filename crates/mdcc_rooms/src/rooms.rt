@@ -7,7 +7,7 @@ ghost use Rattle.mdcc_option.specs.declared.choices.Mark.{Mark};
 ghost use Rattle.mdcc_option.specs.declared.cluster.Cluster.{Cluster};
 ghost use Rattle.mdcc_option.specs.declared.items.Item.{Item};
 ghost use Rattle.mdcc_struct.specs.declared.options.Options.{Options};
-ghost use Rattle.mdcc_protocol.specs.Ledger.{Entry};
+ghost use Rattle.mdcc_ledger.specs.Ledger.{Entry};
 ghost use Rattle.mdcc_protocol.specs.Marks.{accepts_in, rejects_in};
 ghost use Rattle.mdcc_agreement.specs.Laws.{IsAbort, IsAcceptedBy, IsChosenAt, IsLedger, WasSent};
 ghost use Rattle.mdcc_rooms.specs.Held.{IsBase};

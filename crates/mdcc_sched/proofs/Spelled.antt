@@ -6,17 +6,17 @@ use Rattle.std.proofs.lemmas.Bool.{eqb-true, eqb-false}
 use Rattle.std.proofs.lemmas.List.Splits.{join_with_byte-slice_split, length-slice_split}
 use Rattle.mdcc_base.specs.AreQuorums.{AreQuorums}
 use Rattle.mdcc_option.specs.declared.cluster.Cluster.{Cluster}
-use Rattle.mdcc_protocol.specs.declared.events.Event.{Event}
-use Rattle.mdcc_protocol.specs.declared.events.Event.TheVariants.{Read, Begin, Deliver, Settle, Tick, Crash, Restart}
-use Rattle.mdcc_protocol.specs.declared.events.UpdateWord.{UpdateWord}
-use Rattle.mdcc_protocol.specs.declared.schedule.SchedFault.{SchedFault}
-use Rattle.mdcc_protocol.specs.declared.schedule.SchedCause.TheVariants.{Word, Range}
-use Rattle.mdcc_protocol.specs.Lines.{bytes_of_line, most_bytes, text_of, line_end_by, line_end_of}
-use Rattle.mdcc_protocol.specs.Schedule.{centre_of, above, numbers_from, updates_from, centres_from, last_centre, tick_of, crash_of, restart_of, read_of, begin_of, deliver_of, settle_of, begins_with, event_of, event_or_none, line_of}
-use Rattle.mdcc_protocol.specs.Updates.{update_of}
-use Rattle.mdcc_protocol.specs.Words.{◌>>=◌, refused, part_at, parts_from, behind, end_at, word_at, word_end, not_empty, word_behind, count_of, key_of}
+use Rattle.mdcc_language.specs.declared.events.Event.{Event}
+use Rattle.mdcc_language.specs.declared.events.Event.TheVariants.{Read, Begin, Deliver, Settle, Tick, Crash, Restart}
+use Rattle.mdcc_language.specs.declared.events.UpdateWord.{UpdateWord}
+use Rattle.mdcc_language.specs.declared.schedule.SchedFault.{SchedFault}
+use Rattle.mdcc_language.specs.declared.schedule.SchedCause.TheVariants.{Word, Range}
+use Rattle.mdcc_language.specs.Lines.{bytes_of_line, most_bytes, text_of, line_end_by, line_end_of}
+use Rattle.mdcc_language.specs.Schedule.{centre_of, above, numbers_from, updates_from, centres_from, last_centre, tick_of, crash_of, restart_of, read_of, begin_of, deliver_of, settle_of, begins_with, event_of, event_or_none, line_of}
+use Rattle.mdcc_language.specs.Updates.{update_of}
+use Rattle.mdcc_language.specs.Words.{◌>>=◌, refused, part_at, parts_from, behind, end_at, word_at, word_end, not_empty, word_behind, count_of, key_of}
 use Rattle.mdcc_words.specs.Spelled.{update_text}
-use Rattle.mdcc_protocol.specs.Built.{built}
+use Rattle.mdcc_built.specs.Built.{built}
 use Rattle.mdcc_words.proofs.Parts.{part_len_is, place_within}
 use Rattle.mdcc_words.proofs.Seams.{bind_ok, guard_ok, part_seam, front_seam, behind_ok, end_ok, drop_all}
 use Rattle.mdcc_words.proofs.Spelled.{natural_spelled, count_spelled, key_spelled, update_spelled}

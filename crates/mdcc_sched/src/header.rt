@@ -1,15 +1,15 @@
 //! The header of a schedule.
 ghost use Rattle.std.specs.Prelude.{◌≡◌, ◌++◌, ◌∷◌, [], ◌+◌, ◌≤◌, ◌<◌, codes, length, true, IfOk};
 ghost use Rattle.mdcc_option.specs.Bounds.{IsSchema, is_bound};
-ghost use Rattle.mdcc_protocol.specs.Header.{header_line, version_of, quorums_line, last_number, bound_line, bounds_lines, header_lines, header_of};
-ghost use Rattle.mdcc_protocol.specs.Words.{end_at};
-ghost use Rattle.mdcc_protocol.specs.Built.{built};
+ghost use Rattle.mdcc_language.specs.Header.{header_line, version_of, quorums_line, last_number, bound_line, bounds_lines, header_lines, header_of};
+ghost use Rattle.mdcc_language.specs.Words.{end_at};
+ghost use Rattle.mdcc_built.specs.Built.{built};
 
 use crate::header_lines;
 use crate::left::Left;
 use mdcc_base::{BoundedList, Quorums};
 use mdcc_option::{Cluster, Schema, SchemaFault};
-use mdcc_protocol::{HeaderCause, HeaderFault};
+use mdcc_language::{HeaderCause, HeaderFault};
 
 // How many cells a node has where no line says them.
 const DEFAULT_CELLS: u32 = 1_048_576;

@@ -1,12 +1,12 @@
 //! The lines of a header, each with its line end.
 ghost use Rattle.std.specs.Prelude.{◌≡◌, ◌≤◌, ◌<◌, ◌^◌, ◌+◌, codes, length, IfOk, OnOk};
-ghost use Rattle.mdcc_protocol.specs.Header.{in_order, whole_line, is_version, version_of, last_number, sizes_of, bound_of};
-ghost use Rattle.mdcc_protocol.specs.Words.{end_at, word_at, natural_of};
+ghost use Rattle.mdcc_language.specs.Header.{in_order, whole_line, is_version, version_of, last_number, sizes_of, bound_of};
+ghost use Rattle.mdcc_language.specs.Words.{end_at, word_at, natural_of};
 ghost use Rattle.mdcc_sched.specs.Begun.{begun};
 
 use crate::lines::{bytes_of_line, few_bytes, line_end_of};
 use crate::words::{begins_with, word_at, word_behind, word_end};
-use mdcc_protocol::{SchedCause, SchedFault};
+use mdcc_language::{SchedCause, SchedFault};
 use mdcc_words::numbers::{natural_of, value_of};
 use mdcc_words::places::{end_at, refused, text_eq};
 

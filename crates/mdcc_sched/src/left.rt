@@ -1,11 +1,11 @@
 //! How far a header is read.
 ghost use Rattle.std.specs.Prelude.{◌≡◌, ◌+◌, ◌-◌, ◌≤◌, ◌<◌, ◌^◌, [], get_or, drop, length};
-ghost use Rattle.mdcc_protocol.specs.Header.{all_of, next_line, without_next, refused_at, in_line, is_next};
-ghost use Rattle.mdcc_protocol.specs.Lines.{lines_in};
+ghost use Rattle.mdcc_language.specs.Header.{all_of, next_line, without_next, refused_at, in_line, is_next};
+ghost use Rattle.mdcc_language.specs.Lines.{lines_in};
 
 use crate::lines::bytes_of_line;
 use crate::words::begins_with;
-use mdcc_protocol::{HeaderCause, HeaderFault, SchedFault};
+use mdcc_language::{HeaderCause, HeaderFault, SchedFault};
 use std::marker::Model;
 
 /// The text that is left, which begins with a line, the place of that line in the whole text, and
@@ -19,8 +19,8 @@ pub struct Left<'a> {
 
 impl<'a> Model for Left<'a> {
     ghost use Rattle.std.specs.Prelude.{◌+◌, ◌^◌, ◌<◌, length};
-    ghost use Rattle.mdcc_protocol.specs.Header as header;
-    ghost use Rattle.mdcc_protocol.specs.Lines.{lines_in};
+    ghost use Rattle.mdcc_language.specs.Header as header;
+    ghost use Rattle.mdcc_language.specs.Lines.{lines_in};
 
     ghost Value = { header.Left };
 

@@ -1,9 +1,9 @@
 //! Lines of a text.
 ghost use Rattle.std.specs.Prelude.{◌≡◌, ◌+◌, ◌≤◌, OnOk, length};
-ghost use Rattle.mdcc_protocol.specs.Lines.{bytes_of_line, line_end_of};
+ghost use Rattle.mdcc_language.specs.Lines.{bytes_of_line, line_end_of};
 ghost use Rattle.mdcc_sched.specs.Bytes.{few_bytes};
 
-use mdcc_protocol::{SchedCause, SchedFault};
+use mdcc_language::{SchedCause, SchedFault};
 use mdcc_words::places::{part_at, refused};
 
 /// The most bytes that a line may have before its end.

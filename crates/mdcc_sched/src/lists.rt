@@ -1,17 +1,17 @@
 //! Lists of words, from a place of a line to its end.
 ghost use Rattle.std.specs.Prelude.{◌≡◌, ◌++◌, ◌∷◌, [], ◌+◌, ◌≤◌, ◌<◌, IsTrue, OnOk, IfErr, length};
 ghost use Rattle.mdcc_base.specs.Unless.{GivesUnless};
-ghost use Rattle.mdcc_protocol.specs.Schedule.{centre_of, above, numbers_from, updates_from, centres_from};
-ghost use Rattle.mdcc_protocol.specs.Words.{parts_from};
+ghost use Rattle.mdcc_language.specs.Schedule.{centre_of, above, numbers_from, updates_from, centres_from};
+ghost use Rattle.mdcc_language.specs.Words.{parts_from};
 ghost use Rattle.mdcc_sched.specs.Centres.{centre_above};
 ghost use Rattle.mdcc_sched.specs.Free.{is_memory};
 ghost use Rattle.mdcc_sched.specs.Numbers.{number_of_word};
-ghost use Rattle.mdcc_protocol.specs.Built.{built};
+ghost use Rattle.mdcc_built.specs.Built.{built};
 
 use crate::words::{not_empty, word_at};
 use mdcc_base::{Centre, HeapList};
 use mdcc_option::Cluster;
-use mdcc_protocol::{SchedCause, SchedFault, UpdateWord};
+use mdcc_language::{SchedCause, SchedFault, UpdateWord};
 use mdcc_words::numbers::{count_of, natural_of};
 use mdcc_words::parse_update;
 use mdcc_words::places::refused;

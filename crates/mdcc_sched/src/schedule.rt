@@ -1,16 +1,16 @@
 //! Lines of a schedule.
 ghost use Rattle.std.specs.Prelude.{◌≡◌, ◌≤◌, length};
 ghost use Rattle.mdcc_base.specs.Unless.{GivesUnless};
-ghost use Rattle.mdcc_protocol.specs.Schedule.{last_centre, tick_of, crash_of, restart_of, read_of, begin_of, deliver_of, settle_of, event_of, event_or_none, line_of};
+ghost use Rattle.mdcc_language.specs.Schedule.{last_centre, tick_of, crash_of, restart_of, read_of, begin_of, deliver_of, settle_of, event_of, event_or_none, line_of};
 ghost use Rattle.mdcc_sched.specs.Free.{is_memory};
-ghost use Rattle.mdcc_protocol.specs.Built.{built};
+ghost use Rattle.mdcc_built.specs.Built.{built};
 
 use crate::lines::{bytes_of_line, few_bytes, line_end_of};
 use crate::lists::{centre_of, centres_from, numbers_from, updates_from};
 use crate::words::{begins_with, word_at, word_behind, word_end};
 use mdcc_base::{Centre, HeapList};
 use mdcc_option::Cluster;
-use mdcc_protocol::{Event, SchedCause, SchedFault};
+use mdcc_language::{Event, SchedCause, SchedFault};
 use mdcc_words::parse_key;
 use mdcc_words::places::{end_at, refused};
 use std::alloc::Global;

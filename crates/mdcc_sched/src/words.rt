@@ -1,9 +1,9 @@
 //! Words of a line, which are separated by one space. The line has no line end.
 ghost use Rattle.std.specs.Prelude.{◌≡◌, ◌+◌, ◌≤◌, ◌<◌, ◌^◌, IsTrue, IfOk, length};
-ghost use Rattle.mdcc_protocol.specs.Words.{word_at, word_end, not_empty, word_behind};
-ghost use Rattle.mdcc_protocol.specs.Schedule.{begins_with};
+ghost use Rattle.mdcc_language.specs.Words.{word_at, word_end, not_empty, word_behind};
+ghost use Rattle.mdcc_language.specs.Schedule.{begins_with};
 
-use mdcc_protocol::{SchedCause, SchedFault};
+use mdcc_language::{SchedCause, SchedFault};
 use mdcc_words::places::{behind, part_at, part_end, refused, text_eq};
 
 /// The word that begins at a place.

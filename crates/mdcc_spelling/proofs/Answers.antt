@@ -9,15 +9,15 @@ use Rattle.mdcc_option.specs.declared.faults.BeginFault.{BeginFault}
 use Rattle.mdcc_option.specs.declared.faults.BeginFault.TheVariants.{Stale, Unseen, NoItem, Sequence, Busy, Memory}
 use Rattle.mdcc_option.specs.declared.faults.DraftFault.{DraftFault}
 use Rattle.mdcc_option.specs.declared.faults.DraftFault.TheVariants.{Empty, TooMany, RepeatedKey, BadAttribute, ZeroAmount, OutOfBounds}
-use Rattle.mdcc_protocol.specs.declared.messages.ClientAnswer.{ClientAnswer}
-use Rattle.mdcc_protocol.specs.declared.messages.ClientAnswer.TheVariants as answers
-use Rattle.mdcc_protocol.specs.Bytes.{u8_bytes, u64_bytes}
-use Rattle.mdcc_protocol.specs.SpelledParts.{key_bytes, tx_bytes, item_bytes, seen_bytes}
-use Rattle.mdcc_protocol.specs.SpelledAnswers.{flag_bytes, shown_item_bytes, begin_fault_bytes, draft_fault_number, answer_bytes}
-use Rattle.mdcc_protocol.specs.ReadingSteps.{◌>>=◌, u64_at, u8_within, flag_at}
-use Rattle.mdcc_protocol.specs.ReadingParts.{key_at, tx_at, item_at, seen_at}
-use Rattle.mdcc_protocol.specs.ReadingAnswers.{some_item_at, shown_item_at, stale_at, unseen_at, begin_fault_by, begin_fault_at, draft_fault_of, read_answer_at, begun_answer_at, refused_answer_at, heard_answer_at, draft_answer_at, answer_by, answer_at}
-use Rattle.mdcc_protocol.specs.WellFormed.{IsWellFormedShown, IsWellFormedRefusal, IsWellFormedAnswer}
+use Rattle.mdcc_messages.specs.declared.messages.ClientAnswer.{ClientAnswer}
+use Rattle.mdcc_messages.specs.declared.messages.ClientAnswer.TheVariants as answers
+use Rattle.mdcc_messages.specs.Bytes.{u8_bytes, u64_bytes}
+use Rattle.mdcc_messages.specs.SpelledParts.{key_bytes, tx_bytes, item_bytes, seen_bytes}
+use Rattle.mdcc_messages.specs.SpelledAnswers.{flag_bytes, shown_item_bytes, begin_fault_bytes, draft_fault_number, answer_bytes}
+use Rattle.mdcc_messages.specs.ReadingSteps.{◌>>=◌, u64_at, u8_within, flag_at}
+use Rattle.mdcc_messages.specs.ReadingParts.{key_at, tx_at, item_at, seen_at}
+use Rattle.mdcc_messages.specs.ReadingAnswers.{some_item_at, shown_item_at, stale_at, unseen_at, begin_fault_by, begin_fault_at, draft_fault_of, read_answer_at, begun_answer_at, refused_answer_at, heard_answer_at, draft_answer_at, answer_by, answer_at}
+use Rattle.mdcc_messages.specs.WellFormed.{IsWellFormedShown, IsWellFormedRefusal, IsWellFormedAnswer}
 use Rattle.mdcc_spelling.proofs.Places.{IsAt, IsBytes, apart-2, apart-5, end-2, end-5}
 use Rattle.mdcc_spelling.proofs.Steps.{done, ok_is, bind_ok}
 use Rattle.mdcc_spelling.proofs.Numbers.{Reads, IsFound, u64_again, u64_takes, u8_within_again, u8_within_takes}

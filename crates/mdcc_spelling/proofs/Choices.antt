@@ -16,13 +16,13 @@ use Rattle.mdcc_option.specs.declared.choices.Mark.{Mark}
 use Rattle.mdcc_option.specs.declared.choices.Mark.TheVariants.{Accept, Reject}
 use Rattle.mdcc_option.specs.declared.choices.Outcome.{Outcome}
 use Rattle.mdcc_option.specs.declared.choices.Outcome.TheVariants.{Commit, Abort}
-use Rattle.mdcc_protocol.specs.declared.wire.WireFault.{WireFault}
-use Rattle.mdcc_protocol.specs.declared.wire.WireFault.TheVariants.{NotCanonical}
-use Rattle.mdcc_protocol.specs.Bytes.{u8_bytes, u32_bytes, u64_bytes, counted}
-use Rattle.mdcc_protocol.specs.SpelledParts.{key_bytes, tx_bytes, update_bytes, write_set_bytes, choice_bytes, entry_bytes, options_bytes, outcome_bytes}
-use Rattle.mdcc_protocol.specs.ReadingSteps.{◌>>=◌, u32_at, u64_at, checked, free, same, is_after, behind, u8_within, elements_at, list_at}
-use Rattle.mdcc_protocol.specs.ReadingParts.{key_at, tx_at, tx_behind, update_at, write_set_at, has_own, choice_checked, choice_at, reject_behind, accept_behind, entry_behind, options_at, choice_behind, commit_at, outcome_at}
-use Rattle.mdcc_protocol.specs.WellFormedParts.{is_ascending_by, is_written, IsWellFormedChoice, IsWellFormedWithin, IsWellFormedEntry, IsWellFormedOptions, IsWellFormedOf, IsWellFormedOutcome}
+use Rattle.mdcc_messages.specs.declared.wire.WireFault.{WireFault}
+use Rattle.mdcc_messages.specs.declared.wire.WireFault.TheVariants.{NotCanonical}
+use Rattle.mdcc_messages.specs.Bytes.{u8_bytes, u32_bytes, u64_bytes, counted}
+use Rattle.mdcc_messages.specs.SpelledParts.{key_bytes, tx_bytes, update_bytes, write_set_bytes, choice_bytes, entry_bytes, options_bytes, outcome_bytes}
+use Rattle.mdcc_messages.specs.ReadingSteps.{◌>>=◌, u32_at, u64_at, checked, free, same, is_after, behind, u8_within, elements_at, list_at}
+use Rattle.mdcc_messages.specs.ReadingParts.{key_at, tx_at, tx_behind, update_at, write_set_at, has_own, choice_checked, choice_at, reject_behind, accept_behind, entry_behind, options_at, choice_behind, commit_at, outcome_at}
+use Rattle.mdcc_messages.specs.WellFormedParts.{is_ascending_by, is_written, IsWellFormedChoice, IsWellFormedWithin, IsWellFormedEntry, IsWellFormedOptions, IsWellFormedOf, IsWellFormedOutcome}
 use Rattle.mdcc_spelling.proofs.Places.{IsAt, IsBytes, apart, apart-5, end-2, end-5}
 use Rattle.mdcc_spelling.proofs.Steps.{done, ok_is, bind_ok, none_found, checked_ok}
 use Rattle.mdcc_spelling.proofs.Numbers.{Reads, IsFound, u8_within_again, u8_within_takes, u32_again, u32_takes, u64_again, u64_takes}

@@ -9,14 +9,14 @@ use Rattle.mdcc_option.specs.declared.items.Delta.{Delta}
 use Rattle.mdcc_option.specs.declared.choices.Cause.{Cause}
 use Rattle.mdcc_option.specs.declared.choices.Cause.TheVariants.{Behind, Classic, Limit, Full}
 use Rattle.mdcc_option.specs.declared.choices.Outcome.{Outcome}
-use Rattle.mdcc_protocol.specs.declared.wire.WireFault.{WireFault}
-use Rattle.mdcc_protocol.specs.declared.wire.WireFault.TheVariants.{Range}
-use Rattle.mdcc_protocol.specs.Bytes.{u8_bytes, u64_bytes, counted}
-use Rattle.mdcc_protocol.specs.SpelledParts.{key_bytes, tx_bytes, ballot_bytes, item_bytes, delta_bytes, outcome_bytes, cause_bytes, heard_bytes, given_bytes}
-use Rattle.mdcc_protocol.specs.ReadingSteps.{◌>>=◌, u64_at, checked, u8_within, list_at}
-use Rattle.mdcc_protocol.specs.ReadingParts.{key_at, tx_at, classic_at, item_at, delta_behind, outcome_at, classic_cause_at, limit_cause_at, cause_by, cause_at}
-use Rattle.mdcc_protocol.specs.Reading.{instance_at, at_least, heard_at, given_at}
-use Rattle.mdcc_protocol.specs.WellFormedParts.{IsWellFormedDelta, IsWellFormedHeard, IsWellFormedCause, IsWellFormedInstance, IsWellFormedGiven}
+use Rattle.mdcc_messages.specs.declared.wire.WireFault.{WireFault}
+use Rattle.mdcc_messages.specs.declared.wire.WireFault.TheVariants.{Range}
+use Rattle.mdcc_messages.specs.Bytes.{u8_bytes, u64_bytes, counted}
+use Rattle.mdcc_messages.specs.SpelledParts.{key_bytes, tx_bytes, ballot_bytes, item_bytes, delta_bytes, outcome_bytes, cause_bytes, heard_bytes, given_bytes}
+use Rattle.mdcc_messages.specs.ReadingSteps.{◌>>=◌, u64_at, checked, u8_within, list_at}
+use Rattle.mdcc_messages.specs.ReadingParts.{key_at, tx_at, classic_at, item_at, delta_behind, outcome_at, classic_cause_at, limit_cause_at, cause_by, cause_at}
+use Rattle.mdcc_messages.specs.Reading.{instance_at, at_least, heard_at, given_at}
+use Rattle.mdcc_messages.specs.WellFormedParts.{IsWellFormedDelta, IsWellFormedHeard, IsWellFormedCause, IsWellFormedInstance, IsWellFormedGiven}
 use Rattle.mdcc_spelling.proofs.Places.{IsAt, IsBytes, apart-2, apart-4, end-2, end-4}
 use Rattle.mdcc_spelling.proofs.Steps.{done, ok_is, bind_ok, checked_ok}
 use Rattle.mdcc_spelling.proofs.Numbers.{Reads, IsFound, u64_again, u64_takes, u8_within_again, u8_within_takes}

@@ -13,15 +13,15 @@ use Rattle.mdcc_option.specs.declared.items.Delta.{Delta}
 use Rattle.mdcc_option.specs.declared.choices.Choice.{Choice}
 use Rattle.mdcc_option.specs.declared.choices.Outcome.{Outcome}
 use Rattle.mdcc_struct.specs.Options.{Marks}
-use Rattle.mdcc_protocol.specs.declared.facts.Fact.{Fact}
-use Rattle.mdcc_protocol.specs.declared.facts.Fact.TheVariants as facts
-use Rattle.mdcc_protocol.specs.Bytes.{u8_bytes, u32_bytes, u64_bytes}
-use Rattle.mdcc_protocol.specs.SpelledParts.{key_bytes, ballot_bytes, choice_bytes, options_bytes, heard_bytes, given_bytes}
-use Rattle.mdcc_protocol.specs.Spelling.{offered_bytes, fact_bytes}
-use Rattle.mdcc_protocol.specs.ReadingSteps.{◌>>=◌, u64_at, free, same, u8_within, u32_within}
-use Rattle.mdcc_protocol.specs.ReadingParts.{ballot_at, choice_checked, options_at}
-use Rattle.mdcc_protocol.specs.Reading.{instance_at, heard_at, given_at, booted_at, promised_at, some_offered_at, offered_at, vote_at, heard_fact_at, adopted_at}
-use Rattle.mdcc_protocol.specs.WellFormed.{IsWellFormedOffered, IsWellFormedFact}
+use Rattle.mdcc_messages.specs.declared.facts.Fact.{Fact}
+use Rattle.mdcc_messages.specs.declared.facts.Fact.TheVariants as facts
+use Rattle.mdcc_messages.specs.Bytes.{u8_bytes, u32_bytes, u64_bytes}
+use Rattle.mdcc_messages.specs.SpelledParts.{key_bytes, ballot_bytes, choice_bytes, options_bytes, heard_bytes, given_bytes}
+use Rattle.mdcc_messages.specs.Spelling.{offered_bytes, fact_bytes}
+use Rattle.mdcc_messages.specs.ReadingSteps.{◌>>=◌, u64_at, free, same, u8_within, u32_within}
+use Rattle.mdcc_messages.specs.ReadingParts.{ballot_at, choice_checked, options_at}
+use Rattle.mdcc_messages.specs.Reading.{instance_at, heard_at, given_at, booted_at, promised_at, some_offered_at, offered_at, vote_at, heard_fact_at, adopted_at}
+use Rattle.mdcc_messages.specs.WellFormed.{IsWellFormedOffered, IsWellFormedFact}
 use Rattle.mdcc_spelling.proofs.Places.{IsAt, IsBytes, apart-2, apart-3, apart-4, end-2, end-3, end-4}
 use Rattle.mdcc_spelling.proofs.Steps.{done, ok_is, bind_ok}
 use Rattle.mdcc_spelling.proofs.Numbers.{Reads, IsFound, u64_again, u64_takes, u8_within_again, u8_within_takes, u32_within_again, u32_within_takes}

@@ -8,13 +8,13 @@ use Rattle.std.proofs.lemmas.List.{length-take, length-drop}
 use Rattle.mdcc_base.specs.declared.identifiers.Ballot.{Ballot}
 use Rattle.mdcc_base.specs.declared.identifiers.TxId.{TxId}
 use Rattle.mdcc_base.specs.Key.{IsKey, is_key_byte}
-use Rattle.mdcc_protocol.specs.declared.wire.WireFault.{WireFault}
-use Rattle.mdcc_protocol.specs.declared.wire.WireFault.TheVariants.{Truncated, Range}
-use Rattle.mdcc_protocol.specs.Bytes.{u8_bytes, u32_bytes}
-use Rattle.mdcc_protocol.specs.SpelledParts.{key_bytes, tx_bytes, ballot_bytes}
-use Rattle.mdcc_protocol.specs.ReadingSteps.{◌>>=◌, u8_within, u32_within}
-use Rattle.mdcc_protocol.specs.ReadingParts.{key_by, key_at, tx_at, ballot_from, ballot_at, classic_at}
-use Rattle.mdcc_protocol.specs.WellFormedParts.{IsWellFormedTx, IsWellFormedClassic, IsWellFormedBallot}
+use Rattle.mdcc_messages.specs.declared.wire.WireFault.{WireFault}
+use Rattle.mdcc_messages.specs.declared.wire.WireFault.TheVariants.{Truncated, Range}
+use Rattle.mdcc_messages.specs.Bytes.{u8_bytes, u32_bytes}
+use Rattle.mdcc_messages.specs.SpelledParts.{key_bytes, tx_bytes, ballot_bytes}
+use Rattle.mdcc_messages.specs.ReadingSteps.{◌>>=◌, u8_within, u32_within}
+use Rattle.mdcc_messages.specs.ReadingParts.{key_by, key_at, tx_at, ballot_from, ballot_at, classic_at}
+use Rattle.mdcc_messages.specs.WellFormedParts.{IsWellFormedTx, IsWellFormedClassic, IsWellFormedBallot}
 use Rattle.mdcc_spelling.proofs.Places.{IsAt, IsBytes, apart, apart-3, end-3, taken, stands}
 use Rattle.mdcc_spelling.proofs.Steps.{done, ok_is, bind_ok, guard_ok}
 use Rattle.mdcc_spelling.proofs.Numbers.{Reads, IsFound, u8_within_again, u8_within_takes, u32_within_again, u32_within_takes}

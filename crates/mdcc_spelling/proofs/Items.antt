@@ -16,13 +16,13 @@ use Rattle.mdcc_option.specs.declared.items.Part.{Part}
 use Rattle.mdcc_option.specs.declared.items.Delta.{Delta}
 use Rattle.mdcc_option.specs.declared.items.Update.{Update}
 use Rattle.mdcc_option.specs.declared.items.Update.TheVariants.{Write, Add}
-use Rattle.mdcc_protocol.specs.declared.wire.WireFault.{WireFault}
-use Rattle.mdcc_protocol.specs.declared.wire.WireFault.TheVariants.{Truncated, Range}
-use Rattle.mdcc_protocol.specs.Bytes.{u8_bytes, u64_bytes, i64_bytes, counted}
-use Rattle.mdcc_protocol.specs.SpelledParts.{key_bytes, tx_bytes, item_bytes, seen_bytes, amount_bytes, amounts_bytes, update_bytes, part_bytes, delta_bytes, written_bytes, write_set_bytes}
-use Rattle.mdcc_protocol.specs.ReadingSteps.{◌>>=◌, u64_at, i64_at, checked, is_after, behind, u8_within, list_at}
-use Rattle.mdcc_protocol.specs.ReadingParts.{key_at, tx_at, body_by, item_at, tx_behind, seen_at, not_zero, amount_behind, amounts_at, write_at, add_at, update_at, part_behind, delta_behind, written_behind, write_set_at}
-use Rattle.mdcc_protocol.specs.WellFormedParts.{IsWellFormedTx, IsWellFormedItem, IsWellFormedSeen, IsWellFormedAmount, IsWellFormedAmounts, IsWellFormedUpdate, IsWellFormedPart, IsWellFormedDelta, IsWellFormedWritten, IsWellFormedWriteSet}
+use Rattle.mdcc_messages.specs.declared.wire.WireFault.{WireFault}
+use Rattle.mdcc_messages.specs.declared.wire.WireFault.TheVariants.{Truncated, Range}
+use Rattle.mdcc_messages.specs.Bytes.{u8_bytes, u64_bytes, i64_bytes, counted}
+use Rattle.mdcc_messages.specs.SpelledParts.{key_bytes, tx_bytes, item_bytes, seen_bytes, amount_bytes, amounts_bytes, update_bytes, part_bytes, delta_bytes, written_bytes, write_set_bytes}
+use Rattle.mdcc_messages.specs.ReadingSteps.{◌>>=◌, u64_at, i64_at, checked, is_after, behind, u8_within, list_at}
+use Rattle.mdcc_messages.specs.ReadingParts.{key_at, tx_at, body_by, item_at, tx_behind, seen_at, not_zero, amount_behind, amounts_at, write_at, add_at, update_at, part_behind, delta_behind, written_behind, write_set_at}
+use Rattle.mdcc_messages.specs.WellFormedParts.{IsWellFormedTx, IsWellFormedItem, IsWellFormedSeen, IsWellFormedAmount, IsWellFormedAmounts, IsWellFormedUpdate, IsWellFormedPart, IsWellFormedDelta, IsWellFormedWritten, IsWellFormedWriteSet}
 use Rattle.mdcc_spelling.proofs.Places.{IsAt, IsBytes, IsBytes-at, apart, apart-3, end-2, end-3, taken, stands}
 use Rattle.mdcc_spelling.proofs.Steps.{done, ok_is, bind_ok, guard_ok, checked_ok}
 use Rattle.mdcc_spelling.proofs.Numbers.{Reads, IsFound, u64_again, u64_takes, u8_within_again, u8_within_takes}

@@ -4,10 +4,13 @@ pub mod Common
 pub mod FactsRead
 pub mod Identifiers
 pub mod Items
+pub mod Lengths
 pub mod Lists
+pub mod Longest
 pub mod MessagesRead
 pub mod Numbers
 pub mod PartsRead
 pub mod Places
 pub mod Steps
+pub mod WellFormedTests
 pub mod Whole

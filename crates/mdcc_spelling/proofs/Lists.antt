@@ -3,11 +3,11 @@ use Rattle.std.proofs.Common.{◌≡◌, ℕ, zero, suc, ◌+◌, ◌^◌, ◌<�
 use Rattle.std.specs.Int.{IsInRange}
 use Rattle.std.specs.List.{flat_map, AllByRecursion}
 use Rattle.std.proofs.lemmas.Bool.{and_parts}
-use Rattle.mdcc_protocol.specs.declared.wire.WireFault.{WireFault}
-use Rattle.mdcc_protocol.specs.declared.wire.WireFault.TheVariants.{NotCanonical}
-use Rattle.mdcc_protocol.specs.Bytes.{u8_bytes, counted}
-use Rattle.mdcc_protocol.specs.ReadingSteps.{◌>>=◌, is_after, behind, u8_within, elements_at, list_at}
-use Rattle.mdcc_protocol.specs.WellFormedParts.{is_ascending_by}
+use Rattle.mdcc_messages.specs.declared.wire.WireFault.{WireFault}
+use Rattle.mdcc_messages.specs.declared.wire.WireFault.TheVariants.{NotCanonical}
+use Rattle.mdcc_messages.specs.Bytes.{u8_bytes, counted}
+use Rattle.mdcc_messages.specs.ReadingSteps.{◌>>=◌, is_after, behind, u8_within, elements_at, list_at}
+use Rattle.mdcc_messages.specs.WellFormedParts.{is_ascending_by}
 use Rattle.mdcc_spelling.proofs.Places.{IsAt, IsBytes, apart, together, nothing}
 use Rattle.mdcc_spelling.proofs.Steps.{ok_is, bind_ok, none_found}
 use Rattle.mdcc_spelling.proofs.Numbers.{Reads, u8_within_again, u8_within_takes}

@@ -13,19 +13,19 @@ use Rattle.mdcc_option.specs.declared.choices.Mark.{Mark}
 use Rattle.mdcc_option.specs.declared.choices.Outcome.{Outcome}
 use Rattle.mdcc_option.specs.Parts.{are_ascending}
 use Rattle.mdcc_struct.specs.Options.{Marks}
-use Rattle.mdcc_protocol.specs.declared.messages.ClientAnswer.{ClientAnswer}
-use Rattle.mdcc_protocol.specs.declared.messages.Message.{Message}
-use Rattle.mdcc_protocol.specs.declared.messages.Message.TheVariants as messages
-use Rattle.mdcc_protocol.specs.Bytes.{u32_bytes, u64_bytes, counted}
-use Rattle.mdcc_protocol.specs.SpelledParts.{key_bytes, tx_bytes, ballot_bytes, part_bytes, choice_bytes, entry_bytes, options_bytes, cause_bytes, heard_bytes, given_bytes}
-use Rattle.mdcc_protocol.specs.SpelledAnswers.{answer_bytes}
-use Rattle.mdcc_protocol.specs.Spelling.{kind_of, body_bytes}
-use Rattle.mdcc_protocol.specs.ReadingSteps.{◌>>=◌, u32_at, u64_at, checked, list_at}
-use Rattle.mdcc_protocol.specs.ReadingParts.{key_at, tx_at, ballot_at, classic_at, part_behind, choice_at, entry_at, options_at, cause_at}
-use Rattle.mdcc_protocol.specs.ReadingAnswers.{answer_at}
-use Rattle.mdcc_protocol.specs.Reading.{instance_at, at_least, heard_at, given_at, propose_at, voted_at, escalate_at, lead_at, prepare_at, promise_at, accept_at, refused_at, ended_at, ask_at, sync_ask_at, sync_give_at, client_read_at, client_begin_at, client_answer_at}
-use Rattle.mdcc_protocol.specs.WellFormedParts.{is_ascending_by, IsWellFormedPart}
-use Rattle.mdcc_protocol.specs.WellFormed.{IsWellFormedMessage}
+use Rattle.mdcc_messages.specs.declared.messages.ClientAnswer.{ClientAnswer}
+use Rattle.mdcc_messages.specs.declared.messages.Message.{Message}
+use Rattle.mdcc_messages.specs.declared.messages.Message.TheVariants as messages
+use Rattle.mdcc_messages.specs.Bytes.{u32_bytes, u64_bytes, counted}
+use Rattle.mdcc_messages.specs.SpelledParts.{key_bytes, tx_bytes, ballot_bytes, part_bytes, choice_bytes, entry_bytes, options_bytes, cause_bytes, heard_bytes, given_bytes}
+use Rattle.mdcc_messages.specs.SpelledAnswers.{answer_bytes}
+use Rattle.mdcc_messages.specs.Spelling.{kind_of, body_bytes}
+use Rattle.mdcc_messages.specs.ReadingSteps.{◌>>=◌, u32_at, u64_at, checked, list_at}
+use Rattle.mdcc_messages.specs.ReadingParts.{key_at, tx_at, ballot_at, classic_at, part_behind, choice_at, entry_at, options_at, cause_at}
+use Rattle.mdcc_messages.specs.ReadingAnswers.{answer_at}
+use Rattle.mdcc_messages.specs.Reading.{instance_at, at_least, heard_at, given_at, propose_at, voted_at, escalate_at, lead_at, prepare_at, promise_at, accept_at, refused_at, ended_at, ask_at, sync_ask_at, sync_give_at, client_read_at, client_begin_at, client_answer_at}
+use Rattle.mdcc_messages.specs.WellFormedParts.{is_ascending_by, IsWellFormedPart}
+use Rattle.mdcc_messages.specs.WellFormed.{IsWellFormedMessage}
 use Rattle.mdcc_spelling.proofs.Places.{IsAt, IsBytes, apart-2, apart-3, apart-5, end-2, end-3, end-5}
 use Rattle.mdcc_spelling.proofs.Steps.{done, ok_is, bind_ok}
 use Rattle.mdcc_spelling.proofs.Numbers.{IsFound, u32_again, u32_takes}

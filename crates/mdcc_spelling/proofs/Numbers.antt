@@ -5,9 +5,9 @@ use Rattle.std.specs.Int.{Width, w8, w32, w64, byte_len, from_le_bytes, IsInRang
 use Rattle.std.proofs.lemmas.Bool.{ltb-false, le-ltb, and_parts, leb-true, le-leb}
 use Rattle.std.proofs.lemmas.List.{length-take, length-drop}
 use Rattle.std.proofs.lemmas.Nat.{le_bytes_4, le_bytes_8, from_le_bytes-to_le_bytes_4, from_le_bytes-to_le_bytes_8}
-use Rattle.mdcc_protocol.specs.declared.wire.WireFault.TheVariants.{Truncated, Range}
-use Rattle.mdcc_protocol.specs.Bytes.{u8_bytes, u32_bytes, u64_bytes}
-use Rattle.mdcc_protocol.specs.ReadingSteps.{number_at, u8_at, u32_at, u64_at, ranged, u8_within, u32_within}
+use Rattle.mdcc_messages.specs.declared.wire.WireFault.TheVariants.{Truncated, Range}
+use Rattle.mdcc_messages.specs.Bytes.{u8_bytes, u32_bytes, u64_bytes}
+use Rattle.mdcc_messages.specs.ReadingSteps.{number_at, u8_at, u32_at, u64_at, ranged, u8_within, u32_within}
 use Rattle.mdcc_spelling.proofs.Places.{IsAt, IsBytes, IsBytes-at, taken, fits, stands}
 use Rattle.mdcc_spelling.proofs.Steps.{guard_ok, none_found, checked_ok}
 

@@ -2,10 +2,10 @@
 use Rattle.std.proofs.Common.{◌≡◌, ℕ, ◌+◌, List, ◌++◌, length, drop, Result, Ok, None, refl, sym, ap, ◌∙◌, append_assoc}
 use Rattle.std.proofs.lemmas.List.{drop_at, drop-drop}
 use Rattle.mdcc_option.specs.declared.items.Delta.{Delta}
-use Rattle.mdcc_protocol.specs.declared.wire.WireFault.{WireFault}
-use Rattle.mdcc_protocol.specs.SpelledParts.{delta_bytes}
-use Rattle.mdcc_protocol.specs.ReadingParts.{delta_at}
-use Rattle.mdcc_protocol.specs.WellFormedParts.{IsWellFormedDelta}
+use Rattle.mdcc_messages.specs.declared.wire.WireFault.{WireFault}
+use Rattle.mdcc_messages.specs.SpelledParts.{delta_bytes}
+use Rattle.mdcc_messages.specs.ReadingParts.{delta_at}
+use Rattle.mdcc_messages.specs.WellFormedParts.{IsWellFormedDelta}
 use Rattle.mdcc_spelling.specs.PartLaws.{AreReadBack, HaveOneSpelling}
 use Rattle.mdcc_spelling.proofs.Places.{IsAt, IsBytes}
 use Rattle.mdcc_spelling.proofs.Numbers.{IsFound}

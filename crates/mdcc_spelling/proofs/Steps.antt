@@ -1,7 +1,7 @@
 -- Steps of a reading: what follows from an answer, and what makes one.
 use Rattle.std.proofs.Common.{◌≡◌, ℕ, Bool, true, false, cond, Result, Ok, Err, Option, Some, None, refl, sym, ap, ◌∙◌}
-use Rattle.mdcc_protocol.specs.declared.wire.WireFault.{WireFault}
-use Rattle.mdcc_protocol.specs.ReadingSteps.{◌>>=◌, checked, unless}
+use Rattle.mdcc_messages.specs.declared.wire.WireFault.{WireFault}
+use Rattle.mdcc_messages.specs.ReadingSteps.{◌>>=◌, checked, unless}
 
 abbrev pub done : {X : Type 0} → X → Result X WireFault
 done x = Ok x

@@ -5,20 +5,20 @@ use Rattle.std.specs.Int.{IsInRange, is_in_range}
 use Rattle.std.specs.List.{AllByRecursion}
 use Rattle.std.proofs.lemmas.Bool.{eqb-true, or_cases}
 use Rattle.std.proofs.lemmas.List.{nil_from_length, drop_at}
-use Rattle.mdcc_protocol.specs.declared.facts.Fact.{Fact}
-use Rattle.mdcc_protocol.specs.declared.facts.Fact.TheVariants as facts
-use Rattle.mdcc_protocol.specs.declared.messages.Envelope.{Envelope}
-use Rattle.mdcc_protocol.specs.declared.messages.Message.{Message}
-use Rattle.mdcc_protocol.specs.declared.messages.Message.TheVariants as messages
-use Rattle.mdcc_protocol.specs.declared.wire.WireFault.{WireFault}
-use Rattle.mdcc_protocol.specs.declared.wire.WireFault.TheVariants.{Trailing, Kind, Range}
+use Rattle.mdcc_messages.specs.declared.facts.Fact.{Fact}
+use Rattle.mdcc_messages.specs.declared.facts.Fact.TheVariants as facts
+use Rattle.mdcc_messages.specs.declared.messages.Envelope.{Envelope}
+use Rattle.mdcc_messages.specs.declared.messages.Message.{Message}
+use Rattle.mdcc_messages.specs.declared.messages.Message.TheVariants as messages
+use Rattle.mdcc_messages.specs.declared.wire.WireFault.{WireFault}
+use Rattle.mdcc_messages.specs.declared.wire.WireFault.TheVariants.{Trailing, Kind, Range}
 use Rattle.std.proofs.lemmas.Bool.Decides.{Decides-eqb}
-use Rattle.mdcc_protocol.specs.Bytes.{u8_bytes, u32_bytes, u64_bytes}
-use Rattle.mdcc_protocol.specs.SpelledParts.{key_bytes, ballot_bytes, options_bytes, heard_bytes, given_bytes}
-use Rattle.mdcc_protocol.specs.Spelling.{kind_of, body_bytes, message_bytes, offered_bytes, fact_bytes}
-use Rattle.mdcc_protocol.specs.ReadingSteps.{◌>>=◌, u8_at, checked}
-use Rattle.mdcc_protocol.specs.Reading.{known, endpoint, whole, body_at, view_of, fact_at, fact_of}
-use Rattle.mdcc_protocol.specs.WellFormed.{IsEndpoint, is_endpoint, IsWellFormedMessage, IsWellFormedEnvelope, IsWellFormedFact}
+use Rattle.mdcc_messages.specs.Bytes.{u8_bytes, u32_bytes, u64_bytes}
+use Rattle.mdcc_messages.specs.SpelledParts.{key_bytes, ballot_bytes, options_bytes, heard_bytes, given_bytes}
+use Rattle.mdcc_messages.specs.Spelling.{kind_of, body_bytes, message_bytes, offered_bytes, fact_bytes}
+use Rattle.mdcc_messages.specs.ReadingSteps.{◌>>=◌, u8_at, checked}
+use Rattle.mdcc_messages.specs.Reading.{known, endpoint, whole, body_at, view_of, fact_at, fact_of}
+use Rattle.mdcc_messages.specs.WellFormed.{IsEndpoint, is_endpoint, IsWellFormedMessage, IsWellFormedEnvelope, IsWellFormedFact}
 use Rattle.mdcc_spelling.proofs.Places.{IsAt, IsBytes, apart-2, apart-5}
 use Rattle.mdcc_spelling.proofs.Steps.{ok_is, bind_ok, checked_ok, none_found}
 use Rattle.mdcc_spelling.proofs.Numbers.{Reads, IsFound, range_true, range_is, u8_again, u8_takes}

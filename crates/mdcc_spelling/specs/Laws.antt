@@ -1,11 +1,11 @@
 -- Laws of the bytes of messages and of facts.
 use Rattle.std.specs.Prelude.{◌≡◌, ℕ, ◌^◌, ◌<◌, List, [], ◌++◌, Ok}
 use Rattle.std.specs.List.{AllByRecursion}
-use Rattle.mdcc_protocol.specs.declared.facts.Fact.{Fact}
-use Rattle.mdcc_protocol.specs.declared.messages.Envelope.{Envelope}
-use Rattle.mdcc_protocol.specs.Reading.{view_of, fact_of}
-use Rattle.mdcc_protocol.specs.Spelling.{message_bytes, fact_bytes}
-use Rattle.mdcc_protocol.specs.WellFormed.{IsWellFormedEnvelope, IsWellFormedFact}
+use Rattle.mdcc_messages.specs.declared.facts.Fact.{Fact}
+use Rattle.mdcc_messages.specs.declared.messages.Envelope.{Envelope}
+use Rattle.mdcc_messages.specs.Reading.{view_of, fact_of}
+use Rattle.mdcc_messages.specs.Spelling.{message_bytes, fact_bytes}
+use Rattle.mdcc_messages.specs.WellFormed.{IsWellFormedEnvelope, IsWellFormedFact}
 
 abbrev pub AreBytes : List ℕ → Type 0
 AreBytes bytes = AllByRecursion (λ b. b < 2 ^ 8) bytes

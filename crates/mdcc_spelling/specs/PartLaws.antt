@@ -1,6 +1,6 @@
 -- Laws of the bytes of parts, wherever they stand.
 use Rattle.std.specs.Prelude.{◌≡◌, ℕ, ◌+◌, List, ◌++◌, length, drop, Result, Ok}
-use Rattle.mdcc_protocol.specs.declared.wire.WireFault.{WireFault}
+use Rattle.mdcc_messages.specs.declared.wire.WireFault.{WireFault}
 use Rattle.mdcc_spelling.specs.Laws.{AreBytes}
 
 -- what is written of a part that meets its ranges and orders is read back, whatever stands before and behind it

@@ -3,5 +3,7 @@
 #![tactic(auto)]
 
 pub mod facts;
+pub mod lengths;
 pub mod messages;
 pub mod parts;
+pub mod well_formed;

@@ -1,9 +1,9 @@
 //! Laws of the bytes of parts.
 ghost use Rattle.std.specs.Prelude.{ℕ, List};
 ghost use Rattle.mdcc_base.specs.Key.{IsKey};
-ghost use Rattle.mdcc_protocol.specs.SpelledParts.{key_bytes, tx_bytes, ballot_bytes, item_bytes, seen_bytes, amounts_bytes, update_bytes, write_set_bytes, choice_bytes, delta_bytes, options_bytes};
-ghost use Rattle.mdcc_protocol.specs.ReadingParts.{key_at, tx_at, ballot_at, item_at, seen_at, amounts_at, update_at, write_set_at, choice_at, delta_at, options_at};
-ghost use Rattle.mdcc_protocol.specs.WellFormedParts.{IsWellFormedTx, IsWellFormedBallot, IsWellFormedItem, IsWellFormedSeen, IsWellFormedAmounts, IsWellFormedUpdate, IsWellFormedWriteSet, IsWellFormedChoice, IsWellFormedDelta, IsWellFormedOptions};
+ghost use Rattle.mdcc_messages.specs.SpelledParts.{key_bytes, tx_bytes, ballot_bytes, item_bytes, seen_bytes, amounts_bytes, update_bytes, write_set_bytes, choice_bytes, delta_bytes, options_bytes};
+ghost use Rattle.mdcc_messages.specs.ReadingParts.{key_at, tx_at, ballot_at, item_at, seen_at, amounts_at, update_at, write_set_at, choice_at, delta_at, options_at};
+ghost use Rattle.mdcc_messages.specs.WellFormedParts.{IsWellFormedTx, IsWellFormedBallot, IsWellFormedItem, IsWellFormedSeen, IsWellFormedAmounts, IsWellFormedUpdate, IsWellFormedWriteSet, IsWellFormedChoice, IsWellFormedDelta, IsWellFormedOptions};
 ghost use Rattle.mdcc_spelling.specs.PartLaws.{AreReadBack, HaveOneSpelling};
 
 /// What is written of a part is read back, whatever stands before and behind it.

@@ -14,15 +14,16 @@ use Rattle.mdcc_struct.specs.declared.options.Options.{Options}
 use Rattle.mdcc_struct.proofs.Ordered.{ascending-below, ascending-tail, value_of-below}
 use Rattle.mdcc_struct.proofs.Walks.{ascending-filter}
 use Rattle.mdcc_protocol.specs.Acceptor.{answer_to_marks, new_marks, promise_answer, range_end}
-use Rattle.mdcc_protocol.specs.AcceptorRules.{accept_step, accepted_step, prepare_step, prepared_step}
-use Rattle.mdcc_protocol.specs.Allowed.{are_apart, is_allowed_classic_vote, is_allowed_fact, is_allowed_promise}
+use Rattle.mdcc_rules.specs.AcceptorRules.{accept_step, accepted_step, prepare_step, prepared_step}
+use Rattle.mdcc_ledger.specs.AllowedFacts.{are_apart}
+use Rattle.mdcc_ledger.specs.BootTest.{is_allowed_classic_vote, is_allowed_fact, is_allowed_promise}
 use Rattle.mdcc_protocol.specs.Belongs.{adds_belong, ballot_belongs, item_belongs, mark_belongs, options_belong, outcome_belongs, tx_belongs}
 use Rattle.mdcc_protocol.specs.Facts.{current_of, epoch_of, is_heard, promise_of, promised_through, votes_of}
 use Rattle.mdcc_protocol.specs.News.{is_crowding, is_news}
-use Rattle.mdcc_protocol.specs.SyncRules.{outcome_step, sync_give_step}
+use Rattle.mdcc_rules.specs.SyncRules.{outcome_step, sync_give_step}
 use Rattle.mdcc_protocol.specs.Volatile.{Volatile}
-use Rattle.mdcc_protocol.specs.WellFormedParts.{IsWellFormedClassic}
-use Rattle.mdcc_protocol.specs.declared.facts.Fact.{Fact}
+use Rattle.mdcc_messages.specs.WellFormedParts.{IsWellFormedClassic}
+use Rattle.mdcc_messages.specs.declared.facts.Fact.{Fact}
 use Rattle.mdcc_protocol.specs.declared.visible.Give.{Give}
 use Rattle.mdcc_steps.proofs.Allowing.{IsAllowedIf}
 use Rattle.mdcc_steps.proofs.Each.{all-filter}

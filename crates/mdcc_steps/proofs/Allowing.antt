@@ -2,14 +2,14 @@
 use Rattle.std.proofs.Common.{◌≡◌, Bool, true, false, List, refl, inl, inr, Option, Some, None, Result, Ok, Err}
 use Rattle.std.proofs.lemmas.Bool.{cases_Bool}
 use Rattle.mdcc_option.specs.declared.cluster.Cluster.{Cluster}
-use Rattle.mdcc_protocol.specs.Allowed.{is_allowed_fact}
-use Rattle.mdcc_protocol.specs.Built.{Built}
+use Rattle.mdcc_ledger.specs.BootTest.{is_allowed_fact}
+use Rattle.mdcc_switches.specs.Built.{Built}
 use Rattle.mdcc_protocol.specs.News.{is_crowding}
-use Rattle.mdcc_protocol.specs.Node.{checked, is_without_room, rule, with_room}
-use Rattle.mdcc_protocol.specs.Steps.{NodeStep, nothing_done}
+use Rattle.mdcc_rules.specs.Node.{checked, is_without_room, rule, with_room}
+use Rattle.mdcc_rules.specs.Steps.{NodeStep, nothing_done}
 use Rattle.mdcc_protocol.specs.Volatile.{Volatile}
-use Rattle.mdcc_protocol.specs.declared.facts.Fact.{Fact}
-use Rattle.mdcc_protocol.specs.declared.node.StepFault.{StepFault}
+use Rattle.mdcc_messages.specs.declared.facts.Fact.{Fact}
+use Rattle.mdcc_rules.specs.declared.node.StepFault.{StepFault}
 
 -- a new fact is allowed, unless it crowds a version
 abbrev pub IsAllowedIf : Cluster → List Fact → Option Fact → Type 0

@@ -17,21 +17,21 @@ use Rattle.mdcc_option.specs.declared.items.Part.{Part}
 use Rattle.mdcc_option.specs.declared.items.Token.{Token}
 use Rattle.mdcc_option.specs.declared.items.Update.{Update}
 use Rattle.mdcc_struct.specs.Maps.{TxMap, are_ascending, txs_of}
-use Rattle.mdcc_protocol.specs.Built.{Built}
+use Rattle.mdcc_switches.specs.Built.{Built}
 use Rattle.mdcc_protocol.specs.Facts.{base_of, current_of, epoch_of, executed_of, token_of}
 use Rattle.mdcc_protocol.specs.Manager.{add_fault, begin_by, begin_fault, first_key, part_begin_fault, parts_begin_fault, update_begin_fault}
-use Rattle.mdcc_protocol.specs.ManagerRules.{begin_step_by}
+use Rattle.mdcc_rules.specs.ManagerRules.{begin_step_by}
 use Rattle.mdcc_protocol.specs.Marks.{Amounts}
-use Rattle.mdcc_protocol.specs.Node.{checked, is_own_message, message_step, step_of}
-use Rattle.mdcc_protocol.specs.Steps.{NodeStep}
+use Rattle.mdcc_rules.specs.Node.{checked, is_own_message, message_step, step_of}
+use Rattle.mdcc_rules.specs.Steps.{NodeStep}
 use Rattle.mdcc_protocol.specs.Visible.{item_read, value_read}
 use Rattle.mdcc_protocol.specs.Volatile.{Managing, Volatile}
-use Rattle.mdcc_protocol.specs.WellFormed.{IsWellFormedRefusal, IsWellFormedShown, IsWellFormedToken}
-use Rattle.mdcc_protocol.specs.WellFormedParts.{IsWellFormedItem, IsWellFormedPart, IsWellFormedTx, is_ascending_by}
-use Rattle.mdcc_protocol.specs.declared.facts.Fact.{Fact}
-use Rattle.mdcc_protocol.specs.declared.node.Answer.{Answer}
-use Rattle.mdcc_protocol.specs.declared.node.Input.{Input}
-use Rattle.mdcc_protocol.specs.declared.node.StepFault.{StepFault}
+use Rattle.mdcc_messages.specs.WellFormed.{IsWellFormedRefusal, IsWellFormedShown, IsWellFormedToken}
+use Rattle.mdcc_messages.specs.WellFormedParts.{IsWellFormedItem, IsWellFormedPart, IsWellFormedTx, is_ascending_by}
+use Rattle.mdcc_messages.specs.declared.facts.Fact.{Fact}
+use Rattle.mdcc_rules.specs.declared.node.Answer.{Answer}
+use Rattle.mdcc_rules.specs.declared.node.Input.{Input}
+use Rattle.mdcc_rules.specs.declared.node.StepFault.{StepFault}
 use Rattle.mdcc_steps.specs.Answering.{IsWellFormedGivenAnswer}
 use Rattle.mdcc_steps.specs.Forming.{IsNode}
 use Rattle.mdcc_steps.specs.Inputs.{AreWellFormedParts, IsWellFormedInput}

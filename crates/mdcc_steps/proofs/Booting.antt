@@ -4,17 +4,18 @@ use Rattle.std.specs.List.{AllByRecursion}
 use Rattle.std.proofs.lemmas.Bool.{and_cases, and_from, and_left, and_parts, and_right, cases_Bool, eq-eqb, eqb-true, le-ltb, leb-false, lt-ltb, ltb-false, not-false, not_from_true, true≢false}
 use Rattle.mdcc_base.specs.Counts.{number_of}
 use Rattle.mdcc_option.specs.declared.cluster.Cluster.{Cluster}
-use Rattle.mdcc_protocol.specs.Allowed.{are_allowed_facts, is_allowed_fact, is_booted}
+use Rattle.mdcc_ledger.specs.BootTest.{are_allowed_facts, is_allowed_fact}
+use Rattle.mdcc_ledger.specs.AllowedFacts.{is_booted}
 use Rattle.mdcc_protocol.specs.Belongs.{fact_belongs, is_centre}
-use Rattle.mdcc_protocol.specs.Boot.{boot_of, booted_by, is_past_cells, loaded_from, room_fault}
-use Rattle.mdcc_protocol.specs.Built.{Built}
+use Rattle.mdcc_rules.specs.Boot.{boot_of, booted_by, is_past_cells, loaded_from, room_fault}
+use Rattle.mdcc_switches.specs.Built.{Built}
 use Rattle.mdcc_protocol.specs.Facts.{epoch_of}
 use Rattle.mdcc_protocol.specs.IsCluster.{IsCluster}
-use Rattle.mdcc_protocol.specs.Lengths.{cells_needed, cells_used}
+use Rattle.mdcc_messages.specs.Lengths.{cells_needed, cells_used}
 use Rattle.mdcc_protocol.specs.Volatile.{nothing_kept}
-use Rattle.mdcc_protocol.specs.WellFormed.{IsWellFormedFact}
-use Rattle.mdcc_protocol.specs.declared.facts.Fact.{Fact}
-use Rattle.mdcc_protocol.specs.declared.node.BootFault.{BootFault}
+use Rattle.mdcc_messages.specs.WellFormed.{IsWellFormedFact}
+use Rattle.mdcc_messages.specs.declared.facts.Fact.{Fact}
+use Rattle.mdcc_rules.specs.declared.node.BootFault.{BootFault}
 use Rattle.mdcc_steps.specs.Forming.{IsNode, payloads_of}
 use Rattle.mdcc_steps.specs.Keeping.{AreNodeFacts}
 

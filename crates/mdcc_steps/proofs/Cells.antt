@@ -10,8 +10,8 @@ use Rattle.mdcc_base.specs.declared.key.Key.{Key}
 use Rattle.mdcc_option.specs.declared.choices.Mark.{Mark}
 use Rattle.mdcc_struct.specs.declared.options.Options.{Options}
 use Rattle.mdcc_protocol.specs.Facts.{marks_voted, votes_of}
-use Rattle.mdcc_protocol.specs.Lengths.{cells_needed, cells_used, entry_length, fact_length}
-use Rattle.mdcc_protocol.specs.declared.facts.Fact.{Fact}
+use Rattle.mdcc_messages.specs.Lengths.{cells_needed, cells_used, entry_length, fact_length}
+use Rattle.mdcc_messages.specs.declared.facts.Fact.{Fact}
 use Rattle.mdcc_steps.proofs.Held.{length-union}
 
 entry-long : (mark : Mark) → 1 ≤ entry_length mark

@@ -19,9 +19,9 @@ use Rattle.mdcc_protocol.specs.Learner.{votes_on}
 use Rattle.mdcc_protocol.specs.Marks.{choice_in}
 use Rattle.mdcc_protocol.specs.Recover.{choice_accepted, choice_received, claim_of_key}
 use Rattle.mdcc_protocol.specs.Volatile.{Recovering}
-use Rattle.mdcc_protocol.specs.WellFormed.{IsWellFormedFact, IsWellFormedOffered}
-use Rattle.mdcc_protocol.specs.WellFormedParts.{IsWellFormedChoice, IsWellFormedEntry, IsWellFormedInstance, IsWellFormedTx, IsWellFormedWithin, IsWellFormedWritten}
-use Rattle.mdcc_protocol.specs.declared.facts.Fact.{Fact}
+use Rattle.mdcc_messages.specs.WellFormed.{IsWellFormedFact, IsWellFormedOffered}
+use Rattle.mdcc_messages.specs.WellFormedParts.{IsWellFormedChoice, IsWellFormedEntry, IsWellFormedInstance, IsWellFormedTx, IsWellFormedWithin, IsWellFormedWritten}
+use Rattle.mdcc_messages.specs.declared.facts.Fact.{Fact}
 use Rattle.mdcc_protocol.specs.declared.votes.Vote.{Vote}
 use Rattle.mdcc_steps.specs.Keeping.{IsWellFormedClaim, IsWellFormedVoteKept}
 use Rattle.mdcc_steps.proofs.Each.{each-filter, folded}

@@ -17,33 +17,33 @@ use Rattle.mdcc_option.specs.declared.faults.BeginFault.{BeginFault}
 use Rattle.mdcc_option.specs.declared.items.Part.{Part}
 use Rattle.mdcc_struct.specs.declared.options.Options.{Options}
 use Rattle.mdcc_protocol.specs.Acceptor.{on_accept, on_prepare, on_propose}
-use Rattle.mdcc_protocol.specs.AcceptorRules.{accepted_step, ask_step_by, prepared_step, proposed_step}
+use Rattle.mdcc_rules.specs.AcceptorRules.{accepted_step, ask_step_by, prepared_step, proposed_step}
 use Rattle.mdcc_protocol.specs.Belongs.{message_belongs}
-use Rattle.mdcc_protocol.specs.Built.{Built}
+use Rattle.mdcc_switches.specs.Built.{Built}
 use Rattle.mdcc_protocol.specs.Facts.{epoch_of, heard_of, is_heard, vote_of}
 use Rattle.mdcc_protocol.specs.Leader.{claim_of_choice}
-use Rattle.mdcc_protocol.specs.LeaderRules.{Led, lead_step_after, led_of, promise_step, step_of_led}
+use Rattle.mdcc_rules.specs.LeaderRules.{Led, lead_step_after, led_of, promise_step, step_of_led}
 use Rattle.mdcc_protocol.specs.Learner.{is_learned, with_vote}
 use Rattle.mdcc_protocol.specs.Manager
 use Rattle.mdcc_protocol.specs.Manager.{act_on_cause, act_on_vote, acted, after_act, begin_by, begin_fault, vote_taken}
-use Rattle.mdcc_protocol.specs.ManagerRules.{acted_step, begin_step_by, escalate_step, opened_step, undecided_step, voted_step, watched_step}
-use Rattle.mdcc_protocol.specs.Node.{checked, is_own_message, message_step, step_of}
+use Rattle.mdcc_rules.specs.ManagerRules.{acted_step, begin_step_by, escalate_step, opened_step, undecided_step, voted_step, watched_step}
+use Rattle.mdcc_rules.specs.Node.{checked, is_own_message, message_step, step_of}
 use Rattle.mdcc_protocol.specs.Recover
 use Rattle.mdcc_protocol.specs.Recover.{keys_watched, on_voted_by}
-use Rattle.mdcc_protocol.specs.Steps.{NodeStep, nothing_done}
-use Rattle.mdcc_protocol.specs.SyncRules.{outcome_step_by, sync_give_step_by}
-use Rattle.mdcc_protocol.specs.TickRules.{Ticked, and_then, claim_led, led_or_left, manager_act, manager_ticked, recovery_act, recovery_ticked, tick_step, ticked}
+use Rattle.mdcc_rules.specs.Steps.{NodeStep, nothing_done}
+use Rattle.mdcc_rules.specs.SyncRules.{outcome_step_by, sync_give_step_by}
+use Rattle.mdcc_rules.specs.TickRules.{Ticked, and_then, claim_led, led_or_left, manager_act, manager_ticked, recovery_act, recovery_ticked, tick_step, ticked}
 use Rattle.mdcc_protocol.specs.Visible.{on_outcome, on_sync_give}
 use Rattle.mdcc_protocol.specs.Volatile.{Managing, Volatile, closed, is_open, txs_opened, with_manager, with_recovery}
 use Rattle.mdcc_protocol.specs.declared.acceptor.AcceptAnswer.{AcceptAnswer}
 use Rattle.mdcc_protocol.specs.declared.acceptor.PrepareAnswer.{PrepareAnswer}
 use Rattle.mdcc_protocol.specs.declared.acceptor.ProposeAnswer.{ProposeAnswer}
-use Rattle.mdcc_protocol.specs.declared.facts.Fact.{Fact}
+use Rattle.mdcc_messages.specs.declared.facts.Fact.{Fact}
 use Rattle.mdcc_protocol.specs.declared.leader.LeadFault.{LeadFault}
 use Rattle.mdcc_protocol.specs.declared.manager.ManagerAct.{ManagerAct}
-use Rattle.mdcc_protocol.specs.declared.messages.Message.{Message}
-use Rattle.mdcc_protocol.specs.declared.node.Input.{Input}
-use Rattle.mdcc_protocol.specs.declared.node.StepFault.{StepFault}
+use Rattle.mdcc_messages.specs.declared.messages.Message.{Message}
+use Rattle.mdcc_rules.specs.declared.node.Input.{Input}
+use Rattle.mdcc_rules.specs.declared.node.StepFault.{StepFault}
 use Rattle.mdcc_protocol.specs.declared.recover.RecoverAct.{RecoverAct}
 use Rattle.mdcc_protocol.specs.declared.votes.Vote.{Vote}
 use Rattle.mdcc_steps.proofs.Allowing.{OnStep, on_checked, on_rule}

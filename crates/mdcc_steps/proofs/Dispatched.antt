@@ -14,30 +14,30 @@ use Rattle.mdcc_option.specs.declared.choices.Outcome.{Outcome}
 use Rattle.mdcc_option.specs.declared.cluster.Cluster.{Cluster}
 use Rattle.mdcc_option.specs.declared.items.Part.{Part}
 use Rattle.mdcc_protocol.specs.Acceptor.{on_propose}
-use Rattle.mdcc_protocol.specs.AcceptorRules.{ask_step, ask_step_by, proposed_step}
-use Rattle.mdcc_protocol.specs.Allowed.{are_allowed_facts, is_allowed_fact}
+use Rattle.mdcc_rules.specs.AcceptorRules.{ask_step, ask_step_by, proposed_step}
+use Rattle.mdcc_ledger.specs.BootTest.{are_allowed_facts, is_allowed_fact}
 use Rattle.mdcc_protocol.specs.Belongs.{is_centre, message_belongs}
-use Rattle.mdcc_protocol.specs.Built.{Built}
+use Rattle.mdcc_switches.specs.Built.{Built}
 use Rattle.mdcc_protocol.specs.Facts.{heard_of, is_heard, vote_of}
-use Rattle.mdcc_protocol.specs.LeaderRules.{promise_step}
-use Rattle.mdcc_protocol.specs.Lengths.{cells_used}
+use Rattle.mdcc_rules.specs.LeaderRules.{promise_step}
+use Rattle.mdcc_messages.specs.Lengths.{cells_used}
 use Rattle.mdcc_protocol.specs.Manager.{begin_fault}
-use Rattle.mdcc_protocol.specs.ManagerRules.{begin_step}
+use Rattle.mdcc_rules.specs.ManagerRules.{begin_step}
 use Rattle.mdcc_protocol.specs.News.{is_news}
-use Rattle.mdcc_protocol.specs.Node.{checked, is_own_message, message_step, rule, step_of}
-use Rattle.mdcc_protocol.specs.Steps.{NodeStep, nothing_done}
-use Rattle.mdcc_protocol.specs.SyncRules.{outcome_step, outcome_step_by, sync_ask_step, sync_give_step, sync_give_step_by}
-use Rattle.mdcc_protocol.specs.TickRules.{tick_step}
+use Rattle.mdcc_rules.specs.Node.{checked, is_own_message, message_step, rule, step_of}
+use Rattle.mdcc_rules.specs.Steps.{NodeStep, nothing_done}
+use Rattle.mdcc_rules.specs.SyncRules.{outcome_step, outcome_step_by, sync_ask_step, sync_give_step, sync_give_step_by}
+use Rattle.mdcc_rules.specs.TickRules.{tick_step}
 use Rattle.mdcc_protocol.specs.Volatile.{Volatile}
-use Rattle.mdcc_protocol.specs.WellFormed.{IsWellFormedEnvelope, IsWellFormedFact, IsWellFormedMessage}
-use Rattle.mdcc_protocol.specs.WellFormedParts.{IsWellFormedChoice, IsWellFormedGiven, IsWellFormedHeard, IsWellFormedInstance}
+use Rattle.mdcc_messages.specs.WellFormed.{IsWellFormedEnvelope, IsWellFormedFact, IsWellFormedMessage}
+use Rattle.mdcc_messages.specs.WellFormedParts.{IsWellFormedChoice, IsWellFormedGiven, IsWellFormedHeard, IsWellFormedInstance}
 use Rattle.mdcc_protocol.specs.declared.acceptor.ProposeAnswer.{ProposeAnswer}
-use Rattle.mdcc_protocol.specs.declared.facts.Fact.{Fact}
+use Rattle.mdcc_messages.specs.declared.facts.Fact.{Fact}
 use Rattle.mdcc_protocol.specs.declared.leader.Promise.{Promise}
-use Rattle.mdcc_protocol.specs.declared.messages.Envelope.{Envelope}
-use Rattle.mdcc_protocol.specs.declared.messages.Message.{Message}
-use Rattle.mdcc_protocol.specs.declared.node.Input.{Input}
-use Rattle.mdcc_protocol.specs.declared.node.StepFault.{StepFault}
+use Rattle.mdcc_messages.specs.declared.messages.Envelope.{Envelope}
+use Rattle.mdcc_messages.specs.declared.messages.Message.{Message}
+use Rattle.mdcc_rules.specs.declared.node.Input.{Input}
+use Rattle.mdcc_rules.specs.declared.node.StepFault.{StepFault}
 use Rattle.mdcc_protocol.specs.declared.visible.Give.{Give}
 use Rattle.mdcc_steps.specs.Forming.{IsNode, with_new}
 use Rattle.mdcc_steps.specs.Inputs.{AreWellFormedParts, IsWellFormedInput}

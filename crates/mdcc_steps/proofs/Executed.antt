@@ -11,12 +11,13 @@ use Rattle.mdcc_option.specs.declared.choices.Choice.{Choice}
 use Rattle.mdcc_option.specs.declared.choices.Outcome.{Outcome}
 use Rattle.mdcc_option.specs.declared.cluster.Cluster.{Cluster}
 use Rattle.mdcc_struct.specs.Maps.{TxMap, union}
-use Rattle.mdcc_protocol.specs.Allowed.{are_allowed_facts, is_allowed_fact, is_allowed_kind, is_booted}
+use Rattle.mdcc_ledger.specs.BootTest.{are_allowed_facts, is_allowed_fact, is_allowed_kind}
+use Rattle.mdcc_ledger.specs.AllowedFacts.{is_booted}
 use Rattle.mdcc_protocol.specs.Belongs.{fact_belongs}
 use Rattle.mdcc_protocol.specs.Facts.{amounts_added, current_of, delta_given, deltas_at, deltas_from, epoch_of, executed_of, is_heard, version_from, version_given}
 use Rattle.mdcc_protocol.specs.Marks.{Amounts, is_write}
 use Rattle.mdcc_protocol.specs.News.{is_crowding, is_news, keys_in}
-use Rattle.mdcc_protocol.specs.declared.facts.Fact.{Fact}
+use Rattle.mdcc_messages.specs.declared.facts.Fact.{Fact}
 
 -- a test that no item passes fails at a key that is among them
 touched : (test : Key → Bool) (key : Key) (keys : List Key) → list_any (λ k. key_eq k key) keys ≡ true → list_any test keys ≡ false → test key ≡ false

@@ -17,21 +17,21 @@ use Rattle.mdcc_option.specs.declared.choices.Outcome.{Outcome}
 use Rattle.mdcc_option.specs.declared.cluster.Cluster.{Cluster}
 use Rattle.mdcc_option.specs.declared.faults.BeginFault.{BeginFault}
 use Rattle.mdcc_option.specs.declared.items.Part.{Part}
-use Rattle.mdcc_protocol.specs.Built.{Built}
+use Rattle.mdcc_switches.specs.Built.{Built}
 use Rattle.mdcc_protocol.specs.Facts.{epoch_of, is_heard}
 use Rattle.mdcc_protocol.specs.Learner.{collided, is_learned, with_vote}
 use Rattle.mdcc_protocol.specs.Manager
 use Rattle.mdcc_protocol.specs.Manager.{act_on_cause, act_on_vote, acted, after_act, begin_by, begin_fault, choice_at, choice_unled, first_key, lead_act, parts_begin_fault, vote_taken}
-use Rattle.mdcc_protocol.specs.ManagerRules.{acted_step, begin_step_by, decided_step, escalate_step, opened_step, undecided_step, voted_step, watched_step}
-use Rattle.mdcc_protocol.specs.Messages.{to_all}
+use Rattle.mdcc_rules.specs.ManagerRules.{acted_step, begin_step_by, decided_step, escalate_step, opened_step, undecided_step, voted_step, watched_step}
+use Rattle.mdcc_rules.specs.Messages.{to_all}
 use Rattle.mdcc_protocol.specs.Recover
-use Rattle.mdcc_protocol.specs.Steps.{NodeStep, nothing_done}
+use Rattle.mdcc_rules.specs.Steps.{NodeStep, nothing_done}
 use Rattle.mdcc_protocol.specs.Volatile.{Managing, Undecided, Volatile, has_key, is_open, opened_of, with_manager}
-use Rattle.mdcc_protocol.specs.WellFormed.{IsWellFormedEnvelope, IsWellFormedFact}
-use Rattle.mdcc_protocol.specs.WellFormedParts.{IsWellFormedCause, IsWellFormedChoice, IsWellFormedHeard, IsWellFormedOf, IsWellFormedTx}
-use Rattle.mdcc_protocol.specs.declared.facts.Fact.{Fact}
+use Rattle.mdcc_messages.specs.WellFormed.{IsWellFormedEnvelope, IsWellFormedFact}
+use Rattle.mdcc_messages.specs.WellFormedParts.{IsWellFormedCause, IsWellFormedChoice, IsWellFormedHeard, IsWellFormedOf, IsWellFormedTx}
+use Rattle.mdcc_messages.specs.declared.facts.Fact.{Fact}
 use Rattle.mdcc_protocol.specs.declared.manager.ManagerAct.{ManagerAct}
-use Rattle.mdcc_protocol.specs.declared.messages.Message.{Message}
+use Rattle.mdcc_messages.specs.declared.messages.Message.{Message}
 use Rattle.mdcc_protocol.specs.declared.votes.Vote.{Vote}
 use Rattle.mdcc_steps.specs.Inputs.{AreWellFormedParts}
 use Rattle.mdcc_steps.specs.Keeping.{AreNodeFacts, IsWellFormedLead, IsWellFormedOpen, IsWellFormedVolatile, IsWellFormedVoteKept}

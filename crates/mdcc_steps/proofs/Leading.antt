@@ -18,9 +18,9 @@ use Rattle.mdcc_protocol.specs.Facts.{current_of}
 use Rattle.mdcc_protocol.specs.Leader.{counted_promise, is_at_odds, is_covered, is_promise_counted, is_waiting, lead, lead_begun, led_again, led_anew, led_by, led_on, next_round, on_promise, on_refused, prepare_of, promise_taken, refused_by, reports_of, structure_made, with_promise, with_refused}
 use Rattle.mdcc_protocol.specs.Structures.{first_structure, is_crowded, with_choice, with_claim}
 use Rattle.mdcc_protocol.specs.Volatile.{Counted, Lead, Leading, lead_of, structure_at, structure_found, with_lead, with_number, with_structure}
-use Rattle.mdcc_protocol.specs.WellFormedParts.{IsWellFormedClassic, IsWellFormedInstance, IsWellFormedOptions}
-use Rattle.mdcc_protocol.specs.WellFormed.{IsWellFormedPrepare, IsWellFormedPromise}
-use Rattle.mdcc_protocol.specs.declared.facts.Fact.{Fact}
+use Rattle.mdcc_messages.specs.WellFormedParts.{IsWellFormedClassic, IsWellFormedInstance, IsWellFormedOptions}
+use Rattle.mdcc_messages.specs.WellFormed.{IsWellFormedPrepare, IsWellFormedPromise}
+use Rattle.mdcc_messages.specs.declared.facts.Fact.{Fact}
 use Rattle.mdcc_protocol.specs.declared.leader.LeadAnswer.{LeadAnswer}
 use Rattle.mdcc_protocol.specs.declared.leader.LeadFault.{LeadFault}
 use Rattle.mdcc_protocol.specs.declared.leader.Promise.{Promise}

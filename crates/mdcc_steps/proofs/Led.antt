@@ -10,20 +10,20 @@ use Rattle.mdcc_option.specs.declared.choices.Choice.{Choice}
 use Rattle.mdcc_option.specs.declared.choices.Claim.{Claim}
 use Rattle.mdcc_option.specs.declared.choices.Outcome.{Outcome}
 use Rattle.mdcc_option.specs.declared.cluster.Cluster.{Cluster}
-use Rattle.mdcc_protocol.specs.Built.{Built}
+use Rattle.mdcc_switches.specs.Built.{Built}
 use Rattle.mdcc_protocol.specs.Facts.{epoch_of, heard_of}
 use Rattle.mdcc_protocol.specs.Leader.{claim_of_choice, lead, on_promise}
-use Rattle.mdcc_protocol.specs.LeaderRules.{Led, lead_sent, lead_step, lead_step_after, led_by_answer, led_of, promise_sent, promise_step, promised_by_answer, refused_step, step_of_led}
-use Rattle.mdcc_protocol.specs.TickRules.{claim_led, led_or_left, ticked}
+use Rattle.mdcc_rules.specs.LeaderRules.{Led, lead_sent, lead_step, lead_step_after, led_by_answer, led_of, promise_sent, promise_step, promised_by_answer, refused_step, step_of_led}
+use Rattle.mdcc_rules.specs.TickRules.{claim_led, led_or_left, ticked}
 use Rattle.mdcc_protocol.specs.Volatile.{Leading, Volatile}
-use Rattle.mdcc_protocol.specs.WellFormed.{IsWellFormedEnvelope}
-use Rattle.mdcc_protocol.specs.WellFormedParts.{IsWellFormedChoice, IsWellFormedHeard}
-use Rattle.mdcc_protocol.specs.declared.facts.Fact.{Fact}
+use Rattle.mdcc_messages.specs.WellFormed.{IsWellFormedEnvelope}
+use Rattle.mdcc_messages.specs.WellFormedParts.{IsWellFormedChoice, IsWellFormedHeard}
+use Rattle.mdcc_messages.specs.declared.facts.Fact.{Fact}
 use Rattle.mdcc_protocol.specs.declared.leader.LeadAnswer.{LeadAnswer}
 use Rattle.mdcc_protocol.specs.declared.leader.LeadFault.{LeadFault}
 use Rattle.mdcc_protocol.specs.declared.leader.Promise.{Promise}
 use Rattle.mdcc_protocol.specs.declared.leader.PromiseAnswer.{PromiseAnswer}
-use Rattle.mdcc_protocol.specs.declared.messages.Message.{Message}
+use Rattle.mdcc_messages.specs.declared.messages.Message.{Message}
 use Rattle.mdcc_steps.specs.Keeping.{AreNodeFacts, IsWellFormedVolatile}
 use Rattle.mdcc_steps.proofs.Allowing.{OnStep}
 use Rattle.mdcc_steps.proofs.Claims.{IsFormedClaim, formed-choice}

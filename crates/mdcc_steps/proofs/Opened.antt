@@ -13,9 +13,9 @@ use Rattle.mdcc_option.specs.Transaction.{choice_of, choices_of, write_set_of}
 use Rattle.mdcc_option.specs.declared.items.Part.{Part}
 use Rattle.mdcc_protocol.specs.Facts.{epoch_of}
 use Rattle.mdcc_protocol.specs.Volatile.{Undecided}
-use Rattle.mdcc_protocol.specs.WellFormed.{IsWellFormedFact}
-use Rattle.mdcc_protocol.specs.WellFormedParts.{IsWellFormedCommit, IsWellFormedOf, IsWellFormedPart, IsWellFormedTx, IsWellFormedWriteSet, IsWellFormedWritten, choice_lt, is_ascending_by, is_written, written_lt}
-use Rattle.mdcc_protocol.specs.declared.facts.Fact.{Fact}
+use Rattle.mdcc_messages.specs.WellFormed.{IsWellFormedFact}
+use Rattle.mdcc_messages.specs.WellFormedParts.{IsWellFormedCommit, IsWellFormedOf, IsWellFormedPart, IsWellFormedTx, IsWellFormedWriteSet, IsWellFormedWritten, choice_lt, is_ascending_by, is_written, written_lt}
+use Rattle.mdcc_messages.specs.declared.facts.Fact.{Fact}
 use Rattle.mdcc_steps.specs.Inputs.{AreWellFormedParts}
 use Rattle.mdcc_steps.specs.Keeping.{IsWellFormedOpen}
 use Rattle.mdcc_steps.proofs.Each.{each-map, each-weaker}

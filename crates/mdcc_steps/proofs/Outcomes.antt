@@ -18,9 +18,9 @@ use Rattle.mdcc_protocol.specs.Facts.{unresolved_of}
 use Rattle.mdcc_protocol.specs.Manager.{keys_of_choices}
 use Rattle.mdcc_protocol.specs.Recover.{keys_watched}
 use Rattle.mdcc_protocol.specs.Volatile.{Managing, Recovering, Undecided, is_watched, opened_of}
-use Rattle.mdcc_protocol.specs.WellFormed.{IsWellFormedFact}
-use Rattle.mdcc_protocol.specs.WellFormedParts.{IsWellFormedEntry, IsWellFormedHeard, IsWellFormedOf, IsWellFormedTx, IsWellFormedWriteSet, choice_lt, is_ascending_by, written_lt}
-use Rattle.mdcc_protocol.specs.declared.facts.Fact.{Fact}
+use Rattle.mdcc_messages.specs.WellFormed.{IsWellFormedFact}
+use Rattle.mdcc_messages.specs.WellFormedParts.{IsWellFormedEntry, IsWellFormedHeard, IsWellFormedOf, IsWellFormedTx, IsWellFormedWriteSet, choice_lt, is_ascending_by, written_lt}
+use Rattle.mdcc_messages.specs.declared.facts.Fact.{Fact}
 use Rattle.mdcc_steps.specs.Keeping.{IsWellFormedOpen, IsWellFormedVoteKept}
 use Rattle.mdcc_steps.proofs.Decided.{AreMatched, IsCounted, decided-choices, matched-each}
 use Rattle.mdcc_steps.proofs.Deciding.{IsDecidedBy, IsOpenDecided, IsWatchedDecided}

@@ -14,17 +14,17 @@ use Rattle.mdcc_struct.specs.Maps.{value_of}
 use Rattle.mdcc_struct.specs.declared.options.Options.{Options}
 use Rattle.mdcc_struct.proofs.Walks.{ascending-filter}
 use Rattle.mdcc_protocol.specs.Acceptor.{answer_to_marks, new_marks, promise_answer, range_end}
-use Rattle.mdcc_protocol.specs.AcceptorRules.{accept_step, accepted_step, all_votes_sent, prepare_step, prepared_step, promise_message, votes_sent}
-use Rattle.mdcc_protocol.specs.Allowed.{are_allowed_facts, is_allowed_fact, is_allowed_kind}
+use Rattle.mdcc_rules.specs.AcceptorRules.{accept_step, accepted_step, all_votes_sent, prepare_step, prepared_step, promise_message, votes_sent}
+use Rattle.mdcc_ledger.specs.BootTest.{are_allowed_facts, is_allowed_fact, is_allowed_kind}
 use Rattle.mdcc_protocol.specs.Facts.{ballot_voted, current_of, is_heard, last_ballot, promise_of, promised_through, range_promised, votes_of}
-use Rattle.mdcc_protocol.specs.Lengths.{cells_used}
+use Rattle.mdcc_messages.specs.Lengths.{cells_used}
 use Rattle.mdcc_protocol.specs.Volatile.{Volatile}
-use Rattle.mdcc_protocol.specs.WellFormed.{IsWellFormedEnvelope, IsWellFormedFact, IsWellFormedMessage}
-use Rattle.mdcc_protocol.specs.WellFormedParts.{IsWellFormedBallot, IsWellFormedClassic, IsWellFormedEntry, IsWellFormedInstance, IsWellFormedOptions, IsWellFormedTx}
+use Rattle.mdcc_messages.specs.WellFormed.{IsWellFormedEnvelope, IsWellFormedFact, IsWellFormedMessage}
+use Rattle.mdcc_messages.specs.WellFormedParts.{IsWellFormedBallot, IsWellFormedClassic, IsWellFormedEntry, IsWellFormedInstance, IsWellFormedOptions, IsWellFormedTx}
 use Rattle.mdcc_protocol.specs.declared.acceptor.AcceptAnswer.{AcceptAnswer}
 use Rattle.mdcc_protocol.specs.declared.acceptor.PrepareAnswer.{PrepareAnswer}
-use Rattle.mdcc_protocol.specs.declared.facts.Fact.{Fact}
-use Rattle.mdcc_protocol.specs.declared.messages.Message.{Message}
+use Rattle.mdcc_messages.specs.declared.facts.Fact.{Fact}
+use Rattle.mdcc_messages.specs.declared.messages.Message.{Message}
 use Rattle.mdcc_steps.specs.Keeping.{AreNodeFacts, IsWellFormedVolatile}
 use Rattle.mdcc_steps.proofs.Cells.{votes-few}
 use Rattle.mdcc_steps.proofs.Each.{each-kept}

@@ -15,19 +15,19 @@ use Rattle.mdcc_option.specs.declared.items.Item.{Item}
 use Rattle.mdcc_option.specs.declared.items.Update.{Update}
 use Rattle.mdcc_option.specs.declared.schema.Schema.{Schema}
 use Rattle.mdcc_protocol.specs.Acceptor.{answer_after, answer_by_promise, answer_to_new, fit_of, on_propose, vote_by_fit, vote_on, vote_to_accept, vote_to_reject}
-use Rattle.mdcc_protocol.specs.AcceptorRules.{proposed_step}
+use Rattle.mdcc_rules.specs.AcceptorRules.{proposed_step}
 use Rattle.mdcc_protocol.specs.Facts.{base_of, current_of, entries_of, heard_of, live_of, promise_of, vote_of}
 use Rattle.mdcc_protocol.specs.Fit.{Quantity, exact_fit, first_number, fit_in_room, fit_in_share, is_past_limit, is_past_room, limit_of, load_of, quantities_of, quantity_at}
 use Rattle.mdcc_protocol.specs.Marks.{Amounts, seen_in}
 use Rattle.mdcc_protocol.specs.Structures.{accept_room, reject_room}
 use Rattle.mdcc_protocol.specs.Volatile.{Volatile}
-use Rattle.mdcc_protocol.specs.WellFormed.{IsWellFormedEnvelope, IsWellFormedFact}
-use Rattle.mdcc_protocol.specs.WellFormedParts.{IsWellFormedAmount, IsWellFormedBallot, IsWellFormedCause, IsWellFormedChoice, IsWellFormedClassic, IsWellFormedEntry, IsWellFormedHeard, IsWellFormedInstance, IsWellFormedUpdate}
+use Rattle.mdcc_messages.specs.WellFormed.{IsWellFormedEnvelope, IsWellFormedFact}
+use Rattle.mdcc_messages.specs.WellFormedParts.{IsWellFormedAmount, IsWellFormedBallot, IsWellFormedCause, IsWellFormedChoice, IsWellFormedClassic, IsWellFormedEntry, IsWellFormedHeard, IsWellFormedInstance, IsWellFormedUpdate}
 use Rattle.mdcc_protocol.specs.declared.acceptor.ProposeAnswer.{ProposeAnswer}
-use Rattle.mdcc_protocol.specs.declared.facts.Fact.{Fact}
+use Rattle.mdcc_messages.specs.declared.facts.Fact.{Fact}
 use Rattle.mdcc_protocol.specs.declared.fit.Fit.{Fit}
 use Rattle.mdcc_protocol.specs.declared.fit.Load.{Load}
-use Rattle.mdcc_protocol.specs.declared.messages.Message.{Message}
+use Rattle.mdcc_messages.specs.declared.messages.Message.{Message}
 use Rattle.mdcc_steps.proofs.Each.{each-map, each-weaker}
 use Rattle.mdcc_steps.proofs.Held.{HoldsIn, holds-map}
 use Rattle.mdcc_steps.proofs.Sending.{sent-one}

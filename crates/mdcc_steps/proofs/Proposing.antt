@@ -10,14 +10,14 @@ use Rattle.mdcc_option.specs.declared.choices.Outcome.{Outcome}
 use Rattle.mdcc_option.specs.declared.cluster.Cluster.{Cluster}
 use Rattle.mdcc_option.proofs.Equal.{Decides-key, Decides-mark, Decides-tx}
 use Rattle.mdcc_protocol.specs.Acceptor.{answer_after, answer_to_new, fit_of, vote_by_fit, vote_on, vote_to_accept, vote_to_reject}
-use Rattle.mdcc_protocol.specs.AcceptorRules.{propose_step, proposed_step}
-use Rattle.mdcc_protocol.specs.Allowed.{is_allowed_mark}
+use Rattle.mdcc_rules.specs.AcceptorRules.{propose_step, proposed_step}
+use Rattle.mdcc_ledger.specs.BootTest.{is_allowed_mark}
 use Rattle.mdcc_protocol.specs.Belongs.{choice_belongs, tx_belongs, update_belongs}
 use Rattle.mdcc_protocol.specs.Facts.{current_of, entries_of, epoch_of, heard_of, promise_of, vote_of}
 use Rattle.mdcc_protocol.specs.Structures.{accept_room, reject_room}
 use Rattle.mdcc_protocol.specs.Volatile.{Volatile}
 use Rattle.mdcc_protocol.specs.declared.acceptor.ProposeAnswer.{ProposeAnswer}
-use Rattle.mdcc_protocol.specs.declared.facts.Fact.{Fact}
+use Rattle.mdcc_messages.specs.declared.facts.Fact.{Fact}
 use Rattle.mdcc_protocol.specs.declared.fit.Fit.{Fit}
 use Rattle.mdcc_steps.proofs.Allowing.{IsAllowedIf}
 

@@ -11,28 +11,28 @@ use Rattle.mdcc_option.specs.declared.choices.Outcome.{Outcome}
 use Rattle.mdcc_option.specs.declared.cluster.Cluster.{Cluster}
 use Rattle.mdcc_struct.specs.declared.options.Options.{Options}
 use Rattle.mdcc_protocol.specs.Acceptor.{on_accept, on_prepare, on_propose}
-use Rattle.mdcc_protocol.specs.AcceptorRules.{accepted_step, ask_step_by, prepared_step, proposed_step}
-use Rattle.mdcc_protocol.specs.Built.{Built}
+use Rattle.mdcc_rules.specs.AcceptorRules.{accepted_step, ask_step_by, prepared_step, proposed_step}
+use Rattle.mdcc_switches.specs.Built.{Built}
 use Rattle.mdcc_protocol.specs.Facts.{heard_of, is_heard, vote_of}
 use Rattle.mdcc_protocol.specs.Leader.{claim_of_choice}
-use Rattle.mdcc_protocol.specs.LeaderRules.{Led, lead_step_after, led_of, promise_step, step_of_led}
+use Rattle.mdcc_rules.specs.LeaderRules.{Led, lead_step_after, led_of, promise_step, step_of_led}
 use Rattle.mdcc_protocol.specs.Learner.{is_learned}
 use Rattle.mdcc_protocol.specs.Manager
 use Rattle.mdcc_protocol.specs.Manager.{act_on_cause, acted, vote_taken}
-use Rattle.mdcc_protocol.specs.ManagerRules.{acted_step, escalate_step, opened_step, undecided_step, voted_step, watched_step}
-use Rattle.mdcc_protocol.specs.Node.{message_step}
+use Rattle.mdcc_rules.specs.ManagerRules.{acted_step, escalate_step, opened_step, undecided_step, voted_step, watched_step}
+use Rattle.mdcc_rules.specs.Node.{message_step}
 use Rattle.mdcc_protocol.specs.Recover
-use Rattle.mdcc_protocol.specs.Steps.{NodeStep, nothing_done}
-use Rattle.mdcc_protocol.specs.SyncRules.{outcome_step_by, sync_give_step_by}
+use Rattle.mdcc_rules.specs.Steps.{NodeStep, nothing_done}
+use Rattle.mdcc_rules.specs.SyncRules.{outcome_step_by, sync_give_step_by}
 use Rattle.mdcc_protocol.specs.Visible.{on_outcome, on_sync_give}
 use Rattle.mdcc_protocol.specs.Volatile.{Managing, Volatile, is_open, with_manager}
 use Rattle.mdcc_protocol.specs.declared.acceptor.AcceptAnswer.{AcceptAnswer}
 use Rattle.mdcc_protocol.specs.declared.acceptor.PrepareAnswer.{PrepareAnswer}
 use Rattle.mdcc_protocol.specs.declared.acceptor.ProposeAnswer.{ProposeAnswer}
-use Rattle.mdcc_protocol.specs.declared.facts.Fact.{Fact}
+use Rattle.mdcc_messages.specs.declared.facts.Fact.{Fact}
 use Rattle.mdcc_protocol.specs.declared.leader.LeadFault.{LeadFault}
 use Rattle.mdcc_protocol.specs.declared.manager.ManagerAct.{ManagerAct}
-use Rattle.mdcc_protocol.specs.declared.messages.Message.{Message}
+use Rattle.mdcc_messages.specs.declared.messages.Message.{Message}
 use Rattle.mdcc_protocol.specs.declared.votes.Vote.{Vote}
 use Rattle.mdcc_steps.proofs.Allowing.{OnStep, on_rule}
 

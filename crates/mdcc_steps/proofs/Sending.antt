@@ -17,12 +17,12 @@ use Rattle.mdcc_struct.specs.Maps.{TxMap, are_ascending}
 use Rattle.mdcc_protocol.specs.Belongs.{is_centre}
 use Rattle.mdcc_protocol.specs.Facts.{base_of, current_of, executed_of}
 use Rattle.mdcc_protocol.specs.Marks.{Amounts}
-use Rattle.mdcc_protocol.specs.Messages.{to_all, to_each, to_one, to_others}
-use Rattle.mdcc_protocol.specs.SyncRules.{give_sent, give_sent_by}
-use Rattle.mdcc_protocol.specs.WellFormed.{IsWellFormedEnvelope, IsWellFormedMessage}
-use Rattle.mdcc_protocol.specs.WellFormedParts.{IsWellFormedDelta, IsWellFormedGiven, IsWellFormedItem, delta_lt, is_ascending_by}
-use Rattle.mdcc_protocol.specs.declared.facts.Fact.{Fact}
-use Rattle.mdcc_protocol.specs.declared.messages.Message.{Message}
+use Rattle.mdcc_rules.specs.Messages.{to_all, to_each, to_one, to_others}
+use Rattle.mdcc_rules.specs.SyncRules.{give_sent, give_sent_by}
+use Rattle.mdcc_messages.specs.WellFormed.{IsWellFormedEnvelope, IsWellFormedMessage}
+use Rattle.mdcc_messages.specs.WellFormedParts.{IsWellFormedDelta, IsWellFormedGiven, IsWellFormedItem, delta_lt, is_ascending_by}
+use Rattle.mdcc_messages.specs.declared.facts.Fact.{Fact}
+use Rattle.mdcc_messages.specs.declared.messages.Message.{Message}
 use Rattle.mdcc_steps.specs.Keeping.{AreNodeFacts}
 use Rattle.mdcc_steps.proofs.Each.{each-append, each-kept, each-map, each-weaker}
 use Rattle.mdcc_steps.proofs.Executed.{executed-few}

@@ -15,29 +15,29 @@ use Rattle.mdcc_option.specs.declared.items.Delta.{Delta}
 use Rattle.mdcc_option.specs.declared.items.Part.{Part}
 use Rattle.mdcc_struct.specs.declared.options.Options.{Options}
 use Rattle.mdcc_protocol.specs.Acceptor.{on_propose}
-use Rattle.mdcc_protocol.specs.AcceptorRules.{ask_step_by, proposed_step}
-use Rattle.mdcc_protocol.specs.Built.{Built}
+use Rattle.mdcc_rules.specs.AcceptorRules.{ask_step_by, proposed_step}
+use Rattle.mdcc_switches.specs.Built.{Built}
 use Rattle.mdcc_protocol.specs.Facts.{epoch_of, heard_of, is_heard, vote_of}
-use Rattle.mdcc_protocol.specs.Lengths.{choice_length, delta_length, entry_length, fact_length, offered_length}
+use Rattle.mdcc_messages.specs.Lengths.{choice_length, delta_length, entry_length, fact_length, offered_length}
 use Rattle.mdcc_protocol.specs.Manager
 use Rattle.mdcc_protocol.specs.Manager.{act_on_cause, acted, begin_by, begin_fault, vote_taken}
-use Rattle.mdcc_protocol.specs.ManagerRules.{acted_step, begin_step_by, opened_step, undecided_step, voted_step, watched_step}
+use Rattle.mdcc_rules.specs.ManagerRules.{acted_step, begin_step_by, opened_step, undecided_step, voted_step, watched_step}
 use Rattle.mdcc_protocol.specs.News.{is_news}
-use Rattle.mdcc_protocol.specs.Node.{checked, is_own_message, message_step, rule, step_of}
+use Rattle.mdcc_rules.specs.Node.{checked, is_own_message, message_step, rule, step_of}
 use Rattle.mdcc_protocol.specs.Recover
-use Rattle.mdcc_protocol.specs.Steps.{NodeStep, nothing_done}
-use Rattle.mdcc_protocol.specs.SyncRules.{outcome_step, outcome_step_by, sync_give_step, sync_give_step_by}
+use Rattle.mdcc_rules.specs.Steps.{NodeStep, nothing_done}
+use Rattle.mdcc_rules.specs.SyncRules.{outcome_step, outcome_step_by, sync_give_step, sync_give_step_by}
 use Rattle.mdcc_protocol.specs.Volatile.{Volatile, is_open, with_manager}
-use Rattle.mdcc_protocol.specs.WellFormed.{IsWellFormedFact, IsWellFormedOffered}
-use Rattle.mdcc_protocol.specs.WellFormedParts.{IsWellFormedDelta, IsWellFormedEntry, IsWellFormedOf}
+use Rattle.mdcc_messages.specs.WellFormed.{IsWellFormedFact, IsWellFormedOffered}
+use Rattle.mdcc_messages.specs.WellFormedParts.{IsWellFormedDelta, IsWellFormedEntry, IsWellFormedOf}
 use Rattle.mdcc_protocol.specs.declared.acceptor.ProposeAnswer.{ProposeAnswer}
-use Rattle.mdcc_protocol.specs.declared.facts.Fact.{Fact}
-use Rattle.mdcc_protocol.specs.declared.messages.Message.{Message}
-use Rattle.mdcc_protocol.specs.declared.node.Input.{Input}
-use Rattle.mdcc_protocol.specs.declared.node.StepFault.{StepFault}
+use Rattle.mdcc_messages.specs.declared.facts.Fact.{Fact}
+use Rattle.mdcc_messages.specs.declared.messages.Message.{Message}
+use Rattle.mdcc_rules.specs.declared.node.Input.{Input}
+use Rattle.mdcc_rules.specs.declared.node.StepFault.{StepFault}
 use Rattle.mdcc_protocol.specs.declared.visible.Give.{Give}
 use Rattle.mdcc_protocol.specs.declared.votes.Vote.{Vote}
-use Rattle.mdcc_protocol.proofs.Longest.{longest_choice}
+use Rattle.mdcc_spelling.proofs.Longest.{longest_choice}
 use Rattle.mdcc_steps.specs.Forming.{IsNode}
 use Rattle.mdcc_steps.specs.Inputs.{IsWellFormedInput}
 use Rattle.mdcc_steps.proofs.Allowing.{OnStep, on_checked, on_rule}

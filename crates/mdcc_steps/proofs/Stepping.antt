@@ -11,25 +11,26 @@ use Rattle.mdcc_option.specs.declared.choices.Outcome.{Outcome}
 use Rattle.mdcc_option.specs.declared.cluster.Cluster.{Cluster}
 use Rattle.mdcc_option.specs.declared.faults.BeginFault.{BeginFault}
 use Rattle.mdcc_option.specs.declared.items.Part.{Part}
-use Rattle.mdcc_protocol.specs.AcceptorRules.{ask_step_by}
-use Rattle.mdcc_protocol.specs.Allowed.{is_allowed_fact, is_booted}
+use Rattle.mdcc_rules.specs.AcceptorRules.{ask_step_by}
+use Rattle.mdcc_ledger.specs.BootTest.{is_allowed_fact}
+use Rattle.mdcc_ledger.specs.AllowedFacts.{is_booted}
 use Rattle.mdcc_protocol.specs.Belongs.{adds_belong, ballot_belongs, fact_belongs, item_belongs, mark_belongs, message_belongs, options_belong, outcome_belongs, tx_belongs}
-use Rattle.mdcc_protocol.specs.Built.{Built}
+use Rattle.mdcc_switches.specs.Built.{Built}
 use Rattle.mdcc_protocol.specs.Facts.{epoch_of, heard_of, vote_of}
 use Rattle.mdcc_protocol.specs.Leader.{claim_of_choice}
-use Rattle.mdcc_protocol.specs.LeaderRules.{Led, lead_step_after, led_of, promise_step, step_of_led}
+use Rattle.mdcc_rules.specs.LeaderRules.{Led, lead_step_after, led_of, promise_step, step_of_led}
 use Rattle.mdcc_protocol.specs.Manager.{begin_by, begin_fault}
-use Rattle.mdcc_protocol.specs.ManagerRules.{begin_step_by}
+use Rattle.mdcc_rules.specs.ManagerRules.{begin_step_by}
 use Rattle.mdcc_protocol.specs.News.{is_crowding}
-use Rattle.mdcc_protocol.specs.Node.{checked, is_own_message, message_step, step_of}
-use Rattle.mdcc_protocol.specs.Steps.{NodeStep}
+use Rattle.mdcc_rules.specs.Node.{checked, is_own_message, message_step, step_of}
+use Rattle.mdcc_rules.specs.Steps.{NodeStep}
 use Rattle.mdcc_protocol.specs.Volatile.{Volatile}
-use Rattle.mdcc_protocol.specs.WellFormed.{IsWellFormedMessage}
-use Rattle.mdcc_protocol.specs.declared.facts.Fact.{Fact}
+use Rattle.mdcc_messages.specs.WellFormed.{IsWellFormedMessage}
+use Rattle.mdcc_messages.specs.declared.facts.Fact.{Fact}
 use Rattle.mdcc_protocol.specs.declared.leader.LeadFault.{LeadFault}
-use Rattle.mdcc_protocol.specs.declared.messages.Message.{Message}
-use Rattle.mdcc_protocol.specs.declared.node.Input.{Input}
-use Rattle.mdcc_protocol.specs.declared.node.StepFault.{StepFault}
+use Rattle.mdcc_messages.specs.declared.messages.Message.{Message}
+use Rattle.mdcc_rules.specs.declared.node.Input.{Input}
+use Rattle.mdcc_rules.specs.declared.node.StepFault.{StepFault}
 use Rattle.mdcc_steps.specs.Adding.{AreVotesOf, IsVoteOf}
 use Rattle.mdcc_steps.specs.Inputs.{IsWellFormedInput}
 use Rattle.mdcc_steps.proofs.Adding.{accept-allowed, classic-not_fast, give-allowed, outcome-allowed, prepare-allowed}

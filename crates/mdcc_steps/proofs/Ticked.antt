@@ -9,7 +9,7 @@ use Rattle.mdcc_base.specs.declared.identifiers.TxId.{TxId}
 use Rattle.mdcc_base.specs.declared.key.Key.{Key}
 use Rattle.mdcc_option.specs.declared.choices.Claim.{Claim}
 use Rattle.mdcc_option.specs.declared.cluster.Cluster.{Cluster}
-use Rattle.mdcc_protocol.specs.Built.{Built}
+use Rattle.mdcc_switches.specs.Built.{Built}
 use Rattle.mdcc_protocol.specs.Facts.{unresolved_of}
 use Rattle.mdcc_protocol.specs.Fit.{has_tx}
 use Rattle.mdcc_protocol.specs.Leader.{claim_of_choice}
@@ -18,13 +18,13 @@ use Rattle.mdcc_protocol.specs.Manager
 use Rattle.mdcc_protocol.specs.Manager.{act_at, acts_at, choices_unlearned, is_odd, ticked_transaction}
 use Rattle.mdcc_protocol.specs.Recover
 use Rattle.mdcc_protocol.specs.Recover.{acts_on, ask_of, claim_of_key, dangling, keys_led}
-use Rattle.mdcc_protocol.specs.TickRules.{Ticked, and_then, claim_led, manager_act, manager_ticked, recovery_act, recovery_ticked, tick_parts, ticked}
+use Rattle.mdcc_rules.specs.TickRules.{Ticked, and_then, claim_led, manager_act, manager_ticked, recovery_act, recovery_ticked, tick_parts, ticked}
 use Rattle.mdcc_protocol.specs.Volatile.{Recovering, Undecided, Volatile, counter_of, next_count, txs_opened, with_manager, with_recovery}
-use Rattle.mdcc_protocol.specs.WellFormed.{IsWellFormedEnvelope, IsWellFormedFact}
-use Rattle.mdcc_protocol.specs.WellFormedParts.{IsWellFormedChoice, IsWellFormedInstance, IsWellFormedOf, IsWellFormedTx, IsWellFormedWritten}
-use Rattle.mdcc_protocol.specs.declared.facts.Fact.{Fact}
+use Rattle.mdcc_messages.specs.WellFormed.{IsWellFormedEnvelope, IsWellFormedFact}
+use Rattle.mdcc_messages.specs.WellFormedParts.{IsWellFormedChoice, IsWellFormedInstance, IsWellFormedOf, IsWellFormedTx, IsWellFormedWritten}
+use Rattle.mdcc_messages.specs.declared.facts.Fact.{Fact}
 use Rattle.mdcc_protocol.specs.declared.manager.ManagerAct.{ManagerAct}
-use Rattle.mdcc_protocol.specs.declared.messages.Message.{Message}
+use Rattle.mdcc_messages.specs.declared.messages.Message.{Message}
 use Rattle.mdcc_protocol.specs.declared.recover.RecoverAct.{RecoverAct}
 use Rattle.mdcc_protocol.specs.declared.votes.Vote.{Vote}
 use Rattle.mdcc_steps.specs.Keeping.{IsWellFormedOpen, IsWellFormedVolatile, IsWellFormedVoteKept}

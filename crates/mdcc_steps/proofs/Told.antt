@@ -23,9 +23,9 @@ use Rattle.mdcc_struct.specs.declared.options.Options.{Options}
 use Rattle.mdcc_struct.proofs.Walks.{ascending-union}
 use Rattle.mdcc_protocol.specs.Facts.{amounts_added, ballot_promised, base_at, base_from, base_given, base_of, current_of, delta_given, deltas_at, deltas_from, heard_of, is_heard, item_written, later_vote, mark_voted, marks_voted, outcome_in, promise_of, unresolved_of, version_from, version_given, vote_of, votes_of, write_set_in, write_sets_from, write_sets_of}
 use Rattle.mdcc_protocol.specs.Marks.{Amounts, is_write}
-use Rattle.mdcc_protocol.specs.WellFormed.{IsWellFormedFact}
-use Rattle.mdcc_protocol.specs.WellFormedParts.{IsWellFormedAmounts, IsWellFormedBallot, IsWellFormedDelta, IsWellFormedEntry, IsWellFormedHeard, IsWellFormedItem, IsWellFormedOf, IsWellFormedTx, IsWellFormedUpdate, IsWellFormedWriteSet}
-use Rattle.mdcc_protocol.specs.declared.facts.Fact.{Fact}
+use Rattle.mdcc_messages.specs.WellFormed.{IsWellFormedFact}
+use Rattle.mdcc_messages.specs.WellFormedParts.{IsWellFormedAmounts, IsWellFormedBallot, IsWellFormedDelta, IsWellFormedEntry, IsWellFormedHeard, IsWellFormedItem, IsWellFormedOf, IsWellFormedTx, IsWellFormedUpdate, IsWellFormedWriteSet}
+use Rattle.mdcc_messages.specs.declared.facts.Fact.{Fact}
 use Rattle.mdcc_steps.proofs.Each.{each-append, each-kept, each-map, each-weaker}
 use Rattle.mdcc_steps.proofs.Held.{HoldsIn, each-filter_map, each-union, holds-or, value-in}
 

@@ -2,15 +2,15 @@
 use Rattle.std.specs.Prelude.{List, Ok, Some, ℕ, ◌≡◌}
 use Rattle.mdcc_base.specs.Key.{IsKey}
 use Rattle.mdcc_option.specs.declared.cluster.Cluster.{Cluster}
-use Rattle.mdcc_protocol.specs.Built.{Built}
-use Rattle.mdcc_protocol.specs.Node.{step_of}
-use Rattle.mdcc_protocol.specs.Steps.{NodeStep}
+use Rattle.mdcc_switches.specs.Built.{Built}
+use Rattle.mdcc_rules.specs.Node.{step_of}
+use Rattle.mdcc_rules.specs.Steps.{NodeStep}
 use Rattle.mdcc_protocol.specs.Volatile.{Volatile}
-use Rattle.mdcc_protocol.specs.WellFormed.{IsWellFormedRefusal, IsWellFormedShown, IsWellFormedToken}
-use Rattle.mdcc_protocol.specs.WellFormedParts.{IsWellFormedTx}
-use Rattle.mdcc_protocol.specs.declared.facts.Fact.{Fact}
-use Rattle.mdcc_protocol.specs.declared.node.Answer.{Answer}
-use Rattle.mdcc_protocol.specs.declared.node.Input.{Input}
+use Rattle.mdcc_messages.specs.WellFormed.{IsWellFormedRefusal, IsWellFormedShown, IsWellFormedToken}
+use Rattle.mdcc_messages.specs.WellFormedParts.{IsWellFormedTx}
+use Rattle.mdcc_messages.specs.declared.facts.Fact.{Fact}
+use Rattle.mdcc_rules.specs.declared.node.Answer.{Answer}
+use Rattle.mdcc_rules.specs.declared.node.Input.{Input}
 use Rattle.mdcc_steps.specs.Forming.{IsNode}
 use Rattle.mdcc_steps.specs.Inputs.{IsWellFormedInput}
 

@@ -2,18 +2,18 @@
 use Rattle.std.specs.List.{AllByRecursion}
 use Rattle.std.specs.Prelude.{IsTrue, List, None, Ok, Option, Some, [], false, ℕ, ◌++◌, ◌∷◌, ◌≡◌, ◌≤◌}
 use Rattle.mdcc_option.specs.declared.cluster.Cluster.{Cluster}
-use Rattle.mdcc_protocol.specs.Allowed.{are_allowed_facts}
+use Rattle.mdcc_ledger.specs.BootTest.{are_allowed_facts}
 use Rattle.mdcc_protocol.specs.Belongs.{is_centre}
-use Rattle.mdcc_protocol.specs.Boot.{boot_of, booted_by}
-use Rattle.mdcc_protocol.specs.Built.{Built}
+use Rattle.mdcc_rules.specs.Boot.{boot_of, booted_by}
+use Rattle.mdcc_switches.specs.Built.{Built}
 use Rattle.mdcc_protocol.specs.IsCluster.{IsCluster}
-use Rattle.mdcc_protocol.specs.Lengths.{cells_used, fact_length}
-use Rattle.mdcc_protocol.specs.Node.{step_of}
-use Rattle.mdcc_protocol.specs.Steps.{NodeStep}
+use Rattle.mdcc_messages.specs.Lengths.{cells_used, fact_length}
+use Rattle.mdcc_rules.specs.Node.{step_of}
+use Rattle.mdcc_rules.specs.Steps.{NodeStep}
 use Rattle.mdcc_protocol.specs.Volatile.{Volatile, nothing_kept}
-use Rattle.mdcc_protocol.specs.WellFormed.{IsWellFormedEnvelope, IsWellFormedFact}
-use Rattle.mdcc_protocol.specs.declared.facts.Fact.{Fact}
-use Rattle.mdcc_protocol.specs.declared.node.Input.{Input}
+use Rattle.mdcc_messages.specs.WellFormed.{IsWellFormedEnvelope, IsWellFormedFact}
+use Rattle.mdcc_messages.specs.declared.facts.Fact.{Fact}
+use Rattle.mdcc_rules.specs.declared.node.Input.{Input}
 use Rattle.mdcc_steps.specs.Adding.{AreVotesOf}
 use Rattle.mdcc_steps.specs.Inputs.{IsWellFormedInput}
 use Rattle.mdcc_steps.specs.Keeping.{AreNodeFacts, IsWellFormedVolatile}

@@ -5,9 +5,9 @@ use Rattle.std.specs.Prelude.{IsTrue, List, length, ⊤}
 use Rattle.mdcc_base.specs.Key.{IsKey}
 use Rattle.mdcc_option.specs.Parts.{are_ascending}
 use Rattle.mdcc_option.specs.declared.items.Part.{Part}
-use Rattle.mdcc_protocol.specs.WellFormed.{IsWellFormedEnvelope}
-use Rattle.mdcc_protocol.specs.WellFormedParts.{IsWellFormedPart}
-use Rattle.mdcc_protocol.specs.declared.node.Input.{Input}
+use Rattle.mdcc_messages.specs.WellFormed.{IsWellFormedEnvelope}
+use Rattle.mdcc_messages.specs.WellFormedParts.{IsWellFormedPart}
+use Rattle.mdcc_rules.specs.declared.node.Input.{Input}
 
 -- 1 to 8 parts, ascending by key
 pub record AreWellFormedParts (parts : List Part) : Type 0 where

@@ -6,12 +6,12 @@ use Rattle.mdcc_base.specs.declared.key.Key.{Key}
 use Rattle.mdcc_option.specs.declared.choices.Choice.{Choice}
 use Rattle.mdcc_option.specs.declared.cluster.Cluster.{Cluster}
 use Rattle.mdcc_struct.specs.declared.options.Options.{Options}
-use Rattle.mdcc_protocol.specs.Allowed.{are_allowed_facts}
+use Rattle.mdcc_ledger.specs.BootTest.{are_allowed_facts}
 use Rattle.mdcc_protocol.specs.Structures.{is_crowded}
 use Rattle.mdcc_protocol.specs.Volatile.{Counted, Lead, Undecided, Volatile}
-use Rattle.mdcc_protocol.specs.WellFormed.{IsWellFormedFact, IsWellFormedVoted}
-use Rattle.mdcc_protocol.specs.WellFormedParts.{IsWellFormedBallot, IsWellFormedClassic, IsWellFormedCommit, IsWellFormedInstance, IsWellFormedOptions, IsWellFormedTx, IsWellFormedWithin}
-use Rattle.mdcc_protocol.specs.declared.facts.Fact.{Fact}
+use Rattle.mdcc_messages.specs.WellFormed.{IsWellFormedFact, IsWellFormedVoted}
+use Rattle.mdcc_messages.specs.WellFormedParts.{IsWellFormedBallot, IsWellFormedClassic, IsWellFormedCommit, IsWellFormedInstance, IsWellFormedOptions, IsWellFormedTx, IsWellFormedWithin}
+use Rattle.mdcc_messages.specs.declared.facts.Fact.{Fact}
 use Rattle.mdcc_protocol.specs.declared.votes.Vote.{Vote}
 use Rattle.mdcc_steps.specs.Adding.{IsBooted}
 

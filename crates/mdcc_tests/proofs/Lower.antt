@@ -16,7 +16,7 @@ use Rattle.mdcc_struct.specs.Maps.{value_of}
 use Rattle.mdcc_struct.proofs.Values.{value_of-union}
 use Rattle.mdcc_struct.proofs.Walks.{drop-get}
 use Rattle.mdcc_protocol.specs.Facts.{later_vote, mark_voted, marks_voted, vote_of, votes_of}
-use Rattle.mdcc_protocol.specs.declared.facts.Fact.{Fact}
+use Rattle.mdcc_messages.specs.declared.facts.Fact.{Fact}
 use Rattle.mdcc_tests.specs.Lower.{is_lower}
 
 later-left : (a b : Option (Ballot × Mark)) (ballot : Ballot) → is_lower a ballot ≡ false → is_lower (later_vote a b) ballot ≡ false

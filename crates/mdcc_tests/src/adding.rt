@@ -1,7 +1,7 @@
 //! Adding facts to a store where nothing else keeps them from being said twice.
 ghost use Rattle.mdcc_facts.specs.Adding.{MayBeAdded};
 ghost use Rattle.mdcc_protocol.specs.Facts.{votes_of};
-ghost use Rattle.mdcc_protocol.specs.declared.facts.Fact.{Fact as AFact};
+ghost use Rattle.mdcc_messages.specs.declared.facts.Fact.{Fact as AFact};
 ghost use Rattle.mdcc_struct.specs.Maps.{value_of};
 ghost use Rattle.mdcc_tests.specs.Lower.{is_lower};
 ghost use Rattle.std.specs.List.{list_any};

@@ -16,11 +16,12 @@ use Rattle.mdcc_struct.specs.declared.options.Options.{Options}
 use Rattle.mdcc_struct.specs.Maps.{TxMap, inserted, union, value_of}
 use Rattle.mdcc_struct.specs.declared.report.Report.{Report}
 use Rattle.mdcc_struct.specs.Forced.{ballot_reported, forced_of, marks_reported}
-use Rattle.mdcc_protocol.specs.declared.facts.Fact.{Fact}
+use Rattle.mdcc_messages.specs.declared.facts.Fact.{Fact}
 use Rattle.mdcc_protocol.specs.Facts.{ballot_voted, current_of, last_ballot, marks_voted, promise_of, promised_through, range_promised, report_of, votes_of}
 use Rattle.mdcc_protocol.specs.Structures.{choices_reported, first_structure, is_left_out, mark_of_choice, with_claim}
-use Rattle.mdcc_protocol.specs.Ledger.{Added, Entry, Valued, facts_of}
-use Rattle.mdcc_protocol.specs.Allowed.{IsAllowed, is_allowed_fast_vote, reports_at}
+use Rattle.mdcc_ledger.specs.Ledger.{Added, Entry, Valued, facts_of}
+use Rattle.mdcc_ledger.specs.AllowedLedgers.{IsAllowed, reports_at}
+use Rattle.mdcc_ledger.specs.BootTest.{is_allowed_fast_vote}
 use Rattle.mdcc_protocol.specs.Volatile.{Counted, structure_found, with_structure}
 use Rattle.mdcc_trace_states.specs.Words.{Each}
 use Rattle.mdcc_trace_states.specs.Keeping.{IsPromise}

@@ -11,24 +11,24 @@ use Rattle.mdcc_option.specs.declared.choices.Choice.{Choice}
 use Rattle.mdcc_option.specs.declared.cluster.Cluster.{Cluster}
 use Rattle.mdcc_option.specs.declared.choices.Outcome.{Outcome}
 use Rattle.mdcc_struct.specs.Maps.{TxMap, value_of}
-use Rattle.mdcc_protocol.specs.declared.facts.Fact.{Fact}
+use Rattle.mdcc_messages.specs.declared.facts.Fact.{Fact}
 use Rattle.mdcc_protocol.specs.Facts.{choice_known, heard_of, is_heard, unresolved_of, write_sets_from, write_sets_of}
-use Rattle.mdcc_protocol.specs.Ledger.{Added, Entry, facts_of, mark_given}
-use Rattle.mdcc_protocol.specs.Allowed.{IsAllowed, is_valued}
+use Rattle.mdcc_ledger.specs.Ledger.{Added, Entry, facts_of, mark_given}
+use Rattle.mdcc_ledger.specs.AllowedLedgers.{IsAllowed, is_valued}
 use Rattle.mdcc_protocol.specs.Belongs.{adds_belong, ballot_belongs, is_centre, item_belongs, mark_belongs, message_belongs, options_belong, outcome_belongs, tx_belongs}
 use Rattle.mdcc_protocol.specs.Learner.{is_learned}
-use Rattle.mdcc_protocol.specs.LeaderRules.{Led, lead_step_after, led_of, promised_by_answer, step_of_led}
+use Rattle.mdcc_rules.specs.LeaderRules.{Led, lead_step_after, led_of, promised_by_answer, step_of_led}
 use Rattle.mdcc_protocol.specs.Leader.{claim_of_choice, on_promise, refused_by}
 use Rattle.mdcc_protocol.specs.Volatile.{Recovering, Volatile, counter_of, lead_of, next_count, txs_opened, with_leader, with_recovery}
-use Rattle.mdcc_protocol.specs.declared.messages.Envelope.{Envelope}
-use Rattle.mdcc_protocol.specs.declared.node.Input.{Input}
-use Rattle.mdcc_protocol.specs.declared.messages.Message.{Message}
-use Rattle.mdcc_protocol.specs.Node.{message_step, rule, step_of}
-use Rattle.mdcc_protocol.specs.TickRules.{Ticked, claim_led, manager_ticked, recovery_act, recovery_ticked, tick_parts, ticked}
+use Rattle.mdcc_messages.specs.declared.messages.Envelope.{Envelope}
+use Rattle.mdcc_rules.specs.declared.node.Input.{Input}
+use Rattle.mdcc_messages.specs.declared.messages.Message.{Message}
+use Rattle.mdcc_rules.specs.Node.{message_step, rule, step_of}
+use Rattle.mdcc_rules.specs.TickRules.{Ticked, claim_led, manager_ticked, recovery_act, recovery_ticked, tick_parts, ticked}
 use Rattle.mdcc_protocol.specs.Recover.{acts_on, ask_of, choice_received, claim_of_key, counted_tick, dangling, keys_led}
-use Rattle.mdcc_protocol.specs.Built.{Built}
-use Rattle.mdcc_protocol.specs.Steps.{NodeStep, nothing_done}
-use Rattle.mdcc_protocol.specs.declared.node.StepFault.{StepFault}
+use Rattle.mdcc_switches.specs.Built.{Built}
+use Rattle.mdcc_rules.specs.Steps.{NodeStep, nothing_done}
+use Rattle.mdcc_rules.specs.declared.node.StepFault.{StepFault}
 use Rattle.mdcc_trace_states.specs.Words.{Each, In, IsTail}
 use Rattle.mdcc_trace_states.specs.Keeping.{AreVotes, IsClaim, IsGiven, IsOwn}
 use Rattle.mdcc_trace_states.specs.Sound.{HasOneMark, IsSound}
@@ -53,7 +53,7 @@ use Rattle.mdcc_trace.proofs.Leaders.{choice-claim, claim-part, manager-part}
 use Rattle.mdcc_trace.proofs.Watching.{own-choice, placed-key, received-choice}
 use Rattle.mdcc_trace_rules.proofs.Dispatch.{checked-good}
 use Rattle.mdcc_base.specs.Quorums.{all_centres}
-use Rattle.mdcc_protocol.specs.Messages.{to_all}
+use Rattle.mdcc_rules.specs.Messages.{to_all}
 use Rattle.mdcc_protocol.specs.Fit.{has_tx}
 use Rattle.mdcc_protocol.specs.declared.recover.RecoverAct.{RecoverAct}
 use Rattle.mdcc_protocol.specs.declared.leader.LeadFault.{LeadFault}

@@ -15,10 +15,12 @@ use Rattle.mdcc_struct.specs.declared.options.Options.{Options}
 use Rattle.mdcc_struct.specs.Maps.{union, value_of}
 use Rattle.mdcc_struct.specs.declared.report.Report.{Report}
 use Rattle.mdcc_struct.specs.Forced.{ballot_reported}
-use Rattle.mdcc_protocol.specs.declared.facts.Fact.{Fact}
+use Rattle.mdcc_messages.specs.declared.facts.Fact.{Fact}
 use Rattle.mdcc_protocol.specs.Facts.{ballot_promised, ballot_voted, last_ballot, marks_voted, promise_of, votes_of}
-use Rattle.mdcc_protocol.specs.Ledger.{Added, Entry, Valued, facts_of}
-use Rattle.mdcc_protocol.specs.Allowed.{IsAllowed, are_apart, are_distinct, has_promised_in, is_allowed_classic_vote}
+use Rattle.mdcc_ledger.specs.Ledger.{Added, Entry, Valued, facts_of}
+use Rattle.mdcc_ledger.specs.AllowedLedgers.{IsAllowed, are_distinct, has_promised_in}
+use Rattle.mdcc_ledger.specs.AllowedFacts.{are_apart}
+use Rattle.mdcc_ledger.specs.BootTest.{is_allowed_classic_vote}
 use Rattle.mdcc_protocol.specs.Acceptor.{new_marks}
 use Rattle.mdcc_trace_states.specs.Words.{In, IsTail, count}
 use Rattle.mdcc_trace_states.proofs.Tests.{Decides-ballot}

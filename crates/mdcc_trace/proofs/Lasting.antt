@@ -5,11 +5,11 @@ use Rattle.mdcc_base.specs.AreQuorums.{AreQuorums}
 use Rattle.mdcc_base.specs.declared.identifiers.Ballot.{Ballot}
 use Rattle.mdcc_base.specs.declared.key.Key.{Key}
 use Rattle.mdcc_option.specs.declared.cluster.Cluster.{Cluster}
-use Rattle.mdcc_protocol.specs.Allowed.{IsAllowed}
+use Rattle.mdcc_ledger.specs.AllowedLedgers.{IsAllowed}
 use Rattle.mdcc_protocol.specs.Facts.{promised_through}
-use Rattle.mdcc_protocol.specs.Ledger.{Added, Entry, Valued, facts_of}
-use Rattle.mdcc_protocol.specs.declared.messages.Envelope.{Envelope}
-use Rattle.mdcc_protocol.specs.declared.messages.Message.{Message}
+use Rattle.mdcc_ledger.specs.Ledger.{Added, Entry, Valued, facts_of}
+use Rattle.mdcc_messages.specs.declared.messages.Envelope.{Envelope}
+use Rattle.mdcc_messages.specs.declared.messages.Message.{Message}
 use Rattle.mdcc_trace_states.specs.Standing.{IsBackedMessage, IsLasting, Says, Stands}
 use Rattle.mdcc_trace_states.specs.Words.{IsTail}
 use Rattle.mdcc_trace_rules.proofs.Chains.{valued-tail}

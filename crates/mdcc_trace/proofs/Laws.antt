@@ -1,11 +1,13 @@
 -- The laws of all traces, from the law that allowed ledgers have one mark.
 use Rattle.std.proofs.Common.{List, subst}
 use Rattle.mdcc_option.specs.declared.cluster.Cluster.{Cluster}
-use Rattle.mdcc_protocol.specs.Allowed.{IsAllowed}
-use Rattle.mdcc_protocol.specs.Built.{Built}
+use Rattle.mdcc_ledger.specs.AllowedLedgers.{IsAllowed}
+use Rattle.mdcc_switches.specs.Built.{Built}
 use Rattle.mdcc_protocol.specs.IsCluster.{IsCluster}
-use Rattle.mdcc_protocol.specs.World.{Sent, first_world, run_of}
-use Rattle.mdcc_protocol.specs.declared.events.Event.{Event}
+use Rattle.mdcc_messages.specs.Mailbox.{Sent}
+use Rattle.mdcc_simulation.specs.State.{first_world}
+use Rattle.mdcc_simulation.specs.Runs.{run_of}
+use Rattle.mdcc_language.specs.declared.events.Event.{Event}
 use Rattle.mdcc_trace_states.specs.Words.{Each}
 use Rattle.mdcc_trace_states.specs.Invariant.{Holds}
 use Rattle.mdcc_trace_states.specs.Sound.{IsSound}

@@ -5,15 +5,15 @@ use Rattle.mdcc_base.specs.Quorums.{all_centres}
 use Rattle.mdcc_option.specs.declared.choices.Choice.{Choice}
 use Rattle.mdcc_option.specs.declared.choices.Claim.{Claim}
 use Rattle.mdcc_option.specs.declared.cluster.Cluster.{Cluster}
-use Rattle.mdcc_protocol.specs.declared.facts.Fact.{Fact}
-use Rattle.mdcc_protocol.specs.Ledger.{Entry, choices_begun, facts_of}
-use Rattle.mdcc_protocol.specs.Allowed.{IsAllowed, is_begun}
+use Rattle.mdcc_messages.specs.declared.facts.Fact.{Fact}
+use Rattle.mdcc_ledger.specs.Ledger.{Entry, choices_begun, facts_of}
+use Rattle.mdcc_ledger.specs.AllowedLedgers.{IsAllowed, is_begun}
 use Rattle.mdcc_protocol.specs.Learner.{is_learned}
-use Rattle.mdcc_protocol.specs.LeaderRules.{Led, led_of}
+use Rattle.mdcc_rules.specs.LeaderRules.{Led, led_of}
 use Rattle.mdcc_protocol.specs.Leader.{claim_of_choice}
-use Rattle.mdcc_protocol.specs.declared.messages.Message.{Message}
-use Rattle.mdcc_protocol.specs.Messages.{to_all}
-use Rattle.mdcc_protocol.specs.TickRules.{claim_led, led_or_left, manager_act, manager_ticked, ticked}
+use Rattle.mdcc_messages.specs.declared.messages.Message.{Message}
+use Rattle.mdcc_rules.specs.Messages.{to_all}
+use Rattle.mdcc_rules.specs.TickRules.{claim_led, led_or_left, manager_act, manager_ticked, ticked}
 use Rattle.mdcc_protocol.specs.Volatile.{Managing, Undecided, Volatile, next_count, with_manager}
 use Rattle.mdcc_trace_states.specs.Words.{Each, In}
 use Rattle.mdcc_trace_states.specs.Keeping.{IsClaim, IsOpened, IsOwn, Keeps}
@@ -24,7 +24,7 @@ use Rattle.mdcc_trace_rules.proofs.Rules.{begun-choice, each-map-same}
 use Rattle.mdcc_trace.proofs.Structuring.{GoodLed, IsWell}
 use Rattle.mdcc_trace.proofs.Claiming.{led-good}
 use Rattle.mdcc_trace_rules.proofs.Ticks.{IsGoodPart, fold-good, sent-part}
-use Rattle.mdcc_protocol.specs.Built.{Built}
+use Rattle.mdcc_switches.specs.Built.{Built}
 use Rattle.mdcc_protocol.specs.declared.manager.ManagerAct.{ManagerAct}
 use Rattle.mdcc_protocol.specs.declared.leader.LeadFault.{LeadFault}
 use Rattle.mdcc_protocol.specs.Manager.{act_at, acts_at, choices_unlearned, is_odd, ticked_transaction}

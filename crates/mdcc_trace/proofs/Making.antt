@@ -20,11 +20,11 @@ use Rattle.mdcc_struct.specs.Maps.{TxMap, inserted, union, value_of}
 use Rattle.mdcc_struct.specs.declared.report.Report.{Report}
 use Rattle.mdcc_struct.specs.Forced.{ballot_reported, forced_of, marks_reported, reports_with}
 use Rattle.mdcc_protocol.specs.Marks.{choice_in}
-use Rattle.mdcc_protocol.specs.declared.facts.Fact.{Fact}
+use Rattle.mdcc_messages.specs.declared.facts.Fact.{Fact}
 use Rattle.mdcc_protocol.specs.Facts.{marks_voted, report_of, votes_of}
 use Rattle.mdcc_protocol.specs.Structures.{all_claims, choices_reported, first_structure, is_accepted, is_left_out, mark_of_choice, with_choice, with_claim}
-use Rattle.mdcc_protocol.specs.Ledger.{Entry, choices_begun, facts_of}
-use Rattle.mdcc_protocol.specs.Allowed.{IsAllowed, are_begun, is_begun, is_own_mark, reports_at}
+use Rattle.mdcc_ledger.specs.Ledger.{Entry, choices_begun, facts_of}
+use Rattle.mdcc_ledger.specs.AllowedLedgers.{IsAllowed, are_begun, is_begun, is_own_mark, reports_at}
 use Rattle.mdcc_protocol.specs.Leader.{reports_of}
 use Rattle.mdcc_protocol.specs.Volatile.{Counted}
 use Rattle.mdcc_trace_states.specs.Words.{Each, In}

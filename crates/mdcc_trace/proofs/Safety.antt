@@ -10,11 +10,11 @@ use Rattle.mdcc_option.specs.declared.choices.Choice.{Choice}
 use Rattle.mdcc_option.specs.declared.cluster.Cluster.{Cluster}
 use Rattle.mdcc_struct.specs.declared.options.Options.{Options}
 use Rattle.mdcc_struct.specs.declared.report.Report.{Report}
-use Rattle.mdcc_protocol.specs.declared.facts.Fact.{Fact}
+use Rattle.mdcc_messages.specs.declared.facts.Fact.{Fact}
 use Rattle.mdcc_protocol.specs.Facts.{report_of}
 use Rattle.mdcc_protocol.specs.Structures.{with_claim}
-use Rattle.mdcc_protocol.specs.Ledger.{Entry, facts_of}
-use Rattle.mdcc_protocol.specs.Allowed.{reports_at}
+use Rattle.mdcc_ledger.specs.Ledger.{Entry, facts_of}
+use Rattle.mdcc_ledger.specs.AllowedLedgers.{reports_at}
 use Rattle.mdcc_trace_states.specs.Words.{In, IsTail, count}
 use Rattle.mdcc_trace_states.proofs.Lists.{IsTail-same}
 use Rattle.mdcc_trace_rules.specs.Laws.{Extends}

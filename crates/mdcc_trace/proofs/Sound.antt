@@ -17,11 +17,12 @@ use Rattle.mdcc_option.specs.declared.choices.Mark.{Mark}
 use Rattle.mdcc_struct.specs.declared.options.Options.{Options}
 use Rattle.mdcc_struct.specs.Maps.{TxMap, union, value_of}
 use Rattle.mdcc_protocol.specs.Marks.{options_eq}
-use Rattle.mdcc_protocol.specs.declared.facts.Fact.{Fact}
+use Rattle.mdcc_messages.specs.declared.facts.Fact.{Fact}
 use Rattle.mdcc_protocol.specs.Facts.{marks_voted, votes_of, write_set_in, write_sets_from, write_sets_of}
 use Rattle.mdcc_protocol.specs.Acceptor.{new_marks}
-use Rattle.mdcc_protocol.specs.Ledger.{Added, Entry, Valued, choices_begun, facts_of}
-use Rattle.mdcc_protocol.specs.Allowed.{IsAllowed, is_allowed_fast_vote, is_begun, is_fast_vote_begun, is_own_mark, is_valued, is_valued_as}
+use Rattle.mdcc_ledger.specs.Ledger.{Added, Entry, Valued, choices_begun, facts_of}
+use Rattle.mdcc_ledger.specs.AllowedLedgers.{IsAllowed, is_begun, is_fast_vote_begun, is_own_mark, is_valued, is_valued_as}
+use Rattle.mdcc_ledger.specs.BootTest.{is_allowed_fast_vote}
 use Rattle.mdcc_trace_states.specs.Words.{In}
 use Rattle.mdcc_trace_states.specs.Sound.{HasOneMark, IsSound, IsSoundMark}
 use Rattle.mdcc_trace_states.specs.Keeping.{IsOwn}

@@ -13,12 +13,12 @@ use Rattle.mdcc_struct.specs.declared.options.Options.{Options}
 use Rattle.mdcc_protocol.specs.Marks.{options_eq}
 use Rattle.mdcc_protocol.specs.Facts.{current_of}
 use Rattle.mdcc_protocol.specs.Structures.{first_structure, is_crowded}
-use Rattle.mdcc_protocol.specs.LeaderRules.{Led, promised_by_answer}
+use Rattle.mdcc_rules.specs.LeaderRules.{Led, promised_by_answer}
 use Rattle.mdcc_protocol.specs.Leader.{counted_promise, is_promise_counted, on_promise, promise_taken, reports_of, structure_made, with_promise}
 use Rattle.mdcc_protocol.specs.Volatile.{Counted, Lead, Leading, Volatile, lead_of, structure_found, with_lead, with_leader}
-use Rattle.mdcc_protocol.specs.Ledger.{Entry, Valued, facts_of, structure_valued}
-use Rattle.mdcc_protocol.specs.Allowed.{IsAllowed, IsMade, are_distinct, is_valued, promisers_of, reports_at}
-use Rattle.mdcc_protocol.specs.declared.messages.Message.{Message}
+use Rattle.mdcc_ledger.specs.Ledger.{Entry, Valued, facts_of, structure_valued}
+use Rattle.mdcc_ledger.specs.AllowedLedgers.{IsAllowed, IsMade, are_distinct, is_valued, promisers_of, reports_at}
+use Rattle.mdcc_messages.specs.declared.messages.Message.{Message}
 use Rattle.mdcc_trace_states.specs.Words.{Each, In, count}
 use Rattle.mdcc_trace_states.specs.Invariant.{IsGoodStep}
 use Rattle.mdcc_trace_states.specs.Keeping.{IsLead, IsPromise, Keeps, Leads}
@@ -34,7 +34,7 @@ use Rattle.mdcc_trace.proofs.Making.{AllSound, first-sound, reports-good, report
 use Rattle.mdcc_protocol.specs.declared.leader.LeadFault.{LeadFault}
 use Rattle.mdcc_protocol.specs.declared.leader.Promise.{Promise}
 use Rattle.mdcc_protocol.specs.declared.leader.PromiseAnswer.{PromiseAnswer}
-use Rattle.mdcc_protocol.specs.Messages.{to_all}
+use Rattle.mdcc_rules.specs.Messages.{to_all}
 use Rattle.mdcc_trace_rules.specs.Closed.{IsClosed}
 use Rattle.mdcc_trace_states.specs.Steps.{IsUp}
 

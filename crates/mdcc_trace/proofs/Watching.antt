@@ -18,10 +18,11 @@ use Rattle.mdcc_option.specs.declared.items.Part.{Part}
 use Rattle.mdcc_option.specs.Transaction.{choice_of, choices_of}
 use Rattle.mdcc_struct.specs.Maps.{value_of}
 use Rattle.mdcc_protocol.specs.Marks.{choice_in}
-use Rattle.mdcc_protocol.specs.declared.facts.Fact.{Fact}
+use Rattle.mdcc_messages.specs.declared.facts.Fact.{Fact}
 use Rattle.mdcc_protocol.specs.Facts.{choice_known, choice_of_tx, choice_voted, marks_voted, votes_of}
-use Rattle.mdcc_protocol.specs.Ledger.{Added, Entry, Valued, choices_begun, facts_of, mark_given}
-use Rattle.mdcc_protocol.specs.Allowed.{IsAllowed, is_allowed_classic_vote, is_allowed_fast_vote, is_allowed_kind, is_begun, is_fast_vote_begun, part_in}
+use Rattle.mdcc_ledger.specs.Ledger.{Added, Entry, Valued, choices_begun, facts_of, mark_given}
+use Rattle.mdcc_ledger.specs.AllowedLedgers.{IsAllowed, is_begun, is_fast_vote_begun, part_in}
+use Rattle.mdcc_ledger.specs.BootTest.{is_allowed_classic_vote, is_allowed_fast_vote, is_allowed_kind}
 use Rattle.mdcc_protocol.specs.Learner.{votes_on}
 use Rattle.mdcc_protocol.specs.Recover.{choice_accepted, choice_received}
 use Rattle.mdcc_protocol.specs.declared.votes.Vote.{Vote}

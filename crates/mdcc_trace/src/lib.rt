@@ -3,11 +3,13 @@
 
 ghost use Rattle.std.specs.Prelude.{◌≡◌, List, ℕ};
 ghost use Rattle.mdcc_option.specs.declared.cluster.Cluster.{Cluster};
-ghost use Rattle.mdcc_protocol.specs.Allowed.{IsAllowed};
-ghost use Rattle.mdcc_protocol.specs.Built.{Built};
+ghost use Rattle.mdcc_ledger.specs.AllowedLedgers.{IsAllowed};
+ghost use Rattle.mdcc_switches.specs.Built.{Built};
 ghost use Rattle.mdcc_protocol.specs.IsCluster.{IsCluster};
-ghost use Rattle.mdcc_protocol.specs.World.{Sent, first_world, run_of};
-ghost use Rattle.mdcc_protocol.specs.declared.events.Event.{Event};
+ghost use Rattle.mdcc_messages.specs.Mailbox.{Sent};
+ghost use Rattle.mdcc_simulation.specs.State.{first_world};
+ghost use Rattle.mdcc_simulation.specs.Runs.{run_of};
+ghost use Rattle.mdcc_language.specs.declared.events.Event.{Event};
 ghost use Rattle.mdcc_trace_states.specs.Invariant.{Holds};
 ghost use Rattle.mdcc_trace_states.specs.Sound.{IsSound};
 ghost use Rattle.mdcc_trace_states.specs.Standing.{IsBackedMessage};

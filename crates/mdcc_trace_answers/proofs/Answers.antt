@@ -11,30 +11,30 @@ use Rattle.mdcc_option.specs.declared.choices.Outcome.{Outcome}
 use Rattle.mdcc_option.specs.declared.choices.Choice.{Choice}
 use Rattle.mdcc_option.specs.declared.cluster.Cluster.{Cluster}
 use Rattle.mdcc_struct.specs.declared.options.Options.{Options}
-use Rattle.mdcc_protocol.specs.Allowed.{IsAllowed, IsBacked, is_valued, is_valued_as}
+use Rattle.mdcc_ledger.specs.AllowedLedgers.{IsAllowed, IsBacked, is_valued, is_valued_as}
 use Rattle.mdcc_protocol.specs.Belongs.{is_centre, message_belongs}
-use Rattle.mdcc_protocol.specs.Built.{Built}
+use Rattle.mdcc_switches.specs.Built.{Built}
 use Rattle.mdcc_protocol.specs.Facts.{current_of, epoch_of, heard_of}
 use Rattle.mdcc_protocol.specs.IsCluster.{IsCluster}
 use Rattle.mdcc_protocol.specs.Leader.{claim_of_choice, counted_promise, is_covered, is_promise_counted, is_waiting, lead, led_anew, led_by, next_round, on_promise, promise_taken, with_promise}
-use Rattle.mdcc_protocol.specs.LeaderRules.{lead_step_after, led_by_answer, promised_by_answer, step_of_led}
-use Rattle.mdcc_protocol.specs.Ledger.{Entry, Valued, facts_of}
+use Rattle.mdcc_rules.specs.LeaderRules.{lead_step_after, led_by_answer, promised_by_answer, step_of_led}
+use Rattle.mdcc_ledger.specs.Ledger.{Entry, Valued, facts_of}
 use Rattle.mdcc_protocol.specs.Marks.{accepts_in, options_eq, rejects_in}
 use Rattle.mdcc_protocol.specs.News.{is_crowding}
-use Rattle.mdcc_protocol.specs.Node.{checked, is_without_room, message_step, rule, step_of, with_room}
-use Rattle.mdcc_protocol.specs.Steps.{NodeStep}
+use Rattle.mdcc_rules.specs.Node.{checked, is_without_room, message_step, rule, step_of, with_room}
+use Rattle.mdcc_rules.specs.Steps.{NodeStep}
 use Rattle.mdcc_protocol.specs.Structures.{first_structure, is_crowded}
 use Rattle.mdcc_protocol.specs.Leader.{reports_of}
 use Rattle.mdcc_protocol.specs.Volatile.{Lead, Leading, Volatile, lead_of}
-use Rattle.mdcc_protocol.specs.declared.facts.Fact.{Fact}
+use Rattle.mdcc_messages.specs.declared.facts.Fact.{Fact}
 use Rattle.mdcc_protocol.specs.declared.leader.LeadAnswer.{LeadAnswer}
 use Rattle.mdcc_protocol.specs.declared.leader.LeadFault.{LeadFault}
 use Rattle.mdcc_protocol.specs.declared.leader.Promise.{Promise}
 use Rattle.mdcc_protocol.specs.declared.leader.PromiseAnswer.{PromiseAnswer}
-use Rattle.mdcc_protocol.specs.declared.messages.Envelope.{Envelope}
-use Rattle.mdcc_protocol.specs.declared.messages.Message.{Message}
-use Rattle.mdcc_protocol.specs.declared.node.Input.{Input}
-use Rattle.mdcc_protocol.specs.declared.node.StepFault.{StepFault}
+use Rattle.mdcc_messages.specs.declared.messages.Envelope.{Envelope}
+use Rattle.mdcc_messages.specs.declared.messages.Message.{Message}
+use Rattle.mdcc_rules.specs.declared.node.Input.{Input}
+use Rattle.mdcc_rules.specs.declared.node.StepFault.{StepFault}
 use Rattle.mdcc_agreement.specs.Laws.{IsLedger}
 use Rattle.mdcc_rooms.proofs.RoomTold.{room_sent}
 use Rattle.mdcc_trace_states.specs.Invariant.{IsGoodBy, IsGoodRoomy}

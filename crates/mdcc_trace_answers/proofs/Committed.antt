@@ -12,11 +12,11 @@ use Rattle.mdcc_option.specs.declared.items.Delta.{Delta}
 use Rattle.mdcc_option.specs.declared.items.Item.{Item}
 use Rattle.mdcc_option.specs.declared.items.Update.{Update}
 use Rattle.mdcc_struct.specs.Maps.{TxMap, union}
-use Rattle.mdcc_protocol.specs.Allowed.{IsBacked}
+use Rattle.mdcc_ledger.specs.AllowedLedgers.{IsBacked}
 use Rattle.mdcc_protocol.specs.Facts.{amounts_added, current_of, delta_given, deltas_at, deltas_from}
-use Rattle.mdcc_protocol.specs.Ledger.{Added, Entry, Valued, choices_begun, facts_of}
+use Rattle.mdcc_ledger.specs.Ledger.{Added, Entry, Valued, choices_begun, facts_of}
 use Rattle.mdcc_protocol.specs.Marks.{Amounts}
-use Rattle.mdcc_protocol.specs.declared.facts.Fact.{Fact}
+use Rattle.mdcc_messages.specs.declared.facts.Fact.{Fact}
 use Rattle.mdcc_agreement.specs.Laws.{IsCommit, IsLedger}
 use Rattle.mdcc_agreement.proofs.LawsTold.{commit_begun}
 use Rattle.mdcc_rooms.specs.Held.{IsBase, IsCommitted, IsCommittedAdd}

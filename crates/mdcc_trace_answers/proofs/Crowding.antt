@@ -18,13 +18,13 @@ use Rattle.mdcc_option.specs.declared.faults.BeginFault.{BeginFault}
 use Rattle.mdcc_option.specs.declared.items.Item.{Item}
 use Rattle.mdcc_option.specs.declared.items.Update.{Update}
 use Rattle.mdcc_struct.specs.Maps.{TxMap, value_of}
-use Rattle.mdcc_protocol.specs.Allowed.{IsAllowed, IsBacked, part_in}
+use Rattle.mdcc_ledger.specs.AllowedLedgers.{IsAllowed, IsBacked, part_in}
 use Rattle.mdcc_protocol.specs.Facts.{base_of, current_of, deltas_at, deltas_from, executed_of}
-use Rattle.mdcc_protocol.specs.Ledger.{Added, Entry, Valued, choices_begun, chosen_of, facts_of, outcome_of}
+use Rattle.mdcc_ledger.specs.Ledger.{Added, Entry, Valued, choices_begun, chosen_of, facts_of, outcome_of}
 use Rattle.mdcc_protocol.specs.Manager.{part_begin_fault, parts_begin_fault, update_begin_fault}
 use Rattle.mdcc_protocol.specs.Marks.{Amounts, choice_in, is_reject_found, is_write, outcome_of_marks}
 use Rattle.mdcc_protocol.specs.News.{is_crowding, keys_in}
-use Rattle.mdcc_protocol.specs.declared.facts.Fact.{Fact}
+use Rattle.mdcc_messages.specs.declared.facts.Fact.{Fact}
 use Rattle.mdcc_agreement.specs.Laws.{IsAbort, IsChosenAt, IsLedger}
 use Rattle.mdcc_agreement.proofs.LawsTold.{commit_begun}
 use Rattle.mdcc_rooms.specs.Held.{IsBase, IsCommittedAdd}

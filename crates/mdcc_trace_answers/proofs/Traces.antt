@@ -1,12 +1,15 @@
 -- The answers to all messages of a trace.
 use Rattle.std.proofs.Common.{List, refl, subst, sym, true, ◌≡◌}
 use Rattle.mdcc_option.specs.declared.cluster.Cluster.{Cluster}
-use Rattle.mdcc_protocol.specs.Built.{Built}
+use Rattle.mdcc_switches.specs.Built.{Built}
 use Rattle.mdcc_protocol.specs.IsCluster.{IsCluster}
-use Rattle.mdcc_protocol.specs.World.{Sent, World, centre_at, first_world, is_up_at, run_of, step_at}
-use Rattle.mdcc_protocol.specs.declared.events.Event.{Event}
-use Rattle.mdcc_protocol.specs.declared.messages.Envelope.{Envelope}
-use Rattle.mdcc_protocol.specs.declared.node.Input.{Input}
+use Rattle.mdcc_messages.specs.Mailbox.{Sent}
+use Rattle.mdcc_simulation.specs.State.{World, centre_at, first_world, is_up_at}
+use Rattle.mdcc_simulation.specs.Runs.{run_of}
+use Rattle.mdcc_simulation.specs.Stepping.{step_at}
+use Rattle.mdcc_language.specs.declared.events.Event.{Event}
+use Rattle.mdcc_messages.specs.declared.messages.Envelope.{Envelope}
+use Rattle.mdcc_rules.specs.declared.node.Input.{Input}
 use Rattle.mdcc_trace_states.specs.Sound.{IsSound}
 use Rattle.mdcc_trace_states.specs.Standing.{IsBackedMessage}
 use Rattle.mdcc_trace_states.proofs.Events.{is-up}

@@ -1,10 +1,12 @@
 -- Why a node may refuse a message in a trace.
 use Rattle.std.specs.Prelude.{Err, Ok, Result, ⊤}
-use Rattle.mdcc_protocol.specs.Built.{Built}
-use Rattle.mdcc_protocol.specs.Steps.{NodeStep}
-use Rattle.mdcc_protocol.specs.World.{Sent, World, is_up_at, step_at}
-use Rattle.mdcc_protocol.specs.declared.node.Input.{Input}
-use Rattle.mdcc_protocol.specs.declared.node.StepFault.{StepFault}
+use Rattle.mdcc_switches.specs.Built.{Built}
+use Rattle.mdcc_rules.specs.Steps.{NodeStep}
+use Rattle.mdcc_messages.specs.Mailbox.{Sent}
+use Rattle.mdcc_simulation.specs.State.{World, is_up_at}
+use Rattle.mdcc_simulation.specs.Stepping.{step_at}
+use Rattle.mdcc_rules.specs.declared.node.Input.{Input}
+use Rattle.mdcc_rules.specs.declared.node.StepFault.{StepFault}
 use Rattle.std.specs.Prelude.{true, ◌≡◌}
 use Rattle.mdcc_trace_states.specs.Words.{Each}
 

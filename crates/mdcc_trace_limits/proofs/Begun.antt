@@ -13,10 +13,10 @@ use Rattle.mdcc_option.specs.declared.faults.DraftFault.TheVariants.{Empty, TooM
 use Rattle.mdcc_option.specs.declared.items.Part.{Part}
 use Rattle.mdcc_option.specs.declared.schema.Schema.{Schema}
 use Rattle.mdcc_struct.specs.Maps.{TxMap, value_of}
-use Rattle.mdcc_protocol.specs.Allowed.{IsAllowed, part_in}
+use Rattle.mdcc_ledger.specs.AllowedLedgers.{IsAllowed, part_in}
 use Rattle.mdcc_protocol.specs.Facts.{is_heard, unresolved_of, write_sets_of}
 use Rattle.mdcc_protocol.specs.Fit.{has_tx}
-use Rattle.mdcc_protocol.specs.Ledger.{Added, Entry, Valued, choices_begun, facts_of}
+use Rattle.mdcc_ledger.specs.Ledger.{Added, Entry, Valued, choices_begun, facts_of}
 use Rattle.mdcc_protocol.specs.Manager.{keys_of_choices}
 use Rattle.mdcc_protocol.specs.Recover.{dangling}
 use Rattle.mdcc_trace_states.specs.Sound.{IsSound}

@@ -15,35 +15,35 @@ use Rattle.mdcc_option.specs.declared.choices.Outcome.{Outcome}
 use Rattle.mdcc_option.specs.declared.cluster.Cluster.{Cluster}
 use Rattle.mdcc_struct.specs.declared.options.Options.{Options}
 use Rattle.mdcc_protocol.specs.Acceptor.{answer_to_marks, new_marks, on_accept, on_prepare, on_propose, promise_answer, range_end}
-use Rattle.mdcc_protocol.specs.AcceptorRules.{accepted_step, all_votes_sent, ask_step_by, prepared_step, proposed_step, votes_sent}
-use Rattle.mdcc_protocol.specs.Built.{Built}
+use Rattle.mdcc_rules.specs.AcceptorRules.{accepted_step, all_votes_sent, ask_step_by, prepared_step, proposed_step, votes_sent}
+use Rattle.mdcc_switches.specs.Built.{Built}
 use Rattle.mdcc_protocol.specs.Facts.{current_of, epoch_of, heard_of, is_heard, promise_of, promised_through, vote_of}
 use Rattle.mdcc_protocol.specs.Leader.{claim_of_choice, is_marked, lead, on_promise}
-use Rattle.mdcc_protocol.specs.LeaderRules.{Led, lead_entries, lead_sent, lead_step_after, led_by_answer, led_of, promise_entries, promise_sent, promised_by_answer, step_of_led}
-use Rattle.mdcc_protocol.specs.Ledger.{Entry, Valued, facts_of}
+use Rattle.mdcc_rules.specs.LeaderRules.{Led, lead_entries, lead_sent, lead_step_after, led_by_answer, led_of, promise_entries, promise_sent, promised_by_answer, step_of_led}
+use Rattle.mdcc_ledger.specs.Ledger.{Entry, Valued, facts_of}
 use Rattle.mdcc_protocol.specs.Manager
 use Rattle.mdcc_protocol.specs.Manager.{act_at, act_on_cause, acted, acts_at, begin_by, begin_fault, choices_unlearned, is_odd, keys_of_choices, ticked_transaction, vote_taken}
-use Rattle.mdcc_protocol.specs.ManagerRules.{act_sent, acted_step, decided_step, opened_step, undecided_step, voted_step, watched_step}
+use Rattle.mdcc_rules.specs.ManagerRules.{act_sent, acted_step, decided_step, opened_step, undecided_step, voted_step, watched_step}
 use Rattle.mdcc_protocol.specs.Marks.{is_accept}
 use Rattle.mdcc_protocol.specs.News.{is_crowding, is_news}
-use Rattle.mdcc_protocol.specs.Node.{checked, is_without_room, message_step, rule, with_room}
+use Rattle.mdcc_rules.specs.Node.{checked, is_without_room, message_step, rule, with_room}
 use Rattle.mdcc_protocol.specs.Recover
 use Rattle.mdcc_protocol.specs.Recover.{acts_on, ask_of, claim_of_key, counted_tick, dangling, keys_led}
-use Rattle.mdcc_protocol.specs.Steps.{NodeStep, adding, nothing_done, sending}
-use Rattle.mdcc_protocol.specs.SyncRules.{give_sent_by, outcome_step_by, sync_give_step_by}
+use Rattle.mdcc_rules.specs.Steps.{NodeStep, adding, nothing_done, sending}
+use Rattle.mdcc_rules.specs.SyncRules.{give_sent_by, outcome_step_by, sync_give_step_by}
 use Rattle.mdcc_protocol.specs.Visible.{on_outcome, on_sync_ask}
 use Rattle.mdcc_protocol.specs.Volatile.{Leading, Managing, Volatile, closed, is_open, lead_of, with_manager, with_recovery}
 use Rattle.mdcc_protocol.specs.declared.acceptor.AcceptAnswer.{AcceptAnswer}
 use Rattle.mdcc_protocol.specs.declared.acceptor.PrepareAnswer.{PrepareAnswer}
 use Rattle.mdcc_protocol.specs.declared.acceptor.ProposeAnswer.{ProposeAnswer}
-use Rattle.mdcc_protocol.specs.declared.facts.Fact.{Fact}
+use Rattle.mdcc_messages.specs.declared.facts.Fact.{Fact}
 use Rattle.mdcc_protocol.specs.declared.leader.LeadAnswer.{LeadAnswer}
 use Rattle.mdcc_protocol.specs.declared.leader.LeadFault.{LeadFault}
 use Rattle.mdcc_protocol.specs.declared.leader.PromiseAnswer.{PromiseAnswer}
 use Rattle.mdcc_protocol.specs.declared.manager.ManagerAct.{ManagerAct}
-use Rattle.mdcc_protocol.specs.declared.messages.Envelope.{Envelope}
-use Rattle.mdcc_protocol.specs.declared.messages.Message.{Message}
-use Rattle.mdcc_protocol.specs.declared.node.StepFault.{StepFault}
+use Rattle.mdcc_messages.specs.declared.messages.Envelope.{Envelope}
+use Rattle.mdcc_messages.specs.declared.messages.Message.{Message}
+use Rattle.mdcc_rules.specs.declared.node.StepFault.{StepFault}
 use Rattle.mdcc_protocol.specs.declared.visible.Give.{Give}
 use Rattle.mdcc_protocol.specs.declared.votes.Vote.{Vote}
 use Rattle.mdcc_trace_rules.proofs.Begins.{Each-flat_map}

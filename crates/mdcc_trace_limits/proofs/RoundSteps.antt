@@ -15,18 +15,18 @@ use Rattle.mdcc_struct.specs.Maps.{value_of}
 use Rattle.mdcc_struct.specs.declared.options.Options.{Options}
 use Rattle.mdcc_protocol.specs.Facts.{ballot_promised, current_of, epoch_of, promise_of}
 use Rattle.mdcc_protocol.specs.Leader.{counted_promise, is_covered, is_promise_counted, is_waiting, lead, lead_begun, led_again, led_anew, led_by, led_on, next_round, on_promise, promise_taken, refused_by, structure_made, with_promise, with_refused}
-use Rattle.mdcc_protocol.specs.LeaderRules.{Led, lead_sent, led_by_answer, led_of, promised_by_answer}
-use Rattle.mdcc_protocol.specs.Messages.{to_all, to_each, to_others}
+use Rattle.mdcc_rules.specs.LeaderRules.{Led, lead_sent, led_by_answer, led_of, promised_by_answer}
+use Rattle.mdcc_rules.specs.Messages.{to_all, to_each, to_others}
 use Rattle.mdcc_protocol.specs.Structures.{first_structure, is_crowded, with_choice, with_claim}
 use Rattle.mdcc_protocol.specs.Leader.{reports_of}
 use Rattle.mdcc_protocol.specs.Volatile.{Lead, Leading, lead_of, number_at, structure_at, with_lead, with_number, with_structure}
-use Rattle.mdcc_protocol.specs.declared.facts.Fact.{Fact}
+use Rattle.mdcc_messages.specs.declared.facts.Fact.{Fact}
 use Rattle.mdcc_protocol.specs.declared.leader.LeadAnswer.{LeadAnswer}
 use Rattle.mdcc_protocol.specs.declared.leader.LeadFault.{LeadFault}
 use Rattle.mdcc_protocol.specs.declared.leader.Promise.{Promise}
 use Rattle.mdcc_protocol.specs.declared.leader.PromiseAnswer.{PromiseAnswer}
-use Rattle.mdcc_protocol.specs.declared.messages.Envelope.{Envelope}
-use Rattle.mdcc_protocol.specs.declared.messages.Message.{Message}
+use Rattle.mdcc_messages.specs.declared.messages.Envelope.{Envelope}
+use Rattle.mdcc_messages.specs.declared.messages.Message.{Message}
 use Rattle.mdcc_trace_states.specs.Words.{Each, In}
 use Rattle.mdcc_trace_states.proofs.Lists.{Each-at, Each-filter, Each-like}
 use Rattle.mdcc_trace_states.proofs.Tests.{Decides-key}

@@ -12,23 +12,23 @@ use Rattle.mdcc_option.specs.Parts.{are_ascending}
 use Rattle.mdcc_option.specs.declared.choices.Choice.{Choice}
 use Rattle.mdcc_option.specs.declared.choices.Claim.{Claim}
 use Rattle.mdcc_option.specs.declared.cluster.Cluster.{Cluster}
-use Rattle.mdcc_protocol.specs.Allowed.{IsAllowed, part_in}
-use Rattle.mdcc_protocol.specs.Built.{Built}
+use Rattle.mdcc_ledger.specs.AllowedLedgers.{IsAllowed, part_in}
+use Rattle.mdcc_switches.specs.Built.{Built}
 use Rattle.mdcc_protocol.specs.Leader.{claim_of_choice}
-use Rattle.mdcc_protocol.specs.LeaderRules.{Led, led_of}
+use Rattle.mdcc_rules.specs.LeaderRules.{Led, led_of}
 use Rattle.mdcc_protocol.specs.Learner.{is_learned}
-use Rattle.mdcc_protocol.specs.Ledger.{Entry, choices_begun, facts_of}
+use Rattle.mdcc_ledger.specs.Ledger.{Entry, choices_begun, facts_of}
 use Rattle.mdcc_protocol.specs.Manager
 use Rattle.mdcc_protocol.specs.Manager.{act_at, acts_at, choices_unlearned, is_odd, keys_of_choices}
 use Rattle.mdcc_protocol.specs.Recover.{acts_on, ask_of, claim_of_key, counted_tick, dangling, keys_led}
-use Rattle.mdcc_protocol.specs.TickRules.{Ticked, and_then, claim_led, led_or_left, manager_act, manager_ticked, recovery_act, recovery_ticked, tick_parts, ticked}
+use Rattle.mdcc_rules.specs.TickRules.{Ticked, and_then, claim_led, led_or_left, manager_act, manager_ticked, recovery_act, recovery_ticked, tick_parts, ticked}
 use Rattle.mdcc_protocol.specs.Volatile.{Recovering, Undecided, Volatile, counter_of, next_count, txs_opened, with_manager, with_recovery}
-use Rattle.mdcc_protocol.specs.World.{World, centre_at}
-use Rattle.mdcc_protocol.specs.declared.facts.Fact.{Fact}
+use Rattle.mdcc_simulation.specs.State.{World, centre_at}
+use Rattle.mdcc_messages.specs.declared.facts.Fact.{Fact}
 use Rattle.mdcc_protocol.specs.declared.leader.LeadFault.{LeadFault}
 use Rattle.mdcc_protocol.specs.declared.manager.ManagerAct.{ManagerAct}
-use Rattle.mdcc_protocol.specs.declared.messages.Envelope.{Envelope}
-use Rattle.mdcc_protocol.specs.declared.messages.Message.{Message}
+use Rattle.mdcc_messages.specs.declared.messages.Envelope.{Envelope}
+use Rattle.mdcc_messages.specs.declared.messages.Message.{Message}
 use Rattle.mdcc_protocol.specs.declared.recover.RecoverAct.{RecoverAct}
 use Rattle.mdcc_protocol.specs.declared.votes.Vote.{Vote}
 use Rattle.mdcc_trace_states.specs.Keeping.{IsOpened}

@@ -12,24 +12,28 @@ use Rattle.mdcc_option.specs.declared.cluster.Cluster.{Cluster}
 use Rattle.mdcc_option.specs.declared.faults.BeginFault.{BeginFault}
 use Rattle.mdcc_option.specs.declared.items.Part.{Part}
 use Rattle.mdcc_protocol.specs.Belongs.{is_centre}
-use Rattle.mdcc_protocol.specs.Built.{Built}
+use Rattle.mdcc_switches.specs.Built.{Built}
 use Rattle.mdcc_protocol.specs.Facts.{epoch_of, promise_of}
 use Rattle.mdcc_protocol.specs.IsCluster.{IsCluster}
 use Rattle.mdcc_protocol.specs.Leader.{next_round}
-use Rattle.mdcc_protocol.specs.Ledger.{Added, Entry, facts_of}
+use Rattle.mdcc_ledger.specs.Ledger.{Added, Entry, facts_of}
 use Rattle.mdcc_protocol.specs.Manager.{begin_by, begin_fault}
-use Rattle.mdcc_protocol.specs.ManagerRules.{begin_step_by, proposals_sent}
-use Rattle.mdcc_protocol.specs.Messages.{to_all}
-use Rattle.mdcc_protocol.specs.Node.{checked, message_step}
-use Rattle.mdcc_protocol.specs.Steps.{NodeStep}
+use Rattle.mdcc_rules.specs.ManagerRules.{begin_step_by, proposals_sent}
+use Rattle.mdcc_rules.specs.Messages.{to_all}
+use Rattle.mdcc_rules.specs.Node.{checked, message_step}
+use Rattle.mdcc_rules.specs.Steps.{NodeStep}
 use Rattle.mdcc_protocol.specs.Volatile.{Volatile, number_at}
-use Rattle.mdcc_protocol.specs.World.{Sent, Site, World, booted, booted_to, centre_at, down, fact_happened, first_world, input_happened, is_frame_kept, restart_happened, run_of, step_at, step_happened_by, step_stopped, unsent}
-use Rattle.mdcc_protocol.specs.declared.events.Event.{Event}
-use Rattle.mdcc_protocol.specs.declared.facts.Fact.{Fact}
-use Rattle.mdcc_protocol.specs.declared.messages.Envelope.{Envelope}
-use Rattle.mdcc_protocol.specs.declared.messages.Message.{Message}
-use Rattle.mdcc_protocol.specs.declared.node.Input.{Input}
-use Rattle.mdcc_protocol.specs.declared.node.StepFault.{StepFault}
+use Rattle.mdcc_messages.specs.Mailbox.{Sent, unsent}
+use Rattle.mdcc_simulation.specs.State.{Site, World, booted, booted_to, centre_at, down, first_world}
+use Rattle.mdcc_simulation.specs.Stepping.{fact_happened, input_happened, is_frame_kept, step_at, step_happened_by, step_stopped}
+use Rattle.mdcc_simulation.specs.Centres.{restart_happened}
+use Rattle.mdcc_simulation.specs.Runs.{run_of}
+use Rattle.mdcc_language.specs.declared.events.Event.{Event}
+use Rattle.mdcc_messages.specs.declared.facts.Fact.{Fact}
+use Rattle.mdcc_messages.specs.declared.messages.Envelope.{Envelope}
+use Rattle.mdcc_messages.specs.declared.messages.Message.{Message}
+use Rattle.mdcc_rules.specs.declared.node.Input.{Input}
+use Rattle.mdcc_rules.specs.declared.node.StepFault.{StepFault}
 use Rattle.mdcc_base.specs.Quorums.{all_centres}
 use Rattle.mdcc_trace_states.specs.Invariant.{Holds}
 use Rattle.mdcc_trace_states.specs.Sound.{IsSound}

@@ -14,24 +14,26 @@ use Rattle.mdcc_option.specs.declared.faults.BeginFault.{BeginFault}
 use Rattle.mdcc_option.specs.declared.items.Part.{Part}
 use Rattle.mdcc_struct.specs.Maps.{TxMap}
 use Rattle.mdcc_protocol.specs.Belongs.{is_centre}
-use Rattle.mdcc_protocol.specs.Built.{Built}
+use Rattle.mdcc_switches.specs.Built.{Built}
 use Rattle.mdcc_protocol.specs.Facts.{epoch_of}
 use Rattle.mdcc_protocol.specs.IsCluster.{IsCluster}
-use Rattle.mdcc_protocol.specs.Ledger.{choices_begun, facts_of}
+use Rattle.mdcc_ledger.specs.Ledger.{choices_begun, facts_of}
 use Rattle.mdcc_protocol.specs.Manager
 use Rattle.mdcc_protocol.specs.Manager.{acts_at, begin_by, begin_fault, parts_begin_fault, ticked_transaction}
-use Rattle.mdcc_protocol.specs.ManagerRules.{begin_step_by}
-use Rattle.mdcc_protocol.specs.Node.{checked, message_step, step_of}
+use Rattle.mdcc_rules.specs.ManagerRules.{begin_step_by}
+use Rattle.mdcc_rules.specs.Node.{checked, message_step, step_of}
 use Rattle.mdcc_protocol.specs.Recover.{acts_on, counted_tick, dangling}
-use Rattle.mdcc_protocol.specs.Steps.{NodeStep}
-use Rattle.mdcc_protocol.specs.TickRules.{Ticked, manager_act, manager_ticked, recovery_act, recovery_ticked, tick_parts, ticked}
+use Rattle.mdcc_rules.specs.Steps.{NodeStep}
+use Rattle.mdcc_rules.specs.TickRules.{Ticked, manager_act, manager_ticked, recovery_act, recovery_ticked, tick_parts, ticked}
 use Rattle.mdcc_protocol.specs.Volatile.{Managing, Recovering, Undecided, Volatile, txs_opened, with_manager, with_recovery}
-use Rattle.mdcc_protocol.specs.World.{Site, World, booted, booted_to, centre_at, down, fact_happened, first_world, input_happened, is_frame_kept, is_up_at, run_of, step_at, step_happened_by, step_stopped}
-use Rattle.mdcc_protocol.specs.declared.events.Event.{Event}
-use Rattle.mdcc_protocol.specs.declared.facts.Fact.{Fact}
-use Rattle.mdcc_protocol.specs.declared.messages.Envelope.{Envelope}
-use Rattle.mdcc_protocol.specs.declared.node.Input.{Input}
-use Rattle.mdcc_protocol.specs.declared.node.StepFault.{StepFault}
+use Rattle.mdcc_simulation.specs.State.{Site, World, booted, booted_to, centre_at, down, first_world, is_up_at}
+use Rattle.mdcc_simulation.specs.Stepping.{fact_happened, input_happened, is_frame_kept, step_at, step_happened_by, step_stopped}
+use Rattle.mdcc_simulation.specs.Runs.{run_of}
+use Rattle.mdcc_language.specs.declared.events.Event.{Event}
+use Rattle.mdcc_messages.specs.declared.facts.Fact.{Fact}
+use Rattle.mdcc_messages.specs.declared.messages.Envelope.{Envelope}
+use Rattle.mdcc_rules.specs.declared.node.Input.{Input}
+use Rattle.mdcc_rules.specs.declared.node.StepFault.{StepFault}
 use Rattle.mdcc_trace_states.specs.Invariant.{Holds}
 use Rattle.mdcc_trace_states.specs.Keeping.{IsOpened}
 use Rattle.mdcc_trace_states.specs.Sound.{IsSound}

@@ -17,36 +17,36 @@ use Rattle.mdcc_option.specs.declared.choices.Outcome.{Outcome}
 use Rattle.mdcc_option.specs.declared.cluster.Cluster.{Cluster}
 use Rattle.mdcc_struct.specs.declared.options.Options.{Options}
 use Rattle.mdcc_protocol.specs.Acceptor.{on_accept, on_prepare, on_propose}
-use Rattle.mdcc_protocol.specs.AcceptorRules.{accepted_step, ask_step_by, prepared_step, proposed_step}
-use Rattle.mdcc_protocol.specs.Built.{Built}
+use Rattle.mdcc_rules.specs.AcceptorRules.{accepted_step, ask_step_by, prepared_step, proposed_step}
+use Rattle.mdcc_switches.specs.Built.{Built}
 use Rattle.mdcc_protocol.specs.Facts.{epoch_of, heard_of, is_heard, vote_of}
 use Rattle.mdcc_protocol.specs.Leader.{claim_of_choice, is_marked, lead}
-use Rattle.mdcc_protocol.specs.LeaderRules.{Led, lead_step_after, led_by_answer, led_of, promised_by_answer, step_of_led}
+use Rattle.mdcc_rules.specs.LeaderRules.{Led, lead_step_after, led_by_answer, led_of, promised_by_answer, step_of_led}
 use Rattle.mdcc_protocol.specs.Learner.{is_learned}
-use Rattle.mdcc_protocol.specs.Ledger.{Entry, Valued}
+use Rattle.mdcc_ledger.specs.Ledger.{Entry, Valued}
 use Rattle.mdcc_protocol.specs.Manager
 use Rattle.mdcc_protocol.specs.Manager.{act_on_cause, act_on_vote, acted, acts_at, begin_by, begin_fault, choices_unlearned, parts_begin_fault, vote_taken}
-use Rattle.mdcc_protocol.specs.ManagerRules.{acted_step, decided_step, escalate_step, opened_step, undecided_step, voted_step, watched_step}
-use Rattle.mdcc_protocol.specs.Node.{checked, is_without_room, message_step, rule, with_room}
+use Rattle.mdcc_rules.specs.ManagerRules.{acted_step, decided_step, escalate_step, opened_step, undecided_step, voted_step, watched_step}
+use Rattle.mdcc_rules.specs.Node.{checked, is_without_room, message_step, rule, with_room}
 use Rattle.mdcc_protocol.specs.News.{is_crowding}
 use Rattle.mdcc_protocol.specs.Recover
 use Rattle.mdcc_protocol.specs.Recover.{acts_on, ask_of, claim_of_key, keys_led}
-use Rattle.mdcc_protocol.specs.Steps.{NodeStep, adding, nothing_done, sending}
-use Rattle.mdcc_protocol.specs.SyncRules.{outcome_step_by, sync_give_step_by}
-use Rattle.mdcc_protocol.specs.TickRules.{Ticked, and_then, claim_led, led_or_left, manager_act, recovery_act, ticked}
+use Rattle.mdcc_rules.specs.Steps.{NodeStep, adding, nothing_done, sending}
+use Rattle.mdcc_rules.specs.SyncRules.{outcome_step_by, sync_give_step_by}
+use Rattle.mdcc_rules.specs.TickRules.{Ticked, and_then, claim_led, led_or_left, manager_act, recovery_act, ticked}
 use Rattle.mdcc_protocol.specs.Visible.{on_outcome, on_sync_give}
 use Rattle.mdcc_protocol.specs.Volatile.{Leading, Managing, Recovering, Undecided, Volatile, closed, counter_of, is_open, next_count, with_manager, with_recovery}
 use Rattle.mdcc_protocol.specs.declared.acceptor.AcceptAnswer.{AcceptAnswer}
 use Rattle.mdcc_protocol.specs.declared.acceptor.PrepareAnswer.{PrepareAnswer}
 use Rattle.mdcc_protocol.specs.declared.acceptor.ProposeAnswer.{ProposeAnswer}
-use Rattle.mdcc_protocol.specs.declared.facts.Fact.{Fact}
+use Rattle.mdcc_messages.specs.declared.facts.Fact.{Fact}
 use Rattle.mdcc_protocol.specs.declared.leader.LeadAnswer.{LeadAnswer}
 use Rattle.mdcc_protocol.specs.declared.leader.LeadFault.{LeadFault}
 use Rattle.mdcc_protocol.specs.declared.leader.PromiseAnswer.{PromiseAnswer}
 use Rattle.mdcc_protocol.specs.declared.manager.ManagerAct.{ManagerAct}
-use Rattle.mdcc_protocol.specs.declared.messages.Envelope.{Envelope}
-use Rattle.mdcc_protocol.specs.declared.messages.Message.{Message}
-use Rattle.mdcc_protocol.specs.declared.node.StepFault.{StepFault}
+use Rattle.mdcc_messages.specs.declared.messages.Envelope.{Envelope}
+use Rattle.mdcc_messages.specs.declared.messages.Message.{Message}
+use Rattle.mdcc_rules.specs.declared.node.StepFault.{StepFault}
 use Rattle.mdcc_protocol.specs.declared.recover.RecoverAct.{RecoverAct}
 use Rattle.mdcc_protocol.specs.declared.votes.Vote.{Vote}
 use Rattle.mdcc_trace_states.specs.Words.{Each}

@@ -5,12 +5,13 @@ ghost use Rattle.std.specs.Prelude.{◌≡◌, ◌<◌, ◌≤◌, ◌-◌, ◌^
 ghost use Rattle.mdcc_base.specs.declared.key.Key.{Key};
 ghost use Rattle.mdcc_option.specs.declared.cluster.Cluster.{Cluster};
 ghost use Rattle.mdcc_protocol.specs.Belongs.{is_centre};
-ghost use Rattle.mdcc_protocol.specs.Built.{Built};
+ghost use Rattle.mdcc_switches.specs.Built.{Built};
 ghost use Rattle.mdcc_protocol.specs.IsCluster.{IsCluster};
 ghost use Rattle.mdcc_protocol.specs.Leader.{next_round};
-ghost use Rattle.mdcc_protocol.specs.Ledger.{facts_of};
-ghost use Rattle.mdcc_protocol.specs.World.{centre_at, first_world, run_of};
-ghost use Rattle.mdcc_protocol.specs.declared.events.Event.{Event};
+ghost use Rattle.mdcc_ledger.specs.Ledger.{facts_of};
+ghost use Rattle.mdcc_simulation.specs.State.{centre_at, first_world};
+ghost use Rattle.mdcc_simulation.specs.Runs.{run_of};
+ghost use Rattle.mdcc_language.specs.declared.events.Event.{Event};
 
 /// Where the number of events is limited, the ledger of a trace is shorter than 2^64, as the laws of allowed ledgers ask.
 pub fn ledgers_stay_short()

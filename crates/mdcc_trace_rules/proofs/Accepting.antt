@@ -14,15 +14,16 @@ use Rattle.mdcc_option.specs.declared.cluster.Cluster.{Cluster}
 use Rattle.mdcc_option.specs.declared.choices.Mark.{Mark}
 use Rattle.mdcc_struct.specs.declared.options.Options.{Options}
 use Rattle.mdcc_struct.specs.Maps.{union, value_of}
-use Rattle.mdcc_protocol.specs.declared.facts.Fact.{Fact}
+use Rattle.mdcc_messages.specs.declared.facts.Fact.{Fact}
 use Rattle.mdcc_protocol.specs.Facts.{current_of, is_heard, marks_voted, promise_of, votes_of}
 use Rattle.mdcc_protocol.specs.declared.acceptor.AcceptAnswer.{AcceptAnswer}
-use Rattle.mdcc_protocol.specs.AcceptorRules.{accept_step, accepted_step, all_votes_sent, votes_sent}
+use Rattle.mdcc_rules.specs.AcceptorRules.{accept_step, accepted_step, all_votes_sent, votes_sent}
 use Rattle.mdcc_protocol.specs.Acceptor.{answer_to_marks, new_marks, on_accept}
-use Rattle.mdcc_protocol.specs.Ledger.{Added, Entry, facts_of, mark_given}
-use Rattle.mdcc_protocol.specs.Allowed.{IsAllowed, IsBacked, IsSent, is_allowed_kind, is_valued}
+use Rattle.mdcc_ledger.specs.Ledger.{Added, Entry, facts_of, mark_given}
+use Rattle.mdcc_ledger.specs.AllowedLedgers.{IsAllowed, IsBacked, IsSent, is_valued}
+use Rattle.mdcc_ledger.specs.BootTest.{is_allowed_kind}
 use Rattle.mdcc_protocol.specs.Belongs.{ballot_belongs, mark_belongs, options_belong, tx_belongs}
-use Rattle.mdcc_protocol.specs.declared.messages.Message.{Message}
+use Rattle.mdcc_messages.specs.declared.messages.Message.{Message}
 use Rattle.mdcc_protocol.specs.Volatile.{Volatile}
 use Rattle.mdcc_trace_states.specs.Words.{Each, In}
 use Rattle.mdcc_trace_states.specs.Invariant.{IsGoodBy}

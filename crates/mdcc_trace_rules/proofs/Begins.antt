@@ -13,15 +13,15 @@ use Rattle.mdcc_option.specs.declared.items.Part.{Part}
 use Rattle.mdcc_option.specs.Parts.{are_ascending}
 use Rattle.mdcc_option.specs.Transaction.{choices_of, transaction_of}
 use Rattle.mdcc_protocol.specs.Facts.{epoch_of}
-use Rattle.mdcc_protocol.specs.Ledger.{Entry, choices_begun, facts_of}
+use Rattle.mdcc_ledger.specs.Ledger.{Entry, choices_begun, facts_of}
 use Rattle.mdcc_protocol.specs.Belongs.{is_centre}
-use Rattle.mdcc_protocol.specs.Allowed.{IsAllowed, IsAllowedBegun, is_begun, part_in, seqs_begun}
-use Rattle.mdcc_protocol.specs.declared.messages.Envelope.{Envelope}
-use Rattle.mdcc_protocol.specs.declared.messages.Message.{Message}
-use Rattle.mdcc_protocol.specs.Messages.{to_all, to_each}
+use Rattle.mdcc_ledger.specs.AllowedLedgers.{IsAllowed, IsAllowedBegun, is_begun, part_in, seqs_begun}
+use Rattle.mdcc_messages.specs.declared.messages.Envelope.{Envelope}
+use Rattle.mdcc_messages.specs.declared.messages.Message.{Message}
+use Rattle.mdcc_rules.specs.Messages.{to_all, to_each}
 use Rattle.mdcc_protocol.specs.Manager
 use Rattle.mdcc_protocol.specs.Manager.{begin_by, begin_fault, parts_begin_fault}
-use Rattle.mdcc_protocol.specs.ManagerRules.{begin_step, begin_step_by, begun_step}
+use Rattle.mdcc_rules.specs.ManagerRules.{begin_step, begin_step_by, begun_step}
 use Rattle.mdcc_protocol.specs.Volatile.{Volatile}
 use Rattle.mdcc_trace_states.specs.Words.{Each, In}
 use Rattle.mdcc_trace_states.specs.Invariant.{IsGood, IsGoodStep}

@@ -19,11 +19,12 @@ use Rattle.mdcc_struct.specs.Maps.{TxMap, inserted, union, value_of, with_entry}
 use Rattle.mdcc_struct.specs.declared.report.Report.{Report}
 use Rattle.mdcc_struct.specs.Forced.{ballot_reported, forced_of, marks_reported, reports_with}
 use Rattle.mdcc_protocol.specs.Marks.{options_eq}
-use Rattle.mdcc_protocol.specs.declared.facts.Fact.{Fact}
+use Rattle.mdcc_messages.specs.declared.facts.Fact.{Fact}
 use Rattle.mdcc_protocol.specs.Facts.{votes_of}
 use Rattle.mdcc_protocol.specs.Structures.{all_claims, first_structure, is_left_out, mark_of_choice, with_claim}
-use Rattle.mdcc_protocol.specs.Ledger.{Added, Entry, Valued, facts_of, structure_valued}
-use Rattle.mdcc_protocol.specs.Allowed.{IsAllowed, IsMade, IsSent, are_apart, is_valued, is_valued_as, reports_at}
+use Rattle.mdcc_ledger.specs.Ledger.{Added, Entry, Valued, facts_of, structure_valued}
+use Rattle.mdcc_ledger.specs.AllowedLedgers.{IsAllowed, IsMade, IsSent, is_valued, is_valued_as, reports_at}
+use Rattle.mdcc_ledger.specs.AllowedFacts.{are_apart}
 use Rattle.mdcc_trace_rules.specs.Laws.{Extends}
 use Rattle.mdcc_trace_states.specs.Words.{In, IsTail}
 use Rattle.mdcc_trace_states.proofs.Tests.{Decides-ballot, Decides-key, Decides-options, Decides-tx}

@@ -16,9 +16,9 @@ use Rattle.mdcc_option.specs.declared.choices.Mark.{Mark}
 use Rattle.mdcc_option.specs.Equality.{mark_eq}
 use Rattle.mdcc_struct.specs.Options.{is_mark}
 use Rattle.mdcc_struct.specs.Maps.{union, value_of}
-use Rattle.mdcc_protocol.specs.declared.facts.Fact.{Fact}
+use Rattle.mdcc_messages.specs.declared.facts.Fact.{Fact}
 use Rattle.mdcc_protocol.specs.Facts.{marks_voted, votes_of}
-use Rattle.mdcc_protocol.specs.Ledger.{Added, Entry, Valued, ballots_voted, chosen_at, chosen_of, facts_of, is_mark_of_quorum, mark_given, marks_given, with_ballot}
+use Rattle.mdcc_ledger.specs.Ledger.{Added, Entry, Valued, ballots_voted, chosen_at, chosen_of, facts_of, is_mark_of_quorum, mark_given, marks_given, with_ballot}
 use Rattle.mdcc_trace_states.specs.Words.{In, count}
 use Rattle.mdcc_trace_states.specs.Sound.{HasOneMark, IsChosen}
 use Rattle.mdcc_trace_states.proofs.Tests.{Decides-ballot, Decides-is_mark}

@@ -17,8 +17,8 @@ use Rattle.mdcc_option.specs.declared.items.Part.{Part}
 use Rattle.mdcc_option.specs.Transaction.{choice_of, choices_of}
 use Rattle.mdcc_struct.specs.Maps.{TxMap, value_of}
 use Rattle.mdcc_protocol.specs.Marks.{choice_in, is_reject_found, outcome_of_marks}
-use Rattle.mdcc_protocol.specs.Ledger.{Added, Entry, Valued, choices_begun}
-use Rattle.mdcc_protocol.specs.Allowed.{IsAllowed, part_in}
+use Rattle.mdcc_ledger.specs.Ledger.{Added, Entry, Valued, choices_begun}
+use Rattle.mdcc_ledger.specs.AllowedLedgers.{IsAllowed, part_in}
 use Rattle.mdcc_protocol.specs.Belongs.{choice_belongs, mark_belongs, outcome_belongs}
 use Rattle.mdcc_protocol.specs.Learner.{decision_of, has_quorum, learned, lower_vote, votes_on}
 use Rattle.mdcc_protocol.specs.Manager.{keys_of_choices}

@@ -2,13 +2,13 @@
 use Rattle.std.proofs.Common.{◌≡◌, ℕ, false, List, sym, ◌∙◌, subst, inl, inr, refl, Option, None, Some, Result, Ok, Err}
 use Rattle.std.proofs.lemmas.Bool.{cases_Bool}
 use Rattle.mdcc_option.specs.declared.cluster.Cluster.{Cluster}
-use Rattle.mdcc_protocol.specs.Built.{Built}
-use Rattle.mdcc_protocol.specs.Ledger.{Entry, facts_of}
+use Rattle.mdcc_switches.specs.Built.{Built}
+use Rattle.mdcc_ledger.specs.Ledger.{Entry, facts_of}
 use Rattle.mdcc_protocol.specs.News.{is_crowding}
-use Rattle.mdcc_protocol.specs.Node.{checked, is_without_room, with_room}
-use Rattle.mdcc_protocol.specs.Steps.{NodeStep}
-use Rattle.mdcc_protocol.specs.declared.facts.Fact.{Fact}
-use Rattle.mdcc_protocol.specs.declared.node.StepFault.{StepFault}
+use Rattle.mdcc_rules.specs.Node.{checked, is_without_room, with_room}
+use Rattle.mdcc_rules.specs.Steps.{NodeStep}
+use Rattle.mdcc_messages.specs.declared.facts.Fact.{Fact}
+use Rattle.mdcc_rules.specs.declared.node.StepFault.{StepFault}
 use Rattle.mdcc_trace_states.specs.Invariant.{IsGood, IsGoodRoomy}
 
 pub checked-good : (built : Built) (also : List Entry → Type 0) (cluster : Cluster) (es : List Entry) (a : ℕ) (r : Result NodeStep StepFault) → IsGoodRoomy cluster also es a r → IsGood cluster also es a (checked built cluster (facts_of es a) r)

@@ -13,8 +13,8 @@ use Rattle.mdcc_option.specs.declared.choices.Mark.{Mark}
 use Rattle.mdcc_option.specs.declared.choices.Outcome.{Outcome}
 use Rattle.mdcc_option.specs.declared.choices.Mark.TheVariants.{Accept, Reject}
 use Rattle.mdcc_protocol.specs.Marks.{is_reject_found, outcome_of_marks}
-use Rattle.mdcc_protocol.specs.Ledger.{Entry, choices_begun, chosen_of, outcome_of}
-use Rattle.mdcc_protocol.specs.Allowed.{IsAllowed}
+use Rattle.mdcc_ledger.specs.Ledger.{Entry, choices_begun, chosen_of, outcome_of}
+use Rattle.mdcc_ledger.specs.AllowedLedgers.{IsAllowed}
 use Rattle.mdcc_trace_states.specs.Words.{IsTail}
 use Rattle.mdcc_trace_states.specs.Sound.{HasOneMark}
 use Rattle.mdcc_trace_states.proofs.Maps.{is_some-some}

@@ -15,13 +15,15 @@ use Rattle.mdcc_struct.specs.declared.options.Options.{Options}
 use Rattle.mdcc_struct.specs.Maps.{union}
 use Rattle.mdcc_struct.specs.declared.report.Report.{Report}
 use Rattle.mdcc_protocol.specs.Marks.{is_write}
-use Rattle.mdcc_protocol.specs.declared.facts.Fact.{Fact}
+use Rattle.mdcc_messages.specs.declared.facts.Fact.{Fact}
 use Rattle.mdcc_protocol.specs.Facts.{ballot_promised, ballot_voted, current_of, last_ballot, marks_voted, promise_of, promised_through, range_promised, report_of, version_from, version_given, votes_of}
 use Rattle.mdcc_protocol.specs.declared.acceptor.PrepareAnswer.{PrepareAnswer}
 use Rattle.mdcc_protocol.specs.Acceptor.{new_marks, on_prepare, promise_answer, range_end}
-use Rattle.mdcc_protocol.specs.AcceptorRules.{prepare_step, prepared_step}
-use Rattle.mdcc_protocol.specs.Ledger.{Added, Entry, Valued, facts_of}
-use Rattle.mdcc_protocol.specs.Allowed.{IsAllowed, are_apart, is_allowed_classic_vote, is_allowed_fast_vote}
+use Rattle.mdcc_rules.specs.AcceptorRules.{prepare_step, prepared_step}
+use Rattle.mdcc_ledger.specs.Ledger.{Added, Entry, Valued, facts_of}
+use Rattle.mdcc_ledger.specs.AllowedLedgers.{IsAllowed}
+use Rattle.mdcc_ledger.specs.AllowedFacts.{are_apart}
+use Rattle.mdcc_ledger.specs.BootTest.{is_allowed_classic_vote, is_allowed_fast_vote}
 use Rattle.mdcc_protocol.specs.Belongs.{ballot_belongs}
 use Rattle.mdcc_protocol.specs.Volatile.{Volatile}
 use Rattle.mdcc_trace_states.specs.Words.{IsTail}

@@ -17,19 +17,20 @@ use Rattle.mdcc_option.specs.declared.choices.Outcome.{Outcome}
 use Rattle.mdcc_struct.specs.Maps.{value_of}
 use Rattle.mdcc_protocol.specs.declared.fit.Fit.{Fit}
 use Rattle.mdcc_protocol.specs.declared.fit.Fit.TheVariants.{Breaks, Conflict, Fits}
-use Rattle.mdcc_protocol.specs.declared.facts.Fact.{Fact}
+use Rattle.mdcc_messages.specs.declared.facts.Fact.{Fact}
 use Rattle.mdcc_protocol.specs.Facts.{base_of, current_of, entries_of, heard_of, live_of, marks_voted, promise_of, vote_of, votes_of}
 use Rattle.mdcc_protocol.specs.Structures.{accept_room, reject_room}
 use Rattle.mdcc_protocol.specs.declared.acceptor.ProposeAnswer.{ProposeAnswer}
 use Rattle.mdcc_protocol.specs.Acceptor.{answer_after, answer_to_new, fit_of, vote_by_fit, vote_on, vote_to_accept, vote_to_reject}
-use Rattle.mdcc_protocol.specs.AcceptorRules.{propose_step, proposed_step}
-use Rattle.mdcc_protocol.specs.Ledger.{Added, Entry, choices_begun, facts_of, mark_given}
-use Rattle.mdcc_protocol.specs.Allowed.{IsAllowed, is_allowed_mark, is_begun, is_own_mark}
+use Rattle.mdcc_rules.specs.AcceptorRules.{propose_step, proposed_step}
+use Rattle.mdcc_ledger.specs.Ledger.{Added, Entry, choices_begun, facts_of, mark_given}
+use Rattle.mdcc_ledger.specs.AllowedLedgers.{IsAllowed, is_begun, is_own_mark}
+use Rattle.mdcc_ledger.specs.BootTest.{is_allowed_mark}
 use Rattle.mdcc_protocol.specs.Belongs.{cause_belongs, choice_belongs, tx_belongs, update_belongs}
 use Rattle.mdcc_protocol.specs.Fit.{load_of}
 use Rattle.mdcc_protocol.specs.Marks.{seen_in}
-use Rattle.mdcc_protocol.specs.declared.messages.Message.{Message}
-use Rattle.mdcc_protocol.specs.Messages.{to_one}
+use Rattle.mdcc_messages.specs.declared.messages.Message.{Message}
+use Rattle.mdcc_rules.specs.Messages.{to_one}
 use Rattle.mdcc_protocol.specs.Volatile.{Volatile}
 use Rattle.mdcc_trace_states.specs.Invariant.{IsGoodBy, IsGoodStep}
 use Rattle.mdcc_trace_states.specs.Keeping.{IsPlaced}

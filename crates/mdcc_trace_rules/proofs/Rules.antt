@@ -15,23 +15,23 @@ use Rattle.mdcc_option.specs.declared.items.Item.{Item}
 use Rattle.mdcc_option.specs.declared.choices.Outcome.{Outcome}
 use Rattle.mdcc_struct.specs.Maps.{TxMap, value_of}
 use Rattle.mdcc_protocol.specs.Marks.{Amounts}
-use Rattle.mdcc_protocol.specs.declared.facts.Fact.{Fact}
+use Rattle.mdcc_messages.specs.declared.facts.Fact.{Fact}
 use Rattle.mdcc_protocol.specs.Facts.{base_of, current_of, executed_of, is_heard, unresolved_of, write_sets_of}
-use Rattle.mdcc_protocol.specs.Ledger.{Added, Entry, choices_begun, facts_of, outcome_of}
-use Rattle.mdcc_protocol.specs.Allowed.{IsBacked, IsAllowed, is_begun}
+use Rattle.mdcc_ledger.specs.Ledger.{Added, Entry, choices_begun, facts_of, outcome_of}
+use Rattle.mdcc_ledger.specs.AllowedLedgers.{IsBacked, IsAllowed, is_begun}
 use Rattle.mdcc_protocol.specs.Belongs.{is_centre, outcome_belongs, tx_belongs}
 use Rattle.mdcc_protocol.specs.Learner.{collided, decision_of, is_learned, with_vote}
 use Rattle.mdcc_protocol.specs.Manager.{act_on_cause, act_on_vote, acted, choice_at, choice_unled, decision, keys_of_choices, lead_act, vote_taken, would_decide}
-use Rattle.mdcc_protocol.specs.ManagerRules.{acted_step, decided_step, escalate_step, opened_step, undecided_step, voted_step, watched_step}
+use Rattle.mdcc_rules.specs.ManagerRules.{acted_step, decided_step, escalate_step, opened_step, undecided_step, voted_step, watched_step}
 use Rattle.mdcc_protocol.specs.Recover
 use Rattle.mdcc_protocol.specs.Recover.{keys_watched, on_voted_by, watched_vote}
-use Rattle.mdcc_protocol.specs.declared.messages.Envelope.{Envelope}
-use Rattle.mdcc_protocol.specs.declared.messages.Message.{Message}
-use Rattle.mdcc_protocol.specs.Messages.{to_one, to_others}
+use Rattle.mdcc_messages.specs.declared.messages.Envelope.{Envelope}
+use Rattle.mdcc_messages.specs.declared.messages.Message.{Message}
+use Rattle.mdcc_rules.specs.Messages.{to_one, to_others}
 use Rattle.mdcc_protocol.specs.News.{is_crowding}
-use Rattle.mdcc_protocol.specs.SyncRules.{give_sent, give_sent_by, outcome_step}
-use Rattle.mdcc_protocol.specs.Built.{Built}
-use Rattle.mdcc_protocol.specs.Steps.{NodeStep, nothing_done}
+use Rattle.mdcc_rules.specs.SyncRules.{give_sent, give_sent_by, outcome_step}
+use Rattle.mdcc_switches.specs.Built.{Built}
+use Rattle.mdcc_rules.specs.Steps.{NodeStep, nothing_done}
 use Rattle.mdcc_protocol.specs.Volatile.{Managing, Recovering, Undecided, Volatile, closed, has_key, is_open, is_watched, opened_of, with_led, with_manager, with_recovery}
 use Rattle.mdcc_protocol.specs.declared.votes.Vote.{Vote}
 use Rattle.mdcc_trace_states.specs.Words.{Each, In, IsTail}

@@ -10,15 +10,15 @@ use Rattle.mdcc_option.specs.declared.items.Delta.{Delta}
 use Rattle.mdcc_option.specs.declared.items.Item.{Item}
 use Rattle.mdcc_option.specs.declared.choices.Mark.{Mark}
 use Rattle.mdcc_option.specs.declared.choices.Outcome.{Outcome}
-use Rattle.mdcc_protocol.specs.declared.facts.Fact.{Fact}
+use Rattle.mdcc_messages.specs.declared.facts.Fact.{Fact}
 use Rattle.mdcc_protocol.specs.Facts.{base_of, current_of, executed_of, heard_of, vote_of}
-use Rattle.mdcc_protocol.specs.Ledger.{Added, Entry, facts_of}
-use Rattle.mdcc_protocol.specs.Allowed.{IsAllowed, IsBacked}
+use Rattle.mdcc_ledger.specs.Ledger.{Added, Entry, facts_of}
+use Rattle.mdcc_ledger.specs.AllowedLedgers.{IsAllowed, IsBacked}
 use Rattle.mdcc_protocol.specs.Belongs.{adds_belong, item_belongs}
 use Rattle.mdcc_protocol.specs.News.{is_crowding, is_news}
-use Rattle.mdcc_protocol.specs.AcceptorRules.{ask_step, ask_step_by}
-use Rattle.mdcc_protocol.specs.SyncRules.{give_sent, sync_ask_step, sync_give_step}
-use Rattle.mdcc_protocol.specs.Steps.{NodeStep}
+use Rattle.mdcc_rules.specs.AcceptorRules.{ask_step, ask_step_by}
+use Rattle.mdcc_rules.specs.SyncRules.{give_sent, sync_ask_step, sync_give_step}
+use Rattle.mdcc_rules.specs.Steps.{NodeStep}
 use Rattle.mdcc_protocol.specs.Volatile.{Volatile}
 use Rattle.mdcc_trace_states.specs.Words.{IsTail}
 use Rattle.mdcc_trace_states.specs.Invariant.{IsGoodBy, IsGoodStep}

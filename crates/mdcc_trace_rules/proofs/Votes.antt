@@ -18,8 +18,8 @@ use Rattle.mdcc_option.specs.Equality.{mark_eq}
 use Rattle.mdcc_struct.specs.Options.{is_mark}
 use Rattle.mdcc_protocol.specs.declared.votes.Vote.{Vote}
 use Rattle.mdcc_protocol.specs.Learner.{decision_of, has_quorum, is_barred_by, is_counted, learned, lower_vote, votes_on, with_vote}
-use Rattle.mdcc_protocol.specs.Ledger.{Entry, choices_begun, chosen_of, mark_given, outcome_of}
-use Rattle.mdcc_protocol.specs.Allowed.{IsAllowed}
+use Rattle.mdcc_ledger.specs.Ledger.{Entry, choices_begun, chosen_of, mark_given, outcome_of}
+use Rattle.mdcc_ledger.specs.AllowedLedgers.{IsAllowed}
 use Rattle.mdcc_protocol.specs.Manager.{keys_of_choices}
 use Rattle.mdcc_trace_states.specs.Words.{Each, In, count}
 use Rattle.mdcc_trace_states.specs.Keeping.{AllApart, AreApart, ArePlaced, AreVotes, IsGiven}

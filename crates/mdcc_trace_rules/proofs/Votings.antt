@@ -17,11 +17,12 @@ use Rattle.mdcc_option.specs.declared.choices.Mark.{Mark}
 use Rattle.mdcc_option.specs.declared.choices.Outcome.{Outcome}
 use Rattle.mdcc_struct.specs.declared.options.Options.{Options}
 use Rattle.mdcc_struct.specs.Maps.{value_of}
-use Rattle.mdcc_protocol.specs.declared.facts.Fact.{Fact}
+use Rattle.mdcc_messages.specs.declared.facts.Fact.{Fact}
 use Rattle.mdcc_protocol.specs.Facts.{current_of, heard_of, is_heard, later_vote, mark_voted, marks_voted, outcome_in, promise_of, vote_of, votes_of}
 use Rattle.mdcc_protocol.specs.Acceptor.{new_marks, vote_on}
-use Rattle.mdcc_protocol.specs.Ledger.{Added, Entry, Valued, facts_of, mark_given, outcome_of}
-use Rattle.mdcc_protocol.specs.Allowed.{IsAllowed, is_allowed_classic_vote, is_allowed_fast_vote, is_allowed_kind, is_allowed_mark, is_answer}
+use Rattle.mdcc_ledger.specs.Ledger.{Added, Entry, Valued, facts_of, mark_given, outcome_of}
+use Rattle.mdcc_ledger.specs.AllowedLedgers.{IsAllowed}
+use Rattle.mdcc_ledger.specs.BootTest.{is_allowed_classic_vote, is_allowed_fast_vote, is_allowed_kind, is_allowed_mark, is_answer}
 use Rattle.mdcc_trace_states.specs.Words.{In, IsTail}
 use Rattle.mdcc_trace_states.proofs.Tests.{Decides-ballot, Decides-key}
 use Rattle.mdcc_trace_states.proofs.Lists.{IsTail-same}

@@ -6,9 +6,9 @@ use Rattle.mdcc_base.specs.declared.key.Key.{Key}
 use Rattle.mdcc_option.specs.declared.choices.Choice.{Choice}
 use Rattle.mdcc_option.specs.declared.cluster.Cluster.{Cluster}
 use Rattle.mdcc_struct.specs.Maps.{value_of}
-use Rattle.mdcc_protocol.specs.Allowed.{IsAllowed}
+use Rattle.mdcc_ledger.specs.AllowedLedgers.{IsAllowed}
 use Rattle.mdcc_protocol.specs.Facts.{write_sets_of}
-use Rattle.mdcc_protocol.specs.Ledger.{Entry, choices_begun, facts_of}
+use Rattle.mdcc_ledger.specs.Ledger.{Entry, choices_begun, facts_of}
 use Rattle.mdcc_trace_states.specs.Invariant.{IsPlainEntry}
 use Rattle.mdcc_trace_states.specs.Sound.{HasOneMark}
 use Rattle.mdcc_trace_states.specs.Words.{In}

@@ -8,9 +8,9 @@ use Rattle.mdcc_option.specs.declared.choices.Mark.{Mark}
 use Rattle.mdcc_option.specs.declared.cluster.Cluster.{Cluster}
 use Rattle.mdcc_struct.specs.Maps.{value_of}
 use Rattle.mdcc_struct.specs.declared.options.Options.{Options}
-use Rattle.mdcc_protocol.specs.Allowed.{IsAllowed, is_valued}
+use Rattle.mdcc_ledger.specs.AllowedLedgers.{IsAllowed, is_valued}
 use Rattle.mdcc_protocol.specs.Facts.{current_of, promise_of, report_of}
-use Rattle.mdcc_protocol.specs.Ledger.{Entry, facts_of}
+use Rattle.mdcc_ledger.specs.Ledger.{Entry, facts_of}
 use Rattle.mdcc_trace_states.specs.Words.{IsTail}
 
 -- each mark of the first structure stands in the second

@@ -26,13 +26,13 @@ use Rattle.mdcc_option.specs.declared.items.Part.{Part}
 use Rattle.mdcc_option.specs.declared.items.Update.{Update}
 use Rattle.mdcc_struct.specs.Maps.{TxMap, txs_of, value_of}
 use Rattle.mdcc_struct.specs.declared.options.Options.{Options}
-use Rattle.mdcc_protocol.specs.Allowed.{IsAllowed, part_in}
+use Rattle.mdcc_ledger.specs.AllowedLedgers.{IsAllowed, part_in}
 use Rattle.mdcc_protocol.specs.Belongs.{adds_belong, amounts_belong, ballot_belongs, choice_belongs, fact_belongs, is_attribute, is_centre, item_belongs, mark_belongs, offered_belongs, options_belong, tx_belongs, txs_belong, update_belongs}
 use Rattle.mdcc_protocol.specs.Facts.{amounts_added, ballot_promised, ballot_voted, base_at, base_from, base_given, base_of, current_of, delta_given, deltas_at, deltas_from, item_written, last_ballot, marks_voted, promise_of, promised_through, range_promised, token_of, votes_of}
-use Rattle.mdcc_protocol.specs.Ledger.{Added, Entry, Valued, choices_begun, facts_of, mark_given}
+use Rattle.mdcc_ledger.specs.Ledger.{Added, Entry, Valued, choices_begun, facts_of, mark_given}
 use Rattle.mdcc_protocol.specs.Manager.{part_begin_fault, parts_begin_fault, update_begin_fault}
 use Rattle.mdcc_protocol.specs.Marks.{Amounts}
-use Rattle.mdcc_protocol.specs.declared.facts.Fact.{Fact}
+use Rattle.mdcc_messages.specs.declared.facts.Fact.{Fact}
 use Rattle.mdcc_trace_states.specs.Words.{Each}
 use Rattle.mdcc_trace_states.proofs.Tests.{Decides-ballot, Decides-txs}
 use Rattle.mdcc_trace_states.proofs.Lists.{Each-map}

@@ -7,14 +7,17 @@ use Rattle.mdcc_base.specs.AreQuorums.{AreQuorums}
 use Rattle.mdcc_base.specs.declared.key.Key.{Key}
 use Rattle.mdcc_base.specs.Counts.{number_of}
 use Rattle.mdcc_option.specs.declared.cluster.Cluster.{Cluster}
-use Rattle.mdcc_protocol.specs.declared.facts.Fact.{Fact}
+use Rattle.mdcc_messages.specs.declared.facts.Fact.{Fact}
 use Rattle.mdcc_protocol.specs.Facts.{epoch_of}
-use Rattle.mdcc_protocol.specs.Ledger.{Added, Entry, Valued, facts_of, structure_valued}
-use Rattle.mdcc_protocol.specs.Allowed.{IsAllowed, is_allowed_kind, is_booted, seqs_begun}
+use Rattle.mdcc_ledger.specs.Ledger.{Added, Entry, Valued, facts_of, structure_valued}
+use Rattle.mdcc_ledger.specs.AllowedLedgers.{IsAllowed, seqs_begun}
+use Rattle.mdcc_ledger.specs.BootTest.{is_allowed_kind}
+use Rattle.mdcc_ledger.specs.AllowedFacts.{is_booted}
 use Rattle.mdcc_protocol.specs.Belongs.{fact_belongs, is_centre}
-use Rattle.mdcc_protocol.specs.Built.{Built}
+use Rattle.mdcc_switches.specs.Built.{Built}
 use Rattle.mdcc_protocol.specs.Volatile.{nothing_kept}
-use Rattle.mdcc_protocol.specs.World.{World, booted, booted_to, first_world, restart_happened}
+use Rattle.mdcc_simulation.specs.State.{World, booted, booted_to, first_world}
+use Rattle.mdcc_simulation.specs.Centres.{restart_happened}
 use Rattle.mdcc_trace_states.specs.Keeping.{ArePlaced, AreVotes, IsCentre, Keeps}
 use Rattle.mdcc_trace_states.specs.Invariant.{Holds}
 use Rattle.mdcc_trace_states.specs.Standing.{Stands}

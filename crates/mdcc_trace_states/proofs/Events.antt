@@ -5,19 +5,23 @@ use Rattle.std.specs.List.{list_any}
 use Rattle.std.proofs.lemmas.Bool.{and_parts, cases_Bool}
 use Rattle.mdcc_option.specs.declared.cluster.Cluster.{Cluster}
 use Rattle.mdcc_option.specs.declared.items.Known.{Known}
-use Rattle.mdcc_protocol.specs.Ledger.{Entry}
+use Rattle.mdcc_ledger.specs.Ledger.{Entry}
 use Rattle.mdcc_protocol.specs.Belongs.{is_centre}
-use Rattle.mdcc_protocol.specs.declared.messages.Envelope.{Envelope}
-use Rattle.mdcc_protocol.specs.declared.node.Input.{Input}
-use Rattle.mdcc_protocol.specs.declared.world.EventFault.{EventFault}
-use Rattle.mdcc_protocol.specs.Built.{Built}
-use Rattle.mdcc_protocol.specs.World.{Happened, Sent, World, after_lines, centre_at, counted_event, deliver_line, delivered, deliveries_of, delivery_by, delivery_of, first_waiting, if_up, input_happened, is_limit, is_past_events, is_up_at, is_waiting_for, limit_if, most_events, numbered, settled_line, settled_of, step_at, step_limit, unless, with_delivered, with_lines, within_events}
+use Rattle.mdcc_messages.specs.declared.messages.Envelope.{Envelope}
+use Rattle.mdcc_rules.specs.declared.node.Input.{Input}
+use Rattle.mdcc_language.specs.declared.world.EventFault.{EventFault}
+use Rattle.mdcc_switches.specs.Built.{Built}
+use Rattle.mdcc_simulation.specs.State.{Happened, World, after_lines, centre_at, counted_event, is_up_at}
+use Rattle.mdcc_messages.specs.Mailbox.{Sent, numbered, with_delivered}
+use Rattle.mdcc_simulation.specs.Deliveries.{deliver_line, delivered, deliveries_of, delivery_by, delivery_of, first_waiting, is_waiting_for, settled_line, settled_of}
+use Rattle.mdcc_simulation.specs.Limits.{if_up, is_limit, is_past_events, limit_if, most_events, step_limit, unless, with_lines, within_events}
+use Rattle.mdcc_simulation.specs.Stepping.{input_happened, step_at}
 use Rattle.mdcc_trace_states.specs.Words.{Each}
 use Rattle.mdcc_trace_states.specs.Invariant.{Holds}
 use Rattle.mdcc_trace_states.specs.Standing.{Stands}
 use Rattle.mdcc_trace_states.proofs.Walk.{input-holds}
-use Rattle.mdcc_protocol.specs.declared.lines.Line.{Line}
-use Rattle.mdcc_protocol.specs.declared.world.LimitName.{LimitName}
+use Rattle.mdcc_language.specs.declared.lines.Line.{Line}
+use Rattle.mdcc_language.specs.declared.world.LimitName.{LimitName}
 use Rattle.mdcc_trace_states.specs.Steps.{AreGood, IsUp}
 
 abbrev pub OkHolds : (List Entry → Type 0) → Cluster → Result Happened EventFault → Type 0

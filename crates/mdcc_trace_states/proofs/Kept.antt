@@ -10,15 +10,17 @@ use Rattle.mdcc_option.specs.declared.choices.Choice.{Choice}
 use Rattle.mdcc_option.specs.declared.cluster.Cluster.{Cluster}
 use Rattle.mdcc_option.specs.declared.choices.Mark.{Mark}
 use Rattle.mdcc_struct.specs.Maps.{value_of}
-use Rattle.mdcc_protocol.specs.declared.facts.Fact.{Fact}
+use Rattle.mdcc_messages.specs.declared.facts.Fact.{Fact}
 use Rattle.mdcc_protocol.specs.Facts.{epoch_of, marks_voted, votes_of}
-use Rattle.mdcc_protocol.specs.Ledger.{Added, Entry, Valued, choices_begun, facts_of, mark_given}
-use Rattle.mdcc_protocol.specs.Allowed.{IsAllowed, is_allowed_kind, is_booted, seqs_begun}
+use Rattle.mdcc_ledger.specs.Ledger.{Added, Entry, Valued, choices_begun, facts_of, mark_given}
+use Rattle.mdcc_ledger.specs.AllowedLedgers.{IsAllowed, seqs_begun}
+use Rattle.mdcc_ledger.specs.BootTest.{is_allowed_kind}
+use Rattle.mdcc_ledger.specs.AllowedFacts.{is_booted}
 use Rattle.mdcc_protocol.specs.Belongs.{fact_belongs}
 use Rattle.mdcc_protocol.specs.Volatile.{Managing, Undecided, Volatile}
 use Rattle.mdcc_protocol.specs.declared.votes.Vote.{Vote}
-use Rattle.mdcc_protocol.specs.World.{Site}
-use Rattle.mdcc_protocol.specs.declared.messages.Envelope.{Envelope}
+use Rattle.mdcc_simulation.specs.State.{Site}
+use Rattle.mdcc_messages.specs.declared.messages.Envelope.{Envelope}
 use Rattle.mdcc_trace_states.specs.Words.{Each}
 use Rattle.mdcc_trace_states.specs.Keeping.{ArePlaced, AreVotes, IsCentre, IsGiven, IsOpened, IsPlaced, Keeps, Manages}
 use Rattle.mdcc_trace_states.specs.Invariant.{IsOf}

@@ -9,8 +9,8 @@ use Rattle.mdcc_base.specs.TxId.{tx_eq}
 use Rattle.mdcc_option.specs.declared.choices.Choice.{Choice}
 use Rattle.mdcc_option.specs.declared.cluster.Cluster.{Cluster}
 use Rattle.mdcc_option.specs.Parts.{are_ascending}
-use Rattle.mdcc_protocol.specs.Ledger.{Added, Entry, Valued, choices_begun}
-use Rattle.mdcc_protocol.specs.Allowed.{IsAllowed, part_in}
+use Rattle.mdcc_ledger.specs.Ledger.{Added, Entry, Valued, choices_begun}
+use Rattle.mdcc_ledger.specs.AllowedLedgers.{IsAllowed, part_in}
 use Rattle.mdcc_trace_states.specs.Words.{In}
 
 pub key_lt-irrefl : (a : Key) → key_lt a a ≡ true → ⊥

@@ -10,8 +10,8 @@ use Rattle.mdcc_option.specs.declared.choices.Choice.{Choice}
 use Rattle.mdcc_option.specs.declared.cluster.Cluster.{Cluster}
 use Rattle.mdcc_struct.specs.declared.options.Options.{Options}
 use Rattle.mdcc_protocol.specs.Facts.{current_of, epoch_of}
-use Rattle.mdcc_protocol.specs.Ledger.{Added, Entry, Valued, choices_begun, facts_of, structure_valued}
-use Rattle.mdcc_protocol.specs.Allowed.{IsAllowed}
+use Rattle.mdcc_ledger.specs.Ledger.{Added, Entry, Valued, choices_begun, facts_of, structure_valued}
+use Rattle.mdcc_ledger.specs.AllowedLedgers.{IsAllowed}
 use Rattle.mdcc_protocol.specs.Volatile.{Counted, Lead, Leading}
 use Rattle.mdcc_trace_states.specs.Words.{In}
 use Rattle.mdcc_trace_states.specs.Keeping.{IsClaim, IsLead, IsOwn, IsPlaced, IsPromise, Leads}

@@ -5,25 +5,32 @@ use Rattle.mdcc_base.specs.AreQuorums.{AreQuorums}
 use Rattle.mdcc_option.specs.declared.faults.DraftFault.{DraftFault}
 use Rattle.mdcc_option.specs.declared.cluster.Cluster.{Cluster}
 use Rattle.mdcc_option.specs.declared.items.Part.{Part}
-use Rattle.mdcc_protocol.specs.Ledger.{Entry, facts_of}
+use Rattle.mdcc_ledger.specs.Ledger.{Entry, facts_of}
 use Rattle.mdcc_protocol.specs.Belongs.{is_centre}
-use Rattle.mdcc_protocol.specs.declared.node.Input.{Input}
-use Rattle.mdcc_protocol.specs.declared.events.Event.{Event}
-use Rattle.mdcc_protocol.specs.declared.world.EventFault.{EventFault}
-use Rattle.mdcc_protocol.specs.declared.lines.Line.{Line}
-use Rattle.mdcc_protocol.specs.Built.{Built}
-use Rattle.mdcc_protocol.specs.World.{Happened, World, after_lines, answer_in, begin_lines, begin_of, begun_by, cells_limit, centre_at, counted_event, event_of, first_world, happened_of, input_happened, input_taken, is_deliver, is_up_at, log_limit, most_events, parts_begun, restart_happened, restart_of, run_from, run_of, settled_of, step_at, step_limit, tick_line, tick_of}
+use Rattle.mdcc_rules.specs.declared.node.Input.{Input}
+use Rattle.mdcc_language.specs.declared.events.Event.{Event}
+use Rattle.mdcc_language.specs.declared.world.EventFault.{EventFault}
+use Rattle.mdcc_language.specs.declared.lines.Line.{Line}
+use Rattle.mdcc_switches.specs.Built.{Built}
+use Rattle.mdcc_simulation.specs.State.{Happened, World, after_lines, centre_at, counted_event, first_world, is_up_at}
+use Rattle.mdcc_simulation.specs.Clients.{answer_in, begin_lines, begin_of, begun_by, parts_begun}
+use Rattle.mdcc_simulation.specs.Limits.{cells_limit, input_taken, log_limit, most_events, step_limit}
+use Rattle.mdcc_simulation.specs.Events.{event_of, happened_of, is_deliver}
+use Rattle.mdcc_simulation.specs.Stepping.{input_happened, step_at}
+use Rattle.mdcc_simulation.specs.Centres.{restart_happened, restart_of, tick_line, tick_of}
+use Rattle.mdcc_simulation.specs.Runs.{run_from, run_of}
+use Rattle.mdcc_simulation.specs.Deliveries.{settled_of}
 use Rattle.mdcc_trace_states.specs.Invariant.{Holds}
 use Rattle.mdcc_trace_states.proofs.Walk.{down-holds, input-holds, moved-holds}
 use Rattle.mdcc_trace_states.proofs.Events.{OkHolds, deliveries-hold, event-holds, is-up, lines-hold, reads-hold, settled-holds, settled-line, unless-holds, up-holds, within-holds}
 use Rattle.mdcc_trace_states.proofs.Boots.{first-holds, restart-holds}
-use Rattle.mdcc_protocol.specs.Resolve.{resolve}
+use Rattle.mdcc_language.specs.Resolve.{resolve}
 use Rattle.mdcc_protocol.specs.Facts.{epoch_of}
-use Rattle.mdcc_protocol.specs.declared.schedule.ResolveFault.{ResolveFault}
+use Rattle.mdcc_language.specs.declared.schedule.ResolveFault.{ResolveFault}
 use Rattle.mdcc_option.specs.Transaction.{transaction_of}
 use Rattle.mdcc_trace_states.proofs.Sorting.{made-transaction}
 use Rattle.std.specs.Prelude.{map}
-use Rattle.mdcc_protocol.specs.declared.facts.Fact.{Fact}
+use Rattle.mdcc_messages.specs.declared.facts.Fact.{Fact}
 use Rattle.std.specs.Option.{option_or}
 use Rattle.mdcc_trace_states.specs.Steps.{AreGood, IsFair}
 

@@ -15,8 +15,8 @@ use Rattle.mdcc_option.specs.declared.faults.DraftFault.TheVariants.{Empty, Repe
 use Rattle.mdcc_option.specs.declared.items.Part.{Part}
 use Rattle.mdcc_option.specs.declared.schema.Schema.{Schema}
 use Rattle.mdcc_option.proofs.Ordered.{IsPermutation-sorted_parts, ascending-sorted_parts}
-use Rattle.mdcc_protocol.specs.Allowed.{part_in}
-use Rattle.mdcc_protocol.proofs.SortedParts.{sorted_parts-ascending}
+use Rattle.mdcc_ledger.specs.AllowedLedgers.{part_in}
+use Rattle.mdcc_ledger_laws.proofs.SortedParts.{sorted_parts-ascending}
 use Rattle.mdcc_trace_states.specs.Words.{In}
 use Rattle.mdcc_trace_states.proofs.Tests.{Decides-key}
 use Rattle.mdcc_trace_states.proofs.Keys.{key_lt-irrefl, key_lt-trans}

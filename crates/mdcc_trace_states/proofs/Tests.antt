@@ -8,12 +8,13 @@ use Rattle.mdcc_option.specs.declared.choices.Mark.{Mark}
 use Rattle.mdcc_struct.specs.Options.{is_mark}
 use Rattle.mdcc_struct.specs.declared.options.Options.{Options}
 use Rattle.mdcc_option.specs.declared.cluster.Cluster.{Cluster}
-use Rattle.mdcc_protocol.specs.Allowed.{MayAdd, is_allowed_fact}
+use Rattle.mdcc_ledger.specs.AllowedFacts.{MayAdd}
+use Rattle.mdcc_ledger.specs.BootTest.{is_allowed_fact}
 use Rattle.mdcc_protocol.specs.Marks.{options_eq}
-use Rattle.mdcc_protocol.specs.declared.facts.Fact.{Fact}
-use Rattle.mdcc_protocol.proofs.MayAddDecided.{Decides-fact}
+use Rattle.mdcc_messages.specs.declared.facts.Fact.{Fact}
+use Rattle.mdcc_ledger_laws.proofs.MayAddDecided.{Decides-fact}
 pub use Rattle.mdcc_option.proofs.Equal.{Decides-tx, Decides-key, Decides-txs, Decides-item, Decides-update, Decides-choice, Decides-mark}
-pub use Rattle.mdcc_protocol.proofs.TestsDecide.{Decides-ballot}
+pub use Rattle.mdcc_ledger_laws.proofs.TestsDecide.{Decides-ballot}
 
 pub same_ballot : (k m : Ballot) → (k.round ≡ m.round) × ((k.epoch ≡ m.epoch) × (k.centre ≡ m.centre)) → k ≡ m
 same_ballot k m h z = record { round = h.0 z; epoch = h.1.0 z; centre = h.1.1 z }

@@ -5,22 +5,24 @@ use Rattle.std.proofs.lemmas.Bool.{and_parts, cases_Bool, eqb-false, eqb-true, l
 use Rattle.std.proofs.lemmas.List.{get_or-set_other, get_or-set_same, length-set}
 use Rattle.mdcc_base.specs.declared.outside.Image.{Image}
 use Rattle.mdcc_option.specs.declared.cluster.Cluster.{Cluster}
-use Rattle.mdcc_protocol.specs.declared.facts.Fact.{Fact}
-use Rattle.mdcc_protocol.specs.Ledger.{Added, Entry}
-use Rattle.mdcc_protocol.specs.Allowed.{IsAllowed}
+use Rattle.mdcc_messages.specs.declared.facts.Fact.{Fact}
+use Rattle.mdcc_ledger.specs.Ledger.{Added, Entry}
+use Rattle.mdcc_ledger.specs.AllowedLedgers.{IsAllowed}
 use Rattle.mdcc_protocol.specs.Belongs.{is_centre}
-use Rattle.mdcc_protocol.specs.declared.messages.Envelope.{Envelope}
-use Rattle.mdcc_protocol.specs.Steps.{NodeStep}
-use Rattle.mdcc_protocol.specs.declared.node.StepFault.{StepFault}
+use Rattle.mdcc_messages.specs.declared.messages.Envelope.{Envelope}
+use Rattle.mdcc_rules.specs.Steps.{NodeStep}
+use Rattle.mdcc_rules.specs.declared.node.StepFault.{StepFault}
 use Rattle.mdcc_protocol.specs.Volatile.{Volatile}
-use Rattle.mdcc_protocol.specs.World.{Sent, Site, World, booted, centre_at, down, fact_happened, fact_taken, input_happened, is_frame_kept, step_happened_by, step_stopped, unsent}
+use Rattle.mdcc_messages.specs.Mailbox.{Sent, unsent}
+use Rattle.mdcc_simulation.specs.State.{Site, World, booted, centre_at, down}
+use Rattle.mdcc_simulation.specs.Stepping.{fact_happened, fact_taken, input_happened, is_frame_kept, step_happened_by, step_stopped}
 use Rattle.mdcc_trace_states.specs.Words.{Each}
 use Rattle.mdcc_trace_states.specs.Keeping.{ArePlaced, IsCentre}
 use Rattle.mdcc_trace_states.specs.Invariant.{Holds, IsGood, IsGoodBy, IsGoodStep, IsOf}
 use Rattle.mdcc_trace_states.specs.Standing.{Stands}
 use Rattle.mdcc_trace_states.proofs.Lists.{Each-append, Each-like, Each-map}
 use Rattle.mdcc_trace_states.proofs.Kept.{IsCentre-others, Stands-more, epoch-aboves}
-use Rattle.mdcc_protocol.specs.Lengths.{messages_length}
+use Rattle.mdcc_messages.specs.Lengths.{messages_length}
 
 -- ---- one centre changes
 

@@ -3,16 +3,17 @@ use Rattle.std.specs.Prelude.{Err, List, None, Ok, Option, Result, Some, [], fal
 use Rattle.mdcc_base.specs.AreQuorums.{AreQuorums}
 use Rattle.mdcc_base.specs.Ballot.{is_fast}
 use Rattle.mdcc_option.specs.declared.cluster.Cluster.{Cluster}
-use Rattle.mdcc_protocol.specs.declared.facts.Fact.{Fact}
-use Rattle.mdcc_protocol.specs.Ledger.{Added, Entry, Valued, facts_of}
-use Rattle.mdcc_protocol.specs.Allowed.{IsAllowed, IsBacked}
+use Rattle.mdcc_messages.specs.declared.facts.Fact.{Fact}
+use Rattle.mdcc_ledger.specs.Ledger.{Added, Entry, Valued, facts_of}
+use Rattle.mdcc_ledger.specs.AllowedLedgers.{IsAllowed, IsBacked}
 use Rattle.mdcc_protocol.specs.Belongs.{is_centre}
-use Rattle.mdcc_protocol.specs.declared.messages.Envelope.{Envelope}
+use Rattle.mdcc_messages.specs.declared.messages.Envelope.{Envelope}
 use Rattle.mdcc_protocol.specs.Volatile.{Volatile}
-use Rattle.mdcc_protocol.specs.Steps.{NodeStep}
-use Rattle.mdcc_protocol.specs.declared.node.StepFault.{StepFault}
+use Rattle.mdcc_rules.specs.Steps.{NodeStep}
+use Rattle.mdcc_rules.specs.declared.node.StepFault.{StepFault}
 use Rattle.mdcc_protocol.specs.News.{is_crowding}
-use Rattle.mdcc_protocol.specs.World.{Sent, World, centre_at}
+use Rattle.mdcc_messages.specs.Mailbox.{Sent}
+use Rattle.mdcc_simulation.specs.State.{World, centre_at}
 use Rattle.mdcc_trace_states.specs.Words.{Each}
 use Rattle.mdcc_trace_states.specs.Standing.{Stands}
 use Rattle.mdcc_trace_states.specs.Keeping.{ArePlaced, IsCentre, Keeps}

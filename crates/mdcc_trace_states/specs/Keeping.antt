@@ -11,12 +11,12 @@ use Rattle.mdcc_option.specs.declared.cluster.Cluster.{Cluster}
 use Rattle.mdcc_option.specs.declared.choices.Mark.{Mark}
 use Rattle.mdcc_struct.specs.declared.options.Options.{Options}
 use Rattle.mdcc_protocol.specs.Facts.{current_of, epoch_of, promised_through, report_of}
-use Rattle.mdcc_protocol.specs.Ledger.{Entry, choices_begun, facts_of, mark_given, structure_valued}
-use Rattle.mdcc_protocol.specs.Allowed.{are_distinct, seqs_begun}
+use Rattle.mdcc_ledger.specs.Ledger.{Entry, choices_begun, facts_of, mark_given, structure_valued}
+use Rattle.mdcc_ledger.specs.AllowedLedgers.{are_distinct, seqs_begun}
 use Rattle.mdcc_protocol.specs.Belongs.{is_centre, mark_belongs, tx_belongs}
 use Rattle.mdcc_protocol.specs.Volatile.{Counted, Lead, Leading, Managing, Undecided, Volatile, number_at, structure_found}
 use Rattle.mdcc_protocol.specs.declared.votes.Vote.{Vote}
-use Rattle.mdcc_protocol.specs.World.{Site}
+use Rattle.mdcc_simulation.specs.State.{Site}
 use Rattle.mdcc_trace_states.specs.Words.{Each, In, IsTail}
 
 -- ---- the manager

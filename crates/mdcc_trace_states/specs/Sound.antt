@@ -12,8 +12,8 @@ use Rattle.mdcc_struct.specs.declared.options.Options.{Options}
 use Rattle.mdcc_struct.specs.Options.{is_mark}
 use Rattle.mdcc_struct.specs.Maps.{value_of}
 use Rattle.mdcc_protocol.specs.Facts.{write_sets_of}
-use Rattle.mdcc_protocol.specs.Ledger.{Entry, choices_begun, facts_of, mark_given}
-use Rattle.mdcc_protocol.specs.Allowed.{is_valued}
+use Rattle.mdcc_ledger.specs.Ledger.{Entry, choices_begun, facts_of, mark_given}
+use Rattle.mdcc_ledger.specs.AllowedLedgers.{is_valued}
 use Rattle.mdcc_trace_states.specs.Words.{In, count}
 use Rattle.mdcc_trace_states.specs.Keeping.{IsOwn, IsPlaced}
 

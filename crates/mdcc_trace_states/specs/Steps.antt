@@ -6,15 +6,15 @@ use Rattle.mdcc_option.specs.Transaction.{transaction_of}
 use Rattle.mdcc_option.specs.declared.cluster.Cluster.{Cluster}
 use Rattle.mdcc_option.specs.declared.items.Part.{Part}
 use Rattle.mdcc_option.specs.declared.schema.Schema.{Schema}
-use Rattle.mdcc_protocol.specs.Allowed.{IsAllowed}
+use Rattle.mdcc_ledger.specs.AllowedLedgers.{IsAllowed}
 use Rattle.mdcc_protocol.specs.Belongs.{is_centre}
-use Rattle.mdcc_protocol.specs.Built.{Built}
+use Rattle.mdcc_switches.specs.Built.{Built}
 use Rattle.mdcc_protocol.specs.Facts.{epoch_of}
-use Rattle.mdcc_protocol.specs.Ledger.{Added, Entry, facts_of}
-use Rattle.mdcc_protocol.specs.Node.{step_of}
+use Rattle.mdcc_ledger.specs.Ledger.{Added, Entry, facts_of}
+use Rattle.mdcc_rules.specs.Node.{step_of}
 use Rattle.mdcc_protocol.specs.Volatile.{Volatile}
-use Rattle.mdcc_protocol.specs.declared.facts.Fact.{Fact}
-use Rattle.mdcc_protocol.specs.declared.node.Input.{Input}
+use Rattle.mdcc_messages.specs.declared.facts.Fact.{Fact}
+use Rattle.mdcc_rules.specs.declared.node.Input.{Input}
 use Rattle.mdcc_trace_states.specs.Invariant.{IsGood}
 use Rattle.mdcc_trace_states.specs.Keeping.{ArePlaced, Keeps}
 use Rattle.mdcc_trace_states.specs.Standing.{Stands}

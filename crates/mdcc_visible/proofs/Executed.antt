@@ -11,7 +11,7 @@ use Rattle.mdcc_struct.specs.Maps.{TxMap, are_ascending, txs_of, value_of}
 use Rattle.mdcc_protocol.specs.Facts.{current_of, deltas_at, deltas_from, executed_of}
 use Rattle.mdcc_protocol.specs.Marks.{Amounts}
 use Rattle.mdcc_protocol.specs.Stores.{delta_of}
-use Rattle.mdcc_protocol.specs.declared.facts.Fact.{Fact}
+use Rattle.mdcc_messages.specs.declared.facts.Fact.{Fact}
 use Rattle.mdcc_visible.specs.Deltas.{delta_in, deltas_in}
 
 ascending-deltas : (facts : List Fact) (key : Key) (version : ℕ) → are_ascending (deltas_at facts key version) ≡ true

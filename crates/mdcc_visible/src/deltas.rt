@@ -1,6 +1,6 @@
 //! The executed deltas of a key.
 ghost use Rattle.std.specs.Prelude.{◌≡◌, List, IfOk};
-ghost use Rattle.mdcc_protocol.specs.declared.facts.Fact.{Fact as AFact};
+ghost use Rattle.mdcc_messages.specs.declared.facts.Fact.{Fact as AFact};
 ghost use Rattle.mdcc_protocol.specs.Facts.{executed_of};
 ghost use Rattle.mdcc_visible.specs.Deltas.{deltas_in};
 

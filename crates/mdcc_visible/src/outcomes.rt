@@ -1,12 +1,12 @@
 //! Outcomes that are heard.
 ghost use Rattle.std.specs.Prelude.{◌≡◌, List};
-ghost use Rattle.mdcc_protocol.specs.declared.facts.Fact.{Fact as AFact};
+ghost use Rattle.mdcc_messages.specs.declared.facts.Fact.{Fact as AFact};
 ghost use Rattle.mdcc_protocol.specs.Visible.{on_outcome};
 
 use mdcc_base::{Plain, TxId};
 use mdcc_facts::FactStore;
 use mdcc_option::Outcome;
-use mdcc_protocol::Fact;
+use mdcc_messages::Fact;
 
 /// The fact of an outcome; there is none where the transaction's was heard before. It adds no fact.
 pub fn on_outcome<S: FactStore>(store: &S, tx: TxId, outcome: &Outcome) -> Option<Fact>

@@ -1,7 +1,7 @@
 //! What a read shows of a key.
 ghost use Rattle.std.specs.Prelude.{◌≡◌, ◌*◌, ◌^◌, ◌<◌, ◌≤◌, ◌≤ℤ◌, List, length, neg_ℤ, option_map, pos};
 ghost use Rattle.mdcc_option.specs.OneCopy.{amount_at, read_value, value_after};
-ghost use Rattle.mdcc_protocol.specs.declared.facts.Fact.{Fact as AFact};
+ghost use Rattle.mdcc_messages.specs.declared.facts.Fact.{Fact as AFact};
 ghost use Rattle.mdcc_protocol.specs.Facts.{base_of, executed_of, token_of};
 ghost use Rattle.mdcc_protocol.specs.Visible.{item_read, read, rebase_due};
 ghost use Rattle.mdcc_visible.specs.Deltas.{item_shown, value_shown};

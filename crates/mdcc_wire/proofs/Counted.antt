@@ -1,8 +1,8 @@
 -- The lists of a well-formed message are no longer than their counts can say.
 use Rattle.std.proofs.Common.{arith}
-use Rattle.mdcc_protocol.specs.declared.messages.Message.{Message}
-use Rattle.mdcc_protocol.specs.declared.messages.Message.TheVariants as messages
-use Rattle.mdcc_protocol.specs.WellFormed.{IsWellFormedMessage}
+use Rattle.mdcc_messages.specs.declared.messages.Message.{Message}
+use Rattle.mdcc_messages.specs.declared.messages.Message.TheVariants as messages
+use Rattle.mdcc_messages.specs.WellFormed.{IsWellFormedMessage}
 use Rattle.mdcc_wire.specs.Counts.{HasCounts}
 
 pub has_counts : (message : Message) → IsWellFormedMessage message → HasCounts message

@@ -3,18 +3,18 @@ use Rattle.std.proofs.Common.{◌≡◌, ℕ, ◌+◌, ◌≤◌, ◌==◌, Bool
 use Rattle.std.specs.Prelude.{nat_lt, nat_le, ◌-◌, IfOk, IsOk}
 use Rattle.std.specs.Int.{IsInRange, is_in_range}
 use Rattle.std.proofs.lemmas.Bool.{and_parts, leb-true, eqb-true, eqb-false}
-use Rattle.mdcc_protocol.specs.declared.messages.Envelope.{Envelope}
-use Rattle.mdcc_protocol.specs.declared.messages.Message.{Message}
-use Rattle.mdcc_protocol.specs.declared.messages.Message.TheVariants as messages
-use Rattle.mdcc_protocol.specs.declared.wire.WireFault.{WireFault}
-use Rattle.mdcc_protocol.specs.declared.wire.WireFault.TheVariants.{Truncated, Trailing, Kind}
-use Rattle.mdcc_protocol.specs.ReadingSteps.{◌>>=◌, u8_at, u32_at, u64_at, checked, unless, list_at}
+use Rattle.mdcc_messages.specs.declared.messages.Envelope.{Envelope}
+use Rattle.mdcc_messages.specs.declared.messages.Message.{Message}
+use Rattle.mdcc_messages.specs.declared.messages.Message.TheVariants as messages
+use Rattle.mdcc_messages.specs.declared.wire.WireFault.{WireFault}
+use Rattle.mdcc_messages.specs.declared.wire.WireFault.TheVariants.{Truncated, Trailing, Kind}
+use Rattle.mdcc_messages.specs.ReadingSteps.{◌>>=◌, u8_at, u32_at, u64_at, checked, unless, list_at}
 use Rattle.mdcc_base.specs.declared.identifiers.Ballot.{Ballot}
 use Rattle.mdcc_struct.specs.Options.{Marks}
-use Rattle.mdcc_protocol.specs.ReadingParts.{key_at, tx_at, ballot_at, classic_at, part_behind, choice_at, entry_at, options_at, cause_at}
-use Rattle.mdcc_protocol.specs.ReadingAnswers.{answer_at}
-use Rattle.mdcc_protocol.specs.Reading.{instance_at, at_least, heard_at, given_at, known, endpoint, propose_at, voted_at, escalate_at, lead_at, prepare_at, promise_at, accept_at, refused_at, ended_at, ask_at, sync_ask_at, sync_give_at, client_read_at, client_begin_at, client_answer_at, body_at, whole, view_of}
-use Rattle.mdcc_protocol.specs.Spelling.{kind_of}
+use Rattle.mdcc_messages.specs.ReadingParts.{key_at, tx_at, ballot_at, classic_at, part_behind, choice_at, entry_at, options_at, cause_at}
+use Rattle.mdcc_messages.specs.ReadingAnswers.{answer_at}
+use Rattle.mdcc_messages.specs.Reading.{instance_at, at_least, heard_at, given_at, known, endpoint, propose_at, voted_at, escalate_at, lead_at, prepare_at, promise_at, accept_at, refused_at, ended_at, ask_at, sync_ask_at, sync_give_at, client_read_at, client_begin_at, client_answer_at, body_at, whole, view_of}
+use Rattle.mdcc_messages.specs.Spelling.{kind_of}
 use Rattle.mdcc_parts.specs.Reads.{end_of}
 use Rattle.mdcc_wire.specs.Marks.{votes_place, options_place, promise_marks, accept_marks, marks_by}
 use Rattle.mdcc_wire.specs.Views.{viewed, passed, choice_in, marks_in, kind_or_none, choice_or_none, choice_by}

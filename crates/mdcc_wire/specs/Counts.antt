@@ -1,7 +1,7 @@
 -- Messages whose lists are no longer than their counts can say.
 use Rattle.std.specs.Prelude.{◌<◌, ◌^◌, ⊤, length}
-use Rattle.mdcc_protocol.specs.declared.messages.Message.{Message}
-use Rattle.mdcc_protocol.specs.declared.messages.Message.TheVariants as messages
+use Rattle.mdcc_messages.specs.declared.messages.Message.{Message}
+use Rattle.mdcc_messages.specs.declared.messages.Message.TheVariants as messages
 
 -- a structure is counted with four bytes, deltas with one. Each well-formed message is so
 abbrev pub HasCounts : Message → Type 0

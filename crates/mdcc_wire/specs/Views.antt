@@ -2,12 +2,12 @@
 use Rattle.std.specs.Prelude.{ℕ, Bool, not, ◌&&◌, ◌||◌, ◌==◌, if◌then◌else◌, List, [], Option, Some, None, Result, Ok, Err}
 use Rattle.mdcc_option.specs.declared.choices.Choice.{Choice}
 use Rattle.mdcc_struct.specs.Options.{Marks}
-use Rattle.mdcc_protocol.specs.declared.messages.Message.{Message}
-use Rattle.mdcc_protocol.specs.declared.messages.Message.TheVariants as messages
-use Rattle.mdcc_protocol.specs.declared.wire.WireFault.{WireFault}
-use Rattle.mdcc_protocol.specs.ReadingSteps.{◌>>=◌, u8_at, checked}
-use Rattle.mdcc_protocol.specs.ReadingParts.{choice_at}
-use Rattle.mdcc_protocol.specs.Reading.{known, endpoint, whole, body_at, view_of}
+use Rattle.mdcc_messages.specs.declared.messages.Message.{Message}
+use Rattle.mdcc_messages.specs.declared.messages.Message.TheVariants as messages
+use Rattle.mdcc_messages.specs.declared.wire.WireFault.{WireFault}
+use Rattle.mdcc_messages.specs.ReadingSteps.{◌>>=◌, u8_at, checked}
+use Rattle.mdcc_messages.specs.ReadingParts.{choice_at}
+use Rattle.mdcc_messages.specs.Reading.{known, endpoint, whole, body_at, view_of}
 use Rattle.mdcc_parts.specs.Reads.{end_of}
 
 -- a kind whose messages take no memory: all but promises and accepts, which have structures, and what a centre gives

@@ -1,8 +1,8 @@
 //! The bodies of messages that take no memory, read from bytes.
 ghost use Rattle.std.specs.Prelude.{◌≡◌, ◌≤◌, None, true};
-ghost use Rattle.mdcc_protocol.specs.ReadingSteps.{elements_at, list_at};
-ghost use Rattle.mdcc_protocol.specs.ReadingParts.{part_behind};
-ghost use Rattle.mdcc_protocol.specs.Reading.{propose_at, voted_at, escalate_at, lead_at, prepare_at, refused_at, ended_at, ask_at, sync_ask_at, client_read_at, client_begin_at, client_answer_at, body_at};
+ghost use Rattle.mdcc_messages.specs.ReadingSteps.{elements_at, list_at};
+ghost use Rattle.mdcc_messages.specs.ReadingParts.{part_behind};
+ghost use Rattle.mdcc_messages.specs.Reading.{propose_at, voted_at, escalate_at, lead_at, prepare_at, refused_at, ended_at, ask_at, sync_ask_at, client_read_at, client_begin_at, client_answer_at, body_at};
 ghost use Rattle.mdcc_wire.specs.Views.{is_plain};
 
 use crate::answers::read_answer;
@@ -14,7 +14,7 @@ use mdcc_parts::identifiers::{read_ballot, read_classic, read_key, read_tx};
 use mdcc_parts::items::read_part_behind;
 use mdcc_parts::marks::{read_cause, read_entry};
 use mdcc_parts::numbers::{u8_within, u32_at};
-use mdcc_protocol::{Message, WireFault};
+use mdcc_messages::{Message, WireFault};
 
 // A proposed choice.
 fn propose_at(bytes: &[u8], at: usize) -> Result<(Message, usize), WireFault>

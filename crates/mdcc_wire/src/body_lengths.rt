@@ -1,8 +1,8 @@
 //! Kinds of messages, and how many bytes messages have.
 ghost use Rattle.std.specs.Prelude.{◌≡◌, ◌≤◌, ◌+◌, ◌^◌, length};
 ghost use Rattle.mdcc_base.specs.Counts.{sum_over};
-ghost use Rattle.mdcc_protocol.specs.Spelling.{kind_of};
-ghost use Rattle.mdcc_protocol.specs.Lengths.{part_length, body_length, message_length};
+ghost use Rattle.mdcc_messages.specs.Spelling.{kind_of};
+ghost use Rattle.mdcc_messages.specs.Lengths.{part_length, body_length, message_length};
 ghost use Rattle.mdcc_wire.specs.Counts.{HasCounts};
 
 use crate::answer_bytes::answer_length;
@@ -11,7 +11,7 @@ use mdcc_append::lengths::{
     options_length, part_length,
 };
 use mdcc_option::Part;
-use mdcc_protocol::{Envelope, Message};
+use mdcc_messages::{Envelope, Message};
 
 /// The number of a message's kind, from 1 to 15.
 pub fn kind_of(message: &Message) -> u8

@@ -1,6 +1,6 @@
 //! Which messages can be written.
-ghost use Rattle.mdcc_protocol.specs.declared.messages.Message.{Message};
-ghost use Rattle.mdcc_protocol.specs.WellFormed.{IsWellFormedMessage};
+ghost use Rattle.mdcc_messages.specs.declared.messages.Message.{Message};
+ghost use Rattle.mdcc_messages.specs.WellFormed.{IsWellFormedMessage};
 ghost use Rattle.mdcc_wire.specs.Counts.{HasCounts};
 
 /// The lists of a well-formed message are no longer than their counts can say.

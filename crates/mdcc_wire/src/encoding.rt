@@ -2,10 +2,10 @@
 ghost use Rattle.std.specs.Prelude.{◌≡◌, ◌≤◌, ◌+◌, ◌++◌, length, vec_len, vec_capacity, true, false, IsTrue, IsOk, Err, OnOk, OnErr};
 ghost use Rattle.mdcc_base.specs.Counts.{sum_over};
 ghost use Rattle.mdcc_base.specs.Unless.{GivesUnless};
-ghost use Rattle.mdcc_protocol.specs.Bytes.{u64_bytes, counted};
-ghost use Rattle.mdcc_protocol.specs.SpelledParts.{key_bytes, part_bytes};
-ghost use Rattle.mdcc_protocol.specs.Spelling.{kind_of, body_bytes, message_bytes};
-ghost use Rattle.mdcc_protocol.specs.Lengths.{key_length, part_length, body_length, message_length};
+ghost use Rattle.mdcc_messages.specs.Bytes.{u64_bytes, counted};
+ghost use Rattle.mdcc_messages.specs.SpelledParts.{key_bytes, part_bytes};
+ghost use Rattle.mdcc_messages.specs.Spelling.{kind_of, body_bytes, message_bytes};
+ghost use Rattle.mdcc_messages.specs.Lengths.{key_length, part_length, body_length, message_length};
 ghost use Rattle.mdcc_wire.specs.Counts.{HasCounts};
 ghost use Rattle.mdcc_wire.specs.Encoding.{is_too_long, is_no_memory, encoded, is_of_option, is_of_ballot, is_of_structure, is_of_state};
 
@@ -17,7 +17,7 @@ use mdcc_append::appending::{
 use mdcc_append::marks::{put_cause, put_entry, put_given, put_heard, put_options};
 use mdcc_base::{Key, Memory};
 use mdcc_option::Part;
-use mdcc_protocol::{Envelope, Message};
+use mdcc_messages::{Envelope, Message};
 
 /// Why a message is not written. Nothing of it is.
 #[derive(Clone, Copy, Debug, PartialEq, Eq)]

@@ -2,10 +2,10 @@
 ghost use Rattle.std.specs.Prelude.{◌≡◌, Ok, IfOk};
 ghost use Rattle.mdcc_base.specs.Unless.{GivesUnless};
 ghost use Rattle.mdcc_parts.specs.Reads.{is_memory};
-ghost use Rattle.mdcc_protocol.specs.ReadingSteps.{checked, u8_at};
-ghost use Rattle.mdcc_protocol.specs.Reading.{known, endpoint, view_of};
-ghost use Rattle.mdcc_protocol.specs.Spelling.{kind_of};
-ghost use Rattle.mdcc_protocol.specs.ReadingParts.{choice_at};
+ghost use Rattle.mdcc_messages.specs.ReadingSteps.{checked, u8_at};
+ghost use Rattle.mdcc_messages.specs.Reading.{known, endpoint, view_of};
+ghost use Rattle.mdcc_messages.specs.Spelling.{kind_of};
+ghost use Rattle.mdcc_messages.specs.ReadingParts.{choice_at};
 ghost use Rattle.mdcc_wire.specs.Views.{viewed, passed, choice_in, marks_in, kind_or_none, choice_or_none, choice_by};
 
 use crate::marks::{MarkViews, marks_by};
@@ -14,7 +14,7 @@ use mdcc_base::Memory;
 use mdcc_option::Choice;
 use mdcc_parts::choices::read_choice;
 use mdcc_parts::numbers::u8_at;
-use mdcc_protocol::{Envelope, WireFault};
+use mdcc_messages::{Envelope, WireFault};
 use std::alloc::Global;
 use std::marker::Model;
 
@@ -26,7 +26,7 @@ pub struct Viewed<'a> {
 
 impl<'a> Model for Viewed<'a> {
     ghost use Rattle.std.specs.Prelude.{List, ℕ, IsOk};
-    ghost use Rattle.mdcc_protocol.specs.Reading.{view_of};
+    ghost use Rattle.mdcc_messages.specs.Reading.{view_of};
 
     ghost Value = { List ℕ };
 

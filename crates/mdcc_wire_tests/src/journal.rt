@@ -9,7 +9,7 @@ use crate::spelled::are_same;
 use mdcc_base::{Ballot, BoundedList, Plain};
 use mdcc_journal::{decode_fact, encode_fact, fact_length};
 use mdcc_option::{Choice, Outcome};
-use mdcc_protocol::Fact;
+use mdcc_messages::Fact;
 use mdcc_struct::Options;
 use std::alloc::Global;
 use std::test::*;

@@ -1,9 +1,9 @@
 -- A body has one byte for each two digits.
 use Rattle.std.proofs.Common.{ℕ, ◌*◌, ◌<◌, ◌≤◌, List, [], ◌∷◌, length, nat_le, Option, Some, None, IfSome, drop, slice_index, ◌++◌, ◌==◌, if◌then◌else◌, ◌≡◌, refl, sym, ap, ◌∙◌, arith, Ok, cond, suc}
 use Rattle.std.proofs.lemmas.Bool.{lt-leb, and_right}
-use Rattle.mdcc_protocol.specs.declared.schedule.SchedCause.TheVariants.{Range}
+use Rattle.mdcc_language.specs.declared.schedule.SchedCause.TheVariants.{Range}
 use Rattle.mdcc_words.proofs.Onto.{onto_some, onto_some_more}
-use Rattle.mdcc_protocol.specs.Words.{refused, hex_digit_of, hex_byte_by, onto_bytes, hex_bytes_of, body_by}
+use Rattle.mdcc_language.specs.Words.{refused, hex_digit_of, hex_byte_by, onto_bytes, hex_bytes_of, body_by}
 
 half_more : (byte : Option ℕ) (rest : Option (List ℕ)) (size : ℕ) → IfSome rest (λ bytes. 2 * length bytes ≡ size) → IfSome (onto_bytes byte rest) (λ bytes. 2 * length bytes ≡ suc (suc size))
 half_more (Some byte) (Some bytes) size h = omega (arith, h)

@@ -7,8 +7,8 @@ use Rattle.std.proofs.lemmas.Bool.{and_parts, or_cases, eqb-true}
 use Rattle.std.proofs.lemmas.Str.Parse.{IsNumeralModel, numerals_by_value, tells_all_ascii_digits, digit_from_value}
 use Rattle.std.proofs.lemmas.Str.{IsUtf8-from_ascii}
 use Rattle.std.proofs.lemmas.Fmt.{IsAscii-from_digits}
-use Rattle.mdcc_protocol.specs.declared.schedule.SchedCause.TheVariants.{Range}
-use Rattle.mdcc_protocol.specs.Words.{are_plain_digits, is_negative, within, refused}
+use Rattle.mdcc_language.specs.declared.schedule.SchedCause.TheVariants.{Range}
+use Rattle.mdcc_language.specs.Words.{are_plain_digits, is_negative, within, refused}
 
 pub model : IsNumeralModel (λ ds. all_ascii_digits ds ≡ true) (digits_value 10)
 model = numerals_by_value _ tells_all_ascii_digits

@@ -1,6 +1,6 @@
 -- What was read so far, before what the rest gives.
 use Rattle.std.proofs.Common.{ℕ, List, [], ◌∷◌, ◌++◌, Option, Some, None, Result, Ok, Err, ◌≡◌, refl, ap, append_assoc}
-use Rattle.mdcc_protocol.specs.Words.{◌>>=◌, onto_bytes}
+use Rattle.mdcc_language.specs.Words.{◌>>=◌, onto_bytes}
 
 abbrev pub onto : {A E : Type 0} → List A → Result (List A) E → Result (List A) E
 onto xs (Ok ys) = Ok (xs ++ ys)

@@ -3,7 +3,7 @@ use Rattle.std.proofs.Common.{ℕ, suc, ◌+◌, ◌≤◌, ◌<◌, ◌==◌, B
 use Rattle.std.specs.List.{slice_split, onto_first, position_or_len}
 use Rattle.std.proofs.lemmas.Bool.{cases_lt, le-leb, lt-leb, lt-ltb, le-ltb}
 use Rattle.std.proofs.lemmas.Bool.Decides.{nat_tests}
-use Rattle.mdcc_protocol.specs.Words.{part_len, part_at, parts_from}
+use Rattle.mdcc_language.specs.Words.{part_len, part_at, parts_from}
 
 -- the parts from a place on; behind the end of the text there is none
 abbrev pub parts_left : ℕ → ℕ → List ℕ → List (List ℕ)

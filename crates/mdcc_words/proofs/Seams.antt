@@ -1,10 +1,10 @@
 -- A text that was read is its parts, one behind the other.
 use Rattle.std.proofs.Common.{◌≡◌, ℕ, zero, suc, ◌+◌, ◌==◌, Bool, true, false, cond, List, [], ◌∷◌, ◌++◌, length, take, drop, Result, Ok, Err, refl, sym, ap, ◌∙◌, arith, drop-drop, slice_get, zero-add}
 use Rattle.std.proofs.lemmas.Bool.{eqb-true}
-use Rattle.mdcc_protocol.specs.declared.schedule.SchedFault.{SchedFault}
-use Rattle.mdcc_protocol.specs.declared.schedule.SchedCause.{SchedCause}
-use Rattle.mdcc_protocol.specs.declared.schedule.SchedCause.TheVariants.{Word}
-use Rattle.mdcc_protocol.specs.Words.{◌>>=◌, refused, part_len, part_at, part_end, is_separator, behind, end_at}
+use Rattle.mdcc_language.specs.declared.schedule.SchedFault.{SchedFault}
+use Rattle.mdcc_language.specs.declared.schedule.SchedCause.{SchedCause}
+use Rattle.mdcc_language.specs.declared.schedule.SchedCause.TheVariants.{Word}
+use Rattle.mdcc_language.specs.Words.{◌>>=◌, refused, part_len, part_at, part_end, is_separator, behind, end_at}
 
 pub bind_ok : {A B : Type 0} (r : Result A SchedFault) (f : A → Result B SchedFault) (y : B) → (r >>= f) ≡ Ok y → (x : A) × (r ≡ Ok x) × (f x ≡ Ok y)
 bind_ok (Ok x) f y e = (x, refl, e)

@@ -11,15 +11,15 @@ use Rattle.std.proofs.lemmas.Fmt.{decimal-digits_value, decimal_digit}
 use Rattle.std.proofs.lemmas.List.Splits.{join_with_byte-slice_split}
 use Rattle.std.proofs.lemmas.Str.Parse.{digit_from_value}
 use Rattle.mdcc_option.specs.declared.items.Item.{Item}
-use Rattle.mdcc_protocol.specs.declared.events.UpdateWord.{UpdateWord}
-use Rattle.mdcc_protocol.specs.declared.events.UpdateWord.TheVariants.{New, Set, Keep}
-use Rattle.mdcc_protocol.specs.declared.schedule.SchedFault.{SchedFault}
-use Rattle.mdcc_protocol.specs.declared.schedule.SchedCause.TheVariants.{Word, Number, Key, Range}
-use Rattle.mdcc_protocol.specs.Report.{byte_text, body_text, values_text}
-use Rattle.mdcc_protocol.specs.Updates.{item_of, new_of, set_of, keep_of, is_named, update_of}
-use Rattle.mdcc_protocol.specs.Words.{refused, text_eq, part_at, part_end, parts_from, behind, end_at, are_plain_digits, is_negative, within, number_of, natural_of, count_of, value_of, is_key, key_of, hex_digit_of, hex_byte_by, onto_bytes, hex_bytes_of, body_by, body_of, values_from, values_of}
+use Rattle.mdcc_language.specs.declared.events.UpdateWord.{UpdateWord}
+use Rattle.mdcc_language.specs.declared.events.UpdateWord.TheVariants.{New, Set, Keep}
+use Rattle.mdcc_language.specs.declared.schedule.SchedFault.{SchedFault}
+use Rattle.mdcc_language.specs.declared.schedule.SchedCause.TheVariants.{Word, Number, Key, Range}
+use Rattle.mdcc_language.specs.Report.{byte_text, body_text, values_text}
+use Rattle.mdcc_language.specs.Updates.{item_of, new_of, set_of, keep_of, is_named, update_of}
+use Rattle.mdcc_language.specs.Words.{refused, text_eq, part_at, part_end, parts_from, behind, end_at, are_plain_digits, is_negative, within, number_of, natural_of, count_of, value_of, is_key, key_of, hex_digit_of, hex_byte_by, onto_bytes, hex_bytes_of, body_by, body_of, values_from, values_of}
 use Rattle.mdcc_words.specs.Spelled.{item_text, update_text}
-use Rattle.mdcc_protocol.specs.Built.{built}
+use Rattle.mdcc_built.specs.Built.{built}
 use Rattle.mdcc_words.proofs.Numerals.{model, plain_digits, plain_numeral, no_sign}
 use Rattle.mdcc_words.proofs.Seams.{bind_ok, guard_ok, part_seam, front_seam, behind_ok, end_ok}
 

@@ -1,8 +1,8 @@
 -- A list of values, one part after another.
 use Rattle.std.proofs.Common.{ℕ, suc, ◌+◌, ◌-◌, ◌≤◌, ◌<◌, ◌++◌, length-append, List, [], ◌∷◌, length, ◌≡◌, sym, ap, ◌∙◌, arith, Result, Ok, Err, ℤ}
-use Rattle.mdcc_protocol.specs.declared.schedule.SchedFault.{SchedFault}
-use Rattle.mdcc_protocol.specs.declared.schedule.SchedCause.TheVariants.{Range}
-use Rattle.mdcc_protocol.specs.Words.{refused, ◌>>=◌, part_at, value_of, values_from}
+use Rattle.mdcc_language.specs.declared.schedule.SchedFault.{SchedFault}
+use Rattle.mdcc_language.specs.declared.schedule.SchedCause.TheVariants.{Range}
+use Rattle.mdcc_language.specs.Words.{refused, ◌>>=◌, part_at, value_of, values_from}
 use Rattle.mdcc_words.proofs.Onto.{onto, onto_more}
 use Rattle.mdcc_words.proofs.Parts.{parts_left, parts_first}
 

@@ -3,11 +3,11 @@ use Rattle.std.specs.Prelude.{ℕ, ℤ, ◌≡◌, List, ◌∷◌, ◌++◌, ma
 use Rattle.std.specs.Fmt.{signed_decimal}
 use Rattle.std.specs.List.{join_with_byte}
 use Rattle.mdcc_option.specs.declared.items.Item.{Item}
-use Rattle.mdcc_protocol.specs.declared.events.UpdateWord.{UpdateWord}
-use Rattle.mdcc_protocol.specs.declared.events.UpdateWord.TheVariants.{New, Set, Keep}
-use Rattle.mdcc_protocol.specs.Report.{body_text, values_text}
-use Rattle.mdcc_protocol.specs.Updates.{update_of}
-use Rattle.mdcc_protocol.specs.Built.{built}
+use Rattle.mdcc_language.specs.declared.events.UpdateWord.{UpdateWord}
+use Rattle.mdcc_language.specs.declared.events.UpdateWord.TheVariants.{New, Set, Keep}
+use Rattle.mdcc_language.specs.Report.{body_text, values_text}
+use Rattle.mdcc_language.specs.Updates.{update_of}
+use Rattle.mdcc_built.specs.Built.{built}
 
 -- a body and values, each behind a colon
 abbrev pub item_text : Item → List ℕ

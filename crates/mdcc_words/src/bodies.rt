@@ -1,11 +1,11 @@
 //! Bodies of items.
 ghost use Rattle.std.specs.Prelude.{◌≡◌, ◌+◌, ◌*◌, ◌<◌, ◌≤◌, Some, IfSome, length};
-ghost use Rattle.mdcc_protocol.specs.Words.{hex_digit_of, hex_byte_by, hex_bytes_of, body_of};
+ghost use Rattle.mdcc_language.specs.Words.{hex_digit_of, hex_byte_by, hex_bytes_of, body_of};
 
 use crate::places::{refused, text_eq};
 use mdcc_base::BoundedList;
 use mdcc_option::items::Body;
-use mdcc_protocol::{SchedCause, SchedFault};
+use mdcc_language::{SchedCause, SchedFault};
 
 // The value of a digit of a hexadecimal number, in lower case.
 fn hex_digit_of(byte: u8) -> Option<u8>

@@ -1,10 +1,10 @@
 //! Keys.
 ghost use Rattle.std.specs.Prelude.{◌≡◌};
-ghost use Rattle.mdcc_protocol.specs.Words.{key_of};
+ghost use Rattle.mdcc_language.specs.Words.{key_of};
 
 use crate::places::refused;
 use mdcc_base::Key;
-use mdcc_protocol::{SchedCause, SchedFault};
+use mdcc_language::{SchedCause, SchedFault};
 
 /// Reads a key.
 pub fn parse_key(word: &[u8], column: u32) -> Result<Key, SchedFault>

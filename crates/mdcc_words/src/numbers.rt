@@ -4,10 +4,10 @@ ghost use Rattle.std.specs.Int.{w64, w128};
 ghost use Rattle.std.specs.Option.{SomeIff};
 ghost use Rattle.std.specs.Str.{all_ascii_digits};
 ghost use Rattle.std.specs.Str.Parse.{signed_digits_value};
-ghost use Rattle.mdcc_protocol.specs.Words.{are_plain_digits, is_negative, within, number_of, natural_of, count_of, value_of};
+ghost use Rattle.mdcc_language.specs.Words.{are_plain_digits, is_negative, within, number_of, natural_of, count_of, value_of};
 
 use crate::places::refused;
-use mdcc_protocol::{SchedCause, SchedFault};
+use mdcc_language::{SchedCause, SchedFault};
 
 // Whether each byte is a digit.
 fn all_ascii_digits(word: &[u8]) -> bool

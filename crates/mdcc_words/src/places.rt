@@ -1,8 +1,8 @@
 //! Places in a text, which count from 0, and columns, which count from 1.
 ghost use Rattle.std.specs.Prelude.{◌≡◌, ◌+◌, ◌<◌, ◌≤◌, ◌^◌, ◌==◌, IsTrue, IfOk, IfSome, length, position};
-ghost use Rattle.mdcc_protocol.specs.Words.{refused, text_eq, part_len, part_at, part_end, behind, end_at};
+ghost use Rattle.mdcc_language.specs.Words.{refused, text_eq, part_len, part_at, part_end, behind, end_at};
 
-use mdcc_protocol::{SchedCause, SchedFault};
+use mdcc_language::{SchedCause, SchedFault};
 
 /// A refusal of what stands at a column.
 pub fn refused<A>(column: u32, cause: SchedCause) -> Result<A, SchedFault>

@@ -1,7 +1,7 @@
 //! Update words.
 ghost use Rattle.std.specs.Prelude.{◌≡◌, ◌+◌, ◌<◌, ◌≤◌, ◌^◌, IsTrue, length};
-ghost use Rattle.mdcc_protocol.specs.Updates.{item_of, new_of, set_of, keep_of, is_named, update_of};
-ghost use Rattle.mdcc_protocol.specs.Built.{built};
+ghost use Rattle.mdcc_language.specs.Updates.{item_of, new_of, set_of, keep_of, is_named, update_of};
+ghost use Rattle.mdcc_built.specs.Built.{built};
 
 use crate::bodies::parse_body;
 use crate::keys::parse_key;
@@ -9,7 +9,7 @@ use crate::numbers::count_of;
 use crate::places::{behind, end_at, part_at, part_end, refused, text_eq};
 use crate::values::parse_values;
 use mdcc_option::Item;
-use mdcc_protocol::{SchedCause, SchedFault, UpdateWord};
+use mdcc_language::{SchedCause, SchedFault, UpdateWord};
 
 // The item whose two parts stand behind a place and end the word.
 fn item_of(at: usize, word: &[u8], column: u32) -> Result<Item, SchedFault>

@@ -1,12 +1,12 @@
 //! Values of items.
 ghost use Rattle.std.specs.Prelude.{◌≡◌, ◌+◌, ◌<◌, ◌^◌, length};
-ghost use Rattle.mdcc_protocol.specs.Words.{values_of};
+ghost use Rattle.mdcc_language.specs.Words.{values_of};
 
 use crate::numbers::value_of;
 use crate::places::{part_at, refused};
 use mdcc_base::BoundedList;
 use mdcc_option::items::Values;
-use mdcc_protocol::{SchedCause, SchedFault};
+use mdcc_language::{SchedCause, SchedFault};
 
 // The most values that an item may have.
 const MOST_VALUES: usize = 4;

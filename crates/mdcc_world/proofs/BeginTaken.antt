@@ -7,19 +7,21 @@ use Rattle.mdcc_option.specs.declared.faults.BeginFault.{BeginFault}
 use Rattle.mdcc_option.specs.declared.items.Part.{Part}
 use Rattle.mdcc_outcomes.specs.Stands.{Stands as OutcomesStand}
 use Rattle.mdcc_outcomes.specs.declared.outcomes.Outcomes.{Outcomes}
-use Rattle.mdcc_protocol.specs.Built.{built}
+use Rattle.mdcc_built.specs.Built.{built}
 use Rattle.mdcc_protocol.specs.Facts.{epoch_of}
-use Rattle.mdcc_protocol.specs.Ledger.{facts_of}
+use Rattle.mdcc_ledger.specs.Ledger.{facts_of}
 use Rattle.mdcc_protocol.specs.Manager
-use Rattle.mdcc_protocol.specs.ManagerRules.{begin_step, begin_step_by}
-use Rattle.mdcc_protocol.specs.Steps.{NodeStep, step_given}
+use Rattle.mdcc_rules.specs.ManagerRules.{begin_step, begin_step_by}
+use Rattle.mdcc_rules.specs.Steps.{NodeStep, step_given}
 use Rattle.mdcc_protocol.specs.Volatile.{Managing, Volatile}
-use Rattle.mdcc_protocol.specs.World.{World, answer_in, begin_lines, centre_at, counted_event, next_message, step_at}
-use Rattle.mdcc_protocol.specs.declared.facts.Fact.{Fact}
-use Rattle.mdcc_protocol.specs.declared.node.Answer.{Answer}
-use Rattle.mdcc_protocol.specs.declared.node.Input.{Input}
-use Rattle.mdcc_protocol.specs.declared.node.Step.{Step}
-use Rattle.mdcc_protocol.specs.declared.node.StepFault.{StepFault}
+use Rattle.mdcc_simulation.specs.State.{World, centre_at, counted_event, next_message}
+use Rattle.mdcc_simulation.specs.Clients.{answer_in, begin_lines}
+use Rattle.mdcc_simulation.specs.Stepping.{step_at}
+use Rattle.mdcc_messages.specs.declared.facts.Fact.{Fact}
+use Rattle.mdcc_rules.specs.declared.node.Answer.{Answer}
+use Rattle.mdcc_rules.specs.declared.node.Input.{Input}
+use Rattle.mdcc_rules.specs.declared.node.Step.{Step}
+use Rattle.mdcc_rules.specs.declared.node.StepFault.{StepFault}
 use Rattle.mdcc_world.proofs.Took.{ok-given}
 use Rattle.mdcc_world.specs.Stands.{entries_of}
 use Rattle.mdcc_world.specs.Telling.{begun_entries, begun_tx, lines_begun}

@@ -10,14 +10,16 @@ use Rattle.mdcc_node.specs.declared.node.Node.{Node}
 use Rattle.mdcc_option.specs.declared.items.Known.{Known}
 use Rattle.mdcc_outcomes.specs.Stands.{Stands as OutcomesStand}
 use Rattle.mdcc_protocol.specs.Belongs.{is_centre}
-use Rattle.mdcc_protocol.specs.Built.{built}
-use Rattle.mdcc_protocol.specs.Ledger.{facts_of}
+use Rattle.mdcc_built.specs.Built.{built}
+use Rattle.mdcc_ledger.specs.Ledger.{facts_of}
 use Rattle.mdcc_protocol.specs.Visible
-use Rattle.mdcc_protocol.specs.World.{World, centre_at, counted_event, input_happened, is_up_at, known_of, read_happened, step_at}
-use Rattle.mdcc_protocol.specs.declared.lines.Line.{Line}
-use Rattle.mdcc_protocol.specs.declared.node.Input.{Input}
-use Rattle.mdcc_protocol.specs.declared.node.Step.{Step}
-use Rattle.mdcc_protocol.specs.declared.node.StepFault.{StepFault}
+use Rattle.mdcc_simulation.specs.State.{World, centre_at, counted_event, is_up_at}
+use Rattle.mdcc_simulation.specs.Stepping.{input_happened, step_at}
+use Rattle.mdcc_simulation.specs.Clients.{known_of, read_happened}
+use Rattle.mdcc_language.specs.declared.lines.Line.{Line}
+use Rattle.mdcc_rules.specs.declared.node.Input.{Input}
+use Rattle.mdcc_rules.specs.declared.node.Step.{Step}
+use Rattle.mdcc_rules.specs.declared.node.StepFault.{StepFault}
 use Rattle.mdcc_steps.specs.Inputs.{IsWellFormedInput}
 use Rattle.mdcc_world.specs.Making.{IsMade}
 use Rattle.mdcc_world.specs.Nodes.{NodesStand}

@@ -12,14 +12,16 @@ use Rattle.mdcc_logs.specs.declared.logs.Logs.{Logs}
 use Rattle.mdcc_node.specs.declared.node.Node.{Node}
 use Rattle.mdcc_protocol.specs.Belongs.{is_centre}
 use Rattle.mdcc_protocol.specs.Facts.{epoch_of}
-use Rattle.mdcc_protocol.specs.Ledger.{Added, facts_of}
-use Rattle.mdcc_protocol.specs.Lengths.{log_length}
+use Rattle.mdcc_ledger.specs.Ledger.{Added, facts_of}
+use Rattle.mdcc_messages.specs.Lengths.{log_length}
 use Rattle.mdcc_protocol.specs.Volatile.{nothing_kept}
-use Rattle.mdcc_protocol.specs.World.{Site, World, booted, centre_at, counted_event, crash_happened, down, is_up_at, most_log, restart_happened}
-use Rattle.mdcc_protocol.specs.declared.facts.Fact.{Fact}
-use Rattle.mdcc_protocol.specs.declared.lines.Line.{Line}
-use Rattle.mdcc_protocol.specs.declared.world.EventFault.{EventFault}
-use Rattle.mdcc_protocol.specs.declared.world.LimitName.{LimitName}
+use Rattle.mdcc_simulation.specs.State.{Site, World, booted, centre_at, counted_event, down, is_up_at}
+use Rattle.mdcc_simulation.specs.Centres.{crash_happened, restart_happened}
+use Rattle.mdcc_simulation.specs.Limits.{most_log}
+use Rattle.mdcc_messages.specs.declared.facts.Fact.{Fact}
+use Rattle.mdcc_language.specs.declared.lines.Line.{Line}
+use Rattle.mdcc_language.specs.declared.world.EventFault.{EventFault}
+use Rattle.mdcc_language.specs.declared.world.LimitName.{LimitName}
 use Rattle.mdcc_restart.specs.Logged.{AreLogged, logged}
 use Rattle.mdcc_world.proofs.Counted.{up-centre}
 use Rattle.mdcc_world.proofs.NodesStay.{set-get}

@@ -1,10 +1,13 @@
 -- A deliver line, number by number.
 use Rattle.std.proofs.Common.{◌≡◌, ℕ, ◌∷◌, ◌||◌, Bool, true, false, List, Ok, Err, sym, subst, append-nil}
 use Rattle.std.specs.Bool.{OnFalse}
-use Rattle.mdcc_protocol.specs.Built.{built}
-use Rattle.mdcc_protocol.specs.World.{Happened, World, after_lines, deliveries_before, deliveries_of, delivery_of, is_limit}
-use Rattle.mdcc_protocol.specs.declared.lines.Line.{Line}
-use Rattle.mdcc_protocol.specs.declared.world.EventFault.{EventFault}
+use Rattle.mdcc_built.specs.Built.{built}
+use Rattle.mdcc_simulation.specs.State.{Happened, World, after_lines}
+use Rattle.mdcc_simulation.specs.Left.{deliveries_before}
+use Rattle.mdcc_simulation.specs.Deliveries.{deliveries_of, delivery_of}
+use Rattle.mdcc_simulation.specs.Limits.{is_limit}
+use Rattle.mdcc_language.specs.declared.lines.Line.{Line}
+use Rattle.mdcc_language.specs.declared.world.EventFault.{EventFault}
 use Rattle.mdcc_world.proofs.Happened.{fault-then, happened-then, has-come}
 use Rattle.mdcc_world.specs.Faults.{OnRefusal, is_memory}
 use Rattle.mdcc_world.specs.Stands.{HasHappened, Happens, IsLike}

@@ -5,9 +5,9 @@ use Rattle.mdcc_base.specs.Counts.{number_of}
 use Rattle.mdcc_base.specs.Sizes.{Sizes}
 use Rattle.mdcc_option.specs.declared.choices.Outcome.{Outcome}
 use Rattle.mdcc_outcomes.specs.Endings.{ending_of, is_abort_ending, is_commit_ending, totals_of}
-use Rattle.mdcc_protocol.specs.Ledger.{Entry, outcome_of, txs_begun}
+use Rattle.mdcc_ledger.specs.Ledger.{Entry, outcome_of, txs_begun}
 use Rattle.mdcc_protocol.specs.Marks.{is_abort, is_commit}
-use Rattle.mdcc_protocol.specs.World.{is_commit_found}
+use Rattle.mdcc_simulation.specs.Runs.{is_commit_found}
 
 counted-by : {X Y : Type 0} (f : Y → Bool) (g : X → Y) (h : X → Bool) (xs : List X) → ((x : X) → f (g x) ≡ h x) → number_of f (map g xs) ≡ number_of h xs
 counted-by f g h [] same = refl

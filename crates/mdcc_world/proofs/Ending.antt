@@ -2,9 +2,9 @@
 use Rattle.std.proofs.Common.{◌≡◌, ◌≤◌, ◌++◌, List, Result, Ok, Err, arith}
 use Rattle.std.specs.Bool.{OnFalse}
 use Rattle.std.specs.Prelude.{IfErr, IsOkAnd, OnOk}
-use Rattle.mdcc_protocol.specs.World.{Happened}
-use Rattle.mdcc_protocol.specs.declared.lines.Line.{Line}
-use Rattle.mdcc_protocol.specs.declared.world.EventFault.{EventFault}
+use Rattle.mdcc_simulation.specs.State.{Happened}
+use Rattle.mdcc_language.specs.declared.lines.Line.{Line}
+use Rattle.mdcc_language.specs.declared.world.EventFault.{EventFault}
 use Rattle.mdcc_world.specs.Faults.{is_memory}
 use Rattle.mdcc_world.specs.Stands.{Happens, Stands}
 use Rattle.mdcc_world.specs.declared.world.World.{World as TheWorld}

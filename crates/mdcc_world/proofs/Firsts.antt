@@ -5,9 +5,9 @@ use Rattle.mdcc_logs.specs.Stands.{LogsStand}
 use Rattle.mdcc_logs.specs.declared.logs.Logs.{Logs}
 use Rattle.mdcc_option.specs.declared.cluster.Cluster.{Cluster}
 use Rattle.mdcc_protocol.specs.Belongs.{is_centre}
-use Rattle.mdcc_protocol.specs.Ledger.{facts_of}
-use Rattle.mdcc_protocol.specs.World.{Site, booted_to, centre_at, first_world}
-use Rattle.mdcc_protocol.specs.declared.facts.Fact.{Fact}
+use Rattle.mdcc_ledger.specs.Ledger.{facts_of}
+use Rattle.mdcc_simulation.specs.State.{Site, booted_to, centre_at, first_world}
+use Rattle.mdcc_messages.specs.declared.facts.Fact.{Fact}
 use Rattle.mdcc_worlds.proofs.Begins.{first-facts, first-site}
 use Rattle.mdcc_world.proofs.Took.{logs-same}
 use Rattle.mdcc_world.specs.Nodes.{UpsStand}

@@ -1,9 +1,9 @@
 -- What stands after a refusal.
 use Rattle.std.proofs.Common.{◌≡◌, ◌≤◌, Bool, true, false, List, Result, Ok, Err, arith, append-nil, subst, sym, ◌∙◌}
 use Rattle.std.specs.Bool.{OnFalse}
-use Rattle.mdcc_protocol.specs.World.{Happened, World}
-use Rattle.mdcc_protocol.specs.declared.lines.Line.{Line}
-use Rattle.mdcc_protocol.specs.declared.world.EventFault.{EventFault}
+use Rattle.mdcc_simulation.specs.State.{Happened, World}
+use Rattle.mdcc_language.specs.declared.lines.Line.{Line}
+use Rattle.mdcc_language.specs.declared.world.EventFault.{EventFault}
 use Rattle.mdcc_world.proofs.Happened.{any-fault}
 use Rattle.mdcc_world.specs.Faults.{OnRefusal, is_free}
 use Rattle.mdcc_world.specs.Stands.{HasHappened, IsLike, Stands}

@@ -2,18 +2,20 @@
 use Rattle.std.proofs.Common.{◌≡◌, ℕ, ◌≤◌, Bool, true, false, List, ◌∷◌, refl, sym, ap, ◌∙◌, subst, Option, Some, None, Ok, Err, arith, length, nat_lt}
 use Rattle.mdcc_logs.specs.Stands.{LogsStand}
 use Rattle.mdcc_protocol.specs.Belongs.{is_centre}
-use Rattle.mdcc_protocol.specs.Built.{built}
-use Rattle.mdcc_protocol.specs.Ledger.{facts_of}
-use Rattle.mdcc_protocol.specs.Lengths.{fact_length, log_length}
-use Rattle.mdcc_protocol.specs.WellFormed.{IsWellFormedEnvelope, IsWellFormedFact}
-use Rattle.mdcc_protocol.specs.World.{World, centre_at, log_limit, most_log, step_at}
-use Rattle.mdcc_protocol.specs.Steps.{NodeStep, step_given}
-use Rattle.mdcc_protocol.specs.declared.facts.Fact.{Fact}
-use Rattle.mdcc_protocol.specs.declared.messages.Envelope.{Envelope}
-use Rattle.mdcc_protocol.specs.declared.node.Input.{Input}
-use Rattle.mdcc_protocol.specs.declared.node.Step.{Step}
-use Rattle.mdcc_protocol.specs.declared.world.EventFault.{EventFault}
-use Rattle.mdcc_protocol.specs.declared.world.LimitName.{LimitName}
+use Rattle.mdcc_built.specs.Built.{built}
+use Rattle.mdcc_ledger.specs.Ledger.{facts_of}
+use Rattle.mdcc_messages.specs.Lengths.{fact_length, log_length}
+use Rattle.mdcc_messages.specs.WellFormed.{IsWellFormedEnvelope, IsWellFormedFact}
+use Rattle.mdcc_simulation.specs.State.{World, centre_at}
+use Rattle.mdcc_simulation.specs.Limits.{log_limit, most_log}
+use Rattle.mdcc_simulation.specs.Stepping.{step_at}
+use Rattle.mdcc_rules.specs.Steps.{NodeStep, step_given}
+use Rattle.mdcc_messages.specs.declared.facts.Fact.{Fact}
+use Rattle.mdcc_messages.specs.declared.messages.Envelope.{Envelope}
+use Rattle.mdcc_rules.specs.declared.node.Input.{Input}
+use Rattle.mdcc_rules.specs.declared.node.Step.{Step}
+use Rattle.mdcc_language.specs.declared.world.EventFault.{EventFault}
+use Rattle.mdcc_language.specs.declared.world.LimitName.{LimitName}
 use Rattle.std.specs.List.{AllByRecursion}
 use Rattle.mdcc_steps.proofs.Dispatched.{fact-formed, sends-formed}
 use Rattle.mdcc_steps.proofs.Shortness.{fact-short}

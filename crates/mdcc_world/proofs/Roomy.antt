@@ -3,11 +3,11 @@ use Rattle.std.proofs.Common.{◌≡◌, ℕ, ◌-◌, ◌^◌, List, refl, arit
 use Rattle.mdcc_node.proofs.Rooms.{ample_steps}
 use Rattle.mdcc_node.specs.Stepping.{step_by}
 use Rattle.mdcc_option.specs.declared.cluster.Cluster.{Cluster}
-use Rattle.mdcc_protocol.specs.Built.{built}
-use Rattle.mdcc_protocol.specs.Node.{step_of}
+use Rattle.mdcc_built.specs.Built.{built}
+use Rattle.mdcc_rules.specs.Node.{step_of}
 use Rattle.mdcc_protocol.specs.Volatile.{Volatile}
-use Rattle.mdcc_protocol.specs.declared.facts.Fact.{Fact}
-use Rattle.mdcc_protocol.specs.declared.node.Input.{Input}
+use Rattle.mdcc_messages.specs.declared.facts.Fact.{Fact}
+use Rattle.mdcc_rules.specs.declared.node.Input.{Input}
 
 -- so its node's step is the one of the definitions
 pub step-roomy : (cluster : Cluster) (me : ℕ) (facts : List Fact) (volatile : Volatile) (input : Input)

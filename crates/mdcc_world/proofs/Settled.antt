@@ -7,13 +7,17 @@ use Rattle.std.specs.Prelude.{slice_get, not}
 use Rattle.std.proofs.lemmas.Bool.{and_parts, cases_Bool, leb-true, ltb-true}
 use Rattle.mdcc_mail.proofs.Next.{found, next_from}
 use Rattle.mdcc_mail.specs.Waiting.{AreAsked, before_first, first_to, message_of, waits_among, with_number}
-use Rattle.mdcc_protocol.specs.Built.{built}
-use Rattle.mdcc_protocol.specs.World.{Sent, World, after_lines, event_of, first_waiting, is_up_at, most_events, next_message, numbered}
-use Rattle.mdcc_protocol.specs.declared.events.Event.{Event}
-use Rattle.mdcc_protocol.specs.declared.lines.Line.{Line}
-use Rattle.mdcc_protocol.specs.declared.messages.Envelope.{Envelope}
-use Rattle.mdcc_protocol.specs.declared.world.EventFault.{EventFault}
-use Rattle.mdcc_protocol.specs.declared.world.LimitName.{LimitName}
+use Rattle.mdcc_built.specs.Built.{built}
+use Rattle.mdcc_messages.specs.Mailbox.{Sent, numbered}
+use Rattle.mdcc_simulation.specs.State.{World, after_lines, is_up_at, next_message}
+use Rattle.mdcc_simulation.specs.Events.{event_of}
+use Rattle.mdcc_simulation.specs.Deliveries.{first_waiting}
+use Rattle.mdcc_simulation.specs.Limits.{most_events}
+use Rattle.mdcc_language.specs.declared.events.Event.{Event}
+use Rattle.mdcc_language.specs.declared.lines.Line.{Line}
+use Rattle.mdcc_messages.specs.declared.messages.Envelope.{Envelope}
+use Rattle.mdcc_language.specs.declared.world.EventFault.{EventFault}
+use Rattle.mdcc_language.specs.declared.world.LimitName.{LimitName}
 use Rattle.mdcc_world.proofs.Happened.{fault-then, happened-then, has-come}
 use Rattle.mdcc_world.specs.Faults.{is_memory}
 use Rattle.mdcc_world.specs.Settling.{AreUp, EndsAfter, HasSettled, is_named}

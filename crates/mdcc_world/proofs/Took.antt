@@ -12,19 +12,22 @@ use Rattle.mdcc_outcomes.specs.Stands.{Stands as OutcomesStand}
 use Rattle.mdcc_outcomes.specs.declared.outcomes.Outcomes.{Outcomes}
 use Rattle.mdcc_option.specs.declared.choices.Outcome.{Outcome}
 use Rattle.mdcc_protocol.specs.Belongs.{is_centre}
-use Rattle.mdcc_protocol.specs.Built.{built}
-use Rattle.mdcc_protocol.specs.Ledger.{Added, Entry, facts_of, new_outcomes}
-use Rattle.mdcc_protocol.specs.Lengths.{messages_length}
+use Rattle.mdcc_built.specs.Built.{built}
+use Rattle.mdcc_ledger.specs.Ledger.{Added, Entry, facts_of, new_outcomes}
+use Rattle.mdcc_messages.specs.Lengths.{messages_length}
 use Rattle.mdcc_protocol.specs.Marks.{is_commit}
-use Rattle.mdcc_protocol.specs.Steps.{NodeStep, step_given}
-use Rattle.mdcc_protocol.specs.World.{Happened, Sent, Site, World, booted_to, centre_at, chosen_lines, input_happened, input_limited, step_at, unless, unsent}
-use Rattle.mdcc_protocol.specs.declared.facts.Fact.{Fact}
-use Rattle.mdcc_protocol.specs.declared.lines.Line.{Line}
-use Rattle.mdcc_protocol.specs.declared.messages.Envelope.{Envelope}
-use Rattle.mdcc_protocol.specs.declared.node.Input.{Input}
-use Rattle.mdcc_protocol.specs.declared.node.Step.{Step}
-use Rattle.mdcc_protocol.specs.declared.node.StepFault.{StepFault}
-use Rattle.mdcc_protocol.specs.declared.world.EventFault.{EventFault}
+use Rattle.mdcc_rules.specs.Steps.{NodeStep, step_given}
+use Rattle.mdcc_simulation.specs.State.{Happened, Site, World, booted_to, centre_at}
+use Rattle.mdcc_messages.specs.Mailbox.{Sent, unsent}
+use Rattle.mdcc_simulation.specs.Stepping.{chosen_lines, input_happened, step_at}
+use Rattle.mdcc_simulation.specs.Limits.{input_limited, unless}
+use Rattle.mdcc_messages.specs.declared.facts.Fact.{Fact}
+use Rattle.mdcc_language.specs.declared.lines.Line.{Line}
+use Rattle.mdcc_messages.specs.declared.messages.Envelope.{Envelope}
+use Rattle.mdcc_rules.specs.declared.node.Input.{Input}
+use Rattle.mdcc_rules.specs.declared.node.Step.{Step}
+use Rattle.mdcc_rules.specs.declared.node.StepFault.{StepFault}
+use Rattle.mdcc_language.specs.declared.world.EventFault.{EventFault}
 use Rattle.mdcc_struct.specs.Maps.{TxMap}
 use Rattle.mdcc_worlds.proofs.Events.{input-is}
 use Rattle.mdcc_worlds.proofs.Stays.{happened-taken, input-stays, refused-same, site-here, site-there}

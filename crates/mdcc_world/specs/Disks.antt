@@ -3,8 +3,8 @@ use Rattle.std.specs.Prelude.{◌≡◌, Ok, true, ℕ}
 use Rattle.mdcc_disks.specs.Memory.{AllMemory, disk_of}
 use Rattle.mdcc_log.specs.Log.{read_log}
 use Rattle.mdcc_protocol.specs.Belongs.{is_centre}
-use Rattle.mdcc_protocol.specs.Ledger.{facts_of}
-use Rattle.mdcc_protocol.specs.World.{World}
+use Rattle.mdcc_ledger.specs.Ledger.{facts_of}
+use Rattle.mdcc_simulation.specs.State.{World}
 use Rattle.mdcc_restart.specs.Logged.{logged}
 
 -- for each centre the frames of its disk are the encodings of its facts in the ledger, in order

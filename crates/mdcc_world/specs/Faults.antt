@@ -1,8 +1,8 @@
 -- Which refusals may come at any time.
 use Rattle.std.specs.Bool.{OnFalse}
 use Rattle.std.specs.Prelude.{Bool, IfErr, Result, false, true, ◌||◌}
-use Rattle.mdcc_protocol.specs.World.{is_limit}
-use Rattle.mdcc_protocol.specs.declared.world.EventFault.{EventFault}
+use Rattle.mdcc_simulation.specs.Limits.{is_limit}
+use Rattle.mdcc_language.specs.declared.world.EventFault.{EventFault}
 
 abbrev pub is_memory : EventFault → Bool
 is_memory EventFault.Memory = true

@@ -3,11 +3,11 @@ use Rattle.std.specs.Prelude.{◌≡◌, ◌≤◌, List, None, Option, Some, tr
 use Rattle.mdcc_logs.specs.Stands.{AreLogs, LogsStand, with_fact_at}
 use Rattle.mdcc_logs.specs.declared.logs.Logs.{Logs}
 use Rattle.mdcc_protocol.specs.Belongs.{is_centre}
-use Rattle.mdcc_protocol.specs.Ledger.{facts_of}
-use Rattle.mdcc_protocol.specs.Lengths.{fact_length}
-use Rattle.mdcc_protocol.specs.WellFormed.{IsWellFormedFact}
-use Rattle.mdcc_protocol.specs.World.{World}
-use Rattle.mdcc_protocol.specs.declared.facts.Fact.{Fact}
+use Rattle.mdcc_ledger.specs.Ledger.{facts_of}
+use Rattle.mdcc_messages.specs.Lengths.{fact_length}
+use Rattle.mdcc_messages.specs.WellFormed.{IsWellFormedFact}
+use Rattle.mdcc_simulation.specs.State.{World}
+use Rattle.mdcc_messages.specs.declared.facts.Fact.{Fact}
 use Rattle.mdcc_world.specs.declared.world.World.{World as TheWorld}
 
 -- the facts of all centres with a new one of a centre, where there is one

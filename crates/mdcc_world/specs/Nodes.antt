@@ -4,10 +4,10 @@ use Rattle.mdcc_facts.specs.declared.list_facts.ListFacts.{ListFacts}
 use Rattle.mdcc_logs.specs.Nodes.{IsNodeOf}
 use Rattle.mdcc_node.specs.Stepping.{is_memory}
 use Rattle.mdcc_node.specs.declared.node.Node.{Node}
-use Rattle.mdcc_protocol.specs.Ledger.{facts_of}
-use Rattle.mdcc_protocol.specs.World.{World, centre_at, is_up_at}
-use Rattle.mdcc_protocol.specs.declared.node.Step.{Step}
-use Rattle.mdcc_protocol.specs.declared.node.StepFault.{StepFault}
+use Rattle.mdcc_ledger.specs.Ledger.{facts_of}
+use Rattle.mdcc_simulation.specs.State.{World, centre_at, is_up_at}
+use Rattle.mdcc_rules.specs.declared.node.Step.{Step}
+use Rattle.mdcc_rules.specs.declared.node.StepFault.{StepFault}
 
 -- a node for each centre; that of a centre that is up stands over a store of what the centre added, and that of another counts
 -- for nothing

@@ -5,15 +5,16 @@ use Rattle.mdcc_logs.specs.Stands.{LogsStand}
 use Rattle.mdcc_node.specs.Stepping.{given}
 use Rattle.mdcc_outcomes.specs.Stands.{Stands as OutcomesStand}
 use Rattle.mdcc_protocol.specs.Belongs.{is_centre}
-use Rattle.mdcc_protocol.specs.Built.{built}
-use Rattle.mdcc_protocol.specs.Ledger.{Entry, facts_of}
-use Rattle.mdcc_protocol.specs.Steps.{NodeStep}
-use Rattle.mdcc_protocol.specs.World.{Happened, World, step_at}
-use Rattle.mdcc_protocol.specs.declared.lines.Line.{Line}
-use Rattle.mdcc_protocol.specs.declared.node.Input.{Input}
-use Rattle.mdcc_protocol.specs.declared.node.Step.{Step}
-use Rattle.mdcc_protocol.specs.declared.node.StepFault.{StepFault}
-use Rattle.mdcc_protocol.specs.declared.world.EventFault.{EventFault}
+use Rattle.mdcc_built.specs.Built.{built}
+use Rattle.mdcc_ledger.specs.Ledger.{Entry, facts_of}
+use Rattle.mdcc_rules.specs.Steps.{NodeStep}
+use Rattle.mdcc_simulation.specs.State.{Happened, World}
+use Rattle.mdcc_simulation.specs.Stepping.{step_at}
+use Rattle.mdcc_language.specs.declared.lines.Line.{Line}
+use Rattle.mdcc_rules.specs.declared.node.Input.{Input}
+use Rattle.mdcc_rules.specs.declared.node.Step.{Step}
+use Rattle.mdcc_rules.specs.declared.node.StepFault.{StepFault}
+use Rattle.mdcc_language.specs.declared.world.EventFault.{EventFault}
 use Rattle.mdcc_steps.specs.Inputs.{IsWellFormedInput}
 use Rattle.mdcc_world.specs.Faults.{is_memory}
 use Rattle.mdcc_world.specs.Nodes.{NodesStand, UpsStand}

@@ -2,10 +2,13 @@
 ghost use Rattle.std.specs.Prelude.{◌≡◌, ◌≤◌, ◌<◌, Err, IfErr, List, Ok, OnOk, true, ℕ};
 ghost use Rattle.mdcc_option.specs.Transaction.{transaction_of};
 ghost use Rattle.mdcc_option.specs.declared.items.Part.{Part as APart};
-ghost use Rattle.mdcc_protocol.specs.Built.{built};
-ghost use Rattle.mdcc_protocol.specs.World.{World as AWorld, begin_taken, counted_event, event_of, is_up_at, no_item, step_at};
-ghost use Rattle.mdcc_protocol.specs.declared.events.Event.{Event as AEvent};
-ghost use Rattle.mdcc_protocol.specs.declared.node.Input.{Input as AInput};
+ghost use Rattle.mdcc_built.specs.Built.{built};
+ghost use Rattle.mdcc_simulation.specs.State.{World as AWorld, counted_event, is_up_at};
+ghost use Rattle.mdcc_simulation.specs.Clients.{begin_taken, no_item};
+ghost use Rattle.mdcc_simulation.specs.Events.{event_of};
+ghost use Rattle.mdcc_simulation.specs.Stepping.{step_at};
+ghost use Rattle.mdcc_language.specs.declared.events.Event.{Event as AEvent};
+ghost use Rattle.mdcc_rules.specs.declared.node.Input.{Input as AInput};
 ghost use Rattle.mdcc_steps.specs.Inputs.{AreWellFormedParts};
 ghost use Rattle.mdcc_world.specs.Faults.{OnRefusal, is_free};
 ghost use Rattle.mdcc_world.specs.Making.{IsMade, IsMadeSome};
@@ -18,7 +21,8 @@ use crate::telling::tell_begun;
 use crate::world::World;
 use mdcc_base::{Centre, HeapList, Key};
 use mdcc_option::{BeginFault, Part, Transaction};
-use mdcc_protocol::{EventFault, Line, ResolveFault, Step, UpdateWord};
+use mdcc_language::{EventFault, Line, ResolveFault, UpdateWord};
+use mdcc_rules::Step;
 use mdcc_sched::resolve;
 
 impl World {

@@ -1,11 +1,13 @@
 //! Crashes and restarts.
 ghost use Rattle.std.specs.Prelude.{◌≡◌, ◌≤◌, ◌<◌, ◌+◌, ◌-◌, ◌++◌, ◌∷◌, [], IfErr, OnOk, length, set, true};
 ghost use Rattle.mdcc_protocol.specs.Belongs.{is_centre};
-ghost use Rattle.mdcc_protocol.specs.Built.{built};
-ghost use Rattle.mdcc_protocol.specs.World.{World as AWorld, counted_event, crash_happened, event_of, is_up_at};
-ghost use Rattle.mdcc_protocol.specs.declared.events.Event.{Event as AEvent};
-ghost use Rattle.mdcc_protocol.specs.declared.lines.Line.{Line as ALine};
-ghost use Rattle.mdcc_protocol.specs.declared.world.EventFault.{EventFault as AFault};
+ghost use Rattle.mdcc_built.specs.Built.{built};
+ghost use Rattle.mdcc_simulation.specs.State.{World as AWorld, counted_event, is_up_at};
+ghost use Rattle.mdcc_simulation.specs.Centres.{crash_happened};
+ghost use Rattle.mdcc_simulation.specs.Events.{event_of};
+ghost use Rattle.mdcc_language.specs.declared.events.Event.{Event as AEvent};
+ghost use Rattle.mdcc_language.specs.declared.lines.Line.{Line as ALine};
+ghost use Rattle.mdcc_language.specs.declared.world.EventFault.{EventFault as AFault};
 ghost use Rattle.mdcc_world.specs.Faults.{OnRefusal, is_free};
 ghost use Rattle.mdcc_world.specs.Stands.{Happens, HasHappened, IsLike, IsLikeSome};
 ghost use Rattle.mdcc_worlds.specs.Happening.{at_restart, restarted};
@@ -16,7 +18,7 @@ use mdcc_base::{Centre, HeapList, Memory};
 use mdcc_facts::ListFacts;
 use mdcc_logs::Started;
 use mdcc_node::Node;
-use mdcc_protocol::{EventFault, LimitName, Line};
+use mdcc_language::{EventFault, LimitName, Line};
 
 impl World {
     // A centre loses all but its log, which is an event.

@@ -1,7 +1,9 @@
 //! Messages come to their centres.
 ghost use Rattle.std.specs.Prelude.{◌≡◌, ◌≤◌, ◌<◌, ◌+◌, IfErr, Ok, OnOk, true};
-ghost use Rattle.mdcc_protocol.specs.Built.{built};
-ghost use Rattle.mdcc_protocol.specs.World.{World as AWorld, deliveries_before, deliveries_of, delivery_of};
+ghost use Rattle.mdcc_built.specs.Built.{built};
+ghost use Rattle.mdcc_simulation.specs.State.{World as AWorld};
+ghost use Rattle.mdcc_simulation.specs.Left.{deliveries_before};
+ghost use Rattle.mdcc_simulation.specs.Deliveries.{deliveries_of, delivery_of};
 ghost use Rattle.mdcc_world.specs.Faults.{OnRefusal, is_free};
 ghost use Rattle.mdcc_world.specs.Stands.{Happens, HasHappened, IsLike, IsLikeSome};
 ghost use Rattle.mdcc_worlds.specs.Delivering.{at_message, delivery, delivery_told, unmoved};
@@ -10,7 +12,7 @@ ghost use Rattle.mdcc_worlds.specs.Happening.{at_centre};
 use crate::telling::tell;
 use crate::world::World;
 use mdcc_base::{Centre, HeapList};
-use mdcc_protocol::{EventFault, Line};
+use mdcc_language::{EventFault, Line};
 
 impl World {
     // The message of a number comes to its centre, which is an event.

@@ -1,15 +1,17 @@
 //! One event of each kind.
 ghost use Rattle.std.specs.Bool.{OnFalse};
 ghost use Rattle.std.specs.Prelude.{◌≡◌, ◌≤◌, ◌++◌, Err, IfErr, IsOkAnd, IsTrue, OnOk};
-ghost use Rattle.mdcc_protocol.specs.Built.{built};
-ghost use Rattle.mdcc_protocol.specs.World.{World as AWorld, event_of, left_of};
+ghost use Rattle.mdcc_built.specs.Built.{built};
+ghost use Rattle.mdcc_simulation.specs.State.{World as AWorld};
+ghost use Rattle.mdcc_simulation.specs.Events.{event_of};
+ghost use Rattle.mdcc_simulation.specs.Left.{left_of};
 ghost use Rattle.mdcc_world.specs.Faults.{OnRefusal, is_memory};
 ghost use Rattle.mdcc_world.specs.Stands.{Happens, HasHappened, IsLike, IsLikeSome, Stands};
 ghost use Rattle.mdcc_world.specs.Words.{is_built};
 
 use crate::world::World;
 use mdcc_base::HeapList;
-use mdcc_protocol::{Event, EventFault, Line};
+use mdcc_language::{Event, EventFault, Line};
 
 impl World {
     // An event of each built kind.

@@ -4,7 +4,7 @@ ghost use Rattle.std.specs.Prelude.{◌<◌, ◌^◌};
 ghost use Rattle.mdcc_worlds.specs.Words.{HasBody, IsGivenWord};
 
 use mdcc_option::Item;
-use mdcc_protocol::UpdateWord;
+use mdcc_language::UpdateWord;
 
 // Bytes are below 256.
 fn bytes_given(bytes: &[u8])

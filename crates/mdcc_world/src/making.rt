@@ -2,9 +2,9 @@
 ghost use Rattle.std.specs.Prelude.{◌≡◌, ◌≤◌, ◌<◌, ◌+◌, ◌++◌, IfOk, List, Ok, OnOk, true, ℕ};
 ghost use Rattle.mdcc_base.specs.Sizes.{Sizes};
 ghost use Rattle.mdcc_outcomes.specs.Stands.{Stands as OutcomesStand};
-ghost use Rattle.mdcc_protocol.specs.Ledger.{Entry};
-ghost use Rattle.mdcc_protocol.specs.World.{World as AWorld, counted_event, is_up_at};
-ghost use Rattle.mdcc_protocol.specs.declared.node.Input.{Input as AInput};
+ghost use Rattle.mdcc_ledger.specs.Ledger.{Entry};
+ghost use Rattle.mdcc_simulation.specs.State.{World as AWorld, counted_event, is_up_at};
+ghost use Rattle.mdcc_rules.specs.declared.node.Input.{Input as AInput};
 ghost use Rattle.mdcc_steps.specs.Inputs.{AreWellFormedParts};
 ghost use Rattle.mdcc_world.specs.Making.{IsMade, IsMessageMade};
 ghost use Rattle.mdcc_world.specs.Stands.{IsLike, IsLikeSome};
@@ -16,7 +16,7 @@ use crate::world::World;
 use mdcc_base::{Centre, Memory, TxId};
 use mdcc_option::Transaction;
 use mdcc_outcomes::Outcomes;
-use mdcc_protocol::{Answer, Step, StepFault};
+use mdcc_rules::{Answer, Step, StepFault};
 
 // The transaction that was begun.
 fn begun_tx(answer: &Option<Answer>) -> Option<TxId>

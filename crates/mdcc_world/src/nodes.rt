@@ -1,12 +1,13 @@
 //! The nodes of a world.
 ghost use Rattle.std.specs.Prelude.{◌≡◌, ◌≤◌, IfOk, OnOk, Ok, false, length, true};
 ghost use Rattle.mdcc_node.specs.Stepping.{given};
-ghost use Rattle.mdcc_protocol.specs.Built.{built};
-ghost use Rattle.mdcc_protocol.specs.Ledger.{facts_of};
+ghost use Rattle.mdcc_built.specs.Built.{built};
+ghost use Rattle.mdcc_ledger.specs.Ledger.{facts_of};
 ghost use Rattle.mdcc_protocol.specs.Visible;
-ghost use Rattle.mdcc_protocol.specs.WellFormed.{IsWellFormedEnvelope};
-ghost use Rattle.mdcc_protocol.specs.World.{World as AWorld, input_happened, is_up_at, step_at};
-ghost use Rattle.mdcc_protocol.specs.declared.node.Input.{Input as AInput};
+ghost use Rattle.mdcc_messages.specs.WellFormed.{IsWellFormedEnvelope};
+ghost use Rattle.mdcc_simulation.specs.State.{World as AWorld, is_up_at};
+ghost use Rattle.mdcc_simulation.specs.Stepping.{input_happened, step_at};
+ghost use Rattle.mdcc_rules.specs.declared.node.Input.{Input as AInput};
 ghost use Rattle.mdcc_steps.specs.Inputs.{IsWellFormedInput};
 ghost use Rattle.mdcc_world.specs.Nodes.{NodesStand, is_memory_made};
 ghost use Rattle.mdcc_worlds.specs.Standing.{IsWorld};
@@ -15,7 +16,9 @@ use mdcc_base::{Centre, Key, Memory};
 use mdcc_facts::ListFacts;
 use mdcc_node::Node;
 use mdcc_option::Transaction;
-use mdcc_protocol::{Envelope, Input, Reading, Step, StepFault};
+use mdcc_messages::Envelope;
+use mdcc_protocol::Reading;
+use mdcc_rules::{Input, Step, StepFault};
 
 // Tells want of memory from what a node makes of an input.
 fn made(step: Result<Step, StepFault>) -> Result<Result<Step, StepFault>, Memory>

@@ -1,9 +1,11 @@
 //! Reads.
 ghost use Rattle.std.specs.Prelude.{◌≡◌, ◌≤◌, ◌<◌, OnOk, true};
 ghost use Rattle.mdcc_base.specs.Key.{IsKey};
-ghost use Rattle.mdcc_protocol.specs.Built.{built};
-ghost use Rattle.mdcc_protocol.specs.World.{World as AWorld, counted_event, event_of, is_up_at, known_of, read_happened};
-ghost use Rattle.mdcc_protocol.specs.declared.events.Event.{Event as AEvent};
+ghost use Rattle.mdcc_built.specs.Built.{built};
+ghost use Rattle.mdcc_simulation.specs.State.{World as AWorld, counted_event, is_up_at};
+ghost use Rattle.mdcc_simulation.specs.Events.{event_of};
+ghost use Rattle.mdcc_simulation.specs.Clients.{known_of, read_happened};
+ghost use Rattle.mdcc_language.specs.declared.events.Event.{Event as AEvent};
 ghost use Rattle.mdcc_world.specs.Faults.{OnRefusal};
 ghost use Rattle.mdcc_world.specs.Stands.{Happens, HasHappened, IsLike, IsLikeSome};
 
@@ -11,7 +13,8 @@ use crate::nodes::read;
 use crate::world::World;
 use mdcc_base::{Centre, HeapList, Key, Memory, Plain};
 use mdcc_option::Known;
-use mdcc_protocol::{EventFault, Line, Reading};
+use mdcc_language::{EventFault, Line};
+use mdcc_protocol::Reading;
 
 // What a read shows of a key.
 fn known_of(key: &Key, reading: Reading) -> Known

@@ -3,13 +3,16 @@ ghost use Rattle.std.specs.Prelude.{◌≡◌, ◌≤◌, ◌<◌, ◌+◌, ◌^
 ghost use Rattle.mdcc_base.specs.Sizes.{Sizes};
 ghost use Rattle.mdcc_logs.specs.Stands.{LogsStand};
 ghost use Rattle.mdcc_outcomes.specs.Stands.{Stands as OutcomesStand};
-ghost use Rattle.mdcc_protocol.specs.Built.{built};
-ghost use Rattle.mdcc_protocol.specs.Ledger.{Entry};
-ghost use Rattle.mdcc_protocol.specs.Lengths.{messages_length};
-ghost use Rattle.mdcc_protocol.specs.WellFormed.{IsWellFormedFact};
-ghost use Rattle.mdcc_protocol.specs.World.{World as AWorld, bytes_limit, input_limited, log_limit, step_at, unless, unsent};
-ghost use Rattle.mdcc_protocol.specs.declared.facts.Fact.{Fact as AFact};
-ghost use Rattle.mdcc_protocol.specs.declared.node.Input.{Input as AInput};
+ghost use Rattle.mdcc_built.specs.Built.{built};
+ghost use Rattle.mdcc_ledger.specs.Ledger.{Entry};
+ghost use Rattle.mdcc_messages.specs.Lengths.{messages_length};
+ghost use Rattle.mdcc_messages.specs.WellFormed.{IsWellFormedFact};
+ghost use Rattle.mdcc_simulation.specs.State.{World as AWorld};
+ghost use Rattle.mdcc_simulation.specs.Limits.{bytes_limit, input_limited, log_limit, unless};
+ghost use Rattle.mdcc_simulation.specs.Stepping.{step_at};
+ghost use Rattle.mdcc_messages.specs.Mailbox.{unsent};
+ghost use Rattle.mdcc_messages.specs.declared.facts.Fact.{Fact as AFact};
+ghost use Rattle.mdcc_rules.specs.declared.node.Input.{Input as AInput};
 ghost use Rattle.mdcc_world.specs.Faults.{is_free};
 ghost use Rattle.mdcc_world.specs.Letting.{Measures, IsFormed, IsFramed, facts_with};
 ghost use Rattle.mdcc_world.specs.Making.{IsMade, IsMadeSome};
@@ -20,7 +23,9 @@ use crate::taking::{let_out, push_dropped, tell_fact};
 use crate::world::World;
 use mdcc_base::{Centre, HeapList, Memory};
 use mdcc_mail::Outgoing;
-use mdcc_protocol::{EventFault, Fact, LimitName, Line, Step, StepFault};
+use mdcc_language::{EventFault, LimitName, Line};
+use mdcc_messages::Fact;
+use mdcc_rules::{Step, StepFault};
 
 // How many bytes of messages there may be.
 const MOST_BYTES: u64 = 536_870_912;

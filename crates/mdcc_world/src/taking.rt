@@ -3,10 +3,11 @@ ghost use Rattle.std.specs.Prelude.{◌≡◌, ◌≤◌, ◌++◌, ◌∷◌, L
 ghost use Rattle.mdcc_base.specs.Sizes.{Sizes};
 ghost use Rattle.mdcc_logs.specs.Stands.{LogsStand};
 ghost use Rattle.mdcc_outcomes.specs.Stands.{Stands as OutcomesStand};
-ghost use Rattle.mdcc_protocol.specs.Ledger.{Added, Entry};
+ghost use Rattle.mdcc_ledger.specs.Ledger.{Added, Entry};
 ghost use Rattle.mdcc_protocol.specs.Marks.{is_commit};
-ghost use Rattle.mdcc_protocol.specs.World.{heard_lines, unsent};
-ghost use Rattle.mdcc_protocol.specs.declared.facts.Fact.{Fact as AFact};
+ghost use Rattle.mdcc_simulation.specs.Stepping.{heard_lines};
+ghost use Rattle.mdcc_messages.specs.Mailbox.{unsent};
+ghost use Rattle.mdcc_messages.specs.declared.facts.Fact.{Fact as AFact};
 ghost use Rattle.mdcc_world.specs.Letting.{IsFramed, facts_with};
 ghost use Rattle.mdcc_world.specs.Telling.{dropped_lines};
 ghost use Rattle.mdcc_worlds.specs.Taking.{chosen_line, fact_lines, step_lines, with_fact};
@@ -16,7 +17,9 @@ use mdcc_logs::Logs;
 use mdcc_mail::{Mail, Outgoing};
 use mdcc_option::Outcome;
 use mdcc_outcomes::Outcomes;
-use mdcc_protocol::{Fact, Line, StepFault};
+use mdcc_language::Line;
+use mdcc_messages::Fact;
+use mdcc_rules::StepFault;
 use std::alloc::Global;
 
 // Whether a transaction committed.

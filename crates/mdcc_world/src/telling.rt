@@ -1,10 +1,11 @@
 //! Lines of the report, one behind the other.
 ghost use Rattle.std.specs.Prelude.{◌≡◌, ◌++◌, ◌∷◌, IfErr, OnOk};
-ghost use Rattle.mdcc_protocol.specs.declared.world.EventFault.{EventFault as AFault};
+ghost use Rattle.mdcc_language.specs.declared.world.EventFault.{EventFault as AFault};
 ghost use Rattle.mdcc_world.specs.Telling.{lines_begun};
 
 use mdcc_base::{HeapList, Memory, Plain};
-use mdcc_protocol::{Answer, EventFault, Line};
+use mdcc_language::{EventFault, Line};
+use mdcc_rules::Answer;
 
 // Puts lines behind others.
 fn append(lines: &mut HeapList<Line>, more: HeapList<Line>) -> Result<(), Memory>

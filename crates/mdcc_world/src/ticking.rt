@@ -1,9 +1,13 @@
 //! Ticks.
 ghost use Rattle.std.specs.Prelude.{◌≡◌, ◌≤◌, ◌<◌, IfErr, OnOk, true};
-ghost use Rattle.mdcc_protocol.specs.Built.{built};
-ghost use Rattle.mdcc_protocol.specs.World.{World as AWorld, event_of, input_limited, is_up_at, step_at, tick_line, with_lines};
-ghost use Rattle.mdcc_protocol.specs.declared.events.Event.{Event as AEvent};
-ghost use Rattle.mdcc_protocol.specs.declared.node.Input.{Input as AInput};
+ghost use Rattle.mdcc_built.specs.Built.{built};
+ghost use Rattle.mdcc_simulation.specs.State.{World as AWorld, is_up_at};
+ghost use Rattle.mdcc_simulation.specs.Events.{event_of};
+ghost use Rattle.mdcc_simulation.specs.Limits.{input_limited, with_lines};
+ghost use Rattle.mdcc_simulation.specs.Stepping.{step_at};
+ghost use Rattle.mdcc_simulation.specs.Centres.{tick_line};
+ghost use Rattle.mdcc_language.specs.declared.events.Event.{Event as AEvent};
+ghost use Rattle.mdcc_rules.specs.declared.node.Input.{Input as AInput};
 ghost use Rattle.mdcc_world.specs.Faults.{OnRefusal, is_free};
 ghost use Rattle.mdcc_world.specs.Making.{IsMade, IsMadeSome};
 ghost use Rattle.mdcc_world.specs.Stands.{Happens, IsLike, IsLikeSome};
@@ -12,7 +16,8 @@ ghost use Rattle.mdcc_worlds.specs.Happening.{ticked};
 use crate::telling::tell;
 use crate::world::World;
 use mdcc_base::{Centre, HeapList};
-use mdcc_protocol::{EventFault, Line, Step, StepFault};
+use mdcc_language::{EventFault, Line};
+use mdcc_rules::{Step, StepFault};
 
 impl World {
     // What a centre made of a tick is taken, behind the line of the tick.

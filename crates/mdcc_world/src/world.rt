@@ -1,7 +1,8 @@
 //! A world: the nodes of a cluster, their logs on disks in memory, the messages between them, and what happens to them.
 ghost use Rattle.std.specs.Prelude.{◌≡◌, ◌≤◌, ◌<◌, ◌+◌, ◌-◌, IfErr, IfOk, OnOk, get_or, length, nat_le, true, false, ℕ};
 ghost use Rattle.mdcc_protocol.specs.IsCluster.{IsCluster};
-ghost use Rattle.mdcc_protocol.specs.World.{World as AWorld, end_line, first_world, is_up_at};
+ghost use Rattle.mdcc_simulation.specs.State.{World as AWorld, first_world, is_up_at};
+ghost use Rattle.mdcc_simulation.specs.Runs.{end_line};
 ghost use Rattle.mdcc_world.specs.Disks.{DisksShow};
 ghost use Rattle.mdcc_world.specs.Faults.{is_free};
 ghost use Rattle.mdcc_world.specs.Stands.{IsLike, Stands};
@@ -16,7 +17,7 @@ use mdcc_mail::Mail;
 use mdcc_node::Node;
 use mdcc_option::{Cluster, Known};
 use mdcc_outcomes::Outcomes;
-use mdcc_protocol::{EventFault, LimitName, Line};
+use mdcc_language::{EventFault, LimitName, Line};
 use std::alloc::Global;
 
 /// How many events there may be.

@@ -4,12 +4,12 @@ use Rattle.std.proofs.lemmas.Bool.{cases_Bool, eq-eqb, eqb-true, leb-false, leb-
 use Rattle.std.proofs.lemmas.List.{get_or-replicate, length-replicate}
 use Rattle.mdcc_option.specs.declared.cluster.Cluster.{Cluster}
 use Rattle.mdcc_protocol.specs.Belongs.{is_centre}
-use Rattle.mdcc_protocol.specs.Built.{built}
+use Rattle.mdcc_built.specs.Built.{built}
 use Rattle.mdcc_protocol.specs.IsCluster.{IsCluster}
-use Rattle.mdcc_protocol.specs.Ledger.{facts_of}
+use Rattle.mdcc_ledger.specs.Ledger.{facts_of}
 use Rattle.mdcc_protocol.specs.Volatile.{nothing_kept}
-use Rattle.mdcc_protocol.specs.World.{booted, booted_to, centre_at, first_world}
-use Rattle.mdcc_protocol.specs.declared.facts.Fact.{Fact}
+use Rattle.mdcc_simulation.specs.State.{booted, booted_to, centre_at, first_world}
+use Rattle.mdcc_messages.specs.declared.facts.Fact.{Fact}
 use Rattle.mdcc_steps.proofs.Booting.{boot-node}
 use Rattle.mdcc_steps.specs.Forming.{IsNode}
 use Rattle.mdcc_worlds.proofs.Stays.{some-centre}

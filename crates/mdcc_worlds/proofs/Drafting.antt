@@ -15,12 +15,12 @@ use Rattle.mdcc_option.specs.declared.items.Known.{Known}
 use Rattle.mdcc_option.specs.declared.items.Part.{Part}
 use Rattle.mdcc_option.specs.declared.items.Update.{Update}
 use Rattle.mdcc_option.proofs.Ordered.{IsPermutation-sorted_parts, ascending-sorted_parts}
-use Rattle.mdcc_protocol.specs.Resolve.{first_missing, item_in, part_of, part_on, parts_of, read_at, resolve, resolve_by, written_on}
-use Rattle.mdcc_protocol.specs.Words.{◌>>=◌}
-use Rattle.mdcc_protocol.specs.WellFormed.{IsWellFormedShown}
-use Rattle.mdcc_protocol.specs.WellFormedParts.{IsWellFormedPart, IsWellFormedSeen, IsWellFormedUpdate}
-use Rattle.mdcc_protocol.specs.declared.events.UpdateWord.{UpdateWord}
-use Rattle.mdcc_protocol.specs.declared.schedule.ResolveFault.{ResolveFault}
+use Rattle.mdcc_language.specs.Resolve.{first_missing, item_in, part_of, part_on, parts_of, read_at, resolve, resolve_by, written_on}
+use Rattle.mdcc_language.specs.Words.{◌>>=◌}
+use Rattle.mdcc_messages.specs.WellFormed.{IsWellFormedShown}
+use Rattle.mdcc_messages.specs.WellFormedParts.{IsWellFormedPart, IsWellFormedSeen, IsWellFormedUpdate}
+use Rattle.mdcc_language.specs.declared.events.UpdateWord.{UpdateWord}
+use Rattle.mdcc_language.specs.declared.schedule.ResolveFault.{ResolveFault}
 use Rattle.mdcc_steps.specs.Inputs.{AreWellFormedParts}
 use Rattle.mdcc_worlds.proofs.Fitting.{added-fits, written-fits}
 use Rattle.mdcc_worlds.specs.Standing.{IsRead}

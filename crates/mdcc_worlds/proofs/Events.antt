@@ -9,20 +9,29 @@ use Rattle.mdcc_option.specs.Transaction.{transaction_of}
 use Rattle.mdcc_option.specs.declared.faults.DraftFault.{DraftFault}
 use Rattle.mdcc_option.specs.declared.items.Part.{Part}
 use Rattle.mdcc_protocol.specs.Belongs.{is_centre}
-use Rattle.mdcc_protocol.specs.Built.{built}
-use Rattle.mdcc_protocol.specs.Resolve.{resolve}
-use Rattle.mdcc_protocol.specs.Steps.{NodeStep}
-use Rattle.mdcc_protocol.specs.World.{Happened, Sent, World, answer_in, begin_lines, begin_of, begun_by, bytes_limit, centre_at, counted_event, crash_happened, deliver_line, delivered, delivery_of, event_of, input_limited, input_taken, is_limit, is_up_at, limit_if, log_limit, most_events, no_item, numbered, parts_begun, read_happened, restart_happened, restart_of, step_at, step_happened, step_limit, step_limit_by, tick_line, unless, with_lines, within_events}
-use Rattle.mdcc_protocol.specs.World as Worlds
-use Rattle.mdcc_protocol.specs.declared.events.Event.{Event}
-use Rattle.mdcc_protocol.specs.declared.events.UpdateWord.{UpdateWord}
-use Rattle.mdcc_protocol.specs.declared.facts.Fact.{Fact}
-use Rattle.mdcc_protocol.specs.declared.lines.Line.{Line}
-use Rattle.mdcc_protocol.specs.declared.node.Input.{Input}
-use Rattle.mdcc_protocol.specs.declared.node.StepFault.{StepFault}
-use Rattle.mdcc_protocol.specs.declared.schedule.ResolveFault.{ResolveFault}
-use Rattle.mdcc_protocol.specs.declared.world.EventFault.{EventFault}
-use Rattle.mdcc_protocol.specs.declared.world.LimitName.{LimitName}
+use Rattle.mdcc_built.specs.Built.{built}
+use Rattle.mdcc_language.specs.Resolve.{resolve}
+use Rattle.mdcc_rules.specs.Steps.{NodeStep}
+use Rattle.mdcc_simulation.specs.State.{Happened, World, centre_at, counted_event, is_up_at}
+use Rattle.mdcc_messages.specs.Mailbox.{Sent, numbered}
+use Rattle.mdcc_simulation.specs.Clients.{answer_in, begin_lines, begin_of, begun_by, no_item, parts_begun, read_happened}
+use Rattle.mdcc_simulation.specs.Limits.{bytes_limit, input_limited, input_taken, is_limit, limit_if, log_limit, most_events, step_limit, step_limit_by, unless, with_lines, within_events}
+use Rattle.mdcc_simulation.specs.Centres.{crash_happened, restart_happened, restart_of, tick_line}
+use Rattle.mdcc_simulation.specs.Deliveries.{deliver_line, delivered, delivery_of}
+use Rattle.mdcc_simulation.specs.Events.{event_of}
+use Rattle.mdcc_simulation.specs.Stepping.{step_at, step_happened}
+use Rattle.mdcc_simulation.specs.Deliveries as deliveries
+use Rattle.mdcc_simulation.specs.Limits as limits
+use Rattle.mdcc_simulation.specs.Stepping as stepping
+use Rattle.mdcc_language.specs.declared.events.Event.{Event}
+use Rattle.mdcc_language.specs.declared.events.UpdateWord.{UpdateWord}
+use Rattle.mdcc_messages.specs.declared.facts.Fact.{Fact}
+use Rattle.mdcc_language.specs.declared.lines.Line.{Line}
+use Rattle.mdcc_rules.specs.declared.node.Input.{Input}
+use Rattle.mdcc_rules.specs.declared.node.StepFault.{StepFault}
+use Rattle.mdcc_language.specs.declared.schedule.ResolveFault.{ResolveFault}
+use Rattle.mdcc_language.specs.declared.world.EventFault.{EventFault}
+use Rattle.mdcc_language.specs.declared.world.LimitName.{LimitName}
 use Rattle.mdcc_worlds.proofs.Stays.{happened-taken}
 use Rattle.mdcc_worlds.specs.Beginning.{begin_by, begin_told, begun, begun_if}
 use Rattle.mdcc_worlds.specs.Delivering.{at_message, delivery, delivery_by, delivery_told, message_by, message_counted}
@@ -73,7 +82,7 @@ step-limited w a (Ok step) = by_fact step.fact
 
 -- an input is refused by a limit only
 pub input-limits : (w : World) (a : ℕ) (r : Result NodeStep StepFault) → OnlyLimits (input_limited built w a r)
-input-limits w a r = unless-limited (step_limit built w a r) (Worlds.input_happened w a r) (step-limited w a r)
+input-limits w a r = unless-limited (step_limit built w a r) (stepping.input_happened w a r) (step-limited w a r)
 
 -- what only limits stand against does so within the limit of events
 pub open-is : (w : World) (r : Result Happened EventFault) → OnlyLimits r → within_events built w r ≡ if_open (at_limit w) r
@@ -100,7 +109,7 @@ input-is w a (Ok step) stands centre = by_fact step.fact
 -- ---- events at a centre
 
 -- what is refused or happens at a centre
-pub at-centre-is : (w : World) (a : ℕ) (r : Result Happened EventFault) → OnlyLimits r → within_events built w (Worlds.if_up w a r) ≡ if_open (at_centre w a) r
+pub at-centre-is : (w : World) (a : ℕ) (r : Result Happened EventFault) → OnlyLimits r → within_events built w (limits.if_up w a r) ≡ if_open (at_centre w a) r
 at-centre-is w a r only = by_up (is_up_at w a)
   where
     by_up : (b : Bool) → within_events built w (if b then r else Err (EventFault.Down a)) ≡ if_open (if b then at_limit w else Err (EventFault.Down a)) r
@@ -146,7 +155,7 @@ delivery-is w number = by_sent (numbered w.sent number) refl
     by_up true a r only = open-is w r only
     by_up false a r only = refl
 
-    by_sent : (o : Option Sent) → numbered w.sent number ≡ o → Worlds.delivery_by built w number o ≡ if_open (message_by w number o) (delivery_told w number)
+    by_sent : (o : Option Sent) → numbered w.sent number ≡ o → deliveries.delivery_by built w number o ≡ if_open (message_by w number o) (delivery_told w number)
     by_sent None e = refl
     by_sent (Some sent) e =
         let after = message_counted w number in

@@ -10,7 +10,7 @@ use Rattle.mdcc_option.specs.Bounds.{IsSchema, are_within, is_bound, is_within}
 use Rattle.mdcc_option.specs.Transaction.{add_fault, are_attributes, bounds_of, is_amount_within, is_zero_amount, write_fault}
 use Rattle.mdcc_option.specs.declared.faults.DraftFault.TheVariants.{BadAttribute, OutOfBounds, ZeroAmount}
 use Rattle.mdcc_option.specs.declared.items.Item.{Item}
-use Rattle.mdcc_protocol.specs.WellFormedParts.{IsWellFormedAmount, IsWellFormedAmounts, IsWellFormedItem, attribute_lt, is_ascending_by}
+use Rattle.mdcc_messages.specs.WellFormedParts.{IsWellFormedAmount, IsWellFormedAmounts, IsWellFormedItem, attribute_lt, is_ascending_by}
 use Rattle.mdcc_worlds.specs.Words.{HasBody}
 
 -- ---- numbers

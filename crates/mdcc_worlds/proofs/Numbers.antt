@@ -4,8 +4,10 @@ use Rattle.std.specs.List.{AllByRecursion}
 use Rattle.std.specs.Option.{option_map}
 use Rattle.std.specs.Prelude.{slice_get}
 use Rattle.std.proofs.lemmas.Bool.{cases_Bool}
-use Rattle.mdcc_protocol.specs.World.{Sent, World, first_waiting, is_waiting_for, numbered, with_delivered}
-use Rattle.mdcc_protocol.specs.declared.messages.Envelope.{Envelope}
+use Rattle.mdcc_messages.specs.Mailbox.{Sent, numbered, with_delivered}
+use Rattle.mdcc_simulation.specs.State.{World}
+use Rattle.mdcc_simulation.specs.Deliveries.{first_waiting, is_waiting_for}
+use Rattle.mdcc_messages.specs.declared.messages.Envelope.{Envelope}
 
 each-got : {X : Type 0} (P : X → Type 0) (xs : List X) (n : ℕ) (x : X) → AllByRecursion P xs → slice_get xs n ≡ Some x → P x
 each-got P [] n x h at = absurd (cc)

@@ -1,12 +1,15 @@
 -- Settle lines, delivery by delivery.
 use Rattle.std.proofs.Common.{◌≡◌, ℕ, zero, suc, ◌+◌, ◌-◌, ◌≤◌, ◌<◌, ◌&&◌, Bool, true, false, List, refl, sym, ap, ◌∙◌, inl, inr, Option, Some, None, Result, Ok, Err, if◌then◌else◌, nat_le, arith}
 use Rattle.std.proofs.lemmas.Bool.{cases_Bool, le-leb, lt-leb}
-use Rattle.mdcc_protocol.specs.Built.{built}
-use Rattle.mdcc_protocol.specs.World.{Happened, World, after_lines, counted_event, delivered, event_of, first_waiting, is_limit, most_events, settled_line, settled_of, within_events}
-use Rattle.mdcc_protocol.specs.declared.events.Event.{Event}
-use Rattle.mdcc_protocol.specs.declared.messages.Envelope.{Envelope}
-use Rattle.mdcc_protocol.specs.declared.world.EventFault.{EventFault}
-use Rattle.mdcc_protocol.specs.declared.world.LimitName.{LimitName}
+use Rattle.mdcc_built.specs.Built.{built}
+use Rattle.mdcc_simulation.specs.State.{Happened, World, after_lines, counted_event}
+use Rattle.mdcc_simulation.specs.Deliveries.{delivered, first_waiting, settled_line, settled_of}
+use Rattle.mdcc_simulation.specs.Events.{event_of}
+use Rattle.mdcc_simulation.specs.Limits.{is_limit, most_events, within_events}
+use Rattle.mdcc_language.specs.declared.events.Event.{Event}
+use Rattle.mdcc_messages.specs.declared.messages.Envelope.{Envelope}
+use Rattle.mdcc_language.specs.declared.world.EventFault.{EventFault}
+use Rattle.mdcc_language.specs.declared.world.LimitName.{LimitName}
 use Rattle.mdcc_worlds.proofs.Counts.{delivery-events, limit-open}
 use Rattle.mdcc_worlds.proofs.Events.{delivered-is, open-is}
 use Rattle.mdcc_worlds.proofs.Numbers.{waiting-numbered}

@@ -9,18 +9,25 @@ use Rattle.mdcc_option.specs.Transaction.{transaction_of}
 use Rattle.mdcc_option.specs.declared.faults.DraftFault.{DraftFault}
 use Rattle.mdcc_option.specs.declared.items.Part.{Part}
 use Rattle.mdcc_protocol.specs.Belongs.{is_centre}
-use Rattle.mdcc_protocol.specs.Built.{built}
-use Rattle.mdcc_protocol.specs.Resolve.{resolve}
-use Rattle.mdcc_protocol.specs.World.{Happened, Sent, World, after_lines, answer_in, begin_lines, centre_at, counted_event, crash_happened, deliver_line, deliveries_of, delivery_of, event_of, first_waiting, input_happened, input_taken, is_limit, is_past_events, is_up_at, log_limit, most_events, no_item, numbered, read_happened, restart_happened, settled_line, settled_of, step_at, step_limit, tick_line, with_lines, within_events}
-use Rattle.mdcc_protocol.specs.declared.events.Event.{Event}
-use Rattle.mdcc_protocol.specs.declared.events.UpdateWord.{UpdateWord}
-use Rattle.mdcc_protocol.specs.declared.facts.Fact.{Fact}
-use Rattle.mdcc_protocol.specs.declared.lines.Line.{Line}
-use Rattle.mdcc_protocol.specs.declared.messages.Envelope.{Envelope}
-use Rattle.mdcc_protocol.specs.declared.node.Input.{Input}
-use Rattle.mdcc_protocol.specs.declared.schedule.ResolveFault.{ResolveFault}
-use Rattle.mdcc_protocol.specs.declared.world.EventFault.{EventFault}
-use Rattle.mdcc_protocol.specs.declared.world.LimitName.{LimitName}
+use Rattle.mdcc_built.specs.Built.{built}
+use Rattle.mdcc_language.specs.Resolve.{resolve}
+use Rattle.mdcc_simulation.specs.State.{Happened, World, after_lines, centre_at, counted_event, is_up_at}
+use Rattle.mdcc_messages.specs.Mailbox.{Sent, numbered}
+use Rattle.mdcc_simulation.specs.Clients.{answer_in, begin_lines, no_item, read_happened}
+use Rattle.mdcc_simulation.specs.Centres.{crash_happened, restart_happened, tick_line}
+use Rattle.mdcc_simulation.specs.Deliveries.{deliver_line, deliveries_of, delivery_of, first_waiting, settled_line, settled_of}
+use Rattle.mdcc_simulation.specs.Events.{event_of}
+use Rattle.mdcc_simulation.specs.Stepping.{input_happened, step_at}
+use Rattle.mdcc_simulation.specs.Limits.{input_taken, is_limit, is_past_events, log_limit, most_events, step_limit, with_lines, within_events}
+use Rattle.mdcc_language.specs.declared.events.Event.{Event}
+use Rattle.mdcc_language.specs.declared.events.UpdateWord.{UpdateWord}
+use Rattle.mdcc_messages.specs.declared.facts.Fact.{Fact}
+use Rattle.mdcc_language.specs.declared.lines.Line.{Line}
+use Rattle.mdcc_messages.specs.declared.messages.Envelope.{Envelope}
+use Rattle.mdcc_rules.specs.declared.node.Input.{Input}
+use Rattle.mdcc_language.specs.declared.schedule.ResolveFault.{ResolveFault}
+use Rattle.mdcc_language.specs.declared.world.EventFault.{EventFault}
+use Rattle.mdcc_language.specs.declared.world.LimitName.{LimitName}
 use Rattle.mdcc_steps.specs.Inputs.{IsWellFormedInput}
 use Rattle.mdcc_worlds.proofs.Counts.{delivery-events, limited-events, open-few, unless-happened}
 use Rattle.mdcc_worlds.proofs.Delivers.{next-of, refused-of}

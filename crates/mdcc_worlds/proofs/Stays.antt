@@ -8,20 +8,25 @@ use Rattle.mdcc_base.specs.Key.{IsKey}
 use Rattle.mdcc_base.specs.declared.key.Key.{Key}
 use Rattle.mdcc_option.specs.declared.cluster.Cluster.{Cluster}
 use Rattle.mdcc_protocol.specs.Belongs.{is_centre}
-use Rattle.mdcc_protocol.specs.Boot.{booted_by}
-use Rattle.mdcc_protocol.specs.Built.{built}
+use Rattle.mdcc_rules.specs.Boot.{booted_by}
+use Rattle.mdcc_built.specs.Built.{built}
 use Rattle.mdcc_protocol.specs.Facts.{epoch_of}
-use Rattle.mdcc_protocol.specs.Ledger.{Entry, facts_of}
-use Rattle.mdcc_protocol.specs.Steps.{NodeStep, answering}
+use Rattle.mdcc_ledger.specs.Ledger.{Entry, facts_of}
+use Rattle.mdcc_rules.specs.Steps.{NodeStep, answering}
 use Rattle.mdcc_protocol.specs.Visible
 use Rattle.mdcc_protocol.specs.Volatile.{Volatile, nothing_kept}
-use Rattle.mdcc_protocol.specs.WellFormed.{IsWellFormedEnvelope, IsWellFormedFact}
-use Rattle.mdcc_protocol.specs.World.{Sent, Site, World, booted, centre_at, counted_event, crash_happened, down, fact_happened, input_happened, known_of, most_events, read_happened, restart_happened, step_at, step_happened, step_happened_by, unsent, with_centre, with_delivered}
-use Rattle.mdcc_protocol.specs.declared.facts.Fact.{Fact}
-use Rattle.mdcc_protocol.specs.declared.messages.Envelope.{Envelope}
-use Rattle.mdcc_protocol.specs.declared.node.Answer.{Answer}
-use Rattle.mdcc_protocol.specs.declared.node.Input.{Input}
-use Rattle.mdcc_protocol.specs.declared.node.StepFault.{StepFault}
+use Rattle.mdcc_messages.specs.WellFormed.{IsWellFormedEnvelope, IsWellFormedFact}
+use Rattle.mdcc_messages.specs.Mailbox.{Sent, unsent, with_delivered}
+use Rattle.mdcc_simulation.specs.State.{Site, World, booted, centre_at, counted_event, down, with_centre}
+use Rattle.mdcc_simulation.specs.Centres.{crash_happened, restart_happened}
+use Rattle.mdcc_simulation.specs.Stepping.{fact_happened, input_happened, step_at, step_happened, step_happened_by}
+use Rattle.mdcc_simulation.specs.Clients.{known_of, read_happened}
+use Rattle.mdcc_simulation.specs.Limits.{most_events}
+use Rattle.mdcc_messages.specs.declared.facts.Fact.{Fact}
+use Rattle.mdcc_messages.specs.declared.messages.Envelope.{Envelope}
+use Rattle.mdcc_rules.specs.declared.node.Answer.{Answer}
+use Rattle.mdcc_rules.specs.declared.node.Input.{Input}
+use Rattle.mdcc_rules.specs.declared.node.StepFault.{StepFault}
 use Rattle.mdcc_steps.proofs.Answered.{answer-formed}
 use Rattle.mdcc_steps.proofs.Booting.{boot-node, boot-reads}
 use Rattle.mdcc_steps.proofs.Dispatched.{node-stays, sends-formed}

@@ -16,30 +16,30 @@ use Rattle.mdcc_option.specs.declared.cluster.Cluster.{Cluster}
 use Rattle.mdcc_option.specs.declared.faults.BeginFault.{BeginFault}
 use Rattle.mdcc_option.specs.declared.items.Part.{Part}
 use Rattle.mdcc_protocol.specs.Acceptor.{on_propose}
-use Rattle.mdcc_protocol.specs.AcceptorRules.{proposed_step}
+use Rattle.mdcc_rules.specs.AcceptorRules.{proposed_step}
 use Rattle.mdcc_protocol.specs.Belongs.{cause_belongs, is_centre, message_belongs, tx_belongs}
-use Rattle.mdcc_protocol.specs.Built.{built}
+use Rattle.mdcc_built.specs.Built.{built}
 use Rattle.mdcc_protocol.specs.Facts.{epoch_of, is_heard}
 use Rattle.mdcc_protocol.specs.Learner.{collided, is_learned}
 use Rattle.mdcc_protocol.specs.Manager
 use Rattle.mdcc_protocol.specs.Manager.{act_on_cause, act_on_vote, acted, choice_unled, lead_act, vote_taken}
-use Rattle.mdcc_protocol.specs.ManagerRules.{act_sent, acted_step, begin_step_by, decided_step, escalate_step, opened_step, undecided_step, voted_step, watched_step}
-use Rattle.mdcc_protocol.specs.Messages.{to_all, to_each}
-use Rattle.mdcc_protocol.specs.Node.{checked, is_own_message, message_step, step_of}
+use Rattle.mdcc_rules.specs.ManagerRules.{act_sent, acted_step, begin_step_by, decided_step, escalate_step, opened_step, undecided_step, voted_step, watched_step}
+use Rattle.mdcc_rules.specs.Messages.{to_all, to_each}
+use Rattle.mdcc_rules.specs.Node.{checked, is_own_message, message_step, step_of}
 use Rattle.mdcc_protocol.specs.Recover
-use Rattle.mdcc_protocol.specs.Steps.{NodeStep, nothing_done}
-use Rattle.mdcc_protocol.specs.SyncRules.{give_sent_by, outcome_step_by}
+use Rattle.mdcc_rules.specs.Steps.{NodeStep, nothing_done}
+use Rattle.mdcc_rules.specs.SyncRules.{give_sent_by, outcome_step_by}
 use Rattle.mdcc_protocol.specs.Visible.{on_outcome, on_sync_ask}
 use Rattle.mdcc_protocol.specs.Volatile.{Managing, Volatile, is_open}
-use Rattle.mdcc_protocol.specs.WellFormed.{IsWellFormedMessage}
-use Rattle.mdcc_protocol.specs.WellFormedParts.{IsWellFormedCause, IsWellFormedClassic}
+use Rattle.mdcc_messages.specs.WellFormed.{IsWellFormedMessage}
+use Rattle.mdcc_messages.specs.WellFormedParts.{IsWellFormedCause, IsWellFormedClassic}
 use Rattle.mdcc_protocol.specs.declared.acceptor.ProposeAnswer.{ProposeAnswer}
-use Rattle.mdcc_protocol.specs.declared.facts.Fact.{Fact}
+use Rattle.mdcc_messages.specs.declared.facts.Fact.{Fact}
 use Rattle.mdcc_protocol.specs.declared.manager.ManagerAct.{ManagerAct}
-use Rattle.mdcc_protocol.specs.declared.messages.Envelope.{Envelope}
-use Rattle.mdcc_protocol.specs.declared.messages.Message.{Message}
-use Rattle.mdcc_protocol.specs.declared.node.Input.{Input}
-use Rattle.mdcc_protocol.specs.declared.node.StepFault.{StepFault}
+use Rattle.mdcc_messages.specs.declared.messages.Envelope.{Envelope}
+use Rattle.mdcc_messages.specs.declared.messages.Message.{Message}
+use Rattle.mdcc_rules.specs.declared.node.Input.{Input}
+use Rattle.mdcc_rules.specs.declared.node.StepFault.{StepFault}
 use Rattle.mdcc_protocol.specs.declared.visible.Give.{Give}
 use Rattle.mdcc_protocol.specs.declared.votes.Vote.{Vote}
 use Rattle.mdcc_steps.specs.Forming.{with_new}

@@ -6,14 +6,17 @@ use Rattle.mdcc_option.specs.Transaction.{transaction_of}
 use Rattle.mdcc_option.specs.declared.faults.DraftFault.{DraftFault}
 use Rattle.mdcc_option.specs.declared.items.Known.{Known}
 use Rattle.mdcc_option.specs.declared.items.Part.{Part}
-use Rattle.mdcc_protocol.specs.Built.{built}
-use Rattle.mdcc_protocol.specs.Resolve.{resolve}
-use Rattle.mdcc_protocol.specs.World.{Happened, World, begin_taken, counted_event, event_of, is_up_at, no_item, step_at}
-use Rattle.mdcc_protocol.specs.declared.events.Event.{Event}
-use Rattle.mdcc_protocol.specs.declared.events.UpdateWord.{UpdateWord}
-use Rattle.mdcc_protocol.specs.declared.node.Input.{Input}
-use Rattle.mdcc_protocol.specs.declared.schedule.ResolveFault.{ResolveFault}
-use Rattle.mdcc_protocol.specs.declared.world.EventFault.{EventFault}
+use Rattle.mdcc_built.specs.Built.{built}
+use Rattle.mdcc_language.specs.Resolve.{resolve}
+use Rattle.mdcc_simulation.specs.State.{Happened, World, counted_event, is_up_at}
+use Rattle.mdcc_simulation.specs.Clients.{begin_taken, no_item}
+use Rattle.mdcc_simulation.specs.Events.{event_of}
+use Rattle.mdcc_simulation.specs.Stepping.{step_at}
+use Rattle.mdcc_language.specs.declared.events.Event.{Event}
+use Rattle.mdcc_language.specs.declared.events.UpdateWord.{UpdateWord}
+use Rattle.mdcc_rules.specs.declared.node.Input.{Input}
+use Rattle.mdcc_language.specs.declared.schedule.ResolveFault.{ResolveFault}
+use Rattle.mdcc_language.specs.declared.world.EventFault.{EventFault}
 use Rattle.mdcc_steps.specs.Inputs.{AreWellFormedParts}
 use Rattle.mdcc_worlds.specs.Happening.{at_limit, if_open}
 use Rattle.mdcc_worlds.specs.Standing.{IsRead}

@@ -1,9 +1,14 @@
 -- What a delivery does, why a message is not delivered, and how far a deliver line has come.
 use Rattle.std.specs.Prelude.{◌≡◌, Err, List, None, Ok, Option, Result, Some, [], if◌then◌else◌, ℕ, ◌+◌, ◌-◌, ◌∷◌}
-use Rattle.mdcc_protocol.specs.Built.{built}
-use Rattle.mdcc_protocol.specs.World.{Happened, Sent, World, after_lines, deliver_line, delivered, deliveries_before, deliveries_of, delivery_of, event_of, is_up_at, numbered, with_delivered, with_lines}
-use Rattle.mdcc_protocol.specs.declared.events.Event.{Event}
-use Rattle.mdcc_protocol.specs.declared.world.EventFault.{EventFault}
+use Rattle.mdcc_built.specs.Built.{built}
+use Rattle.mdcc_simulation.specs.State.{Happened, World, after_lines, is_up_at}
+use Rattle.mdcc_messages.specs.Mailbox.{Sent, numbered, with_delivered}
+use Rattle.mdcc_simulation.specs.Deliveries.{deliver_line, delivered, deliveries_of, delivery_of}
+use Rattle.mdcc_simulation.specs.Left.{deliveries_before}
+use Rattle.mdcc_simulation.specs.Events.{event_of}
+use Rattle.mdcc_simulation.specs.Limits.{with_lines}
+use Rattle.mdcc_language.specs.declared.events.Event.{Event}
+use Rattle.mdcc_language.specs.declared.world.EventFault.{EventFault}
 use Rattle.mdcc_worlds.specs.Happening.{at_limit, if_open}
 use Rattle.mdcc_worlds.specs.Standing.{IsWorld}
 

@@ -1,8 +1,10 @@
 -- What holds of a world after an event.
 use Rattle.std.specs.Prelude.{◌≡◌, IsTrue, Ok, ◌≤◌}
-use Rattle.mdcc_protocol.specs.Built.{built}
-use Rattle.mdcc_protocol.specs.World.{Happened, World, event_of, most_events}
-use Rattle.mdcc_protocol.specs.declared.events.Event.{Event}
+use Rattle.mdcc_built.specs.Built.{built}
+use Rattle.mdcc_simulation.specs.State.{Happened, World}
+use Rattle.mdcc_simulation.specs.Events.{event_of}
+use Rattle.mdcc_simulation.specs.Limits.{most_events}
+use Rattle.mdcc_language.specs.declared.events.Event.{Event}
 use Rattle.mdcc_worlds.specs.Standing.{IsWorld}
 use Rattle.mdcc_worlds.specs.Words.{IsGivenEvent, is_built}
 

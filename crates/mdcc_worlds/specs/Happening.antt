@@ -2,15 +2,19 @@
 use Rattle.std.specs.Prelude.{◌≡◌, ◌+◌, Err, Ok, Result, if◌then◌else◌, nat_le, ℕ}
 use Rattle.mdcc_base.specs.declared.key.Key.{Key}
 use Rattle.mdcc_protocol.specs.Belongs.{is_centre}
-use Rattle.mdcc_protocol.specs.Built.{built}
+use Rattle.mdcc_built.specs.Built.{built}
 use Rattle.mdcc_protocol.specs.Facts.{epoch_of}
-use Rattle.mdcc_protocol.specs.Ledger.{facts_of}
-use Rattle.mdcc_protocol.specs.World.{Happened, World, counted_event, crash_happened, event_of, input_taken, is_up_at, limit_if, log_limit, most_events, read_happened, restart_happened, tick_line, unless, with_lines}
-use Rattle.mdcc_protocol.specs.declared.events.Event.{Event}
-use Rattle.mdcc_protocol.specs.declared.facts.Fact.{Fact}
-use Rattle.mdcc_protocol.specs.declared.node.Input.{Input}
-use Rattle.mdcc_protocol.specs.declared.world.EventFault.{EventFault}
-use Rattle.mdcc_protocol.specs.declared.world.LimitName.{LimitName}
+use Rattle.mdcc_ledger.specs.Ledger.{facts_of}
+use Rattle.mdcc_simulation.specs.State.{Happened, World, counted_event, is_up_at}
+use Rattle.mdcc_simulation.specs.Centres.{crash_happened, restart_happened, tick_line}
+use Rattle.mdcc_simulation.specs.Events.{event_of}
+use Rattle.mdcc_simulation.specs.Limits.{input_taken, limit_if, log_limit, most_events, unless, with_lines}
+use Rattle.mdcc_simulation.specs.Clients.{read_happened}
+use Rattle.mdcc_language.specs.declared.events.Event.{Event}
+use Rattle.mdcc_messages.specs.declared.facts.Fact.{Fact}
+use Rattle.mdcc_rules.specs.declared.node.Input.{Input}
+use Rattle.mdcc_language.specs.declared.world.EventFault.{EventFault}
+use Rattle.mdcc_language.specs.declared.world.LimitName.{LimitName}
 
 -- nothing happens where there were as many events as there may be
 abbrev pub at_limit : World → Result (Unit {0}) EventFault

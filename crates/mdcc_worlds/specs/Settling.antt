@@ -1,12 +1,15 @@
 -- How far a settle has come.
 use Rattle.std.specs.Prelude.{◌≡◌, ◌<◌, ◌≤◌, Err, List, None, Ok, Result, Some, [], ℕ, ◌+◌, ◌++◌, ◌-◌, ◌∷◌}
-use Rattle.mdcc_protocol.specs.Built.{built}
-use Rattle.mdcc_protocol.specs.World.{Happened, World, after_lines, counted_event, event_of, first_waiting, most_events, next_message, settled_of}
-use Rattle.mdcc_protocol.specs.declared.events.Event.{Event}
-use Rattle.mdcc_protocol.specs.declared.lines.Line.{Line}
-use Rattle.mdcc_protocol.specs.declared.messages.Envelope.{Envelope}
-use Rattle.mdcc_protocol.specs.declared.world.EventFault.{EventFault}
-use Rattle.mdcc_protocol.specs.declared.world.LimitName.{LimitName}
+use Rattle.mdcc_built.specs.Built.{built}
+use Rattle.mdcc_simulation.specs.State.{Happened, World, after_lines, counted_event, next_message}
+use Rattle.mdcc_simulation.specs.Events.{event_of}
+use Rattle.mdcc_simulation.specs.Deliveries.{first_waiting, settled_of}
+use Rattle.mdcc_simulation.specs.Limits.{most_events}
+use Rattle.mdcc_language.specs.declared.events.Event.{Event}
+use Rattle.mdcc_language.specs.declared.lines.Line.{Line}
+use Rattle.mdcc_messages.specs.declared.messages.Envelope.{Envelope}
+use Rattle.mdcc_language.specs.declared.world.EventFault.{EventFault}
+use Rattle.mdcc_language.specs.declared.world.LimitName.{LimitName}
 use Rattle.mdcc_worlds.specs.Delivering.{delivery}
 
 -- the line is counted and told

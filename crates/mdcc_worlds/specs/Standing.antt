@@ -6,13 +6,18 @@ use Rattle.mdcc_base.specs.declared.key.Key.{Key}
 use Rattle.mdcc_option.specs.declared.cluster.Cluster.{Cluster}
 use Rattle.mdcc_option.specs.declared.items.Known.{Known}
 use Rattle.mdcc_protocol.specs.Belongs.{is_centre}
-use Rattle.mdcc_protocol.specs.Built.{built}
+use Rattle.mdcc_built.specs.Built.{built}
 use Rattle.mdcc_protocol.specs.Facts.{epoch_of}
 use Rattle.mdcc_protocol.specs.IsCluster.{IsCluster}
-use Rattle.mdcc_protocol.specs.Ledger.{facts_of}
-use Rattle.mdcc_protocol.specs.WellFormed.{IsWellFormedEnvelope, IsWellFormedRead}
-use Rattle.mdcc_protocol.specs.World.{Sent, World, centre_at, counted_event, crash_happened, first_world, input_happened, most_events, read_happened, restart_happened, step_at, with_delivered}
-use Rattle.mdcc_protocol.specs.declared.node.Input.{Input}
+use Rattle.mdcc_ledger.specs.Ledger.{facts_of}
+use Rattle.mdcc_messages.specs.WellFormed.{IsWellFormedEnvelope, IsWellFormedRead}
+use Rattle.mdcc_messages.specs.Mailbox.{Sent, with_delivered}
+use Rattle.mdcc_simulation.specs.State.{World, centre_at, counted_event, first_world}
+use Rattle.mdcc_simulation.specs.Centres.{crash_happened, restart_happened}
+use Rattle.mdcc_simulation.specs.Stepping.{input_happened, step_at}
+use Rattle.mdcc_simulation.specs.Limits.{most_events}
+use Rattle.mdcc_simulation.specs.Clients.{read_happened}
+use Rattle.mdcc_rules.specs.declared.node.Input.{Input}
 use Rattle.mdcc_steps.specs.Forming.{IsNode}
 use Rattle.mdcc_steps.specs.Inputs.{IsWellFormedInput}
 use Rattle.mdcc_worlds.specs.Sending.{GoesWithin}

@@ -4,15 +4,17 @@ use Rattle.std.specs.Prelude.{◌≡◌, Bool, Err, List, None, Ok, Option, Resu
 use Rattle.mdcc_base.specs.Sizes.{Sizes}
 use Rattle.mdcc_base.specs.declared.identifiers.TxId.{TxId}
 use Rattle.mdcc_protocol.specs.Belongs.{is_centre}
-use Rattle.mdcc_protocol.specs.Built.{built}
-use Rattle.mdcc_protocol.specs.Ledger.{Added, Entry}
-use Rattle.mdcc_protocol.specs.Steps.{NodeStep}
-use Rattle.mdcc_protocol.specs.World.{Happened, World, bytes_limit, chosen_lines, heard_lines, input_happened, input_limited, log_limit, step_taken, unless}
-use Rattle.mdcc_protocol.specs.declared.facts.Fact.{Fact}
-use Rattle.mdcc_protocol.specs.declared.lines.Line.{Line}
-use Rattle.mdcc_protocol.specs.declared.messages.Envelope.{Envelope}
-use Rattle.mdcc_protocol.specs.declared.node.StepFault.{StepFault}
-use Rattle.mdcc_protocol.specs.declared.world.EventFault.{EventFault}
+use Rattle.mdcc_built.specs.Built.{built}
+use Rattle.mdcc_ledger.specs.Ledger.{Added, Entry}
+use Rattle.mdcc_rules.specs.Steps.{NodeStep}
+use Rattle.mdcc_simulation.specs.State.{Happened, World}
+use Rattle.mdcc_simulation.specs.Limits.{bytes_limit, input_limited, log_limit, unless}
+use Rattle.mdcc_simulation.specs.Stepping.{chosen_lines, heard_lines, input_happened, step_taken}
+use Rattle.mdcc_messages.specs.declared.facts.Fact.{Fact}
+use Rattle.mdcc_language.specs.declared.lines.Line.{Line}
+use Rattle.mdcc_messages.specs.declared.messages.Envelope.{Envelope}
+use Rattle.mdcc_rules.specs.declared.node.StepFault.{StepFault}
+use Rattle.mdcc_language.specs.declared.world.EventFault.{EventFault}
 use Rattle.mdcc_worlds.specs.Standing.{IsWorld}
 
 -- the ledger with a fact of a centre, where there is one

@@ -3,8 +3,8 @@ use Rattle.std.specs.List.{AllByRecursion}
 use Rattle.std.specs.Prelude.{Bool, false, length, true, ⊤, ◌<◌, ◌^◌, ◌≤◌}
 use Rattle.mdcc_base.specs.Key.{IsKey}
 use Rattle.mdcc_option.specs.declared.items.Item.{Item}
-use Rattle.mdcc_protocol.specs.declared.events.Event.{Event}
-use Rattle.mdcc_protocol.specs.declared.events.UpdateWord.{UpdateWord}
+use Rattle.mdcc_language.specs.declared.events.Event.{Event}
+use Rattle.mdcc_language.specs.declared.events.UpdateWord.{UpdateWord}
 
 -- no stop is armed
 abbrev pub is_built : Event → Bool

@@ -1,5 +1,5 @@
 -- The laws are the lemmas.
-use Rattle.mdcc_protocol.specs.Header.{all_of}
+use Rattle.mdcc_language.specs.Header.{all_of}
 use Rattle.mdcc_reports.proofs.Headers.{header-cluster}
 use Rattle.mdcc_reports.proofs.Replays.{replayed}
 use Rattle.mdcc_reports.proofs.replays_are_runs.Goals as goal

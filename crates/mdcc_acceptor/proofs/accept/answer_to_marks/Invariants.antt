@@ -2,7 +2,7 @@ use Rattle.std.proofs.Common.{◌≡◌, List, drop, false}
 use Rattle.mdcc_base.specs.Ballot.{ballot_lt}
 use Rattle.mdcc_protocol.specs.Acceptor.{answer_to_marks, new_marks}
 use Rattle.mdcc_protocol.specs.Facts.{promise_of}
-use Rattle.mdcc_protocol.specs.declared.facts.Fact.{Fact as AFact}
+use Rattle.mdcc_messages.specs.declared.facts.Fact.{Fact as AFact}
 use Rattle.mdcc_acceptor.proofs.accept.answer_to_marks.Given as goal
 
 abbrev pub invariant-loop-place : goal.invariant-loop-place

@@ -1,6 +1,6 @@
 use Rattle.std.proofs.Common.{◌≡◌, [], List, drop, map}
 use Rattle.mdcc_admission.specs.Loading.{Cells, Holds, fact_read, run_by}
-use Rattle.mdcc_protocol.specs.declared.facts.Fact.{Fact as AFact}
+use Rattle.mdcc_messages.specs.declared.facts.Fact.{Fact as AFact}
 use Rattle.mdcc_admission.proofs.loading.run.Given as goal
 
 abbrev pub invariant-loop-place : goal.invariant-loop-place

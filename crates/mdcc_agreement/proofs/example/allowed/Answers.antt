@@ -1,6 +1,6 @@
 use Rattle.std.proofs.Common.{refl, lit≤}
 use Rattle.mdcc_protocol.specs.IsCluster.{IsCluster}
-use Rattle.mdcc_protocol.proofs.LedgerShown.{ledger_shown}
+use Rattle.mdcc_ledger_laws.proofs.LedgerShown.{ledger_shown}
 use Rattle.mdcc_agreement.specs.Example.{three, ledger}
 use Rattle.mdcc_agreement.proofs.example.allowed.Goals as goal
 

@@ -1,8 +1,8 @@
 use Rattle.std.proofs.Common.{◌≡◌, ◌+◌, ◌*◌, ◌≤◌, ◌++◌, drop}
 use Rattle.std.specs.Prelude.{vec_len, vec_capacity}
 use Rattle.std.specs.List.{flat_map}
-use Rattle.mdcc_protocol.specs.Bytes.{counted}
-use Rattle.mdcc_protocol.specs.SpelledParts.{amount_bytes}
+use Rattle.mdcc_messages.specs.Bytes.{counted}
+use Rattle.mdcc_messages.specs.SpelledParts.{amount_bytes}
 use Rattle.mdcc_append.proofs.appending.put_amounts.Given as goal
 
 abbrev pub invariant-loop-amount : goal.invariant-loop-amount

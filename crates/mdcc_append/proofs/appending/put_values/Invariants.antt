@@ -1,7 +1,7 @@
 use Rattle.std.proofs.Common.{◌≡◌, ◌+◌, ◌*◌, ◌≤◌, ◌++◌, drop}
 use Rattle.std.specs.Prelude.{vec_len, vec_capacity}
 use Rattle.std.specs.List.{flat_map}
-use Rattle.mdcc_protocol.specs.Bytes.{i64_bytes, counted}
+use Rattle.mdcc_messages.specs.Bytes.{i64_bytes, counted}
 use Rattle.mdcc_append.proofs.appending.put_values.Given as goal
 
 abbrev pub invariant-loop-value : goal.invariant-loop-value

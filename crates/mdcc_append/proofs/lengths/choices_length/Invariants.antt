@@ -1,6 +1,6 @@
 use Rattle.std.proofs.Common.{◌≡◌, ◌+◌, ◌*◌, ◌≤◌, drop}
 use Rattle.mdcc_base.specs.Counts.{sum_over}
-use Rattle.mdcc_protocol.specs.Lengths.{choice_length}
+use Rattle.mdcc_messages.specs.Lengths.{choice_length}
 use Rattle.mdcc_append.proofs.lengths.choices_length.Given as goal
 
 abbrev pub invariant-loop-choice : goal.invariant-loop-choice

@@ -1,6 +1,6 @@
 use Rattle.std.proofs.Common.{◌≡◌, ◌+◌, ◌*◌, ◌≤◌, drop}
 use Rattle.mdcc_base.specs.Counts.{sum_over}
-use Rattle.mdcc_protocol.specs.Lengths.{delta_length}
+use Rattle.mdcc_messages.specs.Lengths.{delta_length}
 use Rattle.mdcc_append.proofs.lengths.deltas_length.Given as goal
 
 abbrev pub invariant-loop-delta : goal.invariant-loop-delta

@@ -1,5 +1,5 @@
 use Rattle.std.proofs.Common.{arith}
-use Rattle.mdcc_protocol.specs.Lengths.{entry_length}
+use Rattle.mdcc_messages.specs.Lengths.{entry_length}
 use Rattle.mdcc_append.proofs.Sums.{sum_over-drop}
 use Rattle.mdcc_append.proofs.lengths.options_length.Goals as goal
 

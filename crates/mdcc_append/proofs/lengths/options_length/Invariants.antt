@@ -1,6 +1,6 @@
 use Rattle.std.proofs.Common.{◌≡◌, ◌+◌, ◌*◌, ◌≤◌, drop}
 use Rattle.mdcc_base.specs.Counts.{sum_over}
-use Rattle.mdcc_protocol.specs.Lengths.{entry_length}
+use Rattle.mdcc_messages.specs.Lengths.{entry_length}
 use Rattle.mdcc_append.proofs.lengths.options_length.Given as goal
 
 abbrev pub invariant-loop-place : goal.invariant-loop-place

@@ -1,6 +1,6 @@
 use Rattle.std.proofs.Common.{◌≡◌, ◌+◌, ◌*◌, ◌≤◌, drop}
 use Rattle.mdcc_base.specs.Counts.{sum_over}
-use Rattle.mdcc_protocol.specs.Lengths.{written_length}
+use Rattle.mdcc_messages.specs.Lengths.{written_length}
 use Rattle.mdcc_append.proofs.lengths.write_set_length.Given as goal
 
 abbrev pub invariant-loop-written : goal.invariant-loop-written

@@ -2,9 +2,9 @@ use Rattle.std.proofs.Common.{◌≡◌, ◌+◌, ◌≤◌, ◌++◌, drop}
 use Rattle.std.specs.Prelude.{vec_len, vec_capacity}
 use Rattle.std.specs.List.{flat_map}
 use Rattle.mdcc_base.specs.Counts.{sum_over}
-use Rattle.mdcc_protocol.specs.Bytes.{counted}
-use Rattle.mdcc_protocol.specs.SpelledParts.{delta_bytes}
-use Rattle.mdcc_protocol.specs.Lengths.{delta_length}
+use Rattle.mdcc_messages.specs.Bytes.{counted}
+use Rattle.mdcc_messages.specs.SpelledParts.{delta_bytes}
+use Rattle.mdcc_messages.specs.Lengths.{delta_length}
 use Rattle.mdcc_append.proofs.marks.put_deltas.Given as goal
 
 abbrev pub invariant-loop-delta : goal.invariant-loop-delta

@@ -1,6 +1,6 @@
 use Rattle.std.proofs.Common.{arith}
-use Rattle.mdcc_protocol.specs.SpelledParts.{entry_bytes}
-use Rattle.mdcc_protocol.specs.Lengths.{entry_length}
+use Rattle.mdcc_messages.specs.SpelledParts.{entry_bytes}
+use Rattle.mdcc_messages.specs.Lengths.{entry_length}
 use Rattle.mdcc_append.proofs.Sums.{sum_over-drop, flat_map-drop, goes_on}
 use Rattle.mdcc_append.proofs.marks.put_options.Goals as goal
 

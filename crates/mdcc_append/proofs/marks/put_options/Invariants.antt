@@ -2,8 +2,8 @@ use Rattle.std.proofs.Common.{◌≡◌, ◌+◌, ◌≤◌, ◌++◌, drop}
 use Rattle.std.specs.Prelude.{vec_len, vec_capacity}
 use Rattle.std.specs.List.{flat_map}
 use Rattle.mdcc_base.specs.Counts.{sum_over}
-use Rattle.mdcc_protocol.specs.SpelledParts.{entry_bytes, options_bytes}
-use Rattle.mdcc_protocol.specs.Lengths.{entry_length, options_length}
+use Rattle.mdcc_messages.specs.SpelledParts.{entry_bytes, options_bytes}
+use Rattle.mdcc_messages.specs.Lengths.{entry_length, options_length}
 use Rattle.mdcc_append.proofs.marks.put_options.Given as goal
 
 abbrev pub invariant-loop-place : goal.invariant-loop-place

@@ -6,7 +6,7 @@ use Rattle.mdcc_logs.proofs.booting.boot_all.Goals.{in-Some+in_ok-node+in_ok-pus
 use Rattle.mdcc_logs.specs.Nodes.{AreStarted, IsNodeOf}
 use Rattle.mdcc_logs.specs.Starting.{AreBegun}
 use Rattle.mdcc_protocol.specs.Volatile.{nothing_kept}
-use Rattle.mdcc_protocol.specs.declared.facts.Fact.{Fact}
+use Rattle.mdcc_messages.specs.declared.facts.Fact.{Fact}
 
 pub loop-number-preserved : goal.loop-number-preserved
 loop-number-preserved c = elim c.match-new.branch [

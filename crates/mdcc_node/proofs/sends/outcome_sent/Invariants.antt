@@ -1,7 +1,7 @@
 use Rattle.std.proofs.Common.{◌≡◌, ◌+◌, ◌-◌, ◌++◌, not, ◌==◌}
 use Rattle.std.specs.List.{filter, range_with_len}
-use Rattle.mdcc_protocol.specs.Messages.{to_each, to_others}
-use Rattle.mdcc_protocol.specs.declared.messages.Message.{Message}
+use Rattle.mdcc_rules.specs.Messages.{to_each, to_others}
+use Rattle.mdcc_messages.specs.declared.messages.Message.{Message}
 use Rattle.mdcc_node.proofs.sends.outcome_sent.Given as goal
 
 abbrev pub invariant-loop-to : goal.invariant-loop-to

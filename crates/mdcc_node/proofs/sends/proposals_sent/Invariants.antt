@@ -1,5 +1,5 @@
 use Rattle.std.proofs.Common.{◌≡◌, ◌++◌, drop}
-use Rattle.mdcc_protocol.specs.ManagerRules.{proposals_sent}
+use Rattle.mdcc_rules.specs.ManagerRules.{proposals_sent}
 use Rattle.mdcc_node.proofs.sends.proposals_sent.Given as goal
 
 abbrev pub invariant-loop-choice : goal.invariant-loop-choice

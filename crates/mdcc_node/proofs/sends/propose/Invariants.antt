@@ -1,7 +1,7 @@
 use Rattle.std.proofs.Common.{◌≡◌, ◌+◌, ◌-◌, ◌++◌}
 use Rattle.std.specs.List.{range_with_len}
-use Rattle.mdcc_protocol.specs.Messages.{to_all, to_each}
-use Rattle.mdcc_protocol.specs.declared.messages.Message.{Message}
+use Rattle.mdcc_rules.specs.Messages.{to_all, to_each}
+use Rattle.mdcc_messages.specs.declared.messages.Message.{Message}
 use Rattle.mdcc_node.proofs.sends.propose.Given as goal
 
 abbrev pub invariant-loop-to : goal.invariant-loop-to

@@ -2,7 +2,7 @@ use Rattle.std.proofs.Common.{◌≡◌, ◌+◌, ◌-◌}
 use Rattle.std.specs.List.{range_with_len}
 use Rattle.std.specs.Prelude.{filter_map, find}
 use Rattle.mdcc_outcomes.specs.Casts.{chosen_cast_at, mark_cast, marks_by}
-use Rattle.mdcc_protocol.specs.Ledger.{is_mark_of_quorum}
+use Rattle.mdcc_ledger.specs.Ledger.{is_mark_of_quorum}
 use Rattle.mdcc_outcomes.proofs.chosen.chosen_cast_at.Given as goal
 
 abbrev pub invariant-loop-centre : goal.invariant-loop-centre

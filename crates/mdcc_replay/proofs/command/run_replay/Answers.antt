@@ -2,9 +2,9 @@ use Rattle.std.proofs.Common.{◌≡◌, ◌<◌, List, ℕ, length, Some, Ok}
 use Rattle.std.specs.Bool.{OnFalse}
 use Rattle.std.specs.Io.KnownBytes.{Appends}
 use Rattle.std.proofs.KnownBytes.{Consumes-whole}
-use Rattle.mdcc_protocol.specs.Built.{built}
-use Rattle.mdcc_protocol.specs.Errors.{error_text, status_of}
-use Rattle.mdcc_protocol.specs.Replay.{replay_of}
+use Rattle.mdcc_built.specs.Built.{built}
+use Rattle.mdcc_language.specs.Errors.{error_text, status_of}
+use Rattle.mdcc_simulation.specs.Replay.{replay_of}
 use Rattle.mdcc_replay.proofs.Fronts.{nothing_written}
 use Rattle.mdcc_replay.proofs.Inputs.{long_ended}
 use Rattle.mdcc_replay.proofs.Statuses.{for_any, for_such, front_written, line_told, whole_written}

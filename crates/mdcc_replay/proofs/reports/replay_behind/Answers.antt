@@ -1,5 +1,5 @@
 use Rattle.std.proofs.lemmas.Result.{err_from_is_err_and}
-use Rattle.mdcc_protocol.specs.World.{first_world}
+use Rattle.mdcc_simulation.specs.State.{first_world}
 use Rattle.mdcc_replay.proofs.Inputs.{behind_written, cluster_given, header_failed}
 use Rattle.mdcc_replay.proofs.reports.replay_behind.Goals as goal
 

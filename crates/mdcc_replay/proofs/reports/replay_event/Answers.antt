@@ -1,6 +1,6 @@
 use Rattle.std.proofs.lemmas.Result.{err_from_is_err_and}
-use Rattle.mdcc_protocol.specs.Built.{built}
-use Rattle.mdcc_protocol.specs.World.{event_of}
+use Rattle.mdcc_built.specs.Built.{built}
+use Rattle.mdcc_simulation.specs.Events.{event_of}
 use Rattle.mdcc_replay.proofs.Events.{event_failed, event_written}
 use Rattle.mdcc_replay.proofs.reports.replay_event.Goals as goal
 

@@ -1,9 +1,9 @@
 use Rattle.std.proofs.Common.{arith}
 use Rattle.std.proofs.lemmas.Result.{err_from_is_err_and}
-use Rattle.mdcc_protocol.specs.Built.{built}
-use Rattle.mdcc_protocol.specs.Lines.{lines_in}
-use Rattle.mdcc_protocol.specs.Replay.{lines_replayed}
-use Rattle.mdcc_protocol.specs.World.{World}
+use Rattle.mdcc_built.specs.Built.{built}
+use Rattle.mdcc_language.specs.Lines.{lines_in}
+use Rattle.mdcc_simulation.specs.Replay.{lines_replayed}
+use Rattle.mdcc_simulation.specs.State.{World}
 use Rattle.mdcc_replay.proofs.Splits.{none_left}
 use Rattle.mdcc_replay.proofs.Taken.{all_taken, line_taken}
 use Rattle.mdcc_replay.proofs.reports.replay_lines.Goals as goal

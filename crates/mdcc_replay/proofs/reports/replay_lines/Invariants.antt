@@ -1,8 +1,8 @@
 use Rattle.std.proofs.Common.{◌+◌, ◌≤◌, length}
-use Rattle.mdcc_protocol.specs.Built.{built}
-use Rattle.mdcc_protocol.specs.Lines.{lines_in}
-use Rattle.mdcc_protocol.specs.Replay.{lines_replayed}
-use Rattle.mdcc_protocol.specs.World.{World}
+use Rattle.mdcc_built.specs.Built.{built}
+use Rattle.mdcc_language.specs.Lines.{lines_in}
+use Rattle.mdcc_simulation.specs.Replay.{lines_replayed}
+use Rattle.mdcc_simulation.specs.State.{World}
 use Rattle.mdcc_replay.specs.Writing.{Reached}
 use Rattle.mdcc_replay.proofs.reports.replay_lines.Given as goal
 

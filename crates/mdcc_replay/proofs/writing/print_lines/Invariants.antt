@@ -1,5 +1,5 @@
 use Rattle.std.proofs.Common.{◌≡◌, ◌++◌, drop}
-use Rattle.mdcc_protocol.specs.Report.{lines_text}
+use Rattle.mdcc_language.specs.Report.{lines_text}
 use Rattle.mdcc_replay.proofs.writing.print_lines.Given as goal
 
 abbrev pub invariant-loop-line : goal.invariant-loop-line

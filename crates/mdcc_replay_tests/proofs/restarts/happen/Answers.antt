@@ -1,5 +1,5 @@
-use Rattle.mdcc_protocol.specs.Built.{built}
-use Rattle.mdcc_protocol.specs.World.{event_of}
+use Rattle.mdcc_built.specs.Built.{built}
+use Rattle.mdcc_simulation.specs.Events.{event_of}
 use Rattle.mdcc_replay_tests.proofs.Standing.{stands-behind}
 use Rattle.mdcc_replay_tests.proofs.restarts.happen.Goals as goal
 

@@ -3,8 +3,8 @@ use Rattle.std.proofs.lemmas.Result.{err_from_is_err_and}
 use Rattle.mdcc_log.specs.Frames.{IsAtRest}
 use Rattle.mdcc_log.specs.Log.{log_bytes}
 use Rattle.mdcc_restart.proofs.Starts.{after-crash, lies-within, refuses, same-payloads}
-use Rattle.mdcc_protocol.specs.Spelling.{fact_bytes}
-use Rattle.mdcc_protocol.specs.declared.facts.Fact.{Fact}
+use Rattle.mdcc_messages.specs.Spelling.{fact_bytes}
+use Rattle.mdcc_messages.specs.declared.facts.Fact.{Fact}
 use Rattle.mdcc_restart.specs.Logged.{logged}
 use Rattle.mdcc_restart.specs.Restarting.{Restarts}
 use Rattle.mdcc_restart.proofs.restarting.restart.Goals as goal

@@ -1,8 +1,8 @@
 use Rattle.std.proofs.Common.{List, ℕ, ◌+◌, arith, ap, ◌∙◌, sym}
 use Rattle.std.proofs.lemmas.Result.{err_from_is_err_and}
-use Rattle.mdcc_protocol.specs.Schedule.{updates_from}
-use Rattle.mdcc_protocol.specs.Updates.{update_of}
-use Rattle.mdcc_protocol.specs.Built.{built}
+use Rattle.mdcc_language.specs.Schedule.{updates_from}
+use Rattle.mdcc_language.specs.Updates.{update_of}
+use Rattle.mdcc_built.specs.Built.{built}
 use Rattle.mdcc_sched.proofs.Steps.{on_false, word_read, word_refused, update_law}
 use Rattle.mdcc_sched.proofs.lists.updates_from.Goals as goal
 

@@ -1,7 +1,7 @@
 use Rattle.std.proofs.Common.{◌≡◌, ◌+◌, ◌-◌, ◌≤◌, length}
-use Rattle.mdcc_protocol.specs.Schedule.{updates_from}
-use Rattle.mdcc_protocol.specs.Words.{parts_from}
-use Rattle.mdcc_protocol.specs.Built.{built}
+use Rattle.mdcc_language.specs.Schedule.{updates_from}
+use Rattle.mdcc_language.specs.Words.{parts_from}
+use Rattle.mdcc_built.specs.Built.{built}
 use Rattle.mdcc_words.proofs.Onto.{onto}
 use Rattle.mdcc_words.proofs.Parts.{parts_left}
 use Rattle.mdcc_sched.proofs.lists.updates_from.Given as goal

@@ -1,5 +1,5 @@
 use Rattle.std.proofs.Common.{◌≡◌, drop}
-use Rattle.mdcc_protocol.specs.Resolve.{parts_of}
+use Rattle.mdcc_language.specs.Resolve.{parts_of}
 use Rattle.mdcc_words.proofs.Onto.{onto}
 use Rattle.mdcc_sched.proofs.parts.parts_of.Given as goal
 

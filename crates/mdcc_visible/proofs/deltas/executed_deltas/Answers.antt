@@ -1,6 +1,6 @@
 use Rattle.std.proofs.Common.{rules, ◌≡◌, ℕ, List, ◌+◌, ◌++◌, take, option_to_list, ◌∙◌}
 use Rattle.mdcc_option.specs.declared.items.Delta.{Delta}
-use Rattle.mdcc_protocol.specs.declared.facts.Fact.{Fact as AFact}
+use Rattle.mdcc_messages.specs.declared.facts.Fact.{Fact as AFact}
 use Rattle.mdcc_protocol.specs.Facts.{executed_of}
 use Rattle.mdcc_struct.specs.Maps.{txs_of}
 use Rattle.mdcc_visible.specs.Deltas.{deltas_in}

@@ -1,5 +1,5 @@
 use Rattle.std.proofs.Common.{◌≡◌, List, ◌≤◌, length, take}
-use Rattle.mdcc_protocol.specs.declared.facts.Fact.{Fact as AFact}
+use Rattle.mdcc_messages.specs.declared.facts.Fact.{Fact as AFact}
 use Rattle.mdcc_protocol.specs.Facts.{executed_of}
 use Rattle.mdcc_visible.specs.Deltas.{deltas_in}
 use Rattle.mdcc_visible.proofs.deltas.executed_deltas.Given as goal

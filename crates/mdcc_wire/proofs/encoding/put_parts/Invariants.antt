@@ -2,9 +2,9 @@ use Rattle.std.proofs.Common.{◌≡◌, ◌+◌, ◌≤◌, ◌++◌, drop}
 use Rattle.std.specs.Prelude.{vec_len, vec_capacity}
 use Rattle.std.specs.List.{flat_map}
 use Rattle.mdcc_base.specs.Counts.{sum_over}
-use Rattle.mdcc_protocol.specs.Bytes.{counted}
-use Rattle.mdcc_protocol.specs.SpelledParts.{part_bytes}
-use Rattle.mdcc_protocol.specs.Lengths.{part_length}
+use Rattle.mdcc_messages.specs.Bytes.{counted}
+use Rattle.mdcc_messages.specs.SpelledParts.{part_bytes}
+use Rattle.mdcc_messages.specs.Lengths.{part_length}
 use Rattle.mdcc_wire.proofs.encoding.put_parts.Given as goal
 
 abbrev pub invariant-loop-part : goal.invariant-loop-part

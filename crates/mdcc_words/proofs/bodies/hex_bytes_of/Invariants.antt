@@ -1,5 +1,5 @@
 use Rattle.std.proofs.Common.{◌≡◌, ◌+◌, ◌*◌, length}
-use Rattle.mdcc_protocol.specs.Words.{hex_bytes_of}
+use Rattle.mdcc_language.specs.Words.{hex_bytes_of}
 use Rattle.mdcc_words.proofs.Onto.{onto_some}
 use Rattle.mdcc_words.proofs.bodies.hex_bytes_of.Given as goal
 

@@ -1,6 +1,6 @@
 use Rattle.std.proofs.Common.{ℕ, List, length, ◌+◌, ◌<◌, arith, ap, ◌∙◌, sym, to_z-of_z}
 use Rattle.std.proofs.lemmas.Result.{err_from_is_err_and}
-use Rattle.mdcc_protocol.specs.Words.{value_of}
+use Rattle.mdcc_language.specs.Words.{value_of}
 use Rattle.mdcc_words.proofs.ValueParts.{value_read, value_refused, value_too_many}
 use Rattle.mdcc_words.proofs.values.parse_values.Goals as goal
 

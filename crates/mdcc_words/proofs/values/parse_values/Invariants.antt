@@ -1,5 +1,5 @@
 use Rattle.std.proofs.Common.{◌≡◌, ◌+◌, ◌-◌, ◌≤◌, length}
-use Rattle.mdcc_protocol.specs.Words.{values_from, values_of}
+use Rattle.mdcc_language.specs.Words.{values_from, values_of}
 use Rattle.mdcc_words.proofs.Onto.{onto}
 use Rattle.mdcc_words.proofs.Parts.{parts_left}
 use Rattle.mdcc_words.proofs.values.parse_values.Given as goal

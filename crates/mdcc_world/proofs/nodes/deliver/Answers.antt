@@ -1,11 +1,11 @@
 use Rattle.std.proofs.Common.{◌≡◌, ◌≤◌, Result, subst}
 use Rattle.mdcc_base.specs.Unless.{GivesUnless}
 use Rattle.mdcc_node.specs.Stepping.{given, is_memory}
-use Rattle.mdcc_protocol.specs.Ledger.{facts_of}
-use Rattle.mdcc_protocol.specs.Steps.{NodeStep}
-use Rattle.mdcc_protocol.specs.World.{centre_at}
-use Rattle.mdcc_protocol.specs.declared.node.Input.{Input}
-use Rattle.mdcc_protocol.specs.declared.node.StepFault.{StepFault}
+use Rattle.mdcc_ledger.specs.Ledger.{facts_of}
+use Rattle.mdcc_rules.specs.Steps.{NodeStep}
+use Rattle.mdcc_simulation.specs.State.{centre_at}
+use Rattle.mdcc_rules.specs.declared.node.Input.{Input}
+use Rattle.mdcc_rules.specs.declared.node.StepFault.{StepFault}
 use Rattle.mdcc_world.proofs.NodesStay.{made-is, made-kept, node-under, stepped}
 use Rattle.mdcc_world.proofs.Roomy.{step-roomy}
 use Rattle.mdcc_world.proofs.nodes.deliver.Goals as goal

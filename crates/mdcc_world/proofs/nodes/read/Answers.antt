@@ -1,6 +1,6 @@
 use Rattle.std.proofs.Common.{◌≡◌, ◌≤◌, subst}
-use Rattle.mdcc_protocol.specs.Ledger.{facts_of}
-use Rattle.mdcc_protocol.specs.World.{centre_at}
+use Rattle.mdcc_ledger.specs.Ledger.{facts_of}
+use Rattle.mdcc_simulation.specs.State.{centre_at}
 use Rattle.mdcc_world.proofs.NodesStay.{node-in}
 use Rattle.mdcc_world.proofs.nodes.read.Goals as goal
 

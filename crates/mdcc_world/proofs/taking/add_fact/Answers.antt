@@ -2,9 +2,9 @@ use Rattle.std.proofs.Common.{◌∷◌, ◌++◌, Bool, List, ℕ, ap, ◌∙�
 use Rattle.mdcc_base.specs.declared.identifiers.TxId.{TxId}
 use Rattle.mdcc_outcomes.specs.Endings.{new_endings}
 use Rattle.mdcc_outcomes.specs.Stands.{Stands as OutcomesStand}
-use Rattle.mdcc_protocol.specs.Ledger.{Added}
-use Rattle.mdcc_protocol.specs.World.{chosen_lines, heard_lines}
-use Rattle.mdcc_protocol.specs.declared.lines.Line.{Line}
+use Rattle.mdcc_ledger.specs.Ledger.{Added}
+use Rattle.mdcc_simulation.specs.Stepping.{chosen_lines, heard_lines}
+use Rattle.mdcc_language.specs.declared.lines.Line.{Line}
 use Rattle.mdcc_world.proofs.Took.{chosen-is}
 use Rattle.mdcc_worlds.specs.Taking.{chosen_line}
 use Rattle.mdcc_world.proofs.taking.add_fact.Goals as goal

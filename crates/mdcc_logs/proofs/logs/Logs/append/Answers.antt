@@ -2,7 +2,7 @@ use Rattle.std.proofs.Common.{◌≡◌, ◌-◌, ◌≤◌, ap, arith, length, 
 use Rattle.mdcc_logs.proofs.Calls.{appended, settled-there}
 use Rattle.mdcc_logs.proofs.Standing.{log-is, reserved}
 use Rattle.mdcc_logs.proofs.logs.Logs.append.Goals as goal
-use Rattle.mdcc_protocol.proofs.Lengths.{length-fact}
+use Rattle.mdcc_spelling.proofs.Lengths.{length-fact}
 
 pub append-requires-clause-short : goal.append-requires-clause-short
 append-requires-clause-short c =

@@ -1,8 +1,8 @@
 use Rattle.std.proofs.Common.{◌≡◌, ◌++◌, ◌∙◌, List, ℕ, ap}
 use Rattle.mdcc_mail.proofs.Spelled.{written-in, written-letter}
-use Rattle.mdcc_protocol.specs.Spelling.{message_bytes}
-use Rattle.mdcc_protocol.specs.World.{unsent}
-use Rattle.mdcc_protocol.specs.declared.messages.Envelope.{Envelope}
+use Rattle.mdcc_messages.specs.Spelling.{message_bytes}
+use Rattle.mdcc_messages.specs.Mailbox.{unsent}
+use Rattle.mdcc_messages.specs.declared.messages.Envelope.{Envelope}
 use Rattle.mdcc_wire.proofs.Counted.{has_counts}
 use Rattle.mdcc_mail.proofs.letters.Letter.write.Goals as goal
 

@@ -1,7 +1,7 @@
 use Rattle.std.proofs.Common.{◌≡◌, ◌<◌, ◌≤◌, ◌-◌, ◌∙◌, ap, arith, length, set, sym}
 use Rattle.std.proofs.lemmas.List.{length-set}
 use Rattle.mdcc_mail.proofs.Firsts.{cursors_delivered, delivered_past, letter_there, set_delivered}
-use Rattle.mdcc_protocol.specs.World.{Sent, with_delivered}
+use Rattle.mdcc_messages.specs.Mailbox.{Sent, with_delivered}
 use Rattle.mdcc_mail.proofs.mail.Mail.deliver.Goals as goal
 
 pub invariant_of-self : goal.invariant_of-self

@@ -1,7 +1,7 @@
 use Rattle.std.proofs.Common.{◌≡◌, ◌+◌, ◌++◌, ◌∷◌, [], ◌∙◌, ap, arith}
 use Rattle.mdcc_mail.proofs.Spelled.{pushed-outgoing}
-use Rattle.mdcc_protocol.specs.Lengths.{message_length}
-use Rattle.mdcc_protocol.specs.World.{Sent, unsent}
+use Rattle.mdcc_messages.specs.Lengths.{message_length}
+use Rattle.mdcc_messages.specs.Mailbox.{Sent, unsent}
 use Rattle.mdcc_mail.proofs.outgoing.Outgoing.push.Goals as goal
 
 pub invariant_of-self-2 : goal.invariant_of-self-2

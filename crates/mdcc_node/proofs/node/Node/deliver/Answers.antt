@@ -1,8 +1,8 @@
 use Rattle.std.proofs.Common.{◌≡◌, false}
 use Rattle.mdcc_node.proofs.Standing.{foreign_step, not_own}
 use Rattle.mdcc_node.specs.Stepping.{room_of}
-use Rattle.mdcc_protocol.specs.Built.{built}
-use Rattle.mdcc_protocol.specs.Node.{is_own_message}
+use Rattle.mdcc_built.specs.Built.{built}
+use Rattle.mdcc_rules.specs.Node.{is_own_message}
 use Rattle.mdcc_node.proofs.node.Node.deliver.Goals as goal
 
 pub returns-in-None-clause-left : goal.returns-in-None-clause-left

@@ -2,8 +2,8 @@ use Rattle.std.proofs.Common.{◌≡◌, refl}
 use Rattle.mdcc_base.specs.Ballot.{fast_ballot}
 use Rattle.mdcc_node.proofs.Standing.{step_voted, swap_given, swap_left}
 use Rattle.mdcc_node.specs.Stepping.{room_of}
-use Rattle.mdcc_protocol.specs.Messages.{to_one}
-use Rattle.mdcc_protocol.specs.declared.messages.Message.{Message}
+use Rattle.mdcc_rules.specs.Messages.{to_one}
+use Rattle.mdcc_messages.specs.declared.messages.Message.{Message}
 use Rattle.mdcc_node.proofs.node.Node.proposed.Goals as goal
 
 pub returns-in_ok-fact-in-Vote-clause-answer : goal.returns-in_ok-fact-in-Vote-clause-answer

@@ -3,9 +3,9 @@ use Rattle.std.specs.Prelude.{IfOk, OnOk, Result, filter_map}
 use Rattle.mdcc_outcomes.proofs.Txs.{with_txs-ascending}
 use Rattle.mdcc_outcomes.proofs.Walks.{come-new}
 use Rattle.mdcc_outcomes.specs.Endings.{endings_come}
-use Rattle.mdcc_protocol.specs.Ledger.{Added, new_outcome}
+use Rattle.mdcc_ledger.specs.Ledger.{Added, new_outcome}
 use Rattle.mdcc_protocol.specs.Marks.{is_commit}
-use Rattle.mdcc_protocol.specs.declared.facts.Fact.{Fact}
+use Rattle.mdcc_messages.specs.declared.facts.Fact.{Fact}
 use Rattle.mdcc_struct.specs.Maps.{txs_of}
 use Rattle.mdcc_outcomes.proofs.outcomes.Outcomes.add.Goals as goal
 

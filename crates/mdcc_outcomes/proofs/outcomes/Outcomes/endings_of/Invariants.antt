@@ -2,7 +2,7 @@ use Rattle.std.proofs.Common.{◌≡◌, ◌++◌, List, drop, map}
 use Rattle.mdcc_base.specs.Sizes.{Sizes}
 use Rattle.mdcc_outcomes.specs.Endings.{with_ending_of}
 use Rattle.mdcc_outcomes.specs.Stands.{Stands}
-use Rattle.mdcc_protocol.specs.Ledger.{Entry}
+use Rattle.mdcc_ledger.specs.Ledger.{Entry}
 use Rattle.mdcc_struct.specs.Maps.{txs_of}
 use Rattle.mdcc_outcomes.proofs.outcomes.Outcomes.endings_of.Given as goal
 

@@ -2,7 +2,7 @@ use Rattle.std.proofs.Common.{◌≡◌, ◌∙◌, [], ap, arith, drop, rules, 
 use Rattle.std.proofs.lemmas.List.{drop_all}
 use Rattle.std.specs.Map.{keys_of}
 use Rattle.mdcc_outcomes.specs.Endings.{ending_of}
-use Rattle.mdcc_protocol.specs.Ledger.{txs_begun}
+use Rattle.mdcc_ledger.specs.Ledger.{txs_begun}
 use Rattle.mdcc_outcomes.proofs.Sums.{counted-all, counted-next, counted_on, totals-same}
 use Rattle.mdcc_outcomes.proofs.outcomes.Outcomes.totals.Goals.{in-Some, in_default}
 use Rattle.mdcc_outcomes.proofs.outcomes.Outcomes.totals.Goals as goal

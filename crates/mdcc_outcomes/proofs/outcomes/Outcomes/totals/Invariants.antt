@@ -3,7 +3,7 @@ use Rattle.std.specs.Map.{keys_of}
 use Rattle.mdcc_base.specs.Sizes.{Sizes}
 use Rattle.mdcc_outcomes.specs.Endings.{ending_of}
 use Rattle.mdcc_outcomes.specs.Stands.{Stands}
-use Rattle.mdcc_protocol.specs.Ledger.{Entry}
+use Rattle.mdcc_ledger.specs.Ledger.{Entry}
 use Rattle.mdcc_outcomes.proofs.Sums.{counted_on, none_ended}
 use Rattle.mdcc_outcomes.proofs.outcomes.Outcomes.totals.Given as goal
 

@@ -1,7 +1,7 @@
 use Rattle.std.proofs.Common.{false, refl, true}
 use Rattle.mdcc_world.proofs.Limits.{log-full, log-room}
 use Rattle.mdcc_worlds.proofs.Stays.{some-centre}
-use Rattle.mdcc_protocol.specs.Ledger.{facts_of}
+use Rattle.mdcc_ledger.specs.Ledger.{facts_of}
 use Rattle.mdcc_world.proofs.world.World.at_log_limit.Goals as goal
 
 pub returns-then-is_full-clause-limit : goal.returns-then-is_full-clause-limit

@@ -1,5 +1,5 @@
-use Rattle.mdcc_protocol.specs.World.{counted_event}
-use Rattle.mdcc_protocol.specs.declared.node.Input.{Input}
+use Rattle.mdcc_simulation.specs.State.{counted_event}
+use Rattle.mdcc_rules.specs.declared.node.Input.{Input}
 use Rattle.mdcc_world.proofs.world.World.begin_at.Goals as goal
 
 pub begin_taken-requires : goal.begin_taken-requires

@@ -1,7 +1,9 @@
 use Rattle.std.proofs.Common.{[], Ok, List, subst}
-use Rattle.mdcc_protocol.specs.Built.{built}
-use Rattle.mdcc_protocol.specs.World.{answer_in, begin_lines, begin_taken, input_limited, step_at}
-use Rattle.mdcc_protocol.specs.declared.lines.Line.{Line}
+use Rattle.mdcc_built.specs.Built.{built}
+use Rattle.mdcc_simulation.specs.Clients.{answer_in, begin_lines, begin_taken}
+use Rattle.mdcc_simulation.specs.Limits.{input_limited}
+use Rattle.mdcc_simulation.specs.Stepping.{step_at}
+use Rattle.mdcc_language.specs.declared.lines.Line.{Line}
 use Rattle.mdcc_world.proofs.BeginTaken.{begin-line}
 use Rattle.mdcc_world.proofs.Happened.{next-is, residual, told-happens, told-refused, told-result}
 use Rattle.mdcc_world.specs.Stands.{Happens}

@@ -1,5 +1,5 @@
 use Rattle.std.proofs.Common.{◌≡◌, arith, refl}
-use Rattle.mdcc_protocol.specs.Ledger.{facts_of}
+use Rattle.mdcc_ledger.specs.Ledger.{facts_of}
 use Rattle.mdcc_world.proofs.Counted.{up-centre}
 use Rattle.mdcc_world.proofs.Crashed.{has-crashed}
 use Rattle.mdcc_world.proofs.Limits.{log-there}

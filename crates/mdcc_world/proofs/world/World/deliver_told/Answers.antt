@@ -1,6 +1,7 @@
 use Rattle.std.proofs.Common.{◌∷◌, [], Ok, List, refl, subst}
-use Rattle.mdcc_protocol.specs.World.{deliver_line, with_lines}
-use Rattle.mdcc_protocol.specs.declared.lines.Line.{Line}
+use Rattle.mdcc_simulation.specs.Deliveries.{deliver_line}
+use Rattle.mdcc_simulation.specs.Limits.{with_lines}
+use Rattle.mdcc_language.specs.declared.lines.Line.{Line}
 use Rattle.mdcc_world.proofs.Happened.{next-is, told-happens, told-result}
 use Rattle.mdcc_world.specs.Stands.{Happens}
 use Rattle.mdcc_worlds.specs.Delivering.{delivery}

@@ -1,4 +1,4 @@
-use Rattle.mdcc_protocol.specs.declared.node.Input.{Input}
+use Rattle.mdcc_rules.specs.declared.node.Input.{Input}
 use Rattle.mdcc_worlds.specs.Delivering.{message_counted}
 use Rattle.mdcc_world.proofs.world.World.delivered.Goals as goal
 

@@ -1,8 +1,8 @@
 use Rattle.std.proofs.Common.{◌+◌, ◌++◌, List, ap, ◌∙◌, map}
-use Rattle.mdcc_protocol.specs.Ledger.{facts_of}
-use Rattle.mdcc_protocol.specs.Lengths.{messages_length}
-use Rattle.mdcc_protocol.specs.World.{unsent}
-use Rattle.mdcc_protocol.specs.declared.messages.Envelope.{Envelope}
+use Rattle.mdcc_ledger.specs.Ledger.{facts_of}
+use Rattle.mdcc_messages.specs.Lengths.{messages_length}
+use Rattle.mdcc_messages.specs.Mailbox.{unsent}
+use Rattle.mdcc_messages.specs.declared.messages.Envelope.{Envelope}
 use Rattle.mdcc_world.proofs.Happened.{may_be, residual, unlimited}
 use Rattle.mdcc_world.proofs.Limits.{fact-is-formed, fact-is-framed, log-there, step-measures}
 use Rattle.mdcc_world.proofs.Took.{step-refused, step-taken}

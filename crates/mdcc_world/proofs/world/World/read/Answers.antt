@@ -1,5 +1,6 @@
 use Rattle.std.proofs.Common.{Ok}
-use Rattle.mdcc_protocol.specs.World.{counted_event, read_happened}
+use Rattle.mdcc_simulation.specs.State.{counted_event}
+use Rattle.mdcc_simulation.specs.Clients.{read_happened}
 use Rattle.mdcc_world.proofs.Happened.{opened, refused-is, residual}
 use Rattle.mdcc_worlds.proofs.Events.{read-is}
 use Rattle.mdcc_worlds.specs.Happening.{at_centre}

@@ -1,8 +1,8 @@
 use Rattle.std.proofs.Common.{◌≡◌, ◌++◌, ◌∷◌, [], Some, ap, ◌∙◌, refl}
 use Rattle.mdcc_option.specs.declared.items.Known.{Known}
-use Rattle.mdcc_protocol.specs.Ledger.{facts_of}
+use Rattle.mdcc_ledger.specs.Ledger.{facts_of}
 use Rattle.mdcc_protocol.specs.Visible
-use Rattle.mdcc_protocol.specs.World.{known_of}
+use Rattle.mdcc_simulation.specs.Clients.{known_of}
 use Rattle.mdcc_protocol.specs.declared.visible.Reading.{Reading}
 use Rattle.mdcc_world.proofs.Counted.{has-read}
 use Rattle.mdcc_world.specs.Nodes.{NodesStand}

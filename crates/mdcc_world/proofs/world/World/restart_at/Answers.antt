@@ -3,9 +3,9 @@ use Rattle.mdcc_logs.specs.Nodes.{IsNodeOf}
 use Rattle.mdcc_logs.specs.Starting.{HasStarted, Starts}
 use Rattle.mdcc_logs.specs.declared.starting.Started.{Started}
 use Rattle.mdcc_protocol.specs.IsCluster.{IsCluster}
-use Rattle.mdcc_protocol.specs.Ledger.{facts_of}
+use Rattle.mdcc_ledger.specs.Ledger.{facts_of}
 use Rattle.mdcc_protocol.specs.Volatile.{nothing_kept}
-use Rattle.mdcc_protocol.specs.declared.facts.Fact.{Fact}
+use Rattle.mdcc_messages.specs.declared.facts.Fact.{Fact}
 use Rattle.mdcc_restart.specs.Logged.{AreLogged}
 use Rattle.mdcc_world.proofs.Crashed.{has-restarted, may-restart, more-epochs, restart-limit}
 use Rattle.mdcc_world.proofs.Happened.{told-result}

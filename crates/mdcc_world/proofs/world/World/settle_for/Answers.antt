@@ -1,6 +1,6 @@
 use Rattle.std.proofs.Common.{◌≡◌, ◌-◌, ◌<◌, ◌∙◌, List, ap, arith, refl, sym}
 use Rattle.mdcc_mail.specs.Waiting.{first_to}
-use Rattle.mdcc_protocol.specs.World.{Sent}
+use Rattle.mdcc_messages.specs.Mailbox.{Sent}
 use Rattle.mdcc_world.proofs.Happened.{has-come, like-mail, residual}
 use Rattle.mdcc_world.proofs.Settled.{clear-first, ends-after, settle-breaks, settle-ends, settle-goes_on, settle-stops}
 use Rattle.mdcc_world.specs.Settling.{AreUp}

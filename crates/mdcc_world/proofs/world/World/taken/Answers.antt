@@ -1,6 +1,6 @@
 use Rattle.std.proofs.Common.{Result, subst}
-use Rattle.mdcc_protocol.specs.declared.node.Step.{Step}
-use Rattle.mdcc_protocol.specs.declared.node.StepFault.{StepFault}
+use Rattle.mdcc_rules.specs.declared.node.Step.{Step}
+use Rattle.mdcc_rules.specs.declared.node.StepFault.{StepFault}
 use Rattle.mdcc_world.specs.Making.{IsMade}
 use Rattle.mdcc_world.proofs.world.World.taken.Goals as goal
 

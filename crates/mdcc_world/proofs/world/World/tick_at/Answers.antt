@@ -1,6 +1,6 @@
 use Rattle.std.proofs.Common.{arith}
-use Rattle.mdcc_protocol.specs.World.{counted_event}
-use Rattle.mdcc_protocol.specs.declared.node.Input.{Input}
+use Rattle.mdcc_simulation.specs.State.{counted_event}
+use Rattle.mdcc_rules.specs.declared.node.Input.{Input}
 use Rattle.mdcc_world.proofs.Happened.{on-ok}
 use Rattle.mdcc_world.proofs.world.World.tick_at.Goals as goal
 

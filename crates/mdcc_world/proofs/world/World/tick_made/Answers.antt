@@ -1,9 +1,10 @@
 use Rattle.std.proofs.Common.{◌≡◌, arith, length, refl}
 use Rattle.std.proofs.lemmas.List.{with_items_is}
 use Rattle.std.specs.Vec.{with_items}
-use Rattle.mdcc_protocol.specs.Built.{built}
-use Rattle.mdcc_protocol.specs.World.{counted_event, input_happened, step_at}
-use Rattle.mdcc_protocol.specs.declared.node.Input.{Input}
+use Rattle.mdcc_built.specs.Built.{built}
+use Rattle.mdcc_simulation.specs.State.{counted_event}
+use Rattle.mdcc_simulation.specs.Stepping.{input_happened, step_at}
+use Rattle.mdcc_rules.specs.declared.node.Input.{Input}
 use Rattle.mdcc_world.proofs.Counted.{counted-nodes, made-counted}
 use Rattle.mdcc_world.specs.Nodes.{NodesStand}
 use Rattle.mdcc_worlds.proofs.Stays.{counted-stays}

@@ -1,7 +1,9 @@
 use Rattle.std.proofs.Common.{◌∷◌, [], Ok, List, refl, subst}
-use Rattle.mdcc_protocol.specs.Built.{built}
-use Rattle.mdcc_protocol.specs.World.{input_limited, step_at, tick_line, with_lines}
-use Rattle.mdcc_protocol.specs.declared.lines.Line.{Line}
+use Rattle.mdcc_built.specs.Built.{built}
+use Rattle.mdcc_simulation.specs.Limits.{input_limited, with_lines}
+use Rattle.mdcc_simulation.specs.Stepping.{step_at}
+use Rattle.mdcc_simulation.specs.Centres.{tick_line}
+use Rattle.mdcc_language.specs.declared.lines.Line.{Line}
 use Rattle.mdcc_world.proofs.Happened.{memory-is-free, next-is, residual, told-happens, told-refused, told-result}
 use Rattle.mdcc_world.specs.Stands.{Happens}
 use Rattle.mdcc_world.proofs.world.World.tick_taken.Goals as goal

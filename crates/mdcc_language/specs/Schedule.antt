@@ -1,0 +1,156 @@
+-- How a line of a schedule is read: its event, or the first fault with its column.
+use Rattle.std.specs.Prelude.{ℕ, ◌+◌, nat_lt, ◌==◌, Bool, ◌&&◌, if◌then◌else◌, List, [], ◌∷◌, length, codes, Option, Some, None, Result, Ok}
+use Rattle.mdcc_option.specs.declared.cluster.Cluster.{Cluster}
+use Rattle.mdcc_base.specs.declared.outside.Image.{Image}
+use Rattle.mdcc_base.specs.declared.outside.Image.TheVariants.{Lost, Kept, Torn}
+use Rattle.mdcc_language.specs.declared.events.Event.{Event}
+use Rattle.mdcc_language.specs.declared.events.Event.TheVariants.{Read, Begin, Deliver, Settle, Tick, Crash, Restart, Stop}
+use Rattle.mdcc_language.specs.declared.events.UpdateWord.{UpdateWord}
+use Rattle.mdcc_language.specs.declared.schedule.SchedFault.{SchedFault}
+use Rattle.mdcc_language.specs.declared.schedule.SchedCause.TheVariants.{Word, Order}
+use Rattle.mdcc_switches.specs.Built.{Built}
+use Rattle.mdcc_language.specs.Lines.{text_of, line_end_of}
+use Rattle.mdcc_language.specs.Updates.{update_of}
+use Rattle.mdcc_language.specs.Words.{◌>>=◌, refused, text_eq, parts_from, end_at, word_at, word_end, not_empty, word_behind, natural_of, count_of, key_of}
+
+-- ---- words
+
+-- a centre of the cluster
+abbrev pub centre_of : Cluster → List ℕ → ℕ → Result ℕ SchedFault
+centre_of cluster word column = natural_of word column 1 cluster.quorums.centres
+
+abbrev pub image_of : List ℕ → ℕ → Result Image SchedFault
+image_of word column =
+    if text_eq word (codes "lost") then Ok Lost
+    else (if text_eq word (codes "kept") then Ok Kept
+    else (if text_eq word (codes "torn") then Ok Torn
+    else refused column Word))
+
+-- ---- lists of words, the first of which stands at a column
+
+-- numbers of messages
+abbrev pub numbers_from : ℕ → List (List ℕ) → Result (List ℕ) SchedFault
+numbers_from column [] = Ok []
+numbers_from column (word ∷ words) = (do
+  _ ← not_empty word column
+  number ← count_of word column
+  numbers ← numbers_from (column + length word + 1) words
+  Ok (number ∷ numbers))
+
+abbrev pub updates_from : Built → ℕ → List (List ℕ) → Result (List UpdateWord) SchedFault
+updates_from built column [] = Ok []
+updates_from built column (word ∷ words) = (do
+  update ← update_of built word column
+  updates ← updates_from built (column + length word + 1) words
+  Ok (update ∷ updates))
+
+-- a centre that is above the last one
+abbrev pub above : ℕ → ℕ → ℕ → Result ℕ SchedFault
+above last centre column = if nat_lt last centre then Ok centre else refused column Order
+
+-- centres, ascending
+abbrev pub centres_from : Cluster → ℕ → ℕ → List (List ℕ) → Result (List ℕ) SchedFault
+centres_from cluster last column [] = Ok []
+centres_from cluster last column (word ∷ words) = (do
+  _ ← not_empty word column
+  centre ← centre_of cluster word column
+  _ ← above last centre column
+  centres ← centres_from cluster centre (column + length word + 1) words
+  Ok (centre ∷ centres))
+
+-- ---- lines, without their line ends
+
+-- the centre behind this place, which ends the line
+abbrev pub last_centre : Cluster → ℕ → List ℕ → Result ℕ SchedFault
+last_centre cluster at line = (do
+  start ← word_behind at line
+  centre ← centre_of cluster (word_at start line) (start + 1)
+  _ ← end_at (word_end start line) line 1
+  Ok centre)
+
+-- `tick K`
+abbrev pub tick_of : Cluster → List ℕ → Result Event SchedFault
+tick_of cluster line = last_centre cluster 4 line >>= λ centre. Ok (Tick centre)
+
+-- `crash K`
+abbrev pub crash_of : Cluster → List ℕ → Result Event SchedFault
+crash_of cluster line = last_centre cluster 5 line >>= λ centre. Ok (Crash centre)
+
+-- `restart K`
+abbrev pub restart_of : Cluster → List ℕ → Result Event SchedFault
+restart_of cluster line = last_centre cluster 7 line >>= λ centre. Ok (Restart centre)
+
+-- `read K KEY`
+abbrev pub read_of : Cluster → List ℕ → Result Event SchedFault
+read_of cluster line = (do
+  start ← word_behind 4 line
+  centre ← centre_of cluster (word_at start line) (start + 1)
+  next ← word_behind (word_end start line) line
+  key ← key_of (word_at next line) (next + 1)
+  _ ← end_at (word_end next line) line 1
+  Ok (Read centre key))
+
+-- `begin K UPDATE ..`
+abbrev pub begin_of : Built → Cluster → List ℕ → Result Event SchedFault
+begin_of built cluster line = (do
+  start ← word_behind 5 line
+  centre ← centre_of cluster (word_at start line) (start + 1)
+  next ← word_behind (word_end start line) line
+  updates ← updates_from built (next + 1) (parts_from 32 next line)
+  Ok (Begin centre updates))
+
+-- `deliver M ..`
+abbrev pub deliver_of : List ℕ → Result Event SchedFault
+deliver_of line = (do
+  start ← word_behind 7 line
+  numbers ← numbers_from (start + 1) (parts_from 32 start line)
+  Ok (Deliver numbers))
+
+-- `settle` or `settle K ..`
+abbrev pub settle_of : Cluster → List ℕ → Result Event SchedFault
+settle_of cluster line =
+    if length line == 6 then Ok (Settle [])
+    else centres_from cluster 0 8 (parts_from 32 7 line) >>= λ centres. Ok (Settle centres)
+
+-- `stop K N IMAGE`
+abbrev pub stop_of : Cluster → List ℕ → Result Event SchedFault
+stop_of cluster line = (do
+  start ← word_behind 4 line
+  centre ← centre_of cluster (word_at start line) (start + 1)
+  next ← word_behind (word_end start line) line
+  call ← natural_of (word_at next line) (next + 1) 1 4
+  last ← word_behind (word_end next line) line
+  image ← image_of (word_at last line) (last + 1)
+  _ ← end_at (word_end last line) line 1
+  Ok (Stop centre call image))
+
+-- whether a line begins with this word
+abbrev pub begins_with : List ℕ → List ℕ → Bool
+begins_with word line = text_eq (word_at 0 line) word
+
+-- the event of a line that is not skipped
+abbrev pub event_of : Built → Cluster → List ℕ → Result Event SchedFault
+event_of built cluster line =
+    if begins_with (codes "read") line then read_of cluster line
+    else (if begins_with (codes "begin") line then begin_of built cluster line
+    else (if begins_with (codes "deliver") line then deliver_of line
+    else (if begins_with (codes "settle") line then settle_of cluster line
+    else (if begins_with (codes "tick") line then tick_of cluster line
+    else (if built.restarts && begins_with (codes "crash") line then crash_of cluster line
+    else (if built.restarts && begins_with (codes "restart") line then restart_of cluster line
+    else (if built.stops && begins_with (codes "stop") line then stop_of cluster line
+    else refused 1 Word)))))))
+
+-- an empty line and one that begins with `#` are skipped
+abbrev pub event_or_none : Built → Cluster → List ℕ → Result (Option Event) SchedFault
+event_or_none built cluster [] = Ok None
+event_or_none built cluster (b ∷ bs) =
+    if b == 35 then Ok None else event_of built cluster (b ∷ bs) >>= λ event. Ok (Some event)
+
+-- the event of a line with its line end, which is asked last
+abbrev pub line_of : Built → Cluster → List ℕ → Result (Option Event) SchedFault
+line_of built cluster line = (do
+  text ← text_of line
+  event ← event_or_none built cluster text
+  _ ← line_end_of text line
+  Ok event)

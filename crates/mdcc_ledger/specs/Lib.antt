@@ -1,0 +1,4 @@
+pub mod AllowedFacts
+pub mod AllowedLedgers
+pub mod BootTest
+pub mod Ledger

@@ -1,0 +1,9 @@
+pub mod BackedShown
+pub mod BegunDecided
+pub mod Found
+pub mod LedgerShown
+pub mod MayAddDecided
+pub mod SortedParts
+pub mod SubsetsAmong
+pub mod TestsDecide
+pub mod ValuedShown

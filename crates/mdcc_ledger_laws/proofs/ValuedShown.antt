@@ -1,0 +1,97 @@
+-- A structure that passes the test is allowed.
+use Rattle.std.proofs.Common.{◌≡◌, ℕ, ◌+◌, Bool, true, not, ◌==◌, nat_le, List, [], ◌∷◌, length, refl, inl, inr, Option, Some, None, Decides}
+use Rattle.std.proofs.lemmas.Bool.{and_parts, eqb-true, leb-true}
+use Rattle.std.proofs.lemmas.Bool.Decides.{Decides-eqb, Decides-and, Decides-like}
+use Rattle.mdcc_base.specs.Ballot.{is_fast}
+use Rattle.mdcc_base.specs.declared.identifiers.Ballot.{Ballot}
+use Rattle.mdcc_base.specs.declared.identifiers.TxId.{TxId}
+use Rattle.mdcc_base.specs.declared.key.Key.{Key}
+use Rattle.mdcc_option.specs.declared.choices.Choice.{Choice}
+use Rattle.mdcc_option.specs.declared.choices.Mark.{Mark}
+use Rattle.mdcc_option.specs.declared.cluster.Cluster.{Cluster}
+use Rattle.mdcc_option.proofs.Equal.{Decides-mark, Decides-tx}
+use Rattle.mdcc_struct.specs.declared.options.Options.{Options}
+use Rattle.mdcc_ledger.specs.AllowedLedgers.{IsAllowedValued, IsAmongCentres, IsFirstStructure, IsMade, IsNextStructure, are_begun, has_promised, promisers_of, reports_at}
+use Rattle.mdcc_ledger_laws.specs.LedgerTest.{claims_in, is_made, is_made_by, is_made_from, is_next, is_valued_allowed, subsets}
+use Rattle.mdcc_protocol.specs.Facts.{current_of, epoch_of}
+use Rattle.mdcc_ledger.specs.Ledger.{Entry, facts_of, structure_valued}
+use Rattle.mdcc_protocol.specs.Marks.{choice_in, options_eq}
+use Rattle.mdcc_protocol.specs.Structures.{first_structure, with_claim}
+use Rattle.mdcc_ledger_laws.proofs.Found.{found, found_with}
+use Rattle.mdcc_ledger_laws.proofs.SubsetsAmong.{distinct-filtered, subsets-among}
+use Rattle.mdcc_ledger_laws.proofs.TestsDecide.{Decides-true, Decides-leb}
+
+pub Decides-options : (as' bs : Options) → Decides (options_eq as' bs) (as' ≡ bs)
+Decides-options [] [] = (λ e. refl, λ e. refl)
+Decides-options [] (b ∷ bs) = (λ e. cc, λ e. cc)
+Decides-options (a ∷ as') [] = (λ e. cc, λ e. cc)
+Decides-options (a ∷ as') (b ∷ bs) =
+    Decides-like (options_eq (a ∷ as') (b ∷ bs)) (λ h i. (h.0 i, h.1.0 i) ∷ h.1.1 i) (λ e. let first : a ≡ b = cc in (cc, (cc, cc)))
+    (Decides-and _ _ (Decides-tx a.0 b.0) (Decides-and _ _ (Decides-mark a.1 b.1) (Decides-options as' bs)))
+
+-- ---- how it is made
+
+first_shown : (cluster : Cluster) (before : List Entry) (a : ℕ) (key : Key) (version : ℕ) (ballot : Ballot) (options : Options) (centres : List ℕ)
+    → structure_valued before key version ballot ≡ None → IsAmongCentres centres (promisers_of cluster.quorums before key version ballot)
+    → is_made_from cluster before a key version ballot options centres ≡ true
+    → IsFirstStructure cluster before a key version ballot options centres (claims_in options)
+first_shown cluster before a key version ballot options centres none among h =
+    let parts : (nat_le cluster.quorums.classic (length centres) ≡ true)
+    × (options_eq options (first_structure cluster (facts_of before a) key version (claims_in options) (reports_at before key version ballot centres)) ≡ true) =
+    and_parts _ _ h in
+    record {
+      none_before = none;
+      promised = among;
+      enough = leb-true cluster.quorums.classic (length centres) parts.0;
+      made = (Decides-options options _).0 parts.1;
+    }
+
+next_shown : (cluster : Cluster) (before : List Entry) (a : ℕ) (key : Key) (version : ℕ) (ballot : Ballot) (options last : Options)
+    → structure_valued before key version ballot ≡ Some last → is_next cluster before a key version options last ≡ true
+    → (claim : TxId × Option Choice) × IsNextStructure cluster before a key version ballot options last claim
+next_shown cluster before a key version ballot options last there h =
+    let test : TxId × Mark → Bool = λ e. options_eq options (with_claim cluster (facts_of before a) key version last (e.0, choice_in e.1)) in
+    let parts = and_parts (length options == length last + 1) _ h in
+    let marked : (e : TxId × Mark) × (test e ≡ true) = found test options parts.1 in (
+      (marked.0.0, choice_in marked.0.1),
+      record {
+        last_before = there;
+        is_more = eqb-true (length options) (length last + 1) parts.0;
+        made = (Decides-options options _).0 marked.1;
+      },
+    )
+
+made_shown : (cluster : Cluster) (before : List Entry) (a : ℕ) (key : Key) (version : ℕ) (ballot : Ballot) (options : Options) (last : Option Options)
+    → structure_valued before key version ballot ≡ last → is_made_by cluster before a key version ballot options last ≡ true
+    → IsMade cluster before a key version ballot options
+made_shown cluster before a key version ballot options None none h =
+    let centres = promisers_of cluster.quorums before key version ballot in
+    let made = found_with (λ among. IsAmongCentres among centres) (is_made_from cluster before a key version ballot options) (subsets centres)
+    (subsets-among centres (distinct-filtered (has_promised before key version ballot) 1 cluster.quorums.centres)) h in
+    inl (made.0, claims_in options, first_shown cluster before a key version ballot options made.0 none made.1 made.2)
+made_shown cluster before a key version ballot options (Some last) there h =
+    let next = next_shown cluster before a key version ballot options last there h in
+    inr (last, next.0, next.1)
+
+-- ---- that it is allowed
+
+pub valued_shown : (cluster : Cluster) (before : List Entry) (a : ℕ) (key : Key) (version : ℕ) (ballot : Ballot) (options : Options)
+    → is_valued_allowed cluster before a key version ballot options ≡ true → IsAllowedValued cluster before a key version ballot options
+valued_shown cluster before a key version ballot options h =
+    let parts = (Decides-and _ _ (Decides-and _ _ (Decides-and _ _ (Decides-and _ _ (Decides-and _ _ (Decides-and _ _
+    (Decides-true (not (is_fast ballot)))
+    (Decides-eqb ballot.centre a))
+    (Decides-eqb ballot.epoch (epoch_of (facts_of before a))))
+    (Decides-leb version (current_of (facts_of before a) key)))
+    (Decides-leb cluster.quorums.classic (length (promisers_of cluster.quorums before key version ballot))))
+    (Decides-true (are_begun before key version options)))
+    (Decides-true (is_made cluster before a key version ballot options))).0 h in
+    record {
+      classic = parts.0.0.0.0.0.0;
+      centre = parts.0.0.0.0.0.1;
+      epoch = parts.0.0.0.0.1;
+      held = parts.0.0.0.1;
+      promised = parts.0.0.1;
+      begun = parts.0.1;
+      made = made_shown cluster before a key version ballot options (structure_valued before key version ballot) refl parts.1;
+    }

@@ -1,0 +1,122 @@
+-- A test that a ledger is allowed, for computed schedules: it looks for the sets of centres and the claims of which `IsAllowed` only says that there are some.
+use Rattle.std.specs.List.{list_any}
+use Rattle.std.specs.Prelude.{Bool, List, None, Option, Some, [], false, if◌then◌else◌, is_ok, is_some, length, map, nat_le, not, true, ℕ, ◌&&◌, ◌++◌, ◌+◌, ◌==◌, ◌||◌, ◌∷◌}
+use Rattle.mdcc_base.specs.Ballot.{is_fast}
+use Rattle.mdcc_base.specs.Quorums.{all_centres}
+use Rattle.mdcc_base.specs.TxId.{tx_eq}
+use Rattle.mdcc_base.specs.declared.identifiers.Ballot.{Ballot}
+use Rattle.mdcc_base.specs.declared.identifiers.TxId.{TxId}
+use Rattle.mdcc_base.specs.declared.key.Key.{Key}
+use Rattle.mdcc_option.specs.Equality.{amounts_eq, choices_eq, item_eq}
+use Rattle.mdcc_option.specs.Parts.{are_ascending}
+use Rattle.mdcc_option.specs.Transaction.{choices_of, transaction_of}
+use Rattle.mdcc_option.specs.declared.choices.Choice.{Choice}
+use Rattle.mdcc_option.specs.declared.choices.Outcome.{Outcome}
+use Rattle.mdcc_option.specs.declared.cluster.Cluster.{Cluster}
+use Rattle.mdcc_option.specs.declared.items.Delta.{Delta}
+use Rattle.mdcc_option.specs.declared.items.Item.{Item}
+use Rattle.mdcc_option.specs.declared.items.Part.{Part}
+use Rattle.mdcc_option.specs.declared.schema.Schema.{Schema}
+use Rattle.mdcc_struct.specs.Maps.{TxMap, union}
+use Rattle.mdcc_struct.specs.declared.options.Options.{Options}
+use Rattle.mdcc_ledger.specs.AllowedLedgers.{are_begun, is_fast_vote_begun, is_valued, part_in, promisers_of, reports_at, seqs_begun}
+use Rattle.mdcc_ledger.specs.BootTest.{is_allowed_fact}
+use Rattle.mdcc_protocol.specs.Belongs.{is_centre}
+use Rattle.mdcc_protocol.specs.Facts.{base_of, current_of, epoch_of, executed_of, votes_of}
+use Rattle.mdcc_ledger.specs.Ledger.{Added, Entry, Valued, facts_of, outcome_of, structure_valued}
+use Rattle.mdcc_protocol.specs.Manager.{parts_begin_fault}
+use Rattle.mdcc_protocol.specs.Marks.{Amounts, choice_in, options_eq}
+use Rattle.mdcc_protocol.specs.Structures.{first_structure, with_claim}
+use Rattle.mdcc_messages.specs.declared.facts.Fact.{Fact}
+
+abbrev pub outcome_eq : Outcome → Option Outcome → Bool
+outcome_eq (Outcome.Commit choices) (Some (Outcome.Commit choices')) = choices_eq choices choices'
+outcome_eq Outcome.Abort (Some Outcome.Abort) = true
+outcome_eq _ _ = false
+
+-- parts that stand in key order make a transaction
+abbrev pub is_draft : Schema → List Part → Bool
+is_draft schema parts = are_ascending parts && is_ok (transaction_of schema parts)
+
+abbrev pub is_begun_allowed : Cluster → List Entry → ℕ → TxId → List Choice → Bool
+is_begun_allowed cluster before a tx choices =
+    tx.centre == a
+    && tx.epoch == epoch_of (facts_of before a)
+    && tx.seq == seqs_begun before a tx.epoch + 1
+    && choices_eq choices (choices_of tx (map part_in choices))
+    && is_draft cluster.schema (map part_in choices)
+    && not (is_some (parts_begin_fault (facts_of before a) (map part_in choices)))
+
+abbrev pub subsets : List ℕ → List (List ℕ)
+subsets [] = [] ∷ []
+subsets (a ∷ as') = let rest = subsets as' in map (λ s. a ∷ s) rest ++ rest
+
+abbrev pub claims_in : Options → TxMap (Option Choice)
+claims_in options = map (λ e. (e.0, choice_in e.1)) options
+
+abbrev pub is_made_from : Cluster → List Entry → ℕ → Key → ℕ → Ballot → Options → List ℕ → Bool
+is_made_from cluster before a key version ballot options centres =
+    nat_le cluster.quorums.classic (length centres)
+    && options_eq options (first_structure cluster (facts_of before a) key version (claims_in options) (reports_at before key version ballot centres))
+
+abbrev pub is_next : Cluster → List Entry → ℕ → Key → ℕ → Options → Options → Bool
+is_next cluster before a key version options last =
+    length options == length last + 1
+    && list_any (λ e. options_eq options (with_claim cluster (facts_of before a) key version last (e.0, choice_in e.1))) options
+
+abbrev pub is_made_by : Cluster → List Entry → ℕ → Key → ℕ → Ballot → Options → Option Options → Bool
+is_made_by cluster before a key version ballot options None =
+    list_any (is_made_from cluster before a key version ballot options) (subsets (promisers_of cluster.quorums before key version ballot))
+is_made_by cluster before a key version ballot options (Some last) = is_next cluster before a key version options last
+
+abbrev pub is_made : Cluster → List Entry → ℕ → Key → ℕ → Ballot → Options → Bool
+is_made cluster before a key version ballot options =
+    is_made_by cluster before a key version ballot options (structure_valued before key version ballot)
+
+abbrev pub is_valued_allowed : Cluster → List Entry → ℕ → Key → ℕ → Ballot → Options → Bool
+is_valued_allowed cluster before a key version ballot options =
+    not (is_fast ballot)
+    && ballot.centre == a
+    && ballot.epoch == epoch_of (facts_of before a)
+    && nat_le version (current_of (facts_of before a) key)
+    && nat_le cluster.quorums.classic (length (promisers_of cluster.quorums before key version ballot))
+    && are_begun before key version options
+    && is_made cluster before a key version ballot options
+
+abbrev pub deltas_eq : TxMap Amounts → List Delta → Bool
+deltas_eq [] [] = true
+deltas_eq (a ∷ as') (b ∷ bs) = tx_eq a.0 b.tx && amounts_eq a.1 b.amounts && deltas_eq as' bs
+deltas_eq _ _ = false
+
+abbrev pub is_base_eq : Item → Option Item → Bool
+is_base_eq item (Some item') = item_eq item item'
+is_base_eq item None = false
+
+abbrev pub did_hold : List Entry → Key → ℕ → Item → List Delta → ℕ → Bool
+did_hold earlier key version item adds b =
+    current_of (facts_of earlier b) key == version
+    && is_base_eq item (base_of (facts_of earlier b) key) && deltas_eq (executed_of (facts_of earlier b) key) adds
+
+abbrev pub was_held : Cluster → List Entry → Key → ℕ → Item → List Delta → Bool
+was_held cluster [] key version item adds = false
+was_held cluster (e ∷ es) key version item adds =
+    list_any (did_hold (e ∷ es) key version item adds) (all_centres cluster.quorums) || was_held cluster es key version item adds
+
+abbrev pub is_fact_backed : Cluster → List Entry → ℕ → Fact → Bool
+is_fact_backed cluster before a (Fact.Voted key version ballot options offered) =
+    if is_fast ballot then is_fast_vote_begun before key version options offered
+    else is_valued before key version ballot (union (votes_of (facts_of before a) key version ballot) options)
+is_fact_backed cluster before a (Fact.Heard tx outcome) = outcome_eq outcome (outcome_of cluster.quorums before tx)
+is_fact_backed cluster before a (Fact.Adopted key version item adds) = was_held cluster before key version item adds
+is_fact_backed cluster before a _ = true
+
+abbrev pub is_entry_allowed : Cluster → List Entry → Entry → Bool
+is_entry_allowed cluster before (Added a fact) =
+    is_centre cluster a && is_allowed_fact cluster (facts_of before a) fact && is_fact_backed cluster before a fact
+is_entry_allowed cluster before (Entry.Begun a tx choices) = is_centre cluster a && is_begun_allowed cluster before a tx choices
+is_entry_allowed cluster before (Valued a key version ballot options) =
+    is_centre cluster a && is_valued_allowed cluster before a key version ballot options
+
+abbrev pub is_ledger_allowed : Cluster → List Entry → Bool
+is_ledger_allowed cluster [] = true
+is_ledger_allowed cluster (entry ∷ before) = is_ledger_allowed cluster before && is_entry_allowed cluster before entry

@@ -1,0 +1,12 @@
+pub mod Bytes
+pub mod Lengths
+pub mod Mailbox
+pub mod Reading
+pub mod ReadingAnswers
+pub mod ReadingParts
+pub mod ReadingSteps
+pub mod SpelledAnswers
+pub mod SpelledParts
+pub mod Spelling
+pub mod WellFormed
+pub mod WellFormedParts

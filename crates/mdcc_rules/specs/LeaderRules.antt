@@ -1,0 +1,98 @@
+-- The node's rules around its leader: what each answer sends, and which structures are entries of the ledger.
+use Rattle.std.specs.Prelude.{Err, List, None, Ok, Option, Result, Some, [], if◌then◌else◌, ℕ, ◌∷◌}
+use Rattle.mdcc_base.specs.Sizes.{Sizes}
+use Rattle.mdcc_base.specs.declared.identifiers.Ballot.{Ballot}
+use Rattle.mdcc_base.specs.declared.key.Key.{Key}
+use Rattle.mdcc_option.specs.declared.choices.Choice.{Choice}
+use Rattle.mdcc_option.specs.declared.choices.Claim.{Claim}
+use Rattle.mdcc_option.specs.declared.choices.Outcome.{Outcome}
+use Rattle.mdcc_option.specs.declared.cluster.Cluster.{Cluster}
+use Rattle.mdcc_protocol.specs.Facts.{epoch_of, heard_of}
+use Rattle.mdcc_protocol.specs.Leader.{claim_of_choice, is_marked, lead, on_promise, on_refused}
+use Rattle.mdcc_ledger.specs.Ledger.{Entry, Valued}
+use Rattle.mdcc_rules.specs.Messages.{to_all, to_one, to_others}
+use Rattle.mdcc_rules.specs.Steps.{NodeStep, nothing_done, sending}
+use Rattle.mdcc_protocol.specs.Volatile.{Leading, Volatile, with_leader}
+use Rattle.mdcc_messages.specs.declared.facts.Fact.{Fact}
+use Rattle.mdcc_protocol.specs.declared.leader.LeadAnswer.{LeadAnswer}
+use Rattle.mdcc_protocol.specs.declared.leader.LeadFault.{LeadFault}
+use Rattle.mdcc_protocol.specs.declared.leader.Promise.{Promise}
+use Rattle.mdcc_protocol.specs.declared.leader.PromiseAnswer.{PromiseAnswer}
+use Rattle.mdcc_messages.specs.declared.messages.Envelope.{Envelope}
+use Rattle.mdcc_messages.specs.declared.messages.Message.{Message}
+use Rattle.mdcc_rules.specs.declared.node.StepFault.{StepFault}
+
+abbrev pub step_fault : LeadFault → StepFault
+step_fault LeadFault.Exhausted = StepFault.Exhausted
+step_fault LeadFault.Crowded = StepFault.Crowded
+step_fault LeadFault.Memory = StepFault.Memory
+
+-- the leader's part of a step
+pub record Led : Type 0 where
+  pub after : Leading
+  pub entries : List Entry
+  pub sends : List Envelope
+
+abbrev pub step_of_led : Volatile → Result Led LeadFault → Result NodeStep StepFault
+step_of_led volatile (Ok led) =
+    Ok (record { entries = led.entries; fact = None; sends = led.sends; answer = None; after = with_leader volatile led.after })
+step_of_led volatile (Err fault) = Err (step_fault fault)
+
+-- ---- claims
+
+-- what the answer to a claim sends
+abbrev pub lead_sent : Sizes → ℕ → Claim → LeadAnswer → List Envelope
+lead_sent quorums me claim LeadAnswer.Behind = to_others quorums me (Message.SyncAsk claim.key)
+lead_sent quorums me claim (LeadAnswer.Accept version ballot options) = to_all quorums me (Message.Accept claim.key version ballot options)
+lead_sent quorums me claim (LeadAnswer.Prepare version through ballot) = to_all quorums me (Message.Prepare claim.key version through ballot)
+lead_sent quorums me claim LeadAnswer.Left = []
+
+-- a structure that is sent is an entry, unless it was sent before and has the claim's transaction from then
+abbrev pub lead_entries : ℕ → Leading → Claim → LeadAnswer → List Entry
+lead_entries me leader claim (LeadAnswer.Accept version ballot options) =
+    if is_marked leader claim then [] else Valued me claim.key version ballot options ∷ []
+lead_entries me leader claim answer = []
+
+abbrev pub led_by_answer : Sizes → ℕ → Leading → Claim → Result (LeadAnswer × Leading) LeadFault → Result Led LeadFault
+led_by_answer quorums me leader claim (Err fault) = Err fault
+led_by_answer quorums me leader claim (Ok (answer, after)) =
+    Ok (record { after = after; entries = lead_entries me leader claim answer; sends = lead_sent quorums me claim answer })
+
+-- a claim is led here
+abbrev pub led_of : Cluster → ℕ → List Fact → Leading → Claim → Result Led LeadFault
+led_of cluster me facts leader claim = led_by_answer cluster.quorums me leader claim (lead cluster me (epoch_of facts) facts leader claim)
+
+-- by what was heard of the transaction
+abbrev pub lead_step_after : Cluster → ℕ → List Fact → Volatile → ℕ → Choice → Option Outcome → Result NodeStep StepFault
+lead_step_after cluster me facts volatile s choice (Some outcome) = Ok (sending volatile (to_one me s (Message.Outcome choice.tx outcome)))
+lead_step_after cluster me facts volatile s choice None = step_of_led volatile (led_of cluster me facts volatile.leader (claim_of_choice choice))
+
+-- a manager at s asks for a mark
+abbrev pub lead_step : Cluster → ℕ → List Fact → Volatile → ℕ → Choice → Result NodeStep StepFault
+lead_step cluster me facts volatile s choice = lead_step_after cluster me facts volatile s choice (heard_of facts choice.tx)
+
+-- ---- promises
+
+-- what the answer to a promise sends
+abbrev pub promise_sent : Sizes → ℕ → Key → PromiseAnswer → List Envelope
+promise_sent quorums me key (PromiseAnswer.Accept version ballot options) = to_all quorums me (Message.Accept key version ballot options)
+promise_sent quorums me key answer = []
+
+-- the structure that it makes is an entry
+abbrev pub promise_entries : ℕ → Key → PromiseAnswer → List Entry
+promise_entries me key (PromiseAnswer.Accept version ballot options) = Valued me key version ballot options ∷ []
+promise_entries me key answer = []
+
+abbrev pub promised_by_answer : Sizes → ℕ → Key → Result (PromiseAnswer × Leading) LeadFault → Result Led LeadFault
+promised_by_answer quorums me key (Err fault) = Err fault
+promised_by_answer quorums me key (Ok (answer, after)) =
+    Ok (record { after = after; entries = promise_entries me key answer; sends = promise_sent quorums me key answer })
+
+-- a promise came
+abbrev pub promise_step : Cluster → ℕ → List Fact → Volatile → ℕ → Promise → Result NodeStep StepFault
+promise_step cluster me facts volatile from promise =
+    step_of_led volatile (promised_by_answer cluster.quorums me promise.key (on_promise cluster facts volatile.leader from promise))
+
+-- a refusal came
+abbrev pub refused_step : Volatile → Key → Ballot → Ballot → NodeStep
+refused_step volatile key ballot promised = nothing_done (with_leader volatile (on_refused volatile.leader key ballot promised))

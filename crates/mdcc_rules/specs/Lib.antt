@@ -1,0 +1,9 @@
+pub mod AcceptorRules
+pub mod Boot
+pub mod LeaderRules
+pub mod ManagerRules
+pub mod Messages
+pub mod Node
+pub mod Steps
+pub mod SyncRules
+pub mod TickRules

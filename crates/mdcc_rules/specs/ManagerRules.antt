@@ -1,0 +1,103 @@
+-- The node's rules around its manager and its recovery: begins, votes, and acceptors that give no vote.
+use Rattle.std.specs.Prelude.{Err, List, None, Ok, Option, Result, Some, [], flat_map, if◌then◌else◌, ℕ, ◌∷◌}
+use Rattle.mdcc_base.specs.Sizes.{Sizes}
+use Rattle.mdcc_base.specs.declared.identifiers.TxId.{TxId}
+use Rattle.mdcc_base.specs.declared.key.Key.{Key}
+use Rattle.mdcc_option.specs.Transaction.{choices_of}
+use Rattle.mdcc_option.specs.declared.choices.Cause.{Cause}
+use Rattle.mdcc_option.specs.declared.choices.Choice.{Choice}
+use Rattle.mdcc_option.specs.declared.choices.Outcome.{Outcome}
+use Rattle.mdcc_option.specs.declared.cluster.Cluster.{Cluster}
+use Rattle.mdcc_option.specs.declared.faults.BeginFault.{BeginFault}
+use Rattle.mdcc_option.specs.declared.items.Part.{Part}
+use Rattle.mdcc_switches.specs.Built.{Built}
+use Rattle.mdcc_protocol.specs.Facts.{epoch_of, is_heard}
+use Rattle.mdcc_ledger.specs.Ledger.{Entry}
+use Rattle.mdcc_protocol.specs.Manager
+use Rattle.mdcc_protocol.specs.Manager.{key_refused, vote_taken}
+use Rattle.mdcc_rules.specs.Messages.{to_all, to_one, to_others}
+use Rattle.mdcc_protocol.specs.Recover
+use Rattle.mdcc_rules.specs.Steps.{NodeStep, adding, answering, nothing_done, sending}
+use Rattle.mdcc_rules.specs.SyncRules.{give_sent}
+use Rattle.mdcc_protocol.specs.Volatile.{Managing, Volatile, closed, is_open, with_manager, with_recovery}
+use Rattle.mdcc_messages.specs.declared.facts.Fact.{Fact}
+use Rattle.mdcc_protocol.specs.declared.manager.ManagerAct.{ManagerAct}
+use Rattle.mdcc_messages.specs.declared.messages.Envelope.{Envelope}
+use Rattle.mdcc_messages.specs.declared.messages.Message.{Message}
+use Rattle.mdcc_rules.specs.declared.node.Answer.{Answer}
+use Rattle.mdcc_protocol.specs.declared.votes.Vote.{Vote}
+
+-- ---- begins
+
+-- the choices of a begun transaction are proposed to all
+abbrev pub proposals_sent : Sizes → ℕ → List Choice → List Envelope
+proposals_sent quorums me choices = flat_map (λ choice. to_all quorums me (Message.Propose choice)) choices
+
+-- the transaction is an entry of the ledger
+abbrev pub begun_step : Cluster → ℕ → Volatile → List Part → TxId × Managing → NodeStep
+begun_step cluster me volatile parts (tx, manager) =
+    let choices = choices_of tx parts in
+    record {
+      entries = Entry.Begun me tx choices ∷ [];
+      fact = None;
+      sends = proposals_sent cluster.quorums me choices;
+      answer = Some (Answer.Begun tx);
+      after = with_manager volatile manager;
+    }
+
+abbrev pub begin_step_by : Cluster → ℕ → List Fact → Volatile → List Part → Result (TxId × Managing) BeginFault → NodeStep
+begin_step_by cluster me facts volatile parts (Err fault) = answering volatile (Answer.Refused (key_refused facts parts) fault)
+begin_step_by cluster me facts volatile parts (Ok next) = begun_step cluster me volatile parts next
+
+-- a client begins a transaction, whose parts stand in key order
+abbrev pub begin_step : Cluster → ℕ → List Fact → Volatile → List Part → NodeStep
+begin_step cluster me facts volatile parts =
+    begin_step_by cluster me facts volatile parts (Manager.begin me (epoch_of facts) facts volatile.manager parts)
+
+-- ---- acts
+
+-- what an act of the manager sends
+abbrev pub act_sent : ℕ → List Fact → Option ManagerAct → List Envelope
+act_sent me facts (Some (ManagerAct.Lead leader choice)) = to_one me leader (Message.Lead choice)
+act_sent me facts (Some (ManagerAct.Give centre key)) = give_sent me facts centre key
+act_sent me facts act = []
+
+abbrev pub acted_step : ℕ → List Fact → Volatile → Option ManagerAct × Managing → NodeStep
+acted_step me facts volatile (act, manager) = sending (with_manager volatile manager) (act_sent me facts act)
+
+-- ---- votes
+
+-- the transaction is decided here: its outcome is heard, and goes to all others
+abbrev pub decided_step : Cluster → ℕ → Volatile → TxId → Outcome → NodeStep
+decided_step cluster me volatile tx outcome =
+    adding (closed volatile tx) (Fact.Heard tx outcome) (to_others cluster.quorums me (Message.Outcome tx outcome))
+
+-- a vote on an open transaction that decides nothing
+abbrev pub undecided_step : Built → Cluster → ℕ → List Fact → Volatile → Vote → NodeStep
+undecided_step built cluster me facts volatile vote =
+    if built.escalations then acted_step me facts volatile (Manager.on_voted cluster.quorums volatile.manager vote)
+    else nothing_done (with_manager volatile (vote_taken cluster.quorums volatile.manager vote))
+
+-- a vote that decides is not taken, since its transaction is closed
+abbrev pub opened_step : Built → Cluster → ℕ → List Fact → Volatile → Vote → Option Outcome → NodeStep
+opened_step built cluster me facts volatile vote (Some outcome) = decided_step cluster me volatile vote.tx outcome
+opened_step built cluster me facts volatile vote None = undecided_step built cluster me facts volatile vote
+
+-- the same for a transaction that is watched, or neither open nor watched
+abbrev pub watched_step : Cluster → ℕ → List Fact → Volatile → Vote → Option (TxId × Outcome) → NodeStep
+watched_step cluster me facts volatile vote (Some decided) = decided_step cluster me volatile decided.0 decided.1
+watched_step cluster me facts volatile vote None =
+    nothing_done (with_recovery volatile (Recover.on_voted cluster.quorums facts volatile.recovery vote).1)
+
+-- a vote came
+abbrev pub voted_step : Built → Cluster → ℕ → List Fact → Volatile → Vote → NodeStep
+voted_step built cluster me facts volatile vote =
+    if is_heard facts vote.tx then nothing_done volatile
+    else (if is_open volatile.manager vote.tx
+    then opened_step built cluster me facts volatile vote (Manager.would_decide cluster.quorums volatile.manager vote)
+    else watched_step cluster me facts volatile vote (Recover.would_decide cluster.quorums facts volatile.recovery vote))
+
+-- a centre a gives no vote
+abbrev pub escalate_step : Cluster → ℕ → List Fact → Volatile → ℕ → Key → TxId → Cause → NodeStep
+escalate_step cluster me facts volatile a key tx cause =
+    acted_step me facts volatile (Manager.on_escalate cluster.quorums volatile.manager a tx key cause)

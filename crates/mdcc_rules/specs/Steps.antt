@@ -1,0 +1,49 @@
+-- What one input does to a node.
+use Rattle.std.specs.Prelude.{Bool, List, None, Option, Some, []}
+use Rattle.mdcc_base.specs.declared.identifiers.TxId.{TxId}
+use Rattle.mdcc_ledger.specs.Ledger.{Entry}
+use Rattle.mdcc_protocol.specs.Marks.{is_commit}
+use Rattle.mdcc_protocol.specs.Volatile.{Volatile}
+use Rattle.mdcc_messages.specs.declared.facts.Fact.{Fact}
+use Rattle.mdcc_protocol.specs.declared.stores.StoreFault.{StoreFault}
+use Rattle.mdcc_messages.specs.declared.messages.Envelope.{Envelope}
+use Rattle.mdcc_rules.specs.declared.node.Answer.{Answer}
+use Rattle.mdcc_rules.specs.declared.node.Step.{Step}
+use Rattle.mdcc_rules.specs.declared.node.StepFault.{StepFault}
+
+-- the ledger's entries that no log keeps (the newest first), at most one new fact, the messages in order, the answer, and what is kept afterwards.
+-- No step has both such entries and a fact
+pub record NodeStep : Type 0 where
+  pub entries : List Entry
+  pub fact : Option Fact
+  pub sends : List Envelope
+  pub answer : Option Answer
+  pub after : Volatile
+
+-- nothing but what is kept changes
+abbrev pub nothing_done : Volatile → NodeStep
+nothing_done volatile = record { entries = []; fact = None; sends = []; answer = None; after = volatile }
+
+abbrev pub sending : Volatile → List Envelope → NodeStep
+sending volatile sends = record { entries = []; fact = None; sends = sends; answer = None; after = volatile }
+
+abbrev pub adding : Volatile → Fact → List Envelope → NodeStep
+adding volatile fact sends = record { entries = []; fact = Some fact; sends = sends; answer = None; after = volatile }
+
+abbrev pub answering : Volatile → Answer → NodeStep
+answering volatile answer = record { entries = []; fact = None; sends = []; answer = Some answer; after = volatile }
+
+-- the outcome that a new fact tells
+abbrev pub heard_by : Option Fact → Option (TxId × Bool)
+heard_by (Some (Fact.Heard tx outcome)) = Some (tx, is_commit outcome)
+heard_by _ = None
+
+-- what a node's caller is given of a step
+abbrev pub step_given : NodeStep → Step
+step_given step = record { fact = step.fact; sends = step.sends; heard = heard_by step.fact; answer = step.answer }
+
+-- why a step's fact is not taken
+abbrev pub step_fault : StoreFault → StepFault
+step_fault (StoreFault.NoRoom needed spare) = StepFault.NoRoom needed spare
+step_fault StoreFault.Crowded = StepFault.Crowded
+step_fault StoreFault.Memory = StepFault.Memory

@@ -1,0 +1,43 @@
+-- What happens to a centre: ticks, crashes, restarts and stops.
+use Rattle.std.specs.Option.{option_or}
+use Rattle.std.specs.Prelude.{List, Result, Some, [], ℕ, ◌+◌, ◌∷◌}
+use Rattle.mdcc_switches.specs.Built.{Built}
+use Rattle.mdcc_protocol.specs.Facts.{epoch_of}
+use Rattle.mdcc_ledger.specs.Ledger.{Added, facts_of}
+use Rattle.mdcc_messages.specs.declared.facts.Fact.{Fact}
+use Rattle.mdcc_base.specs.declared.outside.Image.{Image}
+use Rattle.mdcc_language.specs.declared.lines.Line.{Line}
+use Rattle.mdcc_rules.specs.declared.node.Input.{Input}
+use Rattle.mdcc_language.specs.declared.world.EventFault.{EventFault}
+use Rattle.mdcc_simulation.specs.State.{World, booted, down, centre_at, with_centre, next_message, Happened}
+use Rattle.mdcc_simulation.specs.Limits.{log_limit, cells_limit, unless, input_taken, with_lines}
+
+abbrev pub tick_line : ℕ → World → List Line
+tick_line a w = Line.Tick a (next_message w) ∷ []
+
+-- a tick line
+abbrev pub tick_of : Built → World → ℕ → Result Happened EventFault
+tick_of built w a = with_lines (tick_line a) (input_taken built w a Input.Tick)
+
+-- a crash line: all but the log is lost
+abbrev pub crash_happened : World → ℕ → Happened
+crash_happened w a = record { world = with_centre w a down; lines = Line.Crash a ∷ [] }
+
+abbrev pub restart_happened : World → ℕ → ℕ → Happened
+restart_happened w a epoch = record {
+  world = record (with_centre w a booted) { ledger = Added a (Fact.Booted epoch) ∷ w.ledger };
+  lines = Line.Restart a epoch ∷ [];
+}
+
+-- a restart line, at a centre that is down: the next epoch begins
+abbrev pub restart_of : Built → World → ℕ → Result Happened EventFault
+restart_of built w a =
+    let epoch = epoch_of (facts_of w.ledger a) + 1 in
+    unless (option_or (cells_limit built w a (Fact.Booted epoch)) (log_limit built w a (Fact.Booted epoch))) (restart_happened w a epoch)
+
+-- a stop line: the next append will stop
+abbrev pub stop_happened : World → ℕ → ℕ → Image → Happened
+stop_happened w a call image = record {
+  world = with_centre w a (record (centre_at w a) { stop = Some (call, image) });
+  lines = Line.Stop a call image ∷ [];
+}

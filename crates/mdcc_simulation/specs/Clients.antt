@@ -1,0 +1,68 @@
+-- What clients do: reads and begins.
+use Rattle.std.specs.Prelude.{Err, List, None, Ok, Option, Result, Some, [], length, map, ℕ, ◌++◌, ◌+◌, ◌∷◌}
+use Rattle.mdcc_base.specs.declared.key.Key.{Key}
+use Rattle.mdcc_option.specs.Transaction.{transaction_of}
+use Rattle.mdcc_option.specs.declared.faults.BeginFault.{BeginFault}
+use Rattle.mdcc_option.specs.declared.faults.DraftFault.{DraftFault}
+use Rattle.mdcc_option.specs.declared.items.Known.{Known}
+use Rattle.mdcc_option.specs.declared.items.Part.{Part}
+use Rattle.mdcc_switches.specs.Built.{Built}
+use Rattle.mdcc_language.specs.Resolve.{resolve}
+use Rattle.mdcc_ledger.specs.Ledger.{facts_of}
+use Rattle.mdcc_rules.specs.Steps.{NodeStep}
+use Rattle.mdcc_protocol.specs.Visible
+use Rattle.mdcc_language.specs.declared.events.UpdateWord.{UpdateWord}
+use Rattle.mdcc_language.specs.declared.lines.Line.{Line}
+use Rattle.mdcc_rules.specs.declared.node.Answer.{Answer}
+use Rattle.mdcc_rules.specs.declared.node.Input.{Input}
+use Rattle.mdcc_rules.specs.declared.node.StepFault.{StepFault}
+use Rattle.mdcc_language.specs.declared.schedule.ResolveFault.{ResolveFault}
+use Rattle.mdcc_protocol.specs.declared.visible.Reading.{Reading}
+use Rattle.mdcc_language.specs.declared.world.EventFault.{EventFault}
+use Rattle.mdcc_simulation.specs.State.{World, next_message, Happened}
+use Rattle.mdcc_simulation.specs.Stepping.{step_at}
+use Rattle.mdcc_simulation.specs.Limits.{input_limited, with_lines}
+
+abbrev pub known_of : Key → Reading → Known
+known_of key reading = record { key = key; token = reading.token; item = reading.item }
+
+-- a read line
+abbrev pub read_happened : World → ℕ → Key → Happened
+read_happened w a key =
+    let known = known_of key (Visible.read (facts_of w.ledger a) key) in
+    record {
+      world = record w { reads = w.reads ++ known ∷ [] };
+      lines = Line.Read (length w.reads + 1) a known ∷ [];
+    }
+
+-- the line of a begin
+abbrev pub begin_lines : Option Answer → World → List Line
+begin_lines (Some (Answer.Begun tx)) w = Line.Begun tx (next_message w) ∷ []
+begin_lines (Some (Answer.Refused key fault)) w = Line.Refused key fault ∷ []
+begin_lines _ w = []
+
+abbrev pub answer_in : Result NodeStep StepFault → Option Answer
+answer_in (Ok step) = step.answer
+answer_in (Err fault) = None
+
+abbrev pub begin_taken : Built → World → ℕ → Result NodeStep StepFault → Result Happened EventFault
+begin_taken built w a result = with_lines (begin_lines (answer_in result)) (input_limited built w a result)
+
+-- by the parts in key order, or why they make no transaction
+abbrev pub begun_by : Built → World → ℕ → Result (List Part) DraftFault → Result Happened EventFault
+begun_by built w a (Err fault) = Err (EventFault.Begin fault)
+begun_by built w a (Ok parts) = begin_taken built w a (step_at built w a (Input.Begin parts))
+
+-- a read without an item is told in a line of its own
+abbrev pub no_item : World → Key → Happened
+no_item w key = record { world = w; lines = Line.Refused key BeginFault.NoItem ∷ [] }
+
+abbrev pub parts_begun : Built → World → ℕ → Result (List Part) ResolveFault → Result Happened EventFault
+parts_begun built w a (Err (ResolveFault.NoRead n)) = Err (EventFault.NoRead n)
+parts_begun built w a (Err (ResolveFault.NoItem key)) = Ok (no_item w key)
+parts_begun built w a (Err ResolveFault.Memory) = Err EventFault.Memory
+parts_begun built w a (Ok parts) = begun_by built w a (transaction_of w.cluster.schema parts)
+
+-- a begin line
+abbrev pub begin_of : Built → World → ℕ → List UpdateWord → Result Happened EventFault
+begin_of built w a words = parts_begun built w a (resolve words (map Some w.reads))

@@ -1,0 +1,10 @@
+pub mod Centres
+pub mod Clients
+pub mod Deliveries
+pub mod Events
+pub mod Left
+pub mod Limits
+pub mod Replay
+pub mod Runs
+pub mod State
+pub mod Stepping

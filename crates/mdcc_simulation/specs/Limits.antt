@@ -1,0 +1,91 @@
+-- The limits of a replay, and an input of a centre within them.
+use Rattle.std.specs.Option.{option_or}
+use Rattle.std.specs.Prelude.{Bool, Err, List, None, Ok, Option, Result, Some, false, if◌then◌else◌, is_some, nat_le, nat_lt, true, ℕ, ◌&&◌, ◌+◌, ◌^◌, ◌∷◌}
+use Rattle.mdcc_rules.specs.Boot.{is_past_cells}
+use Rattle.mdcc_switches.specs.Built.{Built}
+use Rattle.mdcc_ledger.specs.Ledger.{facts_of}
+use Rattle.mdcc_messages.specs.Lengths.{cells_needed, cells_used, log_length, messages_length}
+use Rattle.mdcc_rules.specs.Steps.{NodeStep}
+use Rattle.mdcc_messages.specs.declared.facts.Fact.{Fact}
+use Rattle.mdcc_language.specs.declared.lines.Line.{Line}
+use Rattle.mdcc_messages.specs.declared.messages.Envelope.{Envelope}
+use Rattle.mdcc_rules.specs.declared.node.Input.{Input}
+use Rattle.mdcc_rules.specs.declared.node.StepFault.{StepFault}
+use Rattle.mdcc_language.specs.declared.world.EventFault.{EventFault}
+use Rattle.mdcc_language.specs.declared.world.LimitName.{LimitName}
+use Rattle.mdcc_simulation.specs.State.{World, centre_at, is_up_at, Happened, after_lines}
+use Rattle.mdcc_simulation.specs.Stepping.{input_happened, step_at}
+
+-- how many events a replay has at most, how many bytes of messages, and how many bytes a log
+abbrev pub most_events : ℕ
+most_events = 100000
+
+abbrev pub most_bytes : ℕ
+most_bytes = 536870912
+
+abbrev pub most_log : ℕ
+most_log = 2 ^ 30
+
+abbrev pub limit_if : Bool → LimitName → ℕ → Option EventFault
+limit_if is_passed name number = if is_passed then Some (EventFault.Limit name number) else None
+
+-- one fact more in the log of a centre would pass its limit
+abbrev pub log_limit : Built → World → ℕ → Fact → Option EventFault
+log_limit built w a fact =
+    limit_if (built.limit_on_log && nat_lt most_log (log_length (fact ∷ facts_of w.ledger a))) LimitName.Log most_log
+
+-- these messages would pass the limit of bytes
+abbrev pub bytes_limit : Built → World → List Envelope → Option EventFault
+bytes_limit built w sends =
+    limit_if (built.limit_on_bytes && nat_lt most_bytes (w.bytes + messages_length sends)) LimitName.Bytes most_bytes
+
+-- the limit that a step would pass; one whose append stops sends nothing
+abbrev pub step_limit_by : Built → World → ℕ → NodeStep → Option Fact → Option EventFault
+step_limit_by built w a step None = bytes_limit built w step.sends
+step_limit_by built w a step (Some fact) =
+    option_or (log_limit built w a fact) (if is_some (centre_at w a).stop then None else bytes_limit built w step.sends)
+
+abbrev pub step_limit : Built → World → ℕ → Result NodeStep StepFault → Option EventFault
+step_limit built w a (Ok step) = step_limit_by built w a step step.fact
+step_limit built w a (Err fault) = None
+
+-- one boot more at a centre would pass the cells of its node: the number that is needed
+abbrev pub cells_limit : Built → World → ℕ → Fact → Option EventFault
+cells_limit built w a fact =
+    let facts = facts_of w.ledger a in
+    limit_if (is_past_cells built w.cluster facts fact) LimitName.Cells (cells_used facts + cells_needed fact)
+
+-- what happens where no limit is passed
+abbrev pub unless : {X : Type 0} → Option EventFault → X → Result X EventFault
+unless (Some fault) x = Err fault
+unless None x = Ok x
+
+abbrev pub is_limit : EventFault → Bool
+is_limit (EventFault.Limit name number) = true
+is_limit _ = false
+
+-- one event more would pass the limit of events
+abbrev pub is_past_events : Built → World → Bool
+is_past_events built w = built.limit_on_events && nat_le most_events w.events
+
+-- the limit of events is asked behind all other refusals, and before the other limits
+abbrev pub within_events : {X : Type 0} → Built → World → Result X EventFault → Result X EventFault
+within_events built w (Ok x) = unless (limit_if (is_past_events built w) LimitName.Events most_events) x
+within_events built w (Err fault) =
+    if is_limit fault && is_past_events built w then Err (EventFault.Limit LimitName.Events most_events) else Err fault
+
+-- only at a centre that is up
+abbrev pub if_up : {X : Type 0} → World → ℕ → Result X EventFault → Result X EventFault
+if_up w a result = if is_up_at w a then result else Err (EventFault.Down a)
+
+-- an input of a centre, within the limits
+abbrev pub input_limited : Built → World → ℕ → Result NodeStep StepFault → Result Happened EventFault
+input_limited built w a result = unless (step_limit built w a result) (input_happened w a result)
+
+abbrev pub input_taken : Built → World → ℕ → Input → Result Happened EventFault
+input_taken built w a input = input_limited built w a (step_at built w a input)
+
+-- the lines of what happened stand behind others that it determines
+abbrev pub with_lines : (World → List Line) → Result Happened EventFault → Result Happened EventFault
+with_lines lines (Ok h) = Ok (after_lines (lines h.world) h)
+with_lines lines (Err fault) = Err fault
