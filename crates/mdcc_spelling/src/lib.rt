@@ -3,7 +3,7 @@
 #![tactic(auto)]
 
 pub mod facts;
-pub mod lengths;
 pub mod messages;
 pub mod parts;
+pub mod sizes;
 pub mod well_formed;

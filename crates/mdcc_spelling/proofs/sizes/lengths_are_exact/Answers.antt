@@ -1,5 +1,5 @@
 use Rattle.mdcc_spelling.proofs.Lengths.{length-message, length-fact}
-use Rattle.mdcc_spelling.proofs.lengths.lengths_are_exact.Goals as goal
+use Rattle.mdcc_spelling.proofs.sizes.lengths_are_exact.Goals as goal
 
 pub returns-clause-messages : goal.returns-clause-messages
 returns-clause-messages c = length-message
