@@ -10,6 +10,7 @@ use Rattle.mdcc_option.specs.declared.choices.Choice.{Choice}
 use Rattle.mdcc_option.specs.declared.choices.Mark.{Mark}
 use Rattle.mdcc_option.specs.declared.choices.Outcome.{Outcome}
 use Rattle.mdcc_option.specs.declared.cluster.Cluster.{Cluster}
+use Rattle.mdcc_option.specs.declared.cluster.FastLimit.{FastLimit}
 use Rattle.mdcc_option.specs.declared.items.Item.{Item}
 use Rattle.mdcc_option.specs.declared.items.Update.{Update}
 use Rattle.mdcc_struct.specs.declared.options.Options.{Options}
@@ -18,7 +19,7 @@ use Rattle.mdcc_messages.specs.declared.facts.Fact.{Fact}
 
 -- three centres, one attribute from 0 to 100
 abbrev pub three : Cluster
-three = record { quorums = record { centres = 3; classic = 2; fast = 3 }; schema = (pos 0, pos 100) ∷ []; gamma = 0; cells = 1000 }
+three = record { quorums = record { centres = 3; classic = 2; fast = 3 }; schema = (pos 0, pos 100) ∷ []; gamma = 0; cells = 1000; limit = FastLimit.Safe }
 
 -- the key a
 abbrev pub key : Key

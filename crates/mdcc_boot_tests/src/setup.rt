@@ -1,6 +1,6 @@
 //! The cluster of the tests, and payloads of facts.
 use mdcc_base::Quorums;
-use mdcc_option::{Cluster, Schema};
+use mdcc_option::{Cluster, FastLimit, Schema};
 use std::process::Abort;
 
 /// Booted in epoch 1.
@@ -21,5 +21,6 @@ pub fn five_centres(rt: &impl Abort) -> Cluster {
         schema: Schema::new(&[(0, 1000)]).expect(rt, "a schema"),
         gamma: 100,
         cells: 1_048_576,
+        limit: FastLimit::Safe,
     }
 }

@@ -5,6 +5,7 @@ use Rattle.mdcc_base.specs.Quorums.{quorums_of}
 use Rattle.mdcc_base.specs.declared.quorums.QuorumFault.{QuorumFault}
 use Rattle.mdcc_option.specs.Bounds.{is_bound}
 use Rattle.mdcc_option.specs.declared.cluster.Cluster.{Cluster}
+use Rattle.mdcc_option.specs.declared.cluster.FastLimit.{FastLimit}
 use Rattle.mdcc_option.specs.declared.schema.SchemaFault.TheVariants.{Bound}
 use Rattle.mdcc_language.specs.declared.schedule.HeaderFault.{HeaderFault}
 use Rattle.mdcc_language.specs.declared.schedule.HeaderCause.{HeaderCause}
@@ -168,7 +169,7 @@ header_lines built left = (do
   cells ← cells_line built gamma.1
   bounds ← bounds_lines cells.1
   start ← header_line (codes "start") (λ line. end_at 5 line 1) bounds.1
-  Ok (record { quorums = quorums.0; schema = bounds.0; gamma = gamma.0; cells = cells.0 }, start.1))
+  Ok (record { quorums = quorums.0; schema = bounds.0; gamma = gamma.0; cells = cells.0; limit = FastLimit.Safe }, start.1))
 
 -- the cluster of a header, and the place behind it
 abbrev pub header_of : Built → List ℕ → Result (Cluster × ℕ) HeaderFault

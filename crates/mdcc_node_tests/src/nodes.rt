@@ -3,7 +3,7 @@ use crate::bytes::{joined, message};
 use mdcc_base::{BoundedList, Centre, Key, Quorums};
 use mdcc_facts::ListFacts;
 use mdcc_node::{Node, Step, StepFault};
-use mdcc_option::{Cluster, Item, Part, Schema, Transaction, Update};
+use mdcc_option::{Cluster, FastLimit, Item, Part, Schema, Transaction, Update};
 use mdcc_messages::Fact;
 use std::alloc::Global;
 use std::test::Fail;
@@ -15,6 +15,7 @@ pub fn cluster(centres: u8, classic: u8, fast: u8) -> Result<Cluster, Fail> {
         schema: Schema::new(&[(0, 1000)])?,
         gamma: 100,
         cells: 65_536,
+        limit: FastLimit::Safe,
     })
 }
 

@@ -14,7 +14,7 @@ pub mod transaction;
 mod update;
 
 pub use choices::{Cause, Choice, Claim, Mark, Outcome};
-pub use cluster::Cluster;
+pub use cluster::{Cluster, FastLimit};
 pub use faults::{BeginFault, DraftFault};
 pub use items::{Amounts, Body, Delta, Item, Known, Part, Seen, Token, Update, Values, WriteSet};
 pub use one_copy::{Applied, OneCopy};

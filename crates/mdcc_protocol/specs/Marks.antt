@@ -1,6 +1,6 @@
 -- Words on updates, marks and outcomes.
 use Rattle.std.specs.List.{list_all, list_any}
-use Rattle.std.specs.Prelude.{Bool, List, None, Option, Some, [], false, filter, filter_map, if◌then◌else◌, is_some, not, option_and_then, true, ℕ, ℤ, ◌&&◌, ◌∷◌}
+use Rattle.std.specs.Prelude.{Bool, List, None, Option, Some, [], false, filter_map, if◌then◌else◌, is_some, option_and_then, true, ℕ, ℤ, ◌&&◌, ◌∷◌}
 use Rattle.mdcc_base.specs.TxId.{tx_eq}
 use Rattle.mdcc_base.specs.declared.identifiers.TxId.{TxId}
 use Rattle.mdcc_option.specs.Equality.{mark_eq}
@@ -9,6 +9,7 @@ use Rattle.mdcc_option.specs.declared.choices.Mark.{Mark}
 use Rattle.mdcc_option.specs.declared.choices.Outcome.{Outcome}
 use Rattle.mdcc_option.specs.declared.items.Update.{Update}
 use Rattle.mdcc_struct.specs.declared.options.Options.{Options}
+pub use Rattle.mdcc_struct.specs.Options.{is_accept, accepts_in, rejects_in}
 
 -- attributes, ascending from 1, with the amounts that are added to them
 abbrev pub Amounts : Type 0
@@ -23,22 +24,10 @@ abbrev pub seen_in : Update → List TxId
 seen_in (Update.Write item seen) = seen
 seen_in (Update.Add amounts) = []
 
-abbrev pub is_accept : Mark → Bool
-is_accept (Mark.Accept choice) = true
-is_accept Mark.Reject = false
-
 -- the choice that a mark accepts
 abbrev pub choice_in : Mark → Option Choice
 choice_in (Mark.Accept choice) = Some choice
 choice_in Mark.Reject = None
-
--- the marks that accept
-abbrev pub accepts_in : Options → Options
-accepts_in options = filter (λ e. is_accept e.1) options
-
--- the marks that reject
-abbrev pub rejects_in : Options → Options
-rejects_in options = filter (λ e. not (is_accept e.1)) options
 
 -- whether they are one structure
 abbrev pub options_eq : Options → Options → Bool

@@ -8,7 +8,7 @@ ghost use Rattle.mdcc_world.specs.Words.{is_built};
 use crate::replay_rows::{REPORT, Row, SCHEDULE};
 use crate::replays::check_behind;
 use mdcc_base::{Centre, HeapList, Quorums};
-use mdcc_option::{Cluster, Schema};
+use mdcc_option::{Cluster, FastLimit, Schema};
 use mdcc_language::{Event, EventFault};
 use mdcc_world::World;
 use std::alloc::Global;
@@ -331,6 +331,7 @@ fn five_centres() -> Result<Cluster, Fail>
         schema: Schema::new(&[(0, 1000)])?,
         gamma: 100,
         cells: 65_536,
+        limit: FastLimit::Safe,
     })
 }
 

@@ -1,7 +1,7 @@
 //! Values of worked schedules: an insert of 10 under key a, and decreases of 4.
 use mdcc_base::{Ballot, BoundedList, Centre, Key, Quorums, TxId};
 use mdcc_facts::{Fact, ListFacts};
-use mdcc_option::{Choice, Cluster, Item, Outcome, Schema, Update};
+use mdcc_option::{Choice, Cluster, FastLimit, Item, Outcome, Schema, Update};
 use mdcc_tests::adding::put;
 use std::alloc::Global;
 use std::test::Fail;
@@ -20,6 +20,7 @@ pub fn cluster() -> Result<Cluster, Fail> {
         schema: Schema::new(&[(0, 1000)])?,
         gamma: 100,
         cells: 65_536,
+        limit: FastLimit::Safe,
     })
 }
 

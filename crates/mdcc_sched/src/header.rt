@@ -8,7 +8,7 @@ ghost use Rattle.mdcc_built.specs.Built.{built};
 use crate::header_lines;
 use crate::left::Left;
 use mdcc_base::{BoundedList, Quorums};
-use mdcc_option::{Cluster, Schema, SchemaFault};
+use mdcc_option::{Cluster, FastLimit, Schema, SchemaFault};
 use mdcc_language::{HeaderCause, HeaderFault};
 
 // How many cells a node has where no line says them.
@@ -130,6 +130,7 @@ fn read_lines<'a>(left: &Left<'a>) -> Result<(Cluster, Left<'a>), HeaderFault>
         schema: schema_of(&bounds),
         gamma,
         cells: DEFAULT_CELLS,
+        limit: FastLimit::Safe,
     };
     Ok((cluster, left))
 }

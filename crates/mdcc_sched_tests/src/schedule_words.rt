@@ -1,7 +1,7 @@
 //! Lines of a schedule that are refused: the column of the first byte that is refused, and the
 //! cause. The expected values come from the grammar, by hand.
 use mdcc_base::Quorums;
-use mdcc_option::{Cluster, Schema};
+use mdcc_option::{Cluster, FastLimit, Schema};
 use mdcc_sched::SchedCause::{Key, Number, Order, Range, Word};
 use mdcc_sched::{SchedCause, SchedFault, parse_line};
 use std::alloc::Global;
@@ -17,6 +17,7 @@ pub(crate) fn five_centres(rt: &impl Abort) -> Cluster {
         schema: Schema::new(&[(0, 1000)]).expect(rt, "a schema"),
         gamma: 100,
         cells: 1_048_576,
+        limit: FastLimit::Safe,
     }
 }
 

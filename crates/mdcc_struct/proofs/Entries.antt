@@ -1,11 +1,13 @@
 -- Structures as they lie in memory.
-use Rattle.std.proofs.Common.{◌≡◌, ℕ, ◌<◌, ◌≤◌, true, false, List, [], ◌∷◌, ◌++◌, Some, None, refl, sym, ◌∙◌, arith, length, take, drop, get_or, length-append}
-use Rattle.std.specs.Prelude.{slice_get, All, insert}
+use Rattle.std.proofs.Common.{◌≡◌, ℕ, ◌+◌, ◌<◌, ◌≤◌, true, false, List, [], ◌∷◌, ◌++◌, Some, None, refl, sym, ap, ◌∙◌, arith, inl, inr, length, take, drop, get_or, length-append}
+use Rattle.std.specs.Prelude.{slice_get, All, insert, not}
 use Rattle.std.specs.List.{prefix_len}
 use Rattle.std.specs.List.Sorted.{IsPartitionedBy, IsPartitionPoint}
+use Rattle.std.proofs.lemmas.Bool.{cases_Bool}
 use Rattle.std.proofs.lemmas.Grind.{common_steps}
-use Rattle.std.proofs.lemmas.List.{map-append, take-map, drop-map}
-use Rattle.std.proofs.lemmas.List.Elements.{All-head, All-tail, All-append, All-cons, All-nil, All-take, All-drop, All-weaker}
+use Rattle.std.proofs.lemmas.List.{length-map, map-append, take-map, drop-map}
+use Rattle.std.proofs.lemmas.List.Elements.{All-head, All-tail, All-append, All-cons, All-nil, All-take, All-drop, All-weaker, filter-append}
+use Rattle.std.proofs.lemmas.List.Filters.{length-filter_both}
 use Rattle.std.proofs.lemmas.List.Sums.{prefix_len_passes, prefix_len_is}
 use Rattle.std.proofs.lemmas.Option.{slice_get-map, slice_get-get_or}
 use Rattle.mdcc_base.specs.declared.identifiers.TxId.{TxId}
@@ -15,6 +17,7 @@ use Rattle.mdcc_option.specs.declared.choices.Mark.TheVariants.{Accept, Reject}
 use Rattle.mdcc_struct.specs.declared.options.Entry.{Entry}
 use Rattle.mdcc_struct.specs.Fields.{mark_in, marks_in, AreEntries, kept, kept_place}
 use Rattle.mdcc_struct.specs.Maps.{value_of, inserted, are_ascending}
+use Rattle.mdcc_struct.specs.Options.{Marks, is_accept, accepts_in, rejects_in}
 use Rattle.mdcc_struct.specs.Places.{place_of}
 use Rattle.mdcc_struct.proofs.Ordered.{place_of-above, inserted-place, ascending-inserted}
 
@@ -74,6 +77,38 @@ marks_in-kept accepted mark (e ∷ es) h =
     let here : e.place ≤ length accepted = All-head (λ (e : Entry). e.place ≤ length accepted) e es h in
     rw (mark_in-kept accepted mark e.place here, marks_in-kept accepted mark es (All-tail (λ (e : Entry). e.place ≤ length accepted) e es h)) refl
 
+-- ---- how many marks accept
+
+accepts-inserted : (m : Marks) (e : TxId × Mark) → length (accepts_in (inserted m e)) ≡ length (accepts_in (e ∷ m))
+accepts-inserted [] e = refl
+accepts-inserted (x ∷ xs) e =
+    let further = accepts-inserted xs e in
+    elim (cases_Bool (tx_lt x.0 e.0)) [
+      | inl less ↦ elim (cases_Bool (is_accept x.1)) [ inl accepts ↦ grind arith | inr rejects ↦ grind arith ]
+      | inr over ↦ rw over refl
+    ]
+
+accepts-cons : (accepted : List Mark) (m : Marks) (tx : TxId) (mark : Mark) → length (accepts_in m) ≡ length accepted
+    → length (accepts_in ((tx, mark) ∷ m)) ≡ length (kept accepted mark)
+accepts-cons accepted m tx (Accept choice) h = omega (arith, h, length-append accepted (Accept choice ∷ []))
+accepts-cons accepted m tx Reject h = h
+
+accepts-pushed : (accepted : List Mark) (m : Marks) (tx : TxId) (mark : Mark) → length (accepts_in m) ≡ length accepted
+    → length (accepts_in (m ++ (tx, mark) ∷ [])) ≡ length (kept accepted mark)
+accepts-pushed accepted m tx (Accept choice) h =
+    let e : TxId × Mark = (tx, Accept choice) in
+    omega (arith, h, ap length (filter-append (λ (e : TxId × Mark). is_accept e.1) m (e ∷ [])), length-append (accepts_in m) (e ∷ []), length-append accepted (Accept choice ∷ []))
+accepts-pushed accepted m tx Reject h =
+    let e : TxId × Mark = (tx, Reject) in
+    omega (arith, h, ap length (filter-append (λ (e : TxId × Mark). is_accept e.1) m (e ∷ [])), length-append (accepts_in m) [])
+
+pub both_counted : (accepted : List Mark) (entries : List Entry) → AreEntries accepted entries
+    → length accepted + length (rejects_in (marks_in accepted entries)) ≡ length entries
+both_counted accepted entries h =
+    let marks = marks_in accepted entries in
+    let same : length marks ≡ length entries = length-map entries _ in
+    omega (arith, h.counted, same, length-filter_both (λ (e : TxId × Mark). is_accept e.1) (λ (e : TxId × Mark). not (is_accept e.1)) (λ e. refl) marks)
+
 abbrev pub kept_entry : List Mark → TxId → Mark → Entry
 kept_entry accepted tx mark = record { tx = tx; place = kept_place accepted mark }
 
@@ -107,6 +142,7 @@ pub AreEntries-inserted : (accepted : List Mark) (entries : List Entry) (tx : Tx
 AreEntries-inserted accepted entries tx mark h none = record {
   within = within-insert accepted entries _ tx mark h.within;
   ascending = rw (marks_in-inserted accepted entries tx mark h) (ascending-inserted (marks_in accepted entries) (tx, mark) h.ascending none);
+  counted = rw (marks_in-inserted accepted entries tx mark h) (accepts-inserted (marks_in accepted entries) (tx, mark) ∙ accepts-cons accepted (marks_in accepted entries) tx mark h.counted);
 }
 
 pub marks_in-pushed : (accepted : List Mark) (entries : List Entry) (tx : TxId) (mark : Mark) → AreEntries accepted entries
@@ -123,4 +159,5 @@ AreEntries-pushed accepted entries tx mark h up =
       within = All-append P entries (kept_entry accepted tx mark ∷ []) (within-kept accepted mark entries h.within)
           (All-cons P (kept_entry accepted tx mark) [] (kept_place-within accepted mark) (All-nil P));
       ascending = rw (marks_in-pushed accepted entries tx mark h) up;
+      counted = rw (marks_in-pushed accepted entries tx mark h) (accepts-pushed accepted (marks_in accepted entries) tx mark h.counted);
     }

@@ -1,13 +1,26 @@
 -- Structures: maps from transaction to mark, ordered by inclusion. (Generalized Paxos.)
-use Rattle.std.specs.Prelude.{Bool, false, not, Option, None, Some, filter, find, option_map, Result, Ok, Err}
+use Rattle.std.specs.Prelude.{Bool, false, true, not, Option, None, Some, filter, find, option_map, Result, Ok, Err}
 use Rattle.std.specs.List.{list_all}
 use Rattle.mdcc_base.specs.declared.identifiers.TxId.{TxId}
 use Rattle.mdcc_option.specs.declared.choices.Mark.{Mark}
+use Rattle.mdcc_option.specs.declared.choices.Mark.TheVariants.{Accept, Reject}
 use Rattle.mdcc_option.specs.Equality.{mark_eq}
 use Rattle.mdcc_struct.specs.Maps.{TxMap, value_of, union}
 
 abbrev pub Marks : Type 0
 Marks = TxMap Mark
+
+abbrev pub is_accept : Mark → Bool
+is_accept (Accept choice) = true
+is_accept Reject = false
+
+-- the marks that accept
+abbrev pub accepts_in : Marks → Marks
+accepts_in marks = filter (λ e. is_accept e.1) marks
+
+-- the marks that reject
+abbrev pub rejects_in : Marks → Marks
+rejects_in marks = filter (λ e. not (is_accept e.1)) marks
 
 -- whether there is a mark, and it is this one
 abbrev pub is_mark : Mark → Option Mark → Bool

@@ -6,7 +6,7 @@ ghost use Rattle.mdcc_base.specs.Unless.{GivesUnless};
 ghost use Rattle.mdcc_struct.specs.Fields.{mark_in, kept, kept_place};
 ghost use Rattle.mdcc_struct.specs.Joined.{is_memory, joined_by};
 ghost use Rattle.mdcc_struct.specs.Maps.{value_of, inserted, union, are_ascending};
-ghost use Rattle.mdcc_struct.specs.Options.{is_mark, is_other_mark, meet_of, differing, join_of, extends};
+ghost use Rattle.mdcc_struct.specs.Options.{accepts_in, rejects_in, is_mark, is_other_mark, meet_of, differing, join_of, extends};
 ghost use Rattle.mdcc_struct.specs.Places.{place_of};
 
 use mdcc_base::{Memory, Plain, TxId};
@@ -151,6 +151,20 @@ impl Options {
         self.entries.len()
     }
 
+    /// How many marks accept.
+    pub fn accepted(&self) -> usize
+        ensures { result ≡ length (accepts_in self.now) }
+    {
+        self.accepted.len()
+    }
+
+    /// How many marks reject.
+    pub fn rejected(&self) -> usize
+        ensures { result ≡ length (rejects_in self.now) }
+    {
+        self.entries.len() - self.accepted.len()
+    }
+
     /// Whether there is none.
     pub fn is_empty(&self) -> bool
         ensures { IsTrue result ↔ (self.now ≡ []) }
@@ -242,8 +256,8 @@ impl Options {
         true
     }
 
-    // The least transaction at which the marks differ.
-    fn differing(&self, other: &Options) -> Option<TxId>
+    /// The least transaction that has other marks in both.
+    pub fn differing(&self, other: &Options) -> Option<TxId>
         ensures { result ≡ differing self.now other.now }
     {
         let mut place = 0;
