@@ -166,7 +166,8 @@ fn tx_at(facts: &[Fact], key: &Key, version: u64, ballot: &Ballot, place: usize)
     next_voted(facts, key, version, ballot, &last)
 }
 
-/// The mark at a place of the votes at the greatest ballot below another one.
+/// The mark at a place of the votes at the greatest ballot below another one. Below the fast one
+/// there is none.
 pub(crate) fn mark_below(
     facts: &[Fact],
     key: &Key,
@@ -176,6 +177,9 @@ pub(crate) fn mark_below(
 ) -> Option<(Ballot, TxId, Mark)>
     ensures { result ≡ mark_below (reverse facts.now) key.now version below.now place }
 {
+    if below.is(&Ballot::FAST) {
+        return None;
+    }
     let ballot = last_ballot(facts, key, version, below);
     match tx_at(facts, key, version, &ballot, place) {
         Some(tx) => match mark_at(facts, key, version, &ballot, &tx) {

@@ -75,7 +75,7 @@ pub trait FactStore {
         ensures { (facts : List AFact) → stands self.now facts → result ≡ entries_at facts key.now version };
 
     /// The mark at a place, from 0, of the votes at the greatest ballot below another one, with
-    /// that ballot.
+    /// that ballot. There is none below the fast ballot.
     fn marks(
         &self,
         key: &Key,

@@ -2,7 +2,7 @@
 -- Each question is asked of one fact, and then of all. Where the first of several facts counts, the older ones stand on the left.
 use Rattle.std.specs.Option.{option_or}
 use Rattle.std.specs.Prelude.{Bool, List, None, Option, Some, [], filter, filter_map, fold, if◌then◌else◌, is_some, length, map, max, nat_le, not, option_and_then, option_map, ℕ, ◌&&◌, ◌++◌, ◌==◌, ◌∷◌}
-use Rattle.mdcc_base.specs.Ballot.{ballot_eq, ballot_lt, ballot_max, fast_ballot}
+use Rattle.mdcc_base.specs.Ballot.{ballot_eq, ballot_lt, ballot_max, fast_ballot, is_fast}
 use Rattle.mdcc_base.specs.Key.{key_eq}
 use Rattle.mdcc_base.specs.TxId.{tx_eq}
 use Rattle.mdcc_base.specs.declared.identifiers.Ballot.{Ballot}
@@ -76,11 +76,11 @@ abbrev pub last_ballot : List Fact → Key → ℕ → Ballot → Ballot
 last_ballot [] key version below = fast_ballot
 last_ballot (fact ∷ facts) key version below = ballot_max (last_ballot facts key version below) (ballot_voted key version below fact)
 
--- what a centre reports to a leader: the votes at the greatest ballot below the leader's. (Fast Paxos.)
+-- what a centre reports to a leader: the votes at the greatest ballot below the leader's. Below the fast one there is none. (Fast Paxos.)
 abbrev pub report_of : ℕ → List Fact → Key → ℕ → Ballot → Report
 report_of centre facts key version below =
     let ballot = last_ballot facts key version below in
-    record { centre = centre; ballot = ballot; votes = votes_of facts key version ballot }
+    record { centre = centre; ballot = ballot; votes = if is_fast below then [] else votes_of facts key version ballot }
 
 -- the mark that a fact votes of a transaction in an instance, with its ballot
 abbrev pub mark_voted : Key → ℕ → TxId → Fact → Option (Ballot × Mark)

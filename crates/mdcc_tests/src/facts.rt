@@ -146,6 +146,7 @@ fn an_insert_is_held_once_it_is_heard(rt: HostRuntime) -> Result<(), Fail> {
     assert_eq!(rt; store.entries(&a, 0), (1, 0));
     assert_eq!(rt; mark(&store, &a, 0, LED, 0), Some((Ballot::FAST, 1, true)));
     assert_eq!(rt; mark(&store, &a, 0, LED, 1), None);
+    assert_eq!(rt; mark(&store, &a, 0, Ballot::FAST, 0), None);
     assert_eq!(rt;
         store.vote_of(&a, 0, tx(1)),
         Some((Ballot::FAST, Mark::Accept(insert.copy())))
