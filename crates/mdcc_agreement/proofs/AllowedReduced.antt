@@ -1,6 +1,6 @@
 -- The reduced ledger of an allowed ledger is allowed. By induction; each step has the laws of the ledger so far.
 use Rattle.std.proofs.Common.{◌≡◌, ℕ, ◌≤◌, List, [], ◌∷◌, ◌++◌, length, refl, sym, ap, ◌∙◌, subst, arith, inl, inr, ◌⊎◌, Option, Some, map}
-use Rattle.std.proofs.lemmas.Bool.{cases_Bool, MatchBool-at_true, MatchBool-at_false}
+use Rattle.std.proofs.lemmas.Bool.{cases_Bool, not-true, MatchBool-at_true, MatchBool-at_false}
 use Rattle.std.specs.Prelude.{not}
 use Rattle.mdcc_base.specs.Ballot.{is_fast}
 use Rattle.mdcc_base.specs.declared.identifiers.Ballot.{Ballot}
@@ -120,7 +120,7 @@ module _ (cluster : Cluster) (is : IsCluster cluster) (es : List ledger.Entry) (
       let fine : AllFine (ledger.facts_of es a) = all_fine (setup_of cluster) es allowed short a in (
         classic_ballot ballot h.classic,
         elim h.made [
-          | inl first ↦ inl (first_sent cluster sizes is.schema.few es allowed a fine i ballot options (own_marks es i options h.begun) first.0 first.1 first.2)
+          | inl first ↦ inl (first_sent cluster sizes is.schema.few es allowed a fine i ballot options (own_marks es i options h.begun) (not-true _ h.classic) first.0 first.1 first.2)
           | inr next ↦
               let last : last_sent (reduced es) i ballot ≡ Some next.0 = last_same es i ballot ∙ next.2.last_before in
               let once : Once next.0 = Distinct-Once next.0 (sent_apart (setup_of cluster) (reduced es) allowed i ballot next.0 (last-sent (reduced es) i ballot next.0 last)) in

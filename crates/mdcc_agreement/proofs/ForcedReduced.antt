@@ -2,7 +2,7 @@
 use Rattle.std.proofs.Common.{◌≡◌, ℕ, ◌+◌, ◌-◌, ◌*◌, ◌<◌, ◌≤◌, Bool, true, false, cond, List, [], ◌∷◌, length, refl, sym, ap, ◌∙◌, subst, arith, inl, inr, ◌⊎◌, Option, Some, None, map}
 use Rattle.std.proofs.lemmas.Bool.{cases_Bool, false≢true}
 use Rattle.std.specs.List.{filter, fold}
-use Rattle.mdcc_base.specs.Ballot.{ballot_eq, ballot_max}
+use Rattle.mdcc_base.specs.Ballot.{ballot_eq, ballot_max, is_fast}
 use Rattle.mdcc_base.specs.declared.identifiers.Ballot.{Ballot}
 use Rattle.mdcc_base.specs.declared.identifiers.TxId.{TxId}
 use Rattle.mdcc_option.specs.declared.choices.Mark.{Mark}
@@ -89,7 +89,7 @@ filter-In p r (q ∷ rs) h e =
     ]
 
 module _ (cluster : Cluster) (es : List ledger.Entry) (allowed : Allowed (setup_of cluster) (reduced es)) (sizes : IsSetup (setup_of cluster))
-    (i : Place) (m : Ballot) (centres : List ℕ) (distinct : are_distinct centres ≡ true)
+    (i : Place) (m : Ballot) (above_fast : is_fast m ≡ false) (centres : List ℕ) (distinct : are_distinct centres ≡ true)
     (within : (a : ℕ) → In a centres → In a (centres_to cluster.quorums.centres)) (many : cluster.quorums.classic ≤ length centres) where
   abbrev told : ℕ → Report
   told a = full.report_of a (ledger.facts_of es a) i.key i.version m
@@ -101,7 +101,7 @@ module _ (cluster : Cluster) (es : List ledger.Entry) (allowed : Allowed (setup_
   told_ballot a = ap (λ fs. (report fs i m).ballot) (facts_same a es) ∙ report_ballot a a (ledger.facts_of es a) i m
 
   told_marks : (a : ℕ) (t : TxId) → mark_of t (reduced_told a).marks ≡ value_of (told a).votes t
-  told_marks a t = ap (λ fs. mark_of t (report fs i m).marks) (facts_same a es) ∙ report_marks a (ledger.facts_of es a) i m t
+  told_marks a t = ap (λ fs. mark_of t (report fs i m).marks) (facts_same a es) ∙ report_marks a (ledger.facts_of es a) i m t above_fast
 
   abbrev all_told : List ℕ → List Report
   all_told cs = map told cs

@@ -232,8 +232,8 @@ classic_ballot m h =
 
 module _ (cluster : Cluster) (sizes : IsSetup (setup_of cluster)) (four : length cluster.schema ≤ 4) (es : List ledger.Entry) (allowed : Allowed (setup_of cluster) (reduced es))
     (a : ℕ) (fine : AllFine (ledger.facts_of es a)) (i : Place) (m : Ballot) (options : Options) (own : Own es i options) where
-  pub first_sent : (centres : List ℕ) (claims : TxMap (Option Choice)) → IsFirstStructure cluster es a i.key i.version m options centres claims → IsFirst (setup_of cluster) (reduced es) a i m options
-  first_sent centres claims h =
+  pub first_sent : is_fast m ≡ false → (centres : List ℕ) (claims : TxMap (Option Choice)) → IsFirstStructure cluster es a i.key i.version m options centres claims → IsFirst (setup_of cluster) (reduced es) a i m options
+  first_sent classic centres claims h =
       let among : (b : ℕ) → In b centres → In b (centres_to cluster.quorums.centres) × (has_promised es i.key i.version m b ≡ true) = λ b g.
       In-filtered (has_promised es i.key i.version m) b (all_centres cluster.quorums)
       (one_of-In b (promisers_of cluster.quorums es i.key i.version m)
@@ -252,8 +252,8 @@ module _ (cluster : Cluster) (sizes : IsSetup (setup_of cluster)) (four : length
         promised = λ b g. subst (λ fs. HasPromised fs i m) (sym (facts_same b es)) (promised_reduced (ledger.facts_of es b) i m (among b (one_of-In b centres g)).1);
         base = base;
         apart = Once-Distinct base once;
-        forced = λ t x g. mark_value t base ∙ forced_there cluster es allowed sizes i m centres h.promised.1 within h.enough t x g;
-        forced_only = λ t x g. there_forced cluster es allowed sizes i m centres h.promised.1 within h.enough t x (sym (mark_value t base) ∙ g);
+        forced = λ t x g. mark_value t base ∙ forced_there cluster es allowed sizes i m classic centres h.promised.1 within h.enough t x g;
+        forced_only = λ t x g. there_forced cluster es allowed sizes i m classic centres h.promised.1 within h.enough t x (sym (mark_value t base) ∙ g);
         steps = grown.0;
         grown = grown.1;
       }

@@ -3,7 +3,7 @@ use Rattle.std.proofs.Common.{◌≡◌, ℕ, ◌+◌, ◌≤◌, ◌==◌, Bool
 use Rattle.std.proofs.lemmas.Bool.{cases_Bool, and_parts, or_cases, leb-true, le-leb}
 use Rattle.std.specs.List.{list_any, filter_map, cons_option}
 use Rattle.std.specs.Option.{option_or}
-use Rattle.mdcc_base.specs.Ballot.{ballot_eq, ballot_lt}
+use Rattle.mdcc_base.specs.Ballot.{ballot_eq, ballot_lt, is_fast}
 use Rattle.mdcc_base.specs.Counts.{number_of}
 use Rattle.mdcc_base.specs.Key.{key_eq}
 use Rattle.mdcc_base.specs.Quorums.{all_centres, quorum_size}
@@ -116,11 +116,12 @@ voted_below_same (f ∷ fs) i m =
 pub report_ballot : (a b : ℕ) (fs : List Fact) (i : Place) (m : Ballot) → (report (facts_reduced fs) i m).ballot ≡ (full.report_of a fs i.key i.version m).ballot
 report_ballot a b fs i m = voted_below_same fs i m
 
-pub report_marks : (a : ℕ) (fs : List Fact) (i : Place) (m : Ballot) (t : TxId) →
+pub report_marks : (a : ℕ) (fs : List Fact) (i : Place) (m : Ballot) (t : TxId) → is_fast m ≡ false →
     mark_of t (report (facts_reduced fs) i m).marks ≡ value_of (full.report_of a fs i.key i.version m).votes t
-report_marks a fs i m t =
-    votes_same fs i (voted_below (facts_reduced fs) i m) t
-    ∙ ap (λ k. value_of (full.votes_of fs i.key i.version k) t) (voted_below_same fs i m)
+report_marks a fs i m t classic =
+    rw classic
+    (votes_same fs i (voted_below (facts_reduced fs) i m) t
+    ∙ ap (λ k. value_of (full.votes_of fs i.key i.version k) t) (voted_below_same fs i m))
 
 -- promises
 pub promised_reduced : (fs : List Fact) (i : Place) (m : Ballot) → list_any (has_promised_in i.key i.version m) fs ≡ true → HasPromised (facts_reduced fs) i m

@@ -26,6 +26,7 @@ use Rattle.mdcc_protocol.specs.declared.acceptor.PrepareAnswer.{PrepareAnswer}
 use Rattle.mdcc_messages.specs.declared.facts.Fact.{Fact}
 use Rattle.mdcc_messages.specs.declared.messages.Message.{Message}
 use Rattle.mdcc_steps.specs.Keeping.{AreNodeFacts, IsWellFormedVolatile}
+use Rattle.mdcc_steps.proofs.Adding.{classic-not_fast}
 use Rattle.mdcc_steps.proofs.Cells.{votes-few}
 use Rattle.mdcc_steps.proofs.Each.{each-kept}
 use Rattle.mdcc_steps.proofs.Formed.{IsFormed, IsFormedKept}
@@ -108,7 +109,7 @@ module _ (cluster : Cluster) (me : ℕ) (facts : List Fact) (volatile : Volatile
   promise-formed key version high ballot w h c = record {
     prepare = record { instance = w; not_below = h.0; through_fits = h.1; classic = c };
     reported_itself = reported-told facts key version ballot known.well_formed;
-    votes_itself = report-formed key version (last_ballot facts key version ballot);
+    votes_itself = rw (classic-not_fast ballot c) (report-formed key version (last_ballot facts key version ballot));
   }
 
   pub prepare-formed : (l : ℕ) (key : Key) (version through : ℕ) (ballot : Ballot) → IsInRange 1 9 l → IsWellFormedInstance key version → IsRangeFrom version through → IsWellFormedClassic ballot

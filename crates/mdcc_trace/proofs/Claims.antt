@@ -97,19 +97,23 @@ no-votes cluster (Added c f ∷ es) a k v m legal h =
             off-last false = refl
         two b false y p q i = refl
 
+none-either : (b : Bool) (os : Options) → os ≡ [] → cond b [] os ≡ []
+none-either true os h = refl
+none-either false os h = h
+
 abbrev pub IsEmptyReport : Report → Type 0
 IsEmptyReport r = (r.ballot ≡ fast_ballot) × (r.votes ≡ [])
 
 -- a promise on a range was made by a centre that had no votes above its begin
-empty-report : (cluster : Cluster) (es : List Entry) (a : ℕ) (k : Key) (low high v : ℕ) (m : Ballot) → IsAllowed cluster es → is_fast m ≡ false → promised_through (facts_of es a) k low m ≡ Some high → low < v → v ≤ high → IsEmptyReport (report_of 0 (facts_of es a) k v m)
-empty-report cluster [] a k low high v m legal classic h x y = absurd (cc)
-empty-report cluster (Entry.Begun c t cs ∷ es) a k low high v m legal classic h x y = empty-report cluster es a k low high v m legal.0 classic h x y
-empty-report cluster (Valued c j w b os ∷ es) a k low high v m legal classic h x y = empty-report cluster es a k low high v m legal.0 classic h x y
-empty-report cluster (Added c f ∷ es) a k low high v m legal classic h x y =
+empty-report : (cluster : Cluster) (es : List Entry) (a : ℕ) (k : Key) (low high v : ℕ) (m : Ballot) → IsAllowed cluster es → promised_through (facts_of es a) k low m ≡ Some high → low < v → v ≤ high → IsEmptyReport (report_of 0 (facts_of es a) k v m)
+empty-report cluster [] a k low high v m legal h x y = absurd (cc)
+empty-report cluster (Entry.Begun c t cs ∷ es) a k low high v m legal h x y = empty-report cluster es a k low high v m legal.0 h x y
+empty-report cluster (Valued c j w b os ∷ es) a k low high v m legal h x y = empty-report cluster es a k low high v m legal.0 h x y
+empty-report cluster (Added c f ∷ es) a k low high v m legal h x y =
     elim (cases_Bool (c == a)) [
       | inl e ↦ let g : option_or (promised_through (facts_of es a) k low m) (range_promised k low m f) ≡ Some high = rw e at h in
-          rw e (by_case (eqb-true c a e) (λ i. empty-report cluster es a k low high v m legal.0 classic i x y) (promised_through (facts_of es a) k low m) refl g)
-      | inr e ↦ rw e (empty-report cluster es a k low high v m legal.0 classic (rw e at h) x y)
+          rw e (by_case (eqb-true c a e) (λ i. empty-report cluster es a k low high v m legal.0 i x y) (promised_through (facts_of es a) k low m) refl g)
+      | inr e ↦ rw e (empty-report cluster es a k low high v m legal.0 (rw e at h) x y)
     ]
   where
     new : (f : Fact) → IsAllowed cluster (Added c f ∷ es) → c ≡ a → range_promised k low m f ≡ Some high → IsEmptyReport (report_of 0 (f ∷ facts_of es a) k v m)
@@ -134,7 +138,7 @@ empty-report cluster (Added c f ∷ es) a k low high v m legal classic h x y =
                     let u : current_of (facts_of es a) k ≤ lo = subst (λ z. current_of (facts_of es z) k ≤ lo) s (subst (λ z. current_of (facts_of es c) z ≤ lo) ((Decides-key j k).0 both.1) w) in
                     let r = no-votes cluster es a k v m l.0 (omega (arith, u, lows, x)) in
                     let last : last_ballot (Fact.Promised j lo hi b ∷ facts_of es a) k v m ≡ fast_ballot = max-fast (last_ballot (facts_of es a) k v m) ∙ r.last in
-                    (last, r.votes (last_ballot (Fact.Promised j lo hi b ∷ facts_of es a) k v m))
+                    (last, none-either (is_fast m) _ (r.votes (last_ballot (Fact.Promised j lo hi b ∷ facts_of es a) k v m)))
               ]
           | inr e ↦ let bad : None ≡ Some high = rw e at g in absurd (cc)
         ]
@@ -145,18 +149,18 @@ empty-report cluster (Added c f ∷ es) a k low high v m legal classic h x y =
     by_case s rest (Some n) e g =
         let i : promised_through (facts_of es a) k low m ≡ Some high = e ∙ g in
         let p = through-promise (facts_of es a) k low high m v i (omega (arith, x)) y in
-        let r = fact-report cluster es c f k v m legal classic (subst (λ z. ballot_lt (promise_of (facts_of es z) k v) m ≡ false) (sym s) p) in
+        let r = fact-report cluster es c f k v m legal (subst (λ z. ballot_lt (promise_of (facts_of es z) k v) m ≡ false) (sym s) p) in
         let r' : report_of 0 (f ∷ facts_of es a) k v m ≡ report_of 0 (facts_of es a) k v m = subst (λ z. report_of 0 (f ∷ facts_of es z) k v m ≡ report_of 0 (facts_of es z) k v m) s r in
         subst IsEmptyReport (sym r') (rest i)
 
-pub reports-empty : (cluster : Cluster) (es : List Entry) (k : Key) (low v : ℕ) (m : Ballot) (ps : List Counted) → IsAllowed cluster es → is_fast m ≡ false → low < v → Each (IsPromise cluster es k low m) ps → Each (λ (p : Counted). (low ≤ v) × (v ≤ p.through)) ps →
+pub reports-empty : (cluster : Cluster) (es : List Entry) (k : Key) (low v : ℕ) (m : Ballot) (ps : List Counted) → IsAllowed cluster es → low < v → Each (IsPromise cluster es k low m) ps → Each (λ (p : Counted). (low ≤ v) × (v ≤ p.through)) ps →
     Each IsEmptyReport (reports_at es k v m (map (λ (p : Counted). p.from) ps))
-reports-empty cluster es k low v m [] legal classic x h g = tt
-reports-empty cluster es k low v m (p ∷ ps) legal classic x h g =
-    let before = empty-report cluster h.0.old p.from k low p.through v m (Allowed-tail cluster h.0.old es h.0.tail legal) classic h.0.promised x g.0.1 in
+reports-empty cluster es k low v m [] legal x h g = tt
+reports-empty cluster es k low v m (p ∷ ps) legal x h g =
+    let before = empty-report cluster h.0.old p.from k low p.through v m (Allowed-tail cluster h.0.old es h.0.tail legal) h.0.promised x g.0.1 in
     let promised = through-promise (facts_of h.0.old p.from) k low p.through m v h.0.promised g.0.0 g.0.1 in
-    let kept = report-kept cluster h.0.old es p.from k v m legal h.0.tail classic promised in
-    ((ap (λ (z : Report). z.ballot) kept.0 ∙ before.0, ap (λ (z : Report). z.votes) kept.0 ∙ before.1), reports-empty cluster es k low v m ps legal classic x h.1 g.1)
+    let kept = report-kept cluster h.0.old es p.from k v m legal h.0.tail promised in
+    ((ap (λ (z : Report). z.ballot) kept.0 ∙ before.0, ap (λ (z : Report). z.votes) kept.0 ∙ before.1), reports-empty cluster es k low v m ps legal x h.1 g.1)
 
 -- ---- the first structure of nothing but a claim
 

@@ -45,7 +45,7 @@ lasts cluster sizes old es a (Message.Outcome t o) tail legal l h = outcome-tail
 lasts cluster sizes old es a (Message.Prepare k v w b) tail legal l h = h
 lasts cluster sizes old es a (Message.Promise k v w b r os) tail legal l h =
     let promised = through-promise (facts_of old a) k v w b v h.0 (omega arith) h.1 in
-    (promised-tail old es a k v b w tail h.0, h.1, (report-kept cluster old es a k v b legal tail h.3 promised).0 ∙ h.2, h.3)
+    (promised-tail old es a k v b w tail h.0, h.1, (report-kept cluster old es a k v b legal tail promised).0 ∙ h.2, h.3)
 lasts cluster sizes old es a (Message.Accept k v b os) tail legal l h = (h.0, valued-tail old es k v b os tail h.1)
 lasts cluster sizes old es a (Message.SyncGive k v item adds) tail legal l h = absurd l
 lasts cluster sizes old es a (Message.Escalate k v t cause) tail legal l h = h

@@ -21,7 +21,7 @@ use Rattle.mdcc_struct.specs.declared.report.Report.{Report}
 use Rattle.mdcc_struct.specs.Forced.{ballot_reported, forced_of, marks_reported, reports_with}
 use Rattle.mdcc_protocol.specs.Marks.{choice_in}
 use Rattle.mdcc_messages.specs.declared.facts.Fact.{Fact}
-use Rattle.mdcc_protocol.specs.Facts.{marks_voted, report_of, votes_of}
+use Rattle.mdcc_protocol.specs.Facts.{last_ballot, marks_voted, report_of, votes_of}
 use Rattle.mdcc_protocol.specs.Structures.{all_claims, choices_reported, first_structure, is_accepted, is_left_out, mark_of_choice, with_choice, with_claim}
 use Rattle.mdcc_ledger.specs.Ledger.{Entry, choices_begun, facts_of}
 use Rattle.mdcc_ledger.specs.AllowedLedgers.{IsAllowed, are_begun, is_begun, is_own_mark, reports_at}
@@ -36,6 +36,7 @@ use Rattle.mdcc_trace_states.proofs.Ledgers.{In-any, mark-tail}
 use Rattle.mdcc_trace_rules.proofs.Deciding.{begun-tx}
 use Rattle.mdcc_trace_rules.proofs.Chains.{HasOnce, once-at, once-union}
 use Rattle.mdcc_trace_rules.proofs.Promises.{report-kept, through-promise}
+use Rattle.mdcc_trace.proofs.Safety.{votes-told}
 use Rattle.mdcc_trace_states.proofs.Tests.{Decides-tx, Decides-key}
 use Rattle.mdcc_base.specs.Key.{key_eq}
 
@@ -175,23 +176,23 @@ once-votes : (fs : List Fact) (k : Key) (v : ℕ) (b : Ballot) → HasOnce (vote
 once-votes [] k v b = tt
 once-votes (f ∷ fs) k v b = once-union (votes_of fs k v b) (marks_voted k v b f) (once-votes fs k v b)
 
-votes-are : (fs : List Fact) (k : Key) (v : ℕ) (b c : Ballot) (os : Options) → report_of 0 fs k v b ≡ record { centre = 0; ballot = c; votes = os } → votes_of fs k v c ≡ os
-votes-are fs k v b c os h =
+votes-are : (fs : List Fact) (k : Key) (v : ℕ) (b c : Ballot) (os : Options) → is_fast b ≡ false → report_of 0 fs k v b ≡ record { centre = 0; ballot = c; votes = os } → votes_of fs k v c ≡ os
+votes-are fs k v b c os classic h =
     let l : (report_of 0 fs k v b).ballot ≡ c = ap (λ (z : Report). z.ballot) h in
-    let w : (report_of 0 fs k v b).votes ≡ os = ap (λ (z : Report). z.votes) h in
+    let w : votes_of fs k v (last_ballot fs k v b) ≡ os = sym (votes-told 0 fs k v b classic) ∙ ap (λ (z : Report). z.votes) h in
     subst (λ z. votes_of fs k v z ≡ os) l w
 
-pub promise-report : (cluster : Cluster) (es : List Entry) (k : Key) (v : ℕ) (b : Ballot) (p : Counted) → IsSound es → IsPromise cluster es k v b p → IsGoodReport es k v (record { centre = p.from; ballot = p.reported; votes = p.votes })
-promise-report cluster es k v b p sound h =
-    let same = votes-are (facts_of h.old p.from) k v b p.reported p.votes h.report in
+pub promise-report : (cluster : Cluster) (es : List Entry) (k : Key) (v : ℕ) (b : Ballot) (p : Counted) → is_fast b ≡ false → IsSound es → IsPromise cluster es k v b p → IsGoodReport es k v (record { centre = p.from; ballot = p.reported; votes = p.votes })
+promise-report cluster es k v b p classic sound h =
+    let same = votes-are (facts_of h.old p.from) k v b p.reported p.votes classic h.report in
     record {
       once = subst HasOnce same (once-votes (facts_of h.old p.from) k v p.reported);
       sound = λ t m i. sound.votes k v p.reported t p.from m (mark-tail h.old es k v p.reported t p.from m h.tail (subst (λ z. value_of z t ≡ Some m) (sym same) i));
     }
 
-pub reports-good : (cluster : Cluster) (es : List Entry) (k : Key) (v : ℕ) (b : Ballot) (ps : List Counted) → IsSound es → Each (IsPromise cluster es k v b) ps → Each (IsGoodReport es k v) (reports_of ps)
-reports-good cluster es k v b [] sound h = tt
-reports-good cluster es k v b (p ∷ ps) sound h = (promise-report cluster es k v b p sound h.0, reports-good cluster es k v b ps sound h.1)
+pub reports-good : (cluster : Cluster) (es : List Entry) (k : Key) (v : ℕ) (b : Ballot) (ps : List Counted) → is_fast b ≡ false → IsSound es → Each (IsPromise cluster es k v b) ps → Each (IsGoodReport es k v) (reports_of ps)
+reports-good cluster es k v b [] classic sound h = tt
+reports-good cluster es k v b (p ∷ ps) classic sound h = (promise-report cluster es k v b p classic sound h.0, reports-good cluster es k v b ps classic sound h.1)
 
 report-made : ℕ → Report → Report
 report-made a r = record { centre = a; ballot = r.ballot; votes = r.votes }
@@ -201,13 +202,13 @@ unfolding report-made
 report-again a fs k v b c os h = ap (report-made a) (sym h)
 
 -- they are the reports of now
-pub reports-now : (cluster : Cluster) (es : List Entry) (k : Key) (v : ℕ) (b : Ballot) (ps : List Counted) → IsAllowed cluster es → is_fast b ≡ false → Each (IsPromise cluster es k v b) ps → Each (λ (p : Counted). v ≤ p.through) ps → reports_of ps ≡ reports_at es k v b (map (λ (p : Counted). p.from) ps)
-reports-now cluster es k v b [] legal classic h g = refl
-reports-now cluster es k v b (p ∷ ps) legal classic h g =
+pub reports-now : (cluster : Cluster) (es : List Entry) (k : Key) (v : ℕ) (b : Ballot) (ps : List Counted) → IsAllowed cluster es → Each (IsPromise cluster es k v b) ps → Each (λ (p : Counted). v ≤ p.through) ps → reports_of ps ≡ reports_at es k v b (map (λ (p : Counted). p.from) ps)
+reports-now cluster es k v b [] legal h g = refl
+reports-now cluster es k v b (p ∷ ps) legal h g =
     let promised = through-promise (facts_of h.0.old p.from) k v p.through b v h.0.promised (omega arith) g.0 in
-    let kept = report-kept cluster h.0.old es p.from k v b legal h.0.tail classic promised in
+    let kept = report-kept cluster h.0.old es p.from k v b legal h.0.tail promised in
     let one : ◌≡◌ {A = Report} (record { centre = p.from; ballot = p.reported; votes = p.votes }) (report_of p.from (facts_of es p.from) k v b) = report-again p.from (facts_of es p.from) k v b p.reported p.votes (kept.0 ∙ h.0.report) in
-    let rest = reports-now cluster es k v b ps legal classic h.1 g.1 in cc
+    let rest = reports-now cluster es k v b ps legal h.1 g.1 in cc
 
 -- ---- the choices that are accepted are begun
 

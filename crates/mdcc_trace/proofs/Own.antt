@@ -1,5 +1,5 @@
 -- A message that tells the truth is of the cluster.
-use Rattle.std.proofs.Common.{Bool, List, Option, Some, [], ap, arith, inl, inr, length, map, refl, subst, sym, true, ℕ, ◌&&◌, ◌<◌, ◌==◌, ◌∷◌, ◌≡◌}
+use Rattle.std.proofs.Common.{Bool, List, Option, Some, [], ap, arith, inl, inr, length, map, refl, subst, sym, true, ℕ, ◌&&◌, ◌<◌, ◌==◌, ◌∙◌, ◌∷◌, ◌≡◌}
 use Rattle.std.specs.List.{list_any}
 use Rattle.std.proofs.lemmas.Bool.{and_from, and_parts, or_cases, or_right}
 use Rattle.mdcc_base.specs.AreQuorums.{AreQuorums}
@@ -32,6 +32,7 @@ use Rattle.mdcc_trace_states.proofs.Tests.{Decides-ballot, Decides-options}
 use Rattle.mdcc_trace_rules.proofs.Chosen.{chosen-given, chosen-to}
 use Rattle.mdcc_trace_rules.proofs.Deciding.{begun-tx, outcome-belongs}
 use Rattle.mdcc_trace_rules.proofs.Outcomes.{outcome-begun}
+use Rattle.mdcc_trace.proofs.Safety.{votes-told}
 
 -- ---- begun choices
 
@@ -135,7 +136,7 @@ own cluster sizes es a (Message.Promise k v w b r os) legal here h =
     reported = ap (λ (z : Report). z.ballot) h.2
 
     voted : votes_of (facts_of es a) k v (last_ballot (facts_of es a) k v b) ≡ os
-    voted = ap (λ (z : Report). z.votes) h.2
+    voted = sym (votes-told 0 (facts_of es a) k v b h.3) ∙ ap (λ (z : Report). z.votes) h.2
 own cluster sizes es a (Message.Accept k v b os) legal here h = let g = valued-of cluster es k v b os legal h.1 in and_from (ballot_belongs cluster b) (options_belong cluster os) g.0 g.1
 own cluster sizes es a (Message.SyncGive k v item adds) legal here h =
     let facts = facts-belong cluster es a legal in

@@ -1,8 +1,9 @@
 -- One mark: a mark that is chosen is in every structure above its ballot.
-use Rattle.std.proofs.Common.{Bool, List, Option, [], ap, arith, inl, inr, length, refl, subst, suc, sym, true, zero, ℕ, ◌+◌, ◌<◌, ◌==◌, ◌∙◌, ◌∷◌, ◌≡◌, ◌≤◌}
+use Rattle.std.proofs.Common.{Bool, List, Option, [], ap, arith, false, inl, inr, length, refl, subst, suc, sym, true, zero, ℕ, ◌+◌, ◌<◌, ◌==◌, ◌∙◌, ◌∷◌, ◌≡◌, ◌≤◌}
 use Rattle.std.specs.Prelude.{filter, fold}
 use Rattle.std.specs.List.{list_all, list_any, range_with_len}
 use Rattle.std.proofs.lemmas.Bool.{and_parts, cases_Bool, eq-eqb, eqb-true, or_cases, or_left, or_right, true≢false}
+use Rattle.mdcc_base.specs.Ballot.{is_fast}
 use Rattle.mdcc_base.specs.declared.identifiers.Ballot.{Ballot}
 use Rattle.mdcc_base.specs.declared.key.Key.{Key}
 use Rattle.mdcc_base.specs.declared.identifiers.TxId.{TxId}
@@ -11,7 +12,7 @@ use Rattle.mdcc_option.specs.declared.cluster.Cluster.{Cluster}
 use Rattle.mdcc_struct.specs.declared.options.Options.{Options}
 use Rattle.mdcc_struct.specs.declared.report.Report.{Report}
 use Rattle.mdcc_messages.specs.declared.facts.Fact.{Fact}
-use Rattle.mdcc_protocol.specs.Facts.{report_of}
+use Rattle.mdcc_protocol.specs.Facts.{last_ballot, report_of, votes_of}
 use Rattle.mdcc_protocol.specs.Structures.{with_claim}
 use Rattle.mdcc_ledger.specs.Ledger.{Entry, facts_of}
 use Rattle.mdcc_ledger.specs.AllowedLedgers.{reports_at}
@@ -59,6 +60,10 @@ of-reports es k v m (b ∷ bs) r i = elim i [ inl s ↦ (b, inl refl, s) | inr j
 pub length-reports : (es : List Entry) (k : Key) (v : ℕ) (m : Ballot) (as' : List ℕ) → length (reports_at es k v m as') ≡ length as'
 length-reports es k v m [] = refl
 length-reports es k v m (b ∷ bs) = omega (arith, length-reports es k v m bs)
+
+-- above the fast ballot a centre reports its votes
+pub votes-told : (a : ℕ) (fs : List Fact) (k : Key) (v : ℕ) (m : Ballot) → is_fast m ≡ false → (report_of a fs k v m).votes ≡ votes_of fs k v (last_ballot fs k v m)
+votes-told a fs k v m classic = rw classic refl
 
 pub count-reports : (es : List Entry) (k : Key) (v : ℕ) (m : Ballot) (p : Report → Bool) (as' : List ℕ) → count p (reports_at es k v m as') ≡ count (λ a. p (report_of a (facts_of es a) k v m)) as'
 count-reports es k v m p [] = refl

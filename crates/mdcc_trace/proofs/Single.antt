@@ -33,7 +33,7 @@ use Rattle.mdcc_trace_rules.proofs.Chains.{backed, extends-claim, is-here, last-
 use Rattle.mdcc_trace_rules.proofs.Accepting.{same-mark}
 use Rattle.mdcc_trace_rules.proofs.Order.{fast-least, ge-trans, lt-cases}
 use Rattle.mdcc_trace.proofs.Kin.{count-both, count-not, has-promise, ids-differ, last-ge, last-mark, length-range, reported-one, top-most, top-there, votes-kept}
-use Rattle.mdcc_trace.proofs.Safety.{all-at, all-true, any-in, claims-extend, count-in, count-reports, in-any, in-filter, in-range-bounds, in-reports, length-reports, of-reports, tail-drop}
+use Rattle.mdcc_trace.proofs.Safety.{all-at, all-true, any-in, claims-extend, count-in, count-reports, in-any, in-filter, in-range-bounds, in-reports, length-reports, of-reports, tail-drop, votes-told}
 use Rattle.mdcc_struct.proofs.Reports.{enough_forced}
 
 pub size-classic : (q : Sizes) → AreQuorums q → (b : Ballot) → q.classic ≤ quorum_size q b
@@ -83,7 +83,9 @@ module _ (cluster : Cluster) (sizes : AreQuorums cluster.quorums) (all : List En
         ]
 
     gives : (a : ℕ) → In a cs → voters a ≡ true → top ≡ b → value_of (report_of a (facts_of old a) k v m).votes t ≡ Some x
-    gives a i h s = subst (λ z. value_of (votes_of (facts_of old a) k v z) t ≡ Some x) (sym (at-top a i h s)) (kept a i h)
+    gives a i h s =
+        ap (λ (z : Options). value_of z t) (votes-told a (facts_of old a) k v m classic)
+        ∙ subst (λ z. value_of (votes_of (facts_of old a) k v z) t ≡ Some x) (sym (at-top a i h s)) (kept a i h)
 
     -- some member of the set is a voter
     met : (a : ℕ) × (In a cs) × (voters a ≡ true)
@@ -105,7 +107,7 @@ module _ (cluster : Cluster) (sizes : AreQuorums cluster.quorums) (all : List En
             let f = In-filter (λ (r : Report). ballot_eq r.ballot top) rs q j in
             let o = of-reports old k v m cs q f.0 in
             let l : last_ballot (facts_of old o.0) k v m ≡ top = ap (λ (z : Report). z.ballot) (sym o.2) ∙ (Decides-ballot q.ballot top).0 f.1 in
-            let w : value_of (votes_of (facts_of old o.0) k v (last_ballot (facts_of old o.0) k v m)) t ≡ Some y = subst (λ (z : Report). value_of z.votes t ≡ Some y) o.2 h in
+            let w : value_of (votes_of (facts_of old o.0) k v (last_ballot (facts_of old o.0) k v m)) t ≡ Some y = ap (λ (z : Options). value_of z t) (sym (votes-told o.0 (facts_of old o.0) k v m classic)) ∙ subst (λ (z : Report). value_of z.votes t ≡ Some y) o.2 h in
             same-mark cluster old o.0 k v top s t x y before nf was in-s (subst (λ z. value_of (votes_of (facts_of old o.0) k v z) t ≡ Some y) l w)
 
     -- the votes of a centre at a classic ballot are a structure
@@ -139,7 +141,8 @@ module _ (cluster : Cluster) (sizes : AreQuorums cluster.quorums) (all : List En
                   let in-z : value_of z.structure t ≡ Some x = safe top z.structure l z.was in
                   let votes : value_of (votes_of (facts_of old o.0) k v top) t ≡ Some x = z.same t ∙ in-z in
                   let has : value_of r.0.votes t ≡ Some x =
-                  subst (λ (q : Report). value_of q.votes t ≡ Some x) (sym o.2) (subst (λ y. value_of (votes_of (facts_of old o.0) k v y) t ≡ Some x) (sym at) votes) in
+                  subst (λ (q : Report). value_of q.votes t ≡ Some x) (sym o.2)
+                  (ap (λ (z : Options). value_of z t) (votes-told o.0 (facts_of old o.0) k v m classic) ∙ subst (λ y. value_of (votes_of (facts_of old o.0) k v y) t ≡ Some x) (sym at) votes) in
                   classic-forced r.0 r.1 r.2 nf has z.structure z.was in-z
             ]
           ]

@@ -186,7 +186,7 @@ module _ (also : List Entry → Type 0) (well : IsWell also) (cluster : Cluster)
       reaches qs h = Each-like (IsPromise cluster es x.key x.version x.ballot) (λ (p : Counted). x.version ≤ p.through) qs (λ p i. i.reach) h
 
       now : reports_of ps ≡ reports_at es x.key x.version x.ballot (map (λ (p : Counted). p.from) ps)
-      now = reports-now cluster es x.key x.version x.ballot ps up.legal (round-classic x.ballot g.above) promises (reaches ps promises)
+      now = reports-now cluster es x.key x.version x.ballot ps up.legal promises (reaches ps promises)
 
       ranges : Each (λ (p : Counted). (x.version ≤ x.version) × (x.version ≤ p.through)) ps
       ranges = Each-like (λ (p : Counted). x.version ≤ p.through) (λ (p : Counted). (x.version ≤ x.version) × (x.version ≤ p.through)) ps (λ p h. (omega arith, h)) (reaches ps promises)
@@ -214,7 +214,7 @@ module _ (also : List Entry → Type 0) (well : IsWell also) (cluster : Cluster)
           },
         );
         once = once-first cluster (facts_of es a) x.key x.version x.claims (reports_of ps);
-        sound = first-sound cluster (facts_of es a) es x.key x.version x.claims (reports_of ps) g.claims (reports-good cluster es x.key x.version x.ballot ps (well.sound es up.more) promises);
+        sound = first-sound cluster (facts_of es a) es x.key x.version x.claims (reports_of ps) g.claims (reports-good cluster es x.key x.version x.ballot ps (round-classic x.ballot g.above) (well.sound es up.more) promises);
       }
 
       lead : IsRight x x.version os → IsLead cluster (Valued a x.key x.version x.ballot os ∷ es) a volatile.leader.last_rounds (record x { promises = ps; claims = []; structures = (x.version, os) ∷ [] })

@@ -35,7 +35,7 @@ use Rattle.mdcc_trace_states.proofs.Belonging.{facts-belong, promise-belongs}
 use Rattle.mdcc_trace_rules.proofs.Begins.{sends-good}
 use Rattle.mdcc_trace_states.proofs.Boots.{kind}
 use Rattle.mdcc_trace_rules.proofs.Votings.{fast-parts, mark-parts}
-use Rattle.mdcc_trace_rules.proofs.Order.{fast-below, ge-trans, lt-irrefl, max-fast, max-left, max-right}
+use Rattle.mdcc_trace_rules.proofs.Order.{fast-below, fast-least, ge-trans, lt-irrefl, max-fast, max-left, max-right}
 use Rattle.mdcc_trace_rules.specs.Closed.{IsClosed}
 use Rattle.mdcc_trace_states.specs.Steps.{IsUp}
 
@@ -150,28 +150,39 @@ reports : (b : Ballot) (os : Options) (b' : Ballot) (os' : Options) → made-rep
 unfolding made-report
 reports b os b' os' h = h
 
--- one more fact leaves the report below a ballot that was promised
-pub fact-report : (cluster : Cluster) (es : List Entry) (c : ℕ) (f : Fact) (k : Key) (v : ℕ) (m : Ballot) → IsAllowed cluster (Added c f ∷ es) → is_fast m ≡ false → ballot_lt (promise_of (facts_of es c) k v) m ≡ false →
-    report_of 0 (f ∷ facts_of es c) k v m ≡ report_of 0 (facts_of es c) k v m
-fact-report cluster es c f k v m legal classic promised = by-fact f legal
-  where
-    fs : List Fact
-    fs = facts_of es c
+-- no ballot is below the fast one
+last-fast : (fs : List Fact) (k : Key) (v : ℕ) (m : Ballot) → is_fast m ≡ true → last_ballot fs k v m ≡ fast_ballot
+last-fast fs k v m h =
+    elim (last-below fs k v m) [
+      | inl e ↦ e
+      | inr e ↦ absurd (true≢false (sym (subst (λ z. ballot_lt (last_ballot fs k v m) z ≡ true) ((Decides-ballot m fast_ballot).0 h) e) ∙ fast-least (last_ballot fs k v m)))
+    ]
 
+-- one more fact leaves the report below a ballot that was promised
+pub fact-report : (cluster : Cluster) (es : List Entry) (c : ℕ) (f : Fact) (k : Key) (v : ℕ) (m : Ballot) → IsAllowed cluster (Added c f ∷ es) → ballot_lt (promise_of (facts_of es c) k v) m ≡ false →
+    report_of 0 (f ∷ facts_of es c) k v m ≡ report_of 0 (facts_of es c) k v m
+fact-report cluster es c f k v m legal promised =
+    elim (cases_Bool (is_fast m)) [
+      | inl e ↦
+          let l : last_ballot (f ∷ facts_of es c) k v m ≡ last_ballot (facts_of es c) k v m = last-fast (f ∷ facts_of es c) k v m e ∙ sym (last-fast (facts_of es c) k v m e) in
+          rw e (reports _ _ _ _ (ap (λ z. made-report z []) l))
+      | inr e ↦ by-fact e f legal
+    ]
+  where
     same : (f : Fact) → ballot_voted k v m f ≡ fast_ballot → marks_voted k v (last_ballot (facts_of es c) k v m) f ≡ [] → report_of 0 (f ∷ facts_of es c) k v m ≡ report_of 0 (facts_of es c) k v m
     same f e g =
         let l : last_ballot (f ∷ facts_of es c) k v m ≡ last_ballot (facts_of es c) k v m = ap (ballot_max (last_ballot (facts_of es c) k v m)) e ∙ max-fast (last_ballot (facts_of es c) k v m) in
         let w : votes_of (f ∷ facts_of es c) k v (last_ballot (facts_of es c) k v m) ≡ votes_of (facts_of es c) k v (last_ballot (facts_of es c) k v m) = ap (union (votes_of (facts_of es c) k v (last_ballot (facts_of es c) k v m))) g in
-        let r : made-report (last_ballot (f ∷ facts_of es c) k v m) (votes_of (f ∷ facts_of es c) k v (last_ballot (f ∷ facts_of es c) k v m)) ≡ made-report (last_ballot (facts_of es c) k v m) (votes_of (f ∷ facts_of es c) k v (last_ballot (facts_of es c) k v m)) =
-        ap (λ z. made-report z (votes_of (f ∷ facts_of es c) k v z)) l in
-        reports _ _ _ _ (r ∙ ap (made-report (last_ballot (facts_of es c) k v m)) w)
+        let r : made-report (last_ballot (f ∷ facts_of es c) k v m) (cond (is_fast m) [] (votes_of (f ∷ facts_of es c) k v (last_ballot (f ∷ facts_of es c) k v m))) ≡ made-report (last_ballot (facts_of es c) k v m) (cond (is_fast m) [] (votes_of (f ∷ facts_of es c) k v (last_ballot (facts_of es c) k v m))) =
+        ap (λ z. made-report z (cond (is_fast m) [] (votes_of (f ∷ facts_of es c) k v z))) l in
+        reports _ _ _ _ (r ∙ ap (λ (z : Options). made-report (last_ballot (facts_of es c) k v m) (cond (is_fast m) [] z)) w)
 
-    by-fact : (f : Fact) → IsAllowed cluster (Added c f ∷ es) → report_of 0 (f ∷ facts_of es c) k v m ≡ report_of 0 (facts_of es c) k v m
-    by-fact (Fact.Booted n) legal = same (Fact.Booted n) refl refl
-    by-fact (Fact.Promised j lo hi b) legal = same (Fact.Promised j lo hi b) refl refl
-    by-fact (Fact.Heard t o) legal = same (Fact.Heard t o) refl refl
-    by-fact (Fact.Adopted j w it ds) legal = same (Fact.Adopted j w it ds) refl refl
-    by-fact (Fact.Voted j w b os off) legal =
+    by-fact : is_fast m ≡ false → (f : Fact) → IsAllowed cluster (Added c f ∷ es) → report_of 0 (f ∷ facts_of es c) k v m ≡ report_of 0 (facts_of es c) k v m
+    by-fact classic (Fact.Booted n) legal = same (Fact.Booted n) refl refl
+    by-fact classic (Fact.Promised j lo hi b) legal = same (Fact.Promised j lo hi b) refl refl
+    by-fact classic (Fact.Heard t o) legal = same (Fact.Heard t o) refl refl
+    by-fact classic (Fact.Adopted j w it ds) legal = same (Fact.Adopted j w it ds) refl refl
+    by-fact classic (Fact.Voted j w b os off) legal =
         elim (cases_Bool (w == v && key_eq j k)) [
           | inl e ↦
               let p = and_parts (w == v) (key_eq j k) e in
@@ -224,13 +235,13 @@ fact-report cluster es c f k v m legal classic promised = by-fact f legal
 pub promise-stays : (f : Fact) (fs : List Fact) (k : Key) (v : ℕ) (m : Ballot) → ballot_lt (promise_of fs k v) m ≡ false → ballot_lt (promise_of (f ∷ fs) k v) m ≡ false
 promise-stays f fs k v m h = max-left (promise_of fs k v) (ballot_promised k v f) m h
 
-pub report-kept : (cluster : Cluster) (old es : List Entry) (a : ℕ) (k : Key) (v : ℕ) (m : Ballot) → IsAllowed cluster es → IsTail old es → is_fast m ≡ false → ballot_lt (promise_of (facts_of old a) k v) m ≡ false →
+pub report-kept : (cluster : Cluster) (old es : List Entry) (a : ℕ) (k : Key) (v : ℕ) (m : Ballot) → IsAllowed cluster es → IsTail old es → ballot_lt (promise_of (facts_of old a) k v) m ≡ false →
     (report_of 0 (facts_of es a) k v m ≡ report_of 0 (facts_of old a) k v m) × (ballot_lt (promise_of (facts_of es a) k v) m ≡ false)
-report-kept cluster old [] a k v m legal tail classic h = subst (λ z. (report_of 0 (facts_of z a) k v m ≡ report_of 0 (facts_of old a) k v m) × (ballot_lt (promise_of (facts_of z a) k v) m ≡ false)) tail (refl, h)
-report-kept cluster old (e ∷ es) a k v m legal tail classic h =
+report-kept cluster old [] a k v m legal tail h = subst (λ z. (report_of 0 (facts_of z a) k v m ≡ report_of 0 (facts_of old a) k v m) × (ballot_lt (promise_of (facts_of z a) k v) m ≡ false)) tail (refl, h)
+report-kept cluster old (e ∷ es) a k v m legal tail h =
     elim tail [
       | inl s ↦ subst (λ z. (report_of 0 (facts_of z a) k v m ≡ report_of 0 (facts_of old a) k v m) × (ballot_lt (promise_of (facts_of z a) k v) m ≡ false)) s (refl, h)
-      | inr r ↦ next e legal (report-kept cluster old es a k v m legal.0 r classic h)
+      | inr r ↦ next e legal (report-kept cluster old es a k v m legal.0 r h)
     ]
   where
     next : (e : Entry) → IsAllowed cluster (e ∷ es) → (report_of 0 (facts_of es a) k v m ≡ report_of 0 (facts_of old a) k v m) × (ballot_lt (promise_of (facts_of es a) k v) m ≡ false) →
@@ -242,7 +253,7 @@ report-kept cluster old (e ∷ es) a k v m legal tail classic h =
           | inl e ↦
               let s : c ≡ a = eqb-true c a e in
               let p : ballot_lt (promise_of (facts_of es c) k v) m ≡ false = subst (λ z. ballot_lt (promise_of (facts_of es z) k v) m ≡ false) (sym s) g.1 in
-              let r = fact-report cluster es c f k v m legal classic p in
+              let r = fact-report cluster es c f k v m legal p in
               let r' : report_of 0 (f ∷ facts_of es a) k v m ≡ report_of 0 (facts_of es a) k v m = subst (λ z. report_of 0 (f ∷ facts_of es z) k v m ≡ report_of 0 (facts_of es z) k v m) s r in
               rw e (r' ∙ g.0, promise-stays f (facts_of es a) k v m g.1)
           | inr e ↦ rw e g
@@ -369,7 +380,7 @@ module _ (also : List Entry → Type 0) (shut : IsClosed also) (cluster : Cluste
               ap (λ z. made z) (max-fast (last_ballot (facts_of es a) k v b))
             where
               made : Ballot → Report
-              made z = record { centre = 0; ballot = z; votes = votes_of (facts_of es a) k v z }
+              made z = record { centre = 0; ballot = z; votes = cond (is_fast b) [] (votes_of (facts_of es a) k v z) }
 
   pub prepare-good : IsGoodBy cluster also es a (prepare_step a (facts_of es a) volatile l k v w b) (prepare_step a (facts_of es a) volatile l k v w b).fact
   prepare-good =

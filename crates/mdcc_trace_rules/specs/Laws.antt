@@ -1,6 +1,6 @@
 -- What of an allowed ledger lasts, and in what order its structures stand.
 use Rattle.std.specs.Prelude.{List, Some, false, true, ℕ, ◌-◌, ◌^◌, ◌≡◌, ◌≤◌, ◌⊎◌}
-use Rattle.mdcc_base.specs.Ballot.{ballot_lt, is_fast}
+use Rattle.mdcc_base.specs.Ballot.{ballot_lt}
 use Rattle.mdcc_base.specs.declared.identifiers.Ballot.{Ballot}
 use Rattle.mdcc_base.specs.declared.identifiers.TxId.{TxId}
 use Rattle.mdcc_base.specs.declared.key.Key.{Key}
@@ -21,7 +21,7 @@ Extends less more = (t : TxId) (x : Mark) → value_of less t ≡ Some x → val
 abbrev pub ReportsLast : Type 0
 ReportsLast =
     (cluster : Cluster) (old es : List Entry) (a : ℕ) (key : Key) (version : ℕ) (ballot : Ballot)
-    → IsAllowed cluster es → IsTail old es → is_fast ballot ≡ false
+    → IsAllowed cluster es → IsTail old es
     → ballot_lt (promise_of (facts_of old a) key version) ballot ≡ false
     → (report_of 0 (facts_of es a) key version ballot ≡ report_of 0 (facts_of old a) key version ballot)
     × (ballot_lt (promise_of (facts_of es a) key version) ballot ≡ false)
