@@ -6,7 +6,6 @@ pub mod accept;
 mod bounded;
 pub mod prepare;
 pub mod propose;
-mod room;
 
 pub use accept::on_accept;
 pub use mdcc_protocol::{AcceptAnswer, PrepareAnswer, ProposeAnswer};

@@ -6,10 +6,9 @@ ghost use Rattle.mdcc_protocol.specs.Facts.{vote_of};
 ghost use Rattle.mdcc_protocol.specs.Marks.{seen_in};
 
 use crate::bounded::is_bounded;
-use crate::room::{accept_room, reject_room};
 use mdcc_base::{Ballot, Plain, TxId};
 use mdcc_escrow::laws::capped_loads_are_bounded;
-use mdcc_escrow::{Fit, fast_fit};
+use mdcc_escrow::{Fit, accept_room, fast_fit, reject_room};
 use mdcc_facts::FactStore;
 use mdcc_option::{Cause, Choice, Cluster, Mark, Update};
 use mdcc_protocol::ProposeAnswer;

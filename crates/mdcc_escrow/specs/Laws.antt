@@ -1,5 +1,5 @@
 -- What the two fits have to do with one another, and with the loads that stores answer.
-use Rattle.std.specs.Prelude.{List, Option, ◌≡◌, ◌≢◌, ℕ}
+use Rattle.std.specs.Prelude.{List, Option, fold, ◌≡◌, ◌≢◌, ℕ}
 use Rattle.mdcc_base.specs.declared.identifiers.TxId.{TxId}
 use Rattle.mdcc_option.specs.declared.cluster.Cluster.{Cluster}
 use Rattle.mdcc_option.specs.declared.items.Item.{Item}
@@ -9,6 +9,7 @@ use Rattle.mdcc_protocol.specs.Fit.{capped, exact_fit, fast_fit, load_of}
 use Rattle.mdcc_protocol.specs.declared.fit.Fit.{Fit}
 use Rattle.mdcc_protocol.specs.declared.fit.Load.{Load}
 use Rattle.mdcc_escrow.specs.Sums.{IsBoundedLoad}
+use Rattle.mdcc_escrow.specs.Weights.{no_load, with_live}
 
 -- a leader knows no limit
 abbrev pub ExactFitHasNoLimit : Type 0
@@ -37,3 +38,7 @@ MisfitsAreTheSame =
 -- what a store answers may be asked for a fit
 abbrev pub CappedLoadsAreBounded : Type 0
 CappedLoadsAreBounded = (live : TxMap Update) (seen : List TxId) → IsBoundedLoad (capped (load_of live seen))
+
+-- the load that a store answers is summed up from that of nothing
+abbrev pub LoadsAreSummed : Type 0
+LoadsAreSummed = (live : TxMap Update) (seen : List TxId) → fold (with_live seen) no_load live ≡ capped (load_of live seen)

@@ -1,4 +1,5 @@
 pub mod Capped
 pub mod Laws
 pub mod Sums
+pub mod Weights
 pub mod WithinRange

@@ -1,6 +1,6 @@
 //! What the two fits have to do with one another, and with the loads that stores answer.
 ghost use Rattle.mdcc_escrow.specs.Capped.{ExactFitsOfCappedLoads, FastFitsOfCappedLoads};
-ghost use Rattle.mdcc_escrow.specs.Laws.{CappedLoadsAreBounded, ExactFitHasNoLimit, FastFitsFitExactly, LimitsFitExactly, MisfitsAreTheSame};
+ghost use Rattle.mdcc_escrow.specs.Laws.{CappedLoadsAreBounded, ExactFitHasNoLimit, FastFitsFitExactly, LimitsFitExactly, LoadsAreSummed, MisfitsAreTheSame};
 
 /// The exact fit never answers a limit.
 pub fn exact_fit_has_no_limit()
@@ -17,6 +17,13 @@ pub fn fast_fit_is_exact_but_for_the_limit()
 /// The load that a store answers meets the condition of the fits.
 pub fn capped_loads_are_bounded()
     ensures { CappedLoadsAreBounded }
+{}
+
+/// Live choices that are taken into the load of nothing, one after the other, make the load that a
+/// store answers.
+#[tactic(auto, using(crate::proofs::Weighing::load_summed))]
+pub fn loads_are_summed()
+    ensures { LoadsAreSummed }
 {}
 
 /// No answer depends on where the counts and sums of a load stop.

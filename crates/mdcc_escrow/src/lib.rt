@@ -1,12 +1,16 @@
-//! Whether an option fits beside the live options of its instance: within an acceptor's share of
-//! the room at the fast ballot, and exactly at a leader.
+//! What the live options of an instance weigh, and whether a further one fits beside them: within an
+//! acceptor's share of the room at the fast ballot, and exactly at a leader.
 #![tactic(auto)]
 
 mod attributes;
 mod declared;
 pub mod fits;
 pub mod laws;
+pub mod load;
 mod quantity;
+pub mod room;
 
 pub use fits::{exact_fit, fast_fit};
+pub use load::{NO_LOAD, with_live};
 pub use mdcc_protocol::{Fit, Load};
+pub use room::{accept_room, reject_room};

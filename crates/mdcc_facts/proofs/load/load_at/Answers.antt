@@ -1,10 +1,10 @@
 use Rattle.std.proofs.Common.{◌≡◌, ◌∙◌, Some, sym, reverse}
 use Rattle.mdcc_protocol.specs.Facts.{live_and_void, live_of}
+use Rattle.mdcc_escrow.specs.Weights.{with_live}
 use Rattle.mdcc_facts.specs.Walks.{is_not_void, next_tx}
-use Rattle.mdcc_facts.specs.Weights.{with_live}
+use Rattle.mdcc_escrow.proofs.Weighing.{load_summed}
 use Rattle.mdcc_facts.proofs.Gathered.{ascending-live}
 use Rattle.mdcc_facts.proofs.Walking.{fold-end, fold-next, rest-shorter}
-use Rattle.mdcc_facts.proofs.Weighing.{load_summed}
 use Rattle.mdcc_facts.proofs.load.load_at.Goals as goal
 
 pub loop-tx-preserved : goal.loop-tx-preserved

@@ -1,7 +1,7 @@
 use Rattle.std.proofs.Common.{◌≡◌, fold, length}
 use Rattle.std.specs.Prelude.{reverse}
+use Rattle.mdcc_escrow.specs.Weights.{no_load, with_live}
 use Rattle.mdcc_facts.specs.Walks.{is_not_void, rest_of}
-use Rattle.mdcc_facts.specs.Weights.{no_load, with_live}
 use Rattle.mdcc_protocol.specs.Facts.{live_and_void, live_of}
 use Rattle.mdcc_facts.proofs.load.load_at.Given as goal
 
