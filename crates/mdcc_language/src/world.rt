@@ -1,6 +1,7 @@
 //! Why an event of a schedule is refused.
-use mdcc_base::Centre;
+use mdcc_base::{Centre, Memory};
 use mdcc_option::DraftFault;
+use std::alloc::AllocError;
 
 /// Which limit of a replay is reached.
 #[derive(Clone, Copy, Debug, PartialEq, Eq)]
@@ -32,4 +33,26 @@ pub enum EventFault {
     Limit(LimitName, u64),
     /// There was no memory.
     Memory,
+}
+
+impl From<Memory> for EventFault {
+    ghost use Rattle.std.specs.Prelude.{◌≡◌};
+    ghost use Rattle.mdcc_language.specs.declared.world.EventFault.TheVariants.{Memory};
+
+    ghost from_gives = { λ _ fault. fault ≡ Memory };
+
+    fn from(_: Memory) -> EventFault {
+        EventFault::Memory
+    }
+}
+
+impl From<AllocError> for EventFault {
+    ghost use Rattle.std.specs.Prelude.{◌≡◌};
+    ghost use Rattle.mdcc_language.specs.declared.world.EventFault.TheVariants.{Memory};
+
+    ghost from_gives = { λ _ fault. fault ≡ Memory };
+
+    fn from(_: AllocError) -> EventFault {
+        EventFault::Memory
+    }
 }

@@ -1,4 +1,6 @@
 //! Why bytes are no message, or no fact.
+use mdcc_base::Memory;
+use std::alloc::AllocError;
 
 /// Why bytes are refused, at the first place that is not of the grammar. Each number is an offset.
 #[derive(Clone, Copy, Debug, PartialEq, Eq)]
@@ -15,4 +17,26 @@ pub enum WireFault {
     NotCanonical(u64),
     /// There was no memory.
     Memory,
+}
+
+impl From<Memory> for WireFault {
+    ghost use Rattle.std.specs.Prelude.{◌≡◌};
+    ghost use Rattle.mdcc_messages.specs.declared.wire.WireFault.TheVariants.{Memory};
+
+    ghost from_gives = { λ _ fault. fault ≡ Memory };
+
+    fn from(_: Memory) -> WireFault {
+        WireFault::Memory
+    }
+}
+
+impl From<AllocError> for WireFault {
+    ghost use Rattle.std.specs.Prelude.{◌≡◌};
+    ghost use Rattle.mdcc_messages.specs.declared.wire.WireFault.TheVariants.{Memory};
+
+    ghost from_gives = { λ _ fault. fault ≡ Memory };
+
+    fn from(_: AllocError) -> WireFault {
+        WireFault::Memory
+    }
 }
