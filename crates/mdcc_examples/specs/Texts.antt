@@ -68,10 +68,6 @@ accepted cluster end = Ok (cluster, end)
 abbrev pub header_fault : ℕ → HeaderCause → Result (Cluster × ℕ) HeaderFault
 header_fault number cause = Err (record { line = number; cause = cause })
 
--- a header with these lines between that of the quorums and the last
-abbrev pub header_with : List ℕ → List ℕ
-header_with lines = codes "mdcc-schedule 1\nquorums 5 3 4\n" ++ lines ++ codes "start\n"
-
 -- ---- reads
 
 abbrev pub tx : ℕ → ℕ → ℕ → TxId

@@ -9,6 +9,7 @@ use Rattle.mdcc_disks.specs.Contents.{Contents, IsImage, durable}
 use Rattle.mdcc_disks.specs.Disks.{KeepsOthers, Only}
 use Rattle.mdcc_disks.specs.Memory.{AllMemory, CrashLeaves, IsBut, KeepsPlaces, at_place, crashed, disk_of, is_there, left_since_of, may_leave_of, moment_of, standing}
 use Rattle.mdcc_log.specs.Frames.{IsAtRest, IsSettled, OpenLog}
+use Rattle.mdcc_log.specs.Log.{log_limit}
 use Rattle.mdcc_logs.proofs.Payloads.{log-more}
 use Rattle.mdcc_restart.proofs.Logged.{logged-length}
 use Rattle.mdcc_logs.proofs.Standing.{IsSame, both-same, elsewhere, logs-stay, put, rests, unchanged}
@@ -17,7 +18,6 @@ use Rattle.mdcc_logs.specs.Stands.{AreLogs, LogsStand, log_at, with_fact_at}
 use Rattle.mdcc_logs.specs.declared.logs.Logs.{Logs}
 use Rattle.mdcc_messages.specs.Lengths.{frame_length, log_length}
 use Rattle.mdcc_messages.specs.Spelling.{fact_bytes}
-use Rattle.mdcc_simulation.specs.Limits.{most_log}
 use Rattle.mdcc_messages.specs.declared.facts.Fact.{Fact}
 
 -- ---- a crash
@@ -88,12 +88,12 @@ appended old new d log more a fact payload result centres facts stand some few i
 
 -- ---- a full log
 
-passes : (size more total n : ℕ) → total ≡ size + more → n ≡ min (size + more) 18446744073709551615 → nat_lt 1073741824 n ≡ nat_lt most_log total
+passes : (size more total n : ℕ) → total ≡ size + more → n ≡ min (size + more) 18446744073709551615 → nat_lt 1073741824 n ≡ nat_lt log_limit total
 passes size more total n is capped = grind (arith, nat_tests)
 
 pub full-is : (logs : Logs) (log : OpenLog) (a centres : ℕ) (facts : ℕ → List Fact) (fact : Fact) (size more n : ℕ) → LogsStand logs centres facts → 1 ≤ a → a ≤ centres
     → log ≡ log_at logs a → size ≡ log.size → more ≡ frame_length fact → n ≡ min (size + more) 18446744073709551615
-    → nat_lt 1073741824 n ≡ nat_lt most_log (log_length (fact ∷ facts a))
+    → nat_lt 1073741824 n ≡ nat_lt log_limit (log_length (fact ∷ facts a))
 full-is logs log a centres facts fact size more n stand some few is sized framed capped =
     let rest = (stand.each a some few).at_rest in
     let now : log.size ≡ log_length (facts a) =

@@ -17,7 +17,6 @@ use Rattle.mdcc_logs.specs.declared.logs.Logs.{Logs}
 use Rattle.mdcc_option.specs.declared.cluster.Cluster.{Cluster}
 use Rattle.mdcc_messages.specs.Lengths.{log_length}
 use Rattle.mdcc_protocol.specs.Volatile.{nothing_kept}
-use Rattle.mdcc_simulation.specs.Limits.{most_log}
 use Rattle.mdcc_messages.specs.declared.facts.Fact.{Fact}
 use Rattle.mdcc_restart.proofs.Ample.{ample-as-list}
 use Rattle.mdcc_restart.specs.Logged.{logged}
@@ -36,11 +35,11 @@ pub full-over : (facts : List Fact) (fault : RestartFault) (inner : LogFault) �
     → IsRefused facts fault → log_limit < size_with_boot facts
 full-over facts fault inner outer full refused = (subst (λ (f : RestartFault). IsRefused facts f) (outer ∙ ap (λ (i : LogFault). RestartFault.Log i) full) refused).1
 
-pub full-log : (facts : List Fact) → log_limit < size_with_boot facts → nat_lt most_log (log_length (next_boot facts ∷ facts)) ≡ true
+pub full-log : (facts : List Fact) → log_limit < size_with_boot facts → nat_lt log_limit (log_length (next_boot facts ∷ facts)) ≡ true
 full-log facts long = let size = logged-length (next_boot facts ∷ facts) in grind (arith, nat_tests, size, long)
 
-roomy-log : (facts : List Fact) → size_with_boot facts ≤ log_limit → nat_lt most_log (log_length (next_boot facts ∷ facts)) ≡ false
-roomy-log facts short = le-ltb most_log (log_length (next_boot facts ∷ facts)) (omega (logged-length (next_boot facts ∷ facts), short, arith))
+roomy-log : (facts : List Fact) → size_with_boot facts ≤ log_limit → nat_lt log_limit (log_length (next_boot facts ∷ facts)) ≡ false
+roomy-log facts short = le-ltb log_limit (log_length (next_boot facts ∷ facts)) (omega (logged-length (next_boot facts ∷ facts), short, arith))
 
 -- ---- the log of a centre is read
 
@@ -66,5 +65,5 @@ restarted old new d centre cluster a centres facts stand some few same keeps ite
           (λ b other. both-same old.disks d new.disks b (same b) (elsewhere d new.disks a b keeps other))
           (keeps.told ∙ (same a).there ∙ one.there) runs.place
           (subst (λ (fact : Fact). IsAtRest (logged (fact ∷ facts a)) centre.log.size (disk_of new.disks a).bytes (may_leave_of new.disks a)) next runs.at_rest);
-      room = subst (λ (fact : Fact). nat_lt most_log (log_length (fact ∷ facts a)) ≡ false) next (roomy-log (facts a) runs.within);
+      room = subst (λ (fact : Fact). nat_lt log_limit (log_length (fact ∷ facts a)) ≡ false) next (roomy-log (facts a) runs.within);
     }

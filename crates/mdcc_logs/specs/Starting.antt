@@ -13,7 +13,6 @@ use Rattle.mdcc_option.specs.declared.cluster.Cluster.{Cluster}
 use Rattle.mdcc_protocol.specs.Facts.{epoch_of}
 use Rattle.mdcc_messages.specs.Lengths.{log_length}
 use Rattle.mdcc_protocol.specs.Volatile.{nothing_kept}
-use Rattle.mdcc_simulation.specs.Limits.{most_log}
 use Rattle.mdcc_messages.specs.declared.facts.Fact.{Fact}
 use Rattle.mdcc_restart.specs.Restarting.{Runs, size_with_boot}
 use Rattle.mdcc_restart.specs.declared.restarting.Restarted.{Restarted}
@@ -33,13 +32,13 @@ pub record HasStarted (node : Node ListFacts) (epoch : ℕ) (logs : Logs) (clust
   pub next : epoch ≡ epoch_of (facts a) + 1
   pub node_of : IsNodeOf node cluster a (Fact.Booted epoch ∷ facts a) nothing_kept
   pub stand : LogsStand logs centres (with_fact_at facts a (Fact.Booted epoch))
-  pub room : nat_lt most_log (log_length (Fact.Booted epoch ∷ facts a)) ≡ false
+  pub room : nat_lt log_limit (log_length (Fact.Booted epoch ∷ facts a)) ≡ false
 
 -- it has started; or the new boot would pass the limit of the log; or there was no memory
 abbrev pub Starts : Result Started Memory → Logs → Cluster → (centres a : ℕ) → (ℕ → List Fact) → Type 0
 Starts (Ok (Started.Node node epoch)) logs cluster centres a facts = HasStarted node epoch logs cluster centres a facts
 Starts (Ok Started.Full) logs cluster centres a facts =
-    nat_lt most_log (log_length (Fact.Booted (epoch_of (facts a) + 1) ∷ facts a)) ≡ true
+    nat_lt log_limit (log_length (Fact.Booted (epoch_of (facts a) + 1) ∷ facts a)) ≡ true
 Starts (Err fault) logs cluster centres a facts = ⊤
 
 -- ---- all centres, one after another

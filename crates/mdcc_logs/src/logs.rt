@@ -3,6 +3,7 @@ ghost use Rattle.std.specs.Prelude.{◌≡◌, ◌≤◌, ◌<◌, ◌+◌, ◌-
 ghost use Rattle.mdcc_disks.specs.Disks.{KeepsOthers};
 ghost use Rattle.mdcc_disks.specs.Memory.{IsBut, at_place, crashed, disk_of, may_leave_of, moment_of, left_since_of};
 ghost use Rattle.mdcc_log.specs.Frames.{IsAtRest, IsSettled};
+ghost use Rattle.mdcc_log.specs.Log.{log_limit};
 ghost use Rattle.mdcc_logs.specs.Stands.{AreLogs, LogsStand, with_fact_at};
 ghost use Rattle.mdcc_logs.specs.Starting.{Starts};
 ghost use Rattle.mdcc_protocol.specs.Belongs.{is_centre};
@@ -11,7 +12,6 @@ ghost use Rattle.mdcc_protocol.specs.IsCluster.{IsCluster};
 ghost use Rattle.mdcc_messages.specs.Lengths.{fact_length, frame_length, log_length};
 ghost use Rattle.mdcc_messages.specs.Spelling.{fact_bytes};
 ghost use Rattle.mdcc_messages.specs.WellFormed.{IsWellFormedFact};
-ghost use Rattle.mdcc_simulation.specs.Limits.{most_log};
 ghost use Rattle.mdcc_messages.specs.declared.facts.Fact.{Fact as AFact};
 ghost use Rattle.mdcc_restart.specs.Logged.{AreLogged};
 
@@ -85,7 +85,7 @@ impl Logs {
         requires within { centre ≤ length self.now.open.items }
         requires formed { IsWellFormedFact fact.now }
         ensures { (centres : ℕ) (facts : ℕ → List AFact) → LogsStand self.now centres facts → 1 ≤ centre → centre ≤ centres
-            → result ≡ nat_lt most_log (log_length (fact.now ∷ facts centre)) }
+            → result ≡ nat_lt log_limit (log_length (fact.now ∷ facts centre)) }
     {
         let size = self.open[usize::from(centre.number()) - 1].size();
         size.saturating_add(frame_length(fact)) > LOG_LIMIT

@@ -1,7 +1,6 @@
 //! The messages of a world, kept as bytes: what was sent, what was delivered, and which message is to be delivered next.
 #![tactic(auto)]
 
-pub mod laws;
 pub mod letters;
 pub mod mail;
 pub mod outgoing;

@@ -11,6 +11,7 @@ mod Happened
 mod Left
 mod Limits
 mod Named
+mod Next
 mod NodesStay
 mod Roomy
 mod Settled

@@ -2,11 +2,10 @@
 use Rattle.std.proofs.Common.{◌≡◌, ℕ, ◌-◌, ◌==◌, ◌&&◌, ◌≤◌, Bool, true, false, List, refl, sym, ap, ◌∙◌, inl, inr, arith, get_or, nat_le}
 use Rattle.std.specs.List.{list_any}
 use Rattle.std.proofs.lemmas.Bool.{and_parts, cases_Bool, le-leb, leb-true}
-use Rattle.mdcc_mail.specs.Waiting.{AreAsked}
 use Rattle.mdcc_protocol.specs.Belongs.{is_centre}
 use Rattle.mdcc_simulation.specs.State.{World, centre_at, is_up_at}
 use Rattle.mdcc_world.specs.Nodes.{UpsStand}
-use Rattle.mdcc_world.specs.Settling.{AreUp, is_named}
+use Rattle.mdcc_world.specs.Settling.{AreAsked, AreUp, is_named}
 use Rattle.mdcc_world.specs.Stands.{IsLike}
 use Rattle.mdcc_world.specs.declared.world.World.{World as TheWorld}
 use Rattle.mdcc_worlds.proofs.Stays.{some-centre}

@@ -5,8 +5,7 @@ use Rattle.std.specs.List.{list_any}
 use Rattle.std.specs.Option.{option_map}
 use Rattle.std.specs.Prelude.{slice_get, not}
 use Rattle.std.proofs.lemmas.Bool.{and_parts, cases_Bool, leb-true, ltb-true}
-use Rattle.mdcc_mail.proofs.Next.{found, next_from}
-use Rattle.mdcc_mail.specs.Waiting.{AreAsked, before_first, first_to, message_of, waits_among, with_number}
+use Rattle.mdcc_mail.specs.Waiting.{before_first, first_to, waits_among}
 use Rattle.mdcc_built.specs.Built.{built}
 use Rattle.mdcc_messages.specs.Mailbox.{Sent, numbered}
 use Rattle.mdcc_simulation.specs.State.{World, after_lines, is_up_at, next_message}
@@ -19,8 +18,9 @@ use Rattle.mdcc_messages.specs.declared.messages.Envelope.{Envelope}
 use Rattle.mdcc_language.specs.declared.world.EventFault.{EventFault}
 use Rattle.mdcc_language.specs.declared.world.LimitName.{LimitName}
 use Rattle.mdcc_world.proofs.Happened.{fault-then, happened-then, has-come}
+use Rattle.mdcc_world.proofs.Next.{message_of, next-is, with_number}
 use Rattle.mdcc_world.specs.Faults.{is_memory}
-use Rattle.mdcc_world.specs.Settling.{AreUp, EndsAfter, HasSettled, is_named}
+use Rattle.mdcc_world.specs.Settling.{AreAsked, AreUp, EndsAfter, HasSettled, is_named}
 use Rattle.mdcc_world.specs.Stands.{HasHappened, Happens, IsLike}
 use Rattle.mdcc_world.specs.declared.world.World.{World as TheWorld}
 use Rattle.mdcc_worlds.proofs.Delivers.{up-stays}
@@ -30,11 +30,6 @@ use Rattle.mdcc_worlds.specs.Happening.{at_limit}
 use Rattle.mdcc_worlds.specs.Settling.{settle_told}
 
 -- ---- the message that waits first
-
--- where it is looked for
-first-is : (w : World) (listed centres : List ℕ) → AreAsked w listed centres
-    → first_waiting w listed 1 w.sent ≡ message_of w.sent (first_to centres w.sent)
-first-is w listed centres are = next_from w listed centres are 1 w.sent ∙ found w.sent (before_first (waits_among centres) w.sent)
 
 -- the number of a message that waits first
 pub record WaitsFirst (w : World) (listed : List ℕ) (number : ℕ) : Type 0 where
@@ -86,7 +81,7 @@ some-waits w listed centres mail number are same first =
     let there = first-there centres w.sent number here in
     record {
       next = (number, there.message.envelope);
-      waits = first-is w listed centres are ∙ ap (λ (o : Option ℕ). message_of w.sent o) (sym here)
+      waits = next-is w listed centres w.sent are ∙ ap (λ (o : Option ℕ). message_of w.sent o) (sym here)
           ∙ ap (λ (o : Option Sent). option_map (with_number number) o) there.there;
       numbers = refl;
     }
@@ -95,7 +90,7 @@ pub none-waits : (w : World) (listed centres : List ℕ) (mail : List Sent) → 
     → None ≡ first_to centres mail → first_waiting w listed 1 w.sent ≡ None
 none-waits w listed centres mail are same first =
     let here : None ≡ first_to centres w.sent = first ∙ ap (λ (sent : List Sent). first_to centres sent) same in
-    first-is w listed centres are ∙ ap (λ (o : Option ℕ). message_of w.sent o) (sym here)
+    next-is w listed centres w.sent are ∙ ap (λ (o : Option ℕ). message_of w.sent o) (sym here)
 
 -- nothing keeps it back, where there may be one more event
 open-limit : (w : World) → w.events < most_events → at_limit w ≡ Ok tt

@@ -1,10 +1,9 @@
 -- How a settle ends.
 use Rattle.std.specs.Bool.{OnFalse}
 use Rattle.std.specs.List.{list_any}
-use Rattle.std.specs.Prelude.{◌≡◌, ◌≤◌, ◌-◌, ◌==◌, ◌||◌, Bool, Err, List, Ok, Result, false, get_or, length, true, ℕ}
-use Rattle.mdcc_mail.specs.Waiting.{AreAsked}
+use Rattle.std.specs.Prelude.{◌≡◌, ◌≤◌, ◌-◌, ◌==◌, ◌&&◌, ◌||◌, Bool, Err, List, Ok, Result, false, get_or, length, true, ℕ}
 use Rattle.mdcc_built.specs.Built.{built}
-use Rattle.mdcc_simulation.specs.State.{Happened, World}
+use Rattle.mdcc_simulation.specs.State.{Happened, World, is_up_at}
 use Rattle.mdcc_simulation.specs.Events.{event_of}
 use Rattle.mdcc_language.specs.declared.events.Event.{Event}
 use Rattle.mdcc_language.specs.declared.lines.Line.{Line}
@@ -17,6 +16,11 @@ use Rattle.mdcc_worlds.specs.Settling.{IsSettling, settled}
 -- whether a centre is listed, where some are
 abbrev pub is_named : List ℕ → ℕ → Bool
 is_named listed a = length listed == 0 || list_any (λ centre. centre == a) listed
+
+-- the centres are those that are up and, where some are listed, among them
+abbrev pub AreAsked : World → List ℕ → List ℕ → Type 0
+AreAsked w listed centres =
+    (a : ℕ) → list_any (λ centre. centre == a) centres ≡ (is_up_at w a && (length listed == 0 || list_any (λ centre. centre == a) listed))
 
 -- the world stands for what a settle line has brought with so many deliveries, and it delivers for these centres
 pub record HasSettled (world : TheWorld) (before after : List Line) (w : World) (listed centres : List ℕ) (deliveries : ℕ) : Type 0 where

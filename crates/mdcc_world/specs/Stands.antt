@@ -58,10 +58,6 @@ pub record IsBeforeTaking (world : TheWorld) (w : World) (a : ℕ) (input : Inpu
   pub logs : LogsStand world.logs w.cluster.quorums.centres (facts_of w.ledger)
   pub step_itself : made ≡ given (step_at built w a input)
 
--- it is so for some world and input
-abbrev pub IsBeforeSome : TheWorld → ℕ → Result Step StepFault → Type 0
-IsBeforeSome world a made = (w : World) × (input : Input) × IsBeforeTaking world w a input made
-
 -- and after it
 pub record IsTaken (world : TheWorld) (before after : List Line) (h : Happened) : Type 0 where
   pub records : RecordsStand world h.world

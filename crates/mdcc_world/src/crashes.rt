@@ -12,10 +12,10 @@ ghost use Rattle.mdcc_world.specs.Faults.{OnRefusal, is_free};
 ghost use Rattle.mdcc_world.specs.Stands.{Happens, HasHappened, IsLike, IsLikeSome};
 ghost use Rattle.mdcc_worlds.specs.Happening.{at_restart, restarted};
 
-use crate::stepping::MOST_LOG;
 use crate::world::World;
 use mdcc_base::{Centre, HeapList, Memory};
 use mdcc_facts::ListFacts;
+use mdcc_log::LOG_LIMIT;
 use mdcc_logs::Started;
 use mdcc_node::Node;
 use mdcc_language::{EventFault, LimitName, Line};
@@ -100,7 +100,7 @@ impl World {
                 self.rise(centre, node);
                 tell_restart(lines, centre, epoch)
             }
-            Ok(Started::Full) => Err(EventFault::Limit(LimitName::Log, MOST_LOG)),
+            Ok(Started::Full) => Err(EventFault::Limit(LimitName::Log, LOG_LIMIT)),
             Err(_) => Err(EventFault::Memory),
         }
     }

@@ -1,14 +1,13 @@
 //! Settle lines: messages are delivered until none waits.
 ghost use Rattle.std.specs.List.{list_any};
 ghost use Rattle.std.specs.Prelude.{◌≡◌, ◌≤◌, ◌<◌, ◌==◌, ◌&&◌, ◌-◌, IfErr, IfOk, List, OnOk, false, get_or, true, ℕ};
-ghost use Rattle.mdcc_mail.specs.Waiting.{AreAsked};
 ghost use Rattle.mdcc_built.specs.Built.{built};
 ghost use Rattle.mdcc_simulation.specs.State.{World as AWorld};
 ghost use Rattle.mdcc_simulation.specs.Events.{event_of};
 ghost use Rattle.mdcc_language.specs.declared.events.Event.{Event as AEvent};
 ghost use Rattle.mdcc_language.specs.declared.lines.Line.{Line as ALine};
 ghost use Rattle.mdcc_world.specs.Faults.{is_free};
-ghost use Rattle.mdcc_world.specs.Settling.{AreUp, SettlesTo, is_named};
+ghost use Rattle.mdcc_world.specs.Settling.{AreAsked, AreUp, SettlesTo, is_named};
 ghost use Rattle.mdcc_world.specs.Stands.{Happens, HasHappened, IsLike, IsLikeSome};
 ghost use Rattle.mdcc_worlds.specs.Settling.{settle_told};
 

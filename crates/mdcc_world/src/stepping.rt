@@ -22,6 +22,7 @@ ghost use Rattle.mdcc_worlds.specs.Taking.{limit_of, step_lines, with_fact};
 use crate::taking::{let_out, push_dropped, tell_fact};
 use crate::world::World;
 use mdcc_base::{Centre, HeapList, Memory};
+use mdcc_log::LOG_LIMIT;
 use mdcc_mail::Outgoing;
 use mdcc_language::{EventFault, LimitName, Line};
 use mdcc_messages::Fact;
@@ -29,9 +30,6 @@ use mdcc_rules::{Step, StepFault};
 
 // How many bytes of messages there may be.
 const MOST_BYTES: u64 = 536_870_912;
-
-/// How many bytes a log may have.
-pub(crate) const MOST_LOG: u64 = 1 << 30;
 
 impl World {
     // Why a fact is not appended to the log of a centre.
@@ -42,7 +40,7 @@ impl World {
         ensures free { IfErr result (λ fault. is_free fault ≡ true) }
     {
         if self.logs.is_full(centre, fact) {
-            return Err(EventFault::Limit(LimitName::Log, MOST_LOG));
+            return Err(EventFault::Limit(LimitName::Log, LOG_LIMIT));
         }
         Ok(())
     }

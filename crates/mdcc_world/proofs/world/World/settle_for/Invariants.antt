@@ -1,8 +1,7 @@
 use Rattle.std.proofs.Common.{◌≡◌, ◌+◌, ◌<◌, ◌≤◌, List, ℕ}
-use Rattle.mdcc_mail.specs.Waiting.{AreAsked}
 use Rattle.mdcc_simulation.specs.State.{World}
 use Rattle.mdcc_language.specs.declared.lines.Line.{Line}
-use Rattle.mdcc_world.specs.Settling.{HasSettled}
+use Rattle.mdcc_world.specs.Settling.{AreAsked, HasSettled}
 use Rattle.mdcc_world.specs.Stands.{HasHappened, IsLikeSome}
 use Rattle.mdcc_worlds.specs.Settling.{settle_told}
 use Rattle.mdcc_world.proofs.world.World.settle_for.Given as goal
