@@ -1,6 +1,6 @@
 -- Counts and folds over lists.
-use Rattle.std.proofs.Common.{◌≡◌, ◌+◌, Bool, ◌&&◌, List, [], ◌∷◌, ◌++◌, Some, None, refl, arith, fold}
-use Rattle.std.specs.List.{filter, list_any, reduce}
+use Rattle.std.proofs.Common.{◌≡◌, ℕ, zero, suc, ◌+◌, ◌<◌, Bool, ◌&&◌, List, [], ◌∷◌, ◌++◌, Option, Some, None, refl, sym, ap, ◌∙◌, arith, fold, length, drop, get_or}
+use Rattle.std.specs.List.{filter, filter_map, list_any, reduce}
 use Rattle.std.proofs.lemmas.List.Elements.{filter-append}
 use Rattle.std.proofs.lemmas.List.Sums.{fold-append}
 use Rattle.mdcc_base.specs.Counts.{number_of}
@@ -12,6 +12,21 @@ use Rattle.mdcc_protocol.specs.declared.votes.Vote.{Vote}
 pub number_of-append : {X : Type 0} (test : X → Bool) (xs ys : List X) → number_of test (xs ++ ys) ≡ number_of test xs + number_of test ys
 number_of-append test [] ys = grind arith
 number_of-append test (x ∷ xs) ys = let ih = number_of-append test xs ys in omega arith
+
+-- a fold that keeps what it has
+fold-kept : {X : Type 0} (x : X) (xs : List X) → fold (λ a b. a) x xs ≡ x
+fold-kept x [] = refl
+fold-kept x (y ∷ xs) = fold-kept x xs
+
+-- the first value of what is left of a list, where the first element has one
+pub first-here : {X Y : Type 0} (f : X → Option Y) (xs : List X) (i : ℕ) (x : X) (y : Y) → i < length xs → x ≡ get_or xs i x → f x ≡ Some y
+    → reduce (λ a b. a) (filter_map f (drop i xs)) ≡ Some y
+first-here f [] i x y within at h = absurd (omega (arith, within))
+first-here f (z ∷ zs) zero x y within at h =
+    let same : x ≡ z = at in
+    let there : f z ≡ Some y = ap f (sym same) ∙ h in
+    rw there (ap Some (fold-kept y (filter_map f zs)))
+first-here f (z ∷ zs) (suc i) x y within at h = first-here f zs i x y (omega (arith, within)) at h
 
 -- a test that only what a filter keeps may pass
 pub list_any-filter : {X : Type 0} (kept more : X → Bool) (xs : List X) → list_any (λ x. kept x && more x) (filter kept xs) ≡ list_any (λ x. kept x && more x) xs

@@ -4,14 +4,16 @@ ghost use Rattle.mdcc_base.specs.AreQuorums.{AreQuorums};
 ghost use Rattle.mdcc_base.specs.Sizes.{Sizes};
 ghost use Rattle.mdcc_learner.specs.Stands.{Stands};
 ghost use Rattle.mdcc_protocol.specs.Learner.{with_vote, learned, collided, learned_with};
+ghost use Rattle.mdcc_protocol.specs.Recover.{choice_received};
 ghost use Rattle.mdcc_protocol.specs.Volatile.{without_tx};
 ghost use Rattle.mdcc_protocol.specs.declared.votes.Vote.{Vote as AVote};
 
+use crate::accepted::first_accepted;
 use crate::decided::{is_collision, mark_decided};
 use crate::places::{VotesByTx, counted_on, forget, keep_counted, votes_at};
 use indexmap::IndexMap;
 use mdcc_base::{Key, Memory, Quorums, TxId};
-use mdcc_option::Mark;
+use mdcc_option::{Choice, Mark};
 use mdcc_protocol::Vote;
 use std::alloc::Global;
 
@@ -83,6 +85,14 @@ impl Learner {
             votes_at(&self.votes, &tx, key),
             counted_on(quorums, &self.votes, vote, &tx, key),
         )
+    }
+
+    /// The choice that a vote accepts at this version, the first that was taken.
+    pub fn accepted(&self, tx: TxId, key: &Key, version: u64) -> Option<Choice>
+        ensures { (quorums : Sizes) (votes : List AVote) → Stands self.now quorums votes
+            → result ≡ choice_received votes tx key.now version }
+    {
+        first_accepted(votes_at(&self.votes, &tx, key), version)
     }
 
     /// Lets all votes on a transaction go.

@@ -1,6 +1,7 @@
 //! The learner: votes as they are received, counted by transaction and key, and what they decide.
 #![tactic(auto)]
 
+mod accepted;
 mod counting;
 mod decided;
 pub mod learner;
