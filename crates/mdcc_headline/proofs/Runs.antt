@@ -3,7 +3,6 @@ use Rattle.std.proofs.Common.{List, length, refl, subst, sym, true, ℕ, ◌≡�
 use Rattle.std.specs.Prelude.{map}
 use Rattle.mdcc_base.specs.Counts.{number_of}
 use Rattle.mdcc_option.specs.declared.cluster.Cluster.{Cluster}
-use Rattle.mdcc_built.specs.Built as today
 use Rattle.mdcc_switches.specs.Built.{Built}
 use Rattle.mdcc_language.specs.Header.{all_of}
 use Rattle.mdcc_protocol.specs.IsCluster.{IsCluster}
@@ -18,7 +17,7 @@ use Rattle.mdcc_trace_limits.proofs.Short as limits
 use Rattle.mdcc_reports.proofs.Headers.{header-cluster}
 use Rattle.mdcc_reports.proofs.Origins.{runs-tell}
 use Rattle.mdcc_reports.proofs.Replays.{replayed}
-use Rattle.mdcc_headline.specs.Headline.{IsHeadline, IsReportedRun, IsReplayReported}
+use Rattle.mdcc_headline.specs.Headline.{IsReportedRun, IsReplayReported}
 use Rattle.mdcc_headline.proofs.Ends.{commits-counted}
 use Rattle.mdcc_headline.proofs.Lines.{lines-told}
 
@@ -45,6 +44,3 @@ replay-reported built limited input header accepted =
     let is = header-cluster built (all_of input) header accepted.header_itself in
     let run = replayed built input header accepted in
     (run.0, record { of_cluster = is; replayed = run.1; reported = λ first rest e. run-reported built limited header.0 first is })
-
-pub headline : (input : List ℕ) → IsHeadline input
-headline input = replay-reported today.built refl input

@@ -7,6 +7,3 @@ returns-clause-runs c = runs.run-reported
 
 pub returns-clause-replays : goal.returns-clause-replays
 returns-clause-replays c = runs.replay-reported
-
-pub returns-clause-today : goal.returns-clause-today
-returns-clause-today c = runs.headline
