@@ -13,6 +13,7 @@ use Rattle.mdcc_option.specs.declared.choices.Outcome.{Outcome}
 use Rattle.mdcc_protocol.specs.Facts.{current_of, delta_given, deltas_from, executed_of, version_from, version_given}
 use Rattle.mdcc_protocol.specs.News.{is_crowding, keys_in}
 use Rattle.mdcc_messages.specs.declared.facts.Fact.{Fact}
+use Rattle.mdcc_facts.specs.Adding.{MayBeAdded}
 use Rattle.mdcc_facts.specs.Listed.{AreListed}
 
 abbrev pub has_key : Key → List Key → Bool
@@ -98,9 +99,10 @@ few_added facts fact free few key =
 
 -- ---- the list of facts
 
-pub listed_added : (items facts : List Fact) (fact : Fact) → AreListed items facts → is_crowding (reverse items) fact ≡ false
+pub listed_added : (items facts : List Fact) (fact : Fact) → AreListed items facts → MayBeAdded facts fact → is_crowding (reverse items) fact ≡ false
     → AreListed (items ++ fact ∷ []) (fact ∷ facts)
-listed_added items facts fact h free = record {
+listed_added items facts fact h new free = record {
   newest_first = sym (reverse-append items (fact ∷ []) ∙ ap (λ xs. fact ∷ xs) (sym h.newest_first));
   few = few_added facts fact (rw h.newest_first free) h.few;
+  once = rw (new.voted, h.once) refl;
 }

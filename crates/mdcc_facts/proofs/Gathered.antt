@@ -8,7 +8,7 @@ use Rattle.mdcc_base.specs.declared.identifiers.TxId.{TxId}
 use Rattle.mdcc_base.specs.declared.key.Key.{Key}
 use Rattle.mdcc_option.specs.declared.choices.Mark.{Mark}
 use Rattle.mdcc_option.specs.declared.items.Update.{Update}
-use Rattle.mdcc_struct.specs.Maps.{are_ascending, value_of}
+use Rattle.mdcc_struct.specs.Maps.{are_ascending, union, value_of}
 use Rattle.mdcc_struct.proofs.Walks.{ascending-union}
 use Rattle.mdcc_protocol.specs.Facts.{live_and_void, live_from, marks_voted, votes_of, write_sets_from, write_sets_of}
 use Rattle.mdcc_messages.specs.declared.facts.Fact.{Fact}
@@ -29,7 +29,7 @@ ascending-write_sets (f ∷ fs) = ascending-union (write_sets_of fs) (write_sets
 
 -- ---- one more fact
 
-reverse-next : (facts : List Fact) (i : ℕ) (fact : Fact) → i < length facts → fact ≡ get_or facts i fact → reverse (take (i + 1) facts) ≡ fact ∷ reverse (take i facts)
+pub reverse-next : (facts : List Fact) (i : ℕ) (fact : Fact) → i < length facts → fact ≡ get_or facts i fact → reverse (take (i + 1) facts) ≡ fact ∷ reverse (take i facts)
 reverse-next facts i fact within is =
     let more : take (i + 1) facts ≡ take i facts ++ fact ∷ [] = grind (arith, common_steps) in
     ap reverse more ∙ reverse-append (take i facts) (fact ∷ [])
@@ -58,6 +58,9 @@ module _ (facts : List Fact) (i : ℕ) (fact : Fact) (within : i < length facts)
       → least_from (is_next keep last) least (write_sets_from fact) ≡ next_tx keep last (write_sets_of (reverse (take (i + 1) facts)))
   write_sets-next keep last least h =
       rw (next_is, h) (least_union (is_next keep last) None (write_sets_of older) (write_sets_from fact))
+
+  pub write_sets-more : union (write_sets_of (reverse (take i facts))) (write_sets_from fact) ≡ write_sets_of (reverse (take (i + 1) facts))
+  write_sets-more = ap write_sets_of (sym next_is)
 
   pub vote-next : (key : Key) (version : ℕ) (ballot : Ballot) (tx : TxId) (mark : Option Mark)
       → mark ≡ value_of (votes_of (reverse (take i facts)) key version ballot) tx

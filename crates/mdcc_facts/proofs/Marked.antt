@@ -1,13 +1,13 @@
 -- What accepted marks bring, one mark at a time.
-use Rattle.std.proofs.Common.{◌≡◌, ℕ, ◌+◌, Bool, true, false, [], ◌∷◌, ◌++◌, Option, Some, None, refl, sym, drop}
-use Rattle.std.specs.Prelude.{filter_map, slice_get}
-use Rattle.std.specs.Option.{option_map, option_or}
+use Rattle.std.proofs.Common.{◌≡◌, ℕ, Bor, ◌+◌, Bool, true, false, [], ◌∷◌, ◌++◌, Option, Some, None, refl, sym, drop}
+use Rattle.std.specs.Prelude.{filter_map, is_some, slice_get}
+use Rattle.std.specs.Option.{option_copied, option_map, option_or}
 use Rattle.mdcc_base.specs.TxId.{tx_eq}
 use Rattle.mdcc_base.specs.declared.identifiers.TxId.{TxId}
 use Rattle.mdcc_option.specs.declared.choices.Choice.{Choice}
 use Rattle.mdcc_option.specs.declared.choices.Mark.{Mark}
 use Rattle.mdcc_protocol.specs.Marks.{choice_in}
-use Rattle.mdcc_struct.specs.Maps.{TxMap, value_of}
+use Rattle.mdcc_struct.specs.Maps.{TxMap, inserted, union, value_of, with_entry}
 use Rattle.mdcc_struct.specs.declared.options.Options.{Options}
 use Rattle.mdcc_facts.specs.Walks.{least_from, lower_passing}
 use Rattle.mdcc_facts.proofs.Walking.{drop_next, least_append, value_append}
@@ -37,6 +37,14 @@ module _ {Y : Type 0} (pick : Choice → Y) (options : Options) (i : ℕ) (tx : 
       → value_of (filter_map (marked pick) (drop i options)) sought ≡ value_of (filter_map (marked pick) (drop (i + 1) options)) sought
   value-reject sought h = rw (drop_next options i (tx, mark) at, no_choice mark h) refl
 
+  pub union-accept : (m : TxMap Y) (choice : Choice) → mark ≡ Mark.Accept choice
+      → union m (filter_map (marked pick) (drop i options)) ≡ union (with_entry m (tx, pick choice)) (filter_map (marked pick) (drop (i + 1) options))
+  union-accept m choice is = rw (drop_next options i (tx, mark) at, is) refl
+
+  pub union-reject : (m : TxMap Y) → ((choice : Choice) → mark ≡ Mark.Accept choice → ⊥)
+      → union m (filter_map (marked pick) (drop i options)) ≡ union m (filter_map (marked pick) (drop (i + 1) options))
+  union-reject m h = rw (drop_next options i (tx, mark) at, no_choice mark h) refl
+
 -- ---- one entry more behind a map
 
 pub least-offered : {Y : Type 0} (test : TxId → Bool) (found least : Option TxId) (m : TxMap Y) (t : TxId) (y : Y) → least ≡ least_from test found m
@@ -52,3 +60,19 @@ value-offered m t tx y same = rw (value_append m ((t, y) ∷ []) tx, same) refl
 
 pub value-not_offered : {Y : Type 0} (m : TxMap Y) (t tx : TxId) (y : Y) → tx_eq t tx ≡ false → value_of m tx ≡ value_of (m ++ (t, y) ∷ []) tx
 value-not_offered m t tx y other = rw (value_append m ((t, y) ∷ []) tx, other) (or_none (value_of m tx))
+
+-- ---- a map with one more entry
+
+pub union-next : {X : Type 0} (m whole n : TxMap X) (i : ℕ) (e : TxId × X) → slice_get n i ≡ Some e → union m (drop i n) ≡ whole
+    → union (with_entry m e) (drop (i + 1) n) ≡ whole
+union-next m whole n i e is h = rw (drop_next n i e is) at h
+
+pub entry-new : {X : Type 0} (m : TxMap X) (e : TxId × X) → is_some (value_of m e.0) ≡ false → with_entry m e ≡ inserted m e
+entry-new m e none = rw none refl
+
+pub entry-there : {X : Type 0} (m : TxMap X) (e : TxId × X) → is_some (value_of m e.0) ≡ true → with_entry m e ≡ m
+entry-there m e there = rw there refl
+
+pub copied-some : {X : Type 0} (o : Option (Bor X)) → is_some (option_copied o) ≡ is_some o
+copied-some None = refl
+copied-some (Some x) = refl

@@ -1,6 +1,6 @@
 -- Ascending maps are gone over by the least transaction above the last one.
 use Rattle.std.proofs.Common.{◌≡◌, ℕ, suc, zero, ◌+◌, ◌<◌, ◌≤◌, Bool, true, false, List, [], ◌∷◌, ◌++◌, Option, Some, None, refl, sym, ap, subst, ◌∙◌, arith, inl, inr, length, drop, fold, add-one, length-drop}
-use Rattle.std.specs.Prelude.{slice_get, is_some, filter}
+use Rattle.std.specs.Prelude.{slice_get, is_some, filter, find, if◌then◌else◌}
 use Rattle.std.specs.Option.{option_map, option_or, option_and_then}
 use Rattle.std.proofs.lemmas.Bool.{cases_Bool, and_parts}
 use Rattle.std.proofs.lemmas.List.Sums.{fold-append}
@@ -12,7 +12,8 @@ use Rattle.mdcc_struct.proofs.Order.{tx_lt-trans, tx_lt-apart, tx_lt-not_back, t
 use Rattle.mdcc_struct.proofs.Ordered.{IsBelow, ascending-tail, ascending-below}
 use Rattle.mdcc_struct.proofs.Walks.{ascending-filter, drop-get}
 use Rattle.mdcc_struct.proofs.Values.{filter-value, value_of-union}
-use Rattle.mdcc_facts.specs.Walks.{entry_list, is_above, is_lower, is_next, least_from, lower_passing, next_tx, rest_of}
+use Rattle.mdcc_protocol.specs.Stores.{is_above}
+use Rattle.mdcc_facts.specs.Walks.{each_kept, entry_list, is_lower, is_next, least_from, lower_passing, next_tx, rest_of}
 
 -- ---- the least transaction of a union
 
@@ -338,3 +339,49 @@ module _ {X : Type 0} (m : TxMap X) (place : ℕ) (tx : TxId) (up : are_ascendin
 
   pub whole-none : None ≡ value_of m tx → slice_get m place ≡ None
   whole-none none = sym (ap (λ xs. slice_get xs place) (each-filter m)) ∙ entry-none (λ e. true) m place tx up kept_is none
+
+-- ---- the next entry
+
+find-next : {X : Type 0} (last : Option TxId) (m : TxMap X) → find (λ e. is_above last e.0) m ≡ slice_get (rest_of each_kept last m) 0
+find-next last [] = refl
+find-next last (e ∷ es) =
+    elim (cases_Bool (is_above last e.0)) [
+      | inl above ↦ rw above refl
+      | inr below ↦ rw below (find-next last es)
+    ]
+
+next_entry : {X : Type 0} (last : Option TxId) (m : TxMap X) → are_ascending m ≡ true
+    → find (λ e. is_above last e.0) m ≡ option_and_then (entry_in m) (next_tx each_kept last m)
+next_entry last m up =
+    find-next last m ∙ entry-at (λ e. is_next each_kept last e.0) m 0 up ∙ ap (option_and_then (entry_in m)) (sym (next-first each_kept last m up))
+
+module _ {X : Type 0} (last : Option TxId) (m : TxMap X) (up : are_ascending m ≡ true) where
+  pub found-some : (tx : TxId) (x : X) → Some tx ≡ next_tx each_kept last m → Some x ≡ value_of m tx → Some (tx, x) ≡ find (λ e. is_above last e.0) m
+  found-some tx x next some = rw (next_entry last m up, ← next, ← some) refl
+
+  pub found-none : (tx : TxId) → Some tx ≡ next_tx each_kept last m → None ≡ value_of m tx → None ≡ find (λ e. is_above last e.0) m
+  found-none tx next none = rw (next_entry last m up, ← next, ← none) refl
+
+  pub found-end : None ≡ next_tx each_kept last m → None ≡ find (λ e. is_above last e.0) m
+  found-end next = rw (next_entry last m up, ← next) refl
+
+-- ---- a value where the transaction is kept
+
+pub value_kept : {X : Type 0} (keep : TxId → Bool) (m : TxMap X) (tx : TxId) → value_of (filter (λ e. keep e.0) m) tx ≡ (if keep tx then value_of m tx else None)
+value_kept keep [] tx =
+    elim (cases_Bool (keep tx)) [
+      | inl kept ↦ rw kept refl
+      | inr left ↦ rw left refl
+    ]
+value_kept keep (e ∷ es) tx =
+    let ih = value_kept keep es tx in
+    elim (cases_Bool (tx_eq e.0 tx)) [
+      | inl same ↦ elim (cases_Bool (keep e.0)) [
+        | inl kept ↦ let now : keep tx ≡ true = rw (tx_eq-same e.0 tx same) at kept in rw (kept, same, now) refl
+        | inr left ↦ let now : keep tx ≡ false = rw (tx_eq-same e.0 tx same) at left in rw (left, now) (rw now at ih)
+      ]
+      | inr other ↦ elim (cases_Bool (keep e.0)) [
+        | inl kept ↦ rw (kept, other) ih
+        | inr left ↦ rw (left, other) ih
+      ]
+    ]

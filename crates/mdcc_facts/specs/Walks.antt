@@ -5,14 +5,11 @@ use Rattle.mdcc_base.specs.declared.identifiers.TxId.{TxId}
 use Rattle.mdcc_option.specs.declared.items.Delta.{Delta}
 use Rattle.mdcc_option.specs.declared.items.Update.{Update}
 use Rattle.mdcc_struct.specs.Maps.{TxMap}
+use Rattle.mdcc_struct.specs.declared.options.Options.{Options}
 use Rattle.mdcc_protocol.specs.Facts.{is_heard, is_void}
 use Rattle.mdcc_protocol.specs.Marks.{Amounts}
+use Rattle.mdcc_protocol.specs.Stores.{is_above}
 use Rattle.mdcc_messages.specs.declared.facts.Fact.{Fact}
-
--- above the last one; each is where there is no last one
-abbrev pub is_above : Option TxId → TxId → Bool
-is_above None tx = true
-is_above (Some last) tx = tx_lt last tx
 
 -- below the one that was found; each is where none was
 abbrev pub is_lower : Option TxId → TxId → Bool
@@ -63,3 +60,10 @@ is_not_void facts tx = not (is_void facts tx)
 
 abbrev pub is_not_heard : List Fact → TxId → Bool
 is_not_heard facts tx = not (is_heard facts tx)
+
+-- ---- votes
+
+-- the marks of a structure, where there is one
+abbrev pub options_or_none : Option Options → Options
+options_or_none (Some options) = options
+options_or_none None = []

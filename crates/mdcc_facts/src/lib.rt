@@ -11,7 +11,9 @@ mod marks;
 mod next;
 mod promises;
 pub mod store;
+mod unheard;
 mod unresolved;
+mod voted;
 mod votes;
 
 pub use list_facts::ListFacts;

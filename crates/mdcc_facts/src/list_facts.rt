@@ -5,15 +5,18 @@ use crate::copies::copy_fact;
 use crate::deltas::{delta_of, executed_if_few, is_crowding, txs_of};
 use crate::held::{base_of, current_of};
 use crate::load::load_at;
-use crate::marks::{entries_at, mark_below};
+use crate::marks::{entries_at, last_ballot, mark_after, mark_below};
 use crate::promises::{epoch_of, promise_of, promised_through};
-use crate::unresolved::unresolved_at;
-use crate::votes::{choice_known, heard_of, vote_of};
+use crate::unheard::unresolved_of;
+use crate::unresolved::{unresolved_at, unresolved_write_set};
+use crate::voted::{count_voted, votes_of};
+use crate::votes::{choice_known, ended_of, heard_of, is_heard, vote_of};
 use crate::{FactStore, StoreFault};
-use mdcc_base::{Ballot, Key, Memory, TxId};
+use mdcc_base::{Ballot, HeapList, Key, Memory, TxId};
 use mdcc_option::{Choice, Delta, Item, Mark, Outcome, Seen, WriteSet};
 use mdcc_messages::Fact;
 use mdcc_protocol::Load;
+use mdcc_struct::Options;
 use std::alloc::Global;
 
 /// Facts in the order in which they were added. It has room for any number of them.
@@ -66,6 +69,32 @@ impl FactStore for ListFacts {
         vote_of(&self.facts, key, version, &tx)
     }
 
+    fn voted_below(&self, key: &Key, version: u64, below: Ballot) -> Ballot {
+        last_ballot(&self.facts, key, version, &below)
+    }
+
+    fn votes(
+        &self,
+        alloc: Global,
+        key: &Key,
+        version: u64,
+        ballot: Ballot,
+    ) -> Result<Options, Memory> {
+        votes_of(alloc, &self.facts, key, version, &ballot)
+    }
+
+    fn count_voted(&self, key: &Key, version: u64, ballot: Ballot, options: &Options) -> usize {
+        count_voted(&self.facts, key, version, &ballot, options)
+    }
+
+    fn is_heard(&self, tx: TxId) -> bool {
+        is_heard(&self.facts, &tx)
+    }
+
+    fn ended(&self, tx: TxId) -> Option<bool> {
+        ended_of(&self.facts, &tx)
+    }
+
     fn heard(&self, tx: TxId) -> Option<Outcome> {
         heard_of(&self.facts, &tx)
     }
@@ -104,12 +133,34 @@ impl FactStore for ListFacts {
         mark_below(&self.facts, key, version, &below, place)
     }
 
+    fn mark_after(
+        &self,
+        key: &Key,
+        version: u64,
+        below: Ballot,
+        last: Option<TxId>,
+    ) -> Option<(Ballot, TxId, Mark)> {
+        mark_after(&self.facts, key, version, &below, &last)
+    }
+
     fn unresolved(&self, place: usize) -> Option<(TxId, WriteSet)> {
         unresolved_at(&self.facts, place)
     }
 
+    fn write_set(&self, tx: TxId) -> Option<WriteSet> {
+        unresolved_write_set(&self.facts, &tx)
+    }
+
+    fn unresolved_all(&self, alloc: Global) -> Result<HeapList<(TxId, WriteSet)>, Memory> {
+        unresolved_of(alloc, &self.facts)
+    }
+
     fn choice_of(&self, key: &Key, version: u64, tx: TxId) -> Option<Choice> {
         choice_known(&self.facts, key, version, &tx)
+    }
+
+    fn would_crowd(&self, fact: &Fact) -> bool {
+        is_crowding(&self.facts, fact)
     }
 
     fn epoch(&self) -> u32 {

@@ -6,19 +6,20 @@ ghost use Rattle.mdcc_struct.specs.Maps.{value_of};
 
 use crate::deltas::delta_given;
 use crate::next::{is_above, is_lower};
-use crate::votes::heard_of;
+use crate::votes::ended_of;
 use mdcc_base::{Key, Plain, TxId};
 use mdcc_option::{Choice, Delta, Mark, Outcome, Update};
 use mdcc_messages::Fact;
 use mdcc_struct::Options;
 
 // Whether the transaction was heard aborted.
+#[tactic(auto, using(crate::proofs::Heard::void_ended))]
 fn is_void(facts: &[Fact], tx: &TxId) -> bool
     ensures { result ≡ is_void (reverse facts.now) tx.now }
 {
-    match heard_of(facts, tx) {
-        Some(Outcome::Abort) => true,
-        _ => false,
+    match ended_of(facts, tx) {
+        Some(committed) => !committed,
+        None => false,
     }
 }
 

@@ -1,14 +1,15 @@
 //! The votes at one ballot, in the order of their transactions.
-ghost use Rattle.std.specs.Prelude.{◌≡◌, option_map, reverse, slice_get};
+ghost use Rattle.std.specs.Prelude.{◌≡◌, find, option_map, reverse, slice_get};
 ghost use Rattle.mdcc_facts.specs.Walks.{each_kept, entry_list, is_next, least_from, lower_passing, next_tx};
 ghost use Rattle.mdcc_facts.specs.Weights.{counted, with_mark};
 ghost use Rattle.mdcc_protocol.specs.Facts.{ballot_voted, last_ballot, marks_voted, votes_of};
-ghost use Rattle.mdcc_protocol.specs.Stores.{entries_at, mark_below};
+ghost use Rattle.mdcc_protocol.specs.Stores.{entries_at, is_above, mark_after, mark_below};
 ghost use Rattle.mdcc_struct.specs.Maps.{value_of};
 ghost use Rattle.std.specs.List.{fold};
 
 use crate::next::{is_above, is_lower};
 use crate::promises::ballot_max;
+use crate::voted::marks_voted;
 use mdcc_base::{Ballot, Key, Plain, TxId};
 use mdcc_option::Mark;
 use mdcc_messages::Fact;
@@ -36,8 +37,8 @@ fn ballot_voted(fact: &Fact, key: &Key, version: u64, below: &Ballot) -> Ballot
     }
 }
 
-// The greatest ballot below another one at which there is a vote in the instance.
-fn last_ballot(facts: &[Fact], key: &Key, version: u64, below: &Ballot) -> Ballot
+/// The greatest ballot below another one at which there is a vote in the instance.
+pub(crate) fn last_ballot(facts: &[Fact], key: &Key, version: u64, below: &Ballot) -> Ballot
     ensures { result ≡ last_ballot (reverse facts.now) key.now version below.now }
 {
     let mut last = Ballot::FAST;
@@ -81,21 +82,9 @@ fn least_voted(
 ) -> Option<TxId>
     ensures { result ≡ least_from (is_next each_kept last.now) found (marks_voted key.now version ballot.now fact.now) }
 {
-    match fact {
-        Fact::Voted {
-            key: other,
-            version: voted,
-            ballot: at,
-            options,
-            offered: _,
-        } => {
-            if *voted == version && at.is(ballot) && other.is(key) {
-                least_mark(found, options, last)
-            } else {
-                found
-            }
-        }
-        _ => found,
+    match marks_voted(fact, key, version, ballot) {
+        Some(options) => least_mark(found, options, last),
+        None => found,
     }
 }
 
@@ -120,24 +109,12 @@ fn next_voted(
 fn mark_from(fact: &Fact, key: &Key, version: u64, ballot: &Ballot, tx: &TxId) -> Option<Mark>
     ensures { result ≡ value_of (marks_voted key.now version ballot.now fact.now) tx.now }
 {
-    match fact {
-        Fact::Voted {
-            key: other,
-            version: voted,
-            ballot: at,
-            options,
-            offered: _,
-        } => {
-            if *voted == version && at.is(ballot) && other.is(key) {
-                match options.mark_of(*tx) {
-                    Some(mark) => Some(mark.copy()),
-                    None => None,
-                }
-            } else {
-                None
-            }
-        }
-        _ => None,
+    match marks_voted(fact, key, version, ballot) {
+        Some(options) => match options.mark_of(*tx) {
+            Some(mark) => Some(mark.copy()),
+            None => None,
+        },
+        None => None,
     }
 }
 
@@ -186,6 +163,45 @@ pub(crate) fn mark_below(
             Some(mark) => Some((ballot, tx, mark)),
             None => None,
         },
+        None => None,
+    }
+}
+
+// The next mark above a transaction of the votes at a ballot.
+fn next_mark(
+    facts: &[Fact],
+    key: &Key,
+    version: u64,
+    ballot: &Ballot,
+    last: &Option<TxId>,
+) -> Option<(TxId, Mark)>
+    ensures { result ≡ find (λ e. is_above last.now e.0) (votes_of (reverse facts.now) key.now version ballot.now) }
+{
+    match next_voted(facts, key, version, ballot, last) {
+        Some(tx) => match mark_at(facts, key, version, ballot, &tx) {
+            Some(mark) => Some((tx, mark)),
+            None => None,
+        },
+        None => None,
+    }
+}
+
+/// The next mark above a transaction of the votes at the greatest ballot below another one.
+pub(crate) fn mark_after(
+    facts: &[Fact],
+    key: &Key,
+    version: u64,
+    below: &Ballot,
+    last: &Option<TxId>,
+) -> Option<(Ballot, TxId, Mark)>
+    ensures { result ≡ mark_after (reverse facts.now) key.now version below.now last.now }
+{
+    if below.is(&Ballot::FAST) {
+        return None;
+    }
+    let ballot = last_ballot(facts, key, version, below);
+    match next_mark(facts, key, version, &ballot, last) {
+        Some((tx, mark)) => Some((ballot, tx, mark)),
         None => None,
     }
 }

@@ -1,6 +1,7 @@
 //! The order in which a store goes over transactions.
 ghost use Rattle.std.specs.Prelude.{◌≡◌};
-ghost use Rattle.mdcc_facts.specs.Walks.{is_above, is_lower};
+ghost use Rattle.mdcc_facts.specs.Walks.{is_lower};
+ghost use Rattle.mdcc_protocol.specs.Stores.{is_above};
 
 use mdcc_base::TxId;
 

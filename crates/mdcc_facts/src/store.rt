@@ -1,18 +1,22 @@
 //! What a store of facts promises.
-ghost use Rattle.std.specs.Prelude.{◌≡◌, ◌+◌, ◌∷◌, ℕ, List, OnErr, OnOk};
+ghost use Rattle.std.specs.Prelude.{◌≡◌, ◌+◌, ◌∷◌, ℕ, IfOk, List, OnErr, OnOk};
 ghost use Rattle.mdcc_base.specs.Unless.{GivesUnless};
 ghost use Rattle.mdcc_messages.specs.declared.facts.Fact.{Fact as AFact};
-ghost use Rattle.mdcc_protocol.specs.Facts.{base_of, choice_known, current_of, epoch_of, executed_of, heard_of, promise_of, promised_through, vote_of};
-ghost use Rattle.mdcc_protocol.specs.Stores.{delta_of, entries_at, load_at, mark_below, unresolved_at};
-ghost use Rattle.mdcc_struct.specs.Maps.{txs_of};
+ghost use Rattle.mdcc_protocol.specs.Facts.{base_of, choice_known, current_of, epoch_of, executed_of, heard_of, is_heard, last_ballot, promise_of, promised_through, unresolved_of, vote_of, votes_of};
+ghost use Rattle.mdcc_protocol.specs.News.{is_crowding};
+ghost use Rattle.mdcc_protocol.specs.Stores.{count_voted, delta_of, ended_of, entries_at, load_at, mark_after, mark_below, unresolved_at};
+ghost use Rattle.mdcc_struct.specs.Maps.{txs_of, value_of};
 ghost use Rattle.mdcc_facts.specs.Adding.{MayBeAdded, add_of, is_memory};
 
-use mdcc_base::{Ballot, BoundedList, Key, TxId};
-use mdcc_option::{Choice, Delta, Item, Mark, Outcome, Seen};
+use mdcc_base::{Ballot, HeapList, Key, Memory, TxId};
+use mdcc_option::{Choice, Delta, Item, Mark, Outcome, Seen, WriteSet};
 use mdcc_messages::Fact;
 use mdcc_protocol::{Load, StoreFault};
+use mdcc_struct::Options;
+use std::alloc::Global;
 
-/// A store of the facts of one centre. It answers what they say, and takes no memory for it.
+/// A store of the facts of one centre. It answers what they say. Where an answer may be that there
+/// is no memory, it takes some for it, and else none.
 pub trait FactStore {
     /// The lists of facts, the newest first, for which it stands.
     ghost stands: { Self → List AFact → Type 0 };
@@ -43,6 +47,33 @@ pub trait FactStore {
     /// The mark of a transaction in an instance at the greatest ballot at which it was voted.
     fn vote_of(&self, key: &Key, version: u64, tx: TxId) -> Option<(Ballot, Mark)>
         ensures { (facts : List AFact) → stands self.now facts → result ≡ vote_of facts key.now version tx };
+
+    /// The greatest ballot below another one at which there is a vote in the instance; the fast one
+    /// where there is none.
+    fn voted_below(&self, key: &Key, version: u64, below: Ballot) -> Ballot
+        ensures { (facts : List AFact) → stands self.now facts → result ≡ last_ballot facts key.now version below };
+
+    /// All marks that were voted in an instance at a ballot.
+    fn votes(
+        &self,
+        alloc: Global,
+        key: &Key,
+        version: u64,
+        ballot: Ballot,
+    ) -> Result<Options, Memory>
+        ensures { (facts : List AFact) → stands self.now facts → IfOk result (λ votes. votes ≡ votes_of facts key.now version ballot) };
+
+    /// How many transactions of a structure were voted in an instance at a ballot.
+    fn count_voted(&self, key: &Key, version: u64, ballot: Ballot, options: &Options) -> usize
+        ensures { (facts : List AFact) → stands self.now facts → result ≡ count_voted facts key.now version ballot options.now };
+
+    /// Whether an outcome of the transaction was heard.
+    fn is_heard(&self, tx: TxId) -> bool
+        ensures { (facts : List AFact) → stands self.now facts → result ≡ is_heard facts tx };
+
+    /// Whether the outcome that was heard of a transaction is a commit.
+    fn ended(&self, tx: TxId) -> Option<bool>
+        ensures { (facts : List AFact) → stands self.now facts → result ≡ ended_of facts tx };
 
     /// The outcome that was heard of a transaction.
     fn heard(&self, tx: TxId) -> Option<Outcome>
@@ -85,14 +116,38 @@ pub trait FactStore {
     ) -> Option<(Ballot, TxId, Mark)>
         ensures { (facts : List AFact) → stands self.now facts → result ≡ mark_below facts key.now version below place };
 
+    /// The next mark above a transaction, or the first, of the votes at the greatest ballot below
+    /// another one, with that ballot.
+    fn mark_after(
+        &self,
+        key: &Key,
+        version: u64,
+        below: Ballot,
+        last: Option<TxId>,
+    ) -> Option<(Ballot, TxId, Mark)>
+        ensures { (facts : List AFact) → stands self.now facts → result ≡ mark_after facts key.now version below last };
+
     /// The transaction at a place, from 0, of those of which a vote holds a choice and whose
     /// outcome was not heard, ascending, with its write set.
-    fn unresolved(&self, place: usize) -> Option<(TxId, BoundedList<(Key, u64), 8>)>
+    fn unresolved(&self, place: usize) -> Option<(TxId, WriteSet)>
         ensures { (facts : List AFact) → stands self.now facts → result ≡ unresolved_at facts place };
+
+    /// The write set of a transaction of which a vote holds a choice and whose outcome was not
+    /// heard.
+    fn write_set(&self, tx: TxId) -> Option<WriteSet>
+        ensures { (facts : List AFact) → stands self.now facts → result ≡ value_of (unresolved_of facts) tx };
+
+    /// All such transactions, ascending, with their write sets.
+    fn unresolved_all(&self, alloc: Global) -> Result<HeapList<(TxId, WriteSet)>, Memory>
+        ensures { (facts : List AFact) → stands self.now facts → IfOk result (λ all. all ≡ unresolved_of facts) };
 
     /// The first choice of a transaction that a vote in the instance accepts or has as offered.
     fn choice_of(&self, key: &Key, version: u64, tx: TxId) -> Option<Choice>
         ensures { (facts : List AFact) → stands self.now facts → result ≡ choice_known facts key.now version tx };
+
+    /// Whether more than 64 deltas of one version would be executed with this fact.
+    fn would_crowd(&self, fact: &Fact) -> bool
+        ensures { (facts : List AFact) → stands self.now facts → result ≡ is_crowding facts fact.now };
 
     /// The epoch of the last boot.
     fn epoch(&self) -> u32

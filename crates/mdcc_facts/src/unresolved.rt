@@ -1,23 +1,16 @@
 //! Transactions that a vote holds a choice of and whose outcome was not heard.
 ghost use Rattle.std.specs.Prelude.{◌≡◌, filter_map, option_map, reverse, slice_get};
 ghost use Rattle.mdcc_facts.specs.Walks.{is_next, is_not_heard, least_from, lower_passing, next_tx};
-ghost use Rattle.mdcc_protocol.specs.Facts.{is_heard, unresolved_of, write_set_in, write_sets_from, write_sets_of};
+ghost use Rattle.mdcc_protocol.specs.Facts.{unresolved_of, write_set_in, write_sets_from, write_sets_of};
 ghost use Rattle.mdcc_protocol.specs.Stores.{unresolved_at};
 ghost use Rattle.mdcc_struct.specs.Maps.{value_of};
 
 use crate::next::{is_above, is_lower};
-use crate::votes::heard_of;
+use crate::votes::is_heard;
 use mdcc_base::{Plain, TxId};
 use mdcc_option::{Mark, WriteSet};
 use mdcc_messages::Fact;
 use mdcc_struct::Options;
-
-// Whether the transaction's outcome was heard.
-fn is_heard(facts: &[Fact], tx: &TxId) -> bool
-    ensures { result ≡ is_heard (reverse facts.now) tx.now }
-{
-    heard_of(facts, tx).is_some()
-}
 
 // The lower of two transactions, where the second is above the last one and was not heard.
 fn lower_unheard(
@@ -140,6 +133,17 @@ fn write_set_of(facts: &[Fact], tx: &TxId) -> Option<WriteSet>
         write_set = write_set.or(write_set_from(fact, tx));
     }
     write_set
+}
+
+/// The write set of a transaction that is not resolved.
+pub(crate) fn unresolved_write_set(facts: &[Fact], tx: &TxId) -> Option<WriteSet>
+    ensures { result ≡ value_of (unresolved_of (reverse facts.now)) tx.now }
+{
+    if is_heard(facts, tx) {
+        None
+    } else {
+        write_set_of(facts, tx)
+    }
 }
 
 // The transaction at a place of those that are not resolved.

@@ -1,8 +1,9 @@
 //! What facts say of votes and outcomes.
 ghost use Rattle.std.specs.Prelude.{◌≡◌, option_and_then, reverse};
-ghost use Rattle.std.specs.Option.{option_copied, option_or};
-ghost use Rattle.mdcc_protocol.specs.Facts.{choice_known, choice_of_tx, choice_voted, heard_of, later_vote, mark_voted, outcome_in, vote_of};
-ghost use Rattle.mdcc_protocol.specs.Marks.{choice_in};
+ghost use Rattle.std.specs.Option.{option_copied, option_map, option_or};
+ghost use Rattle.mdcc_protocol.specs.Facts.{choice_known, choice_of_tx, choice_voted, heard_of, is_heard, later_vote, mark_voted, outcome_in, vote_of};
+ghost use Rattle.mdcc_protocol.specs.Marks.{choice_in, is_commit};
+ghost use Rattle.mdcc_protocol.specs.Stores.{ended_of};
 
 use mdcc_base::{Ballot, Key, Plain, TxId};
 use mdcc_option::{Choice, Mark, Outcome};
@@ -137,4 +138,40 @@ pub(crate) fn heard_of(facts: &[Fact], tx: &TxId) -> Option<Outcome>
         hear(&mut heard, fact, tx);
     }
     heard
+}
+
+// Whether the outcome that the fact says of a transaction is a commit.
+fn ended_in(fact: &Fact, tx: &TxId) -> Option<bool>
+    ensures { result ≡ option_map is_commit (outcome_in tx.now fact.now) }
+{
+    match fact {
+        Fact::Heard { tx: other, outcome } => {
+            if other.is(tx) {
+                Some(matches!(outcome, Outcome::Commit(_)))
+            } else {
+                None
+            }
+        }
+        _ => None,
+    }
+}
+
+/// Whether the outcome that was heard of a transaction is a commit.
+pub(crate) fn ended_of(facts: &[Fact], tx: &TxId) -> Option<bool>
+    ensures { result ≡ ended_of (reverse facts.now) tx.now }
+{
+    for fact in facts {
+        if let Some(committed) = ended_in(fact, tx) {
+            return Some(committed);
+        }
+    }
+    None
+}
+
+/// Whether an outcome of the transaction was heard.
+#[tactic(auto, using(crate::proofs::Heard::heard_ended))]
+pub(crate) fn is_heard(facts: &[Fact], tx: &TxId) -> bool
+    ensures { result ≡ is_heard (reverse facts.now) tx.now }
+{
+    ended_of(facts, tx).is_some()
 }
