@@ -1,6 +1,6 @@
 -- Which ledgers are allowed: each entry meets its condition over the entries before it.
 use Rattle.std.specs.List.{list_all, list_any}
-use Rattle.std.specs.Prelude.{Bool, IsTrue, List, MatchBool, None, Ok, Option, Some, [], false, filter, if◌then◌else◌, length, map, nat_le, not, true, ℕ, ⊤, ◌&&◌, ◌++◌, ◌+◌, ◌==◌, ◌∷◌, ◌≡◌, ◌≤◌, ◌⊎◌}
+use Rattle.std.specs.Prelude.{Bool, IsTrue, List, MatchBool, None, Ok, Option, Some, [], false, filter, if◌then◌else◌, length, map, nat_le, not, true, ℕ, ⊤, ◌&&◌, ◌++◌, ◌+◌, ◌<◌, ◌==◌, ◌∷◌, ◌≡◌, ◌≤◌, ◌⊎◌}
 use Rattle.mdcc_base.specs.Ballot.{ballot_eq, is_fast}
 use Rattle.mdcc_base.specs.Key.{key_eq}
 use Rattle.mdcc_base.specs.Quorums.{all_centres}
@@ -39,9 +39,10 @@ seqs_begun (entry ∷ entries) a epoch = seqs_begun entries a epoch
 abbrev pub part_in : Choice → Part
 part_in choice = record { key = choice.key; version = choice.version; update = choice.update }
 
--- a manager began a transaction of the schema whose parts it could begin, under the next identifier of its epoch
+-- a manager that is booted began a transaction of the schema whose parts it could begin, under the next identifier of its epoch
 pub record IsAllowedBegun (cluster : Cluster) (before : List Entry) (a : ℕ) (tx : TxId) (choices : List Choice) : Type 0 where
   pub centre : tx.centre ≡ a
+  pub booted : 0 < epoch_of (facts_of before a)
   pub epoch : tx.epoch ≡ epoch_of (facts_of before a)
   pub seq : tx.seq ≡ seqs_begun before a tx.epoch + 1
   pub made : choices ≡ choices_of tx (map part_in choices)
@@ -111,10 +112,11 @@ IsMade cluster before a key version ballot options =
     ((centres : List ℕ) × (claims : TxMap (Option Choice)) × IsFirstStructure cluster before a key version ballot options centres claims)
     ⊎ ((last : Options) × (claim : TxId × Option Choice) × IsNextStructure cluster before a key version ballot options last claim)
 
--- a leader sent a structure for an instance that it holds, at a ballot of its own that a classic quorum promised
+-- a leader that is booted sent a structure for an instance that it holds, at a ballot of its own that a classic quorum promised
 pub record IsAllowedValued (cluster : Cluster) (before : List Entry) (a : ℕ) (key : Key) (version : ℕ) (ballot : Ballot) (options : Options) : Type 0 where
   pub classic : IsTrue (not (is_fast ballot))
   pub centre : ballot.centre ≡ a
+  pub booted : 0 < epoch_of (facts_of before a)
   pub epoch : ballot.epoch ≡ epoch_of (facts_of before a)
   pub held : version ≤ current_of (facts_of before a) key
   pub promised : cluster.quorums.classic ≤ length (promisers_of cluster.quorums before key version ballot)

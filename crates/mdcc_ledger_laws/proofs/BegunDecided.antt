@@ -1,7 +1,7 @@
 -- The test of a begun transaction decides whether it is allowed.
 use Rattle.std.proofs.Common.{◌≡◌, ℕ, ◌+◌, Bool, true, false, cond, List, map, refl, ap, ◌∙◌, Option, Some, None, Ok, Err, is_ok, ◌==◌, length, nat_lt, Decides}
 use Rattle.std.proofs.lemmas.Bool.{and_parts, and_from}
-use Rattle.std.proofs.lemmas.Bool.Decides.{Decides-eqb, Decides-and, Decides-like}
+use Rattle.std.proofs.lemmas.Bool.Decides.{Decides-eqb, Decides-ltb, Decides-and, Decides-like}
 use Rattle.mdcc_base.specs.declared.identifiers.TxId.{TxId}
 use Rattle.mdcc_option.specs.Parts.{are_ascending, is_key_repeated, sorted_parts}
 use Rattle.mdcc_option.specs.Transaction.{checked_by, choices_of, parts_fault, transaction_of}
@@ -45,7 +45,8 @@ pub Decides-begun : (cluster : Cluster) (before : List Entry) (a : ℕ) (tx : Tx
 Decides-begun cluster before a tx choices =
     Decides-like (is_begun_allowed cluster before a tx choices)
     (λ h. record {
-      centre = h.0.0.0.0.0;
+      centre = h.0.0.0.0.0.0;
+      booted = h.0.0.0.0.0.1;
       epoch = h.0.0.0.0.1;
       seq = h.0.0.0.1;
       made = h.0.0.1;
@@ -53,9 +54,10 @@ Decides-begun cluster before a tx choices =
       draft = h.0.1.1;
       held = h.1;
     })
-    (λ b. (((((b.centre, b.epoch), b.seq), b.made), (b.ascending, b.draft)), b.held))
-    (Decides-and _ _ (Decides-and _ _ (Decides-and _ _ (Decides-and _ _ (Decides-and _ _
+    (λ b. ((((((b.centre, b.booted), b.epoch), b.seq), b.made), (b.ascending, b.draft)), b.held))
+    (Decides-and _ _ (Decides-and _ _ (Decides-and _ _ (Decides-and _ _ (Decides-and _ _ (Decides-and _ _
     (Decides-eqb tx.centre a)
+    (Decides-ltb 0 (epoch_of (facts_of before a))))
     (Decides-eqb tx.epoch (epoch_of (facts_of before a))))
     (Decides-eqb tx.seq (seqs_begun before a tx.epoch + 1)))
     (Decides-choices choices (choices_of tx (map part_in choices))))

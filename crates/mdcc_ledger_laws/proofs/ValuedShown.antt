@@ -1,7 +1,7 @@
 -- A structure that passes the test is allowed.
 use Rattle.std.proofs.Common.{◌≡◌, ℕ, ◌+◌, Bool, true, not, ◌==◌, nat_le, List, [], ◌∷◌, length, refl, inl, inr, Option, Some, None, Decides}
 use Rattle.std.proofs.lemmas.Bool.{and_parts, eqb-true, leb-true}
-use Rattle.std.proofs.lemmas.Bool.Decides.{Decides-eqb, Decides-and, Decides-like}
+use Rattle.std.proofs.lemmas.Bool.Decides.{Decides-eqb, Decides-ltb, Decides-and, Decides-like}
 use Rattle.mdcc_base.specs.Ballot.{is_fast}
 use Rattle.mdcc_base.specs.declared.identifiers.Ballot.{Ballot}
 use Rattle.mdcc_base.specs.declared.identifiers.TxId.{TxId}
@@ -78,17 +78,19 @@ made_shown cluster before a key version ballot options (Some last) there h =
 pub valued_shown : (cluster : Cluster) (before : List Entry) (a : ℕ) (key : Key) (version : ℕ) (ballot : Ballot) (options : Options)
     → is_valued_allowed cluster before a key version ballot options ≡ true → IsAllowedValued cluster before a key version ballot options
 valued_shown cluster before a key version ballot options h =
-    let parts = (Decides-and _ _ (Decides-and _ _ (Decides-and _ _ (Decides-and _ _ (Decides-and _ _ (Decides-and _ _
+    let parts = (Decides-and _ _ (Decides-and _ _ (Decides-and _ _ (Decides-and _ _ (Decides-and _ _ (Decides-and _ _ (Decides-and _ _
     (Decides-true (not (is_fast ballot)))
     (Decides-eqb ballot.centre a))
+    (Decides-ltb 0 (epoch_of (facts_of before a))))
     (Decides-eqb ballot.epoch (epoch_of (facts_of before a))))
     (Decides-leb version (current_of (facts_of before a) key)))
     (Decides-leb cluster.quorums.classic (length (promisers_of cluster.quorums before key version ballot))))
     (Decides-true (are_begun before key version options)))
     (Decides-true (is_made cluster before a key version ballot options))).0 h in
     record {
-      classic = parts.0.0.0.0.0.0;
-      centre = parts.0.0.0.0.0.1;
+      classic = parts.0.0.0.0.0.0.0;
+      centre = parts.0.0.0.0.0.0.1;
+      booted = parts.0.0.0.0.0.1;
       epoch = parts.0.0.0.0.1;
       held = parts.0.0.0.1;
       promised = parts.0.0.1;

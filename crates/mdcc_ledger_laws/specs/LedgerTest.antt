@@ -1,6 +1,6 @@
 -- A test that a ledger is allowed, for computed schedules: it looks for the sets of centres and the claims of which `IsAllowed` only says that there are some.
 use Rattle.std.specs.List.{list_any}
-use Rattle.std.specs.Prelude.{Bool, List, None, Option, Some, [], false, if◌then◌else◌, is_ok, is_some, length, map, nat_le, not, true, ℕ, ◌&&◌, ◌++◌, ◌+◌, ◌==◌, ◌||◌, ◌∷◌}
+use Rattle.std.specs.Prelude.{Bool, List, None, Option, Some, [], false, if◌then◌else◌, is_ok, is_some, length, map, nat_le, nat_lt, not, true, ℕ, ◌&&◌, ◌++◌, ◌+◌, ◌==◌, ◌||◌, ◌∷◌}
 use Rattle.mdcc_base.specs.Ballot.{is_fast}
 use Rattle.mdcc_base.specs.Quorums.{all_centres}
 use Rattle.mdcc_base.specs.TxId.{tx_eq}
@@ -41,6 +41,7 @@ is_draft schema parts = are_ascending parts && is_ok (transaction_of schema part
 abbrev pub is_begun_allowed : Cluster → List Entry → ℕ → TxId → List Choice → Bool
 is_begun_allowed cluster before a tx choices =
     tx.centre == a
+    && nat_lt 0 (epoch_of (facts_of before a))
     && tx.epoch == epoch_of (facts_of before a)
     && tx.seq == seqs_begun before a tx.epoch + 1
     && choices_eq choices (choices_of tx (map part_in choices))
@@ -77,6 +78,7 @@ abbrev pub is_valued_allowed : Cluster → List Entry → ℕ → Key → ℕ �
 is_valued_allowed cluster before a key version ballot options =
     not (is_fast ballot)
     && ballot.centre == a
+    && nat_lt 0 (epoch_of (facts_of before a))
     && ballot.epoch == epoch_of (facts_of before a)
     && nat_le version (current_of (facts_of before a) key)
     && nat_le cluster.quorums.classic (length (promisers_of cluster.quorums before key version ballot))

@@ -106,6 +106,7 @@ module _ (also : List Entry → Type 0) (well : IsWell also) (cluster : Cluster)
       record {
         classic = not_from_false (is_fast x.ballot) (round-classic x.ballot g.above);
         centre = g.centre;
+        booted = up.booted;
         epoch = g.epoch;
         held = r.held;
         promised = r.promised;

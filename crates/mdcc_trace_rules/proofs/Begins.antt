@@ -88,6 +88,7 @@ begun-good also closed cluster es a volatile ps up draft held = record {
     begun-legal : IsAllowedBegun cluster es a tx choices
     begun-legal = record {
       centre = refl;
+      booted = up.booted;
       epoch = refl;
       seq = ap (λ n. n + 1) up.keeps.manager.seq;
       made = ap (choices_of tx) (sym again);
