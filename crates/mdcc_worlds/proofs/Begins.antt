@@ -4,7 +4,7 @@ use Rattle.std.proofs.lemmas.Bool.{cases_Bool, eq-eqb, eqb-true, leb-false, leb-
 use Rattle.std.proofs.lemmas.List.{get_or-replicate, length-replicate}
 use Rattle.mdcc_option.specs.declared.cluster.Cluster.{Cluster}
 use Rattle.mdcc_protocol.specs.Belongs.{is_centre}
-use Rattle.mdcc_built.specs.Built.{built}
+use Rattle.mdcc_switches.specs.Built.{nothing_built}
 use Rattle.mdcc_protocol.specs.IsCluster.{IsCluster}
 use Rattle.mdcc_ledger.specs.Ledger.{facts_of}
 use Rattle.mdcc_protocol.specs.Volatile.{nothing_kept}
@@ -45,7 +45,7 @@ first-site cluster a h =
     get_or-replicate cluster.quorums.centres (a - 1) booted booted (omega (both.0, both.1, arith))
 
 pub first-node : (cluster : Cluster) (a : ℕ) → IsCluster cluster → is_centre cluster a ≡ true → IsNode cluster a (Fact.Booted 1 ∷ []) nothing_kept
-first-node cluster a itself h = boot-node built cluster a [] (Fact.Booted 1 ∷ []) itself h tt refl
+first-node cluster a itself h = boot-node nothing_built cluster a [] (Fact.Booted 1 ∷ []) itself h tt refl
 
 pub first-stands : (cluster : Cluster) → IsCluster cluster → IsWorld (first_world cluster)
 first-stands cluster itself = record {

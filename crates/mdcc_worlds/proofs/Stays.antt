@@ -9,12 +9,13 @@ use Rattle.mdcc_base.specs.declared.key.Key.{Key}
 use Rattle.mdcc_option.specs.declared.cluster.Cluster.{Cluster}
 use Rattle.mdcc_protocol.specs.Belongs.{is_centre}
 use Rattle.mdcc_rules.specs.Boot.{booted_by}
-use Rattle.mdcc_built.specs.Built.{built}
+use Rattle.mdcc_switches.specs.Built.{Built, nothing_built}
 use Rattle.mdcc_protocol.specs.Facts.{epoch_of}
 use Rattle.mdcc_ledger.specs.Ledger.{Entry, facts_of}
 use Rattle.mdcc_rules.specs.Steps.{NodeStep, answering}
 use Rattle.mdcc_protocol.specs.Visible
 use Rattle.mdcc_protocol.specs.Volatile.{Volatile, nothing_kept}
+use Rattle.mdcc_messages.specs.Lengths.{cells_used}
 use Rattle.mdcc_messages.specs.WellFormed.{IsWellFormedEnvelope, IsWellFormedFact}
 use Rattle.mdcc_messages.specs.Mailbox.{Sent, unsent, with_delivered}
 use Rattle.mdcc_simulation.specs.State.{Site, World, booted, centre_at, counted_event, down, with_centre}
@@ -153,20 +154,20 @@ module _ (w : World) (a : ℕ) (step : NodeStep) (stands : IsWorld w) (centre : 
     reads = stands.reads;
   }
 
-pub input-stays : (w : World) (a : ℕ) (input : Input) → IsWorld w → is_centre w.cluster a ≡ true → IsWellFormedInput input
+pub input-stays : (built : Built) (w : World) (a : ℕ) (input : Input) → (built.leading ≡ true → cells_used (facts_of w.ledger a) ≤ 4194304) → IsWorld w → is_centre w.cluster a ≡ true → IsWellFormedInput input
     → IsWorld (input_happened w a (step_at built w a input)).world
-input-stays w a input stands centre formed = by_result (step_at built w a input) refl
+input-stays built w a input room stands centre formed = by_result (step_at built w a input) refl
   where
     by_result : (r : Result NodeStep StepFault) → step_at built w a input ≡ r → IsWorld (input_happened w a r).world
     by_result (Err fault) e = rw (refused-same w a fault) stands
     by_result (Ok step) e =
         let node = stands.nodes a centre in
-        let within = made-stays w.cluster a (facts_of w.ledger a) (centre_at w a).volatile input step stands.cluster_itself.quorums formed e in
-        let sends = sends-formed built w.cluster a (facts_of w.ledger a) (centre_at w a).volatile input step node formed e (λ f. absurd (cc)) in
+        let within = made-stays built w.cluster a (facts_of w.ledger a) (centre_at w a).volatile input step stands.cluster_itself.quorums formed e in
+        let sends = sends-formed built w.cluster a (facts_of w.ledger a) (centre_at w a).volatile input step node formed e room in
         rw (happened-taken w a step (stands.unstopped a centre))
         (world-stays w a step stands centre within
         (node-stays built w.cluster a (facts_of w.ledger a) (centre_at w a).volatile input step node formed e)
-        (made-epoch w.cluster a (facts_of w.ledger a) (centre_at w a).volatile input step stands.cluster_itself.quorums formed e) sends)
+        (made-epoch built w.cluster a (facts_of w.ledger a) (centre_at w a).volatile input step stands.cluster_itself.quorums formed e) sends)
 
 -- ---- a delivery
 
@@ -209,7 +210,7 @@ counted-stays w stands = record {
 
 pub read-stays : (w : World) (a : ℕ) (key : Key) → IsWorld w → is_centre w.cluster a ≡ true → IsKey key → IsWorld (read_happened w a key).world
 read-stays w a key stands centre is =
-    let shown = answer-formed built w.cluster a (facts_of w.ledger a) (centre_at w a).volatile (Input.Read key)
+    let shown = answer-formed nothing_built w.cluster a (facts_of w.ledger a) (centre_at w a).volatile (Input.Read key)
     (answering (centre_at w a).volatile (Answer.Read (Visible.read (facts_of w.ledger a) key)))
     (Answer.Read (Visible.read (facts_of w.ledger a) key)) (stands.nodes a centre) is refl refl in
     record {
@@ -260,14 +261,14 @@ payloads-formed (fact ∷ facts) h =
     (λ other e. let same : fact ≡ other = cc in subst IsWellFormedFact same h.0, tt)
 
 -- a boot where epochs are left
-booted-next : (cluster : Cluster) (facts : List Fact) → nat_le (2 ^ 32 - 1) (epoch_of facts) ≡ false → booted_by built cluster (Ok facts) ≡ Ok (Fact.Booted (epoch_of facts + 1) ∷ facts)
+booted-next : (cluster : Cluster) (facts : List Fact) → nat_le (2 ^ 32 - 1) (epoch_of facts) ≡ false → booted_by nothing_built cluster (Ok facts) ≡ Ok (Fact.Booted (epoch_of facts + 1) ∷ facts)
 booted-next cluster facts e = rw e refl
 
 restarted-node : (cluster : Cluster) (a : ℕ) (facts : List Fact) (volatile : Volatile) → IsNode cluster a facts volatile → epoch_of facts < 2 ^ 32 - 1
     → IsNode cluster a (Fact.Booted (epoch_of facts + 1) ∷ facts) nothing_kept
 restarted-node cluster a facts volatile node below =
-    boot-node built cluster a (payloads_of facts) (Fact.Booted (epoch_of facts + 1) ∷ facts) node.cluster_itself node.centre (payloads-formed facts node.facts_themselves.well_formed)
-    (boot-reads built cluster facts node.facts_themselves.allowed (λ e. absurd (cc)) ∙ booted-next cluster facts (lt-leb (2 ^ 32 - 1) (epoch_of facts) below))
+    boot-node nothing_built cluster a (payloads_of facts) (Fact.Booted (epoch_of facts + 1) ∷ facts) node.cluster_itself node.centre (payloads-formed facts node.facts_themselves.well_formed)
+    (boot-reads nothing_built cluster facts node.facts_themselves.allowed (λ e. absurd (cc)) ∙ booted-next cluster facts (lt-leb (2 ^ 32 - 1) (epoch_of facts) below))
 
 pub restart-stays : (w : World) (a : ℕ) → IsWorld w → is_centre w.cluster a ≡ true → w.events < most_events
     → IsWorld (restart_happened (counted_event w) a (epoch_of (facts_of w.ledger a) + 1)).world

@@ -1,5 +1,5 @@
--- Messages of the built rules stay within the cluster, and no fact of theirs begins an epoch.
-use Rattle.std.proofs.Common.{◌≡◌, ℕ, zero, suc, ◌+◌, ◌&&◌, ◌==◌, ◌≤◌, Bool, true, false, List, [], ◌∷◌, refl, Option, Some, None, Result, Ok, Err, not, nat_le, filter, arith}
+-- The messages of a step stay within the cluster, its entries beside the fact tell no fact, and its fact begins no epoch.
+use Rattle.std.proofs.Common.{◌≡◌, ℕ, zero, suc, ◌+◌, ◌&&◌, ◌==◌, ◌≤◌, Bool, true, false, List, [], ◌∷◌, refl, Option, Some, None, Result, Ok, Err, not, nat_le, filter, fold, cond, arith}
 use Rattle.std.specs.List.{AllByRecursion, range_with_len}
 use Rattle.std.proofs.lemmas.Bool.{and_from, and_parts, cond_both, eqb-true, le-leb}
 use Rattle.mdcc_base.specs.AreQuorums.{AreQuorums}
@@ -11,64 +11,103 @@ use Rattle.mdcc_base.specs.declared.key.Key.{Key}
 use Rattle.mdcc_option.specs.Transaction.{choices_of}
 use Rattle.mdcc_option.specs.declared.choices.Cause.{Cause}
 use Rattle.mdcc_option.specs.declared.choices.Choice.{Choice}
+use Rattle.mdcc_option.specs.declared.choices.Claim.{Claim}
+use Rattle.mdcc_option.specs.declared.choices.Mark.{Mark}
 use Rattle.mdcc_option.specs.declared.choices.Outcome.{Outcome}
 use Rattle.mdcc_option.specs.declared.cluster.Cluster.{Cluster}
 use Rattle.mdcc_option.specs.declared.faults.BeginFault.{BeginFault}
 use Rattle.mdcc_option.specs.declared.items.Part.{Part}
-use Rattle.mdcc_protocol.specs.Acceptor.{on_propose}
-use Rattle.mdcc_rules.specs.AcceptorRules.{proposed_step}
-use Rattle.mdcc_protocol.specs.Belongs.{cause_belongs, is_centre, message_belongs, tx_belongs}
-use Rattle.mdcc_built.specs.Built.{built}
-use Rattle.mdcc_protocol.specs.Facts.{epoch_of, is_heard}
+use Rattle.mdcc_struct.specs.declared.options.Options.{Options}
+use Rattle.mdcc_protocol.specs.Acceptor.{new_marks, on_accept, on_prepare, on_propose}
+use Rattle.mdcc_rules.specs.AcceptorRules.{accepted_step, all_votes_sent, ask_step_by, prepared_step, proposed_step, votes_sent}
+use Rattle.mdcc_protocol.specs.Belongs.{ballot_belongs, cause_belongs, is_centre, mark_belongs, message_belongs, options_belong, tx_belongs}
+use Rattle.mdcc_switches.specs.Built.{Built}
+use Rattle.mdcc_protocol.specs.Facts.{epoch_of, heard_of, is_heard, vote_of}
+use Rattle.mdcc_protocol.specs.Leader.{claim_of_choice, is_marked, lead, on_promise}
 use Rattle.mdcc_protocol.specs.Learner.{collided, is_learned}
 use Rattle.mdcc_protocol.specs.Manager
 use Rattle.mdcc_protocol.specs.Manager.{act_on_cause, act_on_vote, acted, choice_unled, lead_act, vote_taken}
 use Rattle.mdcc_rules.specs.ManagerRules.{act_sent, acted_step, begin_step_by, decided_step, escalate_step, opened_step, undecided_step, voted_step, watched_step}
-use Rattle.mdcc_rules.specs.Messages.{to_all, to_each}
+use Rattle.mdcc_rules.specs.LeaderRules.{Led, lead_entries, lead_sent, lead_step_after, led_by_answer, led_of, promised_by_answer, step_of_led}
+use Rattle.mdcc_rules.specs.Messages.{to_all, to_each, to_others}
 use Rattle.mdcc_rules.specs.Node.{checked, is_own_message, message_step, step_of}
+use Rattle.mdcc_ledger.specs.Ledger.{Added, Begun, Entry, Valued}
+use Rattle.mdcc_protocol.specs.News.{is_news}
 use Rattle.mdcc_protocol.specs.Recover
 use Rattle.mdcc_rules.specs.Steps.{NodeStep, nothing_done}
-use Rattle.mdcc_rules.specs.SyncRules.{give_sent_by, outcome_step_by}
-use Rattle.mdcc_protocol.specs.Visible.{on_outcome, on_sync_ask}
-use Rattle.mdcc_protocol.specs.Volatile.{Managing, Volatile, is_open}
+use Rattle.mdcc_rules.specs.SyncRules.{give_sent_by, outcome_step_by, sync_ask_step, sync_give_step_by}
+use Rattle.mdcc_rules.specs.TickRules.{Ticked, and_then, claim_led, led_or_left, manager_act, manager_ticked, recovery_act, recovery_ticked, tick_parts, tick_step, ticked}
+use Rattle.mdcc_protocol.specs.Visible.{on_outcome, on_sync_ask, on_sync_give}
+use Rattle.mdcc_protocol.specs.Volatile.{Leading, Managing, Volatile, is_open, txs_opened, with_manager, with_recovery}
 use Rattle.mdcc_messages.specs.WellFormed.{IsWellFormedMessage}
 use Rattle.mdcc_messages.specs.WellFormedParts.{IsWellFormedCause, IsWellFormedClassic}
+use Rattle.mdcc_protocol.specs.declared.acceptor.AcceptAnswer.{AcceptAnswer}
+use Rattle.mdcc_protocol.specs.declared.acceptor.PrepareAnswer.{PrepareAnswer}
 use Rattle.mdcc_protocol.specs.declared.acceptor.ProposeAnswer.{ProposeAnswer}
+use Rattle.mdcc_protocol.specs.declared.leader.LeadAnswer.{LeadAnswer}
+use Rattle.mdcc_protocol.specs.declared.leader.LeadFault.{LeadFault}
+use Rattle.mdcc_protocol.specs.declared.leader.Promise.{Promise}
+use Rattle.mdcc_protocol.specs.declared.leader.PromiseAnswer.{PromiseAnswer}
 use Rattle.mdcc_messages.specs.declared.facts.Fact.{Fact}
 use Rattle.mdcc_protocol.specs.declared.manager.ManagerAct.{ManagerAct}
 use Rattle.mdcc_messages.specs.declared.messages.Envelope.{Envelope}
 use Rattle.mdcc_messages.specs.declared.messages.Message.{Message}
 use Rattle.mdcc_rules.specs.declared.node.Input.{Input}
 use Rattle.mdcc_rules.specs.declared.node.StepFault.{StepFault}
+use Rattle.mdcc_protocol.specs.declared.recover.RecoverAct.{RecoverAct}
 use Rattle.mdcc_protocol.specs.declared.visible.Give.{Give}
 use Rattle.mdcc_protocol.specs.declared.votes.Vote.{Vote}
 use Rattle.mdcc_steps.specs.Forming.{with_new}
 use Rattle.mdcc_steps.specs.Inputs.{IsWellFormedInput}
-use Rattle.mdcc_steps.proofs.Allowing.{OnStep, on_checked}
-use Rattle.mdcc_steps.proofs.Each.{each-kept}
+use Rattle.mdcc_steps.proofs.Allowing.{OnStep, on_checked, on_rule}
+use Rattle.mdcc_steps.proofs.Each.{all-each, each-append, each-kept}
 use Rattle.mdcc_steps.proofs.Sending.{each-flat_map}
 use Rattle.mdcc_steps.proofs.Stepping.{on_made}
-use Rattle.mdcc_worlds.specs.Sending.{GoesWithin, StaysWithin, TellNoFact}
+use Rattle.mdcc_worlds.specs.Sending.{GoesWithin, IsValuedBy, StaysWithin, TellNoFact}
 
 -- a new fact begins no epoch
 abbrev pub LeavesEpoch : Option Fact → Type 0
 LeavesEpoch new = (facts : List Fact) → epoch_of (with_new facts new) ≡ epoch_of facts
 
--- a step without entries, whose messages stay within, and whose fact begins no epoch
-abbrev IsQuiet : Cluster → NodeStep → Type 0
-IsQuiet cluster step = (step.entries ≡ []) × AllByRecursion (GoesWithin cluster) step.sends × LeavesEpoch step.fact
+-- a step whose entries are structures of this centre, whose messages stay within, and whose fact begins no epoch
+abbrev IsQuiet : Cluster → ℕ → NodeStep → Type 0
+IsQuiet cluster me step = AllByRecursion (IsValuedBy me) step.entries × AllByRecursion (GoesWithin cluster) step.sends × LeavesEpoch step.fact
+
+-- the same of what a leader makes of a claim or a promise
+abbrev IsQuietLed : Cluster → ℕ → Result Led LeadFault → Type 0
+IsQuietLed cluster me (Ok led) = AllByRecursion (IsValuedBy me) led.entries × AllByRecursion (GoesWithin cluster) led.sends
+IsQuietLed cluster me (Err fault) = Unit {0}
+
+-- and of a part of a tick
+abbrev IsQuietPart : Cluster → ℕ → Ticked → Type 0
+IsQuietPart cluster me part = AllByRecursion (IsValuedBy me) part.entries × AllByRecursion (GoesWithin cluster) part.sends
 
 -- what holds of every step
 abbrev pub IsStaying : Cluster → NodeStep → Type 0
 IsStaying cluster step = StaysWithin cluster step × LeavesEpoch step.fact
 
-no_fact : (step : NodeStep) → step.entries ≡ [] → TellNoFact step.entries
-no_fact step e ledger a = rw e refl
+-- a structure tells no fact
+no-fact : (me : ℕ) (entries : List Entry) → AllByRecursion (IsValuedBy me) entries → TellNoFact entries
+no-fact me [] h ledger a = refl
+no-fact me (Valued centre key version ballot options ∷ entries) h ledger a = no-fact me entries h.1 ledger a
+no-fact me (Added centre fact ∷ entries) h ledger a = absurd h.0
+no-fact me (Begun centre tx choices ∷ entries) h ledger a = absurd h.0
 
-quiet-stays : (cluster : Cluster) (step : NodeStep) → IsQuiet cluster step → IsStaying cluster step
-quiet-stays cluster step h = (record { entries = no_fact step h.0; sends = h.1 }, h.2)
+quiet-stays : (cluster : Cluster) (me : ℕ) (step : NodeStep) → IsQuiet cluster me step → IsStaying cluster step
+quiet-stays cluster me step h = (record { entries = no-fact me step.entries h.0; sends = h.1 }, h.2)
 
-module _ (cluster : Cluster) (me : ℕ) (facts : List Fact) (volatile : Volatile) (sizes : AreQuorums cluster.quorums) where
+-- one part of a tick after another
+parts-quiet : {X : Type 0} (cluster : Cluster) (me : ℕ) (act : Volatile → X → Ticked) → ((v : Volatile) (x : X) → IsQuietPart cluster me (act v x))
+    → (xs : List X) (before : Ticked) → IsQuietPart cluster me before → IsQuietPart cluster me (fold (and_then act) before xs)
+parts-quiet cluster me act each [] before h = h
+parts-quiet cluster me act each (x ∷ xs) before h =
+    let next = each before.after x in
+    parts-quiet cluster me act each xs (and_then act before x) (
+      each-append (IsValuedBy me) (act before.after x).entries before.entries next.0 h.0,
+      each-append (GoesWithin cluster) before.sends (act before.after x).sends h.1 next.1,
+    )
+
+module _ (built : Built) (cluster : Cluster) (me : ℕ) (facts : List Fact) (volatile : Volatile) (sizes : AreQuorums cluster.quorums) where
   centre-within : (a : ℕ) → 1 ≤ a → a ≤ cluster.quorums.centres → is_centre cluster a ≡ true
   centre-within a h k = and_from (nat_le 1 a) (nat_le a cluster.quorums.centres) (le-leb 1 a h) (le-leb a cluster.quorums.centres k)
 
@@ -109,18 +148,18 @@ module _ (cluster : Cluster) (me : ℕ) (facts : List Fact) (volatile : Volatile
   lead-within leader h None = tt
   lead-within leader h (Some choice) = h
 
-  nothing : IsQuiet cluster (nothing_done volatile)
-  nothing = (refl, tt, λ facts. refl)
+  nothing : IsQuiet cluster me (nothing_done volatile)
+  nothing = (tt, tt, λ facts. refl)
 
-  proposed : (s : ℕ) (choice : Choice) (answer : ProposeAnswer) → is_centre cluster s ≡ true → IsQuiet cluster (proposed_step me volatile s choice answer)
-  proposed s choice (ProposeAnswer.Known outcome) h = (refl, (h, tt), λ facts. refl)
-  proposed s choice (ProposeAnswer.Again ballot mark) h = (refl, (h, tt), λ facts. refl)
-  proposed s choice (ProposeAnswer.Escalate cause) h = (refl, (h, tt), λ facts. refl)
-  proposed s choice (ProposeAnswer.Vote mark) h = (refl, (h, tt), λ facts. refl)
+  proposed : (s : ℕ) (choice : Choice) (answer : ProposeAnswer) → is_centre cluster s ≡ true → IsQuiet cluster me (proposed_step me volatile s choice answer)
+  proposed s choice (ProposeAnswer.Known outcome) h = (tt, (h, tt), λ facts. refl)
+  proposed s choice (ProposeAnswer.Again ballot mark) h = (tt, (h, tt), λ facts. refl)
+  proposed s choice (ProposeAnswer.Escalate cause) h = (tt, (h, tt), λ facts. refl)
+  proposed s choice (ProposeAnswer.Vote mark) h = (tt, (h, tt), λ facts. refl)
 
-  decided : (tx : TxId) (outcome : Outcome) → IsQuiet cluster (decided_step cluster me volatile tx outcome)
+  decided : (tx : TxId) (outcome : Outcome) → IsQuiet cluster me (decided_step cluster me volatile tx outcome)
   decided tx outcome = (
-    refl,
+    tt,
     each-within (filter (λ to. not (to == me)) (all_centres cluster.quorums)) (Message.Outcome tx outcome)
         (each-kept (λ (b : ℕ). is_centre cluster b ≡ true) (λ to. not (to == me)) (all_centres cluster.quorums) all-within),
     λ facts. refl,
@@ -132,27 +171,28 @@ module _ (cluster : Cluster) (me : ℕ) (facts : List Fact) (volatile : Volatile
       cond_both (collided cluster.quorums manager.votes vote.tx vote.key) (lead_act (home_of cluster.quorums vote.key) (choice_unled manager vote.tx vote.key)) None ActsWithin
       (λ e. lead-within (home_of cluster.quorums vote.key) (home-within vote.key) (choice_unled manager vote.tx vote.key)) (λ e. tt)
 
-  undecided : (vote : Vote) → IsQuiet cluster (undecided_step built cluster me facts volatile vote)
+  undecided : (vote : Vote) → IsQuiet cluster me (undecided_step built cluster me facts volatile vote)
   undecided vote =
       let taken = vote_taken cluster.quorums volatile.manager vote in
       let act = act_on_vote cluster.quorums taken vote (Manager.decision cluster.quorums taken vote.tx) in
-      (refl, act-within act (vote-act taken vote (Manager.decision cluster.quorums taken vote.tx)), λ facts. refl)
+      cond_both built.escalations (acted_step me facts volatile (Manager.on_voted cluster.quorums volatile.manager vote)) (nothing_done (with_manager volatile taken)) (IsQuiet cluster me)
+      (λ e. (tt, act-within act (vote-act taken vote (Manager.decision cluster.quorums taken vote.tx)), λ facts. refl)) (λ e. (tt, tt, λ facts. refl))
 
-  opened : (vote : Vote) (o : Option Outcome) → IsQuiet cluster (opened_step built cluster me facts volatile vote o)
+  opened : (vote : Vote) (o : Option Outcome) → IsQuiet cluster me (opened_step built cluster me facts volatile vote o)
   opened vote (Some outcome) = decided vote.tx outcome
   opened vote None = undecided vote
 
-  watched : (vote : Vote) (o : Option (TxId × Outcome)) → IsQuiet cluster (watched_step cluster me facts volatile vote o)
+  watched : (vote : Vote) (o : Option (TxId × Outcome)) → IsQuiet cluster me (watched_step cluster me facts volatile vote o)
   watched vote (Some d) = decided d.0 d.1
-  watched vote None = (refl, tt, λ facts. refl)
+  watched vote None = (tt, tt, λ facts. refl)
 
-  voted : (vote : Vote) → IsQuiet cluster (voted_step built cluster me facts volatile vote)
+  voted : (vote : Vote) → IsQuiet cluster me (voted_step built cluster me facts volatile vote)
   voted vote =
-      cond_both (is_heard facts vote.tx) (nothing_done volatile) _ (IsQuiet cluster) (λ e. nothing) (λ e.
+      cond_both (is_heard facts vote.tx) (nothing_done volatile) _ (IsQuiet cluster me) (λ e. nothing) (λ e.
       cond_both (is_open volatile.manager vote.tx)
       (opened_step built cluster me facts volatile vote (Manager.would_decide cluster.quorums volatile.manager vote))
       (watched_step cluster me facts volatile vote (Recover.would_decide cluster.quorums facts volatile.recovery vote))
-      (IsQuiet cluster)
+      (IsQuiet cluster me)
       (λ f. opened vote (Manager.would_decide cluster.quorums volatile.manager vote))
       (λ f. watched vote (Recover.would_decide cluster.quorums facts volatile.recovery vote)))
 
@@ -178,45 +218,195 @@ module _ (cluster : Cluster) (me : ℕ) (facts : List Fact) (volatile : Volatile
   cause-act s tx key Cause.Full h w b = lead-within (home_of cluster.quorums key) (home-within key) (choice_unled volatile.manager tx key)
 
   escalated : (s : ℕ) (tx : TxId) (key : Key) (cause : Cause) → is_centre cluster s ≡ true → IsWellFormedCause cause → cause_belongs cluster cause ≡ true
-      → IsQuiet cluster (escalate_step cluster me facts volatile s key tx cause)
+      → IsQuiet cluster me (escalate_step cluster me facts volatile s key tx cause)
   escalated s tx key cause h w b =
       cond_both (is_open volatile.manager tx && not (is_learned cluster.quorums volatile.manager.votes tx key))
       (acted volatile.manager (act_on_cause cluster.quorums volatile.manager s tx key cause)) (None, volatile.manager)
-      (λ (r : Option ManagerAct × Managing). IsQuiet cluster (acted_step me facts volatile r))
-      (λ e. (refl, act-within (act_on_cause cluster.quorums volatile.manager s tx key cause) (cause-act s tx key cause h w b), λ facts. refl)) (λ e. (refl, tt, λ facts. refl))
+      (λ (r : Option ManagerAct × Managing). IsQuiet cluster me (acted_step me facts volatile r))
+      (λ e. (tt, act-within (act_on_cause cluster.quorums volatile.manager s tx key cause) (cause-act s tx key cause h w b), λ facts. refl)) (λ e. (tt, tt, λ facts. refl))
 
-  heard : (tx : TxId) (outcome : Outcome) → IsQuiet cluster (outcome_step_by volatile tx (on_outcome facts tx outcome))
+  heard : (tx : TxId) (outcome : Outcome) → IsQuiet cluster me (outcome_step_by volatile tx (on_outcome facts tx outcome))
   heard tx outcome =
-      cond_both (is_heard facts tx) None (Some (Fact.Heard tx outcome)) (λ (o : Option Fact). IsQuiet cluster (outcome_step_by volatile tx o))
-      (λ e. (refl, tt, λ facts. refl)) (λ e. (refl, tt, λ facts. refl))
+      cond_both (is_heard facts tx) None (Some (Fact.Heard tx outcome)) (λ (o : Option Fact). IsQuiet cluster me (outcome_step_by volatile tx o))
+      (λ e. (tt, tt, λ facts. refl)) (λ e. (tt, tt, λ facts. refl))
+
+  -- ---- what a leader makes
+
+  others-within : (message : Message) → AllByRecursion (GoesWithin cluster) (to_others cluster.quorums me message)
+  others-within message =
+      each-within (filter (λ to. not (to == me)) (all_centres cluster.quorums)) message
+      (each-kept (λ (b : ℕ). is_centre cluster b ≡ true) (λ to. not (to == me)) (all_centres cluster.quorums) all-within)
+
+  led-entries : (leader : Leading) (claim : Claim) (answer : LeadAnswer) → AllByRecursion (IsValuedBy me) (lead_entries me leader claim answer)
+  led-entries leader claim LeadAnswer.Behind = tt
+  led-entries leader claim (LeadAnswer.Accept version ballot options) =
+      cond_both (is_marked leader claim) [] (Valued me claim.key version ballot options ∷ []) (AllByRecursion (IsValuedBy me)) (λ e. tt) (λ e. (refl, tt))
+  led-entries leader claim (LeadAnswer.Prepare version through ballot) = tt
+  led-entries leader claim LeadAnswer.Left = tt
+
+  led-sent : (claim : Claim) (answer : LeadAnswer) → AllByRecursion (GoesWithin cluster) (lead_sent cluster.quorums me claim answer)
+  led-sent claim LeadAnswer.Behind = others-within (Message.SyncAsk claim.key)
+  led-sent claim (LeadAnswer.Accept version ballot options) = each-within (all_centres cluster.quorums) (Message.Accept claim.key version ballot options) all-within
+  led-sent claim (LeadAnswer.Prepare version through ballot) = each-within (all_centres cluster.quorums) (Message.Prepare claim.key version through ballot) all-within
+  led-sent claim LeadAnswer.Left = tt
+
+  led-quiet : (leader : Leading) (claim : Claim) (r : Result (LeadAnswer × Leading) LeadFault) → IsQuietLed cluster me (led_by_answer cluster.quorums me leader claim r)
+  led-quiet leader claim (Err fault) = tt
+  led-quiet leader claim (Ok (answer, after)) = (led-entries leader claim answer, led-sent claim answer)
+
+  led-here : (leader : Leading) (claim : Claim) → IsQuietLed cluster me (led_of cluster me facts leader claim)
+  led-here leader claim = led-quiet leader claim (lead cluster me (epoch_of facts) facts leader claim)
+
+  step-led : (r : Result Led LeadFault) → IsQuietLed cluster me r → OnStep (IsQuiet cluster me) (step_of_led volatile r)
+  step-led (Ok led) h = (h.0, h.1, λ facts. refl)
+  step-led (Err fault) h = tt
+
+  claimed : (s : ℕ) (choice : Choice) → is_centre cluster s ≡ true → (o : Option Outcome) → OnStep (IsQuiet cluster me) (lead_step_after cluster me facts volatile s choice o)
+  claimed s choice h (Some outcome) = (tt, (h, tt), λ facts. refl)
+  claimed s choice h None = step-led (led_of cluster me facts volatile.leader (claim_of_choice choice)) (led-here volatile.leader (claim_of_choice choice))
+
+  promised : (key : Key) (r : Result (PromiseAnswer × Leading) LeadFault) → IsQuietLed cluster me (promised_by_answer cluster.quorums me key r)
+  promised key (Err fault) = tt
+  promised key (Ok (PromiseAnswer.Ignored, after)) = (tt, tt)
+  promised key (Ok (PromiseAnswer.Waiting count, after)) = (tt, tt)
+  promised key (Ok (PromiseAnswer.Accept version ballot options, after)) =
+      ((refl, tt), each-within (all_centres cluster.quorums) (Message.Accept key version ballot options) all-within)
+  promised key (Ok (PromiseAnswer.Counted, after)) = (tt, tt)
+
+  -- ---- what an acceptor answers
+
+  prepared : (l : ℕ) (key : Key) (version : ℕ) (ballot : Ballot) (answer : PrepareAnswer) → is_centre cluster l ≡ true
+      → IsQuiet cluster me (prepared_step me facts volatile l key version ballot answer)
+  prepared l key version ballot (PrepareAnswer.Refused promise) h = (tt, (h, tt), λ facts. refl)
+  prepared l key version ballot (PrepareAnswer.Again high) h = (tt, (h, tt), λ facts. refl)
+  prepared l key version ballot (PrepareAnswer.Promise high) h = (tt, (h, tt), λ facts. refl)
+
+  vote-sent : (key : Key) (version : ℕ) (ballot : Ballot) (e : TxId × Mark) → is_centre cluster ballot.centre ≡ true → is_centre cluster e.0.centre ≡ true
+      → AllByRecursion (GoesWithin cluster) (votes_sent me key version ballot e)
+  vote-sent key version ballot (tx, mark) h k =
+      each-within (cond (tx.centre == ballot.centre) (tx.centre ∷ []) (tx.centre ∷ ballot.centre ∷ [])) (Message.Voted key version ballot tx mark)
+      (cond_both (tx.centre == ballot.centre) (tx.centre ∷ []) (tx.centre ∷ ballot.centre ∷ []) (AllByRecursion (λ (b : ℕ). is_centre cluster b ≡ true)) (λ e. (k, tt)) (λ e. (k, (h, tt))))
+
+  abbrev OfCentre : TxId × Mark → Type 0
+  OfCentre e = (tx_belongs cluster e.0 && mark_belongs cluster e.1) ≡ true
+
+  votes-sent : (key : Key) (version : ℕ) (ballot : Ballot) (options : Options) → is_centre cluster ballot.centre ≡ true → AllByRecursion OfCentre options
+      → AllByRecursion (GoesWithin cluster) (all_votes_sent me facts key version ballot options)
+  votes-sent key version ballot options h k =
+      each-flat_map OfCentre (GoesWithin cluster) (votes_sent me key version ballot) (filter (λ e. not (is_heard facts e.0)) options)
+      (λ e of. vote-sent key version ballot e h (and_parts (tx_belongs cluster e.0) (mark_belongs cluster e.1) of).0)
+      (each-kept OfCentre (λ e. not (is_heard facts e.0)) options k)
+
+  accepted : (l : ℕ) (key : Key) (version : ℕ) (ballot : Ballot) (options : Options) (answer : AcceptAnswer) → is_centre cluster l ≡ true
+      → is_centre cluster ballot.centre ≡ true → AllByRecursion OfCentre options
+      → IsQuiet cluster me (accepted_step me facts volatile l key version ballot options answer)
+  accepted l key version ballot options (AcceptAnswer.Refused promise) h c k = (tt, (h, tt), λ facts. refl)
+  accepted l key version ballot options (AcceptAnswer.Behind current) h c k = (tt, (h, tt), λ facts. refl)
+  accepted l key version ballot options AcceptAnswer.Older h c k = (tt, votes-sent key version ballot options c k, λ facts. refl)
+  accepted l key version ballot options AcceptAnswer.Vote h c k =
+      (tt, votes-sent key version ballot (new_marks facts key version ballot options) c (each-kept OfCentre _ options k), λ facts. refl)
+
+  asked : (s : ℕ) (tx : TxId) (key : Key) (version : ℕ) (o : Option Outcome) (vote : Option (Ballot × Mark)) → is_centre cluster s ≡ true
+      → IsQuiet cluster me (ask_step_by me volatile s tx key version o vote)
+  asked s tx key version (Some outcome) vote h = (tt, (h, tt), λ facts. refl)
+  asked s tx key version None (Some vote) h = (tt, (h, tt), λ facts. refl)
+  asked s tx key version None None h = nothing
+
+  given : (give : Give) → IsQuiet cluster me (sync_give_step_by volatile (on_sync_give facts give))
+  given give =
+      cond_both (is_news facts give.key give.version give.adds) (Some (Fact.Adopted give.key give.version give.item give.adds)) None (λ (o : Option Fact). IsQuiet cluster me (sync_give_step_by volatile o))
+      (λ e. (tt, tt, λ facts. refl)) (λ e. nothing)
+
+  -- ---- each message
 
   message-quiet : (s : ℕ) (message : Message) → is_centre cluster s ≡ true → message_belongs cluster message ≡ true → IsWellFormedMessage message
-      → OnStep (IsQuiet cluster) (message_step built cluster me facts volatile s message)
-  message-quiet s (Message.Propose choice) h b w = proposed s choice (on_propose cluster facts choice) h
-  message-quiet s (Message.Voted key version ballot tx mark) h b w = voted (record { from = s; key = key; version = version; ballot = ballot; tx = tx; mark = mark })
+      → OnStep (IsQuiet cluster me) (message_step built cluster me facts volatile s message)
+  message-quiet s (Message.Propose choice) h b w =
+      on_rule (IsQuiet cluster me) built.proposals volatile _ nothing (proposed s choice (on_propose cluster facts choice) h)
+  message-quiet s (Message.Voted key version ballot tx mark) h b w =
+      on_rule (IsQuiet cluster me) built.proposals volatile _ nothing (voted (record { from = s; key = key; version = version; ballot = ballot; tx = tx; mark = mark }))
   message-quiet s (Message.Escalate key version tx cause) h b w =
-      escalated s tx key cause h w.cause_itself (and_parts (tx_belongs cluster tx) (cause_belongs cluster cause) b).1
-  message-quiet s (Message.Lead choice) h b w = nothing
-  message-quiet s (Message.Prepare key version through ballot) h b w = nothing
-  message-quiet s (Message.Promise key version through ballot reported votes) h b w = nothing
-  message-quiet s (Message.Accept key version ballot options) h b w = nothing
-  message-quiet s (Message.Refused key version ballot promised) h b w = nothing
-  message-quiet s (Message.Outcome tx outcome) h b w = heard tx outcome
-  message-quiet s (Message.Ask tx key version) h b w = nothing
-  message-quiet s (Message.SyncAsk key) h b w = nothing
-  message-quiet s (Message.SyncGive key version item adds) h b w = nothing
+      on_rule (IsQuiet cluster me) built.escalations volatile _ nothing
+      (escalated s tx key cause h w.cause_itself (and_parts (tx_belongs cluster tx) (cause_belongs cluster cause) b).1)
+  message-quiet s (Message.Lead choice) h b w =
+      on_rule (IsQuiet cluster me) built.leading volatile _ nothing (claimed s choice h (heard_of facts choice.tx))
+  message-quiet s (Message.Prepare key version through ballot) h b w =
+      on_rule (IsQuiet cluster me) built.leading volatile _ nothing (prepared s key version ballot (on_prepare facts key version through ballot) h)
+  message-quiet s (Message.Promise key version through ballot reported votes) h b w =
+      let promise : Promise = record { key = key; version = version; through = through; ballot = ballot; reported = reported; votes = votes } in
+      let r = promised_by_answer cluster.quorums me key (on_promise cluster facts volatile.leader s promise) in
+      on_rule (IsQuiet cluster me) built.leading volatile (step_of_led volatile r) nothing (step-led r (promised key (on_promise cluster facts volatile.leader s promise)))
+  message-quiet s (Message.Accept key version ballot options) h b w =
+      let both = and_parts (ballot_belongs cluster ballot) (options_belong cluster options) b in
+      on_rule (IsQuiet cluster me) built.leading volatile _ nothing
+      (accepted s key version ballot options (on_accept facts key version ballot options) h (ballot-within ballot w.classic (not-fast ballot) both.0)
+      (all-each (λ (e : TxId × Mark). tx_belongs cluster e.0 && mark_belongs cluster e.1) options both.1))
+  message-quiet s (Message.Refused key version ballot promised) h b w = on_rule (IsQuiet cluster me) built.leading volatile _ nothing (tt, tt, λ facts. refl)
+  message-quiet s (Message.Outcome tx outcome) h b w = on_rule (IsQuiet cluster me) built.proposals volatile _ nothing (heard tx outcome)
+  message-quiet s (Message.Ask tx key version) h b w =
+      on_rule (IsQuiet cluster me) built.recovery volatile _ nothing (asked s tx key version (heard_of facts tx) (vote_of facts key version tx) h)
+  message-quiet s (Message.SyncAsk key) h b w =
+      on_rule (IsQuiet cluster me) built.catching_up volatile (Ok (sync_ask_step me facts volatile s key)) nothing (tt, give-within s h (on_sync_ask facts key), λ facts. refl)
+  message-quiet s (Message.SyncGive key version item adds) h b w =
+      on_rule (IsQuiet cluster me) built.catching_up volatile _ nothing (given (record { key = key; version = version; item = item; adds = adds }))
   message-quiet s (Message.ClientRead serial key) h b w = nothing
   message-quiet s (Message.ClientBegin serial parts) h b w = nothing
   message-quiet s (Message.ClientAnswer serial answer) h b w = nothing
 
-  pub envelope-quiet : (envelope : Envelope) → IsWellFormedMessage envelope.message → OnStep (IsQuiet cluster) (step_of built cluster me facts volatile (Input.Message envelope))
+  pub envelope-quiet : (envelope : Envelope) → IsWellFormedMessage envelope.message → OnStep (IsQuiet cluster me) (step_of built cluster me facts volatile (Input.Message envelope))
   envelope-quiet envelope w =
-      cond_both (is_own_message cluster me envelope) (checked built cluster facts (message_step built cluster me facts volatile envelope.from envelope.message)) (Err StepFault.Foreign) (OnStep (IsQuiet cluster))
+      cond_both (is_own_message cluster me envelope) (checked built cluster facts (message_step built cluster me facts volatile envelope.from envelope.message)) (Err StepFault.Foreign) (OnStep (IsQuiet cluster me))
       (λ e.
       let own = and_parts (envelope.to == me && is_centre cluster envelope.from) (message_belongs cluster envelope.message) e in
-      on_checked (IsQuiet cluster) (IsQuiet cluster) built cluster facts (message_step built cluster me facts volatile envelope.from envelope.message) (λ step h room. h)
+      on_checked (IsQuiet cluster me) (IsQuiet cluster me) built cluster facts (message_step built cluster me facts volatile envelope.from envelope.message) (λ step h room. h)
       (message-quiet envelope.from envelope.message (and_parts (envelope.to == me) (is_centre cluster envelope.from) own.0).1 own.1 w))
       (λ e. tt)
+
+  -- ---- a tick
+
+  claim-part : (v : Volatile) (r : Result Led LeadFault) → IsQuietLed cluster me r → IsQuietPart cluster me (led_or_left v r)
+  claim-part v (Ok led) h = h
+  claim-part v (Err fault) h = (tt, tt)
+
+  claim-quiet : (v : Volatile) (claim : Claim) → IsQuietPart cluster me (claim_led built cluster me facts v claim)
+  claim-quiet v claim =
+      cond_both built.leading (led_or_left v (led_of cluster me facts v.leader claim)) (ticked v []) (IsQuietPart cluster me)
+      (λ e. claim-part v (led_of cluster me facts v.leader claim) (led-here v.leader claim)) (λ e. (tt, tt))
+
+  manager-quiet : (v : Volatile) (act : ManagerAct) → IsQuietPart cluster me (manager_act built cluster me facts v act)
+  manager-quiet v (ManagerAct.Propose choice) = (tt, each-within (all_centres cluster.quorums) (Message.Propose choice) all-within)
+  manager-quiet v (ManagerAct.LeadHere choice) = claim-quiet v (claim_of_choice choice)
+  manager-quiet v (ManagerAct.Lead leader choice) = (tt, tt)
+  manager-quiet v (ManagerAct.Decide tx outcome) = (tt, tt)
+  manager-quiet v (ManagerAct.Give centre key) = (tt, tt)
+
+  recovery-quiet : (v : Volatile) (act : RecoverAct) → IsQuietPart cluster me (recovery_act built cluster me facts v act)
+  recovery-quiet v (RecoverAct.Ask tx key version) = (tt, each-within (all_centres cluster.quorums) (Message.Ask tx key version) all-within)
+  recovery-quiet v (RecoverAct.LeadHere claim) = claim-quiet v claim
+
+  managed-quiet : IsQuietPart cluster me (manager_ticked built cluster me facts volatile)
+  managed-quiet =
+      let next = Manager.tick cluster.quorums volatile.manager in
+      parts-quiet cluster me (manager_act built cluster me facts) manager-quiet next.0 (ticked (with_manager volatile next.1) []) (tt, tt)
+
+  recovered-quiet : (first : Ticked) → IsQuietPart cluster me first → IsQuietPart cluster me (recovery_ticked built cluster me facts first)
+  recovered-quiet first h =
+      let next = Recover.tick cluster.quorums facts first.after.recovery (txs_opened first.after.manager) in
+      parts-quiet cluster me (recovery_act built cluster me facts) recovery-quiet next.0 (record first { after = with_recovery first.after next.1 }) h
+
+  tick-quiet : IsQuiet cluster me (tick_step built cluster me facts volatile)
+  tick-quiet = (all.0, all.1, λ facts. refl)
+    where
+      first : Ticked
+      first = cond built.ticks (manager_ticked built cluster me facts volatile) (ticked volatile [])
+
+      first-quiet : IsQuietPart cluster me first
+      first-quiet = cond_both built.ticks (manager_ticked built cluster me facts volatile) (ticked volatile []) (IsQuietPart cluster me) (λ e. managed-quiet) (λ e. (tt, tt))
+
+      all : IsQuietPart cluster me (tick_parts built cluster me facts volatile)
+      all = cond_both built.recovery (recovery_ticked built cluster me facts first) first (IsQuietPart cluster me) (λ e. recovered-quiet first first-quiet) (λ e. first-quiet)
+
+  -- ---- a begin, and every step
 
   begun-within : (parts : List Part) (r : Result (TxId × Managing) BeginFault) → IsStaying cluster (begin_step_by cluster me facts volatile parts r)
   begun-within parts (Err fault) = (record { entries = λ ledger a. refl; sends = tt }, λ facts. refl)
@@ -233,28 +423,28 @@ module _ (cluster : Cluster) (me : ℕ) (facts : List Fact) (volatile : Volatile
       each-any [] = tt
       each-any (c ∷ cs) = (tt, each-any cs)
 
-  on_stays : (r : Result NodeStep StepFault) → OnStep (IsQuiet cluster) r → OnStep (IsStaying cluster) r
-  on_stays (Ok step) h = quiet-stays cluster step h
+  on_stays : (r : Result NodeStep StepFault) → OnStep (IsQuiet cluster me) r → OnStep (IsStaying cluster) r
+  on_stays (Ok step) h = quiet-stays cluster me step h
   on_stays (Err fault) h = tt
 
   pub step-stays : (input : Input) → IsWellFormedInput input → OnStep (IsStaying cluster) (step_of built cluster me facts volatile input)
   step-stays (Input.Message envelope) w = on_stays (step_of built cluster me facts volatile (Input.Message envelope)) (envelope-quiet envelope w.message)
-  step-stays Input.Tick w = (record { entries = λ ledger a. refl; sends = tt }, λ facts. refl)
+  step-stays Input.Tick w = quiet-stays cluster me (tick_step built cluster me facts volatile) tick-quiet
   step-stays (Input.Read key) w = (record { entries = λ ledger a. refl; sends = tt }, λ facts. refl)
   step-stays (Input.Begin parts) w = begun-within parts (Manager.begin me (epoch_of facts) facts volatile.manager parts)
 
-pub made-stays : (cluster : Cluster) (me : ℕ) (facts : List Fact) (volatile : Volatile) (input : Input) (step : NodeStep)
+pub made-stays : (built : Built) (cluster : Cluster) (me : ℕ) (facts : List Fact) (volatile : Volatile) (input : Input) (step : NodeStep)
     → AreQuorums cluster.quorums → IsWellFormedInput input → step_of built cluster me facts volatile input ≡ Ok step → StaysWithin cluster step
-made-stays cluster me facts volatile input step sizes w made =
-    (on_made (IsStaying cluster) _ step (step-stays cluster me facts volatile sizes input w) made).0
+made-stays built cluster me facts volatile input step sizes w made =
+    (on_made (IsStaying cluster) _ step (step-stays built cluster me facts volatile sizes input w) made).0
 
 -- the fact of a step begins no epoch
-pub made-epoch : (cluster : Cluster) (me : ℕ) (facts : List Fact) (volatile : Volatile) (input : Input) (step : NodeStep)
+pub made-epoch : (built : Built) (cluster : Cluster) (me : ℕ) (facts : List Fact) (volatile : Volatile) (input : Input) (step : NodeStep)
     → AreQuorums cluster.quorums → IsWellFormedInput input → step_of built cluster me facts volatile input ≡ Ok step → LeavesEpoch step.fact
-made-epoch cluster me facts volatile input step sizes w made =
-    (on_made (IsStaying cluster) _ step (step-stays cluster me facts volatile sizes input w) made).1
+made-epoch built cluster me facts volatile input step sizes w made =
+    (on_made (IsStaying cluster) _ step (step-stays built cluster me facts volatile sizes input w) made).1
 
-pub made-quiet : (cluster : Cluster) (me : ℕ) (facts : List Fact) (volatile : Volatile) (envelope : Envelope) (step : NodeStep)
-    → AreQuorums cluster.quorums → IsWellFormedMessage envelope.message → step_of built cluster me facts volatile (Input.Message envelope) ≡ Ok step → step.entries ≡ []
-made-quiet cluster me facts volatile envelope step sizes w made =
-    (on_made (IsQuiet cluster) _ step (envelope-quiet cluster me facts volatile sizes envelope w) made).0
+pub made-quiet : (built : Built) (cluster : Cluster) (me : ℕ) (facts : List Fact) (volatile : Volatile) (envelope : Envelope) (step : NodeStep)
+    → AreQuorums cluster.quorums → IsWellFormedMessage envelope.message → step_of built cluster me facts volatile (Input.Message envelope) ≡ Ok step → AllByRecursion (IsValuedBy me) step.entries
+made-quiet built cluster me facts volatile envelope step sizes w made =
+    (on_made (IsQuiet cluster me) _ step (envelope-quiet built cluster me facts volatile sizes envelope w) made).0

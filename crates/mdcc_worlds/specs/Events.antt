@@ -1,6 +1,6 @@
 -- What holds of a world after an event.
-use Rattle.std.specs.Prelude.{◌≡◌, IsTrue, Ok, ◌≤◌}
-use Rattle.mdcc_built.specs.Built.{built}
+use Rattle.std.specs.Prelude.{◌≡◌, IsTrue, Ok, false, true, ◌≤◌}
+use Rattle.mdcc_switches.specs.Built.{Built}
 use Rattle.mdcc_simulation.specs.State.{Happened, World}
 use Rattle.mdcc_simulation.specs.Events.{event_of}
 use Rattle.mdcc_simulation.specs.Limits.{most_events}
@@ -13,8 +13,14 @@ pub record IsBetween (w : World) : Type 0 where
   pub itself : IsWorld w
   pub few : w.events ≤ most_events
 
+-- where events are limited, no stop is armed, and no leader asks for reports, which only the cells of a node keep short
+pub record AreBounded (built : Built) : Type 0 where
+  pub events_limited : built.limit_on_events ≡ true
+  pub unstopped : built.stops ≡ false
+  pub unled : built.leading ≡ false
+
 -- it is so after each event that happens
 abbrev pub EventsStay : Type 0
 EventsStay =
-    (w : World) (event : Event) (h : Happened) → IsBetween w → IsTrue (is_built event) → IsGivenEvent event
+    (built : Built) (w : World) (event : Event) (h : Happened) → AreBounded built → IsBetween w → IsTrue (is_built built event) → IsGivenEvent event
     → event_of built w event ≡ Ok h → IsBetween h.world

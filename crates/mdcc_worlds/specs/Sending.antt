@@ -1,11 +1,11 @@
--- Where the messages of the built rules go, and which of them come with a begin.
+-- Where the messages of a step go, and what its entries of the ledger tell.
 use Rattle.std.specs.List.{AllByRecursion}
-use Rattle.std.specs.Prelude.{◌≡◌, List, Ok, [], true, ℕ, ◌++◌}
+use Rattle.std.specs.Prelude.{◌≡◌, List, Ok, true, ℕ, ◌++◌}
 use Rattle.mdcc_base.specs.AreQuorums.{AreQuorums}
 use Rattle.mdcc_option.specs.declared.cluster.Cluster.{Cluster}
 use Rattle.mdcc_protocol.specs.Belongs.{is_centre}
-use Rattle.mdcc_built.specs.Built.{built}
-use Rattle.mdcc_ledger.specs.Ledger.{Entry, facts_of}
+use Rattle.mdcc_switches.specs.Built.{Built}
+use Rattle.mdcc_ledger.specs.Ledger.{Entry, Valued, facts_of}
 use Rattle.mdcc_rules.specs.Node.{step_of}
 use Rattle.mdcc_rules.specs.Steps.{NodeStep}
 use Rattle.mdcc_protocol.specs.Volatile.{Volatile}
@@ -28,18 +28,23 @@ pub record StaysWithin (cluster : Cluster) (step : NodeStep) : Type 0 where
   pub entries : TellNoFact step.entries
   pub sends : AllByRecursion (GoesWithin cluster) step.sends
 
--- so do those of the built rules
+-- so do those of each step
 abbrev pub StepsStayWithin : Type 0
 StepsStayWithin =
-    (cluster : Cluster) (me : ℕ) (facts : List Fact) (volatile : Volatile) (input : Input) (step : NodeStep)
+    (built : Built) (cluster : Cluster) (me : ℕ) (facts : List Fact) (volatile : Volatile) (input : Input) (step : NodeStep)
     → AreQuorums cluster.quorums → IsWellFormedInput input
     → step_of built cluster me facts volatile input ≡ Ok step
     → StaysWithin cluster step
 
--- a message brings no entry but its fact
+-- a structure that a centre sent
+abbrev pub IsValuedBy : ℕ → Entry → Type 0
+IsValuedBy me (Valued centre key version ballot options) = centre ≡ me
+IsValuedBy me entry = ⊥
+
+-- a message begins no transaction: beside its fact it brings structures of this centre alone
 abbrev pub MessagesBeginNothing : Type 0
 MessagesBeginNothing =
-    (cluster : Cluster) (me : ℕ) (facts : List Fact) (volatile : Volatile) (envelope : Envelope) (step : NodeStep)
+    (built : Built) (cluster : Cluster) (me : ℕ) (facts : List Fact) (volatile : Volatile) (envelope : Envelope) (step : NodeStep)
     → AreQuorums cluster.quorums → IsWellFormedEnvelope envelope
     → step_of built cluster me facts volatile (Input.Message envelope) ≡ Ok step
-    → step.entries ≡ []
+    → AllByRecursion (IsValuedBy me) step.entries

@@ -1,4 +1,4 @@
--- What holds of a world of the built rules at every moment.
+-- What holds of a world at every moment, as long as no stop is armed.
 use Rattle.std.specs.List.{AllByRecursion}
 use Rattle.std.specs.Prelude.{◌≡◌, ◌<◌, ◌≤◌, ◌+◌, None, length, true, ℕ}
 use Rattle.mdcc_base.specs.Key.{IsKey}
@@ -6,10 +6,11 @@ use Rattle.mdcc_base.specs.declared.key.Key.{Key}
 use Rattle.mdcc_option.specs.declared.cluster.Cluster.{Cluster}
 use Rattle.mdcc_option.specs.declared.items.Known.{Known}
 use Rattle.mdcc_protocol.specs.Belongs.{is_centre}
-use Rattle.mdcc_built.specs.Built.{built}
+use Rattle.mdcc_switches.specs.Built.{Built}
 use Rattle.mdcc_protocol.specs.Facts.{epoch_of}
 use Rattle.mdcc_protocol.specs.IsCluster.{IsCluster}
 use Rattle.mdcc_ledger.specs.Ledger.{facts_of}
+use Rattle.mdcc_messages.specs.Lengths.{cells_used}
 use Rattle.mdcc_messages.specs.WellFormed.{IsWellFormedEnvelope, IsWellFormedRead}
 use Rattle.mdcc_messages.specs.Mailbox.{Sent, with_delivered}
 use Rattle.mdcc_simulation.specs.State.{World, centre_at, counted_event, first_world}
@@ -46,10 +47,11 @@ pub record IsWorld (w : World) : Type 0 where
 abbrev pub FirstStands : Type 0
 FirstStands = (cluster : Cluster) → IsCluster cluster → IsWorld (first_world cluster)
 
--- and after each input of a centre
+-- and after each input of a centre, whose reports are short where it gives any: its facts lie in the cells that a node may have
 abbrev pub WorldStays : Type 0
 WorldStays =
-    (w : World) (a : ℕ) (input : Input) → IsWorld w → is_centre w.cluster a ≡ true → IsWellFormedInput input
+    (built : Built) (w : World) (a : ℕ) (input : Input) → (built.leading ≡ true → cells_used (facts_of w.ledger a) ≤ 4194304)
+    → IsWorld w → is_centre w.cluster a ≡ true → IsWellFormedInput input
     → IsWorld (input_happened w a (step_at built w a input)).world
 
 -- and where a message counts as delivered

@@ -4,7 +4,7 @@ use Rattle.std.specs.Prelude.{◌≡◌, Bool, Err, List, None, Ok, Option, Resu
 use Rattle.mdcc_base.specs.Sizes.{Sizes}
 use Rattle.mdcc_base.specs.declared.identifiers.TxId.{TxId}
 use Rattle.mdcc_protocol.specs.Belongs.{is_centre}
-use Rattle.mdcc_built.specs.Built.{built}
+use Rattle.mdcc_switches.specs.Built.{Built}
 use Rattle.mdcc_ledger.specs.Ledger.{Added, Entry}
 use Rattle.mdcc_rules.specs.Steps.{NodeStep}
 use Rattle.mdcc_simulation.specs.State.{Happened, World}
@@ -46,17 +46,17 @@ taken w a step = record {
 }
 
 -- the limit that a step would pass at a centre where no stop is armed
-abbrev pub limit_of : World → ℕ → Option Fact → List Envelope → Option EventFault
-limit_of w a None sends = bytes_limit built w sends
-limit_of w a (Some fact) sends = option_or (log_limit built w a fact) (bytes_limit built w sends)
+abbrev pub limit_of : Built → World → ℕ → Option Fact → List Envelope → Option EventFault
+limit_of built w a None sends = bytes_limit built w sends
+limit_of built w a (Some fact) sends = option_or (log_limit built w a fact) (bytes_limit built w sends)
 
 -- what comes of a step
-abbrev pub step_told : World → ℕ → Result NodeStep StepFault → Result Happened EventFault
-step_told w a (Ok step) = unless (limit_of w a step.fact step.sends) (taken w a step)
-step_told w a (Err fault) = Ok (input_happened w a (Err fault))
+abbrev pub step_told : Built → World → ℕ → Result NodeStep StepFault → Result Happened EventFault
+step_told built w a (Ok step) = unless (limit_of built w a step.fact step.sends) (taken w a step)
+step_told built w a (Err fault) = Ok (input_happened w a (Err fault))
 
 -- an input comes to this
 abbrev pub InputsHappen : Type 0
 InputsHappen =
-    (w : World) (a : ℕ) (result : Result NodeStep StepFault) → IsWorld w → is_centre w.cluster a ≡ true
-    → input_limited built w a result ≡ step_told w a result
+    (built : Built) (w : World) (a : ℕ) (result : Result NodeStep StepFault) → IsWorld w → is_centre w.cluster a ≡ true
+    → input_limited built w a result ≡ step_told built w a result

@@ -1,15 +1,16 @@
--- Which events are built, and what the types of an event already say.
+-- Which events are enabled, and what the types of an event already say.
 use Rattle.std.specs.List.{AllByRecursion}
-use Rattle.std.specs.Prelude.{Bool, false, length, true, ⊤, ◌<◌, ◌^◌, ◌≤◌}
+use Rattle.std.specs.Prelude.{Bool, length, true, ⊤, ◌<◌, ◌^◌, ◌≤◌}
 use Rattle.mdcc_base.specs.Key.{IsKey}
 use Rattle.mdcc_option.specs.declared.items.Item.{Item}
+use Rattle.mdcc_switches.specs.Built.{Built}
 use Rattle.mdcc_language.specs.declared.events.Event.{Event}
 use Rattle.mdcc_language.specs.declared.events.UpdateWord.{UpdateWord}
 
--- no stop is armed
-abbrev pub is_built : Event → Bool
-is_built (Event.Stop a call image) = false
-is_built event = true
+-- a stop only where stops are enabled
+abbrev pub is_built : Built → Event → Bool
+is_built built (Event.Stop a call image) = built.stops
+is_built built event = true
 
 -- a body of at most 128 bytes
 pub record HasBody (item : Item) : Type 0 where

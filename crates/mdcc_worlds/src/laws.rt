@@ -1,4 +1,5 @@
-//! What holds of a world at every moment, and what its events do.
+//! What holds of a world at every moment, and what its events do, for any set of switches. A law that
+//! holds only while a rule or a limit is switched so has that as a premise.
 ghost use Rattle.mdcc_worlds.specs.Beginning.{BeginsHappen, PartsAreWellFormed};
 ghost use Rattle.mdcc_worlds.specs.Delivering.{DeliveriesHappen, DeliversBegin, DeliversEnd, DeliversGoOn, DeliversStop, UpStays};
 ghost use Rattle.mdcc_worlds.specs.Events.{EventsStay};
@@ -8,7 +9,8 @@ ghost use Rattle.mdcc_worlds.specs.Settling.{SettlesBegin, SettlesBreak, Settles
 ghost use Rattle.mdcc_worlds.specs.Standing.{CountedStays, CrashStays, DeliveredStays, FirstStands, ReadStays, RestartStays, WorldStays};
 ghost use Rattle.mdcc_worlds.specs.Taking.{InputsHappen};
 
-/// Messages of the built rules go to centres of the cluster, and no step tells a fact but its own.
+/// Messages go to centres of the cluster, and no step tells a fact but its own. A message begins no
+/// transaction.
 pub fn steps_stay_within()
     ensures within { StepsStayWithin }
     ensures quiet { MessagesBeginNothing }
@@ -27,7 +29,8 @@ pub fn worlds_stay()
     ensures restart { RestartStays }
 {}
 
-/// It is so after each event that happens, and there are no more events than there may be.
+/// It is so after each event that happens, and there are no more events than there may be, where
+/// events are limited, no stop is armed and nothing is led.
 pub fn events_stay()
     ensures { EventsStay }
 {}
