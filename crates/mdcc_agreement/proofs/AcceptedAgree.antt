@@ -190,7 +190,7 @@ module _ (s : Setup) (all : List Entry) (legal : Allowed s all) (i : Place) wher
       (λ u y g. new_vote a f old marks is vote u y g)
       (λ c new.
       let stands : (c.tx ≡ vote.tx) × IsChoice all c × ((spot c) ≡ i) × ((d : Choice) → IsAcceptedVote (facts_of a old) i d → (IsAborted s all d.tx → ⊥) → allows c.update d.tx d.update) =
-      fit_stands s.classic (s.fast + s.classic - s.centres) old a (IsAcceptedVote (facts_of a old) i) vote.tx c tail allowed (vote.fits c new) in
+      fit_stands s.parts (s.fast + s.parts - s.centres) old a (IsAcceptedVote (facts_of a old) i) vote.tx c tail allowed (vote.fits c new) in
       (stands.0, stands.1, stands.2, (λ d g free. stands.3 d (fast, g) free)))
       h
 

@@ -1,8 +1,7 @@
 -- How many centres there are, and two tests counted together.
-use Rattle.std.proofs.Common.{◌≡◌, ℕ, ◌+◌, ◌<◌, ◌≤◌, Bool, true, ◌&&◌, List, [], ◌∷◌, length, arith, inl, inr}
-use Rattle.std.proofs.lemmas.Bool.{cases_Bool, and_parts}
+use Rattle.std.proofs.Common.{◌≡◌, ℕ, ◌+◌, ◌≤◌, Bool, ◌&&◌, List, [], ◌∷◌, length, arith}
 use Rattle.std.proofs.lemmas.List.FromFn.{length-range_with_len}
-use Rattle.mdcc_agreement.proofs.Setups.{Setup, IsSetup, centres_to, count}
+use Rattle.mdcc_agreement.proofs.Setups.{centres_to, count}
 
 pub length-centres : (n : ℕ) → length (centres_to n) ≡ n
 length-centres n = length-range_with_len 1 n

@@ -1,7 +1,6 @@
 -- Double counting: what each centre has, against how many centres have each.
-use Rattle.std.proofs.Common.{◌≡◌, ℕ, ◌+◌, ◌*◌, ◌<◌, ◌≤◌, Bool, true, cond, List, [], ◌∷◌, refl, sym, ap, arith, inl, inr}
+use Rattle.std.proofs.Common.{◌≡◌, ℕ, ◌+◌, ◌*◌, ◌<◌, ◌≤◌, Bool, cond, List, [], ◌∷◌, refl, ap, arith}
 use Rattle.std.proofs.Math.Nat.{mul-le-mul_right, mul-le-mul_left, mul-lt-mul_of_pos_left, le_of_mul-le-mul_left}
-use Rattle.std.proofs.lemmas.Bool.{cases_Bool}
 use Rattle.mdcc_agreement.proofs.Setups.{count}
 use Rattle.mdcc_agreement.proofs.Totals.{total, Each}
 

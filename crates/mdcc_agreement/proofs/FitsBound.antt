@@ -1,7 +1,7 @@
 -- What a fit says of a list of live updates.
-use Rattle.std.proofs.Common.{◌≡◌, ℕ, zero, suc, ◌+◌, ◌-◌, ◌*◌, ◌<◌, ◌≤◌, ◌==◌, Bool, true, false, List, [], ◌∷◌, length, get_or, refl, sym, ap, ◌∙◌, subst, arith, inl, inr, Option, Some, None, map, ℤ, pos, negsuc, ◌+ℤ◌, ◌*ℤ◌}
-use Rattle.std.proofs.lemmas.Bool.{cases_Bool, false≢true, or_cases, ltb-false, eqb-true}
-use Rattle.std.specs.List.{find, list_any}
+use Rattle.std.proofs.Common.{◌≡◌, ℕ, zero, suc, ◌+◌, ◌-◌, ◌*◌, ◌<◌, ◌≤◌, ◌==◌, Bool, true, false, List, [], ◌∷◌, ◌++◌, length, get_or, refl, sym, ap, ◌∙◌, subst, arith, inl, inr, Option, Some, None, map, ℤ, pos, negsuc, ◌+ℤ◌, ◌*ℤ◌}
+use Rattle.std.proofs.lemmas.Bool.{cases_Bool, false≢true, and_parts, cases_eq, or_cases, ltb-false, eqb-true}
+use Rattle.std.specs.List.{find, list_all, list_any, range_with_len}
 use Rattle.std.specs.Prelude.{int_lt, nat_lt, not}
 use Rattle.mdcc_base.specs.Counts.{number_of}
 use Rattle.mdcc_base.specs.TxId.{tx_eq}
@@ -16,6 +16,7 @@ use Rattle.mdcc_struct.specs.Maps.{TxMap, value_of}
 use Rattle.mdcc_protocol.specs.Fit.{has_tx, above_zero}
 use Rattle.mdcc_protocol.specs.Fit as fit
 use Rattle.mdcc_protocol.specs.declared.fit.Fit.{Fit}
+use Rattle.mdcc_protocol.specs.declared.fit.Load.{Load}
 use Rattle.mdcc_protocol.specs.Marks.{Amounts, is_write, seen_in}
 use Rattle.mdcc_struct.proofs.Reports.{cases_Option}
 use Rattle.mdcc_agreement.proofs.Reduction.{setup_of}
@@ -44,6 +45,18 @@ number_none p (y ∷ ys) h x g =
         | inl here ↦ ap p (sym here) ∙ e
         | inr there ↦ (let same : number_of p (y ∷ ys) ≡ 0 + number_of p ys = rw e refl in number_none p ys (omega arith) x there)
       ]
+    ]
+
+pub not_true : (b : Bool) → not b ≡ true → b ≡ false
+not_true true h = absurd (cc)
+not_true false h = refl
+
+numbered : (n low count : ℕ) → low ≤ n → n < low + count → In n (range_with_len low count)
+numbered n low zero h g = absurd (omega arith)
+numbered n low (suc count) h g =
+    elim (cases_eq n low) [
+      | inl same ↦ inl (sym same)
+      | inr other ↦ inr (numbered n (low + 1) count (omega arith) (omega arith))
     ]
 
 not_false : (b : Bool) → not b ≡ false → b ≡ true
@@ -231,22 +244,88 @@ fast_exact cluster b live u h = ap fit.is_fitting (share_parts _ _ h).0
 
 pub fast_within : (cluster : Cluster) (b : Option Item) (live : TxMap Update) (u : Update) (q : Quantity) → length cluster.schema ≤ 4 → FitsFast cluster b live u →
     IsQuantity (setup_of cluster) q → 0 < q.amount u →
-    cluster.quorums.classic * (total (λ (p : TxId × Update). q.amount p.1) live + q.amount u) ≤ (cluster.quorums.fast + cluster.quorums.classic - cluster.quorums.centres) * q.room b
+    fit.parts_of cluster.limit cluster.quorums * (total (λ (p : TxId × Update). q.amount p.1) live + q.amount u) ≤ (cluster.quorums.fast + fit.parts_of cluster.limit cluster.quorums - cluster.quorums.centres) * q.room b
 fast_within cluster b live (Write item seen) q four h is some = absurd (omega (arith, write_nothing (setup_of cluster) q item seen is))
 fast_within cluster None live (Add m) q four h is some = absurd (fits_not_conflict (fast_exact cluster None live (Add m) h))
 fast_within cluster (Some base) live (Add m) q four h is some =
-    let limit : fit.first_number (fit.is_past_limit cluster.quorums) (fit.quantities_of cluster.schema base (fit.load_of live []) m) ≡ None = (share_parts _ _ h).1 in
-    let none : find (fit.is_past_limit cluster.quorums) (fit.quantities_of cluster.schema base (fit.load_of live []) m) ≡ None =
-    first_none (fit.is_past_limit cluster.quorums) (fit.quantities_of cluster.schema base (fit.load_of live []) m) limit in
+    let limit : fit.first_number (fit.is_past_limit cluster.limit cluster.quorums) (fit.quantities_of cluster.schema base (fit.load_of live []) m) ≡ None = (share_parts _ _ h).1 in
+    let none : find (fit.is_past_limit cluster.limit cluster.quorums) (fit.quantities_of cluster.schema base (fit.load_of live []) m) ≡ None =
+    first_none (fit.is_past_limit cluster.limit cluster.quorums) (fit.quantities_of cluster.schema base (fit.load_of live []) m) limit in
     let x : Looked cluster base live [] m q = looked cluster base live [] m q four is some in
-    let test : fit.is_past_limit cluster.quorums x.0 ≡ false = find_none (fit.is_past_limit cluster.quorums) (fit.quantities_of cluster.schema base (fit.load_of live []) m) none x.0 x.1 in
+    let test : fit.is_past_limit cluster.limit cluster.quorums x.0 ≡ false = find_none (fit.is_past_limit cluster.limit cluster.quorums) (fit.quantities_of cluster.schema base (fit.load_of live []) m) none x.0 x.1 in
     let sum : ℕ = total (λ (p : TxId × Update). q.amount p.1) live in
-    let share : ℕ = cluster.quorums.fast + cluster.quorums.classic - cluster.quorums.centres in
-    let told : int_lt (pos share *ℤ x.0.room) (pos cluster.quorums.classic *ℤ (pos sum +ℤ pos (q.amount (Add m)))) ≡ false =
-    sym (ap (λ z. int_lt (pos share *ℤ x.0.room) (pos cluster.quorums.classic *ℤ (z +ℤ x.0.amount))) x.2
-    ∙ ap (λ z. int_lt (pos share *ℤ x.0.room) (pos cluster.quorums.classic *ℤ (pos sum +ℤ z))) x.3) ∙ test in
-    subst (λ z. cluster.quorums.classic * (sum + q.amount (Add m)) ≤ share * z) x.4
-    (within_share share cluster.quorums.classic sum (q.amount (Add m)) x.0.room told)
+    let share : ℕ = cluster.quorums.fast + fit.parts_of cluster.limit cluster.quorums - cluster.quorums.centres in
+    let told : int_lt (pos share *ℤ x.0.room) (pos (fit.parts_of cluster.limit cluster.quorums) *ℤ (pos sum +ℤ pos (q.amount (Add m)))) ≡ false =
+    sym (ap (λ z. int_lt (pos share *ℤ x.0.room) (pos (fit.parts_of cluster.limit cluster.quorums) *ℤ (z +ℤ x.0.amount))) x.2
+    ∙ ap (λ z. int_lt (pos share *ℤ x.0.room) (pos (fit.parts_of cluster.limit cluster.quorums) *ℤ (pos sum +ℤ z))) x.3) ∙ test in
+    subst (λ z. (fit.parts_of cluster.limit cluster.quorums) * (sum + q.amount (Add m)) ≤ share * z) x.4
+    (within_share share (fit.parts_of cluster.limit cluster.quorums) sum (q.amount (Add m)) x.0.room told)
+
+-- live Adds that are together within the room at each quantity
+decreases_room : (cluster : Cluster) (base : Item) (live : TxMap Update) (n : ℕ) → length cluster.schema ≤ 4 → 0 < n → n ≤ length cluster.schema →
+    fit.is_past_room (fit.decreases_at cluster.schema base (fit.load_of live []) n) ≡ false →
+    total (λ (p : TxId × Update). taken n p.1) live ≤ room_below cluster.schema n (Some base)
+decreases_room cluster base live n four low high h =
+    let sum : get_or (fit.load_of live []).down (n - 1) (pos 0) ≡ pos (total (λ (p : TxId × Update). taken n p.1) live) =
+    at_four (fit.sum_at fit.decrease live) n low (omega (arith, four)) ∙ ap pos (sym (total_sum (λ (p : TxId × Update). taken n p.1) live)) in
+    let room : ℤ = (fit.decreases_at cluster.schema base (fit.load_of live []) n).room in
+    let told : int_lt room (pos (total (λ (p : TxId × Update). taken n p.1) live) +ℤ pos 0) ≡ false = sym (ap (λ z. int_lt room (z +ℤ pos 0)) sum) ∙ h in
+    omega (arith, within_room room (total (λ (p : TxId × Update). taken n p.1) live) 0 told)
+
+increases_room : (cluster : Cluster) (base : Item) (live : TxMap Update) (n : ℕ) → length cluster.schema ≤ 4 → 0 < n → n ≤ length cluster.schema →
+    fit.is_past_room (fit.increases_at cluster.schema base (fit.load_of live []) n) ≡ false →
+    total (λ (p : TxId × Update). given n p.1) live ≤ room_above cluster.schema n (Some base)
+increases_room cluster base live n four low high h =
+    let sum : get_or (fit.load_of live []).up (n - 1) (pos 0) ≡ pos (total (λ (p : TxId × Update). given n p.1) live) =
+    at_four (fit.sum_at fit.increase live) n low (omega (arith, four)) ∙ ap pos (sym (total_sum (λ (p : TxId × Update). given n p.1) live)) in
+    let room : ℤ = (fit.increases_at cluster.schema base (fit.load_of live []) n).room in
+    let told : int_lt room (pos (total (λ (p : TxId × Update). given n p.1) live) +ℤ pos 0) ≡ false = sym (ap (λ z. int_lt room (z +ℤ pos 0)) sum) ∙ h in
+    omega (arith, within_room room (total (λ (p : TxId × Update). given n p.1) live) 0 told)
+
+each_passes : {X : Type 0} (p : X → Bool) (xs : List X) → list_all (λ x. not (p x)) xs ≡ true → (x : X) → In x xs → p x ≡ false
+each_passes p [] h x g = absurd g
+each_passes p (y ∷ ys) h x g =
+    let parts : (not (p y) ≡ true) × (list_all (λ z. not (p z)) ys ≡ true) = and_parts _ _ h in
+    elim g [ inl here ↦ ap p (sym here) ∙ not_true (p y) parts.0 | inr there ↦ each_passes p ys parts.1 x there ]
+
+In-left : {X : Type 0} (x : X) (xs ys : List X) → In x xs → In x (xs ++ ys)
+In-left x [] ys h = absurd h
+In-left x (z ∷ zs) ys h = elim h [ inl here ↦ inl here | inr there ↦ inr (In-left x zs ys there) ]
+
+In-right : {X : Type 0} (x : X) (xs ys : List X) → In x ys → In x (xs ++ ys)
+In-right x [] ys h = h
+In-right x (z ∷ zs) ys h = inr (In-right x zs ys h)
+
+pub together_within : (cluster : Cluster) (b : Option Item) (live : TxMap Update) (q : Quantity) → length cluster.schema ≤ 4 →
+    fit.are_within_room cluster b (fit.load_of live []) ≡ true → IsQuantity (setup_of cluster) q →
+    total (λ (p : TxId × Update). q.amount p.1) live ≤ q.room b
+together_within cluster None live q four h is = absurd (false≢true h)
+together_within cluster (Some base) live q four h is =
+    let load : Load = fit.load_of live [] in
+    let numbers : List ℕ = range_with_len 1 (length cluster.schema) in
+    let downs : List fit.Quantity = map (fit.decreases_at cluster.schema base load) numbers in
+    let ups : List fit.Quantity = map (fit.increases_at cluster.schema base load) numbers in
+    let passes : (x : fit.Quantity) → In x (fit.quantities_taken cluster.schema base load) → fit.is_past_room x ≡ false =
+    each_passes fit.is_past_room (fit.quantities_taken cluster.schema base load) h in
+    elim is [
+      | inl adds ↦
+          let count : ℕ = number_of (λ (e : TxId × Update). not (is_write e.1)) live in
+          let told : int_lt (pos 64) (pos count +ℤ pos 0) ≡ false = passes (record { number = 0; sum = pos count; room = pos 64; amount = pos 0 }) (inl refl) in
+          let few : total (λ (p : TxId × Update). one_add p.1) live ≤ 64 = omega (arith, within_room (pos 64) count 0 told, adds_number live) in
+          subst (λ (z : Quantity). total (λ (p : TxId × Update). z.amount p.1) live ≤ z.room (Some base)) (sym adds) few
+      | inr n ↦
+          let listed : In n.0 numbers = numbered n.0 1 (length cluster.schema) n.1 (omega (arith, n.2)) in
+          elim n.3 [
+            | inl down ↦
+                let told = passes (fit.decreases_at cluster.schema base load n.0) (inr (In-left _ downs ups (In-map (fit.decreases_at cluster.schema base load) n.0 numbers listed))) in
+                subst (λ (z : Quantity). total (λ (p : TxId × Update). z.amount p.1) live ≤ z.room (Some base)) (sym down)
+                (decreases_room cluster base live n.0 four n.1 n.2 told)
+            | inr up ↦
+                let told = passes (fit.increases_at cluster.schema base load n.0) (inr (In-right _ downs ups (In-map (fit.increases_at cluster.schema base load) n.0 numbers listed))) in
+                subst (λ (z : Quantity). total (λ (p : TxId × Update). z.amount p.1) live ≤ z.room (Some base)) (sym up)
+                (increases_room cluster base live n.0 four n.1 n.2 told)
+          ]
+    ]
 
 -- distinct choices that are found in the list take at most what the list takes
 update_value : (t : TxId) (ps : TxMap Update) → update_of t ps ≡ value_of ps t

@@ -10,7 +10,6 @@ use Rattle.mdcc_base.specs.declared.identifiers.TxId.{TxId}
 use Rattle.mdcc_base.specs.declared.key.Key.{Key}
 use Rattle.mdcc_option.specs.declared.choices.Choice.{Choice}
 use Rattle.mdcc_option.specs.declared.choices.Outcome.TheVariants.{Commit, Abort}
-use Rattle.mdcc_option.specs.declared.items.Delta.{Delta}
 use Rattle.mdcc_option.specs.declared.items.Item.{Item}
 use Rattle.mdcc_struct.specs.Maps.{TxMap, value_of, inserted, with_entry, union}
 use Rattle.mdcc_protocol.specs.Facts as full

@@ -15,6 +15,7 @@ use Rattle.mdcc_option.specs.declared.cluster.Cluster.{Cluster}
 use Rattle.mdcc_option.specs.declared.items.Update.{Update}
 use Rattle.mdcc_option.specs.declared.items.Update.TheVariants.{Add}
 use Rattle.mdcc_struct.specs.Maps.{value_of}
+use Rattle.mdcc_protocol.specs.Fit.{parts_of}
 use Rattle.mdcc_protocol.specs.Facts as full
 use Rattle.mdcc_ledger.specs.Ledger as ledger
 use Rattle.mdcc_protocol.specs.Marks.{Amounts}
@@ -168,7 +169,7 @@ module _ (cluster : Cluster) (sizes : IsSetup (setup_of cluster)) (four : length
 
   pub acceptor_fit : (i : Place) (t : TxId) (c : Choice) → c.tx ≡ t → spot c ≡ i → IsChoice (reduced es) c →
       full.current_of own_facts i.key ≡ i.version → FitsFast cluster (full.base_of own_facts i.key) (full.live_of own_facts i.key i.version) c.update →
-      IsFit (setup_of cluster) cluster.quorums.classic (cluster.quorums.fast + cluster.quorums.classic - cluster.quorums.centres) (reduced es) reduced_facts (IsAcceptedVote reduced_facts i) i t c
+      IsFit (setup_of cluster) (parts_of cluster.limit cluster.quorums) (cluster.quorums.fast + parts_of cluster.limit cluster.quorums - cluster.quorums.centres) (reduced es) reduced_facts (IsAcceptedVote reduced_facts i) i t c
   acceptor_fit i t c own here begun held fits =
       let exact = fast_exact cluster (full.base_of own_facts i.key) (full.live_of own_facts i.key i.version) c.update fits in
       record {
@@ -191,10 +192,10 @@ module _ (cluster : Cluster) (sizes : IsSetup (setup_of cluster)) (four : length
             let bound = fast_within cluster (full.base_of own_facts i.key) (full.live_of own_facts i.key i.version) c.update q four fits is positive in
             let part : total (λ (d : Choice). q.amount d.update) ds ≤ total (λ (p : TxId × Update). q.amount p.1) (full.live_of own_facts i.key i.version) =
             total_found q.amount ds (full.live_of own_facts i.key i.version) apart (λ d g. accepted_live i d (among d g).0 (among d g).1) in
-            let less : cluster.quorums.classic * (total (λ (d : Choice). q.amount d.update) ds + q.amount c.update)
-            ≤ cluster.quorums.classic * (total (λ (p : TxId × Update). q.amount p.1) (full.live_of own_facts i.key i.version) + q.amount c.update) = mul-le-mul_left cluster.quorums.classic (omega arith) in
-            let room : (cluster.quorums.fast + cluster.quorums.classic - cluster.quorums.centres) * q.room (base reduced_facts i.key)
-            ≡ (cluster.quorums.fast + cluster.quorums.classic - cluster.quorums.centres) * q.room (full.base_of own_facts i.key) =
-            ap (λ z. (cluster.quorums.fast + cluster.quorums.classic - cluster.quorums.centres) * q.room z) (base_now cluster four es a fine i.key) in
+            let less : parts_of cluster.limit cluster.quorums * (total (λ (d : Choice). q.amount d.update) ds + q.amount c.update)
+            ≤ parts_of cluster.limit cluster.quorums * (total (λ (p : TxId × Update). q.amount p.1) (full.live_of own_facts i.key i.version) + q.amount c.update) = mul-le-mul_left (parts_of cluster.limit cluster.quorums) (omega arith) in
+            let room : (cluster.quorums.fast + parts_of cluster.limit cluster.quorums - cluster.quorums.centres) * q.room (base reduced_facts i.key)
+            ≡ (cluster.quorums.fast + parts_of cluster.limit cluster.quorums - cluster.quorums.centres) * q.room (full.base_of own_facts i.key) =
+            ap (λ z. (cluster.quorums.fast + parts_of cluster.limit cluster.quorums - cluster.quorums.centres) * q.room z) (base_now cluster four es a fine i.key) in
             omega arith;
       }

@@ -1,7 +1,7 @@
 -- What is live at an acceptor and at a leader, and what a fit there says.
-use Rattle.std.proofs.Common.{◌≡◌, ℕ, ◌+◌, ◌≤◌, true, false, List, [], ◌∷◌, length, refl, sym, ap, ◌∙◌, subst, arith, inl, inr, ◌⊎◌, Option, Some, None, map}
-use Rattle.std.proofs.lemmas.Bool.{cases_Bool, false≢true}
-use Rattle.std.specs.List.{filter, filter_map}
+use Rattle.std.proofs.Common.{◌≡◌, ℕ, ◌+◌, ◌≤◌, ◌==◌, Bool, true, false, List, [], ◌∷◌, length, refl, sym, ap, ◌∙◌, subst, arith, inl, inr, ◌⊎◌, Option, Some, None, map}
+use Rattle.std.proofs.lemmas.Bool.{and_parts, cases_Bool, eqb-true, false≢true, or_cases}
+use Rattle.std.specs.List.{filter, filter_map, list_any}
 use Rattle.std.specs.Option.{option_or}
 use Rattle.std.specs.Prelude.{is_some, not}
 use Rattle.mdcc_base.specs.TxId.{tx_eq}
@@ -19,16 +19,17 @@ use Rattle.mdcc_struct.specs.Maps.{TxMap, value_of, union}
 use Rattle.mdcc_struct.specs.declared.options.Options.{Options}
 use Rattle.mdcc_protocol.specs.Facts as full
 use Rattle.mdcc_ledger.specs.Ledger as ledger
-use Rattle.mdcc_protocol.specs.Marks.{is_abort, Amounts}
-use Rattle.mdcc_protocol.specs.Structures.{live_at_leader}
+use Rattle.mdcc_protocol.specs.Fit.{are_within_room, load_of}
+use Rattle.mdcc_protocol.specs.Marks.{is_abort, is_write, Amounts}
+use Rattle.mdcc_protocol.specs.Structures.{fit_together, is_add_accepted, live_at_leader, live_forced}
 use Rattle.mdcc_messages.specs.declared.facts.Fact.{Fact}
 use Rattle.mdcc_struct.proofs.Values.{value_of-union}
 use Rattle.mdcc_agreement.proofs.Reduction.{setup_of, reduced_fact, reduced, facts_reduced, facts_same}
-use Rattle.mdcc_agreement.proofs.FitsBound.{FitsExactly, exact_clear, exact_within, total_found}
+use Rattle.mdcc_agreement.proofs.FitsBound.{FitsExactly, exact_clear, exact_within, not_true, together_within, total_found, write_nothing}
 use Rattle.mdcc_agreement.proofs.HeldReduced.{AllFine, current_same, base_same, executed_valued}
 use Rattle.mdcc_agreement.proofs.MapValues.{mark_value}
-use Rattle.mdcc_agreement.proofs.ReducedFacts.{ReducedFact, void, executed, current, base}
-use Rattle.mdcc_agreement.proofs.ReducedLedger.{facts_of, IsChoice, IsAcceptedIn, IsFit}
+use Rattle.mdcc_agreement.proofs.ReducedFacts.{Quantity, ReducedFact, void, executed, current, base}
+use Rattle.mdcc_agreement.proofs.ReducedLedger.{facts_of, AreTogether, IsChoice, IsAcceptedIn, IsFit, IsQuantity}
 use Rattle.mdcc_agreement.proofs.ReducedOptions.{In, Place, spot, allows, allows_delta}
 use Rattle.mdcc_agreement.proofs.TestsDecide.{Decides-tx, Decides-key}
 use Rattle.mdcc_agreement.proofs.Totals.{total}
@@ -189,6 +190,29 @@ pub delta_allowed : (u : Update) (t : TxId) (x : Update) → allows u t x → al
 delta_allowed (Write b s) t x h = h
 delta_allowed (Add m) t x h = tt
 
+-- what has no accepted Add takes nothing
+any_there : {X : Type 0} (p : X → Bool) (xs : List X) (x : X) → In x xs → p x ≡ true → list_any p xs ≡ true
+any_there p [] x h g = absurd h
+any_there p (y ∷ ys) x h g =
+    elim (cases_Bool (p y)) [
+      | inl e ↦ rw e refl
+      | inr e ↦ rw e (elim h [ inl here ↦ absurd (false≢true (sym e ∙ ap p here ∙ g)) | inr there ↦ any_there p ys x there g ])
+    ]
+
+nothing_in : (cluster : Cluster) (marks : Options) (q : Quantity) → list_any is_add_accepted marks ≡ false → IsQuantity (setup_of cluster) q →
+    (d : Choice) (u : Update) → d.update ≡ u → IsAcceptedIn marks d → q.amount u ≡ 0
+nothing_in cluster marks q none is d (Write b seen) e h = write_nothing (setup_of cluster) q b seen is
+nothing_in cluster marks q none is d (Add m) e h =
+    let add : is_add_accepted (d.tx, Accept d) ≡ true = ap (λ u. not (is_write u)) e in
+    absurd (false≢true (sym none ∙ any_there is_add_accepted marks (d.tx, Accept d) (value_In marks d.tx (Accept d) (sym (mark_value d.tx marks) ∙ h)) add))
+
+nothing_taken : (cluster : Cluster) (marks : Options) (q : Quantity) → list_any is_add_accepted marks ≡ false → IsQuantity (setup_of cluster) q →
+    (ds : List Choice) → ((d : Choice) → In d ds → IsAcceptedIn marks d) → total (λ (d : Choice). q.amount d.update) ds ≡ 0
+nothing_taken cluster marks q none is [] among = refl
+nothing_taken cluster marks q none is (d ∷ ds) among =
+    let first : q.amount d.update ≡ 0 = nothing_in cluster marks q none is d d.update refl (among d (inl refl)) in
+    omega (arith, first, nothing_taken cluster marks q none is ds (λ e g. among e (inr g)))
+
 module _ (cluster : Cluster) (four : length cluster.schema ≤ 4) (es : List ledger.Entry) (a : ℕ) (fine : AllFine (ledger.facts_of es a)) where
   abbrev own_facts : List Fact
   own_facts = ledger.facts_of es a
@@ -204,6 +228,23 @@ module _ (cluster : Cluster) (four : length cluster.schema ≤ 4) (es : List led
 
   pub base_now : (key : Key) → base reduced_facts key ≡ full.base_of own_facts key
   base_now key = ap (λ fs. base fs key) (facts_same a es) ∙ base_same own_facts key fine
+
+  -- forced marks that fit together
+  pub together_reduced : (i : Place) (marks : Options) → fit_together cluster own_facts i.key i.version marks ≡ true → AreTogether (setup_of cluster) reduced_facts i marks
+  together_reduced i marks h q is ds apart among some =
+      elim (or_cases (not (list_any is_add_accepted marks)) _ h) [
+        | inl none ↦ absurd (omega (arith, some, nothing_taken cluster marks q (not_true (list_any is_add_accepted marks) none) is ds (λ d g. (among d g).0)))
+        | inr both ↦
+            let parts : ((full.current_of own_facts i.key == i.version) ≡ true)
+            × (are_within_room cluster (full.base_of own_facts i.key) (load_of (live_forced own_facts marks) []) ≡ true) = and_parts _ _ both in
+            let whole : total (λ (p : TxId × Update). q.amount p.1) (live_forced own_facts marks) ≤ q.room (full.base_of own_facts i.key) =
+            together_within cluster (full.base_of own_facts i.key) (live_forced own_facts marks) q four parts.1 is in
+            let part : total (λ (d : Choice). q.amount d.update) ds ≤ total (λ (p : TxId × Update). q.amount p.1) (live_forced own_facts marks) =
+            total_found q.amount ds (live_forced own_facts marks) apart (λ d g.
+            value_unvoid own_facts (updates_in marks) d.tx (not_void d.tx (among d g).1) ∙ updates_value marks d.tx d (sym (mark_value d.tx marks) ∙ (among d g).0)) in
+            let room : q.room (base reduced_facts i.key) ≡ q.room (full.base_of own_facts i.key) = ap q.room (base_now i.key) in
+            (held_now i.key ∙ eqb-true _ _ parts.0, omega (arith, whole, part, room))
+      ]
 
   -- a choice that a leader accepts fits
   pub leader_fit : (i : Place) (options : Options) (t : TxId) (c : Choice) → c.tx ≡ t → spot c ≡ i → IsChoice (reduced es) c →

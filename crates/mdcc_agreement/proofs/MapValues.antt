@@ -1,15 +1,14 @@
 -- Tests of transactions, and maps in which none stands twice.
-use Rattle.std.proofs.Common.{◌≡◌, ℕ, Bool, true, false, cond, List, [], ◌∷◌, refl, sym, ap, ◌∙◌, inl, inr, Option, Some, None}
+use Rattle.std.proofs.Common.{◌≡◌, ℕ, true, false, cond, List, [], ◌∷◌, refl, sym, ap, ◌∙◌, inl, inr, Option, Some, None}
 use Rattle.std.proofs.lemmas.Bool.{cases_Bool, false≢true}
 use Rattle.std.specs.Option.{option_or}
-use Rattle.mdcc_base.specs.Counts.{number_of, sum_over}
+use Rattle.mdcc_base.specs.Counts.{sum_over}
 use Rattle.mdcc_base.specs.TxId.{tx_eq, tx_lt}
 use Rattle.mdcc_base.specs.declared.identifiers.TxId.{TxId}
 use Rattle.mdcc_option.specs.declared.choices.Mark.{Mark}
 use Rattle.mdcc_struct.specs.Maps.{TxMap, value_of, inserted, with_entry, union}
 use Rattle.mdcc_struct.proofs.Order.{tx_eq-sym}
 use Rattle.mdcc_struct.proofs.Values.{value_of-inserted}
-use Rattle.mdcc_agreement.proofs.Setups.{count}
 use Rattle.mdcc_agreement.proofs.ReducedOptions.{mark_of, Distinct}
 use Rattle.mdcc_agreement.proofs.TestsDecide.{Decides-tx}
 use Rattle.mdcc_agreement.proofs.Totals.{total}

@@ -181,6 +181,12 @@ abbrev pub Grown : Setup → List Entry → ℕ → Place → List (TxId × Mark
 Grown s es a i less [] more = less ≡ more
 Grown s es a i less (p ∷ ps) more = Grown s es a i less ps p.before × MayAdd s es a i p.before p.tx p.mark × IsMore p.before p.tx p.mark more
 
+-- accepted choices of a structure that are not void take something only where its version is held, and keep within the room
+abbrev pub AreTogether : Setup → List ReducedFact → Place → List (TxId × Mark) → Type 0
+AreTogether s fs i marks =
+    (q : Quantity) → IsQuantity s q → (ds : List Choice) → Apart ds → ((d : Choice) → In d ds → IsAcceptedIn marks d × (void fs d.tx ≡ false)) →
+    0 < total (λ d. q.amount d.update) ds → (current fs i.key ≡ i.version) × (total (λ d. q.amount d.update) ds ≤ q.room (base fs i.key))
+
 pub record IsFirst (s : Setup) (es : List Entry) (a : ℕ) (i : Place) (m : Ballot) (marks : List (TxId × Mark)) : Type 0 where
   pub none : last_sent es i m ≡ None
   pub quorum : ℕ → Bool
@@ -190,6 +196,7 @@ pub record IsFirst (s : Setup) (es : List Entry) (a : ℕ) (i : Place) (m : Ball
   pub apart : Distinct base
   pub forced : (t : TxId) (x : Mark) → IsForced s (reports_of es i m (members quorum (centres_to s.centres))) t x → mark_of t base ≡ Some x
   pub forced_only : (t : TxId) (x : Mark) → mark_of t base ≡ Some x → IsForced s (reports_of es i m (members quorum (centres_to s.centres))) t x
+  pub together : (s.parts ≤ count quorum (centres_to s.centres)) ⊎ AreTogether s (facts_of a es) i base
   pub steps : List Step
   pub grown : Grown s es a i base steps marks
 
@@ -212,7 +219,7 @@ pub record IsFastVote (s : Setup) (es : List Entry) (fs : List ReducedFact) (i :
   pub single : marks ≡ (tx, mark) ∷ []
   pub new : (k : Ballot) → mark_of tx (votes fs i k) ≡ None
   pub has_place : HasPlace (votes fs i fast) mark
-  pub fits : (c : Choice) → mark ≡ Accept c → IsFit s s.classic (s.fast + s.classic - s.centres) es fs (IsAcceptedVote fs i) i tx c
+  pub fits : (c : Choice) → mark ≡ Accept c → IsFit s s.parts (s.fast + s.parts - s.centres) es fs (IsAcceptedVote fs i) i tx c
 
 pub record MayVote (s : Setup) (es : List Entry) (a : ℕ) (i : Place) (k : Ballot) (marks : List (TxId × Mark)) : Type 0 where
   pub promise_held : Below k (promise (facts_of a es) i) → ⊥

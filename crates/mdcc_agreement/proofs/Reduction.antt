@@ -8,20 +8,23 @@ use Rattle.mdcc_base.specs.declared.identifiers.TxId.{TxId}
 use Rattle.mdcc_option.specs.declared.choices.Mark.{Mark}
 use Rattle.mdcc_option.specs.declared.cluster.Cluster.{Cluster}
 use Rattle.mdcc_option.specs.declared.items.Delta.{Delta}
+use Rattle.mdcc_protocol.specs.Fit.{parts_of}
 use Rattle.mdcc_ledger.specs.Ledger as ledger
 use Rattle.mdcc_protocol.specs.Marks.{Amounts}
 use Rattle.mdcc_messages.specs.declared.facts.Fact.{Fact}
+use Rattle.mdcc_protocol.proofs.EnoughPromises.{parts-classic, parts-within}
 use Rattle.mdcc_agreement.proofs.Setups.{Setup, IsSetup}
 use Rattle.mdcc_agreement.proofs.ReducedFacts.{ReducedFact, Booted, Promised, Voted, Heard, Adopted}
 use Rattle.mdcc_agreement.proofs.ReducedLedger.{Entry, Happened, Begun, Valued, facts_of}
 use Rattle.mdcc_agreement.proofs.ReducedOptions.{mark_of}
 
--- the sizes of quorums, and the schema
+-- the sizes of quorums, the parts of an acceptor's room, and the schema
 abbrev pub setup_of : Cluster → Setup
 setup_of cluster = record {
   centres = cluster.quorums.centres;
   classic = cluster.quorums.classic;
   fast = cluster.quorums.fast;
+  parts = parts_of cluster.limit cluster.quorums;
   schema = cluster.schema;
 }
 
@@ -31,6 +34,8 @@ IsSetup-of cluster h = record {
   fast_within = h.fast_within;
   two_classic = h.classic_meet;
   two_fast = h.fast_meet;
+  classic_parts = parts-classic cluster.limit cluster.quorums h;
+  parts_within = parts-within cluster.limit cluster.quorums h;
 }
 
 abbrev pub delta_pair : Delta → TxId × Amounts

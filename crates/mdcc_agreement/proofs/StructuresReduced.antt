@@ -1,6 +1,7 @@
 -- A structure that is allowed may be sent in the reduced ledger.
 use Rattle.std.proofs.Common.{◌≡◌, ℕ, ◌<◌, ◌≤◌, ◌==◌, Bool, true, false, ◌&&◌, List, [], ◌∷◌, length, refl, sym, ap, ◌∙◌, subst, arith, inl, inr, ◌⊎◌, Option, Some, None}
 use Rattle.std.proofs.lemmas.Bool.{cases_Bool, false≢true, and_parts, ltb-true, leb-false, eqb-true}
+use Rattle.std.proofs.lemmas.List.{length-map}
 use Rattle.std.specs.List.{list_all, filter, fold}
 use Rattle.std.specs.Option.{option_or}
 use Rattle.std.specs.Prelude.{is_some, not}
@@ -25,6 +26,7 @@ use Rattle.mdcc_ledger.specs.Ledger as ledger
 use Rattle.mdcc_protocol.specs.Marks.{accepts_in, rejects_in}
 use Rattle.mdcc_protocol.specs.Structures as structures
 use Rattle.mdcc_messages.specs.declared.facts.Fact.{Fact}
+use Rattle.mdcc_protocol.proofs.EnoughPromises.{enough-cases, enough-classic}
 use Rattle.mdcc_struct.proofs.Values.{entry_value, value_of-with_entry}
 use Rattle.mdcc_agreement.proofs.BallotOrder.{Below-cases, Below-fast}
 use Rattle.mdcc_agreement.proofs.Ballots.{fast, Below}
@@ -32,7 +34,7 @@ use Rattle.mdcc_agreement.proofs.Reduction.{setup_of, reduced, facts_same}
 use Rattle.mdcc_agreement.proofs.FitsBound.{FitsExactly}
 use Rattle.mdcc_agreement.proofs.ForcedReduced.{forced_there, there_forced}
 use Rattle.mdcc_agreement.proofs.HeldReduced.{AllFine}
-use Rattle.mdcc_agreement.proofs.LiveAtLeader.{leader_fit, value_In}
+use Rattle.mdcc_agreement.proofs.LiveAtLeader.{leader_fit, together_reduced, value_In}
 use Rattle.mdcc_agreement.proofs.MapValues.{mark_value, tx_true, tx_sym, or_none, Once, Once-Distinct, Once-with_entry}
 use Rattle.mdcc_agreement.proofs.VotesReduced.{begun_choice, place_for}
 use Rattle.mdcc_agreement.proofs.CentresCounted.{is_one_of, one_of-In, length-members}
@@ -245,15 +247,22 @@ module _ (cluster : Cluster) (sizes : IsSetup (setup_of cluster)) (four : length
       let grown : GrownTo cluster four es a fine i base options =
       subst (GrownTo cluster four es a fine i base) (sym h.made)
       (all_claimed cluster four es a fine i (structures.all_claims claims rs) base base once (subst (Own es i) h.made own) ([], refl)) in
+      let length_same : length rs ≡ length centres = length-map centres (λ b. full.report_of b (ledger.facts_of es b) i.key i.version m) in
+      let promises : cluster.quorums.classic ≤ length centres =
+      subst (λ n. cluster.quorums.classic ≤ n) length_same (enough-classic cluster (ledger.facts_of es a) i.key i.version rs sizes.classic_parts h.enough) in
       record {
         none = last_same es i m ∙ h.none_before;
         quorum = is_one_of centres;
-        enough = (let many : cluster.quorums.classic ≤ length centres = h.enough in omega (arith, length-members cluster.quorums.centres centres h.promised.1 within));
+        enough = omega (arith, promises, length-members cluster.quorums.centres centres h.promised.1 within);
         promised = λ b g. subst (λ fs. HasPromised fs i m) (sym (facts_same b es)) (promised_reduced (ledger.facts_of es b) i m (among b (one_of-In b centres g)).1);
         base = base;
         apart = Once-Distinct base once;
-        forced = λ t x g. mark_value t base ∙ forced_there cluster es allowed sizes i m classic centres h.promised.1 within h.enough t x g;
-        forced_only = λ t x g. there_forced cluster es allowed sizes i m classic centres h.promised.1 within h.enough t x (sym (mark_value t base) ∙ g);
+        forced = λ t x g. mark_value t base ∙ forced_there cluster es allowed sizes i m classic centres h.promised.1 within promises t x g;
+        forced_only = λ t x g. there_forced cluster es allowed sizes i m classic centres h.promised.1 within promises t x (sym (mark_value t base) ∙ g);
+        together = elim (enough-cases cluster (ledger.facts_of es a) i.key i.version rs h.enough) [
+          | inl many ↦ inl (omega (arith, many, length_same, length-members cluster.quorums.centres centres h.promised.1 within))
+          | inr both ↦ inr (together_reduced cluster four es a fine i base both.1)
+        ];
         steps = grown.0;
         grown = grown.1;
       }

@@ -162,35 +162,35 @@ module _ (s : Setup) (sizes : IsSetup s) (all : List Entry) (legal : Allowed s a
       h
 
   abbrev share : ℕ
-  share = s.fast + s.classic - s.centres
+  share = s.fast + s.parts - s.centres
 
   -- one more vote at the fast ballot
   Bounded-vote : (a : ℕ) (f : ReducedFact) (old : List Entry) (marks : List (TxId × Mark)) → IsTail old all → Allowed s old → f ≡ Voted i fast marks → MayVote s old a i fast marks →
-      Bounded s.classic share (votes (facts_of a old) i fast) → Bounded s.classic share (votes (f ∷ facts_of a old) i fast)
+      Bounded s.parts share (votes (facts_of a old) i fast) → Bounded s.parts share (votes (f ∷ facts_of a old) i fast)
   Bounded-vote a f old marks tail allowed is may h =
       let vote : IsFastVote s old (facts_of a old) i marks = may.fast_vote refl in
-      Bounded-add s.classic share (votes (facts_of a old) i fast) (votes (f ∷ facts_of a old) i fast) vote.tx vote.mark (vote.new fast)
+      Bounded-add s.parts share (votes (facts_of a old) i fast) (votes (f ∷ facts_of a old) i fast) vote.tx vote.mark (vote.new fast)
       (λ u y g. new_vote s all legal i a f old marks is vote u y g)
       (λ c cs now some distinct among.
-      let fit : IsFit s s.classic share old (facts_of a old) (IsAcceptedVote (facts_of a old) i) i vote.tx c = vote.fits c now in
-      let within : s.classic * (taken cs + q.amount c.update) ≤ share * q.room (base (facts_of a old) i.key) =
+      let fit : IsFit s s.parts share old (facts_of a old) (IsAcceptedVote (facts_of a old) i) i vote.tx c = vote.fits c now in
+      let within : s.parts * (taken cs + q.amount c.update) ≤ share * q.room (base (facts_of a old) i.key) =
       fit.within q listed_q some cs distinct (λ d listed. ((fast, (among d listed).0), not_void s all legal i old a d.tx tail allowed (among d listed).1)) in
       let room : q.room (base (facts_of a old) i.key) ≡ q.room item = ap q.room (held a old tail fit.held) in
       let all_room : share * q.room (base (facts_of a old) i.key) ≡ share * q.room item = ap (λ z. share * z) room in
       omega arith)
       h
 
-  pub Bounded-votes : (a : ℕ) (old : List Entry) → IsTail old all → Bounded s.classic share (votes (facts_of a old) i fast)
+  pub Bounded-votes : (a : ℕ) (old : List Entry) → IsTail old all → Bounded s.parts share (votes (facts_of a old) i fast)
   Bounded-votes a [] tail = record { bound = λ cs distinct among. nothing_taken cs among }
     where
-      nothing_taken : (cs : List Choice) → Among [] cs → s.classic * taken cs ≤ share * q.room item
+      nothing_taken : (cs : List Choice) → Among [] cs → s.parts * taken cs ≤ share * q.room item
       nothing_taken [] among = omega arith
       nothing_taken (c ∷ cs) among = let bad : None ≡ Some (Accept c) = (among c (inl refl)).0 in absurd (cc)
   Bounded-votes a (Begun b t cs ∷ old) tail = Bounded-votes a old (IsTail-drop (Begun b t cs) old all tail)
   Bounded-votes a (Valued b j l sent ∷ old) tail = Bounded-votes a old (IsTail-drop (Valued b j l sent) old all tail)
   Bounded-votes a (Happened b f ∷ old) tail =
       let older : IsTail old all = IsTail-drop (Happened b f) old all tail in
-      let before : Bounded s.classic share (votes (facts_of a old) i fast) = Bounded-votes a old older in
+      let before : Bounded s.parts share (votes (facts_of a old) i fast) = Bounded-votes a old older in
       let allowed : Allowed s (Happened b f ∷ old) = Allowed-tail s (Happened b f ∷ old) all tail legal in
       elim (cases_Bool (b == a)) [
         | inl e ↦ rw e (elim (marks_at-cases f i fast) [
@@ -201,10 +201,11 @@ module _ (s : Setup) (sizes : IsSetup s) (all : List Entry) (legal : Allowed s a
         | inr e ↦ rw e before
       ]
 
-  -- the forced marks of the fast ballot, by double counting
-  Bounded-fast : (old : List Entry) → IsTail old all → Allowed s old → (z : ℕ) (m : Ballot) (marks : List (TxId × Mark)) (first : IsFirst s old z i m marks) →
-      top (reports_of old i m (members first.quorum (centres_to s.centres))) ≡ fast → Bounded 1 1 first.base
-  Bounded-fast old tail allowed z m marks first is = record {
+  -- the forced marks of the fast ballot, by double counting, where there are as many reports as an acceptor's room has parts:
+  -- a classic quorum of them under the safe limit, and those of all centres under the wider one
+  Bounded-counted : (old : List Entry) → IsTail old all → Allowed s old → (z : ℕ) (m : Ballot) (marks : List (TxId × Mark)) (first : IsFirst s old z i m marks) →
+      s.parts ≤ count first.quorum (centres_to s.centres) → top (reports_of old i m (members first.quorum (centres_to s.centres))) ≡ fast → Bounded 1 1 first.base
+  Bounded-counted old tail allowed z m marks first counted is = record {
     bound = λ cs distinct among.
         let rs : List ReducedReport = reports_of old i m (members first.quorum (centres_to s.centres)) in
         let many : length rs ≡ count first.quorum (centres_to s.centres) = length-reports old i m first.quorum (centres_to s.centres) in
@@ -220,23 +221,42 @@ module _ (s : Setup) (sizes : IsSetup s) (all : List Entry) (legal : Allowed s a
           | inr by_union ↦ absurd (Below-fast fast (rw is at by_union.0))
         ])) in
         -- and each report keeps within its share
-        let columns : s.classic * whole ≤ length rs * (share * q.room item) =
-        total_bound (λ r. total (λ c. cond (has r c) (amount c) 0) cs) s.classic (share * q.room item) rs (λ r listed.
+        let columns : s.parts * whole ≤ length rs * (share * q.room item) =
+        total_bound (λ r. total (λ c. cond (has r c) (amount c) 0) cs) s.parts (share * q.room item) rs (λ r listed.
         let voter : (a : ℕ) × ((t : TxId) (x : Mark) → gives r.marks t x ≡ true → mark_of t (votes (facts_of a old) i fast) ≡ Some x) =
         fast_voter s all legal i old first.quorum m r listed is in
-        let kept_bound : s.classic * taken (kept (has r) cs) ≤ share * q.room item =
+        let kept_bound : s.parts * taken (kept (has r) cs) ≤ share * q.room item =
         (Bounded-votes voter.0 old tail).bound (kept (has r) cs) (Apart-kept (has r) cs distinct)
         (λ c l. (voter.1 c.tx (Accept c) (In-kept (has r) c cs l).1, (among c (In-kept (has r) c cs l).0).1)) in
         rw (total-kept amount (has r) cs) kept_bound) in
         let result : taken cs ≤ q.room item =
-        room_left s.classic (length rs) share n (s.centres - s.fast) (q.room item) (taken cs) whole
-        (omega (arith, first.enough))
-        (omega (arith, sizes.fast_within, sizes.two_fast))
-        (omega (arith, sizes.fast_within, sizes.two_fast, first.enough))
-        (omega (arith, sizes.fast_within, sizes.two_fast))
-        (omega (arith, sizes.two_classic)) rows columns in
+        room_left s.parts (length rs) share n (s.centres - s.fast) (q.room item) (taken cs) whole
+        (omega (arith, counted))
+        (omega (arith, sizes.fast_within, sizes.two_fast, sizes.classic_parts))
+        (omega (arith, sizes.fast_within, sizes.two_fast, sizes.classic_parts, counted))
+        (omega (arith, sizes.fast_within, sizes.two_fast, sizes.classic_parts))
+        (omega (arith, sizes.two_classic, sizes.classic_parts)) rows columns in
         omega arith;
   }
+
+  -- and by the test on the sum, where there are fewer
+  Bounded-fast : (old : List Entry) → IsTail old all → Allowed s old → (z : ℕ) (m : Ballot) (marks : List (TxId × Mark)) (first : IsFirst s old z i m marks) →
+      top (reports_of old i m (members first.quorum (centres_to s.centres))) ≡ fast → Bounded 1 1 first.base
+  Bounded-fast old tail allowed z m marks first is =
+      elim first.together [
+        | inl counted ↦ Bounded-counted old tail allowed z m marks first counted is
+        | inr fits ↦ record {
+          bound = λ cs distinct among.
+              elim (cases_eq (taken cs) 0) [
+                | inl nothing ↦ omega arith
+                | inr some ↦
+                    let within : (current (facts_of z old) i.key ≡ i.version) × (taken cs ≤ q.room (base (facts_of z old) i.key)) =
+                    fits q listed_q cs distinct (λ d listed. ((among d listed).0, not_void s all legal i old z d.tx tail allowed (among d listed).1)) (omega arith) in
+                    let room : q.room (base (facts_of z old) i.key) ≡ q.room item = ap q.room (held z old tail within.0) in
+                    omega (arith, within.1)
+              ];
+        }
+      ]
 
   pub Bounded-structures : (m : Ballot) (marks : List (TxId × Mark)) → WasSent all i m marks → Bounded 1 1 marks
   Bounded-structures m marks sent =

@@ -9,7 +9,6 @@ use Rattle.mdcc_base.specs.Key.{key_eq}
 use Rattle.mdcc_base.specs.Quorums.{all_centres, quorum_size}
 use Rattle.mdcc_base.specs.declared.identifiers.Ballot.{Ballot}
 use Rattle.mdcc_base.specs.declared.identifiers.TxId.{TxId}
-use Rattle.mdcc_base.specs.declared.key.Key.{Key}
 use Rattle.mdcc_option.specs.Equality.{mark_eq}
 use Rattle.mdcc_option.specs.declared.choices.Mark.{Mark}
 use Rattle.mdcc_option.specs.declared.cluster.Cluster.{Cluster}

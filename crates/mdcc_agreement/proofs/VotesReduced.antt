@@ -19,6 +19,7 @@ use Rattle.mdcc_option.specs.declared.items.Update.{Update}
 use Rattle.mdcc_option.specs.declared.items.Update.TheVariants.{Write, Add}
 use Rattle.mdcc_struct.specs.Maps.{value_of, union}
 use Rattle.mdcc_struct.specs.declared.options.Options.{Options}
+use Rattle.mdcc_protocol.specs.Fit.{parts_of}
 use Rattle.mdcc_protocol.specs.Acceptor as acceptor
 use Rattle.mdcc_ledger.specs.AllowedFacts.{MayVoteFast, MayVoteClassic, are_apart}
 use Rattle.mdcc_ledger.specs.BootTest.{is_answer}
@@ -241,7 +242,7 @@ module _ (cluster : Cluster) (sizes : IsSetup (setup_of cluster)) (four : length
                 let at_most : full.current_of own_facts i.key ≤ i.version = subst (λ (z : Place). full.current_of own_facts z.key ≤ z.version) here yes'.3 in
                 let fits : FitsFast cluster (full.base_of own_facts i.key) (full.live_of own_facts i.key i.version) c.update =
                 subst (λ (z : Place). FitsFast cluster (full.base_of own_facts z.key) (full.live_of own_facts z.key z.version) c.update) here yes'.2 in
-                subst (λ z. IsFit (setup_of cluster) cluster.quorums.classic (cluster.quorums.fast + cluster.quorums.classic - cluster.quorums.centres) (reduced es) reduced_facts (IsAcceptedVote reduced_facts i) i t z) same_choice
+                subst (λ z. IsFit (setup_of cluster) (parts_of cluster.limit cluster.quorums) (cluster.quorums.fast + parts_of cluster.limit cluster.quorums - cluster.quorums.centres) (reduced es) reduced_facts (IsAcceptedVote reduced_facts i) i t z) same_choice
                 (acceptor_fit cluster sizes four es allowed a fine i t c own here (begun_choice es c begun) (omega arith) fits)
           ];
         };

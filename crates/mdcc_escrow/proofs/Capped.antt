@@ -10,10 +10,12 @@ use Rattle.mdcc_base.specs.AreQuorums.{AreQuorums}
 use Rattle.mdcc_base.specs.Sizes.{Sizes}
 use Rattle.mdcc_option.specs.Bounds.{is_bound}
 use Rattle.mdcc_option.specs.declared.cluster.Cluster.{Cluster}
+use Rattle.mdcc_option.specs.declared.cluster.FastLimit.{FastLimit}
 use Rattle.mdcc_option.specs.declared.items.Item.{Item}
 use Rattle.mdcc_option.specs.declared.items.Update.{Update}
-use Rattle.mdcc_protocol.specs.Fit.{Quantity, capped, capped_sum, delta_count, exact_fit, fast_fit, first_number, is_past_limit, is_past_room, limit_of, quantities_of, quantity_at, quantity_of}
+use Rattle.mdcc_protocol.specs.Fit.{Quantity, capped, capped_sum, delta_count, exact_fit, fast_fit, first_number, is_past_limit, is_past_room, limit_of, parts_of, quantities_of, quantity_at, quantity_of, share_of}
 use Rattle.mdcc_protocol.specs.declared.fit.Load.{Load}
+use Rattle.mdcc_protocol.proofs.EnoughPromises.{parts-classic, parts-within}
 use Rattle.mdcc_escrow.specs.Capped.{AreDeclared, IsShort}
 
 -- ---- numbers
@@ -133,19 +135,22 @@ room-agrees attribute value bounds (pos n) load h k =
 room-agrees attribute value bounds (negsuc n) load h k =
     rw (sum-capped load.down (attribute - 1)) (room-capped (value -ℤ bounds.0) (get_or load.down (attribute - 1) (pos 0)) (pos (n + 1)) (short_room bounds value h k).1 (omega (arith, ints)))
 
-share_few : (sizes : Sizes) → AreQuorums sizes → sizes.fast + sizes.classic - sizes.centres ≤ 9
-share_few sizes q = omega (arith, q.nine_centres, q.classic_within, q.fast_within)
+share_few : (limit : FastLimit) (sizes : Sizes) → AreQuorums sizes → share_of limit sizes ≤ 9
+share_few limit sizes q = omega (arith, q.nine_centres, q.fast_within, parts-within limit sizes q)
 
-limit-agrees : (sizes : Sizes) (attribute : ℕ) (value : ℤ) (bounds : ℤ × ℤ) (amount : ℤ) (load : Load) → AreQuorums sizes → is_bound bounds ≡ true → IsShort value
-    → Agrees (is_past_limit sizes) attribute value bounds amount load
-limit-agrees sizes attribute value bounds (pos n) load q h k =
+some_parts : (limit : FastLimit) (sizes : Sizes) → AreQuorums sizes → 1 ≤ parts_of limit sizes
+some_parts limit sizes q = omega (arith, q.some_classic, parts-classic limit sizes q)
+
+limit-agrees : (limit : FastLimit) (sizes : Sizes) (attribute : ℕ) (value : ℤ) (bounds : ℤ × ℤ) (amount : ℤ) (load : Load) → AreQuorums sizes → is_bound bounds ≡ true → IsShort value
+    → Agrees (is_past_limit limit sizes) attribute value bounds amount load
+limit-agrees limit sizes attribute value bounds (pos n) load q h k =
     rw (sum-capped load.up (attribute - 1))
-    (share-capped (sizes.fast + sizes.classic - sizes.centres) sizes.classic (bounds.1 -ℤ value) (get_or load.up (attribute - 1) (pos 0)) (pos n)
-    (share_few sizes q) q.some_classic (short_room bounds value h k).0 (omega (arith, ints)))
-limit-agrees sizes attribute value bounds (negsuc n) load q h k =
+    (share-capped (share_of limit sizes) (parts_of limit sizes) (bounds.1 -ℤ value) (get_or load.up (attribute - 1) (pos 0)) (pos n)
+    (share_few limit sizes q) (some_parts limit sizes q) (short_room bounds value h k).0 (omega (arith, ints)))
+limit-agrees limit sizes attribute value bounds (negsuc n) load q h k =
     rw (sum-capped load.down (attribute - 1))
-    (share-capped (sizes.fast + sizes.classic - sizes.centres) sizes.classic (value -ℤ bounds.0) (get_or load.down (attribute - 1) (pos 0)) (pos (n + 1))
-    (share_few sizes q) q.some_classic (short_room bounds value h k).1 (omega (arith, ints)))
+    (share-capped (share_of limit sizes) (parts_of limit sizes) (value -ℤ bounds.0) (get_or load.down (attribute - 1) (pos 0)) (pos (n + 1))
+    (share_few limit sizes q) (some_parts limit sizes q) (short_room bounds value h k).1 (omega (arith, ints)))
 
 -- ---- lists of them
 
@@ -201,9 +206,9 @@ pub limit_of-capped : (cluster : Cluster) (base : Option Item) (load : Load) (up
 limit_of-capped cluster None load update h = refl
 limit_of-capped cluster (Some base) load (Update.Write item seen) h = refl
 limit_of-capped cluster (Some base) load (Update.Add amounts) h =
-    same_first_of (is_past_limit cluster.quorums) cluster.schema base load amounts
-    (count_share-capped (cluster.quorums.fast + cluster.quorums.classic - cluster.quorums.centres) cluster.quorums.classic load.count (share_few cluster.quorums h.quorums) h.quorums.some_classic)
-    (λ attribute value bounds amount k l. limit-agrees cluster.quorums attribute value bounds amount load h.quorums k l) h.schema.each h.values
+    same_first_of (is_past_limit cluster.limit cluster.quorums) cluster.schema base load amounts
+    (count_share-capped (share_of cluster.limit cluster.quorums) (parts_of cluster.limit cluster.quorums) load.count (share_few cluster.limit cluster.quorums h.quorums) (some_parts cluster.limit cluster.quorums h.quorums))
+    (λ attribute value bounds amount k l. limit-agrees cluster.limit cluster.quorums attribute value bounds amount load h.quorums k l) h.schema.each h.values
 
 pub fast_fit-capped : (cluster : Cluster) (base : Option Item) (load : Load) (update : Update) → AreDeclared cluster base
     → fast_fit cluster base (capped load) update ≡ fast_fit cluster base load update

@@ -48,7 +48,7 @@ fn add_limit(cluster: &Cluster, base: &Item, load: &Load, amounts: &Amounts) -> 
     ensures { result ≡ limit_of cluster.now (Some base.now) load.now (Update.Add amounts.now) }
 {
     let quantities = quantities_of(&cluster.schema, base, load, amounts.as_slice());
-    first_past_limit(&cluster.quorums, quantities.as_slice())
+    first_past_limit(cluster.limit, &cluster.quorums, quantities.as_slice())
 }
 
 // The least quantity that passes an acceptor's share.

@@ -1,12 +1,13 @@
 //! Quantities that an add changes: the number of adds on one version, and attributes.
 ghost use Rattle.std.specs.Prelude.{◌≡◌, ◌+◌, ◌-◌, ◌^◌, ◌≤◌, pos, neg_ℤ, ◌+ℤ◌, ◌-ℤ◌, ◌*ℤ◌, ◌≤ℤ◌, get_or, length, nat_abs};
-ghost use Rattle.mdcc_protocol.specs.Fit.{delta_count, quantity_of, quantity_at, quantities_of, is_past_room, is_past_limit, first_number};
+ghost use Rattle.mdcc_base.specs.AreQuorums.{AreQuorums};
+ghost use Rattle.mdcc_protocol.specs.Fit.{delta_count, quantity_of, quantity_at, quantities_of, is_past_room, is_past_limit, first_number, parts_of, share_of};
 ghost use Rattle.mdcc_escrow.specs.Sums.{AreBoundedSums, IsBoundedLoad};
 
 use crate::Load;
 use crate::attributes::{bounds_at, sum_at, value_at};
 use mdcc_base::{BoundedList, Quorums};
-use mdcc_option::{Item, Schema};
+use mdcc_option::{FastLimit, Item, Schema};
 use std::marker::Model;
 
 /// Quantity 0 is the number of adds on one version, quantity n attribute n: the sum of the live
@@ -145,25 +146,38 @@ fn times(count: u8, number: i128) -> i128
     i128::from(count) * number
 }
 
-// The room so many times as a fast and a classic quorum have centres in common, at least.
-fn share_of(quorums: &Quorums, quantity: &Quantity) -> i128
-    ensures { result ≡ pos (quorums.now.fast + quorums.now.classic - quorums.now.centres) *ℤ quantity.now.room }
+// Into how many parts an acceptor's room is cut: as many as a classic quorum has centres, or under
+// the wider limit as there are centres.
+fn parts_of(limit: FastLimit, quorums: &Quorums) -> u8
+    ensures value { result ≡ parts_of limit quorums.now }
+    ensures within { result ≤ quorums.now.centres }
+    ensures meet { AreQuorums quorums.now }
 {
-    times(quorums.threshold(quorums.classic()), quantity.room)
+    match limit {
+        FastLimit::Safe => quorums.classic(),
+        FastLimit::Paper => quorums.centres(),
+    }
 }
 
-// The sum with the amount so many times as a classic quorum has centres.
-fn weight_of(quorums: &Quorums, quantity: &Quantity) -> i128
-    ensures { result ≡ pos quorums.now.classic *ℤ (quantity.now.sum +ℤ quantity.now.amount) }
+// The room so many times as a fast quorum and that many centres have in common, at least.
+fn share_of(limit: FastLimit, quorums: &Quorums, quantity: &Quantity) -> i128
+    ensures { result ≡ pos (share_of limit quorums.now) *ℤ quantity.now.room }
 {
-    times(quorums.classic(), total_of(quantity))
+    times(quorums.threshold(parts_of(limit, quorums)), quantity.room)
+}
+
+// The sum with the amount so many times as there are parts.
+fn weight_of(limit: FastLimit, quorums: &Quorums, quantity: &Quantity) -> i128
+    ensures { result ≡ pos (parts_of limit quorums.now) *ℤ (quantity.now.sum +ℤ quantity.now.amount) }
+{
+    times(parts_of(limit, quorums), total_of(quantity))
 }
 
 // Whether the sum with the amount passes an acceptor's share of the room.
-fn is_past_limit(quorums: &Quorums, quantity: &Quantity) -> bool
-    ensures { result ≡ is_past_limit quorums.now quantity.now }
+fn is_past_limit(limit: FastLimit, quorums: &Quorums, quantity: &Quantity) -> bool
+    ensures { result ≡ is_past_limit limit quorums.now quantity.now }
 {
-    share_of(quorums, quantity) < weight_of(quorums, quantity)
+    share_of(limit, quorums, quantity) < weight_of(limit, quorums, quantity)
 }
 
 /// The quantities that an add changes, ascending.
@@ -198,11 +212,15 @@ pub(crate) fn first_past_room(quantities: &[Quantity]) -> Option<u8>
 }
 
 /// The least quantity that passes an acceptor's share of its room.
-pub(crate) fn first_past_limit(quorums: &Quorums, quantities: &[Quantity]) -> Option<u8>
-    ensures { result ≡ first_number (is_past_limit quorums.now) quantities.now }
+pub(crate) fn first_past_limit(
+    limit: FastLimit,
+    quorums: &Quorums,
+    quantities: &[Quantity],
+) -> Option<u8>
+    ensures { result ≡ first_number (is_past_limit limit quorums.now) quantities.now }
 {
     for quantity in quantities {
-        if is_past_limit(quorums, quantity) {
+        if is_past_limit(limit, quorums, quantity) {
             return Some(quantity.number);
         }
     }

@@ -5,6 +5,7 @@ pub mod Computing
 pub mod Crashes
 pub mod Dangling
 pub mod EachKind
+pub mod FastLimits
 pub mod Inserts
 pub mod Refusals
 pub mod Replays

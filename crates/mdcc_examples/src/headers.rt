@@ -1,6 +1,7 @@
 //! Headers of schedules, and what they are read as.
 ghost use Rattle.std.specs.Prelude.{◌≡◌, pos, negsuc, [], ◌∷◌, ◌++◌, codes, replicate};
 ghost use Rattle.mdcc_base.specs.declared.quorums.QuorumFault.TheVariants.{Centres, ClassicRange, FastRange, ClassicMeet, FastMeet};
+ghost use Rattle.mdcc_option.specs.declared.cluster.FastLimit.{FastLimit};
 ghost use Rattle.mdcc_option.specs.declared.schema.SchemaFault.TheVariants.{Bound};
 ghost use Rattle.mdcc_language.specs.declared.schedule.HeaderCause.TheVariants.{Sched, Quorums, Schema};
 ghost use Rattle.mdcc_language.specs.declared.schedule.SchedCause.TheVariants.{Word, Number, Range, Order};
@@ -22,6 +23,14 @@ pub fn header_with_cells()
 
 pub fn most_cells()
     ensures { header (codes "mdcc-schedule 1\nquorums 5 3 4\ngamma 100\ncells 4194304\nbound 0 1000\nstart\n") ≡ accepted (record five_centres { cells = 4194304 }) 73 }
+{}
+
+pub fn header_with_the_safe_limit()
+    ensures { header (codes "mdcc-schedule 1\nquorums 5 3 4\ngamma 100\nlimit safe\nbound 0 1000\nstart\n") ≡ accepted five_centres 70 }
+{}
+
+pub fn header_with_cells_and_the_wider_limit()
+    ensures { header (codes "mdcc-schedule 1\nquorums 5 3 4\ngamma 100\ncells 3\nlimit paper\nbound 0 1000\nstart\n") ≡ accepted (record five_centres { cells = 3; limit = FastLimit.Paper }) 79 }
 {}
 
 pub fn header_of_one_centre()
@@ -138,6 +147,22 @@ pub fn quorums_are_no_numbers()
 
 pub fn quorums_above_255()
     ensures { header (codes "mdcc-schedule 1\nquorums 5 3 256\n") ≡ header_fault 2 (Sched Range) }
+{}
+
+pub fn unknown_limit()
+    ensures { header (codes "mdcc-schedule 1\nquorums 5 3 4\ngamma 100\nlimit wide\nbound 0 1000\nstart\n") ≡ header_fault 4 (Sched Word) }
+{}
+
+pub fn limit_with_two_words()
+    ensures { header (codes "mdcc-schedule 1\nquorums 5 3 4\ngamma 100\nlimit safe safe\nbound 0 1000\nstart\n") ≡ header_fault 4 (Sched Word) }
+{}
+
+pub fn limit_before_cells()
+    ensures { header (codes "mdcc-schedule 1\nquorums 5 3 4\ngamma 100\nlimit safe\ncells 3\nbound 0 1000\nstart\n") ≡ header_fault 5 (Sched Order) }
+{}
+
+pub fn limit_not_yet_built()
+    ensures { early_header (codes "mdcc-schedule 1\nquorums 5 3 4\ngamma 100\nlimit safe\nbound 0 1000\nstart\n") ≡ header_fault 4 (Sched Order) }
 {}
 
 pub fn gamma_above()

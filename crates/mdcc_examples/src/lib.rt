@@ -7,6 +7,7 @@ pub mod collisions;
 pub mod crashes;
 pub mod dangling;
 pub mod errors;
+pub mod fast_limits;
 pub mod headers;
 pub mod inserts;
 pub mod lines;

@@ -129,6 +129,25 @@ cells_line built left =
     if built.cells_line && is_next (codes "cells") left
     then header_line (codes "cells") (last_number 1 4194304 5) left else Ok (default_cells, left)
 
+-- the word of the fast limit
+abbrev pub limit_in : List ℕ → ℕ → Result FastLimit SchedFault
+limit_in word column =
+    if text_eq word (codes "safe") then Ok FastLimit.Safe
+    else (if text_eq word (codes "paper") then Ok FastLimit.Paper else refused column Word)
+
+-- `limit safe` or `limit paper`
+abbrev pub fast_limit_of : List ℕ → Result FastLimit SchedFault
+fast_limit_of line = (do
+  start ← word_behind 5 line
+  limit ← limit_in (word_at start line) (start + 1)
+  _ ← end_at (word_end start line) line 1
+  Ok limit)
+
+-- it may be left out, and the limit is then the safe one
+abbrev pub limit_line : Built → Left → Result (FastLimit × Left) HeaderFault
+limit_line built left =
+    if built.limit_line && is_next (codes "limit") left then header_line (codes "limit") fast_limit_of left else Ok (FastLimit.Safe, left)
+
 -- the n-th bounds of a schema
 abbrev pub bounds_in : ℕ → Left → ℤ × ℤ → Result (ℤ × ℤ) HeaderFault
 bounds_in n left bounds = if is_bound bounds then Ok bounds else refused_at left (Schema (Bound n))
@@ -167,9 +186,10 @@ header_lines built left = (do
   quorums ← quorums_line version.1
   gamma ← header_line (codes "gamma") (last_number 0 1000 5) quorums.1
   cells ← cells_line built gamma.1
-  bounds ← bounds_lines cells.1
+  limit ← limit_line built cells.1
+  bounds ← bounds_lines limit.1
   start ← header_line (codes "start") (λ line. end_at 5 line 1) bounds.1
-  Ok (record { quorums = quorums.0; schema = bounds.0; gamma = gamma.0; cells = cells.0; limit = FastLimit.Safe }, start.1))
+  Ok (record { quorums = quorums.0; schema = bounds.0; gamma = gamma.0; cells = cells.0; limit = limit.0 }, start.1))
 
 -- the cluster of a header, and the place behind it
 abbrev pub header_of : Built → List ℕ → Result (Cluster × ℕ) HeaderFault

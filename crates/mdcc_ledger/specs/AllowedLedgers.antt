@@ -26,7 +26,7 @@ use Rattle.mdcc_protocol.specs.Facts.{base_of, current_of, epoch_of, executed_of
 use Rattle.mdcc_ledger.specs.Ledger.{Added, Entry, Valued, choices_begun, facts_of, outcome_of, structure_valued}
 use Rattle.mdcc_protocol.specs.Manager.{parts_begin_fault}
 use Rattle.mdcc_protocol.specs.Marks.{options_eq}
-use Rattle.mdcc_protocol.specs.Structures.{first_structure, with_claim}
+use Rattle.mdcc_protocol.specs.Structures.{first_structure, is_enough, with_claim}
 use Rattle.mdcc_messages.specs.declared.facts.Fact.{Fact}
 use Rattle.mdcc_ledger.specs.AllowedFacts.{MayAdd}
 
@@ -94,11 +94,11 @@ are_distinct (a ∷ as') = not (list_any (λ b. a == b) as') && are_distinct as'
 abbrev pub IsAmongCentres : List ℕ → List ℕ → Type 0
 IsAmongCentres centres among = IsTrue (list_all (λ a. list_any (λ b. a == b) among) centres) × IsTrue (are_distinct centres)
 
--- the first structure of a ballot, made from a classic quorum or more of centres that promised it, and some claims. (Fast Paxos; Generalized Paxos.)
+-- the first structure of a ballot, made from enough centres that promised it, a classic quorum or more, and some claims. (Fast Paxos; Generalized Paxos.)
 pub record IsFirstStructure (cluster : Cluster) (before : List Entry) (a : ℕ) (key : Key) (version : ℕ) (ballot : Ballot) (options : Options) (centres : List ℕ) (claims : TxMap (Option Choice)) : Type 0 where
   pub none_before : structure_valued before key version ballot ≡ None
   pub promised : IsAmongCentres centres (promisers_of cluster.quorums before key version ballot)
-  pub enough : cluster.quorums.classic ≤ length centres
+  pub enough : IsTrue (is_enough cluster (facts_of before a) key version (reports_at before key version ballot centres))
   pub made : options ≡ first_structure cluster (facts_of before a) key version claims (reports_at before key version ballot centres)
 
 -- a later structure, which extends the last one by the mark of a claim

@@ -1,7 +1,7 @@
 -- A structure that passes the test is allowed.
-use Rattle.std.proofs.Common.{◌≡◌, ℕ, ◌+◌, Bool, true, not, ◌==◌, nat_le, List, [], ◌∷◌, length, refl, inl, inr, Option, Some, None, Decides}
-use Rattle.std.proofs.lemmas.Bool.{and_parts, eqb-true, leb-true}
-use Rattle.std.proofs.lemmas.Bool.Decides.{Decides-eqb, Decides-ltb, Decides-and, Decides-like}
+use Rattle.std.proofs.Common.{◌≡◌, ℕ, ◌+◌, Bool, true, not, ◌==◌, List, [], ◌∷◌, length, refl, inl, inr, Option, Some, None, Decides}
+use Rattle.std.proofs.lemmas.Bool.{and_parts, eqb-true}
+use Rattle.std.proofs.lemmas.Bool.Decides.{Decides-eqb, Decides-and, Decides-like}
 use Rattle.mdcc_base.specs.Ballot.{is_fast}
 use Rattle.mdcc_base.specs.declared.identifiers.Ballot.{Ballot}
 use Rattle.mdcc_base.specs.declared.identifiers.TxId.{TxId}
@@ -16,7 +16,7 @@ use Rattle.mdcc_ledger_laws.specs.LedgerTest.{claims_in, is_made, is_made_by, is
 use Rattle.mdcc_protocol.specs.Facts.{current_of, epoch_of}
 use Rattle.mdcc_ledger.specs.Ledger.{Entry, facts_of, structure_valued}
 use Rattle.mdcc_protocol.specs.Marks.{choice_in, options_eq}
-use Rattle.mdcc_protocol.specs.Structures.{first_structure, with_claim}
+use Rattle.mdcc_protocol.specs.Structures.{first_structure, is_enough, with_claim}
 use Rattle.mdcc_ledger_laws.proofs.Found.{found, found_with}
 use Rattle.mdcc_ledger_laws.proofs.SubsetsAmong.{distinct-filtered, subsets-among}
 use Rattle.mdcc_ledger_laws.proofs.TestsDecide.{Decides-true, Decides-leb}
@@ -36,13 +36,13 @@ first_shown : (cluster : Cluster) (before : List Entry) (a : ℕ) (key : Key) (v
     → is_made_from cluster before a key version ballot options centres ≡ true
     → IsFirstStructure cluster before a key version ballot options centres (claims_in options)
 first_shown cluster before a key version ballot options centres none among h =
-    let parts : (nat_le cluster.quorums.classic (length centres) ≡ true)
+    let parts : (is_enough cluster (facts_of before a) key version (reports_at before key version ballot centres) ≡ true)
     × (options_eq options (first_structure cluster (facts_of before a) key version (claims_in options) (reports_at before key version ballot centres)) ≡ true) =
     and_parts _ _ h in
     record {
       none_before = none;
       promised = among;
-      enough = leb-true cluster.quorums.classic (length centres) parts.0;
+      enough = parts.0;
       made = (Decides-options options _).0 parts.1;
     }
 

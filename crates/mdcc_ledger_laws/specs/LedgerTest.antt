@@ -26,7 +26,7 @@ use Rattle.mdcc_protocol.specs.Facts.{base_of, current_of, epoch_of, executed_of
 use Rattle.mdcc_ledger.specs.Ledger.{Added, Entry, Valued, facts_of, outcome_of, structure_valued}
 use Rattle.mdcc_protocol.specs.Manager.{parts_begin_fault}
 use Rattle.mdcc_protocol.specs.Marks.{Amounts, choice_in, options_eq}
-use Rattle.mdcc_protocol.specs.Structures.{first_structure, with_claim}
+use Rattle.mdcc_protocol.specs.Structures.{first_structure, is_enough, with_claim}
 use Rattle.mdcc_messages.specs.declared.facts.Fact.{Fact}
 
 abbrev pub outcome_eq : Outcome → Option Outcome → Bool
@@ -57,7 +57,7 @@ claims_in options = map (λ e. (e.0, choice_in e.1)) options
 
 abbrev pub is_made_from : Cluster → List Entry → ℕ → Key → ℕ → Ballot → Options → List ℕ → Bool
 is_made_from cluster before a key version ballot options centres =
-    nat_le cluster.quorums.classic (length centres)
+    is_enough cluster (facts_of before a) key version (reports_at before key version ballot centres)
     && options_eq options (first_structure cluster (facts_of before a) key version (claims_in options) (reports_at before key version ballot centres))
 
 abbrev pub is_next : Cluster → List Entry → ℕ → Key → ℕ → Options → Options → Bool

@@ -2,18 +2,18 @@
 use crate::Schema;
 use mdcc_base::{Plain, Quorums};
 
-/// Which share of the room acceptors may give away at the fast ballot.
+/// Which share of the room an acceptor may give away at the fast ballot.
 #[derive(Clone, Copy, Debug, PartialEq, Eq)]
 pub enum FastLimit {
-    /// All that the reports of any classic quorum force on a leader stays within the room.
+    /// What any classic quorum of promises forces stays within the room.
     Safe,
-    /// The wider share of the MDCC paper: what is chosen stays within the room, and a leader may have
-    /// to wait for more promises than those of a classic quorum.
+    /// The wider share: what is chosen stays within the room, and a leader waits for more promises
+    /// where what a classic quorum forces does not.
     Paper,
 }
 
 /// The sizes of the quorums, the schema, how many versions above the first a classic ballot covers,
-/// how many cells of 64 bytes a node has for its facts, and the fast limit, which is not read yet.
+/// how many cells of 64 bytes a node has for its facts, and the fast limit.
 #[derive(Debug, Drop)]
 pub struct Cluster {
     pub quorums: Quorums,

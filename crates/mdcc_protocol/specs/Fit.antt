@@ -1,12 +1,14 @@
 -- Whether a choice fits beside the live choices of its instance: by an acceptor's share of the room at the fast ballot, and exactly at a leader. The share, and the room of 64 for the number of deltas, are our own form of MDCC's quorum demarcation.
-use Rattle.std.specs.List.{list_any}
-use Rattle.std.specs.Prelude.{Bool, List, None, Option, Some, [], false, find, get_or, if◌then◌else◌, int_lt, map, min, nat_lt, neg_ℤ, negsuc, not, option_map, pos, sum, true, ℕ, ℤ, ◌*ℤ◌, ◌+ℤ◌, ◌+◌, ◌-ℤ◌, ◌-◌, ◌^◌, ◌∷◌}
+use Rattle.std.specs.List.{list_all, list_any, range_with_len}
+use Rattle.std.specs.Prelude.{Bool, List, None, Option, Some, [], false, find, get_or, if◌then◌else◌, int_lt, length, map, min, nat_lt, neg_ℤ, negsuc, not, option_map, pos, sum, true, ℕ, ℤ, ◌*ℤ◌, ◌+ℤ◌, ◌++◌, ◌+◌, ◌-ℤ◌, ◌-◌, ◌^◌, ◌∷◌}
 use Rattle.mdcc_base.specs.Counts.{number_of, sum_over}
+use Rattle.mdcc_base.specs.Quorums.{threshold}
 use Rattle.mdcc_base.specs.Sizes.{Sizes}
 use Rattle.mdcc_base.specs.TxId.{tx_eq}
 use Rattle.mdcc_base.specs.declared.identifiers.TxId.{TxId}
 use Rattle.mdcc_option.specs.OneCopy.{amount_at}
 use Rattle.mdcc_option.specs.declared.cluster.Cluster.{Cluster}
+use Rattle.mdcc_option.specs.declared.cluster.FastLimit.{FastLimit}
 use Rattle.mdcc_option.specs.declared.items.Item.{Item}
 use Rattle.mdcc_option.specs.declared.items.Update.{Update}
 use Rattle.mdcc_option.specs.declared.schema.Schema.{Schema}
@@ -97,11 +99,43 @@ quantities_of schema base load amounts = delta_count load ∷ map (quantity_at s
 abbrev pub is_past_room : Quantity → Bool
 is_past_room q = int_lt q.room (q.sum +ℤ q.amount)
 
--- it passes an acceptor's share of the room, which is fast + classic - centres out of classic parts of it.
--- Each mark that promises force has so many votes among classic ones, so that what is forced stays within the room
-abbrev pub is_past_limit : Sizes → Quantity → Bool
-is_past_limit quorums q =
-    int_lt (pos (quorums.fast + quorums.classic - quorums.centres) *ℤ q.room) (pos quorums.classic *ℤ (q.sum +ℤ q.amount))
+-- how many centres see to it that what they are forced to keep stays within the room: any classic quorum, or only all centres.
+-- An acceptor's room is cut into as many parts
+abbrev pub parts_of : FastLimit → Sizes → ℕ
+parts_of FastLimit.Safe quorums = quorums.classic
+parts_of FastLimit.Paper quorums = quorums.centres
+
+-- an acceptor's share is fast + classic - centres out of classic parts, or the wider one of fast out of centres.
+-- Each mark that promises force has so many votes among as many reports as there are parts, so that what they force stays within the room
+abbrev pub share_of : FastLimit → Sizes → ℕ
+share_of limit quorums = threshold quorums (parts_of limit quorums)
+
+-- the sum with the amount passes an acceptor's share of the room
+abbrev pub is_past_limit : FastLimit → Sizes → Quantity → Bool
+is_past_limit limit quorums q = int_lt (pos (share_of limit quorums) *ℤ q.room) (pos (parts_of limit quorums) *ℤ (q.sum +ℤ q.amount))
+
+-- what the live Adds alone take from an attribute, and what they add to it
+abbrev pub decreases_at : Schema → Item → Load → ℕ → Quantity
+decreases_at schema base load attribute = record {
+  number = attribute;
+  sum = get_or load.down (attribute - 1) (pos 0);
+  room = get_or base.values (attribute - 1) (pos 0) -ℤ (get_or schema (attribute - 1) (pos 0, pos 0)).0;
+  amount = pos 0;
+}
+
+abbrev pub increases_at : Schema → Item → Load → ℕ → Quantity
+increases_at schema base load attribute = record {
+  number = attribute;
+  sum = get_or load.up (attribute - 1) (pos 0);
+  room = (get_or schema (attribute - 1) (pos 0, pos 0)).1 -ℤ get_or base.values (attribute - 1) (pos 0);
+  amount = pos 0;
+}
+
+-- all quantities as the live Adds alone leave them: their number, and for each attribute the decreases and the increases
+abbrev pub quantities_taken : Schema → Item → Load → List Quantity
+quantities_taken schema base load =
+    record { number = 0; sum = pos load.count; room = pos 64; amount = pos 0 }
+    ∷ map (decreases_at schema base load) (range_with_len 1 (length schema)) ++ map (increases_at schema base load) (range_with_len 1 (length schema))
 
 -- the least quantity that passes
 abbrev pub first_number : (Quantity → Bool) → List Quantity → Option ℕ
@@ -123,7 +157,7 @@ exact_fit cluster (Some base) load (Update.Add amounts) =
 
 -- the least quantity past an acceptor's share
 abbrev pub limit_of : Cluster → Option Item → Load → Update → Option ℕ
-limit_of cluster (Some base) load (Update.Add amounts) = first_number (is_past_limit cluster.quorums) (quantities_of cluster.schema base load amounts)
+limit_of cluster (Some base) load (Update.Add amounts) = first_number (is_past_limit cluster.limit cluster.quorums) (quantities_of cluster.schema base load amounts)
 limit_of cluster base load update = None
 
 abbrev pub fit_in_share : Fit → Option ℕ → Fit
@@ -134,6 +168,11 @@ fit_in_share fit limit = fit
 -- what fits exactly may still be past the share
 abbrev pub fast_fit : Cluster → Option Item → Load → Update → Fit
 fast_fit cluster base load update = fit_in_share (exact_fit cluster base load update) (limit_of cluster base load update)
+
+-- whether live Adds on an item are together within the room at each quantity; without an item there is no room
+abbrev pub are_within_room : Cluster → Option Item → Load → Bool
+are_within_room cluster None load = false
+are_within_room cluster (Some base) load = list_all (λ q. not (is_past_room q)) (quantities_taken cluster.schema base load)
 
 abbrev pub is_fitting : Fit → Bool
 is_fitting Fit.Fits = true

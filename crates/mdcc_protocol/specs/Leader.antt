@@ -1,6 +1,6 @@
 -- The leader: classic ballots on the instances of a key. (Fast Paxos; Generalized Paxos; MDCC.)
 use Rattle.std.specs.List.{list_any}
-use Rattle.std.specs.Prelude.{Bool, Err, List, None, Ok, Option, Result, Some, [], false, if◌then◌else◌, is_some, length, map, max, min, nat_le, nat_lt, not, true, ℕ, ◌&&◌, ◌++◌, ◌+◌, ◌-◌, ◌==◌, ◌^◌, ◌∷◌}
+use Rattle.std.specs.Prelude.{Bool, Err, List, None, Ok, Option, Result, Some, [], false, if◌then◌else◌, is_some, length, map, max, min, nat_le, nat_lt, not, true, ℕ, ◌&&◌, ◌++◌, ◌+◌, ◌-◌, ◌==◌, ◌^◌, ◌||◌, ◌∷◌}
 use Rattle.mdcc_base.specs.Ballot.{ballot_eq, is_fast}
 use Rattle.mdcc_base.specs.Counts.{number_of}
 use Rattle.mdcc_base.specs.Sizes.{Sizes}
@@ -14,8 +14,8 @@ use Rattle.mdcc_struct.specs.Options.{differing}
 use Rattle.mdcc_struct.specs.declared.options.Options.{Options}
 use Rattle.mdcc_struct.specs.declared.report.Report.{Report}
 use Rattle.mdcc_protocol.specs.Facts.{current_of, promise_of}
-use Rattle.mdcc_protocol.specs.Structures.{first_structure, is_crowded, with_choice, with_claim}
-use Rattle.mdcc_protocol.specs.Volatile.{Counted, Lead, Leading, lead_of, number_at, structure_at, with_lead, with_number, with_structure}
+use Rattle.mdcc_protocol.specs.Structures.{first_structure, is_crowded, is_enough, with_choice, with_claim}
+use Rattle.mdcc_protocol.specs.Volatile.{Counted, Lead, Leading, lead_of, number_at, structure_at, structure_found, with_lead, with_number, with_structure}
 use Rattle.mdcc_messages.specs.declared.facts.Fact.{Fact}
 use Rattle.mdcc_protocol.specs.declared.leader.LeadAnswer.{LeadAnswer}
 use Rattle.mdcc_protocol.specs.declared.leader.LeadFault.{LeadFault}
@@ -73,14 +73,20 @@ led_on cluster facts leader lead claim =
     )
     else (LeadAnswer.Left, leader))
 
--- whether the promises of a classic quorum contain the version
+-- whether the lead has made the structure at its own version
+abbrev pub has_proposed : Lead → Bool
+has_proposed lead = is_some (structure_found lead.structures lead.version)
+
+-- whether the promises of a classic quorum contain the version, and the lead has proposed where it is its own
 abbrev pub is_covered : Sizes → Lead → ℕ → Bool
 is_covered quorums lead version =
-    nat_le lead.version version && nat_le quorums.classic (number_of (λ promise. nat_le version promise.through) lead.promises)
+    nat_le lead.version version
+    && nat_le quorums.classic (number_of (λ promise. nat_le version promise.through) lead.promises)
+    && (nat_lt lead.version version || has_proposed lead)
 
 -- whether the lead waits for promises at this version
-abbrev pub is_waiting : Sizes → Lead → ℕ → Bool
-is_waiting quorums lead version = lead.version == version && nat_lt (length lead.promises) quorums.classic
+abbrev pub is_waiting : Lead → ℕ → Bool
+is_waiting lead version = lead.version == version && not (has_proposed lead)
 
 -- by the lead of the key
 abbrev pub led_by : Cluster → ℕ → ℕ → List Fact → Leading → Claim → Option Lead → Result (LeadAnswer × Leading) LeadFault
@@ -88,7 +94,7 @@ led_by cluster me epoch facts leader claim None = led_anew cluster me epoch fact
 led_by cluster me epoch facts leader claim (Some lead) =
     if lead.is_refused then led_anew cluster me epoch facts leader claim
     else (if is_covered cluster.quorums lead claim.version then Ok (led_on cluster facts leader lead claim)
-    else (if is_waiting cluster.quorums lead claim.version then Ok (led_again leader lead claim)
+    else (if is_waiting lead claim.version then Ok (led_again leader lead claim)
     else led_anew cluster me epoch facts leader claim))
 
 -- what the leader of a centre answers in its epoch to a claim, and leaves
@@ -132,24 +138,22 @@ is_promise_counted lead from promise =
 abbrev pub reports_of : List Counted → List Report
 reports_of promises = map (λ promise. record { centre = promise.from; ballot = promise.reported; votes = promise.votes }) promises
 
--- the structure is made of the promises of a classic quorum
+-- the structure at the lead's own version is made of the promises that are enough. Structures above it stay
 abbrev pub structure_made : Cluster → List Fact → Leading → Lead → Result (PromiseAnswer × Leading) LeadFault
 structure_made cluster facts leader lead =
     let options = first_structure cluster facts lead.key lead.version lead.claims (reports_of lead.promises) in
     if is_crowded options then Err LeadFault.Crowded
     else Ok (
       PromiseAnswer.Accept lead.version lead.ballot options,
-      with_lead leader (record lead { claims = []; structures = (lead.version, options) ∷ [] }),
+      with_lead leader (record lead { claims = []; structures = with_structure lead.structures lead.version options }),
     )
 
--- one promise more is counted; the one that makes a classic quorum makes the structure
+-- one promise more is counted; the first with which they are enough makes the structure
 abbrev pub counted_promise : Cluster → List Fact → Leading → Lead → Result (PromiseAnswer × Leading) LeadFault
 counted_promise cluster facts leader lead =
-    if length lead.promises == cluster.quorums.classic then structure_made cluster facts leader lead
-    else Ok (
-      if nat_lt (length lead.promises) cluster.quorums.classic then PromiseAnswer.Waiting (length lead.promises) else PromiseAnswer.Counted,
-      with_lead leader lead,
-    )
+    if has_proposed lead then Ok (PromiseAnswer.Counted, with_lead leader lead)
+    else (if is_enough cluster facts lead.key lead.version (reports_of lead.promises) then structure_made cluster facts leader lead
+    else Ok (PromiseAnswer.Waiting (length lead.promises), with_lead leader lead))
 
 abbrev pub with_promise : Lead → ℕ → Promise → Lead
 with_promise lead from promise =

@@ -1,4 +1,5 @@
 -- How a leader marks claims in its structures: with the forced marks first, and then by what fits exactly. (Fast Paxos; Generalized Paxos.)
+use Rattle.std.specs.List.{list_any}
 use Rattle.std.specs.Option.{option_or}
 use Rattle.std.specs.Prelude.{Bool, List, None, Option, Some, [], false, filter, filter_map, fold, if◌then◌else◌, is_some, length, map, nat_le, nat_lt, not, option_map, ℕ, ◌&&◌, ◌==◌, ◌||◌, ◌∷◌}
 use Rattle.mdcc_base.specs.TxId.{tx_eq, tx_lt}
@@ -13,8 +14,8 @@ use Rattle.mdcc_struct.specs.Maps.{TxMap, union, value_of, with_entry}
 use Rattle.mdcc_struct.specs.declared.options.Options.{Options}
 use Rattle.mdcc_struct.specs.declared.report.Report.{Report}
 use Rattle.mdcc_protocol.specs.Facts.{base_of, current_of, deltas_at, is_void, live_mark}
-use Rattle.mdcc_protocol.specs.Fit.{exact_fit, is_fitting, load_of}
-use Rattle.mdcc_protocol.specs.Marks.{accepts_in, choice_in, rejects_in, seen_in}
+use Rattle.mdcc_protocol.specs.Fit.{are_within_room, exact_fit, is_fitting, load_of, parts_of}
+use Rattle.mdcc_protocol.specs.Marks.{accepts_in, choice_in, is_write, rejects_in, seen_in}
 use Rattle.mdcc_messages.specs.declared.facts.Fact.{Fact}
 use Rattle.mdcc_protocol.specs.declared.fit.Fit.{Fit}
 
@@ -85,6 +86,30 @@ all_claims pending reports = fold with_choice (fold with_choice [] pending) (cho
 abbrev pub first_structure : Cluster → List Fact → Key → ℕ → TxMap (Option Choice) → List Report → Options
 first_structure cluster facts key version pending reports =
     fold (with_claim cluster facts key version) (forced_of cluster.quorums reports) (all_claims pending reports)
+
+-- ---- from how many promises
+
+abbrev pub is_add_accepted : TxId × Mark → Bool
+is_add_accepted (tx, Mark.Accept choice) = not (is_write choice.update)
+is_add_accepted (tx, Mark.Reject) = false
+
+-- the accepted choices among forced marks, without the void ones
+abbrev pub live_forced : List Fact → Options → TxMap Update
+live_forced facts marks = filter (λ e. not (is_void facts e.0)) (filter_map live_mark marks)
+
+-- forced marks fit together where no Add is accepted among them, or where the leader holds that very version and at each
+-- quantity the sum over their accepted Adds, without the void ones, is within the room. (Our own rule.)
+abbrev pub fit_together : Cluster → List Fact → Key → ℕ → Options → Bool
+fit_together cluster facts key version marks =
+    not (list_any is_add_accepted marks)
+    || (current_of facts key == version && are_within_room cluster (base_of facts key) (load_of (live_forced facts marks) []))
+
+-- the promises of a classic quorum are enough where what they force fits together, and others where they are so many that it
+-- does by the votes' limit: under the safe limit as many as a classic quorum has, under the wider one those of all centres
+abbrev pub is_enough : Cluster → List Fact → Key → ℕ → List Report → Bool
+is_enough cluster facts key version reports =
+    nat_le (parts_of cluster.limit cluster.quorums) (length reports)
+    || (nat_le cluster.quorums.classic (length reports) && fit_together cluster facts key version (forced_of cluster.quorums reports))
 
 -- a structure has at most 1,024 accepted and 32,768 rejected marks
 abbrev pub is_crowded : Options → Bool

@@ -9,9 +9,8 @@ use Rattle.mdcc_base.specs.Sizes.{Sizes}
 use Rattle.mdcc_base.specs.declared.quorums.QuorumFault.{QuorumFault}
 use Rattle.mdcc_option.specs.Bounds.{IsSchema, is_bound}
 use Rattle.mdcc_option.specs.declared.cluster.Cluster.{Cluster}
-use Rattle.mdcc_option.specs.declared.cluster.FastLimit.{FastLimit}
 use Rattle.mdcc_switches.specs.Built.{Built}
-use Rattle.mdcc_language.specs.Header.{Bounds, Left, bound_line, bound_of, bounds_in, bounds_lines, cells_line, default_cells, header_line, header_lines, in_line, in_order, is_next, last_number, more_bounds, next_line, quorums_in, quorums_line, sizes_of, version_of, whole_line}
+use Rattle.mdcc_language.specs.Header.{Bounds, Left, bound_line, bound_of, bounds_in, bounds_lines, cells_line, default_cells, header_line, header_lines, in_line, in_order, is_next, last_number, more_bounds, next_line, quorums_in, quorums_line, sizes_of, version_of, whole_line, limit_line}
 use Rattle.mdcc_protocol.specs.IsCluster.{IsCluster}
 use Rattle.mdcc_language.specs.Lines.{line_end_of, text_of}
 use Rattle.mdcc_language.specs.Words.{are_plain_digits, end_at, is_negative, natural_of, number_of, within, word_at, word_behind, word_end, ◌>>=◌}
@@ -173,13 +172,14 @@ header-cluster built left y h =
     let quorums = bind-ok (quorums_line version.0.1) _ y version.2 in
     let gamma = bind-ok (header_line (codes "gamma") (last_number 0 1000 5) quorums.0.1) _ y quorums.2 in
     let cells = bind-ok (cells_line built gamma.0.1) _ y gamma.2 in
-    let bounds = bind-ok (bounds_lines cells.0.1) _ y cells.2 in
+    let limit = bind-ok (limit_line built cells.0.1) _ y cells.2 in
+    let bounds = bind-ok (bounds_lines limit.0.1) _ y limit.2 in
     let start = bind-ok (header_line (codes "start") (λ line. end_at 5 line 1) bounds.0.1) _ y bounds.2 in
-    let same : record { quorums = quorums.0.0; schema = bounds.0.0; gamma = gamma.0.0; cells = cells.0.0; limit = FastLimit.Safe } ≡ y.0 = ap (λ (z : Cluster × Left). z.0) (same-ok _ y _ start.2 refl) in
+    let same : record { quorums = quorums.0.0; schema = bounds.0.0; gamma = gamma.0.0; cells = cells.0.0; limit = limit.0.0 } ≡ y.0 = ap (λ (z : Cluster × Left). z.0) (same-ok _ y _ start.2 refl) in
     let few = cells-range built gamma.0.1 cells.0 cells.1 in
     subst IsCluster same (record {
       quorums = quorums-read version.0.1 quorums.0 quorums.1;
-      schema = schema-read cells.0.1 bounds.0 bounds.1;
+      schema = schema-read limit.0.1 bounds.0 bounds.1;
       range = (number-line (codes "gamma") 0 1000 5 quorums.0.1 gamma.0 gamma.1).1;
       some_cells = few.0;
       cells = few.1;

@@ -87,22 +87,22 @@ module _ (s : Setup) (sizes : IsSetup s) (all : List Entry) (legal : Allowed s a
       let as' : List ℕ = centres_to s.centres in
       let has : ℕ → Choice → Bool = λ a c. gives (votes (facts_of a all) i fast) c.tx (Accept c) in
       let amount : Choice → ℕ = λ c. q.amount c.update in
-      let share : ℕ = s.fast + s.classic - s.centres in
+      let share : ℕ = s.fast + s.parts - s.centres in
       let whole : ℕ = total (λ a. total (λ c. cond (has a c) (amount c) 0) cs) as' in
       let rows : s.fast * total amount cs ≤ whole =
       held_totals s.fast amount has cs as' (Each-from (λ c. s.fast ≤ count (λ a. has a c) as') cs (λ c listed. (chosen c listed).0)) in
-      let columns : s.classic * whole ≤ length as' * (share * q.room item) =
-      total_bound (λ a. total (λ c. cond (has a c) (amount c) 0) cs) s.classic (share * q.room item) as' (λ a listed.
-      let kept_bound : s.classic * total amount (kept (has a) cs) ≤ share * q.room item =
+      let columns : s.parts * whole ≤ length as' * (share * q.room item) =
+      total_bound (λ a. total (λ c. cond (has a c) (amount c) 0) cs) s.parts (share * q.room item) as' (λ a listed.
+      let kept_bound : s.parts * total amount (kept (has a) cs) ≤ share * q.room item =
       (Bounded-votes s sizes all legal i q listed_q item held a all (IsTail-same all)).bound (kept (has a) cs) (Apart-kept (has a) cs distinct)
       (λ c l. ((Decides-is_mark (mark_of c.tx (votes (facts_of a all) i fast)) (Accept c)).0 (In-kept (has a) c cs l).1, (chosen c (In-kept (has a) c cs l).0).1)) in
       rw (total-kept amount (has a) cs) kept_bound) in
-      room_left s.classic (length as') share s.fast (s.centres - s.fast) (q.room item) (total amount cs) whole
-      (omega (arith, length-centres s.centres, sizes.fast_within, sizes.classic_within))
-      (omega (arith, sizes.fast_within, sizes.two_fast))
+      room_left s.parts (length as') share s.fast (s.centres - s.fast) (q.room item) (total amount cs) whole
+      (omega (arith, length-centres s.centres, sizes.parts_within))
+      (omega (arith, sizes.fast_within, sizes.two_fast, sizes.classic_parts))
       (omega (arith, length-centres s.centres, sizes.fast_within))
-      (omega (arith, sizes.fast_within, sizes.two_fast))
-      (omega (arith, sizes.two_classic)) rows columns
+      (omega (arith, sizes.fast_within, sizes.two_fast, sizes.classic_parts))
+      (omega (arith, sizes.two_classic, sizes.classic_parts)) rows columns
 
   -- where one is chosen at a classic ballot and none above it, the last structure there has them all
   classic_total : (k : Ballot) → Below fast k → (d : Choice) → IsChosen s all i k d.tx (Accept d) → (cs : List Choice) → Apart cs →

@@ -1,7 +1,7 @@
 //! The header of a schedule.
 ghost use Rattle.std.specs.Prelude.{◌≡◌, ◌++◌, ◌∷◌, [], ◌+◌, ◌≤◌, ◌<◌, codes, length, true, IfOk};
 ghost use Rattle.mdcc_option.specs.Bounds.{IsSchema, is_bound};
-ghost use Rattle.mdcc_language.specs.Header.{header_line, version_of, quorums_line, last_number, bound_line, bounds_lines, header_lines, header_of};
+ghost use Rattle.mdcc_language.specs.Header.{header_line, version_of, quorums_line, last_number, limit_line, bound_line, bounds_lines, header_lines, header_of};
 ghost use Rattle.mdcc_language.specs.Words.{end_at};
 ghost use Rattle.mdcc_built.specs.Built.{built};
 
@@ -48,6 +48,19 @@ fn gamma_line<'a>(left: &Left<'a>) -> Result<(u64, Left<'a>), HeaderFault>
 {
     let gamma = left.in_line(header_lines::gamma_line(left.next_line()))?;
     Ok((gamma, left.without_next()))
+}
+
+// `limit safe` or `limit paper`, which may be left out.
+fn limit_line<'a>(left: Left<'a>) -> Result<(FastLimit, Left<'a>), HeaderFault>
+    requires { left.now.number ≤ 50 }
+    ensures value { result ≡ limit_line built left.now }
+    ensures next { IfOk result (λ line. line.1.number ≤ left.now.number + 1) }
+{
+    if !left.is_next(b"limit") {
+        return Ok((FastLimit::Safe, left));
+    }
+    let limit = left.in_line(header_lines::limit_line(left.next_line()))?;
+    Ok((limit, left.without_next()))
 }
 
 // Whether bounds are those of an attribute.
@@ -123,6 +136,7 @@ fn read_lines<'a>(left: &Left<'a>) -> Result<(Cluster, Left<'a>), HeaderFault>
     let (_, left) = version_line(left)?;
     let (quorums, left) = quorums_line(&left)?;
     let (gamma, left) = gamma_line(&left)?;
+    let (limit, left) = limit_line(left)?;
     let (bounds, left) = bounds_lines(&left)?;
     let (_, left) = start_line(&left)?;
     let cluster = Cluster {
@@ -130,7 +144,7 @@ fn read_lines<'a>(left: &Left<'a>) -> Result<(Cluster, Left<'a>), HeaderFault>
         schema: schema_of(&bounds),
         gamma,
         cells: DEFAULT_CELLS,
-        limit: FastLimit::Safe,
+        limit,
     };
     Ok((cluster, left))
 }

@@ -1,12 +1,13 @@
 //! The lines of a header, each with its line end.
 ghost use Rattle.std.specs.Prelude.{◌≡◌, ◌≤◌, ◌<◌, ◌^◌, ◌+◌, codes, length, IfOk, OnOk};
-ghost use Rattle.mdcc_language.specs.Header.{in_order, whole_line, is_version, version_of, last_number, sizes_of, bound_of};
+ghost use Rattle.mdcc_language.specs.Header.{in_order, whole_line, is_version, version_of, last_number, sizes_of, limit_in, fast_limit_of, bound_of};
 ghost use Rattle.mdcc_language.specs.Words.{end_at, word_at, natural_of};
 ghost use Rattle.mdcc_sched.specs.Begun.{begun};
 
 use crate::lines::{bytes_of_line, few_bytes, line_end_of};
 use crate::words::{begins_with, word_at, word_behind, word_end};
 use mdcc_language::{SchedCause, SchedFault};
+use mdcc_option::FastLimit;
 use mdcc_words::numbers::{natural_of, value_of};
 use mdcc_words::places::{end_at, refused, text_eq};
 
@@ -86,6 +87,30 @@ fn sizes_of(line: &[u8]) -> Result<(u8, u8, u8), SchedFault>
     Ok((n, c, f as u8))
 }
 
+// The word of the fast limit.
+fn limit_in(word: &[u8], column: u32) -> Result<FastLimit, SchedFault>
+    ensures { result ≡ limit_in word.now column }
+{
+    if text_eq(word, b"safe") {
+        return Ok(FastLimit::Safe);
+    }
+    if text_eq(word, b"paper") {
+        return Ok(FastLimit::Paper);
+    }
+    refused(column, SchedCause::Word)
+}
+
+fn fast_limit_of(line: &[u8]) -> Result<FastLimit, SchedFault>
+    requires place { 5 ≤ length line.now }
+    requires few { length line.now ≤ 4096 }
+    ensures { result ≡ fast_limit_of line.now }
+{
+    let start = word_behind(5, line)?;
+    let limit = limit_in(word_at(start, line), start as u32 + 1)?;
+    end_at(word_end(start, line), line, 1)?;
+    Ok(limit)
+}
+
 fn bound_of(line: &[u8]) -> Result<(i64, i64), SchedFault>
     requires place { 5 ≤ length line.now }
     requires few { length line.now ≤ 4096 }
@@ -129,6 +154,17 @@ pub fn gamma_line(line: &[u8]) -> Result<u64, SchedFault>
     let gamma = last_number(0, 1000, 5, text)?;
     line_end_of(text, line)?;
     Ok(gamma)
+}
+
+/// `limit safe` or `limit paper`
+pub fn limit_line(line: &[u8]) -> Result<FastLimit, SchedFault>
+    ensures { result ≡ whole_line (codes "limit") fast_limit_of line.now }
+{
+    let text = bytes_of_line(line);
+    begun(b"limit", text)?;
+    let limit = fast_limit_of(text)?;
+    line_end_of(text, line)?;
+    Ok(limit)
 }
 
 /// `bound LOWER UPPER`

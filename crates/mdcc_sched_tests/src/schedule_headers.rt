@@ -1,6 +1,6 @@
 //! Headers of schedules. The expected values come from the grammar, by hand.
 use mdcc_base::QuorumFault::{Centres, ClassicMeet, ClassicRange, FastMeet, FastRange};
-use mdcc_option::SchemaFault;
+use mdcc_option::{FastLimit, SchemaFault};
 use mdcc_sched::HeaderCause::{self, Quorums, Sched, Schema};
 use mdcc_sched::SchedCause::{Number, Order, Range, Word};
 use mdcc_sched::{HeaderFault, parse_header};
@@ -14,6 +14,8 @@ const VERSION: &str = "mdcc-schedule 1\n";
 const QUORUMS: &str = "quorums 5 3 4\n";
 
 const GAMMA: &str = "gamma 100\n";
+
+const SAFE: &str = "limit safe\n";
 
 const BOUND: &str = "bound 0 1000\n";
 
@@ -43,6 +45,7 @@ fn a_header_of_59_bytes(rt: HostRuntime) {
     assert_eq!(rt; cluster.quorums.fast(), 4);
     assert_eq!(rt; cluster.gamma, 100);
     assert_eq!(rt; cluster.cells, 1_048_576);
+    assert_eq!(rt; cluster.limit, FastLimit::Safe);
     assert_eq!(rt; cluster.schema.bounds(), [(0, 1000)].as_slice());
 }
 
@@ -60,6 +63,19 @@ fn a_header_with_four_bounds(rt: HostRuntime) {
         (1, 1),
     ];
     assert_eq!(rt; cluster.schema.bounds(), bounds.as_slice());
+}
+
+#[test]
+fn headers_with_a_limit(rt: HostRuntime) {
+    let safe = b"mdcc-schedule 1\nquorums 5 3 4\ngamma 100\nlimit safe\nbound 0 1000\nstart\n";
+    let (cluster, len) = parse_header(safe).expect(&rt, "a header");
+    assert_eq!(rt; len, 70);
+    assert_eq!(rt; cluster.limit, FastLimit::Safe);
+    let wider = b"mdcc-schedule 1\nquorums 5 3 4\ngamma 100\nlimit paper\nbound 0 1000\nstart\n";
+    let (cluster, len) = parse_header(wider).expect(&rt, "a header");
+    assert_eq!(rt; len, 71);
+    assert_eq!(rt; cluster.limit, FastLimit::Paper);
+    assert_eq!(rt; cluster.schema.bounds(), [(0, 1000)].as_slice());
 }
 
 #[test]
@@ -131,6 +147,37 @@ fn gamma_and_cells(rt: HostRuntime) -> Result<(), Fail> {
             (&[VERSION, QUORUMS, GAMMA, "cells 5\n"], 4, Sched(Order)),
             (&[VERSION, QUORUMS, GAMMA], 4, Sched(Order)),
             (&[VERSION, QUORUMS, GAMMA, "start\n"], 4, Sched(Order)),
+        ],
+    )
+}
+
+#[test]
+fn the_limit(rt: HostRuntime) -> Result<(), Fail> {
+    check(
+        &rt,
+        rt.alloc(),
+        &[
+            (&[VERSION, QUORUMS, GAMMA, "limit\n"], 4, Sched(Word)),
+            (&[VERSION, QUORUMS, GAMMA, "limit wide\n"], 4, Sched(Word)),
+            (&[VERSION, QUORUMS, GAMMA, "limit Paper\n"], 4, Sched(Word)),
+            (&[VERSION, QUORUMS, GAMMA, "limit  safe\n"], 4, Sched(Word)),
+            (
+                &[VERSION, QUORUMS, GAMMA, "limit safe paper\n"],
+                4,
+                Sched(Word),
+            ),
+            (&[VERSION, QUORUMS, GAMMA, "limit paper"], 4, Sched(Word)),
+            (&[VERSION, QUORUMS, GAMMA, "limits safe\n"], 4, Sched(Order)),
+            (&[VERSION, QUORUMS, GAMMA, SAFE], 5, Sched(Order)),
+            (&[VERSION, QUORUMS, GAMMA, SAFE, SAFE], 5, Sched(Order)),
+            (
+                &[VERSION, QUORUMS, GAMMA, SAFE, "bound 1 0\n"],
+                5,
+                Schema(SchemaFault::Bound(1)),
+            ),
+            (&[VERSION, SAFE], 2, Sched(Order)),
+            (&[VERSION, QUORUMS, SAFE], 3, Sched(Order)),
+            (&[VERSION, QUORUMS, GAMMA, BOUND, SAFE], 5, Sched(Order)),
         ],
     )
 }

@@ -15,8 +15,8 @@ use Rattle.mdcc_struct.specs.Maps.{value_of}
 use Rattle.mdcc_struct.specs.declared.options.Options.{Options}
 use Rattle.mdcc_struct.specs.declared.report.Report.{Report}
 use Rattle.mdcc_protocol.specs.Facts.{current_of}
-use Rattle.mdcc_protocol.specs.Leader.{counted_promise, is_at_odds, is_covered, is_promise_counted, is_waiting, lead, lead_begun, led_again, led_anew, led_by, led_on, next_round, on_promise, on_refused, prepare_of, promise_taken, refused_by, reports_of, structure_made, with_promise, with_refused}
-use Rattle.mdcc_protocol.specs.Structures.{first_structure, is_crowded, with_choice, with_claim}
+use Rattle.mdcc_protocol.specs.Leader.{counted_promise, is_at_odds, is_covered, is_promise_counted, is_waiting, lead, lead_begun, led_again, led_anew, led_by, led_on, next_round, on_promise, on_refused, prepare_of, promise_taken, refused_by, reports_of, structure_made, with_promise, with_refused, has_proposed}
+use Rattle.mdcc_protocol.specs.Structures.{first_structure, is_crowded, with_choice, with_claim, is_enough}
 use Rattle.mdcc_protocol.specs.Volatile.{Counted, Lead, Leading, lead_of, structure_at, structure_found, with_lead, with_number, with_structure}
 use Rattle.mdcc_messages.specs.WellFormedParts.{IsWellFormedClassic, IsWellFormedInstance, IsWellFormedOptions}
 use Rattle.mdcc_messages.specs.WellFormed.{IsWellFormedPrepare, IsWellFormedPromise}
@@ -160,8 +160,8 @@ module _ (cluster : Cluster) (me : ℕ) (epoch : ℕ) (facts : List Fact) (leade
   led-by (Some old) h =
       cond_both old.is_refused (led_anew cluster me epoch facts leader claim) _ (OnOkOf (IsFormedLed claim.key)) (λ e. led-anew)
       (λ e. cond_both (is_covered cluster.quorums old claim.version) (Ok (led_on cluster facts leader old claim)) _ (OnOkOf (IsFormedLed claim.key)) (λ f. led-on old h)
-      (λ f. cond_both (is_waiting cluster.quorums old claim.version) (Ok (led_again leader old claim)) (led_anew cluster me epoch facts leader claim) (OnOkOf (IsFormedLed claim.key))
-      (λ g. led-again old h (eqb-true old.version claim.version (and_parts (old.version == claim.version) (nat_lt (length old.promises) cluster.quorums.classic) g).0)) (λ g. led-anew)))
+      (λ f. cond_both (is_waiting old claim.version) (Ok (led_again leader old claim)) (led_anew cluster me epoch facts leader claim) (OnOkOf (IsFormedLed claim.key))
+      (λ g. led-again old h (eqb-true old.version claim.version (and_parts (old.version == claim.version) (not (has_proposed old)) g).0)) (λ g. led-anew)))
 
   pub led-formed : OnOkOf (IsFormedLed claim.key) (lead cluster me epoch facts leader claim)
   led-formed =
@@ -185,7 +185,7 @@ made-formed : (cluster : Cluster) (facts : List Fact) (leader : Leading) (key : 
     → OnOkOf (IsFormedTaken key) (structure_made cluster facts leader old)
 made-formed cluster facts leader key old leads h =
     let options = first_structure cluster facts old.key old.version old.claims (reports_of old.promises) in
-    let after = record old { claims = []; structures = (old.version, options) ∷ [] } in
+    let after = record old { claims = []; structures = with_structure old.structures old.version options } in
     cond_both (is_crowded options) (Err LeadFault.Crowded) (Ok (PromiseAnswer.Accept old.version old.ballot options, with_lead leader after)) (OnOkOf (IsFormedTaken key)) (λ e. tt)
     (λ e.
     let same : old.key ≡ key = (Decides-key old.key key).0 h.1 in
@@ -204,20 +204,19 @@ made-formed cluster facts leader key old leads h =
         classic = h.0.classic;
         claims = tt;
         promises = h.0.promises;
-        structures = (made, tt);
+        structures = structures-with old.key old.structures old.version options h.0.structures made;
       }),
     ))
 
 counted-formed : (cluster : Cluster) (facts : List Fact) (leader : Leading) (key : Key) (new : Lead) → AreLeads leader → IsLeadOf key new
     → OnOkOf (IsFormedTaken key) (counted_promise cluster facts leader new)
 counted-formed cluster facts leader key new leads h =
-    cond_both (length new.promises == cluster.quorums.classic) (structure_made cluster facts leader new)
-    (Ok (cond (nat_lt (length new.promises) cluster.quorums.classic) (PromiseAnswer.Waiting (length new.promises)) PromiseAnswer.Counted, with_lead leader new)) (OnOkOf (IsFormedTaken key))
-    (λ e. made-formed cluster facts leader key new leads h)
-    (λ e. (
-      cond_both (nat_lt (length new.promises) cluster.quorums.classic) (PromiseAnswer.Waiting (length new.promises)) PromiseAnswer.Counted (IsFormedPromiseAnswer key) (λ f. tt) (λ f. tt),
-      leads-with leader new leads h.0,
-    ))
+    let waiting = Ok (PromiseAnswer.Waiting (length new.promises), with_lead leader new) in
+    cond_both (has_proposed new) (Ok (PromiseAnswer.Counted, with_lead leader new))
+    (cond (is_enough cluster facts new.key new.version (reports_of new.promises)) (structure_made cluster facts leader new) waiting) (OnOkOf (IsFormedTaken key))
+    (λ e. (tt, leads-with leader new leads h.0))
+    (λ e. cond_both (is_enough cluster facts new.key new.version (reports_of new.promises)) (structure_made cluster facts leader new) waiting (OnOkOf (IsFormedTaken key))
+    (λ f. made-formed cluster facts leader key new leads h) (λ f. (tt, leads-with leader new leads h.0)))
 
 taken-formed : (cluster : Cluster) (facts : List Fact) (leader : Leading) (from : ℕ) (promise : Promise) (o : Option Lead) → AreLeads leader → IsFormedPromise promise → HoldsIn (IsLeadOf promise.key) o
     → OnOkOf (IsFormedTaken promise.key) (promise_taken cluster facts leader from promise o)

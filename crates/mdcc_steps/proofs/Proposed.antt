@@ -72,8 +72,8 @@ small-limit cluster None load (Update.Write item seen) w = tt
 small-limit cluster None load (Update.Add amounts) w = tt
 small-limit cluster (Some base) load (Update.Write item seen) w = tt
 small-limit cluster (Some base) load (Update.Add amounts) w =
-    holds-map (λ n. n ≤ 4) (λ (q : Quantity). q.number) (find (is_past_limit cluster.quorums) (quantities_of cluster.schema base load amounts))
-    (holds-find (λ (q : Quantity). q.number ≤ 4) (is_past_limit cluster.quorums) (quantities_of cluster.schema base load amounts) (small-quantities cluster.schema base load amounts w.each))
+    holds-map (λ n. n ≤ 4) (λ (q : Quantity). q.number) (find (is_past_limit cluster.limit cluster.quorums) (quantities_of cluster.schema base load amounts))
+    (holds-find (λ (q : Quantity). q.number ≤ 4) (is_past_limit cluster.limit cluster.quorums) (quantities_of cluster.schema base load amounts) (small-quantities cluster.schema base load amounts w.each))
 
 small-in_share : (fit : Fit) (limit : Option ℕ) → IsSmallFit fit → HoldsIn (λ n. n ≤ 4) limit → IsSmallFit (fit_in_share fit limit)
 small-in_share Fit.Fits None h k = tt

@@ -21,8 +21,9 @@ pub record Built : Type 0 where
   pub adds : Bool
   -- the schedule word `stop`
   pub stops : Bool
-  -- the header line `cells`
+  -- the header lines `cells` and `limit`
   pub cells_line : Bool
+  pub limit_line : Bool
   -- limits of a replay: events, bytes of messages, bytes of a log, cells of a node
   pub limit_on_events : Bool
   pub limit_on_bytes : Bool
@@ -41,6 +42,7 @@ all_built = record {
   adds = true;
   stops = true;
   cells_line = true;
+  limit_line = true;
   limit_on_events = true;
   limit_on_bytes = true;
   limit_on_log = true;
@@ -59,6 +61,7 @@ nothing_built = record {
   adds = false;
   stops = false;
   cells_line = false;
+  limit_line = false;
   limit_on_events = false;
   limit_on_bytes = false;
   limit_on_log = false;

@@ -1,40 +1,40 @@
 -- Leading a claim, and a Refused: good steps.
-use Rattle.std.proofs.Common.{Bool, List, None, Ok, Option, Result, Some, [], ap, arith, cond, false, inl, inr, length, max, min, not, refl, subst, sym, true, ℕ, ◌+◌, ◌-◌, ◌<◌, ◌==◌, ◌^◌, ◌∙◌, ◌∷◌, ◌≡◌, ◌≤◌}
+use Rattle.std.proofs.Common.{Bool, List, None, Ok, Option, Result, Some, [], ap, arith, cond, false, inl, inr, length, max, min, not, refl, subst, sym, true, ℕ, ◌&&◌, ◌+◌, ◌-◌, ◌<◌, ◌==◌, ◌^◌, ◌||◌, ◌∙◌, ◌∷◌, ◌≡◌, ◌≤◌}
 use Rattle.std.specs.Prelude.{filter, is_some, map, nat_le, nat_lt, unwrap_or}
 use Rattle.std.specs.List.{list_any}
-use Rattle.std.proofs.lemmas.Bool.{and_from, and_parts, cases_Bool, eqb-false, eqb-true, leb-true, ltb-false, ltb-true, not-true, not_from_false, or_from, or_parts}
+use Rattle.std.proofs.lemmas.Bool.{and_from, and_parts, cases_Bool, eqb-true, false≢true, leb-true, ltb-false, ltb-true, not-true, not_from_false, or_cases, or_from, or_parts}
+use Rattle.std.proofs.lemmas.List.{length-map}
 use Rattle.mdcc_base.specs.declared.identifiers.Ballot.{Ballot}
 use Rattle.mdcc_base.specs.declared.key.Key.{Key}
 use Rattle.mdcc_base.specs.Quorums.{all_centres}
 use Rattle.mdcc_base.specs.Ballot.{ballot_eq}
-use Rattle.mdcc_base.specs.Key.{key_eq}
 use Rattle.mdcc_base.specs.Counts.{number_of}
 use Rattle.mdcc_option.specs.declared.choices.Claim.{Claim}
 use Rattle.mdcc_option.specs.declared.cluster.Cluster.{Cluster}
 use Rattle.mdcc_struct.specs.declared.options.Options.{Options}
 use Rattle.mdcc_struct.specs.Maps.{value_of}
-use Rattle.mdcc_protocol.specs.Facts.{current_of, epoch_of, promise_of}
+use Rattle.mdcc_protocol.specs.Facts.{current_of, epoch_of, promise_of, report_of}
 use Rattle.mdcc_protocol.specs.Structures.{with_choice, with_claim}
 use Rattle.mdcc_rules.specs.LeaderRules.{Led, led_by_answer, led_of}
-use Rattle.mdcc_protocol.specs.Leader.{is_covered, is_marked, is_marked_by, is_waiting, lead_begun, led_again, led_anew, led_by, led_on, next_round, refused_by, with_refused}
+use Rattle.mdcc_protocol.specs.Leader.{has_proposed, is_covered, is_marked, is_marked_by, is_waiting, lead_begun, led_again, led_anew, led_by, led_on, next_round, refused_by, with_refused}
 use Rattle.mdcc_protocol.specs.Volatile.{Counted, Lead, Leading, Volatile, lead_of, number_at, structure_at, structure_found, with_lead, with_leader, with_number, with_structure}
-use Rattle.mdcc_ledger.specs.Ledger.{Entry, Valued, facts_of, structure_valued}
+use Rattle.mdcc_ledger.specs.Ledger.{Entry, Valued, facts_of}
 use Rattle.mdcc_ledger.specs.AllowedLedgers.{are_distinct, is_valued, promisers_of, reports_at}
 use Rattle.mdcc_messages.specs.declared.messages.Message.{Message}
 use Rattle.mdcc_rules.specs.Messages.{to_all, to_each, to_others}
 use Rattle.mdcc_trace_states.specs.Words.{Each, In, count}
 use Rattle.mdcc_trace_states.specs.Keeping.{IsClaim, IsLead, IsPromise, Leads}
 use Rattle.mdcc_trace_states.specs.Standing.{Says}
-use Rattle.mdcc_trace_states.proofs.Tests.{Decides-ballot, Decides-key}
 use Rattle.mdcc_trace_states.proofs.Lists.{Each-at, Each-filter, Each-from, Each-like, In-filter}
 use Rattle.mdcc_trace_states.proofs.Led.{IsClaim-more, IsPromise-more}
+use Rattle.mdcc_protocol.proofs.EnoughPromises.{parts-classic}
 use Rattle.mdcc_trace_rules.proofs.Begins.{sends-good, stands-each}
 use Rattle.mdcc_trace_rules.proofs.Chains.{last-valued, once-claim, structure-once}
-use Rattle.mdcc_trace.proofs.Claims.{empty-first, found-with, one-more, reports-empty}
+use Rattle.mdcc_trace.proofs.Claims.{empty-enough, empty-first, found-with, one-more, reports-empty}
 use Rattle.mdcc_trace.proofs.Leading.{among, lead-in, lead-kept, new-kept, number-new, promisers-enough}
 use Rattle.mdcc_trace.proofs.Making.{none-sound, one-choice, sound-claim}
 use Rattle.mdcc_trace_rules.proofs.Promises.{current-within}
-use Rattle.mdcc_trace.proofs.Structuring.{GoodLed, IsRight, IsWell, only-good, round-classic, valued-good, valued-legal}
+use Rattle.mdcc_trace.proofs.Structuring.{GoodLed, IsRight, IsWell, found-new, only-good, round-classic, valued-good, valued-legal}
 use Rattle.mdcc_protocol.specs.declared.leader.LeadFault.{LeadFault}
 use Rattle.mdcc_protocol.specs.declared.leader.LeadAnswer.{LeadAnswer}
 use Rattle.mdcc_trace_states.specs.Steps.{IsUp}
@@ -99,8 +99,7 @@ module _ (also : List Entry → Type 0) (well : IsWell also) (cluster : Cluster)
     claims = (said, tt);
     promises = tt;
     apart = refl;
-    none_made = λ h. refl;
-    some_made = λ h. absurd (omega (arith, h, up.sizes.classic_meet));
+    waits = λ h. omega (arith, up.sizes.some_classic, parts-classic cluster.limit cluster.quorums up.sizes);
     found = λ v. up.keeps.leader.fresh claim.key v round (above (promise_of (facts_of es a) claim.key claim.version).round (number_at volatile.leader.refused_rounds claim.key) (number_at volatile.leader.last_rounds claim.key));
   }
     where
@@ -139,9 +138,9 @@ module _ (also : List Entry → Type 0) (well : IsWell also) (cluster : Cluster)
     held-here : claim.version ≤ current_of (facts_of es a) x.key
     held-here = subst (λ z. claim.version ≤ current_of (facts_of es a) z) (sym at.1) held
 
-    again-good : is_waiting cluster.quorums x claim.version ≡ true → Fine (Ok (led_again volatile.leader x claim))
+    again-good : is_waiting x claim.version ≡ true → Fine (Ok (led_again volatile.leader x claim))
     again-good e =
-        let s : x.version ≡ claim.version = eqb-true _ _ (and_parts (x.version == claim.version) (nat_lt (length x.promises) cluster.quorums.classic) e).0 in
+        let s : x.version ≡ claim.version = eqb-true _ _ (and_parts (x.version == claim.version) (not (has_proposed x)) e).0 in
         let c : IsClaim es x.key x.version (claim.tx, claim.choice) = subst (λ z. IsClaim es x.key z (claim.tx, claim.choice)) (sym s) claimed in
         sent (with_lead volatile.leader (record x { claims = with_choice x.claims (claim.tx, claim.choice) })) (Message.Prepare claim.key x.version x.through x.ballot) (all_centres cluster.quorums)
         (lead-kept cluster es a volatile.leader (record x { claims = with_choice x.claims (claim.tx, claim.choice) }) up.keeps.leader (record {
@@ -154,8 +153,7 @@ module _ (also : List Entry → Type 0) (well : IsWell also) (cluster : Cluster)
           claims = one-choice es x.key x.version x.claims (claim.tx, claim.choice) g.claims c;
           promises = g.promises;
           apart = g.apart;
-          none_made = g.none_made;
-          some_made = g.some_made;
+          waits = g.waits;
           found = g.found;
         }))
         (round-classic also well cluster es a volatile up x.ballot g.above, g.range, g.centre)
@@ -186,11 +184,17 @@ module _ (also : List Entry → Type 0) (well : IsWell also) (cluster : Cluster)
         subst (λ (z : Bool). FineLed (Ok (record { after = l; entries = cond z [] (Valued a claim.key claim.version x.ballot os ∷ []); sends = to_all cluster.quorums a (Message.Accept claim.key claim.version x.ballot os) }))) (sym e)
         (subst (λ z. FineLed (Ok (record { after = l; entries = cond b [] (Valued a z claim.version x.ballot os ∷ []); sends = to_all cluster.quorums a (Message.Accept z claim.version x.ballot os) }))) at.1 h)
 
-    covered : is_covered cluster.quorums x claim.version ≡ true → (x.version ≤ claim.version) × (cluster.quorums.classic ≤ count (λ (p : Counted). nat_le claim.version p.through) x.promises)
-    covered e = let p = and_parts (nat_le x.version claim.version) (nat_le cluster.quorums.classic (number_of (λ (p : Counted). nat_le claim.version p.through) x.promises)) e in (leb-true _ _ p.0, leb-true _ _ p.1)
+    reached : is_covered cluster.quorums x claim.version ≡ true →
+        ((nat_le x.version claim.version && nat_le cluster.quorums.classic (number_of (λ (p : Counted). nat_le claim.version p.through) x.promises)) ≡ true)
+        × ((nat_lt x.version claim.version || has_proposed x) ≡ true)
+    reached e =
+        and_parts (nat_le x.version claim.version && nat_le cluster.quorums.classic (number_of (λ (p : Counted). nat_le claim.version p.through) x.promises))
+        (nat_lt x.version claim.version || has_proposed x) e
 
-    full : is_covered cluster.quorums x claim.version ≡ true → cluster.quorums.classic ≤ length x.promises
-    full e = omega (arith, (covered e).1, count-most (λ (p : Counted). nat_le claim.version p.through) x.promises)
+    covered : is_covered cluster.quorums x claim.version ≡ true → (x.version ≤ claim.version) × (cluster.quorums.classic ≤ count (λ (p : Counted). nat_le claim.version p.through) x.promises)
+    covered e =
+        let p = and_parts (nat_le x.version claim.version) (nat_le cluster.quorums.classic (number_of (λ (p : Counted). nat_le claim.version p.through) x.promises)) (reached e).0 in
+        (leb-true _ _ p.0, leb-true _ _ p.1)
 
     right : is_covered cluster.quorums x claim.version ≡ true → (o : Option Options) → structure_found x.structures claim.version ≡ o → is_some (value_of (unwrap_or o []) claim.tx) ≡ false →
         is_some (value_of (with_claim cluster (facts_of es a) x.key claim.version (unwrap_or o []) (claim.tx, claim.choice)) claim.tx) ≡ true →
@@ -216,7 +220,14 @@ module _ (also : List Entry → Type 0) (well : IsWell also) (cluster : Cluster)
         record {
           none_before = g.found claim.version ∙ f;
           promised = among cluster es x.key x.version claim.version x.ballot reach promises apart ranges;
-          enough = omega (arith, (covered e).1, count-filter (λ (p : Counted). nat_le claim.version p.through) x.promises);
+          enough = empty-enough cluster (facts_of es a) x.key claim.version (reports_at es x.key claim.version x.ballot (map (λ (p : Counted). p.from) reach))
+              (omega (
+                arith,
+                (covered e).1,
+                count-filter (λ (p : Counted). nat_le claim.version p.through) x.promises,
+                length-map (map (λ (p : Counted). p.from) reach) (λ c. report_of c (facts_of es c) x.key claim.version x.ballot),
+              ))
+              (reports-empty cluster es x.key x.version claim.version x.ballot reach up.legal (round-classic also well cluster es a volatile up x.ballot g.above) later promises ranges);
           made = empty-first cluster (facts_of es a) x.key claim.version (claim.tx, claim.choice) (reports_at es x.key claim.version x.ballot (map (λ (p : Counted). p.from) reach))
               (reports-empty cluster es x.key x.version claim.version x.ballot reach up.legal later promises ranges);
         },
@@ -245,18 +256,15 @@ module _ (also : List Entry → Type 0) (well : IsWell also) (cluster : Cluster)
         -- at the lead's own version there is a structure
         later : x.version < claim.version
         later =
-            elim (cases_Bool (x.version == claim.version)) [
-              | inl s ↦
-                  let made = g.some_made (full e) in
-                  let n : structure_found x.structures x.version ≡ None = subst (λ z. structure_found x.structures z ≡ None) (sym (eqb-true x.version claim.version s)) f in
-                  let bad : None ≡ Some made.0 = sym n ∙ made.1 in absurd (cc)
-              | inr s ↦ let ne = eqb-false x.version claim.version s in below ne (covered e).0
-            ]
-          where
-            below : (x.version ≡ claim.version → ⊥) → x.version ≤ claim.version → x.version < claim.version
-            below ne h = elim (cases_Bool (nat_lt x.version claim.version)) [
-              | inl t ↦ ltb-true _ _ t
-              | inr t ↦ let l = ltb-false x.version claim.version t in absurd (ne (omega (arith, l, h)))
+            elim (or_cases (nat_lt x.version claim.version) (has_proposed x) (reached e).1) [
+              | inl less ↦ ltb-true _ _ less
+              | inr proposed ↦ elim (cases_Bool (nat_lt x.version claim.version)) [
+                | inl less ↦ ltb-true _ _ less
+                | inr more ↦
+                    let same : claim.version ≡ x.version = omega (arith, (covered e).0, ltb-false _ _ more) in
+                    let bad : is_some (structure_found x.structures x.version) ≡ false = subst (λ z. is_some (structure_found x.structures z) ≡ false) same (ap (λ (o : Option Options). is_some o) f) in
+                    absurd (false≢true (sym bad ∙ proposed))
+              ]
             ]
 
     on-good : is_covered cluster.quorums x claim.version ≡ true → Fine (Ok (led_on cluster (facts_of es a) volatile.leader x claim))
@@ -270,15 +278,6 @@ module _ (also : List Entry → Type 0) (well : IsWell also) (cluster : Cluster)
         (right e (structure_found x.structures claim.version) refl h k) refl (lead (right e (structure_found x.structures claim.version) refl h k))))
         (λ k. only-good also well cluster es a volatile up volatile.leader up.keeps.leader))
       where
-        found : (v : ℕ) → structure_valued (Valued a x.key claim.version x.ballot more ∷ es) x.key v x.ballot ≡ structure_found (with_structure x.structures claim.version more) v
-        found v =
-            let b : ballot_eq x.ballot x.ballot ≡ true = (Decides-ballot x.ballot x.ballot).1 refl in
-            let k : key_eq x.key x.key ≡ true = (Decides-key x.key x.key).1 refl in
-            (elim (cases_Bool (claim.version == v)) [
-              | inl s ↦ rw s (rw b (rw k refl))
-              | inr s ↦ rw s (g.found v)
-            ]) ∙ sym (found-with x.structures claim.version more v)
-
         lead : IsRight also well cluster es a volatile up x claim.version more → IsLead cluster (Valued a x.key claim.version x.ballot more ∷ es) a volatile.leader.last_rounds (record x { structures = with_structure x.structures claim.version more })
         lead r =
             let legal = valued-legal also well cluster es a volatile up x claim.version more g r in
@@ -292,14 +291,13 @@ module _ (also : List Entry → Type 0) (well : IsWell also) (cluster : Cluster)
               claims = Each-like (IsClaim es x.key x.version) (IsClaim (Valued a x.key claim.version x.ballot more ∷ es) x.key x.version) x.claims (λ y i. IsClaim-more cluster (Valued a x.key claim.version x.ballot more) es x.key x.version y legal i) g.claims;
               promises = Each-like (IsPromise cluster es x.key x.version x.ballot) (IsPromise cluster (Valued a x.key claim.version x.ballot more ∷ es) x.key x.version x.ballot) x.promises (λ p i. IsPromise-more cluster (Valued a x.key claim.version x.ballot more) es x.key x.version x.ballot p i) g.promises;
               apart = g.apart;
-              none_made = λ h. absurd (omega (arith, h, full e));
-              some_made = λ h. some (claim.version == x.version) refl (g.some_made h);
-              found = found;
+              waits = λ h. g.waits (not-before (claim.version == x.version) refl h);
+              found = found-new also well cluster es a volatile up x claim.version more g;
             }
           where
-            some : (b : Bool) → (claim.version == x.version) ≡ b → (os : Options) × (structure_found x.structures x.version ≡ Some os) → (os : Options) × (structure_found (with_structure x.structures claim.version more) x.version ≡ Some os)
-            some true s h = (more, found-with x.structures claim.version more x.version ∙ rw s refl)
-            some false s h = (h.0, found-with x.structures claim.version more x.version ∙ rw s h.1)
+            not-before : (b : Bool) → (claim.version == x.version) ≡ b → is_some (structure_found (with_structure x.structures claim.version more) x.version) ≡ false → is_some (structure_found x.structures x.version) ≡ false
+            not-before true s h = let bad : true ≡ false = rw (found-with x.structures claim.version more x.version, s) at h in absurd (false≢true (sym bad))
+            not-before false s h = rw (found-with x.structures claim.version more x.version, s) at h
 
   cond-good : (b : Bool) (r s : Result (LeadAnswer × Leading) LeadFault) → (b ≡ true → Fine r) → (b ≡ false → Fine s) → Fine (cond b r s)
   cond-good true r s f h = f refl
@@ -317,12 +315,12 @@ module _ (also : List Entry → Type 0) (well : IsWell also) (cluster : Cluster)
       by_case held (Some x) e =
           cond-good x.is_refused (led_anew cluster a (epoch_of (facts_of es a)) (facts_of es a) volatile.leader claim)
           (cond (is_covered cluster.quorums x claim.version) (Ok (led_on cluster (facts_of es a) volatile.leader x claim))
-          (cond (is_waiting cluster.quorums x claim.version) (Ok (led_again volatile.leader x claim)) (led_anew cluster a (epoch_of (facts_of es a)) (facts_of es a) volatile.leader claim)))
+          (cond (is_waiting x claim.version) (Ok (led_again volatile.leader x claim)) (led_anew cluster a (epoch_of (facts_of es a)) (facts_of es a) volatile.leader claim)))
           (λ r. anew-good held)
           (λ r. cond-good (is_covered cluster.quorums x claim.version) (Ok (led_on cluster (facts_of es a) volatile.leader x claim))
-          (cond (is_waiting cluster.quorums x claim.version) (Ok (led_again volatile.leader x claim)) (led_anew cluster a (epoch_of (facts_of es a)) (facts_of es a) volatile.leader claim))
+          (cond (is_waiting x claim.version) (Ok (led_again volatile.leader x claim)) (led_anew cluster a (epoch_of (facts_of es a)) (facts_of es a) volatile.leader claim))
           (λ c. on-good x e held c)
-          (λ c. cond-good (is_waiting cluster.quorums x claim.version) (Ok (led_again volatile.leader x claim)) (led_anew cluster a (epoch_of (facts_of es a)) (facts_of es a) volatile.leader claim)
+          (λ c. cond-good (is_waiting x claim.version) (Ok (led_again volatile.leader x claim)) (led_anew cluster a (epoch_of (facts_of es a)) (facts_of es a) volatile.leader claim)
           (λ w. again-good x e held w) (λ w. anew-good held)))
 
 -- ---- refusals
@@ -334,7 +332,7 @@ refused-good also cluster es a volatile up k b p = by_case (lead_of volatile.lea
     same : (x : Lead) → IsLead cluster es a volatile.leader.last_rounds x → IsLead cluster es a volatile.leader.last_rounds (with_refused x b)
     same x g =
         elim (cases_Bool (ballot_eq x.ballot b)) [
-          | inl e ↦ rw e (record { centre = g.centre; epoch = g.epoch; above = g.above; within = g.within; held = g.held; range = g.range; claims = g.claims; promises = g.promises; apart = g.apart; none_made = g.none_made; some_made = g.some_made; found = g.found })
+          | inl e ↦ rw e (record { centre = g.centre; epoch = g.epoch; above = g.above; within = g.within; held = g.held; range = g.range; claims = g.claims; promises = g.promises; apart = g.apart; waits = g.waits; found = g.found })
           | inr e ↦ rw e g
         ]
 

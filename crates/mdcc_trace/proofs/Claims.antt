@@ -2,7 +2,7 @@
 use Rattle.std.proofs.Common.{Bool, List, None, Option, Some, [], ap, arith, cond, false, inl, inr, length, refl, subst, sym, true, ℕ, ◌&&◌, ◌+◌, ◌<◌, ◌==◌, ◌||◌, ◌∙◌, ◌∷◌, ◌≡◌, ◌≤◌}
 use Rattle.std.specs.Prelude.{fold, is_some, map, nat_le}
 use Rattle.std.specs.Option.{option_or}
-use Rattle.std.proofs.lemmas.Bool.{and_parts, cases_Bool, eqb-false, eqb-true, leb-true, ne_eqb, or_cases, true≢false}
+use Rattle.std.proofs.lemmas.Bool.{and_from, and_parts, cases_Bool, eqb-false, eqb-true, le-leb, leb-true, ne_eqb, or_cases, or_right, true≢false}
 use Rattle.mdcc_base.specs.declared.identifiers.Ballot.{Ballot}
 use Rattle.mdcc_base.specs.declared.key.Key.{Key}
 use Rattle.mdcc_base.specs.Sizes.{Sizes}
@@ -18,7 +18,8 @@ use Rattle.mdcc_struct.specs.declared.report.Report.{Report}
 use Rattle.mdcc_struct.specs.Forced.{ballot_reported, forced_of, marks_reported}
 use Rattle.mdcc_messages.specs.declared.facts.Fact.{Fact}
 use Rattle.mdcc_protocol.specs.Facts.{ballot_voted, current_of, last_ballot, marks_voted, promise_of, promised_through, range_promised, report_of, votes_of}
-use Rattle.mdcc_protocol.specs.Structures.{choices_reported, first_structure, is_left_out, mark_of_choice, with_claim}
+use Rattle.mdcc_protocol.specs.Fit.{parts_of}
+use Rattle.mdcc_protocol.specs.Structures.{choices_reported, first_structure, fit_together, is_enough, is_left_out, mark_of_choice, with_claim}
 use Rattle.mdcc_ledger.specs.Ledger.{Added, Entry, Valued, facts_of}
 use Rattle.mdcc_ledger.specs.AllowedLedgers.{IsAllowed, reports_at}
 use Rattle.mdcc_ledger.specs.BootTest.{is_allowed_fast_vote}
@@ -181,6 +182,13 @@ empty-forced q rs h = rw (empty-ballot rs h) (rw (empty-marks rs h) refl)
 
 pub empty-first : (cluster : Cluster) (facts : List Fact) (k : Key) (v : ℕ) (e : TxId × Option Choice) (rs : List Report) → Each IsEmptyReport rs → with_claim cluster facts k v [] e ≡ first_structure cluster facts k v (e ∷ []) rs
 empty-first cluster facts k v e rs h = rw (empty-forced cluster.quorums rs h) (rw (empty-choices rs h) refl)
+
+-- where nothing is forced, a classic quorum is enough
+pub empty-enough : (cluster : Cluster) (facts : List Fact) (k : Key) (v : ℕ) (rs : List Report) → cluster.quorums.classic ≤ length rs → Each IsEmptyReport rs → is_enough cluster facts k v rs ≡ true
+empty-enough cluster facts k v rs many h =
+    or_right (nat_le (parts_of cluster.limit cluster.quorums) (length rs)) _
+    (and_from (nat_le cluster.quorums.classic (length rs)) (fit_together cluster facts k v (forced_of cluster.quorums rs)) (le-leb _ _ many)
+    (subst (λ (z : Options). fit_together cluster facts k v z ≡ true) (sym (empty-forced cluster.quorums rs h)) refl))
 
 -- ---- structures by version
 

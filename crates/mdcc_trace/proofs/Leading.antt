@@ -76,8 +76,7 @@ IsLead-rounds cluster es a rs ts x more g = record {
   claims = g.claims;
   promises = g.promises;
   apart = g.apart;
-  none_made = g.none_made;
-  some_made = g.some_made;
+  waits = g.waits;
   found = g.found;
 }
 

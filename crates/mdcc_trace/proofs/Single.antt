@@ -3,6 +3,7 @@ use Rattle.std.proofs.Common.{Bool, List, None, Some, [], ap, arith, false, inl,
 use Rattle.std.specs.Prelude.{filter}
 use Rattle.std.specs.List.{list_all, list_any}
 use Rattle.std.proofs.lemmas.Bool.{and_parts, cases_Bool, not-true, or_cases, true≢false}
+use Rattle.std.proofs.lemmas.List.{length-map}
 use Rattle.mdcc_base.specs.declared.identifiers.Ballot.{Ballot}
 use Rattle.mdcc_base.specs.declared.key.Key.{Key}
 use Rattle.mdcc_base.specs.Sizes.{Sizes}
@@ -20,7 +21,7 @@ use Rattle.mdcc_struct.specs.declared.report.Report.{Report}
 use Rattle.mdcc_struct.specs.Forced.{ballot_reported, forced_of, reports_with}
 use Rattle.mdcc_protocol.specs.Marks.{options_eq}
 use Rattle.mdcc_protocol.specs.Facts.{last_ballot, report_of, votes_of}
-use Rattle.mdcc_protocol.specs.Structures.{all_claims}
+use Rattle.mdcc_protocol.specs.Structures.{all_claims, is_enough}
 use Rattle.mdcc_ledger.specs.Ledger.{Added, Entry, Valued, facts_of, mark_given}
 use Rattle.mdcc_ledger.specs.AllowedLedgers.{IsAllowed, IsMade, IsSent, are_distinct, has_promised, is_valued, is_valued_as, promisers_of, reports_at}
 use Rattle.mdcc_trace_states.specs.Words.{In, IsTail, count}
@@ -35,6 +36,7 @@ use Rattle.mdcc_trace_rules.proofs.Order.{fast-least, ge-trans, lt-cases}
 use Rattle.mdcc_trace.proofs.Kin.{count-both, count-not, has-promise, ids-differ, last-ge, last-mark, length-range, reported-one, top-most, top-there, votes-kept}
 use Rattle.mdcc_trace.proofs.Safety.{all-at, all-true, any-in, claims-extend, count-in, count-reports, in-any, in-filter, in-range-bounds, in-reports, length-reports, of-reports, tail-drop, votes-told}
 use Rattle.mdcc_struct.proofs.Reports.{enough_forced}
+use Rattle.mdcc_protocol.proofs.EnoughPromises.{enough-classic, parts-classic}
 
 pub size-classic : (q : Sizes) → AreQuorums q → (b : Ballot) → q.classic ≤ quorum_size q b
 size-classic q h b = elim (cases_Bool (is_fast b)) [ inl e ↦ rw e h.classic_within | inr e ↦ rw e (omega arith) ]
@@ -186,7 +188,16 @@ module _ (cluster : Cluster) (sizes : AreQuorums cluster.quorums) (all : List En
   safe-made old tail safe c m os below classic (inl first) =
       subst (λ (z : Options). value_of z t ≡ Some x) (sym first.2.made)
       (claims-extend cluster (facts_of old c) k v (all_claims first.1 (reports_at old k v m first.0)) (forced_of cluster.quorums (reports_at old k v m first.0)) t x
-      (forced old tail safe m below classic first.0 first.2.promised first.2.enough))
+      (forced old tail safe m below classic first.0 first.2.promised (promises first.2.enough)))
+    where
+      promises : is_enough cluster (facts_of old c) k v (reports_at old k v m first.0) ≡ true → cluster.quorums.classic ≤ length first.0
+      promises enough =
+          let parts = parts-classic cluster.limit cluster.quorums sizes in
+          omega (
+            arith,
+            enough-classic cluster (facts_of old c) k v (reports_at old k v m first.0) parts enough,
+            length-map first.0 (λ d. report_of d (facts_of old d) k v m),
+          )
   safe-made old tail safe c m os below classic (inr next) =
       subst (λ (z : Options). value_of z t ≡ Some x) (sym next.2.made)
       (extends-claim cluster (facts_of old c) k v next.0 next.1 t x (safe m next.0 below (last-valued old k v m next.0 next.2.last_before)))

@@ -1,8 +1,8 @@
 -- The rules of a leader are good.
 use Rattle.std.proofs.Common.{Bool, Err, List, None, Ok, Option, Result, Some, [], ap, arith, cond, false, inl, inr, length, not, refl, subst, sym, true, ℕ, ◌&&◌, ◌++◌, ◌+◌, ◌<◌, ◌==◌, ◌∙◌, ◌∷◌, ◌≡◌, ◌≤◌}
-use Rattle.std.specs.Prelude.{map, nat_le, nat_lt, ⊤}
+use Rattle.std.specs.Prelude.{is_some, map, nat_le, ⊤}
 use Rattle.std.specs.List.{list_any}
-use Rattle.std.proofs.lemmas.Bool.{and_from, and_parts, cases_Bool, eq-eqb, eqb-false, eqb-true, le-leb, leb-false, leb-true, not-true, not_from_false, or_from, or_left, or_parts}
+use Rattle.std.proofs.lemmas.Bool.{and_from, and_parts, cases_Bool, eq-eqb, eqb-true, le-leb, leb-true, not-true, not_from_false, or_from, or_left, or_parts, true≢false}
 use Rattle.mdcc_base.specs.declared.identifiers.Ballot.{Ballot}
 use Rattle.mdcc_base.specs.declared.key.Key.{Key}
 use Rattle.mdcc_base.specs.Quorums.{all_centres}
@@ -12,10 +12,11 @@ use Rattle.mdcc_option.specs.declared.cluster.Cluster.{Cluster}
 use Rattle.mdcc_struct.specs.declared.options.Options.{Options}
 use Rattle.mdcc_protocol.specs.Marks.{options_eq}
 use Rattle.mdcc_protocol.specs.Facts.{current_of}
-use Rattle.mdcc_protocol.specs.Structures.{first_structure, is_crowded}
+use Rattle.mdcc_protocol.specs.Fit.{parts_of}
+use Rattle.mdcc_protocol.specs.Structures.{first_structure, is_crowded, is_enough}
 use Rattle.mdcc_rules.specs.LeaderRules.{Led, promised_by_answer}
-use Rattle.mdcc_protocol.specs.Leader.{counted_promise, is_promise_counted, on_promise, promise_taken, reports_of, structure_made, with_promise}
-use Rattle.mdcc_protocol.specs.Volatile.{Counted, Lead, Leading, Volatile, lead_of, structure_found, with_lead, with_leader}
+use Rattle.mdcc_protocol.specs.Leader.{counted_promise, has_proposed, is_promise_counted, on_promise, promise_taken, reports_of, structure_made, with_promise}
+use Rattle.mdcc_protocol.specs.Volatile.{Counted, Lead, Leading, Volatile, lead_of, structure_found, with_lead, with_leader, with_structure}
 use Rattle.mdcc_ledger.specs.Ledger.{Entry, Valued, facts_of, structure_valued}
 use Rattle.mdcc_ledger.specs.AllowedLedgers.{IsAllowed, IsMade, are_distinct, is_valued, promisers_of, reports_at}
 use Rattle.mdcc_messages.specs.declared.messages.Message.{Message}
@@ -29,6 +30,8 @@ use Rattle.mdcc_trace_states.proofs.Kept.{AreVotes-more, Manages-more}
 use Rattle.mdcc_trace_states.proofs.Led.{IsPlaced-more}
 use Rattle.mdcc_trace_rules.proofs.Begins.{nothing-good, stands-each}
 use Rattle.mdcc_trace_rules.proofs.Chains.{HasOnce, once-first}
+use Rattle.mdcc_protocol.proofs.EnoughPromises.{enough-classic, parts-classic, waiting-few}
+use Rattle.mdcc_trace.proofs.Claims.{found-with}
 use Rattle.mdcc_trace.proofs.Leading.{among, lead-in, lead-kept, promisers-enough, valued-kept}
 use Rattle.mdcc_trace.proofs.Making.{AllSound, first-sound, reports-good, reports-now, sound-begun}
 use Rattle.mdcc_protocol.specs.declared.leader.LeadFault.{LeadFault}
@@ -154,26 +157,31 @@ module _ (also : List Entry → Type 0) (well : IsWell also) (cluster : Cluster)
   ignored : (k : Key) → GoodPromise k (Ok (PromiseAnswer.Ignored, volatile.leader))
   ignored k = only-good volatile.leader up.keeps.leader
 
-  kept-good : (k : Key) (b : Bool) (n : ℕ) (l : Leading) → Leads cluster es a l → GoodPromise k (Ok (cond b (PromiseAnswer.Waiting n) PromiseAnswer.Counted, l))
-  kept-good k true n l h = only-good l h
-  kept-good k false n l h = only-good l h
+  some-not : {X : Type 0} (o : Option X) → is_some o ≡ false → o ≡ None
+  some-not None h = refl
+  some-not (Some x) h = absurd (true≢false h)
 
-  found-first : (x : Lead) (os : Options) → IsLead cluster es a volatile.leader.last_rounds x → structure_valued es x.key x.version x.ballot ≡ None → x.structures ≡ [] → (v : ℕ) →
-      structure_valued (Valued a x.key x.version x.ballot os ∷ es) x.key v x.ballot ≡ structure_found ((x.version, os) ∷ []) v
-  found-first x os g none empty v =
+  -- the structures with a new one are those that were sent last
+  pub found-new : (x : Lead) (w : ℕ) (os : Options) → IsLead cluster es a volatile.leader.last_rounds x → (v : ℕ) →
+      structure_valued (Valued a x.key w x.ballot os ∷ es) x.key v x.ballot ≡ structure_found (with_structure x.structures w os) v
+  found-new x w os g v =
       let b : ballot_eq x.ballot x.ballot ≡ true = (Decides-ballot x.ballot x.ballot).1 refl in
       let k : key_eq x.key x.key ≡ true = (Decides-key x.key x.key).1 refl in
-      elim (cases_Bool (x.version == v)) [
-        | inl e ↦ rw e (rw b (rw k refl))
-        | inr e ↦ rw e (g.found v ∙ ap (λ z. structure_found z v) empty)
-      ]
+      (elim (cases_Bool (w == v)) [
+        | inl s ↦ rw s (rw b (rw k refl))
+        | inr s ↦ rw s (g.found v)
+      ]) ∙ sym (found-with x.structures w os v)
 
-  made-good : (x : Lead) (ps : List Counted) → IsLead cluster es a volatile.leader.last_rounds x → x.structures ≡ [] → length ps ≡ cluster.quorums.classic → Each (IsPromise cluster es x.key x.version x.ballot) ps →
+  length-reports : (qs : List Counted) → length (reports_of qs) ≡ length qs
+  length-reports [] = refl
+  length-reports (p ∷ qs) = omega (arith, length-reports qs)
+
+  made-good : (x : Lead) (ps : List Counted) → IsLead cluster es a volatile.leader.last_rounds x → has_proposed x ≡ false → is_enough cluster (facts_of es a) x.key x.version (reports_of ps) ≡ true → Each (IsPromise cluster es x.key x.version x.ballot) ps →
       are_distinct (map (λ (p : Counted). p.from) ps) ≡ true → GoodPromise x.key (structure_made cluster (facts_of es a) volatile.leader (record x { promises = ps }))
-  made-good x ps g empty full promises apart =
+  made-good x ps g new enough promises apart =
       elim (cases_Bool (is_crowded (first_structure cluster (facts_of es a) x.key x.version x.claims (reports_of ps)))) [
         | inl e ↦ rw e (x.key, x.version, x.ballot, os, valued-legal x x.version os g right, e)
-        | inr e ↦ rw e (valued-good x (record x { promises = ps; claims = []; structures = (x.version, first_structure cluster (facts_of es a) x.key x.version x.claims (reports_of ps)) ∷ [] }) x.version
+        | inr e ↦ rw e (valued-good x (record x { promises = ps; claims = []; structures = with_structure x.structures x.version (first_structure cluster (facts_of es a) x.key x.version x.claims (reports_of ps)) }) x.version
             (first_structure cluster (facts_of es a) x.key x.version x.claims (reports_of ps)) g right refl (lead right))
       ]
     where
@@ -181,7 +189,13 @@ module _ (also : List Entry → Type 0) (well : IsWell also) (cluster : Cluster)
       os = first_structure cluster (facts_of es a) x.key x.version x.claims (reports_of ps)
 
       none : structure_valued es x.key x.version x.ballot ≡ None
-      none = g.found x.version ∙ ap (λ z. structure_found z x.version) empty
+      none = g.found x.version ∙ some-not (structure_found x.structures x.version) new
+
+      full : cluster.quorums.classic ≤ length ps
+      full =
+          let parts = parts-classic cluster.limit cluster.quorums up.sizes in
+          let many : cluster.quorums.classic ≤ length (reports_of ps) = enough-classic cluster (facts_of es a) x.key x.version (reports_of ps) parts enough in
+          omega (arith, many, length-reports ps)
 
       reaches : (qs : List Counted) → Each (IsPromise cluster es x.key x.version x.ballot) qs → Each (λ (p : Counted). x.version ≤ p.through) qs
       reaches qs h = Each-like (IsPromise cluster es x.key x.version x.ballot) (λ (p : Counted). x.version ≤ p.through) qs (λ p i. i.reach) h
@@ -191,10 +205,6 @@ module _ (also : List Entry → Type 0) (well : IsWell also) (cluster : Cluster)
 
       ranges : Each (λ (p : Counted). (x.version ≤ x.version) × (x.version ≤ p.through)) ps
       ranges = Each-like (λ (p : Counted). x.version ≤ p.through) (λ (p : Counted). (x.version ≤ x.version) × (x.version ≤ p.through)) ps (λ p h. (omega arith, h)) (reaches ps promises)
-
-      length-froms : (qs : List Counted) → length (map (λ (p : Counted). p.from) qs) ≡ length qs
-      length-froms [] = refl
-      length-froms (p ∷ qs) = omega (arith, length-froms qs)
 
       at-through : (qs : List Counted) → Each (λ (p : Counted). x.version ≤ p.through) qs → count (λ (p : Counted). nat_le x.version p.through) qs ≡ length qs
       at-through [] h = refl
@@ -210,7 +220,7 @@ module _ (also : List Entry → Type 0) (well : IsWell also) (cluster : Cluster)
           record {
             none_before = none;
             promised = among cluster es x.key x.version x.version x.ballot ps promises apart ranges;
-            enough = omega (arith, length-froms ps, full);
+            enough = subst (λ rs. is_enough cluster (facts_of es a) x.key x.version rs ≡ true) now enough;
             made = ap (first_structure cluster (facts_of es a) x.key x.version x.claims) now;
           },
         );
@@ -218,7 +228,10 @@ module _ (also : List Entry → Type 0) (well : IsWell also) (cluster : Cluster)
         sound = first-sound cluster (facts_of es a) es x.key x.version x.claims (reports_of ps) g.claims (reports-good cluster es x.key x.version x.ballot ps (round-classic x.ballot g.above) (well.sound es up.more) promises);
       }
 
-      lead : IsRight x x.version os → IsLead cluster (Valued a x.key x.version x.ballot os ∷ es) a volatile.leader.last_rounds (record x { promises = ps; claims = []; structures = (x.version, os) ∷ [] })
+      made : is_some (structure_found (with_structure x.structures x.version os) x.version) ≡ true
+      made = let e : (x.version == x.version) ≡ true = eq-eqb x.version x.version refl in rw (found-with x.structures x.version os x.version, e) refl
+
+      lead : IsRight x x.version os → IsLead cluster (Valued a x.key x.version x.ballot os ∷ es) a volatile.leader.last_rounds (record x { promises = ps; claims = []; structures = with_structure x.structures x.version os })
       lead r = record {
         centre = g.centre;
         epoch = g.epoch;
@@ -230,9 +243,8 @@ module _ (also : List Entry → Type 0) (well : IsWell also) (cluster : Cluster)
         promises = Each-like (IsPromise cluster es x.key x.version x.ballot) (IsPromise cluster (Valued a x.key x.version x.ballot os ∷ es) x.key x.version x.ballot) ps
             (λ p h. record { centre = h.centre; old = h.old; tail = inr h.tail; promised = h.promised; reach = h.reach; report = h.report }) promises;
         apart = apart;
-        none_made = λ h. absurd (omega (arith, h, full));
-        some_made = λ h. (os, let e : (x.version == x.version) ≡ true = eq-eqb x.version x.version refl in rw e refl);
-        found = found-first x os g none empty;
+        waits = λ h. absurd (true≢false (sym made ∙ h));
+        found = found-new x x.version os g;
       }
 
   pub promise-good : (from : ℕ) (promise : Promise) → IsPromise cluster es promise.key promise.version promise.ballot (counted_of from promise) →
@@ -241,14 +253,15 @@ module _ (also : List Entry → Type 0) (well : IsWell also) (cluster : Cluster)
     where
       counted : (x : Lead) → lead_of volatile.leader promise.key ≡ Some x → is_promise_counted x from promise ≡ true → GoodPromise promise.key (counted_promise cluster (facts_of es a) volatile.leader (with_promise x from promise))
       counted x e c =
-          pick-promise promise.key (length (x.promises ++ counted_of from promise ∷ []) == cluster.quorums.classic) (structure_made cluster (facts_of es a) volatile.leader (with_promise x from promise))
-          (Ok (cond (nat_lt (length (x.promises ++ counted_of from promise ∷ [])) cluster.quorums.classic) (PromiseAnswer.Waiting (length (x.promises ++ counted_of from promise ∷ []))) PromiseAnswer.Counted, with_lead volatile.leader (with_promise x from promise)))
-          (λ f. let full = eqb-true (length (x.promises ++ counted_of from promise ∷ [])) cluster.quorums.classic f in
-          subst (λ z. GoodPromise z (structure_made cluster (facts_of es a) volatile.leader (with_promise x from promise))) i.1
-          (made-good x (x.promises ++ counted_of from promise ∷ []) g (g.none_made (omega (arith, full, length-push x.promises (counted_of from promise)))) full promises apart))
-          (λ f. let other = eqb-false (length (x.promises ++ counted_of from promise ∷ [])) cluster.quorums.classic f in
-          kept-good promise.key (nat_lt (length (x.promises ++ counted_of from promise ∷ [])) cluster.quorums.classic) (length (x.promises ++ counted_of from promise ∷ [])) (with_lead volatile.leader (with_promise x from promise))
-          (lead-kept cluster es a volatile.leader (with_promise x from promise) up.keeps.leader (lead other)))
+          pick-promise promise.key (has_proposed x) (Ok (PromiseAnswer.Counted, with_lead volatile.leader (with_promise x from promise)))
+          (cond (is_enough cluster (facts_of es a) x.key x.version (reports_of (x.promises ++ counted_of from promise ∷ []))) (structure_made cluster (facts_of es a) volatile.leader (with_promise x from promise))
+          (Ok (PromiseAnswer.Waiting (length (x.promises ++ counted_of from promise ∷ [])), with_lead volatile.leader (with_promise x from promise))))
+          (λ proposed. kept (λ h. absurd (true≢false (sym proposed ∙ h))))
+          (λ new. pick-promise promise.key (is_enough cluster (facts_of es a) x.key x.version (reports_of (x.promises ++ counted_of from promise ∷ []))) (structure_made cluster (facts_of es a) volatile.leader (with_promise x from promise))
+          (Ok (PromiseAnswer.Waiting (length (x.promises ++ counted_of from promise ∷ [])), with_lead volatile.leader (with_promise x from promise)))
+          (λ enough. subst (λ z. GoodPromise z (structure_made cluster (facts_of es a) volatile.leader (with_promise x from promise))) i.1
+          (made-good x (x.promises ++ counted_of from promise ∷ []) g new enough promises apart))
+          (λ less. kept (λ h. few less)))
         where
           i : In x volatile.leader.leads × (x.key ≡ promise.key)
           i = lead-in volatile.leader promise.key x e
@@ -268,19 +281,25 @@ module _ (also : List Entry → Type 0) (well : IsWell also) (cluster : Cluster)
           c4 : ((x.version == promise.version) ≡ true) × (ballot_eq x.ballot promise.ballot ≡ true)
           c4 = and_parts (x.version == promise.version) (ballot_eq x.ballot promise.ballot) c3
 
-          new : IsPromise cluster es x.key x.version x.ballot (counted_of from promise)
-          new =
+          one : IsPromise cluster es x.key x.version x.ballot (counted_of from promise)
+          one =
               subst (λ z. IsPromise cluster es z x.version x.ballot (counted_of from promise)) (sym i.1)
               (subst (λ z. IsPromise cluster es promise.key z x.ballot (counted_of from promise)) (sym (eqb-true x.version promise.version c4.0)) (subst (λ z. IsPromise cluster es promise.key promise.version z (counted_of from promise)) (sym ((Decides-ballot x.ballot promise.ballot).0 c4.1)) said))
 
           promises : Each (IsPromise cluster es x.key x.version x.ballot) (x.promises ++ counted_of from promise ∷ [])
-          promises = Each-append (IsPromise cluster es x.key x.version x.ballot) x.promises (counted_of from promise ∷ []) g.promises (new, tt)
+          promises = Each-append (IsPromise cluster es x.key x.version x.ballot) x.promises (counted_of from promise ∷ []) g.promises (one, tt)
 
           apart : are_distinct (map (λ (q : Counted). q.from) (x.promises ++ counted_of from promise ∷ [])) ≡ true
           apart = distinct-push x.promises (counted_of from promise) (not-true _ (and_parts (x.version == promise.version && ballot_eq x.ballot promise.ballot && not x.is_refused) (not (list_any (λ (promise : Counted). promise.from == from) x.promises)) c1).1) g.apart
 
-          lead : (length (x.promises ++ counted_of from promise ∷ []) ≡ cluster.quorums.classic → ⊥) → IsLead cluster es a volatile.leader.last_rounds (with_promise x from promise)
-          lead other = record {
+          few : is_enough cluster (facts_of es a) x.key x.version (reports_of (x.promises ++ counted_of from promise ∷ [])) ≡ false → length (x.promises ++ counted_of from promise ∷ []) < parts_of cluster.limit cluster.quorums
+          few less =
+              let h : length (reports_of (x.promises ++ counted_of from promise ∷ [])) < parts_of cluster.limit cluster.quorums =
+              waiting-few cluster (facts_of es a) x.key x.version (reports_of (x.promises ++ counted_of from promise ∷ [])) less in
+              omega (arith, h, length-reports (x.promises ++ counted_of from promise ∷ []))
+
+          kept : (has_proposed x ≡ false → length (x.promises ++ counted_of from promise ∷ []) < parts_of cluster.limit cluster.quorums) → GoodLed (Ok (record { after = with_lead volatile.leader (with_promise x from promise); entries = []; sends = [] }))
+          kept waits = only-good (with_lead volatile.leader (with_promise x from promise)) (lead-kept cluster es a volatile.leader (with_promise x from promise) up.keeps.leader (record {
             centre = g.centre;
             epoch = g.epoch;
             above = g.above;
@@ -290,17 +309,9 @@ module _ (also : List Entry → Type 0) (well : IsWell also) (cluster : Cluster)
             claims = g.claims;
             promises = promises;
             apart = apart;
-            none_made = λ h. g.none_made (omega (arith, h, length-push x.promises (counted_of from promise)));
-            some_made = λ h. g.some_made (more other h);
+            waits = waits;
             found = g.found;
-          }
-            where
-              more : (length (x.promises ++ counted_of from promise ∷ []) ≡ cluster.quorums.classic → ⊥) → cluster.quorums.classic ≤ length (x.promises ++ counted_of from promise ∷ []) → cluster.quorums.classic ≤ length x.promises
-              more ne h =
-                  elim (cases_Bool (nat_le cluster.quorums.classic (length x.promises))) [
-                    | inl t ↦ leb-true _ _ t
-                    | inr t ↦ let l = leb-false cluster.quorums.classic (length x.promises) t in absurd (ne (omega (arith, h, l, length-push x.promises (counted_of from promise))))
-                  ]
+          }))
 
       by_case : (o : Option Lead) → lead_of volatile.leader promise.key ≡ o → GoodPromise promise.key (promise_taken cluster (facts_of es a) volatile.leader from promise o)
       by_case None e = ignored promise.key

@@ -16,14 +16,14 @@ use Rattle.mdcc_protocol.specs.Belongs.{is_centre, message_belongs}
 use Rattle.mdcc_switches.specs.Built.{Built}
 use Rattle.mdcc_protocol.specs.Facts.{current_of, epoch_of, heard_of}
 use Rattle.mdcc_protocol.specs.IsCluster.{IsCluster}
-use Rattle.mdcc_protocol.specs.Leader.{claim_of_choice, counted_promise, is_covered, is_promise_counted, is_waiting, lead, led_anew, led_by, next_round, on_promise, promise_taken, with_promise}
+use Rattle.mdcc_protocol.specs.Leader.{claim_of_choice, counted_promise, has_proposed, is_covered, is_promise_counted, is_waiting, lead, led_anew, led_by, next_round, on_promise, promise_taken, with_promise}
 use Rattle.mdcc_rules.specs.LeaderRules.{lead_step_after, led_by_answer, promised_by_answer, step_of_led}
 use Rattle.mdcc_ledger.specs.Ledger.{Entry, Valued, facts_of}
 use Rattle.mdcc_protocol.specs.Marks.{accepts_in, options_eq, rejects_in}
 use Rattle.mdcc_protocol.specs.News.{is_crowding}
 use Rattle.mdcc_rules.specs.Node.{checked, is_without_room, message_step, rule, step_of, with_room}
 use Rattle.mdcc_rules.specs.Steps.{NodeStep}
-use Rattle.mdcc_protocol.specs.Structures.{first_structure, is_crowded}
+use Rattle.mdcc_protocol.specs.Structures.{first_structure, is_crowded, is_enough}
 use Rattle.mdcc_protocol.specs.Leader.{reports_of}
 use Rattle.mdcc_protocol.specs.Volatile.{Lead, Leading, Volatile, lead_of}
 use Rattle.mdcc_messages.specs.declared.facts.Fact.{Fact}
@@ -91,7 +91,7 @@ lead-fault cluster me epoch facts leader claim fault low h = pick (nat_lt (curre
 
     by_lead : (o : Option Lead) → led_by cluster me epoch facts leader claim o ≡ Err fault → ⊥
     by_lead None g = anew-fault cluster me epoch facts leader claim fault low g
-    by_lead (Some x) g = pick2 x.is_refused (is_covered cluster.quorums x claim.version) (is_waiting cluster.quorums x claim.version) _ _ g
+    by_lead (Some x) g = pick2 x.is_refused (is_covered cluster.quorums x claim.version) (is_waiting x claim.version) _ _ g
 
     pick : (b : Bool) → (led_by cluster me epoch facts leader claim (lead_of leader claim.key) ≡ Err fault → ⊥) → cond b (Ok (LeadAnswer.Behind, leader)) (led_by cluster me epoch facts leader claim (lead_of leader claim.key)) ≡ Err fault → ⊥
     pick true f g = absurd (cc)
@@ -100,13 +100,15 @@ lead-fault cluster me epoch facts leader claim fault low h = pick (nat_lt (curre
 promise-fault : (cluster : Cluster) (facts : List Fact) (leader : Leading) (from : ℕ) (promise : Promise) (fault : LeadFault) → on_promise cluster facts leader from promise ≡ Err fault → fault ≡ LeadFault.Crowded
 promise-fault cluster facts leader from promise fault h = by_lead (lead_of leader promise.key) h
   where
-    pick2 : (x y : Bool) (r s : PromiseAnswer × Leading) → cond x (cond y (Err LeadFault.Crowded) (Ok r)) (Ok s) ≡ Err fault → fault ≡ LeadFault.Crowded
-    pick2 true true r s g = let e : LeadFault.Crowded ≡ fault = cc in sym e
-    pick2 true false r s g = absurd (cc)
-    pick2 false y r s g = absurd (cc)
+    pick3 : (x y z : Bool) (r s t : PromiseAnswer × Leading) → cond x (Ok r) (cond y (cond z (Err LeadFault.Crowded) (Ok s)) (Ok t)) ≡ Err fault → fault ≡ LeadFault.Crowded
+    pick3 true y z r s t g = absurd (cc)
+    pick3 false true true r s t g = let e : LeadFault.Crowded ≡ fault = cc in sym e
+    pick3 false true false r s t g = absurd (cc)
+    pick3 false false z r s t g = absurd (cc)
 
     counted : (x : Lead) → counted_promise cluster facts leader x ≡ Err fault → fault ≡ LeadFault.Crowded
-    counted x g = pick2 (length x.promises == cluster.quorums.classic) (is_crowded (first_structure cluster facts x.key x.version x.claims (reports_of x.promises))) _ _ g
+    counted x g =
+        pick3 (has_proposed x) (is_enough cluster facts x.key x.version (reports_of x.promises)) (is_crowded (first_structure cluster facts x.key x.version x.claims (reports_of x.promises))) _ _ _ g
 
     pick : (b : Bool) (x : Lead) (r : PromiseAnswer × Leading) → cond b (counted_promise cluster facts leader x) (Ok r) ≡ Err fault → fault ≡ LeadFault.Crowded
     pick true x r g = counted x g

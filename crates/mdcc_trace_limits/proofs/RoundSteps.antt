@@ -14,10 +14,10 @@ use Rattle.mdcc_option.specs.declared.cluster.Cluster.{Cluster}
 use Rattle.mdcc_struct.specs.Maps.{value_of}
 use Rattle.mdcc_struct.specs.declared.options.Options.{Options}
 use Rattle.mdcc_protocol.specs.Facts.{ballot_promised, current_of, epoch_of, promise_of}
-use Rattle.mdcc_protocol.specs.Leader.{counted_promise, is_covered, is_promise_counted, is_waiting, lead, lead_begun, led_again, led_anew, led_by, led_on, next_round, on_promise, promise_taken, refused_by, structure_made, with_promise, with_refused}
+use Rattle.mdcc_protocol.specs.Leader.{counted_promise, has_proposed, is_covered, is_promise_counted, is_waiting, lead, lead_begun, led_again, led_anew, led_by, led_on, next_round, on_promise, promise_taken, refused_by, structure_made, with_promise, with_refused}
 use Rattle.mdcc_rules.specs.LeaderRules.{Led, lead_sent, led_by_answer, led_of, promised_by_answer}
 use Rattle.mdcc_rules.specs.Messages.{to_all, to_each, to_others}
-use Rattle.mdcc_protocol.specs.Structures.{first_structure, is_crowded, with_choice, with_claim}
+use Rattle.mdcc_protocol.specs.Structures.{first_structure, is_crowded, is_enough, with_choice, with_claim}
 use Rattle.mdcc_protocol.specs.Leader.{reports_of}
 use Rattle.mdcc_protocol.specs.Volatile.{Lead, Leading, lead_of, number_at, structure_at, with_lead, with_number, with_structure}
 use Rattle.mdcc_messages.specs.declared.facts.Fact.{Fact}
@@ -241,7 +241,7 @@ module _ (key : Key) (r : ℕ) (cluster : Cluster) (me epoch : ℕ) (facts : Lis
     found-round =
         pick x.is_refused _ _ anew-round
         (pick (is_covered cluster.quorums x claim.version) _ _ on-round
-        (pick (is_waiting cluster.quorums x claim.version) _ _ again-round anew-round))
+        (pick (is_waiting x claim.version) _ _ again-round anew-round))
 
   lead-round : Fine (lead cluster me epoch facts leader claim)
   lead-round = pick (nat_lt (current_of facts claim.key) claim.version) (Ok (LeadAnswer.Behind, leader)) (led_by cluster me epoch facts leader claim (lead_of leader claim.key)) (leader-more key r (raised key claim.key r) leader within of-leader, behind) (by_lead (lead_of leader claim.key) refl)
@@ -270,10 +270,6 @@ promise-round key r cluster me facts leader from promise l = by_lead (lead_of le
     module_lead : (x : Lead) → lead_of leader promise.key ≡ Some x → (In x leader.leads) × (x.key ≡ promise.key) × (x.ballot.round ≤ number_at leader.last_rounds x.key)
     module_lead x e = let i = lead-in leader promise.key x e in (i.0, i.1, Each-at (λ (y : Lead). y.ballot.round ≤ number_at leader.last_rounds y.key) leader.leads x l.leads i.0)
 
-    waiting : (b : Bool) (n : ℕ) (y : Lead) → y.ballot.round ≤ number_at leader.last_rounds y.key → IsRoundLed key r (promised_by_answer cluster.quorums me promise.key (Ok (cond b (PromiseAnswer.Waiting n) PromiseAnswer.Counted, with_lead leader y)))
-    waiting true n y h = (put-round key r leader y h l, tt)
-    waiting false n y h = (put-round key r leader y h l, tt)
-
     made : (x y : Lead) (os : Options) (b : Bool) → x.key ≡ promise.key → x.ballot.round ≤ number_at leader.last_rounds x.key → y.ballot.round ≤ number_at leader.last_rounds y.key →
         IsRoundLed key r (promised_by_answer cluster.quorums me promise.key (cond b (Err LeadFault.Crowded) (Ok (PromiseAnswer.Accept x.version x.ballot os, with_lead leader y))))
     made x y os true k h g = tt
@@ -284,13 +280,14 @@ promise-round key r cluster me facts leader from promise l = by_lead (lead_of le
     )
 
     counted : (b c : Bool) (x : Lead) → x.key ≡ promise.key → x.ballot.round ≤ number_at leader.last_rounds x.key →
-        IsRoundLed key r (promised_by_answer cluster.quorums me promise.key (cond b (structure_made cluster facts leader x) (Ok (cond c (PromiseAnswer.Waiting (length x.promises)) PromiseAnswer.Counted, with_lead leader x))))
-    counted true c x k h = made x (record x { claims = []; structures = (x.version, first_structure cluster facts x.key x.version x.claims (reports_of x.promises)) ∷ [] }) (first_structure cluster facts x.key x.version x.claims (reports_of x.promises)) (is_crowded (first_structure cluster facts x.key x.version x.claims (reports_of x.promises))) k h h
-    counted false c x k h = waiting c (length x.promises) x h
+        IsRoundLed key r (promised_by_answer cluster.quorums me promise.key (cond b (Ok (PromiseAnswer.Counted, with_lead leader x)) (cond c (structure_made cluster facts leader x) (Ok (PromiseAnswer.Waiting (length x.promises), with_lead leader x)))))
+    counted true c x k h = (put-round key r leader x h l, tt)
+    counted false true x k h = made x (record x { claims = []; structures = with_structure x.structures x.version (first_structure cluster facts x.key x.version x.claims (reports_of x.promises)) }) (first_structure cluster facts x.key x.version x.claims (reports_of x.promises)) (is_crowded (first_structure cluster facts x.key x.version x.claims (reports_of x.promises))) k h h
+    counted false false x k h = (put-round key r leader x h l, tt)
 
     taken : (b : Bool) (x : Lead) → x.key ≡ promise.key → x.ballot.round ≤ number_at leader.last_rounds x.key →
         IsRoundLed key r (promised_by_answer cluster.quorums me promise.key (cond b (counted_promise cluster facts leader (with_promise x from promise)) (Ok (PromiseAnswer.Ignored, leader))))
-    taken true x k h = counted (length (with_promise x from promise).promises == cluster.quorums.classic) (nat_lt (length (with_promise x from promise).promises) cluster.quorums.classic) (with_promise x from promise) k h
+    taken true x k h = counted (has_proposed (with_promise x from promise)) (is_enough cluster facts x.key x.version (reports_of (with_promise x from promise).promises)) (with_promise x from promise) k h
     taken false x k h = ignored
 
     by_lead : (o : Option Lead) → lead_of leader promise.key ≡ o → IsRoundLed key r (promised_by_answer cluster.quorums me promise.key (promise_taken cluster facts leader from promise o))

@@ -40,7 +40,7 @@ limit-within cluster None load (Update.Write it seen) n h e = absurd (cc)
 limit-within cluster (Some base) load (Update.Write it seen) n h e = absurd (cc)
 limit-within cluster None load (Update.Add amounts) n h e = absurd (cc)
 limit-within cluster (Some base) load (Update.Add amounts) n h e =
-    first-within n (length cluster.schema) (is_past_limit cluster.quorums) (quantities_of cluster.schema base load amounts) (le-leb 0 (length cluster.schema) (omega arith), numbers cluster base load amounts h) e
+    first-within n (length cluster.schema) (is_past_limit cluster.limit cluster.quorums) (quantities_of cluster.schema base load amounts) (le-leb 0 (length cluster.schema) (omega arith), numbers cluster base load amounts h) e
 
 -- an exact fit names no limit
 no-limit : (cluster : Cluster) (base : Option Item) (load : Load) (u : Update) (n : ℕ) → exact_fit cluster base load u ≡ Fit.Limit n → ⊥

@@ -60,8 +60,7 @@ IsLead-more cluster e es a rounds x legal epoch valued g = record {
   claims = Each-like (IsClaim es x.key x.version) (IsClaim (e ∷ es) x.key x.version) x.claims (λ y i. IsClaim-more cluster e es x.key x.version y legal i) g.claims;
   promises = Each-like (IsPromise cluster es x.key x.version x.ballot) (IsPromise cluster (e ∷ es) x.key x.version x.ballot) x.promises (λ p i. IsPromise-more cluster e es x.key x.version x.ballot p i) g.promises;
   apart = g.apart;
-  none_made = g.none_made;
-  some_made = g.some_made;
+  waits = g.waits;
   found = λ v. valued v ∙ g.found v;
 }
 

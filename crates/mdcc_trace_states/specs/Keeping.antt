@@ -11,6 +11,8 @@ use Rattle.mdcc_option.specs.declared.cluster.Cluster.{Cluster}
 use Rattle.mdcc_option.specs.declared.choices.Mark.{Mark}
 use Rattle.mdcc_struct.specs.declared.options.Options.{Options}
 use Rattle.mdcc_protocol.specs.Facts.{current_of, epoch_of, promised_through, report_of}
+use Rattle.mdcc_protocol.specs.Fit.{parts_of}
+use Rattle.mdcc_protocol.specs.Leader.{has_proposed}
 use Rattle.mdcc_ledger.specs.Ledger.{Entry, choices_begun, facts_of, mark_given, structure_valued}
 use Rattle.mdcc_ledger.specs.AllowedLedgers.{are_distinct, seqs_begun}
 use Rattle.mdcc_protocol.specs.Belongs.{is_centre, mark_belongs, tx_belongs}
@@ -92,8 +94,8 @@ pub record IsPromise (cluster : Cluster) (es : List Entry) (key : Key) (version 
 
 -- a lead of a centre. Its ballot is the centre's own, of its present epoch, with a round that is above 0 and not above the last one
 -- that the leader has for the key. The centre holds the version, and the range is not empty. Its claims and promises are as above, one
--- promise for each centre. It has no structure before a classic quorum promised, and has one for its own version from then on. For each
--- version it has just the structure that was sent last at its ballot
+-- promise for each centre. Before it has proposed it has fewer promises than an acceptor's room has parts. For each version it has just
+-- the structure that was sent last at its ballot
 pub record IsLead (cluster : Cluster) (es : List Entry) (a : ℕ) (last_rounds : List (Key × ℕ)) (lead : Lead) : Type 0 where
   pub centre : lead.ballot.centre ≡ a
   pub epoch : lead.ballot.epoch ≡ epoch_of (facts_of es a)
@@ -104,8 +106,7 @@ pub record IsLead (cluster : Cluster) (es : List Entry) (a : ℕ) (last_rounds :
   pub claims : Each (IsClaim es lead.key lead.version) lead.claims
   pub promises : Each (IsPromise cluster es lead.key lead.version lead.ballot) lead.promises
   pub apart : are_distinct (map (λ promise. promise.from) lead.promises) ≡ true
-  pub none_made : length lead.promises < cluster.quorums.classic → lead.structures ≡ []
-  pub some_made : cluster.quorums.classic ≤ length lead.promises → (options : Options) × (structure_found lead.structures lead.version ≡ Some options)
+  pub waits : has_proposed lead ≡ false → length lead.promises < parts_of cluster.limit cluster.quorums
   pub found : (version : ℕ) → structure_valued es lead.key version lead.ballot ≡ structure_found lead.structures version
 
 -- the leader of a centre: no structure was sent at a ballot of this epoch above the last round of the key; and each lead is as above

@@ -4,4 +4,4 @@ use Rattle.mdcc_escrow.proofs.quantity.first_past_limit.Given as goal
 
 abbrev pub invariant-loop-quantity : goal.invariant-loop-quantity
 invariant-loop-quantity l =
-    first_number (is_past_limit l.quorums) (drop l.quantity-index l.quantities) ≡ first_number (is_past_limit l.quorums) l.quantities
+    first_number (is_past_limit l.limit l.quorums) (drop l.quantity-index l.quantities) ≡ first_number (is_past_limit l.limit l.quorums) l.quantities
