@@ -3,7 +3,6 @@ use Rattle.std.proofs.Common.{List, length, refl, subst, sym, true, ℕ, ◌≡�
 use Rattle.std.specs.Prelude.{map}
 use Rattle.mdcc_base.specs.Counts.{number_of}
 use Rattle.mdcc_option.specs.declared.cluster.Cluster.{Cluster}
-use Rattle.mdcc_built.specs.Built as today
 use Rattle.mdcc_switches.specs.Built.{Built}
 use Rattle.mdcc_language.specs.Header.{all_of}
 use Rattle.mdcc_protocol.specs.IsCluster.{IsCluster}

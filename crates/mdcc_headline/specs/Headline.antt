@@ -3,7 +3,6 @@ use Rattle.std.specs.List.{AllByRecursion}
 use Rattle.std.specs.Prelude.{List, true, ℕ, ◌++◌, ◌≡◌}
 use Rattle.mdcc_option.specs.OneCopy.{IsRun}
 use Rattle.mdcc_option.specs.declared.cluster.Cluster.{Cluster}
-use Rattle.mdcc_built.specs.Built as today
 use Rattle.mdcc_switches.specs.Built.{Built}
 use Rattle.mdcc_language.specs.Header.{Left}
 use Rattle.mdcc_protocol.specs.IsCluster.{IsCluster}
