@@ -3,7 +3,7 @@ use Rattle.std.proofs.Common.{◌≡◌, ℕ, zero, suc, ◌+◌, ◌<◌, ◌�
 use Rattle.std.proofs.lemmas.Bool.{cases_Bool, and_parts, or_cases, eqb-true, eq-eqb, ne_eqb, cases_eq}
 use Rattle.std.specs.List.{list_any, range_with_len}
 use Rattle.std.specs.Prelude.{not}
-use Rattle.mdcc_ledger.specs.AllowedLedgers.{are_distinct}
+use Rattle.mdcc_ledger.specs.AllowedStructures.{are_distinct}
 use Rattle.mdcc_agreement.proofs.Setups.{count, centres_to}
 use Rattle.mdcc_agreement.proofs.ReducedOptions.{In}
 

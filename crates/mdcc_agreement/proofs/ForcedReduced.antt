@@ -12,7 +12,7 @@ use Rattle.mdcc_struct.specs.Forced.{reports_with, ballot_reported, forced_of}
 use Rattle.mdcc_struct.specs.Maps.{value_of}
 use Rattle.mdcc_struct.specs.Options.{is_mark}
 use Rattle.mdcc_struct.specs.declared.report.Report.{Report}
-use Rattle.mdcc_ledger.specs.AllowedLedgers.{are_distinct}
+use Rattle.mdcc_ledger.specs.AllowedStructures.{are_distinct}
 use Rattle.mdcc_protocol.specs.Facts as full
 use Rattle.mdcc_ledger.specs.Ledger as ledger
 use Rattle.mdcc_agreement.proofs.BallotOrder.{Below-cases, Below-irrefl, Below-fast}

@@ -20,7 +20,7 @@ use Rattle.mdcc_struct.specs.Forced.{forced_of}
 use Rattle.mdcc_struct.specs.Maps.{TxMap, value_of, with_entry}
 use Rattle.mdcc_struct.specs.declared.options.Options.{Options}
 use Rattle.mdcc_struct.specs.declared.report.Report.{Report}
-use Rattle.mdcc_ledger.specs.AllowedLedgers.{are_begun, is_own_mark, has_promised, promisers_of, reports_at, IsFirstStructure, IsNextStructure}
+use Rattle.mdcc_ledger.specs.AllowedStructures.{are_begun, is_own_mark, has_promised, promisers_of, reports_at, IsFirstStructure, IsNextStructure}
 use Rattle.mdcc_protocol.specs.Facts as full
 use Rattle.mdcc_ledger.specs.Ledger as ledger
 use Rattle.mdcc_protocol.specs.Marks.{accepts_in, rejects_in}

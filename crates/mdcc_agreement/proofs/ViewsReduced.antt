@@ -13,7 +13,7 @@ use Rattle.mdcc_option.specs.Equality.{mark_eq}
 use Rattle.mdcc_option.specs.declared.choices.Mark.{Mark}
 use Rattle.mdcc_option.specs.declared.cluster.Cluster.{Cluster}
 use Rattle.mdcc_struct.specs.Maps.{value_of}
-use Rattle.mdcc_ledger.specs.AllowedLedgers.{has_promised_in}
+use Rattle.mdcc_ledger.specs.AllowedStructures.{has_promised_in}
 use Rattle.mdcc_protocol.specs.Facts as full
 use Rattle.mdcc_struct.specs.Options.{is_mark}
 use Rattle.mdcc_ledger.specs.Ledger as ledger

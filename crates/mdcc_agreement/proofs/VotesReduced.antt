@@ -23,7 +23,8 @@ use Rattle.mdcc_protocol.specs.Fit.{parts_of}
 use Rattle.mdcc_protocol.specs.Acceptor as acceptor
 use Rattle.mdcc_ledger.specs.AllowedFacts.{MayVoteFast, MayVoteClassic, are_apart}
 use Rattle.mdcc_ledger.specs.BootTest.{is_answer}
-use Rattle.mdcc_ledger.specs.AllowedLedgers.{is_begun, are_begun, is_own_mark, is_fast_vote_begun, is_valued, is_valued_as}
+use Rattle.mdcc_ledger.specs.AllowedLedgers.{is_fast_vote_begun, is_valued, is_valued_as}
+use Rattle.mdcc_ledger.specs.AllowedStructures.{is_begun, are_begun, is_own_mark}
 use Rattle.mdcc_ledger.specs.AllowedFacts as facts_allowed
 use Rattle.mdcc_ledger.specs.AllowedLedgers as full_allowed
 use Rattle.mdcc_protocol.specs.Facts as full

@@ -6,7 +6,7 @@ use Rattle.mdcc_base.specs.declared.key.Key.{Key}
 use Rattle.mdcc_option.specs.declared.cluster.Cluster.{Cluster}
 use Rattle.mdcc_option.specs.declared.cluster.FastLimit.{FastLimit}
 use Rattle.mdcc_struct.specs.declared.options.Options.{Options}
-use Rattle.mdcc_ledger.specs.AllowedLedgers.{promisers_of, reports_at}
+use Rattle.mdcc_ledger.specs.AllowedStructures.{promisers_of, reports_at}
 use Rattle.mdcc_ledger_laws.specs.LedgerTest.{is_entry_allowed, is_ledger_allowed}
 use Rattle.mdcc_switches.specs.Built.{all_built}
 use Rattle.mdcc_language.specs.Errors.{ReplayFault}

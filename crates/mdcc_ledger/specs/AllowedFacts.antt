@@ -1,4 +1,5 @@
--- Which fact a centre may add after its others: one row for each kind of fact.
+-- Which fact a centre may add after its others. Each kind of fact has one row, its condition over the facts before it (MayAddKind);
+-- what holds of every kind stands in MayAdd.
 use Rattle.std.specs.Prelude.{Bool, IsTrue, List, MatchBool, None, Option, Some, [], false, is_some, length, nat_lt, not, true, ℕ, ◌&&◌, ◌+◌, ◌<◌, ◌||◌, ◌∷◌, ◌≡◌, ◌≤◌, ◌⊎◌}
 use Rattle.mdcc_base.specs.Ballot.{ballot_lt, fast_ballot, is_fast}
 use Rattle.mdcc_base.specs.Counts.{number_of}

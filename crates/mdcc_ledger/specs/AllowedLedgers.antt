@@ -1,34 +1,32 @@
--- Which ledgers are allowed: each entry meets its condition over the entries before it.
-use Rattle.std.specs.List.{list_all, list_any}
-use Rattle.std.specs.Prelude.{Bool, IsTrue, List, MatchBool, None, Ok, Option, Some, [], false, filter, if◌then◌else◌, length, map, nat_le, not, true, ℕ, ⊤, ◌&&◌, ◌++◌, ◌+◌, ◌<◌, ◌==◌, ◌∷◌, ◌≡◌, ◌≤◌, ◌⊎◌}
+-- Which ledgers are allowed: each entry meets its condition over the entries before it. There is one row for each kind of entry:
+-- a transaction is begun (IsAllowedBegun), a structure is sent (IsAllowedValued), and a fact is added, which its centre may add
+-- after its own facts (MayAdd) and which the other entries back (IsBacked).
+use Rattle.std.specs.List.{list_any}
+use Rattle.std.specs.Prelude.{Bool, IsTrue, List, MatchBool, None, Ok, Option, Some, [], false, if◌then◌else◌, length, map, not, ℕ, ⊤, ◌&&◌, ◌++◌, ◌+◌, ◌<◌, ◌==◌, ◌∷◌, ◌≡◌, ◌≤◌}
 use Rattle.mdcc_base.specs.Ballot.{ballot_eq, is_fast}
 use Rattle.mdcc_base.specs.Key.{key_eq}
-use Rattle.mdcc_base.specs.Quorums.{all_centres}
-use Rattle.mdcc_base.specs.Sizes.{Sizes}
-use Rattle.mdcc_base.specs.TxId.{tx_eq}
 use Rattle.mdcc_base.specs.declared.identifiers.Ballot.{Ballot}
 use Rattle.mdcc_base.specs.declared.identifiers.TxId.{TxId}
 use Rattle.mdcc_base.specs.declared.key.Key.{Key}
-use Rattle.mdcc_option.specs.Equality.{choice_eq}
 use Rattle.mdcc_option.specs.Parts.{are_ascending}
 use Rattle.mdcc_option.specs.Transaction.{choices_of, transaction_of}
 use Rattle.mdcc_option.specs.declared.choices.Choice.{Choice}
-use Rattle.mdcc_option.specs.declared.choices.Mark.{Mark}
 use Rattle.mdcc_option.specs.declared.cluster.Cluster.{Cluster}
 use Rattle.mdcc_option.specs.declared.items.Delta.{Delta}
 use Rattle.mdcc_option.specs.declared.items.Item.{Item}
 use Rattle.mdcc_option.specs.declared.items.Part.{Part}
-use Rattle.mdcc_struct.specs.Maps.{TxMap, union, value_of}
+use Rattle.mdcc_struct.specs.Maps.{union, value_of}
 use Rattle.mdcc_struct.specs.declared.options.Options.{Options}
-use Rattle.mdcc_struct.specs.declared.report.Report.{Report}
 use Rattle.mdcc_protocol.specs.Belongs.{is_centre}
-use Rattle.mdcc_protocol.specs.Facts.{base_of, current_of, epoch_of, executed_of, report_of, votes_of}
-use Rattle.mdcc_ledger.specs.Ledger.{Added, Entry, Valued, choices_begun, facts_of, outcome_of, structure_valued}
+use Rattle.mdcc_protocol.specs.Facts.{base_of, current_of, epoch_of, executed_of, votes_of}
+use Rattle.mdcc_ledger.specs.Ledger.{Added, Entry, Valued, facts_of, outcome_of}
 use Rattle.mdcc_protocol.specs.Manager.{parts_begin_fault}
 use Rattle.mdcc_protocol.specs.Marks.{options_eq}
-use Rattle.mdcc_protocol.specs.Structures.{first_structure, is_enough, with_claim}
 use Rattle.mdcc_messages.specs.declared.facts.Fact.{Fact}
 use Rattle.mdcc_ledger.specs.AllowedFacts.{MayAdd}
+use Rattle.mdcc_ledger.specs.AllowedStructures.{IsMade, are_begun, is_begun, promisers_of}
+
+-- ---- a transaction is begun
 
 -- how many transactions were begun with an epoch of a centre
 abbrev pub seqs_begun : List Entry → ℕ → ℕ → ℕ
@@ -50,67 +48,7 @@ pub record IsAllowedBegun (cluster : Cluster) (before : List Entry) (a : ℕ) (t
   pub draft : transaction_of cluster.schema (map part_in choices) ≡ Ok (map part_in choices)
   pub held : parts_begin_fault (facts_of before a) (map part_in choices) ≡ None
 
--- the choice is one with which its transaction was begun
-abbrev pub is_begun : List Entry → Choice → Bool
-is_begun before choice = list_any (choice_eq choice) (choices_begun before choice.tx)
-
--- the transaction was begun with a choice in the instance
-abbrev pub is_placed : List Entry → Key → ℕ → TxId → Bool
-is_placed before key version tx = list_any (λ choice. choice.version == version && key_eq choice.key key) (choices_begun before tx)
-
--- a mark accepts its transaction's own choice in the instance, or rejects a transaction that has one there.
--- Without this a learner that counts votes could decide a transaction by votes on a choice that is not its own
-abbrev pub is_own_mark : List Entry → Key → ℕ → TxId × Mark → Bool
-is_own_mark before key version (tx, Mark.Accept choice) =
-    tx_eq choice.tx tx && choice.version == version && key_eq choice.key key && is_begun before choice
-is_own_mark before key version (tx, Mark.Reject) = is_placed before key version tx
-
--- each mark of the structure does
-abbrev pub are_begun : List Entry → Key → ℕ → Options → Bool
-are_begun before key version options = list_all (is_own_mark before key version) options
-
--- whether a fact promises this ballot for this version
-abbrev pub has_promised_in : Key → ℕ → Ballot → Fact → Bool
-has_promised_in key version ballot (Fact.Promised key' low high ballot') =
-    nat_le low version && nat_le version high && ballot_eq ballot' ballot && key_eq key' key
-has_promised_in key version ballot _ = false
-
-abbrev pub has_promised : List Entry → Key → ℕ → Ballot → ℕ → Bool
-has_promised before key version ballot a = list_any (has_promised_in key version ballot) (facts_of before a)
-
--- the centres that did
-abbrev pub promisers_of : Sizes → List Entry → Key → ℕ → Ballot → List ℕ
-promisers_of quorums before key version ballot = filter (has_promised before key version ballot) (all_centres quorums)
-
--- what the centres report below the ballot
-abbrev pub reports_at : List Entry → Key → ℕ → Ballot → List ℕ → List Report
-reports_at before key version ballot centres = map (λ a. report_of a (facts_of before a) key version ballot) centres
-
-abbrev pub are_distinct : List ℕ → Bool
-are_distinct [] = true
-are_distinct (a ∷ as') = not (list_any (λ b. a == b) as') && are_distinct as'
-
--- a set of centres out of a list: each once, in any order
-abbrev pub IsAmongCentres : List ℕ → List ℕ → Type 0
-IsAmongCentres centres among = IsTrue (list_all (λ a. list_any (λ b. a == b) among) centres) × IsTrue (are_distinct centres)
-
--- the first structure of a ballot, made from enough centres that promised it, a classic quorum or more, and some claims. (Fast Paxos; Generalized Paxos.)
-pub record IsFirstStructure (cluster : Cluster) (before : List Entry) (a : ℕ) (key : Key) (version : ℕ) (ballot : Ballot) (options : Options) (centres : List ℕ) (claims : TxMap (Option Choice)) : Type 0 where
-  pub none_before : structure_valued before key version ballot ≡ None
-  pub promised : IsAmongCentres centres (promisers_of cluster.quorums before key version ballot)
-  pub enough : IsTrue (is_enough cluster (facts_of before a) key version (reports_at before key version ballot centres))
-  pub made : options ≡ first_structure cluster (facts_of before a) key version claims (reports_at before key version ballot centres)
-
--- a later structure, which extends the last one by the mark of a claim
-pub record IsNextStructure (cluster : Cluster) (before : List Entry) (a : ℕ) (key : Key) (version : ℕ) (ballot : Ballot) (options last : Options) (claim : TxId × Option Choice) : Type 0 where
-  pub last_before : structure_valued before key version ballot ≡ Some last
-  pub is_more : length options ≡ length last + 1
-  pub made : options ≡ with_claim cluster (facts_of before a) key version last claim
-
-abbrev pub IsMade : Cluster → List Entry → ℕ → Key → ℕ → Ballot → Options → Type 0
-IsMade cluster before a key version ballot options =
-    ((centres : List ℕ) × (claims : TxMap (Option Choice)) × IsFirstStructure cluster before a key version ballot options centres claims)
-    ⊎ ((last : Options) × (claim : TxId × Option Choice) × IsNextStructure cluster before a key version ballot options last claim)
+-- ---- a structure is sent
 
 -- a leader that is booted sent a structure for an instance that it holds, at a ballot of its own that a classic quorum promised
 pub record IsAllowedValued (cluster : Cluster) (before : List Entry) (a : ℕ) (key : Key) (version : ℕ) (ballot : Ballot) (options : Options) : Type 0 where
@@ -122,6 +60,8 @@ pub record IsAllowedValued (cluster : Cluster) (before : List Entry) (a : ℕ) (
   pub promised : cluster.quorums.classic ≤ length (promisers_of cluster.quorums before key version ballot)
   pub begun : IsTrue (are_begun before key version options)
   pub made : IsMade cluster before a key version ballot options
+
+-- ---- what backs a fact
 
 abbrev pub is_valued_as : Key → ℕ → Ballot → Options → Entry → Bool
 is_valued_as key version ballot options (Valued a key' version' ballot' options') =
@@ -150,7 +90,8 @@ pub record WasHeld (before : List Entry) (key : Key) (version : ℕ) (item : Ite
   pub base : base_of (facts_of earlier b) key ≡ Some item
   pub executed : executed_of (facts_of earlier b) key ≡ map (λ delta. (delta.tx, delta.amounts)) adds
 
--- a fast vote is on a begun choice, a classic one makes the centre's votes a structure that was sent, what is heard is the outcome, and what is adopted was held somewhere
+-- one row for each kind of fact: a fast vote is on a begun choice, a classic one makes the centre's votes a structure that was sent,
+-- what is heard is the outcome, and what is adopted was held somewhere
 abbrev pub IsBacked : Cluster → List Entry → ℕ → Fact → Type 0
 IsBacked cluster before a (Fact.Booted epoch) = ⊤
 IsBacked cluster before a (Fact.Promised key low high ballot) = ⊤
@@ -162,6 +103,9 @@ IsBacked cluster before a (Fact.Heard tx outcome) = outcome_of cluster.quorums b
 IsBacked cluster before a (Fact.Adopted key version item adds) =
     (b : ℕ) × (later : List Entry) × (earlier : List Entry) × WasHeld before key version item adds b later earlier
 
+-- ---- entries and ledgers
+
+-- an entry is of a centre of the cluster, and meets the row of its kind
 abbrev pub IsAllowedEntry : Cluster → List Entry → Entry → Type 0
 IsAllowedEntry cluster before (Added a fact) =
     IsTrue (is_centre cluster a) × MayAdd cluster (facts_of before a) fact × IsBacked cluster before a fact

@@ -1,4 +1,5 @@
--- The same as a test, which a boot makes of each fact of its log.
+-- AllowedFacts as a test, which a boot makes of each fact of its log. It is the same row by row: it passes exactly where the
+-- condition holds (the law boot_test_is_exact of mdcc_ledger_laws).
 use Rattle.std.specs.Prelude.{Bool, List, None, Option, Some, [], false, if◌then◌else◌, is_some, length, nat_le, nat_lt, not, true, ℕ, ◌&&◌, ◌+◌, ◌==◌, ◌||◌, ◌∷◌}
 use Rattle.mdcc_base.specs.Ballot.{ballot_lt, is_fast}
 use Rattle.mdcc_base.specs.Counts.{number_of}

@@ -1,4 +1,5 @@
 pub mod AllowedFacts
 pub mod AllowedLedgers
+pub mod AllowedStructures
 pub mod BootTest
 pub mod Ledger

@@ -2,7 +2,7 @@
 use Rattle.std.proofs.Common.{◌≡◌, ℕ, zero, suc, ◌+◌, ◌<◌, Bool, true, false, ◌||◌, not, ◌==◌, List, [], ◌∷◌, ◌++◌, map, refl, ap, ◌∙◌, arith, inl, inr, filter}
 use Rattle.std.specs.List.{AllByRecursion, list_all, list_any, range_with_len}
 use Rattle.std.proofs.lemmas.Bool.{cases_Bool, and_parts, and_from, or_from, or_left, or_right, eq-eqb, ne_eqb, not-true, not_from_false, both_ways}
-use Rattle.mdcc_ledger.specs.AllowedLedgers.{IsAmongCentres, are_distinct}
+use Rattle.mdcc_ledger.specs.AllowedStructures.{IsAmongCentres, are_distinct}
 use Rattle.mdcc_ledger_laws.specs.LedgerTest.{subsets}
 
 abbrev is_among : List ℕ → ℕ → Bool

@@ -11,7 +11,8 @@ use Rattle.mdcc_option.specs.declared.choices.Mark.{Mark}
 use Rattle.mdcc_option.specs.declared.cluster.Cluster.{Cluster}
 use Rattle.mdcc_option.proofs.Equal.{Decides-mark, Decides-tx}
 use Rattle.mdcc_struct.specs.declared.options.Options.{Options}
-use Rattle.mdcc_ledger.specs.AllowedLedgers.{IsAllowedValued, IsAmongCentres, IsFirstStructure, IsMade, IsNextStructure, are_begun, has_promised, promisers_of, reports_at}
+use Rattle.mdcc_ledger.specs.AllowedLedgers.{IsAllowedValued}
+use Rattle.mdcc_ledger.specs.AllowedStructures.{IsAmongCentres, IsFirstStructure, IsMade, IsNextStructure, are_begun, has_promised, promisers_of, reports_at}
 use Rattle.mdcc_ledger_laws.specs.LedgerTest.{claims_in, is_made, is_made_by, is_made_from, is_next, is_valued_allowed, subsets}
 use Rattle.mdcc_protocol.specs.Facts.{current_of, epoch_of}
 use Rattle.mdcc_ledger.specs.Ledger.{Entry, facts_of, structure_valued}

@@ -19,7 +19,8 @@ use Rattle.mdcc_option.specs.declared.items.Part.{Part}
 use Rattle.mdcc_option.specs.declared.schema.Schema.{Schema}
 use Rattle.mdcc_struct.specs.Maps.{TxMap, union}
 use Rattle.mdcc_struct.specs.declared.options.Options.{Options}
-use Rattle.mdcc_ledger.specs.AllowedLedgers.{are_begun, is_fast_vote_begun, is_valued, part_in, promisers_of, reports_at, seqs_begun}
+use Rattle.mdcc_ledger.specs.AllowedLedgers.{is_fast_vote_begun, is_valued, part_in, seqs_begun}
+use Rattle.mdcc_ledger.specs.AllowedStructures.{are_begun, promisers_of, reports_at}
 use Rattle.mdcc_ledger.specs.BootTest.{is_allowed_fact}
 use Rattle.mdcc_protocol.specs.Belongs.{is_centre}
 use Rattle.mdcc_protocol.specs.Facts.{base_of, current_of, epoch_of, executed_of, votes_of}

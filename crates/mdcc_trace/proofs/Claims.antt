@@ -21,7 +21,8 @@ use Rattle.mdcc_protocol.specs.Facts.{ballot_voted, current_of, last_ballot, mar
 use Rattle.mdcc_protocol.specs.Fit.{parts_of}
 use Rattle.mdcc_protocol.specs.Structures.{choices_reported, first_structure, fit_together, is_enough, is_left_out, mark_of_choice, with_claim}
 use Rattle.mdcc_ledger.specs.Ledger.{Added, Entry, Valued, facts_of}
-use Rattle.mdcc_ledger.specs.AllowedLedgers.{IsAllowed, reports_at}
+use Rattle.mdcc_ledger.specs.AllowedLedgers.{IsAllowed}
+use Rattle.mdcc_ledger.specs.AllowedStructures.{reports_at}
 use Rattle.mdcc_ledger.specs.BootTest.{is_allowed_fast_vote}
 use Rattle.mdcc_protocol.specs.Volatile.{Counted, structure_found, with_structure}
 use Rattle.mdcc_trace_states.specs.Words.{Each}

@@ -18,7 +18,8 @@ use Rattle.mdcc_struct.specs.Forced.{ballot_reported}
 use Rattle.mdcc_messages.specs.declared.facts.Fact.{Fact}
 use Rattle.mdcc_protocol.specs.Facts.{ballot_promised, ballot_voted, last_ballot, marks_voted, promise_of, votes_of}
 use Rattle.mdcc_ledger.specs.Ledger.{Added, Entry, Valued, facts_of}
-use Rattle.mdcc_ledger.specs.AllowedLedgers.{IsAllowed, are_distinct, has_promised_in}
+use Rattle.mdcc_ledger.specs.AllowedLedgers.{IsAllowed}
+use Rattle.mdcc_ledger.specs.AllowedStructures.{are_distinct, has_promised_in}
 use Rattle.mdcc_ledger.specs.AllowedFacts.{are_apart}
 use Rattle.mdcc_ledger.specs.BootTest.{is_allowed_classic_vote}
 use Rattle.mdcc_protocol.specs.Acceptor.{new_marks}

@@ -7,7 +7,8 @@ use Rattle.mdcc_option.specs.declared.choices.Claim.{Claim}
 use Rattle.mdcc_option.specs.declared.cluster.Cluster.{Cluster}
 use Rattle.mdcc_messages.specs.declared.facts.Fact.{Fact}
 use Rattle.mdcc_ledger.specs.Ledger.{Entry, choices_begun, facts_of}
-use Rattle.mdcc_ledger.specs.AllowedLedgers.{IsAllowed, is_begun}
+use Rattle.mdcc_ledger.specs.AllowedLedgers.{IsAllowed}
+use Rattle.mdcc_ledger.specs.AllowedStructures.{is_begun}
 use Rattle.mdcc_protocol.specs.Learner.{is_learned}
 use Rattle.mdcc_rules.specs.LeaderRules.{Led, led_of}
 use Rattle.mdcc_protocol.specs.Leader.{claim_of_choice}

@@ -14,7 +14,8 @@ use Rattle.mdcc_struct.specs.declared.options.Options.{Options}
 use Rattle.mdcc_messages.specs.declared.facts.Fact.{Fact}
 use Rattle.mdcc_protocol.specs.Facts.{epoch_of, promised_through, range_promised}
 use Rattle.mdcc_ledger.specs.Ledger.{Added, Entry, Valued, facts_of, structure_valued}
-use Rattle.mdcc_ledger.specs.AllowedLedgers.{IsAllowed, IsAmongCentres, are_distinct, has_promised, has_promised_in, promisers_of}
+use Rattle.mdcc_ledger.specs.AllowedLedgers.{IsAllowed}
+use Rattle.mdcc_ledger.specs.AllowedStructures.{IsAmongCentres, are_distinct, has_promised, has_promised_in, promisers_of}
 use Rattle.mdcc_protocol.specs.Volatile.{Counted, Lead, Leading, lead_of, number_at, with_lead, with_number}
 use Rattle.mdcc_trace_states.specs.Words.{Each, In, IsTail, count}
 use Rattle.mdcc_trace_states.specs.Keeping.{IsLead, IsPromise, Leads}

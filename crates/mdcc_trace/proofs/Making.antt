@@ -24,7 +24,8 @@ use Rattle.mdcc_messages.specs.declared.facts.Fact.{Fact}
 use Rattle.mdcc_protocol.specs.Facts.{last_ballot, marks_voted, report_of, votes_of}
 use Rattle.mdcc_protocol.specs.Structures.{all_claims, choices_reported, first_structure, is_accepted, is_left_out, mark_of_choice, with_choice, with_claim}
 use Rattle.mdcc_ledger.specs.Ledger.{Entry, choices_begun, facts_of}
-use Rattle.mdcc_ledger.specs.AllowedLedgers.{IsAllowed, are_begun, is_begun, is_own_mark, reports_at}
+use Rattle.mdcc_ledger.specs.AllowedLedgers.{IsAllowed}
+use Rattle.mdcc_ledger.specs.AllowedStructures.{are_begun, is_begun, is_own_mark, reports_at}
 use Rattle.mdcc_protocol.specs.Leader.{reports_of}
 use Rattle.mdcc_protocol.specs.Volatile.{Counted}
 use Rattle.mdcc_trace_states.specs.Words.{Each, In}

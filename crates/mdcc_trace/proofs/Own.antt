@@ -16,7 +16,8 @@ use Rattle.mdcc_option.specs.declared.cluster.Cluster.{Cluster}
 use Rattle.mdcc_option.specs.declared.items.Delta.{Delta}
 use Rattle.mdcc_struct.specs.declared.options.Options.{Options}
 use Rattle.mdcc_struct.specs.declared.report.Report.{Report}
-use Rattle.mdcc_ledger.specs.AllowedLedgers.{IsAllowed, are_begun, is_begun, is_own_mark, is_valued, is_valued_as}
+use Rattle.mdcc_ledger.specs.AllowedLedgers.{IsAllowed, is_valued, is_valued_as}
+use Rattle.mdcc_ledger.specs.AllowedStructures.{are_begun, is_begun, is_own_mark}
 use Rattle.mdcc_protocol.specs.Belongs.{adds_belong, amounts_belong, ballot_belongs, cause_belongs, choice_belongs, is_centre, item_belongs, mark_belongs, message_belongs, options_belong, outcome_belongs, tx_belongs, update_belongs}
 use Rattle.mdcc_protocol.specs.Facts.{current_of, last_ballot, votes_of}
 use Rattle.mdcc_ledger.specs.Ledger.{Added, Entry, Valued, choices_begun, chosen_of, facts_of, outcome_of}

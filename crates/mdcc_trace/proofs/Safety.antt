@@ -15,7 +15,7 @@ use Rattle.mdcc_messages.specs.declared.facts.Fact.{Fact}
 use Rattle.mdcc_protocol.specs.Facts.{last_ballot, report_of, votes_of}
 use Rattle.mdcc_protocol.specs.Structures.{with_claim}
 use Rattle.mdcc_ledger.specs.Ledger.{Entry, facts_of}
-use Rattle.mdcc_ledger.specs.AllowedLedgers.{reports_at}
+use Rattle.mdcc_ledger.specs.AllowedStructures.{reports_at}
 use Rattle.mdcc_trace_states.specs.Words.{In, IsTail, count}
 use Rattle.mdcc_trace_states.proofs.Lists.{IsTail-same}
 use Rattle.mdcc_trace_rules.specs.Laws.{Extends}

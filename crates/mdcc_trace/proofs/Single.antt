@@ -23,7 +23,8 @@ use Rattle.mdcc_protocol.specs.Marks.{options_eq}
 use Rattle.mdcc_protocol.specs.Facts.{last_ballot, report_of, votes_of}
 use Rattle.mdcc_protocol.specs.Structures.{all_claims, is_enough}
 use Rattle.mdcc_ledger.specs.Ledger.{Added, Entry, Valued, facts_of, mark_given}
-use Rattle.mdcc_ledger.specs.AllowedLedgers.{IsAllowed, IsMade, IsSent, are_distinct, has_promised, is_valued, is_valued_as, promisers_of, reports_at}
+use Rattle.mdcc_ledger.specs.AllowedLedgers.{IsAllowed, IsSent, is_valued, is_valued_as}
+use Rattle.mdcc_ledger.specs.AllowedStructures.{IsMade, are_distinct, has_promised, promisers_of, reports_at}
 use Rattle.mdcc_trace_states.specs.Words.{In, IsTail, count}
 use Rattle.mdcc_trace_states.specs.Sound.{HasOneMark, IsChosen}
 use Rattle.mdcc_trace_states.proofs.Tests.{Decides-ballot, Decides-is_mark, Decides-options}

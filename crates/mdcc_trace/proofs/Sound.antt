@@ -21,7 +21,8 @@ use Rattle.mdcc_messages.specs.declared.facts.Fact.{Fact}
 use Rattle.mdcc_protocol.specs.Facts.{marks_voted, votes_of, write_set_in, write_sets_from, write_sets_of}
 use Rattle.mdcc_protocol.specs.Acceptor.{new_marks}
 use Rattle.mdcc_ledger.specs.Ledger.{Added, Entry, Valued, choices_begun, facts_of}
-use Rattle.mdcc_ledger.specs.AllowedLedgers.{IsAllowed, is_begun, is_fast_vote_begun, is_own_mark, is_valued, is_valued_as}
+use Rattle.mdcc_ledger.specs.AllowedLedgers.{IsAllowed, is_fast_vote_begun, is_valued, is_valued_as}
+use Rattle.mdcc_ledger.specs.AllowedStructures.{is_begun, is_own_mark}
 use Rattle.mdcc_ledger.specs.BootTest.{is_allowed_fast_vote}
 use Rattle.mdcc_trace_states.specs.Words.{In}
 use Rattle.mdcc_trace_states.specs.Sound.{HasOneMark, IsSound, IsSoundMark}

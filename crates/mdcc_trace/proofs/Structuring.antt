@@ -18,7 +18,8 @@ use Rattle.mdcc_rules.specs.LeaderRules.{Led, promised_by_answer}
 use Rattle.mdcc_protocol.specs.Leader.{counted_promise, has_proposed, is_promise_counted, on_promise, promise_taken, reports_of, structure_made, with_promise}
 use Rattle.mdcc_protocol.specs.Volatile.{Counted, Lead, Leading, Volatile, lead_of, structure_found, with_lead, with_leader, with_structure}
 use Rattle.mdcc_ledger.specs.Ledger.{Entry, Valued, facts_of, structure_valued}
-use Rattle.mdcc_ledger.specs.AllowedLedgers.{IsAllowed, IsMade, are_distinct, is_valued, promisers_of, reports_at}
+use Rattle.mdcc_ledger.specs.AllowedLedgers.{IsAllowed, is_valued}
+use Rattle.mdcc_ledger.specs.AllowedStructures.{IsMade, are_distinct, promisers_of, reports_at}
 use Rattle.mdcc_messages.specs.declared.messages.Message.{Message}
 use Rattle.mdcc_trace_states.specs.Words.{Each, In, count}
 use Rattle.mdcc_trace_states.specs.Invariant.{IsGoodStep}

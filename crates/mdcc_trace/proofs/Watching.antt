@@ -21,7 +21,8 @@ use Rattle.mdcc_protocol.specs.Marks.{choice_in}
 use Rattle.mdcc_messages.specs.declared.facts.Fact.{Fact}
 use Rattle.mdcc_protocol.specs.Facts.{choice_known, choice_of_tx, choice_voted, marks_voted, votes_of}
 use Rattle.mdcc_ledger.specs.Ledger.{Added, Entry, Valued, choices_begun, facts_of, mark_given}
-use Rattle.mdcc_ledger.specs.AllowedLedgers.{IsAllowed, is_begun, is_fast_vote_begun, part_in}
+use Rattle.mdcc_ledger.specs.AllowedLedgers.{IsAllowed, is_fast_vote_begun, part_in}
+use Rattle.mdcc_ledger.specs.AllowedStructures.{is_begun}
 use Rattle.mdcc_ledger.specs.BootTest.{is_allowed_classic_vote, is_allowed_fast_vote, is_allowed_kind}
 use Rattle.mdcc_protocol.specs.Learner.{votes_on}
 use Rattle.mdcc_protocol.specs.Recover.{choice_accepted, choice_received}

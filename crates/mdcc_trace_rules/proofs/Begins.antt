@@ -15,7 +15,8 @@ use Rattle.mdcc_option.specs.Transaction.{choices_of, transaction_of}
 use Rattle.mdcc_protocol.specs.Facts.{epoch_of}
 use Rattle.mdcc_ledger.specs.Ledger.{Entry, choices_begun, facts_of}
 use Rattle.mdcc_protocol.specs.Belongs.{is_centre}
-use Rattle.mdcc_ledger.specs.AllowedLedgers.{IsAllowed, IsAllowedBegun, is_begun, part_in, seqs_begun}
+use Rattle.mdcc_ledger.specs.AllowedLedgers.{IsAllowed, IsAllowedBegun, part_in, seqs_begun}
+use Rattle.mdcc_ledger.specs.AllowedStructures.{is_begun}
 use Rattle.mdcc_messages.specs.declared.messages.Envelope.{Envelope}
 use Rattle.mdcc_messages.specs.declared.messages.Message.{Message}
 use Rattle.mdcc_rules.specs.Messages.{to_all, to_each}

@@ -23,7 +23,8 @@ use Rattle.mdcc_messages.specs.declared.facts.Fact.{Fact}
 use Rattle.mdcc_protocol.specs.Facts.{votes_of}
 use Rattle.mdcc_protocol.specs.Structures.{all_claims, first_structure, is_left_out, mark_of_choice, with_claim}
 use Rattle.mdcc_ledger.specs.Ledger.{Added, Entry, Valued, facts_of, structure_valued}
-use Rattle.mdcc_ledger.specs.AllowedLedgers.{IsAllowed, IsMade, IsSent, is_valued, is_valued_as, reports_at}
+use Rattle.mdcc_ledger.specs.AllowedLedgers.{IsAllowed, IsSent, is_valued, is_valued_as}
+use Rattle.mdcc_ledger.specs.AllowedStructures.{IsMade, reports_at}
 use Rattle.mdcc_ledger.specs.AllowedFacts.{are_apart}
 use Rattle.mdcc_trace_rules.specs.Laws.{Extends}
 use Rattle.mdcc_trace_states.specs.Words.{In, IsTail}

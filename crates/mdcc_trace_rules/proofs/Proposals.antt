@@ -24,7 +24,8 @@ use Rattle.mdcc_protocol.specs.declared.acceptor.ProposeAnswer.{ProposeAnswer}
 use Rattle.mdcc_protocol.specs.Acceptor.{answer_after, answer_to_new, fit_of, vote_by_fit, vote_on, vote_to_accept, vote_to_reject}
 use Rattle.mdcc_rules.specs.AcceptorRules.{propose_step, proposed_step}
 use Rattle.mdcc_ledger.specs.Ledger.{Added, Entry, choices_begun, facts_of, mark_given}
-use Rattle.mdcc_ledger.specs.AllowedLedgers.{IsAllowed, is_begun, is_own_mark}
+use Rattle.mdcc_ledger.specs.AllowedLedgers.{IsAllowed}
+use Rattle.mdcc_ledger.specs.AllowedStructures.{is_begun, is_own_mark}
 use Rattle.mdcc_ledger.specs.BootTest.{is_allowed_mark}
 use Rattle.mdcc_protocol.specs.Belongs.{cause_belongs, choice_belongs, tx_belongs, update_belongs}
 use Rattle.mdcc_protocol.specs.Fit.{load_of}

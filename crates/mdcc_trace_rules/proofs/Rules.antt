@@ -18,7 +18,8 @@ use Rattle.mdcc_protocol.specs.Marks.{Amounts}
 use Rattle.mdcc_messages.specs.declared.facts.Fact.{Fact}
 use Rattle.mdcc_protocol.specs.Facts.{base_of, current_of, executed_of, is_heard, unresolved_of, write_sets_of}
 use Rattle.mdcc_ledger.specs.Ledger.{Added, Entry, choices_begun, facts_of, outcome_of}
-use Rattle.mdcc_ledger.specs.AllowedLedgers.{IsBacked, IsAllowed, is_begun}
+use Rattle.mdcc_ledger.specs.AllowedLedgers.{IsBacked, IsAllowed}
+use Rattle.mdcc_ledger.specs.AllowedStructures.{is_begun}
 use Rattle.mdcc_protocol.specs.Belongs.{is_centre, outcome_belongs, tx_belongs}
 use Rattle.mdcc_protocol.specs.Learner.{collided, decision_of, is_learned, with_vote}
 use Rattle.mdcc_protocol.specs.Manager.{act_on_cause, act_on_vote, acted, choice_at, choice_unled, decision, keys_of_choices, lead_act, vote_taken, would_decide}

@@ -13,7 +13,8 @@ use Rattle.mdcc_option.specs.Equality.{choice_eq}
 use Rattle.mdcc_messages.specs.declared.facts.Fact.{Fact}
 use Rattle.mdcc_protocol.specs.Facts.{marks_voted, votes_of}
 use Rattle.mdcc_ledger.specs.Ledger.{Added, Entry, Valued, choices_begun, facts_of, mark_given}
-use Rattle.mdcc_ledger.specs.AllowedLedgers.{IsAllowed, is_begun, seqs_begun}
+use Rattle.mdcc_ledger.specs.AllowedLedgers.{IsAllowed, seqs_begun}
+use Rattle.mdcc_ledger.specs.AllowedStructures.{is_begun}
 use Rattle.mdcc_trace_states.specs.Words.{In, IsTail}
 use Rattle.mdcc_trace_states.proofs.Tests.{Decides-choice}
 use Rattle.mdcc_trace_states.proofs.Maps.{tx-true, union-keeps}

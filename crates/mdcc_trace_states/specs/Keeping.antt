@@ -14,7 +14,8 @@ use Rattle.mdcc_protocol.specs.Facts.{current_of, epoch_of, promised_through, re
 use Rattle.mdcc_protocol.specs.Fit.{parts_of}
 use Rattle.mdcc_protocol.specs.Leader.{has_proposed}
 use Rattle.mdcc_ledger.specs.Ledger.{Entry, choices_begun, facts_of, mark_given, structure_valued}
-use Rattle.mdcc_ledger.specs.AllowedLedgers.{are_distinct, seqs_begun}
+use Rattle.mdcc_ledger.specs.AllowedLedgers.{seqs_begun}
+use Rattle.mdcc_ledger.specs.AllowedStructures.{are_distinct}
 use Rattle.mdcc_protocol.specs.Belongs.{is_centre, mark_belongs, tx_belongs}
 use Rattle.mdcc_protocol.specs.Volatile.{Counted, Lead, Leading, Managing, Undecided, Volatile, number_at, structure_found}
 use Rattle.mdcc_protocol.specs.declared.votes.Vote.{Vote}

@@ -4,7 +4,8 @@ use Rattle.mdcc_base.specs.Ballot.{is_fast}
 use Rattle.mdcc_option.specs.declared.cluster.Cluster.{Cluster}
 use Rattle.mdcc_protocol.specs.Facts.{base_of, current_of, executed_of, promised_through, report_of}
 use Rattle.mdcc_ledger.specs.Ledger.{Entry, facts_of, mark_given, outcome_of}
-use Rattle.mdcc_ledger.specs.AllowedLedgers.{is_begun, is_valued}
+use Rattle.mdcc_ledger.specs.AllowedLedgers.{is_valued}
+use Rattle.mdcc_ledger.specs.AllowedStructures.{is_begun}
 use Rattle.mdcc_protocol.specs.Belongs.{ballot_belongs, cause_belongs, is_centre, message_belongs, tx_belongs}
 use Rattle.mdcc_messages.specs.declared.messages.Envelope.{Envelope}
 use Rattle.mdcc_messages.specs.declared.messages.Message.{Message}
