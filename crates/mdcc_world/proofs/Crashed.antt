@@ -3,6 +3,7 @@ use Rattle.std.proofs.Common.{◌≡◌, ℕ, ◌+◌, ◌-◌, ◌≤◌, ◌<�
 use Rattle.std.specs.Prelude.{set}
 use Rattle.std.proofs.lemmas.Bool.{cases_Bool, eqb-true, eq-eqb}
 use Rattle.std.proofs.lemmas.List.{get_or-set_other, get_or-set_same, length-set}
+use Rattle.mdcc_built.specs.Built.{built}
 use Rattle.mdcc_disks.specs.Memory.{disk_of}
 use Rattle.mdcc_facts.specs.declared.list_facts.ListFacts.{ListFacts}
 use Rattle.mdcc_log.specs.Frames.{RestIsRead}
@@ -147,11 +148,11 @@ restarted-nodes nodes node w a epoch world centre stand is = record {
 
 -- the limit of its log
 pub restart-limit : (w : World) (a : ℕ) → nat_lt most_log (log_length (Fact.Booted (next_epoch w a) ∷ facts_of w.ledger a)) ≡ true
-    → restarted w a ≡ Err (EventFault.Limit LimitName.Log most_log)
+    → restarted built w a ≡ Err (EventFault.Limit LimitName.Log most_log)
 restart-limit w a full = rw full refl
 
 pub restart-within : (w : World) (a : ℕ) → nat_lt most_log (log_length (Fact.Booted (next_epoch w a) ∷ facts_of w.ledger a)) ≡ false
-    → restarted w a ≡ Ok (restart_happened (counted_event w) a (next_epoch w a))
+    → restarted built w a ≡ Ok (restart_happened (counted_event w) a (next_epoch w a))
 restart-within w a room = rw room refl
 
 facts-restarted : (w : World) (a epoch b : ℕ) → with_fact_at (facts_of w.ledger) a (Fact.Booted epoch) b ≡ facts_of (Added a (Fact.Booted epoch) ∷ w.ledger) b
@@ -166,12 +167,12 @@ pub has-restarted : (world new : TheWorld) (kept : Logs) (w : World) (a epoch : 
     → LogsStand kept w.cluster.quorums.centres (with_fact_at (facts_of w.ledger) a (Fact.Booted epoch))
     → nat_lt most_log (log_length (Fact.Booted epoch ∷ facts_of w.ledger a)) ≡ false
     → lines ≡ before ++ Line.Restart a epoch ∷ []
-    → Happens {T = Unit {0}} new before lines (Ok tt) (restarted w a)
+    → Happens {T = Unit {0}} new before lines (Ok tt) (restarted built w a)
 has-restarted world new kept w a epoch node before lines like centre early many nine rest nodes same is logs room told =
     let counted = counted-stays w like.records.itself in
     let few = like.records.few_reads in
     let standing : NodesStand world.nodes.items (counted_event w) = record { as_many = like.nodes.as_many; each = like.nodes.each } in
-    let within : restarted w a ≡ Ok (restart_happened (counted_event w) a epoch) =
+    let within : restarted built w a ≡ Ok (restart_happened (counted_event w) a epoch) =
     restart-within w a (subst (λ (n : ℕ). nat_lt most_log (log_length (Fact.Booted n ∷ facts_of w.ledger a)) ≡ false) same room)
     ∙ ap (λ (n : ℕ). Ok (restart_happened (counted_event w) a n)) (sym same) in
     let itself : IsWorld (restart_happened (counted_event w) a epoch).world =

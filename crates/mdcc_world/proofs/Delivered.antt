@@ -1,5 +1,6 @@
 -- A message comes to its centre.
-use Rattle.std.proofs.Common.{◌≡◌, ℕ, ◌+◌, ◌-◌, ◌≤◌, true, List, [], refl, sym, ap, ◌∙◌, subst, inl, inr, Option, Some, None, Result, Ok, Err, arith, length}
+use Rattle.std.proofs.Common.{◌≡◌, ℕ, ◌+◌, ◌-◌, ◌≤◌, true, List, refl, sym, ap, ◌∙◌, subst, inl, inr, Option, Some, None, Result, Ok, Err, arith, length}
+use Rattle.std.specs.List.{AllByRecursion}
 use Rattle.std.specs.Option.{option_map}
 use Rattle.std.proofs.lemmas.Bool.{cases_Bool}
 use Rattle.mdcc_node.specs.Stepping.{given}
@@ -16,6 +17,7 @@ use Rattle.mdcc_rules.specs.declared.node.Step.{Step}
 use Rattle.mdcc_rules.specs.declared.node.StepFault.{StepFault}
 use Rattle.mdcc_language.specs.declared.world.EventFault.{EventFault}
 use Rattle.mdcc_world.proofs.Counted.{up-centre, up-within}
+use Rattle.mdcc_world.proofs.Took.{valued-counted}
 use Rattle.mdcc_world.specs.Making.{IsMade, IsMessageMade}
 use Rattle.mdcc_world.specs.Nodes.{NodesStand}
 use Rattle.mdcc_world.specs.Stands.{IsLike, entries_of}
@@ -25,6 +27,7 @@ use Rattle.mdcc_worlds.proofs.Stays.{delivered-stays, some-centre}
 use Rattle.mdcc_worlds.proofs.Within.{made-quiet}
 use Rattle.mdcc_worlds.specs.Delivering.{at_message, delivery_by, message_by, message_counted}
 use Rattle.mdcc_worlds.specs.Happening.{at_centre}
+use Rattle.mdcc_worlds.specs.Sending.{IsValuedBy}
 use Rattle.mdcc_worlds.specs.Standing.{IsSent, IsWorld}
 
 -- the message that was sent under a number, to a centre that is up
@@ -34,15 +37,15 @@ pub record IsSentAs (w : World) (number : ℕ) (envelope : Envelope) : Type 0 wh
   pub same : sent.envelope ≡ envelope
   pub up : is_up_at w envelope.to ≡ true
 
-up-addressee : (w : World) (number : ℕ) (sent : Sent) → numbered w.sent number ≡ Some sent → at_message w number ≡ Ok tt → is_up_at w sent.envelope.to ≡ true
+up-addressee : (w : World) (number : ℕ) (sent : Sent) → numbered w.sent number ≡ Some sent → at_message built w number ≡ Ok tt → is_up_at w sent.envelope.to ≡ true
 up-addressee w number sent e clear = elim (cases_Bool (is_up_at w sent.envelope.to)) [
   | inl up ↦ up
   | inr down ↦
-      let here : message_by w number (Some sent) ≡ Ok tt = ap (λ (o : Option Sent). message_by w number o) (sym e) ∙ clear in
+      let here : message_by built w number (Some sent) ≡ Ok tt = ap (λ (o : Option Sent). message_by built w number o) (sym e) ∙ clear in
       let bad : Err (EventFault.Down sent.envelope.to) ≡ Ok tt = rw down at here in absurd (cc)
 ]
 
-pub some-sent : (w : World) (number : ℕ) (envelope : Envelope) (mail : List Sent) → mail ≡ w.sent → at_message w number ≡ Ok tt
+pub some-sent : (w : World) (number : ℕ) (envelope : Envelope) (mail : List Sent) → mail ≡ w.sent → at_message built w number ≡ Ok tt
     → Some envelope ≡ option_map (λ (sent : Sent). sent.envelope) (numbered mail number) → IsSentAs w number envelope
 some-sent w number envelope mail are clear some = by_sent (numbered w.sent number) refl
   where
@@ -62,11 +65,12 @@ some-sent w number envelope mail are clear some = by_sent (numbered w.sent numbe
           up = subst (λ (x : Envelope). is_up_at w x.to ≡ true) same (up-addressee w number sent e clear);
         }
 
+-- beside its fact a message tells structures of its centre alone
 quiet : (w : World) (a : ℕ) (envelope : Envelope) → IsWorld w → IsWellFormedEnvelope envelope → (r : Result NodeStep StepFault) → step_at built w a (Input.Message envelope) ≡ r
-    → entries_of r ≡ []
-quiet w a envelope stands formed (Err fault) e = refl
+    → AllByRecursion (IsValuedBy a) (entries_of r)
+quiet w a envelope stands formed (Err fault) e = tt
 quiet w a envelope stands formed (Ok step) e =
-    made-quiet w.cluster a (facts_of w.ledger a) (centre_at w a).volatile envelope step stands.cluster_itself.quorums formed.message e
+    made-quiet built w.cluster a (facts_of w.ledger a) (centre_at w a).volatile envelope step stands.cluster_itself.quorums formed.message e
 
 module _ (world : TheWorld) (w : World) (number : ℕ) (envelope : Envelope) (like : IsLike world w) (is : IsSentAs w number envelope) where
   pub sent-formed : IsWellFormedEnvelope envelope
@@ -108,7 +112,7 @@ module _ (world : TheWorld) (w : World) (number : ℕ) (envelope : Envelope) (li
           };
           centre = up-centre w envelope.to is.up;
           well_formed = sent-formed;
-          outcomes = rw (told, rest) like.outcomes;
+          outcomes = rw rest (valued-counted world.outcomes w.cluster.quorums envelope.to (entries_of (step_at built after envelope.to (Input.Message envelope))) w.ledger told like.outcomes);
           logs = rw rest like.logs;
           step_itself = itself;
         };
@@ -130,7 +134,7 @@ module _ (world : TheWorld) (w : World) (number : ℕ) (envelope : Envelope) (li
       (λ itself nodes. record {
         envelope = envelope;
         itself = made-there new made rest mail itself nodes;
-        comes = ap (λ (o : Option Sent). delivery_by w number o) is.there ∙ subst (λ (e : Envelope). delivery_by w number (Some is.sent) ≡ delivery_by w number (Some (record is.sent { envelope = e }))) is.same refl;
+        comes = ap (λ (o : Option Sent). delivery_by built w number o) is.there ∙ subst (λ (e : Envelope). delivery_by built w number (Some is.sent) ≡ delivery_by built w number (Some (record is.sent { envelope = e }))) is.same refl;
       })
 
 -- to whom a message goes
@@ -155,16 +159,16 @@ addressee-within w number a mail world are some = by_sent (numbered w.sent numbe
 
 -- why nothing is delivered to it
 pub addressee-at : (w : World) (number a : ℕ) (mail : List Sent) → mail ≡ w.sent
-    → Some a ≡ option_map (λ (sent : Sent). sent.envelope.to) (numbered mail number) → at_centre w a ≡ at_message w number
+    → Some a ≡ option_map (λ (sent : Sent). sent.envelope.to) (numbered mail number) → at_centre built w a ≡ at_message built w number
 addressee-at w number a mail are some = by_sent (numbered w.sent number) refl
   where
     here : Some a ≡ option_map (λ (sent : Sent). sent.envelope.to) (numbered w.sent number)
     here = some ∙ ap (λ (xs : List Sent). option_map (λ (sent : Sent). sent.envelope.to) (numbered xs number)) are
 
-    by_sent : (o : Option Sent) → numbered w.sent number ≡ o → at_centre w a ≡ at_message w number
+    by_sent : (o : Option Sent) → numbered w.sent number ≡ o → at_centre built w a ≡ at_message built w number
     by_sent None e =
         let none : Some a ≡ None = here ∙ ap (λ (o : Option Sent). option_map (λ (sent : Sent). sent.envelope.to) o) e in absurd (cc)
     by_sent (Some sent) e =
         let is : Some a ≡ Some sent.envelope.to = here ∙ ap (λ (o : Option Sent). option_map (λ (sent : Sent). sent.envelope.to) o) e in
         let same : a ≡ sent.envelope.to = cc in
-        ap (λ (n : ℕ). at_centre w n) same ∙ sym (ap (λ (o : Option Sent). message_by w number o) e)
+        ap (λ (n : ℕ). at_centre built w n) same ∙ sym (ap (λ (o : Option Sent). message_by built w number o) e)

@@ -19,13 +19,13 @@ use Rattle.mdcc_worlds.specs.Delivering.{IsDelivering, unmoved}
 pub record HasDelivered (world : TheWorld) (before after : List Line) (w : World) (whole left : List ℕ) : Type 0 where
   pub reached : Happened
   pub happened : HasHappened world before after reached
-  pub so_far : IsDelivering w whole left reached
+  pub so_far : IsDelivering built w whole left reached
 
 pub delivers-begin : (world : TheWorld) (lines : List Line) (w : World) (whole : List ℕ) → IsLike world w → HasDelivered world lines lines w whole whole
 delivers-begin world lines w whole like = record {
   reached = unmoved w;
   happened = record { like = like; lines = sym (append-nil lines) };
-  so_far = delivering-begins w whole;
+  so_far = delivering-begins built w whole;
 }
 
 -- a refusal that is neither for want of memory nor for a limit
@@ -46,7 +46,7 @@ module _ (world : TheWorld) (before lines : List Line) (w : World) (whole left :
       record {
         reached = after_lines has.reached.lines come.h;
         happened = happened-then world new before lines after has.reached come.h has.happened come.happened;
-        so_far = delivering-goes_on w whole left rest number has.reached come.h first has.so_far come.is;
+        so_far = delivering-goes_on built w whole left rest number has.reached come.h first has.so_far come.is;
       }
 
   pub delivers-refused : (number : ℕ) (rest : List ℕ) (fault : EventFault) → left ≡ number ∷ rest
@@ -54,7 +54,7 @@ module _ (world : TheWorld) (before lines : List Line) (w : World) (whole left :
       → OnFalse (is_memory fault) (deliveries_of built whole (unmoved w) ≡ Err fault)
   delivers-refused number rest fault first closed =
       fault-then (is_memory fault) (λ (e : delivery_of built has.reached.world number ≡ Err fault).
-      (delivering-refused w whole left rest number has.reached fault first has.so_far e).0)
+      (delivering-refused built w whole left rest number has.reached fault first has.so_far e).0)
       (closed has.reached.world has.happened.like)
 
   pub delivers-left : (new : TheWorld) (after : List Line) (number : ℕ) (rest : List ℕ) (fault : EventFault) → left ≡ number ∷ rest
@@ -63,6 +63,6 @@ module _ (world : TheWorld) (before lines : List Line) (w : World) (whole left :
       → OnRefusal {T = Unit {0}} (Err fault) (HasHappened new before after (deliveries_before built whole (unmoved w)))
   delivers-left new after number rest fault first closed kept =
       refusal-and fault (λ (same : (new ≡ world) × (after ≡ lines)) (e : delivery_of built has.reached.world number ≡ Err fault).
-      let reached = (delivering-refused w whole left rest number has.reached fault first has.so_far e).1 in
+      let reached = (delivering-refused built w whole left rest number has.reached fault first has.so_far e).1 in
       rw (same.0, same.1) (subst (λ (h : Happened). HasHappened world before lines h) (sym reached) has.happened))
       kept (closed has.reached.world has.happened.like)

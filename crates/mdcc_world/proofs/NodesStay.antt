@@ -122,7 +122,7 @@ module _ (nodes : List (Node ListFacts)) (w : World) (place : ℕ) (node : Node 
   nodes-stay input formed (Err fault) e after = rw (refused-same w (place + 1) fault) (refused after)
   nodes-stay input formed (Ok step) e after =
       rw (happened-taken w (place + 1) step (world.unstopped (place + 1) centre-here))
-      (made step (made-stays w.cluster (place + 1) (facts_of w.ledger (place + 1)) (centre_at w (place + 1)).volatile input step world.cluster_itself.quorums formed e) after)
+      (made step (made-stays built w.cluster (place + 1) (facts_of w.ledger (place + 1)) (centre_at w (place + 1)).volatile input step world.cluster_itself.quorums formed e) after)
 
 -- ---- the first nodes
 

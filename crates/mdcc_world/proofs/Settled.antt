@@ -93,22 +93,22 @@ none-waits w listed centres mail are same first =
     next-is w listed centres w.sent are ∙ ap (λ (o : Option ℕ). message_of w.sent o) (sym here)
 
 -- nothing keeps it back, where there may be one more event
-open-limit : (w : World) → w.events < most_events → at_limit w ≡ Ok tt
+open-limit : (w : World) → w.events < most_events → at_limit built w ≡ Ok tt
 open-limit w few = elim (cases_Bool (nat_le most_events w.events)) [
   | inl e ↦ let full = leb-true most_events w.events e in absurd (omega (few, full, arith))
   | inr e ↦ rw e refl
 ]
 
 pub clear-first : (world : TheWorld) (centres : List ℕ) (number : ℕ) (w : World) → AreUp world.up centres → world.events < 100000
-    → Some number ≡ first_to centres world.mail → IsLike world w → at_message w number ≡ Ok tt
+    → Some number ≡ first_to centres world.mail → IsLike world w → at_message built w number ≡ Ok tt
 clear-first world centres number w ups few first like =
     let there = first-there centres world.mail number first in
     let at : numbered w.sent number ≡ Some there.message = ap (λ (sent : List Sent). numbered sent number) (sym like.records.mail) ∙ there.there in
     let up = ups there.message.envelope.to there.among in
     let is : is_up_at w there.message.envelope.to ≡ true = sym (like.records.ups there.message.envelope.to up.0 up.1.0) ∙ up.1.1 in
     let events = like.records.events in
-    let clear : message_by w number (Some there.message) ≡ Ok tt = rw is (open-limit w (omega (events, few, arith))) in
-    ap (λ (o : Option Sent). message_by w number o) at ∙ clear
+    let clear : message_by built w number (Some there.message) ≡ Ok tt = rw is (open-limit w (omega (events, few, arith))) in
+    ap (λ (o : Option Sent). message_by built w number o) at ∙ clear
 
 -- ---- the settle
 
@@ -118,35 +118,35 @@ module _ (world : TheWorld) (before lines : List Line) (w : World) (listed centr
   here-mail = kept ∙ has.happened.like.records.mail
 
   pub settle-goes_on : (new : TheWorld) (after : List Line) (number : ℕ) → Some number ≡ first_to centres mail → world.events < 100000
-      → Happens {T = Unit {0}} new lines after (Ok tt) (delivery has.reached.world number)
+      → Happens {T = Unit {0}} new lines after (Ok tt) (delivery built has.reached.world number)
       → HasSettled new before after w listed centres (deliveries + 1)
   settle-goes_on new after number first few happens =
       let waits = some-waits has.reached.world listed centres mail number has.asked here-mail first in
-      let come = has-come {T = Unit {0}} tt new lines after (delivery has.reached.world number) happens in
+      let come = has-come {T = Unit {0}} tt new lines after (delivery built has.reached.world number) happens in
       let events = has.happened.like.records.events in
-      let is : delivery has.reached.world waits.next.0 ≡ Ok come.h = ap (λ (n : ℕ). delivery has.reached.world n) waits.numbers ∙ come.is in
+      let is : delivery built has.reached.world waits.next.0 ≡ Ok come.h = ap (λ (n : ℕ). delivery built has.reached.world n) waits.numbers ∙ come.is in
       record {
         reached = after_lines has.reached.lines come.h;
         happened = happened-then world new before lines after has.reached come.h has.happened come.happened;
-        so_far = settling-goes_on w listed has.reached come.h deliveries waits.next has.so_far waits.waits (omega (events, few, arith)) is;
-        asked = λ a. has.asked a ∙ ap (λ (b : Bool). b && is_named listed a) (sym (up-stays has.reached.world number a come.h has.happened.like.records.itself come.is));
+        so_far = settling-goes_on built w listed has.reached come.h deliveries waits.next has.so_far waits.waits (omega (events, few, arith)) is;
+        asked = λ a. has.asked a ∙ ap (λ (b : Bool). b && is_named listed a) (sym (up-stays built has.reached.world number a come.h has.happened.like.records.itself come.is));
       }
 
   pub settle-breaks : (number : ℕ) (fault : EventFault) → Some number ≡ first_to centres mail → world.events < 100000 → w.events < 100000
-      → OnFalse (is_memory fault) (delivery has.reached.world number ≡ Err fault)
+      → OnFalse (is_memory fault) (delivery built has.reached.world number ≡ Err fault)
       → OnFalse (is_memory fault) (event_of built w (Event.Settle listed) ≡ Err fault)
   settle-breaks number fault first few begun refused =
       let waits = some-waits has.reached.world listed centres mail number has.asked here-mail first in
       let events = has.happened.like.records.events in
-      fault-then (is_memory fault) (λ (e : delivery has.reached.world number ≡ Err fault).
-      settling-breaks w listed has.reached deliveries waits.next fault has.so_far waits.waits (omega (events, few, arith)) begun
-      (ap (λ (n : ℕ). delivery has.reached.world n) waits.numbers ∙ e)) refused
+      fault-then (is_memory fault) (λ (e : delivery built has.reached.world number ≡ Err fault).
+      settling-breaks built w listed has.reached deliveries waits.next fault has.so_far waits.waits (omega (events, few, arith)) begun
+      (ap (λ (n : ℕ). delivery built has.reached.world n) waits.numbers ∙ e)) refused
 
   pub settle-ends : (new : TheWorld) → IsLike new has.reached.world → None ≡ first_to centres mail → w.events < 100000 → EndsAfter new before lines w listed deliveries
   settle-ends new like first few = record {
     reached = has.reached;
     happened = record { like = like; lines = has.happened.lines };
-    answer = settling-ends w listed has.reached deliveries has.so_far (none-waits has.reached.world listed centres mail has.asked here-mail first) few;
+    answer = settling-ends built w listed has.reached deliveries has.so_far (none-waits has.reached.world listed centres mail has.asked here-mail first) few;
   }
 
   pub settle-stops : (number : ℕ) → Some number ≡ first_to centres mail → 100000 ≤ world.events
@@ -154,7 +154,7 @@ module _ (world : TheWorld) (before lines : List Line) (w : World) (listed centr
   settle-stops number first full =
       let waits = some-waits has.reached.world listed centres mail number has.asked here-mail first in
       let events = has.happened.like.records.events in
-      settling-stops w listed has.reached deliveries waits.next has.so_far waits.waits (omega (events, full, arith))
+      settling-stops built w listed has.reached deliveries waits.next has.so_far waits.waits (omega (events, full, arith))
 
 -- a settle begins with no delivery
 pub settle-begins : (world : TheWorld) (before lines : List Line) (w : World) (listed centres : List ℕ) → AreAsked w listed centres
@@ -162,7 +162,7 @@ pub settle-begins : (world : TheWorld) (before lines : List Line) (w : World) (l
 settle-begins world before lines w listed centres asked happened = record {
   reached = settle_told w listed;
   happened = happened;
-  so_far = settling-begins w listed;
+  so_far = settling-begins built w listed;
   asked = asked;
 }
 
@@ -180,12 +180,12 @@ settle-told world before lines after w listed deliveries next ends number told =
     })
 
 -- where there were as many events as there may be before the line
-pub settle-at_limit : (w : World) (listed : List ℕ) (fault : EventFault) → Err fault ≡ at_limit w → event_of built w (Event.Settle listed) ≡ Err fault
+pub settle-at_limit : (w : World) (listed : List ℕ) (fault : EventFault) → Err fault ≡ at_limit built w → event_of built w (Event.Settle listed) ≡ Err fault
 settle-at_limit w listed fault closed = elim (cases_Bool (nat_le most_events w.events)) [
   | inl e ↦
       let is : Err fault ≡ Err (EventFault.Limit LimitName.Events most_events) = rw e at closed in
       let same : EventFault.Limit LimitName.Events most_events ≡ fault = cc in
-      settle-closed w listed (leb-true most_events w.events e) ∙ ap (λ (f : EventFault). Err f) same
+      settle-closed built w listed refl (leb-true most_events w.events e) ∙ ap (λ (f : EventFault). Err f) same
   | inr e ↦ let is : Err fault ≡ Ok tt = rw e at closed in absurd (cc)
 ]
 

@@ -1,6 +1,7 @@
 -- What a step brings is taken.
 use Rattle.std.proofs.Common.{◌≡◌, ℕ, zero, suc, ◌+◌, ◌≤◌, ◌==◌, ◌&&◌, Bool, true, List, [], ◌∷◌, ◌++◌, refl, sym, ap, ◌∙◌, subst, inl, inr, Option, Some, None, Result, Ok, Err, map, append-nil}
 use Rattle.std.specs.Bool.{OnFalse}
+use Rattle.std.specs.List.{AllByRecursion}
 use Rattle.std.proofs.lemmas.Bool.{cases_Bool, eqb-true}
 use Rattle.mdcc_base.specs.Sizes.{Sizes}
 use Rattle.mdcc_base.specs.declared.faults.Memory.{Memory}
@@ -13,7 +14,7 @@ use Rattle.mdcc_outcomes.specs.declared.outcomes.Outcomes.{Outcomes}
 use Rattle.mdcc_option.specs.declared.choices.Outcome.{Outcome}
 use Rattle.mdcc_protocol.specs.Belongs.{is_centre}
 use Rattle.mdcc_built.specs.Built.{built}
-use Rattle.mdcc_ledger.specs.Ledger.{Added, Entry, facts_of, new_outcomes}
+use Rattle.mdcc_ledger.specs.Ledger.{Added, Begun, Entry, Valued, facts_of, new_outcomes}
 use Rattle.mdcc_messages.specs.Lengths.{messages_length}
 use Rattle.mdcc_protocol.specs.Marks.{is_commit}
 use Rattle.mdcc_rules.specs.Steps.{NodeStep, step_given}
@@ -32,7 +33,7 @@ use Rattle.mdcc_struct.specs.Maps.{TxMap}
 use Rattle.mdcc_worlds.proofs.Events.{input-is}
 use Rattle.mdcc_worlds.proofs.Stays.{happened-taken, input-stays, refused-same, site-here, site-there}
 use Rattle.mdcc_worlds.proofs.Within.{made-stays}
-use Rattle.mdcc_worlds.specs.Sending.{StaysWithin}
+use Rattle.mdcc_worlds.specs.Sending.{IsValuedBy, StaysWithin}
 use Rattle.mdcc_worlds.specs.Standing.{IsWorld}
 use Rattle.mdcc_worlds.specs.Taking.{chosen_line, limit_of, step_lines, step_told, taken, with_fact, world_taken}
 use Rattle.mdcc_world.proofs.Happened.{any-fault, limited, may_be}
@@ -56,7 +57,23 @@ endings-lines (e ∷ es) = ap (λ (lines : List Line). Line.Chosen e.0 (is_commi
 pub chosen-is : (quorums : Sizes) (entry : Entry) (before : List Entry) → map chosen_line (new_endings quorums entry before) ≡ chosen_lines quorums entry before
 chosen-is quorums entry before = endings-lines (new_outcomes quorums entry before)
 
--- ---- boots
+-- ---- structures and boots count for no outcome
+
+pub valued-counted : (outcomes : Outcomes) (quorums : Sizes) (me : ℕ) (entries ledger : List Entry) → AllByRecursion (IsValuedBy me) entries
+    → OutcomesStand outcomes quorums ledger → OutcomesStand outcomes quorums (entries ++ ledger)
+valued-counted outcomes quorums me [] ledger h stands = stands
+valued-counted outcomes quorums me (Added centre fact ∷ entries) ledger h stands = absurd h.0
+valued-counted outcomes quorums me (Begun centre tx choices ∷ entries) ledger h stands = absurd h.0
+valued-counted outcomes quorums me (Valued centre key version ballot options ∷ entries) ledger h stands =
+    let rest = valued-counted outcomes quorums me entries ledger h.1 stands in
+    record {
+      knows = rest.knows;
+      begun = rest.begun;
+      casts = λ tx. rest.casts tx ∙ sym (append-nil _);
+      ballots = rest.ballots;
+      counts = rest.counts;
+      few = rest.few;
+    }
 
 pub booted-counted : (outcomes : Outcomes) (quorums : Sizes) (entries : List Entry) (a epoch : ℕ) → OutcomesStand outcomes quorums entries
     → OutcomesStand outcomes quorums (Added a (Fact.Booted epoch) ∷ entries)
@@ -144,27 +161,27 @@ module _ (world : TheWorld) (w : World) (a : ℕ) (input : Input) (step : Step) 
   world-is = made.before.records.itself
 
   pub step-stays : StaysWithin w.cluster s
-  step-stays = made-stays w.cluster a (facts_of w.ledger a) (centre_at w a).volatile input s world-is.cluster_itself.quorums made.before.well_formed gave.1
+  step-stays = made-stays built w.cluster a (facts_of w.ledger a) (centre_at w a).volatile input s world-is.cluster_itself.quorums made.before.well_formed gave.1
 
   happens : input_happened w a result ≡ taken w a s
   happens = ap (input_happened w a) gave.1 ∙ happened-taken w a s (world-is.unstopped a made.before.centre)
 
-  comes : input_limited built w a result ≡ unless (limit_of w a s.fact s.sends) (taken w a s)
-  comes = input-is w a result world-is made.before.centre ∙ ap (step_told w a) gave.1
+  comes : input_limited built w a result ≡ unless (limit_of built w a s.fact s.sends) (taken w a s)
+  comes = input-is built w a result world-is made.before.centre ∙ ap (step_told built w a) gave.1
 
-  limit-is : limit_of w a step.fact step.sends ≡ limit_of w a s.fact s.sends
-  limit-is = ap (λ (o : Option Fact). limit_of w a o step.sends) fact-is ∙ ap (λ (xs : List Envelope). limit_of w a s.fact xs) sends-are
+  limit-is : limit_of built w a step.fact step.sends ≡ limit_of built w a s.fact s.sends
+  limit-is = ap (λ (o : Option Fact). limit_of built w a o step.sends) fact-is ∙ ap (λ (xs : List Envelope). limit_of built w a s.fact xs) sends-are
 
   -- a limit that would be passed refuses it
-  pub step-refused : (fault : EventFault) → Err fault ≡ may_be (limit_of w a step.fact step.sends)
+  pub step-refused : (fault : EventFault) → Err fault ≡ may_be (limit_of built w a step.fact step.sends)
       → OnFalse (is_memory fault) (input_limited built w a (step_at built w a input) ≡ Err fault)
   step-refused fault stopped =
-      let passed : limit_of w a s.fact s.sends ≡ Some fault = sym limit-is ∙ limited (limit_of w a step.fact step.sends) fault stopped in
+      let passed : limit_of built w a s.fact s.sends ≡ Some fault = sym limit-is ∙ limited (limit_of built w a step.fact step.sends) fault stopped in
       any-fault (is_memory fault) (comes ∙ ap (λ (o : Option EventFault). unless o (taken w a s)) passed)
 
   pub step-taken : (new : TheWorld) (before lines : List Line)
       → new ≡ record world { logs = new.logs; mail = new.mail; bytes = new.bytes; outcomes = new.outcomes }
-      → limit_of w a step.fact step.sends ≡ None
+      → limit_of built w a step.fact step.sends ≡ None
       → new.mail ≡ world.mail ++ map unsent step.sends → new.bytes ≡ world.bytes + messages_length step.sends
       → LogsStand new.logs w.cluster.quorums.centres (facts_with (facts_of w.ledger) a step.fact)
       → ((quorums : Sizes) (entries : List Entry) → OutcomesStand world.outcomes quorums entries → OutcomesStand new.outcomes quorums (with_fact a step.fact entries))
@@ -172,7 +189,7 @@ module _ (world : TheWorld) (w : World) (a : ℕ) (input : Input) (step : Step) 
       → Happens {T = Unit {0}} new before lines (Ok tt) (input_limited built w a (step_at built w a input))
   step-taken new before lines rest within mail bytes logs ledger told =
       let records = made.before.records in
-      let clear : limit_of w a s.fact s.sends ≡ None = sym limit-is ∙ within in
+      let clear : limit_of built w a s.fact s.sends ≡ None = sym limit-is ∙ within in
       let is : input_limited built w a result ≡ Ok (taken w a s) = comes ∙ ap (λ (o : Option EventFault). unless o (taken w a s)) clear in
       let here : OutcomesStand world.outcomes w.cluster.quorums (s.entries ++ w.ledger) =
       subst (λ (r : Result NodeStep StepFault). OutcomesStand world.outcomes w.cluster.quorums (entries_of r ++ w.ledger)) gave.1 made.before.outcomes in
@@ -183,7 +200,7 @@ module _ (world : TheWorld) (w : World) (a : ℕ) (input : Input) (step : Step) 
       subst (λ (r : Result Happened EventFault). Happens {T = Unit {0}} new before lines (Ok tt) r) (sym is) (record {
         like = record {
           records = record {
-            itself = subst (λ (h : Happened). IsWorld h.world) happens (input-stays w a input world-is made.before.centre made.before.well_formed);
+            itself = subst (λ (h : Happened). IsWorld h.world) happens (input-stays built w a input (λ f. absurd (cc)) world-is made.before.centre made.before.well_formed);
             cluster = ap (λ (x : TheWorld). x.cluster) rest ∙ records.cluster;
             mail = mail ∙ ap (λ (xs : List Envelope). world.mail ++ map unsent xs) sends-are ∙ ap (λ (sent : List Sent). sent ++ map unsent s.sends) records.mail;
             bytes = bytes ∙ ap (λ (xs : List Envelope). world.bytes + messages_length xs) sends-are ∙ ap (λ (n : ℕ). n + messages_length s.sends) records.bytes;
@@ -208,7 +225,7 @@ step-left world w a input fault made before lines told =
     let result = step_at built w a input in
     let e : result ≡ Err fault = err-given fault result made.before.step_itself in
     let same : (input_happened w a result).world ≡ w = ap (λ (r : Result NodeStep StepFault). (input_happened w a r).world) e ∙ refused-same w a fault in
-    let is : input_limited built w a result ≡ Ok (input_happened w a (Err fault)) = input-is w a result records.itself made.before.centre ∙ ap (step_told w a) e in
+    let is : input_limited built w a result ≡ Ok (input_happened w a (Err fault)) = input-is built w a result records.itself made.before.centre ∙ ap (step_told built w a) e in
     let here : OutcomesStand world.outcomes w.cluster.quorums w.ledger =
     subst (λ (r : Result NodeStep StepFault). OutcomesStand world.outcomes w.cluster.quorums (entries_of r ++ w.ledger)) e made.before.outcomes in
     subst (λ (r : Result Happened EventFault). Happens {T = Unit {0}} world before lines (Ok tt) r) (sym is) (record {

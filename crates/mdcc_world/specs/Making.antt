@@ -26,4 +26,4 @@ IsMadeSome world a made = (w : World) × (input : Input) × IsMade world w a inp
 pub record IsMessageMade (world : TheWorld) (w : World) (number a : ℕ) (made : Result Step StepFault) : Type 0 where
   pub envelope : Envelope
   pub itself : IsMade world (message_counted w number) a (Input.Message envelope) made
-  pub comes : delivery w number ≡ input_taken built (message_counted w number) a (Input.Message envelope)
+  pub comes : delivery built w number ≡ input_taken built (message_counted w number) a (Input.Message envelope)

@@ -26,7 +26,7 @@ AreAsked w listed centres =
 pub record HasSettled (world : TheWorld) (before after : List Line) (w : World) (listed centres : List ℕ) (deliveries : ℕ) : Type 0 where
   pub reached : Happened
   pub happened : HasHappened world before after reached
-  pub so_far : IsSettling w listed reached deliveries
+  pub so_far : IsSettling built w listed reached deliveries
   pub asked : AreAsked reached.world listed centres
 
 -- so many messages were delivered until none waited, and the settle is at its end

@@ -56,7 +56,7 @@ impl World {
         requires like { IsLikeSome self.old }
         requires up { (w : AWorld) → IsLike self.old w → is_up_at w centre ≡ true }
         ensures happens { (w : AWorld) → IsLike self.old w
-            → Happens self.new lines.old lines.new result (begun w centre transaction.now) }
+            → Happens self.new lines.old lines.new result (begun built w centre transaction.now) }
         ensures free { IfErr result (λ fault. is_free fault ≡ true) }
         ensures few { OnOk result (self.new.events ≤ 100000) }
     {
@@ -77,7 +77,7 @@ impl World {
         requires like { IsLikeSome self.old }
         requires up { (w : AWorld) → IsLike self.old w → is_up_at w centre ≡ true }
         ensures happens { (w : AWorld) → IsLike self.old w
-            → Happens self.new lines.old lines.new result (if_open (at_limit w) (begun w centre transaction.now)) }
+            → Happens self.new lines.old lines.new result (if_open (at_limit built w) (begun built w centre transaction.now)) }
         ensures few { OnOk result (self.new.events ≤ 100000) }
         ensures kept { OnRefusal result ((self.new ≡ self.old) × (lines.new ≡ lines.old)) }
     {
@@ -96,7 +96,7 @@ impl World {
         requires like { IsLikeSome self.old }
         requires up { (w : AWorld) → IsLike self.old w → is_up_at w centre ≡ true }
         ensures happens { (w : AWorld) → IsLike self.old w
-            → Happens self.new lines.old lines.new result (begun_if w centre (transaction_of w.cluster.schema parts.now)) }
+            → Happens self.new lines.old lines.new result (begun_if built w centre (transaction_of w.cluster.schema parts.now)) }
         ensures few { OnOk result (self.new.events ≤ 100000) }
         ensures kept { OnRefusal result ((self.new ≡ self.old) × (lines.new ≡ lines.old)) }
     {
@@ -110,7 +110,7 @@ impl World {
     fn refuse(&mut self, key: &Key, lines: &mut HeapList<Line>) -> Result<(), EventFault>
         requires { IsLikeSome self.old }
         ensures happens { (w : AWorld) → IsLike self.old w
-            → Happens self.new lines.old lines.new result (if_open (at_limit w) (Ok (no_item (counted_event w) key.now))) }
+            → Happens self.new lines.old lines.new result (if_open (at_limit built w) (Ok (no_item (counted_event w) key.now))) }
         ensures few { OnOk result (self.new.events ≤ 100000) }
         ensures kept { OnRefusal result ((self.new ≡ self.old) × (lines.new ≡ lines.old)) }
     {
@@ -132,7 +132,7 @@ impl World {
     ) -> Result<(), EventFault>
         requires { IsLikeSome self.old }
         ensures happens { (w : AWorld) (a : ℕ) → IsLike self.old w
-            → Happens self.new lines.old lines.new result (begin_by w a (Err fault.now)) }
+            → Happens self.new lines.old lines.new result (begin_by built w a (Err fault.now)) }
         ensures few { OnOk result (self.new.events ≤ 100000) }
         ensures kept { OnRefusal result ((self.new ≡ self.old) × (lines.new ≡ lines.old)) }
     {

@@ -58,7 +58,7 @@ impl World {
 
     // Why a centre is not restarted.
     fn at_restart(&self, centre: Centre) -> Result<(), EventFault>
-        ensures centre { (w : AWorld) → IsLike self.now w → result ≡ at_restart w centre }
+        ensures centre { (w : AWorld) → IsLike self.now w → result ≡ at_restart built w centre }
         ensures among { (w : AWorld) → IsLike self.now w → OnOk result (is_centre w.cluster centre ≡ true) }
         ensures few { OnOk result (self.now.events < 100000) }
     {
@@ -91,7 +91,7 @@ impl World {
         requires like { IsLikeSome self.old }
         requires among { (w : AWorld) → IsLike self.old w → is_centre w.cluster centre ≡ true }
         ensures happens { (w : AWorld) → IsLike self.old w
-            → Happens self.new lines.old lines.new result (restarted w centre) }
+            → Happens self.new lines.old lines.new result (restarted built w centre) }
         ensures free { IfErr result (λ fault. is_free fault ≡ true) }
         ensures few { OnOk result (self.new.events ≤ 100000) }
     {

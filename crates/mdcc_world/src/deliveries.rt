@@ -23,9 +23,9 @@ impl World {
     ) -> Result<(), EventFault>
         requires few { self.old.events < 100000 }
         requires like { IsLikeSome self.old }
-        requires clear { (w : AWorld) → IsLike self.old w → at_message w number ≡ Ok tt }
+        requires clear { (w : AWorld) → IsLike self.old w → at_message built w number ≡ Ok tt }
         ensures happens { (w : AWorld) → IsLike self.old w
-            → Happens self.new lines.old lines.new result (delivery w number) }
+            → Happens self.new lines.old lines.new result (delivery built w number) }
         ensures free { IfErr result (λ fault. is_free fault ≡ true) }
         ensures few { self.new.events ≤ self.old.events + 1 }
         ensures up { self.new.up ≡ self.old.up }
@@ -40,7 +40,7 @@ impl World {
     fn at_addressee(&self, centre: u8) -> Result<(), EventFault>
         requires some { 1 ≤ centre }
         requires few { centre ≤ 9 }
-        ensures centre { (w : AWorld) → IsLike self.now w → result ≡ at_centre w centre }
+        ensures centre { (w : AWorld) → IsLike self.now w → result ≡ at_centre built w centre }
         ensures few { OnOk result (self.now.events < 100000) }
     {
         match Centre::new(centre) {
@@ -52,7 +52,7 @@ impl World {
     // Why the message of a number is not delivered.
     fn at_message(&self, number: u32) -> Result<(), EventFault>
         requires { IsLikeSome self.now }
-        ensures message { (w : AWorld) → IsLike self.now w → result ≡ at_message w number }
+        ensures message { (w : AWorld) → IsLike self.now w → result ≡ at_message built w number }
         ensures few { OnOk result (self.now.events < 100000) }
     {
         match self.mail.addressee(number) {
@@ -65,9 +65,9 @@ impl World {
     fn deliver_told(&mut self, number: u32, lines: &mut HeapList<Line>) -> Result<(), EventFault>
         requires few { self.old.events < 100000 }
         requires like { IsLikeSome self.old }
-        requires clear { (w : AWorld) → IsLike self.old w → at_message w number ≡ Ok tt }
+        requires clear { (w : AWorld) → IsLike self.old w → at_message built w number ≡ Ok tt }
         ensures happens { (w : AWorld) → IsLike self.old w
-            → Happens self.new lines.old lines.new result (delivery_told w number) }
+            → Happens self.new lines.old lines.new result (delivery_told built w number) }
         ensures free { IfErr result (λ fault. is_free fault ≡ true) }
         ensures few { OnOk result (self.new.events ≤ 100000) }
     {

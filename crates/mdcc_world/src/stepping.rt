@@ -66,7 +66,7 @@ impl World {
     ) -> Result<(), EventFault>
         requires within { centre ≤ length self.now.logs.open.items }
         requires formed { IsFormed fact.now }
-        ensures limit { (w : AWorld) → Measures self.now w centre → result ≡ unless (limit_of w centre fact.now outgoing.now) tt }
+        ensures limit { (w : AWorld) → Measures self.now w centre → result ≡ unless (limit_of built w centre fact.now outgoing.now) tt }
         ensures free { IfErr result (λ fault. is_free fault ≡ true) }
         ensures few { OnOk result (self.now.bytes + messages_length outgoing.now < 2 ^ 64) }
     {

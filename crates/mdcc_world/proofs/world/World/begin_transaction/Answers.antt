@@ -1,4 +1,5 @@
 use Rattle.std.proofs.Common.{refl}
+use Rattle.mdcc_built.specs.Built.{built}
 use Rattle.mdcc_world.proofs.Happened.{free-refusal, opened, refused-is, residual}
 use Rattle.mdcc_worlds.specs.Beginning.{begun}
 use Rattle.mdcc_worlds.specs.Happening.{at_limit, if_open}
@@ -6,15 +7,15 @@ use Rattle.mdcc_world.proofs.world.World.begin_transaction.Goals as goal
 
 pub returns-in_err-at_limit-clause-happens : goal.returns-in_err-at_limit-clause-happens
 returns-in_err-at_limit-clause-happens c w like =
-    let r = begun w c.args.centre c.args.transaction.now in
+    let r = begun built w c.args.centre c.args.transaction.now in
     let fault = c.in_err-at_limit.field-0.0 in
     rw (residual c.from_residual.result fault c.from_residual.ensures.1)
-    (refused-is (if_open (at_limit w) r) (at_limit w) r fault refl (c.in_err-at_limit.ensures.limit w like))
+    (refused-is (if_open (at_limit built w) r) (at_limit built w) r fault refl (c.in_err-at_limit.ensures.limit w like))
 
 pub returns-clause-happens : goal.returns-clause-happens
 returns-clause-happens c w like =
-    let r = begun w c.args.centre c.args.transaction.now in
-    opened c.begin_at.result _ _ _ (if_open (at_limit w) r) (at_limit w) r refl (c.in_ok-at_limit.ensures.limit w like) (c.begin_at.ensures.happens w like)
+    let r = begun built w c.args.centre c.args.transaction.now in
+    opened c.begin_at.result _ _ _ (if_open (at_limit built w) r) (at_limit built w) r refl (c.in_ok-at_limit.ensures.limit w like) (c.begin_at.ensures.happens w like)
 
 pub returns-clause-kept : goal.returns-clause-kept
 returns-clause-kept c = free-refusal c.begin_at.result _ c.begin_at.ensures.free

@@ -1,4 +1,5 @@
 use Rattle.std.proofs.Common.{◌<◌, ◌+◌, ◌∷◌, Bool, List, Ok, arith, ap, ◌∙◌, subst}
+use Rattle.mdcc_built.specs.Built.{built}
 use Rattle.mdcc_logs.specs.Nodes.{IsNodeOf}
 use Rattle.mdcc_logs.specs.Starting.{HasStarted, Starts}
 use Rattle.mdcc_logs.specs.declared.starting.Started.{Started}
@@ -33,7 +34,7 @@ returns-in-Ok-Node-clause-happens c w like =
     let node : IsNodeOf c.in-Ok-Node.node w.cluster a (Fact.Booted c.in-Ok-Node.epoch ∷ facts_of w.ledger a) nothing_kept = rw (← like.records.cluster) started.node_of in
     let rest = c.rise.ensures.rest
     ∙ ap (λ (ups : List Bool). record world { nodes = c.rise.new.self.nodes; up = ups; logs = c.restart.new.self; events = world.events + 1 }) c.rise.ensures.up in
-    told-result c.tell_restart.result c.rise.new.self c.args.lines.now c.tell_restart.new.lines (restarted w a) c.tell_restart.ensures.ok c.tell_restart.ensures.memory
+    told-result c.tell_restart.result c.rise.new.self c.args.lines.now c.tell_restart.new.lines (restarted built w a) c.tell_restart.ensures.ok c.tell_restart.ensures.memory
     (λ put. has-restarted world c.rise.new.self c.restart.new.self w a c.in-Ok-Node.epoch c.in-Ok-Node.node c.args.lines.now c.tell_restart.new.lines like centre early
     (omega arith) (omega arith) rest c.rise.ensures.nodes started.next node started.stand started.room put)
 

@@ -1,4 +1,5 @@
 use Rattle.std.proofs.Common.{◌≡◌, ◌-◌, ◌<◌, ◌∙◌, List, ap, arith, refl, sym}
+use Rattle.mdcc_built.specs.Built.{built}
 use Rattle.mdcc_mail.specs.Waiting.{first_to}
 use Rattle.mdcc_messages.specs.Mailbox.{Sent}
 use Rattle.mdcc_world.proofs.Happened.{has-come, like-mail, residual}
@@ -40,7 +41,7 @@ loop-deliveries-preserved c =
     let some = at.invariant.some in
     let number = c.in-Some.number in
     let here = like-mail at.self c.first_waiting.new.self some.0 c.first_waiting.ensures.kept some.1 in
-    let come = has-come {T = Unit {0}} tt c.delivered.new.self at.lines c.delivered.new.lines (delivery some.0 number) (c.in_ok-delivered-in-Some.ensures.happens some.0 here) in
+    let come = has-come {T = Unit {0}} tt c.delivered.new.self at.lines c.delivered.new.lines (delivery built some.0 number) (c.in_ok-delivered-in-Some.ensures.happens some.0 here) in
     record {
       up = c.in_ok-delivered-in-Some.ensures.up ∙ at.invariant.up;
       events = (let more = c.in_ok-delivered-in-Some.ensures.few in let events = at.invariant.events in omega (more, events, arith));
