@@ -1,7 +1,7 @@
 -- A structure that passes the test is allowed.
 use Rattle.std.proofs.Common.{◌≡◌, ℕ, ◌+◌, Bool, true, not, ◌==◌, List, [], ◌∷◌, length, refl, inl, inr, Option, Some, None, Decides}
 use Rattle.std.proofs.lemmas.Bool.{and_parts, eqb-true}
-use Rattle.std.proofs.lemmas.Bool.Decides.{Decides-eqb, Decides-and, Decides-like}
+use Rattle.std.proofs.lemmas.Bool.Decides.{Decides-eqb, Decides-ltb, Decides-and, Decides-like}
 use Rattle.mdcc_base.specs.Ballot.{is_fast}
 use Rattle.mdcc_base.specs.declared.identifiers.Ballot.{Ballot}
 use Rattle.mdcc_base.specs.declared.identifiers.TxId.{TxId}
