@@ -1,8 +1,10 @@
 -- What facts say by transaction stands in ascending order.
-use Rattle.std.proofs.Common.{◌≡◌, ℕ, ◌+◌, ◌<◌, Bool, true, List, [], ◌∷◌, ◌++◌, Option, None, length, take, reverse, get_or, refl, sym, ap, ◌∙◌, arith}
+use Rattle.std.proofs.Common.{◌≡◌, ℕ, ◌+◌, ◌<◌, Bool, true, List, [], ◌∷◌, ◌++◌, Option, None, length, take, reverse, get_or, refl, sym, ap, ◌∙◌, arith, inl, inr}
 use Rattle.std.specs.Option.{option_or}
+use Rattle.std.proofs.lemmas.Bool.{cases_Bool}
 use Rattle.std.proofs.lemmas.Grind.{common_steps}
 use Rattle.std.proofs.lemmas.List.{reverse-append}
+use Rattle.mdcc_base.specs.Ballot.{is_fast}
 use Rattle.mdcc_base.specs.declared.identifiers.Ballot.{Ballot}
 use Rattle.mdcc_base.specs.declared.identifiers.TxId.{TxId}
 use Rattle.mdcc_base.specs.declared.key.Key.{Key}
@@ -10,7 +12,7 @@ use Rattle.mdcc_option.specs.declared.choices.Mark.{Mark}
 use Rattle.mdcc_option.specs.declared.items.Update.{Update}
 use Rattle.mdcc_struct.specs.Maps.{are_ascending, union, value_of}
 use Rattle.mdcc_struct.proofs.Walks.{ascending-union}
-use Rattle.mdcc_protocol.specs.Facts.{live_and_void, live_from, marks_voted, votes_of, write_sets_from, write_sets_of}
+use Rattle.mdcc_protocol.specs.Facts.{last_ballot, live_and_void, live_from, marks_voted, report_of, votes_of, write_sets_from, write_sets_of}
 use Rattle.mdcc_messages.specs.declared.facts.Fact.{Fact}
 use Rattle.mdcc_facts.specs.Walks.{is_next, least_from, next_tx}
 use Rattle.mdcc_facts.proofs.Walking.{least_union, value_union}
@@ -18,6 +20,13 @@ use Rattle.mdcc_facts.proofs.Walking.{least_union, value_union}
 pub ascending-votes : (facts : List Fact) (key : Key) (version : ℕ) (ballot : Ballot) → are_ascending (votes_of facts key version ballot) ≡ true
 ascending-votes [] key version ballot = refl
 ascending-votes (f ∷ fs) key version ballot = ascending-union (votes_of fs key version ballot) (marks_voted key version ballot f) (ascending-votes fs key version ballot)
+
+pub ascending-report : (facts : List Fact) (key : Key) (version : ℕ) (below : Ballot) → are_ascending (report_of 0 facts key version below).votes ≡ true
+ascending-report facts key version below =
+    elim (cases_Bool (is_fast below)) [
+      | inl fast ↦ rw fast refl
+      | inr classic ↦ rw classic (ascending-votes facts key version (last_ballot facts key version below))
+    ]
 
 pub ascending-live : (facts : List Fact) (key : Key) (version : ℕ) → are_ascending (live_and_void facts key version) ≡ true
 ascending-live [] key version = refl

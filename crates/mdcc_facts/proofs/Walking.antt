@@ -4,7 +4,7 @@ use Rattle.std.specs.Prelude.{slice_get, is_some, filter, find, if◌then◌else
 use Rattle.std.specs.Option.{option_map, option_or, option_and_then}
 use Rattle.std.proofs.lemmas.Bool.{cases_Bool, and_parts}
 use Rattle.std.proofs.lemmas.List.Sums.{fold-append}
-use Rattle.std.proofs.lemmas.Option.{slice_get_past}
+use Rattle.std.proofs.lemmas.Option.{same_Some, slice_get_past}
 use Rattle.mdcc_base.specs.TxId.{tx_eq, tx_lt}
 use Rattle.mdcc_base.specs.declared.identifiers.TxId.{TxId}
 use Rattle.mdcc_struct.specs.Maps.{TxMap, value_of, inserted, with_entry, union, are_ascending}
@@ -329,17 +329,6 @@ module _ {X : Type 0} (p : TxId × X → Bool) (m : TxMap X) (place : ℕ) (tx :
   pub entry-none : None ≡ value_of m tx → slice_get (filter p m) place ≡ None
   entry-none none = entry-at p m place up ∙ rw (← is, ← none) refl
 
-module _ {X : Type 0} (m : TxMap X) (place : ℕ) (tx : TxId) (up : are_ascending m ≡ true)
-    (is : Some tx ≡ option_map (λ e. e.0) (slice_get m place)) where
-  abbrev kept_is : Some tx ≡ option_map (λ e. e.0) (slice_get (filter (λ e. true) m) place)
-  kept_is = is ∙ ap (λ xs. option_map (λ e. e.0) (slice_get xs place)) (sym (each-filter m))
-
-  pub whole-some : (x : X) → Some x ≡ value_of m tx → slice_get m place ≡ Some (tx, x)
-  whole-some x some = sym (ap (λ xs. slice_get xs place) (each-filter m)) ∙ entry-some (λ e. true) m place tx up kept_is x some
-
-  pub whole-none : None ≡ value_of m tx → slice_get m place ≡ None
-  whole-none none = sym (ap (λ xs. slice_get xs place) (each-filter m)) ∙ entry-none (λ e. true) m place tx up kept_is none
-
 -- ---- the next entry
 
 find-next : {X : Type 0} (last : Option TxId) (m : TxMap X) → find (λ e. is_above last e.0) m ≡ slice_get (rest_of each_kept last m) 0
@@ -364,6 +353,37 @@ module _ {X : Type 0} (last : Option TxId) (m : TxMap X) (up : are_ascending m �
 
   pub found-end : None ≡ next_tx each_kept last m → None ≡ find (λ e. is_above last e.0) m
   found-end next = rw (next_entry last m up, ← next) refl
+
+-- ---- the entries one after the other
+
+past-none : {X : Type 0} (xs : List X) (i : ℕ) → slice_get xs i ≡ None → length xs ≤ i
+past-none [] i is = omega arith
+past-none (x ∷ xs) zero is = absurd (cc)
+past-none (x ∷ xs) (suc i) is = omega (arith, past-none xs i is)
+
+-- an entry together with another value
+abbrev pub beside : {X B : Type 0} → B → Option (TxId × X) → Option (B × TxId × X)
+beside b o = option_map (λ e. (b, e.0, e.1)) o
+
+pub beside-none : {X B : Type 0} (b : B) (o : Option (TxId × X)) → beside b o ≡ None → o ≡ None
+beside-none b None h = refl
+beside-none b (Some e) h = absurd (cc)
+
+pub beside-some : {X B : Type 0} (b : B) (o : Option (TxId × X)) (found : B × TxId × X) → beside b o ≡ Some found → o ≡ Some (found.1, found.2)
+beside-some b None found h = absurd (cc)
+beside-some {X = X} {B = B} b (Some e) found h = ap (λ (p : B × TxId × X). Some (p.1, p.2)) (same_Some (b, e.0, e.1) found h)
+
+module _ {X : Type 0} (last : Option TxId) (m : TxMap X) (i : ℕ) (so_far : drop i m ≡ rest_of each_kept last m) where
+  pub mark-found : find (λ e. is_above last e.0) m ≡ slice_get m i
+  mark-found = find-next last m ∙ ap (λ xs. slice_get xs 0) (sym so_far) ∙ get-behind m i
+
+  pub mark-none : find (λ e. is_above last e.0) m ≡ None → (place : ℕ) → i ≤ place → slice_get m place ≡ None
+  mark-none none place h = slice_get_past m place (omega (arith, past-none m i (sym mark-found ∙ none)))
+
+  pub mark-step : are_ascending m ≡ true → (e : TxId × X) → find (λ e. is_above last e.0) m ≡ Some e → drop (i + 1) m ≡ rest_of each_kept (Some e.0) m
+  mark-step up e found =
+      let is : rest_of each_kept last m ≡ e ∷ drop (i + 1) m = sym so_far ∙ drop-get m i e (sym mark-found ∙ found) in
+      sym (rest-next each_kept last m e (drop (i + 1) m) up is)
 
 -- ---- a value where the transaction is kept
 

@@ -1,5 +1,5 @@
 //! The votes at one ballot, in the order of their transactions.
-ghost use Rattle.std.specs.Prelude.{◌≡◌, find, option_map, reverse, slice_get};
+ghost use Rattle.std.specs.Prelude.{◌≡◌, find, reverse};
 ghost use Rattle.mdcc_facts.specs.Walks.{each_kept, entry_list, is_next, least_from, lower_passing, next_tx};
 ghost use Rattle.mdcc_facts.specs.Weights.{counted, with_mark};
 ghost use Rattle.mdcc_protocol.specs.Facts.{ballot_voted, last_ballot, marks_voted, votes_of};
@@ -71,23 +71,6 @@ fn least_mark(found: Option<TxId>, options: &Options, last: &Option<TxId>) -> Op
     least
 }
 
-// The least of one transaction and those above the last one that the fact votes on at a ballot.
-fn least_voted(
-    found: Option<TxId>,
-    fact: &Fact,
-    key: &Key,
-    version: u64,
-    ballot: &Ballot,
-    last: &Option<TxId>,
-) -> Option<TxId>
-    ensures { result ≡ least_from (is_next each_kept last.now) found (marks_voted key.now version ballot.now fact.now) }
-{
-    match marks_voted(fact, key, version, ballot) {
-        Some(options) => least_mark(found, options, last),
-        None => found,
-    }
-}
-
 // The least transaction above the last one that was voted on at a ballot.
 fn next_voted(
     facts: &[Fact],
@@ -100,7 +83,9 @@ fn next_voted(
 {
     let mut least = None;
     for fact in facts {
-        least = least_voted(least, fact, key, version, ballot, last);
+        if let Some(options) = marks_voted(fact, key, version, ballot) {
+            least = least_mark(least, options, last);
+        }
     }
     least
 }
@@ -129,44 +114,6 @@ fn mark_at(facts: &[Fact], key: &Key, version: u64, ballot: &Ballot, tx: &TxId) 
     mark
 }
 
-// The transaction at a place of the votes at a ballot.
-fn tx_at(facts: &[Fact], key: &Key, version: u64, ballot: &Ballot, place: usize) -> Option<TxId>
-    ensures { result ≡ option_map (λ e. e.0) (slice_get (votes_of (reverse facts.now) key.now version ballot.now) place) }
-{
-    let mut last = None;
-    for _step in 0..place {
-        match next_voted(facts, key, version, ballot, &last) {
-            Some(tx) => last = Some(tx),
-            None => return None,
-        }
-    }
-    next_voted(facts, key, version, ballot, &last)
-}
-
-/// The mark at a place of the votes at the greatest ballot below another one. Below the fast one
-/// there is none.
-pub(crate) fn mark_below(
-    facts: &[Fact],
-    key: &Key,
-    version: u64,
-    below: &Ballot,
-    place: usize,
-) -> Option<(Ballot, TxId, Mark)>
-    ensures { result ≡ mark_below (reverse facts.now) key.now version below.now place }
-{
-    if below.is(&Ballot::FAST) {
-        return None;
-    }
-    let ballot = last_ballot(facts, key, version, below);
-    match tx_at(facts, key, version, &ballot, place) {
-        Some(tx) => match mark_at(facts, key, version, &ballot, &tx) {
-            Some(mark) => Some((ballot, tx, mark)),
-            None => None,
-        },
-        None => None,
-    }
-}
-
 // The next mark above a transaction of the votes at a ballot.
 fn next_mark(
     facts: &[Fact],
@@ -186,7 +133,8 @@ fn next_mark(
     }
 }
 
-/// The next mark above a transaction of the votes at the greatest ballot below another one.
+/// The next mark above a transaction of the votes at the greatest ballot below another one. Below
+/// the fast one there is none.
 pub(crate) fn mark_after(
     facts: &[Fact],
     key: &Key,
@@ -204,6 +152,26 @@ pub(crate) fn mark_after(
         Some((tx, mark)) => Some((ballot, tx, mark)),
         None => None,
     }
+}
+
+/// The mark at a place of the votes at the greatest ballot below another one.
+pub(crate) fn mark_below(
+    facts: &[Fact],
+    key: &Key,
+    version: u64,
+    below: &Ballot,
+    place: usize,
+) -> Option<(Ballot, TxId, Mark)>
+    ensures { result ≡ mark_below (reverse facts.now) key.now version below.now place }
+{
+    let mut last = None;
+    for _step in 0..place {
+        match mark_after(facts, key, version, below, &last) {
+            Some(mark) => last = Some(mark.1),
+            None => return None,
+        }
+    }
+    mark_after(facts, key, version, below, &last)
 }
 
 /// One more where the test holds.

@@ -1,29 +1,44 @@
-use Rattle.std.proofs.Common.{◌≡◌, ◌∙◌, Some, None, false, sym, reverse, refl}
-use Rattle.std.specs.Prelude.{slice_get}
-use Rattle.mdcc_base.specs.Ballot.{is_fast}
-use Rattle.mdcc_protocol.specs.Facts.{votes_of}
-use Rattle.mdcc_facts.proofs.Gathered.{ascending-votes}
-use Rattle.mdcc_facts.proofs.Walking.{whole-none, whole-some}
+use Rattle.std.proofs.Common.{◌≡◌, ◌∙◌, ◌+◌, Option, Some, None, ap, arith, drop, reverse, sym}
+use Rattle.std.specs.Prelude.{find, slice_get}
+use Rattle.mdcc_base.specs.declared.identifiers.Ballot.{Ballot}
+use Rattle.mdcc_base.specs.declared.identifiers.TxId.{TxId}
+use Rattle.mdcc_option.specs.declared.choices.Mark.{Mark}
+use Rattle.mdcc_facts.specs.Walks.{each_kept, rest_of}
+use Rattle.mdcc_protocol.specs.Facts.{report_of}
+use Rattle.mdcc_protocol.specs.Stores.{is_above}
+use Rattle.mdcc_struct.specs.declared.report.Report.{Report}
+use Rattle.mdcc_facts.proofs.Gathered.{ascending-report}
+use Rattle.mdcc_facts.proofs.Walking.{beside, beside-none, beside-some, each-filter, mark-found, mark-none, mark-step}
 use Rattle.mdcc_facts.proofs.marks.mark_below.Goals as goal
 
-pub returns-in-Some-mark_at : goal.returns-in-Some-mark_at
-returns-in-Some-mark_at c =
-    let facts = reverse c.args.facts.now in
-    let ballot = c.last_ballot-ballot.result in
-    let votes = votes_of facts c.args.key.now c.args.version ballot in
-    let up = ascending-votes facts c.args.key.now c.args.version ballot in
-    let classic : is_fast c.args.below.now ≡ false = sym c.is.ensures ∙ c.if-is.false in
-    let here : slice_get votes c.args.place ≡ Some (c.in-Some.tx, c.in-Some-mark_at.mark) =
-    whole-some votes c.args.place c.in-Some.tx up (sym c.in-Some.is ∙ c.tx_at.ensures) c.in-Some-mark_at.mark (sym c.in-Some-mark_at.is ∙ c.mark_at.ensures) in
-    rw (classic, ← c.last_ballot-ballot.ensures, here) refl
+pub loop-step-init : goal.loop-step-init
+loop-step-init c =
+    let report = report_of 0 (reverse c.args.facts.now) c.args.key.now c.args.version c.args.below.now in
+    sym (each-filter report.votes)
 
-pub returns-in-None-mark_at : goal.returns-in-None-mark_at
-returns-in-None-mark_at c =
-    let facts = reverse c.args.facts.now in
-    let ballot = c.last_ballot-ballot.result in
-    let votes = votes_of facts c.args.key.now c.args.version ballot in
-    let up = ascending-votes facts c.args.key.now c.args.version ballot in
-    let classic : is_fast c.args.below.now ≡ false = sym c.is.ensures ∙ c.if-is.false in
-    let none : slice_get votes c.args.place ≡ None =
-    whole-none votes c.args.place c.in-Some.tx up (sym c.in-Some.is ∙ c.tx_at.ensures) (sym c.in-None-mark_at.is ∙ c.mark_at.ensures) in
-    rw (classic, ← c.last_ballot-ballot.ensures, none) refl
+pub returns-in-None : goal.returns-in-None
+returns-in-None c =
+    let report = report_of 0 (reverse c.args.facts.now) c.args.key.now c.args.version c.args.below.now in
+    let last = c.loop-step.last in
+    let none : find (λ (e : TxId × Mark). is_above last e.0) report.votes ≡ None =
+    beside-none report.ballot (find (λ (e : TxId × Mark). is_above last e.0) report.votes) (sym c.mark_after.ensures ∙ c.in-None.is) in
+    let past : slice_get report.votes c.args.place ≡ None =
+    mark-none last report.votes c.loop-step._step c.loop-step.invariant none c.args.place (omega (arith, c.loop-step-test.true)) in
+    sym (ap (beside report.ballot) past)
+
+pub loop-step-preserved : goal.loop-step-preserved
+loop-step-preserved c =
+    let report = report_of 0 (reverse c.args.facts.now) c.args.key.now c.args.version c.args.below.now in
+    let last = c.loop-step.last in
+    let found : find (λ (e : TxId × Mark). is_above last e.0) report.votes ≡ Some (c.in-Some.mark.1, c.in-Some.mark.2) =
+    beside-some report.ballot (find (λ (e : TxId × Mark). is_above last e.0) report.votes) c.in-Some.mark (sym c.mark_after.ensures ∙ c.in-Some.is) in
+    mark-step last report.votes c.loop-step._step c.loop-step.invariant
+    (ascending-report (reverse c.args.facts.now) c.args.key.now c.args.version c.args.below.now) (c.in-Some.mark.1, c.in-Some.mark.2) found
+
+pub returns : goal.returns
+returns c =
+    let report = report_of 0 (reverse c.args.facts.now) c.args.key.now c.args.version c.args.below.now in
+    let last = c.loop-step.last in
+    let end : c.loop-step._step ≡ c.args.place = omega (arith, c.loop-step-test.false, c.loop-step.auto._step-end) in
+    let so_far : drop c.args.place report.votes ≡ rest_of each_kept last report.votes = rw end at c.loop-step.invariant in
+    c.mark_after-2.ensures ∙ ap (beside report.ballot) (mark-found last report.votes c.args.place so_far)
