@@ -228,7 +228,7 @@ module _ (also : List Entry → Type 0) (well : IsWell also) (cluster : Cluster)
                 count-filter (λ (p : Counted). nat_le claim.version p.through) x.promises,
                 length-map (map (λ (p : Counted). p.from) reach) (λ c. report_of c (facts_of es c) x.key claim.version x.ballot),
               ))
-              (reports-empty cluster es x.key x.version claim.version x.ballot reach up.legal (round-classic also well cluster es a volatile up x.ballot g.above) later promises ranges);
+              (reports-empty cluster es x.key x.version claim.version x.ballot reach up.legal later promises ranges);
           made = empty-first cluster (facts_of es a) x.key claim.version (claim.tx, claim.choice) (reports_at es x.key claim.version x.ballot (map (λ (p : Counted). p.from) reach))
               (reports-empty cluster es x.key x.version claim.version x.ballot reach up.legal later promises ranges);
         },
