@@ -13,7 +13,7 @@ use Rattle.mdcc_language.specs.declared.schedule.HeaderCause.TheVariants.{Sched,
 use Rattle.mdcc_language.specs.declared.schedule.SchedFault.{SchedFault}
 use Rattle.mdcc_language.specs.declared.schedule.SchedCause.TheVariants.{Word, Order}
 use Rattle.mdcc_switches.specs.Built.{Built}
-use Rattle.mdcc_language.specs.Lines.{bytes_of_line, lines_in, text_of, line_end_of}
+use Rattle.mdcc_language.specs.Lines.{bounded, bytes_of_line, lines_in, line_end_of}
 use Rattle.mdcc_language.specs.Schedule.{begins_with}
 use Rattle.mdcc_language.specs.Words.{◌>>=◌, refused, text_eq, end_at, word_at, word_end, word_behind, natural_of, value_of}
 
@@ -54,18 +54,19 @@ is_next word left = begins_with word (bytes_of_line (next_line left))
 abbrev pub in_order : List ℕ → List ℕ → Result (Unit {0}) SchedFault
 in_order word line = if begins_with word line then Ok tt else refused 1 Order
 
--- the next line, which begins with this word and is read so; its line end is asked last
+-- a line that begins with this word and is read so; its line end is asked last
 abbrev pub whole_line : {A : Type 0} → List ℕ → (List ℕ → Result A SchedFault) → List ℕ → Result A SchedFault
 whole_line word read line = (do
-  text ← text_of line
-  _ ← in_order word text
-  value ← read text
-  _ ← line_end_of text line
+  _ ← in_order word (bytes_of_line line)
+  value ← read (bytes_of_line line)
+  _ ← line_end_of (bytes_of_line line) line
   Ok value)
 
--- what it spells, and what is left behind it
+-- what the next line spells, where its bytes aren't too many, and what is left behind it
 abbrev pub header_line : {A : Type 0} → List ℕ → (List ℕ → Result A SchedFault) → Left → Result (A × Left) HeaderFault
-header_line word read left = in_line left (whole_line word read (next_line left)) >>= λ value. Ok (value, without_next left)
+header_line word read left =
+    in_line left (bounded (bytes_of_line (next_line left)) (whole_line word read (next_line left)))
+    >>= λ value. Ok (value, without_next left)
 
 -- the word of the version: `1`
 abbrev pub is_version : List ℕ → ℕ → Result (Unit {0}) SchedFault

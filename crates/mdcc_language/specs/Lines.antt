@@ -1,5 +1,5 @@
 -- The lines of a text.
-use Rattle.std.specs.Prelude.{ℕ, ◌+◌, ◌==◌, nat_le, if◌then◌else◌, List, [], ◌∷◌, length, drop, Result, Ok}
+use Rattle.std.specs.Prelude.{ℕ, ◌+◌, ◌==◌, nat_le, if◌then◌else◌, List, [], ◌∷◌, length, drop, Result, Ok, Err}
 use Rattle.std.specs.List.{onto_first}
 use Rattle.mdcc_language.specs.declared.schedule.SchedFault.{SchedFault}
 use Rattle.mdcc_language.specs.declared.schedule.SchedCause.TheVariants.{Range, Word}
@@ -22,10 +22,15 @@ lines_in (b ∷ bs) = if b == line_end then (b ∷ []) ∷ lines_in bs else onto
 abbrev pub bytes_of_line : List ℕ → List ℕ
 bytes_of_line line = part_at line_end 0 line
 
--- the same, where they aren't too many
-abbrev pub text_of : List ℕ → Result (List ℕ) SchedFault
-text_of line =
-    if nat_le (length (bytes_of_line line)) most_bytes then Ok (bytes_of_line line) else refused (most_bytes + 1) Range
+-- what is read of a line that has too many bytes: its fault where that stands within the most bytes, and in all other
+-- cases the first byte too much is out of range
+abbrev pub of_long : {A : Type 0} → Result A SchedFault → Result A SchedFault
+of_long (Ok x) = refused (most_bytes + 1) Range
+of_long (Err fault) = if nat_le fault.column most_bytes then Err fault else refused (most_bytes + 1) Range
+
+-- what is read of a line with these bytes before its line end
+abbrev pub bounded : {A : Type 0} → List ℕ → Result A SchedFault → Result A SchedFault
+bounded text read = if nat_le (length text) most_bytes then read else of_long read
 
 -- one line end and nothing more, from this column on
 abbrev pub line_end_by : ℕ → List ℕ → Result (Unit {0}) SchedFault

@@ -9,7 +9,7 @@ use Rattle.mdcc_language.specs.declared.events.UpdateWord.{UpdateWord}
 use Rattle.mdcc_language.specs.declared.schedule.SchedFault.{SchedFault}
 use Rattle.mdcc_language.specs.declared.schedule.SchedCause.TheVariants.{Word, Order}
 use Rattle.mdcc_switches.specs.Built.{Built}
-use Rattle.mdcc_language.specs.Lines.{text_of, line_end_of}
+use Rattle.mdcc_language.specs.Lines.{bounded, bytes_of_line, line_end_of}
 use Rattle.mdcc_language.specs.Updates.{update_of}
 use Rattle.mdcc_language.specs.Words.{◌>>=◌, refused, text_eq, parts_from, end_at, word_at, word_end, not_empty, word_behind, natural_of, count_of, key_of}
 
@@ -148,9 +148,12 @@ event_or_none built cluster (b ∷ bs) =
     if b == 35 then Ok None else event_of built cluster (b ∷ bs) >>= λ event. Ok (Some event)
 
 -- the event of a line with its line end, which is asked last
-abbrev pub line_of : Built → Cluster → List ℕ → Result (Option Event) SchedFault
-line_of built cluster line = (do
-  text ← text_of line
-  event ← event_or_none built cluster text
-  _ ← line_end_of text line
+abbrev pub event_in : Built → Cluster → List ℕ → Result (Option Event) SchedFault
+event_in built cluster line = (do
+  event ← event_or_none built cluster (bytes_of_line line)
+  _ ← line_end_of (bytes_of_line line) line
   Ok event)
+
+-- the same, where its bytes aren't too many
+abbrev pub line_of : Built → Cluster → List ℕ → Result (Option Event) SchedFault
+line_of built cluster line = bounded (bytes_of_line line) (event_in built cluster line)

@@ -1,5 +1,5 @@
 -- What is read is spelled so.
-use Rattle.std.proofs.Common.{◌≡◌, ℕ, suc, ◌+◌, ◌^◌, ◌<◌, ◌==◌, Bool, true, false, not, cond, nat_le, List, [], ◌∷◌, ◌++◌, length, take, drop, map, Option, Some, None, Result, Ok, refl, sym, ap, ◌∙◌, arith, codes, append-nil, decimal, lit<, drop-drop, length-take-le}
+use Rattle.std.proofs.Common.{◌≡◌, ℕ, suc, ◌+◌, ◌^◌, ◌<◌, ◌==◌, Bool, true, false, not, cond, nat_le, List, [], ◌∷◌, ◌++◌, length, take, drop, map, Option, Some, None, Result, Ok, Err, refl, sym, ap, ◌∙◌, arith, codes, append-nil, decimal, lit<, drop-drop, length-take-le}
 use Rattle.std.specs.Cmp.Lexicographic.{same_text}
 use Rattle.std.specs.List.{join_with_byte, position_or_len}
 use Rattle.std.proofs.lemmas.Bool.{eqb-true, eqb-false}
@@ -11,14 +11,14 @@ use Rattle.mdcc_language.specs.declared.events.Event.TheVariants.{Read, Begin, D
 use Rattle.mdcc_language.specs.declared.events.UpdateWord.{UpdateWord}
 use Rattle.mdcc_language.specs.declared.schedule.SchedFault.{SchedFault}
 use Rattle.mdcc_language.specs.declared.schedule.SchedCause.TheVariants.{Word, Range}
-use Rattle.mdcc_language.specs.Lines.{bytes_of_line, most_bytes, text_of, line_end_by, line_end_of}
-use Rattle.mdcc_language.specs.Schedule.{centre_of, above, numbers_from, updates_from, centres_from, last_centre, tick_of, crash_of, restart_of, read_of, begin_of, deliver_of, settle_of, begins_with, event_of, event_or_none, line_of}
+use Rattle.mdcc_language.specs.Lines.{bounded, bytes_of_line, most_bytes, of_long, line_end_by, line_end_of}
+use Rattle.mdcc_language.specs.Schedule.{centre_of, above, numbers_from, updates_from, centres_from, last_centre, tick_of, crash_of, restart_of, read_of, begin_of, deliver_of, settle_of, begins_with, event_of, event_or_none, event_in, line_of}
 use Rattle.mdcc_language.specs.Updates.{update_of}
 use Rattle.mdcc_language.specs.Words.{◌>>=◌, refused, part_at, parts_from, behind, end_at, word_at, word_end, not_empty, word_behind, count_of, key_of}
 use Rattle.mdcc_words.specs.Spelled.{update_text}
 use Rattle.mdcc_built.specs.Built.{built}
 use Rattle.mdcc_words.proofs.Parts.{part_len_is, place_within}
-use Rattle.mdcc_words.proofs.Seams.{bind_ok, guard_ok, part_seam, front_seam, behind_ok, end_ok, drop_all}
+use Rattle.mdcc_words.proofs.Seams.{bind_ok, part_seam, front_seam, behind_ok, end_ok, drop_all}
 use Rattle.mdcc_words.proofs.Spelled.{natural_spelled, count_spelled, key_spelled, update_spelled}
 use Rattle.mdcc_sched.specs.Spelled.{numbers_text, event_text}
 
@@ -257,16 +257,27 @@ ended line y [] at e = absurd (cc)
 ended line y (b ∷ []) at e = ap (λ c. c ∷ []) (behind_first 10 line b [] at)
 ended line y (b ∷ c ∷ bs) at e = absurd (cc)
 
+-- what is read of a line that isn't too long is what it spells
+read_short : {A : Type 0} (text : List ℕ) (read : Result A SchedFault) (x : A) → bounded text read ≡ Ok x → read ≡ Ok x
+read_short text read x e = by (nat_le (length text) most_bytes) read e
+  where
+    by : (few : Bool) (read : Result _ SchedFault) → cond few read (of_long read) ≡ Ok x → read ≡ Ok x
+    by true read e = e
+    by false (Ok y) e = absurd (cc)
+    by false (Err fault) e = long (nat_le fault.column most_bytes) e
+      where
+        long : (early : Bool) → cond early (Err fault) (refused (most_bytes + 1) Range) ≡ Ok x → Err fault ≡ Ok x
+        long true e = e
+        long false e = absurd (cc)
+
 pub line_spelled : (cluster : Cluster) (line : List ℕ) (event : Event) → AreQuorums cluster.quorums → line_of built cluster line ≡ Ok (Some event) → line ≡ event_text event ++ codes "\n"
 line_spelled cluster line event h e =
-    let text = bind_ok (text_of line) _ (Some event) e in
-    let found = bind_ok (event_or_none built cluster text.0) _ (Some event) text.2 in
-    let end = bind_ok (line_end_of text.0 line) _ (Some event) found.2 in
+    let bytes : List ℕ = bytes_of_line line in
+    let found = bind_ok (event_or_none built cluster bytes) _ (Some event) (read_short bytes (event_in built cluster line) (Some event) e) in
+    let end = bind_ok (line_end_of bytes line) _ (Some event) found.2 in
     let same : found.0 ≡ Some event = cc (end.2) in
-    let short = guard_ok (nat_le (length (bytes_of_line line)) most_bytes) (Ok (bytes_of_line line)) (most_bytes + 1) Range text.0 text.1 in
-    let bytes : text.0 ≡ bytes_of_line line = cc (short.1) in
-    let some = some_event cluster text.0 event (found.1 ∙ ap (λ x. let r : Result (Option Event) SchedFault = Ok x in r) same) in
-    let last = ended line end.0 (drop (length (bytes_of_line line)) line) refl (ap (λ bs. line_end_of bs line) (sym bytes) ∙ end.1) in
+    let some = some_event cluster bytes event (found.1 ∙ ap (λ x. let r : Result (Option Event) SchedFault = Ok x in r) same) in
+    let last = ended line end.0 (drop (length bytes) line) refl end.1 in
     front_seam 10 line
-    ∙ ap (λ rest. bytes_of_line line ++ rest) last
-    ∙ ap (λ bs. bs ++ codes "\n") (sym bytes ∙ event_spelled cluster text.0 event h some)
+    ∙ ap (λ rest. bytes ++ rest) last
+    ∙ ap (λ bs. bs ++ codes "\n") (event_spelled cluster bytes event h some)

@@ -1,5 +1,3 @@
-pub mod Begun
-pub mod Bytes
 pub mod Centres
 pub mod Free
 pub mod Numbers

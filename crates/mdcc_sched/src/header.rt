@@ -8,8 +8,8 @@ ghost use Rattle.mdcc_built.specs.Built.{built};
 use crate::header_lines;
 use crate::left::Left;
 use mdcc_base::{BoundedList, Quorums};
-use mdcc_option::{Cluster, FastLimit, Schema, SchemaFault};
 use mdcc_language::{HeaderCause, HeaderFault};
+use mdcc_option::{Cluster, FastLimit, Schema, SchemaFault};
 
 // How many cells a node has where no line says them.
 const DEFAULT_CELLS: u32 = 1_048_576;
@@ -23,7 +23,7 @@ fn version_line<'a>(left: &Left<'a>) -> Result<((), Left<'a>), HeaderFault>
     ensures value { result ≡ header_line (codes "mdcc-schedule") version_of left.now }
     ensures next { IfOk result (λ line. line.1.number ≡ left.now.number + 1) }
 {
-    left.in_line(header_lines::version_line(left.next_line()))?;
+    left.read_line(header_lines::version_line(left.next_line()))?;
     Ok(((), left.without_next()))
 }
 
@@ -33,7 +33,7 @@ fn quorums_line<'a>(left: &Left<'a>) -> Result<(Quorums, Left<'a>), HeaderFault>
     ensures value { result ≡ quorums_line left.now }
     ensures next { IfOk result (λ line. line.1.number ≡ left.now.number + 1) }
 {
-    let (n, c, f) = left.in_line(header_lines::quorums_line(left.next_line()))?;
+    let (n, c, f) = left.read_line(header_lines::quorums_line(left.next_line()))?;
     match Quorums::new(n, c, f) {
         Ok(quorums) => Ok((quorums, left.without_next())),
         Err(fault) => left.refused(HeaderCause::Quorums(fault)),
@@ -46,7 +46,7 @@ fn gamma_line<'a>(left: &Left<'a>) -> Result<(u64, Left<'a>), HeaderFault>
     ensures value { result ≡ header_line (codes "gamma") (last_number 0 1000 5) left.now }
     ensures next { IfOk result (λ line. line.1.number ≡ left.now.number + 1) }
 {
-    let gamma = left.in_line(header_lines::gamma_line(left.next_line()))?;
+    let gamma = left.read_line(header_lines::gamma_line(left.next_line()))?;
     Ok((gamma, left.without_next()))
 }
 
@@ -59,7 +59,7 @@ fn limit_line<'a>(left: Left<'a>) -> Result<(FastLimit, Left<'a>), HeaderFault>
     if !left.is_next(b"limit") {
         return Ok((FastLimit::Safe, left));
     }
-    let limit = left.in_line(header_lines::limit_line(left.next_line()))?;
+    let limit = left.read_line(header_lines::limit_line(left.next_line()))?;
     Ok((limit, left.without_next()))
 }
 
@@ -77,7 +77,7 @@ fn bound_line<'a>(n: u8, left: &Left<'a>) -> Result<((i64, i64), Left<'a>), Head
     ensures good { IfOk result (λ bounds. is_bound bounds.0 ≡ true) }
     ensures next { IfOk result (λ bounds. bounds.1.number ≡ left.now.number + 1) }
 {
-    let bounds = left.in_line(header_lines::bound_line(left.next_line()))?;
+    let bounds = left.read_line(header_lines::bound_line(left.next_line()))?;
     if !is_bound(bounds) {
         return left.refused(HeaderCause::Schema(SchemaFault::Bound(n)));
     }
@@ -116,7 +116,7 @@ fn start_line<'a>(left: &Left<'a>) -> Result<((), Left<'a>), HeaderFault>
     ensures value { result ≡ header_line (codes "start") (λ line. end_at 5 line 1) left.now }
     ensures next { IfOk result (λ line. line.1.number ≡ left.now.number + 1) }
 {
-    left.in_line(header_lines::start_line(left.next_line()))?;
+    left.read_line(header_lines::start_line(left.next_line()))?;
     Ok(((), left.without_next()))
 }
 

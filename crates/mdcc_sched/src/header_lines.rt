@@ -1,18 +1,19 @@
-//! The lines of a header, each with its line end.
-ghost use Rattle.std.specs.Prelude.{◌≡◌, ◌≤◌, ◌<◌, ◌^◌, ◌+◌, codes, length, IfOk, OnOk};
+//! The lines of a header, each with its line end, whatever their length.
+ghost use Rattle.std.specs.Prelude.{◌≡◌, ◌≤◌, ◌+◌, codes, length, IfOk, OnOk};
 ghost use Rattle.mdcc_language.specs.Header.{in_order, whole_line, is_version, version_of, last_number, sizes_of, limit_in, fast_limit_of, bound_of};
 ghost use Rattle.mdcc_language.specs.Words.{end_at, word_at, natural_of};
-ghost use Rattle.mdcc_sched.specs.Begun.{begun};
 
-use crate::lines::{bytes_of_line, few_bytes, line_end_of};
+use crate::lines::{bytes_of_line, line_end_of};
 use crate::words::{begins_with, word_at, word_behind, word_end};
-use mdcc_language::{SchedCause, SchedFault};
+use mdcc_language::SchedCause;
 use mdcc_option::FastLimit;
+use mdcc_words::TextFault;
+use mdcc_words::faults::refused;
 use mdcc_words::numbers::{natural_of, value_of};
-use mdcc_words::places::{end_at, refused, text_eq};
+use mdcc_words::places::{end_at, text_eq};
 
 // Whether a line begins with the word that the order allows there.
-fn in_order(word: &[u8], line: &[u8]) -> Result<(), SchedFault>
+fn in_order(word: &[u8], line: &[u8]) -> Result<(), TextFault>
     ensures value { result ≡ in_order word.now line.now }
     ensures within { OnOk result (length word.now ≤ length line.now) }
 {
@@ -22,31 +23,20 @@ fn in_order(word: &[u8], line: &[u8]) -> Result<(), SchedFault>
     refused(1, SchedCause::Order)
 }
 
-// Whether a line is short enough, and begins with this word.
-fn begun(word: &[u8], text: &[u8]) -> Result<(), SchedFault>
-    ensures value { result ≡ begun word.now text.now }
-    ensures few { OnOk result (length text.now ≤ 4096) }
-    ensures within { OnOk result (length word.now ≤ length text.now) }
-{
-    few_bytes(text)?;
-    in_order(word, text)
-}
-
 // The number behind a place, which ends the line.
-fn last_number(low: u64, high: u64, at: usize, line: &[u8]) -> Result<u64, SchedFault>
-    requires place { at ≤ length line.now }
-    requires few { length line.now ≤ 4096 }
+fn last_number(low: u64, high: u64, at: usize, line: &[u8]) -> Result<u64, TextFault>
+    requires { at ≤ length line.now }
     ensures value { result ≡ last_number low high at line.now }
     ensures within { IfOk result (λ number. number ≤ high) }
 {
     let start = word_behind(at, line)?;
-    let number = natural_of(word_at(start, line), start as u32 + 1, low, high)?;
+    let number = natural_of(word_at(start, line), start + 1, low, high)?;
     end_at(word_end(start, line), line, 1)?;
     Ok(number)
 }
 
 // The version of the language.
-fn is_version(word: &[u8], column: u32) -> Result<(), SchedFault>
+fn is_version(word: &[u8], column: usize) -> Result<(), TextFault>
     ensures { result ≡ is_version word.now column }
 {
     if text_eq(word, b"1") {
@@ -55,28 +45,25 @@ fn is_version(word: &[u8], column: u32) -> Result<(), SchedFault>
     refused(column, SchedCause::Word)
 }
 
-fn version_of(line: &[u8]) -> Result<(), SchedFault>
-    requires place { 13 ≤ length line.now }
-    requires few { length line.now ≤ 4096 }
+fn version_of(line: &[u8]) -> Result<(), TextFault>
+    requires { 13 ≤ length line.now }
     ensures { result ≡ version_of line.now }
 {
     let start = word_behind(13, line)?;
-    is_version(word_at(start, line), start as u32 + 1)?;
+    is_version(word_at(start, line), start + 1)?;
     end_at(word_end(start, line), line, 1)
 }
 
 // A number of a line of quorums, from 0 to 255.
-fn size_of(at: usize, line: &[u8]) -> Result<u8, SchedFault>
-    requires place { at ≤ length line.now }
-    requires few { length line.now ≤ 4096 }
+fn size_of(at: usize, line: &[u8]) -> Result<u8, TextFault>
+    requires { at ≤ length line.now }
     ensures { result ≡ natural_of (word_at at line.now) (at + 1) 0 255 }
 {
-    Ok(natural_of(word_at(at, line), at as u32 + 1, 0, 255)? as u8)
+    Ok(natural_of(word_at(at, line), at + 1, 0, 255)? as u8)
 }
 
-fn sizes_of(line: &[u8]) -> Result<(u8, u8, u8), SchedFault>
-    requires place { 7 ≤ length line.now }
-    requires few { length line.now ≤ 4096 }
+fn sizes_of(line: &[u8]) -> Result<(u8, u8, u8), TextFault>
+    requires { 7 ≤ length line.now }
     ensures { result ≡ sizes_of line.now }
 {
     let first = word_behind(7, line)?;
@@ -88,7 +75,7 @@ fn sizes_of(line: &[u8]) -> Result<(u8, u8, u8), SchedFault>
 }
 
 // The word of the fast limit.
-fn limit_in(word: &[u8], column: u32) -> Result<FastLimit, SchedFault>
+fn limit_in(word: &[u8], column: usize) -> Result<FastLimit, TextFault>
     ensures { result ≡ limit_in word.now column }
 {
     if text_eq(word, b"safe") {
@@ -100,90 +87,88 @@ fn limit_in(word: &[u8], column: u32) -> Result<FastLimit, SchedFault>
     refused(column, SchedCause::Word)
 }
 
-fn fast_limit_of(line: &[u8]) -> Result<FastLimit, SchedFault>
-    requires place { 5 ≤ length line.now }
-    requires few { length line.now ≤ 4096 }
+fn fast_limit_of(line: &[u8]) -> Result<FastLimit, TextFault>
+    requires { 5 ≤ length line.now }
     ensures { result ≡ fast_limit_of line.now }
 {
     let start = word_behind(5, line)?;
-    let limit = limit_in(word_at(start, line), start as u32 + 1)?;
+    let limit = limit_in(word_at(start, line), start + 1)?;
     end_at(word_end(start, line), line, 1)?;
     Ok(limit)
 }
 
-fn bound_of(line: &[u8]) -> Result<(i64, i64), SchedFault>
-    requires place { 5 ≤ length line.now }
-    requires few { length line.now ≤ 4096 }
+fn bound_of(line: &[u8]) -> Result<(i64, i64), TextFault>
+    requires { 5 ≤ length line.now }
     ensures { result ≡ bound_of line.now }
 {
     let start = word_behind(5, line)?;
-    let lower = value_of(word_at(start, line), start as u32 + 1)?;
+    let lower = value_of(word_at(start, line), start + 1)?;
     let next = word_behind(word_end(start, line), line)?;
-    let upper = value_of(word_at(next, line), next as u32 + 1)?;
+    let upper = value_of(word_at(next, line), next + 1)?;
     end_at(word_end(next, line), line, 1)?;
     Ok((lower, upper))
 }
 
 /// `mdcc-schedule 1`
-pub fn version_line(line: &[u8]) -> Result<(), SchedFault>
+pub fn version_line(line: &[u8]) -> Result<(), TextFault>
     ensures { result ≡ whole_line (codes "mdcc-schedule") version_of line.now }
 {
     let text = bytes_of_line(line);
-    begun(b"mdcc-schedule", text)?;
+    in_order(b"mdcc-schedule", text)?;
     version_of(text)?;
     line_end_of(text, line)
 }
 
 /// `quorums N C F`
-pub fn quorums_line(line: &[u8]) -> Result<(u8, u8, u8), SchedFault>
+pub fn quorums_line(line: &[u8]) -> Result<(u8, u8, u8), TextFault>
     ensures { result ≡ whole_line (codes "quorums") sizes_of line.now }
 {
     let text = bytes_of_line(line);
-    begun(b"quorums", text)?;
+    in_order(b"quorums", text)?;
     let sizes = sizes_of(text)?;
     line_end_of(text, line)?;
     Ok(sizes)
 }
 
 /// `gamma G`
-pub fn gamma_line(line: &[u8]) -> Result<u64, SchedFault>
+pub fn gamma_line(line: &[u8]) -> Result<u64, TextFault>
     ensures { result ≡ whole_line (codes "gamma") (last_number 0 1000 5) line.now }
 {
     let text = bytes_of_line(line);
-    begun(b"gamma", text)?;
+    in_order(b"gamma", text)?;
     let gamma = last_number(0, 1000, 5, text)?;
     line_end_of(text, line)?;
     Ok(gamma)
 }
 
 /// `limit safe` or `limit paper`
-pub fn limit_line(line: &[u8]) -> Result<FastLimit, SchedFault>
+pub fn limit_line(line: &[u8]) -> Result<FastLimit, TextFault>
     ensures { result ≡ whole_line (codes "limit") fast_limit_of line.now }
 {
     let text = bytes_of_line(line);
-    begun(b"limit", text)?;
+    in_order(b"limit", text)?;
     let limit = fast_limit_of(text)?;
     line_end_of(text, line)?;
     Ok(limit)
 }
 
 /// `bound LOWER UPPER`
-pub fn bound_line(line: &[u8]) -> Result<(i64, i64), SchedFault>
+pub fn bound_line(line: &[u8]) -> Result<(i64, i64), TextFault>
     ensures { result ≡ whole_line (codes "bound") bound_of line.now }
 {
     let text = bytes_of_line(line);
-    begun(b"bound", text)?;
+    in_order(b"bound", text)?;
     let bounds = bound_of(text)?;
     line_end_of(text, line)?;
     Ok(bounds)
 }
 
 /// `start`
-pub fn start_line(line: &[u8]) -> Result<(), SchedFault>
+pub fn start_line(line: &[u8]) -> Result<(), TextFault>
     ensures { result ≡ whole_line (codes "start") (λ text. end_at 5 text 1) line.now }
 {
     let text = bytes_of_line(line);
-    begun(b"start", text)?;
+    in_order(b"start", text)?;
     end_at(5, text, 1)?;
     line_end_of(text, line)
 }

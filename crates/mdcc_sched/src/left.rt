@@ -1,11 +1,12 @@
 //! How far a header is read.
 ghost use Rattle.std.specs.Prelude.{◌≡◌, ◌+◌, ◌-◌, ◌≤◌, ◌<◌, ◌^◌, [], get_or, drop, length};
 ghost use Rattle.mdcc_language.specs.Header.{all_of, next_line, without_next, refused_at, in_line, is_next};
-ghost use Rattle.mdcc_language.specs.Lines.{lines_in};
+ghost use Rattle.mdcc_language.specs.Lines.{bounded, bytes_of_line, lines_in};
 
-use crate::lines::bytes_of_line;
+use crate::lines::{bounded, bytes_of_line};
 use crate::words::begins_with;
-use mdcc_language::{HeaderCause, HeaderFault, SchedFault};
+use mdcc_language::{HeaderCause, HeaderFault};
+use mdcc_words::TextFault;
 use std::marker::Model;
 
 /// The text that is left, which begins with a line, the place of that line in the whole text, and
@@ -99,13 +100,14 @@ impl<'a> Left<'a> {
         })
     }
 
-    /// What was read of the next line; a refusal names the line and not the column.
-    pub fn in_line<A>(&self, read: Result<A, SchedFault>) -> Result<A, HeaderFault>
-        ensures { result ≡ in_line self.now read }
+    /// What was read of the next line, where its bytes aren't too many; a refusal names the line and
+    /// not the column.
+    pub fn read_line<A: Drop>(&self, read: Result<A, TextFault>) -> Result<A, HeaderFault>
+        ensures { result ≡ in_line self.now (bounded (bytes_of_line (next_line self.now)) read) }
     {
-        match read {
+        match bounded(bytes_of_line(self.next_line()), read) {
             Ok(value) => Ok(value),
-            Err(fault) => self.refused(HeaderCause::Sched(fault.cause)),
+            Err(fault) => self.refused(HeaderCause::Sched(fault.cause())),
         }
     }
 }

@@ -1,5 +1,5 @@
 //! Lists of words, from a place of a line to its end.
-ghost use Rattle.std.specs.Prelude.{◌≡◌, ◌++◌, ◌∷◌, [], ◌+◌, ◌≤◌, ◌<◌, IsTrue, OnOk, IfErr, length};
+ghost use Rattle.std.specs.Prelude.{◌≡◌, ◌+◌, ◌≤◌, IfErr, length};
 ghost use Rattle.mdcc_base.specs.Unless.{GivesUnless};
 ghost use Rattle.mdcc_language.specs.Schedule.{centre_of, above, numbers_from, updates_from, centres_from};
 ghost use Rattle.mdcc_language.specs.Words.{parts_from};
@@ -10,44 +10,35 @@ ghost use Rattle.mdcc_built.specs.Built.{built};
 
 use crate::words::{not_empty, word_at};
 use mdcc_base::{Centre, HeapList};
+use mdcc_language::{SchedCause, UpdateWord};
 use mdcc_option::Cluster;
-use mdcc_language::{SchedCause, SchedFault, UpdateWord};
+use mdcc_words::TextFault;
+use mdcc_words::faults::refused;
 use mdcc_words::numbers::{count_of, natural_of};
-use mdcc_words::parse_update;
-use mdcc_words::places::refused;
+use mdcc_words::updates::update_of;
 use std::alloc::Global;
 
-// Adds a value behind the others.
-fn keep<T: Drop>(values: &mut HeapList<T>, value: T) -> Result<(), SchedFault>
-    ensures ok { OnOk result (values.new ≡ values.old ++ value ∷ []) }
-    ensures err { IfErr result (λ fault. IsTrue (is_memory fault)) }
-{
-    match values.push(value) {
-        Ok(()) => Ok(()),
-        Err(_) => refused(1, SchedCause::Memory),
-    }
-}
-
 // The number of a message.
-fn number_of_word(column: u32, word: &[u8]) -> Result<u32, SchedFault>
-    ensures { result ≡ number_of_word column word.now }
+fn number_of_word(column: usize, word: &[u8]) -> Result<u32, TextFault>
+    ensures value { result ≡ number_of_word column word.now }
+    ensures column { IfErr result (λ fault. fault.column ≡ column) }
 {
     not_empty(word, column)?;
     count_of(word, column)
 }
 
 /// The numbers of messages from a place on.
-pub fn numbers_from(alloc: Global, at: usize, line: &[u8]) -> Result<HeapList<u32>, SchedFault>
-    requires place { at ≤ length line.now }
-    requires few { length line.now ≤ 4096 }
-    ensures { GivesUnless is_memory result (numbers_from (at + 1) (parts_from 32 at line.now)) }
+pub fn numbers_from(alloc: Global, at: usize, line: &[u8]) -> Result<HeapList<u32>, TextFault>
+    requires { at ≤ length line.now }
+    ensures value { GivesUnless is_memory result (numbers_from (at + 1) (parts_from 32 at line.now)) }
+    ensures column { IfErr result (λ fault. fault.column ≤ length line.now + 1) }
 {
     let mut numbers = HeapList::new(alloc);
     let mut place = at;
     while place <= line.len() {
         let word = word_at(place, line);
-        let number = number_of_word(place as u32 + 1, word)?;
-        keep(&mut numbers, number)?;
+        let number = number_of_word(place + 1, word)?;
+        numbers.push(number)?;
         place += word.len() + 1;
     }
     Ok(numbers)
@@ -58,33 +49,40 @@ pub fn updates_from(
     alloc: Global,
     at: usize,
     line: &[u8],
-) -> Result<HeapList<UpdateWord>, SchedFault>
-    requires place { at ≤ length line.now }
-    requires few { length line.now ≤ 4096 }
-    ensures { GivesUnless is_memory result (updates_from built (at + 1) (parts_from 32 at line.now)) }
+) -> Result<HeapList<UpdateWord>, TextFault>
+    requires { at ≤ length line.now }
+    ensures value { GivesUnless is_memory result (updates_from built (at + 1) (parts_from 32 at line.now)) }
+    ensures column { IfErr result (λ fault. fault.column ≤ length line.now + 1) }
 {
     let mut updates = HeapList::new(alloc);
     let mut place = at;
     while place <= line.len() {
         let word = word_at(place, line);
-        let update = parse_update(word, place as u32 + 1)?;
-        keep(&mut updates, update)?;
+        let update = update_of(word, place + 1)?;
+        updates.push(update)?;
         place += word.len() + 1;
     }
     Ok(updates)
 }
 
 /// A centre of the cluster.
-pub fn centre_of(cluster: &Cluster, word: &[u8], column: u32) -> Result<Centre, SchedFault>
-    ensures { result ≡ centre_of cluster.now word.now column }
+pub fn centre_of(cluster: &Cluster, word: &[u8], column: usize) -> Result<Centre, TextFault>
+    ensures value { result ≡ centre_of cluster.now word.now column }
+    ensures column { IfErr result (λ fault. fault.column ≡ column) }
 {
     let number = natural_of(word, column, 1, u64::from(cluster.quorums.centres()))?;
     Ok(Centre::new(number as u8).unwrap())
 }
 
 // The centre of a word, above the last one.
-fn centre_above(cluster: &Cluster, last: u8, column: u32, word: &[u8]) -> Result<Centre, SchedFault>
-    ensures { result ≡ centre_above cluster.now last column word.now }
+fn centre_above(
+    cluster: &Cluster,
+    last: u8,
+    column: usize,
+    word: &[u8],
+) -> Result<Centre, TextFault>
+    ensures value { result ≡ centre_above cluster.now last column word.now }
+    ensures column { IfErr result (λ fault. fault.column ≡ column) }
 {
     not_empty(word, column)?;
     let centre = centre_of(cluster, word, column)?;
@@ -100,19 +98,19 @@ pub fn centres_from(
     cluster: &Cluster,
     at: usize,
     line: &[u8],
-) -> Result<HeapList<Centre>, SchedFault>
-    requires place { at ≤ length line.now }
-    requires few { length line.now ≤ 4096 }
-    ensures { GivesUnless is_memory result (centres_from cluster.now 0 (at + 1) (parts_from 32 at line.now)) }
+) -> Result<HeapList<Centre>, TextFault>
+    requires { at ≤ length line.now }
+    ensures value { GivesUnless is_memory result (centres_from cluster.now 0 (at + 1) (parts_from 32 at line.now)) }
+    ensures column { IfErr result (λ fault. fault.column ≤ length line.now + 1) }
 {
     let mut centres = HeapList::new(alloc);
     let mut last = 0u8;
     let mut place = at;
     while place <= line.len() {
         let word = word_at(place, line);
-        let centre = centre_above(cluster, last, place as u32 + 1, word)?;
+        let centre = centre_above(cluster, last, place + 1, word)?;
         last = centre.number();
-        keep(&mut centres, centre)?;
+        centres.push(centre)?;
         place += word.len() + 1;
     }
     Ok(centres)

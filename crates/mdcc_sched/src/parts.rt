@@ -1,5 +1,5 @@
 //! Which parts update words stand for.
-ghost use Rattle.std.specs.Prelude.{◌≡◌, ◌++◌, ◌∷◌, [], IsTrue, OnOk, IfErr};
+ghost use Rattle.std.specs.Prelude.{◌≡◌};
 ghost use Rattle.std.specs.Option.{option_copied};
 ghost use Rattle.mdcc_base.specs.Unless.{GivesUnless};
 ghost use Rattle.mdcc_language.specs.Resolve.{read_at, read_named, first_missing, item_in, written_on, part_of, parts_of, resolve};
@@ -7,8 +7,8 @@ ghost use Rattle.mdcc_sched.specs.Free.{is_resolve_memory};
 ghost use Rattle.mdcc_sched.specs.PartsOfWords.{missing_in, added_on, kept_on};
 
 use mdcc_base::{BoundedList, HeapList, Plain};
-use mdcc_option::{Amounts, Item, Known, Part, Update};
 use mdcc_language::{ResolveFault, UpdateWord};
+use mdcc_option::{Amounts, Item, Known, Part, Update};
 use std::alloc::Global;
 
 // The read of a number, which counts from 1.
@@ -127,17 +127,6 @@ fn part_of(reads: &[Option<Known>], word: &UpdateWord) -> Result<Part, ResolveFa
     }
 }
 
-// Adds a part behind the others.
-fn keep(parts: &mut HeapList<Part>, part: Part) -> Result<(), ResolveFault>
-    ensures ok { OnOk result (parts.new ≡ parts.old ++ part ∷ []) }
-    ensures err { IfErr result (λ fault. IsTrue (is_resolve_memory fault)) }
-{
-    match parts.push(part) {
-        Ok(()) => Ok(()),
-        Err(_) => Err(ResolveFault::Memory),
-    }
-}
-
 // The parts that words stand for.
 fn parts_of(
     alloc: Global,
@@ -149,7 +138,7 @@ fn parts_of(
     let mut parts = HeapList::new(alloc);
     for word in words {
         let part = part_of(reads, word)?;
-        keep(&mut parts, part)?;
+        parts.push(part)?;
     }
     Ok(parts)
 }

@@ -5,8 +5,8 @@ ghost use Rattle.mdcc_language.specs.Report.{byte_text, body_text, values_text, 
 ghost use Rattle.mdcc_sched.specs.Texts.{centres_text, more_values_text};
 
 use mdcc_base::{Centre, Image, Key, Memory, TxId};
-use mdcc_option::{BeginFault, Item, Known, Token};
 use mdcc_language::Line;
+use mdcc_option::{BeginFault, Item, Known, Token};
 use std::alloc::AllocError;
 
 // The word of an outcome.

@@ -1,94 +1,97 @@
 //! Lines of a schedule.
-ghost use Rattle.std.specs.Prelude.{◌≡◌, ◌≤◌, length};
+ghost use Rattle.std.specs.Prelude.{◌≡◌, ◌+◌, ◌≤◌, IfErr, length};
 ghost use Rattle.mdcc_base.specs.Unless.{GivesUnless};
-ghost use Rattle.mdcc_language.specs.Schedule.{last_centre, tick_of, crash_of, restart_of, read_of, begin_of, deliver_of, settle_of, event_of, event_or_none, line_of};
+ghost use Rattle.mdcc_language.specs.Schedule.{last_centre, tick_of, crash_of, restart_of, read_of, begin_of, deliver_of, settle_of, event_of, event_or_none, event_in, line_of};
+ghost use Rattle.mdcc_language.specs.Lines.{bytes_of_line};
 ghost use Rattle.mdcc_sched.specs.Free.{is_memory};
 ghost use Rattle.mdcc_built.specs.Built.{built};
 
-use crate::lines::{bytes_of_line, few_bytes, line_end_of};
+use crate::lines::{bounded, bytes_of_line, line_end_of};
 use crate::lists::{centre_of, centres_from, numbers_from, updates_from};
 use crate::words::{begins_with, word_at, word_behind, word_end};
 use mdcc_base::{Centre, HeapList};
-use mdcc_option::Cluster;
 use mdcc_language::{Event, SchedCause, SchedFault};
-use mdcc_words::parse_key;
-use mdcc_words::places::{end_at, refused};
+use mdcc_option::Cluster;
+use mdcc_words::TextFault;
+use mdcc_words::faults::{narrowed, refused};
+use mdcc_words::keys::key_of;
+use mdcc_words::places::end_at;
 use std::alloc::Global;
 
 // The centre behind a place, which ends the line.
-fn last_centre(cluster: &Cluster, at: usize, line: &[u8]) -> Result<Centre, SchedFault>
-    requires place { at ≤ length line.now }
-    requires few { length line.now ≤ 4096 }
-    ensures { result ≡ last_centre cluster.now at line.now }
+fn last_centre(cluster: &Cluster, at: usize, line: &[u8]) -> Result<Centre, TextFault>
+    requires { at ≤ length line.now }
+    ensures value { result ≡ last_centre cluster.now at line.now }
+    ensures column { IfErr result (λ fault. fault.column ≤ length line.now + 1) }
 {
     let start = word_behind(at, line)?;
-    let centre = centre_of(cluster, word_at(start, line), start as u32 + 1)?;
+    let centre = centre_of(cluster, word_at(start, line), start + 1)?;
     end_at(word_end(start, line), line, 1)?;
     Ok(centre)
 }
 
 // `tick K`
-fn tick_of(cluster: &Cluster, line: &[u8]) -> Result<Event, SchedFault>
-    requires place { 4 ≤ length line.now }
-    requires few { length line.now ≤ 4096 }
-    ensures { result ≡ tick_of cluster.now line.now }
+fn tick_of(cluster: &Cluster, line: &[u8]) -> Result<Event, TextFault>
+    requires { 4 ≤ length line.now }
+    ensures value { result ≡ tick_of cluster.now line.now }
+    ensures column { IfErr result (λ fault. fault.column ≤ length line.now + 1) }
 {
     let centre = last_centre(cluster, 4, line)?;
     Ok(Event::Tick(centre))
 }
 
 // `crash K`
-fn crash_of(cluster: &Cluster, line: &[u8]) -> Result<Event, SchedFault>
-    requires place { 5 ≤ length line.now }
-    requires few { length line.now ≤ 4096 }
-    ensures { result ≡ crash_of cluster.now line.now }
+fn crash_of(cluster: &Cluster, line: &[u8]) -> Result<Event, TextFault>
+    requires { 5 ≤ length line.now }
+    ensures value { result ≡ crash_of cluster.now line.now }
+    ensures column { IfErr result (λ fault. fault.column ≤ length line.now + 1) }
 {
     let centre = last_centre(cluster, 5, line)?;
     Ok(Event::Crash(centre))
 }
 
 // `restart K`
-fn restart_of(cluster: &Cluster, line: &[u8]) -> Result<Event, SchedFault>
-    requires place { 7 ≤ length line.now }
-    requires few { length line.now ≤ 4096 }
-    ensures { result ≡ restart_of cluster.now line.now }
+fn restart_of(cluster: &Cluster, line: &[u8]) -> Result<Event, TextFault>
+    requires { 7 ≤ length line.now }
+    ensures value { result ≡ restart_of cluster.now line.now }
+    ensures column { IfErr result (λ fault. fault.column ≤ length line.now + 1) }
 {
     let centre = last_centre(cluster, 7, line)?;
     Ok(Event::Restart(centre))
 }
 
 // `read K KEY`
-fn read_of(cluster: &Cluster, line: &[u8]) -> Result<Event, SchedFault>
-    requires place { 4 ≤ length line.now }
-    requires few { length line.now ≤ 4096 }
-    ensures { result ≡ read_of cluster.now line.now }
+fn read_of(cluster: &Cluster, line: &[u8]) -> Result<Event, TextFault>
+    requires { 4 ≤ length line.now }
+    ensures value { result ≡ read_of cluster.now line.now }
+    ensures column { IfErr result (λ fault. fault.column ≤ length line.now + 1) }
 {
     let start = word_behind(4, line)?;
-    let centre = centre_of(cluster, word_at(start, line), start as u32 + 1)?;
+    let centre = centre_of(cluster, word_at(start, line), start + 1)?;
     let next = word_behind(word_end(start, line), line)?;
-    let key = parse_key(word_at(next, line), next as u32 + 1)?;
+    let key = key_of(word_at(next, line), next + 1)?;
     end_at(word_end(next, line), line, 1)?;
     Ok(Event::Read(centre, key))
 }
 
 // `begin K UPDATE ..`
-fn begin_of(alloc: Global, cluster: &Cluster, line: &[u8]) -> Result<Event, SchedFault>
-    requires place { 5 ≤ length line.now }
-    requires few { length line.now ≤ 4096 }
-    ensures { GivesUnless is_memory result (begin_of built cluster.now line.now) }
+fn begin_of(alloc: Global, cluster: &Cluster, line: &[u8]) -> Result<Event, TextFault>
+    requires { 5 ≤ length line.now }
+    ensures value { GivesUnless is_memory result (begin_of built cluster.now line.now) }
+    ensures column { IfErr result (λ fault. fault.column ≤ length line.now + 1) }
 {
     let start = word_behind(5, line)?;
-    let centre = centre_of(cluster, word_at(start, line), start as u32 + 1)?;
+    let centre = centre_of(cluster, word_at(start, line), start + 1)?;
     let next = word_behind(word_end(start, line), line)?;
     let updates = updates_from(alloc, next, line)?;
     Ok(Event::Begin(centre, updates))
 }
 
 // `deliver M ..`
-fn deliver_of(alloc: Global, line: &[u8]) -> Result<Event, SchedFault>
-    requires place { 7 ≤ length line.now }
-    requires few { length line.now ≤ 4096 }
-    ensures { GivesUnless is_memory result (deliver_of line.now) }
+fn deliver_of(alloc: Global, line: &[u8]) -> Result<Event, TextFault>
+    requires { 7 ≤ length line.now }
+    ensures value { GivesUnless is_memory result (deliver_of line.now) }
+    ensures column { IfErr result (λ fault. fault.column ≤ length line.now + 1) }
 {
     let start = word_behind(7, line)?;
     let numbers = numbers_from(alloc, start, line)?;
@@ -96,10 +99,10 @@ fn deliver_of(alloc: Global, line: &[u8]) -> Result<Event, SchedFault>
 }
 
 // `settle` or `settle K ..`
-fn settle_of(alloc: Global, cluster: &Cluster, line: &[u8]) -> Result<Event, SchedFault>
-    requires place { 6 ≤ length line.now }
-    requires few { length line.now ≤ 4096 }
-    ensures { GivesUnless is_memory result (settle_of cluster.now line.now) }
+fn settle_of(alloc: Global, cluster: &Cluster, line: &[u8]) -> Result<Event, TextFault>
+    requires { 6 ≤ length line.now }
+    ensures value { GivesUnless is_memory result (settle_of cluster.now line.now) }
+    ensures column { IfErr result (λ fault. fault.column ≤ length line.now + 1) }
 {
     if line.len() == 6 {
         return Ok(Event::Settle(HeapList::new(alloc)));
@@ -109,9 +112,9 @@ fn settle_of(alloc: Global, cluster: &Cluster, line: &[u8]) -> Result<Event, Sch
 }
 
 // The event of a line that is not skipped.
-fn event_of(alloc: Global, cluster: &Cluster, line: &[u8]) -> Result<Event, SchedFault>
-    requires { length line.now ≤ 4096 }
-    ensures { GivesUnless is_memory result (event_of built cluster.now line.now) }
+fn event_of(alloc: Global, cluster: &Cluster, line: &[u8]) -> Result<Event, TextFault>
+    ensures value { GivesUnless is_memory result (event_of built cluster.now line.now) }
+    ensures column { IfErr result (λ fault. fault.column ≤ length line.now + 1) }
 {
     if begins_with(b"read", line) {
         read_of(cluster, line)
@@ -133,9 +136,9 @@ fn event_of(alloc: Global, cluster: &Cluster, line: &[u8]) -> Result<Event, Sche
 }
 
 // The event of a line; an empty one and one that begins with `#` are skipped.
-fn event_or_none(alloc: Global, cluster: &Cluster, line: &[u8]) -> Result<Option<Event>, SchedFault>
-    requires { length line.now ≤ 4096 }
-    ensures { GivesUnless is_memory result (event_or_none built cluster.now line.now) }
+fn event_or_none(alloc: Global, cluster: &Cluster, line: &[u8]) -> Result<Option<Event>, TextFault>
+    ensures value { GivesUnless is_memory result (event_or_none built cluster.now line.now) }
+    ensures column { IfErr result (λ fault. fault.column ≤ length line.now + 1) }
 {
     match line {
         [] => Ok(None),
@@ -145,6 +148,17 @@ fn event_or_none(alloc: Global, cluster: &Cluster, line: &[u8]) -> Result<Option
             Ok(Some(event))
         }
     }
+}
+
+// The event of a line with its line end, which is asked last.
+fn event_in(alloc: Global, cluster: &Cluster, line: &[u8]) -> Result<Option<Event>, TextFault>
+    ensures value { GivesUnless is_memory result (event_in built cluster.now line.now) }
+    ensures column { IfErr result (λ fault. fault.column ≤ length (bytes_of_line line.now) + 2) }
+{
+    let text = bytes_of_line(line);
+    let event = event_or_none(alloc, cluster, text)?;
+    line_end_of(text, line)?;
+    Ok(event)
 }
 
 /// Reads a line with its line end, in a cluster. It is none where the line is empty or a comment.
@@ -157,9 +171,6 @@ pub fn parse_line(
 ) -> Result<Option<Event>, SchedFault>
     ensures { GivesUnless is_memory result (line_of built cluster.now line.now) }
 {
-    let text = bytes_of_line(line);
-    few_bytes(text)?;
-    let event = event_or_none(alloc, cluster, text)?;
-    line_end_of(text, line)?;
-    Ok(event)
+    let event = event_in(alloc, cluster, line);
+    narrowed(bounded(bytes_of_line(line), event))
 }

@@ -1,10 +1,12 @@
 //! Words of a line, which are separated by one space. The line has no line end.
-ghost use Rattle.std.specs.Prelude.{◌≡◌, ◌+◌, ◌≤◌, ◌<◌, ◌^◌, IsTrue, IfOk, length};
+ghost use Rattle.std.specs.Prelude.{◌≡◌, ◌+◌, ◌≤◌, IsTrue, IfErr, IfOk, length};
 ghost use Rattle.mdcc_language.specs.Words.{word_at, word_end, not_empty, word_behind};
 ghost use Rattle.mdcc_language.specs.Schedule.{begins_with};
 
-use mdcc_language::{SchedCause, SchedFault};
-use mdcc_words::places::{behind, part_at, part_end, refused, text_eq};
+use mdcc_language::SchedCause;
+use mdcc_words::TextFault;
+use mdcc_words::faults::refused;
+use mdcc_words::places::{behind, part_at, part_end, text_eq};
 
 /// The word that begins at a place.
 pub fn word_at(at: usize, line: &[u8]) -> &[u8]
@@ -25,8 +27,9 @@ pub fn word_end(at: usize, line: &[u8]) -> usize
 }
 
 /// Whether a word has a byte; else a separator is too much.
-pub fn not_empty(word: &[u8], column: u32) -> Result<(), SchedFault>
-    ensures { result ≡ not_empty word.now column }
+pub fn not_empty(word: &[u8], column: usize) -> Result<(), TextFault>
+    ensures value { result ≡ not_empty word.now column }
+    ensures column { IfErr result (λ fault. fault.column ≡ column) }
 {
     match word {
         [] => refused(column, SchedCause::Word),
@@ -35,14 +38,14 @@ pub fn not_empty(word: &[u8], column: u32) -> Result<(), SchedFault>
 }
 
 /// The place of the next word, behind the space at a place.
-pub fn word_behind(at: usize, line: &[u8]) -> Result<usize, SchedFault>
-    requires place { at ≤ length line.now }
-    requires few { length line.now ≤ 4096 }
+pub fn word_behind(at: usize, line: &[u8]) -> Result<usize, TextFault>
+    requires { at ≤ length line.now }
     ensures place { result ≡ word_behind at line.now }
     ensures within { IfOk result (λ start. start ≤ length line.now) }
+    ensures column { IfErr result (λ fault. fault.column ≤ length line.now + 1) }
 {
     let start = behind(b' ', at, line, 1)?;
-    not_empty(word_at(start, line), start as u32 + 1)?;
+    not_empty(word_at(start, line), start + 1)?;
     Ok(start)
 }
 

@@ -1,11 +1,12 @@
 //! Bodies of items.
-ghost use Rattle.std.specs.Prelude.{◌≡◌, ◌+◌, ◌*◌, ◌<◌, ◌≤◌, Some, IfSome, length};
+ghost use Rattle.std.specs.Prelude.{◌≡◌, ◌+◌, ◌*◌, ◌<◌, ◌≤◌, Some, IfErr, IfSome, length};
 ghost use Rattle.mdcc_language.specs.Words.{hex_digit_of, hex_byte_by, hex_bytes_of, body_of};
 
-use crate::places::{refused, text_eq};
+use crate::faults::{TextFault, narrowed, refused};
+use crate::places::text_eq;
 use mdcc_base::BoundedList;
-use mdcc_option::items::Body;
 use mdcc_language::{SchedCause, SchedFault};
+use mdcc_option::items::Body;
 
 // The value of a digit of a hexadecimal number, in lower case.
 fn hex_digit_of(byte: u8) -> Option<u8>
@@ -44,10 +45,11 @@ fn hex_bytes_of(word: &[u8]) -> Option<Body>
     if rest.is_empty() { Some(bytes) } else { None }
 }
 
-/// Reads a body: `-` is the empty one, and any other has two digits for each of 1 to 128 bytes.
+/// A body that a word is, at a column.
 #[tactic(auto, using(crate::proofs::HexBodies::long_body))]
-pub fn parse_body(word: &[u8], column: u32) -> Result<Body, SchedFault>
-    ensures { result ≡ body_of word.now column }
+pub fn body_of(word: &[u8], column: usize) -> Result<Body, TextFault>
+    ensures value { result ≡ body_of word.now column }
+    ensures column { IfErr result (λ fault. fault.column ≡ column) }
 {
     if text_eq(word, b"-") {
         return Ok(BoundedList::new());
@@ -59,4 +61,11 @@ pub fn parse_body(word: &[u8], column: u32) -> Result<Body, SchedFault>
         Some(bytes) if !bytes.is_empty() => Ok(bytes),
         _ => refused(column, SchedCause::Range),
     }
+}
+
+/// Reads a body: `-` is the empty one, and any other has two digits for each of 1 to 128 bytes.
+pub fn parse_body(word: &[u8], column: u32) -> Result<Body, SchedFault>
+    ensures { result ≡ body_of word.now column }
+{
+    narrowed(body_of(word, column as usize))
 }

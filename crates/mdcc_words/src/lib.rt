@@ -2,6 +2,7 @@
 #![tactic(auto)]
 
 pub mod bodies;
+pub mod faults;
 pub mod keys;
 pub mod laws;
 pub mod numbers;
@@ -10,6 +11,7 @@ pub mod updates;
 pub mod values;
 
 pub use bodies::parse_body;
+pub use faults::TextFault;
 pub use keys::parse_key;
 pub use laws::updates_are_spelled;
 pub use numbers::parse_number;

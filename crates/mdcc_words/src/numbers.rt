@@ -1,12 +1,12 @@
 //! Numbers.
-ghost use Rattle.std.specs.Prelude.{◌≡◌, ◌+◌, ◌^◌, ◌≤◌, ◌<◌, ◌≤ℤ◌, ◌||◌, ℤ, IsTrue, IfOk, length, FitsSigned};
+ghost use Rattle.std.specs.Prelude.{◌≡◌, ◌+◌, ◌^◌, ◌≤◌, ◌<◌, ◌≤ℤ◌, ◌||◌, ℤ, IsTrue, IfErr, IfOk, length, FitsSigned};
 ghost use Rattle.std.specs.Int.{w64, w128};
 ghost use Rattle.std.specs.Option.{SomeIff};
 ghost use Rattle.std.specs.Str.{all_ascii_digits};
 ghost use Rattle.std.specs.Str.Parse.{signed_digits_value};
 ghost use Rattle.mdcc_language.specs.Words.{are_plain_digits, is_negative, within, number_of, natural_of, count_of, value_of};
 
-use crate::places::refused;
+use crate::faults::{TextFault, narrowed, refused};
 use mdcc_language::{SchedCause, SchedFault};
 
 // Whether each byte is a digit.
@@ -54,8 +54,9 @@ fn number_spelled(word: &[u8]) -> Option<i128>
 }
 
 // The number, where it is from `low` to `high`.
-fn within(column: u32, low: i128, high: i128, number: i128) -> Result<i128, SchedFault>
+fn within(column: usize, low: i128, high: i128, number: i128) -> Result<i128, TextFault>
     ensures value { result ≡ within column low high number }
+    ensures column { IfErr result (λ fault. fault.column ≡ column) }
     ensures within { IfOk result (λ number. (low ≤ℤ number) × (number ≤ℤ high)) }
 {
     if low <= number && number <= high {
@@ -64,10 +65,11 @@ fn within(column: u32, low: i128, high: i128, number: i128) -> Result<i128, Sche
     refused(column, SchedCause::Range)
 }
 
-/// Reads a number from `low` to `high`. It has a sign only where `low` is below 0.
+/// A number from `low` to `high` that a word is, at a column. It has a sign only where `low` is below 0.
 #[tactic(auto, using(crate::proofs::Numerals::not_within))]
-pub fn parse_number(word: &[u8], column: u32, low: i128, high: i128) -> Result<i128, SchedFault>
+pub fn number_of(word: &[u8], column: usize, low: i128, high: i128) -> Result<i128, TextFault>
     ensures value { result ≡ number_of word.now column low high }
+    ensures column { IfErr result (λ fault. fault.column ≡ column) }
     ensures within { IfOk result (λ number. (low ≤ℤ number) × (number ≤ℤ high)) }
 {
     if !(are_plain_digits(word) || (low < 0 && is_negative(word))) {
@@ -79,26 +81,37 @@ pub fn parse_number(word: &[u8], column: u32, low: i128, high: i128) -> Result<i
     }
 }
 
-/// Reads a number that is not negative.
-pub fn natural_of(word: &[u8], column: u32, low: u64, high: u64) -> Result<u64, SchedFault>
+/// A number that is not negative.
+pub fn natural_of(word: &[u8], column: usize, low: u64, high: u64) -> Result<u64, TextFault>
     ensures value { result ≡ natural_of word.now column low high }
+    ensures column { IfErr result (λ fault. fault.column ≡ column) }
     ensures within { IfOk result (λ number. (low ≤ number) × (number ≤ high)) }
 {
-    let number = parse_number(word, column, i128::from(low), i128::from(high))?;
+    let number = number_of(word, column, i128::from(low), i128::from(high))?;
     Ok(number.unsigned_abs() as u64)
 }
 
-/// Reads the number of a message or of a read.
-pub fn count_of(word: &[u8], column: u32) -> Result<u32, SchedFault>
-    ensures { result ≡ count_of word.now column }
+/// The number of a message or of a read.
+pub fn count_of(word: &[u8], column: usize) -> Result<u32, TextFault>
+    ensures value { result ≡ count_of word.now column }
+    ensures column { IfErr result (λ fault. fault.column ≡ column) }
 {
     Ok(natural_of(word, column, 1, u64::from(u32::MAX))? as u32)
 }
 
-/// Reads a value, an amount or a bound.
-pub fn value_of(word: &[u8], column: u32) -> Result<i64, SchedFault>
+/// A value, an amount or a bound.
+pub fn value_of(word: &[u8], column: usize) -> Result<i64, TextFault>
     ensures value { result ≡ value_of word.now column }
+    ensures column { IfErr result (λ fault. fault.column ≡ column) }
     ensures fits { IfOk result (λ value. FitsSigned w64 value) }
 {
-    Ok(parse_number(word, column, i128::from(i64::MIN), i128::from(i64::MAX))? as i64)
+    Ok(number_of(word, column, i128::from(i64::MIN), i128::from(i64::MAX))? as i64)
+}
+
+/// Reads a number from `low` to `high`. It has a sign only where `low` is below 0.
+pub fn parse_number(word: &[u8], column: u32, low: i128, high: i128) -> Result<i128, SchedFault>
+    ensures value { result ≡ number_of word.now column low high }
+    ensures within { IfOk result (λ number. (low ≤ℤ number) × (number ≤ℤ high)) }
+{
+    narrowed(number_of(word, column as usize, low, high))
 }

@@ -1,15 +1,9 @@
 //! Places in a text, which count from 0, and columns, which count from 1.
-ghost use Rattle.std.specs.Prelude.{◌≡◌, ◌+◌, ◌<◌, ◌≤◌, ◌^◌, ◌==◌, IsTrue, IfOk, IfSome, length, position};
-ghost use Rattle.mdcc_language.specs.Words.{refused, text_eq, part_len, part_at, part_end, behind, end_at};
+ghost use Rattle.std.specs.Prelude.{◌≡◌, ◌+◌, ◌<◌, ◌≤◌, ◌^◌, ◌==◌, IsTrue, IfOk, IfErr, IfSome, length, position};
+ghost use Rattle.mdcc_language.specs.Words.{text_eq, part_len, part_at, part_end, behind, end_at};
 
-use mdcc_language::{SchedCause, SchedFault};
-
-/// A refusal of what stands at a column.
-pub fn refused<A>(column: u32, cause: SchedCause) -> Result<A, SchedFault>
-    ensures { result ≡ refused column cause }
-{
-    Err(SchedFault { column, cause })
-}
+use crate::faults::{TextFault, refused};
+use mdcc_language::SchedCause;
 
 /// Whether two texts are one.
 pub fn text_eq(a: &[u8], b: &[u8]) -> bool
@@ -57,26 +51,28 @@ pub fn part_end(separator: u8, at: usize, text: &[u8]) -> usize
 }
 
 /// The place behind the separator that stands at a place of a text; the text begins at a column.
-pub fn behind(separator: u8, at: usize, text: &[u8], column: u32) -> Result<usize, SchedFault>
+pub fn behind(separator: u8, at: usize, text: &[u8], column: usize) -> Result<usize, TextFault>
     requires place { at ≤ length text.now }
-    requires fits { column + length text.now < 2 ^ 32 }
+    requires fits { column + length text.now < 2 ^ 64 }
     ensures place { result ≡ behind separator at text.now column }
     ensures within { IfOk result (λ next. next ≤ length text.now) }
+    ensures column { IfErr result (λ fault. fault.column ≤ column + length text.now) }
 {
     if at < text.len() && text[at] == separator {
         return Ok(at + 1);
     }
-    refused(column + at as u32, SchedCause::Word)
+    refused(column + at, SchedCause::Word)
 }
 
 /// Whether the last part of a text, which begins at a column, ends at a place, and the text with it.
-pub fn end_at(at: usize, text: &[u8], column: u32) -> Result<(), SchedFault>
+pub fn end_at(at: usize, text: &[u8], column: usize) -> Result<(), TextFault>
     requires place { at ≤ length text.now }
-    requires fits { column + length text.now < 2 ^ 32 }
-    ensures { result ≡ end_at at text.now column }
+    requires fits { column + length text.now < 2 ^ 64 }
+    ensures value { result ≡ end_at at text.now column }
+    ensures column { IfErr result (λ fault. fault.column ≤ column + length text.now) }
 {
     if at == text.len() {
         return Ok(());
     }
-    refused(column + at as u32 + 1, SchedCause::Word)
+    refused(column + at + 1, SchedCause::Word)
 }

@@ -1,62 +1,67 @@
 //! Update words.
-ghost use Rattle.std.specs.Prelude.{◌≡◌, ◌+◌, ◌<◌, ◌≤◌, ◌^◌, IsTrue, length};
+ghost use Rattle.std.specs.Prelude.{◌≡◌, ◌+◌, ◌<◌, ◌≤◌, ◌^◌, IfErr, IsTrue, length};
 ghost use Rattle.mdcc_language.specs.Updates.{item_of, new_of, set_of, keep_of, is_named, update_of};
 ghost use Rattle.mdcc_built.specs.Built.{built};
 
-use crate::bodies::parse_body;
-use crate::keys::parse_key;
+use crate::bodies::body_of;
+use crate::faults::{TextFault, narrowed, refused};
+use crate::keys::key_of;
 use crate::numbers::count_of;
-use crate::places::{behind, end_at, part_at, part_end, refused, text_eq};
-use crate::values::parse_values;
-use mdcc_option::Item;
+use crate::places::{behind, end_at, part_at, part_end, text_eq};
+use crate::values::values_of;
 use mdcc_language::{SchedCause, SchedFault, UpdateWord};
+use mdcc_option::Item;
 
 // The item whose two parts stand behind a place and end the word.
-fn item_of(at: usize, word: &[u8], column: u32) -> Result<Item, SchedFault>
+fn item_of(at: usize, word: &[u8], column: usize) -> Result<Item, TextFault>
     requires place { at ≤ length word.now }
-    requires fits { column + length word.now < 2 ^ 32 }
-    ensures { result ≡ item_of at word.now column }
+    requires fits { column + length word.now < 2 ^ 64 }
+    ensures value { result ≡ item_of at word.now column }
+    ensures column { IfErr result (λ fault. fault.column ≤ column + length word.now) }
 {
     let start = behind(b':', at, word, column)?;
-    let body = parse_body(part_at(b':', start, word), column + start as u32)?;
+    let body = body_of(part_at(b':', start, word), column + start)?;
     let next = behind(b':', part_end(b':', start, word), word, column)?;
-    let values = parse_values(part_at(b':', next, word), column + next as u32)?;
+    let values = values_of(part_at(b':', next, word), column + next)?;
     end_at(part_end(b':', next, word), word, column)?;
     Ok(Item { body, values })
 }
 
 // `new:KEY:BODY:VALUES`
-fn new_of(word: &[u8], column: u32) -> Result<UpdateWord, SchedFault>
+fn new_of(word: &[u8], column: usize) -> Result<UpdateWord, TextFault>
     requires place { 3 ≤ length word.now }
-    requires fits { column + length word.now < 2 ^ 32 }
-    ensures { result ≡ new_of word.now column }
+    requires fits { column + length word.now < 2 ^ 64 }
+    ensures value { result ≡ new_of word.now column }
+    ensures column { IfErr result (λ fault. fault.column ≤ column + length word.now) }
 {
     let start = behind(b':', 3, word, column)?;
-    let key = parse_key(part_at(b':', start, word), column + start as u32)?;
+    let key = key_of(part_at(b':', start, word), column + start)?;
     let item = item_of(part_end(b':', start, word), word, column)?;
     Ok(UpdateWord::New(key, item))
 }
 
 // `set:R:BODY:VALUES`
-fn set_of(word: &[u8], column: u32) -> Result<UpdateWord, SchedFault>
+fn set_of(word: &[u8], column: usize) -> Result<UpdateWord, TextFault>
     requires place { 3 ≤ length word.now }
-    requires fits { column + length word.now < 2 ^ 32 }
-    ensures { result ≡ set_of word.now column }
+    requires fits { column + length word.now < 2 ^ 64 }
+    ensures value { result ≡ set_of word.now column }
+    ensures column { IfErr result (λ fault. fault.column ≤ column + length word.now) }
 {
     let start = behind(b':', 3, word, column)?;
-    let read = count_of(part_at(b':', start, word), column + start as u32)?;
+    let read = count_of(part_at(b':', start, word), column + start)?;
     let item = item_of(part_end(b':', start, word), word, column)?;
     Ok(UpdateWord::Set(read, item))
 }
 
 // `keep:R`
-fn keep_of(word: &[u8], column: u32) -> Result<UpdateWord, SchedFault>
+fn keep_of(word: &[u8], column: usize) -> Result<UpdateWord, TextFault>
     requires place { 4 ≤ length word.now }
-    requires fits { column + length word.now < 2 ^ 32 }
-    ensures { result ≡ keep_of word.now column }
+    requires fits { column + length word.now < 2 ^ 64 }
+    ensures value { result ≡ keep_of word.now column }
+    ensures column { IfErr result (λ fault. fault.column ≤ column + length word.now) }
 {
     let start = behind(b':', 4, word, column)?;
-    let read = count_of(part_at(b':', start, word), column + start as u32)?;
+    let read = count_of(part_at(b':', start, word), column + start)?;
     end_at(part_end(b':', start, word), word, column)?;
     Ok(UpdateWord::Keep(read))
 }
@@ -69,10 +74,11 @@ fn is_named(name: &[u8], word: &[u8]) -> bool
     text_eq(part_at(b':', 0, word), name)
 }
 
-/// Reads an update word that begins at a column.
-pub fn parse_update(word: &[u8], column: u32) -> Result<UpdateWord, SchedFault>
-    requires { column + length word.now < 2 ^ 32 }
-    ensures { result ≡ update_of built word.now column }
+/// An update word that begins at a column.
+pub fn update_of(word: &[u8], column: usize) -> Result<UpdateWord, TextFault>
+    requires { column + length word.now < 2 ^ 64 }
+    ensures value { result ≡ update_of built word.now column }
+    ensures column { IfErr result (λ fault. fault.column ≤ column + length word.now) }
 {
     if is_named(b"new", word) {
         new_of(word, column)
@@ -83,4 +89,12 @@ pub fn parse_update(word: &[u8], column: u32) -> Result<UpdateWord, SchedFault>
     } else {
         refused(column, SchedCause::Word)
     }
+}
+
+/// Reads an update word that begins at a column.
+pub fn parse_update(word: &[u8], column: u32) -> Result<UpdateWord, SchedFault>
+    requires { column + length word.now < 2 ^ 32 }
+    ensures { result ≡ update_of built word.now column }
+{
+    narrowed(update_of(word, column as usize))
 }

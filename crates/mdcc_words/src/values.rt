@@ -1,25 +1,27 @@
 //! Values of items.
-ghost use Rattle.std.specs.Prelude.{◌≡◌, ◌+◌, ◌<◌, ◌^◌, length};
+ghost use Rattle.std.specs.Prelude.{◌≡◌, ◌+◌, ◌<◌, ◌≤◌, ◌^◌, IfErr, length};
 ghost use Rattle.mdcc_language.specs.Words.{values_of};
 
+use crate::faults::{TextFault, narrowed, refused};
 use crate::numbers::value_of;
-use crate::places::{part_at, refused};
+use crate::places::part_at;
 use mdcc_base::BoundedList;
-use mdcc_option::items::Values;
 use mdcc_language::{SchedCause, SchedFault};
+use mdcc_option::items::Values;
 
 // The most values that an item may have.
 const MOST_VALUES: usize = 4;
 
-/// Reads 1 to 4 values with commas between them, the first of which stands at the column.
-pub fn parse_values(word: &[u8], column: u32) -> Result<Values, SchedFault>
-    requires { column + length word.now < 2 ^ 32 }
-    ensures { result ≡ values_of word.now column }
+/// The 1 to 4 values of a word, with commas between them, the first of which stands at a column.
+pub fn values_of(word: &[u8], column: usize) -> Result<Values, TextFault>
+    requires { column + length word.now < 2 ^ 64 }
+    ensures value { result ≡ values_of word.now column }
+    ensures column { IfErr result (λ fault. fault.column ≤ column + length word.now) }
 {
     let mut values: Values = BoundedList::new();
     let mut at = 0;
     while at <= word.len() {
-        let start = at as u32 + column;
+        let start = at + column;
         if values.len() >= MOST_VALUES {
             return refused(start, SchedCause::Range);
         }
@@ -29,4 +31,12 @@ pub fn parse_values(word: &[u8], column: u32) -> Result<Values, SchedFault>
         at += part.len() + 1;
     }
     Ok(values)
+}
+
+/// Reads 1 to 4 values with commas between them, the first of which stands at the column.
+pub fn parse_values(word: &[u8], column: u32) -> Result<Values, SchedFault>
+    requires { column + length word.now < 2 ^ 32 }
+    ensures { result ≡ values_of word.now column }
+{
+    narrowed(values_of(word, column as usize))
 }

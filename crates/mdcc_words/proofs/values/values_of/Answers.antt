@@ -2,15 +2,15 @@ use Rattle.std.proofs.Common.{ℕ, List, length, ◌+◌, ◌<◌, arith, ap, �
 use Rattle.std.proofs.lemmas.Result.{err_from_is_err_and}
 use Rattle.mdcc_language.specs.Words.{value_of}
 use Rattle.mdcc_words.proofs.ValueParts.{value_read, value_refused, value_too_many}
-use Rattle.mdcc_words.proofs.values.parse_values.Goals as goal
+use Rattle.mdcc_words.proofs.values.values_of.Goals as goal
 
-pub returns-then-len-ge-MOST_VALUES : goal.returns-then-len-ge-MOST_VALUES
-returns-then-len-ge-MOST_VALUES c =
+pub returns-then-len-ge-MOST_VALUES-clause-value : goal.returns-then-len-ge-MOST_VALUES-clause-value
+returns-then-len-ge-MOST_VALUES-clause-value c =
     rw c.refused.ensures (value_too_many _ c.loop-at.values c.loop-at.at c.args.column c.args.word.now c.loop-at-test.true c.loop-at.invariant.same
     (omega (arith, c.len.ensures.fits, c.len.ensures.value, c.if-len-ge-MOST_VALUES.true)))
 
-pub returns-in_err-value : goal.returns-in_err-value
-returns-in_err-value c =
+pub returns-in_err-value-clause-value : goal.returns-in_err-value-clause-value
+returns-in_err-value-clause-value c =
     let p = err_from_is_err_and c.from_residual.result c.from_residual.ensures.1 in
     let few : length c.loop-at.values < 4 = omega (arith, c.len.ensures.value, c.if-len-ge-MOST_VALUES.false) in
     let read = ap (λ (part : List ℕ). value_of part (c.loop-at.at + c.args.column)) (sym c.part_at-part.ensures.part) ∙ sym c.value_of.ensures.value ∙ c.in_err-value.was in

@@ -2,7 +2,7 @@ use Rattle.std.proofs.Common.{◌≡◌, ◌+◌, ◌-◌, ◌≤◌, length}
 use Rattle.mdcc_language.specs.Words.{values_from, values_of}
 use Rattle.mdcc_words.proofs.Onto.{onto}
 use Rattle.mdcc_words.proofs.Parts.{parts_left}
-use Rattle.mdcc_words.proofs.values.parse_values.Given as goal
+use Rattle.mdcc_words.proofs.values.values_of.Given as goal
 
 abbrev pub invariant-loop-at : goal.invariant-loop-at
 invariant-loop-at l = record {
