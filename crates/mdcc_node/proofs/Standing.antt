@@ -14,7 +14,7 @@ use Rattle.mdcc_option.specs.declared.cluster.Cluster.{Cluster}
 use Rattle.mdcc_rules.specs.AcceptorRules.{proposed_step}
 use Rattle.mdcc_switches.specs.Built.{Built}
 use Rattle.mdcc_rules.specs.Messages.{to_one}
-use Rattle.mdcc_rules.specs.Node.{is_own_message}
+use Rattle.mdcc_rules.specs.Node.{is_own_message, message_step}
 use Rattle.mdcc_protocol.specs.declared.acceptor.ProposeAnswer.{ProposeAnswer}
 use Rattle.mdcc_messages.specs.declared.messages.Message.{Message}
 use Rattle.mdcc_rules.specs.declared.node.Input.{Input}
@@ -76,16 +76,30 @@ pub step_voted : (me : ℕ) (volatile : Volatile) (from : ℕ) (choice : Choice)
     → proposed_step me volatile from choice acceptor ≡ adding volatile fact sends
 step_voted me volatile from choice acceptor mark fact sends e f s = rw (e, f, s) refl
 
--- ---- messages of others
+-- ---- who sent a message
 
-pub not_own : (own : Bool) (from : ℕ) → None ≡ (if own then Some from else None) → own ≡ false
-not_own true from e = absurd (cc)
-not_own false from e = refl
+own-by : {X : Type 0} (own : Bool) (sender from : ℕ) (step : ℕ → X) (foreign : X) → Some from ≡ (if own then Some sender else None)
+    → (if own then step sender else foreign) ≡ step from
+own-by true sender from step foreign e =
+    let is : from ≡ sender = cc in
+    rw is refl
+own-by false sender from step foreign e = absurd (cc)
 
-pub foreign_step : (room : Room) (built : Built) (cluster : Cluster) (me : ℕ) (facts : List Fact) (volatile : Volatile) (envelope : Envelope)
-    → is_own_message cluster me envelope ≡ false
-    → step_by room built cluster me facts volatile (Input.Message envelope) ≡ Err StepFault.Foreign
-foreign_step room built cluster me facts volatile envelope e = rw e refl
+foreign-by : {X : Type 0} (own : Bool) (sender : ℕ) (step foreign : X) → None ≡ (if own then Some sender else None) → (if own then step else foreign) ≡ foreign
+foreign-by true sender step foreign e = absurd (cc)
+foreign-by false sender step foreign e = refl
+
+module _ (room : Room) (built : Built) (cluster : Cluster) (me : ℕ) (facts : List Fact) (volatile : Volatile) (envelope : Envelope) where
+  -- a message of the cluster to this centre
+  pub own_step : (from : ℕ) → Some from ≡ (if is_own_message cluster me envelope then Some envelope.from else None)
+      → step_by room built cluster me facts volatile (Input.Message envelope) ≡ with_store room facts (message_step built cluster me facts volatile from envelope.message)
+  own_step from e =
+      own-by (is_own_message cluster me envelope) envelope.from from (λ s. with_store room facts (message_step built cluster me facts volatile s envelope.message)) (Err StepFault.Foreign) e
+
+  -- any other
+  pub foreign_step : None ≡ (if is_own_message cluster me envelope then Some envelope.from else None)
+      → step_by room built cluster me facts volatile (Input.Message envelope) ≡ Err StepFault.Foreign
+  foreign_step e = foreign-by (is_own_message cluster me envelope) envelope.from _ (Err StepFault.Foreign) e
 
 -- ---- what is left
 

@@ -1,6 +1,6 @@
 -- What a boot gives: a node that stands for the facts of its log and of the boot.
 use Rattle.std.specs.Bool.{OnFalse}
-use Rattle.std.specs.Prelude.{Err, List, Ok, Result, ℕ, ◌∷◌, ◌≡◌}
+use Rattle.std.specs.Prelude.{Err, List, Ok, Result, ℕ, ⊤, ◌∷◌, ◌≡◌}
 use Rattle.mdcc_admission.specs.Loading.{is_memory}
 use Rattle.mdcc_node.specs.Stands.{Stands}
 use Rattle.mdcc_node.specs.declared.node.Node.{Node}
@@ -8,6 +8,11 @@ use Rattle.mdcc_option.specs.declared.cluster.Cluster.{Cluster}
 use Rattle.mdcc_protocol.specs.Volatile.{nothing_kept}
 use Rattle.mdcc_messages.specs.declared.facts.Fact.{Fact}
 use Rattle.mdcc_rules.specs.declared.node.BootFault.{BootFault}
+
+-- the fact of a boot
+abbrev pub IsBoot : Fact → Type 0
+IsBoot (Fact.Booted epoch) = ⊤
+IsBoot fact = ⊥
 
 -- the node stands for the expected facts with nothing kept, and the newest fact is given; or the expected fault, where memory does not lack
 abbrev pub Boots : {S : Type 0} → (S → List Fact → Type 0) → Result (Node S × Fact) BootFault → Cluster → ℕ → Result (List Fact) BootFault → Type 0

@@ -1,4 +1,5 @@
 pub mod Booting
+pub mod Doing
 pub mod Laws
 pub mod Stands
 pub mod Stepping

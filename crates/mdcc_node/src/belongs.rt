@@ -8,8 +8,8 @@ use mdcc_admission::parts_belong::{
     mark_belongs, options_belong, outcome_belongs, tx_belongs, txs_belong, updates_belong,
 };
 use mdcc_base::{Ballot, Centre, TxId};
-use mdcc_option::{BeginFault, Cluster, Item, Mark};
 use mdcc_messages::{ClientAnswer, Envelope, Message};
+use mdcc_option::{BeginFault, Cluster, Item, Mark};
 use mdcc_struct::Options;
 
 // Whether the item, where there is one, has a value for each attribute.

@@ -1,7 +1,7 @@
 //! The boot of a node from the payloads of its log.
-ghost use Rattle.std.specs.Prelude.{◌≡◌, [], map, true};
+ghost use Rattle.std.specs.Prelude.{◌≡◌, [], IfOk, map, true};
 ghost use Rattle.mdcc_admission.specs.Loading.{Cells, Holds, boot_by, fact_read};
-ghost use Rattle.mdcc_node.specs.Booting.{Boots};
+ghost use Rattle.mdcc_node.specs.Booting.{Boots, IsBoot};
 ghost use Rattle.mdcc_protocol.specs.Belongs.{is_centre};
 
 use crate::node::Node;
@@ -9,8 +9,8 @@ use mdcc_admission::boot_store;
 use mdcc_base::{Centre, HeapList};
 use mdcc_facts::FactStore;
 use mdcc_manager::Manager;
-use mdcc_option::Cluster;
 use mdcc_messages::Fact;
+use mdcc_option::Cluster;
 use mdcc_rules::BootFault;
 use std::alloc::Global;
 
@@ -31,8 +31,9 @@ impl<S: FactStore + Drop> Node<S> {
     ) -> Result<(Node<S>, Fact), BootFault>
         requires among { is_centre cluster centre ≡ true }
         requires empty { S.stands store [] }
-        ensures { (all : Cells) → Holds S.stands S.room S.cells_for all store []
+        ensures boots { (all : Cells) → Holds S.stands S.room S.cells_for all store []
             → Boots S.stands result cluster centre (boot_by all cluster (map fact_read payloads.now)) }
+        ensures fact { IfOk result (λ r. IsBoot r.1) }
     {
         let mut store = store;
         match boot_store(alloc, &cluster, &mut store, payloads) {

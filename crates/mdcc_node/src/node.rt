@@ -2,8 +2,9 @@
 ghost use Rattle.std.specs.Prelude.{◌≡◌, ◌∷◌, ◌&&◌, [], List, ℕ, IfOk, Ok, false, not, true};
 ghost use Rattle.mdcc_base.specs.Unless.{GivesUnless};
 ghost use Rattle.mdcc_facts.specs.Adding.{MayBeAdded};
-ghost use Rattle.mdcc_node.specs.Stands.{Left, Stands};
-ghost use Rattle.mdcc_node.specs.Stepping.{IsGiven, OnMemory, UnlessMemory, given, is_memory, room_of, step_by, with_store};
+ghost use Rattle.mdcc_node.specs.Doing.{Does, Follows};
+ghost use Rattle.mdcc_node.specs.Stands.{Stands};
+ghost use Rattle.mdcc_node.specs.Stepping.{IsGiven, is_memory, room_of, step_by};
 ghost use Rattle.mdcc_node.specs.Telling.{refused_given, replied, sent, vote_fact};
 ghost use Rattle.mdcc_option.specs.Transaction.{choices_of};
 ghost use Rattle.mdcc_option.specs.declared.choices.Mark.{Mark as AMark};
@@ -19,7 +20,6 @@ ghost use Rattle.mdcc_rules.specs.Messages.{to_one};
 ghost use Rattle.mdcc_rules.specs.Node.{message_step};
 ghost use Rattle.mdcc_rules.specs.Steps.{adding};
 ghost use Rattle.mdcc_rules.specs.SyncRules.{give_sent, outcome_step};
-ghost use Rattle.mdcc_protocol.specs.Visible.{read as read_of};
 ghost use Rattle.mdcc_protocol.specs.Volatile.{Volatile as AVolatile, closed, is_open, nothing_kept};
 ghost use Rattle.mdcc_messages.specs.WellFormed.{IsWellFormedEnvelope, IsWellFormedMessage};
 ghost use Rattle.mdcc_messages.specs.WellFormedParts.{IsWellFormedCause};
@@ -35,9 +35,9 @@ use mdcc_acceptor::on_propose;
 use mdcc_base::{Ballot, Centre, HeapList, Key, Memory, Plain, TxId};
 use mdcc_facts::FactStore;
 use mdcc_manager::{Manager, key_refused};
-use mdcc_option::{BeginFault, Cause, Choice, Cluster, Outcome, Transaction};
 use mdcc_messages::{Envelope, Fact, Message};
-use mdcc_protocol::{ManagerAct, ProposeAnswer, Reading, Vote};
+use mdcc_option::{BeginFault, Cause, Choice, Cluster, Outcome, Transaction};
+use mdcc_protocol::{ManagerAct, ProposeAnswer, Vote};
 use mdcc_rules::{Answer, Input, Step, StepFault};
 use mdcc_visible::{on_outcome, on_sync_ask, read};
 use std::alloc::Global;
@@ -83,23 +83,11 @@ impl<S: FactStore + Drop> Node<S> {
         self.store.epoch()
     }
 
-    /// What a client is shown of a key.
-    pub fn read(&self, key: &Key) -> Reading
-        ensures { (cluster : ACluster) (me : ℕ) (facts : List AFact) (volatile : AVolatile)
-            → Stands S.stands self.now cluster me facts volatile → result ≡ read_of facts key.now }
-    {
-        read(&self.store, key)
-    }
-
     // Adds a fact, which is let out before the messages.
     fn add(&mut self, fact: Fact, sends: HeapList<Envelope>) -> Result<Step, StepFault>
         requires new { (facts : List AFact) → S.stands self.old.store facts → MayBeAdded facts fact }
         requires no_boot { (facts : List AFact) → S.stands self.old.store facts → epoch_of (fact ∷ facts) ≡ epoch_of facts }
-        ensures answer { (cluster : ACluster) (me : ℕ) (facts : List AFact) (volatile : AVolatile) → Stands S.stands self.old cluster me facts volatile
-            → GivesUnless is_memory result (given (with_store (room_of S.room S.cells_for self.old.store) facts (Ok (adding volatile fact sends)))) }
-        ensures left { (cluster : ACluster) (me : ℕ) (facts : List AFact) (volatile : AVolatile) → Stands S.stands self.old cluster me facts volatile
-            → UnlessMemory result (Left S.stands self.new cluster me facts volatile (with_store (room_of S.room S.cells_for self.old.store) facts (Ok (adding volatile fact sends)))) }
-        ensures memory { (facts : List AFact) → S.stands self.old.store facts → OnMemory result (S.stands self.new.store facts) }
+        ensures { Does S.stands S.room S.cells_for self.old result self.new (λ _ _ _ volatile. Ok (adding volatile fact sends)) }
     {
         self.store.add(&fact)?;
         Ok(added(fact, sends))
@@ -109,11 +97,7 @@ impl<S: FactStore + Drop> Node<S> {
     fn end(&mut self, tx: TxId, heard: Fact, sends: HeapList<Envelope>) -> Result<Step, StepFault>
         requires new { (facts : List AFact) → S.stands self.old.store facts → MayBeAdded facts heard }
         requires no_boot { (facts : List AFact) → S.stands self.old.store facts → epoch_of (heard ∷ facts) ≡ epoch_of facts }
-        ensures answer { (cluster : ACluster) (me : ℕ) (facts : List AFact) (volatile : AVolatile) → Stands S.stands self.old cluster me facts volatile
-            → GivesUnless is_memory result (given (with_store (room_of S.room S.cells_for self.old.store) facts (Ok (adding (closed volatile tx) heard sends)))) }
-        ensures left { (cluster : ACluster) (me : ℕ) (facts : List AFact) (volatile : AVolatile) → Stands S.stands self.old cluster me facts volatile
-            → UnlessMemory result (Left S.stands self.new cluster me facts volatile (with_store (room_of S.room S.cells_for self.old.store) facts (Ok (adding (closed volatile tx) heard sends)))) }
-        ensures memory { (facts : List AFact) → S.stands self.old.store facts → OnMemory result (S.stands self.new.store facts) }
+        ensures { Does S.stands S.room S.cells_for self.old result self.new (λ _ _ _ volatile. Ok (adding (closed volatile tx) heard sends)) }
     {
         self.store.add(&heard)?;
         self.manager.close(tx);
@@ -135,11 +119,7 @@ impl<S: FactStore + Drop> Node<S> {
         acceptor: ProposeAnswer,
     ) -> Result<Step, StepFault>
         requires { (facts : List AFact) (mark : AMark) → S.stands self.old.store facts → acceptor ≡ AProposeAnswer.Vote mark → MayBeAdded facts (vote_fact choice.now mark) }
-        ensures answer { (cluster : ACluster) (me : ℕ) (facts : List AFact) (volatile : AVolatile) → Stands S.stands self.old cluster me facts volatile
-            → GivesUnless is_memory result (given (with_store (room_of S.room S.cells_for self.old.store) facts (Ok (proposed_step me volatile from choice.now acceptor)))) }
-        ensures left { (cluster : ACluster) (me : ℕ) (facts : List AFact) (volatile : AVolatile) → Stands S.stands self.old cluster me facts volatile
-            → UnlessMemory result (Left S.stands self.new cluster me facts volatile (with_store (room_of S.room S.cells_for self.old.store) facts (Ok (proposed_step me volatile from choice.now acceptor)))) }
-        ensures memory { (facts : List AFact) → S.stands self.old.store facts → OnMemory result (S.stands self.new.store facts) }
+        ensures { Does S.stands S.room S.cells_for self.old result self.new (λ _ me _ volatile. Ok (proposed_step me volatile from choice.now acceptor)) }
     {
         match acceptor {
             ProposeAnswer::Known(outcome) => {
@@ -169,11 +149,7 @@ impl<S: FactStore + Drop> Node<S> {
 
     // A choice was proposed.
     fn propose(&mut self, from: u8, choice: &Choice) -> Result<Step, StepFault>
-        ensures answer { (cluster : ACluster) (me : ℕ) (facts : List AFact) (volatile : AVolatile) → Stands S.stands self.old cluster me facts volatile
-            → GivesUnless is_memory result (given (with_store (room_of S.room S.cells_for self.old.store) facts (Ok (propose_step cluster me facts volatile from choice.now)))) }
-        ensures left { (cluster : ACluster) (me : ℕ) (facts : List AFact) (volatile : AVolatile) → Stands S.stands self.old cluster me facts volatile
-            → UnlessMemory result (Left S.stands self.new cluster me facts volatile (with_store (room_of S.room S.cells_for self.old.store) facts (Ok (propose_step cluster me facts volatile from choice.now)))) }
-        ensures memory { (facts : List AFact) → S.stands self.old.store facts → OnMemory result (S.stands self.new.store facts) }
+        ensures { Does S.stands S.room S.cells_for self.old result self.new (λ cluster me facts volatile. Ok (propose_step cluster me facts volatile from choice.now)) }
     {
         let acceptor = on_propose(&self.store, &self.cluster, choice);
         self.proposed(from, choice, acceptor)
@@ -182,11 +158,7 @@ impl<S: FactStore + Drop> Node<S> {
     // A transaction that was not heard is decided here.
     fn decide(&mut self, tx: TxId, outcome: Outcome) -> Result<Step, StepFault>
         requires { (facts : List AFact) → S.stands self.old.store facts → is_heard facts tx ≡ false }
-        ensures answer { (cluster : ACluster) (me : ℕ) (facts : List AFact) (volatile : AVolatile) → Stands S.stands self.old cluster me facts volatile
-            → GivesUnless is_memory result (given (with_store (room_of S.room S.cells_for self.old.store) facts (Ok (decided_step cluster me volatile tx outcome)))) }
-        ensures left { (cluster : ACluster) (me : ℕ) (facts : List AFact) (volatile : AVolatile) → Stands S.stands self.old cluster me facts volatile
-            → UnlessMemory result (Left S.stands self.new cluster me facts volatile (with_store (room_of S.room S.cells_for self.old.store) facts (Ok (decided_step cluster me volatile tx outcome)))) }
-        ensures memory { (facts : List AFact) → S.stands self.old.store facts → OnMemory result (S.stands self.new.store facts) }
+        ensures { Does S.stands S.room S.cells_for self.old result self.new (λ cluster me _ volatile. Ok (decided_step cluster me volatile tx outcome)) }
     {
         let centre = self.centre.number();
         let sends = outcome_sent(self.alloc, &self.cluster.quorums, centre, tx, &outcome)?;
@@ -229,11 +201,7 @@ impl<S: FactStore + Drop> Node<S> {
 
     // A vote on an open transaction that decides nothing.
     fn undecided(&mut self, vote: &Vote) -> Result<Step, StepFault>
-        ensures answer { (cluster : ACluster) (me : ℕ) (facts : List AFact) (volatile : AVolatile) → Stands S.stands self.old cluster me facts volatile
-            → GivesUnless is_memory result (given (with_store (room_of S.room S.cells_for self.old.store) facts (Ok (undecided_step built cluster me facts volatile vote.now)))) }
-        ensures left { (cluster : ACluster) (me : ℕ) (facts : List AFact) (volatile : AVolatile) → Stands S.stands self.old cluster me facts volatile
-            → UnlessMemory result (Left S.stands self.new cluster me facts volatile (with_store (room_of S.room S.cells_for self.old.store) facts (Ok (undecided_step built cluster me facts volatile vote.now)))) }
-        ensures memory { (facts : List AFact) → S.stands self.old.store facts → OnMemory result (S.stands self.new.store facts) }
+        ensures { Does S.stands S.room S.cells_for self.old result self.new (λ cluster me facts volatile. Ok (undecided_step built cluster me facts volatile vote.now)) }
     {
         let act = self.manager.on_voted(&self.cluster, vote)?;
         Ok(sent(self.act_sent(&act)?))
@@ -243,11 +211,7 @@ impl<S: FactStore + Drop> Node<S> {
     // transaction is closed.
     fn opened(&mut self, vote: &Vote) -> Result<Step, StepFault>
         requires { (facts : List AFact) → S.stands self.old.store facts → is_heard facts vote.now.tx ≡ false }
-        ensures answer { (cluster : ACluster) (me : ℕ) (facts : List AFact) (volatile : AVolatile) → Stands S.stands self.old cluster me facts volatile
-            → GivesUnless is_memory result (given (with_store (room_of S.room S.cells_for self.old.store) facts (Ok (opened_step built cluster me facts volatile vote.now (would_decide cluster.quorums volatile.manager vote.now))))) }
-        ensures left { (cluster : ACluster) (me : ℕ) (facts : List AFact) (volatile : AVolatile) → Stands S.stands self.old cluster me facts volatile
-            → UnlessMemory result (Left S.stands self.new cluster me facts volatile (with_store (room_of S.room S.cells_for self.old.store) facts (Ok (opened_step built cluster me facts volatile vote.now (would_decide cluster.quorums volatile.manager vote.now))))) }
-        ensures memory { (facts : List AFact) → S.stands self.old.store facts → OnMemory result (S.stands self.new.store facts) }
+        ensures { Does S.stands S.room S.cells_for self.old result self.new (λ cluster me facts volatile. Ok (opened_step built cluster me facts volatile vote.now (would_decide cluster.quorums volatile.manager vote.now))) }
     {
         match self.manager.would_decide(&self.cluster, vote) {
             Some(outcome) => self.decide(vote.tx, outcome),
@@ -257,11 +221,7 @@ impl<S: FactStore + Drop> Node<S> {
 
     // A vote came. One on a transaction that is not open here changes nothing.
     fn voted(&mut self, vote: &Vote) -> Result<Step, StepFault>
-        ensures answer { (cluster : ACluster) (me : ℕ) (facts : List AFact) (volatile : AVolatile) → Stands S.stands self.old cluster me facts volatile
-            → GivesUnless is_memory result (given (with_store (room_of S.room S.cells_for self.old.store) facts (Ok (voted_step built cluster me facts volatile vote.now)))) }
-        ensures left { (cluster : ACluster) (me : ℕ) (facts : List AFact) (volatile : AVolatile) → Stands S.stands self.old cluster me facts volatile
-            → UnlessMemory result (Left S.stands self.new cluster me facts volatile (with_store (room_of S.room S.cells_for self.old.store) facts (Ok (voted_step built cluster me facts volatile vote.now)))) }
-        ensures memory { (facts : List AFact) → S.stands self.old.store facts → OnMemory result (S.stands self.new.store facts) }
+        ensures { Does S.stands S.room S.cells_for self.old result self.new (λ cluster me facts volatile. Ok (voted_step built cluster me facts volatile vote.now)) }
     {
         if self.store.heard(vote.tx).is_some() || !self.manager.is_open(vote.tx) {
             return Ok(sent(HeapList::new(self.alloc)));
@@ -278,11 +238,7 @@ impl<S: FactStore + Drop> Node<S> {
         cause: Cause,
     ) -> Result<Step, StepFault>
         requires { IsWellFormedCause cause }
-        ensures answer { (cluster : ACluster) (me : ℕ) (facts : List AFact) (volatile : AVolatile) → Stands S.stands self.old cluster me facts volatile
-            → GivesUnless is_memory result (given (with_store (room_of S.room S.cells_for self.old.store) facts (Ok (escalate_step cluster me facts volatile from key.now tx cause)))) }
-        ensures left { (cluster : ACluster) (me : ℕ) (facts : List AFact) (volatile : AVolatile) → Stands S.stands self.old cluster me facts volatile
-            → UnlessMemory result (Left S.stands self.new cluster me facts volatile (with_store (room_of S.room S.cells_for self.old.store) facts (Ok (escalate_step cluster me facts volatile from key.now tx cause)))) }
-        ensures memory { (facts : List AFact) → S.stands self.old.store facts → OnMemory result (S.stands self.new.store facts) }
+        ensures { Does S.stands S.room S.cells_for self.old result self.new (λ cluster me facts volatile. Ok (escalate_step cluster me facts volatile from key.now tx cause)) }
     {
         let act = self
             .manager
@@ -292,11 +248,7 @@ impl<S: FactStore + Drop> Node<S> {
 
     // The outcome of a transaction came.
     fn hear(&mut self, tx: TxId, outcome: &Outcome) -> Result<Step, StepFault>
-        ensures answer { (cluster : ACluster) (me : ℕ) (facts : List AFact) (volatile : AVolatile) → Stands S.stands self.old cluster me facts volatile
-            → GivesUnless is_memory result (given (with_store (room_of S.room S.cells_for self.old.store) facts (Ok (outcome_step facts volatile tx outcome.now)))) }
-        ensures left { (cluster : ACluster) (me : ℕ) (facts : List AFact) (volatile : AVolatile) → Stands S.stands self.old cluster me facts volatile
-            → UnlessMemory result (Left S.stands self.new cluster me facts volatile (with_store (room_of S.room S.cells_for self.old.store) facts (Ok (outcome_step facts volatile tx outcome.now)))) }
-        ensures memory { (facts : List AFact) → S.stands self.old.store facts → OnMemory result (S.stands self.new.store facts) }
+        ensures { Does S.stands S.room S.cells_for self.old result self.new (λ _ _ facts volatile. Ok (outcome_step facts volatile tx outcome.now)) }
     {
         let sends = HeapList::new(self.alloc);
         match on_outcome(&self.store, tx, outcome) {
@@ -308,11 +260,7 @@ impl<S: FactStore + Drop> Node<S> {
     // A message of the cluster came to this node.
     fn take(&mut self, from: Centre, message: &Message) -> Result<Step, StepFault>
         requires { IsWellFormedMessage message.now }
-        ensures answer { (cluster : ACluster) (me : ℕ) (facts : List AFact) (volatile : AVolatile) → Stands S.stands self.old cluster me facts volatile
-            → GivesUnless is_memory result (given (with_store (room_of S.room S.cells_for self.old.store) facts (message_step built cluster me facts volatile from message.now))) }
-        ensures left { (cluster : ACluster) (me : ℕ) (facts : List AFact) (volatile : AVolatile) → Stands S.stands self.old cluster me facts volatile
-            → UnlessMemory result (Left S.stands self.new cluster me facts volatile (with_store (room_of S.room S.cells_for self.old.store) facts (message_step built cluster me facts volatile from message.now))) }
-        ensures memory { (facts : List AFact) → S.stands self.old.store facts → OnMemory result (S.stands self.new.store facts) }
+        ensures { Does S.stands S.room S.cells_for self.old result self.new (λ cluster me facts volatile. message_step built cluster me facts volatile from message.now) }
     {
         match message {
             Message::Propose(choice) => self.propose(from.number(), choice),
@@ -339,15 +287,10 @@ impl<S: FactStore + Drop> Node<S> {
         }
     }
 
-    /// A message comes. It is refused where it is for another centre or not of the cluster, and
-    /// where its fact is; the node is then as it was.
-    pub fn deliver(&mut self, envelope: &Envelope) -> Result<Step, StepFault>
+    // A message came. It is refused where it is for another centre or not of the cluster.
+    fn deliver(&mut self, envelope: &Envelope) -> Result<Step, StepFault>
         requires { IsWellFormedEnvelope envelope.now }
-        ensures answer { (cluster : ACluster) (me : ℕ) (facts : List AFact) (volatile : AVolatile) → Stands S.stands self.old cluster me facts volatile
-            → GivesUnless is_memory result (given (step_by (room_of S.room S.cells_for self.old.store) built cluster me facts volatile (AInput.Message envelope.now))) }
-        ensures left { (cluster : ACluster) (me : ℕ) (facts : List AFact) (volatile : AVolatile) → Stands S.stands self.old cluster me facts volatile
-            → UnlessMemory result (Left S.stands self.new cluster me facts volatile (step_by (room_of S.room S.cells_for self.old.store) built cluster me facts volatile (AInput.Message envelope.now))) }
-        ensures memory { (facts : List AFact) → S.stands self.old.store facts → OnMemory result (S.stands self.new.store facts) }
+        ensures { Follows S.stands self.old result self.new (λ cluster me facts volatile. step_by (room_of S.room S.cells_for self.old.store) built cluster me facts volatile (AInput.Message envelope.now)) }
     {
         match sender_of(&self.cluster, self.centre.number(), envelope) {
             Some(from) => self.take(from, &envelope.message),
@@ -380,13 +323,9 @@ impl<S: FactStore + Drop> Node<S> {
         }
     }
 
-    /// A client begins a transaction, which was made under the cluster's schema.
-    pub fn begin(&mut self, transaction: &Transaction) -> Result<Step, StepFault>
-        ensures answer { (cluster : ACluster) (me : ℕ) (facts : List AFact) (volatile : AVolatile) → Stands S.stands self.old cluster me facts volatile
-            → GivesUnless is_memory result (given (Ok (begin_step cluster me facts volatile transaction.now))) }
-        ensures left { (cluster : ACluster) (me : ℕ) (facts : List AFact) (volatile : AVolatile) → Stands S.stands self.old cluster me facts volatile
-            → UnlessMemory result (Left S.stands self.new cluster me facts volatile (Ok (begin_step cluster me facts volatile transaction.now))) }
-        ensures memory { (facts : List AFact) → S.stands self.old.store facts → OnMemory result (S.stands self.new.store facts) }
+    // A client begins a transaction.
+    fn begin(&mut self, transaction: &Transaction) -> Result<Step, StepFault>
+        ensures { Follows S.stands self.old result self.new (λ cluster me facts volatile. Ok (begin_step cluster me facts volatile transaction.now)) }
     {
         match self.manager.begin(&self.store, transaction) {
             Ok(tx) => self.begun(tx, transaction),
@@ -395,21 +334,19 @@ impl<S: FactStore + Drop> Node<S> {
     }
 
     /// One input: at most one fact, the messages in order, and the answer to a client. The caller
-    /// makes the fact durable before it lets anything out. After a refusal the node is as it was,
-    /// but where there was no memory only its facts are, and it is to be booted again.
+    /// makes the fact durable before it lets anything out. A transaction was made under the
+    /// cluster's schema. A message is refused where it is for another centre or not of the cluster,
+    /// and where its fact is. After a refusal the node is as it was, but where there was no memory
+    /// only its facts are, and it is to be booted again.
     pub fn step(&mut self, input: &Input) -> Result<Step, StepFault>
         requires { IsGiven input.now }
-        ensures answer { (cluster : ACluster) (me : ℕ) (facts : List AFact) (volatile : AVolatile) → Stands S.stands self.old cluster me facts volatile
-            → GivesUnless is_memory result (given (step_by (room_of S.room S.cells_for self.old.store) built cluster me facts volatile input.now)) }
-        ensures left { (cluster : ACluster) (me : ℕ) (facts : List AFact) (volatile : AVolatile) → Stands S.stands self.old cluster me facts volatile
-            → UnlessMemory result (Left S.stands self.new cluster me facts volatile (step_by (room_of S.room S.cells_for self.old.store) built cluster me facts volatile input.now)) }
-        ensures memory { (facts : List AFact) → S.stands self.old.store facts → OnMemory result (S.stands self.new.store facts) }
+        ensures { Follows S.stands self.old result self.new (λ cluster me facts volatile. step_by (room_of S.room S.cells_for self.old.store) built cluster me facts volatile input.now) }
     {
         match input {
             Input::Message(envelope) => self.deliver(envelope),
             Input::Tick => Ok(sent(HeapList::new(self.alloc))),
             Input::Read(key) => {
-                let answer = Answer::Read(self.read(key));
+                let answer = Answer::Read(read(&self.store, key));
                 Ok(replied(HeapList::new(self.alloc), answer))
             }
             Input::Begin(transaction) => self.begin(transaction),

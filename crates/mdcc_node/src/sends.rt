@@ -6,8 +6,8 @@ ghost use Rattle.mdcc_rules.specs.Messages.{to_all, to_one, to_others};
 ghost use Rattle.mdcc_messages.specs.declared.messages.Message.{Message as AMessage};
 
 use mdcc_base::{HeapList, Memory, Plain, Quorums, TxId};
-use mdcc_option::{Choice, Outcome};
 use mdcc_messages::{Envelope, Message};
+use mdcc_option::{Choice, Outcome};
 use std::alloc::Global;
 
 /// One message to one centre.

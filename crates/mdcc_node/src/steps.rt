@@ -5,8 +5,8 @@ ghost use Rattle.mdcc_rules.specs.Steps.{heard_by};
 ghost use Rattle.mdcc_messages.specs.declared.messages.Message.{Message as AMessage};
 
 use mdcc_base::{Ballot, HeapList, Memory, Plain, TxId};
-use mdcc_option::{Choice, Mark, Outcome};
 use mdcc_messages::{Envelope, Fact, Message};
+use mdcc_option::{Choice, Mark, Outcome};
 use mdcc_rules::{Answer, Step};
 use mdcc_struct::Options;
 use std::alloc::Global;

@@ -1,6 +1,6 @@
 //! What a node votes.
 use crate::bytes::{FAST, INSERT, PLACE, TX, is_added, is_sent};
-use crate::nodes::{deliver, item, key, one_of_five};
+use crate::nodes::{deliver, item, key, one_of_five, read};
 use mdcc_facts::ListFacts;
 use mdcc_node::{Answer, Input, Node, Step};
 use std::alloc::Global;
@@ -96,7 +96,7 @@ fn a_read_shows_what_is_heard(rt: HostRuntime) -> Result<(), Fail> {
     let alloc = rt.alloc();
     let mut node = holding(alloc)?;
     let _step = deliver(alloc, &mut node, &[&[1, 1, 1, 2], &LESS])?;
-    assert_eq!(rt; node.read(&key(b'a')).item, Some(item(10)));
+    assert_eq!(rt; read(&mut node, key(b'a'))?.item, Some(item(10)));
     let tx = &LESS[..9];
     let step = deliver(alloc, &mut node, &[&[1, 9, 1, 2], tx, &[1, 1], &LESS])?;
     assert!(rt; is_added(alloc, &step, &[&[4], tx, &[1, 1], &LESS])?);

@@ -1,6 +1,6 @@
 //! A node alone, of which each quorum is the node itself.
 use crate::bytes::{FAST, INSERT, PLACE, TX, is_added, is_sent};
-use crate::nodes::{begin, booted, cluster, deliver, insert, item, key};
+use crate::nodes::{begin, booted, cluster, deliver, insert, item, key, read};
 use mdcc_base::{Centre, Plain, TxId};
 use mdcc_facts::ListFacts;
 use mdcc_node::{Answer, Node};
@@ -24,10 +24,10 @@ fn first_tx() -> TxId {
 
 #[test]
 fn a_start_adds_the_boot_of_epoch_1(rt: HostRuntime) -> Result<(), Fail> {
-    let (node, fact) = booted(rt.alloc(), cluster(1, 1, 1)?, 1)?;
+    let (mut node, fact) = booted(rt.alloc(), cluster(1, 1, 1)?, 1)?;
     assert!(rt; matches!(fact, Fact::Booted(1)));
     assert_eq!(rt; node.epoch(), 1);
-    let reading = node.read(&key(b'a'));
+    let reading = read(&mut node, key(b'a'))?;
     assert_eq!(rt; reading.token.version, 0);
     assert_eq!(rt; reading.item, None);
     assert!(rt; !reading.due);
@@ -82,7 +82,7 @@ fn an_insert_is_committed(rt: HostRuntime) -> Result<(), Fail> {
     begins(&rt, alloc, &mut node)?;
     votes(&rt, alloc, &mut node)?;
     decides(&rt, alloc, &mut node)?;
-    let reading = node.read(&key(b'a'));
+    let reading = read(&mut node, key(b'a'))?;
     assert_eq!(rt; reading.token.version, 1);
     assert!(rt; reading.token.seen.is_empty());
     assert_eq!(rt; reading.item, Some(item(10)));

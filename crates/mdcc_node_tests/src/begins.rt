@@ -57,12 +57,12 @@ fn each_key_is_proposed_to_all_centres(rt: HostRuntime) -> Result<(), Fail> {
 #[test]
 fn the_257th_open_transaction_is_refused(rt: HostRuntime) -> Result<(), Fail> {
     let mut node = one_of_five(rt.alloc(), 1)?;
-    let inserts = transaction(&[insert(b'b', 2), insert(b'a', 1)])?;
+    let inserts = Input::Begin(transaction(&[insert(b'b', 2), insert(b'a', 1)])?);
     for _ in 0..256 {
-        let step = node.begin(&inserts)?;
+        let step = node.step(&inserts)?;
         assert!(rt; matches!(step.answer, Some(Answer::Begun(_))));
     }
-    let step = node.step(&Input::Begin(inserts))?;
+    let step = node.step(&inserts)?;
     assert!(rt; step.sends.is_empty());
     assert_eq!(rt; refused(&step), Some((key(b'a'), BeginFault::Busy)));
     Ok(())

@@ -2,9 +2,10 @@
 use crate::bytes::{joined, message};
 use mdcc_base::{BoundedList, Centre, Key, Quorums};
 use mdcc_facts::ListFacts;
-use mdcc_node::{Node, Step, StepFault};
-use mdcc_option::{Cluster, FastLimit, Item, Part, Schema, Transaction, Update};
+use mdcc_node::{Answer, Input, Node, Step, StepFault};
+use mdcc_option::{Cluster, Item, Part, Schema, Transaction, Update};
 use mdcc_messages::Fact;
+use mdcc_protocol::Reading;
 use std::alloc::Global;
 use std::test::Fail;
 
@@ -42,7 +43,7 @@ pub fn one_of_five(alloc: Global, number: u8) -> Result<Node<ListFacts>, Fail> {
 /// What a message does.
 pub fn deliver(alloc: Global, node: &mut Node<ListFacts>, parts: &[&[u8]]) -> Result<Step, Fail> {
     let envelope = message(alloc, &joined(alloc, parts)?)?;
-    Ok(node.deliver(&envelope)?)
+    Ok(node.step(&Input::Message(envelope))?)
 }
 
 /// Why a message is refused.
@@ -52,7 +53,7 @@ pub fn refusal(
     parts: &[&[u8]],
 ) -> Result<Option<StepFault>, Fail> {
     let envelope = message(alloc, &joined(alloc, parts)?)?;
-    Ok(node.deliver(&envelope).err())
+    Ok(node.step(&Input::Message(envelope)).err())
 }
 
 /// A key of one letter.
@@ -94,5 +95,13 @@ pub fn transaction(parts: &[Part]) -> Result<Transaction, Fail> {
 
 /// What a node does where a client begins a transaction of these parts.
 pub fn begin(node: &mut Node<ListFacts>, parts: &[Part]) -> Result<Step, Fail> {
-    Ok(node.begin(&transaction(parts)?)?)
+    Ok(node.step(&Input::Begin(transaction(parts)?))?)
+}
+
+/// What a node shows a client of a key.
+pub fn read(node: &mut Node<ListFacts>, key: Key) -> Result<Reading, Fail> {
+    match node.step(&Input::Read(key))?.answer {
+        Some(Answer::Read(reading)) => Ok(reading),
+        _ => Err("no reading".into()),
+    }
 }

@@ -3,41 +3,40 @@ use Rattle.mdcc_node.proofs.Standing.{left_always, memory_always}
 use Rattle.mdcc_protocol.specs.Facts.{epoch_of}
 use Rattle.mdcc_node.proofs.node.Node.begin.Goals as goal
 
-pub returns-in-Ok-clause-answer : goal.returns-in-Ok-clause-answer
-returns-in-Ok-clause-answer g c cluster me facts volatile stands =
-    let here = rw (stands.of, stands.at) at c.begun.ensures in
-    rw (step_begun cluster me facts volatile c.args.transaction.now c.in-Ok.tx (c.in-Ok.ensures.answer me (epoch_of facts) cluster.quorums facts volatile.manager stands.store stands.manager)) here
+pub returns-in-Ok : goal.returns-in-Ok
+returns-in-Ok g c = record {
+  answer = λ cluster me facts volatile stands.
+      let here = rw (stands.of, stands.at) at c.begun.ensures in
+      rw (step_begun cluster me facts volatile c.args.transaction.now c.in-Ok.tx (c.in-Ok.ensures.answer me (epoch_of facts) cluster.quorums facts volatile.manager stands.store stands.manager)) here;
+  left = λ cluster me facts volatile stands.
+      rw (step_begun cluster me facts volatile c.args.transaction.now c.in-Ok.tx (c.in-Ok.ensures.answer me (epoch_of facts) cluster.quorums facts volatile.manager stands.store stands.manager))
+      (left_always c.begun.result _ (record {
+        of = stands.of;
+        at = stands.at;
+        among = stands.among;
+        store = stands.store;
+        manager = c.in-Ok.ensures.ok me (epoch_of facts) cluster.quorums volatile.manager stands.manager;
+        leader = stands.leader;
+        recovery = stands.recovery;
+      }));
+  memory = λ facts store. memory_always c.begun.result _ store;
+}
 
-pub returns-in-Ok-clause-left : goal.returns-in-Ok-clause-left
-returns-in-Ok-clause-left g c cluster me facts volatile stands =
-    rw (step_begun cluster me facts volatile c.args.transaction.now c.in-Ok.tx (c.in-Ok.ensures.answer me (epoch_of facts) cluster.quorums facts volatile.manager stands.store stands.manager))
-    (left_always c.begun.result _ (record {
-      of = stands.of;
-      at = stands.at;
-      among = stands.among;
-      store = stands.store;
-      manager = c.in-Ok.ensures.ok me (epoch_of facts) cluster.quorums volatile.manager stands.manager;
-      leader = stands.leader;
-      recovery = stands.recovery;
-    }))
-
-pub returns-in-Err-clause-answer : goal.returns-in-Err-clause-answer
-returns-in-Err-clause-answer g c cluster me facts volatile stands =
-    rw (c.refused.ensures facts stands.store)
-    (refused_gives cluster me facts volatile c.args.transaction.now c.in-Err.fault (c.in-Err.ensures.answer me (epoch_of facts) cluster.quorums facts volatile.manager stands.store stands.manager))
-
-pub returns-in-Err-clause-left : goal.returns-in-Err-clause-left
-returns-in-Err-clause-left g c cluster me facts volatile stands =
-    rw (c.refused.ensures facts stands.store)
-    (refused_leaves cluster me facts volatile c.args.transaction.now g.S.FactStore.stands _ c.in-Err.fault (c.in-Err.ensures.answer me (epoch_of facts) cluster.quorums facts volatile.manager stands.store stands.manager) (record {
-      of = stands.of;
-      at = stands.at;
-      among = stands.among;
-      store = stands.store;
-      manager = c.in-Err.ensures.err me (epoch_of facts) cluster.quorums volatile.manager stands.manager;
-      leader = stands.leader;
-      recovery = stands.recovery;
-    }))
-
-pub returns-in-Err-clause-memory : goal.returns-in-Err-clause-memory
-returns-in-Err-clause-memory g c facts store = memory_always c.refused.result _ store
+pub returns-in-Err : goal.returns-in-Err
+returns-in-Err g c = record {
+  answer = λ cluster me facts volatile stands.
+      rw (c.refused.ensures facts stands.store)
+      (refused_gives cluster me facts volatile c.args.transaction.now c.in-Err.fault (c.in-Err.ensures.answer me (epoch_of facts) cluster.quorums facts volatile.manager stands.store stands.manager));
+  left = λ cluster me facts volatile stands.
+      rw (c.refused.ensures facts stands.store)
+      (refused_leaves cluster me facts volatile c.args.transaction.now g.S.FactStore.stands _ c.in-Err.fault (c.in-Err.ensures.answer me (epoch_of facts) cluster.quorums facts volatile.manager stands.store stands.manager) (record {
+        of = stands.of;
+        at = stands.at;
+        among = stands.among;
+        store = stands.store;
+        manager = c.in-Err.ensures.err me (epoch_of facts) cluster.quorums volatile.manager stands.manager;
+        leader = stands.leader;
+        recovery = stands.recovery;
+      }));
+  memory = λ facts store. memory_always c.refused.result _ store;
+}

@@ -1,8 +1,8 @@
 use Rattle.std.proofs.Common.{rules, refl}
 use Rattle.mdcc_node.proofs.node.Node.boot.Goals as goal
 
-pub returns-in_ok-manager-in-Ok : goal.returns-in_ok-manager-in-Ok
-returns-in_ok-manager-in-Ok g c all held =
+pub returns-in_ok-manager-in-Ok-clause-boots : goal.returns-in_ok-manager-in-Ok-clause-boots
+returns-in_ok-manager-in-Ok-clause-boots g c all held =
     let booted = c.in-Ok.ensures all held in (
       booted.0,
       booted.1,

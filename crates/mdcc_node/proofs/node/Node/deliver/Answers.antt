@@ -1,13 +1,36 @@
-use Rattle.std.proofs.Common.{◌≡◌, false}
-use Rattle.mdcc_node.proofs.Standing.{foreign_step, not_own}
-use Rattle.mdcc_node.specs.Stepping.{room_of}
+use Rattle.std.proofs.Common.{◌≡◌, None, Some, if◌then◌else◌, refl}
 use Rattle.mdcc_built.specs.Built.{built}
+use Rattle.mdcc_node.proofs.Standing.{foreign_step, own_step}
+use Rattle.mdcc_node.specs.Stepping.{room_of}
 use Rattle.mdcc_rules.specs.Node.{is_own_message}
 use Rattle.mdcc_node.proofs.node.Node.deliver.Goals as goal
 
-pub returns-in-None-clause-left : goal.returns-in-None-clause-left
-returns-in-None-clause-left g c cluster me facts volatile stands =
+pub returns-in-Some : goal.returns-in-Some
+returns-in-Some g c =
     let envelope = c.args.envelope.now in
-    let foreign : is_own_message c.args.self.now.cluster c.number.result envelope ≡ false = not_own _ envelope.from c.in-None.ensures in
-    let here : is_own_message cluster me envelope ≡ false = rw (c.number.ensures.value, stands.of, stands.at) at foreign in
-    rw (foreign_step (room_of g.S.FactStore.room g.S.FactStore.cells_for c.args.self.now.store) built cluster me facts volatile envelope here) stands
+    let room = room_of g.S.FactStore.room g.S.FactStore.cells_for c.args.self.now.store in
+    let found : Some c.in-Some.from ≡ (if is_own_message c.args.self.now.cluster c.number.result envelope then Some envelope.from else None) = c.in-Some.ensures in
+    record {
+      answer = λ cluster me facts volatile stands.
+          let here = rw (c.number.ensures.value, stands.of, stands.at) at found in
+          rw (own_step room built cluster me facts volatile envelope c.in-Some.from here) (c.take.ensures.answer cluster me facts volatile stands);
+      left = λ cluster me facts volatile stands.
+          let here = rw (c.number.ensures.value, stands.of, stands.at) at found in
+          rw (own_step room built cluster me facts volatile envelope c.in-Some.from here) (c.take.ensures.left cluster me facts volatile stands);
+      memory = c.take.ensures.memory;
+    }
+
+pub returns-in-None : goal.returns-in-None
+returns-in-None g c =
+    let envelope = c.args.envelope.now in
+    let room = room_of g.S.FactStore.room g.S.FactStore.cells_for c.args.self.now.store in
+    let none : None ≡ (if is_own_message c.args.self.now.cluster c.number.result envelope then Some envelope.from else None) = c.in-None.ensures in
+    record {
+      answer = λ cluster me facts volatile stands.
+          let here = rw (c.number.ensures.value, stands.of, stands.at) at none in
+          rw (foreign_step room built cluster me facts volatile envelope here) refl;
+      left = λ cluster me facts volatile stands.
+          let here = rw (c.number.ensures.value, stands.of, stands.at) at none in
+          rw (foreign_step room built cluster me facts volatile envelope here) stands;
+      memory = λ facts store. tt;
+    }
