@@ -44,6 +44,8 @@ fn a_structure_is_copied_met_and_joined(rt: HostRuntime) -> Result<(), Fail> {
     };
     assert_eq!(rt; all.len(), 2);
     assert_eq!(rt; all.at(1).0, tx(2));
+    assert_eq!(rt; (all.accepted(), all.rejected()), (0, 2));
+    assert_eq!(rt; all.differing(&two), None);
     Ok(())
 }
 

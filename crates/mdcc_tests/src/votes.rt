@@ -49,6 +49,8 @@ fn the_fourth_of_five_fast_votes_is_learned(rt: HostRuntime) -> Result<(), Fail>
         learner.take(&quorums, &vote(&rt, from, 0, accept()))?;
         assert_eq!(rt; learner.learned(tx(&rt), &key), None);
     }
+    assert_eq!(rt; learner.accepted(tx(&rt), &key, 1), Some(Choice::default()));
+    assert_eq!(rt; learner.accepted(tx(&rt), &key, 2), None);
     let again = vote(&rt, 3, 0, accept());
     assert_eq!(rt; learner.learned_with(&quorums, &again, tx(&rt), &key), None);
     let fourth = vote(&rt, 4, 0, accept());
