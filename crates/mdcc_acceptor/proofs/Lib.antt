@@ -1,2 +1,1 @@
-pub mod LastVotes
 pub mod NewMarks

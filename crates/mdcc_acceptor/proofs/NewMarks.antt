@@ -1,29 +1,52 @@
--- Whether the marks of a structure are new, one after the other.
-use Rattle.std.proofs.Common.{◌≡◌, ℕ, zero, suc, ◌+◌, true, false, List, [], ◌∷◌, Some, drop, is_some, slice_get, refl, arith}
+-- Whether marks of a structure are new, by how many of its transactions were voted.
+use Rattle.std.proofs.Common.{◌≡◌, ℕ, ◌+◌, ◌≤◌, Bool, List, [], ◌∷◌, filter, is_some, length, not, refl, arith, inl, inr}
+use Rattle.std.proofs.lemmas.Bool.{cases_Bool}
+use Rattle.mdcc_base.specs.Counts.{number_of}
 use Rattle.mdcc_base.specs.declared.identifiers.Ballot.{Ballot}
-use Rattle.mdcc_base.specs.declared.identifiers.TxId.{TxId}
 use Rattle.mdcc_base.specs.declared.key.Key.{Key}
-use Rattle.mdcc_option.specs.declared.choices.Mark.{Mark}
 use Rattle.mdcc_struct.specs.Maps.{value_of}
 use Rattle.mdcc_struct.specs.declared.options.Options.{Options}
 use Rattle.mdcc_protocol.specs.Acceptor.{answer_to_marks, new_marks}
 use Rattle.mdcc_protocol.specs.Facts.{votes_of}
+use Rattle.mdcc_protocol.specs.Stores.{count_voted}
 use Rattle.mdcc_protocol.specs.declared.acceptor.AcceptAnswer.{AcceptAnswer}
 use Rattle.mdcc_messages.specs.declared.facts.Fact.{Fact}
 
-drop-at : {X : Type 0} (xs : List X) (i : ℕ) (x : X) → slice_get xs i ≡ Some x → drop i xs ≡ x ∷ drop (i + 1) xs
-drop-at [] i x h = absurd (cc)
-drop-at (y ∷ ys) zero x h = let same : y ≡ x = cc in rw same refl
-drop-at (y ∷ ys) (suc i) x h = let step : suc i + 1 ≡ suc (i + 1) = omega arith in rw step (drop-at ys i x h)
+few : {X : Type 0} (p : X → Bool) (xs : List X) → number_of p xs ≤ length xs
+few p [] = omega arith
+few p (x ∷ xs) =
+    elim (cases_Bool (p x)) [
+      | inl passes ↦ rw passes (omega (arith, few p xs))
+      | inr fails ↦ rw fails (omega (arith, few p xs))
+    ]
 
--- a mark that is new decides the answer
-pub next-new : (facts : List Fact) (key : Key) (version : ℕ) (ballot : Ballot) (options : Options) (place : ℕ) (tx : TxId) (mark : Mark)
-    → slice_get options place ≡ Some (tx, mark) → is_some (value_of (votes_of facts key version ballot) tx) ≡ false
-    → answer_to_marks (new_marks facts key version ballot (drop place options)) ≡ AcceptAnswer.Vote
-next-new facts key version ballot options place tx mark at new = rw (drop-at options place (tx, mark) at, new) refl
+all_pass : {X : Type 0} (p : X → Bool) (xs : List X) → number_of p xs ≡ length xs → filter (λ x. not (p x)) xs ≡ []
+all_pass p [] h = refl
+all_pass p (x ∷ xs) h =
+    elim (cases_Bool (p x)) [
+      | inl passes ↦
+          let here : 1 + number_of p xs ≡ length (x ∷ xs) = rw passes at h in
+          let rest : number_of p xs ≡ length xs = omega arith in
+          rw passes (all_pass p xs rest)
+      | inr fails ↦
+          let here : 0 + number_of p xs ≡ length (x ∷ xs) = rw fails at h in
+          absurd (omega (arith, few p xs))
+    ]
 
--- a mark that is not new leaves it to the others
-pub next-voted : (facts : List Fact) (key : Key) (version : ℕ) (ballot : Ballot) (options : Options) (place : ℕ) (tx : TxId) (mark : Mark)
-    → slice_get options place ≡ Some (tx, mark) → is_some (value_of (votes_of facts key version ballot) tx) ≡ true
-    → answer_to_marks (new_marks facts key version ballot (drop place options)) ≡ answer_to_marks (new_marks facts key version ballot (drop (place + 1) options))
-next-voted facts key version ballot options place tx mark at old = rw (drop-at options place (tx, mark) at, old) refl
+module _ (facts : List Fact) (key : Key) (version : ℕ) (ballot : Ballot) where
+  -- where each was voted, none is new
+  pub none_new : (options : Options) → count_voted facts key version ballot options ≡ length options
+      → answer_to_marks (new_marks facts key version ballot options) ≡ AcceptAnswer.Older
+  none_new options h = rw (all_pass (λ e. is_some (value_of (votes_of facts key version ballot) e.0)) options h) refl
+
+  -- else one is
+  pub one_new : (options : Options) → (count_voted facts key version ballot options ≡ length options → ⊥)
+      → answer_to_marks (new_marks facts key version ballot options) ≡ AcceptAnswer.Vote
+  one_new [] h = absurd (h refl)
+  one_new (e ∷ es) h =
+      elim (cases_Bool (is_some (value_of (votes_of facts key version ballot) e.0))) [
+        | inl voted ↦
+            let rest : count_voted facts key version ballot es ≡ length es → ⊥ = λ k. h (rw voted (omega (arith, k))) in
+            rw voted (one_new es rest)
+        | inr new ↦ rw new refl
+      ]
