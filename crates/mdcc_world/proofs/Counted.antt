@@ -45,11 +45,12 @@ counted-nodes nodes w standing = record { as_many = standing.as_many; each = sta
 
 pub has-read : (world new : TheWorld) (w : World) (a : ℕ) (key : Key) (known : Known) (before lines : List Line) → IsLike world w → is_up_at w a ≡ true → IsKey key
     → known ≡ known_of key (Visible.read (facts_of w.ledger a) key)
-    → new ≡ record world { reads = new.reads; events = world.events + 1 }
+    → NodesStand new.nodes.items w
+    → new ≡ record world { nodes = new.nodes; reads = new.reads; events = world.events + 1 }
     → new.reads ≡ world.reads ++ Some known ∷ []
     → lines ≡ before ++ Line.Read (length new.reads) a known ∷ []
     → HasHappened new before lines (read_happened (counted_event w) a key)
-has-read world new w a key known before lines like up key_itself shown rest reads told =
+has-read world new w a key known before lines like up key_itself shown nodes rest reads told =
     let all : new.reads ≡ map (λ (k : Known). Some k) (w.reads ++ known ∷ []) =
     reads ∙ ap (λ (xs : List (Option Known)). xs ++ Some known ∷ []) like.records.reads ∙ sym (map-append (λ (k : Known). Some k) w.reads (known ∷ [])) in
     let many : length (w.reads ++ known ∷ []) ≡ length w.reads + 1 = length-append w.reads (known ∷ []) in
@@ -70,7 +71,7 @@ has-read world new w a key known before lines like up key_itself shown rest read
           ups = rw rest like.records.ups;
         };
         outcomes = rw rest like.outcomes;
-        nodes = rw rest (record { as_many = like.nodes.as_many; each = like.nodes.each });
+        nodes = record { as_many = nodes.as_many; each = nodes.each };
         logs = rw rest like.logs;
       };
       lines = told ∙ ap (λ (n : ℕ). before ++ Line.Read n a known ∷ []) number ∙ ap (λ (k : Known). before ++ Line.Read (length w.reads + 1) a k ∷ []) shown;

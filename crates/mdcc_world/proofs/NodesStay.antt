@@ -8,11 +8,13 @@ use Rattle.std.proofs.lemmas.Option.{slice_get-get_or}
 use Rattle.mdcc_facts.specs.declared.list_facts.ListFacts.{ListFacts}
 use Rattle.mdcc_base.specs.Unless.{GivesUnless}
 use Rattle.mdcc_base.specs.declared.faults.Memory.{Memory}
-use Rattle.mdcc_node.specs.Stepping.{UnlessMemory, facts_left, is_memory, volatile_left, with_new}
+use Rattle.mdcc_base.specs.declared.key.Key.{Key}
+use Rattle.mdcc_node.specs.Stepping.{IsGiven, UnlessMemory, facts_left, is_memory, volatile_left, with_new}
 use Rattle.mdcc_node.specs.declared.node.Node.{Node}
 use Rattle.mdcc_option.specs.declared.cluster.Cluster.{Cluster}
 use Rattle.mdcc_protocol.specs.Belongs.{is_centre}
 use Rattle.mdcc_built.specs.Built.{built}
+use Rattle.mdcc_protocol.specs.Volatile.{Volatile}
 use Rattle.mdcc_ledger.specs.Ledger.{facts_of}
 use Rattle.mdcc_rules.specs.Steps.{NodeStep}
 use Rattle.mdcc_simulation.specs.State.{Site, World, centre_at, first_world, is_up_at}
@@ -24,7 +26,7 @@ use Rattle.mdcc_rules.specs.declared.node.StepFault.{StepFault}
 use Rattle.mdcc_steps.specs.Forming.{with_new as with_new_fact}
 use Rattle.mdcc_steps.specs.Inputs.{IsWellFormedInput}
 use Rattle.mdcc_worlds.proofs.Begins.{first-facts, first-site}
-use Rattle.mdcc_worlds.proofs.Stays.{facts-here, facts-there, happened-taken, refused-same, site-here, site-there}
+use Rattle.mdcc_worlds.proofs.Stays.{each-put, facts-here, facts-there, happened-taken, refused-same, site-here, site-there}
 use Rattle.mdcc_worlds.proofs.Within.{made-stays}
 use Rattle.mdcc_logs.specs.Nodes.{AreStarted, IsNodeOf}
 use Rattle.mdcc_world.specs.Nodes.{NodesStand, is_memory_made}
@@ -170,6 +172,24 @@ after-step nodes w a node input standing world some few formed =
     (λ after. nodes-stay nodes w (a - 1) node standing world within input formed (step_at built w (a - 1 + 1) input) refl after)
 
 -- ---- what is made of an input
+
+-- what a node is given is well-formed
+pub given-input : (input : Input) → IsWellFormedInput input → IsGiven input
+given-input (Input.Message envelope) formed = formed
+given-input Input.Tick formed = tt
+given-input (Input.Read key) formed = tt
+given-input (Input.Begin parts) formed = tt
+
+-- a read leaves the nodes as they were
+pub read-left : (nodes : List (Node ListFacts)) (w : World) (a : ℕ) (key : Key) → IsWorld w → is_centre w.cluster a ≡ true
+    → NodesStand nodes (input_happened w a (step_at built w a (Input.Read key))).world → NodesStand nodes w
+read-left nodes w a key world centre stand = record {
+  as_many = stand.as_many;
+  each = λ place node at up.
+      let same = each-put w a (record (centre_at w a) { volatile = (centre_at w a).volatile }) None
+      (λ n facts s. (s.is_up ≡ (centre_at w n).is_up) × (s.volatile ≡ (centre_at w n).volatile)) world centre (λ n. (refl, refl)) (refl, refl) (place + 1) (omega arith) in
+      subst (λ (volatile : Volatile). IsNodeOf node w.cluster (place + 1) (facts_of w.ledger (place + 1)) volatile) same.1 (stand.each place node at (same.0 ∙ up));
+}
 
 pub made-is : (result : Result (Result Step StepFault) Memory) (step expected : Result Step StepFault) → IfOk result (λ made. made ≡ step)
     → OnOk result (is_memory_made step ≡ false) → GivesUnless is_memory step expected → IfOk result (λ made. made ≡ expected)

@@ -44,45 +44,24 @@ impl World {
         tell_begun(lines, &step.answer, self.next_message(), told)
     }
 
-    // A transaction is begun at a centre, or refused by it.
-    fn begin_at(
-        &mut self,
-        centre: Centre,
-        transaction: &Transaction,
-        lines: &mut HeapList<Line>,
-    ) -> Result<(), EventFault>
-        requires few { self.old.events < 100000 }
-        requires formed { AreWellFormedParts transaction.now }
-        requires like { IsLikeSome self.old }
-        requires up { (w : AWorld) → IsLike self.old w → is_up_at w centre ≡ true }
-        ensures happens { (w : AWorld) → IsLike self.old w
-            → Happens self.new lines.old lines.new result (begun built w centre transaction.now) }
-        ensures free { IfErr result (λ fault. is_free fault ≡ true) }
-        ensures few { OnOk result (self.new.events ≤ 100000) }
-    {
-        match self.begin_made(centre, transaction) {
-            Ok(step) => self.begin_taken(centre, &step, lines),
-            Err(_) => Err(EventFault::Memory),
-        }
-    }
-
-    // A transaction is begun, where there may be one more event.
+    // A transaction is begun at a centre or refused by it, where there may be one more event.
     fn begin_transaction(
         &mut self,
         centre: Centre,
-        transaction: &Transaction,
+        transaction: Transaction,
         lines: &mut HeapList<Line>,
     ) -> Result<(), EventFault>
-        requires formed { AreWellFormedParts transaction.now }
+        requires formed { AreWellFormedParts transaction }
         requires like { IsLikeSome self.old }
         requires up { (w : AWorld) → IsLike self.old w → is_up_at w centre ≡ true }
         ensures happens { (w : AWorld) → IsLike self.old w
-            → Happens self.new lines.old lines.new result (if_open (at_limit built w) (begun built w centre transaction.now)) }
+            → Happens self.new lines.old lines.new result (if_open (at_limit built w) (begun built w centre transaction)) }
         ensures few { OnOk result (self.new.events ≤ 100000) }
         ensures kept { OnRefusal result ((self.new ≡ self.old) × (lines.new ≡ lines.old)) }
     {
         self.at_limit()?;
-        self.begin_at(centre, transaction, lines)
+        let step = self.begin_made(centre, transaction)?;
+        self.begin_taken(centre, &step, lines)
     }
 
     // The transaction of these parts is begun, where they make one.
@@ -101,7 +80,7 @@ impl World {
         ensures kept { OnRefusal result ((self.new ≡ self.old) × (lines.new ≡ lines.old)) }
     {
         match Transaction::new(&self.cluster.schema, parts) {
-            Ok(transaction) => self.begin_transaction(centre, &transaction, lines),
+            Ok(transaction) => self.begin_transaction(centre, transaction, lines),
             Err(fault) => Err(EventFault::Begin(fault)),
         }
     }
@@ -115,13 +94,9 @@ impl World {
         ensures kept { OnRefusal result ((self.new ≡ self.old) × (lines.new ≡ lines.old)) }
     {
         self.at_limit()?;
-        match lines.push(Line::Refused(*key, BeginFault::NoItem)) {
-            Ok(()) => {
-                self.events += 1;
-                Ok(())
-            }
-            Err(_) => Err(EventFault::Memory),
-        }
+        lines.push(Line::Refused(*key, BeginFault::NoItem))?;
+        self.events += 1;
+        Ok(())
     }
 
     // Why words stand for no parts: a read without an item is told, and the others are refused.

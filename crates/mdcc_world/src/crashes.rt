@@ -1,13 +1,11 @@
 //! Crashes and restarts.
-ghost use Rattle.std.specs.Prelude.{◌≡◌, ◌≤◌, ◌<◌, ◌+◌, ◌-◌, ◌++◌, ◌∷◌, [], IfErr, OnOk, length, set, true};
+ghost use Rattle.std.specs.Prelude.{◌≡◌, ◌≤◌, ◌<◌, ◌+◌, ◌-◌, IfErr, OnOk, length, set, true};
 ghost use Rattle.mdcc_protocol.specs.Belongs.{is_centre};
 ghost use Rattle.mdcc_built.specs.Built.{built};
 ghost use Rattle.mdcc_simulation.specs.State.{World as AWorld, counted_event, is_up_at};
 ghost use Rattle.mdcc_simulation.specs.Centres.{crash_happened};
 ghost use Rattle.mdcc_simulation.specs.Events.{event_of};
 ghost use Rattle.mdcc_language.specs.declared.events.Event.{Event as AEvent};
-ghost use Rattle.mdcc_language.specs.declared.lines.Line.{Line as ALine};
-ghost use Rattle.mdcc_language.specs.declared.world.EventFault.{EventFault as AFault};
 ghost use Rattle.mdcc_world.specs.Faults.{OnRefusal, is_free};
 ghost use Rattle.mdcc_world.specs.Stands.{Happens, HasHappened, IsLike, IsLikeSome};
 ghost use Rattle.mdcc_worlds.specs.Happening.{at_restart, restarted};
@@ -50,10 +48,8 @@ impl World {
         ensures kept { OnRefusal result ((self.new ≡ self.old) × (lines.new ≡ lines.old)) }
     {
         self.at_centre(centre)?;
-        match self.crash_at(centre, lines) {
-            Ok(()) => Ok(()),
-            Err(_) => Err(EventFault::Memory),
-        }
+        self.crash_at(centre, lines)?;
+        Ok(())
     }
 
     // Why a centre is not restarted.
@@ -95,13 +91,13 @@ impl World {
         ensures free { IfErr result (λ fault. is_free fault ≡ true) }
         ensures few { OnOk result (self.new.events ≤ 100000) }
     {
-        match self.logs.restart(self.alloc, &self.cluster, centre) {
-            Ok(Started::Node(node, epoch)) => {
+        match self.logs.restart(self.alloc, &self.cluster, centre)? {
+            Started::Node(node, epoch) => {
                 self.rise(centre, node);
-                tell_restart(lines, centre, epoch)
+                lines.push(Line::Restart(centre, epoch))?;
+                Ok(())
             }
-            Ok(Started::Full) => Err(EventFault::Limit(LimitName::Log, LOG_LIMIT)),
-            Err(_) => Err(EventFault::Memory),
+            Started::Full => Err(EventFault::Limit(LimitName::Log, LOG_LIMIT)),
         }
     }
 
@@ -119,16 +115,5 @@ impl World {
     {
         self.at_restart(centre)?;
         self.restart_at(centre, lines)
-    }
-}
-
-// The line of a restart.
-fn tell_restart(lines: &mut HeapList<Line>, centre: Centre, epoch: u32) -> Result<(), EventFault>
-    ensures ok { OnOk result (lines.new ≡ lines.old ++ ALine.Restart centre epoch ∷ []) }
-    ensures memory { IfErr result (λ fault. fault ≡ AFault.Memory) }
-{
-    match lines.push(Line::Restart(centre, epoch)) {
-        Ok(()) => Ok(()),
-        Err(_) => Err(EventFault::Memory),
     }
 }

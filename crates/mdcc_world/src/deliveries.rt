@@ -30,10 +30,8 @@ impl World {
         ensures few { self.new.events ≤ self.old.events + 1 }
         ensures up { self.new.up ≡ self.old.up }
     {
-        match self.message_made(number) {
-            Ok((centre, made)) => self.taken(centre, &made, lines),
-            Err(_) => Err(EventFault::Memory),
-        }
+        let (centre, made) = self.message_made(number)?;
+        self.taken(centre, &made, lines)
     }
 
     // Why no message is delivered to a centre.

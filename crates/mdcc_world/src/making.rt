@@ -2,6 +2,7 @@
 ghost use Rattle.std.specs.Prelude.{◌≡◌, ◌≤◌, ◌<◌, ◌+◌, ◌++◌, IfOk, List, Ok, OnOk, true, ℕ};
 ghost use Rattle.mdcc_built.specs.Built.{built};
 ghost use Rattle.mdcc_base.specs.Sizes.{Sizes};
+ghost use Rattle.mdcc_option.specs.declared.items.Part.{Part as APart};
 ghost use Rattle.mdcc_outcomes.specs.Stands.{Stands as OutcomesStand};
 ghost use Rattle.mdcc_ledger.specs.Ledger.{Entry};
 ghost use Rattle.mdcc_simulation.specs.State.{World as AWorld, counted_event, is_up_at};
@@ -12,12 +13,12 @@ ghost use Rattle.mdcc_world.specs.Stands.{IsLike, IsLikeSome};
 ghost use Rattle.mdcc_world.specs.Telling.{begun_entries, begun_tx};
 ghost use Rattle.mdcc_worlds.specs.Delivering.{at_message};
 
-use crate::nodes::{begin, deliver, tick};
+use crate::nodes::step;
 use crate::world::World;
 use mdcc_base::{Centre, Memory, TxId};
 use mdcc_option::Transaction;
 use mdcc_outcomes::Outcomes;
-use mdcc_rules::{Answer, Step, StepFault};
+use mdcc_rules::{Answer, Input, Step, StepFault};
 
 // The transaction that was begun.
 fn begun_tx(answer: &Option<Answer>) -> Option<TxId>
@@ -32,14 +33,17 @@ fn begun_tx(answer: &Option<Answer>) -> Option<TxId>
 // A transaction that was begun is counted.
 fn count(
     outcomes: &mut Outcomes,
-    transaction: &Transaction,
+    input: &Input,
     answer: &Option<Answer>,
 ) -> Result<(), Memory>
-    ensures { (quorums : Sizes) (entries : List Entry) (a : ℕ) → OutcomesStand outcomes.old quorums entries
-        → OnOk result (OutcomesStand outcomes.new quorums (begun_entries a transaction.now (begun_tx answer.now) ++ entries)) }
+    ensures { (quorums : Sizes) (entries : List Entry) (a : ℕ) (parts : List APart) → input.now ≡ AInput.Begin parts
+        → OutcomesStand outcomes.old quorums entries
+        → OnOk result (OutcomesStand outcomes.new quorums (begun_entries a parts (begun_tx answer.now) ++ entries)) }
 {
-    if let Some(tx) = begun_tx(answer) {
-        outcomes.begin(tx, transaction.choices(tx).as_slice())?;
+    if let Input::Begin(transaction) = input {
+        if let Some(tx) = begun_tx(answer) {
+            outcomes.begin(tx, transaction.choices(tx).as_slice())?;
+        }
     }
     Ok(())
 }
@@ -55,7 +59,7 @@ impl World {
         ensures few { self.new.events ≤ self.old.events + 1 }
     {
         self.events += 1;
-        let made = tick(&mut self.nodes, centre)?;
+        let made = step(&mut self.nodes, centre, &Input::Tick)?;
         Ok(made)
     }
 
@@ -63,19 +67,22 @@ impl World {
     pub(crate) fn begin_made(
         &mut self,
         centre: Centre,
-        transaction: &Transaction,
+        transaction: Transaction,
     ) -> Result<Step, Memory>
         requires few { self.old.events < 100000 }
-        requires formed { AreWellFormedParts transaction.now }
+        requires formed { AreWellFormedParts transaction }
         requires like { IsLikeSome self.old }
         requires up { (w : AWorld) → IsLike self.old w → is_up_at w centre ≡ true }
         ensures made { (w : AWorld) → IsLike self.old w
-            → IfOk result (λ step. IsMade self.new (counted_event w) centre (AInput.Begin transaction.now) (Ok step)) }
+            → IfOk result (λ step. IsMade self.new (counted_event w) centre (AInput.Begin transaction) (Ok step)) }
         ensures few { self.new.events ≤ self.old.events + 1 }
     {
         self.events += 1;
-        let step = begin(&mut self.nodes, centre, transaction)?;
-        count(&mut self.outcomes, transaction, &step.answer)?;
+        let input = Input::Begin(transaction);
+        let Ok(step) = step(&mut self.nodes, centre, &input)? else {
+            return Err(Memory);
+        };
+        count(&mut self.outcomes, &input, &step.answer)?;
         Ok(step)
     }
 
@@ -99,7 +106,7 @@ impl World {
             return Err(Memory);
         };
         self.events += 1;
-        let made = deliver(&mut self.nodes, centre, &envelope)?;
+        let made = step(&mut self.nodes, centre, &Input::Message(envelope))?;
         self.mail.deliver(number);
         Ok((centre, made))
     }

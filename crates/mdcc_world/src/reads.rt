@@ -44,7 +44,7 @@ impl World {
             → OnOk result (HasHappened self.new lines.old lines.new (read_happened (counted_event w) centre key.now)) }
         ensures few { OnOk result (self.new.events ≤ 100000) }
     {
-        let reading = read(&self.nodes, centre, key);
+        let reading = read(&mut self.nodes, centre, key)?;
         let known = known_of(key, reading);
         self.events += 1;
         self.reads.push(Some(known.copy()))?;
@@ -66,9 +66,7 @@ impl World {
         ensures kept { OnRefusal result ((self.new ≡ self.old) × (lines.new ≡ lines.old)) }
     {
         self.at_centre(centre)?;
-        match self.read_at(centre, key, lines) {
-            Ok(()) => Ok(()),
-            Err(_) => Err(EventFault::Memory),
-        }
+        self.read_at(centre, key, lines)?;
+        Ok(())
     }
 }

@@ -120,10 +120,8 @@ impl World {
         ensures few { OnOk result (self.new.events ≤ 100000) }
     {
         let deliveries = self.settle_for(centres, lines)?;
-        match lines.push(Line::Settled(deliveries, self.next_message())) {
-            Ok(()) => Ok(()),
-            Err(_) => Err(EventFault::Memory),
-        }
+        lines.push(Line::Settled(deliveries, self.next_message()))?;
+        Ok(())
     }
 
     // A settle line.
@@ -139,9 +137,7 @@ impl World {
         ensures free { IfErr result (λ fault. is_free fault ≡ true) }
     {
         self.at_limit()?;
-        match self.settle_begun(listed, lines) {
-            Ok(centres) => self.settle_at(centres.as_slice(), lines),
-            Err(_) => Err(EventFault::Memory),
-        }
+        let centres = self.settle_begun(listed, lines)?;
+        self.settle_at(centres.as_slice(), lines)
     }
 }

@@ -122,10 +122,8 @@ impl World {
         ensures up { self.new.up ≡ self.old.up }
     {
         self.at_limits(centre, &step.fact, &outgoing)?;
-        match self.let_out(centre, &step.fact, outgoing, lines) {
-            Ok(()) => Ok(()),
-            Err(_) => Err(EventFault::Memory),
-        }
+        self.let_out(centre, &step.fact, outgoing, lines)?;
+        Ok(())
     }
 
     // A step of a centre is taken.
@@ -142,10 +140,8 @@ impl World {
         ensures events { self.new.events ≡ self.old.events }
         ensures up { self.new.up ≡ self.old.up }
     {
-        match Outgoing::write(self.alloc, step.sends.as_slice()) {
-            Ok(outgoing) => self.let_step(centre, step, outgoing, lines),
-            Err(_) => Err(EventFault::Memory),
-        }
+        let outgoing = Outgoing::write(self.alloc, step.sends.as_slice())?;
+        self.let_step(centre, step, outgoing, lines)
     }
 
     // The step that a centre refused changes nothing.
@@ -161,10 +157,8 @@ impl World {
         ensures events { self.new.events ≡ self.old.events }
         ensures up { self.new.up ≡ self.old.up }
     {
-        match push_dropped(lines, centre, fault) {
-            Ok(()) => Ok(()),
-            Err(_) => Err(EventFault::Memory),
-        }
+        push_dropped(lines, centre, fault)?;
+        Ok(())
     }
 
     // What a centre made of an input is taken.

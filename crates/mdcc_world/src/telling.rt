@@ -17,15 +17,6 @@ fn append(lines: &mut HeapList<Line>, more: HeapList<Line>) -> Result<(), Memory
     Ok(())
 }
 
-// A line and those that come after it.
-fn put(lines: &mut HeapList<Line>, first: Line, told: HeapList<Line>) -> Result<(), Memory>
-    ensures { OnOk result (lines.new ≡ lines.old ++ first ∷ told) }
-{
-    lines.push(first)?;
-    append(lines, told)?;
-    Ok(())
-}
-
 /// A line and those that come after it.
 pub(crate) fn tell(
     lines: &mut HeapList<Line>,
@@ -35,10 +26,9 @@ pub(crate) fn tell(
     ensures ok { OnOk result (lines.new ≡ lines.old ++ first ∷ told) }
     ensures memory { IfErr result (λ fault. fault ≡ AFault.Memory) }
 {
-    match put(lines, first, told) {
-        Ok(()) => Ok(()),
-        Err(_) => Err(EventFault::Memory),
-    }
+    lines.push(first)?;
+    append(lines, told)?;
+    Ok(())
 }
 
 // The line of a begin, before the next message.
@@ -53,20 +43,6 @@ fn push_begun(lines: &mut HeapList<Line>, answer: &Option<Answer>, next: u32) ->
     Ok(())
 }
 
-// The same, and the lines that come after it.
-fn put_begun(
-    lines: &mut HeapList<Line>,
-    answer: &Option<Answer>,
-    next: u32,
-    told: HeapList<Line>,
-) -> Result<(), Memory>
-    ensures { OnOk result (lines.new ≡ lines.old ++ (lines_begun answer.now next ++ told)) }
-{
-    push_begun(lines, answer, next)?;
-    append(lines, told)?;
-    Ok(())
-}
-
 /// The line of a begin, before the next message, and those that come after it.
 pub(crate) fn tell_begun(
     lines: &mut HeapList<Line>,
@@ -77,8 +53,7 @@ pub(crate) fn tell_begun(
     ensures ok { OnOk result (lines.new ≡ lines.old ++ (lines_begun answer.now next ++ told)) }
     ensures memory { IfErr result (λ fault. fault ≡ AFault.Memory) }
 {
-    match put_begun(lines, answer, next, told) {
-        Ok(()) => Ok(()),
-        Err(_) => Err(EventFault::Memory),
-    }
+    push_begun(lines, answer, next)?;
+    append(lines, told)?;
+    Ok(())
 }

@@ -1,7 +1,7 @@
 //! Ticks.
 ghost use Rattle.std.specs.Prelude.{◌≡◌, ◌≤◌, ◌<◌, IfErr, OnOk, true};
 ghost use Rattle.mdcc_built.specs.Built.{built};
-ghost use Rattle.mdcc_simulation.specs.State.{World as AWorld, is_up_at};
+ghost use Rattle.mdcc_simulation.specs.State.{World as AWorld};
 ghost use Rattle.mdcc_simulation.specs.Events.{event_of};
 ghost use Rattle.mdcc_simulation.specs.Limits.{input_limited, with_lines};
 ghost use Rattle.mdcc_simulation.specs.Stepping.{step_at};
@@ -11,7 +11,6 @@ ghost use Rattle.mdcc_rules.specs.declared.node.Input.{Input as AInput};
 ghost use Rattle.mdcc_world.specs.Faults.{OnRefusal, is_free};
 ghost use Rattle.mdcc_world.specs.Making.{IsMade, IsMadeSome};
 ghost use Rattle.mdcc_world.specs.Stands.{Happens, IsLike, IsLikeSome};
-ghost use Rattle.mdcc_worlds.specs.Happening.{ticked};
 
 use crate::telling::tell;
 use crate::world::World;
@@ -38,22 +37,6 @@ impl World {
         tell(lines, Line::Tick(centre, self.next_message()), told)
     }
 
-    // Time passes at a centre.
-    fn tick_at(&mut self, centre: Centre, lines: &mut HeapList<Line>) -> Result<(), EventFault>
-        requires few { self.old.events < 100000 }
-        requires like { IsLikeSome self.old }
-        requires up { (w : AWorld) → IsLike self.old w → is_up_at w centre ≡ true }
-        ensures happens { (w : AWorld) → IsLike self.old w
-            → Happens self.new lines.old lines.new result (ticked built w centre) }
-        ensures free { IfErr result (λ fault. is_free fault ≡ true) }
-        ensures few { OnOk result (self.new.events ≤ 100000) }
-    {
-        match self.tick_made(centre) {
-            Ok(made) => self.tick_taken(centre, &made, lines),
-            Err(_) => Err(EventFault::Memory),
-        }
-    }
-
     // A tick line.
     pub(crate) fn tick(
         &mut self,
@@ -67,6 +50,7 @@ impl World {
         ensures kept { OnRefusal result ((self.new ≡ self.old) × (lines.new ≡ lines.old)) }
     {
         self.at_centre(centre)?;
-        self.tick_at(centre, lines)
+        let made = self.tick_made(centre)?;
+        self.tick_taken(centre, &made, lines)
     }
 }

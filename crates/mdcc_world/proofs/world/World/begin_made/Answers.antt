@@ -1,4 +1,4 @@
-use Rattle.std.proofs.Common.{◌≡◌, Ok, arith, length, refl}
+use Rattle.std.proofs.Common.{◌≡◌, ◌∙◌, Ok, arith, length, refl, sym}
 use Rattle.std.proofs.lemmas.List.{with_items_is}
 use Rattle.std.specs.Vec.{with_items}
 use Rattle.mdcc_built.specs.Built.{built}
@@ -14,14 +14,14 @@ use Rattle.mdcc_world.proofs.world.World.begin_made.Goals as goal
 pub returns-clause-made : goal.returns-clause-made
 returns-clause-made c w like =
     let a = c.args.centre in
-    let parts = c.args.transaction.now in
+    let parts = c.args.transaction in
     let up = c.requires.up w like in
     let here : NodesStand c.deref_mut.result.now (counted_event w) = rw c.deref_mut.ensures.value (counted-nodes c.args.self.now.nodes.items w like.nodes) in
-    let many : length c.begin.new.nodes ≡ c.args.self.now.nodes.len = omega arith in
+    let many : length c.step.new.nodes ≡ c.args.self.now.nodes.len = omega arith in
     let h = input_happened (counted_event w) a (step_at built (counted_event w) a (Input.Begin parts)) in
     let left = c.in_ok-step.ensures.left (counted_event w) (counted-stays w like.records.itself) here up c.requires.formed in
-    let nodes : NodesStand (with_items c.args.self.now.nodes c.begin.new.nodes).items h.world = rw (with_items_is c.args.self.now.nodes c.begin.new.nodes many) left in
-    let itself = c.in_ok-step.ensures.answer (counted_event w) here up in
-    let counted = c.in_ok-count.ensures w.cluster.quorums w.ledger a like.outcomes in
-    made-counted c.args.self.now _ w a (Input.Begin parts) (Ok c.in_ok-step.step) like up c.requires.formed refl
-    (begun-counted _ w a parts c.in_ok-step.step itself counted) itself nodes
+    let nodes : NodesStand (with_items c.args.self.now.nodes c.step.new.nodes).items h.world = rw (with_items_is c.args.self.now.nodes c.step.new.nodes many) left in
+    let itself = sym c.in-Ok.is ∙ c.in_ok-step.ensures.answer (counted_event w) here up in
+    let counted = c.in_ok-count.ensures w.cluster.quorums w.ledger a parts refl like.outcomes in
+    made-counted c.args.self.now _ w a (Input.Begin parts) (Ok c.in-Ok.step) like up c.requires.formed refl
+    (begun-counted _ w a parts c.in-Ok.step itself counted) itself nodes

@@ -37,8 +37,8 @@ let_out-requires-clause-within c =
 pub let_out-requires-clause-framed : goal.let_out-requires-clause-framed
 let_out-requires-clause-framed c = fact-is-framed c.args.self.now c.requires.some.0 c.args.centre c.requires.some.1 c.args.step.now c.requires.some.2
 
-pub returns-in-Ok-clause-happens : goal.returns-in-Ok-clause-happens
-returns-in-Ok-clause-happens c w input made =
+pub returns-clause-happens : goal.returns-clause-happens
+returns-clause-happens c w input made =
     let world = c.args.self.now in
     let a = c.args.centre in
     let step = c.args.step.now in
@@ -47,7 +47,7 @@ returns-in-Ok-clause-happens c w input made =
     let limit = c.in_ok-at_limits.ensures.limit w (step-measures world w a input step made) in
     let open' = unlimited (limit_of built w a step.fact step.sends) (limit ∙ ap (λ (xs : List Envelope). may_be (limit_of built w a step.fact xs)) written) in
     step-taken world w a input step made c.let_out.new.self c.args.lines.now c.let_out.new.lines c.let_out.ensures.rest open'
-    (c.in-Ok.ensures.sent ∙ ap (λ (xs : List Envelope). world.mail ++ map unsent xs) written)
-    (c.in-Ok.ensures.bytes ∙ ap (λ (xs : List Envelope). world.bytes + messages_length xs) written)
-    (c.in-Ok.ensures.logs w.cluster.quorums.centres (facts_of w.ledger) made.before.logs within)
-    c.in-Ok.ensures.ledger c.in-Ok.ensures.lines
+    (c.in_ok-let_out.ensures.sent ∙ ap (λ (xs : List Envelope). world.mail ++ map unsent xs) written)
+    (c.in_ok-let_out.ensures.bytes ∙ ap (λ (xs : List Envelope). world.bytes + messages_length xs) written)
+    (c.in_ok-let_out.ensures.logs w.cluster.quorums.centres (facts_of w.ledger) made.before.logs within)
+    c.in_ok-let_out.ensures.ledger c.in_ok-let_out.ensures.lines

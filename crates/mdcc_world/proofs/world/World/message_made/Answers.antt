@@ -10,8 +10,8 @@ use Rattle.mdcc_world.specs.Nodes.{NodesStand}
 use Rattle.mdcc_worlds.specs.Delivering.{message_counted}
 use Rattle.mdcc_world.proofs.world.World.message_made.Goals as goal
 
-pub deliver-requires-clause-formed : goal.deliver-requires-clause-formed
-deliver-requires-clause-formed c =
+pub step-requires-clause-formed : goal.step-requires-clause-formed
+step-requires-clause-formed c =
     let w = c.requires.like.0 in
     let like = c.requires.like.1 in
     let envelope = c.in-Some.envelope in
@@ -28,8 +28,8 @@ returns-clause-made c w like =
     let same : a ≡ envelope.to = c.in-Some-new.ensures.value in
     let up : is_up_at after a ≡ true = rw same is.up in
     let here : NodesStand c.deref_mut.result.now after = rw c.deref_mut.ensures.value (counted-nodes c.args.self.now w number envelope like is) in
-    let many : length c.deliver.new.nodes ≡ c.args.self.now.nodes.len = omega arith in
+    let many : length c.step.new.nodes ≡ c.args.self.now.nodes.len = omega arith in
     let h = input_happened after a (step_at built after a (Input.Message envelope)) in
     let left = c.in_ok-made.ensures.left after (counted-world c.args.self.now w number envelope like is) here up in
-    let nodes : NodesStand (with_items c.args.self.now.nodes c.deliver.new.nodes).items h.world = rw (with_items_is c.args.self.now.nodes c.deliver.new.nodes many) left in
-    message-made c.args.self.now w number envelope like is _ a c.in_ok-made.made same refl c.deliver-2.ensures (c.in_ok-made.ensures.answer after here up) nodes
+    let nodes : NodesStand (with_items c.args.self.now.nodes c.step.new.nodes).items h.world = rw (with_items_is c.args.self.now.nodes c.step.new.nodes many) left in
+    message-made c.args.self.now w number envelope like is _ a c.in_ok-made.made same refl c.deliver.ensures (c.in_ok-made.ensures.answer after here up) nodes

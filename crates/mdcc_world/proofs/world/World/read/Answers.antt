@@ -15,9 +15,9 @@ returns-in_err-at_centre-clause-happens c w like =
     rw (residual c.from_residual.result fault c.from_residual.ensures.1)
     (refused-is _ (at_centre built w a) (Ok (read_happened (counted_event w) a key)) fault (read-is built w a key) (c.in_err-at_centre.ensures.centre w like))
 
-pub returns-in-Ok-clause-happens : goal.returns-in-Ok-clause-happens
-returns-in-Ok-clause-happens c w like =
+pub returns-clause-happens : goal.returns-clause-happens
+returns-clause-happens c w like =
     let a = c.args.centre in
     let key = c.args.key.now in
     opened {T = Unit {0}} (Ok tt) _ _ _ _ (at_centre built w a) (Ok (read_happened (counted_event w) a key)) (read-is built w a key)
-    (c.in_ok-at_centre.ensures.centre w like) (c.in-Ok.ensures.happened w like)
+    (c.in_ok-at_centre.ensures.centre w like) (c.in_ok-read_at.ensures.happened w like)

@@ -1,4 +1,6 @@
-use Rattle.std.proofs.Common.{◌≡◌, ◌++◌, ◌∷◌, [], Some, ap, ◌∙◌, refl}
+use Rattle.std.proofs.Common.{◌≡◌, ◌++◌, ◌∷◌, [], Some, ap, arith, length, ◌∙◌, refl}
+use Rattle.std.proofs.lemmas.List.{with_items_is}
+use Rattle.std.specs.Vec.{with_items}
 use Rattle.mdcc_option.specs.declared.items.Known.{Known}
 use Rattle.mdcc_ledger.specs.Ledger.{facts_of}
 use Rattle.mdcc_protocol.specs.Visible
@@ -14,10 +16,13 @@ returns-clause-happened c w like =
     let key = c.args.key.now in
     let known = c.known_of-known.result in
     let up = c.requires.up w like in
-    let here : NodesStand c.deref.result.now w = rw c.deref.ensures.value like.nodes in
-    let read : c.read-reading.result ≡ Visible.read (facts_of w.ledger a) key = c.read-reading.ensures w here up in
+    let here : NodesStand c.deref_mut.result.now w = rw c.deref_mut.ensures.value like.nodes in
+    let many : length c.read.new.nodes ≡ c.args.self.now.nodes.len = omega arith in
+    let left = c.in_ok-reading.ensures.left w like.records.itself here up in
+    let nodes : NodesStand (with_items c.args.self.now.nodes c.read.new.nodes).items w = rw (with_items_is c.args.self.now.nodes c.read.new.nodes many) left in
+    let read : c.in_ok-reading.reading ≡ Visible.read (facts_of w.ledger a) key = c.in_ok-reading.ensures.shown w here up in
     let shown : known ≡ known_of key (Visible.read (facts_of w.ledger a) key) = c.known_of-known.ensures.known ∙ ap (λ (r : Reading). known_of key r) read in
     let reads : c.push.new.self ≡ c.args.self.now.reads ++ Some known ∷ [] =
     c.in_ok-push.ensures.ok ∙ ap (λ (k : Known). c.args.self.now.reads ++ Some k ∷ []) c.copy.ensures in
-    has-read c.args.self.now _ w a key known c.args.lines.now c.push-2.new.self like up c.known_of-known.ensures.key shown refl reads
+    has-read c.args.self.now _ w a key known c.args.lines.now c.push-2.new.self like up c.known_of-known.ensures.key shown nodes refl reads
     (rw (← c.len.ensures) c.in_ok-push-2.ensures.ok)

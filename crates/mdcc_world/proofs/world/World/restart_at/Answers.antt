@@ -1,5 +1,4 @@
 use Rattle.std.proofs.Common.{◌<◌, ◌+◌, ◌∷◌, Bool, List, Ok, arith, ap, ◌∙◌, subst}
-use Rattle.mdcc_built.specs.Built.{built}
 use Rattle.mdcc_logs.specs.Nodes.{IsNodeOf}
 use Rattle.mdcc_logs.specs.Starting.{HasStarted, Starts}
 use Rattle.mdcc_logs.specs.declared.starting.Started.{Started}
@@ -9,8 +8,6 @@ use Rattle.mdcc_protocol.specs.Volatile.{nothing_kept}
 use Rattle.mdcc_messages.specs.declared.facts.Fact.{Fact}
 use Rattle.mdcc_restart.specs.Logged.{AreLogged}
 use Rattle.mdcc_world.proofs.Crashed.{has-restarted, may-restart, more-epochs, restart-limit}
-use Rattle.mdcc_world.proofs.Happened.{told-result}
-use Rattle.mdcc_worlds.specs.Happening.{restarted}
 use Rattle.mdcc_world.proofs.world.World.restart_at.Goals as goal
 
 pub restart-requires-clause-among : goal.restart-requires-clause-among
@@ -19,8 +16,8 @@ restart-requires-clause-among c =
     let like = c.requires.like.1 in
     rw like.records.cluster (c.requires.among w like)
 
-pub returns-in-Ok-Node-clause-happens : goal.returns-in-Ok-Node-clause-happens
-returns-in-Ok-Node-clause-happens c w like =
+pub returns-in_ok-push-in-Node-clause-happens : goal.returns-in_ok-push-in-Node-clause-happens
+returns-in_ok-push-in-Node-clause-happens c w like =
     let world = c.args.self.now in
     let a = c.args.centre in
     let centre = c.requires.among w like in
@@ -28,18 +25,17 @@ returns-in-Ok-Node-clause-happens c w like =
     let early : w.events < 100000 = omega (events, c.requires.few, arith) in
     let logged : AreLogged world.cluster (facts_of w.ledger a) = rw like.records.cluster (may-restart w a like.records.itself centre) in
     let cluster : IsCluster world.cluster = rw like.records.cluster like.records.itself.cluster_itself in
-    let started : HasStarted c.in-Ok-Node.node c.in-Ok-Node.epoch c.restart.new.self world.cluster w.cluster.quorums.centres a (facts_of w.ledger) =
-    subst (λ (s : Started). Starts (Ok s) c.restart.new.self world.cluster w.cluster.quorums.centres a (facts_of w.ledger)) c.in-Ok-Node.field-0-is
-    (c.in-Ok-Node.ensures.started w.cluster.quorums.centres (facts_of w.ledger) like.logs logged cluster (more-epochs w a like.records.itself centre early)) in
-    let node : IsNodeOf c.in-Ok-Node.node w.cluster a (Fact.Booted c.in-Ok-Node.epoch ∷ facts_of w.ledger a) nothing_kept = rw (← like.records.cluster) started.node_of in
+    let started : HasStarted c.in-Node.node c.in-Node.epoch c.restart.new.self world.cluster w.cluster.quorums.centres a (facts_of w.ledger) =
+    subst (λ (s : Started). Starts (Ok s) c.restart.new.self world.cluster w.cluster.quorums.centres a (facts_of w.ledger)) c.in-Node.is
+    (c.in_ok-restart.ensures.started w.cluster.quorums.centres (facts_of w.ledger) like.logs logged cluster (more-epochs w a like.records.itself centre early)) in
+    let node : IsNodeOf c.in-Node.node w.cluster a (Fact.Booted c.in-Node.epoch ∷ facts_of w.ledger a) nothing_kept = rw (← like.records.cluster) started.node_of in
     let rest = c.rise.ensures.rest
     ∙ ap (λ (ups : List Bool). record world { nodes = c.rise.new.self.nodes; up = ups; logs = c.restart.new.self; events = world.events + 1 }) c.rise.ensures.up in
-    told-result c.tell_restart.result c.rise.new.self c.args.lines.now c.tell_restart.new.lines (restarted built w a) c.tell_restart.ensures.ok c.tell_restart.ensures.memory
-    (λ put. has-restarted world c.rise.new.self c.restart.new.self w a c.in-Ok-Node.epoch c.in-Ok-Node.node c.args.lines.now c.tell_restart.new.lines like centre early
-    (omega arith) (omega arith) rest c.rise.ensures.nodes started.next node started.stand started.room put)
+    has-restarted world c.rise.new.self c.restart.new.self w a c.in-Node.epoch c.in-Node.node c.args.lines.now c.push.new.self like centre early
+    (omega arith) (omega arith) rest c.rise.ensures.nodes started.next node started.stand started.room c.in_ok-push.ensures.ok
 
-pub returns-in-Ok-Full-clause-happens : goal.returns-in-Ok-Full-clause-happens
-returns-in-Ok-Full-clause-happens c w like =
+pub returns-in-Full-clause-happens : goal.returns-in-Full-clause-happens
+returns-in-Full-clause-happens c w like =
     let world = c.args.self.now in
     let a = c.args.centre in
     let centre = c.requires.among w like in
@@ -48,5 +44,5 @@ returns-in-Ok-Full-clause-happens c w like =
     let logged : AreLogged world.cluster (facts_of w.ledger a) = rw like.records.cluster (may-restart w a like.records.itself centre) in
     let cluster : IsCluster world.cluster = rw like.records.cluster like.records.itself.cluster_itself in
     restart-limit w a
-    (subst (λ (s : Started). Starts (Ok s) c.restart.new.self world.cluster w.cluster.quorums.centres a (facts_of w.ledger)) c.in-Ok-Full.field-0-is
-    (c.in-Ok-Full.ensures.started w.cluster.quorums.centres (facts_of w.ledger) like.logs logged cluster (more-epochs w a like.records.itself centre early)))
+    (subst (λ (s : Started). Starts (Ok s) c.restart.new.self world.cluster w.cluster.quorums.centres a (facts_of w.ledger)) c.in-Full.is
+    (c.in_ok-restart.ensures.started w.cluster.quorums.centres (facts_of w.ledger) like.logs logged cluster (more-epochs w a like.records.itself centre early)))

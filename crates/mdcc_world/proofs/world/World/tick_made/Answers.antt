@@ -15,8 +15,8 @@ returns-clause-made c w like =
     let a = c.args.centre in
     let up = c.requires.up w like in
     let here : NodesStand c.deref_mut.result.now (counted_event w) = rw c.deref_mut.ensures.value (counted-nodes c.args.self.now.nodes.items w like.nodes) in
-    let many : length c.tick.new.nodes ≡ c.args.self.now.nodes.len = omega arith in
+    let many : length c.step.new.nodes ≡ c.args.self.now.nodes.len = omega arith in
     let h = input_happened (counted_event w) a (step_at built (counted_event w) a Input.Tick) in
     let left = c.in_ok-made.ensures.left (counted_event w) (counted-stays w like.records.itself) here up in
-    let nodes : NodesStand (with_items c.args.self.now.nodes c.tick.new.nodes).items h.world = rw (with_items_is c.args.self.now.nodes c.tick.new.nodes many) left in
+    let nodes : NodesStand (with_items c.args.self.now.nodes c.step.new.nodes).items h.world = rw (with_items_is c.args.self.now.nodes c.step.new.nodes many) left in
     made-counted c.args.self.now _ w a Input.Tick c.in_ok-made.made like up tt refl like.outcomes (c.in_ok-made.ensures.answer (counted_event w) here up) nodes

@@ -4,11 +4,13 @@ use Rattle.mdcc_node.specs.Stepping.{given, is_memory}
 use Rattle.mdcc_ledger.specs.Ledger.{facts_of}
 use Rattle.mdcc_rules.specs.Steps.{NodeStep}
 use Rattle.mdcc_simulation.specs.State.{centre_at}
-use Rattle.mdcc_rules.specs.declared.node.Input.{Input}
 use Rattle.mdcc_rules.specs.declared.node.StepFault.{StepFault}
-use Rattle.mdcc_world.proofs.NodesStay.{made-is, made-kept, node-under, stepped}
+use Rattle.mdcc_world.proofs.NodesStay.{given-input, made-is, made-kept, node-under, stepped}
 use Rattle.mdcc_world.proofs.Roomy.{step-roomy}
-use Rattle.mdcc_world.proofs.nodes.deliver.Goals as goal
+use Rattle.mdcc_world.proofs.nodes.step.Goals as goal
+
+pub step-requires : goal.step-requires
+step-requires c = given-input c.args.input.now c.requires.formed
 
 pub returns-clause-answer : goal.returns-clause-answer
 returns-clause-answer c w standing up =
@@ -16,10 +18,10 @@ returns-clause-answer c w standing up =
     let place : c.from.result ≡ a = cc in
     let some : 1 ≤ a = (let e : c.number.result ≡ a = c.number.ensures.value in subst (λ n. 1 ≤ n) e c.number.ensures.range.0) in
     let node = node-under c.args.nodes.now w a c.from.result c.index-nodes-from.result standing up some c.requires.within place c.index-nodes-from.is in
-    let input = Input.Message c.args.envelope.now in
-    let gives = c.deliver.ensures.answer w.cluster a (facts_of w.ledger a) (centre_at w a).volatile node in
-    made-is c.made.result c.deliver.result _ c.made.ensures.same c.made.ensures.memory
-    (subst (λ (r : Result NodeStep StepFault). GivesUnless is_memory c.deliver.result (given r)) (step-roomy w.cluster a (facts_of w.ledger a) (centre_at w a).volatile input) gives)
+    let input = c.args.input.now in
+    let gives = c.step.ensures.answer w.cluster a (facts_of w.ledger a) (centre_at w a).volatile node in
+    made-is c.made.result c.step.result _ c.made.ensures.same c.made.ensures.memory
+    (subst (λ (r : Result NodeStep StepFault). GivesUnless is_memory c.step.result (given r)) (step-roomy w.cluster a (facts_of w.ledger a) (centre_at w a).volatile input) gives)
 
 pub returns-clause-left : goal.returns-clause-left
 returns-clause-left c w world standing up =
@@ -27,8 +29,8 @@ returns-clause-left c w world standing up =
     let place : c.from.result ≡ a = cc in
     let some : 1 ≤ a = (let e : c.number.result ≡ a = c.number.ensures.value in subst (λ n. 1 ≤ n) e c.number.ensures.range.0) in
     let node = node-under c.args.nodes.now w a c.from.result c.index-nodes-from.result standing up some c.requires.within place c.index-nodes-from.is in
-    let input = Input.Message c.args.envelope.now in
-    let left = c.deliver.ensures.left w.cluster a (facts_of w.ledger a) (centre_at w a).volatile node in
-    made-kept c.made.result c.deliver.result _ c.made.ensures.memory
-    (stepped c.args.nodes.now w a c.from.result c.deliver.new.self input standing world some c.requires.within place c.requires.formed _
-    (step-roomy w.cluster a (facts_of w.ledger a) (centre_at w a).volatile input) c.deliver.result left)
+    let input = c.args.input.now in
+    let left = c.step.ensures.left w.cluster a (facts_of w.ledger a) (centre_at w a).volatile node in
+    made-kept c.made.result c.step.result _ c.made.ensures.memory
+    (stepped c.args.nodes.now w a c.from.result c.step.new.self input standing world some c.requires.within place c.requires.formed _
+    (step-roomy w.cluster a (facts_of w.ledger a) (centre_at w a).volatile input) c.step.result left)
