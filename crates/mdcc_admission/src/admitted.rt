@@ -9,8 +9,8 @@ use crate::news::is_news;
 use crate::promises::is_allowed_promise;
 use crate::votes::is_allowed_vote;
 use mdcc_facts::FactStore;
-use mdcc_option::Cluster;
 use mdcc_messages::Fact;
+use mdcc_option::Cluster;
 
 fn is_booted(fact: &Fact) -> bool
     ensures { result ≡ is_booted fact.now }

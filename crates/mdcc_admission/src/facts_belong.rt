@@ -6,8 +6,8 @@ use crate::parts_belong::{
     adds_belong, ballot_belongs, choice_belongs, item_belongs, options_belong, outcome_belongs,
     tx_belongs,
 };
-use mdcc_option::{Choice, Cluster};
 use mdcc_messages::Fact;
+use mdcc_option::{Choice, Cluster};
 
 // Whether the choice that stands beside a rejection is.
 fn offered_belongs(cluster: &Cluster, offered: &Option<Choice>) -> bool

@@ -10,8 +10,8 @@ ghost use Rattle.mdcc_facts.specs.Few.{if_few, is_few};
 
 use crate::held::{current_of, version_from};
 use mdcc_base::{BoundedList, Key, Plain, TxId};
-use mdcc_option::{Amounts, Choice, Delta, Outcome, Seen, Update};
 use mdcc_messages::Fact;
+use mdcc_option::{Amounts, Choice, Delta, Outcome, Seen, Update};
 
 /// At most 64 deltas, ascending by transaction.
 pub(crate) type Deltas = BoundedList<(TxId, Amounts), 64>;

@@ -6,8 +6,8 @@ ghost use Rattle.mdcc_protocol.specs.Facts.{base_at, base_from, base_given, base
 ghost use Rattle.mdcc_protocol.specs.Marks.{is_write};
 
 use mdcc_base::{Key, Plain};
-use mdcc_option::{Choice, Item, Outcome, Update};
 use mdcc_messages::Fact;
+use mdcc_option::{Choice, Item, Outcome, Update};
 
 // A version plus one stops at 2^64 - 1.
 fn next_version(version: u64) -> u64

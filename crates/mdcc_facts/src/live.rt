@@ -8,8 +8,8 @@ use crate::deltas::delta_given;
 use crate::next::{is_above, is_lower};
 use crate::votes::ended_of;
 use mdcc_base::{Key, Plain, TxId};
-use mdcc_option::{Choice, Delta, Mark, Outcome, Update};
 use mdcc_messages::Fact;
+use mdcc_option::{Choice, Delta, Mark, Outcome, Update};
 use mdcc_struct::Options;
 
 // Whether the transaction was heard aborted.

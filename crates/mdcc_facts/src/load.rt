@@ -8,8 +8,8 @@ ghost use Rattle.mdcc_protocol.specs.Stores.{load_at};
 use crate::live::{next_live, update_at};
 use mdcc_base::{Key, TxId};
 use mdcc_escrow::{NO_LOAD, with_live};
-use mdcc_option::Update;
 use mdcc_messages::Fact;
+use mdcc_option::Update;
 use mdcc_protocol::Load;
 
 // The load with one more live update, where there is one.

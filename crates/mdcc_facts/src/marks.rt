@@ -11,8 +11,8 @@ use crate::next::{is_above, is_lower};
 use crate::promises::ballot_max;
 use crate::voted::marks_voted;
 use mdcc_base::{Ballot, Key, Plain, TxId};
-use mdcc_option::Mark;
 use mdcc_messages::Fact;
+use mdcc_option::Mark;
 use mdcc_struct::Options;
 
 // The ballot at which the fact votes in an instance, where it is below another one.

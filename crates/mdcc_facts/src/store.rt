@@ -9,8 +9,8 @@ ghost use Rattle.mdcc_struct.specs.Maps.{txs_of, value_of};
 ghost use Rattle.mdcc_facts.specs.Adding.{MayBeAdded, add_of, is_memory};
 
 use mdcc_base::{Ballot, HeapList, Key, Memory, TxId};
-use mdcc_option::{Choice, Delta, Item, Mark, Outcome, Seen, WriteSet};
 use mdcc_messages::Fact;
+use mdcc_option::{Choice, Delta, Item, Mark, Outcome, Seen, WriteSet};
 use mdcc_protocol::{Load, StoreFault};
 use mdcc_struct::Options;
 use std::alloc::Global;

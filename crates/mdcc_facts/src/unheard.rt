@@ -6,8 +6,8 @@ ghost use Rattle.mdcc_struct.specs.Maps.{are_ascending, union, value_of, with_en
 ghost use Rattle.mdcc_struct.specs.Places.{place_of};
 
 use mdcc_base::{HeapList, Memory, Plain, TxId};
-use mdcc_option::{Mark, WriteSet};
 use mdcc_messages::Fact;
+use mdcc_option::{Mark, WriteSet};
 use mdcc_struct::Options;
 use std::alloc::Global;
 

@@ -8,8 +8,8 @@ ghost use Rattle.mdcc_struct.specs.Maps.{value_of};
 use crate::next::{is_above, is_lower};
 use crate::votes::is_heard;
 use mdcc_base::{Plain, TxId};
-use mdcc_option::{Mark, WriteSet};
 use mdcc_messages::Fact;
+use mdcc_option::{Mark, WriteSet};
 use mdcc_struct::Options;
 
 // The lower of two transactions, where the second is above the last one and was not heard.

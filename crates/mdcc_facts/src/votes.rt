@@ -6,8 +6,8 @@ ghost use Rattle.mdcc_protocol.specs.Marks.{choice_in, is_commit};
 ghost use Rattle.mdcc_protocol.specs.Stores.{ended_of};
 
 use mdcc_base::{Ballot, Key, Plain, TxId};
-use mdcc_option::{Choice, Mark, Outcome};
 use mdcc_messages::Fact;
+use mdcc_option::{Choice, Mark, Outcome};
 
 // The mark that the fact votes of a transaction in an instance, with its ballot.
 fn mark_voted(fact: &Fact, key: &Key, version: u64, tx: &TxId) -> Option<(Ballot, Mark)>

@@ -6,13 +6,13 @@ ghost use Rattle.mdcc_messages.specs.ReadingSteps.{checked, u8_at};
 ghost use Rattle.mdcc_messages.specs.Reading.{known, booted_at, promised_at, some_offered_at, offered_at, vote_at, heard_fact_at, adopted_at, fact_at, fact_of};
 
 use mdcc_base::Key;
+use mdcc_messages::{Fact, WireFault};
 use mdcc_option::Choice;
 use mdcc_parts::choices::read_choice_of;
 use mdcc_parts::given::{read_given, read_heard, read_instance};
 use mdcc_parts::identifiers::read_ballot;
 use mdcc_parts::marks::read_options;
 use mdcc_parts::numbers::{u8_at, u8_within, u32_within, u64_at};
-use mdcc_messages::{Fact, WireFault};
 use std::alloc::Global;
 
 // A start.

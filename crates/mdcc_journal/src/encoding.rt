@@ -10,8 +10,8 @@ use mdcc_append::appending::{put_ballot, put_choice, put_key, put_u8, put_u32, p
 use mdcc_append::lengths::{choice_length, given_length, heard_length, key_length, options_length};
 use mdcc_append::marks::{put_given, put_heard, put_options};
 use mdcc_base::{Ballot, Key, Memory};
-use mdcc_option::Choice;
 use mdcc_messages::Fact;
+use mdcc_option::Choice;
 
 // How many bytes a choice has that may be there.
 fn offered_length(offered: &Option<Choice>) -> usize

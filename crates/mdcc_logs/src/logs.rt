@@ -21,8 +21,8 @@ use mdcc_disks::{MemoryDisks, crash_leaves_the_image};
 use mdcc_journal::counts::well_formed_facts_have_counts;
 use mdcc_journal::{encode_fact, fact_length};
 use mdcc_log::{Frames, LOG_LIMIT, rest_is_read};
-use mdcc_option::Cluster;
 use mdcc_messages::Fact;
+use mdcc_option::Cluster;
 use mdcc_restart::Restarted;
 use std::alloc::Global;
 

@@ -4,8 +4,8 @@ ghost use Rattle.mdcc_spelling.specs.Laws.{AreBytes};
 ghost use Rattle.mdcc_messages.specs.WellFormed.{IsWellFormedEnvelope};
 
 use mdcc_journal::encode_fact;
-use mdcc_node::Step;
 use mdcc_messages::{Envelope, Fact, Message};
+use mdcc_node::Step;
 use mdcc_spelling::messages::messages_read_are_well_formed;
 use mdcc_wire::{encode, view};
 use std::alloc::Global;

@@ -2,9 +2,9 @@
 use crate::bytes::{joined, message};
 use mdcc_base::{BoundedList, Centre, Key, Quorums};
 use mdcc_facts::ListFacts;
+use mdcc_messages::Fact;
 use mdcc_node::{Answer, Input, Node, Step, StepFault};
 use mdcc_option::{Cluster, Item, Part, Schema, Transaction, Update};
-use mdcc_messages::Fact;
 use mdcc_protocol::Reading;
 use std::alloc::Global;
 use std::test::Fail;

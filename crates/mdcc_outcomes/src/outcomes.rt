@@ -14,8 +14,8 @@ use crate::casts::{CastsByTx, casts_at, keep_casts};
 use crate::endings::{InstancesByTx, ending_cast, ending_come, instances_at};
 use indexmap::IndexMap;
 use mdcc_base::{Ballot, HeapList, Key, Memory, Quorums, TxId};
-use mdcc_option::Choice;
 use mdcc_messages::Fact;
+use mdcc_option::Choice;
 use mdcc_struct::Options;
 use std::alloc::Global;
 

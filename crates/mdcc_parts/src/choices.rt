@@ -15,8 +15,8 @@ use crate::identifiers::{
 use crate::items::read_update;
 use crate::numbers::{u8_within, u64_at};
 use mdcc_base::{BoundedList, Key, TxId};
-use mdcc_option::{Choice, WriteSet};
 use mdcc_messages::WireFault;
+use mdcc_option::{Choice, WriteSet};
 
 // A key behind the last one of the write set that begins at `part`, and its version.
 fn written_behind(

@@ -11,8 +11,8 @@ use crate::items::{read_delta_behind, read_item};
 use crate::marks::read_outcome;
 use crate::numbers::{u8_within, u64_at};
 use mdcc_base::{HeapList, Key, TxId};
-use mdcc_option::{Delta, Item, Outcome};
 use mdcc_messages::WireFault;
+use mdcc_option::{Delta, Item, Outcome};
 use std::alloc::Global;
 
 /// The key and the version at a place.

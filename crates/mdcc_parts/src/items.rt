@@ -7,8 +7,8 @@ ghost use Rattle.mdcc_messages.specs.ReadingParts.{body_by, item_at, tx_behind, 
 use crate::identifiers::{read_key_behind, read_tx_behind};
 use crate::numbers::{i64_at, run_at, truncated, u8_within, u64_at};
 use mdcc_base::{BoundedList, Key, TxId};
-use mdcc_option::{Amounts, Body, Delta, Item, Part, Seen, Update, Values};
 use mdcc_messages::WireFault;
+use mdcc_option::{Amounts, Body, Delta, Item, Part, Seen, Update, Values};
 
 // So many bytes at a place.
 fn body_at(bytes: &[u8], count: usize, at: usize) -> Result<(Body, usize), WireFault>

@@ -11,8 +11,8 @@ use crate::choices::{read_choice_behind, read_mark_choice};
 use crate::identifiers::{read_classic, read_tx_behind};
 use crate::numbers::{u8_within, u32_at};
 use mdcc_base::{BoundedList, Key, TxId};
-use mdcc_option::{Cause, Choice, Mark, Outcome};
 use mdcc_messages::WireFault;
+use mdcc_option::{Cause, Choice, Mark, Outcome};
 use mdcc_struct::Options;
 use std::alloc::Global;
 

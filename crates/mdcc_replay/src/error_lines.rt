@@ -6,8 +6,8 @@ ghost use Rattle.mdcc_replay.specs.Refusals.{fault_of};
 
 use crate::Refusal;
 use mdcc_base::{LIMIT, QuorumFault};
-use mdcc_option::{DraftFault, SchemaFault};
 use mdcc_language::{EventFault, HeaderCause, LimitName, SchedCause, SchedFault};
+use mdcc_option::{DraftFault, SchemaFault};
 use std::alloc::{AllocError, Global};
 
 // The name of a cause.

@@ -9,8 +9,8 @@ ghost use Rattle.mdcc_sched.specs.Free.{is_memory};
 ghost use Rattle.mdcc_replay.specs.Words.{is_built};
 
 use mdcc_base::Memory;
-use mdcc_option::Cluster;
 use mdcc_language::{Event, SchedCause, SchedFault};
+use mdcc_option::Cluster;
 use mdcc_sched::parse_line;
 use mdcc_words::places::part_at;
 use std::alloc::Global;

@@ -21,8 +21,8 @@ use crate::lines::{behind, header_text, is_memory, read_line, split_line};
 use crate::writing::{line_text, lines_text, write_text};
 use crate::{Failure, Refusal, Simulation};
 use mdcc_base::{HeapList, LIMIT, Plain, Sink};
-use mdcc_option::Cluster;
 use mdcc_language::{Event, EventFault};
+use mdcc_option::Cluster;
 use mdcc_sched::parse_header;
 use std::alloc::Global;
 

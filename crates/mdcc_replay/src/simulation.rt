@@ -10,8 +10,8 @@ ghost use Rattle.mdcc_replay.specs.Refusals.{is_memory};
 ghost use Rattle.mdcc_replay.specs.Words.{is_built};
 
 use mdcc_base::{HeapList, Memory};
-use mdcc_option::Cluster;
 use mdcc_language::{Event, EventFault, Line};
+use mdcc_option::Cluster;
 use std::alloc::Global;
 
 /// Nodes of a cluster and the messages between them, to which the events of a schedule happen.

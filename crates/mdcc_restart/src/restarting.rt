@@ -16,9 +16,9 @@ use mdcc_disks::Disks;
 use mdcc_facts::FactStore;
 use mdcc_journal::encode_fact;
 use mdcc_log::{Frames, LogFault, between_is_read};
+use mdcc_messages::Fact;
 use mdcc_node::Node;
 use mdcc_option::Cluster;
-use mdcc_messages::Fact;
 use mdcc_rules::BootFault;
 use std::alloc::Global;
 

@@ -1,9 +1,9 @@
 //! Which transactions end as the votes of a cluster are counted.
 use crate::values::{cluster, insert, key, tx};
 use mdcc_base::{Ballot, Plain};
+use mdcc_messages::Fact;
 use mdcc_option::{Choice, Mark};
 use mdcc_outcomes::{Outcomes, Totals};
-use mdcc_messages::Fact;
 use mdcc_struct::Options;
 use std::alloc::Global;
 use std::process::Abort;

@@ -39,19 +39,17 @@ module _ (cluster : Cluster) (facts : List Fact) (leader : Leading) (lead : Lead
       → is_crowded (first_structure cluster facts lead.key lead.version lead.claims (reports_with lead from promise)) ≡ false
       → (after : Leading) × (on_promise cluster facts leader from promise ≡ Ok (PromiseAnswer.Accept lead.version lead.ballot (first_structure cluster facts lead.key lead.version lead.claims (reports_with lead from promise)), after))
   proposed enough few =
-      let options = first_structure cluster facts lead.key lead.version lead.claims (reports_with lead from promise) in
-      (
+      let options = first_structure cluster facts lead.key lead.version lead.claims (reports_with lead from promise) in (
         with_lead leader (record (with_promise lead from promise) { claims = []; structures = with_structure lead.structures lead.version options }),
         ap (promise_taken cluster facts leader from promise) h.found ∙ taken _ _ _ h.counted ∙ left _ _ _ h.waits ∙ taken _ _ _ enough ∙ left _ _ _ few,
       )
 
   pub waited : is_enough cluster facts lead.key lead.version (reports_with lead from promise) ≡ false
       → (after : Leading) × (on_promise cluster facts leader from promise ≡ Ok (PromiseAnswer.Waiting (length (with_promise lead from promise).promises), after))
-  waited few =
-      (
-        with_lead leader (with_promise lead from promise),
-        ap (promise_taken cluster facts leader from promise) h.found ∙ taken _ _ _ h.counted ∙ left _ _ _ h.waits ∙ left _ _ _ few,
-      )
+  waited few = (
+    with_lead leader (with_promise lead from promise),
+    ap (promise_taken cluster facts leader from promise) h.found ∙ taken _ _ _ h.counted ∙ left _ _ _ h.waits ∙ left _ _ _ few,
+  )
 
 -- ---- how many are enough
 

@@ -5,8 +5,8 @@ ghost use Rattle.mdcc_protocol.specs.Visible.{on_outcome};
 
 use mdcc_base::{Plain, TxId};
 use mdcc_facts::FactStore;
-use mdcc_option::Outcome;
 use mdcc_messages::Fact;
+use mdcc_option::Outcome;
 
 /// The fact of an outcome; there is none where the transaction's was heard before. It adds no fact.
 pub fn on_outcome<S: FactStore>(store: &S, tx: TxId, outcome: &Outcome) -> Option<Fact>

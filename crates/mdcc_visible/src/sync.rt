@@ -11,8 +11,8 @@ ghost use Rattle.mdcc_struct.specs.Maps.{value_of};
 use crate::deltas::copied_deltas;
 use mdcc_base::{Key, Memory, Plain};
 use mdcc_facts::FactStore;
-use mdcc_option::Delta;
 use mdcc_messages::Fact;
+use mdcc_option::Delta;
 use mdcc_protocol::Give;
 use std::alloc::Global;
 

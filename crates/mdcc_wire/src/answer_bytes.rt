@@ -7,8 +7,8 @@ ghost use Rattle.mdcc_messages.specs.Lengths.{shown_item_length, begin_fault_len
 use mdcc_append::appending::{put_item, put_key, put_seen, put_tx, put_u8, put_u64};
 use mdcc_append::lengths::{item_length, key_length, seen_length};
 use mdcc_base::TxId;
-use mdcc_option::{BeginFault, DraftFault, Item};
 use mdcc_messages::ClientAnswer;
+use mdcc_option::{BeginFault, DraftFault, Item};
 
 // How many bytes an item has that may be there.
 fn shown_item_length(item: &Option<Item>) -> usize

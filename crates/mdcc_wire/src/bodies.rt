@@ -7,6 +7,7 @@ ghost use Rattle.mdcc_wire.specs.Views.{is_plain};
 
 use crate::answers::read_answer;
 use mdcc_base::{BoundedList, Key};
+use mdcc_messages::{Message, WireFault};
 use mdcc_option::Part;
 use mdcc_parts::choices::read_choice;
 use mdcc_parts::given::{read_at_least, read_heard, read_instance};
@@ -14,7 +15,6 @@ use mdcc_parts::identifiers::{read_ballot, read_classic, read_key, read_tx};
 use mdcc_parts::items::read_part_behind;
 use mdcc_parts::marks::{read_cause, read_entry};
 use mdcc_parts::numbers::{u8_within, u32_at};
-use mdcc_messages::{Message, WireFault};
 
 // A proposed choice.
 fn propose_at(bytes: &[u8], at: usize) -> Result<(Message, usize), WireFault>

@@ -10,8 +10,8 @@ use mdcc_append::lengths::{
     cause_length, choice_length, entry_length, given_length, heard_length, key_length,
     options_length, part_length,
 };
-use mdcc_option::Part;
 use mdcc_messages::{Envelope, Message};
+use mdcc_option::Part;
 
 /// The number of a message's kind, from 1 to 15.
 pub fn kind_of(message: &Message) -> u8

@@ -16,8 +16,8 @@ use mdcc_append::appending::{
 };
 use mdcc_append::marks::{put_cause, put_entry, put_given, put_heard, put_options};
 use mdcc_base::{Key, Memory};
-use mdcc_option::Part;
 use mdcc_messages::{Envelope, Message};
+use mdcc_option::Part;
 
 /// Why a message is not written. Nothing of it is.
 #[derive(Clone, Copy, Debug, PartialEq, Eq)]

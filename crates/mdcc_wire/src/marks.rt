@@ -5,12 +5,12 @@ ghost use Rattle.mdcc_messages.specs.ReadingParts.{entry_behind};
 ghost use Rattle.mdcc_wire.specs.Marks.{marks_from, options_marks, votes_place, options_place, promise_marks, accept_marks, marks_by};
 
 use mdcc_base::{Key, TxId};
+use mdcc_messages::WireFault;
 use mdcc_option::Mark;
 use mdcc_parts::given::{read_at_least, read_instance};
 use mdcc_parts::identifiers::{read_ballot, read_classic};
 use mdcc_parts::marks::read_entry_behind;
 use mdcc_parts::numbers::u32_at;
-use mdcc_messages::WireFault;
 use std::marker::Model;
 
 /// The marks that are left of a message, read from its bytes one by one, in the order of their

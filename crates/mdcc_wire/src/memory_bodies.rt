@@ -5,10 +5,10 @@ ghost use Rattle.mdcc_parts.specs.Reads.{end_of, is_memory};
 ghost use Rattle.mdcc_messages.specs.Reading.{promise_at, accept_at, sync_give_at, body_at};
 
 use crate::bodies::plain_body;
+use mdcc_messages::{Message, WireFault};
 use mdcc_parts::given::{check_given, read_at_least, read_given, read_instance};
 use mdcc_parts::identifiers::{read_ballot, read_classic};
 use mdcc_parts::marks::{check_options, read_options};
-use mdcc_messages::{Message, WireFault};
 use std::alloc::Global;
 
 // A promise with the votes that it reports.

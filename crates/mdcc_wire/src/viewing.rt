@@ -11,10 +11,10 @@ ghost use Rattle.mdcc_wire.specs.Views.{viewed, passed, choice_in, marks_in, kin
 use crate::marks::{MarkViews, marks_by};
 use crate::memory_bodies::{check_body, read_body};
 use mdcc_base::Memory;
+use mdcc_messages::{Envelope, WireFault};
 use mdcc_option::Choice;
 use mdcc_parts::choices::read_choice;
 use mdcc_parts::numbers::u8_at;
-use mdcc_messages::{Envelope, WireFault};
 use std::alloc::Global;
 use std::marker::Model;
 

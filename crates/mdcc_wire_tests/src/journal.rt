@@ -8,8 +8,8 @@ use crate::bytes::{
 use crate::spelled::are_same;
 use mdcc_base::{Ballot, BoundedList, Plain};
 use mdcc_journal::{decode_fact, encode_fact, fact_length};
-use mdcc_option::{Choice, Outcome};
 use mdcc_messages::Fact;
+use mdcc_option::{Choice, Outcome};
 use mdcc_struct::Options;
 use std::alloc::Global;
 use std::test::*;

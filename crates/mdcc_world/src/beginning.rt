@@ -20,8 +20,8 @@ use crate::given::words_given;
 use crate::telling::tell_begun;
 use crate::world::World;
 use mdcc_base::{Centre, HeapList, Key};
-use mdcc_option::{BeginFault, Part, Transaction};
 use mdcc_language::{EventFault, Line, ResolveFault, UpdateWord};
+use mdcc_option::{BeginFault, Part, Transaction};
 use mdcc_rules::Step;
 use mdcc_sched::resolve;
 

@@ -13,10 +13,10 @@ ghost use Rattle.mdcc_worlds.specs.Happening.{at_restart, restarted};
 use crate::world::World;
 use mdcc_base::{Centre, HeapList, Memory};
 use mdcc_facts::ListFacts;
+use mdcc_language::{EventFault, LimitName, Line};
 use mdcc_log::LOG_LIMIT;
 use mdcc_logs::Started;
 use mdcc_node::Node;
-use mdcc_language::{EventFault, LimitName, Line};
 
 impl World {
     // A centre loses all but its log, which is an event.

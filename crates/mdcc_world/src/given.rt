@@ -3,8 +3,8 @@ ghost use Rattle.std.specs.List.{AllByRecursion};
 ghost use Rattle.std.specs.Prelude.{◌<◌, ◌^◌};
 ghost use Rattle.mdcc_worlds.specs.Words.{HasBody, IsGivenWord};
 
-use mdcc_option::Item;
 use mdcc_language::UpdateWord;
+use mdcc_option::Item;
 
 // Bytes are below 256.
 fn bytes_given(bytes: &[u8])

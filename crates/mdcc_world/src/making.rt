@@ -31,11 +31,7 @@ fn begun_tx(answer: &Option<Answer>) -> Option<TxId>
 }
 
 // A transaction that was begun is counted.
-fn count(
-    outcomes: &mut Outcomes,
-    input: &Input,
-    answer: &Option<Answer>,
-) -> Result<(), Memory>
+fn count(outcomes: &mut Outcomes, input: &Input, answer: &Option<Answer>) -> Result<(), Memory>
     ensures { (quorums : Sizes) (entries : List Entry) (a : ℕ) (parts : List APart) → input.now ≡ AInput.Begin parts
         → OutcomesStand outcomes.old quorums entries
         → OnOk result (OutcomesStand outcomes.new quorums (begun_entries a parts (begun_tx answer.now) ++ entries)) }

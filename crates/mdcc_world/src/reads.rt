@@ -12,8 +12,8 @@ ghost use Rattle.mdcc_world.specs.Stands.{Happens, HasHappened, IsLike, IsLikeSo
 use crate::nodes::read;
 use crate::world::World;
 use mdcc_base::{Centre, HeapList, Key, Memory, Plain};
-use mdcc_option::Known;
 use mdcc_language::{EventFault, Line};
+use mdcc_option::Known;
 use mdcc_protocol::Reading;
 
 // What a read shows of a key.

@@ -22,9 +22,9 @@ ghost use Rattle.mdcc_worlds.specs.Taking.{limit_of, step_lines, with_fact};
 use crate::taking::{let_out, push_dropped, tell_fact};
 use crate::world::World;
 use mdcc_base::{Centre, HeapList, Memory};
+use mdcc_language::{EventFault, LimitName, Line};
 use mdcc_log::LOG_LIMIT;
 use mdcc_mail::Outgoing;
-use mdcc_language::{EventFault, LimitName, Line};
 use mdcc_messages::Fact;
 use mdcc_rules::{Step, StepFault};
 

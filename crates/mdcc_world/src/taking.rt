@@ -13,12 +13,12 @@ ghost use Rattle.mdcc_world.specs.Telling.{dropped_lines};
 ghost use Rattle.mdcc_worlds.specs.Taking.{chosen_line, fact_lines, step_lines, with_fact};
 
 use mdcc_base::{Centre, HeapList, Memory, TxId};
+use mdcc_language::Line;
 use mdcc_logs::Logs;
 use mdcc_mail::{Mail, Outgoing};
+use mdcc_messages::Fact;
 use mdcc_option::Outcome;
 use mdcc_outcomes::Outcomes;
-use mdcc_language::Line;
-use mdcc_messages::Fact;
 use mdcc_rules::StepFault;
 use std::alloc::Global;
 

@@ -12,13 +12,13 @@ ghost use Rattle.mdcc_worlds.specs.Happening.{at_centre, at_limit};
 use mdcc_base::{Centre, HeapList, Memory};
 use mdcc_disks::MemoryDisks;
 use mdcc_facts::ListFacts;
+use mdcc_language::{EventFault, LimitName, Line};
 use mdcc_log::rest_is_read;
 use mdcc_logs::{Logs, boot_all};
 use mdcc_mail::Mail;
 use mdcc_node::Node;
 use mdcc_option::{Cluster, Known};
 use mdcc_outcomes::Outcomes;
-use mdcc_language::{EventFault, LimitName, Line};
 use std::alloc::Global;
 
 /// How many events there may be.
