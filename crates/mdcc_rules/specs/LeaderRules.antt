@@ -11,7 +11,7 @@ use Rattle.mdcc_protocol.specs.Facts.{epoch_of, heard_of}
 use Rattle.mdcc_protocol.specs.Leader.{claim_of_choice, is_marked, lead, on_promise, on_refused}
 use Rattle.mdcc_ledger.specs.Ledger.{Entry, Valued}
 use Rattle.mdcc_rules.specs.Messages.{to_all, to_one, to_others}
-use Rattle.mdcc_rules.specs.Steps.{NodeStep, nothing_done, sending}
+use Rattle.mdcc_rules.specs.Steps.{NodeStep, StepPart, nothing_done, sending, step_of_part}
 use Rattle.mdcc_protocol.specs.Volatile.{Leading, Volatile, with_leader}
 use Rattle.mdcc_messages.specs.declared.facts.Fact.{Fact}
 use Rattle.mdcc_protocol.specs.declared.leader.LeadAnswer.{LeadAnswer}
@@ -27,16 +27,10 @@ step_fault LeadFault.Exhausted = StepFault.Exhausted
 step_fault LeadFault.Crowded = StepFault.Crowded
 step_fault LeadFault.Memory = StepFault.Memory
 
--- the leader's part of a step
-pub record Led : Type 0 where
-  pub after : Leading
-  pub entries : List Entry
-  pub sends : List Envelope
-
-abbrev pub step_of_led : Volatile → Result Led LeadFault → Result NodeStep StepFault
-step_of_led volatile (Ok led) =
-    Ok (record { entries = led.entries; fact = None; sends = led.sends; answer = None; after = with_leader volatile led.after })
-step_of_led volatile (Err fault) = Err (step_fault fault)
+-- a step that is the leader's part, unless the leader refuses it
+abbrev pub step_of_led : Result StepPart LeadFault → Result NodeStep StepFault
+step_of_led (Ok part) = Ok (step_of_part part)
+step_of_led (Err fault) = Err (step_fault fault)
 
 -- ---- claims
 
@@ -53,19 +47,19 @@ lead_entries me leader claim (LeadAnswer.Accept version ballot options) =
     if is_marked leader claim then [] else Valued me claim.key version ballot options ∷ []
 lead_entries me leader claim answer = []
 
-abbrev pub led_by_answer : Sizes → ℕ → Leading → Claim → Result (LeadAnswer × Leading) LeadFault → Result Led LeadFault
-led_by_answer quorums me leader claim (Err fault) = Err fault
-led_by_answer quorums me leader claim (Ok (answer, after)) =
-    Ok (record { after = after; entries = lead_entries me leader claim answer; sends = lead_sent quorums me claim answer })
+abbrev pub led_by_answer : Sizes → ℕ → Volatile → Claim → Result (LeadAnswer × Leading) LeadFault → Result StepPart LeadFault
+led_by_answer quorums me volatile claim (Err fault) = Err fault
+led_by_answer quorums me volatile claim (Ok (answer, leader)) =
+    Ok (record { after = with_leader volatile leader; entries = lead_entries me volatile.leader claim answer; sends = lead_sent quorums me claim answer })
 
 -- a claim is led here
-abbrev pub led_of : Cluster → ℕ → List Fact → Leading → Claim → Result Led LeadFault
-led_of cluster me facts leader claim = led_by_answer cluster.quorums me leader claim (lead cluster me (epoch_of facts) facts leader claim)
+abbrev pub led_of : Cluster → ℕ → List Fact → Volatile → Claim → Result StepPart LeadFault
+led_of cluster me facts volatile claim = led_by_answer cluster.quorums me volatile claim (lead cluster me (epoch_of facts) facts volatile.leader claim)
 
 -- by what was heard of the transaction
 abbrev pub lead_step_after : Cluster → ℕ → List Fact → Volatile → ℕ → Choice → Option Outcome → Result NodeStep StepFault
 lead_step_after cluster me facts volatile s choice (Some outcome) = Ok (sending volatile (to_one me s (Message.Outcome choice.tx outcome)))
-lead_step_after cluster me facts volatile s choice None = step_of_led volatile (led_of cluster me facts volatile.leader (claim_of_choice choice))
+lead_step_after cluster me facts volatile s choice None = step_of_led (led_of cluster me facts volatile (claim_of_choice choice))
 
 -- a manager at s asks for a mark
 abbrev pub lead_step : Cluster → ℕ → List Fact → Volatile → ℕ → Choice → Result NodeStep StepFault
@@ -83,15 +77,15 @@ abbrev pub promise_entries : ℕ → Key → PromiseAnswer → List Entry
 promise_entries me key (PromiseAnswer.Accept version ballot options) = Valued me key version ballot options ∷ []
 promise_entries me key answer = []
 
-abbrev pub promised_by_answer : Sizes → ℕ → Key → Result (PromiseAnswer × Leading) LeadFault → Result Led LeadFault
-promised_by_answer quorums me key (Err fault) = Err fault
-promised_by_answer quorums me key (Ok (answer, after)) =
-    Ok (record { after = after; entries = promise_entries me key answer; sends = promise_sent quorums me key answer })
+abbrev pub promised_by_answer : Sizes → ℕ → Volatile → Key → Result (PromiseAnswer × Leading) LeadFault → Result StepPart LeadFault
+promised_by_answer quorums me volatile key (Err fault) = Err fault
+promised_by_answer quorums me volatile key (Ok (answer, leader)) =
+    Ok (record { after = with_leader volatile leader; entries = promise_entries me key answer; sends = promise_sent quorums me key answer })
 
 -- a promise came
 abbrev pub promise_step : Cluster → ℕ → List Fact → Volatile → ℕ → Promise → Result NodeStep StepFault
 promise_step cluster me facts volatile from promise =
-    step_of_led volatile (promised_by_answer cluster.quorums me promise.key (on_promise cluster facts volatile.leader from promise))
+    step_of_led (promised_by_answer cluster.quorums me volatile promise.key (on_promise cluster facts volatile.leader from promise))
 
 -- a refusal came
 abbrev pub refused_step : Volatile → Key → Ballot → Ballot → NodeStep

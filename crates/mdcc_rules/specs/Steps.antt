@@ -1,5 +1,5 @@
 -- What one input does to a node.
-use Rattle.std.specs.Prelude.{Bool, List, None, Option, Some, []}
+use Rattle.std.specs.Prelude.{Bool, List, None, Option, Some, [], ◌++◌}
 use Rattle.mdcc_base.specs.declared.identifiers.TxId.{TxId}
 use Rattle.mdcc_ledger.specs.Ledger.{Entry}
 use Rattle.mdcc_protocol.specs.Marks.{is_commit}
@@ -19,6 +19,26 @@ pub record NodeStep : Type 0 where
   pub sends : List Envelope
   pub answer : Option Answer
   pub after : Volatile
+
+-- a part of a step that adds no fact: what is kept afterwards, such entries (the newest first), and the messages in order
+pub record StepPart : Type 0 where
+  pub after : Volatile
+  pub entries : List Entry
+  pub sends : List Envelope
+
+-- nothing but these messages
+abbrev pub only_sending : Volatile → List Envelope → StepPart
+only_sending volatile sends = record { after = volatile; entries = []; sends = sends }
+
+-- one part after another
+abbrev pub and_then : {X : Type 0} → (Volatile → X → StepPart) → StepPart → X → StepPart
+and_then act before x =
+    let next = act before.after x in
+    record { after = next.after; entries = next.entries ++ before.entries; sends = before.sends ++ next.sends }
+
+-- a step that is one part
+abbrev pub step_of_part : StepPart → NodeStep
+step_of_part part = record { entries = part.entries; fact = None; sends = part.sends; answer = None; after = part.after }
 
 -- nothing but what is kept changes
 abbrev pub nothing_done : Volatile → NodeStep

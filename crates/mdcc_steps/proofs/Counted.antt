@@ -21,8 +21,8 @@ use Rattle.mdcc_rules.specs.AcceptorRules.{accepted_step, ask_step_by, prepared_
 use Rattle.mdcc_protocol.specs.Belongs.{message_belongs}
 use Rattle.mdcc_switches.specs.Built.{Built}
 use Rattle.mdcc_protocol.specs.Facts.{epoch_of, heard_of, is_heard, vote_of}
-use Rattle.mdcc_protocol.specs.Leader.{claim_of_choice}
-use Rattle.mdcc_rules.specs.LeaderRules.{Led, lead_step_after, led_of, promise_step, step_of_led}
+use Rattle.mdcc_protocol.specs.Leader.{claim_of_choice, lead, on_promise}
+use Rattle.mdcc_rules.specs.LeaderRules.{lead_step_after, led_by_answer, led_of, promise_step, promised_by_answer, step_of_led}
 use Rattle.mdcc_protocol.specs.Learner.{is_learned, with_vote}
 use Rattle.mdcc_protocol.specs.Manager
 use Rattle.mdcc_protocol.specs.Manager.{act_on_cause, act_on_vote, acted, after_act, begin_by, begin_fault, vote_taken}
@@ -30,16 +30,18 @@ use Rattle.mdcc_rules.specs.ManagerRules.{acted_step, begin_step_by, escalate_st
 use Rattle.mdcc_rules.specs.Node.{checked, is_own_message, message_step, step_of}
 use Rattle.mdcc_protocol.specs.Recover
 use Rattle.mdcc_protocol.specs.Recover.{keys_watched, on_voted_by}
-use Rattle.mdcc_rules.specs.Steps.{NodeStep, nothing_done}
+use Rattle.mdcc_rules.specs.Steps.{NodeStep, StepPart, and_then, nothing_done, only_sending}
 use Rattle.mdcc_rules.specs.SyncRules.{outcome_step_by, sync_give_step_by}
-use Rattle.mdcc_rules.specs.TickRules.{Ticked, and_then, claim_led, led_or_left, manager_act, manager_ticked, recovery_act, recovery_ticked, tick_step, ticked}
+use Rattle.mdcc_rules.specs.TickRules.{claim_led, led_or_left, manager_act, manager_ticked, recovery_act, recovery_ticked, tick_step}
 use Rattle.mdcc_protocol.specs.Visible.{on_outcome, on_sync_give}
-use Rattle.mdcc_protocol.specs.Volatile.{Managing, Volatile, closed, is_open, txs_opened, with_manager, with_recovery}
+use Rattle.mdcc_protocol.specs.Volatile.{Leading, Managing, Volatile, closed, is_open, txs_opened, with_manager, with_recovery}
 use Rattle.mdcc_protocol.specs.declared.acceptor.AcceptAnswer.{AcceptAnswer}
 use Rattle.mdcc_protocol.specs.declared.acceptor.PrepareAnswer.{PrepareAnswer}
 use Rattle.mdcc_protocol.specs.declared.acceptor.ProposeAnswer.{ProposeAnswer}
 use Rattle.mdcc_messages.specs.declared.facts.Fact.{Fact}
+use Rattle.mdcc_protocol.specs.declared.leader.LeadAnswer.{LeadAnswer}
 use Rattle.mdcc_protocol.specs.declared.leader.LeadFault.{LeadFault}
+use Rattle.mdcc_protocol.specs.declared.leader.PromiseAnswer.{PromiseAnswer}
 use Rattle.mdcc_protocol.specs.declared.manager.ManagerAct.{ManagerAct}
 use Rattle.mdcc_messages.specs.declared.messages.Message.{Message}
 use Rattle.mdcc_rules.specs.declared.node.Input.{Input}
@@ -51,8 +53,8 @@ use Rattle.mdcc_steps.proofs.Decided.{each-with_vote}
 use Rattle.mdcc_steps.proofs.Each.{each-kept}
 
 -- the state after one thing and another
-pub after-fold : {X : Type 0} (P : Volatile → Type 0) (act : Volatile → X → Ticked) (each : (v : Volatile) (x : X) → P v → P (act v x).after)
-    (xs : List X) (before : Ticked) → P before.after → P (fold (and_then act) before xs).after
+pub after-fold : {X : Type 0} (P : Volatile → Type 0) (act : Volatile → X → StepPart) (each : (v : Volatile) (x : X) → P v → P (act v x).after)
+    (xs : List X) (before : StepPart) → P before.after → P (fold (and_then act) before xs).after
 after-fold P act each [] before h = h
 after-fold P act each (x ∷ xs) before h = after-fold P act each xs (and_then act before x) (each before.after x h)
 
@@ -132,13 +134,17 @@ module _ (P : Vote → Type 0) where
     votes-outcome tx None = all
     votes-outcome tx (Some fact) = votes-closed volatile tx all
 
-    votes-led : (r : Result Led LeadFault) → OnStep AreAllAfter (step_of_led volatile r)
-    votes-led (Ok led) = all
-    votes-led (Err fault) = tt
+    votes-led : (claim : Claim) (r : Result (LeadAnswer × Leading) LeadFault) → OnStep AreAllAfter (step_of_led (led_by_answer cluster.quorums me volatile claim r))
+    votes-led claim (Ok answer) = all
+    votes-led claim (Err fault) = tt
+
+    votes-promised : (key : Key) (r : Result (PromiseAnswer × Leading) LeadFault) → OnStep AreAllAfter (step_of_led (promised_by_answer cluster.quorums me volatile key r))
+    votes-promised key (Ok answer) = all
+    votes-promised key (Err fault) = tt
 
     votes-lead : (s : ℕ) (choice : Choice) (o : Option Outcome) → OnStep AreAllAfter (lead_step_after cluster me facts volatile s choice o)
     votes-lead s choice (Some outcome) = all
-    votes-lead s choice None = votes-led (led_of cluster me facts volatile.leader (claim_of_choice choice))
+    votes-lead s choice None = votes-led (claim_of_choice choice) (lead cluster me (epoch_of facts) facts volatile.leader (claim_of_choice choice))
 
     votes-prepared : (l : ℕ) (key : Key) (version : ℕ) (ballot : Ballot) (answer : PrepareAnswer) → AreAllAfter (prepared_step me facts volatile l key version ballot answer)
     votes-prepared l key version ballot (PrepareAnswer.Refused promise) = all
@@ -170,7 +176,8 @@ module _ (P : Vote → Type 0) where
     votes-message s (Message.Prepare key version through ballot) k =
         on_rule AreAllAfter built.leading volatile _ all (votes-prepared s key version ballot (on_prepare facts key version through ballot))
     votes-message s (Message.Promise key version through ballot reported votes) k =
-        on_rule AreAllAfter built.leading volatile (promise_step cluster me facts volatile s (record { key = key; version = version; through = through; ballot = ballot; reported = reported; votes = votes })) all (votes-led _)
+        on_rule AreAllAfter built.leading volatile (promise_step cluster me facts volatile s (record { key = key; version = version; through = through; ballot = ballot; reported = reported; votes = votes })) all
+        (votes-promised key (on_promise cluster facts volatile.leader s (record { key = key; version = version; through = through; ballot = ballot; reported = reported; votes = votes })))
     votes-message s (Message.Accept key version ballot options) k =
         on_rule AreAllAfter built.leading volatile _ all (votes-accepted s key version ballot options (on_accept facts key version ballot options))
     votes-message s (Message.Refused key version ballot promised) k = on_rule AreAllAfter built.leading volatile _ all all
@@ -189,14 +196,15 @@ module _ (P : Vote → Type 0) where
     votes-begin parts None = all
 
   module _ (built : Built) (cluster : Cluster) (me : ℕ) (facts : List Fact) where
-    votes-led_or_left : (volatile : Volatile) (r : Result Led LeadFault) → AreAll volatile → AreAll (led_or_left volatile r).after
-    votes-led_or_left volatile (Ok led) h = h
-    votes-led_or_left volatile (Err fault) h = h
+    votes-led_or_left : (volatile : Volatile) (claim : Claim) (r : Result (LeadAnswer × Leading) LeadFault) → AreAll volatile
+        → AreAll (led_or_left volatile (led_by_answer cluster.quorums me volatile claim r)).after
+    votes-led_or_left volatile claim (Ok answer) h = h
+    votes-led_or_left volatile claim (Err fault) h = h
 
     votes-claim_led : (volatile : Volatile) (claim : Claim) → AreAll volatile → AreAll (claim_led built cluster me facts volatile claim).after
     votes-claim_led volatile claim h =
-        cond_both built.leading (led_or_left volatile (led_of cluster me facts volatile.leader claim)) (ticked volatile []) (λ (t : Ticked). AreAll t.after)
-        (λ e. votes-led_or_left volatile (led_of cluster me facts volatile.leader claim) h) (λ e. h)
+        cond_both built.leading (led_or_left volatile (led_of cluster me facts volatile claim)) (only_sending volatile []) (λ (t : StepPart). AreAll t.after)
+        (λ e. votes-led_or_left volatile claim (lead cluster me (epoch_of facts) facts volatile.leader claim) h) (λ e. h)
 
     votes-manager_act : (volatile : Volatile) (act : ManagerAct) → AreAll volatile → AreAll (manager_act built cluster me facts volatile act).after
     votes-manager_act volatile (ManagerAct.Propose choice) h = h
@@ -212,19 +220,19 @@ module _ (P : Vote → Type 0) where
     votes-manager_ticked : (volatile : Volatile) → AreAll volatile → AreAll (manager_ticked built cluster me facts volatile).after
     votes-manager_ticked volatile h =
         let next = Manager.tick cluster.quorums volatile.manager in
-        after-fold AreAll (manager_act built cluster me facts) votes-manager_act next.0 (ticked (with_manager volatile next.1) []) h
+        after-fold AreAll (manager_act built cluster me facts) votes-manager_act next.0 (only_sending (with_manager volatile next.1) []) h
 
-    votes-recovery_ticked : (first : Ticked) → AreAll first.after → AreAll (recovery_ticked built cluster me facts first).after
+    votes-recovery_ticked : (first : StepPart) → AreAll first.after → AreAll (recovery_ticked built cluster me facts first).after
     votes-recovery_ticked first h =
         let next = Recover.tick cluster.quorums facts first.after.recovery (txs_opened first.after.manager) in
         after-fold AreAll (recovery_act built cluster me facts) votes-recovery_act next.0 (record first { after = with_recovery first.after next.1 }) h
 
     pub votes-tick : (volatile : Volatile) → AreAll volatile → AreAllAfter (tick_step built cluster me facts volatile)
     votes-tick volatile h =
-        let first = cond built.ticks (manager_ticked built cluster me facts volatile) (ticked volatile []) in
-        let k : AreAll first.after = cond_both built.ticks (manager_ticked built cluster me facts volatile) (ticked volatile []) (λ (t : Ticked). AreAll t.after)
+        let first = cond built.ticks (manager_ticked built cluster me facts volatile) (only_sending volatile []) in
+        let k : AreAll first.after = cond_both built.ticks (manager_ticked built cluster me facts volatile) (only_sending volatile []) (λ (t : StepPart). AreAll t.after)
         (λ e. votes-manager_ticked volatile h) (λ e. h) in
-        cond_both built.recovery (recovery_ticked built cluster me facts first) first (λ (t : Ticked). AreAll t.after)
+        cond_both built.recovery (recovery_ticked built cluster me facts first) first (λ (t : StepPart). AreAll t.after)
         (λ e. votes-recovery_ticked first k) (λ e. k)
 
     -- what is known of the vote that an input tells, where it is of the cluster

@@ -13,9 +13,10 @@ use Rattle.mdcc_option.specs.declared.cluster.Cluster.{Cluster}
 use Rattle.mdcc_switches.specs.Built.{Built}
 use Rattle.mdcc_protocol.specs.Facts.{epoch_of, heard_of}
 use Rattle.mdcc_protocol.specs.Leader.{claim_of_choice, lead, on_promise}
-use Rattle.mdcc_rules.specs.LeaderRules.{Led, lead_sent, lead_step, lead_step_after, led_by_answer, led_of, promise_sent, promise_step, promised_by_answer, refused_step, step_of_led}
-use Rattle.mdcc_rules.specs.TickRules.{claim_led, led_or_left, ticked}
-use Rattle.mdcc_protocol.specs.Volatile.{Leading, Volatile}
+use Rattle.mdcc_rules.specs.LeaderRules.{lead_sent, lead_step, lead_step_after, led_by_answer, led_of, promise_sent, promise_step, promised_by_answer, refused_step, step_of_led}
+use Rattle.mdcc_rules.specs.TickRules.{claim_led, led_or_left}
+use Rattle.mdcc_rules.specs.Steps.{StepPart, only_sending}
+use Rattle.mdcc_protocol.specs.Volatile.{Leading, Volatile, with_leader}
 use Rattle.mdcc_messages.specs.WellFormed.{IsWellFormedEnvelope}
 use Rattle.mdcc_messages.specs.WellFormedParts.{IsWellFormedChoice, IsWellFormedHeard}
 use Rattle.mdcc_messages.specs.declared.facts.Fact.{Fact}
@@ -35,10 +36,6 @@ use Rattle.mdcc_steps.proofs.Sending.{sent-all, sent-one, sent-others}
 use Rattle.mdcc_steps.proofs.Ticked.{IsFormedTicked}
 use Rattle.mdcc_steps.proofs.Told.{heard-told}
 
--- the leads that are left, and the messages
-abbrev pub IsFormedPart : Led → Type 0
-IsFormedPart led = AreLeads led.after × AllByRecursion IsWellFormedEnvelope led.sends
-
 module _ (cluster : Cluster) (me : ℕ) (facts : List Fact) (sizes : AreQuorums cluster.quorums) (of_me : IsInRange 1 9 me) (known : AreNodeFacts cluster facts) where
   sent-lead : (claim : Claim) (answer : LeadAnswer) → IsFormedClaim claim → IsFormedLeadAnswer claim.key answer → AllByRecursion IsWellFormedEnvelope (lead_sent cluster.quorums me claim answer)
   sent-lead claim LeadAnswer.Behind w h = sent-others cluster.quorums me (Message.SyncAsk claim.key) sizes of_me w.0.key_itself
@@ -47,40 +44,45 @@ module _ (cluster : Cluster) (me : ℕ) (facts : List Fact) (sizes : AreQuorums 
   sent-lead claim (LeadAnswer.Prepare version through ballot) w h = sent-all cluster.quorums me (Message.Prepare claim.key version through ballot) sizes of_me h
   sent-lead claim LeadAnswer.Left w h = tt
 
-  led-part : (leader : Leading) (claim : Claim) (r : Result (LeadAnswer × Leading) LeadFault) → IsFormedClaim claim → OnOkOf (IsFormedLed claim.key) r → OnOkOf IsFormedPart (led_by_answer cluster.quorums me leader claim r)
-  led-part leader claim (Err fault) w h = tt
-  led-part leader claim (Ok (answer, after)) w h = (h.1, sent-lead claim answer w h.0)
+  leads-kept : (volatile : Volatile) (leader : Leading) → IsWellFormedVolatile volatile → AreLeads leader → IsWellFormedVolatile (with_leader volatile leader)
+  leads-kept volatile leader kept leads = record { opened = kept.opened; votes = kept.votes; watched = kept.watched; leads = leads }
+
+  led-part : (volatile : Volatile) (claim : Claim) (r : Result (LeadAnswer × Leading) LeadFault) → IsWellFormedVolatile volatile → IsFormedClaim claim → OnOkOf (IsFormedLed claim.key) r
+      → OnOkOf IsFormedTicked (led_by_answer cluster.quorums me volatile claim r)
+  led-part volatile claim (Err fault) kept w h = tt
+  led-part volatile claim (Ok (answer, leader)) kept w h = (leads-kept volatile leader kept h.1, sent-lead claim answer w h.0)
 
   of_epoch : IsInRange 1 (2 ^ 32 - 1) (epoch_of facts)
   of_epoch = epoch-fits facts known.well_formed (ltb-true 0 (epoch_of facts) known.booted)
 
-  claim-part : (leader : Leading) (claim : Claim) → AreLeads leader → IsFormedClaim claim → OnOkOf IsFormedPart (led_of cluster me facts leader claim)
-  claim-part leader claim leads w =
-      led-part leader claim (lead cluster me (epoch_of facts) facts leader claim) w (led-formed cluster me (epoch_of facts) facts leader claim of_me of_epoch leads w)
+  claim-part : (volatile : Volatile) (claim : Claim) → IsWellFormedVolatile volatile → IsFormedClaim claim → OnOkOf IsFormedTicked (led_of cluster me facts volatile claim)
+  claim-part volatile claim kept w =
+      led-part volatile claim (lead cluster me (epoch_of facts) facts volatile.leader claim) kept w
+      (led-formed cluster me (epoch_of facts) facts volatile.leader claim of_me of_epoch kept.leads w)
 
   -- ---- claims at a tick
 
-  left-formed : (volatile : Volatile) (r : Result Led LeadFault) → IsWellFormedVolatile volatile → OnOkOf IsFormedPart r → IsFormedTicked (led_or_left volatile r)
+  left-formed : (volatile : Volatile) (r : Result StepPart LeadFault) → IsWellFormedVolatile volatile → OnOkOf IsFormedTicked r → IsFormedTicked (led_or_left volatile r)
   left-formed volatile (Err fault) kept h = (kept, tt)
-  left-formed volatile (Ok led) kept h = (record { opened = kept.opened; votes = kept.votes; watched = kept.watched; leads = h.0 }, h.1)
+  left-formed volatile (Ok part) kept h = h
 
   pub led-here : (built : Built) (volatile : Volatile) (claim : Claim) → IsWellFormedVolatile volatile → IsFormedClaim claim → IsFormedTicked (claim_led built cluster me facts volatile claim)
   led-here built volatile claim kept w =
-      cond_both built.leading (led_or_left volatile (led_of cluster me facts volatile.leader claim)) (ticked volatile []) IsFormedTicked
-      (λ e. left-formed volatile (led_of cluster me facts volatile.leader claim) kept (claim-part volatile.leader claim kept.leads w)) (λ e. (kept, tt))
+      cond_both built.leading (led_or_left volatile (led_of cluster me facts volatile claim)) (only_sending volatile []) IsFormedTicked
+      (λ e. left-formed volatile (led_of cluster me facts volatile claim) kept (claim-part volatile claim kept w)) (λ e. (kept, tt))
 
   -- ---- messages
 
   module _ (volatile : Volatile) (kept : IsWellFormedVolatile volatile) where
-    part-step : (r : Result Led LeadFault) → OnOkOf IsFormedPart r → OnStep IsFormed (step_of_led volatile r)
+    part-step : (r : Result StepPart LeadFault) → OnOkOf IsFormedTicked r → OnStep IsFormed (step_of_led r)
     part-step (Err fault) h = tt
-    part-step (Ok led) h = (tt, h.1, kept.opened, h.0)
+    part-step (Ok part) h = (tt, h.1, h.0.opened, h.0.leads)
 
     lead-by : (s : ℕ) (choice : Choice) (o : Option Outcome) → IsInRange 1 9 s → IsWellFormedChoice choice → HoldsIn (IsWellFormedHeard choice.tx) o
         → OnStep IsFormed (lead_step_after cluster me facts volatile s choice o)
     lead-by s choice (Some outcome) of_s w h = (tt, sent-one me s (Message.Outcome choice.tx outcome) of_me of_s h, kept.opened, kept.leads)
     lead-by s choice None of_s w h =
-        part-step (led_of cluster me facts volatile.leader (claim_of_choice choice)) (claim-part volatile.leader (claim_of_choice choice) kept.leads (formed-choice choice w))
+        part-step (led_of cluster me facts volatile (claim_of_choice choice)) (claim-part volatile (claim_of_choice choice) kept (formed-choice choice w))
 
     pub lead-step-formed : (s : ℕ) (choice : Choice) → IsInRange 1 9 s → IsWellFormedChoice choice → OnStep IsFormed (lead_step cluster me facts volatile s choice)
     lead-step-formed s choice of_s w = lead-by s choice (heard_of facts choice.tx) of_s w (heard-told facts choice.tx known.well_formed)
@@ -92,13 +94,13 @@ module _ (cluster : Cluster) (me : ℕ) (facts : List Fact) (sizes : AreQuorums 
     sent-promised key (PromiseAnswer.Waiting n) h = tt
     sent-promised key PromiseAnswer.Counted h = tt
 
-    promised-part : (key : Key) (r : Result (PromiseAnswer × Leading) LeadFault) → OnOkOf (IsFormedTaken key) r → OnOkOf IsFormedPart (promised_by_answer cluster.quorums me key r)
+    promised-part : (key : Key) (r : Result (PromiseAnswer × Leading) LeadFault) → OnOkOf (IsFormedTaken key) r → OnOkOf IsFormedTicked (promised_by_answer cluster.quorums me volatile key r)
     promised-part key (Err fault) h = tt
-    promised-part key (Ok (answer, after)) h = (h.1, sent-promised key answer h.0)
+    promised-part key (Ok (answer, leader)) h = (leads-kept volatile leader kept h.1, sent-promised key answer h.0)
 
     pub promise-step-formed : (from : ℕ) (promise : Promise) → IsFormedPromise promise → OnStep IsFormed (promise_step cluster me facts volatile from promise)
     promise-step-formed from promise w =
-        part-step (promised_by_answer cluster.quorums me promise.key (on_promise cluster facts volatile.leader from promise))
+        part-step (promised_by_answer cluster.quorums me volatile promise.key (on_promise cluster facts volatile.leader from promise))
         (promised-part promise.key (on_promise cluster facts volatile.leader from promise) (promised-formed cluster facts volatile.leader from promise kept.leads w))
 
     pub refused-step-formed : (key : Key) (ballot promised : Ballot) → IsFormed (refused_step volatile key ballot promised)

@@ -15,14 +15,14 @@ use Rattle.mdcc_rules.specs.AcceptorRules.{accepted_step, ask_step_by, prepared_
 use Rattle.mdcc_switches.specs.Built.{Built}
 use Rattle.mdcc_protocol.specs.Facts.{heard_of, is_heard, vote_of}
 use Rattle.mdcc_protocol.specs.Leader.{claim_of_choice}
-use Rattle.mdcc_rules.specs.LeaderRules.{Led, lead_step_after, led_of, promise_step, step_of_led}
+use Rattle.mdcc_rules.specs.LeaderRules.{lead_step_after, led_of, promise_step, step_of_led}
 use Rattle.mdcc_protocol.specs.Learner.{is_learned}
 use Rattle.mdcc_protocol.specs.Manager
 use Rattle.mdcc_protocol.specs.Manager.{act_on_cause, acted, vote_taken}
 use Rattle.mdcc_rules.specs.ManagerRules.{acted_step, escalate_step, opened_step, undecided_step, voted_step, watched_step}
 use Rattle.mdcc_rules.specs.Node.{message_step}
 use Rattle.mdcc_protocol.specs.Recover
-use Rattle.mdcc_rules.specs.Steps.{NodeStep, nothing_done}
+use Rattle.mdcc_rules.specs.Steps.{NodeStep, StepPart, nothing_done}
 use Rattle.mdcc_rules.specs.SyncRules.{outcome_step_by, sync_give_step_by}
 use Rattle.mdcc_protocol.specs.Visible.{on_outcome, on_sync_give}
 use Rattle.mdcc_protocol.specs.Volatile.{Managing, Volatile, is_open, with_manager}
@@ -79,13 +79,13 @@ module _ (built : Built) (cluster : Cluster) (me : ℕ) (facts : List Fact) (vol
   quiet-outcome tx None = refl
   quiet-outcome tx (Some fact) = refl
 
-  quiet-led : (r : Result Led LeadFault) → OnStep IsQuiet (step_of_led volatile r)
+  quiet-led : (r : Result StepPart LeadFault) → OnStep IsQuiet (step_of_led r)
   quiet-led (Ok led) = refl
   quiet-led (Err fault) = tt
 
   quiet-lead : (s : ℕ) (choice : Choice) (o : Option Outcome) → OnStep IsQuiet (lead_step_after cluster me facts volatile s choice o)
   quiet-lead s choice (Some outcome) = refl
-  quiet-lead s choice None = quiet-led (led_of cluster me facts volatile.leader (claim_of_choice choice))
+  quiet-lead s choice None = quiet-led (led_of cluster me facts volatile (claim_of_choice choice))
 
   quiet-prepared : (l : ℕ) (key : Key) (version : ℕ) (ballot : Ballot) (answer : PrepareAnswer) → IsQuiet (prepared_step me facts volatile l key version ballot answer)
   quiet-prepared l key version ballot (PrepareAnswer.Refused promise) = refl

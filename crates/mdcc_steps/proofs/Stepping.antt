@@ -18,12 +18,12 @@ use Rattle.mdcc_protocol.specs.Belongs.{adds_belong, ballot_belongs, fact_belong
 use Rattle.mdcc_switches.specs.Built.{Built}
 use Rattle.mdcc_protocol.specs.Facts.{epoch_of, heard_of, vote_of}
 use Rattle.mdcc_protocol.specs.Leader.{claim_of_choice}
-use Rattle.mdcc_rules.specs.LeaderRules.{Led, lead_step_after, led_of, promise_step, step_of_led}
+use Rattle.mdcc_rules.specs.LeaderRules.{lead_step_after, led_of, promise_step, step_of_led}
 use Rattle.mdcc_protocol.specs.Manager.{begin_by, begin_fault}
 use Rattle.mdcc_rules.specs.ManagerRules.{begin_step_by}
 use Rattle.mdcc_protocol.specs.News.{is_crowding}
 use Rattle.mdcc_rules.specs.Node.{checked, is_own_message, message_step, step_of}
-use Rattle.mdcc_rules.specs.Steps.{NodeStep}
+use Rattle.mdcc_rules.specs.Steps.{NodeStep, StepPart}
 use Rattle.mdcc_protocol.specs.Volatile.{Volatile}
 use Rattle.mdcc_messages.specs.WellFormed.{IsWellFormedMessage}
 use Rattle.mdcc_messages.specs.declared.facts.Fact.{Fact}
@@ -43,13 +43,13 @@ module _ (built : Built) (cluster : Cluster) (me : ℕ) (facts : List Fact) (vol
   abbrev pub IsFair : NodeStep → Type 0
   IsFair step = IsAllowedIf cluster facts step.fact
 
-  fair-led : (r : Result Led LeadFault) → OnStep IsFair (step_of_led volatile r)
+  fair-led : (r : Result StepPart LeadFault) → OnStep IsFair (step_of_led r)
   fair-led (Ok led) = tt
   fair-led (Err fault) = tt
 
   fair-lead : (s : ℕ) (choice : Choice) (o : Option Outcome) → OnStep IsFair (lead_step_after cluster me facts volatile s choice o)
   fair-lead s choice (Some outcome) = tt
-  fair-lead s choice None = fair-led (led_of cluster me facts volatile.leader (claim_of_choice choice))
+  fair-lead s choice None = fair-led (led_of cluster me facts volatile (claim_of_choice choice))
 
   fair-asked : (s : ℕ) (tx : TxId) (key : Key) (version : ℕ) (o : Option Outcome) (vote : Option (Ballot × Mark)) → IsFair (ask_step_by me volatile s tx key version o vote)
   fair-asked s tx key version (Some outcome) vote = tt

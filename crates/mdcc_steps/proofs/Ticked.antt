@@ -18,7 +18,8 @@ use Rattle.mdcc_protocol.specs.Manager
 use Rattle.mdcc_protocol.specs.Manager.{act_at, acts_at, choices_unlearned, is_odd, ticked_transaction}
 use Rattle.mdcc_protocol.specs.Recover
 use Rattle.mdcc_protocol.specs.Recover.{acts_on, ask_of, claim_of_key, dangling, keys_led}
-use Rattle.mdcc_rules.specs.TickRules.{Ticked, and_then, claim_led, manager_act, manager_ticked, recovery_act, recovery_ticked, tick_parts, ticked}
+use Rattle.mdcc_rules.specs.TickRules.{claim_led, manager_act, manager_ticked, recovery_act, recovery_ticked, tick_parts}
+use Rattle.mdcc_rules.specs.Steps.{StepPart, and_then, only_sending}
 use Rattle.mdcc_protocol.specs.Volatile.{Recovering, Undecided, Volatile, counter_of, next_count, txs_opened, with_manager, with_recovery}
 use Rattle.mdcc_messages.specs.WellFormed.{IsWellFormedEnvelope, IsWellFormedFact}
 use Rattle.mdcc_messages.specs.WellFormedParts.{IsWellFormedChoice, IsWellFormedInstance, IsWellFormedOf, IsWellFormedTx, IsWellFormedWritten}
@@ -34,11 +35,11 @@ use Rattle.mdcc_steps.proofs.Sending.{each-flat_map, sent-all}
 use Rattle.mdcc_steps.proofs.Told.{IsWellFormedSetAt, unresolved-told}
 
 -- what is left and sent
-abbrev pub IsFormedTicked : Ticked → Type 0
+abbrev pub IsFormedTicked : StepPart → Type 0
 IsFormedTicked t = IsWellFormedVolatile t.after × AllByRecursion IsWellFormedEnvelope t.sends
 
-formed-fold : {X : Type 0} (Q : X → Type 0) (act : Volatile → X → Ticked) → ((v : Volatile) (x : X) → IsWellFormedVolatile v → Q x → IsFormedTicked (act v x))
-    → (xs : List X) (before : Ticked) → AllByRecursion Q xs → IsFormedTicked before → IsFormedTicked (fold (and_then act) before xs)
+formed-fold : {X : Type 0} (Q : X → Type 0) (act : Volatile → X → StepPart) → ((v : Volatile) (x : X) → IsWellFormedVolatile v → Q x → IsFormedTicked (act v x))
+    → (xs : List X) (before : StepPart) → AllByRecursion Q xs → IsFormedTicked before → IsFormedTicked (fold (and_then act) before xs)
 formed-fold Q act each [] before q h = h
 formed-fold Q act each (x ∷ xs) before q h =
     let next = each before.after x h.0 q.0 in
@@ -92,7 +93,7 @@ module _ (built : Built) (cluster : Cluster) (me : ℕ) (facts : List Fact) (siz
   formed-manager_ticked : (volatile : Volatile) → IsWellFormedVolatile volatile → IsFormedTicked (manager_ticked built cluster me facts volatile)
   formed-manager_ticked volatile h =
       let next = Manager.tick cluster.quorums volatile.manager in
-      formed-fold IsFormedManagerAct (manager_act built cluster me facts) formed-manager_act next.0 (ticked (with_manager volatile next.1) [])
+      formed-fold IsFormedManagerAct (manager_act built cluster me facts) formed-manager_act next.0 (only_sending (with_manager volatile next.1) [])
       (each-flat_map IsWellFormedOpen IsFormedManagerAct (acts_at cluster.quorums volatile.manager.votes) volatile.manager.opened (formed-acts_at cluster.quorums volatile.manager.votes) h.opened) (
         record {
           opened = each-map IsWellFormedOpen (ticked_transaction cluster.quorums volatile.manager.votes) volatile.manager.opened h.opened;
@@ -103,7 +104,7 @@ module _ (built : Built) (cluster : Cluster) (me : ℕ) (facts : List Fact) (siz
         tt,
       )
 
-  formed-recovery_ticked : (first : Ticked) → IsFormedTicked first → IsFormedTicked (recovery_ticked built cluster me facts first)
+  formed-recovery_ticked : (first : StepPart) → IsFormedTicked first → IsFormedTicked (recovery_ticked built cluster me facts first)
   formed-recovery_ticked first h =
       let opened = txs_opened first.after.manager in
       let next = Recover.tick cluster.quorums facts first.after.recovery opened in
@@ -115,6 +116,6 @@ module _ (built : Built) (cluster : Cluster) (me : ℕ) (facts : List Fact) (siz
 
   pub formed-tick : (volatile : Volatile) → IsWellFormedVolatile volatile → IsFormedTicked (tick_parts built cluster me facts volatile)
   formed-tick volatile h =
-      let first = cond built.ticks (manager_ticked built cluster me facts volatile) (ticked volatile []) in
-      let k : IsFormedTicked first = cond_both built.ticks (manager_ticked built cluster me facts volatile) (ticked volatile []) IsFormedTicked (λ e. formed-manager_ticked volatile h) (λ e. (h, tt)) in
+      let first = cond built.ticks (manager_ticked built cluster me facts volatile) (only_sending volatile []) in
+      let k : IsFormedTicked first = cond_both built.ticks (manager_ticked built cluster me facts volatile) (only_sending volatile []) IsFormedTicked (λ e. formed-manager_ticked volatile h) (λ e. (h, tt)) in
       cond_both built.recovery (recovery_ticked built cluster me facts first) first IsFormedTicked (λ e. formed-recovery_ticked first k) (λ e. k)

@@ -15,7 +15,7 @@ use Rattle.mdcc_struct.specs.declared.options.Options.{Options}
 use Rattle.mdcc_struct.specs.Maps.{value_of}
 use Rattle.mdcc_protocol.specs.Facts.{current_of, epoch_of, promise_of, report_of}
 use Rattle.mdcc_protocol.specs.Structures.{with_choice, with_claim}
-use Rattle.mdcc_rules.specs.LeaderRules.{Led, led_by_answer, led_of}
+use Rattle.mdcc_rules.specs.LeaderRules.{led_by_answer, led_of}
 use Rattle.mdcc_protocol.specs.Leader.{has_proposed, is_covered, is_marked, is_marked_by, is_waiting, lead_begun, led_again, led_anew, led_by, led_on, next_round, refused_by, with_refused}
 use Rattle.mdcc_protocol.specs.Volatile.{Counted, Lead, Leading, Volatile, lead_of, number_at, structure_at, structure_found, with_lead, with_leader, with_number, with_structure}
 use Rattle.mdcc_ledger.specs.Ledger.{Entry, Valued, facts_of, structure_valued}
@@ -23,6 +23,7 @@ use Rattle.mdcc_ledger.specs.AllowedLedgers.{is_valued}
 use Rattle.mdcc_ledger.specs.AllowedStructures.{are_distinct, promisers_of, reports_at}
 use Rattle.mdcc_messages.specs.declared.messages.Message.{Message}
 use Rattle.mdcc_rules.specs.Messages.{to_all, to_each, to_others}
+use Rattle.mdcc_rules.specs.Steps.{StepPart}
 use Rattle.mdcc_trace_states.specs.Words.{Each, In, count}
 use Rattle.mdcc_trace_states.specs.Keeping.{IsClaim, IsLead, IsPromise, Leads}
 use Rattle.mdcc_trace_states.specs.Standing.{Says}
@@ -64,12 +65,12 @@ count-most t [] = omega arith
 count-most t (p ∷ ps) = elim (cases_Bool (t p)) [ inl e ↦ rw e (omega (arith, count-most t ps)) | inr e ↦ rw e (omega (arith, count-most t ps)) ]
 
 module _ (also : List Entry → Type 0) (well : IsWell also) (cluster : Cluster) (es : List Entry) (a : ℕ) (volatile : Volatile) (up : IsUp also cluster es a volatile) (claim : Claim) (said : IsClaim es claim.key claim.version (claim.tx, claim.choice)) where
-  abbrev pub FineLed : Result Led LeadFault → Type 0
+  abbrev pub FineLed : Result StepPart LeadFault → Type 0
   FineLed r = GoodLed also well cluster es a volatile up r
 
   -- what the leader answers to the claim is good
   abbrev pub Fine : Result (LeadAnswer × Leading) LeadFault → Type 0
-  Fine r = FineLed (led_by_answer cluster.quorums a volatile.leader claim r)
+  Fine r = FineLed (led_by_answer cluster.quorums a volatile claim r)
 
   -- the answer by a test
   pick-good : (b : Bool) (l m : LeadAnswer × Leading) → (b ≡ true → Fine (Ok l)) → (b ≡ false → Fine (Ok m)) → Fine (Ok (cond b l m))
@@ -77,7 +78,7 @@ module _ (also : List Entry → Type 0) (well : IsWell also) (cluster : Cluster)
   pick-good false l m f h = h refl
 
   -- messages and the leader's own state
-  sent : (l : Leading) (message : Message) (cs : List ℕ) → Leads cluster es a l → Says cluster es a message → FineLed (Ok (record { after = l; entries = []; sends = to_each cs a message }))
+  sent : (l : Leading) (message : Message) (cs : List ℕ) → Leads cluster es a l → Says cluster es a message → FineLed (Ok (record { after = with_leader volatile l; entries = []; sends = to_each cs a message }))
   sent l message cs h says =
       (sends-good also cluster es a volatile (with_leader volatile l) (to_each cs a message) up (record { manager = up.keeps.manager; recovery = up.keeps.recovery; leader = h }) (stands-each cluster es a message cs up.centre says), refl)
 
@@ -170,7 +171,7 @@ module _ (also : List Entry → Type 0) (well : IsWell also) (cluster : Cluster)
     is-last : (os : Options) → structure_found x.structures claim.version ≡ Some os → is_valued es x.key claim.version x.ballot os ≡ true
     is-last os h = last-valued es x.key claim.version x.ballot os (g.found claim.version ∙ h)
 
-    resent : (o : Option Options) → structure_found x.structures claim.version ≡ o → is_some (value_of (unwrap_or o []) claim.tx) ≡ true → FineLed (Ok (record { after = volatile.leader; entries = []; sends = to_all cluster.quorums a (Message.Accept x.key claim.version x.ballot (unwrap_or o [])) }))
+    resent : (o : Option Options) → structure_found x.structures claim.version ≡ o → is_some (value_of (unwrap_or o []) claim.tx) ≡ true → FineLed (Ok (record { after = with_leader volatile volatile.leader; entries = []; sends = to_all cluster.quorums a (Message.Accept x.key claim.version x.ballot (unwrap_or o [])) }))
     resent None e h = absurd (cc)
     resent (Some os) e h = sent volatile.leader (Message.Accept x.key claim.version x.ballot os) (all_centres cluster.quorums) up.keeps.leader (round-classic also well cluster es a volatile up x.ballot g.above, is-last os e)
 
@@ -179,11 +180,11 @@ module _ (also : List Entry → Type 0) (well : IsWell also) (cluster : Cluster)
 
     -- the structure is sent under the key of the lead, which is that of the claim
     told : (b : Bool) → is_marked volatile.leader claim ≡ b → (os : Options) (l : Leading) →
-        FineLed (Ok (record { after = l; entries = cond b [] (Valued a x.key claim.version x.ballot os ∷ []); sends = to_all cluster.quorums a (Message.Accept x.key claim.version x.ballot os) })) →
+        FineLed (Ok (record { after = with_leader volatile l; entries = cond b [] (Valued a x.key claim.version x.ballot os ∷ []); sends = to_all cluster.quorums a (Message.Accept x.key claim.version x.ballot os) })) →
         Fine (Ok (LeadAnswer.Accept claim.version x.ballot os, l))
     told b e os l h =
-        subst (λ (z : Bool). FineLed (Ok (record { after = l; entries = cond z [] (Valued a claim.key claim.version x.ballot os ∷ []); sends = to_all cluster.quorums a (Message.Accept claim.key claim.version x.ballot os) }))) (sym e)
-        (subst (λ z. FineLed (Ok (record { after = l; entries = cond b [] (Valued a z claim.version x.ballot os ∷ []); sends = to_all cluster.quorums a (Message.Accept z claim.version x.ballot os) }))) at.1 h)
+        subst (λ (z : Bool). FineLed (Ok (record { after = with_leader volatile l; entries = cond z [] (Valued a claim.key claim.version x.ballot os ∷ []); sends = to_all cluster.quorums a (Message.Accept claim.key claim.version x.ballot os) }))) (sym e)
+        (subst (λ z. FineLed (Ok (record { after = with_leader volatile l; entries = cond b [] (Valued a z claim.version x.ballot os ∷ []); sends = to_all cluster.quorums a (Message.Accept z claim.version x.ballot os) }))) at.1 h)
 
     reached : is_covered cluster.quorums x claim.version ≡ true →
         ((nat_le x.version claim.version && nat_le cluster.quorums.classic (number_of (λ (p : Counted). nat_le claim.version p.through) x.promises)) ≡ true)
@@ -304,7 +305,7 @@ module _ (also : List Entry → Type 0) (well : IsWell also) (cluster : Cluster)
   cond-good true r s f h = f refl
   cond-good false r s f h = h refl
 
-  pub led-good : FineLed (led_of cluster a (facts_of es a) volatile.leader claim)
+  pub led-good : FineLed (led_of cluster a (facts_of es a) volatile claim)
   led-good =
       elim (cases_Bool (nat_lt (current_of (facts_of es a) claim.key) claim.version)) [
         | inl e ↦ rw e (sends-good also cluster es a volatile volatile (to_others cluster.quorums a (Message.SyncAsk claim.key)) up up.keeps (stands-each cluster es a (Message.SyncAsk claim.key) _ up.centre tt), refl)

@@ -17,17 +17,17 @@ use Rattle.mdcc_ledger.specs.Ledger.{Added, Entry, facts_of, mark_given}
 use Rattle.mdcc_ledger.specs.AllowedLedgers.{IsAllowed, is_valued}
 use Rattle.mdcc_protocol.specs.Belongs.{adds_belong, ballot_belongs, is_centre, item_belongs, mark_belongs, message_belongs, options_belong, outcome_belongs, tx_belongs}
 use Rattle.mdcc_protocol.specs.Learner.{is_learned}
-use Rattle.mdcc_rules.specs.LeaderRules.{Led, lead_step_after, led_of, promised_by_answer, step_of_led}
+use Rattle.mdcc_rules.specs.LeaderRules.{lead_step_after, led_of, promised_by_answer, step_of_led}
 use Rattle.mdcc_protocol.specs.Leader.{claim_of_choice, on_promise, refused_by}
 use Rattle.mdcc_protocol.specs.Volatile.{Recovering, Volatile, counter_of, lead_of, next_count, txs_opened, with_leader, with_recovery}
 use Rattle.mdcc_messages.specs.declared.messages.Envelope.{Envelope}
 use Rattle.mdcc_rules.specs.declared.node.Input.{Input}
 use Rattle.mdcc_messages.specs.declared.messages.Message.{Message}
 use Rattle.mdcc_rules.specs.Node.{message_step, rule, step_of}
-use Rattle.mdcc_rules.specs.TickRules.{Ticked, claim_led, manager_ticked, recovery_act, recovery_ticked, tick_parts, ticked}
+use Rattle.mdcc_rules.specs.TickRules.{claim_led, manager_ticked, recovery_act, recovery_ticked, tick_parts}
 use Rattle.mdcc_protocol.specs.Recover.{acts_on, ask_of, choice_received, claim_of_key, counted_tick, dangling, keys_led}
 use Rattle.mdcc_switches.specs.Built.{Built}
-use Rattle.mdcc_rules.specs.Steps.{NodeStep, nothing_done}
+use Rattle.mdcc_rules.specs.Steps.{NodeStep, StepPart, nothing_done, only_sending}
 use Rattle.mdcc_rules.specs.declared.node.StepFault.{StepFault}
 use Rattle.mdcc_trace_states.specs.Words.{Each, In, IsTail}
 use Rattle.mdcc_trace_states.specs.Keeping.{AreVotes, IsClaim, IsGiven, IsOwn}
@@ -141,7 +141,7 @@ known-acts cluster facts recovery opened =
         let k = In-filter (λ (e : TxId × List (Key × ℕ)). not (is_heard facts e.0)) (write_sets_of facts) e j.0 in
         once-value (write_sets_of facts) e (once-sets facts) k.0
 
-second-part : (law : OneMarkLaw) (built : Built) (cluster : Cluster) (es : List Entry) (a : ℕ) (v : Volatile) (first : Ticked) → IsUp IsSound cluster es a v → IsGoodPart IsSound cluster es a first →
+second-part : (law : OneMarkLaw) (built : Built) (cluster : Cluster) (es : List Entry) (a : ℕ) (v : Volatile) (first : StepPart) → IsUp IsSound cluster es a v → IsGoodPart IsSound cluster es a first →
     IsGoodPart IsSound cluster es a (recovery_ticked built cluster a (facts_of es a) first)
 second-part law built cluster es a v first up h =
     fold-good IsSound cluster (first.entries ++ es) es a (recovery_act built cluster a (facts_of es a)) (flat_map (acts_on cluster.quorums (facts_of es a) recovery) txs)
@@ -176,14 +176,14 @@ tick-part : (law : OneMarkLaw) (built : Built) (cluster : Cluster) (es : List En
 tick-part law built cluster es a v up =
     pick built.ticks built.recovery (manager_ticked built cluster a (facts_of es a) v) (manager-part IsSound (sound-well law) built cluster es a v up)
   where
-    half : (y : Bool) (p : Ticked) → IsGoodPart IsSound cluster es a p → IsGoodPart IsSound cluster es a (cond y (recovery_ticked built cluster a (facts_of es a) p) p)
+    half : (y : Bool) (p : StepPart) → IsGoodPart IsSound cluster es a p → IsGoodPart IsSound cluster es a (cond y (recovery_ticked built cluster a (facts_of es a) p) p)
     half true p h = second-part law built cluster es a v p up h
     half false p h = h
 
-    pick : (x y : Bool) (p : Ticked) → IsGoodPart IsSound cluster es a p →
-        IsGoodPart IsSound cluster es a (cond y (recovery_ticked built cluster a (facts_of es a) (cond x p (ticked v []))) (cond x p (ticked v [])))
+    pick : (x y : Bool) (p : StepPart) → IsGoodPart IsSound cluster es a p →
+        IsGoodPart IsSound cluster es a (cond y (recovery_ticked built cluster a (facts_of es a) (cond x p (only_sending v []))) (cond x p (only_sending v [])))
     pick true y p h = half y p h
-    pick false y p h = half y (ticked v []) (sent-part IsSound cluster es a v v [] up up.keeps tt)
+    pick false y p h = half y (only_sending v []) (sent-part IsSound cluster es a v v [] up up.keeps tt)
 
 -- ---- messages
 
@@ -198,15 +198,15 @@ module _ (law : OneMarkLaw) (cluster : Cluster) (es : List Entry) (a : ℕ) (vol
   rule-good true r h = h
   rule-good false r h = nothing
 
-  led-step : (r : Result Led LeadFault) → GoodLed IsSound (sound-well law) cluster es a volatile up r → Roomy (step_of_led volatile r)
-  led-step (Ok led) g = λ room. g.0
+  led-step : (r : Result StepPart LeadFault) → GoodLed IsSound (sound-well law) cluster es a volatile up r → Roomy (step_of_led r)
+  led-step (Ok part) g = λ room. g.0
   led-step (Err fault) g = tt
 
   lead-good : (s : ℕ) (choice : Choice) (o : Option Outcome) → heard_of (facts_of es a) choice.tx ≡ o → IsClaim es choice.key choice.version (choice.tx, Some choice) → Roomy (lead_step_after cluster a (facts_of es a) volatile s choice o)
   lead-good s choice (Some o) e claim = λ room.
       let w = was-outcome cluster es a choice.tx o up.legal e in
       sends-good IsSound cluster es a volatile volatile _ up up.keeps (record { from = up.centre; old = w.old; tail = w.tail; says = w.outcome }, tt)
-  lead-good s choice None e claim = led-step (led_of cluster a (facts_of es a) volatile.leader (claim_of_choice choice)) (led-good IsSound (sound-well law) cluster es a volatile up (claim_of_choice choice) claim)
+  lead-good s choice None e claim = led-step (led_of cluster a (facts_of es a) volatile (claim_of_choice choice)) (led-good IsSound (sound-well law) cluster es a volatile up (claim_of_choice choice) claim)
 
   pub message-good : (built : Built) (env : Envelope) (message : Message) → env.message ≡ message → Stands cluster es env → is_centre cluster env.from ≡ true → message_belongs cluster message ≡ true →
       Roomy (message_step built cluster a (facts_of es a) volatile env.from message)
@@ -227,7 +227,7 @@ module _ (law : OneMarkLaw) (cluster : Cluster) (es : List Entry) (a : ℕ) (vol
       rule-good built.leading _ (λ room. prepare-good IsSound (sound-well law).shut cluster es a volatile up env.from k v w b said.0 said.1 belongs)
   message-good built env (Message.Promise k v w b r os) e h from belongs =
       let said = subst (λ z. Says cluster h.old env.from z) e h.says in
-      rule-good built.leading _ (led-step (promised_by_answer cluster.quorums a k (on_promise cluster (facts_of es a) volatile.leader env.from (record { key = k; version = v; through = w; ballot = b; reported = r; votes = os })))
+      rule-good built.leading _ (led-step (promised_by_answer cluster.quorums a volatile k (on_promise cluster (facts_of es a) volatile.leader env.from (record { key = k; version = v; through = w; ballot = b; reported = r; votes = os })))
       (promise-good IsSound (sound-well law) cluster es a volatile up env.from (record { key = k; version = v; through = w; ballot = b; reported = r; votes = os })
       (record { centre = from; old = h.old; tail = h.tail; promised = said.0; reach = said.1; report = said.2 })))
   message-good built env (Message.Accept k v b os) e h from belongs =

@@ -10,11 +10,12 @@ use Rattle.mdcc_ledger.specs.Ledger.{Entry, choices_begun, facts_of}
 use Rattle.mdcc_ledger.specs.AllowedLedgers.{IsAllowed}
 use Rattle.mdcc_ledger.specs.AllowedStructures.{is_begun}
 use Rattle.mdcc_protocol.specs.Learner.{is_learned}
-use Rattle.mdcc_rules.specs.LeaderRules.{Led, led_of}
+use Rattle.mdcc_rules.specs.LeaderRules.{led_of}
 use Rattle.mdcc_protocol.specs.Leader.{claim_of_choice}
 use Rattle.mdcc_messages.specs.declared.messages.Message.{Message}
 use Rattle.mdcc_rules.specs.Messages.{to_all}
-use Rattle.mdcc_rules.specs.TickRules.{claim_led, led_or_left, manager_act, manager_ticked, ticked}
+use Rattle.mdcc_rules.specs.TickRules.{claim_led, led_or_left, manager_act, manager_ticked}
+use Rattle.mdcc_rules.specs.Steps.{StepPart, only_sending}
 use Rattle.mdcc_protocol.specs.Volatile.{Managing, Undecided, Volatile, next_count, with_manager}
 use Rattle.mdcc_trace_states.specs.Words.{Each, In}
 use Rattle.mdcc_trace_states.specs.Keeping.{IsClaim, IsOpened, IsOwn, Keeps}
@@ -46,12 +47,12 @@ pub claim-part : (also : List Entry → Type 0) (well : IsWell also) (built : Bu
 claim-part also well built cluster es a facts v claim up same said =
     subst (λ z. IsGoodPart also cluster es a (claim_led built cluster a z v claim)) same (by_switch built.leading)
   where
-    part : (r : Result Led LeadFault) → GoodLed also well cluster es a v up r → IsGoodPart also cluster es a (led_or_left v r)
-    part (Ok led) g = record { good = g.0; still = g.1 }
+    part : (r : Result StepPart LeadFault) → GoodLed also well cluster es a v up r → IsGoodPart also cluster es a (led_or_left v r)
+    part (Ok step) g = record { good = g.0; still = g.1 }
     part (Err fault) g = sent-part also cluster es a v v [] up up.keeps tt
 
-    by_switch : (b : Bool) → IsGoodPart also cluster es a (cond b (led_or_left v (led_of cluster a (facts_of es a) v.leader claim)) (ticked v []))
-    by_switch true = part (led_of cluster a (facts_of es a) v.leader claim) (led-good also well cluster es a v up claim said)
+    by_switch : (b : Bool) → IsGoodPart also cluster es a (cond b (led_or_left v (led_of cluster a (facts_of es a) v claim)) (only_sending v []))
+    by_switch true = part (led_of cluster a (facts_of es a) v claim) (led-good also well cluster es a v up claim said)
     by_switch false = sent-part also cluster es a v v [] up up.keeps tt
 
 -- what a manager does at a tick is on a begun choice
@@ -92,7 +93,7 @@ acts-begun also well cluster es a v up t h =
 -- the first half of a tick
 pub manager-part : (also : List Entry → Type 0) (well : IsWell also) (built : Built) (cluster : Cluster) (es : List Entry) (a : ℕ) (v : Volatile) → IsUp also cluster es a v → IsGoodPart also cluster es a (manager_ticked built cluster a (facts_of es a) v)
 manager-part also well built cluster es a v up =
-    fold-good also cluster es es a (manager_act built cluster a (facts_of es a)) (flat_map (acts_at cluster.quorums v.manager.votes) v.manager.opened) (ticked (with_manager v after) []) v up
+    fold-good also cluster es es a (manager_act built cluster a (facts_of es a)) (flat_map (acts_at cluster.quorums v.manager.votes) v.manager.opened) (only_sending (with_manager v after) []) v up
     (sent-part also cluster es a v (with_manager v after) [] up keeps tt) (IsTail-same es)
     (λ act i new w u s tail. act-part also well built cluster (new ++ es) a (facts_of es a) w act u s
     (act-more cluster new es act u.legal (Each-at (IsManagerAct es) (flat_map (acts_at cluster.quorums v.manager.votes) v.manager.opened) act begun i)))

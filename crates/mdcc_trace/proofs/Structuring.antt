@@ -14,7 +14,7 @@ use Rattle.mdcc_protocol.specs.Marks.{options_eq}
 use Rattle.mdcc_protocol.specs.Facts.{current_of}
 use Rattle.mdcc_protocol.specs.Fit.{parts_of}
 use Rattle.mdcc_protocol.specs.Structures.{first_structure, is_crowded, is_enough}
-use Rattle.mdcc_rules.specs.LeaderRules.{Led, promised_by_answer}
+use Rattle.mdcc_rules.specs.LeaderRules.{promised_by_answer}
 use Rattle.mdcc_protocol.specs.Leader.{counted_promise, has_proposed, is_promise_counted, on_promise, promise_taken, reports_of, structure_made, with_promise}
 use Rattle.mdcc_protocol.specs.Volatile.{Counted, Lead, Leading, Volatile, lead_of, structure_found, with_lead, with_leader, with_structure}
 use Rattle.mdcc_ledger.specs.Ledger.{Entry, Valued, facts_of, structure_valued}
@@ -39,6 +39,7 @@ use Rattle.mdcc_protocol.specs.declared.leader.LeadFault.{LeadFault}
 use Rattle.mdcc_protocol.specs.declared.leader.Promise.{Promise}
 use Rattle.mdcc_protocol.specs.declared.leader.PromiseAnswer.{PromiseAnswer}
 use Rattle.mdcc_rules.specs.Messages.{to_all}
+use Rattle.mdcc_rules.specs.Steps.{StepPart}
 use Rattle.mdcc_trace_rules.specs.Closed.{IsClosed}
 use Rattle.mdcc_trace_states.specs.Steps.{IsUp}
 
@@ -74,8 +75,8 @@ all-counted [] = refl
 all-counted (p ∷ ps) = omega (arith, all-counted ps)
 
 module _ (also : List Entry → Type 0) (well : IsWell also) (cluster : Cluster) (es : List Entry) (a : ℕ) (volatile : Volatile) (up : IsUp also cluster es a volatile) where
-  abbrev pub GoodLed : Result Led LeadFault → Type 0
-  GoodLed (Ok led) = IsGoodStep cluster also es a led.entries led.sends (with_leader volatile led.after) × (facts_of (led.entries ++ es) a ≡ facts_of es a)
+  abbrev pub GoodLed : Result StepPart LeadFault → Type 0
+  GoodLed (Ok part) = IsGoodStep cluster also es a part.entries part.sends part.after × (facts_of (part.entries ++ es) a ≡ facts_of es a)
   GoodLed (Err LeadFault.Crowded) = (key : Key) × (version : ℕ) × (ballot : Ballot) × (options : Options) × IsAllowed cluster (Valued a key version ballot options ∷ es) × (is_crowded options ≡ true)
   GoodLed (Err LeadFault.Exhausted) = ⊤
   GoodLed (Err LeadFault.Memory) = ⊤
@@ -83,7 +84,7 @@ module _ (also : List Entry → Type 0) (well : IsWell also) (cluster : Cluster)
   keeps-leader : (l : Leading) → Leads cluster es a l → Keeps cluster es a (with_leader volatile l)
   keeps-leader l h = record { manager = up.keeps.manager; recovery = up.keeps.recovery; leader = h }
 
-  pub only-good : (l : Leading) → Leads cluster es a l → GoodLed (Ok (record { after = l; entries = []; sends = [] }))
+  pub only-good : (l : Leading) → Leads cluster es a l → GoodLed (Ok (record { after = with_leader volatile l; entries = []; sends = [] }))
   only-good l h = (nothing-good also cluster es a volatile (with_leader volatile l) up (keeps-leader l h), refl)
 
   classic-some : 0 < cluster.quorums.classic
@@ -126,7 +127,7 @@ module _ (also : List Entry → Type 0) (well : IsWell also) (cluster : Cluster)
       (and_from (w == w && ballot_eq x.ballot x.ballot && key_eq x.key x.key) (options_eq os os) (and_from _ _ (and_from _ _ (eq-eqb w w refl) ((Decides-ballot x.ballot x.ballot).1 refl)) ((Decides-key x.key x.key).1 refl)) ((Decides-options os os).1 refl))
 
   pub valued-good : (x y : Lead) (w : ℕ) (os : Options) → IsLead cluster es a volatile.leader.last_rounds x → IsRight x w os → y.key ≡ x.key → IsLead cluster (Valued a x.key w x.ballot os ∷ es) a volatile.leader.last_rounds y →
-      GoodLed (Ok (record { after = with_lead volatile.leader y; entries = Valued a x.key w x.ballot os ∷ []; sends = to_all cluster.quorums a (Message.Accept x.key w x.ballot os) }))
+      GoodLed (Ok (record { after = with_leader volatile (with_lead volatile.leader y); entries = Valued a x.key w x.ballot os ∷ []; sends = to_all cluster.quorums a (Message.Accept x.key w x.ballot os) }))
   valued-good x y w os g r key k =
       let legal = valued-legal x w os g r in (
         record {
@@ -148,7 +149,7 @@ module _ (also : List Entry → Type 0) (well : IsWell also) (cluster : Cluster)
 
   -- what the leader answers to a promise is good
   abbrev pub GoodPromise : Key → Result (PromiseAnswer × Leading) LeadFault → Type 0
-  GoodPromise k r = GoodLed (promised_by_answer cluster.quorums a k r)
+  GoodPromise k r = GoodLed (promised_by_answer cluster.quorums a volatile k r)
 
   -- the answer by a test
   pick-promise : (k : Key) (b : Bool) (r s : Result (PromiseAnswer × Leading) LeadFault) → (b ≡ true → GoodPromise k r) → (b ≡ false → GoodPromise k s) → GoodPromise k (cond b r s)
@@ -299,7 +300,7 @@ module _ (also : List Entry → Type 0) (well : IsWell also) (cluster : Cluster)
               waiting-few cluster (facts_of es a) x.key x.version (reports_of (x.promises ++ counted_of from promise ∷ [])) less in
               omega (arith, h, length-reports (x.promises ++ counted_of from promise ∷ []))
 
-          kept : (has_proposed x ≡ false → length (x.promises ++ counted_of from promise ∷ []) < parts_of cluster.limit cluster.quorums) → GoodLed (Ok (record { after = with_lead volatile.leader (with_promise x from promise); entries = []; sends = [] }))
+          kept : (has_proposed x ≡ false → length (x.promises ++ counted_of from promise ∷ []) < parts_of cluster.limit cluster.quorums) → GoodLed (Ok (record { after = with_leader volatile (with_lead volatile.leader (with_promise x from promise)); entries = []; sends = [] }))
           kept waits = only-good (with_lead volatile.leader (with_promise x from promise)) (lead-kept cluster es a volatile.leader (with_promise x from promise) up.keeps.leader (record {
             centre = g.centre;
             epoch = g.epoch;

@@ -129,7 +129,7 @@ module _ (cluster : Cluster) (es : List Entry) (a : ℕ) (volatile : Volatile) (
   ledger : IsLedger cluster es
   ledger = record { of_cluster = is; allowed = up.legal; short = omega (arith, short) }
 
-  led-answered : (r : Result (LeadAnswer × Leading) LeadFault) (claim : Claim) → ((fault : LeadFault) → r ≡ Err fault → ⊥) → IsAnswered (step_of_led volatile (led_by_answer cluster.quorums a volatile.leader claim r))
+  led-answered : (r : Result (LeadAnswer × Leading) LeadFault) (claim : Claim) → ((fault : LeadFault) → r ≡ Err fault → ⊥) → IsAnswered (step_of_led (led_by_answer cluster.quorums a volatile claim r))
   led-answered (Ok (answer, after)) claim f = tt
   led-answered (Err fault) claim f = absurd (f fault refl)
 
@@ -139,7 +139,7 @@ module _ (cluster : Cluster) (es : List Entry) (a : ℕ) (volatile : Volatile) (
       led-answered (lead cluster a (epoch_of (facts_of es a)) (facts_of es a) volatile.leader (claim_of_choice choice)) (claim_of_choice choice)
       (λ fault e. lead-fault cluster a (epoch_of (facts_of es a)) (facts_of es a) volatile.leader (claim_of_choice choice) fault (low choice.key choice.version) e)
 
-  promised-answered : (k : Key) (r : Result (PromiseAnswer × Leading) LeadFault) → ((fault : LeadFault) → r ≡ Err fault → fault ≡ LeadFault.Crowded) → (r ≡ Err LeadFault.Crowded → ⊥) → IsAnswered (step_of_led volatile (promised_by_answer cluster.quorums a k r))
+  promised-answered : (k : Key) (r : Result (PromiseAnswer × Leading) LeadFault) → ((fault : LeadFault) → r ≡ Err fault → fault ≡ LeadFault.Crowded) → (r ≡ Err LeadFault.Crowded → ⊥) → IsAnswered (step_of_led (promised_by_answer cluster.quorums a volatile k r))
   promised-answered k (Ok (answer, after)) f g = tt
   promised-answered k (Err LeadFault.Exhausted) f g = let bad = f LeadFault.Exhausted refl in absurd (cc)
   promised-answered k (Err LeadFault.Crowded) f g = absurd (g refl)
@@ -162,7 +162,7 @@ module _ (cluster : Cluster) (es : List Entry) (a : ℕ) (volatile : Volatile) (
       crowded f =
           let said = subst (λ z. Says cluster h.old env.from z) e h.says in
           let good = promise-good IsSound (sound-well law) cluster es a volatile up env.from promise (record { centre = h.from; old = h.old; tail = h.tail; promised = said.0; reach = said.1; report = said.2 }) in
-          let told : (key : Key) × (version : ℕ) × (ballot : Ballot) × (options : Options) × IsAllowed cluster (Valued a key version ballot options ∷ es) × (is_crowded options ≡ true) = subst (λ z. GoodLed IsSound (sound-well law) cluster es a volatile up (promised_by_answer cluster.quorums a k z)) f good in
+          let told : (key : Key) × (version : ℕ) × (ballot : Ballot) × (options : Options) × IsAllowed cluster (Valued a key version ballot options ∷ es) × (is_crowded options ≡ true) = subst (λ z. GoodLed IsSound (sound-well law) cluster es a volatile up (promised_by_answer cluster.quorums a volatile k z)) f good in
           not-crowded cluster es a told.0 told.1 told.2 told.3 (record { of_cluster = is; allowed = told.4; short = longer (length es) short }) told.5
         where
           longer : (n : ℕ) → n + 1 ≤ 2 ^ 64 - 1 → suc n ≤ 2 ^ 64 - 1

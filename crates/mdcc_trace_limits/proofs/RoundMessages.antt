@@ -19,7 +19,7 @@ use Rattle.mdcc_rules.specs.AcceptorRules.{accepted_step, all_votes_sent, ask_st
 use Rattle.mdcc_switches.specs.Built.{Built}
 use Rattle.mdcc_protocol.specs.Facts.{current_of, epoch_of, heard_of, is_heard, promise_of, promised_through, vote_of}
 use Rattle.mdcc_protocol.specs.Leader.{claim_of_choice, is_marked, lead, on_promise}
-use Rattle.mdcc_rules.specs.LeaderRules.{Led, lead_entries, lead_sent, lead_step_after, led_by_answer, led_of, promise_entries, promise_sent, promised_by_answer, step_of_led}
+use Rattle.mdcc_rules.specs.LeaderRules.{lead_entries, lead_sent, lead_step_after, led_by_answer, led_of, promise_entries, promise_sent, promised_by_answer, step_of_led}
 use Rattle.mdcc_ledger.specs.Ledger.{Entry, Valued, facts_of}
 use Rattle.mdcc_protocol.specs.Manager
 use Rattle.mdcc_protocol.specs.Manager.{act_at, act_on_cause, acted, acts_at, begin_by, begin_fault, choices_unlearned, is_odd, keys_of_choices, ticked_transaction, vote_taken}
@@ -29,10 +29,10 @@ use Rattle.mdcc_protocol.specs.News.{is_crowding, is_news}
 use Rattle.mdcc_rules.specs.Node.{checked, is_without_room, message_step, rule, with_room}
 use Rattle.mdcc_protocol.specs.Recover
 use Rattle.mdcc_protocol.specs.Recover.{acts_on, ask_of, claim_of_key, counted_tick, dangling, keys_led}
-use Rattle.mdcc_rules.specs.Steps.{NodeStep, adding, nothing_done, sending}
+use Rattle.mdcc_rules.specs.Steps.{NodeStep, StepPart, adding, nothing_done, sending}
 use Rattle.mdcc_rules.specs.SyncRules.{give_sent_by, outcome_step_by, sync_give_step_by}
 use Rattle.mdcc_protocol.specs.Visible.{on_outcome, on_sync_ask}
-use Rattle.mdcc_protocol.specs.Volatile.{Leading, Managing, Volatile, closed, is_open, lead_of, with_manager, with_recovery}
+use Rattle.mdcc_protocol.specs.Volatile.{Leading, Managing, Volatile, closed, is_open, lead_of, with_leader, with_manager, with_recovery}
 use Rattle.mdcc_protocol.specs.declared.acceptor.AcceptAnswer.{AcceptAnswer}
 use Rattle.mdcc_protocol.specs.declared.acceptor.PrepareAnswer.{PrepareAnswer}
 use Rattle.mdcc_protocol.specs.declared.acceptor.ProposeAnswer.{ProposeAnswer}
@@ -175,34 +175,34 @@ voted-fine key r built cluster me facts volatile vote l =
 
 -- ---- the leader
 
-led-fine : (key : Key) (r : ℕ) (volatile : Volatile) (x : Result Led LeadFault) → ((es : List Entry) (a : ℕ) (led : Led) → x ≡ Ok led → facts_of (led.entries ++ es) a ≡ facts_of es a) → IsRoundLed key r x → IsRoundResult key r (step_of_led volatile x)
+led-fine : (key : Key) (r : ℕ) (volatile : Volatile) (x : Result StepPart LeadFault) → ((es : List Entry) (a : ℕ) (led : StepPart) → x ≡ Ok led → facts_of (led.entries ++ es) a ≡ facts_of es a) → IsRoundLed key r x → IsRoundResult key r (step_of_led x)
 led-fine key r volatile (Ok led) plain h = record { fact = λ f e. absurd (cc); leader = h.0; sends = h.1; plain = λ es a. plain es a led refl }
 led-fine key r volatile (Err fault) plain h = tt
 
-led-plain : (quorums : Sizes) (me : ℕ) (leader : Leading) (claim : Claim) (x : Result (LeadAnswer × Leading) LeadFault) (es : List Entry) (a : ℕ) (led : Led) → led_by_answer quorums me leader claim x ≡ Ok led → facts_of (led.entries ++ es) a ≡ facts_of es a
-led-plain quorums me leader claim (Err fault) es a led e = absurd (cc)
-led-plain quorums me leader claim (Ok (answer, after)) es a led e =
-    let same : record { after = after; entries = lead_entries me leader claim answer; sends = lead_sent quorums me claim answer } ≡ led = cc in
-    subst (λ (z : Led). facts_of (z.entries ++ es) a ≡ facts_of es a) same (by_answer answer)
+led-plain : (quorums : Sizes) (me : ℕ) (volatile : Volatile) (claim : Claim) (x : Result (LeadAnswer × Leading) LeadFault) (es : List Entry) (a : ℕ) (led : StepPart) → led_by_answer quorums me volatile claim x ≡ Ok led → facts_of (led.entries ++ es) a ≡ facts_of es a
+led-plain quorums me volatile claim (Err fault) es a led e = absurd (cc)
+led-plain quorums me volatile claim (Ok (answer, after)) es a led e =
+    let same : record { after = with_leader volatile after; entries = lead_entries me volatile.leader claim answer; sends = lead_sent quorums me claim answer } ≡ led = cc in
+    subst (λ (z : StepPart). facts_of (z.entries ++ es) a ≡ facts_of es a) same (by_answer answer)
   where
     pick : (b : Bool) (k : Key) (v : ℕ) (m : Ballot) (os : Options) → facts_of (cond b [] (Valued me k v m os ∷ []) ++ es) a ≡ facts_of es a
     pick true k v m os = refl
     pick false k v m os = refl
 
-    by_answer : (answer : LeadAnswer) → facts_of (lead_entries me leader claim answer ++ es) a ≡ facts_of es a
+    by_answer : (answer : LeadAnswer) → facts_of (lead_entries me volatile.leader claim answer ++ es) a ≡ facts_of es a
     by_answer LeadAnswer.Behind = refl
     by_answer (LeadAnswer.Prepare v w b) = refl
     by_answer LeadAnswer.Left = refl
-    by_answer (LeadAnswer.Accept v b os) = pick (is_marked leader claim) claim.key v b os
+    by_answer (LeadAnswer.Accept v b os) = pick (is_marked volatile.leader claim) claim.key v b os
 
-pub led-of-plain : (cluster : Cluster) (me : ℕ) (facts : List Fact) (leader : Leading) (claim : Claim) (es : List Entry) (a : ℕ) (led : Led) → led_of cluster me facts leader claim ≡ Ok led → facts_of (led.entries ++ es) a ≡ facts_of es a
-led-of-plain cluster me facts leader claim es a led e = led-plain cluster.quorums me leader claim (lead cluster me (epoch_of facts) facts leader claim) es a led e
+pub led-of-plain : (cluster : Cluster) (me : ℕ) (facts : List Fact) (volatile : Volatile) (claim : Claim) (es : List Entry) (a : ℕ) (led : StepPart) → led_of cluster me facts volatile claim ≡ Ok led → facts_of (led.entries ++ es) a ≡ facts_of es a
+led-of-plain cluster me facts volatile claim es a led e = led-plain cluster.quorums me volatile claim (lead cluster me (epoch_of facts) facts volatile.leader claim) es a led e
 
-promised-plain : (quorums : Sizes) (me : ℕ) (k : Key) (x : Result (PromiseAnswer × Leading) LeadFault) (es : List Entry) (a : ℕ) (led : Led) → promised_by_answer quorums me k x ≡ Ok led → facts_of (led.entries ++ es) a ≡ facts_of es a
-promised-plain quorums me k (Err fault) es a led e = absurd (cc)
-promised-plain quorums me k (Ok (answer, after)) es a led e =
-    let same : record { after = after; entries = promise_entries me k answer; sends = promise_sent quorums me k answer } ≡ led = cc in
-    subst (λ (z : Led). facts_of (z.entries ++ es) a ≡ facts_of es a) same (by_answer answer)
+promised-plain : (quorums : Sizes) (me : ℕ) (volatile : Volatile) (k : Key) (x : Result (PromiseAnswer × Leading) LeadFault) (es : List Entry) (a : ℕ) (led : StepPart) → promised_by_answer quorums me volatile k x ≡ Ok led → facts_of (led.entries ++ es) a ≡ facts_of es a
+promised-plain quorums me volatile k (Err fault) es a led e = absurd (cc)
+promised-plain quorums me volatile k (Ok (answer, after)) es a led e =
+    let same : record { after = with_leader volatile after; entries = promise_entries me k answer; sends = promise_sent quorums me k answer } ≡ led = cc in
+    subst (λ (z : StepPart). facts_of (z.entries ++ es) a ≡ facts_of es a) same (by_answer answer)
   where
     by_answer : (answer : PromiseAnswer) → facts_of (promise_entries me k answer ++ es) a ≡ facts_of es a
     by_answer PromiseAnswer.Ignored = refl
@@ -221,9 +221,9 @@ lead-fine : (key : Key) (r : ℕ) (cluster : Cluster) (me : ℕ) (facts : List F
     IsRoundResult key (r + 1) (lead_step_after cluster me facts volatile s choice o)
 lead-fine key r cluster me facts volatile s choice (Some o) f l = sending-round key (r + 1) volatile _ (leader-more key r (r + 1) volatile.leader (omega arith) l) (tt, tt)
 lead-fine key r cluster me facts volatile s choice None f l =
-    result-more key (raised key choice.key r) (r + 1) (step_of_led volatile (led_of cluster me facts volatile.leader (claim_of_choice choice))) (raised-most key choice.key r)
-    (led-fine key (raised key choice.key r) volatile (led_of cluster me facts volatile.leader (claim_of_choice choice)) (λ es a led e. led-of-plain cluster me facts volatile.leader (claim_of_choice choice) es a led e)
-    (led-round key r cluster me facts volatile.leader (claim_of_choice choice) f l))
+    result-more key (raised key choice.key r) (r + 1) (step_of_led (led_of cluster me facts volatile (claim_of_choice choice))) (raised-most key choice.key r)
+    (led-fine key (raised key choice.key r) volatile (led_of cluster me facts volatile (claim_of_choice choice)) (λ es a led e. led-of-plain cluster me facts volatile (claim_of_choice choice) es a led e)
+    (led-round key r cluster me facts volatile (claim_of_choice choice) f l))
 
 -- ---- messages
 
@@ -246,10 +246,10 @@ message-fine key r built cluster me facts volatile s m f l h = by_message m h
     by_message (Message.Prepare k v w b) h = rule-fine key r built.leading volatile _ l (more _ (prepared-fine key r me facts volatile s k v w b f l h))
     by_message (Message.Promise k v w b q os) h =
         rule-fine key r built.leading volatile _ l
-        (result-more key r (r + 1) (step_of_led volatile (promised_by_answer cluster.quorums me k (on_promise cluster facts volatile.leader s (record { key = k; version = v; through = w; ballot = b; reported = q; votes = os })))) (omega arith)
-        (led-fine key r volatile (promised_by_answer cluster.quorums me k (on_promise cluster facts volatile.leader s (record { key = k; version = v; through = w; ballot = b; reported = q; votes = os })))
-        (λ es a led e. promised-plain cluster.quorums me k (on_promise cluster facts volatile.leader s (record { key = k; version = v; through = w; ballot = b; reported = q; votes = os })) es a led e)
-        (promise-round key r cluster me facts volatile.leader s (record { key = k; version = v; through = w; ballot = b; reported = q; votes = os }) l)))
+        (result-more key r (r + 1) (step_of_led (promised_by_answer cluster.quorums me volatile k (on_promise cluster facts volatile.leader s (record { key = k; version = v; through = w; ballot = b; reported = q; votes = os })))) (omega arith)
+        (led-fine key r volatile (promised_by_answer cluster.quorums me volatile k (on_promise cluster facts volatile.leader s (record { key = k; version = v; through = w; ballot = b; reported = q; votes = os })))
+        (λ es a led e. promised-plain cluster.quorums me volatile k (on_promise cluster facts volatile.leader s (record { key = k; version = v; through = w; ballot = b; reported = q; votes = os })) es a led e)
+        (promise-round key r cluster me facts volatile volatile.leader s (record { key = k; version = v; through = w; ballot = b; reported = q; votes = os }) l)))
     by_message (Message.Accept k v b os) h = rule-fine key r built.leading volatile _ l (more _ (accepted-fine key r me facts volatile s k v b os f l h))
     by_message (Message.Refused k v b p) h = rule-fine key r built.leading volatile _ l (more _ (done-round key r _ (refused-round key r volatile.leader k b p (lead_of volatile.leader k) refl h l)))
     by_message (Message.Outcome t o) h = rule-fine key r built.proposals volatile _ l (more _ (outcome-fine key r volatile facts t o l))

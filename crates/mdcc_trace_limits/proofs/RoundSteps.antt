@@ -15,11 +15,12 @@ use Rattle.mdcc_struct.specs.Maps.{value_of}
 use Rattle.mdcc_struct.specs.declared.options.Options.{Options}
 use Rattle.mdcc_protocol.specs.Facts.{ballot_promised, current_of, epoch_of, promise_of}
 use Rattle.mdcc_protocol.specs.Leader.{counted_promise, has_proposed, is_covered, is_promise_counted, is_waiting, lead, lead_begun, led_again, led_anew, led_by, led_on, next_round, on_promise, promise_taken, refused_by, structure_made, with_promise, with_refused}
-use Rattle.mdcc_rules.specs.LeaderRules.{Led, lead_sent, led_by_answer, led_of, promised_by_answer}
+use Rattle.mdcc_rules.specs.LeaderRules.{lead_sent, led_by_answer, led_of, promised_by_answer}
 use Rattle.mdcc_rules.specs.Messages.{to_all, to_each, to_others}
+use Rattle.mdcc_rules.specs.Steps.{StepPart}
 use Rattle.mdcc_protocol.specs.Structures.{first_structure, is_crowded, is_enough, with_choice, with_claim}
 use Rattle.mdcc_protocol.specs.Leader.{reports_of}
-use Rattle.mdcc_protocol.specs.Volatile.{Lead, Leading, lead_of, number_at, structure_at, with_lead, with_number, with_structure}
+use Rattle.mdcc_protocol.specs.Volatile.{Lead, Leading, Volatile, lead_of, number_at, structure_at, with_lead, with_number, with_structure}
 use Rattle.mdcc_messages.specs.declared.facts.Fact.{Fact}
 use Rattle.mdcc_protocol.specs.declared.leader.LeadAnswer.{LeadAnswer}
 use Rattle.mdcc_protocol.specs.declared.leader.LeadFault.{LeadFault}
@@ -122,17 +123,17 @@ raised-least key k r = elim (cases_Bool (key_eq k key)) [ inl e ↦ rw e (omega 
 raised-at : (key k : Key) (r n : ℕ) → k ≡ key → n ≤ r + 1 → n ≤ raised key k r
 raised-at key k r n e h = let t : key_eq k key ≡ true = (Decides-key k key).1 e in rw t h
 
-abbrev pub IsRoundLed : Key → ℕ → Result Led LeadFault → Type 0
-IsRoundLed key r (Ok led) = IsRoundLeader key r led.after × AreRoundSends key r led.sends
+abbrev pub IsRoundLed : Key → ℕ → Result StepPart LeadFault → Type 0
+IsRoundLed key r (Ok part) = IsRoundLeader key r part.after.leader × AreRoundSends key r part.sends
 IsRoundLed key r (Err fault) = ⊤
 
 abbrev pub IsRoundAnswer : Key → ℕ → Sizes → ℕ → Claim → Result (LeadAnswer × Leading) LeadFault → Type 0
 IsRoundAnswer key r quorums me claim (Ok answer) = IsRoundLeader key r answer.1 × AreRoundSends key r (lead_sent quorums me claim answer.0)
 IsRoundAnswer key r quorums me claim (Err fault) = ⊤
 
-answer-led : (key : Key) (r : ℕ) (quorums : Sizes) (me : ℕ) (leader : Leading) (claim : Claim) (a : Result (LeadAnswer × Leading) LeadFault) → IsRoundAnswer key r quorums me claim a → IsRoundLed key r (led_by_answer quorums me leader claim a)
-answer-led key r quorums me leader claim (Ok (answer, after)) h = h
-answer-led key r quorums me leader claim (Err fault) h = tt
+answer-led : (key : Key) (r : ℕ) (quorums : Sizes) (me : ℕ) (volatile : Volatile) (claim : Claim) (a : Result (LeadAnswer × Leading) LeadFault) → IsRoundAnswer key r quorums me claim a → IsRoundLed key r (led_by_answer quorums me volatile claim a)
+answer-led key r quorums me volatile claim (Ok (answer, after)) h = h
+answer-led key r quorums me volatile claim (Err fault) h = tt
 
 module _ (key : Key) (r : ℕ) (cluster : Cluster) (me epoch : ℕ) (facts : List Fact) (leader : Leading) (claim : Claim) (of-facts : AreRoundFacts key r facts) (of-leader : IsRoundLeader key r leader) where
   abbrev Fine : Result (LeadAnswer × Leading) LeadFault → Type 0
@@ -254,24 +255,24 @@ module _ (key : Key) (r : ℕ) (cluster : Cluster) (me epoch : ℕ) (facts : Lis
       by_lead (Some x) e = found-round x e
 
 -- a claim that is led raises the rounds of its own key by one at most, and of no other key
-pub led-round : (key : Key) (r : ℕ) (cluster : Cluster) (me : ℕ) (facts : List Fact) (leader : Leading) (claim : Claim) → AreRoundFacts key r facts → IsRoundLeader key r leader → IsRoundLed key (raised key claim.key r) (led_of cluster me facts leader claim)
-led-round key r cluster me facts leader claim f l =
-    answer-led key (raised key claim.key r) cluster.quorums me leader claim (lead cluster me (epoch_of facts) facts leader claim) (lead-round key r cluster me (epoch_of facts) facts leader claim f l)
+pub led-round : (key : Key) (r : ℕ) (cluster : Cluster) (me : ℕ) (facts : List Fact) (volatile : Volatile) (claim : Claim) → AreRoundFacts key r facts → IsRoundLeader key r volatile.leader → IsRoundLed key (raised key claim.key r) (led_of cluster me facts volatile claim)
+led-round key r cluster me facts volatile claim f l =
+    answer-led key (raised key claim.key r) cluster.quorums me volatile claim (lead cluster me (epoch_of facts) facts volatile.leader claim) (lead-round key r cluster me (epoch_of facts) facts volatile.leader claim f l)
 
 -- ---- promises and refusals
 
-pub promise-round : (key : Key) (r : ℕ) (cluster : Cluster) (me : ℕ) (facts : List Fact) (leader : Leading) (from : ℕ) (promise : Promise) → IsRoundLeader key r leader →
-    IsRoundLed key r (promised_by_answer cluster.quorums me promise.key (on_promise cluster facts leader from promise))
-promise-round key r cluster me facts leader from promise l = by_lead (lead_of leader promise.key) refl
+pub promise-round : (key : Key) (r : ℕ) (cluster : Cluster) (me : ℕ) (facts : List Fact) (volatile : Volatile) (leader : Leading) (from : ℕ) (promise : Promise) → IsRoundLeader key r leader →
+    IsRoundLed key r (promised_by_answer cluster.quorums me volatile promise.key (on_promise cluster facts leader from promise))
+promise-round key r cluster me facts volatile leader from promise l = by_lead (lead_of leader promise.key) refl
   where
-    ignored : IsRoundLed key r (promised_by_answer cluster.quorums me promise.key (Ok (PromiseAnswer.Ignored, leader)))
+    ignored : IsRoundLed key r (promised_by_answer cluster.quorums me volatile promise.key (Ok (PromiseAnswer.Ignored, leader)))
     ignored = (l, tt)
 
     module_lead : (x : Lead) → lead_of leader promise.key ≡ Some x → (In x leader.leads) × (x.key ≡ promise.key) × (x.ballot.round ≤ number_at leader.last_rounds x.key)
     module_lead x e = let i = lead-in leader promise.key x e in (i.0, i.1, Each-at (λ (y : Lead). y.ballot.round ≤ number_at leader.last_rounds y.key) leader.leads x l.leads i.0)
 
     made : (x y : Lead) (os : Options) (b : Bool) → x.key ≡ promise.key → x.ballot.round ≤ number_at leader.last_rounds x.key → y.ballot.round ≤ number_at leader.last_rounds y.key →
-        IsRoundLed key r (promised_by_answer cluster.quorums me promise.key (cond b (Err LeadFault.Crowded) (Ok (PromiseAnswer.Accept x.version x.ballot os, with_lead leader y))))
+        IsRoundLed key r (promised_by_answer cluster.quorums me volatile promise.key (cond b (Err LeadFault.Crowded) (Ok (PromiseAnswer.Accept x.version x.ballot os, with_lead leader y))))
     made x y os true k h g = tt
     made x y os false k h g = (
       put-round key r leader y g l,
@@ -280,17 +281,17 @@ promise-round key r cluster me facts leader from promise l = by_lead (lead_of le
     )
 
     counted : (b c : Bool) (x : Lead) → x.key ≡ promise.key → x.ballot.round ≤ number_at leader.last_rounds x.key →
-        IsRoundLed key r (promised_by_answer cluster.quorums me promise.key (cond b (Ok (PromiseAnswer.Counted, with_lead leader x)) (cond c (structure_made cluster facts leader x) (Ok (PromiseAnswer.Waiting (length x.promises), with_lead leader x)))))
+        IsRoundLed key r (promised_by_answer cluster.quorums me volatile promise.key (cond b (Ok (PromiseAnswer.Counted, with_lead leader x)) (cond c (structure_made cluster facts leader x) (Ok (PromiseAnswer.Waiting (length x.promises), with_lead leader x)))))
     counted true c x k h = (put-round key r leader x h l, tt)
     counted false true x k h = made x (record x { claims = []; structures = with_structure x.structures x.version (first_structure cluster facts x.key x.version x.claims (reports_of x.promises)) }) (first_structure cluster facts x.key x.version x.claims (reports_of x.promises)) (is_crowded (first_structure cluster facts x.key x.version x.claims (reports_of x.promises))) k h h
     counted false false x k h = (put-round key r leader x h l, tt)
 
     taken : (b : Bool) (x : Lead) → x.key ≡ promise.key → x.ballot.round ≤ number_at leader.last_rounds x.key →
-        IsRoundLed key r (promised_by_answer cluster.quorums me promise.key (cond b (counted_promise cluster facts leader (with_promise x from promise)) (Ok (PromiseAnswer.Ignored, leader))))
+        IsRoundLed key r (promised_by_answer cluster.quorums me volatile promise.key (cond b (counted_promise cluster facts leader (with_promise x from promise)) (Ok (PromiseAnswer.Ignored, leader))))
     taken true x k h = counted (has_proposed (with_promise x from promise)) (is_enough cluster facts x.key x.version (reports_of (with_promise x from promise).promises)) (with_promise x from promise) k h
     taken false x k h = ignored
 
-    by_lead : (o : Option Lead) → lead_of leader promise.key ≡ o → IsRoundLed key r (promised_by_answer cluster.quorums me promise.key (promise_taken cluster facts leader from promise o))
+    by_lead : (o : Option Lead) → lead_of leader promise.key ≡ o → IsRoundLed key r (promised_by_answer cluster.quorums me volatile promise.key (promise_taken cluster facts leader from promise o))
     by_lead None e = ignored
     by_lead (Some x) e = let i = module_lead x e in taken (is_promise_counted x from promise) x i.1 i.2
 

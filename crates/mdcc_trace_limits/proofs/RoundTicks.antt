@@ -15,13 +15,14 @@ use Rattle.mdcc_option.specs.declared.cluster.Cluster.{Cluster}
 use Rattle.mdcc_ledger.specs.AllowedLedgers.{IsAllowed, part_in}
 use Rattle.mdcc_switches.specs.Built.{Built}
 use Rattle.mdcc_protocol.specs.Leader.{claim_of_choice}
-use Rattle.mdcc_rules.specs.LeaderRules.{Led, led_of}
+use Rattle.mdcc_rules.specs.LeaderRules.{led_of}
 use Rattle.mdcc_protocol.specs.Learner.{is_learned}
 use Rattle.mdcc_ledger.specs.Ledger.{Entry, choices_begun, facts_of}
 use Rattle.mdcc_protocol.specs.Manager
 use Rattle.mdcc_protocol.specs.Manager.{act_at, acts_at, choices_unlearned, is_odd, keys_of_choices}
 use Rattle.mdcc_protocol.specs.Recover.{acts_on, ask_of, claim_of_key, counted_tick, dangling, keys_led}
-use Rattle.mdcc_rules.specs.TickRules.{Ticked, and_then, claim_led, led_or_left, manager_act, manager_ticked, recovery_act, recovery_ticked, tick_parts, ticked}
+use Rattle.mdcc_rules.specs.TickRules.{claim_led, led_or_left, manager_act, manager_ticked, recovery_act, recovery_ticked, tick_parts}
+use Rattle.mdcc_rules.specs.Steps.{StepPart, and_then, only_sending}
 use Rattle.mdcc_protocol.specs.Volatile.{Recovering, Undecided, Volatile, counter_of, next_count, txs_opened, with_manager, with_recovery}
 use Rattle.mdcc_simulation.specs.State.{World, centre_at}
 use Rattle.mdcc_messages.specs.declared.facts.Fact.{Fact}
@@ -129,7 +130,7 @@ set-key cluster es e key legal s =
 
 -- ---- the acts of a tick
 
-pub record IsRoundTick (key : Key) (r : ℕ) (p : Ticked) : Type 0 where
+pub record IsRoundTick (key : Key) (r : ℕ) (p : StepPart) : Type 0 where
   pub leader : IsRoundLeader key r p.after.leader
   pub sends : AreRoundSends key r p.sends
   pub plain : (es : List Entry) (a : ℕ) → facts_of (p.entries ++ es) a ≡ facts_of es a
@@ -148,7 +149,7 @@ append-plain xs ys es a h g = ap (λ z. facts_of z a) (joined xs ys es) ∙ (h (
     joined [] ys es = refl
     joined (x ∷ xs) ys es = ap (λ z. x ∷ z) (joined xs ys es)
 
-fold-round : {X : Type 0} (key : Key) (facts : List Fact) (act : Volatile → X → Ticked) (on : X → Bool) (xs : List X) (r : ℕ) (before : Ticked) →
+fold-round : {X : Type 0} (key : Key) (facts : List Fact) (act : Volatile → X → StepPart) (on : X → Bool) (xs : List X) (r : ℕ) (before : StepPart) →
     ((volatile : Volatile) (x : X) (s : ℕ) → AreRoundFacts key s facts → IsRoundLeader key s volatile.leader → IsRoundTick key (risen (on x) s) (act volatile x)) → AreRoundFacts key r facts → IsRoundTick key r before →
     IsRoundTick key (r + number_of on xs) (fold (and_then act) before xs)
 fold-round key facts act on [] r before f g h = record { leader = leader-more key r (r + 0) before.after.leader (omega arith) h.leader; sends = sends-more key r (r + 0) before.sends (omega arith) h.sends; plain = h.plain }
@@ -170,10 +171,10 @@ fold-round {X = X} key facts act on (x ∷ xs) r before f g h = raise (fold-roun
     sum : risen (on x) r + number_of on xs ≤ r + number_of on (x ∷ xs)
     sum = elim (cases_Bool (on x)) [ inl e ↦ rw e (omega arith) | inr e ↦ rw e (omega arith) ]
 
-    raise : {p : Ticked} → IsRoundTick key (risen (on x) r + number_of on xs) p → IsRoundTick key (r + number_of on (x ∷ xs)) p
+    raise : {p : StepPart} → IsRoundTick key (risen (on x) r + number_of on xs) p → IsRoundTick key (r + number_of on (x ∷ xs)) p
     raise {p = p} k = record { leader = leader-more key _ _ p.after.leader sum k.leader; sends = sends-more key _ _ p.sends sum k.sends; plain = k.plain }
 
-ticked-round : (key : Key) (r : ℕ) (volatile : Volatile) (sends : List Envelope) → IsRoundLeader key r volatile.leader → AreRoundSends key r sends → IsRoundTick key r (ticked volatile sends)
+ticked-round : (key : Key) (r : ℕ) (volatile : Volatile) (sends : List Envelope) → IsRoundLeader key r volatile.leader → AreRoundSends key r sends → IsRoundTick key r (only_sending volatile sends)
 ticked-round key r volatile sends l s = record { leader = l; sends = s; plain = λ es a. refl }
 
 claim-round : (key : Key) (r : ℕ) (built : Built) (cluster : Cluster) (me : ℕ) (facts : List Fact) (volatile : Volatile) (claim : Claim) → AreRoundFacts key r facts → IsRoundLeader key r volatile.leader → IsRoundTick key (raised key claim.key r) (claim_led built cluster me facts volatile claim)
@@ -182,15 +183,15 @@ claim-round key r built cluster me facts volatile claim f l = pick built.leading
     least : r ≤ raised key claim.key r
     least = elim (cases_Bool (key_eq claim.key key)) [ inl e ↦ rw e (omega arith) | inr e ↦ rw e (omega arith) ]
 
-    left : IsRoundTick key (raised key claim.key r) (ticked volatile [])
+    left : IsRoundTick key (raised key claim.key r) (only_sending volatile [])
     left = ticked-round key (raised key claim.key r) volatile [] (leader-more key r (raised key claim.key r) volatile.leader least l) tt
 
-    by_case : (x : Result Led LeadFault) → led_of cluster me facts volatile.leader claim ≡ x → IsRoundLed key (raised key claim.key r) x → IsRoundTick key (raised key claim.key r) (led_or_left volatile x)
-    by_case (Ok led) e h = record { leader = h.0; sends = h.1; plain = λ es a. led-of-plain cluster me facts volatile.leader claim es a led e }
+    by_case : (x : Result StepPart LeadFault) → led_of cluster me facts volatile claim ≡ x → IsRoundLed key (raised key claim.key r) x → IsRoundTick key (raised key claim.key r) (led_or_left volatile x)
+    by_case (Ok led) e h = record { leader = h.0; sends = h.1; plain = λ es a. led-of-plain cluster me facts volatile claim es a led e }
     by_case (Err fault) e h = left
 
-    pick : (b : Bool) → IsRoundTick key (raised key claim.key r) (cond b (led_or_left volatile (led_of cluster me facts volatile.leader claim)) (ticked volatile []))
-    pick true = by_case (led_of cluster me facts volatile.leader claim) refl (led-round key r cluster me facts volatile.leader claim f l)
+    pick : (b : Bool) → IsRoundTick key (raised key claim.key r) (cond b (led_or_left volatile (led_of cluster me facts volatile claim)) (only_sending volatile []))
+    pick true = by_case (led_of cluster me facts volatile claim) refl (led-round key r cluster me facts volatile claim f l)
     pick false = left
 
 manager-act-round : (key : Key) (built : Built) (cluster : Cluster) (me : ℕ) (facts : List Fact) (volatile : Volatile) (act : ManagerAct) (r : ℕ) → AreRoundFacts key r facts → IsRoundLeader key r volatile.leader →
@@ -221,7 +222,7 @@ tick-round key r built w a up f l = pick built.ticks built.recovery
     facts : List Fact
     facts = facts_of w.ledger a
 
-    raise : (s n : ℕ) (p : Ticked) → s ≤ n → IsRoundTick key s p → IsRoundTick key n p
+    raise : (s n : ℕ) (p : StepPart) → s ≤ n → IsRoundTick key s p → IsRoundTick key n p
     raise s n p h k = record { leader = leader-more key s n p.after.leader h k.leader; sends = sends-more key s n p.sends h k.sends; plain = k.plain }
 
     acts : List ManagerAct
@@ -236,13 +237,13 @@ tick-round key r built w a up f l = pick built.ticks built.recovery
     first : IsRoundTick key (r + opened_in v) (manager_ticked built cluster a facts v)
     first =
         raise (r + number_of (manages_key key) acts) (r + opened_in v) (manager_ticked built cluster a facts v) (few (number_of (manages_key key) acts) acts-few)
-        (fold-round key facts (manager_act built cluster a facts) (manages_key key) acts r (ticked (with_manager v (Manager.tick cluster.quorums v.manager).1) [])
+        (fold-round key facts (manager_act built cluster a facts) (manages_key key) acts r (only_sending (with_manager v (Manager.tick cluster.quorums v.manager).1) [])
         (λ u x s g k. manager-act-round key built cluster a facts u x s g k) f (ticked-round key r (with_manager v (Manager.tick cluster.quorums v.manager).1) [] l tt))
       where
         few : (n : ℕ) → n ≤ opened_in v → r + n ≤ r + opened_in v
         few n h = omega (arith, h)
 
-    second : (s : ℕ) (p : Ticked) → r ≤ s → IsRoundTick key s p → IsRoundTick key (s + number_of is_begin w.ledger) (recovery_ticked built cluster a facts p)
+    second : (s : ℕ) (p : StepPart) → r ≤ s → IsRoundTick key s p → IsRoundTick key (s + number_of is_begin w.ledger) (recovery_ticked built cluster a facts p)
     second s p h k =
         raise (s + number_of (recovers_key key) after) (s + number_of is_begin w.ledger) (recovery_ticked built cluster a facts p) (few (number_of (recovers_key key) after) after-few)
         (fold-round key facts (recovery_act built cluster a facts) (recovers_key key) after s (record p { after = with_recovery p.after (record recovery { counters = fold counted_tick recovery.counters (dangling facts (txs_opened p.after.manager)) }) })
@@ -264,14 +265,14 @@ tick-round key r built w a up f l = pick built.ticks built.recovery
         few : (n : ℕ) → n ≤ number_of is_begin w.ledger → s + n ≤ s + number_of is_begin w.ledger
         few n h = omega (arith, h)
 
-    none : IsRoundTick key (r + opened_in v) (ticked v [])
+    none : IsRoundTick key (r + opened_in v) (only_sending v [])
     none = ticked-round key (r + opened_in v) v [] (leader-more key r (r + opened_in v) v.leader (omega arith) l) tt
 
-    half : (y : Bool) (p : Ticked) → IsRoundTick key (r + opened_in v) p → IsRoundTick key (r + (opened_in v + number_of is_begin w.ledger)) (cond y (recovery_ticked built cluster a facts p) p)
+    half : (y : Bool) (p : StepPart) → IsRoundTick key (r + opened_in v) p → IsRoundTick key (r + (opened_in v + number_of is_begin w.ledger)) (cond y (recovery_ticked built cluster a facts p) p)
     half true p h = raise ((r + opened_in v) + number_of is_begin w.ledger) (r + (opened_in v + number_of is_begin w.ledger)) (recovery_ticked built cluster a facts p) (omega arith) (second (r + opened_in v) p (omega arith) h)
     half false p h = raise (r + opened_in v) (r + (opened_in v + number_of is_begin w.ledger)) p (omega arith) h
 
     pick : (x y : Bool) →
-        IsRoundTick key (r + (opened_in v + number_of is_begin w.ledger)) (cond y (recovery_ticked built cluster a facts (cond x (manager_ticked built cluster a facts v) (ticked v []))) (cond x (manager_ticked built cluster a facts v) (ticked v [])))
+        IsRoundTick key (r + (opened_in v + number_of is_begin w.ledger)) (cond y (recovery_ticked built cluster a facts (cond x (manager_ticked built cluster a facts v) (only_sending v []))) (cond x (manager_ticked built cluster a facts v) (only_sending v [])))
     pick true y = half y (manager_ticked built cluster a facts v) first
-    pick false y = half y (ticked v []) none
+    pick false y = half y (only_sending v []) none

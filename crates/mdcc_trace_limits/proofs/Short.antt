@@ -23,8 +23,8 @@ use Rattle.mdcc_protocol.specs.Manager.{acts_at, begin_by, begin_fault, parts_be
 use Rattle.mdcc_rules.specs.ManagerRules.{begin_step_by}
 use Rattle.mdcc_rules.specs.Node.{checked, message_step, step_of}
 use Rattle.mdcc_protocol.specs.Recover.{acts_on, counted_tick, dangling}
-use Rattle.mdcc_rules.specs.Steps.{NodeStep}
-use Rattle.mdcc_rules.specs.TickRules.{Ticked, manager_act, manager_ticked, recovery_act, recovery_ticked, tick_parts, ticked}
+use Rattle.mdcc_rules.specs.Steps.{NodeStep, StepPart, only_sending}
+use Rattle.mdcc_rules.specs.TickRules.{manager_act, manager_ticked, recovery_act, recovery_ticked, tick_parts}
 use Rattle.mdcc_protocol.specs.Volatile.{Managing, Recovering, Undecided, Volatile, txs_opened, with_manager, with_recovery}
 use Rattle.mdcc_simulation.specs.State.{Site, World, booted, booted_to, centre_at, down, first_world, is_up_at}
 use Rattle.mdcc_simulation.specs.Stepping.{fact_happened, input_happened, is_frame_kept, step_at, step_happened_by, step_stopped}
@@ -177,11 +177,11 @@ tick-small built w a up = pick built.ticks built.recovery
         let acts = flat-few (acts_at cluster.quorums v.manager.votes) 8 v.manager.opened choices in
         let after : Managing = (Manager.tick cluster.quorums v.manager).1 in
         let same : opened_in (with_manager v after) ≡ opened_in v = map-length (ticked_transaction cluster.quorums v.manager.votes) v.manager.opened in
-        let all = fold-small (manager_act built cluster a facts) (flat_map (acts_at cluster.quorums v.manager.votes) v.manager.opened) 0 (opened_in v) (ticked (with_manager v after) [])
+        let all = fold-small (manager_act built cluster a facts) (flat_map (acts_at cluster.quorums v.manager.votes) v.manager.opened) 0 (opened_in v) (only_sending (with_manager v after) [])
         (λ u x h. manager-act-small built cluster a facts (opened_in v) u x h) (ticked-small (with_manager v after) [] 0 (opened_in v) (omega (arith, same))) in
         record { weight = omega (arith, all.weight, acts); begun = all.begun; few = all.few }
 
-    second : (n : ℕ) (p : Ticked) → IsTickSmall n (opened_in v) p → IsTickSmall (n + 8 * number_of is_begin w.ledger) (opened_in v) (recovery_ticked built cluster a facts p)
+    second : (n : ℕ) (p : StepPart) → IsTickSmall n (opened_in v) p → IsTickSmall (n + 8 * number_of is_begin w.ledger) (opened_in v) (recovery_ticked built cluster a facts p)
     second n p h =
         let txs : TxMap (List (Key × ℕ)) = dangling facts (txs_opened p.after.manager) in
         let recovery : Recovering = p.after.recovery in
@@ -194,20 +194,20 @@ tick-small built w a up = pick built.ticks built.recovery
         (λ u x k. recovery-act-small built cluster a facts (opened_in v) u x k) (record { weight = h.weight; begun = h.begun; few = h.few }) in
         record { weight = omega (arith, all.weight, acts, few); begun = all.begun; few = all.few }
 
-    none : IsTickSmall (8 * opened_in v) (opened_in v) (ticked v [])
+    none : IsTickSmall (8 * opened_in v) (opened_in v) (only_sending v [])
     none = ticked-small v [] (8 * opened_in v) (opened_in v) (omega arith)
 
-    more : (p : Ticked) → IsTickSmall (8 * opened_in v) (opened_in v) p → IsTickSmall (8 * opened_in v + 8 * number_of is_begin w.ledger) (opened_in v) p
+    more : (p : StepPart) → IsTickSmall (8 * opened_in v) (opened_in v) p → IsTickSmall (8 * opened_in v + 8 * number_of is_begin w.ledger) (opened_in v) p
     more p h = record { weight = omega (arith, h.weight); begun = h.begun; few = h.few }
 
-    half : (y : Bool) (p : Ticked) → IsTickSmall (8 * opened_in v) (opened_in v) p → IsTickSmall (8 * opened_in v + 8 * number_of is_begin w.ledger) (opened_in v) (cond y (recovery_ticked built cluster a facts p) p)
+    half : (y : Bool) (p : StepPart) → IsTickSmall (8 * opened_in v) (opened_in v) p → IsTickSmall (8 * opened_in v + 8 * number_of is_begin w.ledger) (opened_in v) (cond y (recovery_ticked built cluster a facts p) p)
     half true p h = second (8 * opened_in v) p h
     half false p h = more p h
 
     pick : (x y : Bool) →
-        IsTickSmall (8 * opened_in v + 8 * number_of is_begin w.ledger) (opened_in v) (cond y (recovery_ticked built cluster a facts (cond x (manager_ticked built cluster a facts v) (ticked v []))) (cond x (manager_ticked built cluster a facts v) (ticked v [])))
+        IsTickSmall (8 * opened_in v + 8 * number_of is_begin w.ledger) (opened_in v) (cond y (recovery_ticked built cluster a facts (cond x (manager_ticked built cluster a facts v) (only_sending v []))) (cond x (manager_ticked built cluster a facts v) (only_sending v [])))
     pick true y = half y (manager_ticked built cluster a facts v) first
-    pick false y = half y (ticked v []) none
+    pick false y = half y (only_sending v []) none
 
 -- ---- the walk
 

@@ -21,7 +21,7 @@ use Rattle.mdcc_rules.specs.AcceptorRules.{accepted_step, ask_step_by, prepared_
 use Rattle.mdcc_switches.specs.Built.{Built}
 use Rattle.mdcc_protocol.specs.Facts.{epoch_of, heard_of, is_heard, vote_of}
 use Rattle.mdcc_protocol.specs.Leader.{claim_of_choice, is_marked, lead}
-use Rattle.mdcc_rules.specs.LeaderRules.{Led, lead_step_after, led_by_answer, led_of, promised_by_answer, step_of_led}
+use Rattle.mdcc_rules.specs.LeaderRules.{lead_step_after, led_by_answer, led_of, promised_by_answer, step_of_led}
 use Rattle.mdcc_protocol.specs.Learner.{is_learned}
 use Rattle.mdcc_ledger.specs.Ledger.{Entry, Valued}
 use Rattle.mdcc_protocol.specs.Manager
@@ -31,9 +31,9 @@ use Rattle.mdcc_rules.specs.Node.{checked, is_without_room, message_step, rule, 
 use Rattle.mdcc_protocol.specs.News.{is_crowding}
 use Rattle.mdcc_protocol.specs.Recover
 use Rattle.mdcc_protocol.specs.Recover.{acts_on, ask_of, claim_of_key, keys_led}
-use Rattle.mdcc_rules.specs.Steps.{NodeStep, adding, nothing_done, sending}
+use Rattle.mdcc_rules.specs.Steps.{NodeStep, StepPart, adding, and_then, nothing_done, only_sending, sending}
 use Rattle.mdcc_rules.specs.SyncRules.{outcome_step_by, sync_give_step_by}
-use Rattle.mdcc_rules.specs.TickRules.{Ticked, and_then, claim_led, led_or_left, manager_act, recovery_act, ticked}
+use Rattle.mdcc_rules.specs.TickRules.{claim_led, led_or_left, manager_act, recovery_act}
 use Rattle.mdcc_protocol.specs.Visible.{on_outcome, on_sync_give}
 use Rattle.mdcc_protocol.specs.Volatile.{Leading, Managing, Recovering, Undecided, Volatile, closed, counter_of, is_open, next_count, with_manager, with_recovery}
 use Rattle.mdcc_protocol.specs.declared.acceptor.AcceptAnswer.{AcceptAnswer}
@@ -192,38 +192,38 @@ escalate-small cluster me facts volatile a k t cause = acted-small me facts vola
 
 -- ---- the leader
 
-abbrev pub IsSmallLed : Result Led LeadFault → Type 0
-IsSmallLed (Ok led) = (length led.entries ≤ 1) × (number_of is_begin led.entries ≡ 0)
-IsSmallLed (Err fault) = ⊤
+abbrev pub IsSmallLed : Volatile → Result StepPart LeadFault → Type 0
+IsSmallLed volatile (Ok part) = (length part.entries ≤ 1) × (number_of is_begin part.entries ≡ 0) × (opened_in part.after ≤ opened_in volatile)
+IsSmallLed volatile (Err fault) = ⊤
 
-answered-small : (quorums : Sizes) (me : ℕ) (leader : Leading) (claim : Claim) (r : Result (LeadAnswer × Leading) LeadFault) → IsSmallLed (led_by_answer quorums me leader claim r)
-answered-small quorums me leader claim (Err fault) = tt
-answered-small quorums me leader claim (Ok (LeadAnswer.Behind, after)) = (omega arith, refl)
-answered-small quorums me leader claim (Ok (LeadAnswer.Prepare v w b, after)) = (omega arith, refl)
-answered-small quorums me leader claim (Ok (LeadAnswer.Left, after)) = (omega arith, refl)
-answered-small quorums me leader claim (Ok (LeadAnswer.Accept v b os, after)) = pick (is_marked leader claim)
+answered-small : (quorums : Sizes) (me : ℕ) (volatile : Volatile) (claim : Claim) (r : Result (LeadAnswer × Leading) LeadFault) → IsSmallLed volatile (led_by_answer quorums me volatile claim r)
+answered-small quorums me volatile claim (Err fault) = tt
+answered-small quorums me volatile claim (Ok (LeadAnswer.Behind, after)) = (omega arith, refl, same volatile)
+answered-small quorums me volatile claim (Ok (LeadAnswer.Prepare v w b, after)) = (omega arith, refl, same volatile)
+answered-small quorums me volatile claim (Ok (LeadAnswer.Left, after)) = (omega arith, refl, same volatile)
+answered-small quorums me volatile claim (Ok (LeadAnswer.Accept v b os, after)) = let p = pick (is_marked volatile.leader claim) in (p.0, p.1, same volatile)
   where
     pick : (t : Bool) → (length (cond t [] (Valued me claim.key v b os ∷ [])) ≤ 1) × (number_of is_begin (cond t [] (Valued me claim.key v b os ∷ [])) ≡ 0)
     pick true = (omega arith, refl)
     pick false = (omega arith, refl)
 
-pub led-small : (cluster : Cluster) (me : ℕ) (facts : List Fact) (leader : Leading) (claim : Claim) → IsSmallLed (led_of cluster me facts leader claim)
-led-small cluster me facts leader claim = answered-small cluster.quorums me leader claim (lead cluster me (epoch_of facts) facts leader claim)
+pub led-small : (cluster : Cluster) (me : ℕ) (facts : List Fact) (volatile : Volatile) (claim : Claim) → IsSmallLed volatile (led_of cluster me facts volatile claim)
+led-small cluster me facts volatile claim = answered-small cluster.quorums me volatile claim (lead cluster me (epoch_of facts) facts volatile.leader claim)
 
-promised-small : (quorums : Sizes) (me : ℕ) (k : Key) (r : Result (PromiseAnswer × Leading) LeadFault) → IsSmallLed (promised_by_answer quorums me k r)
-promised-small quorums me k (Err fault) = tt
-promised-small quorums me k (Ok (PromiseAnswer.Ignored, after)) = (omega arith, refl)
-promised-small quorums me k (Ok (PromiseAnswer.Waiting n, after)) = (omega arith, refl)
-promised-small quorums me k (Ok (PromiseAnswer.Counted, after)) = (omega arith, refl)
-promised-small quorums me k (Ok (PromiseAnswer.Accept v b os, after)) = (omega arith, refl)
+promised-small : (quorums : Sizes) (me : ℕ) (volatile : Volatile) (k : Key) (r : Result (PromiseAnswer × Leading) LeadFault) → IsSmallLed volatile (promised_by_answer quorums me volatile k r)
+promised-small quorums me volatile k (Err fault) = tt
+promised-small quorums me volatile k (Ok (PromiseAnswer.Ignored, after)) = (omega arith, refl, same volatile)
+promised-small quorums me volatile k (Ok (PromiseAnswer.Waiting n, after)) = (omega arith, refl, same volatile)
+promised-small quorums me volatile k (Ok (PromiseAnswer.Counted, after)) = (omega arith, refl, same volatile)
+promised-small quorums me volatile k (Ok (PromiseAnswer.Accept v b os, after)) = (omega arith, refl, same volatile)
 
-step-small : (volatile : Volatile) (r : Result Led LeadFault) → IsSmallLed r → IsSmallResult volatile (step_of_led volatile r)
-step-small volatile (Ok led) h = record { weight = omega (arith, h.0); begun = h.1; opened = same volatile }
+step-small : (volatile : Volatile) (r : Result StepPart LeadFault) → IsSmallLed volatile r → IsSmallResult volatile (step_of_led r)
+step-small volatile (Ok part) h = record { weight = omega (arith, h.0); begun = h.1; opened = h.2 }
 step-small volatile (Err fault) h = tt
 
 lead-small : (cluster : Cluster) (me : ℕ) (facts : List Fact) (volatile : Volatile) (s : ℕ) (choice : Choice) (o : Option Outcome) → IsSmallResult volatile (lead_step_after cluster me facts volatile s choice o)
 lead-small cluster me facts volatile s choice (Some o) = sending-small volatile volatile _ (same volatile)
-lead-small cluster me facts volatile s choice None = step-small volatile (led_of cluster me facts volatile.leader (claim_of_choice choice)) (led-small cluster me facts volatile.leader (claim_of_choice choice))
+lead-small cluster me facts volatile s choice None = step-small volatile (led_of cluster me facts volatile (claim_of_choice choice)) (led-small cluster me facts volatile (claim_of_choice choice))
 
 -- ---- messages
 
@@ -237,7 +237,7 @@ message-small built cluster me facts volatile s (Message.Voted k v b t m) = rule
 message-small built cluster me facts volatile s (Message.Escalate k v t cause) = rule-small built.escalations volatile _ (escalate-small cluster me facts volatile s k t cause)
 message-small built cluster me facts volatile s (Message.Lead choice) = rule-small built.leading volatile _ (lead-small cluster me facts volatile s choice (heard_of facts choice.tx))
 message-small built cluster me facts volatile s (Message.Prepare k v w b) = rule-small built.leading volatile _ (prepared-small me facts volatile s k v b (on_prepare facts k v w b))
-message-small built cluster me facts volatile s (Message.Promise k v w b r os) = rule-small built.leading volatile _ (step-small volatile _ (promised-small cluster.quorums me k _))
+message-small built cluster me facts volatile s (Message.Promise k v w b r os) = rule-small built.leading volatile _ (step-small volatile _ (promised-small cluster.quorums me volatile k _))
 message-small built cluster me facts volatile s (Message.Accept k v b os) = rule-small built.leading volatile _ (accepted-small me facts volatile s k v b os (on_accept facts k v b os))
 message-small built cluster me facts volatile s (Message.Refused k v b p) = rule-small built.leading volatile _ (done-small volatile _ (same volatile))
 message-small built cluster me facts volatile s (Message.Outcome t o) = rule-small built.proposals volatile _ (outcome-small volatile t (on_outcome facts t o))
@@ -266,7 +266,7 @@ checked-small built cluster me facts volatile s m = by_case (message_step built 
 -- ---- ticks
 
 -- so many entries come, none begins a transaction, and no more are open
-pub record IsTickSmall (n opened : ℕ) (p : Ticked) : Type 0 where
+pub record IsTickSmall (n opened : ℕ) (p : StepPart) : Type 0 where
   pub weight : length p.entries ≤ n
   pub begun : number_of is_begin p.entries ≡ 0
   pub few : opened_in p.after ≤ opened
@@ -279,7 +279,7 @@ pub length-both : {A : Type 0} (xs ys : List A) → length (xs ++ ys) ≡ length
 length-both [] ys = omega arith
 length-both (x ∷ xs) ys = omega (arith, length-both xs ys)
 
-pub fold-small : {X : Type 0} (act : Volatile → X → Ticked) (xs : List X) (n opened : ℕ) (before : Ticked) → ((volatile : Volatile) (x : X) → opened_in volatile ≤ opened → IsTickSmall 1 opened (act volatile x)) → IsTickSmall n opened before →
+pub fold-small : {X : Type 0} (act : Volatile → X → StepPart) (xs : List X) (n opened : ℕ) (before : StepPart) → ((volatile : Volatile) (x : X) → opened_in volatile ≤ opened → IsTickSmall 1 opened (act volatile x)) → IsTickSmall n opened before →
     IsTickSmall (n + length xs) opened (fold (and_then act) before xs)
 fold-small act [] n opened before f h = record { weight = omega (arith, h.weight); begun = h.begun; few = h.few }
 fold-small {X = X} act (x ∷ xs) n opened before f h = more (fold-small act xs (n + 1) opened (and_then act before x) f next)
@@ -297,18 +297,18 @@ fold-small {X = X} act (x ∷ xs) n opened before f h = more (fold-small act xs 
     more : IsTickSmall ((n + 1) + length xs) opened (fold (and_then act) (and_then act before x) xs) → IsTickSmall (n + length (x ∷ xs)) opened (fold (and_then act) (and_then act before x) xs)
     more k = record { weight = omega (arith, k.weight); begun = k.begun; few = k.few }
 
-pub ticked-small : (volatile : Volatile) (sends : List Envelope) (n opened : ℕ) → opened_in volatile ≤ opened → IsTickSmall n opened (ticked volatile sends)
+pub ticked-small : (volatile : Volatile) (sends : List Envelope) (n opened : ℕ) → opened_in volatile ≤ opened → IsTickSmall n opened (only_sending volatile sends)
 ticked-small volatile sends n opened h = record { weight = omega arith; begun = refl; few = h }
 
 claim-small : (built : Built) (cluster : Cluster) (me : ℕ) (facts : List Fact) (volatile : Volatile) (claim : Claim) (opened : ℕ) → opened_in volatile ≤ opened → IsTickSmall 1 opened (claim_led built cluster me facts volatile claim)
 claim-small built cluster me facts volatile claim opened h =
     elim (cases_Bool built.leading) [
-      | inl e ↦ rw e (by_case (led_of cluster me facts volatile.leader claim) (led-small cluster me facts volatile.leader claim))
+      | inl e ↦ rw e (by_case (led_of cluster me facts volatile claim) (led-small cluster me facts volatile claim))
       | inr e ↦ rw e (ticked-small volatile [] 1 opened h)
     ]
   where
-    by_case : (r : Result Led LeadFault) → IsSmallLed r → IsTickSmall 1 opened (led_or_left volatile r)
-    by_case (Ok led) g = record { weight = g.0; begun = g.1; few = h }
+    by_case : (r : Result StepPart LeadFault) → IsSmallLed volatile r → IsTickSmall 1 opened (led_or_left volatile r)
+    by_case (Ok part) g = record { weight = g.0; begun = g.1; few = omega (arith, h, g.2) }
     by_case (Err fault) g = ticked-small volatile [] 1 opened h
 
 pub manager-act-small : (built : Built) (cluster : Cluster) (me : ℕ) (facts : List Fact) (opened : ℕ) (volatile : Volatile) (act : ManagerAct) → opened_in volatile ≤ opened → IsTickSmall 1 opened (manager_act built cluster me facts volatile act)

@@ -5,7 +5,6 @@ use Rattle.mdcc_option.specs.declared.cluster.Cluster.{Cluster}
 use Rattle.mdcc_ledger.specs.Ledger.{Entry, facts_of}
 use Rattle.mdcc_ledger.specs.AllowedLedgers.{IsAllowed}
 use Rattle.mdcc_messages.specs.declared.messages.Envelope.{Envelope}
-use Rattle.mdcc_rules.specs.TickRules.{Ticked, and_then, ticked}
 use Rattle.mdcc_protocol.specs.Volatile.{Volatile}
 use Rattle.mdcc_trace_states.specs.Words.{Each, In, IsTail}
 use Rattle.mdcc_trace_states.specs.Keeping.{ArePlaced, Keeps}
@@ -15,13 +14,14 @@ use Rattle.mdcc_trace_states.proofs.Lists.{Each-append, Each-like, IsTail-more}
 use Rattle.mdcc_trace_states.proofs.Kept.{Stands-more, epoch-aboves}
 use Rattle.mdcc_trace_rules.proofs.Begins.{sends-good}
 use Rattle.mdcc_trace_states.specs.Steps.{IsUp}
+use Rattle.mdcc_rules.specs.Steps.{StepPart, and_then, only_sending}
 
 -- a part of a tick is good, and adds no fact
-pub record IsGoodPart (also : List Entry → Type 0) (cluster : Cluster) (es : List Entry) (a : ℕ) (part : Ticked) : Type 0 where
+pub record IsGoodPart (also : List Entry → Type 0) (cluster : Cluster) (es : List Entry) (a : ℕ) (part : StepPart) : Type 0 where
   pub good : IsGoodStep cluster also es a part.entries part.sends part.after
   pub still : facts_of (part.entries ++ es) a ≡ facts_of es a
 
-pub after-part : (also : List Entry → Type 0) (cluster : Cluster) (es : List Entry) (a : ℕ) (v : Volatile) (part : Ticked) → IsUp also cluster es a v → IsGoodPart also cluster es a part → IsUp also cluster (part.entries ++ es) a part.after
+pub after-part : (also : List Entry → Type 0) (cluster : Cluster) (es : List Entry) (a : ℕ) (v : Volatile) (part : StepPart) → IsUp also cluster es a v → IsGoodPart also cluster es a part → IsUp also cluster (part.entries ++ es) a part.after
 after-part also cluster es a v part up h = record {
   sizes = up.sizes;
   legal = h.good.legal;
@@ -32,7 +32,7 @@ after-part also cluster es a v part up h = record {
   keeps = h.good.keeps;
 }
 
-pub then-good : (also : List Entry → Type 0) (cluster : Cluster) (es : List Entry) (a : ℕ) {X : Type 0} (act : Volatile → X → Ticked) (before : Ticked) (x : X) →
+pub then-good : (also : List Entry → Type 0) (cluster : Cluster) (es : List Entry) (a : ℕ) {X : Type 0} (act : Volatile → X → StepPart) (before : StepPart) (x : X) →
     IsGoodPart also cluster es a before → IsGoodPart also cluster (before.entries ++ es) a (act before.after x) → IsGoodPart also cluster es a (and_then act before x)
 then-good also cluster es a act before x h g = record {
   good = record {
@@ -57,7 +57,7 @@ then-good also cluster es a act before x h g = record {
         assoc (e ∷ xs) = ap (λ z. e ∷ z) (assoc xs)
 
 -- each act is good on a ledger that has the base as its tail
-pub fold-good : (also : List Entry → Type 0) (cluster : Cluster) (base es : List Entry) (a : ℕ) {X : Type 0} (act : Volatile → X → Ticked) (xs : List X) (before : Ticked) (v : Volatile) → IsUp also cluster es a v → IsGoodPart also cluster es a before →
+pub fold-good : (also : List Entry → Type 0) (cluster : Cluster) (base es : List Entry) (a : ℕ) {X : Type 0} (act : Volatile → X → StepPart) (xs : List X) (before : StepPart) (v : Volatile) → IsUp also cluster es a v → IsGoodPart also cluster es a before →
     IsTail base (before.entries ++ es) →
     ((x : X) → In x xs → (new : List Entry) (w : Volatile) → IsUp also cluster (new ++ es) a w → facts_of (new ++ es) a ≡ facts_of es a → IsTail base (new ++ es) → IsGoodPart also cluster (new ++ es) a (act w x)) →
     IsGoodPart also cluster es a (fold (and_then act) before xs)
@@ -69,5 +69,5 @@ fold-good also cluster base es a act (x ∷ xs) before v up h tail f =
     fold-good also cluster base es a act xs (and_then act before x) v up (then-good also cluster es a act before x h next) more (λ y i. f y (inr i))
 
 pub sent-part : (also : List Entry → Type 0) (cluster : Cluster) (es : List Entry) (a : ℕ) (v w : Volatile) (sends : List Envelope) → IsUp also cluster es a v → Keeps cluster es a w → Each (Stands cluster es) sends →
-    IsGoodPart also cluster es a (ticked w sends)
+    IsGoodPart also cluster es a (only_sending w sends)
 sent-part also cluster es a v w sends up keeps stand = record { good = sends-good also cluster es a v w sends up keeps stand; still = refl }

@@ -28,15 +28,15 @@ use Rattle.mdcc_protocol.specs.Learner.{collided, is_learned}
 use Rattle.mdcc_protocol.specs.Manager
 use Rattle.mdcc_protocol.specs.Manager.{act_on_cause, act_on_vote, acted, choice_unled, lead_act, vote_taken}
 use Rattle.mdcc_rules.specs.ManagerRules.{act_sent, acted_step, begin_step_by, decided_step, escalate_step, opened_step, undecided_step, voted_step, watched_step}
-use Rattle.mdcc_rules.specs.LeaderRules.{Led, lead_entries, lead_sent, lead_step_after, led_by_answer, led_of, promised_by_answer, step_of_led}
+use Rattle.mdcc_rules.specs.LeaderRules.{lead_entries, lead_sent, lead_step_after, led_by_answer, led_of, promised_by_answer, step_of_led}
 use Rattle.mdcc_rules.specs.Messages.{to_all, to_each, to_others}
 use Rattle.mdcc_rules.specs.Node.{checked, is_own_message, message_step, step_of}
 use Rattle.mdcc_ledger.specs.Ledger.{Added, Begun, Entry, Valued}
 use Rattle.mdcc_protocol.specs.News.{is_news}
 use Rattle.mdcc_protocol.specs.Recover
-use Rattle.mdcc_rules.specs.Steps.{NodeStep, nothing_done}
+use Rattle.mdcc_rules.specs.Steps.{NodeStep, StepPart, and_then, nothing_done, only_sending}
 use Rattle.mdcc_rules.specs.SyncRules.{give_sent_by, outcome_step_by, sync_ask_step, sync_give_step_by}
-use Rattle.mdcc_rules.specs.TickRules.{Ticked, and_then, claim_led, led_or_left, manager_act, manager_ticked, recovery_act, recovery_ticked, tick_parts, tick_step, ticked}
+use Rattle.mdcc_rules.specs.TickRules.{claim_led, led_or_left, manager_act, manager_ticked, recovery_act, recovery_ticked, tick_parts, tick_step}
 use Rattle.mdcc_protocol.specs.Visible.{on_outcome, on_sync_ask, on_sync_give}
 use Rattle.mdcc_protocol.specs.Volatile.{Leading, Managing, Volatile, is_open, txs_opened, with_manager, with_recovery}
 use Rattle.mdcc_messages.specs.WellFormed.{IsWellFormedMessage}
@@ -73,14 +73,14 @@ LeavesEpoch new = (facts : List Fact) → epoch_of (with_new facts new) ≡ epoc
 abbrev IsQuiet : Cluster → ℕ → NodeStep → Type 0
 IsQuiet cluster me step = AllByRecursion (IsValuedBy me) step.entries × AllByRecursion (GoesWithin cluster) step.sends × LeavesEpoch step.fact
 
--- the same of what a leader makes of a claim or a promise
-abbrev IsQuietLed : Cluster → ℕ → Result Led LeadFault → Type 0
-IsQuietLed cluster me (Ok led) = AllByRecursion (IsValuedBy me) led.entries × AllByRecursion (GoesWithin cluster) led.sends
-IsQuietLed cluster me (Err fault) = Unit {0}
-
--- and of a part of a tick
-abbrev IsQuietPart : Cluster → ℕ → Ticked → Type 0
+-- the same of a part of a step
+abbrev IsQuietPart : Cluster → ℕ → StepPart → Type 0
 IsQuietPart cluster me part = AllByRecursion (IsValuedBy me) part.entries × AllByRecursion (GoesWithin cluster) part.sends
+
+-- and of what a leader makes of a claim or a promise
+abbrev IsQuietLed : Cluster → ℕ → Result StepPart LeadFault → Type 0
+IsQuietLed cluster me (Ok part) = IsQuietPart cluster me part
+IsQuietLed cluster me (Err fault) = Unit {0}
 
 -- what holds of every step
 abbrev pub IsStaying : Cluster → NodeStep → Type 0
@@ -97,8 +97,8 @@ quiet-stays : (cluster : Cluster) (me : ℕ) (step : NodeStep) → IsQuiet clust
 quiet-stays cluster me step h = (record { entries = no-fact me step.entries h.0; sends = h.1 }, h.2)
 
 -- one part of a tick after another
-parts-quiet : {X : Type 0} (cluster : Cluster) (me : ℕ) (act : Volatile → X → Ticked) → ((v : Volatile) (x : X) → IsQuietPart cluster me (act v x))
-    → (xs : List X) (before : Ticked) → IsQuietPart cluster me before → IsQuietPart cluster me (fold (and_then act) before xs)
+parts-quiet : {X : Type 0} (cluster : Cluster) (me : ℕ) (act : Volatile → X → StepPart) → ((v : Volatile) (x : X) → IsQuietPart cluster me (act v x))
+    → (xs : List X) (before : StepPart) → IsQuietPart cluster me before → IsQuietPart cluster me (fold (and_then act) before xs)
 parts-quiet cluster me act each [] before h = h
 parts-quiet cluster me act each (x ∷ xs) before h =
     let next = each before.after x in
@@ -250,22 +250,22 @@ module _ (built : Built) (cluster : Cluster) (me : ℕ) (facts : List Fact) (vol
   led-sent claim (LeadAnswer.Prepare version through ballot) = each-within (all_centres cluster.quorums) (Message.Prepare claim.key version through ballot) all-within
   led-sent claim LeadAnswer.Left = tt
 
-  led-quiet : (leader : Leading) (claim : Claim) (r : Result (LeadAnswer × Leading) LeadFault) → IsQuietLed cluster me (led_by_answer cluster.quorums me leader claim r)
-  led-quiet leader claim (Err fault) = tt
-  led-quiet leader claim (Ok (answer, after)) = (led-entries leader claim answer, led-sent claim answer)
+  led-quiet : (v : Volatile) (claim : Claim) (r : Result (LeadAnswer × Leading) LeadFault) → IsQuietLed cluster me (led_by_answer cluster.quorums me v claim r)
+  led-quiet v claim (Err fault) = tt
+  led-quiet v claim (Ok (answer, after)) = (led-entries v.leader claim answer, led-sent claim answer)
 
-  led-here : (leader : Leading) (claim : Claim) → IsQuietLed cluster me (led_of cluster me facts leader claim)
-  led-here leader claim = led-quiet leader claim (lead cluster me (epoch_of facts) facts leader claim)
+  led-here : (v : Volatile) (claim : Claim) → IsQuietLed cluster me (led_of cluster me facts v claim)
+  led-here v claim = led-quiet v claim (lead cluster me (epoch_of facts) facts v.leader claim)
 
-  step-led : (r : Result Led LeadFault) → IsQuietLed cluster me r → OnStep (IsQuiet cluster me) (step_of_led volatile r)
-  step-led (Ok led) h = (h.0, h.1, λ facts. refl)
+  step-led : (r : Result StepPart LeadFault) → IsQuietLed cluster me r → OnStep (IsQuiet cluster me) (step_of_led r)
+  step-led (Ok part) h = (h.0, h.1, λ facts. refl)
   step-led (Err fault) h = tt
 
   claimed : (s : ℕ) (choice : Choice) → is_centre cluster s ≡ true → (o : Option Outcome) → OnStep (IsQuiet cluster me) (lead_step_after cluster me facts volatile s choice o)
   claimed s choice h (Some outcome) = (tt, (h, tt), λ facts. refl)
-  claimed s choice h None = step-led (led_of cluster me facts volatile.leader (claim_of_choice choice)) (led-here volatile.leader (claim_of_choice choice))
+  claimed s choice h None = step-led (led_of cluster me facts volatile (claim_of_choice choice)) (led-here volatile (claim_of_choice choice))
 
-  promised : (key : Key) (r : Result (PromiseAnswer × Leading) LeadFault) → IsQuietLed cluster me (promised_by_answer cluster.quorums me key r)
+  promised : (key : Key) (r : Result (PromiseAnswer × Leading) LeadFault) → IsQuietLed cluster me (promised_by_answer cluster.quorums me volatile key r)
   promised key (Err fault) = tt
   promised key (Ok (PromiseAnswer.Ignored, after)) = (tt, tt)
   promised key (Ok (PromiseAnswer.Waiting count, after)) = (tt, tt)
@@ -334,8 +334,8 @@ module _ (built : Built) (cluster : Cluster) (me : ℕ) (facts : List Fact) (vol
       on_rule (IsQuiet cluster me) built.leading volatile _ nothing (prepared s key version ballot (on_prepare facts key version through ballot) h)
   message-quiet s (Message.Promise key version through ballot reported votes) h b w =
       let promise : Promise = record { key = key; version = version; through = through; ballot = ballot; reported = reported; votes = votes } in
-      let r = promised_by_answer cluster.quorums me key (on_promise cluster facts volatile.leader s promise) in
-      on_rule (IsQuiet cluster me) built.leading volatile (step_of_led volatile r) nothing (step-led r (promised key (on_promise cluster facts volatile.leader s promise)))
+      let r = promised_by_answer cluster.quorums me volatile key (on_promise cluster facts volatile.leader s promise) in
+      on_rule (IsQuiet cluster me) built.leading volatile (step_of_led r) nothing (step-led r (promised key (on_promise cluster facts volatile.leader s promise)))
   message-quiet s (Message.Accept key version ballot options) h b w =
       let both = and_parts (ballot_belongs cluster ballot) (options_belong cluster options) b in
       on_rule (IsQuiet cluster me) built.leading volatile _ nothing
@@ -364,14 +364,14 @@ module _ (built : Built) (cluster : Cluster) (me : ℕ) (facts : List Fact) (vol
 
   -- ---- a tick
 
-  claim-part : (v : Volatile) (r : Result Led LeadFault) → IsQuietLed cluster me r → IsQuietPart cluster me (led_or_left v r)
-  claim-part v (Ok led) h = h
+  claim-part : (v : Volatile) (r : Result StepPart LeadFault) → IsQuietLed cluster me r → IsQuietPart cluster me (led_or_left v r)
+  claim-part v (Ok part) h = h
   claim-part v (Err fault) h = (tt, tt)
 
   claim-quiet : (v : Volatile) (claim : Claim) → IsQuietPart cluster me (claim_led built cluster me facts v claim)
   claim-quiet v claim =
-      cond_both built.leading (led_or_left v (led_of cluster me facts v.leader claim)) (ticked v []) (IsQuietPart cluster me)
-      (λ e. claim-part v (led_of cluster me facts v.leader claim) (led-here v.leader claim)) (λ e. (tt, tt))
+      cond_both built.leading (led_or_left v (led_of cluster me facts v claim)) (only_sending v []) (IsQuietPart cluster me)
+      (λ e. claim-part v (led_of cluster me facts v claim) (led-here v claim)) (λ e. (tt, tt))
 
   manager-quiet : (v : Volatile) (act : ManagerAct) → IsQuietPart cluster me (manager_act built cluster me facts v act)
   manager-quiet v (ManagerAct.Propose choice) = (tt, each-within (all_centres cluster.quorums) (Message.Propose choice) all-within)
@@ -387,9 +387,9 @@ module _ (built : Built) (cluster : Cluster) (me : ℕ) (facts : List Fact) (vol
   managed-quiet : IsQuietPart cluster me (manager_ticked built cluster me facts volatile)
   managed-quiet =
       let next = Manager.tick cluster.quorums volatile.manager in
-      parts-quiet cluster me (manager_act built cluster me facts) manager-quiet next.0 (ticked (with_manager volatile next.1) []) (tt, tt)
+      parts-quiet cluster me (manager_act built cluster me facts) manager-quiet next.0 (only_sending (with_manager volatile next.1) []) (tt, tt)
 
-  recovered-quiet : (first : Ticked) → IsQuietPart cluster me first → IsQuietPart cluster me (recovery_ticked built cluster me facts first)
+  recovered-quiet : (first : StepPart) → IsQuietPart cluster me first → IsQuietPart cluster me (recovery_ticked built cluster me facts first)
   recovered-quiet first h =
       let next = Recover.tick cluster.quorums facts first.after.recovery (txs_opened first.after.manager) in
       parts-quiet cluster me (recovery_act built cluster me facts) recovery-quiet next.0 (record first { after = with_recovery first.after next.1 }) h
@@ -397,11 +397,11 @@ module _ (built : Built) (cluster : Cluster) (me : ℕ) (facts : List Fact) (vol
   tick-quiet : IsQuiet cluster me (tick_step built cluster me facts volatile)
   tick-quiet = (all.0, all.1, λ facts. refl)
     where
-      first : Ticked
-      first = cond built.ticks (manager_ticked built cluster me facts volatile) (ticked volatile [])
+      first : StepPart
+      first = cond built.ticks (manager_ticked built cluster me facts volatile) (only_sending volatile [])
 
       first-quiet : IsQuietPart cluster me first
-      first-quiet = cond_both built.ticks (manager_ticked built cluster me facts volatile) (ticked volatile []) (IsQuietPart cluster me) (λ e. managed-quiet) (λ e. (tt, tt))
+      first-quiet = cond_both built.ticks (manager_ticked built cluster me facts volatile) (only_sending volatile []) (IsQuietPart cluster me) (λ e. managed-quiet) (λ e. (tt, tt))
 
       all : IsQuietPart cluster me (tick_parts built cluster me facts volatile)
       all = cond_both built.recovery (recovery_ticked built cluster me facts first) first (IsQuietPart cluster me) (λ e. recovered-quiet first first-quiet) (λ e. first-quiet)
