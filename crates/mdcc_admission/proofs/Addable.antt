@@ -3,9 +3,9 @@ use Rattle.std.proofs.Common.{◌≡◌, ℕ, Bool, true, false, not, nat_le, na
 use Rattle.std.specs.List.{list_all, list_any}
 use Rattle.std.proofs.lemmas.Bool.{and_parts, cases_Bool}
 use Rattle.std.proofs.lemmas.Bool.Decides.{nat_tests}
-use Rattle.mdcc_acceptor.proofs.LastVotes.{voted_by_last}
 use Rattle.mdcc_admission.specs.Admission.{is_admitted_kind}
 use Rattle.mdcc_admission.specs.Laws.{AdmittedMayBeAdded}
+use Rattle.mdcc_admission.proofs.LastVotes.{voted_by_last}
 use Rattle.mdcc_admission.proofs.Several.{kept_all}
 use Rattle.mdcc_base.specs.Ballot.{ballot_lt, fast_ballot, is_fast}
 use Rattle.mdcc_base.specs.Key.{key_eq}

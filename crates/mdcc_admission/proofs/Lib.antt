@@ -2,6 +2,7 @@ pub mod Addable
 pub mod Alike
 pub mod Exact
 pub mod Fresh
+pub mod LastVotes
 pub mod Marks
 pub mod Settled
 pub mod Several

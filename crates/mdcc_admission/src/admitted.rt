@@ -47,7 +47,7 @@ fn is_admitted_kind<S: FactStore>(store: &S, cluster: &Cluster, fact: &Fact) -> 
             options,
             offered,
         } => is_allowed_vote(store, cluster, key, *version, ballot, options, offered),
-        Fact::Heard { tx, outcome: _ } => store.heard(*tx).is_none(),
+        Fact::Heard { tx, outcome: _ } => !store.is_heard(*tx),
         Fact::Adopted {
             key,
             version,

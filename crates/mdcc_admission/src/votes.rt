@@ -1,11 +1,9 @@
 //! Votes that may stand after the facts before them.
-ghost use Rattle.std.specs.Prelude.{◌≡◌, ◌&&◌, List, false, is_some, length, nat_le, nat_lt, not};
+ghost use Rattle.std.specs.Prelude.{◌≡◌, ◌&&◌, List, is_some, length, nat_le, nat_lt, not};
 ghost use Rattle.mdcc_admission.specs.Admission.{are_new, is_allowed_single, is_allowed_vote};
-ghost use Rattle.mdcc_base.specs.Ballot.{ballot_lt};
 ghost use Rattle.mdcc_ledger.specs.BootTest.{is_allowed_classic_vote, is_allowed_fast_vote, is_allowed_mark, is_answer};
-ghost use Rattle.mdcc_protocol.specs.Facts.{current_of, promise_of, votes_of};
+ghost use Rattle.mdcc_protocol.specs.Facts.{current_of};
 ghost use Rattle.mdcc_messages.specs.declared.facts.Fact.{Fact as AFact};
-ghost use Rattle.mdcc_struct.specs.Maps.{value_of};
 
 use mdcc_acceptor::on_propose;
 use mdcc_base::{Ballot, Key, TxId};
@@ -94,18 +92,8 @@ fn is_allowed_fast_vote<S: FactStore>(
 
 // ---- at a classic ballot
 
-// Whether the transaction was voted at the ballot. As no vote is above it, it is the last one.
-fn is_voted<S: FactStore>(store: &S, key: &Key, version: u64, ballot: Ballot, tx: TxId) -> bool
-    ensures { (facts : List AFact) → S.stands store.now facts → ballot_lt ballot (promise_of facts key.now version) ≡ false
-        → result ≡ is_some (value_of (votes_of facts key.now version ballot) tx) }
-{
-    match store.vote_of(key, version, tx) {
-        Some((last, _)) => last.is(&ballot),
-        None => false,
-    }
-}
-
 // Whether no mark of the structure was voted at the ballot.
+#[tactic(auto, using(crate::proofs::Marks::none_voted))]
 fn are_new<S: FactStore>(
     store: &S,
     key: &Key,
@@ -113,19 +101,12 @@ fn are_new<S: FactStore>(
     ballot: Ballot,
     options: &Options,
 ) -> bool
-    ensures { (facts : List AFact) → S.stands store.now facts → ballot_lt ballot (promise_of facts key.now version) ≡ false
-        → result ≡ are_new facts key.now version ballot options.now }
+    ensures { (facts : List AFact) → S.stands store.now facts → result ≡ are_new facts key.now version ballot options.now }
 {
-    for place in 0..options.len() {
-        let (tx, _) = options.at(place);
-        if is_voted(store, key, version, ballot, tx) {
-            return false;
-        }
-    }
-    true
+    store.count_voted(key, version, ballot, options) == 0
 }
 
-// Whether a vote at a classic ballot may that is not below the promise.
+// Whether a vote at a classic ballot may, where it is not below the promise.
 fn is_new_vote<S: FactStore>(
     store: &S,
     key: &Key,
@@ -134,7 +115,7 @@ fn is_new_vote<S: FactStore>(
     options: &Options,
     offered: &Option<Choice>,
 ) -> bool
-    ensures { (facts : List AFact) → S.stands store.now facts → ballot_lt ballot.now (promise_of facts key.now version) ≡ false
+    ensures { (facts : List AFact) → S.stands store.now facts
         → result ≡ (nat_le version (current_of facts key.now) && nat_lt 0 (length options.now)
         && are_new facts key.now version ballot.now options.now && not (is_some offered.now)) }
 {

@@ -56,7 +56,7 @@ fn is_news(store: &ListFacts, fact: &Fact) -> bool
             options,
             offered: _,
         } => are_lower(store, key, *version, ballot, options),
-        Fact::Heard { tx, outcome: _ } => store.heard(*tx).is_none(),
+        Fact::Heard { tx, outcome: _ } => !store.is_heard(*tx),
         Fact::Adopted {
             key: _,
             version: _,

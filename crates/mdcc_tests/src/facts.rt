@@ -11,13 +11,13 @@ use std::process::Abort;
 use std::test::Fail;
 
 // The ballot at which the third centre leads first.
-const LED: Ballot = Ballot {
+pub(crate) const LED: Ballot = Ballot {
     round: 1,
     epoch: 1,
     centre: 3,
 };
 
-fn tx(seq: u32) -> TxId {
+pub(crate) fn tx(seq: u32) -> TxId {
     TxId {
         centre: Centre::new(1).unwrap(),
         epoch: 1,
@@ -32,19 +32,19 @@ fn item(value: i64) -> Item {
     }
 }
 
-fn write(rt: &impl Abort, value: i64, seen: &[TxId]) -> Update {
+pub(crate) fn write(rt: &impl Abort, value: i64, seen: &[TxId]) -> Update {
     Update::Write(
         item(value),
         BoundedList::from_slice(seen).expect(rt, "at most 64"),
     )
 }
 
-fn add(amount: i64) -> Update {
+pub(crate) fn add(amount: i64) -> Update {
     Update::Add(BoundedList::from_slice(&[(1, amount)]).unwrap())
 }
 
 // What the transaction of this number asks of a key, its only one.
-fn choice(key: Key, seq: u32, version: u64, update: Update) -> Choice {
+pub(crate) fn choice(key: Key, seq: u32, version: u64, update: Update) -> Choice {
     Choice {
         tx: tx(seq),
         key,
@@ -55,7 +55,7 @@ fn choice(key: Key, seq: u32, version: u64, update: Update) -> Choice {
 }
 
 // A vote on these marks of the transactions of these numbers.
-fn voted(
+pub(crate) fn voted(
     alloc: Global,
     key: Key,
     version: u64,
@@ -79,7 +79,7 @@ fn voted(
     })
 }
 
-fn committed(rt: &impl Abort, choice: &Choice) -> Fact {
+pub(crate) fn committed(rt: &impl Abort, choice: &Choice) -> Fact {
     Fact::Heard {
         tx: choice.tx,
         outcome: Outcome::Commit(BoundedList::from_slice(&[choice.copy()]).expect(rt, "one")),

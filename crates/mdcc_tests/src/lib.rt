@@ -4,6 +4,8 @@
 
 pub mod adding;
 #[cfg(test)]
+mod asked;
+#[cfg(test)]
 mod drafts;
 #[cfg(test)]
 mod facts;

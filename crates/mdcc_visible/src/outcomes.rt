@@ -12,11 +12,12 @@ use mdcc_option::Outcome;
 pub fn on_outcome<S: FactStore>(store: &S, tx: TxId, outcome: &Outcome) -> Option<Fact>
     ensures { (facts : List AFact) → S.stands store.now facts → result ≡ on_outcome facts tx outcome.now }
 {
-    match store.heard(tx) {
-        Some(_) => None,
-        None => Some(Fact::Heard {
+    if store.is_heard(tx) {
+        None
+    } else {
+        Some(Fact::Heard {
             tx,
             outcome: outcome.copy(),
-        }),
+        })
     }
 }
