@@ -8,9 +8,9 @@ use Rattle.mdcc_base.specs.Quorums.{quorums_of}
 use Rattle.mdcc_option.specs.declared.cluster.Cluster.{Cluster}
 use Rattle.mdcc_built.specs.Built.{built}
 use Rattle.mdcc_language.specs.Header.{Left, all_of, next_line, without_next, in_line, is_next, whole_line, in_order, header_line, version_of, last_number, sizes_of, bound_of, quorums_in, quorums_line, bounds_in, bound_line, Bounds, more_bounds, bounds_lines, header_lines, header_of, default_cells}
-use Rattle.mdcc_language.specs.Lines.{lines_in, text_of, line_end_of}
+use Rattle.mdcc_language.specs.Lines.{bounded, bytes_of_line, lines_in, line_end_of}
 use Rattle.mdcc_language.specs.Words.{◌>>=◌, are_plain_digits, is_negative, refused, within, number_of, natural_of, end_at, word_at, word_behind, word_end}
-use Rattle.mdcc_replay.proofs.Steps.{bind_ok}
+use Rattle.mdcc_replay.proofs.Steps.{bind_ok, bounded_ok}
 use Rattle.mdcc_language.specs.declared.schedule.HeaderFault.{HeaderFault}
 use Rattle.mdcc_language.specs.declared.schedule.SchedFault.{SchedFault}
 use Rattle.mdcc_language.specs.declared.schedule.SchedCause.TheVariants.{Number, Range}
@@ -67,7 +67,10 @@ in_line_ok P left (Err fault) p = tt
 line_read : {A : Type 0} (P : A → Type 0) (text word : List ℕ) (read : List ℕ → Result A SchedFault) (n : ℕ) (left : Left) → IfOk (whole_line word read (next_line left)) P
     → IsLeft text n left → IfOk (header_line word read left) (Read P text (n + 1))
 line_read P text word read n left p h =
-    bind_ok P (Read P text (n + 1)) (in_line left (whole_line word read (next_line left))) (λ value. Ok (value, without_next left)) (in_line_ok P left (whole_line word read (next_line left)) p)
+    let line : List ℕ = next_line left in
+    let whole : Result _ SchedFault = whole_line word read line in
+    let kept : Result _ SchedFault = bounded (bytes_of_line line) whole in
+    bind_ok P (Read P text (n + 1)) (in_line left kept) (λ value. Ok (value, without_next left)) (in_line_ok P left kept (bounded_ok P (bytes_of_line line) whole p))
     (λ value good. (good, next_left text n left h))
 
 -- ---- numbers
@@ -105,10 +108,10 @@ last_ok low high at line =
 
 whole_ok : {A : Type 0} (P : A → Type 0) (word : List ℕ) (read : List ℕ → Result A SchedFault) (line : List ℕ) → ((text : List ℕ) → IfOk (read text) P) → IfOk (whole_line word read line) P
 whole_ok P word read line p =
-    bind_ok Any P (text_of line) _ (any_ok (text_of line)) (λ text _.
+    let text : List ℕ = bytes_of_line line in
     bind_ok Any P (in_order word text) _ (any_ok (in_order word text)) (λ _ _.
     bind_ok P P (read text) _ (p text) (λ value good.
-    bind_ok Any P (line_end_of text line) _ (any_ok (line_end_of text line)) (λ _ _. good))))
+    bind_ok Any P (line_end_of text line) _ (any_ok (line_end_of text line)) (λ _ _. good)))
 
 -- ---- the lines of a header
 

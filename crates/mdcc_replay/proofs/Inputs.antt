@@ -1,5 +1,5 @@
 -- What a whole input adds to a replay.
-use Rattle.std.proofs.Common.{◌≡◌, ◌+◌, ◌≤◌, ◌<◌, [], List, ℕ, Bool, true, false, cond, nat_lt, length, drop, Option, Some, None, Result, Ok, refl, sym, ap, ◌∙◌, subst, arith}
+use Rattle.std.proofs.Common.{◌≡◌, ◌+◌, ◌≤◌, ◌<◌, [], List, ℕ, Bool, true, false, cond, nat_lt, length, drop, Option, Some, None, Result, Ok, Err, refl, sym, ap, ◌∙◌, subst, arith}
 use Rattle.std.specs.Io.KnownBytes.{Appends}
 use Rattle.std.proofs.KnownBytes.{Appends-nil}
 use Rattle.std.proofs.lemmas.Bool.Decides.{nat_tests}
@@ -7,8 +7,10 @@ use Rattle.mdcc_base.specs.AreQuorums.{AreQuorums}
 use Rattle.mdcc_option.specs.Bounds.{IsSchema}
 use Rattle.mdcc_option.specs.declared.cluster.Cluster.{Cluster}
 use Rattle.mdcc_built.specs.Built.{built}
-use Rattle.mdcc_language.specs.Errors.{TooLong, most_input}
+use Rattle.mdcc_language.specs.Errors.{AtHeader, TooLong, most_input}
 use Rattle.mdcc_language.specs.Header.{Left, all_of, header_lines, header_of}
+use Rattle.mdcc_language.specs.Words.{◌>>=◌}
+use Rattle.mdcc_language.specs.declared.schedule.HeaderFault.{HeaderFault}
 use Rattle.mdcc_protocol.specs.IsCluster.{IsCluster}
 use Rattle.mdcc_language.specs.Lines.{lines_in}
 use Rattle.mdcc_simulation.specs.Replay.{Replay, after_text, ended, lines_replayed, replay_behind, replay_of}
@@ -74,3 +76,12 @@ pub header_failed : (a b : Option (List ℕ)) (input : List ℕ) (cluster : Clus
     → Front a b (header_text end input) → Front a b (replay_of built input).text
 header_failed a b input cluster end h e front =
     subst (λ (r : Replay). Front a b r.text) (sym (replay_given input cluster end h e)) (front_of_first a b (header_text end input) (behind_header input cluster end).text front)
+
+pub header_refused : (a : Option (List ℕ)) (input : List ℕ) (fault : HeaderFault) → length input ≤ 67108864 → Err fault ≡ header_of built input
+    → Ends a a (replay_of built input) (Some (Refusal.Header fault))
+header_refused a input fault h e = rw (short_by input h) (by (header_lines built (all_of input)) e)
+  where
+    by : (r : Result (Cluster × Left) HeaderFault) → Err fault ≡ (r >>= λ header. let place : Result (Cluster × ℕ) HeaderFault = Ok (header.0, header.1.at) in place)
+        → Ends a a (replay_behind built input r) (Some (Refusal.Header fault))
+    by (Ok header) e = absurd (cc)
+    by (Err found) e = let same : fault ≡ found = cc in record { wrote = Appends-nil a; fault = ap (λ (f : HeaderFault). Some (AtHeader f)) (sym same) }

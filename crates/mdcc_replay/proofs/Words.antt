@@ -3,12 +3,12 @@ use Rattle.std.proofs.Common.{◌+◌, ◌==◌, ◌∷◌, [], List, ℕ, lengt
 use Rattle.mdcc_base.specs.Unless.{GivesUnless}
 use Rattle.mdcc_option.specs.declared.cluster.Cluster.{Cluster}
 use Rattle.mdcc_built.specs.Built.{built}
-use Rattle.mdcc_language.specs.Lines.{text_of, line_end_of}
-use Rattle.mdcc_language.specs.Schedule.{updates_from, centres_from, numbers_from, last_centre, centre_of, tick_of, crash_of, restart_of, read_of, begin_of, deliver_of, settle_of, begins_with, event_of, event_or_none, line_of}
+use Rattle.mdcc_language.specs.Lines.{bytes_of_line, line_end_of}
+use Rattle.mdcc_language.specs.Schedule.{updates_from, centres_from, numbers_from, last_centre, centre_of, tick_of, crash_of, restart_of, read_of, begin_of, deliver_of, settle_of, begins_with, event_of, event_or_none, event_in, line_of}
 use Rattle.mdcc_language.specs.Words.{◌>>=◌, parts_from, word_at, word_behind, word_end, key_of, end_at}
 use Rattle.mdcc_language.specs.declared.events.Event.{Event}
 use Rattle.mdcc_language.specs.declared.schedule.SchedFault.{SchedFault}
-use Rattle.mdcc_replay.proofs.Steps.{bind_each, if_ok}
+use Rattle.mdcc_replay.proofs.Steps.{bind_each, bounded_ok, if_ok}
 use Rattle.mdcc_sched.specs.Free.{is_memory}
 use Rattle.mdcc_replay.specs.Words.{is_built}
 
@@ -86,7 +86,8 @@ end_word text line (Err fault) h = tt
 
 line_word : (cluster : Cluster) (line : List ℕ) → IfOk (line_of built cluster line) IsWordFound
 line_word cluster line =
-    bind_each IsWordFound (text_of line) _ (λ text. end_word text line (event_or_none built cluster text) (text_word cluster text))
+    let text : List ℕ = bytes_of_line line in
+    bounded_ok IsWordFound text (event_in built cluster line) (end_word text line (event_or_none built cluster text) (text_word cluster text))
 
 -- ---- what was read
 

@@ -51,10 +51,8 @@ fn event_text<W: Simulation>(
 {
     let mut lines = HeapList::new(alloc);
     world.take(event, &mut lines)?;
-    match lines_text(alloc, lines.as_slice()) {
-        Ok(text) => Ok(text),
-        Err(_) => Err(EventFault::Memory),
-    }
+    let text = lines_text(alloc, lines.as_slice())?;
+    Ok(text)
 }
 
 // Takes an event, and writes its lines where it is not refused.

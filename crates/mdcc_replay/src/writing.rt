@@ -5,7 +5,7 @@ ghost use Rattle.mdcc_base.specs.Causes.{Rose};
 ghost use Rattle.mdcc_language.specs.Report.{line_text, lines_text};
 ghost use Rattle.mdcc_replay.specs.Writing.{Front, Tells};
 
-use mdcc_base::{Memory, Sink, write_all};
+use mdcc_base::{Failed, Memory, Sink, write_all};
 use mdcc_language::Line;
 use mdcc_sched::print_line;
 use std::alloc::{AllocError, Global};
@@ -17,6 +17,17 @@ pub enum Failure {
     Output,
     /// There was no memory.
     Memory,
+}
+
+impl From<Failed> for Failure {
+    ghost use Rattle.std.specs.Prelude.{◌≡◌};
+    ghost use Rattle.mdcc_replay.specs.declared.writing.Failure.TheVariants.{Output};
+
+    ghost from_gives = { λ _ e. e ≡ Output };
+
+    fn from(_: Failed) -> Failure {
+        Failure::Output
+    }
 }
 
 impl From<Memory> for Failure {
@@ -48,10 +59,8 @@ pub(crate) fn write_text<O: Sink>(out: &mut O, text: &[u8]) -> Result<(), Failur
     ensures later { O.faults out.old ≤ O.faults out.new }
     ensures failed { IsErrOf result Failure.Output → Rose (O.faults out.old) (O.faults out.new) }
 {
-    match write_all(out, text) {
-        Ok(()) => Ok(()),
-        Err(_) => Err(Failure::Output),
-    }
+    write_all(out, text)?;
+    Ok(())
 }
 
 /// Writes a line on the error stream as far as that goes.
