@@ -52,9 +52,9 @@ fn gamma_line<'a>(left: &Left<'a>) -> Result<(u64, Left<'a>), HeaderFault>
 
 // `limit safe` or `limit paper`, which may be left out.
 fn limit_line<'a>(left: Left<'a>) -> Result<(FastLimit, Left<'a>), HeaderFault>
-    requires { left.now.number ≤ 50 }
-    ensures value { result ≡ limit_line built left.now }
-    ensures next { IfOk result (λ line. line.1.number ≤ left.now.number + 1) }
+    requires { left.number ≤ 50 }
+    ensures value { result ≡ limit_line built left.entry }
+    ensures next { IfOk result (λ line. line.1.number ≤ left.entry.number + 1) }
 {
     if !left.is_next(b"limit") {
         return Ok((FastLimit::Safe, left));
