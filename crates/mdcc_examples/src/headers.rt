@@ -189,8 +189,12 @@ pub fn bound_of_65_bits()
     ensures { header (codes "mdcc-schedule 1\nquorums 5 3 4\ngamma 100\nbound 0 9223372036854775808\n") ≡ header_fault 4 (Sched Range) }
 {}
 
-pub fn too_long_header_line()
-    ensures { header (codes "schedule" ++ replicate 4089 32) ≡ header_fault 1 (Sched Range) }
+pub fn too_long_line_out_of_order()
+    ensures { header (replicate 5000 120 ++ codes "\n") ≡ header_fault 1 (Sched Order) }
+{}
+
+pub fn too_long_line_of_another_version()
+    ensures { header (codes "mdcc-schedule 2" ++ replicate 4082 32) ≡ header_fault 1 (Sched Word) }
 {}
 
 // ---- Quorums and bounds

@@ -1,5 +1,6 @@
 //! Lines of schedules, and what they are read as.
 ghost use Rattle.std.specs.Prelude.{◌≡◌, pos, negsuc, [], ◌∷◌, ◌++◌, codes, replicate, Ok};
+ghost use Rattle.std.specs.List.{flat_map};
 ghost use Rattle.mdcc_base.specs.declared.outside.Image.TheVariants.{Lost, Kept, Torn};
 ghost use Rattle.mdcc_language.specs.declared.events.Event.TheVariants.{Read, Begin, Deliver, Settle, Tick, Crash, Restart, Stop};
 ghost use Rattle.mdcc_language.specs.declared.events.UpdateWord.TheVariants.{New, Set, Add, Keep};
@@ -263,8 +264,24 @@ pub fn too_long_comment()
     ensures { line (35 ∷ replicate 4096 120 ++ codes "\n") ≡ fault 4097 Range }
 {}
 
-pub fn too_long_comes_first()
-    ensures { line (codes "tock " ++ replicate 4092 49) ≡ fault 4097 Range }
+pub fn too_long_behind_a_fault()
+    ensures { line (codes "tock " ++ replicate 4092 49 ++ codes "\n") ≡ fault 1 Word }
+{}
+
+pub fn too_long_number()
+    ensures { line (codes "deliver " ++ replicate 4089 49 ++ codes "\n") ≡ fault 9 Range }
+{}
+
+pub fn too_long_without_a_fault()
+    ensures { line (codes "deliver" ++ flat_map (λ space. space ∷ codes "1") (replicate 2045 32) ++ codes "\n") ≡ fault 4097 Range }
+{}
+
+pub fn too_long_before_a_fault()
+    ensures { line (codes "deliver" ++ flat_map (λ space. space ∷ codes "1") (replicate 2045 32) ++ codes " x\n") ≡ fault 4097 Range }
+{}
+
+pub fn too_long_without_end()
+    ensures { line (35 ∷ replicate 4096 120) ≡ fault 4097 Range }
 {}
 
 pub fn longest_without_end()

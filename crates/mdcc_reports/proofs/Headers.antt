@@ -12,7 +12,7 @@ use Rattle.mdcc_option.specs.declared.cluster.Cluster.{Cluster}
 use Rattle.mdcc_switches.specs.Built.{Built}
 use Rattle.mdcc_language.specs.Header.{Bounds, Left, bound_line, bound_of, bounds_in, bounds_lines, cells_line, default_cells, header_line, header_lines, in_line, in_order, is_next, last_number, more_bounds, next_line, quorums_in, quorums_line, sizes_of, version_of, whole_line, limit_line}
 use Rattle.mdcc_protocol.specs.IsCluster.{IsCluster}
-use Rattle.mdcc_language.specs.Lines.{line_end_of, text_of}
+use Rattle.mdcc_language.specs.Lines.{bounded, bytes_of_line, line_end_of, most_bytes, of_long}
 use Rattle.mdcc_language.specs.Words.{are_plain_digits, end_at, is_negative, natural_of, number_of, within, word_at, word_behind, word_end, ◌>>=◌}
 use Rattle.mdcc_language.specs.declared.schedule.SchedFault.{SchedFault}
 
@@ -41,16 +41,26 @@ in-line : {A : Type 0} (left : Left) (r : Result A SchedFault) (y : A) → in_li
 in-line left (Ok x) y h = cc
 in-line left (Err fault) y h = absurd (cc)
 
+-- a line that is too long is refused
+short-line : {A : Type 0} (text : List ℕ) (r : Result A SchedFault) (y : A) → bounded text r ≡ Ok y → r ≡ Ok y
+short-line text r y h = by_length (nat_le (length text) most_bytes) r h
+  where
+    by_length : (few : Bool) (r : Result _ SchedFault) → (if few then r else of_long r) ≡ Ok y → r ≡ Ok y
+    by_length true r h = h
+    by_length false (Ok x) h = absurd (cc)
+    by_length false (Err fault) h = whenever (nat_le fault.column most_bytes) (Err fault) _ y h
+
 -- what a header line spells was read of some text
 line-read : {A : Type 0} (word : List ℕ) (read : List ℕ → Result A SchedFault) (left : Left) (y : A × Left) → header_line word read left ≡ Ok y → (text : List ℕ) × (read text ≡ Ok y.0)
 line-read word read left y h =
-    let whole = bind-ok (in_line left (whole_line word read (next_line left))) _ y h in
-    let line = bind-ok (text_of (next_line left)) _ whole.0 (in-line left (whole_line word read (next_line left)) whole.0 whole.1) in
-    let ordered = bind-ok (in_order word line.0) _ whole.0 line.2 in
-    let value = bind-ok (read line.0) _ whole.0 ordered.2 in
-    let ended = bind-ok (line_end_of line.0 (next_line left)) _ whole.0 value.2 in
+    let text : List ℕ = bytes_of_line (next_line left) in
+    let line : Result _ SchedFault = whole_line word read (next_line left) in
+    let whole = bind-ok (in_line left (bounded text line)) _ y h in
+    let ordered = bind-ok (in_order word text) _ whole.0 (short-line text line whole.0 (in-line left (bounded text line) whole.0 whole.1)) in
+    let value = bind-ok (read text) _ whole.0 ordered.2 in
+    let ended = bind-ok (line_end_of text (next_line left)) _ whole.0 value.2 in
     let same : value.0 ≡ y.0 = (let a : value.0 ≡ whole.0 = cc in let b : whole.0 ≡ y.0 = cc in a ∙ b) in
-    (line.0, value.1 ∙ ap Ok same)
+    (text, value.1 ∙ ap Ok same)
 
 -- ---- numbers
 

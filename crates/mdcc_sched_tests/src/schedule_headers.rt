@@ -271,16 +271,27 @@ fn the_start(rt: HostRuntime) -> Result<(), Fail> {
 }
 
 #[test]
-fn a_line_that_is_too_long(rt: HostRuntime) -> Result<(), Fail> {
-    let mut text = String::new(rt.alloc());
-    text.push_str("mdcc-schedule 2")?;
-    for _ in 15..4097 {
-        text.push_str(" ")?;
+fn first_lines_that_are_too_long(rt: HostRuntime) -> Result<(), Fail> {
+    for (front, part, cause) in [
+        ("mdcc-schedule 2", " ", Word),
+        ("mdcc-schedule 1", " ", Word),
+        ("schedule", " ", Order),
+        ("", "x", Order),
+    ] {
+        let mut text = String::new(rt.alloc());
+        text.push_str(front)?;
+        for _ in 0..5000 {
+            text.push_str(part)?;
+        }
+        let expected = HeaderFault {
+            line: 1,
+            cause: Sched(cause),
+        };
+        assert_eq!(rt;
+            parse_header(text.as_bytes()).err(),
+            Some(expected),
+            "{front}"
+        );
     }
-    let expected = HeaderFault {
-        line: 1,
-        cause: Sched(Range),
-    };
-    assert_eq!(rt; parse_header(text.as_bytes()).err(), Some(expected));
     Ok(())
 }

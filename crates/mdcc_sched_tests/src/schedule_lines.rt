@@ -244,12 +244,12 @@ fn a_body_of_129_bytes(rt: HostRuntime) -> Result<(), Fail> {
     Ok(())
 }
 
-// A front, and spaces behind it up to so many bytes, and an end.
-fn padded(alloc: Global, front: &str, bytes: usize, end: &str) -> Result<String, Fail> {
+// A front, a part so many times, and an end.
+fn padded(alloc: Global, front: &str, part: &str, times: usize, end: &str) -> Result<String, Fail> {
     let mut line = String::new(alloc);
     line.push_str(front)?;
-    for _ in front.len()..bytes {
-        line.push_str(" ")?;
+    for _ in 0..times {
+        line.push_str(part)?;
     }
     line.push_str(end)?;
     Ok(line)
@@ -257,7 +257,7 @@ fn padded(alloc: Global, front: &str, bytes: usize, end: &str) -> Result<String,
 
 #[test]
 fn a_comment_of_4096_bytes(rt: HostRuntime) -> Result<(), Fail> {
-    let line = padded(rt.alloc(), "#", 4096, "\n")?;
+    let line = padded(rt.alloc(), "#", " ", 4095, "\n")?;
     let found = parse_line(rt.alloc(), line.as_bytes(), &five_centres(&rt)).expect(&rt, "a line");
     assert!(rt; found.is_none());
     Ok(())
@@ -265,15 +265,21 @@ fn a_comment_of_4096_bytes(rt: HostRuntime) -> Result<(), Fail> {
 
 #[test]
 fn long_lines(rt: HostRuntime) -> Result<(), Fail> {
-    for (front, bytes, end, column, cause) in [
-        ("#", 4096, "", 4097, SchedCause::Word),
-        ("#", 4097, "\n", 4097, SchedCause::Range),
-        ("#", 4097, "", 4097, SchedCause::Range),
-        ("read 9 ", 4097, "\n", 4097, SchedCause::Range),
-        ("read 9 ", 4096, "\n", 6, SchedCause::Range),
-        ("tick 1", 4096, "\n", 8, SchedCause::Word),
+    for (front, part, times, end, column, cause) in [
+        ("#", " ", 4095, "", 4097, SchedCause::Word),
+        ("#", " ", 4096, "\n", 4097, SchedCause::Range),
+        ("#", " ", 4096, "", 4097, SchedCause::Range),
+        ("read 9 ", " ", 4090, "\n", 6, SchedCause::Range),
+        ("read 9 ", " ", 4089, "\n", 6, SchedCause::Range),
+        ("tick 1", " ", 4090, "\n", 8, SchedCause::Word),
+        ("tock ", "1", 4092, "\n", 1, SchedCause::Word),
+        ("deliver ", "1", 4089, "\n", 9, SchedCause::Range),
+        ("deliver", " 1", 2045, "\n", 4097, SchedCause::Range),
+        ("deliver", " 1", 2045, " x\n", 4097, SchedCause::Range),
+        ("deliver", " 1", 2044, " x\n", 4097, SchedCause::Range),
+        ("deliver", " 1", 2044, "x\n", 4095, SchedCause::Number),
     ] {
-        let line = padded(rt.alloc(), front, bytes, end)?;
+        let line = padded(rt.alloc(), front, part, times, end)?;
         let found = parse_line(rt.alloc(), line.as_bytes(), &five_centres(&rt)).err();
         assert_eq!(rt; found, Some(SchedFault { column, cause }), "{front}");
     }
