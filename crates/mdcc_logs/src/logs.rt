@@ -10,7 +10,6 @@ ghost use Rattle.mdcc_protocol.specs.Belongs.{is_centre};
 ghost use Rattle.mdcc_protocol.specs.Facts.{epoch_of};
 ghost use Rattle.mdcc_protocol.specs.IsCluster.{IsCluster};
 ghost use Rattle.mdcc_messages.specs.Lengths.{fact_length, frame_length, log_length};
-ghost use Rattle.mdcc_messages.specs.Spelling.{fact_bytes};
 ghost use Rattle.mdcc_messages.specs.WellFormed.{IsWellFormedFact};
 ghost use Rattle.mdcc_messages.specs.declared.facts.Fact.{Fact as AFact};
 ghost use Rattle.mdcc_restart.specs.Logged.{AreLogged};
@@ -19,11 +18,10 @@ use crate::starting::{Started, start};
 use mdcc_base::{Centre, Image, Memory};
 use mdcc_disks::{MemoryDisks, crash_leaves_the_image};
 use mdcc_journal::counts::well_formed_facts_have_counts;
-use mdcc_journal::{encode_fact, fact_length};
+use mdcc_journal::fact_length;
 use mdcc_log::{Frames, LOG_LIMIT, rest_is_read};
 use mdcc_messages::Fact;
-use mdcc_option::Cluster;
-use mdcc_restart::Restarted;
+use mdcc_restart::{Restarted, payload_of};
 use std::alloc::Global;
 
 /// The logs of the centres, each on its disk in memory, where only want of memory lets a call fail. The
@@ -41,17 +39,6 @@ fn frame_length(fact: &Fact) -> u64
 {
     well_formed_facts_have_counts();
     fact_length(fact) as u64 + 5
-}
-
-// The bytes of a fact.
-fn payload_of(alloc: Global, fact: &Fact) -> Result<Vec<u8>, Memory>
-    requires { IsWellFormedFact fact.now }
-    ensures { IfOk result (λ payload. payload.items ≡ fact_bytes fact.now) }
-{
-    well_formed_facts_have_counts();
-    let mut payload = Vec::new(alloc);
-    encode_fact(fact, &mut payload)?;
-    Ok(payload)
 }
 
 // Makes a payload durable at the end of a log. No call of these disks fails but for want of memory.
@@ -102,6 +89,7 @@ impl Logs {
         ensures appended { (centres : ℕ) (facts : ℕ → List AFact) → LogsStand self.old centres facts
             → OnOk result (LogsStand self.new centres (with_fact_at facts centre fact.now)) }
     {
+        well_formed_facts_have_counts();
         let payload = payload_of(alloc, fact)?;
         let place = centre.number();
         self.disks.reserve(place, 4, payload.len() as u64 + 6)?;

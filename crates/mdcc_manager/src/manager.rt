@@ -218,13 +218,9 @@ impl Manager {
         ensures left { (me epoch : ℕ) (quorums : Sizes) (managing : Managing) → Stands self.old me epoch quorums managing
             → Stands self.new me epoch quorums (after_act managing (lead_act leader (choice_unled managing tx key.now))) }
     {
-        match self.choice_unled(&tx, key) {
-            Some(choice) => {
-                self.mark_led(&choice.tx, &choice.key);
-                Some(ManagerAct::Lead(leader, choice))
-            }
-            None => None,
-        }
+        let choice = self.choice_unled(&tx, key)?;
+        self.mark_led(&choice.tx, &choice.key);
+        Some(ManagerAct::Lead(leader, choice))
     }
 
     // The option of a key of an open transaction, where it is not marked led.
@@ -232,10 +228,7 @@ impl Manager {
         ensures { (me epoch : ℕ) (quorums : Sizes) (managing : Managing) → Stands self.now me epoch quorums managing
             → result ≡ choice_unled managing tx.now key.now }
     {
-        match opened_of(&self.opened, tx) {
-            Some(open) => open.choices.unled_at(key),
-            None => None,
-        }
+        opened_of(&self.opened, tx)?.choices.unled_at(key)
     }
 
     // Marks the option of a transaction and a key as led.
@@ -266,13 +259,9 @@ impl Manager {
         ensures { (me epoch : ℕ) (quorums : Sizes) (managing : Managing) → Stands self.now me epoch quorums managing
             → result ≡ decision quorums managing tx }
     {
-        match opened_of(&self.opened, &tx) {
-            Some(open) => {
-                let marks = marks_learned(&self.learner, tx, open.choices.as_slice());
-                outcome_of_marks(marks.as_slice())
-            }
-            None => None,
-        }
+        let open = opened_of(&self.opened, &tx)?;
+        let marks = marks_learned(&self.learner, tx, open.choices.as_slice());
+        outcome_of_marks(marks.as_slice())
     }
 
     /// What `decision` of the vote's transaction would answer once the vote is taken.
@@ -280,14 +269,10 @@ impl Manager {
         ensures { (me epoch : ℕ) (managing : Managing) → Stands self.now me epoch cluster.now.quorums managing
             → result ≡ would_decide cluster.now.quorums managing vote.now }
     {
-        match opened_of(&self.opened, &vote.tx) {
-            Some(open) => {
-                let choices = open.choices.as_slice();
-                let marks = marks_with(&self.learner, &cluster.quorums, vote, vote.tx, choices);
-                outcome_of_marks(marks.as_slice())
-            }
-            None => None,
-        }
+        let open = opened_of(&self.opened, &vote.tx)?;
+        let choices = open.choices.as_slice();
+        let marks = marks_with(&self.learner, &cluster.quorums, vote, vote.tx, choices);
+        outcome_of_marks(marks.as_slice())
     }
 
     /// Whether the transaction is open.
@@ -295,10 +280,7 @@ impl Manager {
         ensures { (me epoch : ℕ) (quorums : Sizes) (managing : Managing) → Stands self.now me epoch quorums managing
             → result ≡ is_open managing tx }
     {
-        match opened_of(&self.opened, &tx) {
-            Some(_) => true,
-            None => false,
-        }
+        opened_of(&self.opened, &tx).is_some()
     }
 
     /// The open transactions in ascending order.

@@ -8,7 +8,7 @@ use Rattle.mdcc_disks.specs.Disks.{Disk}
 use Rattle.mdcc_log.specs.Crash.{BetweenIsRead, IsBetween}
 use Rattle.mdcc_log.specs.Log.{log_bytes, log_limit, read_log}
 use Rattle.mdcc_log.specs.declared.fault.LogFault.{LogFault}
-use Rattle.mdcc_node.specs.Booting.{Boots}
+use Rattle.mdcc_node.specs.Booting.{Boots, IsBoot}
 use Rattle.mdcc_node.specs.Stands.{Stands}
 use Rattle.mdcc_node.specs.declared.node.Node.{Node}
 use Rattle.mdcc_option.specs.declared.cluster.Cluster.{Cluster}
@@ -42,17 +42,17 @@ module _ {S : Type 0} (stands : S → List Fact → Type 0) (cluster : Cluster) 
   node-by : (ended : Bool) (node : Node S) (fact : Fact) (more : List Fact)
       → (if ended then Err BootFault.Epochs else Ok (next_boot facts ∷ facts)) ≡ Ok (fact ∷ more)
       → Stands stands node cluster me (fact ∷ more) nothing_kept
-      → (ended ≡ false) × Stands stands node cluster me (next_boot facts ∷ facts) nothing_kept
+      → (ended ≡ false) × Stands stands node cluster me (next_boot facts ∷ facts) nothing_kept × (fact ≡ next_boot facts)
   node-by true node fact more e st = absurd (cc)
-  node-by false node fact more e st = let same : fact ∷ more ≡ next_boot facts ∷ facts = cc in (refl, subst (λ fs. Stands stands node cluster me fs nothing_kept) same st)
+  node-by false node fact more e st = let same : fact ∷ more ≡ next_boot facts ∷ facts = cc in (refl, subst (λ fs. Stands stands node cluster me fs nothing_kept) same st, cc)
 
   -- it gives a node
   pub node-boots : (cells : Cells) (r : Node S × Fact) → AreAmple cells → AreLogged cluster facts
       → Boots stands (Ok r) cluster me (boot_by cells cluster (map fact_read payloads))
-      → (epoch_of facts < 2 ^ 32 - 1) × Stands stands r.0 cluster me (next_boot facts ∷ facts) nothing_kept
+      → (epoch_of facts < 2 ^ 32 - 1) × Stands stands r.0 cluster me (next_boot facts ∷ facts) nothing_kept × (r.1 ≡ next_boot facts)
   node-boots cells r ample are h =
       let found = node-by (nat_le (2 ^ 32 - 1) (epoch_of facts)) r.0 r.1 h.0 (sym (boots-again cells cluster facts payloads ample are is) ∙ h.1) h.2 in
-      (leb-false (2 ^ 32 - 1) (epoch_of facts) found.0, found.1)
+      (leb-false (2 ^ 32 - 1) (epoch_of facts) found.0, found.1, found.2)
 
   ends-by : (ended : Bool) (fault : BootFault) → (ended ≡ true → 2 ^ 32 - 1 ≤ epoch_of facts)
       → (if ended then Err BootFault.Epochs else Ok (next_boot facts ∷ facts)) ≡ Err fault → BootsNode {S = S} stands (Err (of_boot fault)) cluster me facts
@@ -79,6 +79,14 @@ module _ {S : Type 0} (stands : S → List Fact → Type 0) (cluster : Cluster) 
 -- what was read is what stands there
 pub same-payloads : (bytes : List ℕ) (payloads more : List (List ℕ)) → read_log bytes ≡ Ok payloads → read_log bytes ≡ Ok more → payloads ≡ more
 same-payloads bytes payloads more e f = cc
+
+-- the payload of a boot has five bytes
+pub boot-length : (fact : Fact) (payload : List ℕ) → IsBoot fact → payload ≡ fact_bytes fact → length payload ≡ 5
+boot-length (Fact.Booted epoch) payload boot e = rw e refl
+boot-length (Fact.Promised key low high ballot) payload boot e = absurd boot
+boot-length (Fact.Voted key version ballot options offered) payload boot e = absurd boot
+boot-length (Fact.Heard tx outcome) payload boot e = absurd boot
+boot-length (Fact.Adopted key version item adds) payload boot e = absurd boot
 
 -- the boot takes ten bytes
 boot-size : (facts : List Fact) → size_with_boot facts ≡ length (log_bytes (logged facts)) + 10

@@ -63,9 +63,10 @@ Restarts stands (Err fault) cluster me facts bytes may_leave = IsRefused facts f
 
 -- ---- its boot
 
--- a node of these facts and the new boot, or the fault: the epochs are used up, or there was no memory
-abbrev pub BootsNode : {S : Type 0} → (S → List Fact → Type 0) → Result (Node S) RestartFault → Cluster → ℕ → List Fact → Type 0
-BootsNode stands (Ok node) cluster me facts = (epoch_of facts < 2 ^ 32 - 1) × Stands stands node cluster me (next_boot facts ∷ facts) nothing_kept
+-- a node of these facts and the new boot, with this boot, or the fault: the epochs are used up, or there was no memory
+abbrev pub BootsNode : {S : Type 0} → (S → List Fact → Type 0) → Result (Node S × Fact) RestartFault → Cluster → ℕ → List Fact → Type 0
+BootsNode stands (Ok r) cluster me facts =
+    (epoch_of facts < 2 ^ 32 - 1) × Stands stands r.0 cluster me (next_boot facts ∷ facts) nothing_kept × (r.1 ≡ next_boot facts)
 BootsNode stands (Err (RestartFault.Boot BootFault.Epochs)) cluster me facts = 2 ^ 32 - 1 ≤ epoch_of facts
 BootsNode stands (Err RestartFault.Memory) cluster me facts = ⊤
 BootsNode stands (Err fault) cluster me facts = ⊥

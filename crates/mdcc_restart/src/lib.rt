@@ -3,9 +3,10 @@
 #![tactic(auto)]
 
 pub mod fault;
+pub mod laws;
 pub mod restarting;
 
 pub use fault::RestartFault;
 pub use mdcc_log::{Frames, LogFault};
 pub use mdcc_node::{BootFault, Node};
-pub use restarting::{Restarted, restart};
+pub use restarting::{Restarted, payload_of, restart};

@@ -2,8 +2,10 @@
 ghost use Rattle.std.specs.Prelude.{◌≡◌, ◌≤◌, ◌⊎◌, ◌∷◌, [], List, IfOk, IsErrOf, IsTrue, length, true};
 ghost use Rattle.mdcc_base.specs.Causes.{Rose};
 ghost use Rattle.mdcc_disks.specs.Disks.{KeepsOthers};
+ghost use Rattle.mdcc_journal.specs.Counts.{HasCounts};
 ghost use Rattle.mdcc_log.specs.Crash.{IsBetween};
 ghost use Rattle.mdcc_log.specs.Log.{payload_limit};
+ghost use Rattle.mdcc_node.specs.Booting.{IsBoot};
 ghost use Rattle.mdcc_protocol.specs.Belongs.{is_centre};
 ghost use Rattle.mdcc_messages.specs.Spelling.{fact_bytes};
 ghost use Rattle.mdcc_messages.specs.declared.facts.Fact.{Fact as AFact};
@@ -30,33 +32,33 @@ pub struct Restarted<S> {
     pub epoch: u32,
 }
 
-// A node from the payloads of its log.
+/// The bytes of a fact, as its log has them.
+pub fn payload_of(alloc: Global, fact: &Fact) -> Result<Vec<u8>, Memory>
+    requires { HasCounts fact.now }
+    ensures { IfOk result (λ payload. payload.items ≡ fact_bytes fact.now) }
+{
+    let mut payload = Vec::new(alloc);
+    encode_fact(fact, &mut payload)?;
+    Ok(payload)
+}
+
+// A node from the payloads of its log, with the fact of the boot.
 fn boot_node<S: FactStore + Drop>(
     alloc: Global,
     cluster: Cluster,
     centre: Centre,
     store: S,
     payloads: &[HeapList<u8>],
-) -> Result<Node<S>, RestartFault>
+) -> Result<(Node<S>, Fact), RestartFault>
     requires among { is_centre cluster centre ≡ true }
     requires empty { S.stands store [] }
     ensures node { (facts : List AFact) → IsAmple S.stands S.room S.cells_for store → AreLogged cluster facts
         → payloads.now ≡ logged facts → BootsNode S.stands result cluster centre facts }
+    ensures fact { IfOk result (λ r. IsBoot r.1) }
     ensures no_log { (fault : LogFault) → IsErrOf result (RestartFault.Log fault) → ⊥ }
     ensures memory { IsErrOf result (RestartFault.Boot BootFault.Memory) → ⊥ }
 {
-    let (node, _) = Node::boot(alloc, cluster, centre, store, payloads)?;
-    Ok(node)
-}
-
-// The payload of a boot.
-fn boot_payload(alloc: Global, epoch: u32) -> Result<Vec<u8>, Memory>
-    ensures bytes { IfOk result (λ v. v.items ≡ fact_bytes (AFact.Booted epoch)) }
-    ensures short { IfOk result (λ v. length v.items ≡ 5) }
-{
-    let mut bytes = Vec::new(alloc);
-    encode_fact(&Fact::Booted(epoch), &mut bytes)?;
-    Ok(bytes)
+    Ok(Node::boot(alloc, cluster, centre, store, payloads)?)
 }
 
 /// Starts a centre over an empty store: opens its log, boots its node from the payloads, and appends
@@ -95,9 +97,9 @@ pub fn restart<D: Disks, S: FactStore + Drop>(
     between_is_read();
     let (log, payloads) = Frames::open(alloc, disks, centre.number())?;
     let mut log = log;
-    let node = boot_node(alloc, cluster, centre, store, payloads.as_slice())?;
+    let (node, boot) = boot_node(alloc, cluster, centre, store, payloads.as_slice())?;
     let epoch = node.epoch();
-    let payload = boot_payload(alloc, epoch)?;
+    let payload = payload_of(alloc, &boot)?;
     log.append(disks, &payload)?;
     Ok(Restarted { node, log, epoch })
 }

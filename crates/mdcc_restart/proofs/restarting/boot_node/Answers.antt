@@ -7,9 +7,9 @@ returns-in_err-node-clause-node g c facts ample are is =
     let p = err_from_is_err_and c.from_residual.result c.from_residual.ensures.1 in
     rw (p.1, p.2)
     (boot-ends g.S.FactStore.stands c.args.cluster c.args.centre facts c.args.payloads.now is ample.cells c.in_err-node.field-0.0 ample.ample are
-    (c.in_err-node.ensures ample.cells ample.empty))
+    (c.in_err-node.ensures.boots ample.cells ample.empty))
 
 pub returns-clause-node : goal.returns-clause-node
 returns-clause-node g c facts ample are is =
     node-boots g.S.FactStore.stands c.args.cluster c.args.centre facts c.args.payloads.now is ample.cells (c.in_ok-node.node, c.in_ok-node.field-0-1) ample.ample are
-    (c.in_ok-node.ensures ample.cells ample.empty)
+    (c.in_ok-node.ensures.boots ample.cells ample.empty)

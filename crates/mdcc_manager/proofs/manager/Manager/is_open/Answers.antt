@@ -1,13 +1,12 @@
-use Rattle.std.proofs.Common.{None, Some, ◌∙◌}
+use Rattle.std.proofs.Common.{◌∙◌}
+use Rattle.std.specs.Option.{option_copied}
+use Rattle.mdcc_facts.proofs.Marked.{copied-some}
 use Rattle.mdcc_manager.proofs.Kept.{found-kept, some-found}
 use Rattle.mdcc_protocol.specs.Volatile.{opened_of}
 use Rattle.mdcc_manager.proofs.manager.Manager.is_open.Goals as goal
 
-pub returns-in-Some : goal.returns-in-Some
-returns-in-Some c me epoch quorums managing stands =
-    let found = Some c.in-Some.field-0.now in
-    some-found (opened_of managing c.args.tx) found (found-kept _ managing c.args.tx found c.in-Some.ensures (c.deref.ensures.value ∙ stands.keeps))
-
-pub returns-in-None : goal.returns-in-None
-returns-in-None c me epoch quorums managing stands =
-    some-found (opened_of managing c.args.tx) None (found-kept _ managing c.args.tx None c.in-None.ensures (c.deref.ensures.value ∙ stands.keeps))
+pub returns : goal.returns
+returns c me epoch quorums managing stands =
+    let found = option_copied c.opened_of.result in
+    rw (c.is_some.ensures, ← copied-some c.opened_of.result)
+    (some-found (opened_of managing c.args.tx) found (found-kept _ managing c.args.tx found c.opened_of.ensures (c.deref.ensures.value ∙ stands.keeps)))

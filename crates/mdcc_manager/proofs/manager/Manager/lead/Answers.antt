@@ -1,5 +1,5 @@
 use Rattle.mdcc_manager.proofs.manager.Manager.lead.Goals as goal
 
-pub returns-in-Some-clause-left : goal.returns-in-Some-clause-left
-returns-in-Some-clause-left c me epoch quorums managing stands =
-    rw (← c.in-Some.ensures me epoch quorums managing stands) (c.mark_led.ensures me epoch quorums managing stands)
+pub returns-clause-left : goal.returns-clause-left
+returns-clause-left c me epoch quorums managing stands =
+    rw (← c.in_ok-choice.ensures me epoch quorums managing stands) (c.mark_led.ensures me epoch quorums managing stands)
