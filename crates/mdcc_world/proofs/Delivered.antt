@@ -1,15 +1,12 @@
 -- A message comes to its centre.
 use Rattle.std.proofs.Common.{◌≡◌, ℕ, ◌+◌, ◌-◌, ◌≤◌, true, List, refl, sym, ap, ◌∙◌, subst, inl, inr, Option, Some, None, Result, Ok, Err, arith, length}
-use Rattle.std.specs.List.{AllByRecursion}
 use Rattle.std.specs.Option.{option_map}
 use Rattle.std.proofs.lemmas.Bool.{cases_Bool}
 use Rattle.mdcc_node.specs.Stepping.{given}
 use Rattle.mdcc_built.specs.Built.{built}
-use Rattle.mdcc_ledger.specs.Ledger.{facts_of}
-use Rattle.mdcc_rules.specs.Steps.{NodeStep}
 use Rattle.mdcc_messages.specs.WellFormed.{IsWellFormedEnvelope}
 use Rattle.mdcc_messages.specs.Mailbox.{Sent, numbered, with_delivered}
-use Rattle.mdcc_simulation.specs.State.{World, centre_at, is_up_at}
+use Rattle.mdcc_simulation.specs.State.{World, is_up_at}
 use Rattle.mdcc_simulation.specs.Stepping.{input_happened, step_at}
 use Rattle.mdcc_messages.specs.declared.messages.Envelope.{Envelope}
 use Rattle.mdcc_rules.specs.declared.node.Input.{Input}
@@ -17,17 +14,15 @@ use Rattle.mdcc_rules.specs.declared.node.Step.{Step}
 use Rattle.mdcc_rules.specs.declared.node.StepFault.{StepFault}
 use Rattle.mdcc_language.specs.declared.world.EventFault.{EventFault}
 use Rattle.mdcc_world.proofs.Counted.{up-centre, up-within}
-use Rattle.mdcc_world.proofs.Took.{valued-counted}
+use Rattle.mdcc_world.proofs.Took.{input-counted}
 use Rattle.mdcc_world.specs.Making.{IsMade, IsMessageMade}
 use Rattle.mdcc_world.specs.Nodes.{NodesStand}
-use Rattle.mdcc_world.specs.Stands.{IsLike, entries_of}
+use Rattle.mdcc_world.specs.Stands.{IsLike}
 use Rattle.mdcc_world.specs.declared.world.World.{World as TheWorld}
 use Rattle.mdcc_worlds.proofs.Numbers.{each-numbered}
 use Rattle.mdcc_worlds.proofs.Stays.{delivered-stays, some-centre}
-use Rattle.mdcc_worlds.proofs.Within.{made-quiet}
 use Rattle.mdcc_worlds.specs.Delivering.{at_message, delivery_by, message_by, message_counted}
 use Rattle.mdcc_worlds.specs.Happening.{at_centre}
-use Rattle.mdcc_worlds.specs.Sending.{IsValuedBy}
 use Rattle.mdcc_worlds.specs.Standing.{IsSent, IsWorld}
 
 -- the message that was sent under a number, to a centre that is up
@@ -65,13 +60,6 @@ some-sent w number envelope mail are clear some = by_sent (numbered w.sent numbe
           up = subst (λ (x : Envelope). is_up_at w x.to ≡ true) same (up-addressee w number sent e clear);
         }
 
--- beside its fact a message tells structures of its centre alone
-quiet : (w : World) (a : ℕ) (envelope : Envelope) → IsWorld w → IsWellFormedEnvelope envelope → (r : Result NodeStep StepFault) → step_at built w a (Input.Message envelope) ≡ r
-    → AllByRecursion (IsValuedBy a) (entries_of r)
-quiet w a envelope stands formed (Err fault) e = tt
-quiet w a envelope stands formed (Ok step) e =
-    made-quiet built w.cluster a (facts_of w.ledger a) (centre_at w a).volatile envelope step stands.cluster_itself.quorums formed.message e
-
 module _ (world : TheWorld) (w : World) (number : ℕ) (envelope : Envelope) (like : IsLike world w) (is : IsSentAs w number envelope) where
   pub sent-formed : IsWellFormedEnvelope envelope
   sent-formed = subst (λ (e : Envelope). IsWellFormedEnvelope e) is.same (each-numbered (IsSent w.cluster) w.sent number is.sent like.records.itself.sent is.there).envelope_itself
@@ -96,7 +84,6 @@ module _ (world : TheWorld) (w : World) (number : ℕ) (envelope : Envelope) (li
       → IsMade new (message_counted w number) envelope.to (Input.Message envelope) made
   made-there new made rest mail itself nodes =
       let after = message_counted w number in
-      let told = quiet after envelope.to envelope counted-world sent-formed (step_at built after envelope.to (Input.Message envelope)) refl in
       let few = like.records.few_reads in
       record {
         before = record {
@@ -112,7 +99,7 @@ module _ (world : TheWorld) (w : World) (number : ℕ) (envelope : Envelope) (li
           };
           centre = up-centre w envelope.to is.up;
           well_formed = sent-formed;
-          outcomes = rw rest (valued-counted world.outcomes w.cluster.quorums envelope.to (entries_of (step_at built after envelope.to (Input.Message envelope))) w.ledger told like.outcomes);
+          outcomes = rw rest (input-counted world.outcomes after envelope.to (Input.Message envelope) counted-world sent-formed refl like.outcomes);
           logs = rw rest like.logs;
           step_itself = itself;
         };

@@ -30,10 +30,11 @@ use Rattle.mdcc_rules.specs.declared.node.Step.{Step}
 use Rattle.mdcc_rules.specs.declared.node.StepFault.{StepFault}
 use Rattle.mdcc_language.specs.declared.world.EventFault.{EventFault}
 use Rattle.mdcc_struct.specs.Maps.{TxMap}
+use Rattle.mdcc_steps.specs.Inputs.{IsWellFormedInput}
 use Rattle.mdcc_worlds.proofs.Events.{input-is}
 use Rattle.mdcc_worlds.proofs.Stays.{happened-taken, input-stays, refused-same, site-here, site-there}
-use Rattle.mdcc_worlds.proofs.Within.{made-stays}
-use Rattle.mdcc_worlds.specs.Sending.{IsValuedBy, StaysWithin}
+use Rattle.mdcc_worlds.proofs.Within.{made-quiet, made-stays}
+use Rattle.mdcc_worlds.specs.Sending.{IsValuedBy, StaysWithin, is_begin}
 use Rattle.mdcc_worlds.specs.Standing.{IsWorld}
 use Rattle.mdcc_worlds.specs.Taking.{chosen_line, limit_of, step_lines, step_told, taken, with_fact, world_taken}
 use Rattle.mdcc_world.proofs.Happened.{any-fault, limited, may_be}
@@ -59,7 +60,7 @@ chosen-is quorums entry before = endings-lines (new_outcomes quorums entry befor
 
 -- ---- structures and boots count for no outcome
 
-pub valued-counted : (outcomes : Outcomes) (quorums : Sizes) (me : ℕ) (entries ledger : List Entry) → AllByRecursion (IsValuedBy me) entries
+valued-counted : (outcomes : Outcomes) (quorums : Sizes) (me : ℕ) (entries ledger : List Entry) → AllByRecursion (IsValuedBy me) entries
     → OutcomesStand outcomes quorums ledger → OutcomesStand outcomes quorums (entries ++ ledger)
 valued-counted outcomes quorums me [] ledger h stands = stands
 valued-counted outcomes quorums me (Added centre fact ∷ entries) ledger h stands = absurd h.0
@@ -74,6 +75,17 @@ valued-counted outcomes quorums me (Valued centre key version ballot options ∷
       counts = rest.counts;
       few = rest.few;
     }
+
+-- what an input tells beside its fact, but a begin
+pub input-counted : (outcomes : Outcomes) (w : World) (a : ℕ) (input : Input) → IsWorld w → IsWellFormedInput input → is_begin input ≡ false
+    → OutcomesStand outcomes w.cluster.quorums w.ledger → OutcomesStand outcomes w.cluster.quorums (entries_of (step_at built w a input) ++ w.ledger)
+input-counted outcomes w a input stands formed other counted = by_result (step_at built w a input) refl
+  where
+    by_result : (r : Result NodeStep StepFault) → step_at built w a input ≡ r → OutcomesStand outcomes w.cluster.quorums (entries_of r ++ w.ledger)
+    by_result (Err fault) e = counted
+    by_result (Ok step) e =
+        valued-counted outcomes w.cluster.quorums a step.entries w.ledger
+        (made-quiet built w.cluster a (facts_of w.ledger a) (centre_at w a).volatile input step stands.cluster_itself.quorums formed other e) counted
 
 pub booted-counted : (outcomes : Outcomes) (quorums : Sizes) (entries : List Entry) (a epoch : ℕ) → OutcomesStand outcomes quorums entries
     → OutcomesStand outcomes quorums (Added a (Fact.Booted epoch) ∷ entries)

@@ -63,7 +63,7 @@ use Rattle.mdcc_steps.proofs.Allowing.{OnStep, on_checked, on_rule}
 use Rattle.mdcc_steps.proofs.Each.{all-each, each-append, each-kept}
 use Rattle.mdcc_steps.proofs.Sending.{each-flat_map}
 use Rattle.mdcc_steps.proofs.Stepping.{on_made}
-use Rattle.mdcc_worlds.specs.Sending.{GoesWithin, IsValuedBy, StaysWithin, TellNoFact}
+use Rattle.mdcc_worlds.specs.Sending.{GoesWithin, IsValuedBy, StaysWithin, TellNoFact, is_begin}
 
 -- a new fact begins no epoch
 abbrev pub LeavesEpoch : Option Fact → Type 0
@@ -406,6 +406,13 @@ module _ (built : Built) (cluster : Cluster) (me : ℕ) (facts : List Fact) (vol
       all : IsQuietPart cluster me (tick_parts built cluster me facts volatile)
       all = cond_both built.recovery (recovery_ticked built cluster me facts first) first (IsQuietPart cluster me) (λ e. recovered-quiet first first-quiet) (λ e. first-quiet)
 
+  -- what is no begin
+  pub step-quiet : (input : Input) → IsWellFormedInput input → is_begin input ≡ false → OnStep (IsQuiet cluster me) (step_of built cluster me facts volatile input)
+  step-quiet (Input.Message envelope) w other = envelope-quiet envelope w.message
+  step-quiet Input.Tick w other = tick-quiet
+  step-quiet (Input.Read key) w other = (tt, tt, λ facts. refl)
+  step-quiet (Input.Begin parts) w other = absurd (cc)
+
   -- ---- a begin, and every step
 
   begun-within : (parts : List Part) (r : Result (TxId × Managing) BeginFault) → IsStaying cluster (begin_step_by cluster me facts volatile parts r)
@@ -444,7 +451,7 @@ pub made-epoch : (built : Built) (cluster : Cluster) (me : ℕ) (facts : List Fa
 made-epoch built cluster me facts volatile input step sizes w made =
     (on_made (IsStaying cluster) _ step (step-stays built cluster me facts volatile sizes input w) made).1
 
-pub made-quiet : (built : Built) (cluster : Cluster) (me : ℕ) (facts : List Fact) (volatile : Volatile) (envelope : Envelope) (step : NodeStep)
-    → AreQuorums cluster.quorums → IsWellFormedMessage envelope.message → step_of built cluster me facts volatile (Input.Message envelope) ≡ Ok step → AllByRecursion (IsValuedBy me) step.entries
-made-quiet built cluster me facts volatile envelope step sizes w made =
-    (on_made (IsQuiet cluster me) _ step (envelope-quiet built cluster me facts volatile sizes envelope w) made).0
+pub made-quiet : (built : Built) (cluster : Cluster) (me : ℕ) (facts : List Fact) (volatile : Volatile) (input : Input) (step : NodeStep)
+    → AreQuorums cluster.quorums → IsWellFormedInput input → is_begin input ≡ false → step_of built cluster me facts volatile input ≡ Ok step → AllByRecursion (IsValuedBy me) step.entries
+made-quiet built cluster me facts volatile input step sizes w other made =
+    (on_made (IsQuiet cluster me) _ step (step-quiet built cluster me facts volatile sizes input w other) made).0

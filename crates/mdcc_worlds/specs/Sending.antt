@@ -1,6 +1,6 @@
 -- Where the messages of a step go, and what its entries of the ledger tell.
 use Rattle.std.specs.List.{AllByRecursion}
-use Rattle.std.specs.Prelude.{◌≡◌, List, Ok, true, ℕ, ◌++◌}
+use Rattle.std.specs.Prelude.{◌≡◌, Bool, List, Ok, false, true, ℕ, ◌++◌}
 use Rattle.mdcc_base.specs.AreQuorums.{AreQuorums}
 use Rattle.mdcc_option.specs.declared.cluster.Cluster.{Cluster}
 use Rattle.mdcc_protocol.specs.Belongs.{is_centre}
@@ -9,7 +9,6 @@ use Rattle.mdcc_ledger.specs.Ledger.{Entry, Valued, facts_of}
 use Rattle.mdcc_rules.specs.Node.{step_of}
 use Rattle.mdcc_rules.specs.Steps.{NodeStep}
 use Rattle.mdcc_protocol.specs.Volatile.{Volatile}
-use Rattle.mdcc_messages.specs.WellFormed.{IsWellFormedEnvelope}
 use Rattle.mdcc_messages.specs.declared.facts.Fact.{Fact}
 use Rattle.mdcc_messages.specs.declared.messages.Envelope.{Envelope}
 use Rattle.mdcc_rules.specs.declared.node.Input.{Input}
@@ -41,10 +40,15 @@ abbrev pub IsValuedBy : ℕ → Entry → Type 0
 IsValuedBy me (Valued centre key version ballot options) = centre ≡ me
 IsValuedBy me entry = ⊥
 
--- a message begins no transaction: beside its fact it brings structures of this centre alone
-abbrev pub MessagesBeginNothing : Type 0
-MessagesBeginNothing =
-    (built : Built) (cluster : Cluster) (me : ℕ) (facts : List Fact) (volatile : Volatile) (envelope : Envelope) (step : NodeStep)
-    → AreQuorums cluster.quorums → IsWellFormedEnvelope envelope
-    → step_of built cluster me facts volatile (Input.Message envelope) ≡ Ok step
+-- whether an input is a begin
+abbrev pub is_begin : Input → Bool
+is_begin (Input.Begin parts) = true
+is_begin input = false
+
+-- no other input begins a transaction: beside its fact it brings structures of this centre alone
+abbrev pub OthersBeginNothing : Type 0
+OthersBeginNothing =
+    (built : Built) (cluster : Cluster) (me : ℕ) (facts : List Fact) (volatile : Volatile) (input : Input) (step : NodeStep)
+    → AreQuorums cluster.quorums → IsWellFormedInput input → is_begin input ≡ false
+    → step_of built cluster me facts volatile input ≡ Ok step
     → AllByRecursion (IsValuedBy me) step.entries

@@ -4,16 +4,16 @@ ghost use Rattle.mdcc_worlds.specs.Beginning.{BeginsHappen, PartsAreWellFormed};
 ghost use Rattle.mdcc_worlds.specs.Delivering.{DeliveriesHappen, DeliversBegin, DeliversEnd, DeliversGoOn, DeliversStop, UpStays};
 ghost use Rattle.mdcc_worlds.specs.Events.{EventsStay};
 ghost use Rattle.mdcc_worlds.specs.Happening.{CrashesHappen, ReadsHappen, RestartsHappen, TicksHappen};
-ghost use Rattle.mdcc_worlds.specs.Sending.{MessagesBeginNothing, StepsStayWithin};
+ghost use Rattle.mdcc_worlds.specs.Sending.{OthersBeginNothing, StepsStayWithin};
 ghost use Rattle.mdcc_worlds.specs.Settling.{SettlesBegin, SettlesBreak, SettlesEnd, SettlesFail, SettlesGoOn, SettlesStop};
 ghost use Rattle.mdcc_worlds.specs.Standing.{CountedStays, CrashStays, DeliveredStays, FirstStands, ReadStays, RestartStays, WorldStays};
 ghost use Rattle.mdcc_worlds.specs.Taking.{InputsHappen};
 
-/// Messages go to centres of the cluster, and no step tells a fact but its own. A message begins no
-/// transaction.
+/// Messages go to centres of the cluster, no step tells a fact but its own, and no input but a begin
+/// begins a transaction.
 pub fn steps_stay_within()
     ensures within { StepsStayWithin }
-    ensures quiet { MessagesBeginNothing }
+    ensures quiet { OthersBeginNothing }
 {}
 
 /// In a world each centre has a node, also one that is down, no stop is armed, and all messages are

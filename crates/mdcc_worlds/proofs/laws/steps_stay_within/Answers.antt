@@ -5,4 +5,4 @@ pub returns-clause-within : goal.returns-clause-within
 returns-clause-within c = made-stays
 
 pub returns-clause-quiet : goal.returns-clause-quiet
-returns-clause-quiet c built cluster me facts volatile envelope step sizes formed made = made-quiet built cluster me facts volatile envelope step sizes formed.message made
+returns-clause-quiet c = made-quiet

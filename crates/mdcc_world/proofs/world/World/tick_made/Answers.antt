@@ -6,6 +6,7 @@ use Rattle.mdcc_simulation.specs.State.{counted_event}
 use Rattle.mdcc_simulation.specs.Stepping.{input_happened, step_at}
 use Rattle.mdcc_rules.specs.declared.node.Input.{Input}
 use Rattle.mdcc_world.proofs.Counted.{counted-nodes, made-counted}
+use Rattle.mdcc_world.proofs.Took.{input-counted}
 use Rattle.mdcc_world.specs.Nodes.{NodesStand}
 use Rattle.mdcc_worlds.proofs.Stays.{counted-stays}
 use Rattle.mdcc_world.proofs.world.World.tick_made.Goals as goal
@@ -19,4 +20,5 @@ returns-clause-made c w like =
     let h = input_happened (counted_event w) a (step_at built (counted_event w) a Input.Tick) in
     let left = c.in_ok-made.ensures.left (counted_event w) (counted-stays w like.records.itself) here up in
     let nodes : NodesStand (with_items c.args.self.now.nodes c.step.new.nodes).items h.world = rw (with_items_is c.args.self.now.nodes c.step.new.nodes many) left in
-    made-counted c.args.self.now _ w a Input.Tick c.in_ok-made.made like up tt refl like.outcomes (c.in_ok-made.ensures.answer (counted_event w) here up) nodes
+    let outcomes = input-counted c.args.self.now.outcomes (counted_event w) a Input.Tick (counted-stays w like.records.itself) tt refl like.outcomes in
+    made-counted c.args.self.now _ w a Input.Tick c.in_ok-made.made like up tt refl outcomes (c.in_ok-made.ensures.answer (counted_event w) here up) nodes
