@@ -21,6 +21,7 @@ use mdcc_journal::counts::well_formed_facts_have_counts;
 use mdcc_journal::fact_length;
 use mdcc_log::{Frames, LOG_LIMIT, rest_is_read};
 use mdcc_messages::Fact;
+use mdcc_option::Cluster;
 use mdcc_restart::{Restarted, payload_of};
 use std::alloc::Global;
 
