@@ -59,17 +59,6 @@ fn check_deltas(part: usize, bytes: &[u8], count: u8, at: usize) -> Result<usize
     Ok(place)
 }
 
-// Adds a delta behind the others.
-fn push_delta(deltas: &mut HeapList<Delta>, delta: Delta) -> Result<(), WireFault>
-    ensures ok { OnOk result (deltas.new ≡ deltas.old ++ delta ∷ []) }
-    ensures err { IfErr result (λ fault. fault ≡ WireFault.Memory) }
-{
-    match deltas.push(delta) {
-        Ok(()) => Ok(()),
-        Err(_) => Err(WireFault::Memory),
-    }
-}
-
 // So many deltas at a place, of the list that begins at `part`.
 fn deltas_from(
     alloc: Global,
@@ -86,7 +75,7 @@ fn deltas_from(
     for _ in 0..count {
         let (delta, after) = read_delta_behind(part, bytes, last, place)?;
         last = Some(delta.tx);
-        push_delta(&mut deltas, delta)?;
+        deltas.push(delta)?;
         place = after;
     }
     Ok((deltas, place))

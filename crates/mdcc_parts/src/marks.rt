@@ -130,16 +130,6 @@ pub fn check_options(bytes: &[u8], at: usize, key: &Key, version: u64) -> Result
     check_entries(at, key, version, bytes, count, after)
 }
 
-// A structure without marks.
-fn no_options(alloc: Global) -> Result<Options, WireFault>
-    ensures { result ≡ Ok [] }
-{
-    match Options::new(alloc) {
-        Ok(options) => Ok(options),
-        Err(_) => Err(WireFault::Memory),
-    }
-}
-
 // Adds a mark behind the others.
 fn push_mark(options: &mut Options, tx: TxId, mark: Mark) -> Result<(), WireFault>
     requires { IsTrue (are_ascending (options.old ++ (tx, mark) ∷ [])) }
@@ -147,10 +137,8 @@ fn push_mark(options: &mut Options, tx: TxId, mark: Mark) -> Result<(), WireFaul
     ensures err { OnErr result (options.new ≡ options.old) }
     ensures memory { IfErr result (λ fault. fault ≡ WireFault.Memory) }
 {
-    match options.insert(tx, mark) {
-        Ok(()) => Ok(()),
-        Err(_) => Err(WireFault::Memory),
-    }
+    options.insert(tx, mark)?;
+    Ok(())
 }
 
 // So many marks at a place, of the list that begins at `part`.
@@ -165,7 +153,7 @@ fn entries_from(
 ) -> Result<(Options, usize), WireFault>
     ensures { GivesUnless is_memory result (elements_at (entry_behind part key.now version bytes.now) (λ e. e.0) count None at) }
 {
-    let mut options = no_options(alloc)?;
+    let mut options = Options::new(alloc)?;
     let mut last: Option<TxId> = None;
     let mut place = at;
     for _ in 0..count {

@@ -8,4 +8,4 @@ returns-in_err-delta c =
     rw (p.1, p.2) (unless_memory _ _ (ends c.loop.invariant c.loop-test.true c.in_err-delta.ensures))
 
 pub loop-preserved : goal.loop-preserved
-loop-preserved c = rw c.in_ok-push_delta.ensures.ok (goes_on c.loop.invariant c.loop-test.true c.in_ok-delta.ensures)
+loop-preserved c = rw c.in_ok-push.ensures.ok (goes_on c.loop.invariant c.loop-test.true c.in_ok-delta.ensures)

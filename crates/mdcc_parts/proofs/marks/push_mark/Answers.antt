@@ -5,5 +5,5 @@ use Rattle.mdcc_parts.proofs.marks.push_mark.Goals as goal
 pub insert-requires : goal.insert-requires
 insert-requires c = value_of-end c.args.options.now (c.args.tx, c.args.mark) c.requires
 
-pub returns-in-Ok-clause-ok : goal.returns-in-Ok-clause-ok
-returns-in-Ok-clause-ok c = c.in-Ok.ensures.ok ∙ inserted-end c.args.options.now (c.args.tx, c.args.mark) c.requires
+pub returns-clause-ok : goal.returns-clause-ok
+returns-clause-ok c = c.in_ok-insert.ensures.ok ∙ inserted-end c.args.options.now (c.args.tx, c.args.mark) c.requires
