@@ -1,5 +1,5 @@
 //! Why the text of a schedule is refused.
-use mdcc_base::{Key, QuorumFault};
+use mdcc_base::{Key, Memory, QuorumFault};
 use mdcc_option::SchemaFault;
 use std::alloc::AllocError;
 
@@ -25,6 +25,32 @@ pub enum SchedCause {
 pub struct SchedFault {
     pub column: u32,
     pub cause: SchedCause,
+}
+
+/// Want of memory has no place; it stands at column 1, where no word gives it.
+impl From<Memory> for SchedFault {
+    ghost use Rattle.std.specs.Prelude.{◌≡◌};
+    ghost use Rattle.mdcc_language.specs.declared.schedule.SchedCause.TheVariants.{Memory};
+
+    ghost from_gives = { λ _ fault. fault ≡ record { column = 1; cause = Memory } };
+
+    fn from(_: Memory) -> SchedFault {
+        SchedFault {
+            column: 1,
+            cause: SchedCause::Memory,
+        }
+    }
+}
+
+impl From<AllocError> for SchedFault {
+    ghost use Rattle.std.specs.Prelude.{◌≡◌};
+    ghost use Rattle.mdcc_language.specs.declared.schedule.SchedCause.TheVariants.{Memory};
+
+    ghost from_gives = { λ _ fault. fault ≡ record { column = 1; cause = Memory } };
+
+    fn from(_: AllocError) -> SchedFault {
+        SchedFault::from(Memory)
+    }
 }
 
 /// Why a header line is refused.
@@ -54,6 +80,17 @@ pub enum ResolveFault {
     NoItem(Key),
     /// There was no memory.
     Memory,
+}
+
+impl From<Memory> for ResolveFault {
+    ghost use Rattle.std.specs.Prelude.{◌≡◌};
+    ghost use Rattle.mdcc_language.specs.declared.schedule.ResolveFault.TheVariants.{Memory};
+
+    ghost from_gives = { λ _ fault. fault ≡ Memory };
+
+    fn from(_: Memory) -> ResolveFault {
+        ResolveFault::Memory
+    }
 }
 
 impl From<AllocError> for ResolveFault {

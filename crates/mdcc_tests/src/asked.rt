@@ -77,7 +77,12 @@ fn voted_transactions_are_counted(rt: HostRuntime) -> Result<(), Fail> {
 }
 
 // The ballot, the number and whether it accepts, of the mark after a transaction.
-fn after(store: &ListFacts, key: &Key, below: Ballot, last: Option<u32>) -> Option<(Ballot, u32, bool)> {
+fn after(
+    store: &ListFacts,
+    key: &Key,
+    below: Ballot,
+    last: Option<u32>,
+) -> Option<(Ballot, u32, bool)> {
     let last = last.map(|seq: u32| tx(seq));
     match store.mark_after(key, 1, below, last) {
         Some((ballot, tx, mark)) => Some((ballot, tx.seq, matches!(mark, Mark::Accept(_)))),
@@ -110,7 +115,10 @@ fn outcomes_end_transactions(rt: HostRuntime) -> Result<(), Fail> {
     assert_eq!(rt; store.write_set(tx(2)), Some(second.copy()));
     assert_eq!(rt; store.write_set(tx(4)), None);
     let both = [(tx(2), second), (tx(3), third.copy())];
-    assert_eq!(rt; store.unresolved_all(rt.alloc())?.as_slice(), both.as_slice());
+    assert_eq!(rt;
+        store.unresolved_all(rt.alloc())?.as_slice(),
+        both.as_slice()
+    );
 
     let aborted = Fact::Heard {
         tx: tx(2),
@@ -121,7 +129,10 @@ fn outcomes_end_transactions(rt: HostRuntime) -> Result<(), Fail> {
     assert_eq!(rt; store.ended(tx(2)), Some(false));
     assert_eq!(rt; store.write_set(tx(2)), None);
     let left = [(tx(3), third)];
-    assert_eq!(rt; store.unresolved_all(rt.alloc())?.as_slice(), left.as_slice());
+    assert_eq!(rt;
+        store.unresolved_all(rt.alloc())?.as_slice(),
+        left.as_slice()
+    );
     Ok(())
 }
 
