@@ -3,6 +3,7 @@ use Rattle.std.proofs.Common.{◌≡◌, ℕ, Bool, true, false, List, ◌∷◌
 use Rattle.std.specs.Bool.{OnFalse, OnTrue}
 use Rattle.mdcc_base.specs.Unless.{GivesUnless}
 use Rattle.mdcc_facts.specs.Adding as store
+use Rattle.mdcc_node.specs.Doing.{ended}
 use Rattle.mdcc_node.specs.Stands.{Left, Stands}
 use Rattle.mdcc_node.specs.Stepping.{OnMemory, Room, UnlessMemory, given, if_added, is_memory, step_by, with_store}
 use Rattle.mdcc_node.specs.Telling.{added, vote_fact}
@@ -19,7 +20,7 @@ use Rattle.mdcc_protocol.specs.declared.acceptor.ProposeAnswer.{ProposeAnswer}
 use Rattle.mdcc_messages.specs.declared.messages.Message.{Message}
 use Rattle.mdcc_rules.specs.declared.node.Input.{Input}
 use Rattle.mdcc_protocol.specs.Facts.{epoch_of}
-use Rattle.mdcc_rules.specs.Steps.{NodeStep, adding, step_fault}
+use Rattle.mdcc_rules.specs.Steps.{NodeStep, adding, heard_by, step_fault}
 use Rattle.mdcc_protocol.specs.Volatile.{Volatile}
 use Rattle.mdcc_messages.specs.declared.facts.Fact.{Fact}
 use Rattle.mdcc_protocol.specs.declared.stores.StoreFault.{StoreFault}
@@ -73,7 +74,7 @@ swap_left stands node cluster me facts volatile result room a b e h = rw e h
 pub step_voted : (me : ℕ) (volatile : Volatile) (from : ℕ) (choice : Choice) (acceptor : ProposeAnswer) (mark : Mark) (fact : Fact) (sends : List Envelope)
     → acceptor ≡ ProposeAnswer.Vote mark → fact ≡ vote_fact choice mark
     → sends ≡ to_one me from (Message.Voted choice.key choice.version fast_ballot choice.tx mark)
-    → proposed_step me volatile from choice acceptor ≡ adding volatile fact sends
+    → proposed_step me volatile from choice acceptor ≡ adding (ended (heard_by (Some fact)) volatile) fact sends
 step_voted me volatile from choice acceptor mark fact sends e f s = rw (e, f, s) refl
 
 -- ---- who sent a message

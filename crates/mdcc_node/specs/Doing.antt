@@ -1,12 +1,13 @@
 -- What a node's method does: what it answers, and what the node is afterwards.
-use Rattle.std.specs.Prelude.{List, Result, ℕ}
+use Rattle.std.specs.Prelude.{Bool, List, None, Option, Result, Some, ℕ}
+use Rattle.mdcc_base.specs.declared.identifiers.TxId.{TxId}
 use Rattle.mdcc_base.specs.Unless.{GivesUnless}
 use Rattle.mdcc_messages.specs.declared.facts.Fact.{Fact}
 use Rattle.mdcc_node.specs.Stands.{Left, Stands}
 use Rattle.mdcc_node.specs.Stepping.{OnMemory, UnlessMemory, given, is_memory, room_of, with_store}
 use Rattle.mdcc_node.specs.declared.node.Node.{Node}
 use Rattle.mdcc_option.specs.declared.cluster.Cluster.{Cluster}
-use Rattle.mdcc_protocol.specs.Volatile.{Volatile}
+use Rattle.mdcc_protocol.specs.Volatile.{Volatile, closed}
 use Rattle.mdcc_rules.specs.Steps.{NodeStep}
 use Rattle.mdcc_rules.specs.declared.node.Step.{Step}
 use Rattle.mdcc_rules.specs.declared.node.StepFault.{StepFault}
@@ -27,3 +28,8 @@ pub record Follows {S : Type 0} (stands : S → List Fact → Type 0) (before : 
 abbrev pub Does : {S : Type 0} → (S → List Fact → Type 0) → (S → ℕ) → (S → Fact → ℕ) → Node S → Result Step StepFault → Node S → Rule → Type 0
 Does stands spare needed before result after rule =
     Follows stands before result after (λ cluster me facts volatile. with_store (room_of spare needed before.store) facts (rule cluster me facts volatile))
+
+-- a transaction that has ended is closed
+abbrev pub ended : Option (TxId × Bool) → Volatile → Volatile
+ended None volatile = volatile
+ended (Some (tx, is_commit)) volatile = closed volatile tx

@@ -39,7 +39,13 @@ impl<S: FactStore + Drop> Node<S> {
         match boot_store(alloc, &cluster, &mut store, payloads) {
             Ok(epoch) => {
                 let manager = Manager::new(alloc, centre, epoch)?;
-                let node = Node::of_parts(alloc, cluster, centre, store, manager);
+                let node = Node {
+                    alloc,
+                    cluster,
+                    centre,
+                    store,
+                    manager,
+                };
                 Ok((node, Fact::Booted(epoch)))
             }
             Err(fault) => Err(fault),

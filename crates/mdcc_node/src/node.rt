@@ -1,8 +1,8 @@
 //! One node.
-ghost use Rattle.std.specs.Prelude.{◌≡◌, ◌∷◌, ◌&&◌, [], List, ℕ, IfOk, Ok, false, not, true};
+ghost use Rattle.std.specs.Prelude.{◌≡◌, ◌∷◌, List, ℕ, IfOk, Ok, Some, false};
 ghost use Rattle.mdcc_base.specs.Unless.{GivesUnless};
 ghost use Rattle.mdcc_facts.specs.Adding.{MayBeAdded};
-ghost use Rattle.mdcc_node.specs.Doing.{Does, Follows};
+ghost use Rattle.mdcc_node.specs.Doing.{Does, Follows, ended};
 ghost use Rattle.mdcc_node.specs.Stands.{Stands};
 ghost use Rattle.mdcc_node.specs.Stepping.{IsGiven, is_memory, room_of, step_by};
 ghost use Rattle.mdcc_node.specs.Telling.{refused_given, replied, sent, vote_fact};
@@ -10,7 +10,6 @@ ghost use Rattle.mdcc_option.specs.Transaction.{choices_of};
 ghost use Rattle.mdcc_option.specs.declared.choices.Mark.{Mark as AMark};
 ghost use Rattle.mdcc_option.specs.declared.cluster.Cluster.{Cluster as ACluster};
 ghost use Rattle.mdcc_rules.specs.AcceptorRules.{propose_step, proposed_step};
-ghost use Rattle.mdcc_protocol.specs.Belongs.{is_centre};
 ghost use Rattle.mdcc_built.specs.Built.{built};
 ghost use Rattle.mdcc_protocol.specs.Facts.{epoch_of, is_heard};
 ghost use Rattle.mdcc_protocol.specs.Manager.{would_decide};
@@ -18,9 +17,9 @@ ghost use Rattle.mdcc_rules.specs.ManagerRules.{act_sent, begin_step, decided_st
 ghost use Rattle.mdcc_protocol.specs.Manager.{key_refused as key_refused_of};
 ghost use Rattle.mdcc_rules.specs.Messages.{to_one};
 ghost use Rattle.mdcc_rules.specs.Node.{message_step};
-ghost use Rattle.mdcc_rules.specs.Steps.{adding};
+ghost use Rattle.mdcc_rules.specs.Steps.{adding, heard_by};
 ghost use Rattle.mdcc_rules.specs.SyncRules.{give_sent, outcome_step};
-ghost use Rattle.mdcc_protocol.specs.Volatile.{Volatile as AVolatile, closed, is_open, nothing_kept};
+ghost use Rattle.mdcc_protocol.specs.Volatile.{Volatile as AVolatile};
 ghost use Rattle.mdcc_messages.specs.WellFormed.{IsWellFormedEnvelope, IsWellFormedMessage};
 ghost use Rattle.mdcc_messages.specs.WellFormedParts.{IsWellFormedCause};
 ghost use Rattle.mdcc_protocol.specs.declared.acceptor.ProposeAnswer.{ProposeAnswer as AProposeAnswer};
@@ -45,36 +44,14 @@ use std::alloc::Global;
 /// The node of one centre, over a store of its facts.
 #[derive(Drop)]
 pub struct Node<S> {
-    alloc: Global,
-    cluster: Cluster,
-    centre: Centre,
-    store: S,
-    manager: Manager,
+    pub(crate) alloc: Global,
+    pub(crate) cluster: Cluster,
+    pub(crate) centre: Centre,
+    pub(crate) store: S,
+    pub(crate) manager: Manager,
 }
 
 impl<S: FactStore + Drop> Node<S> {
-    // A node of these parts.
-    pub(crate) fn of_parts(
-        alloc: Global,
-        cluster: Cluster,
-        centre: Centre,
-        store: S,
-        manager: Manager,
-    ) -> Node<S>
-        ensures of { result.cluster ≡ cluster }
-        ensures at { result.centre ≡ centre }
-        ensures store { result.store ≡ store }
-        ensures manager { result.manager ≡ manager }
-    {
-        Node {
-            alloc,
-            cluster,
-            centre,
-            store,
-            manager,
-        }
-    }
-
     /// The epoch of the node's last boot.
     pub fn epoch(&self) -> u32
         ensures { (cluster : ACluster) (me : ℕ) (facts : List AFact) (volatile : AVolatile)
@@ -83,25 +60,18 @@ impl<S: FactStore + Drop> Node<S> {
         self.store.epoch()
     }
 
-    // Adds a fact, which is let out before the messages.
+    // Adds a fact, which is let out before the messages. A transaction whose end it tells is closed.
     fn add(&mut self, fact: Fact, sends: HeapList<Envelope>) -> Result<Step, StepFault>
         requires new { (facts : List AFact) → S.stands self.old.store facts → MayBeAdded facts fact }
         requires no_boot { (facts : List AFact) → S.stands self.old.store facts → epoch_of (fact ∷ facts) ≡ epoch_of facts }
-        ensures { Does S.stands S.room S.cells_for self.old result self.new (λ _ _ _ volatile. Ok (adding volatile fact sends)) }
+        ensures { Does S.stands S.room S.cells_for self.old result self.new (λ _ _ _ volatile. Ok (adding (ended (heard_by (Some fact)) volatile) fact sends)) }
     {
         self.store.add(&fact)?;
-        Ok(added(fact, sends))
-    }
-
-    // Adds a fact that ends a transaction.
-    fn end(&mut self, tx: TxId, heard: Fact, sends: HeapList<Envelope>) -> Result<Step, StepFault>
-        requires new { (facts : List AFact) → S.stands self.old.store facts → MayBeAdded facts heard }
-        requires no_boot { (facts : List AFact) → S.stands self.old.store facts → epoch_of (heard ∷ facts) ≡ epoch_of facts }
-        ensures { Does S.stands S.room S.cells_for self.old result self.new (λ _ _ _ volatile. Ok (adding (closed volatile tx) heard sends)) }
-    {
-        self.store.add(&heard)?;
-        self.manager.close(tx);
-        Ok(added(heard, sends))
+        let step = added(fact, sends);
+        if let Some((tx, _)) = step.heard {
+            self.manager.close(tx);
+        }
+        Ok(step)
     }
 
     // A message to a centre.
@@ -162,7 +132,7 @@ impl<S: FactStore + Drop> Node<S> {
     {
         let centre = self.centre.number();
         let sends = outcome_sent(self.alloc, &self.cluster.quorums, centre, tx, &outcome)?;
-        self.end(tx, Fact::Heard { tx, outcome }, sends)
+        self.add(Fact::Heard { tx, outcome }, sends)
     }
 
     // What this node holds of a key, for a centre.
@@ -223,7 +193,7 @@ impl<S: FactStore + Drop> Node<S> {
     fn voted(&mut self, vote: &Vote) -> Result<Step, StepFault>
         ensures { Does S.stands S.room S.cells_for self.old result self.new (λ cluster me facts volatile. Ok (voted_step built cluster me facts volatile vote.now)) }
     {
-        if self.store.heard(vote.tx).is_some() || !self.manager.is_open(vote.tx) {
+        if self.store.is_heard(vote.tx) || !self.manager.is_open(vote.tx) {
             return Ok(sent(HeapList::new(self.alloc)));
         }
         self.opened(vote)
@@ -252,7 +222,7 @@ impl<S: FactStore + Drop> Node<S> {
     {
         let sends = HeapList::new(self.alloc);
         match on_outcome(&self.store, tx, outcome) {
-            Some(fact) => self.end(tx, fact, sends),
+            Some(fact) => self.add(fact, sends),
             None => Ok(sent(sends)),
         }
     }

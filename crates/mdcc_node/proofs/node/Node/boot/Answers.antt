@@ -7,11 +7,11 @@ returns-in_ok-manager-in-Ok-clause-boots g c all held =
       booted.0,
       booted.1,
       record {
-        of = c.of_parts-node.ensures.of;
-        at = c.of_parts-node.ensures.at;
+        of = refl;
+        at = refl;
         among = c.requires.among;
-        store = rw c.of_parts-node.ensures.store booted.2.list;
-        manager = rw c.of_parts-node.ensures.manager (c.in_ok-manager-in-Ok.ensures c.args.cluster.quorums (search rules));
+        store = booted.2.list;
+        manager = c.in_ok-manager-in-Ok.ensures c.args.cluster.quorums (search rules);
         leader = refl;
         recovery = refl;
       },
