@@ -4,7 +4,7 @@ ghost use Rattle.std.specs.Bool.{OnFalse, OnTrue};
 ghost use Rattle.std.specs.Io.KnownBytes.{Appends, IsAtEnd};
 ghost use Rattle.std.specs.String.{string_bytes};
 ghost use Rattle.mdcc_base.specs.Causes.{Rose};
-ghost use Rattle.mdcc_headline.specs.Headline.{IsReplayReported};
+ghost use Rattle.mdcc_headline.specs.Headline.{ReplayTellsTruth};
 ghost use Rattle.mdcc_built.specs.Built.{built};
 ghost use Rattle.mdcc_simulation.specs.Replay.{output_of, replay_of};
 ghost use Rattle.mdcc_replay.specs.Runs.{is_own, own_line};
@@ -49,7 +49,7 @@ pub fn run<S: Source, O: Sink, E: Sink>(
     // The replay of the input is a run in which the committed transactions, in the order in which they were chosen, are
     // a run of the one-copy store; every reported commit is in it, no reported abort is, and every reported read is an
     // item version of it with some of its committed deltas.
-    ensures headline { IfSome (S.left source.old) (λ input. IsReplayReported built input) }
+    ensures headline { IfSome (S.left source.old) (λ input. ReplayTellsTruth built input) }
 
     // The line on the error stream.
     ensures quiet { result ≡ 0 → Appends (E.held err.old) (E.held err.new) [] }

@@ -2,7 +2,7 @@
 use Rattle.std.proofs.Common.{Bool, List, None, Option, Some, [], ap, arith, false, inl, inr, length, refl, subst, suc, sym, true, ℕ, ◌++◌, ◌+◌, ◌∙◌, ◌∷◌, ◌≡◌, ◌≤◌}
 use Rattle.std.proofs.lemmas.Bool.{cases_Bool}
 use Rattle.std.specs.List.{filter_map}
-use Rattle.std.specs.Prelude.{filter, map}
+use Rattle.std.specs.Prelude.{filter, is_some, map, not}
 use Rattle.mdcc_base.specs.Counts.{number_of}
 use Rattle.mdcc_base.specs.declared.identifiers.TxId.{TxId}
 use Rattle.mdcc_option.specs.declared.choices.Choice.{Choice}
@@ -10,7 +10,10 @@ use Rattle.mdcc_option.specs.declared.choices.Outcome.{Outcome}
 use Rattle.mdcc_option.specs.declared.choices.Outcome.TheVariants.{Abort, Commit}
 use Rattle.mdcc_option.specs.declared.cluster.Cluster.{Cluster}
 use Rattle.mdcc_ledger.specs.Ledger.{Entry, choices_committed, committed_of, new_outcomes, outcome_of, txs_begun}
-use Rattle.mdcc_simulation.specs.Runs.{is_commit_found}
+use Rattle.mdcc_protocol.specs.Marks.{is_abort}
+use Rattle.mdcc_simulation.specs.Runs.{end_line, is_commit_found}
+use Rattle.mdcc_simulation.specs.State.{World}
+use Rattle.mdcc_headline.specs.Truth.{IsTrueEnd}
 use Rattle.mdcc_agreement.specs.Laws.{IsLedger}
 use Rattle.mdcc_agreement.proofs.LawsTold.{allowed, setup_fine}
 use Rattle.mdcc_agreement.proofs.OutcomeFromReduced.{begun_some, outcome_committed}
@@ -90,12 +93,12 @@ kept-apart test (u ∷ ts) h =
       | inr e ↦ rw e (kept-apart test ts h.1)
     ]
 
-number-kept : (found : TxId → Option Outcome) (ts : List TxId) → number_of is_commit_found (map found ts) ≡ length (filter (λ t. is_commit_found (found t)) ts)
-number-kept found [] = refl
-number-kept found (t ∷ ts) =
-    elim (cases_Bool (is_commit_found (found t))) [
-      | inl e ↦ rw e (one-more (number_of is_commit_found (map found ts)) (length (filter (λ u. is_commit_found (found u)) ts)) (number-kept found ts))
-      | inr e ↦ rw e (none-more (number_of is_commit_found (map found ts)) (length (filter (λ u. is_commit_found (found u)) ts)) (number-kept found ts))
+pub number-kept : (test : Option Outcome → Bool) (found : TxId → Option Outcome) (ts : List TxId) → number_of test (map found ts) ≡ length (filter (λ t. test (found t)) ts)
+number-kept test found [] = refl
+number-kept test found (t ∷ ts) =
+    elim (cases_Bool (test (found t))) [
+      | inl e ↦ rw e (one-more (number_of test (map found ts)) (length (filter (λ u. test (found u)) ts)) (number-kept test found ts))
+      | inr e ↦ rw e (none-more (number_of test (map found ts)) (length (filter (λ u. test (found u)) ts)) (number-kept test found ts))
     ]
   where
     none-more : (a b : ℕ) → a ≡ b → 0 + a ≡ b
@@ -176,7 +179,7 @@ committed-length cluster (e ∷ es) =
 -- the commits of the last line are as many as the committed transactions
 pub commits-counted : (cluster : Cluster) (es : List Entry) → IsLedger cluster es → number_of is_commit_found (map (outcome_of cluster.quorums es) (txs_begun es)) ≡ length (committed_of cluster.quorums es)
 commits-counted cluster es h =
-    number-kept (outcome_of cluster.quorums es) (txs_begun es)
+    number-kept is_commit_found (outcome_of cluster.quorums es) (txs_begun es)
     ∙ both (length found) (length listed) (fewer found listed found-apart found-listed) (fewer listed found listed-apart listed-found)
     ∙ length-map (λ (x : TxId × List Choice). x.0) (done cluster es)
     ∙ sym (committed-length cluster es)
@@ -217,3 +220,13 @@ commits-counted cluster es h =
 
     both : (a b : ℕ) → a ≤ b → b ≤ a → a ≡ b
     both a b i k = omega arith
+
+-- so are the other outcomes
+pub end-true : (cluster : Cluster) (w : World) → IsLedger cluster w.ledger → w.cluster ≡ cluster → IsTrueEnd cluster w.ledger (end_line w)
+end-true cluster w h same =
+    subst (λ (c : Cluster). IsTrueEnd c w.ledger (end_line w)) same
+    (let g : IsLedger w.cluster w.ledger = subst (λ (c : Cluster). IsLedger c w.ledger) (sym same) h in (
+      commits-counted w.cluster w.ledger g,
+      number-kept is_abort (outcome_of w.cluster.quorums w.ledger) (txs_begun w.ledger),
+      number-kept (λ o. not (is_some o)) (outcome_of w.cluster.quorums w.ledger) (txs_begun w.ledger),
+    ))

@@ -1,3 +1,4 @@
+pub mod Commits
 pub mod Ends
 pub mod Lines
 pub mod Reported

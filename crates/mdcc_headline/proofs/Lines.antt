@@ -14,7 +14,9 @@ use Rattle.mdcc_agreement.proofs.LawsTold.{outcome_kept}
 use Rattle.mdcc_agreement.proofs.ReducedOptions.{In}
 use Rattle.mdcc_rooms.proofs.Among.{In-Contains}
 use Rattle.mdcc_reports.specs.Origins.{Came, HasOrigin, WasHeard, WasRead}
-use Rattle.mdcc_headline.specs.Told.{IsReportedRead, IsTold}
+use Rattle.mdcc_reports.specs.Origins.{AreInTurn, BeginsAt, IsLater}
+use Rattle.mdcc_reports.proofs.Turns.{turn-grows}
+use Rattle.mdcc_headline.specs.Truth.{AreTrueInTurn, IsReportedRead, IsTrueLine}
 use Rattle.mdcc_headline.proofs.Reported.{abort-told, commit-told, ledger-before, read-told}
 
 -- what came at an entry is the outcome behind it
@@ -25,7 +27,7 @@ came-is tx (Some outcome) None x e =
     let same : (tx, outcome) ≡ x = cc in
     (ap (λ (z : TxId × Outcome). z.0) same, ap (λ (z : TxId × Outcome). Some z.1) same)
 
-in-news : (cluster : Cluster) (entry : Entry) (before : List Entry) (txs : List TxId) (x : TxId × Outcome) → In x (filter_map (new_outcome cluster.quorums entry before) txs) →
+pub in-news : (cluster : Cluster) (entry : Entry) (before : List Entry) (txs : List TxId) (x : TxId × Outcome) → In x (filter_map (new_outcome cluster.quorums entry before) txs) →
     outcome_of cluster.quorums (entry ∷ before) x.0 ≡ Some x.1
 in-news cluster entry before [] x h = absurd h
 in-news cluster entry before (tx ∷ txs) x h = by_come (new_outcome cluster.quorums entry before tx) refl (in-news cluster entry before txs x) h
@@ -42,13 +44,13 @@ in-news cluster entry before (tx ∷ txs) x h = by_come (new_outcome cluster.quo
 
 module _ (cluster : Cluster) (es : List Entry) (h : IsLedger cluster es) where
   -- an outcome is told as it is
-  outcome-told : (tx : TxId) (outcome : Outcome) → outcome_of cluster.quorums es tx ≡ Some outcome → (is_committed : Bool) → is_commit outcome ≡ is_committed → IsTold cluster es (Line.Chosen tx is_committed)
+  outcome-told : (tx : TxId) (outcome : Outcome) → outcome_of cluster.quorums es tx ≡ Some outcome → (is_committed : Bool) → is_commit outcome ≡ is_committed → IsTrueLine cluster es (Line.Chosen tx is_committed)
   outcome-told tx (Outcome.Commit choices) o true e = commit-told cluster es h tx choices o
   outcome-told tx (Outcome.Commit choices) o false e = absurd (cc)
   outcome-told tx Outcome.Abort o true e = absurd (cc)
   outcome-told tx Outcome.Abort o false e = abort-told cluster es h tx o
 
-  heard-told : (a : ℕ) (tx : TxId) (is_committed : Bool) → IsTold cluster es (Line.Chosen tx is_committed) → IsTold cluster es (Line.Heard a tx is_committed)
+  heard-told : (a : ℕ) (tx : TxId) (is_committed : Bool) → IsTrueLine cluster es (Line.Chosen tx is_committed) → IsTrueLine cluster es (Line.Heard a tx is_committed)
   heard-told a tx true g = g
   heard-told a tx false g = g
 
@@ -76,7 +78,7 @@ module _ (cluster : Cluster) (es : List Entry) (h : IsLedger cluster es) where
       subst (λ l. IsReportedRead cluster l known) (sym c.parts)
       (subst (IsReportedRead cluster (c.later ++ c.before)) (sym c.shown) (read-told cluster c.later c.before (subst (IsLedger cluster) c.parts h) a known.key))
 
-  line-told : (line : Line) → HasOrigin cluster.quorums es line → IsTold cluster es line
+  line-told : (line : Line) → HasOrigin cluster.quorums es line → IsTrueLine cluster es line
   line-told (Line.Chosen tx is_committed) o = outcome-told tx o.0 (came-now tx o.0 o.2) is_committed o.1
   line-told (Line.Heard a tx is_committed) o = heard-told a tx is_committed (outcome-told tx o.0 (heard-now a tx o.0 o.2) is_committed o.1)
   line-told (Line.Read number a known) o = read-now a known o
@@ -94,6 +96,39 @@ module _ (cluster : Cluster) (es : List Entry) (h : IsLedger cluster es) where
   line-told (Line.End events messages commits aborts undecided) o = tt
 
   -- each line that has its origin in the ledger is told
-  pub lines-told : (lines : List Line) → AllByRecursion (HasOrigin cluster.quorums es) lines → AllByRecursion (IsTold cluster es) lines
+  pub lines-told : (lines : List Line) → AllByRecursion (HasOrigin cluster.quorums es) lines → AllByRecursion (IsTrueLine cluster es) lines
   lines-told [] o = tt
   lines-told (line ∷ lines) o = (line-told line o.0, lines-told lines o.1)
+
+-- ---- in turn
+
+-- a line is true of the ledger at which it begins
+line-now : (cluster : Cluster) (now : List Entry) → IsLedger cluster now → (line : Line) → BeginsAt cluster.quorums now line → IsTrueLine cluster now line
+line-now cluster now h (Line.Chosen tx is_committed) (outcome, is, entry, before, parts, new) =
+    outcome-told cluster now h tx outcome
+    (subst (λ l. outcome_of cluster.quorums l tx ≡ Some outcome) (sym parts)
+    (in-news cluster entry before (txs_voted entry) (tx, outcome) (In-Contains (new_outcomes cluster.quorums entry before) (tx, outcome) new)))
+    is_committed is
+line-now cluster now h (Line.Heard a tx is_committed) (outcome, is, before, parts) =
+    heard-told cluster now h a tx is_committed (outcome-told cluster now h tx outcome (heard-now cluster now h a tx outcome (record { later = []; before = before; parts = parts })) is_committed is)
+line-now cluster now h (Line.Read number a known) same = subst (IsReportedRead cluster now) (sym same) (read-told cluster [] now h a known.key)
+line-now cluster now h (Line.Begun tx next) o = tt
+line-now cluster now h (Line.Refused key fault) o = tt
+line-now cluster now h (Line.Deliver number next) o = tt
+line-now cluster now h (Line.Settle listed) o = tt
+line-now cluster now h (Line.Settled deliveries next) o = tt
+line-now cluster now h (Line.Tick a next) o = tt
+line-now cluster now h (Line.Crash a) o = tt
+line-now cluster now h (Line.Stop a call image) o = tt
+line-now cluster now h (Line.Restart a epoch) o = tt
+line-now cluster now h (Line.Stopped a) o = tt
+line-now cluster now h (Line.Dropped a needed spare) o = tt
+line-now cluster now h (Line.End events messages commits aborts undecided) o = tt
+
+-- lines that are told in turn are true in turn
+pub turn-true : (cluster : Cluster) (first last : List Entry) (lines : List Line) → IsLedger cluster last → AreInTurn cluster.quorums first last lines → AreTrueInTurn cluster first last lines
+turn-true cluster first last [] h t = t
+turn-true cluster first last (line ∷ lines) h t =
+    let more : IsLater t.0 last = turn-grows cluster.quorums t.0 last lines t.3 in
+    let now : IsLedger cluster t.0 = ledger-before cluster more.0 t.0 (subst (IsLedger cluster) more.1 h) in
+    (t.0, t.1, t.2, line-now cluster t.0 now line t.2, turn-true cluster t.0 last lines h t.3)

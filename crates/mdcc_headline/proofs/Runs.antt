@@ -1,15 +1,16 @@
--- Every run is reported, and so is every replay.
-use Rattle.std.proofs.Common.{List, length, refl, subst, sym, true, ℕ, ◌≡◌}
+-- Every run tells the truth, and so does every replay.
+use Rattle.std.proofs.Common.{List, [], ap, sym, true, ℕ, ◌++◌, ◌∙◌, ◌≡◌}
+use Rattle.std.proofs.lemmas.List.{append-nil}
 use Rattle.std.specs.Prelude.{map}
-use Rattle.mdcc_base.specs.Counts.{number_of}
 use Rattle.mdcc_option.specs.declared.cluster.Cluster.{Cluster}
 use Rattle.mdcc_switches.specs.Built.{Built}
 use Rattle.mdcc_language.specs.Header.{all_of}
 use Rattle.mdcc_protocol.specs.IsCluster.{IsCluster}
-use Rattle.mdcc_ledger.specs.Ledger.{committed_of, outcome_of, txs_begun}
+use Rattle.mdcc_ledger.specs.Ledger.{Entry, choices_begun}
 use Rattle.mdcc_simulation.specs.State.{first_world}
-use Rattle.mdcc_simulation.specs.Runs.{is_commit_found, run_of}
+use Rattle.mdcc_simulation.specs.Runs.{Run, run_of}
 use Rattle.mdcc_language.specs.declared.events.Event.{Event}
+use Rattle.mdcc_language.specs.declared.lines.Line.{Line}
 use Rattle.mdcc_agreement.specs.Laws.{IsLedger}
 use Rattle.mdcc_history.proofs.CommitsRun.{commits_run}
 use Rattle.mdcc_trace.proofs.Laws as trace
@@ -17,30 +18,52 @@ use Rattle.mdcc_trace_limits.proofs.Short as limits
 use Rattle.mdcc_reports.proofs.Headers.{header-cluster}
 use Rattle.mdcc_reports.proofs.Origins.{runs-tell}
 use Rattle.mdcc_reports.proofs.Replays.{replayed}
-use Rattle.mdcc_headline.specs.Headline.{IsReportedRun, IsReplayReported}
-use Rattle.mdcc_headline.proofs.Ends.{commits-counted}
-use Rattle.mdcc_headline.proofs.Lines.{lines-told}
+use Rattle.mdcc_reports.specs.Order.{chosen_in, decided_in}
+use Rattle.mdcc_reports.proofs.Order.{outcomes-in-order}
+use Rattle.mdcc_reports.proofs.Turns.{runs-turn, turn-from}
+use Rattle.mdcc_headline.specs.Headline.{ReplayTellsTruth, RunTellsTruth}
+use Rattle.mdcc_headline.specs.Truth.{commits_in}
+use Rattle.mdcc_headline.proofs.Commits.{commits-listed, none-first}
+use Rattle.mdcc_headline.proofs.Ends.{end-true}
+use Rattle.mdcc_headline.proofs.Lines.{lines-told, turn-true}
+use Rattle.mdcc_headline.proofs.Reported.{all-whole}
 
 -- the premise of all laws of ledgers
 run-ledger : (built : Built) → built.limit_on_events ≡ true → (cluster : Cluster) (events : List Event) → IsCluster cluster → IsLedger cluster (run_of built (first_world cluster) events).world.ledger
 run-ledger built limited cluster events is = record { of_cluster = is; allowed = trace.allowed built cluster is events; short = limits.ledger-short built limited cluster is events }
 
-pub run-reported : (built : Built) → built.limit_on_events ≡ true → (cluster : Cluster) (events : List Event) → IsCluster cluster → IsReportedRun cluster (run_of built (first_world cluster) events)
-run-reported built limited cluster events is =
+-- the chosen lines of a run are its outcomes
+run-order : (built : Built) (cluster : Cluster) (events : List Event) → (run_of built (first_world cluster) events).world.cluster ≡ cluster →
+    chosen_in (run_of built (first_world cluster) events).lines ≡ decided_in cluster.quorums (run_of built (first_world cluster) events).world.ledger
+run-order built cluster events same =
+    let run : Run = run_of built (first_world cluster) events in
+    sym (
+    ap (λ (c : Cluster). decided_in c.quorums run.world.ledger) (sym same)
+    ∙ outcomes-in-order built (first_world cluster) events
+    ∙ ap (λ l. l ++ chosen_in run.lines) (none-first cluster.quorums cluster.quorums.centres)
+    )
+
+pub run-true : (built : Built) → built.limit_on_events ≡ true → (cluster : Cluster) (events : List Event) → IsCluster cluster → RunTellsTruth cluster (run_of built (first_world cluster) events)
+run-true built limited cluster events is =
     let h = run-ledger built limited cluster events is in
     let told = runs-tell built (first_world cluster) events in
+    let ledger : List Entry = (run_of built (first_world cluster) events).world.ledger in
+    let lines : List Line = (run_of built (first_world cluster) events).lines in
+    let turns = runs-turn built (first_world cluster) events in
+    let order = run-order built cluster events told.0.same in
     record {
       ledger_itself = h;
-      committed_run = commits_run cluster (run_of built (first_world cluster) events).world.ledger h;
-      told = lines-told cluster (run_of built (first_world cluster) events).world.ledger h (run_of built (first_world cluster) events).lines told.1;
-      end_told =
-          subst (λ (c : Cluster). number_of is_commit_found (map (outcome_of c.quorums (run_of built (first_world cluster) events).world.ledger) (txs_begun (run_of built (first_world cluster) events).world.ledger))
-          ≡ length (committed_of cluster.quorums (run_of built (first_world cluster) events).world.ledger))
-          (sym told.0.same) (commits-counted cluster (run_of built (first_world cluster) events).world.ledger h);
+      committed_run = commits_run cluster ledger h;
+      whole = all-whole cluster ledger h;
+      lines_true = lines-told cluster ledger h lines told.1;
+      in_turn = turn-true cluster [] ledger lines h (turn-from cluster.quorums [] (first_world cluster).ledger ledger lines ((first_world cluster).ledger, sym (append-nil (first_world cluster).ledger)) turns.1);
+      outcomes_in_order = order;
+      commits_in_order = ap (λ l. map (choices_begun ledger) (commits_in l)) order ∙ commits-listed cluster ledger h;
+      end_true = end-true cluster (run_of built (first_world cluster) events).world h told.0.same;
     }
 
-pub replay-reported : (built : Built) → built.limit_on_events ≡ true → (input : List ℕ) → IsReplayReported built input
-replay-reported built limited input header accepted =
+pub replay-true : (built : Built) → built.limit_on_events ≡ true → (input : List ℕ) → ReplayTellsTruth built input
+replay-true built limited input header accepted =
     let is = header-cluster built (all_of input) header accepted.header_itself in
     let run = replayed built input header accepted in
-    (run.0, record { of_cluster = is; replayed = run.1; reported = λ first rest e. run-reported built limited header.0 first is })
+    (run.0, record { of_cluster = is; replayed = run.1; tells_truth = λ first rest e. run-true built limited header.0 first is })

@@ -1,46 +1,54 @@
 -- What a replay promises.
 use Rattle.std.specs.List.{AllByRecursion}
-use Rattle.std.specs.Prelude.{List, true, ℕ, ◌++◌, ◌≡◌}
+use Rattle.std.specs.Prelude.{Contains, List, [], map, true, ℕ, ◌++◌, ◌≡◌}
 use Rattle.mdcc_option.specs.OneCopy.{IsRun}
+use Rattle.mdcc_base.specs.declared.identifiers.TxId.{TxId}
+use Rattle.mdcc_option.specs.declared.choices.Choice.{Choice}
 use Rattle.mdcc_option.specs.declared.cluster.Cluster.{Cluster}
 use Rattle.mdcc_switches.specs.Built.{Built}
 use Rattle.mdcc_language.specs.Header.{Left}
 use Rattle.mdcc_protocol.specs.IsCluster.{IsCluster}
-use Rattle.mdcc_ledger.specs.Ledger.{Entry, committed_of}
+use Rattle.mdcc_ledger.specs.Ledger.{Entry, choices_begun, committed_of}
 use Rattle.mdcc_simulation.specs.Runs.{Run, end_line, run_of}
 use Rattle.mdcc_simulation.specs.State.{first_world}
 use Rattle.mdcc_language.specs.declared.events.Event.{Event}
 use Rattle.mdcc_language.specs.declared.lines.Line.{Line}
 use Rattle.mdcc_agreement.specs.Laws.{IsLedger}
+use Rattle.mdcc_reports.specs.Order.{chosen_in, decided_in}
 use Rattle.mdcc_reports.specs.Replays.{IsAccepted, IsReplayed}
-use Rattle.mdcc_headline.specs.Told.{IsEndTold, IsTold}
+use Rattle.mdcc_headline.specs.Truth.{AreTrueInTurn, IsTrueEnd, IsTrueLine, IsWhole, commits_in}
 
--- the ledger is allowed, its committed transactions, in the order in which they became so, are a run of the one-copy store, and these lines and the
--- last one tell the truth of them
-pub record IsReport (cluster : Cluster) (ledger : List Entry) (lines : List Line) (end : Line) : Type 0 where
+-- the ledger is allowed; its committed transactions, in the order in which they became so, are a run of the one-copy store, and each is a whole
+-- one. These lines tell the truth of them, each at the entry by which it became so and ever after: the `chosen` lines, from top to bottom, are
+-- the outcomes in the order in which they came, and those of commits the committed transactions in theirs. And so does the last line
+pub record TellsTruth (cluster : Cluster) (ledger : List Entry) (lines : List Line) (end : Line) : Type 0 where
   pub ledger_itself : IsLedger cluster ledger
   pub committed_run : IsRun cluster.schema (committed_of cluster.quorums ledger)
-  pub told : AllByRecursion (IsTold cluster ledger) lines
-  pub end_told : IsEndTold cluster ledger end
+  pub whole : (choices : List Choice) → Contains (committed_of cluster.quorums ledger) choices → (tx : TxId) × IsWhole ledger tx choices
+  pub lines_true : AllByRecursion (IsTrueLine cluster ledger) lines
+  pub in_turn : AreTrueInTurn cluster [] ledger lines
+  pub outcomes_in_order : chosen_in lines ≡ decided_in cluster.quorums ledger
+  pub commits_in_order : map (choices_begun ledger) (commits_in (chosen_in lines)) ≡ committed_of cluster.quorums ledger
+  pub end_true : IsTrueEnd cluster ledger end
 
-abbrev pub IsReportedRun : Cluster → Run → Type 0
-IsReportedRun cluster run = IsReport cluster run.world.ledger run.lines (end_line run.world)
+abbrev pub RunTellsTruth : Cluster → Run → Type 0
+RunTellsTruth cluster run = TellsTruth cluster run.world.ledger run.lines (end_line run.world)
 
--- so it is with every run of events from the first world on, whatever rules are built, where the number of events is limited
-abbrev pub RunsAreReported : Type 0
-RunsAreReported =
+-- so does every run of events from the first world on, whatever rules are built, where the number of events is limited
+abbrev pub EveryRunTellsTruth : Type 0
+EveryRunTellsTruth =
     (built : Built) → built.limit_on_events ≡ true → (cluster : Cluster) (events : List Event) → IsCluster cluster
-    → IsReportedRun cluster (run_of built (first_world cluster) events)
+    → RunTellsTruth cluster (run_of built (first_world cluster) events)
 
--- a replay prints the run of these events; and so it is at the end and at every moment, after each of the events
-pub record IsReportedReplay (built : Built) (input : List ℕ) (header : Cluster × Left) (events : List Event) : Type 0 where
+-- the text of a replay is that of the run of these events, which tells the truth at the end and at every moment, after each of the events
+pub record IsTextOfTruth (built : Built) (input : List ℕ) (header : Cluster × Left) (events : List Event) : Type 0 where
   pub of_cluster : IsCluster header.0
   pub replayed : IsReplayed built input header events
-  pub reported : (first rest : List Event) → events ≡ first ++ rest → IsReportedRun header.0 (run_of built (first_world header.0) first)
+  pub tells_truth : (first rest : List Event) → events ≡ first ++ rest → RunTellsTruth header.0 (run_of built (first_world header.0) first)
 
--- where the input is not too long and its header is accepted, its replay prints the run of some events
-abbrev pub IsReplayReported : Built → List ℕ → Type 0
-IsReplayReported built input = (header : Cluster × Left) → IsAccepted built input header → (events : List Event) × IsReportedReplay built input header events
+-- where the input is not too long and its header is accepted, its replay is the text of such a run
+abbrev pub ReplayTellsTruth : Built → List ℕ → Type 0
+ReplayTellsTruth built input = (header : Cluster × Left) → IsAccepted built input header → (events : List Event) × IsTextOfTruth built input header events
 
-abbrev pub ReplaysAreReported : Type 0
-ReplaysAreReported = (built : Built) → built.limit_on_events ≡ true → (input : List ℕ) → IsReplayReported built input
+abbrev pub EveryReplayTellsTruth : Type 0
+EveryReplayTellsTruth = (built : Built) → built.limit_on_events ≡ true → (input : List ℕ) → ReplayTellsTruth built input

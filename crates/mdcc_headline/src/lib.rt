@@ -2,12 +2,13 @@
 //! truth of it.
 #![tactic(auto)]
 
-ghost use Rattle.mdcc_headline.specs.Headline.{ReplaysAreReported, RunsAreReported};
+ghost use Rattle.mdcc_headline.specs.Headline.{EveryReplayTellsTruth, EveryRunTellsTruth};
 
-/// In every run the committed transactions, in the order in which they were chosen, are a run of the one-copy store; every
-/// reported commit is in it, no reported abort is, and every reported read is an item version of it with some of its committed
-/// deltas. A replay prints such a run. So it is whatever rules are enabled, where the number of events is limited.
+/// In every run the committed transactions, in the order in which they were chosen, are a run of the one-copy store, and each is a
+/// whole one; every reported commit is in it, no reported abort is, and every reported read is what that store shows of an item
+/// version with some of its committed deltas. Each line tells so from the moment on at which it became true, and the `chosen` lines
+/// in that order. A replay prints such a run. So it is whatever rules are enabled, where the number of events is limited.
 pub fn headline()
-    ensures runs { RunsAreReported }
-    ensures replays { ReplaysAreReported }
+    ensures runs { EveryRunTellsTruth }
+    ensures replays { EveryReplayTellsTruth }
 {}

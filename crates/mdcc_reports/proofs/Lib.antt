@@ -1,6 +1,9 @@
+pub mod Entries
 pub mod Headers
 pub mod Lists
+pub mod Order
 pub mod Origins
 pub mod Prefixes
 pub mod Replays
+pub mod Turns
 pub mod Walk

@@ -1,3 +1,4 @@
 pub mod Growth
+pub mod Order
 pub mod Origins
 pub mod Replays

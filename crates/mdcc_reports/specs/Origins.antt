@@ -1,6 +1,6 @@
 -- Where the lines of a report come from.
 use Rattle.std.specs.List.{AllByRecursion}
-use Rattle.std.specs.Prelude.{Contains, List, ℕ, ⊤, ◌++◌, ◌∷◌, ◌≡◌}
+use Rattle.std.specs.Prelude.{Contains, List, [], ℕ, ⊤, ◌++◌, ◌∷◌, ◌≡◌}
 use Rattle.mdcc_base.specs.Sizes.{Sizes}
 use Rattle.mdcc_base.specs.declared.identifiers.TxId.{TxId}
 use Rattle.mdcc_option.specs.declared.choices.Outcome.{Outcome}
@@ -44,8 +44,38 @@ HasOrigin quorums ledger (Line.Heard a tx is_committed) = (outcome : Outcome) ×
 HasOrigin quorums ledger (Line.Read number a known) = WasRead ledger a known
 HasOrigin quorums ledger line = ⊤
 
+-- ---- in turn
+
+-- the second ledger has the first one's entries, with later ones in front
+abbrev pub IsLater : List Entry → List Entry → Type 0
+IsLater first last = (later : List Entry) × (last ≡ later ++ first)
+
+-- a line is told when the ledger is just this: an outcome came at its newest entry, or that is the fact that the centre heard it; and a read
+-- shows what the centre has by then
+abbrev pub BeginsAt : Sizes → List Entry → Line → Type 0
+BeginsAt quorums now (Line.Chosen tx is_committed) =
+    (outcome : Outcome) × (is_commit outcome ≡ is_committed)
+    × (entry : Entry) × (before : List Entry) × (now ≡ entry ∷ before) × Contains (new_outcomes quorums entry before) (tx, outcome)
+BeginsAt quorums now (Line.Heard a tx is_committed) =
+    (outcome : Outcome) × (is_commit outcome ≡ is_committed) × (before : List Entry) × (now ≡ Added a (Fact.Heard tx outcome) ∷ before)
+BeginsAt quorums now (Line.Read number a known) = known ≡ known_of known.key (Visible.read (facts_of now a) known.key)
+BeginsAt quorums now line = ⊤
+
+-- the lines are told in turn while the ledger grows from the first to the last of these
+abbrev pub AreInTurn : Sizes → List Entry → List Entry → List Line → Type 0
+AreInTurn quorums first last [] = IsLater first last
+AreInTurn quorums first last (line ∷ lines) = (now : List Entry) × IsLater first now × BeginsAt quorums now line × AreInTurn quorums now last lines
+
+-- ---- runs
+
 -- each line of a run has its origin in the run's ledger, whatever is built, in whatever world it begins
 abbrev pub LinesHaveOrigins : Type 0
 LinesHaveOrigins =
     (built : Built) (w : World) (events : List Event)
     → AllByRecursion (HasOrigin w.cluster.quorums (run_of built w events).world.ledger) (run_of built w events).lines
+
+-- and it is told there, also within an event of several deliveries
+abbrev pub LinesInTurn : Type 0
+LinesInTurn =
+    (built : Built) (w : World) (events : List Event)
+    → AreInTurn w.cluster.quorums w.ledger (run_of built w events).world.ledger (run_of built w events).lines

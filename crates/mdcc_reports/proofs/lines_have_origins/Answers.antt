@@ -1,6 +1,10 @@
--- The law is the lemma.
+-- The laws are the lemmas.
 use Rattle.mdcc_reports.proofs.Origins.{runs-tell}
+use Rattle.mdcc_reports.proofs.Turns.{runs-turn}
 use Rattle.mdcc_reports.proofs.lines_have_origins.Goals as goal
 
-pub returns : goal.returns
-returns c = λ built w events. (runs-tell built w events).1
+pub returns-clause-each : goal.returns-clause-each
+returns-clause-each c = λ built w events. (runs-tell built w events).1
+
+pub returns-clause-in_turn : goal.returns-clause-in_turn
+returns-clause-in_turn c = λ built w events. (runs-turn built w events).1

@@ -1,0 +1,250 @@
+-- No fact is among the entries that a step brings with it.
+use Rattle.std.proofs.Common.{Bool, Err, List, None, Ok, Option, Result, Some, [], cond, false, inl, inr, true, ℕ, ◌∷◌}
+use Rattle.std.specs.List.{AllByRecursion}
+use Rattle.std.specs.Prelude.{fold, ⊤}
+use Rattle.std.proofs.lemmas.Bool.{cases_Bool}
+use Rattle.mdcc_base.specs.Sizes.{Sizes}
+use Rattle.mdcc_base.specs.declared.identifiers.Ballot.{Ballot}
+use Rattle.mdcc_base.specs.declared.identifiers.TxId.{TxId}
+use Rattle.mdcc_base.specs.declared.key.Key.{Key}
+use Rattle.mdcc_option.specs.declared.choices.Choice.{Choice}
+use Rattle.mdcc_option.specs.declared.choices.Mark.{Mark}
+use Rattle.mdcc_option.specs.declared.choices.Outcome.{Outcome}
+use Rattle.mdcc_option.specs.declared.cluster.Cluster.{Cluster}
+use Rattle.mdcc_option.specs.declared.faults.BeginFault.{BeginFault}
+use Rattle.mdcc_option.specs.declared.items.Part.{Part}
+use Rattle.mdcc_struct.specs.declared.options.Options.{Options}
+use Rattle.mdcc_switches.specs.Built.{Built}
+use Rattle.mdcc_protocol.specs.Acceptor.{on_accept, on_prepare, on_propose}
+use Rattle.mdcc_protocol.specs.Facts.{epoch_of, heard_of, is_heard, vote_of}
+use Rattle.mdcc_protocol.specs.Leader.{lead}
+use Rattle.mdcc_protocol.specs.Manager
+use Rattle.mdcc_protocol.specs.News.{is_crowding}
+use Rattle.mdcc_protocol.specs.Recover
+use Rattle.mdcc_protocol.specs.Visible.{on_outcome, on_sync_give}
+use Rattle.mdcc_protocol.specs.Volatile.{Leading, Managing, Volatile, is_open, txs_opened, with_manager, with_recovery}
+use Rattle.mdcc_protocol.specs.declared.acceptor.AcceptAnswer.{AcceptAnswer}
+use Rattle.mdcc_protocol.specs.declared.acceptor.PrepareAnswer.{PrepareAnswer}
+use Rattle.mdcc_protocol.specs.declared.acceptor.ProposeAnswer.{ProposeAnswer}
+use Rattle.mdcc_option.specs.declared.choices.Claim.{Claim}
+use Rattle.mdcc_protocol.specs.declared.leader.LeadAnswer.{LeadAnswer}
+use Rattle.mdcc_protocol.specs.declared.leader.LeadFault.{LeadFault}
+use Rattle.mdcc_protocol.specs.declared.leader.PromiseAnswer.{PromiseAnswer}
+use Rattle.mdcc_protocol.specs.declared.manager.ManagerAct.{ManagerAct}
+use Rattle.mdcc_protocol.specs.declared.recover.RecoverAct.{RecoverAct}
+use Rattle.mdcc_protocol.specs.declared.votes.Vote.{Vote}
+use Rattle.mdcc_ledger.specs.Ledger.{Added, Entry, Valued}
+use Rattle.mdcc_messages.specs.declared.facts.Fact.{Fact}
+use Rattle.mdcc_messages.specs.declared.messages.Message.{Message}
+use Rattle.mdcc_rules.specs.AcceptorRules.{accepted_step, ask_step_by, prepared_step, proposed_step}
+use Rattle.mdcc_rules.specs.LeaderRules.{lead_step_after, led_by_answer, led_of, promised_by_answer, step_of_led}
+use Rattle.mdcc_rules.specs.ManagerRules.{begin_step_by, opened_step, undecided_step, voted_step, watched_step}
+use Rattle.mdcc_rules.specs.Node.{checked, is_own_message, is_without_room, message_step, rule, step_of, with_room}
+use Rattle.mdcc_rules.specs.Steps.{NodeStep, StepPart, and_then, only_sending}
+use Rattle.mdcc_rules.specs.SyncRules.{outcome_step_by, sync_give_step_by}
+use Rattle.mdcc_rules.specs.TickRules.{claim_led, led_or_left, manager_act, manager_ticked, recovery_act, recovery_ticked, tick_parts}
+use Rattle.mdcc_rules.specs.declared.node.Input.{Input}
+use Rattle.mdcc_rules.specs.declared.node.StepFault.{StepFault}
+use Rattle.mdcc_reports.proofs.Lists.{each-append}
+
+-- an entry that is no centre's fact
+abbrev pub IsNoFact : Entry → Type 0
+IsNoFact (Added centre fact) = ⊥
+IsNoFact _ = ⊤
+
+abbrev pub NoFacts : List Entry → Type 0
+NoFacts entries = AllByRecursion IsNoFact entries
+
+abbrev pub BringsNoFacts : Result NodeStep StepFault → Type 0
+BringsNoFacts (Ok step) = NoFacts step.entries
+BringsNoFacts (Err fault) = ⊤
+
+either : (test : Bool) (step other : NodeStep) → NoFacts step.entries → NoFacts other.entries → NoFacts (cond test step other).entries
+either true step other h k = h
+either false step other h k = k
+
+-- ---- acceptor and outcomes
+
+proposed : (me : ℕ) (volatile : Volatile) (s : ℕ) (choice : Choice) (answer : ProposeAnswer) → NoFacts (proposed_step me volatile s choice answer).entries
+proposed me volatile s choice (ProposeAnswer.Known outcome) = tt
+proposed me volatile s choice (ProposeAnswer.Again ballot mark) = tt
+proposed me volatile s choice (ProposeAnswer.Escalate cause) = tt
+proposed me volatile s choice (ProposeAnswer.Vote mark) = tt
+
+prepared : (me : ℕ) (facts : List Fact) (volatile : Volatile) (l : ℕ) (key : Key) (version : ℕ) (ballot : Ballot) (answer : PrepareAnswer) → NoFacts (prepared_step me facts volatile l key version ballot answer).entries
+prepared me facts volatile l key version ballot (PrepareAnswer.Refused promise) = tt
+prepared me facts volatile l key version ballot (PrepareAnswer.Again high) = tt
+prepared me facts volatile l key version ballot (PrepareAnswer.Promise high) = tt
+
+accepted : (me : ℕ) (facts : List Fact) (volatile : Volatile) (l : ℕ) (key : Key) (version : ℕ) (ballot : Ballot) (options : Options) (answer : AcceptAnswer) → NoFacts (accepted_step me facts volatile l key version ballot options answer).entries
+accepted me facts volatile l key version ballot options (AcceptAnswer.Refused promise) = tt
+accepted me facts volatile l key version ballot options (AcceptAnswer.Behind current) = tt
+accepted me facts volatile l key version ballot options AcceptAnswer.Older = tt
+accepted me facts volatile l key version ballot options AcceptAnswer.Vote = tt
+
+asked : (me : ℕ) (volatile : Volatile) (s : ℕ) (tx : TxId) (key : Key) (version : ℕ) (o : Option Outcome) (vote : Option (Ballot × Mark)) → NoFacts (ask_step_by me volatile s tx key version o vote).entries
+asked me volatile s tx key version (Some outcome) vote = tt
+asked me volatile s tx key version None (Some vote) = tt
+asked me volatile s tx key version None None = tt
+
+heard : (volatile : Volatile) (tx : TxId) (o : Option Fact) → NoFacts (outcome_step_by volatile tx o).entries
+heard volatile tx None = tt
+heard volatile tx (Some fact) = tt
+
+given : (volatile : Volatile) (o : Option Fact) → NoFacts (sync_give_step_by volatile o).entries
+given volatile None = tt
+given volatile (Some fact) = tt
+
+-- ---- manager
+
+undecided : (built : Built) (cluster : Cluster) (me : ℕ) (facts : List Fact) (volatile : Volatile) (vote : Vote) → NoFacts (undecided_step built cluster me facts volatile vote).entries
+undecided built cluster me facts volatile vote = elim (cases_Bool built.escalations) [ inl e ↦ rw e tt | inr e ↦ rw e tt ]
+
+opened : (built : Built) (cluster : Cluster) (me : ℕ) (facts : List Fact) (volatile : Volatile) (vote : Vote) (o : Option Outcome) → NoFacts (opened_step built cluster me facts volatile vote o).entries
+opened built cluster me facts volatile vote (Some outcome) = tt
+opened built cluster me facts volatile vote None = undecided built cluster me facts volatile vote
+
+watched : (cluster : Cluster) (me : ℕ) (facts : List Fact) (volatile : Volatile) (vote : Vote) (o : Option (TxId × Outcome)) → NoFacts (watched_step cluster me facts volatile vote o).entries
+watched cluster me facts volatile vote (Some decided) = tt
+watched cluster me facts volatile vote None = tt
+
+voted : (built : Built) (cluster : Cluster) (me : ℕ) (facts : List Fact) (volatile : Volatile) (vote : Vote) → NoFacts (voted_step built cluster me facts volatile vote).entries
+voted built cluster me facts volatile vote =
+    either (is_heard facts vote.tx) _ _ tt
+    (either (is_open volatile.manager vote.tx) _ _
+    (opened built cluster me facts volatile vote (Manager.would_decide cluster.quorums volatile.manager vote))
+    (watched cluster me facts volatile vote (Recover.would_decide cluster.quorums facts volatile.recovery vote)))
+
+begun : (cluster : Cluster) (me : ℕ) (facts : List Fact) (volatile : Volatile) (parts : List Part) (r : Result (TxId × Managing) BeginFault) → NoFacts (begin_step_by cluster me facts volatile parts r).entries
+begun cluster me facts volatile parts (Err fault) = tt
+begun cluster me facts volatile parts (Ok (tx, manager)) = (tt, tt)
+
+-- ---- leader
+
+abbrev LedNoFacts : Result StepPart LeadFault → Type 0
+LedNoFacts (Ok led) = NoFacts led.entries
+LedNoFacts (Err fault) = ⊤
+
+answered : (quorums : Sizes) (me : ℕ) (volatile : Volatile) (claim : Claim) (r : Result (LeadAnswer × Leading) LeadFault) → LedNoFacts (led_by_answer quorums me volatile claim r)
+answered quorums me volatile claim (Err fault) = tt
+answered quorums me volatile claim (Ok (LeadAnswer.Behind, after)) = tt
+answered quorums me volatile claim (Ok (LeadAnswer.Prepare version through ballot, after)) = tt
+answered quorums me volatile claim (Ok (LeadAnswer.Left, after)) = tt
+answered quorums me volatile claim (Ok (LeadAnswer.Accept version ballot options, after)) = pick _
+  where
+    pick : (marked : Bool) → NoFacts (cond marked [] (Valued me claim.key version ballot options ∷ []))
+    pick true = tt
+    pick false = (tt, tt)
+
+led-here : (cluster : Cluster) (me : ℕ) (facts : List Fact) (volatile : Volatile) (claim : Claim) → LedNoFacts (led_of cluster me facts volatile claim)
+led-here cluster me facts volatile claim = answered cluster.quorums me volatile claim (lead cluster me (epoch_of facts) facts volatile.leader claim)
+
+promised : (quorums : Sizes) (me : ℕ) (volatile : Volatile) (key : Key) (r : Result (PromiseAnswer × Leading) LeadFault) → LedNoFacts (promised_by_answer quorums me volatile key r)
+promised quorums me volatile key (Err fault) = tt
+promised quorums me volatile key (Ok (PromiseAnswer.Ignored, after)) = tt
+promised quorums me volatile key (Ok (PromiseAnswer.Waiting count, after)) = tt
+promised quorums me volatile key (Ok (PromiseAnswer.Counted, after)) = tt
+promised quorums me volatile key (Ok (PromiseAnswer.Accept version ballot options, after)) = (tt, tt)
+
+step-led : (r : Result StepPart LeadFault) → LedNoFacts r → BringsNoFacts (step_of_led r)
+step-led (Ok led) h = h
+step-led (Err fault) h = tt
+
+claimed : (cluster : Cluster) (me : ℕ) (facts : List Fact) (volatile : Volatile) (s : ℕ) (choice : Choice) (o : Option Outcome) → BringsNoFacts (lead_step_after cluster me facts volatile s choice o)
+claimed cluster me facts volatile s choice (Some outcome) = tt
+claimed cluster me facts volatile s choice None = step-led (led_of cluster me facts volatile _) (led-here cluster me facts volatile _)
+
+-- ---- messages
+
+ruled : (is_built : Bool) (volatile : Volatile) (r : Result NodeStep StepFault) → BringsNoFacts r → BringsNoFacts (rule is_built volatile r)
+ruled true volatile r h = h
+ruled false volatile r h = tt
+
+message : (built : Built) (cluster : Cluster) (me : ℕ) (facts : List Fact) (volatile : Volatile) (s : ℕ) (m : Message) → BringsNoFacts (message_step built cluster me facts volatile s m)
+message built cluster me facts volatile s (Message.Propose choice) = ruled built.proposals volatile _ (proposed me volatile s choice (on_propose cluster facts choice))
+message built cluster me facts volatile s (Message.Voted key version ballot tx mark) = ruled built.proposals volatile _ (voted built cluster me facts volatile _)
+message built cluster me facts volatile s (Message.Escalate key version tx cause) = ruled built.escalations volatile _ tt
+message built cluster me facts volatile s (Message.Lead choice) = ruled built.leading volatile _ (claimed cluster me facts volatile s choice (heard_of facts choice.tx))
+message built cluster me facts volatile s (Message.Prepare key version through ballot) = ruled built.leading volatile _ (prepared me facts volatile s key version ballot (on_prepare facts key version through ballot))
+message built cluster me facts volatile s (Message.Promise key version through ballot reported votes) = ruled built.leading volatile _ (step-led _ (promised cluster.quorums me volatile key _))
+message built cluster me facts volatile s (Message.Accept key version ballot options) = ruled built.leading volatile _ (accepted me facts volatile s key version ballot options (on_accept facts key version ballot options))
+message built cluster me facts volatile s (Message.Refused key version ballot promised) = ruled built.leading volatile _ tt
+message built cluster me facts volatile s (Message.Outcome tx outcome) = ruled built.proposals volatile _ (heard volatile tx (on_outcome facts tx outcome))
+message built cluster me facts volatile s (Message.Ask tx key version) = ruled built.recovery volatile _ (asked me volatile s tx key version (heard_of facts tx) (vote_of facts key version tx))
+message built cluster me facts volatile s (Message.SyncAsk key) = ruled built.catching_up volatile _ tt
+message built cluster me facts volatile s (Message.SyncGive key version item adds) = ruled built.catching_up volatile _ (given volatile (on_sync_give facts (record { key = key; version = version; item = item; adds = adds })))
+message built cluster me facts volatile s (Message.ClientRead number key) = tt
+message built cluster me facts volatile s (Message.ClientBegin number parts) = tt
+message built cluster me facts volatile s (Message.ClientAnswer number answer) = tt
+
+roomy : (built : Built) (cluster : Cluster) (facts : List Fact) (step : NodeStep) (o : Option Fact) → NoFacts step.entries → BringsNoFacts (with_room built cluster facts step o)
+roomy built cluster facts step None h = h
+roomy built cluster facts step (Some fact) h =
+    elim (cases_Bool (is_without_room built cluster facts fact)) [
+      | inl e ↦ rw e tt
+      | inr e ↦ rw e (elim (cases_Bool (is_crowding facts fact)) [ inl f ↦ rw f tt | inr f ↦ rw f h ])
+    ]
+
+checked-message : (built : Built) (cluster : Cluster) (facts : List Fact) (r : Result NodeStep StepFault) → BringsNoFacts r → BringsNoFacts (checked built cluster facts r)
+checked-message built cluster facts (Ok step) h = roomy built cluster facts step step.fact h
+checked-message built cluster facts (Err fault) h = tt
+
+-- ---- ticks
+
+folded : {X : Type 0} (act : Volatile → X → StepPart) → ((v : Volatile) (x : X) → NoFacts (act v x).entries) → (xs : List X) (before : StepPart) → NoFacts before.entries → NoFacts (fold (and_then act) before xs).entries
+folded act each [] before h = h
+folded act each (x ∷ xs) before h = folded act each xs (and_then act before x) (each-append IsNoFact (act before.after x).entries before.entries (each before.after x) h)
+
+module _ (built : Built) (cluster : Cluster) (me : ℕ) (facts : List Fact) where
+  claim : (volatile : Volatile) (c : Claim) → NoFacts (claim_led built cluster me facts volatile c).entries
+  claim volatile c = elim (cases_Bool built.leading) [ inl e ↦ rw e (by_led (led_of cluster me facts volatile c) (led-here cluster me facts volatile c)) | inr e ↦ rw e tt ]
+    where
+      by_led : (r : Result StepPart LeadFault) → LedNoFacts r → NoFacts (led_or_left volatile r).entries
+      by_led (Ok led) h = h
+      by_led (Err fault) h = tt
+
+  manager : (volatile : Volatile) (act : ManagerAct) → NoFacts (manager_act built cluster me facts volatile act).entries
+  manager volatile (ManagerAct.Propose choice) = tt
+  manager volatile (ManagerAct.LeadHere choice) = claim volatile _
+  manager volatile (ManagerAct.Lead leader choice) = tt
+  manager volatile (ManagerAct.Give centre key) = tt
+  manager volatile (ManagerAct.Decide tx outcome) = tt
+
+  recovered : (volatile : Volatile) (act : RecoverAct) → NoFacts (recovery_act built cluster me facts volatile act).entries
+  recovered volatile (RecoverAct.Ask tx key version) = tt
+  recovered volatile (RecoverAct.LeadHere c) = claim volatile c
+
+  first : (volatile : Volatile) → NoFacts (manager_ticked built cluster me facts volatile).entries
+  first volatile =
+      let next = Manager.tick cluster.quorums volatile.manager in
+      folded (manager_act built cluster me facts) manager next.0 (only_sending (with_manager volatile next.1) []) tt
+
+  second : (part : StepPart) → NoFacts part.entries → NoFacts (recovery_ticked built cluster me facts part).entries
+  second part h =
+      let next = Recover.tick cluster.quorums facts part.after.recovery (txs_opened part.after.manager) in
+      folded (recovery_act built cluster me facts) recovered next.0 (record part { after = with_recovery part.after next.1 }) h
+
+  tick : (volatile : Volatile) → NoFacts (tick_parts built cluster me facts volatile).entries
+  tick volatile = pick built.ticks built.recovery
+    where
+      half : (recovery : Bool) (part : StepPart) → NoFacts part.entries → NoFacts (cond recovery (recovery_ticked built cluster me facts part) part).entries
+      half true part h = second part h
+      half false part h = h
+
+      pick : (ticks recovery : Bool) →
+          NoFacts (cond recovery (recovery_ticked built cluster me facts (cond ticks (manager_ticked built cluster me facts volatile) (only_sending volatile []))) (cond ticks (manager_ticked built cluster me facts volatile) (only_sending volatile []))).entries
+      pick true recovery = half recovery (manager_ticked built cluster me facts volatile) (first volatile)
+      pick false recovery = half recovery (only_sending volatile []) tt
+
+  -- ---- steps
+
+  -- a step's own entries have no fact
+  pub step-entries : (volatile : Volatile) (input : Input) → BringsNoFacts (step_of built cluster me facts volatile input)
+  step-entries volatile (Input.Message envelope) =
+      elim (cases_Bool (is_own_message cluster me envelope)) [
+        | inl e ↦ rw e (checked-message built cluster facts (message_step built cluster me facts volatile envelope.from envelope.message) (message built cluster me facts volatile envelope.from envelope.message))
+        | inr e ↦ rw e tt
+      ]
+  step-entries volatile Input.Tick = tick volatile
+  step-entries volatile (Input.Read key) = tt
+  step-entries volatile (Input.Begin parts) = begun cluster me facts volatile parts (Manager.begin me (epoch_of facts) facts volatile.manager parts)
