@@ -2,6 +2,7 @@ pub mod Events
 pub mod Fronts
 pub mod Headers
 pub mod Inputs
+pub mod Refused
 pub mod Splits
 pub mod Statuses
 pub mod Steps

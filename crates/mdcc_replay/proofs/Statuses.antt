@@ -2,11 +2,13 @@
 use Rattle.std.proofs.Common.{◌≡◌, List, ℕ, Bool, true, false, Option, Some, None, Result, Ok, Err, IfSome, inl, inr, refl, sym, ap, ◌∙◌, subst}
 use Rattle.std.specs.Bool.{OnFalse}
 use Rattle.std.specs.Io.KnownBytes.{Appends}
-use Rattle.mdcc_language.specs.Errors.{error_text, status_of}
+use Rattle.mdcc_language.specs.Errors.{AtEvent, AtHeader, AtLine, ReplayFault, TooLong, error_text, status_at_event, status_at_line, status_of}
+use Rattle.mdcc_language.specs.declared.schedule.SchedCause.{SchedCause}
+use Rattle.mdcc_language.specs.declared.world.EventFault.{EventFault}
 use Rattle.mdcc_simulation.specs.Replay.{Replay}
 use Rattle.mdcc_replay.proofs.Fronts.{all_written}
 use Rattle.mdcc_replay.specs.Refusals.{faults_of}
-use Rattle.mdcc_replay.specs.Runs.{IsStatus, is_own, refusal_line}
+use Rattle.mdcc_replay.specs.Runs.{IsStatus, is_own, is_status, refusal_line}
 use Rattle.mdcc_replay.specs.Writing.{Front, Replayed}
 use Rattle.mdcc_replay.specs.declared.refusals.Refusal.{Refusal}
 use Rattle.mdcc_replay.specs.declared.writing.Failure.{Failure}
@@ -39,6 +41,38 @@ pub line_told : (a b : Option (List ℕ)) (whole : Replay) (r : Result (Option R
 line_told a b whole (Ok refusal) status P h s told = told_by P (is_own status) whole refusal h.fault told
 line_told a b whole (Err Output) status P h e told = own_status (λ s. P (error_text whole.fault)) status 6 refl e
 line_told a b whole (Err Memory) status P h e told = own_status (λ s. P (error_text whole.fault)) status 10 refl e
+
+-- ---- which there are
+
+known_at_line : (cause : SchedCause) → is_status (status_at_line cause) ≡ true
+known_at_line SchedCause.Word = refl
+known_at_line SchedCause.Number = refl
+known_at_line SchedCause.Key = refl
+known_at_line SchedCause.Range = refl
+known_at_line SchedCause.Order = refl
+known_at_line SchedCause.Memory = refl
+
+known_at_event : (fault : EventFault) → is_status (status_at_event fault) ≡ true
+known_at_event (EventFault.NoMessage number) = refl
+known_at_event (EventFault.Down centre) = refl
+known_at_event (EventFault.Up centre) = refl
+known_at_event (EventFault.NoRead number) = refl
+known_at_event (EventFault.Begin fault) = refl
+known_at_event (EventFault.Limit name value) = refl
+known_at_event EventFault.Memory = refl
+
+known_of : (fault : Option ReplayFault) → is_status (status_of fault) ≡ true
+known_of None = refl
+known_of (Some TooLong) = refl
+known_of (Some (AtHeader fault)) = refl
+known_of (Some (AtLine line fault)) = known_at_line fault.cause
+known_of (Some (AtEvent line fault)) = known_at_event fault
+
+pub known_status : (r : Result (Option Refusal) Failure) (status : ℕ) → IsStatus r status → is_status status ≡ true
+known_status (Ok refusal) status (inl e) = ap is_status e ∙ known_of (faults_of refusal)
+known_status (Ok refusal) status (inr e) = ap is_status e
+known_status (Err Output) status e = ap is_status e
+known_status (Err Memory) status e = ap is_status e
 
 -- ---- known inputs
 

@@ -1,5 +1,6 @@
 -- The statuses of a run, and what it writes on the error stream.
-use Rattle.std.specs.Prelude.{◌≡◌, ◌⊎◌, ◌==◌, ◌||◌, Bool, if◌then◌else◌, List, [], Option, Some, None, Result, Ok, Err, codes, ℕ, ◌+◌}
+use Rattle.std.specs.Prelude.{◌≡◌, ◌⊎◌, ◌==◌, ◌||◌, Bool, if◌then◌else◌, List, [], ◌∷◌, Option, Some, None, Result, Ok, Err, codes, ℕ, ◌+◌}
+use Rattle.std.specs.List.{list_any}
 use Rattle.mdcc_language.specs.Errors.{AtEvent, AtLine, error_line, error_text, memory_text, status_of}
 use Rattle.mdcc_simulation.specs.State.{Happened, World}
 use Rattle.mdcc_simulation.specs.Events.{event_of}
@@ -34,7 +35,11 @@ line_told built cluster number world lines (Ok (Some event)) = event_told built 
 abbrev pub is_own : ℕ → Bool
 is_own status = status == 2 || (status == 5 || (status == 6 || status == 10))
 
--- their lines on the error stream
+-- all statuses that there are
+abbrev pub is_status : ℕ → Bool
+is_status status = list_any (λ s. s == status) (0 ∷ 2 ∷ 3 ∷ 4 ∷ 5 ∷ 6 ∷ 10 ∷ 11 ∷ [])
+
+-- the lines on the error stream of those that no input has
 abbrev pub own_line : ℕ → List ℕ
 own_line status =
     if status == 2 then error_line (codes "words")

@@ -7,7 +7,7 @@ ghost use Rattle.mdcc_base.specs.Causes.{Rose};
 ghost use Rattle.mdcc_built.specs.Built.{built};
 ghost use Rattle.mdcc_language.specs.Errors.{error_text};
 ghost use Rattle.mdcc_simulation.specs.Replay.{output_of, replay_of};
-ghost use Rattle.mdcc_replay.specs.Runs.{IsStatus, is_own, own_line, refusal_line};
+ghost use Rattle.mdcc_replay.specs.Runs.{IsStatus, is_own, is_status, own_line, refusal_line};
 ghost use Rattle.mdcc_replay.specs.Writing.{Front, Tells};
 
 use crate::writing::tell;
@@ -91,10 +91,12 @@ fn run_replay<W: Simulation + Drop, S: Source, O: Sink, E: Sink>(
     err: &mut E,
 ) -> u8
     ensures words { result ≢ 2 }
+    ensures status { IsTrue (is_status result) }
     ensures whole { IfSome (S.left source.old) (λ input. let output = output_of (replay_of built input) in
         OnFalse (is_own result) ((result ≡ output.status) × Appends (O.held out.old) (O.held out.new) output.text)) }
     ensures front { IfSome (S.left source.old) (λ input.
         Front (O.held out.old) (O.held out.new) (output_of (replay_of built input)).text) }
+    ensures refused { result ≡ 3 → Appends (O.held out.old) (O.held out.new) [] }
     ensures nothing { result ≡ 5 → Appends (O.held out.old) (O.held out.new) [] }
     ensures end { result ≡ 0 → IsAtEnd (S.left source.new) }
     ensures read { result ≡ 5 → Rose (S.faults source.old) (S.faults source.new) }
@@ -125,16 +127,18 @@ pub fn run_on<W: Simulation + Drop, S: Source, O: Sink, E: Sink>(
     out: &mut O,
     err: &mut E,
 ) -> u8
-    // At statuses 0, 3, 4 and 11 the definition of the input's replay gives the status and all that
-    // was written.
+    // The status is one of 0, 2, 3, 4, 5, 6, 10 and 11. At 0, 3, 4 and 11 the definition of the
+    // input's replay gives the status and all that was written.
+    ensures status { IsTrue (is_status result) }
     ensures whole { IfSome (S.left source.old) (λ input. let output = output_of (replay_of built input) in
         OnFalse (is_own result) ((result ≡ output.status) × Appends (O.held out.old) (O.held out.new) output.text)) }
     ensures end { result ≡ 0 → IsAtEnd (S.left source.new) }
 
-    // At each status a front of it was written, and nothing at 2 and 5.
+    // At each status a front of it was written, and nothing at 2, 3 and 5.
     ensures front { IfSome (S.left source.old) (λ input.
         Front (O.held out.old) (O.held out.new) (output_of (replay_of built input)).text) }
     ensures silent { result ≡ 2 → Appends (O.held out.old) (O.held out.new) [] }
+    ensures refused { result ≡ 3 → Appends (O.held out.old) (O.held out.new) [] }
     ensures nothing { result ≡ 5 → Appends (O.held out.old) (O.held out.new) [] }
 
     // The other statuses have their causes; 10 may come at any time.

@@ -7,7 +7,8 @@ use Rattle.mdcc_language.specs.Errors.{error_text, status_of}
 use Rattle.mdcc_simulation.specs.Replay.{replay_of}
 use Rattle.mdcc_replay.proofs.Fronts.{nothing_written}
 use Rattle.mdcc_replay.proofs.Inputs.{long_ended}
-use Rattle.mdcc_replay.proofs.Statuses.{for_any, for_such, front_written, line_told, whole_written}
+use Rattle.mdcc_replay.proofs.Refused.{nothing_refused}
+use Rattle.mdcc_replay.proofs.Statuses.{for_any, for_such, front_written, known_status, line_told, whole_written}
 use Rattle.mdcc_replay.specs.Runs.{is_own}
 use Rattle.mdcc_replay.specs.Writing.{Front, Tells}
 use Rattle.mdcc_replay.specs.declared.refusals.Refusal.{Refusal}
@@ -56,3 +57,14 @@ returns-in-Err-Failed-clause-front g c =
 pub returns-in-Err-Memory-clause-front : goal.returns-in-Err-Memory-clause-front
 returns-in-Err-Memory-clause-front g c =
     for_any (g.S.Source.left c.args.source.now) (λ input. Front (g.O.Sink.held c.args.out.now) (g.O.Sink.held c.args.out.now) (replay_of built input).text) (λ input. nothing_written _ _)
+
+pub returns-in-Ok-clause-status : goal.returns-in-Ok-clause-status
+returns-in-Ok-clause-status g c = known_status c.replay.result c.finish.result c.finish.ensures.status
+
+pub returns-in-Ok-clause-refused : goal.returns-in-Ok-clause-refused
+returns-in-Ok-clause-refused g c = λ is.
+    let written = rw c.as_slice.ensures.value at c.replay.ensures.written in
+    nothing_refused (g.O.Sink.held c.args.out.now) (g.O.Sink.held c.replay.new.out) c.in-Ok.input.items c.replay.result c.finish.result written c.finish.ensures.status is
+
+pub returns-in-Err-TooLong-clause-status : goal.returns-in-Err-TooLong-clause-status
+returns-in-Err-TooLong-clause-status g c = known_status (Ok (Some Refusal.TooLong)) c.end_refused.result c.end_refused.ensures.status
