@@ -6,10 +6,12 @@ use Rattle.std.proofs.lemmas.Bool.{and_parts}
 use Rattle.std.proofs.lemmas.List.{drop-drop}
 use Rattle.mdcc_base.specs.Quorums.{quorums_of}
 use Rattle.mdcc_option.specs.declared.cluster.Cluster.{Cluster}
+use Rattle.mdcc_option.specs.declared.cluster.FastLimit.{FastLimit}
 use Rattle.mdcc_built.specs.Built.{built}
-use Rattle.mdcc_language.specs.Header.{Left, all_of, next_line, without_next, in_line, is_next, whole_line, in_order, header_line, version_of, last_number, sizes_of, bound_of, quorums_in, quorums_line, bounds_in, bound_line, Bounds, more_bounds, bounds_lines, header_lines, header_of, default_cells}
+use Rattle.mdcc_language.specs.Header.{Left, all_of, next_line, without_next, in_line, is_next, whole_line, in_order, header_line, version_of, last_number, sizes_of, bound_of, fast_limit_of, limit_line, quorums_in, quorums_line, bounds_in, bound_line, Bounds, more_bounds, bounds_lines, header_lines, default_cells}
 use Rattle.mdcc_language.specs.Lines.{bounded, bytes_of_line, lines_in, line_end_of}
 use Rattle.mdcc_language.specs.Words.{◌>>=◌, are_plain_digits, is_negative, refused, within, number_of, natural_of, end_at, word_at, word_behind, word_end}
+use Rattle.mdcc_sched.specs.Headers.{numbered, numbered_header}
 use Rattle.mdcc_replay.proofs.Steps.{bind_ok, bounded_ok}
 use Rattle.mdcc_language.specs.declared.schedule.HeaderFault.{HeaderFault}
 use Rattle.mdcc_language.specs.declared.schedule.SchedFault.{SchedFault}
@@ -41,37 +43,33 @@ others : (text : List ℕ) → lines_in (drop (length (get_or (lines_in text) 0 
 others [] = refl
 others (b ∷ bs) = others_by b bs (b == 10) (others bs)
 
--- what is left of a text at this line
-pub record IsLeft (text : List ℕ) (n : ℕ) (left : Left) : Type 0 where
-  pub same : left.lines ≡ lines_in (drop left.at text)
-  pub counted : left.number ≡ n
+-- what is left of a text
+abbrev pub IsLeft : List ℕ → Left → Type 0
+IsLeft text left = left.lines ≡ lines_in (drop left.at text)
 
-next_left : (text : List ℕ) (n : ℕ) (left : Left) → IsLeft text n left → IsLeft text (n + 1) (without_next left)
-next_left text n left h = record {
-  same =
-      ap (drop 1) h.same
-      ∙ sym (others (drop left.at text))
-      ∙ ap (λ (lines : List (List ℕ)). lines_in (drop (length (get_or lines 0 [])) (drop left.at text))) (sym h.same)
-      ∙ ap lines_in (drop-drop (length (next_line left)) left.at text);
-  counted = ap (λ (k : ℕ). k + 1) h.counted;
-}
+next_left : (text : List ℕ) (left : Left) → IsLeft text left → IsLeft text (without_next left)
+next_left text left h =
+    ap (drop 1) h
+    ∙ sym (others (drop left.at text))
+    ∙ ap (λ (lines : List (List ℕ)). lines_in (drop (length (get_or lines 0 [])) (drop left.at text))) (sym h)
+    ∙ ap lines_in (drop-drop (length (next_line left)) left.at text)
 
 -- a value, and what is left behind its line
-abbrev Read : {A : Type 0} → (A → Type 0) → List ℕ → ℕ → A × Left → Type 0
-Read P text n read = P read.0 × IsLeft text n read.1
+abbrev Read : {A : Type 0} → (A → Type 0) → List ℕ → A × Left → Type 0
+Read P text read = P read.0 × IsLeft text read.1
 
 in_line_ok : {A : Type 0} (P : A → Type 0) (left : Left) (r : Result A SchedFault) → IfOk r P → IfOk (in_line left r) P
 in_line_ok P left (Ok a) p = p
 in_line_ok P left (Err fault) p = tt
 
-line_read : {A : Type 0} (P : A → Type 0) (text word : List ℕ) (read : List ℕ → Result A SchedFault) (n : ℕ) (left : Left) → IfOk (whole_line word read (next_line left)) P
-    → IsLeft text n left → IfOk (header_line word read left) (Read P text (n + 1))
-line_read P text word read n left p h =
+line_read : {A : Type 0} (P : A → Type 0) (text word : List ℕ) (read : List ℕ → Result A SchedFault) (left : Left) → IfOk (whole_line word read (next_line left)) P
+    → IsLeft text left → IfOk (header_line word read left) (Read P text)
+line_read P text word read left p h =
     let line : List ℕ = next_line left in
     let whole : Result _ SchedFault = whole_line word read line in
     let kept : Result _ SchedFault = bounded (bytes_of_line line) whole in
-    bind_ok P (Read P text (n + 1)) (in_line left kept) (λ value. Ok (value, without_next left)) (in_line_ok P left kept (bounded_ok P (bytes_of_line line) whole p))
-    (λ value good. (good, next_left text n left h))
+    bind_ok P (Read P text) (in_line left kept) (λ value. Ok (value, without_next left)) (in_line_ok P left kept (bounded_ok P (bytes_of_line line) whole p))
+    (λ value good. (good, next_left text left h))
 
 -- ---- numbers
 
@@ -115,28 +113,29 @@ whole_ok P word read line p =
 
 -- ---- the lines of a header
 
-any_read : {A : Type 0} (text word : List ℕ) (read : List ℕ → Result A SchedFault) (n : ℕ) (left : Left) → IsLeft text n left → IfOk (header_line word read left) (Read Any text (n + 1))
-any_read text word read n left h = line_read Any text word read n left (any_ok (whole_line word read (next_line left))) h
+any_read : {A : Type 0} (text word : List ℕ) (read : List ℕ → Result A SchedFault) (left : Left) → IsLeft text left → IfOk (header_line word read left) (Read Any text)
+any_read text word read left h = line_read Any text word read left (any_ok (whole_line word read (next_line left))) h
 
-quorums_read : (text : List ℕ) (n : ℕ) (left : Left) → IsLeft text n left → IfOk (quorums_line left) (Read Any text (n + 1))
-quorums_read text n left h =
-    bind_ok (Read Any text (n + 1)) (Read Any text (n + 1)) (header_line (codes "quorums") sizes_of left) _ (any_read text (codes "quorums") sizes_of n left h) (λ sizes read.
-    bind_ok Any (Read Any text (n + 1)) (quorums_in left (quorums_of sizes.0.0 sizes.0.1 sizes.0.2)) _ (any_ok (quorums_in left (quorums_of sizes.0.0 sizes.0.1 sizes.0.2))) (λ quorums _. (tt, read.1)))
+quorums_read : (text : List ℕ) (left : Left) → IsLeft text left → IfOk (quorums_line left) (Read Any text)
+quorums_read text left h =
+    bind_ok (Read Any text) (Read Any text) (header_line (codes "quorums") sizes_of left) _ (any_read text (codes "quorums") sizes_of left h) (λ sizes read.
+    bind_ok Any (Read Any text) (quorums_in left (quorums_of sizes.0.0 sizes.0.1 sizes.0.2)) _ (any_ok (quorums_in left (quorums_of sizes.0.0 sizes.0.1 sizes.0.2))) (λ quorums _. (tt, read.1)))
 
-bound_read : (text : List ℕ) (k n : ℕ) (left : Left) → IsLeft text n left → IfOk (bound_line k left) (Read Any text (n + 1))
-bound_read text k n left h =
-    bind_ok (Read Any text (n + 1)) (Read Any text (n + 1)) (header_line (codes "bound") bound_of left) _ (any_read text (codes "bound") bound_of n left h) (λ bounds read.
-    bind_ok Any (Read Any text (n + 1)) (bounds_in k left bounds.0) _ (any_ok (bounds_in k left bounds.0)) (λ bounds _. (tt, read.1)))
+abbrev safe_at : Left → Result (FastLimit × Left) HeaderFault
+safe_at left = Ok (FastLimit.Safe, left)
 
--- as many lines as bounds
-abbrev AreRead : List ℕ → ℕ → Bounds × Left → Type 0
-AreRead text n read = IsLeft text (n + length read.0) read.1
+limit_by : (text : List ℕ) (left : Left) → IsLeft text left → (test : Bool) → IfOk (cond test (header_line (codes "limit") fast_limit_of left) (safe_at left)) (Read Any text)
+limit_by text left h true = any_read text (codes "limit") fast_limit_of left h
+limit_by text left h false = (tt, h)
 
-one_more : (text : List ℕ) (n : ℕ) (one : ℤ × ℤ) (rest : Bounds × Left) → AreRead text (n + 1) rest → AreRead text n (one ∷ rest.0, rest.1)
-one_more text n one rest h = record { same = h.same; counted = omega (arith, h.counted) }
+-- the line of the fast limit may be left out
+limit_read : (text : List ℕ) (left : Left) → IsLeft text left → IfOk (limit_line built left) (Read Any text)
+limit_read text left h = limit_by text left h (is_next (codes "limit") left)
 
-none_more : (text : List ℕ) (n : ℕ) (left : Left) → IsLeft text n left → AreRead text n ([], left)
-none_more text n left h = record { same = h.same; counted = omega (arith, h.counted) }
+bound_read : (text : List ℕ) (k : ℕ) (left : Left) → IsLeft text left → IfOk (bound_line k left) (Read Any text)
+bound_read text k left h =
+    bind_ok (Read Any text) (Read Any text) (header_line (codes "bound") bound_of left) _ (any_read text (codes "bound") bound_of left h) (λ bounds read.
+    bind_ok Any (Read Any text) (bounds_in k left bounds.0) _ (any_ok (bounds_in k left bounds.0)) (λ bounds _. (tt, read.1)))
 
 abbrev with_bound : ℤ × ℤ → Bounds × Left → Result (Bounds × Left) HeaderFault
 with_bound one rest = Ok (one ∷ rest.0, rest.1)
@@ -147,76 +146,72 @@ none_left left = Ok ([], left)
 abbrev more_by : ℕ → ℕ → Left → Bool → Result (Bounds × Left) HeaderFault
 more_by more k left test = cond test (bound_line k left >>= λ one. more_bounds more (k + 1) one.1 >>= λ rest. with_bound one.0 rest) (none_left left)
 
-more_test : (text : List ℕ) (more k n : ℕ) (left : Left) → IsLeft text n left → ((one : Left) → IsLeft text (n + 1) one → IfOk (more_bounds more (k + 1) one) (AreRead text (n + 1))) → (test : Bool)
-    → IfOk (more_by more k left test) (AreRead text n)
-more_test text more k n left h next true =
-    bind_ok (Read Any text (n + 1)) (AreRead text n) (bound_line k left) _ (bound_read text k n left h) (λ one read.
-    bind_ok (AreRead text (n + 1)) (AreRead text n) (more_bounds more (k + 1) one.1) _ (next one.1 read.1) (λ rest good. one_more text n one.0 rest good))
-more_test text more k n left h next false = none_more text n left h
+more_test : (text : List ℕ) (more k : ℕ) (left : Left) → IsLeft text left → ((one : Left) → IsLeft text one → IfOk (more_bounds more (k + 1) one) (Read Any text)) → (test : Bool)
+    → IfOk (more_by more k left test) (Read Any text)
+more_test text more k left h next true =
+    bind_ok (Read Any text) (Read Any text) (bound_line k left) _ (bound_read text k left h) (λ one read.
+    bind_ok (Read Any text) (Read Any text) (more_bounds more (k + 1) one.1) _ (next one.1 read.1) (λ rest good. (tt, good.1)))
+more_test text more k left h next false = (tt, h)
 
-more_read : (text : List ℕ) (more k n : ℕ) (left : Left) → IsLeft text n left → IfOk (more_bounds more k left) (AreRead text n)
-more_read text zero k n left h = none_more text n left h
-more_read text (suc more) k n left h = more_test text more k n left h (λ one good. more_read text more (k + 1) (n + 1) one good) (is_next (codes "bound") left)
+more_read : (text : List ℕ) (more k : ℕ) (left : Left) → IsLeft text left → IfOk (more_bounds more k left) (Read Any text)
+more_read text zero k left h = (tt, h)
+more_read text (suc more) k left h = more_test text more k left h (λ one good. more_read text more (k + 1) one good) (is_next (codes "bound") left)
 
-bounds_read : (text : List ℕ) (n : ℕ) (left : Left) → IsLeft text n left → IfOk (bounds_lines left) (AreRead text n)
-bounds_read text n left h =
-    bind_ok (Read Any text (n + 1)) (AreRead text n) (bound_line 1 left) _ (bound_read text 1 n left h) (λ one read.
-    bind_ok (AreRead text (n + 1)) (AreRead text n) (more_bounds 3 2 one.1) _ (more_read text 3 2 (n + 1) one.1 read.1) (λ rest good. one_more text n one.0 rest good))
+bounds_read : (text : List ℕ) (left : Left) → IsLeft text left → IfOk (bounds_lines left) (Read Any text)
+bounds_read text left h =
+    bind_ok (Read Any text) (Read Any text) (bound_line 1 left) _ (bound_read text 1 left h) (λ one read.
+    bind_ok (Read Any text) (Read Any text) (more_bounds 3 2 one.1) _ (more_read text 3 2 one.1 read.1) (λ rest good. (tt, good.1)))
 
--- the range of a cluster and its cells are in their limits, and the lines behind the header begin at this number
+-- the range of a cluster and its cells are in their limits, and the lines behind the header are left
 pub record IsRead (text : List ℕ) (header : Cluster × Left) : Type 0 where
   pub range : header.0.gamma ≤ 1000
   pub cells : header.0.cells ≡ default_cells
-  pub left : IsLeft text (5 + length header.0.schema) header.1
-
-all_left : (text : List ℕ) → IsLeft text 1 (all_of text)
-all_left text = record { same = refl; counted = refl }
+  pub left : IsLeft text header.1
 
 pub header_read : (text : List ℕ) → IfOk (header_lines built (all_of text)) (IsRead text)
 header_read text =
-    bind_ok (Read Any text 2) _ (header_line (codes "mdcc-schedule") version_of (all_of text)) _ (any_read text (codes "mdcc-schedule") version_of 1 (all_of text) (all_left text)) (λ version a.
-    bind_ok (Read Any text 3) _ (quorums_line version.1) _ (quorums_read text 2 version.1 a.1) (λ quorums b.
-    bind_ok (Read (λ (g : ℕ). g ≤ 1000) text 4) _ (header_line (codes "gamma") (last_number 0 1000 5) quorums.1) _
-    (line_read (λ (g : ℕ). g ≤ 1000) text (codes "gamma") (last_number 0 1000 5) 3 quorums.1 (whole_ok (λ (g : ℕ). g ≤ 1000) (codes "gamma") (last_number 0 1000 5) (next_line quorums.1) (last_ok 0 1000 5)) b.1) (λ gamma c.
-    bind_ok (AreRead text 4) _ (bounds_lines gamma.1) _ (bounds_read text 4 gamma.1 c.1) (λ bounds d.
-    bind_ok (Read Any text (4 + length bounds.0 + 1)) _ (header_line (codes "start") (λ line. end_at 5 line 1) bounds.1) _ (any_read text (codes "start") (λ line. end_at 5 line 1) (4 + length bounds.0) bounds.1 d) (λ start e.
-    record { range = c.0; cells = refl; left = record { same = e.1.same; counted = omega (arith, e.1.counted) } })))))
+    bind_ok (Read Any text) _ (header_line (codes "mdcc-schedule") version_of (all_of text)) _ (any_read text (codes "mdcc-schedule") version_of (all_of text) refl) (λ version a.
+    bind_ok (Read Any text) _ (quorums_line version.1) _ (quorums_read text version.1 a.1) (λ quorums b.
+    bind_ok (Read (λ (g : ℕ). g ≤ 1000) text) _ (header_line (codes "gamma") (last_number 0 1000 5) quorums.1) _
+    (line_read (λ (g : ℕ). g ≤ 1000) text (codes "gamma") (last_number 0 1000 5) quorums.1 (whole_ok (λ (g : ℕ). g ≤ 1000) (codes "gamma") (last_number 0 1000 5) (next_line quorums.1) (last_ok 0 1000 5)) b.1) (λ gamma c.
+    bind_ok (Read Any text) _ (limit_line built gamma.1) _ (limit_read text gamma.1 c.1) (λ limit l.
+    bind_ok (Read Any text) _ (bounds_lines limit.1) _ (bounds_read text limit.1 l.1) (λ bounds d.
+    bind_ok (Read Any text) _ (header_line (codes "start") (λ line. end_at 5 line 1) bounds.1) _ (any_read text (codes "start") (λ line. end_at 5 line 1) bounds.1 d.1) (λ start e.
+    record { range = c.0; cells = refl; left = e.1 }))))))
 
--- ---- the cluster and the place that a header gives
+-- ---- the cluster, the place and the number of the line that a header gives
 
-pub record IsHeader (text : List ℕ) (cluster : Cluster) (end : ℕ) : Type 0 where
+pub record IsHeader (text : List ℕ) (cluster : Cluster) (end first : ℕ) : Type 0 where
   pub range : cluster.gamma ≤ 1000
   pub cells : cluster.cells ≡ default_cells
   pub left : Left
   pub read : header_lines built (all_of text) ≡ Ok (cluster, left)
   pub at : left.at ≡ end
-  pub is_left : IsLeft text (5 + length cluster.schema) left
+  pub number : left.number ≡ first
+  pub is_left : IsLeft text left
 
-abbrev place_of : Cluster × Left → Result (Cluster × ℕ) HeaderFault
-place_of header = Ok (header.0, header.1.at)
+abbrev place : Cluster → ℕ → ℕ → Cluster × ℕ × ℕ
+place cluster at number = (cluster, at, number)
 
-abbrev pair : Cluster → ℕ → Cluster × ℕ
-pair cluster place = (cluster, place)
-
-abbrev place_or : Cluster × ℕ → Result (Cluster × ℕ) HeaderFault → Cluster × ℕ
+abbrev place_or : Cluster × ℕ × ℕ → Result (Cluster × ℕ × ℕ) HeaderFault → Cluster × ℕ × ℕ
 place_or other (Ok place) = place
 place_or other (Err fault) = other
 
-given_by : (text : List ℕ) (cluster : Cluster) (end : ℕ) (r : Result (Cluster × Left) HeaderFault) → header_lines built (all_of text) ≡ r → IfOk r (IsRead text)
-    → (r >>= place_of) ≡ Ok (cluster, end) → IsHeader text cluster end
-given_by text cluster end (Ok (found, left)) e h f =
-    let both : pair found left.at ≡ pair cluster end = ap (place_or (pair found left.at)) f in
-    let same : found ≡ cluster = ap (λ (p : Cluster × ℕ). p.0) both in
-    let at : left.at ≡ end = ap (λ (p : Cluster × ℕ). p.1) both in
+given_by : (text : List ℕ) (cluster : Cluster) (end first : ℕ) (r : Result (Cluster × Left) HeaderFault) → header_lines built (all_of text) ≡ r → IfOk r (IsRead text)
+    → (r >>= numbered) ≡ Ok (cluster, end, first) → IsHeader text cluster end first
+given_by text cluster end first (Ok (found, left)) e h f =
+    let all : place found left.at left.number ≡ place cluster end first = ap (place_or (place found left.at left.number)) f in
+    let same : found ≡ cluster = ap (λ (p : Cluster × ℕ × ℕ). p.0) all in
     record {
       range = subst (λ (c : Cluster). c.gamma ≤ 1000) same h.range;
       cells = subst (λ (c : Cluster). c.cells ≡ default_cells) same h.cells;
       left = left;
       read = e ∙ ap (λ (c : Cluster). let r : Result (Cluster × Left) HeaderFault = Ok (c, left) in r) same;
-      at = at;
-      is_left = subst (λ (c : Cluster). IsLeft text (5 + length c.schema) left) same h.left;
+      at = ap (λ (p : Cluster × ℕ × ℕ). p.1) all;
+      number = ap (λ (p : Cluster × ℕ × ℕ). p.2) all;
+      is_left = h.left;
     }
-given_by text cluster end (Err fault) e h f = absurd (cc)
+given_by text cluster end first (Err fault) e h f = absurd (cc)
 
-pub header_given : (text : List ℕ) (cluster : Cluster) (end : ℕ) → header_of built text ≡ Ok (cluster, end) → IsHeader text cluster end
-header_given text cluster end e = given_by text cluster end (header_lines built (all_of text)) refl (header_read text) e
+pub header_given : (text : List ℕ) (cluster : Cluster) (end first : ℕ) → numbered_header text ≡ Ok (cluster, end, first) → IsHeader text cluster end first
+header_given text cluster end first e = given_by text cluster end first (header_lines built (all_of text)) refl (header_read text) e

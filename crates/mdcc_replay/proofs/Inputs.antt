@@ -8,7 +8,7 @@ use Rattle.mdcc_option.specs.Bounds.{IsSchema}
 use Rattle.mdcc_option.specs.declared.cluster.Cluster.{Cluster}
 use Rattle.mdcc_built.specs.Built.{built}
 use Rattle.mdcc_language.specs.Errors.{AtHeader, TooLong, most_input}
-use Rattle.mdcc_language.specs.Header.{Left, all_of, header_lines, header_of}
+use Rattle.mdcc_language.specs.Header.{Left, all_of, header_lines}
 use Rattle.mdcc_language.specs.Words.{◌>>=◌}
 use Rattle.mdcc_language.specs.declared.schedule.HeaderFault.{HeaderFault}
 use Rattle.mdcc_protocol.specs.IsCluster.{IsCluster}
@@ -16,6 +16,7 @@ use Rattle.mdcc_language.specs.Lines.{lines_in}
 use Rattle.mdcc_simulation.specs.Replay.{Replay, after_text, ended, lines_replayed, replay_behind, replay_of}
 use Rattle.mdcc_language.specs.Report.{header_text}
 use Rattle.mdcc_simulation.specs.State.{first_world}
+use Rattle.mdcc_sched.specs.Headers.{numbered, numbered_header}
 use Rattle.mdcc_replay.proofs.Fronts.{front_of_first}
 use Rattle.mdcc_replay.proofs.Headers.{header_given}
 use Rattle.mdcc_replay.proofs.Taken.{finish}
@@ -25,9 +26,9 @@ use Rattle.mdcc_replay.specs.declared.writing.Failure.{Failure}
 
 -- ---- clusters
 
-pub cluster_given : (text : List ℕ) (cluster : Cluster) (end : ℕ) → header_of built text ≡ Ok (cluster, end) → AreQuorums cluster.quorums → IsSchema cluster.schema → IsCluster cluster
-cluster_given text cluster end e quorums schema =
-    let header = header_given text cluster end e in
+pub cluster_given : (text : List ℕ) (cluster : Cluster) (end first : ℕ) → numbered_header text ≡ Ok (cluster, end, first) → AreQuorums cluster.quorums → IsSchema cluster.schema → IsCluster cluster
+cluster_given text cluster end first e quorums schema =
+    let header = header_given text cluster end first e in
     record { quorums = quorums; schema = schema; range = header.range; some_cells = omega (arith, header.cells); cells = omega (arith, header.cells) }
 
 -- ---- lengths
@@ -49,39 +50,39 @@ long_ended a input h =
 -- ---- headers
 
 -- the lines behind a header
-abbrev pub behind_header : List ℕ → Cluster → ℕ → Replay
-behind_header input cluster end = lines_replayed built cluster (5 + length cluster.schema) (first_world cluster) (lines_in (drop end input))
+abbrev pub behind_header : List ℕ → Cluster → ℕ → ℕ → Replay
+behind_header input cluster end first = lines_replayed built cluster first (first_world cluster) (lines_in (drop end input))
 
-abbrev numbered : Cluster → Left → ℕ → Replay
-numbered cluster left number = lines_replayed built cluster number (first_world cluster) left.lines
+abbrev from_number : Cluster → Left → ℕ → Replay
+from_number cluster left number = lines_replayed built cluster number (first_world cluster) left.lines
 
-pub replay_given : (input : List ℕ) (cluster : Cluster) (end : ℕ) → length input ≤ 67108864 → header_of built input ≡ Ok (cluster, end)
-    → replay_of built input ≡ after_text (header_text end input) (behind_header input cluster end)
-replay_given input cluster end h e =
-    let header = header_given input cluster end e in
+pub replay_given : (input : List ℕ) (cluster : Cluster) (end first : ℕ) → length input ≤ 67108864 → numbered_header input ≡ Ok (cluster, end, first)
+    → replay_of built input ≡ after_text (header_text end input) (behind_header input cluster end first)
+replay_given input cluster end first h e =
+    let header = header_given input cluster end first e in
     let left = header.left in
     short_by input h
     ∙ ap (replay_behind built input) header.read
-    ∙ ap (λ (n : ℕ). after_text (header_text left.at input) (numbered cluster left n)) header.is_left.counted
-    ∙ ap (λ (lines : List (List ℕ)). after_text (header_text left.at input) (lines_replayed built cluster (5 + length cluster.schema) (first_world cluster) lines)) header.is_left.same
-    ∙ ap (λ (at : ℕ). after_text (header_text at input) (behind_header input cluster at)) header.at
+    ∙ ap (λ (n : ℕ). after_text (header_text left.at input) (from_number cluster left n)) header.number
+    ∙ ap (λ (lines : List (List ℕ)). after_text (header_text left.at input) (lines_replayed built cluster first (first_world cluster) lines)) header.is_left
+    ∙ ap (λ (at : ℕ). after_text (header_text at input) (behind_header input cluster at first)) header.at
 
-pub behind_written : (a b c : Option (List ℕ)) (input : List ℕ) (cluster : Cluster) (end : ℕ) (r : Result (Option Refusal) Failure) → length input ≤ 67108864 → header_of built input ≡ Ok (cluster, end)
-    → Appends a b (header_text end input) → Replayed b c (behind_header input cluster end) r → Replayed a c (replay_of built input) r
-behind_written a b c input cluster end r h e wrote next =
-    let progress : Progress a b (replay_of built input) (behind_header input cluster end) = record { part = header_text end input; wrote = wrote; same = replay_given input cluster end h e } in
-    finish a b c (replay_of built input) (behind_header input cluster end) r progress next
+pub behind_written : (a b c : Option (List ℕ)) (input : List ℕ) (cluster : Cluster) (end first : ℕ) (r : Result (Option Refusal) Failure) → length input ≤ 67108864 → numbered_header input ≡ Ok (cluster, end, first)
+    → Appends a b (header_text end input) → Replayed b c (behind_header input cluster end first) r → Replayed a c (replay_of built input) r
+behind_written a b c input cluster end first r h e wrote next =
+    let progress : Progress a b (replay_of built input) (behind_header input cluster end first) = record { part = header_text end input; wrote = wrote; same = replay_given input cluster end first h e } in
+    finish a b c (replay_of built input) (behind_header input cluster end first) r progress next
 
-pub header_failed : (a b : Option (List ℕ)) (input : List ℕ) (cluster : Cluster) (end : ℕ) → length input ≤ 67108864 → header_of built input ≡ Ok (cluster, end)
+pub header_failed : (a b : Option (List ℕ)) (input : List ℕ) (cluster : Cluster) (end first : ℕ) → length input ≤ 67108864 → numbered_header input ≡ Ok (cluster, end, first)
     → Front a b (header_text end input) → Front a b (replay_of built input).text
-header_failed a b input cluster end h e front =
-    subst (λ (r : Replay). Front a b r.text) (sym (replay_given input cluster end h e)) (front_of_first a b (header_text end input) (behind_header input cluster end).text front)
+header_failed a b input cluster end first h e front =
+    subst (λ (r : Replay). Front a b r.text) (sym (replay_given input cluster end first h e)) (front_of_first a b (header_text end input) (behind_header input cluster end first).text front)
 
-pub header_refused : (a : Option (List ℕ)) (input : List ℕ) (fault : HeaderFault) → length input ≤ 67108864 → Err fault ≡ header_of built input
+pub header_refused : (a : Option (List ℕ)) (input : List ℕ) (fault : HeaderFault) → length input ≤ 67108864 → Err fault ≡ numbered_header input
     → Ends a a (replay_of built input) (Some (Refusal.Header fault))
 header_refused a input fault h e = rw (short_by input h) (by (header_lines built (all_of input)) e)
   where
-    by : (r : Result (Cluster × Left) HeaderFault) → Err fault ≡ (r >>= λ header. let place : Result (Cluster × ℕ) HeaderFault = Ok (header.0, header.1.at) in place)
+    by : (r : Result (Cluster × Left) HeaderFault) → Err fault ≡ (r >>= numbered)
         → Ends a a (replay_behind built input r) (Some (Refusal.Header fault))
     by (Ok header) e = absurd (cc)
     by (Err found) e = let same : fault ≡ found = cc in record { wrote = Appends-nil a; fault = ap (λ (f : HeaderFault). Some (AtHeader f)) (sym same) }

@@ -6,7 +6,7 @@ ghost use Rattle.mdcc_base.specs.Causes.{Rose};
 ghost use Rattle.mdcc_option.specs.Bounds.{IsSchema};
 ghost use Rattle.mdcc_option.specs.declared.cluster.Cluster.{Cluster as ACluster};
 ghost use Rattle.mdcc_built.specs.Built.{built};
-ghost use Rattle.mdcc_language.specs.Header.{header_of};
+ghost use Rattle.mdcc_sched.specs.Headers.{numbered_header};
 ghost use Rattle.mdcc_language.specs.Lines.{lines_in};
 ghost use Rattle.mdcc_simulation.specs.Replay.{lines_replayed, replay_of};
 ghost use Rattle.mdcc_language.specs.Report.{lines_text};
@@ -23,7 +23,7 @@ use crate::{Failure, Refusal, Simulation};
 use mdcc_base::{HeapList, LIMIT, Plain, Sink};
 use mdcc_language::{Event, EventFault};
 use mdcc_option::Cluster;
-use mdcc_sched::parse_header;
+use mdcc_sched::parse_numbered_header;
 use std::alloc::Global;
 
 // Whether it is want of memory.
@@ -159,14 +159,6 @@ fn replay_lines<W: Simulation, O: Sink>(
     write_end(alloc, world, out)
 }
 
-// The number of the first line behind a header.
-fn first_line(cluster: &Cluster) -> u32
-    ensures value { result ≡ 5 + length cluster.now.schema }
-    ensures small { result ≤ 9 }
-{
-    5 + cluster.schema.bounds().len() as u32
-}
-
 // Quorums meet and bounds are good, by their types.
 fn types_hold(cluster: &Cluster)
     ensures quorums { AreQuorums cluster.now.quorums }
@@ -176,16 +168,18 @@ fn types_hold(cluster: &Cluster)
     let _ = cluster.schema.bounds();
 }
 
-// Replays an input behind its header, which ends before this place.
+// Replays an input behind its header, which ends before this place. The line there has this number.
 fn replay_behind<W: Simulation + Drop, O: Sink>(
     alloc: Global,
     cluster: &Cluster,
     end: usize,
+    first: u32,
     input: &[u8],
     out: &mut O,
 ) -> Result<Option<Refusal>, Failure>
     requires short { length input.now ≤ LIMIT }
-    requires header { header_of built input.now ≡ Ok (cluster.now, end) }
+    requires few { first ≤ 10 }
+    requires header { numbered_header input.now ≡ Ok (cluster.now, end, first) }
     ensures written { Replayed (O.held out.old) (O.held out.new) (replay_of built input.now) result }
     ensures later { O.faults out.old ≤ O.faults out.new }
     ensures failed { IsErrOf result Failure.Output → Rose (O.faults out.old) (O.faults out.new) }
@@ -194,7 +188,6 @@ fn replay_behind<W: Simulation + Drop, O: Sink>(
     types_hold(cluster);
     let mut world = W::start(alloc, cluster.copy())?;
     write_text(out, header.as_slice())?;
-    let first = first_line(cluster);
     replay_lines(alloc, cluster, &mut world, first, behind(end, input), out)
 }
 
@@ -213,8 +206,10 @@ pub fn replay<W: Simulation + Drop, O: Sink>(
     if input.len() > LIMIT {
         return Ok(Some(Refusal::TooLong));
     }
-    match parse_header(input) {
-        Ok((cluster, end)) => replay_behind::<W, O>(alloc, &cluster, end, input, out),
+    match parse_numbered_header(input) {
+        Ok((cluster, end, first)) => {
+            replay_behind::<W, O>(alloc, &cluster, end, first, input, out)
+        }
         Err(fault) => Ok(Some(Refusal::Header(fault))),
     }
 }

@@ -1,5 +1,6 @@
 pub mod Centres
 pub mod Free
+pub mod Headers
 pub mod Numbers
 pub mod PartsOfWords
 pub mod Spelled

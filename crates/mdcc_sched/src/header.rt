@@ -4,6 +4,7 @@ ghost use Rattle.mdcc_option.specs.Bounds.{IsSchema, is_bound};
 ghost use Rattle.mdcc_language.specs.Header.{header_line, version_of, quorums_line, last_number, limit_line, bound_line, bounds_lines, header_lines, header_of};
 ghost use Rattle.mdcc_language.specs.Words.{end_at};
 ghost use Rattle.mdcc_built.specs.Built.{built};
+ghost use Rattle.mdcc_sched.specs.Headers.{numbered_header};
 
 use crate::header_lines;
 use crate::left::Left;
@@ -131,7 +132,8 @@ fn schema_of(bounds: &Bounds) -> Schema
 // The lines of a header in their order, and what is left behind them.
 fn read_lines<'a>(left: &Left<'a>) -> Result<(Cluster, Left<'a>), HeaderFault>
     requires { left.now.number ≤ 1 }
-    ensures { result ≡ header_lines built left.now }
+    ensures value { result ≡ header_lines built left.now }
+    ensures few { IfOk result (λ header. header.1.number ≤ 10) }
 {
     let (_, left) = version_line(left)?;
     let (quorums, left) = quorums_line(&left)?;
@@ -157,4 +159,14 @@ pub fn parse_header(text: &[u8]) -> Result<(Cluster, usize), HeaderFault>
 {
     let (cluster, left) = read_lines(&Left::new(text))?;
     Ok((cluster, left.place()))
+}
+
+/// Reads the header as `parse_header` does, and gives also the number of the first line behind it. How
+/// many lines a header has is not said by its cluster, since a line of the safe limit may be left out.
+pub fn parse_numbered_header(text: &[u8]) -> Result<(Cluster, usize, u32), HeaderFault>
+    ensures value { result ≡ numbered_header text.now }
+    ensures few { IfOk result (λ header. header.2 ≤ 10) }
+{
+    let (cluster, left) = read_lines(&Left::new(text))?;
+    Ok((cluster, left.place(), left.number()))
 }

@@ -63,6 +63,13 @@ impl<'a> Left<'a> {
         self.at
     }
 
+    /// The number of the next line, from 1.
+    pub fn number(&self) -> u32
+        ensures { result ≡ self.now.number }
+    {
+        self.number
+    }
+
     /// The next line with its line end; at the end of the text an empty one without one.
     pub fn next_line(&self) -> &'a [u8]
         ensures { result.now ≡ next_line self.now }

@@ -13,7 +13,7 @@ pub mod print;
 pub mod schedule;
 mod words;
 
-pub use header::parse_header;
+pub use header::{parse_header, parse_numbered_header};
 pub use laws::events_are_spelled;
 pub use mdcc_language::{
     Event, HeaderCause, HeaderFault, Line, ResolveFault, SchedCause, SchedFault, UpdateWord,

@@ -5,4 +5,4 @@ use Rattle.mdcc_replay.proofs.reports.replay.Goals as goal
 pub returns-in-Err-clause-written : goal.returns-in-Err-clause-written
 returns-in-Err-clause-written g c =
     let short : length c.args.input.now ≤ 67108864 = omega arith in
-    header_refused (g.O.Sink.held c.args.out.now) c.args.input.now c.in-Err.fault short c.in-Err.ensures
+    header_refused (g.O.Sink.held c.args.out.now) c.args.input.now c.in-Err.fault short c.in-Err.ensures.value

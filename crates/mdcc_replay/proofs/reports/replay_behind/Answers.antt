@@ -6,16 +6,16 @@ use Rattle.mdcc_replay.proofs.reports.replay_behind.Goals as goal
 pub start-requires : goal.start-requires
 start-requires g c =
     rw c.copy.ensures
-    (cluster_given c.args.input.now c.args.cluster.now c.args.end c.requires.header c.types_hold.ensures.quorums c.types_hold.ensures.schema)
+    (cluster_given c.args.input.now c.args.cluster.now c.args.end c.args.first c.requires.header c.types_hold.ensures.quorums c.types_hold.ensures.schema)
 
 pub returns-in_err-write_text-clause-written : goal.returns-in_err-write_text-clause-written
 returns-in_err-write_text-clause-written g c =
     let p = err_from_is_err_and c.from_residual-in_err-write_text.result c.from_residual-in_err-write_text.ensures.1 in
-    rw p.1 (header_failed (g.O.Sink.held c.args.out.now) (g.O.Sink.held c.write_text.new.out) c.args.input.now c.args.cluster.now c.args.end c.requires.short c.requires.header
+    rw p.1 (header_failed (g.O.Sink.held c.args.out.now) (g.O.Sink.held c.write_text.new.out) c.args.input.now c.args.cluster.now c.args.end c.args.first c.requires.short c.requires.header
     (rw (c.as_slice.ensures.value, c.in_ok-header.ensures) at c.in_err-write_text.ensures.front))
 
 pub returns-clause-written : goal.returns-clause-written
 returns-clause-written g c =
-    behind_written (g.O.Sink.held c.args.out.now) (g.O.Sink.held c.write_text.new.out) (g.O.Sink.held c.replay_lines.new.out) c.args.input.now c.args.cluster.now c.args.end c.replay_lines.result c.requires.short c.requires.header
+    behind_written (g.O.Sink.held c.args.out.now) (g.O.Sink.held c.write_text.new.out) (g.O.Sink.held c.replay_lines.new.out) c.args.input.now c.args.cluster.now c.args.end c.args.first c.replay_lines.result c.requires.short c.requires.header
     (rw (c.as_slice.ensures.value, c.in_ok-header.ensures) at c.in_ok-write_text.ensures.all)
-    (rw (c.first_line-first.ensures.value, c.behind.ensures.value) at (c.replay_lines.ensures.written (first_world c.args.cluster.now) (rw c.copy.ensures at c.in_ok-world.ensures)))
+    (rw c.behind.ensures.value at (c.replay_lines.ensures.written (first_world c.args.cluster.now) (rw c.copy.ensures at c.in_ok-world.ensures)))
