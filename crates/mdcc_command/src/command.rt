@@ -1,13 +1,14 @@
 //! The top call.
-ghost use Rattle.std.specs.Prelude.{◌≡◌, ◌≢◌, ◌↔◌, ◌∷◌, [], codes, map, IfSome};
+ghost use Rattle.std.specs.Prelude.{◌≡◌, ◌≢◌, ◌↔◌, ◌∷◌, [], codes, map, IfSome, IsTrue, List, ℕ};
 ghost use Rattle.std.specs.Bool.{OnFalse, OnTrue};
 ghost use Rattle.std.specs.Io.KnownBytes.{Appends, IsAtEnd};
 ghost use Rattle.std.specs.String.{string_bytes};
 ghost use Rattle.mdcc_base.specs.Causes.{Rose};
+ghost use Rattle.mdcc_command.specs.Prints.{PrintsTruth};
 ghost use Rattle.mdcc_headline.specs.Headline.{ReplayTellsTruth};
 ghost use Rattle.mdcc_built.specs.Built.{built};
 ghost use Rattle.mdcc_simulation.specs.Replay.{output_of, replay_of};
-ghost use Rattle.mdcc_replay.specs.Runs.{is_own, own_line};
+ghost use Rattle.mdcc_replay.specs.Runs.{is_own, is_status, own_line};
 ghost use Rattle.mdcc_replay.specs.Writing.{Front, Tells};
 
 use crate::simulation::Replayed;
@@ -29,27 +30,31 @@ pub fn run<S: Source, O: Sink, E: Sink>(
     out: &mut O,
     err: &mut E,
 ) -> u8
-    // At statuses 0, 3, 4 and 11 the definition of the input's replay gives the status and all that
-    // was written.
+    // What is written is the report of the input: all of it at statuses 0, 4 and 11, a front of it at 6 and 10, nothing at 2, 3
+    // and 5. It tells the truth of a run in which the committed transactions, each whole and in the order in which they were
+    // chosen, are a run of the one-copy store; every reported commit is in it, no reported abort is, and every reported read is
+    // what that store shows of an item version with some of its committed deltas.
+    ensures prints { IfSome (S.left source.old) (λ input. PrintsTruth input result (O.held out.old) (O.held out.new)) }
+    ensures headline { (input : List ℕ) → ReplayTellsTruth built input }
+
+    // The status is one of 0, 2, 3, 4, 5, 6, 10 and 11. At 0, 3, 4 and 11 the definition of the input's replay gives the status
+    // and all that was written.
+    ensures status { IsTrue (is_status result) }
     ensures whole { IfSome (S.left source.old) (λ input. let output = output_of (replay_of built input) in
         OnFalse (is_own result) ((result ≡ output.status) × Appends (O.held out.old) (O.held out.new) output.text)) }
     ensures end { result ≡ 0 → IsAtEnd (S.left source.new) }
 
-    // At each status a front of it was written, and nothing at 2 and 5.
+    // At each status a front of it was written, and nothing at 2, 3 and 5.
     ensures front { IfSome (S.left source.old) (λ input.
         Front (O.held out.old) (O.held out.new) (output_of (replay_of built input)).text) }
     ensures silent { result ≡ 2 → Appends (O.held out.old) (O.held out.new) [] }
+    ensures refused { result ≡ 3 → Appends (O.held out.old) (O.held out.new) [] }
     ensures nothing { result ≡ 5 → Appends (O.held out.old) (O.held out.new) [] }
 
     // The other statuses have their causes; 10 may come at any time.
     ensures words { (result ≡ 2) ↔ (map string_bytes words.now ≢ codes "replay" ∷ []) }
     ensures read { result ≡ 5 → Rose (S.faults source.old) (S.faults source.new) }
     ensures write { result ≡ 6 → Rose (O.faults out.old) (O.faults out.new) }
-
-    // The replay of the input is a run in which the committed transactions, in the order in which they were chosen, are
-    // a run of the one-copy store; every reported commit is in it, no reported abort is, and every reported read is an
-    // item version of it with some of its committed deltas.
-    ensures headline { IfSome (S.left source.old) (λ input. ReplayTellsTruth built input) }
 
     // The line on the error stream.
     ensures quiet { result ≡ 0 → Appends (E.held err.old) (E.held err.new) [] }
