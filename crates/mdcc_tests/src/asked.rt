@@ -65,8 +65,9 @@ fn voted_transactions_are_counted(rt: HostRuntime) -> Result<(), Fail> {
     let store = store(&rt, rt.alloc())?;
     let mut options = Options::new(rt.alloc())?;
     for seq in [1, 2, 4, 5] {
-        if options.mark_of(tx(seq)).is_none() {
-            options.insert(tx(seq), Mark::Reject)?;
+        let next = tx(seq);
+        if options.mark_of(next).is_none() {
+            options.insert(next, Mark::Reject)?;
         }
     }
     assert_eq!(rt; store.count_voted(&a, 1, LED, &options), 2);
@@ -106,13 +107,13 @@ fn marks_are_given_one_after_the_other(rt: HostRuntime) -> Result<(), Fail> {
 #[test]
 fn outcomes_end_transactions(rt: HostRuntime) -> Result<(), Fail> {
     let mut store = store(&rt, rt.alloc())?;
-    let second = decrease(&rt, 2).write_set;
-    let third = decrease(&rt, 3).write_set;
+    let second = decrease(&rt, 2);
+    let third = decrease(&rt, 3);
     assert!(rt; store.is_heard(tx(1)) && !store.is_heard(tx(2)));
     assert_eq!(rt; store.ended(tx(1)), Some(true));
     assert_eq!(rt; store.ended(tx(2)), None);
     assert_eq!(rt; store.write_set(tx(1)), None);
-    assert_eq!(rt; store.write_set(tx(2)), Some(second.copy()));
+    assert_eq!(rt; store.write_set(tx(2)), Some(second.write_set.copy()));
     assert_eq!(rt; store.write_set(tx(4)), None);
     let both = [(tx(2), second), (tx(3), third.copy())];
     assert_eq!(rt;
