@@ -2,14 +2,14 @@ use Rattle.std.proofs.lemmas.Result.{err_from_is_err_and}
 use Rattle.mdcc_restart.proofs.Starts.{boot-ends, node-boots}
 use Rattle.mdcc_restart.proofs.restarting.boot_node.Goals as goal
 
-pub returns-in_err-node-clause-node : goal.returns-in_err-node-clause-node
-returns-in_err-node-clause-node g c facts ample are is =
+pub returns-in_err-boot-clause-node : goal.returns-in_err-boot-clause-node
+returns-in_err-boot-clause-node g c facts ample are is =
     let p = err_from_is_err_and c.from_residual.result c.from_residual.ensures.1 in
     rw (p.1, p.2)
-    (boot-ends g.S.FactStore.stands c.args.cluster c.args.centre facts c.args.payloads.now is ample.cells c.in_err-node.field-0.0 ample.ample are
-    (c.in_err-node.ensures.boots ample.cells ample.empty))
+    (boot-ends g.S.FactStore.stands c.args.cluster c.args.centre facts c.args.payloads.now is ample.cells c.in_err-boot.field-0.0 ample.ample are
+    (c.in_err-boot.ensures.boots ample.cells ample.empty))
 
 pub returns-clause-node : goal.returns-clause-node
 returns-clause-node g c facts ample are is =
-    node-boots g.S.FactStore.stands c.args.cluster c.args.centre facts c.args.payloads.now is ample.cells (c.in_ok-node.node, c.in_ok-node.field-0-1) ample.ample are
-    (c.in_ok-node.ensures.boots ample.cells ample.empty)
+    node-boots g.S.FactStore.stands c.args.cluster c.args.centre facts c.args.payloads.now is ample.cells c.in_ok-boot.field-0 ample.ample are
+    (c.in_ok-boot.ensures.boots ample.cells ample.empty)
