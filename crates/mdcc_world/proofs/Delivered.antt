@@ -1,5 +1,5 @@
 -- A message comes to its centre.
-use Rattle.std.proofs.Common.{◌≡◌, ℕ, ◌+◌, ◌-◌, ◌≤◌, true, List, refl, sym, ap, ◌∙◌, subst, inl, inr, Option, Some, None, Result, Ok, Err, arith, length}
+use Rattle.std.proofs.Common.{◌≡◌, ℕ, zero, suc, ◌+◌, ◌-◌, ◌≤◌, true, List, refl, sym, ap, ◌∙◌, subst, inl, inr, Option, Some, None, Result, Ok, Err, arith, length}
 use Rattle.std.specs.Option.{option_map}
 use Rattle.std.proofs.lemmas.Bool.{cases_Bool}
 use Rattle.mdcc_node.specs.Stepping.{given}
@@ -31,6 +31,14 @@ pub record IsSentAs (w : World) (number : ℕ) (envelope : Envelope) : Type 0 wh
   pub there : numbered w.sent number ≡ Some sent
   pub same : sent.envelope ≡ envelope
   pub up : is_up_at w envelope.to ≡ true
+
+numbered-some : {X : Type 0} (xs : List X) (number : ℕ) (x : X) → numbered xs number ≡ Some x → 1 ≤ number
+numbered-some xs zero x e = absurd (cc)
+numbered-some xs (suc n) x e = omega arith
+
+-- numbers count from 1
+pub some-number : (w : World) (number : ℕ) (envelope : Envelope) → IsSentAs w number envelope → 1 ≤ number
+some-number w number envelope is = numbered-some w.sent number is.sent is.there
 
 up-addressee : (w : World) (number : ℕ) (sent : Sent) → numbered w.sent number ≡ Some sent → at_message built w number ≡ Ok tt → is_up_at w sent.envelope.to ≡ true
 up-addressee w number sent e clear = elim (cases_Bool (is_up_at w sent.envelope.to)) [

@@ -30,18 +30,31 @@ fn begun_tx(answer: &Option<Answer>) -> Option<TxId>
     }
 }
 
-// A transaction that was begun is counted.
+// A transaction is counted where the answer says that it was begun.
+fn count_transaction(
+    outcomes: &mut Outcomes,
+    transaction: &Transaction,
+    answer: &Option<Answer>,
+) -> Result<(), Memory>
+    ensures { (quorums : Sizes) (entries : List Entry) (a : ℕ) → OutcomesStand outcomes.old quorums entries
+        → OnOk result (OutcomesStand outcomes.new quorums (begun_entries a transaction.now (begun_tx answer.now) ++ entries)) }
+{
+    if let Some(tx) = begun_tx(answer) {
+        outcomes.begin(tx, transaction.choices(tx).as_slice())?;
+    }
+    Ok(())
+}
+
+// The transaction that an input begins is counted.
 fn count(outcomes: &mut Outcomes, input: &Input, answer: &Option<Answer>) -> Result<(), Memory>
     ensures { (quorums : Sizes) (entries : List Entry) (a : ℕ) (parts : List APart) → input.now ≡ AInput.Begin parts
         → OutcomesStand outcomes.old quorums entries
         → OnOk result (OutcomesStand outcomes.new quorums (begun_entries a parts (begun_tx answer.now) ++ entries)) }
 {
-    if let Input::Begin(transaction) = input {
-        if let Some(tx) = begun_tx(answer) {
-            outcomes.begin(tx, transaction.choices(tx).as_slice())?;
-        }
+    match input {
+        Input::Begin(transaction) => count_transaction(outcomes, transaction, answer),
+        _ => Ok(()),
     }
-    Ok(())
 }
 
 impl World {

@@ -5,7 +5,7 @@ use Rattle.mdcc_built.specs.Built.{built}
 use Rattle.mdcc_simulation.specs.Stepping.{input_happened, step_at}
 use Rattle.mdcc_simulation.specs.State.{is_up_at}
 use Rattle.mdcc_rules.specs.declared.node.Input.{Input}
-use Rattle.mdcc_world.proofs.Delivered.{counted-nodes, counted-world, message-made, sent-formed, some-sent}
+use Rattle.mdcc_world.proofs.Delivered.{counted-nodes, counted-world, message-made, sent-formed, some-number, some-sent}
 use Rattle.mdcc_world.specs.Nodes.{NodesStand}
 use Rattle.mdcc_worlds.specs.Delivering.{message_counted}
 use Rattle.mdcc_world.proofs.world.World.message_made.Goals as goal
@@ -17,6 +17,14 @@ step-requires-clause-formed c =
     let envelope = c.in-Some.envelope in
     let is = some-sent w c.args.number envelope c.args.self.now.mail like.records.mail (c.requires.clear w like) (sym c.in-Some.is ∙ c.in_ok-envelope.ensures) in
     sent-formed c.args.self.now w c.args.number envelope like is
+
+pub deliver-requires : goal.deliver-requires
+deliver-requires c =
+    let w = c.requires.like.0 in
+    let like = c.requires.like.1 in
+    let envelope = c.in-Some.envelope in
+    let is = some-sent w c.args.number envelope c.args.self.now.mail like.records.mail (c.requires.clear w like) (sym c.in-Some.is ∙ c.in_ok-envelope.ensures) in
+    some-number w c.args.number envelope is
 
 pub returns-clause-made : goal.returns-clause-made
 returns-clause-made c w like =

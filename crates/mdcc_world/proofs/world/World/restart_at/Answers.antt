@@ -27,12 +27,12 @@ returns-in_ok-push-in-Node-clause-happens c w like =
     let cluster : IsCluster world.cluster = rw like.records.cluster like.records.itself.cluster_itself in
     let started : HasStarted c.in-Node.node c.in-Node.epoch c.restart.new.self world.cluster w.cluster.quorums.centres a (facts_of w.ledger) =
     subst (λ (s : Started). Starts (Ok s) c.restart.new.self world.cluster w.cluster.quorums.centres a (facts_of w.ledger)) c.in-Node.is
-    (c.in_ok-restart.ensures.started w.cluster.quorums.centres (facts_of w.ledger) like.logs logged cluster (more-epochs w a like.records.itself centre early)) in
+    (c.in_ok-node.ensures.started w.cluster.quorums.centres (facts_of w.ledger) like.logs logged cluster (more-epochs w a like.records.itself centre early)) in
     let node : IsNodeOf c.in-Node.node w.cluster a (Fact.Booted c.in-Node.epoch ∷ facts_of w.ledger a) nothing_kept = rw (← like.records.cluster) started.node_of in
     let rest = c.rise.ensures.rest
     ∙ ap (λ (ups : List Bool). record world { nodes = c.rise.new.self.nodes; up = ups; logs = c.restart.new.self; events = world.events + 1 }) c.rise.ensures.up in
     has-restarted world c.rise.new.self c.restart.new.self w a c.in-Node.epoch c.in-Node.node c.args.lines.now c.push.new.self like centre early
-    (omega arith) (omega arith) rest c.rise.ensures.nodes started.next node started.stand started.room c.in_ok-push.ensures.ok
+    (omega arith) (omega arith) rest c.rise.ensures.nodes started.next node started.stand started.room c.in_ok-push-in-Node.ensures.ok
 
 pub returns-in-Full-clause-happens : goal.returns-in-Full-clause-happens
 returns-in-Full-clause-happens c w like =
@@ -45,4 +45,4 @@ returns-in-Full-clause-happens c w like =
     let cluster : IsCluster world.cluster = rw like.records.cluster like.records.itself.cluster_itself in
     restart-limit w a
     (subst (λ (s : Started). Starts (Ok s) c.restart.new.self world.cluster w.cluster.quorums.centres a (facts_of w.ledger)) c.in-Full.is
-    (c.in_ok-restart.ensures.started w.cluster.quorums.centres (facts_of w.ledger) like.logs logged cluster (more-epochs w a like.records.itself centre early)))
+    (c.in_ok-node.ensures.started w.cluster.quorums.centres (facts_of w.ledger) like.logs logged cluster (more-epochs w a like.records.itself centre early)))

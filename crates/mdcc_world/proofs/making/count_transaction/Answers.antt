@@ -2,7 +2,7 @@ use Rattle.std.proofs.Common.{Option, ◌++◌, subst}
 use Rattle.mdcc_base.specs.declared.identifiers.TxId.{TxId}
 use Rattle.mdcc_outcomes.specs.Stands.{Stands as OutcomesStand}
 use Rattle.mdcc_world.specs.Telling.{begun_entries}
-use Rattle.mdcc_world.proofs.making.count.Goals as goal
+use Rattle.mdcc_world.proofs.making.count_transaction.Goals as goal
 
 pub returns-in_ok-begin : goal.returns-in_ok-begin
 returns-in_ok-begin c quorums entries a stands =
