@@ -1,9 +1,9 @@
 //! What a client is answered that begins a transaction.
 use crate::bytes::{INSERT, TX, is_sent};
-use crate::nodes::{add, begin, deliver, insert, key, one_of_five, transaction};
+use crate::nodes::{add, begin, deliver, insert, key, one_of_five};
 use mdcc_base::{Key, Plain};
 use mdcc_facts::ListFacts;
-use mdcc_node::{Answer, Input, Node, Step};
+use mdcc_node::{Answer, Node, Step};
 use mdcc_option::BeginFault;
 use std::alloc::Global;
 use std::test::*;
@@ -57,12 +57,12 @@ fn each_key_is_proposed_to_all_centres(rt: HostRuntime) -> Result<(), Fail> {
 #[test]
 fn the_257th_open_transaction_is_refused(rt: HostRuntime) -> Result<(), Fail> {
     let mut node = one_of_five(rt.alloc(), 1)?;
-    let inserts = Input::Begin(transaction(&[insert(b'b', 2), insert(b'a', 1)])?);
+    let inserts = [insert(b'b', 2), insert(b'a', 1)];
     for _ in 0..256 {
-        let step = node.step(&inserts)?;
+        let step = begin(&mut node, &inserts)?;
         assert!(rt; matches!(step.answer, Some(Answer::Begun(_))));
     }
-    let step = node.step(&inserts)?;
+    let step = begin(&mut node, &inserts)?;
     assert!(rt; step.sends.is_empty());
     assert_eq!(rt; refused(&step), Some((key(b'a'), BeginFault::Busy)));
     Ok(())

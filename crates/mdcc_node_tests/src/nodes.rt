@@ -4,7 +4,7 @@ use mdcc_base::{BoundedList, Centre, Key, Quorums};
 use mdcc_facts::ListFacts;
 use mdcc_messages::Fact;
 use mdcc_node::{Answer, Input, Node, Step, StepFault};
-use mdcc_option::{Cluster, Item, Part, Schema, Transaction, Update};
+use mdcc_option::{Cluster, FastLimit, Item, Part, Schema, Transaction, Update};
 use mdcc_protocol::Reading;
 use std::alloc::Global;
 use std::test::Fail;
@@ -100,7 +100,8 @@ pub fn begin(node: &mut Node<ListFacts>, parts: &[Part]) -> Result<Step, Fail> {
 
 /// What a node shows a client of a key.
 pub fn read(node: &mut Node<ListFacts>, key: Key) -> Result<Reading, Fail> {
-    match node.step(&Input::Read(key))?.answer {
+    let Step { answer, .. } = node.step(&Input::Read(key))?;
+    match answer {
         Some(Answer::Read(reading)) => Ok(reading),
         _ => Err("no reading".into()),
     }

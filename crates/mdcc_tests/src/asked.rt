@@ -115,11 +115,12 @@ fn outcomes_end_transactions(rt: HostRuntime) -> Result<(), Fail> {
     assert_eq!(rt; store.write_set(tx(1)), None);
     assert_eq!(rt; store.write_set(tx(2)), Some(second.write_set.copy()));
     assert_eq!(rt; store.write_set(tx(4)), None);
-    let both = [(tx(2), second), (tx(3), third.copy())];
-    assert_eq!(rt;
-        store.unresolved_all(rt.alloc())?.as_slice(),
-        both.as_slice()
-    );
+    let all = store.unresolved_all(rt.alloc())?;
+    let both = [
+        (tx(2), second.write_set.copy()),
+        (tx(3), third.write_set.copy()),
+    ];
+    assert_eq!(rt; all.as_slice(), both.as_slice());
 
     let aborted = Fact::Heard {
         tx: tx(2),
@@ -129,11 +130,9 @@ fn outcomes_end_transactions(rt: HostRuntime) -> Result<(), Fail> {
     assert!(rt; store.is_heard(tx(2)));
     assert_eq!(rt; store.ended(tx(2)), Some(false));
     assert_eq!(rt; store.write_set(tx(2)), None);
-    let left = [(tx(3), third)];
-    assert_eq!(rt;
-        store.unresolved_all(rt.alloc())?.as_slice(),
-        left.as_slice()
-    );
+    let all = store.unresolved_all(rt.alloc())?;
+    let left = [(tx(3), third.write_set.copy())];
+    assert_eq!(rt; all.as_slice(), left.as_slice());
     Ok(())
 }
 
