@@ -1,5 +1,5 @@
 //! What a leader of classic ballots is told, and answers.
-use mdcc_base::{Ballot, Key};
+use mdcc_base::{Ballot, Key, Memory};
 use mdcc_struct::Options;
 
 /// What a leader does for a claim.
@@ -32,6 +32,17 @@ pub enum LeadFault {
     Crowded,
     /// There was no memory, and the leader is as before.
     Memory,
+}
+
+impl From<Memory> for LeadFault {
+    ghost use Rattle.std.specs.Prelude.{◌≡◌};
+    ghost use Rattle.mdcc_protocol.specs.declared.leader.LeadFault.TheVariants.{Memory};
+
+    ghost from_gives = { λ _ e. e ≡ Memory };
+
+    fn from(_: Memory) -> LeadFault {
+        LeadFault::Memory
+    }
 }
 
 /// A centre's promise to a leader, and what the centre voted in the instance before: the votes at

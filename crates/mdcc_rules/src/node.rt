@@ -2,7 +2,7 @@
 use mdcc_base::{HeapList, Key, Memory, TxId};
 use mdcc_messages::{Envelope, Fact};
 use mdcc_option::{BeginFault, Transaction};
-use mdcc_protocol::{Reading, StoreFault};
+use mdcc_protocol::{LeadFault, Reading, StoreFault};
 use std::alloc::AllocError;
 
 /// What a node is given.
@@ -67,6 +67,21 @@ impl From<StoreFault> for StepFault {
             StoreFault::NoRoom { needed, spare } => StepFault::NoRoom { needed, spare },
             StoreFault::Crowded => StepFault::Crowded,
             StoreFault::Memory => StepFault::Memory,
+        }
+    }
+}
+
+impl From<LeadFault> for StepFault {
+    ghost use Rattle.std.specs.Prelude.{◌≡◌};
+    ghost use Rattle.mdcc_rules.specs.LeaderRules.{step_fault};
+
+    ghost from_gives = { λ fault e. e ≡ step_fault fault };
+
+    fn from(fault: LeadFault) -> StepFault {
+        match fault {
+            LeadFault::Exhausted => StepFault::Exhausted,
+            LeadFault::Crowded => StepFault::Crowded,
+            LeadFault::Memory => StepFault::Memory,
         }
     }
 }
