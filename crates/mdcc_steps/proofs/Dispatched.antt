@@ -1,5 +1,5 @@
 -- Each step of a node is well-formed.
-use Rattle.std.proofs.Common.{◌≡◌, ℕ, ◌==◌, ◌&&◌, ◌≤◌, Bool, true, false, List, refl, Option, Some, None, Result, Ok, Err, not}
+use Rattle.std.proofs.Common.{◌≡◌, ℕ, ◌==◌, ◌&&◌, ◌<◌, ◌^◌, Bool, true, false, List, refl, Option, Some, None, Result, Ok, Err, not}
 use Rattle.std.specs.Int.{IsInRange}
 use Rattle.std.specs.List.{AllByRecursion}
 use Rattle.std.proofs.lemmas.Bool.{and_from, and_parts, cond_both}
@@ -20,7 +20,8 @@ use Rattle.mdcc_protocol.specs.Belongs.{is_centre, message_belongs}
 use Rattle.mdcc_switches.specs.Built.{Built}
 use Rattle.mdcc_protocol.specs.Facts.{heard_of, is_heard, vote_of}
 use Rattle.mdcc_rules.specs.LeaderRules.{promise_step}
-use Rattle.mdcc_messages.specs.Lengths.{cells_used}
+use Rattle.mdcc_base.specs.Counts.{sum_over}
+use Rattle.mdcc_messages.specs.Lengths.{fact_length}
 use Rattle.mdcc_protocol.specs.Manager.{begin_fault}
 use Rattle.mdcc_rules.specs.ManagerRules.{begin_step}
 use Rattle.mdcc_protocol.specs.News.{is_news}
@@ -44,13 +45,13 @@ use Rattle.mdcc_steps.specs.Inputs.{AreWellFormedParts, IsWellFormedInput}
 use Rattle.mdcc_steps.specs.Keeping.{AreNodeFacts, IsWellFormedLead, IsWellFormedOpen, IsWellFormedVolatile, IsWellFormedVoteKept}
 use Rattle.mdcc_steps.proofs.Allowing.{OnStep, on_checked, on_rule}
 use Rattle.mdcc_steps.proofs.Counted.{HoldsOfInput, HoldsOfVote, votes-step}
-use Rattle.mdcc_steps.proofs.Each.{each-kept}
+use Rattle.mdcc_steps.proofs.Each.{each-kept, each-weaker}
 use Rattle.mdcc_steps.proofs.Formed.{IsFormed, IsFormedKept, begin-formed, escalate-formed, nothing-formed, voted-formed}
 use Rattle.mdcc_steps.proofs.Held.{HoldsIn, holds-at}
 use Rattle.mdcc_steps.proofs.Led.{lead-step-formed, led-here, promise-step-formed, refused-step-formed}
 use Rattle.mdcc_steps.proofs.Promising.{accept-formed, prepare-formed, prepare-kept}
 use Rattle.mdcc_steps.proofs.Proposed.{IsFormedAnswer, formed-answer, proposed-fact, proposed-sent}
-use Rattle.mdcc_steps.proofs.Sending.{centre-range, sent-give, sent-one}
+use Rattle.mdcc_steps.proofs.Sending.{HasRoomIn, IsGoodSent, centre-range, sent-give, sent-one}
 use Rattle.mdcc_steps.proofs.Stepping.{booted-more, made-allowed, on_made, some_epoch, votes-stay}
 use Rattle.mdcc_steps.proofs.Ticked.{formed-tick}
 use Rattle.mdcc_steps.proofs.Told.{IsWellFormedVoteAt, heard-told, vote-told}
@@ -82,7 +83,7 @@ module _ (built : Built) (cluster : Cluster) (me : ℕ) (facts : List Fact) (vol
 
   -- where promises are built, a report has fewer than 2^32 marks, since the facts lie in the cells that a node may have
   abbrev HasRoom : Type 0
-  HasRoom = built.leading ≡ true → cells_used facts ≤ 4194304
+  HasRoom = built.leading ≡ true → sum_over fact_length facts < 2 ^ 32
 
   abbrev HasRoomFor : Message → Type 0
   HasRoomFor (Message.Prepare key version through ballot) = HasRoom
@@ -112,9 +113,9 @@ module _ (built : Built) (cluster : Cluster) (me : ℕ) (facts : List Fact) (vol
     where
       by_answer : (o : Option Outcome) → HoldsIn (IsWellFormedHeard tx) o → (vote : Option (Ballot × Mark)) → HoldsIn (IsWellFormedVoteAt key version tx) vote
           → IsFormed (ask_step_by me volatile s tx key version o vote)
-      by_answer (Some outcome) a vote b = (tt, sent-one me s (Message.Outcome tx outcome) of_me h a, kept.opened, kept.leads)
+      by_answer (Some outcome) a vote b = (tt, sent-one me s (Message.Outcome tx outcome) tt of_me h a, kept.opened, kept.leads)
       by_answer None a (Some vote) b =
-          (tt, sent-one me s (Message.Voted key version vote.0 tx vote.1) of_me h (record { instance = w; ballot_itself = b.0; entry = b.1 }), kept.opened, kept.leads)
+          (tt, sent-one me s (Message.Voted key version vote.0 tx vote.1) tt of_me h (record { instance = w; ballot_itself = b.0; entry = b.1 }), kept.opened, kept.leads)
       by_answer None a None b = nothing
 
   formed-message : (s : ℕ) (message : Message) → IsInRange 1 9 s → IsWellFormedMessage message → HasRoomFor message → OnStep IsFormed (message_step built cluster me facts volatile s message)
@@ -253,9 +254,15 @@ module _ (built : Built) (cluster : Cluster) (me : ℕ) (facts : List Fact) (vol
   pub fact-formed : (fact : Fact) → step.fact ≡ Some fact → IsWellFormedFact fact
   fact-formed fact is = holds-at IsWellFormedFact step.fact fact kept.0 is
 
-  pub sends-formed : (built.leading ≡ true → cells_used facts ≤ 4194304) → AllByRecursion IsWellFormedEnvelope step.sends
-  sends-formed room =
+  pub sends-good : (built.leading ≡ true → sum_over fact_length facts < 2 ^ 32) → AllByRecursion IsGoodSent step.sends
+  sends-good room =
       (on_made IsFormed _ step (formed-step built cluster me facts volatile node.cluster_itself.quorums of_me node.facts_themselves node.volatile_itself input w room) made).1
+
+  pub sends-formed : (built.leading ≡ true → sum_over fact_length facts < 2 ^ 32) → AllByRecursion IsWellFormedEnvelope step.sends
+  sends-formed room = each-weaker IsGoodSent IsWellFormedEnvelope step.sends (λ e h. h.0) (sends-good room)
+
+  pub sends-roomy : (built.leading ≡ true → sum_over fact_length facts < 2 ^ 32) → AllByRecursion (λ e. HasRoomIn e.message) step.sends
+  sends-roomy room = each-weaker IsGoodSent (λ e. HasRoomIn e.message) step.sends (λ e h. h.1) (sends-good room)
 
   facts-stay : (o : Option Fact) → step.fact ≡ o → AreNodeFacts cluster (with_new facts o)
   facts-stay None e = node.facts_themselves

@@ -27,7 +27,7 @@ use Rattle.mdcc_rules.specs.Messages.{to_all}
 use Rattle.mdcc_protocol.specs.Recover
 use Rattle.mdcc_rules.specs.Steps.{NodeStep, nothing_done}
 use Rattle.mdcc_protocol.specs.Volatile.{Managing, Undecided, Volatile, has_key, is_open, opened_of, with_manager}
-use Rattle.mdcc_messages.specs.WellFormed.{IsWellFormedEnvelope, IsWellFormedFact}
+use Rattle.mdcc_messages.specs.WellFormed.{IsWellFormedFact}
 use Rattle.mdcc_messages.specs.WellFormedParts.{IsWellFormedCause, IsWellFormedChoice, IsWellFormedHeard, IsWellFormedOf, IsWellFormedTx}
 use Rattle.mdcc_messages.specs.declared.facts.Fact.{Fact}
 use Rattle.mdcc_protocol.specs.declared.manager.ManagerAct.{ManagerAct}
@@ -41,12 +41,12 @@ use Rattle.mdcc_steps.proofs.Held.{HoldsIn, holds-then}
 use Rattle.mdcc_steps.proofs.Opened.{choices-formed, epoch-fits, opened-changed}
 use Rattle.mdcc_steps.proofs.Outcomes.{entry-tx, formed-open, formed-watched}
 use Rattle.mdcc_steps.proofs.Proposed.{holds-find}
-use Rattle.mdcc_steps.proofs.Sending.{each-flat_map, home-range, sent-all, sent-give, sent-one, sent-others}
+use Rattle.mdcc_steps.proofs.Sending.{IsGoodSent, each-flat_map, home-range, sent-all, sent-give, sent-one, sent-others}
 
 -- the new fact, the messages, the open transactions and the leads that a step leaves
 abbrev pub IsFormed : NodeStep → Type 0
 IsFormed step =
-    HoldsIn IsWellFormedFact step.fact × AllByRecursion IsWellFormedEnvelope step.sends
+    HoldsIn IsWellFormedFact step.fact × AllByRecursion IsGoodSent step.sends
     × AllByRecursion IsWellFormedOpen step.after.manager.opened × AllByRecursion IsWellFormedLead step.after.leader.leads
 
 -- the same but for the messages
@@ -96,7 +96,7 @@ module _ (cluster : Cluster) (me : ℕ) (facts : List Fact) (volatile : Volatile
   acted-formed manager None h k = (tt, tt, h, kept.leads)
   acted-formed manager (Some (ManagerAct.Lead leader choice)) h k = (
     tt,
-    sent-one me leader (Message.Lead choice) of_me k.0 k.1,
+    sent-one me leader (Message.Lead choice) tt of_me k.0 k.1,
     opened-changed (λ t. tx_eq t.tx choice.tx) (λ t. record t { led = choice.key ∷ t.led }) manager.opened (λ t w. w) h,
     kept.leads,
   )
@@ -125,7 +125,7 @@ module _ (cluster : Cluster) (me : ℕ) (facts : List Fact) (volatile : Volatile
 
   decided-formed : (tx : TxId) (outcome : Outcome) → IsWellFormedHeard tx outcome → IsFormed (decided_step cluster me volatile tx outcome)
   decided-formed tx outcome w =
-      (w, sent-others cluster.quorums me (Message.Outcome tx outcome) sizes of_me w, each-kept IsWellFormedOpen (λ t. not (tx_eq t.tx tx)) volatile.manager.opened kept.opened, kept.leads)
+      (w, sent-others cluster.quorums me (Message.Outcome tx outcome) tt sizes of_me w, each-kept IsWellFormedOpen (λ t. not (tx_eq t.tx tx)) volatile.manager.opened kept.opened, kept.leads)
 
   taken-opened : (vote : Vote) → AllByRecursion IsWellFormedOpen (vote_taken cluster.quorums volatile.manager vote).opened
   taken-opened vote =
@@ -179,8 +179,8 @@ module _ (cluster : Cluster) (me : ℕ) (facts : List Fact) (volatile : Volatile
       let of_tx : IsWellFormedTx tx = begun-tx cluster me facts volatile of_me known parts e in
       let commit = choices-formed tx parts of_tx w in (
         tt,
-        each-flat_map (IsWellFormedOf tx) IsWellFormedEnvelope (λ choice. to_all cluster.quorums me (Message.Propose choice)) (choices_of tx parts)
-            (λ choice h. sent-all cluster.quorums me (Message.Propose choice) sizes of_me h.choice_itself) commit.each,
+        each-flat_map (IsWellFormedOf tx) IsGoodSent (λ choice. to_all cluster.quorums me (Message.Propose choice)) (choices_of tx parts)
+            (λ choice h. sent-all cluster.quorums me (Message.Propose choice) tt sizes of_me h.choice_itself) commit.each,
         each-append IsWellFormedOpen volatile.manager.opened (record { tx = tx; choices = choices_of tx parts; led = []; ticks = 0 } ∷ []) kept.opened (commit, tt),
         kept.leads,
       )

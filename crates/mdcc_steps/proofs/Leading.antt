@@ -1,5 +1,5 @@
 -- What a leader answers to a claim, a promise or a refusal, and what it keeps, is well-formed.
-use Rattle.std.proofs.Common.{◌≡◌, ℕ, ◌-◌, ◌^◌, ◌==◌, ◌<◌, ◌≤◌, Bool, true, cond, List, [], ◌∷◌, length, refl, sym, subst, Option, Some, None, Result, Ok, Err, is_some, find, not, nat_le, nat_lt, arith}
+use Rattle.std.proofs.Common.{◌≡◌, ℕ, ◌-◌, ◌^◌, ◌==◌, ◌<◌, ◌≤◌, Bool, false, true, cond, List, [], ◌∷◌, length, refl, sym, subst, Option, Some, None, Result, Ok, Err, is_some, find, not, nat_le, nat_lt, arith}
 use Rattle.std.specs.Int.{IsInRange}
 use Rattle.std.specs.List.{AllByRecursion, list_any}
 use Rattle.std.specs.Prelude.{unwrap_or}
@@ -75,7 +75,7 @@ structure-here key structures version fits h = by_found (structure_found structu
 -- ---- claims
 
 abbrev pub IsFormedLeadAnswer : Key → LeadAnswer → Type 0
-IsFormedLeadAnswer key (LeadAnswer.Accept version ballot options) = IsWellFormedInstance key version × IsWellFormedClassic ballot × IsWellFormedOptions key version options
+IsFormedLeadAnswer key (LeadAnswer.Accept version ballot options) = IsWellFormedInstance key version × IsWellFormedClassic ballot × IsWellFormedOptions key version options × (is_crowded options ≡ false)
 IsFormedLeadAnswer key (LeadAnswer.Prepare version through ballot) = IsWellFormedPrepare key version through ballot
 IsFormedLeadAnswer key _ = Unit {0}
 
@@ -151,9 +151,9 @@ module _ (cluster : Cluster) (me : ℕ) (epoch : ℕ) (facts : List Fact) (leade
       }) in
       cond_both (is_some (value_of last claim.tx)) (LeadAnswer.Accept claim.version old.ballot last, leader)
       (cond (is_some (value_of options claim.tx)) (LeadAnswer.Accept claim.version old.ballot options, with_more) (LeadAnswer.Left, leader)) (IsFormedLed claim.key)
-      (λ e. ((w.0, h.0.classic, subst (λ k. IsWellFormedOptions k claim.version last) same made.options_itself), leads))
+      (λ e. ((w.0, h.0.classic, subst (λ k. IsWellFormedOptions k claim.version last) same made.options_itself, made.room), leads))
       (λ e. cond_both (is_some (value_of options claim.tx)) (LeadAnswer.Accept claim.version old.ballot options, with_more) (LeadAnswer.Left, leader) (IsFormedLed claim.key)
-      (λ f. ((w.0, h.0.classic, subst (λ k. IsWellFormedOptions k claim.version options) same more.options_itself), kept)) (λ f. (tt, leads)))
+      (λ f. ((w.0, h.0.classic, subst (λ k. IsWellFormedOptions k claim.version options) same more.options_itself, more.room), kept)) (λ f. (tt, leads)))
 
   led-by : (o : Option Lead) → HoldsIn (IsLeadOf claim.key) o → OnOkOf (IsFormedLed claim.key) (led_by cluster me epoch facts leader claim o)
   led-by None h = led-anew
@@ -172,7 +172,7 @@ module _ (cluster : Cluster) (me : ℕ) (epoch : ℕ) (facts : List Fact) (leade
 -- ---- promises
 
 abbrev pub IsFormedPromiseAnswer : Key → PromiseAnswer → Type 0
-IsFormedPromiseAnswer key (PromiseAnswer.Accept version ballot options) = IsWellFormedInstance key version × IsWellFormedClassic ballot × IsWellFormedOptions key version options
+IsFormedPromiseAnswer key (PromiseAnswer.Accept version ballot options) = IsWellFormedInstance key version × IsWellFormedClassic ballot × IsWellFormedOptions key version options × (is_crowded options ≡ false)
 IsFormedPromiseAnswer key _ = Unit {0}
 
 abbrev pub IsFormedTaken : Key → PromiseAnswer × Leading → Type 0
@@ -196,6 +196,7 @@ made-formed cluster facts leader key old leads h =
         subst (λ k. IsWellFormedInstance k old.version) same h.0.instance,
         h.0.classic,
         subst (λ k. IsWellFormedOptions k old.version options) same made.options_itself,
+        made.room,
       ),
       leads-with leader after leads (record {
         instance = h.0.instance;

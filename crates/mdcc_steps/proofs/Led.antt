@@ -17,7 +17,6 @@ use Rattle.mdcc_rules.specs.LeaderRules.{lead_sent, lead_step, lead_step_after, 
 use Rattle.mdcc_rules.specs.TickRules.{claim_led, led_or_left}
 use Rattle.mdcc_rules.specs.Steps.{StepPart, only_sending}
 use Rattle.mdcc_protocol.specs.Volatile.{Leading, Volatile, with_leader}
-use Rattle.mdcc_messages.specs.WellFormed.{IsWellFormedEnvelope}
 use Rattle.mdcc_messages.specs.WellFormedParts.{IsWellFormedChoice, IsWellFormedHeard}
 use Rattle.mdcc_messages.specs.declared.facts.Fact.{Fact}
 use Rattle.mdcc_protocol.specs.declared.leader.LeadAnswer.{LeadAnswer}
@@ -32,16 +31,16 @@ use Rattle.mdcc_steps.proofs.Formed.{IsFormed}
 use Rattle.mdcc_steps.proofs.Held.{HoldsIn}
 use Rattle.mdcc_steps.proofs.Leading.{AreLeads, IsFormedLeadAnswer, IsFormedLed, IsFormedPromise, IsFormedPromiseAnswer, IsFormedTaken, OnOkOf, led-formed, promised-formed, refused-leads}
 use Rattle.mdcc_steps.proofs.Opened.{epoch-fits}
-use Rattle.mdcc_steps.proofs.Sending.{sent-all, sent-one, sent-others}
+use Rattle.mdcc_steps.proofs.Sending.{IsGoodSent, sent-all, sent-one, sent-others}
 use Rattle.mdcc_steps.proofs.Ticked.{IsFormedTicked}
 use Rattle.mdcc_steps.proofs.Told.{heard-told}
 
 module _ (cluster : Cluster) (me : ℕ) (facts : List Fact) (sizes : AreQuorums cluster.quorums) (of_me : IsInRange 1 9 me) (known : AreNodeFacts cluster facts) where
-  sent-lead : (claim : Claim) (answer : LeadAnswer) → IsFormedClaim claim → IsFormedLeadAnswer claim.key answer → AllByRecursion IsWellFormedEnvelope (lead_sent cluster.quorums me claim answer)
-  sent-lead claim LeadAnswer.Behind w h = sent-others cluster.quorums me (Message.SyncAsk claim.key) sizes of_me w.0.key_itself
+  sent-lead : (claim : Claim) (answer : LeadAnswer) → IsFormedClaim claim → IsFormedLeadAnswer claim.key answer → AllByRecursion IsGoodSent (lead_sent cluster.quorums me claim answer)
+  sent-lead claim LeadAnswer.Behind w h = sent-others cluster.quorums me (Message.SyncAsk claim.key) tt sizes of_me w.0.key_itself
   sent-lead claim (LeadAnswer.Accept version ballot options) w h =
-      sent-all cluster.quorums me (Message.Accept claim.key version ballot options) sizes of_me (record { instance = h.0; classic = h.1; options_itself = h.2 })
-  sent-lead claim (LeadAnswer.Prepare version through ballot) w h = sent-all cluster.quorums me (Message.Prepare claim.key version through ballot) sizes of_me h
+      sent-all cluster.quorums me (Message.Accept claim.key version ballot options) h.3 sizes of_me (record { instance = h.0; classic = h.1; options_itself = h.2 })
+  sent-lead claim (LeadAnswer.Prepare version through ballot) w h = sent-all cluster.quorums me (Message.Prepare claim.key version through ballot) tt sizes of_me h
   sent-lead claim LeadAnswer.Left w h = tt
 
   leads-kept : (volatile : Volatile) (leader : Leading) → IsWellFormedVolatile volatile → AreLeads leader → IsWellFormedVolatile (with_leader volatile leader)
@@ -80,16 +79,16 @@ module _ (cluster : Cluster) (me : ℕ) (facts : List Fact) (sizes : AreQuorums 
 
     lead-by : (s : ℕ) (choice : Choice) (o : Option Outcome) → IsInRange 1 9 s → IsWellFormedChoice choice → HoldsIn (IsWellFormedHeard choice.tx) o
         → OnStep IsFormed (lead_step_after cluster me facts volatile s choice o)
-    lead-by s choice (Some outcome) of_s w h = (tt, sent-one me s (Message.Outcome choice.tx outcome) of_me of_s h, kept.opened, kept.leads)
+    lead-by s choice (Some outcome) of_s w h = (tt, sent-one me s (Message.Outcome choice.tx outcome) tt of_me of_s h, kept.opened, kept.leads)
     lead-by s choice None of_s w h =
         part-step (led_of cluster me facts volatile (claim_of_choice choice)) (claim-part volatile (claim_of_choice choice) kept (formed-choice choice w))
 
     pub lead-step-formed : (s : ℕ) (choice : Choice) → IsInRange 1 9 s → IsWellFormedChoice choice → OnStep IsFormed (lead_step cluster me facts volatile s choice)
     lead-step-formed s choice of_s w = lead-by s choice (heard_of facts choice.tx) of_s w (heard-told facts choice.tx known.well_formed)
 
-    sent-promised : (key : Key) (answer : PromiseAnswer) → IsFormedPromiseAnswer key answer → AllByRecursion IsWellFormedEnvelope (promise_sent cluster.quorums me key answer)
+    sent-promised : (key : Key) (answer : PromiseAnswer) → IsFormedPromiseAnswer key answer → AllByRecursion IsGoodSent (promise_sent cluster.quorums me key answer)
     sent-promised key (PromiseAnswer.Accept version ballot options) h =
-        sent-all cluster.quorums me (Message.Accept key version ballot options) sizes of_me (record { instance = h.0; classic = h.1; options_itself = h.2 })
+        sent-all cluster.quorums me (Message.Accept key version ballot options) h.3 sizes of_me (record { instance = h.0; classic = h.1; options_itself = h.2 })
     sent-promised key PromiseAnswer.Ignored h = tt
     sent-promised key (PromiseAnswer.Waiting n) h = tt
     sent-promised key PromiseAnswer.Counted h = tt

@@ -17,9 +17,10 @@ use Rattle.mdcc_protocol.specs.Acceptor.{answer_to_marks, new_marks, promise_ans
 use Rattle.mdcc_rules.specs.AcceptorRules.{accept_step, accepted_step, all_votes_sent, prepare_step, prepared_step, promise_message, votes_sent}
 use Rattle.mdcc_ledger.specs.BootTest.{are_allowed_facts, is_allowed_fact, is_allowed_kind}
 use Rattle.mdcc_protocol.specs.Facts.{ballot_voted, current_of, is_heard, last_ballot, promise_of, promised_through, range_promised, votes_of}
-use Rattle.mdcc_messages.specs.Lengths.{cells_used}
+use Rattle.mdcc_base.specs.Counts.{sum_over}
+use Rattle.mdcc_messages.specs.Lengths.{fact_length}
 use Rattle.mdcc_protocol.specs.Volatile.{Volatile}
-use Rattle.mdcc_messages.specs.WellFormed.{IsWellFormedEnvelope, IsWellFormedFact, IsWellFormedMessage}
+use Rattle.mdcc_messages.specs.WellFormed.{IsWellFormedFact, IsWellFormedMessage}
 use Rattle.mdcc_messages.specs.WellFormedParts.{IsWellFormedBallot, IsWellFormedClassic, IsWellFormedEntry, IsWellFormedInstance, IsWellFormedOptions, IsWellFormedTx}
 use Rattle.mdcc_protocol.specs.declared.acceptor.AcceptAnswer.{AcceptAnswer}
 use Rattle.mdcc_protocol.specs.declared.acceptor.PrepareAnswer.{PrepareAnswer}
@@ -32,7 +33,7 @@ use Rattle.mdcc_steps.proofs.Each.{each-kept}
 use Rattle.mdcc_steps.proofs.Formed.{IsFormed, IsFormedKept}
 use Rattle.mdcc_steps.proofs.Held.{HoldsIn, holds-or}
 use Rattle.mdcc_steps.proofs.Outcomes.{entry-tx}
-use Rattle.mdcc_steps.proofs.Sending.{each-flat_map, each-to, sent-one}
+use Rattle.mdcc_steps.proofs.Sending.{IsGoodSent, each-flat_map, each-to, sent-one}
 use Rattle.mdcc_steps.proofs.Told.{greater-ballot, marks-ascending, marks-told, promise-told}
 
 -- ---- the ballot that is reported
@@ -95,7 +96,7 @@ filter-few {X = X} test (x ∷ xs) =
 
 -- ---- promises
 
-module _ (cluster : Cluster) (me : ℕ) (facts : List Fact) (volatile : Volatile) (of_me : IsInRange 1 9 me) (known : AreNodeFacts cluster facts) (room : cells_used facts ≤ 4194304)
+module _ (cluster : Cluster) (me : ℕ) (facts : List Fact) (volatile : Volatile) (of_me : IsInRange 1 9 me) (known : AreNodeFacts cluster facts) (room : sum_over fact_length facts < 2 ^ 32)
     (kept : IsWellFormedVolatile volatile) where
   report-formed : (key : Key) (version : ℕ) (ballot : Ballot) → IsWellFormedOptions key version (votes_of facts key version ballot)
   report-formed key version ballot = record {
@@ -120,7 +121,7 @@ module _ (cluster : Cluster) (me : ℕ) (facts : List Fact) (volatile : Volatile
       (λ (answer : PrepareAnswer). IsFormed (prepared_step me facts volatile l key version ballot answer))
       (λ e. (
         tt,
-        sent-one me l (Message.Refused key version ballot (promise_of facts key version)) of_me of_l
+        sent-one me l (Message.Refused key version ballot (promise_of facts key version)) tt of_me of_l
             (record { instance = w; classic = c; promised_itself = promise-told facts key version known.well_formed }),
         kept.opened,
         kept.leads,
@@ -128,11 +129,11 @@ module _ (cluster : Cluster) (me : ℕ) (facts : List Fact) (volatile : Volatile
       (λ e. by_promise (promised_through facts key version ballot) (range-told cluster facts key version ballot known.well_formed known.allowed))
     where
       by_promise : (o : Option ℕ) → HoldsIn (IsRangeFrom version) o → IsFormed (prepared_step me facts volatile l key version ballot (promise_answer o (range_end facts key version through)))
-      by_promise (Some high) k = (tt, sent-one me l (promise_message facts key version high ballot) of_me of_l (promise-formed key version high ballot w k c), kept.opened, kept.leads)
+      by_promise (Some high) k = (tt, sent-one me l (promise_message facts key version high ballot) tt of_me of_l (promise-formed key version high ballot w k c), kept.opened, kept.leads)
       by_promise None k =
           let r = range-new facts key version through h w.version_fits in (
             record { instance = w; high_fits = r.1; ballot_itself = inr c },
-            sent-one me l (promise_message facts key version (range_end facts key version through) ballot) of_me of_l (promise-formed key version (range_end facts key version through) ballot w r c),
+            sent-one me l (promise_message facts key version (range_end facts key version through) ballot) tt of_me of_l (promise-formed key version (range_end facts key version through) ballot w r c),
             kept.opened,
             kept.leads,
           )
@@ -156,18 +157,18 @@ module _ (cluster : Cluster) (me : ℕ) (facts : List Fact) (volatile : Volatile
   -- ---- votes
 
   sent-mark : (key : Key) (version : ℕ) (ballot : Ballot) (e : TxId × Mark) → IsWellFormedInstance key version → IsWellFormedClassic ballot → IsWellFormedEntry key version e.0 e.1
-      → AllByRecursion IsWellFormedEnvelope (votes_sent me key version ballot e)
+      → AllByRecursion IsGoodSent (votes_sent me key version ballot e)
   sent-mark key version ballot (tx, mark) w c h =
       let of_tx : IsWellFormedTx tx = entry-tx key version tx mark h in
-      each-to (cond (tx.centre == ballot.centre) (tx.centre ∷ []) (tx.centre ∷ ballot.centre ∷ [])) me (Message.Voted key version ballot tx mark)
+      each-to (cond (tx.centre == ballot.centre) (tx.centre ∷ []) (tx.centre ∷ ballot.centre ∷ [])) me (Message.Voted key version ballot tx mark) tt
       (cond_both (tx.centre == ballot.centre) (tx.centre ∷ []) (tx.centre ∷ ballot.centre ∷ []) (λ (centres : List ℕ). AllByRecursion (IsInRange 1 9) centres)
       (λ e. (of_tx.centre, tt)) (λ e. (of_tx.centre, (c.centre, tt))))
       of_me (record { instance = w; ballot_itself = inr c; entry = h })
 
   sent-marks : (key : Key) (version : ℕ) (ballot : Ballot) (options : Options) → IsWellFormedInstance key version → IsWellFormedClassic ballot
-      → AllByRecursion (λ e. IsWellFormedEntry key version e.0 e.1) options → AllByRecursion IsWellFormedEnvelope (all_votes_sent me facts key version ballot options)
+      → AllByRecursion (λ e. IsWellFormedEntry key version e.0 e.1) options → AllByRecursion IsGoodSent (all_votes_sent me facts key version ballot options)
   sent-marks key version ballot options w c h =
-      each-flat_map (λ (e : TxId × Mark). IsWellFormedEntry key version e.0 e.1) IsWellFormedEnvelope (votes_sent me key version ballot) (filter (λ e. not (is_heard facts e.0)) options)
+      each-flat_map (λ (e : TxId × Mark). IsWellFormedEntry key version e.0 e.1) IsGoodSent (votes_sent me key version ballot) (filter (λ e. not (is_heard facts e.0)) options)
       (λ e k. sent-mark key version ballot e w c k) (each-kept (λ (e : TxId × Mark). IsWellFormedEntry key version e.0 e.1) (λ e. not (is_heard facts e.0)) options h)
 
   abbrev is_new : Key → ℕ → Ballot → TxId × Mark → Bool
@@ -187,14 +188,14 @@ module _ (cluster : Cluster) (me : ℕ) (facts : List Fact) (volatile : Volatile
       (λ (answer : AcceptAnswer). IsFormed (accepted_step me facts volatile l key version ballot options answer))
       (λ e. (
         tt,
-        sent-one me l (Message.Refused key version ballot (promise_of facts key version)) of_me of_l
+        sent-one me l (Message.Refused key version ballot (promise_of facts key version)) tt of_me of_l
             (record { instance = w; classic = c; promised_itself = promise-told facts key version known.well_formed }),
         kept.opened,
         kept.leads,
       ))
       (λ e. cond_both (nat_lt (current_of facts key) version) (AcceptAnswer.Behind (current_of facts key)) (answer_to_marks (new_marks facts key version ballot options))
       (λ (answer : AcceptAnswer). IsFormed (accepted_step me facts volatile l key version ballot options answer))
-      (λ f. (tt, sent-one me l (Message.SyncAsk key) of_me of_l w.key_itself, kept.opened, kept.leads))
+      (λ f. (tt, sent-one me l (Message.SyncAsk key) tt of_me of_l w.key_itself, kept.opened, kept.leads))
       (λ f. by_marks (new_marks facts key version ballot options)))
     where
       by_marks : (marks : Options) → IsFormed (accepted_step me facts volatile l key version ballot options (answer_to_marks marks))

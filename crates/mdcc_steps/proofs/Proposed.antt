@@ -21,7 +21,7 @@ use Rattle.mdcc_protocol.specs.Fit.{Quantity, exact_fit, first_number, fit_in_ro
 use Rattle.mdcc_protocol.specs.Marks.{Amounts, seen_in}
 use Rattle.mdcc_protocol.specs.Structures.{accept_room, reject_room}
 use Rattle.mdcc_protocol.specs.Volatile.{Volatile}
-use Rattle.mdcc_messages.specs.WellFormed.{IsWellFormedEnvelope, IsWellFormedFact}
+use Rattle.mdcc_messages.specs.WellFormed.{IsWellFormedFact}
 use Rattle.mdcc_messages.specs.WellFormedParts.{IsWellFormedAmount, IsWellFormedBallot, IsWellFormedCause, IsWellFormedChoice, IsWellFormedClassic, IsWellFormedEntry, IsWellFormedHeard, IsWellFormedInstance, IsWellFormedUpdate}
 use Rattle.mdcc_protocol.specs.declared.acceptor.ProposeAnswer.{ProposeAnswer}
 use Rattle.mdcc_messages.specs.declared.facts.Fact.{Fact}
@@ -30,7 +30,7 @@ use Rattle.mdcc_protocol.specs.declared.fit.Load.{Load}
 use Rattle.mdcc_messages.specs.declared.messages.Message.{Message}
 use Rattle.mdcc_steps.proofs.Each.{each-map, each-weaker}
 use Rattle.mdcc_steps.proofs.Held.{HoldsIn, holds-map}
-use Rattle.mdcc_steps.proofs.Sending.{sent-one}
+use Rattle.mdcc_steps.proofs.Sending.{IsGoodSent, sent-one}
 use Rattle.mdcc_steps.proofs.Told.{IsWellFormedVoteAt, heard-told, promise-told, vote-told}
 
 -- ---- the quantity of a limit is one of five
@@ -149,14 +149,14 @@ pub instance-of : (choice : Choice) → IsWellFormedChoice choice → IsWellForm
 instance-of choice w = record { key_itself = w.key; version_fits = w.version }
 
 pub proposed-sent : (me : ℕ) (volatile : Volatile) (s : ℕ) (choice : Choice) (answer : ProposeAnswer) → IsInRange 1 9 me → IsInRange 1 9 s → IsWellFormedChoice choice
-    → IsFormedAnswer choice answer → AllByRecursion IsWellFormedEnvelope (proposed_step me volatile s choice answer).sends
-proposed-sent me volatile s choice (ProposeAnswer.Known outcome) h k w a = sent-one me s (Message.Outcome choice.tx outcome) h k a
+    → IsFormedAnswer choice answer → AllByRecursion IsGoodSent (proposed_step me volatile s choice answer).sends
+proposed-sent me volatile s choice (ProposeAnswer.Known outcome) h k w a = sent-one me s (Message.Outcome choice.tx outcome) tt h k a
 proposed-sent me volatile s choice (ProposeAnswer.Again ballot mark) h k w a =
-    sent-one me s (Message.Voted choice.key choice.version ballot choice.tx mark) h k (record { instance = instance-of choice w; ballot_itself = a.0; entry = a.1 })
+    sent-one me s (Message.Voted choice.key choice.version ballot choice.tx mark) tt h k (record { instance = instance-of choice w; ballot_itself = a.0; entry = a.1 })
 proposed-sent me volatile s choice (ProposeAnswer.Escalate cause) h k w a =
-    sent-one me s (Message.Escalate choice.key choice.version choice.tx cause) h k (record { instance = instance-of choice w; tx_itself = w.tx; cause_itself = a })
+    sent-one me s (Message.Escalate choice.key choice.version choice.tx cause) tt h k (record { instance = instance-of choice w; tx_itself = w.tx; cause_itself = a })
 proposed-sent me volatile s choice (ProposeAnswer.Vote mark) h k w a =
-    sent-one me s (Message.Voted choice.key choice.version fast_ballot choice.tx mark) h k (record { instance = instance-of choice w; ballot_itself = inl refl; entry = a })
+    sent-one me s (Message.Voted choice.key choice.version fast_ballot choice.tx mark) tt h k (record { instance = instance-of choice w; ballot_itself = inl refl; entry = a })
 
 pub proposed-fact : (me : ℕ) (volatile : Volatile) (s : ℕ) (choice : Choice) (answer : ProposeAnswer) → IsWellFormedChoice choice
     → IsFormedAnswer choice answer → HoldsIn IsWellFormedFact (proposed_step me volatile s choice answer).fact

@@ -1,8 +1,8 @@
 -- Well-formed messages to centres of the cluster, among them what is held of a key.
-use Rattle.std.proofs.Common.{◌≡◌, ℕ, zero, suc, ◌+◌, ◌==◌, ◌≤◌, true, List, [], ◌∷◌, map, refl, sym, inl, subst, Option, Some, None, not, filter, nat_le, arith}
+use Rattle.std.proofs.Common.{◌≡◌, ℕ, zero, suc, ◌+◌, ◌==◌, ◌≤◌, false, true, List, [], ◌∷◌, map, refl, sym, inl, subst, Option, Some, None, not, filter, nat_le, arith}
 use Rattle.std.specs.Int.{IsInRange}
 use Rattle.std.specs.List.{AllByRecursion, flat_map, range_with_len}
-use Rattle.std.specs.Prelude.{option_map}
+use Rattle.std.specs.Prelude.{option_map, ⊤}
 use Rattle.std.proofs.lemmas.Bool.{and_from, and_parts, leb-true}
 use Rattle.mdcc_base.specs.AreQuorums.{AreQuorums}
 use Rattle.mdcc_base.specs.Key.{IsKey}
@@ -17,11 +17,13 @@ use Rattle.mdcc_struct.specs.Maps.{TxMap, are_ascending}
 use Rattle.mdcc_protocol.specs.Belongs.{is_centre}
 use Rattle.mdcc_protocol.specs.Facts.{base_of, current_of, executed_of}
 use Rattle.mdcc_protocol.specs.Marks.{Amounts}
+use Rattle.mdcc_protocol.specs.Structures.{is_crowded}
 use Rattle.mdcc_rules.specs.Messages.{to_all, to_each, to_one, to_others}
 use Rattle.mdcc_rules.specs.SyncRules.{give_sent, give_sent_by}
 use Rattle.mdcc_messages.specs.WellFormed.{IsWellFormedEnvelope, IsWellFormedMessage}
 use Rattle.mdcc_messages.specs.WellFormedParts.{IsWellFormedDelta, IsWellFormedGiven, IsWellFormedItem, delta_lt, is_ascending_by}
 use Rattle.mdcc_messages.specs.declared.facts.Fact.{Fact}
+use Rattle.mdcc_messages.specs.declared.messages.Envelope.{Envelope}
 use Rattle.mdcc_messages.specs.declared.messages.Message.{Message}
 use Rattle.mdcc_steps.specs.Keeping.{AreNodeFacts}
 use Rattle.mdcc_steps.proofs.Each.{each-append, each-kept, each-map, each-weaker}
@@ -49,22 +51,31 @@ centres-range quorums sizes = range-within 1 quorums.centres (omega arith) (omeg
 
 -- ---- one message to centres
 
-pub each-to : (centres : List ℕ) (me : ℕ) (message : Message) → AllByRecursion (IsInRange 1 9) centres → IsInRange 1 9 me → IsWellFormedMessage message
-    → AllByRecursion IsWellFormedEnvelope (to_each centres me message)
-each-to [] me message h k w = tt
-each-to (a ∷ as') me message h k w = (record { from = inl k; to = inl h.0; message = w }, each-to as' me message h.1 k w)
+-- a structure in a message has at most 1,024 accepted and 32,768 rejected marks
+abbrev pub HasRoomIn : Message → Type 0
+HasRoomIn (Message.Accept key version ballot options) = is_crowded options ≡ false
+HasRoomIn _ = ⊤
 
-pub sent-one : (me a : ℕ) (message : Message) → IsInRange 1 9 me → IsInRange 1 9 a → IsWellFormedMessage message → AllByRecursion IsWellFormedEnvelope (to_one me a message)
-sent-one me a message h k w = (record { from = inl h; to = inl k; message = w }, tt)
+-- a message that may be sent
+abbrev pub IsGoodSent : Envelope → Type 0
+IsGoodSent e = IsWellFormedEnvelope e × HasRoomIn e.message
 
-pub sent-all : (quorums : Sizes) (me : ℕ) (message : Message) → AreQuorums quorums → IsInRange 1 9 me → IsWellFormedMessage message
-    → AllByRecursion IsWellFormedEnvelope (to_all quorums me message)
-sent-all quorums me message sizes h w = each-to (all_centres quorums) me message (centres-range quorums sizes) h w
+pub each-to : (centres : List ℕ) (me : ℕ) (message : Message) → HasRoomIn message → AllByRecursion (IsInRange 1 9) centres → IsInRange 1 9 me → IsWellFormedMessage message
+    → AllByRecursion IsGoodSent (to_each centres me message)
+each-to [] me message r h k w = tt
+each-to (a ∷ as') me message r h k w = ((record { from = inl k; to = inl h.0; message = w }, r), each-to as' me message r h.1 k w)
 
-pub sent-others : (quorums : Sizes) (me : ℕ) (message : Message) → AreQuorums quorums → IsInRange 1 9 me → IsWellFormedMessage message
-    → AllByRecursion IsWellFormedEnvelope (to_others quorums me message)
-sent-others quorums me message sizes h w =
-    each-to (filter (λ to. not (to == me)) (all_centres quorums)) me message (each-kept (IsInRange 1 9) (λ to. not (to == me)) (all_centres quorums) (centres-range quorums sizes)) h w
+pub sent-one : (me a : ℕ) (message : Message) → HasRoomIn message → IsInRange 1 9 me → IsInRange 1 9 a → IsWellFormedMessage message → AllByRecursion IsGoodSent (to_one me a message)
+sent-one me a message r h k w = ((record { from = inl h; to = inl k; message = w }, r), tt)
+
+pub sent-all : (quorums : Sizes) (me : ℕ) (message : Message) → HasRoomIn message → AreQuorums quorums → IsInRange 1 9 me → IsWellFormedMessage message
+    → AllByRecursion IsGoodSent (to_all quorums me message)
+sent-all quorums me message r sizes h w = each-to (all_centres quorums) me message r (centres-range quorums sizes) h w
+
+pub sent-others : (quorums : Sizes) (me : ℕ) (message : Message) → HasRoomIn message → AreQuorums quorums → IsInRange 1 9 me → IsWellFormedMessage message
+    → AllByRecursion IsGoodSent (to_others quorums me message)
+sent-others quorums me message r sizes h w =
+    each-to (filter (λ to. not (to == me)) (all_centres quorums)) me message r (each-kept (IsInRange 1 9) (λ to. not (to == me)) (all_centres quorums) (centres-range quorums sizes)) h w
 
 pub each-flat_map : {X Y : Type 0} (P : X → Type 0) (Q : Y → Type 0) (f : X → List Y) (xs : List X) → ((x : X) → P x → AllByRecursion Q (f x)) → AllByRecursion P xs
     → AllByRecursion Q (flat_map f xs)
@@ -93,16 +104,16 @@ given-formed cluster facts key item known of_key of_item some = record {
 }
 
 pub sent-give : (cluster : Cluster) (me : ℕ) (facts : List Fact) (s : ℕ) (key : Key) → AreNodeFacts cluster facts → IsInRange 1 9 me → IsInRange 1 9 s → IsKey key
-    → AllByRecursion IsWellFormedEnvelope (give_sent me facts s key)
+    → AllByRecursion IsGoodSent (give_sent me facts s key)
 sent-give cluster me facts s key known of_me of_s of_key = by_base (base_of facts key) (base-told facts key known.well_formed)
   where
     by_base : (o : Option Item) → HoldsIn (λ item. IsWellFormedItem item × (1 ≤ current_of facts key)) o
-        → AllByRecursion IsWellFormedEnvelope (give_sent_by me s (option_map (λ (item : Item). record {
+        → AllByRecursion IsGoodSent (give_sent_by me s (option_map (λ (item : Item). record {
           key = key;
           version = current_of facts key;
           item = item;
           adds = map (λ (e : TxId × Amounts). record { tx = e.0; amounts = e.1 }) (executed_of facts key);
         }) o))
     by_base None h = tt
-    by_base (Some item) h = sent-one me s (Message.SyncGive key (current_of facts key) item (map (λ (e : TxId × Amounts). record { tx = e.0; amounts = e.1 }) (executed_of facts key))) of_me of_s
+    by_base (Some item) h = sent-one me s (Message.SyncGive key (current_of facts key) item (map (λ (e : TxId × Amounts). record { tx = e.0; amounts = e.1 }) (executed_of facts key))) tt of_me of_s
         (given-formed cluster facts key item known of_key h.0 h.1)

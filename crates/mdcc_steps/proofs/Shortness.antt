@@ -1,5 +1,5 @@
--- Where leading is not built, a step adds a fact of at most 8,964 bytes.
-use Rattle.std.proofs.Common.{◌≡◌, ℕ, ◌*◌, ◌≤◌, Bool, false, List, [], ◌∷◌, length, Option, Some, None, Result, Ok, Err, arith}
+-- A step adds a fact of at most 8,964 bytes, or one that is no longer than the structure that it was sent.
+use Rattle.std.proofs.Common.{◌≡◌, ℕ, ◌+◌, ◌*◌, ◌≤◌, ◌⊎◌, inl, inr, refl, Bool, true, false, List, [], ◌∷◌, length, Option, Some, None, Result, Ok, Err, arith}
 use Rattle.std.specs.List.{AllByRecursion}
 use Rattle.std.proofs.lemmas.Bool.{cond_both}
 use Rattle.mdcc_base.specs.Counts.{sum_over}
@@ -14,21 +14,29 @@ use Rattle.mdcc_option.specs.declared.faults.BeginFault.{BeginFault}
 use Rattle.mdcc_option.specs.declared.items.Delta.{Delta}
 use Rattle.mdcc_option.specs.declared.items.Part.{Part}
 use Rattle.mdcc_struct.specs.declared.options.Options.{Options}
-use Rattle.mdcc_protocol.specs.Acceptor.{on_propose}
-use Rattle.mdcc_rules.specs.AcceptorRules.{ask_step_by, proposed_step}
+use Rattle.mdcc_protocol.specs.Acceptor.{on_accept, on_prepare, on_propose}
+use Rattle.mdcc_rules.specs.AcceptorRules.{accepted_step, ask_step_by, prepared_step, proposed_step}
 use Rattle.mdcc_switches.specs.Built.{Built}
-use Rattle.mdcc_protocol.specs.Facts.{epoch_of, heard_of, is_heard, vote_of}
-use Rattle.mdcc_messages.specs.Lengths.{choice_length, delta_length, entry_length, fact_length, offered_length}
+use Rattle.mdcc_protocol.specs.Facts.{epoch_of, heard_of, is_heard, vote_of, votes_of}
+use Rattle.mdcc_rules.specs.LeaderRules.{lead_step_after, led_of, promise_step, step_of_led}
+use Rattle.mdcc_protocol.specs.Leader.{claim_of_choice}
+use Rattle.mdcc_struct.specs.Maps.{value_of}
+use Rattle.std.specs.Prelude.{filter, is_some, not}
+use Rattle.mdcc_protocol.specs.declared.acceptor.AcceptAnswer.{AcceptAnswer}
+use Rattle.mdcc_protocol.specs.declared.acceptor.PrepareAnswer.{PrepareAnswer}
+use Rattle.mdcc_protocol.specs.declared.leader.LeadFault.{LeadFault}
+use Rattle.mdcc_messages.specs.declared.messages.Envelope.{Envelope}
+use Rattle.mdcc_messages.specs.Lengths.{body_length, choice_length, delta_length, entry_length, fact_length, message_length, offered_length}
 use Rattle.mdcc_protocol.specs.Manager
 use Rattle.mdcc_protocol.specs.Manager.{act_on_cause, acted, begin_by, begin_fault, vote_taken}
 use Rattle.mdcc_rules.specs.ManagerRules.{acted_step, begin_step_by, opened_step, undecided_step, voted_step, watched_step}
 use Rattle.mdcc_protocol.specs.News.{is_news}
-use Rattle.mdcc_rules.specs.Node.{checked, is_own_message, message_step, rule, step_of}
+use Rattle.mdcc_rules.specs.Node.{checked, is_own_message, message_step, step_of}
 use Rattle.mdcc_protocol.specs.Recover
-use Rattle.mdcc_rules.specs.Steps.{NodeStep, nothing_done}
+use Rattle.mdcc_rules.specs.Steps.{NodeStep, StepPart, nothing_done}
 use Rattle.mdcc_rules.specs.SyncRules.{outcome_step, outcome_step_by, sync_give_step, sync_give_step_by}
 use Rattle.mdcc_protocol.specs.Volatile.{Volatile, is_open, with_manager}
-use Rattle.mdcc_messages.specs.WellFormed.{IsWellFormedFact, IsWellFormedOffered}
+use Rattle.mdcc_messages.specs.WellFormed.{IsWellFormedFact, IsWellFormedMessage, IsWellFormedOffered}
 use Rattle.mdcc_messages.specs.WellFormedParts.{IsWellFormedDelta, IsWellFormedEntry, IsWellFormedOf}
 use Rattle.mdcc_protocol.specs.declared.acceptor.ProposeAnswer.{ProposeAnswer}
 use Rattle.mdcc_messages.specs.declared.facts.Fact.{Fact}
@@ -38,16 +46,20 @@ use Rattle.mdcc_rules.specs.declared.node.StepFault.{StepFault}
 use Rattle.mdcc_protocol.specs.declared.visible.Give.{Give}
 use Rattle.mdcc_protocol.specs.declared.votes.Vote.{Vote}
 use Rattle.mdcc_spelling.proofs.Longest.{longest_choice}
-use Rattle.mdcc_steps.specs.Forming.{IsNode}
+use Rattle.mdcc_steps.specs.Forming.{HasRoom, IsNode, accept_length_in, accept_length}
+use Rattle.mdcc_steps.proofs.Sending.{HasRoomIn, IsGoodSent}
 use Rattle.mdcc_steps.specs.Inputs.{IsWellFormedInput}
 use Rattle.mdcc_steps.proofs.Allowing.{OnStep, on_checked, on_rule}
-use Rattle.mdcc_steps.proofs.Dispatched.{fact-formed}
+use Rattle.mdcc_steps.proofs.Dispatched.{fact-formed, sends-good}
+use Rattle.mdcc_steps.proofs.Each.{each-weaker}
+use Rattle.mdcc_steps.proofs.Structuring.{crowded-few}
+use Rattle.mdcc_protocol.specs.Marks.{accepts_in, rejects_in}
 use Rattle.mdcc_steps.proofs.Held.{HoldsIn, holds-at}
 use Rattle.mdcc_steps.proofs.Stepping.{on_made}
 
 -- ---- the longest fact
 
-longest-entry : (key : Key) (version : ℕ) (tx : TxId) (mark : Mark) → IsWellFormedEntry key version tx mark → entry_length mark ≤ 1120
+pub longest-entry : (key : Key) (version : ℕ) (tx : TxId) (mark : Mark) → IsWellFormedEntry key version tx mark → entry_length mark ≤ 1120
 longest-entry key version tx Mark.Reject w = omega arith
 longest-entry key version tx (Mark.Accept choice) w = omega (arith, longest_choice choice w.choice_itself)
 
@@ -60,11 +72,11 @@ longest-offered : (key : Key) (version : ℕ) (offered : Option Choice) → IsWe
 longest-offered key version None w = omega arith
 longest-offered key version (Some choice) w = omega (arith, longest_choice choice w.choice_itself)
 
-longest-choices : (tx : TxId) (choices : List Choice) → AllByRecursion (IsWellFormedOf tx) choices → sum_over choice_length choices ≤ 1119 * length choices
+pub longest-choices : (tx : TxId) (choices : List Choice) → AllByRecursion (IsWellFormedOf tx) choices → sum_over choice_length choices ≤ 1119 * length choices
 longest-choices tx [] w = omega arith
 longest-choices tx (choice ∷ choices) w = omega (arith, longest_choice choice w.0.choice_itself, longest-choices tx choices w.1)
 
-longest-deltas : (adds : List Delta) → AllByRecursion IsWellFormedDelta adds → sum_over delta_length adds ≤ 46 * length adds
+pub longest-deltas : (adds : List Delta) → AllByRecursion IsWellFormedDelta adds → sum_over delta_length adds ≤ 46 * length adds
 longest-deltas [] w = omega arith
 longest-deltas (delta ∷ adds) w = omega (arith, w.0.amounts.count.1, longest-deltas adds w.1)
 
@@ -86,14 +98,58 @@ longest-fact (Fact.Adopted key version item adds) w one =
 
 -- ---- the votes of a step
 
--- a rule that is not built
-on_rule_unbuilt : (P : NodeStep → Type 0) (is_built : Bool) (volatile : Volatile) (r : Result NodeStep StepFault) → is_built ≡ false → P (nothing_done volatile) → OnStep P (rule is_built volatile r)
-on_rule_unbuilt P is_built volatile r unbuilt h = rw unbuilt h
+abbrev is_accept_message : Message → Bool
+is_accept_message (Message.Accept key version ballot options) = true
+is_accept_message _ = false
 
 abbrev IsSingle : NodeStep → Type 0
 IsSingle step = HoldsIn HasOneMark step.fact
 
-module _ (built : Built) (cluster : Cluster) (me : ℕ) (facts : List Fact) (volatile : Volatile) (unbuilt : built.leading ≡ false) where
+-- a fact with one mark, or one of at most so many bytes
+abbrev IsBrief : ℕ → Fact → Type 0
+IsBrief n fact = HasOneMark fact ⊎ (fact_length fact ≤ n)
+
+abbrev IsBriefStep : ℕ → NodeStep → Type 0
+IsBriefStep n step = HoldsIn (IsBrief n) step.fact
+
+brief : (n : ℕ) (o : Option Fact) → HoldsIn HasOneMark o → HoldsIn (IsBrief n) o
+brief n None h = tt
+brief n (Some fact) h = inl h
+
+-- marks that are left out make a list no longer
+kept-short : (test : TxId × Mark → Bool) (options : Options) → sum_over (λ e. entry_length e.1) (filter test options) ≤ sum_over (λ e. entry_length e.1) options
+kept-short test [] = omega arith
+kept-short test (e ∷ es) =
+    let ih = kept-short test es in
+    cond_both (test e) (e ∷ filter test es) (filter test es) (λ (m : Options). sum_over (λ e. entry_length e.1) m ≤ entry_length e.1 + sum_over (λ e. entry_length e.1) es) (λ f. omega arith) (λ f. omega arith)
+
+module _ (built : Built) (cluster : Cluster) (me : ℕ) (facts : List Fact) (volatile : Volatile) where
+  single-led : (r : Result StepPart LeadFault) → OnStep IsSingle (step_of_led r)
+  single-led (Ok part) = tt
+  single-led (Err fault) = tt
+
+  single-lead : (s : ℕ) (choice : Choice) (o : Option Outcome) → OnStep IsSingle (lead_step_after cluster me facts volatile s choice o)
+  single-lead s choice (Some outcome) = tt
+  single-lead s choice None = single-led (led_of cluster me facts volatile (claim_of_choice choice))
+
+  single-prepared : (s : ℕ) (key : Key) (version : ℕ) (ballot : Ballot) (answer : PrepareAnswer) → IsSingle (prepared_step me facts volatile s key version ballot answer)
+  single-prepared s key version ballot (PrepareAnswer.Refused promise) = tt
+  single-prepared s key version ballot (PrepareAnswer.Again high) = tt
+  single-prepared s key version ballot (PrepareAnswer.Promise high) = tt
+
+  brief-accepted : (s : ℕ) (from to : ℕ) (key : Key) (version : ℕ) (ballot : Ballot) (options : Options) (answer : AcceptAnswer)
+      → IsBriefStep (message_length (record { from = from; to = to; message = Message.Accept key version ballot options })) (accepted_step me facts volatile s key version ballot options answer)
+  brief-accepted s from to key version ballot options (AcceptAnswer.Refused promise) = tt
+  brief-accepted s from to key version ballot options (AcceptAnswer.Behind current) = tt
+  brief-accepted s from to key version ballot options AcceptAnswer.Older = tt
+  brief-accepted s from to key version ballot options AcceptAnswer.Vote =
+      let kept = kept-short (λ e. not (is_some (value_of (votes_of facts key version ballot) e.0))) options in
+      inr (omega arith)
+
+  on-brief : (n : ℕ) (r : Result NodeStep StepFault) → OnStep IsSingle r → OnStep (IsBriefStep n) r
+  on-brief n (Ok step) h = brief n step.fact h
+  on-brief n (Err fault) h = tt
+
   single-proposed : (s : ℕ) (choice : Choice) (answer : ProposeAnswer) → IsSingle (proposed_step me volatile s choice answer)
   single-proposed s choice (ProposeAnswer.Known outcome) = tt
   single-proposed s choice (ProposeAnswer.Again ballot mark) = tt
@@ -141,46 +197,115 @@ module _ (built : Built) (cluster : Cluster) (me : ℕ) (facts : List Fact) (vol
   single-begin parts (Some fault) = tt
   single-begin parts None = tt
 
-  single-message : (s : ℕ) (message : Message) → OnStep IsSingle (message_step built cluster me facts volatile s message)
-  single-message s (Message.Propose choice) = on_rule IsSingle built.proposals volatile _ tt (single-proposed s choice (on_propose cluster facts choice))
-  single-message s (Message.Voted key version ballot tx mark) =
+  single-message : (s : ℕ) (message : Message) → (is_accept_message message ≡ false) → OnStep IsSingle (message_step built cluster me facts volatile s message)
+  single-message s (Message.Propose choice) e = on_rule IsSingle built.proposals volatile _ tt (single-proposed s choice (on_propose cluster facts choice))
+  single-message s (Message.Voted key version ballot tx mark) e =
       on_rule IsSingle built.proposals volatile _ tt (single-voted (record { from = s; key = key; version = version; ballot = ballot; tx = tx; mark = mark }))
-  single-message s (Message.Escalate key version tx cause) = on_rule IsSingle built.escalations volatile _ tt tt
-  single-message s (Message.Lead choice) = on_rule_unbuilt IsSingle built.leading volatile _ unbuilt tt
-  single-message s (Message.Prepare key version through ballot) = on_rule_unbuilt IsSingle built.leading volatile _ unbuilt tt
-  single-message s (Message.Promise key version through ballot reported votes) = on_rule_unbuilt IsSingle built.leading volatile _ unbuilt tt
-  single-message s (Message.Accept key version ballot options) = on_rule_unbuilt IsSingle built.leading volatile _ unbuilt tt
-  single-message s (Message.Refused key version ballot promised) = on_rule_unbuilt IsSingle built.leading volatile _ unbuilt tt
-  single-message s (Message.Outcome tx outcome) = on_rule IsSingle built.proposals volatile _ tt (single-outcome tx outcome)
-  single-message s (Message.Ask tx key version) = on_rule IsSingle built.recovery volatile _ tt (single-asked s tx key version (heard_of facts tx) (vote_of facts key version tx))
-  single-message s (Message.SyncAsk key) = on_rule IsSingle built.catching_up volatile _ tt tt
-  single-message s (Message.SyncGive key version item adds) =
+  single-message s (Message.Escalate key version tx cause) e = on_rule IsSingle built.escalations volatile _ tt tt
+  single-message s (Message.Lead choice) e = on_rule IsSingle built.leading volatile _ tt (single-lead s choice (heard_of facts choice.tx))
+  single-message s (Message.Prepare key version through ballot) e =
+      on_rule IsSingle built.leading volatile _ tt (single-prepared s key version ballot (on_prepare facts key version through ballot))
+  single-message s (Message.Promise key version through ballot reported votes) e =
+      on_rule IsSingle built.leading volatile (promise_step cluster me facts volatile s (record { key = key; version = version; through = through; ballot = ballot; reported = reported; votes = votes })) tt (single-led _)
+  single-message s (Message.Accept key version ballot options) e = absurd (cc)
+  single-message s (Message.Refused key version ballot promised) e = on_rule IsSingle built.leading volatile _ tt tt
+  single-message s (Message.Outcome tx outcome) e = on_rule IsSingle built.proposals volatile _ tt (single-outcome tx outcome)
+  single-message s (Message.Ask tx key version) e = on_rule IsSingle built.recovery volatile _ tt (single-asked s tx key version (heard_of facts tx) (vote_of facts key version tx))
+  single-message s (Message.SyncAsk key) e = on_rule IsSingle built.catching_up volatile _ tt tt
+  single-message s (Message.SyncGive key version item adds) e =
       on_rule IsSingle built.catching_up volatile _ tt (single-give (record { key = key; version = version; item = item; adds = adds }))
-  single-message s (Message.ClientRead serial key) = tt
-  single-message s (Message.ClientBegin serial parts) = tt
-  single-message s (Message.ClientAnswer serial answer) = tt
+  single-message s (Message.ClientRead serial key) e = tt
+  single-message s (Message.ClientBegin serial parts) e = tt
+  single-message s (Message.ClientAnswer serial answer) e = tt
 
-  single-step : (input : Input) → OnStep IsSingle (step_of built cluster me facts volatile input)
-  single-step (Input.Message envelope) =
-      cond_both (is_own_message cluster me envelope) (checked built cluster facts (message_step built cluster me facts volatile envelope.from envelope.message)) (Err StepFault.Foreign) (OnStep IsSingle)
-      (λ e. on_checked IsSingle IsSingle built cluster facts (message_step built cluster me facts volatile envelope.from envelope.message) (λ step h room. h)
-      (single-message envelope.from envelope.message))
+  brief-message : (s : ℕ) (envelope : Envelope) → OnStep (IsBriefStep (accept_length envelope.message)) (message_step built cluster me facts volatile s envelope.message)
+  brief-message s envelope = by_message envelope.message refl
+    where
+      other : (message : Message) → is_accept_message message ≡ false → OnStep (IsBriefStep (accept_length envelope.message)) (message_step built cluster me facts volatile s message)
+      other message e = on-brief (accept_length envelope.message) (message_step built cluster me facts volatile s message) (single-message s message e)
+
+      by_message : (message : Message) → envelope.message ≡ message → OnStep (IsBriefStep (accept_length envelope.message)) (message_step built cluster me facts volatile s message)
+      by_message (Message.Accept key version ballot options) e =
+          rw e (on_rule (IsBriefStep (4 + body_length (Message.Accept key version ballot options))) built.leading volatile (Ok (accepted_step me facts volatile s key version ballot options (on_accept facts key version ballot options))) tt (brief-accepted s envelope.from envelope.to key version ballot options (on_accept facts key version ballot options)))
+      by_message (Message.Propose choice) e = other (Message.Propose choice) refl
+      by_message (Message.Voted key version ballot tx mark) e = other (Message.Voted key version ballot tx mark) refl
+      by_message (Message.Escalate key version tx cause) e = other (Message.Escalate key version tx cause) refl
+      by_message (Message.Lead choice) e = other (Message.Lead choice) refl
+      by_message (Message.Prepare key version through ballot) e = other (Message.Prepare key version through ballot) refl
+      by_message (Message.Promise key version through ballot reported votes) e = other (Message.Promise key version through ballot reported votes) refl
+      by_message (Message.Refused key version ballot promised) e = other (Message.Refused key version ballot promised) refl
+      by_message (Message.Outcome tx outcome) e = other (Message.Outcome tx outcome) refl
+      by_message (Message.Ask tx key version) e = other (Message.Ask tx key version) refl
+      by_message (Message.SyncAsk key) e = other (Message.SyncAsk key) refl
+      by_message (Message.SyncGive key version item adds) e = other (Message.SyncGive key version item adds) refl
+      by_message (Message.ClientRead serial key) e = other (Message.ClientRead serial key) refl
+      by_message (Message.ClientBegin serial parts) e = other (Message.ClientBegin serial parts) refl
+      by_message (Message.ClientAnswer serial answer) e = other (Message.ClientAnswer serial answer) refl
+
+  brief-step : (input : Input) → OnStep (IsBriefStep (accept_length_in input)) (step_of built cluster me facts volatile input)
+  brief-step (Input.Message envelope) =
+      cond_both (is_own_message cluster me envelope) (checked built cluster facts (message_step built cluster me facts volatile envelope.from envelope.message)) (Err StepFault.Foreign) (OnStep (IsBriefStep (accept_length envelope.message)))
+      (λ e. on_checked (IsBriefStep (accept_length envelope.message)) (IsBriefStep (accept_length envelope.message)) built cluster facts (message_step built cluster me facts volatile envelope.from envelope.message) (λ step h room. h)
+      (brief-message envelope.from envelope))
       (λ e. tt)
-  single-step Input.Tick = tt
-  single-step (Input.Read key) = tt
-  single-step (Input.Begin parts) = single-begin parts (begin_fault facts volatile.manager parts)
+  brief-step Input.Tick = tt
+  brief-step (Input.Read key) = tt
+  brief-step (Input.Begin parts) = brief 0 (begin_step_by cluster me facts volatile parts (begin_by me (epoch_of facts) volatile.manager parts (begin_fault facts volatile.manager parts))).fact (single-begin parts (begin_fault facts volatile.manager parts))
 
 -- ---- the fact that a step adds
 
 in-frame : (n : ℕ) → n ≤ 8964 → n ≤ 2097152
 in-frame n h = omega arith
 
+within : (n m : ℕ) → n ≤ m → m ≤ 2097152 → n ≤ 2097152
+within n m h k = omega arith
+
 pub fact-short : (built : Built) (cluster : Cluster) (me : ℕ) (facts : List Fact) (volatile : Volatile) (input : Input) (step : NodeStep) (fact : Fact)
-    → built.leading ≡ false
+    → accept_length_in input ≤ 2097152
     → IsNode cluster me facts volatile → IsWellFormedInput input
     → step_of built cluster me facts volatile input ≡ Ok step → step.fact ≡ Some fact
     → fact_length fact ≤ 2097152
-fact-short built cluster me facts volatile input step fact unbuilt node w made is =
+fact-short built cluster me facts volatile input step fact few node w made is =
     let formed = fact-formed built cluster me facts volatile input step node w made fact is in
-    let one = holds-at HasOneMark step.fact fact (on_made IsSingle _ step (single-step built cluster me facts volatile unbuilt input) made) is in
-    in-frame (fact_length fact) (longest-fact fact formed one)
+    let short = holds-at (IsBrief (accept_length_in input)) step.fact fact (on_made (IsBriefStep (accept_length_in input)) _ step (brief-step built cluster me facts volatile input) made) is in
+    elim short [
+      | inl one ↦ in-frame (fact_length fact) (longest-fact fact formed one)
+      | inr same ↦ within (fact_length fact) (accept_length_in input) same few
+    ]
+
+-- ---- the structures that a step sends
+
+pub entries-long : (key : Key) (version : ℕ) (options : Options) → AllByRecursion (λ e. IsWellFormedEntry key version e.0 e.1) options
+    → sum_over (λ e. entry_length e.1) options ≤ 1120 * length (accepts_in options) + 10 * length (rejects_in options)
+entries-long key version [] w = omega arith
+entries-long key version ((tx, Mark.Reject) ∷ es) w = omega (arith, entries-long key version es w.1)
+entries-long key version ((tx, Mark.Accept choice) ∷ es) w = omega (arith, longest_choice choice w.0.choice_itself, entries-long key version es w.1)
+
+-- at most 1,024 accepted and 32,768 rejected marks
+sent-short : (e : Envelope) → IsGoodSent e → accept_length e.message ≤ 1474618
+sent-short e h = by_message e.message h.0.message h.1
+  where
+    by_message : (message : Message) → IsWellFormedMessage message → HasRoomIn message → accept_length message ≤ 1474618
+    by_message (Message.Accept key version ballot options) w r =
+        let few = crowded-few options r in
+        omega (arith, w.instance.key_itself.fits, entries-long key version options w.options_itself.each, few.0, few.1)
+    by_message (Message.Propose choice) w r = omega arith
+    by_message (Message.Voted key version ballot tx mark) w r = omega arith
+    by_message (Message.Escalate key version tx cause) w r = omega arith
+    by_message (Message.Lead choice) w r = omega arith
+    by_message (Message.Prepare key version through ballot) w r = omega arith
+    by_message (Message.Promise key version through ballot reported votes) w r = omega arith
+    by_message (Message.Refused key version ballot promised) w r = omega arith
+    by_message (Message.Outcome tx outcome) w r = omega arith
+    by_message (Message.Ask tx key version) w r = omega arith
+    by_message (Message.SyncAsk key) w r = omega arith
+    by_message (Message.SyncGive key version item adds) w r = omega arith
+    by_message (Message.ClientRead serial key) w r = omega arith
+    by_message (Message.ClientBegin serial parts) w r = omega arith
+    by_message (Message.ClientAnswer serial answer) w r = omega arith
+
+pub sends-short : (built : Built) (cluster : Cluster) (me : ℕ) (facts : List Fact) (volatile : Volatile) (input : Input) (step : NodeStep)
+    → HasRoom built facts → IsNode cluster me facts volatile → IsWellFormedInput input
+    → step_of built cluster me facts volatile input ≡ Ok step → AllByRecursion (λ e. accept_length e.message ≤ 1474618) step.sends
+sends-short built cluster me facts volatile input step room node w made =
+    each-weaker IsGoodSent (λ e. accept_length e.message ≤ 1474618) step.sends sent-short (sends-good built cluster me facts volatile input step node w made room)

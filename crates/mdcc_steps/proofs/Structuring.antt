@@ -73,7 +73,7 @@ count-inserted test (x ∷ xs) e =
       | inr t ↦ rw t (omega arith)
     ])
 
-count-with_entry : (test : TxId × Mark → Bool) (m : Options) (e : TxId × Mark) → length (filter test (with_entry m e)) ≤ length (filter test m) + cond (test e) 1 0
+pub count-with_entry : (test : TxId × Mark → Bool) (m : Options) (e : TxId × Mark) → length (filter test (with_entry m e)) ≤ length (filter test m) + cond (test e) 1 0
 count-with_entry test m e =
     cond_both (is_some (value_of m e.0)) m (inserted m e) (λ (k : Options). length (filter test k) ≤ length (filter test m) + cond (test e) 1 0) (λ there. omega arith) (λ new. count-inserted test m e)
 
@@ -91,10 +91,16 @@ count-fits options h =
     let parts = or_parts (nat_lt 1024 (length (accepts_in options))) (nat_lt 32768 (length (rejects_in options))) h in
     omega (arith, both-counts options, ltb-false 1024 (length (accepts_in options)) parts.0, ltb-false 32768 (length (rejects_in options)) parts.1)
 
+-- and so many marks of each kind
+pub crowded-few : (options : Options) → is_crowded options ≡ false → (length (accepts_in options) ≤ 1024) × (length (rejects_in options) ≤ 32768)
+crowded-few options h =
+    let parts = or_parts (nat_lt 1024 (length (accepts_in options))) (nat_lt 32768 (length (rejects_in options))) h in
+    (ltb-false 1024 (length (accepts_in options)) parts.0, ltb-false 32768 (length (rejects_in options)) parts.1)
+
 uncrowded : (options : Options) → length (accepts_in options) ≤ 1024 → length (rejects_in options) ≤ 32768 → is_crowded options ≡ false
 uncrowded options h k = or_from _ _ (le-ltb 1024 (length (accepts_in options)) h) (le-ltb 32768 (length (rejects_in options)) k)
 
-room-small : (update : Update) → accept_room update ≤ 512
+pub room-small : (update : Update) → accept_room update ≤ 512
 room-small (Update.Write item seen) = omega arith
 room-small (Update.Add amounts) = omega arith
 

@@ -21,7 +21,7 @@ use Rattle.mdcc_protocol.specs.Recover.{acts_on, ask_of, claim_of_key, dangling,
 use Rattle.mdcc_rules.specs.TickRules.{claim_led, manager_act, manager_ticked, recovery_act, recovery_ticked, tick_parts}
 use Rattle.mdcc_rules.specs.Steps.{StepPart, and_then, only_sending}
 use Rattle.mdcc_protocol.specs.Volatile.{Recovering, Undecided, Volatile, counter_of, next_count, txs_opened, with_manager, with_recovery}
-use Rattle.mdcc_messages.specs.WellFormed.{IsWellFormedEnvelope, IsWellFormedFact}
+use Rattle.mdcc_messages.specs.WellFormed.{IsWellFormedFact}
 use Rattle.mdcc_messages.specs.WellFormedParts.{IsWellFormedChoice, IsWellFormedInstance, IsWellFormedOf, IsWellFormedTx, IsWellFormedWritten}
 use Rattle.mdcc_messages.specs.declared.facts.Fact.{Fact}
 use Rattle.mdcc_protocol.specs.declared.manager.ManagerAct.{ManagerAct}
@@ -31,19 +31,19 @@ use Rattle.mdcc_protocol.specs.declared.votes.Vote.{Vote}
 use Rattle.mdcc_steps.specs.Keeping.{IsWellFormedOpen, IsWellFormedVolatile, IsWellFormedVoteKept}
 use Rattle.mdcc_steps.proofs.Claims.{IsFormedClaim, formed-choice, formed-key}
 use Rattle.mdcc_steps.proofs.Each.{each-append, each-kept, each-map, each-weaker}
-use Rattle.mdcc_steps.proofs.Sending.{each-flat_map, sent-all}
+use Rattle.mdcc_steps.proofs.Sending.{IsGoodSent, each-flat_map, sent-all}
 use Rattle.mdcc_steps.proofs.Told.{IsWellFormedSetAt, unresolved-told}
 
 -- what is left and sent
 abbrev pub IsFormedTicked : StepPart → Type 0
-IsFormedTicked t = IsWellFormedVolatile t.after × AllByRecursion IsWellFormedEnvelope t.sends
+IsFormedTicked t = IsWellFormedVolatile t.after × AllByRecursion IsGoodSent t.sends
 
 formed-fold : {X : Type 0} (Q : X → Type 0) (act : Volatile → X → StepPart) → ((v : Volatile) (x : X) → IsWellFormedVolatile v → Q x → IsFormedTicked (act v x))
     → (xs : List X) (before : StepPart) → AllByRecursion Q xs → IsFormedTicked before → IsFormedTicked (fold (and_then act) before xs)
 formed-fold Q act each [] before q h = h
 formed-fold Q act each (x ∷ xs) before q h =
     let next = each before.after x h.0 q.0 in
-    formed-fold Q act each xs (and_then act before x) q.1 (next.0, each-append IsWellFormedEnvelope before.sends (act before.after x).sends h.1 next.1)
+    formed-fold Q act each xs (and_then act before x) q.1 (next.0, each-append IsGoodSent before.sends (act before.after x).sends h.1 next.1)
 
 abbrev IsFormedManagerAct : ManagerAct → Type 0
 IsFormedManagerAct (ManagerAct.Propose choice) = IsWellFormedChoice choice
@@ -80,14 +80,14 @@ formed-acts_on quorums facts recovery (tx, set) votes known w =
 module _ (built : Built) (cluster : Cluster) (me : ℕ) (facts : List Fact) (sizes : AreQuorums cluster.quorums) (of_me : IsInRange 1 9 me) (known : AllByRecursion IsWellFormedFact facts)
     (led : (volatile : Volatile) (claim : Claim) → IsWellFormedVolatile volatile → IsFormedClaim claim → IsFormedTicked (claim_led built cluster me facts volatile claim)) where
   formed-manager_act : (volatile : Volatile) (act : ManagerAct) → IsWellFormedVolatile volatile → IsFormedManagerAct act → IsFormedTicked (manager_act built cluster me facts volatile act)
-  formed-manager_act volatile (ManagerAct.Propose choice) h w = (h, sent-all cluster.quorums me (Message.Propose choice) sizes of_me w)
+  formed-manager_act volatile (ManagerAct.Propose choice) h w = (h, sent-all cluster.quorums me (Message.Propose choice) tt sizes of_me w)
   formed-manager_act volatile (ManagerAct.LeadHere choice) h w = led volatile (claim_of_choice choice) h (formed-choice choice w)
   formed-manager_act volatile (ManagerAct.Lead leader choice) h w = (h, tt)
   formed-manager_act volatile (ManagerAct.Decide tx outcome) h w = (h, tt)
   formed-manager_act volatile (ManagerAct.Give centre key) h w = (h, tt)
 
   formed-recovery_act : (volatile : Volatile) (act : RecoverAct) → IsWellFormedVolatile volatile → IsFormedRecoverAct act → IsFormedTicked (recovery_act built cluster me facts volatile act)
-  formed-recovery_act volatile (RecoverAct.Ask tx key version) h w = (h, sent-all cluster.quorums me (Message.Ask tx key version) sizes of_me w)
+  formed-recovery_act volatile (RecoverAct.Ask tx key version) h w = (h, sent-all cluster.quorums me (Message.Ask tx key version) tt sizes of_me w)
   formed-recovery_act volatile (RecoverAct.LeadHere claim) h w = led volatile claim h w
 
   formed-manager_ticked : (volatile : Volatile) → IsWellFormedVolatile volatile → IsFormedTicked (manager_ticked built cluster me facts volatile)

@@ -1,18 +1,20 @@
 -- What a node adds, keeps and sends is well-formed.
 use Rattle.std.specs.List.{AllByRecursion}
-use Rattle.std.specs.Prelude.{IsTrue, List, None, Ok, Option, Some, [], false, ℕ, ◌++◌, ◌∷◌, ◌≡◌, ◌≤◌}
+use Rattle.std.specs.Prelude.{IsTrue, List, None, Ok, Option, Some, [], ℕ, ◌+◌, ◌++◌, ◌∷◌, ◌≡◌, ◌≤◌, ◌<◌, ◌^◌}
 use Rattle.mdcc_option.specs.declared.cluster.Cluster.{Cluster}
 use Rattle.mdcc_ledger.specs.BootTest.{are_allowed_facts}
 use Rattle.mdcc_protocol.specs.Belongs.{is_centre}
 use Rattle.mdcc_rules.specs.Boot.{boot_of, booted_by}
 use Rattle.mdcc_switches.specs.Built.{Built}
 use Rattle.mdcc_protocol.specs.IsCluster.{IsCluster}
-use Rattle.mdcc_messages.specs.Lengths.{cells_used, fact_length}
+use Rattle.mdcc_base.specs.Counts.{sum_over}
+use Rattle.mdcc_messages.specs.Lengths.{body_length, cells_used, fact_length, log_length}
 use Rattle.mdcc_rules.specs.Node.{step_of}
 use Rattle.mdcc_rules.specs.Steps.{NodeStep}
 use Rattle.mdcc_protocol.specs.Volatile.{Volatile, nothing_kept}
 use Rattle.mdcc_messages.specs.WellFormed.{IsWellFormedEnvelope, IsWellFormedFact}
 use Rattle.mdcc_messages.specs.declared.facts.Fact.{Fact}
+use Rattle.mdcc_messages.specs.declared.messages.Message.{Message}
 use Rattle.mdcc_rules.specs.declared.node.Input.{Input}
 use Rattle.mdcc_steps.specs.Adding.{AreVotesOf}
 use Rattle.mdcc_steps.specs.Inputs.{IsWellFormedInput}
@@ -34,11 +36,18 @@ AddedFactIsWellFormed =
     → step_of built cluster me facts volatile input ≡ Ok step → step.fact ≡ Some fact
     → IsWellFormedFact fact
 
--- where leading is built, the facts lie in as many cells as a node may have. So the votes that a promise reports are fewer than 2^32
+-- where leading is built, the facts have fewer than 2^32 bytes, so the votes that a promise reports are fewer than 2^32
 abbrev pub HasRoom : Built → List Fact → Type 0
-HasRoom built facts = IsTrue built.leading → cells_used facts ≤ 4194304
+HasRoom built facts = IsTrue built.leading → sum_over fact_length facts < 2 ^ 32
 
--- so is each message that it sends
+-- it is so of facts in as many cells as a node may have, and of those of a log of at most 2^30 bytes
+abbrev pub CellsGiveRoom : Type 0
+CellsGiveRoom = (built : Built) (facts : List Fact) → cells_used facts ≤ 4194304 → HasRoom built facts
+
+abbrev pub LogsGiveRoom : Type 0
+LogsGiveRoom = (built : Built) (facts : List Fact) → log_length facts ≤ 2 ^ 30 → HasRoom built facts
+
+-- each message that it sends is well-formed
 abbrev pub SendsAreWellFormed : Type 0
 SendsAreWellFormed =
     (built : Built) (cluster : Cluster) (me : ℕ) (facts : List Fact) (volatile : Volatile) (input : Input) (step : NodeStep)
@@ -97,11 +106,29 @@ BootReadsFacts =
     → (IsTrue built.limit_on_cells → cells_used facts ≤ cluster.cells)
     → boot_of built cluster (payloads_of facts) ≡ booted_by built cluster (Ok facts)
 
--- where leading is not built, the fact that a step adds is short enough for a frame of a log
+-- the bytes of an Accept, and 0 of any other message
+abbrev pub accept_length : Message → ℕ
+accept_length (Message.Accept key version ballot options) = 4 + body_length (Message.Accept key version ballot options)
+accept_length _ = 0
+
+abbrev pub accept_length_in : Input → ℕ
+accept_length_in (Input.Message envelope) = accept_length envelope.message
+accept_length_in input = 0
+
+-- where an Accept in the input has at most 2,097,152 bytes, the fact that a step adds is short enough for a frame of a log
 abbrev pub AddedFactIsShort : Type 0
 AddedFactIsShort =
     (built : Built) (cluster : Cluster) (me : ℕ) (facts : List Fact) (volatile : Volatile) (input : Input) (step : NodeStep) (fact : Fact)
-    → built.leading ≡ false
+    → accept_length_in input ≤ 2097152
     → IsNode cluster me facts volatile → IsWellFormedInput input
     → step_of built cluster me facts volatile input ≡ Ok step → step.fact ≡ Some fact
     → fact_length fact ≤ 2097152
+
+-- each Accept that a step sends has at most 1,474,618 bytes: it has at most 1,024 accepted and 32,768 rejected marks
+abbrev pub StructuresHaveRoom : Type 0
+StructuresHaveRoom =
+    (built : Built) (cluster : Cluster) (me : ℕ) (facts : List Fact) (volatile : Volatile) (input : Input) (step : NodeStep)
+    → HasRoom built facts
+    → IsNode cluster me facts volatile → IsWellFormedInput input
+    → step_of built cluster me facts volatile input ≡ Ok step
+    → AllByRecursion (λ e. accept_length e.message ≤ 1474618) step.sends

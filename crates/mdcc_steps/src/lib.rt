@@ -3,7 +3,7 @@
 
 ghost use Rattle.mdcc_steps.specs.Adding.{AddedFactIsAllowed, FactsStayAllowed, NoVotesAtBoot, NodeStaysBooted, VotesStayOf};
 ghost use Rattle.mdcc_steps.specs.Answering.{AnswerIsWellFormed};
-ghost use Rattle.mdcc_steps.specs.Forming.{AddedFactIsShort, AddedFactIsWellFormed, BootGivesNode, BootKeepsRoom, BootReadsFacts, NodeStays, RoomStays, SendsAreWellFormed};
+ghost use Rattle.mdcc_steps.specs.Forming.{AddedFactIsShort, AddedFactIsWellFormed, BootGivesNode, BootKeepsRoom, BootReadsFacts, CellsGiveRoom, LogsGiveRoom, NodeStays, RoomStays, SendsAreWellFormed, StructuresHaveRoom};
 
 /// A fact that a step adds is allowed after the node's facts, so that a boot over the log accepts it.
 pub fn added_facts_are_allowed()
@@ -18,14 +18,21 @@ pub fn votes_stay_of_the_cluster()
     ensures stays { VotesStayOf }
 {}
 
-/// From well-formed input a step adds a well-formed fact (one that fits a frame of a log, where leading is not built) and sends well-formed messages, and the node stays what it is to be.
+/// From well-formed input a step adds a well-formed fact (one that fits a frame of a log) and sends well-formed messages, and the node stays what it is to be.
 pub fn steps_are_well_formed()
     ensures fact { AddedFactIsWellFormed }
     ensures short { AddedFactIsShort }
     ensures sends { SendsAreWellFormed }
+    ensures roomy { StructuresHaveRoom }
     ensures answer { AnswerIsWellFormed }
     ensures stays { NodeStays }
     ensures room { RoomStays }
+{}
+
+/// Facts within a node's cells, or within a log, are few enough for the votes that a promise reports.
+pub fn facts_have_room()
+    ensures cells { CellsGiveRoom }
+    ensures logs { LogsGiveRoom }
 {}
 
 /// A boot gives a node, and reads what its log holds where that was allowed in turn.

@@ -1,7 +1,7 @@
 use Rattle.mdcc_steps.proofs.Answered.{answer-formed}
 use Rattle.mdcc_steps.proofs.Dispatched.{fact-formed, node-stays, sends-formed}
 use Rattle.mdcc_steps.proofs.Roomy.{room-stays}
-use Rattle.mdcc_steps.proofs.Shortness.{fact-short}
+use Rattle.mdcc_steps.proofs.Shortness.{fact-short, sends-short}
 use Rattle.mdcc_steps.proofs.steps_are_well_formed.Goals as goal
 
 pub returns-clause-fact : goal.returns-clause-fact
@@ -21,3 +21,6 @@ returns-clause-stays c = node-stays
 
 pub returns-clause-room : goal.returns-clause-room
 returns-clause-room c = room-stays
+
+pub returns-clause-roomy : goal.returns-clause-roomy
+returns-clause-roomy c = sends-short
