@@ -1,15 +1,19 @@
 -- A world stays one after each event.
-use Rattle.std.proofs.Common.{◌≡◌, ℕ, zero, suc, ◌+◌, ◌-◌, ◌≤◌, ◌<◌, ◌⊎◌, ◌&&◌, Bool, true, false, List, [], ◌∷◌, refl, sym, ap, ◌∙◌, subst, inl, inr, Option, Some, None, Result, Ok, Err, if◌then◌else◌, nat_le, map, arith}
+use Rattle.std.proofs.Common.{◌≡◌, ℕ, zero, suc, ◌+◌, ◌-◌, ◌≤◌, ◌<◌, ◌⊎◌, ◌&&◌, Bool, true, false, List, [], ◌∷◌, refl, sym, ap, ◌∙◌, subst, inl, inr, Option, Some, None, Result, Ok, Err, if◌then◌else◌, nat_le, nat_lt, map, arith}
 use Rattle.std.specs.List.{AllByRecursion}
 use Rattle.std.specs.Option.{option_or}
-use Rattle.std.specs.Prelude.{IsTrue}
-use Rattle.std.proofs.lemmas.Bool.{and_parts, cases_Bool, leb-false, leb-true}
+use Rattle.std.specs.Prelude.{IsTrue, is_some}
+use Rattle.std.proofs.lemmas.Bool.{and_parts, cases_Bool, leb-false, leb-true, ltb-false}
 use Rattle.mdcc_base.specs.Key.{IsKey}
 use Rattle.mdcc_base.specs.declared.key.Key.{Key}
 use Rattle.mdcc_option.specs.Transaction.{transaction_of}
 use Rattle.mdcc_option.specs.declared.faults.DraftFault.{DraftFault}
 use Rattle.mdcc_option.specs.declared.items.Part.{Part}
 use Rattle.mdcc_protocol.specs.Belongs.{is_centre}
+use Rattle.mdcc_ledger.specs.Ledger.{facts_of}
+use Rattle.mdcc_messages.specs.Lengths.{log_length}
+use Rattle.mdcc_rules.specs.Steps.{NodeStep}
+use Rattle.mdcc_rules.specs.declared.node.StepFault.{StepFault}
 use Rattle.mdcc_switches.specs.Built.{Built}
 use Rattle.mdcc_language.specs.Resolve.{resolve}
 use Rattle.mdcc_simulation.specs.State.{Happened, World, after_lines, centre_at, counted_event, is_up_at}
@@ -19,7 +23,7 @@ use Rattle.mdcc_simulation.specs.Centres.{crash_happened, restart_happened, tick
 use Rattle.mdcc_simulation.specs.Deliveries.{deliver_line, deliveries_of, delivery_of, first_waiting, settled_line, settled_of}
 use Rattle.mdcc_simulation.specs.Events.{event_of}
 use Rattle.mdcc_simulation.specs.Stepping.{input_happened, step_at}
-use Rattle.mdcc_simulation.specs.Limits.{cells_limit, input_taken, is_limit, is_past_events, log_limit, most_events, step_limit, with_lines, within_events}
+use Rattle.mdcc_simulation.specs.Limits.{bytes_limit, cells_limit, input_taken, is_limit, is_past_events, limit_if, log_limit, most_events, most_log, step_limit, step_limit_by, unless, with_lines, within_events}
 use Rattle.mdcc_language.specs.declared.events.Event.{Event}
 use Rattle.mdcc_language.specs.declared.events.UpdateWord.{UpdateWord}
 use Rattle.mdcc_messages.specs.declared.facts.Fact.{Fact}
@@ -29,6 +33,7 @@ use Rattle.mdcc_rules.specs.declared.node.Input.{Input}
 use Rattle.mdcc_language.specs.declared.schedule.ResolveFault.{ResolveFault}
 use Rattle.mdcc_language.specs.declared.world.EventFault.{EventFault}
 use Rattle.mdcc_language.specs.declared.world.LimitName.{LimitName}
+use Rattle.mdcc_steps.specs.Forming.{with_new}
 use Rattle.mdcc_steps.specs.Inputs.{IsWellFormedInput}
 use Rattle.mdcc_worlds.proofs.Counts.{delivery-events, limited-events, open-few, unless-happened}
 use Rattle.mdcc_worlds.proofs.Delivers.{next-of, refused-of}
@@ -36,7 +41,7 @@ use Rattle.mdcc_worlds.proofs.Drafting.{parts-formed}
 use Rattle.mdcc_worlds.proofs.Events.{begin-is, crash-is, delivery-is, open-is, read-is, restart-is, tick-is}
 use Rattle.mdcc_worlds.proofs.Numbers.{each-numbered}
 use Rattle.mdcc_worlds.proofs.Settles.{settle-closed, settled-limit, settled-next, settled-none, settled-refused, waiting-events}
-use Rattle.mdcc_worlds.proofs.Stays.{counted-stays, crash-stays, delivered-stays, input-stays, read-stays, restart-stays}
+use Rattle.mdcc_worlds.proofs.Stays.{KeepsLog, counted-stays, crash-stays, delivered-stays, input-stays, read-stays, restart-stays}
 use Rattle.mdcc_worlds.specs.Beginning.{begin_by, begun, begun_if}
 use Rattle.mdcc_worlds.specs.Delivering.{at_message, delivery, delivery_by, delivery_told, message_by, message_counted, unmoved}
 use Rattle.mdcc_worlds.specs.Events.{AreBounded, IsBetween}
@@ -45,15 +50,60 @@ use Rattle.mdcc_worlds.specs.Settling.{settle_told, settled}
 use Rattle.mdcc_worlds.specs.Standing.{IsSent, IsWorld}
 use Rattle.mdcc_worlds.specs.Words.{IsGivenEvent, IsGivenWord, is_built}
 
--- ---- a delivery
+-- ---- limits
+
+unless-open : (o : Option EventFault) (h after : Happened) → unless o h ≡ Ok after → o ≡ None
+unless-open None h after e = refl
+unless-open (Some fault) h after e = absurd (cc)
+
+either-open : (o p : Option EventFault) → option_or o p ≡ None → o ≡ None
+either-open None p e = refl
+either-open (Some fault) p e = absurd (cc)
+
+limit-open : (b : Bool) (name : LimitName) (number : ℕ) → limit_if b name number ≡ None → b ≡ false
+limit-open true name number e = absurd (cc)
+limit-open false name number e = refl
+
+-- a log that its limit does not refuse is within it
+log-open : (built : Built) (w : World) (a : ℕ) (fact : Fact) → IsTrue built.limit_on_log → log_limit built w a fact ≡ None → log_length (fact ∷ facts_of w.ledger a) ≤ most_log
+log-open built w a fact limited e =
+    let clear = limit-open (built.limit_on_log && nat_lt most_log (log_length (fact ∷ facts_of w.ledger a))) LimitName.Log most_log e in
+    let past : nat_lt most_log (log_length (fact ∷ facts_of w.ledger a)) ≡ false = rw limited at clear in
+    ltb-false most_log (log_length (fact ∷ facts_of w.ledger a)) past
+
+log-kept : (built : Built) (w : World) (a : ℕ) (r : Result NodeStep StepFault) → IsTrue built.limit_on_log → IsWorld w → is_centre w.cluster a ≡ true
+    → step_limit built w a r ≡ None → KeepsLog w a r
+log-kept built w a r limited stands centre e step is = by_fact step.fact (subst (λ (x : Result NodeStep StepFault). step_limit built w a x ≡ None) is e)
+  where
+    by_fact : (o : Option Fact) → step_limit_by built w a step o ≡ None → log_length (with_new (facts_of w.ledger a) o) ≤ most_log
+    by_fact None k = stands.logs a centre
+    by_fact (Some fact) k = log-open built w a fact limited (either-open (log_limit built w a fact) (if is_some (centre_at w a).stop then None else bytes_limit built w step.sends) k)
 
 -- an input that no limit refuses
-pub limited-stays : (built : Built) (bounded : AreBounded built) (w : World) (a : ℕ) (input : Input) (h : Happened) → IsWorld w → is_centre w.cluster a ≡ true → IsWellFormedInput input
+pub limited-stays : (built : Built) (w : World) (a : ℕ) (input : Input) (h : Happened) → IsTrue built.limit_on_log → IsWorld w → is_centre w.cluster a ≡ true → IsWellFormedInput input
     → input_taken built w a input ≡ Ok h → IsWorld h.world
-limited-stays built bounded w a input h stands centre formed e =
+limited-stays built w a input h limited stands centre formed e =
     let result = step_at built w a input in
+    let clear = unless-open (step_limit built w a result) (input_happened w a result) h e in
     let same = unless-happened (step_limit built w a result) (input_happened w a result) h e in
-    subst (λ (x : Happened). IsWorld x.world) same (input-stays built w a input (λ e. let clash : true ≡ false = sym e ∙ bounded.unled in absurd (cc)) stands centre formed)
+    subst (λ (x : Happened). IsWorld x.world) same (input-stays built w a input (log-kept built w a result limited stands centre clear) stands centre formed)
+
+-- and such a restart
+pub restarted-stays : (built : Built) (w : World) (a : ℕ) (h : Happened) → IsTrue built.limit_on_log → IsWorld w → is_centre w.cluster a ≡ true → w.events < most_events
+    → restarted built w a ≡ Ok h → IsWorld h.world
+restarted-stays built w a h limited stands centre few e =
+    let boot = Fact.Booted (next_epoch w a) in
+    let after = restart_happened (counted_event w) a (next_epoch w a) in
+    let limit = option_or (cells_limit built w a boot) (log_limit built w a boot) in
+    let same = unless-happened limit after h e in
+    let clear = other-open (cells_limit built w a boot) (log_limit built w a boot) (unless-open limit after h e) in
+    subst (λ (x : Happened). IsWorld x.world) same (restart-stays w a stands centre few (log-open built w a boot limited clear))
+  where
+    other-open : (o p : Option EventFault) → option_or o p ≡ None → p ≡ None
+    other-open None p e = e
+    other-open (Some fault) p e = absurd (cc)
+
+-- ---- a delivery
 
 pub delivery-stays : (built : Built) (bounded : AreBounded built) (w : World) (number : ℕ) (h : Happened) → IsWorld w → delivery built w number ≡ Ok h → IsWorld h.world
 delivery-stays built bounded w number h stands e = by_sent (numbered w.sent number) refl e
@@ -62,7 +112,7 @@ delivery-stays built bounded w number h stands e = by_sent (numbered w.sent numb
     by_sent None f k = absurd (cc)
     by_sent (Some sent) f k =
         let is = each-numbered (IsSent w.cluster) w.sent number sent stands.sent f in
-        limited-stays built bounded (message_counted w number) sent.envelope.to (Input.Message sent.envelope) h
+        limited-stays built (message_counted w number) sent.envelope.to (Input.Message sent.envelope) h bounded.logs_limited
         (delivered-stays w (number - 1) (w.events + 1) (omega arith) stands) is.within is.envelope_itself k
 
 -- ---- what is not refused
@@ -114,7 +164,7 @@ open-message built bounded w number clear = by_sent (numbered w.sent number) ref
 input-between : (built : Built) (bounded : AreBounded built) (w : World) (a : ℕ) (input : Input) (h : Happened) → IsBetween w → is_centre w.cluster a ≡ true → w.events < most_events → IsWellFormedInput input
     → input_taken built (counted_event w) a input ≡ Ok h → IsBetween h.world
 input-between built bounded w a input h between centre few formed e = record {
-  itself = limited-stays built bounded (counted_event w) a input h (counted-stays w between.itself) centre formed e;
+  itself = limited-stays built (counted_event w) a input h bounded.logs_limited (counted-stays w between.itself) centre formed e;
   few =
       let same = limited-events built (counted_event w) a (step_at built (counted_event w) a input) h e in
       omega (same, few, arith);
@@ -167,8 +217,10 @@ restart-between built bounded w a h between e =
     let boot = Fact.Booted (next_epoch w a) in
     let after = restart_happened (counted_event w) a (next_epoch w a) in
     let same = unless-happened (option_or (cells_limit built w a boot) (log_limit built w a boot)) after h both.1 in
+    let itself : IsWorld after.world =
+    subst (λ (x : Happened). IsWorld x.world) (sym same) (restarted-stays built w a h bounded.logs_limited between.itself there.0 few both.1) in
     subst (λ (x : Happened). IsBetween x.world) same
-    (record { itself = restart-stays w a between.itself there.0 few; few = omega (few, arith) })
+    (record { itself = itself; few = omega (few, arith) })
 
 begin-between : (built : Built) (bounded : AreBounded built) (w : World) (a : ℕ) (words : List UpdateWord) (h : Happened) → IsBetween w → AllByRecursion IsGivenWord words → event_of built w (Event.Begin a words) ≡ Ok h → IsBetween h.world
 begin-between built bounded w a words h between given e = by_up (is_up_at w a) refl (sym (begin-is built w a words) ∙ e)

@@ -15,14 +15,14 @@ use Rattle.mdcc_ledger.specs.Ledger.{Entry, facts_of}
 use Rattle.mdcc_rules.specs.Steps.{NodeStep, answering}
 use Rattle.mdcc_protocol.specs.Visible
 use Rattle.mdcc_protocol.specs.Volatile.{Volatile, nothing_kept}
-use Rattle.mdcc_messages.specs.Lengths.{cells_used}
+use Rattle.mdcc_messages.specs.Lengths.{log_length}
 use Rattle.mdcc_messages.specs.WellFormed.{IsWellFormedEnvelope, IsWellFormedFact}
 use Rattle.mdcc_messages.specs.Mailbox.{Sent, unsent, with_delivered}
 use Rattle.mdcc_simulation.specs.State.{Site, World, booted, centre_at, counted_event, down, with_centre}
 use Rattle.mdcc_simulation.specs.Centres.{crash_happened, restart_happened}
 use Rattle.mdcc_simulation.specs.Stepping.{fact_happened, input_happened, step_at, step_happened, step_happened_by}
 use Rattle.mdcc_simulation.specs.Clients.{known_of, read_happened}
-use Rattle.mdcc_simulation.specs.Limits.{most_events}
+use Rattle.mdcc_simulation.specs.Limits.{most_events, most_log}
 use Rattle.mdcc_messages.specs.declared.facts.Fact.{Fact}
 use Rattle.mdcc_messages.specs.declared.messages.Envelope.{Envelope}
 use Rattle.mdcc_rules.specs.declared.node.Answer.{Answer}
@@ -30,9 +30,11 @@ use Rattle.mdcc_rules.specs.declared.node.Input.{Input}
 use Rattle.mdcc_rules.specs.declared.node.StepFault.{StepFault}
 use Rattle.mdcc_steps.proofs.Answered.{answer-formed}
 use Rattle.mdcc_steps.proofs.Booting.{boot-node, boot-reads}
+use Rattle.mdcc_steps.proofs.Cells.{few-logged}
 use Rattle.mdcc_steps.proofs.Dispatched.{node-stays, sends-formed}
 use Rattle.mdcc_steps.proofs.Each.{each-append}
-use Rattle.mdcc_steps.specs.Forming.{IsNode, payloads_of, with_new}
+use Rattle.mdcc_steps.proofs.Shortness.{sends-short}
+use Rattle.mdcc_steps.specs.Forming.{HasRoom, IsNode, accept_length, payloads_of, with_new}
 use Rattle.mdcc_steps.specs.Inputs.{IsWellFormedInput}
 use Rattle.mdcc_worlds.proofs.Within.{LeavesEpoch, made-epoch, made-stays}
 use Rattle.mdcc_worlds.specs.Sending.{GoesWithin, StaysWithin}
@@ -104,10 +106,17 @@ refused-same w a StepFault.Memory = refl
 
 -- ---- a step
 
-each-sent : (cluster : Cluster) (envelopes : List Envelope) → AllByRecursion IsWellFormedEnvelope envelopes → AllByRecursion (GoesWithin cluster) envelopes
+abbrev AreShort : List Envelope → Type 0
+AreShort envelopes = AllByRecursion (λ e. accept_length e.message ≤ 1474618) envelopes
+
+each-sent : (cluster : Cluster) (envelopes : List Envelope) → AllByRecursion IsWellFormedEnvelope envelopes → AllByRecursion (GoesWithin cluster) envelopes → AreShort envelopes
     → AllByRecursion (IsSent cluster) (map unsent envelopes)
-each-sent cluster [] h k = tt
-each-sent cluster (e ∷ es) h k = (record { envelope_itself = h.0; within = k.0 }, each-sent cluster es h.1 k.1)
+each-sent cluster [] h k s = tt
+each-sent cluster (e ∷ es) h k s =
+    (record { envelope_itself = h.0; within = k.0; short = below (accept_length e.message) s.0 }, each-sent cluster es h.1 k.1 s.1)
+  where
+    below : (n : ℕ) → n ≤ 1474618 → n ≤ 2097152
+    below n h = omega (h, arith)
 
 module _ (w : World) (a : ℕ) (step : NodeStep) (stands : IsWorld w) (centre : is_centre w.cluster a ≡ true) (stays : StaysWithin w.cluster step) where
   site : Site
@@ -141,39 +150,51 @@ module _ (w : World) (a : ℕ) (step : NodeStep) (stands : IsWorld w) (centre : 
     | inr e ↦ rw (facts-there b e, site-there b some e) (others b some e)
   ]
 
-  pub world-stays : IsNode w.cluster a (with_new (facts_of w.ledger a) step.fact) step.after → LeavesEpoch step.fact → AllByRecursion IsWellFormedEnvelope step.sends
+  pub world-stays : IsNode w.cluster a (with_new (facts_of w.ledger a) step.fact) step.after → LeavesEpoch step.fact → AllByRecursion IsWellFormedEnvelope step.sends → AreShort step.sends
+      → log_length (with_new (facts_of w.ledger a) step.fact) ≤ most_log
       → IsWorld (world_taken w a step)
-  world-stays node epoch formed = record {
+  world-stays node epoch formed short log = record {
     cluster_itself = stands.cluster_itself;
     sites = length-set w.centres (a - 1) (record (centre_at w a) { volatile = step.after }) ∙ stands.sites;
     unstopped = λ b h. each-stays (λ b facts s. is_centre w.cluster b ≡ true → s.stop ≡ None) (λ b some e h. stands.unstopped b h) (λ h. stands.unstopped a h) b (some-centre w.cluster b h).0 h;
     nodes = λ b h. each-stays (λ b facts s. is_centre w.cluster b ≡ true → IsNode w.cluster b facts s.volatile) (λ b some e h. stands.nodes b h) (λ h. node) b (some-centre w.cluster b h).0 h;
+    logs = λ b h. each-stays (λ b facts s. is_centre w.cluster b ≡ true → log_length facts ≤ most_log) (λ b some e h. stands.logs b h) (λ h. log) b (some-centre w.cluster b h).0 h;
     epochs = λ b h. each-stays (λ b facts s. is_centre w.cluster b ≡ true → epoch_of facts ≤ w.events + 1) (λ b some e h. stands.epochs b h)
         (λ h. rw (epoch (facts_of w.ledger a)) (stands.epochs a h)) b (some-centre w.cluster b h).0 h;
-    sent = each-append (IsSent w.cluster) w.sent (map unsent step.sends) stands.sent (each-sent w.cluster step.sends formed stays.sends);
+    sent = each-append (IsSent w.cluster) w.sent (map unsent step.sends) stands.sent (each-sent w.cluster step.sends formed stays.sends short);
     reads = stands.reads;
   }
 
-pub input-stays : (built : Built) (w : World) (a : ℕ) (input : Input) → (built.leading ≡ true → cells_used (facts_of w.ledger a) ≤ 4194304) → IsWorld w → is_centre w.cluster a ≡ true → IsWellFormedInput input
+-- the votes that its promises report are few enough
+pub log-few : (built : Built) (w : World) (a : ℕ) → IsWorld w → is_centre w.cluster a ≡ true → HasRoom built (facts_of w.ledger a)
+log-few built w a stands centre leading = few-logged (facts_of w.ledger a) (stands.logs a centre)
+
+-- the log of a centre stays within its limit after a step
+abbrev pub KeepsLog : World → ℕ → Result NodeStep StepFault → Type 0
+KeepsLog w a r = (step : NodeStep) → r ≡ Ok step → log_length (with_new (facts_of w.ledger a) step.fact) ≤ most_log
+
+pub input-stays : (built : Built) (w : World) (a : ℕ) (input : Input) → KeepsLog w a (step_at built w a input) → IsWorld w → is_centre w.cluster a ≡ true → IsWellFormedInput input
     → IsWorld (input_happened w a (step_at built w a input)).world
-input-stays built w a input room stands centre formed = by_result (step_at built w a input) refl
+input-stays built w a input keeps stands centre formed = by_result (step_at built w a input) refl
   where
     by_result : (r : Result NodeStep StepFault) → step_at built w a input ≡ r → IsWorld (input_happened w a r).world
     by_result (Err fault) e = rw (refused-same w a fault) stands
     by_result (Ok step) e =
         let node = stands.nodes a centre in
         let within = made-stays built w.cluster a (facts_of w.ledger a) (centre_at w a).volatile input step stands.cluster_itself.quorums formed e in
+        let room = log-few built w a stands centre in
         let sends = sends-formed built w.cluster a (facts_of w.ledger a) (centre_at w a).volatile input step node formed e room in
+        let short = sends-short built w.cluster a (facts_of w.ledger a) (centre_at w a).volatile input step room node formed e in
         rw (happened-taken w a step (stands.unstopped a centre))
         (world-stays w a step stands centre within
         (node-stays built w.cluster a (facts_of w.ledger a) (centre_at w a).volatile input step node formed e)
-        (made-epoch built w.cluster a (facts_of w.ledger a) (centre_at w a).volatile input step stands.cluster_itself.quorums formed e) sends)
+        (made-epoch built w.cluster a (facts_of w.ledger a) (centre_at w a).volatile input step stands.cluster_itself.quorums formed e) sends short (keeps step e))
 
 -- ---- a delivery
 
 pub delivered-sent : (cluster : Cluster) (sent : List Sent) (place : ℕ) → AllByRecursion (IsSent cluster) sent → AllByRecursion (IsSent cluster) (with_delivered sent place)
 delivered-sent cluster [] place h = tt
-delivered-sent cluster (s ∷ ss) zero h = (record { envelope_itself = h.0.envelope_itself; within = h.0.within }, h.1)
+delivered-sent cluster (s ∷ ss) zero h = (record { envelope_itself = h.0.envelope_itself; within = h.0.within; short = h.0.short }, h.1)
 delivered-sent cluster (s ∷ ss) (suc place) h = (h.0, delivered-sent cluster ss place h.1)
 
 pub delivered-stays : (w : World) (place events : ℕ) → w.events ≤ events → IsWorld w → IsWorld (record w { sent = with_delivered w.sent place; events = events })
@@ -182,6 +203,7 @@ delivered-stays w place events more stands = record {
   sites = stands.sites;
   unstopped = stands.unstopped;
   nodes = stands.nodes;
+  logs = stands.logs;
   epochs = λ a h. later (epoch_of (facts_of w.ledger a)) w.events events (stands.epochs a h) more;
   sent = delivered-sent w.cluster w.sent place stands.sent;
   reads = stands.reads;
@@ -198,6 +220,7 @@ counted-stays w stands = record {
   sites = stands.sites;
   unstopped = stands.unstopped;
   nodes = stands.nodes;
+  logs = stands.logs;
   epochs = λ a h. later (epoch_of (facts_of w.ledger a)) w.events (stands.epochs a h);
   sent = stands.sent;
   reads = stands.reads;
@@ -218,6 +241,7 @@ read-stays w a key stands centre is =
       sites = stands.sites;
       unstopped = stands.unstopped;
       nodes = stands.nodes;
+      logs = stands.logs;
       epochs = stands.epochs;
       sent = stands.sent;
       reads = each-append IsRead w.reads (known_of key (Visible.read (facts_of w.ledger a) key) ∷ []) stands.reads
@@ -243,6 +267,7 @@ crash-stays w a stands centre = record {
   unstopped = λ b h. each-put w a down None (λ b facts s. is_centre w.cluster b ≡ true → s.stop ≡ None) stands centre stands.unstopped (λ h. refl) b (some-centre w.cluster b h).0 h;
   nodes = λ b h. each-put w a down None (λ b facts s. is_centre w.cluster b ≡ true → IsNode w.cluster b facts s.volatile) stands centre stands.nodes
       (λ h. node-lost w.cluster a (facts_of w.ledger a) (centre_at w a).volatile (stands.nodes a h)) b (some-centre w.cluster b h).0 h;
+  logs = stands.logs;
   epochs = stands.epochs;
   sent = stands.sent;
   reads = stands.reads;
@@ -271,14 +296,16 @@ restarted-node cluster a facts volatile node below =
     (boot-reads nothing_built cluster facts node.facts_themselves.allowed (λ e. absurd (cc)) ∙ booted-next cluster facts (lt-leb (2 ^ 32 - 1) (epoch_of facts) below))
 
 pub restart-stays : (w : World) (a : ℕ) → IsWorld w → is_centre w.cluster a ≡ true → w.events < most_events
+    → log_length (Fact.Booted (epoch_of (facts_of w.ledger a) + 1) ∷ facts_of w.ledger a) ≤ most_log
     → IsWorld (restart_happened (counted_event w) a (epoch_of (facts_of w.ledger a) + 1)).world
-restart-stays w a stands centre few = record {
+restart-stays w a stands centre few log = record {
   cluster_itself = stands.cluster_itself;
   sites = length-set w.centres (a - 1) booted ∙ stands.sites;
   unstopped = λ b h. each-put w a booted (Some fact) (λ b facts s. is_centre w.cluster b ≡ true → s.stop ≡ None) stands centre stands.unstopped (λ h. refl) b (some-centre w.cluster b h).0 h;
   nodes = λ b h. each-put w a booted (Some fact) (λ b facts s. is_centre w.cluster b ≡ true → IsNode w.cluster b facts s.volatile) stands centre stands.nodes
       (λ h. restarted-node w.cluster a (facts_of w.ledger a) (centre_at w a).volatile (stands.nodes a h) (below-last (epoch_of (facts_of w.ledger a)) w.events (stands.epochs a h) few))
       b (some-centre w.cluster b h).0 h;
+  logs = λ b h. each-put w a booted (Some fact) (λ b facts s. is_centre w.cluster b ≡ true → log_length facts ≤ most_log) stands centre stands.logs (λ h. log) b (some-centre w.cluster b h).0 h;
   epochs = λ b h. each-put w a booted (Some fact) (λ b facts s. is_centre w.cluster b ≡ true → epoch_of facts ≤ w.events + 1 + 1) stands centre
       (λ b h. later (epoch_of (facts_of w.ledger b)) w.events (stands.epochs b h)) (λ h. next (epoch_of (facts_of w.ledger a)) w.events (stands.epochs a h)) b (some-centre w.cluster b h).0 h;
   sent = stands.sent;

@@ -13,11 +13,11 @@ pub record IsBetween (w : World) : Type 0 where
   pub itself : IsWorld w
   pub few : w.events ≤ most_events
 
--- where events are limited, no stop is armed, and no leader asks for reports, which only the cells of a node keep short
+-- where events and logs are limited, and no stop is armed
 pub record AreBounded (built : Built) : Type 0 where
   pub events_limited : built.limit_on_events ≡ true
+  pub logs_limited : built.limit_on_log ≡ true
   pub unstopped : built.stops ≡ false
-  pub unled : built.leading ≡ false
 
 -- it is so after each event that happens
 abbrev pub EventsStay : Type 0

@@ -1,6 +1,6 @@
 -- What holds of a world at every moment, as long as no stop is armed.
 use Rattle.std.specs.List.{AllByRecursion}
-use Rattle.std.specs.Prelude.{◌≡◌, ◌<◌, ◌≤◌, ◌+◌, None, length, true, ℕ}
+use Rattle.std.specs.Prelude.{◌≡◌, ◌<◌, ◌≤◌, ◌+◌, IsTrue, None, Ok, length, true, ℕ}
 use Rattle.mdcc_base.specs.Key.{IsKey}
 use Rattle.mdcc_base.specs.declared.key.Key.{Key}
 use Rattle.mdcc_option.specs.declared.cluster.Cluster.{Cluster}
@@ -10,35 +10,37 @@ use Rattle.mdcc_switches.specs.Built.{Built}
 use Rattle.mdcc_protocol.specs.Facts.{epoch_of}
 use Rattle.mdcc_protocol.specs.IsCluster.{IsCluster}
 use Rattle.mdcc_ledger.specs.Ledger.{facts_of}
-use Rattle.mdcc_messages.specs.Lengths.{cells_used}
+use Rattle.mdcc_messages.specs.Lengths.{log_length}
 use Rattle.mdcc_messages.specs.WellFormed.{IsWellFormedEnvelope, IsWellFormedRead}
 use Rattle.mdcc_messages.specs.Mailbox.{Sent, with_delivered}
-use Rattle.mdcc_simulation.specs.State.{World, centre_at, counted_event, first_world}
-use Rattle.mdcc_simulation.specs.Centres.{crash_happened, restart_happened}
-use Rattle.mdcc_simulation.specs.Stepping.{input_happened, step_at}
-use Rattle.mdcc_simulation.specs.Limits.{most_events}
+use Rattle.mdcc_simulation.specs.State.{Happened, World, centre_at, counted_event, first_world}
+use Rattle.mdcc_simulation.specs.Centres.{crash_happened}
+use Rattle.mdcc_simulation.specs.Limits.{input_taken, most_events, most_log}
 use Rattle.mdcc_simulation.specs.Clients.{read_happened}
 use Rattle.mdcc_rules.specs.declared.node.Input.{Input}
-use Rattle.mdcc_steps.specs.Forming.{IsNode}
+use Rattle.mdcc_steps.specs.Forming.{IsNode, accept_length}
 use Rattle.mdcc_steps.specs.Inputs.{IsWellFormedInput}
+use Rattle.mdcc_worlds.specs.Happening.{restarted}
 use Rattle.mdcc_worlds.specs.Sending.{GoesWithin}
 
--- a message that was sent is well-formed, and goes to a centre of the cluster
+-- a message that was sent is well-formed, and goes to a centre of the cluster; an Accept has at most 2,097,152 bytes
 pub record IsSent (cluster : Cluster) (sent : Sent) : Type 0 where
   pub envelope_itself : IsWellFormedEnvelope sent.envelope
   pub within : GoesWithin cluster sent.envelope
+  pub short : accept_length sent.envelope.message ≤ 2097152
 
 -- what a read showed is well-formed
 abbrev pub IsRead : Known → Type 0
 IsRead known = IsWellFormedRead known.key known.token known.item
 
--- no stop is armed; what each centre added and keeps is that of a node, also where it is down; its epochs are no more than the
--- events and one; and all messages and reads are such
+-- no stop is armed; what each centre added and keeps is that of a node, also where it is down; its log is within its limit; its
+-- epochs are no more than the events and one; and all messages and reads are such
 pub record IsWorld (w : World) : Type 0 where
   pub cluster_itself : IsCluster w.cluster
   pub sites : length w.centres ≡ w.cluster.quorums.centres
   pub unstopped : (a : ℕ) → is_centre w.cluster a ≡ true → (centre_at w a).stop ≡ None
   pub nodes : (a : ℕ) → is_centre w.cluster a ≡ true → IsNode w.cluster a (facts_of w.ledger a) (centre_at w a).volatile
+  pub logs : (a : ℕ) → is_centre w.cluster a ≡ true → log_length (facts_of w.ledger a) ≤ most_log
   pub epochs : (a : ℕ) → is_centre w.cluster a ≡ true → epoch_of (facts_of w.ledger a) ≤ w.events + 1
   pub sent : AllByRecursion (IsSent w.cluster) w.sent
   pub reads : AllByRecursion IsRead w.reads
@@ -47,12 +49,12 @@ pub record IsWorld (w : World) : Type 0 where
 abbrev pub FirstStands : Type 0
 FirstStands = (cluster : Cluster) → IsCluster cluster → IsWorld (first_world cluster)
 
--- and after each input of a centre, whose reports are short where it gives any: its facts lie in the cells that a node may have
+-- and after each input of a centre that passes no limit, where logs have one
 abbrev pub WorldStays : Type 0
 WorldStays =
-    (built : Built) (w : World) (a : ℕ) (input : Input) → (built.leading ≡ true → cells_used (facts_of w.ledger a) ≤ 4194304)
+    (built : Built) (w : World) (a : ℕ) (input : Input) (h : Happened) → IsTrue built.limit_on_log
     → IsWorld w → is_centre w.cluster a ≡ true → IsWellFormedInput input
-    → IsWorld (input_happened w a (step_at built w a input)).world
+    → input_taken built w a input ≡ Ok h → IsWorld h.world
 
 -- and where a message counts as delivered
 abbrev pub DeliveredStays : Type 0
@@ -73,8 +75,9 @@ ReadStays =
 abbrev pub CrashStays : Type 0
 CrashStays = (w : World) (a : ℕ) → IsWorld w → is_centre w.cluster a ≡ true → IsWorld (crash_happened w a).world
 
--- and after a restart, which is counted
+-- and after a restart that passes no limit
 abbrev pub RestartStays : Type 0
 RestartStays =
-    (w : World) (a : ℕ) → IsWorld w → is_centre w.cluster a ≡ true → w.events < most_events
-    → IsWorld (restart_happened (counted_event w) a (epoch_of (facts_of w.ledger a) + 1)).world
+    (built : Built) (w : World) (a : ℕ) (h : Happened) → IsTrue built.limit_on_log
+    → IsWorld w → is_centre w.cluster a ≡ true → w.events < most_events
+    → restarted built w a ≡ Ok h → IsWorld h.world

@@ -18,7 +18,8 @@ pub fn steps_stay_within()
 
 /// In a world each centre has a node, also one that is down, no stop is armed, and all messages are
 /// well-formed and for centres of the cluster: at first, after each input of a centre, after each
-/// delivery and read, and after a crash and a restart.
+/// delivery and read, and after a crash and a restart. Logs stay within their limit, and each message
+/// that brings a structure is short enough for a frame of a log.
 pub fn worlds_stay()
     ensures first { FirstStands }
     ensures input { WorldStays }
@@ -30,7 +31,7 @@ pub fn worlds_stay()
 {}
 
 /// It is so after each event that happens, and there are no more events than there may be, where
-/// events are limited, no stop is armed and nothing is led.
+/// events and logs are limited and no stop is armed.
 pub fn events_stay()
     ensures { EventsStay }
 {}

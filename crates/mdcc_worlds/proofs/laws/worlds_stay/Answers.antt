@@ -1,12 +1,13 @@
 use Rattle.mdcc_worlds.proofs.Begins.{first-stands}
-use Rattle.mdcc_worlds.proofs.Stays.{counted-stays, crash-stays, delivered-stays, input-stays, read-stays, restart-stays}
+use Rattle.mdcc_worlds.proofs.Staying.{limited-stays, restarted-stays}
+use Rattle.mdcc_worlds.proofs.Stays.{counted-stays, crash-stays, delivered-stays, read-stays}
 use Rattle.mdcc_worlds.proofs.laws.worlds_stay.Goals as goal
 
 pub returns-clause-first : goal.returns-clause-first
 returns-clause-first c = first-stands
 
 pub returns-clause-input : goal.returns-clause-input
-returns-clause-input c = input-stays
+returns-clause-input c = limited-stays
 
 pub returns-clause-delivered : goal.returns-clause-delivered
 returns-clause-delivered c = delivered-stays
@@ -21,4 +22,4 @@ pub returns-clause-crash : goal.returns-clause-crash
 returns-clause-crash c = crash-stays
 
 pub returns-clause-restart : goal.returns-clause-restart
-returns-clause-restart c = restart-stays
+returns-clause-restart c = restarted-stays
