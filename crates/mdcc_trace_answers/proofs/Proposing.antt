@@ -1,5 +1,5 @@
 -- A leader that has enough promises has proposed.
-use Rattle.std.proofs.Common.{Bool, List, Ok, Some, [], ap, cond, false, length, refl, sym, true, ℕ, ◌<◌, ◌≡◌, ◌≤◌, ◌∙◌, ◌||◌}
+use Rattle.std.proofs.Common.{Bool, List, Ok, [], ap, cond, false, length, refl, sym, true, ℕ, ◌<◌, ◌≡◌, ◌≤◌, ◌∙◌, ◌||◌}
 use Rattle.std.proofs.lemmas.Bool.{false≢true, le-leb, or_left}
 use Rattle.std.specs.Prelude.{nat_le, ◌&&◌}
 use Rattle.mdcc_base.specs.declared.key.Key.{Key}

@@ -1,6 +1,5 @@
 -- When a leader proposes, and until when it waits.
 use Rattle.std.specs.Prelude.{List, Some, false, length, true, ℕ, ◌<◌, ◌≡◌}
-use Rattle.mdcc_option.specs.declared.cluster.Cluster.{Cluster}
 use Rattle.mdcc_struct.specs.declared.report.Report.{Report}
 use Rattle.mdcc_protocol.specs.Fit.{parts_of}
 use Rattle.mdcc_protocol.specs.Leader.{has_proposed, is_promise_counted, reports_of, with_promise}

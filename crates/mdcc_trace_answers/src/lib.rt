@@ -19,6 +19,7 @@ ghost use Rattle.mdcc_simulation.specs.State.{first_world};
 ghost use Rattle.mdcc_simulation.specs.Runs.{run_of};
 ghost use Rattle.mdcc_language.specs.declared.events.Event.{Event};
 ghost use Rattle.mdcc_trace_answers.specs.Answered.{AreAnswered};
+ghost use Rattle.mdcc_trace_answers.specs.Lengths.{MessagesAreShort, WellFormedAreShort};
 ghost use Rattle.mdcc_trace_answers.specs.Proposing.{DoNotWait, IsCountedBefore, reports_with};
 
 /// In a trace whose number of events is limited a node refuses a message that was sent only for want of
@@ -52,4 +53,12 @@ pub fn leaders_propose_at_once()
 /// classic quorum under the safe limit, of all centres under the wider one.
 pub fn no_leader_waits_with_enough()
     ensures { (built : Built) (cluster : Cluster) → IsCluster cluster → (events : List Event) → (a : ℕ) → DoNotWait (run_of built (first_world cluster) events).world a }
+{}
+
+/// In a trace whose number of events is limited a message whose parts are well-formed has at most
+/// 1,473,505 bytes. Where logs are limited too and events have keys and bodies that are such, each
+/// message has.
+pub fn messages_are_short()
+    ensures well_formed { WellFormedAreShort }
+    ensures all { MessagesAreShort }
 {}

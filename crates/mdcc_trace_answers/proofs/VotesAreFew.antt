@@ -1,0 +1,246 @@
+-- A centre has few votes in an instance: at the fast ballot as its acceptor allows, at a classic one those of a structure that was sent.
+use Rattle.std.proofs.Common.{Bool, List, None, Option, Some, [], arith, cond, false, inl, inr, length, not, refl, subst, sym, true, ℕ, ◌&&◌, ◌+◌, ◌<◌, ◌==◌, ◌∙◌, ◌∷◌, ◌≡◌, ◌≤◌}
+use Rattle.std.specs.Prelude.{filter, nat_lt, ⊤}
+use Rattle.std.proofs.lemmas.Bool.{MatchBool-at_true, cases_Bool, cond_both, eqb-true, ltb-true}
+use Rattle.mdcc_base.specs.Ballot.{ballot_eq, fast_ballot, is_fast}
+use Rattle.mdcc_base.specs.Key.{key_eq}
+use Rattle.mdcc_base.specs.TxId.{tx_eq}
+use Rattle.mdcc_base.specs.declared.identifiers.Ballot.{Ballot}
+use Rattle.mdcc_base.specs.declared.identifiers.TxId.{TxId}
+use Rattle.mdcc_base.specs.declared.key.Key.{Key}
+use Rattle.mdcc_option.specs.declared.choices.Cause.{Cause}
+use Rattle.mdcc_option.specs.declared.choices.Choice.{Choice}
+use Rattle.mdcc_option.specs.declared.choices.Mark.{Mark}
+use Rattle.mdcc_option.specs.declared.cluster.Cluster.{Cluster}
+use Rattle.mdcc_struct.specs.Maps.{union, value_of, with_entry}
+use Rattle.mdcc_struct.specs.declared.options.Options.{Options}
+use Rattle.mdcc_messages.specs.declared.facts.Fact.{Fact}
+use Rattle.mdcc_protocol.specs.Acceptor.{fit_of, vote_by_fit, vote_on, vote_to_accept, vote_to_reject}
+use Rattle.mdcc_protocol.specs.Facts.{current_of, entries_of, marks_voted, votes_of}
+use Rattle.mdcc_protocol.specs.Marks.{accepts_in, is_accept, rejects_in}
+use Rattle.mdcc_protocol.specs.Structures.{accept_room, reject_room}
+use Rattle.mdcc_protocol.specs.declared.acceptor.ProposeAnswer.{ProposeAnswer}
+use Rattle.mdcc_protocol.specs.declared.fit.Fit.{Fit}
+use Rattle.mdcc_ledger.specs.AllowedFacts.{IsFastVote, MayVoteFast}
+use Rattle.mdcc_ledger.specs.AllowedLedgers.{IsAllowed}
+use Rattle.mdcc_ledger.specs.Ledger.{Added, Entry, Valued, facts_of}
+use Rattle.mdcc_agreement.specs.Laws.{IsLedger}
+use Rattle.mdcc_rooms.proofs.RoomTold.{room_sent}
+use Rattle.mdcc_steps.proofs.Structuring.{count-with_entry, room-small}
+use Rattle.mdcc_trace_rules.proofs.Chains.{HasOnce, backed, is-here, once-union}
+use Rattle.mdcc_trace_states.proofs.Maps.{tx-refl, tx-true}
+use Rattle.mdcc_trace_states.proofs.Tests.{Decides-ballot}
+
+-- so many marks accept, and so many reject
+pub record AreFew (accepts rejects : ℕ) (votes : Options) : Type 0 where
+  pub accepted : length (accepts_in votes) ≤ accepts
+  pub rejected : length (rejects_in votes) ≤ rejects
+
+-- ---- the fast ballot
+
+-- an answer that is a vote leaves room for it
+abbrev LeavesRoom : List Fact → Choice → ProposeAnswer → Type 0
+LeavesRoom facts choice (ProposeAnswer.Vote (Mark.Accept other)) = length (accepts_in (votes_of facts choice.key choice.version fast_ballot)) < 512
+LeavesRoom facts choice (ProposeAnswer.Vote Mark.Reject) = length (rejects_in (votes_of facts choice.key choice.version fast_ballot)) < 16384
+LeavesRoom facts choice _ = ⊤
+
+accept-leaves : (facts : List Fact) (choice : Choice) → LeavesRoom facts choice (vote_to_accept facts choice)
+accept-leaves facts choice =
+    cond_both (nat_lt (entries_of facts choice.key choice.version).0 (accept_room choice.update)) (ProposeAnswer.Vote (Mark.Accept choice)) (ProposeAnswer.Escalate Cause.Full) (LeavesRoom facts choice)
+    (λ e.
+    let below : length (accepts_in (votes_of facts choice.key choice.version fast_ballot)) < accept_room choice.update = ltb-true (entries_of facts choice.key choice.version).0 (accept_room choice.update) e in
+    omega (arith, below, room-small choice.update))
+    (λ e. tt)
+
+reject-leaves : (facts : List Fact) (choice : Choice) → LeavesRoom facts choice (vote_to_reject facts choice)
+reject-leaves facts choice =
+    cond_both (nat_lt (entries_of facts choice.key choice.version).1 reject_room) (ProposeAnswer.Vote Mark.Reject) (ProposeAnswer.Escalate Cause.Full) (LeavesRoom facts choice)
+    (λ e. ltb-true (entries_of facts choice.key choice.version).1 reject_room e) (λ e. tt)
+
+fit-leaves : (facts : List Fact) (choice : Choice) (fit : Fit) → LeavesRoom facts choice (vote_by_fit facts choice fit)
+fit-leaves facts choice Fit.Fits = accept-leaves facts choice
+fit-leaves facts choice Fit.Conflict = reject-leaves facts choice
+fit-leaves facts choice (Fit.Limit quantity) = tt
+fit-leaves facts choice (Fit.Breaks quantity) = reject-leaves facts choice
+
+vote-leaves : (cluster : Cluster) (facts : List Fact) (choice : Choice) → LeavesRoom facts choice (vote_on cluster facts choice)
+vote-leaves cluster facts choice =
+    cond_both (nat_lt choice.version (current_of facts choice.key)) (vote_to_reject facts choice) (vote_by_fit facts choice (fit_of cluster facts choice)) (LeavesRoom facts choice)
+    (λ e. reject-leaves facts choice) (λ e. fit-leaves facts choice (fit_of cluster facts choice))
+
+-- the same in the instance of the vote
+abbrev LeavesRoomAt : List Fact → Key → ℕ → Mark → Type 0
+LeavesRoomAt facts key version (Mark.Accept other) = length (accepts_in (votes_of facts key version fast_ballot)) < 512
+LeavesRoomAt facts key version Mark.Reject = length (rejects_in (votes_of facts key version fast_ballot)) < 16384
+
+marked-leaves : (facts : List Fact) (choice : Choice) (mark : Mark) → LeavesRoom facts choice (ProposeAnswer.Vote mark) → LeavesRoomAt facts choice.key choice.version mark
+marked-leaves facts choice (Mark.Accept other) h = h
+marked-leaves facts choice Mark.Reject h = h
+
+may-leaves : (cluster : Cluster) (facts : List Fact) (key : Key) (version : ℕ) (tx : TxId) (mark : Mark) (choice : Choice) → MayVoteFast cluster facts key version tx mark choice
+    → LeavesRoomAt facts key version mark
+may-leaves cluster facts key version tx mark choice h =
+    subst (λ z. LeavesRoomAt facts key z mark) h.of_version
+    (subst (λ z. LeavesRoomAt facts z choice.version mark) h.of_key
+    (marked-leaves facts choice mark (subst (λ z. LeavesRoom facts choice z) h.answer (vote-leaves cluster facts choice))))
+
+one-more : (facts : List Fact) (key : Key) (version : ℕ) (tx : TxId) (mark : Mark) → LeavesRoomAt facts key version mark
+    → AreFew 512 16384 (votes_of facts key version fast_ballot) → AreFew 512 16384 (with_entry (votes_of facts key version fast_ballot) (tx, mark))
+one-more facts key version tx (Mark.Accept choice) room h =
+    let votes = votes_of facts key version fast_ballot in
+    let a : length (accepts_in (with_entry votes (tx, Mark.Accept choice))) ≤ length (accepts_in votes) + 1 = count-with_entry (λ e. is_accept e.1) votes (tx, Mark.Accept choice) in
+    let b : length (rejects_in (with_entry votes (tx, Mark.Accept choice))) ≤ length (rejects_in votes) + 0 = count-with_entry (λ e. not (is_accept e.1)) votes (tx, Mark.Accept choice) in
+    record { accepted = omega (arith, room, a); rejected = omega (arith, h.rejected, b) }
+one-more facts key version tx Mark.Reject room h =
+    let votes = votes_of facts key version fast_ballot in
+    let a : length (accepts_in (with_entry votes (tx, Mark.Reject))) ≤ length (accepts_in votes) + 0 = count-with_entry (λ e. is_accept e.1) votes (tx, Mark.Reject) in
+    let b : length (rejects_in (with_entry votes (tx, Mark.Reject))) ≤ length (rejects_in votes) + 1 = count-with_entry (λ e. not (is_accept e.1)) votes (tx, Mark.Reject) in
+    record { accepted = omega (arith, h.accepted, a); rejected = omega (arith, room, b) }
+
+vote-few : (cluster : Cluster) (facts : List Fact) (key : Key) (version : ℕ) (options : Options) (offered : Option Choice) → IsFastVote cluster facts key version options offered
+    → AreFew 512 16384 (votes_of facts key version fast_ballot) → AreFew 512 16384 (union (votes_of facts key version fast_ballot) options)
+vote-few cluster facts key version ((tx, Mark.Accept choice) ∷ []) None may h =
+    one-more facts key version tx (Mark.Accept choice) (may-leaves cluster facts key version tx (Mark.Accept choice) choice may) h
+vote-few cluster facts key version ((tx, Mark.Reject) ∷ []) (Some choice) may h =
+    one-more facts key version tx Mark.Reject (may-leaves cluster facts key version tx Mark.Reject choice may) h
+vote-few cluster facts key version [] offered may h = absurd may
+vote-few cluster facts key version ((tx, Mark.Accept choice) ∷ []) (Some other) may h = absurd may
+vote-few cluster facts key version ((tx, Mark.Reject) ∷ []) None may h = absurd may
+vote-few cluster facts key version ((tx, Mark.Accept choice) ∷ e ∷ es) offered may h = absurd may
+vote-few cluster facts key version ((tx, Mark.Reject) ∷ e ∷ es) offered may h = absurd may
+
+pub fast-few : (cluster : Cluster) (es : List Entry) (a : ℕ) (key : Key) (version : ℕ) → IsAllowed cluster es → AreFew 512 16384 (votes_of (facts_of es a) key version fast_ballot)
+fast-few cluster [] a key version legal = record { accepted = omega arith; rejected = omega arith }
+fast-few cluster (Entry.Begun c tx choices ∷ es) a key version legal = fast-few cluster es a key version legal.0
+fast-few cluster (Valued c k v b options ∷ es) a key version legal = fast-few cluster es a key version legal.0
+fast-few cluster (Added c fact ∷ es) a key version legal =
+    elim (cases_Bool (c == a)) [
+      | inl e ↦ rw e (by_fact fact legal (eqb-true c a e) (fast-few cluster es a key version legal.0))
+      | inr e ↦ rw e (fast-few cluster es a key version legal.0)
+    ]
+  where
+    by_fact : (fact : Fact) → IsAllowed cluster (Added c fact ∷ es) → c ≡ a → AreFew 512 16384 (votes_of (facts_of es a) key version fast_ballot)
+        → AreFew 512 16384 (votes_of (fact ∷ facts_of es a) key version fast_ballot)
+    by_fact (Fact.Booted epoch) legal s h = h
+    by_fact (Fact.Promised k low high b) legal s h = h
+    by_fact (Fact.Heard tx outcome) legal s h = h
+    by_fact (Fact.Adopted k v item adds) legal s h = h
+    by_fact (Fact.Voted k v b options offered) legal s h =
+        elim (cases_Bool (v == version && ballot_eq b fast_ballot && key_eq k key)) [
+          | inl e ↦
+              let p = is-here key version fast_ballot k v b e in
+              let fast : is_fast b ≡ true = subst (λ z. is_fast z ≡ true) (sym p.ballot) refl in
+              let may : IsFastVote cluster (facts_of es c) k v options offered = MatchBool-at_true _ _ fast legal.1.1.kind in
+              let there : IsFastVote cluster (facts_of es a) key version options offered =
+              subst (λ z. IsFastVote cluster (facts_of es z) key version options offered) s
+              (subst (λ z. IsFastVote cluster (facts_of es c) key z options offered) p.version
+              (subst (λ z. IsFastVote cluster (facts_of es c) z v options offered) p.key may)) in
+              rw e (vote-few cluster (facts_of es a) key version options offered there h)
+          | inr e ↦ rw e h
+        ]
+
+-- ---- classic ballots
+
+once-votes : (facts : List Fact) (key : Key) (version : ℕ) (ballot : Ballot) → HasOnce (votes_of facts key version ballot)
+once-votes [] key version ballot = tt
+once-votes (fact ∷ facts) key version ballot = once-union (votes_of facts key version ballot) (marks_voted key version ballot fact) (once-votes facts key version ballot)
+
+-- a map without a transaction
+abbrev without : TxId → Options → Options
+without tx options = filter (λ e. not (tx_eq e.0 tx)) options
+
+without-others : (tx other : TxId) (options : Options) → tx_eq tx other ≡ false → value_of (without tx options) other ≡ value_of options other
+without-others tx other [] apart = refl
+without-others tx other (e ∷ es) apart =
+    elim (cases_Bool (tx_eq e.0 tx)) [
+      | inl s ↦
+          let far : tx_eq e.0 other ≡ false = subst (λ z. tx_eq z other ≡ false) (sym (tx-true e.0 tx s)) apart in
+          rw (s, far) (without-others tx other es apart)
+      | inr n ↦ elim (cases_Bool (tx_eq e.0 other)) [
+        | inl f ↦ rw (n, f) refl
+        | inr f ↦ rw (n, f) (without-others tx other es apart)
+      ]
+    ]
+
+less-without : (test : TxId × Mark → Bool) (tx : TxId) (options : Options) → length (filter test (without tx options)) ≤ length (filter test options)
+less-without test tx [] = omega arith
+less-without test tx (e ∷ es) =
+    let ih = less-without test tx es in
+    elim (cases_Bool (tx_eq e.0 tx)) [
+      | inl s ↦ elim (cases_Bool (test e)) [ inl t ↦ rw (s, t) (omega (arith, ih)) | inr t ↦ rw (s, t) ih ]
+      | inr n ↦ elim (cases_Bool (test e)) [ inl t ↦ rw (n, t) (omega (arith, ih)) | inr t ↦ rw (n, t) ih ]
+    ]
+
+-- which has one mark less
+one-less : (test : TxId × Mark → Bool) (tx : TxId) (mark : Mark) (options : Options) → value_of options tx ≡ Some mark
+    → length (filter test (without tx options)) + cond (test (tx, mark)) 1 0 ≤ length (filter test options)
+one-less test tx mark [] found = absurd (cc)
+one-less test tx mark ((u, x) ∷ es) found =
+    elim (cases_Bool (tx_eq u tx)) [
+      | inl s ↦
+          let is : Some x ≡ Some mark = rw s at found in
+          let same : x ≡ mark = cc in
+          let here : u ≡ tx = tx-true u tx s in
+          let ih = less-without test tx es in
+          elim (cases_Bool (test (u, x))) [
+            | inl t ↦ let v : test (tx, mark) ≡ true = subst (λ (z : TxId). test (z, mark) ≡ true) here (subst (λ (z : Mark). test (u, z) ≡ true) same t) in rw (s, t, v) (omega (arith, ih))
+            | inr t ↦ let v : test (tx, mark) ≡ false = subst (λ (z : TxId). test (z, mark) ≡ false) here (subst (λ (z : Mark). test (u, z) ≡ false) same t) in rw (s, t, v) (omega (arith, ih))
+          ]
+      | inr n ↦
+          let rest : value_of es tx ≡ Some mark = rw n at found in
+          let ih = one-less test tx mark es rest in
+          elim (cases_Bool (test (u, x))) [ inl t ↦ rw (n, t) (omega (arith, ih)) | inr t ↦ rw (n, t) ih ]
+    ]
+
+-- a map whose marks are in another one has no more of a kind
+no-more : (test : TxId × Mark → Bool) (m n : Options) → HasOnce m → ((tx : TxId) (mark : Mark) → value_of m tx ≡ Some mark → value_of n tx ≡ Some mark)
+    → length (filter test m) ≤ length (filter test n)
+no-more test [] n once found = omega arith
+no-more test ((tx, mark) ∷ es) n once found =
+    let here : value_of n tx ≡ Some mark = found tx mark (let same = tx-refl tx in rw same refl) in
+    let ih = no-more test es (without tx n) once.1 rest in
+    let less = one-less test tx mark n here in
+    elim (cases_Bool (test (tx, mark))) [
+      | inl t ↦ rw t (let more = rw t at less in omega (arith, ih, more))
+      | inr t ↦ rw t (omega (arith, ih, less-without test tx n))
+    ]
+  where
+    rest : (other : TxId) (y : Mark) → value_of es other ≡ Some y → value_of (without tx n) other ≡ Some y
+    rest other y h =
+        elim (cases_Bool (tx_eq tx other)) [
+          | inl s ↦ let none : value_of es other ≡ None = subst (λ z. value_of es z ≡ None) (tx-true tx other s) once.0 in absurd (cc)
+          | inr f ↦ without-others tx other n f ∙ found other y (rw f h)
+        ]
+
+nothing-voted : (votes : Options) → ((tx : TxId) → value_of votes tx ≡ None) → AreFew 1023 32767 votes
+nothing-voted [] none = record { accepted = omega arith; rejected = omega arith }
+nothing-voted (e ∷ es) none = let here = none e.0 in let same = tx-refl e.0 in absurd (let bad = rw same at here in cc)
+
+classic-few : (cluster : Cluster) (es : List Entry) (a : ℕ) (key : Key) (version : ℕ) (ballot : Ballot) → IsLedger cluster es → is_fast ballot ≡ false
+    → AreFew 1023 32767 (votes_of (facts_of es a) key version ballot)
+classic-few cluster es a key version ballot ledger classic =
+    elim (backed cluster es a key version ballot ledger.allowed classic) [
+      | inl none ↦ nothing-voted votes none
+      | inr sent ↦
+          let few = room_sent cluster es ledger key version ballot sent.structure sent.was in
+          let once = once-votes (facts_of es a) key version ballot in
+          let found : (tx : TxId) (mark : Mark) → value_of votes tx ≡ Some mark → value_of sent.structure tx ≡ Some mark = λ tx mark h. sym (sent.same tx) ∙ h in
+          let a : length (accepts_in votes) ≤ length (accepts_in sent.structure) = no-more (λ e. is_accept e.1) votes sent.structure once found in
+          let b : length (rejects_in votes) ≤ length (rejects_in sent.structure) = no-more (λ e. not (is_accept e.1)) votes sent.structure once found in
+          record { accepted = omega (arith, few.0, a); rejected = omega (arith, few.1, b) }
+    ]
+  where
+    votes : Options
+    votes = votes_of (facts_of es a) key version ballot
+
+-- ---- both
+
+pub votes-few : (cluster : Cluster) (es : List Entry) (a : ℕ) (key : Key) (version : ℕ) (ballot : Ballot) → IsLedger cluster es → AreFew 1023 32767 (votes_of (facts_of es a) key version ballot)
+votes-few cluster es a key version ballot ledger =
+    elim (cases_Bool (is_fast ballot)) [
+      | inl e ↦
+          let few = fast-few cluster es a key version ledger.allowed in
+          let more : AreFew 1023 32767 (votes_of (facts_of es a) key version fast_ballot) = record { accepted = omega (arith, few.accepted); rejected = omega (arith, few.rejected) } in
+          subst (λ z. AreFew 1023 32767 (votes_of (facts_of es a) key version z)) (sym ((Decides-ballot ballot fast_ballot).0 e)) more
+      | inr e ↦ classic-few cluster es a key version ballot ledger e
+    ]
