@@ -20,6 +20,7 @@ use Rattle.mdcc_language.specs.declared.lines.Line.{Line}
 use Rattle.mdcc_rules.specs.declared.node.Input.{Input}
 use Rattle.mdcc_rules.specs.declared.node.Step.{Step}
 use Rattle.mdcc_rules.specs.declared.node.StepFault.{StepFault}
+use Rattle.mdcc_steps.specs.Forming.{accept_length_in}
 use Rattle.mdcc_steps.specs.Inputs.{IsWellFormedInput}
 use Rattle.mdcc_world.specs.Making.{IsMade}
 use Rattle.mdcc_world.specs.Nodes.{NodesStand}
@@ -80,13 +81,13 @@ has-read world new w a key known before lines like up key_itself shown nodes res
 -- ---- inputs of one centre
 
 -- its node has taken an input, which is an event
-pub made-counted : (world new : TheWorld) (w : World) (a : ℕ) (input : Input) (made : Result Step StepFault) → IsLike world w → is_up_at w a ≡ true → IsWellFormedInput input
+pub made-counted : (world new : TheWorld) (w : World) (a : ℕ) (input : Input) (made : Result Step StepFault) → IsLike world w → is_up_at w a ≡ true → IsWellFormedInput input → accept_length_in input ≤ 2097152
     → new ≡ record world { nodes = new.nodes; outcomes = new.outcomes; events = world.events + 1 }
     → OutcomesStand new.outcomes w.cluster.quorums (entries_of (step_at built (counted_event w) a input) ++ w.ledger)
     → made ≡ given (step_at built (counted_event w) a input)
     → NodesStand new.nodes.items (input_happened (counted_event w) a (step_at built (counted_event w) a input)).world
     → IsMade new (counted_event w) a input made
-made-counted world new w a input made like up formed rest outcomes itself nodes = record {
+made-counted world new w a input made like up formed short rest outcomes itself nodes = record {
   before = record {
     records = record {
       itself = counted-stays w like.records.itself;
@@ -100,6 +101,7 @@ made-counted world new w a input made like up formed rest outcomes itself nodes 
     };
     centre = up-centre w a up;
     well_formed = formed;
+    short = short;
     outcomes = outcomes;
     logs = rw rest like.logs;
     step_itself = itself;

@@ -31,7 +31,8 @@ use Rattle.mdcc_world.specs.Disks.{DisksShow}
 use Rattle.mdcc_world.specs.Nodes.{NodesStand, UpsStand}
 use Rattle.mdcc_world.specs.Stands.{HasHappened, Happens, IsLike}
 use Rattle.mdcc_world.specs.declared.world.World.{World as TheWorld}
-use Rattle.mdcc_worlds.proofs.Stays.{counted-stays, crash-stays, restart-stays, site-other, site-same, some-centre}
+use Rattle.mdcc_worlds.proofs.Staying.{restarted-stays}
+use Rattle.mdcc_worlds.proofs.Stays.{counted-stays, crash-stays, site-other, site-same, some-centre}
 use Rattle.mdcc_worlds.specs.Happening.{next_epoch, restarted}
 use Rattle.mdcc_worlds.specs.Standing.{IsWorld}
 
@@ -176,7 +177,7 @@ has-restarted world new kept w a epoch node before lines like centre early many 
     restart-within w a (subst (λ (n : ℕ). nat_lt most_log (log_length (Fact.Booted n ∷ facts_of w.ledger a)) ≡ false) same room)
     ∙ ap (λ (n : ℕ). Ok (restart_happened (counted_event w) a n)) (sym same) in
     let itself : IsWorld (restart_happened (counted_event w) a epoch).world =
-    subst (λ (n : ℕ). IsWorld (restart_happened (counted_event w) a n).world) (sym same) (restart-stays w a like.records.itself centre early) in
+    restarted-stays built w a (restart_happened (counted_event w) a epoch) refl like.records.itself centre early within in
     let ups : UpsStand (set world.up (a - 1) true) (restart_happened (counted_event w) a epoch).world = ups-set (counted_event w) a booted counted centre world.up true many nine refl like.records.ups in
     let standing-logs : LogsStand kept w.cluster.quorums.centres (facts_of (Added a (Fact.Booted epoch) ∷ w.ledger)) =
     logs-same kept w.cluster.quorums.centres (with_fact_at (facts_of w.ledger) a (Fact.Booted epoch)) (facts_of (Added a (Fact.Booted epoch) ∷ w.ledger)) (λ b some within. facts-restarted w a epoch b) logs in

@@ -19,6 +19,7 @@ use Rattle.mdcc_world.specs.Making.{IsMade, IsMessageMade}
 use Rattle.mdcc_world.specs.Nodes.{NodesStand}
 use Rattle.mdcc_world.specs.Stands.{IsLike}
 use Rattle.mdcc_world.specs.declared.world.World.{World as TheWorld}
+use Rattle.mdcc_steps.specs.Forming.{accept_length}
 use Rattle.mdcc_worlds.proofs.Numbers.{each-numbered}
 use Rattle.mdcc_worlds.proofs.Stays.{delivered-stays, some-centre}
 use Rattle.mdcc_worlds.specs.Delivering.{at_message, delivery_by, message_by, message_counted}
@@ -72,6 +73,9 @@ module _ (world : TheWorld) (w : World) (number : ℕ) (envelope : Envelope) (li
   pub sent-formed : IsWellFormedEnvelope envelope
   sent-formed = subst (λ (e : Envelope). IsWellFormedEnvelope e) is.same (each-numbered (IsSent w.cluster) w.sent number is.sent like.records.itself.sent is.there).envelope_itself
 
+  sent-short : accept_length envelope.message ≤ 2097152
+  sent-short = subst (λ (e : Envelope). accept_length e.message ≤ 2097152) is.same (each-numbered (IsSent w.cluster) w.sent number is.sent like.records.itself.sent is.there).short
+
   pub sent-node : envelope.to ≤ length world.nodes.items
   sent-node = up-within world.nodes.items w envelope.to like.nodes is.up
 
@@ -107,6 +111,7 @@ module _ (world : TheWorld) (w : World) (number : ℕ) (envelope : Envelope) (li
           };
           centre = up-centre w envelope.to is.up;
           well_formed = sent-formed;
+          short = sent-short;
           outcomes = rw rest (input-counted world.outcomes after envelope.to (Input.Message envelope) counted-world sent-formed refl like.outcomes);
           logs = rw rest like.logs;
           step_itself = itself;

@@ -24,7 +24,7 @@ use Rattle.mdcc_world.proofs.Took.{ok-given}
 use Rattle.mdcc_world.specs.Letting.{IsFormed, IsFramed, Measures}
 use Rattle.mdcc_world.specs.Making.{IsMade}
 use Rattle.mdcc_world.specs.declared.world.World.{World as TheWorld}
-use Rattle.mdcc_worlds.proofs.Stays.{some-centre}
+use Rattle.mdcc_worlds.proofs.Stays.{log-few, some-centre}
 
 -- ---- the log
 
@@ -57,7 +57,7 @@ module _ (world : TheWorld) (w : World) (a : ℕ) (input : Input) (step : Step) 
   pub step-sends : AllByRecursion IsWellFormedEnvelope step.sends
   step-sends =
       let node = made.before.records.itself.nodes a made.before.centre in
-      let formed = sends-formed built w.cluster a (facts_of w.ledger a) (centre_at w a).volatile input gave.0 node made.before.well_formed gave.1 (λ f. absurd (cc)) in
+      let formed = sends-formed built w.cluster a (facts_of w.ledger a) (centre_at w a).volatile input gave.0 node made.before.well_formed gave.1 (log-few built w a made.before.records.itself made.before.centre) in
       subst (λ (xs : List Envelope). AllByRecursion IsWellFormedEnvelope xs) (sym (ap (λ (x : Step). x.sends) gave.2)) formed
 
   fact-given : (fact : Fact) → step.fact ≡ Some fact → gave.0.fact ≡ Some fact
@@ -71,7 +71,7 @@ module _ (world : TheWorld) (w : World) (a : ℕ) (input : Input) (step : Step) 
   pub step-short : (fact : Fact) → step.fact ≡ Some fact → fact_length fact ≤ 2097152
   step-short fact e =
       let node = made.before.records.itself.nodes a made.before.centre in
-      fact-short built w.cluster a (facts_of w.ledger a) (centre_at w a).volatile input gave.0 fact refl node made.before.well_formed gave.1 (fact-given fact e)
+      fact-short built w.cluster a (facts_of w.ledger a) (centre_at w a).volatile input gave.0 fact made.before.short node made.before.well_formed gave.1 (fact-given fact e)
 
   formed-by : (o : Option Fact) → step.fact ≡ o → IsFormed o
   formed-by None e = tt

@@ -32,7 +32,8 @@ use Rattle.mdcc_language.specs.declared.world.EventFault.{EventFault}
 use Rattle.mdcc_struct.specs.Maps.{TxMap}
 use Rattle.mdcc_steps.specs.Inputs.{IsWellFormedInput}
 use Rattle.mdcc_worlds.proofs.Events.{input-is}
-use Rattle.mdcc_worlds.proofs.Stays.{happened-taken, input-stays, refused-same, site-here, site-there}
+use Rattle.mdcc_worlds.proofs.Staying.{limited-stays}
+use Rattle.mdcc_worlds.proofs.Stays.{happened-taken, refused-same, site-here, site-there}
 use Rattle.mdcc_worlds.proofs.Within.{made-quiet, made-stays}
 use Rattle.mdcc_worlds.specs.Sending.{IsValuedBy, StaysWithin, is_begin}
 use Rattle.mdcc_worlds.specs.Standing.{IsWorld}
@@ -212,7 +213,7 @@ module _ (world : TheWorld) (w : World) (a : ℕ) (input : Input) (step : Step) 
       subst (λ (r : Result Happened EventFault). Happens {T = Unit {0}} new before lines (Ok tt) r) (sym is) (record {
         like = record {
           records = record {
-            itself = subst (λ (h : Happened). IsWorld h.world) happens (input-stays built w a input (λ f. absurd (cc)) world-is made.before.centre made.before.well_formed);
+            itself = limited-stays built w a input (taken w a s) refl world-is made.before.centre made.before.well_formed is;
             cluster = ap (λ (x : TheWorld). x.cluster) rest ∙ records.cluster;
             mail = mail ∙ ap (λ (xs : List Envelope). world.mail ++ map unsent xs) sends-are ∙ ap (λ (sent : List Sent). sent ++ map unsent s.sends) records.mail;
             bytes = bytes ∙ ap (λ (xs : List Envelope). world.bytes + messages_length xs) sends-are ∙ ap (λ (n : ℕ). n + messages_length s.sends) records.bytes;

@@ -15,6 +15,7 @@ use Rattle.mdcc_rules.specs.declared.node.Input.{Input}
 use Rattle.mdcc_rules.specs.declared.node.Step.{Step}
 use Rattle.mdcc_rules.specs.declared.node.StepFault.{StepFault}
 use Rattle.mdcc_language.specs.declared.world.EventFault.{EventFault}
+use Rattle.mdcc_steps.specs.Forming.{accept_length_in}
 use Rattle.mdcc_steps.specs.Inputs.{IsWellFormedInput}
 use Rattle.mdcc_world.specs.Faults.{is_memory}
 use Rattle.mdcc_world.specs.Nodes.{NodesStand, UpsStand}
@@ -54,6 +55,7 @@ pub record IsBeforeTaking (world : TheWorld) (w : World) (a : ℕ) (input : Inpu
   pub records : RecordsStand world w
   pub centre : is_centre w.cluster a ≡ true
   pub well_formed : IsWellFormedInput input
+  pub short : accept_length_in input ≤ 2097152
   pub outcomes : OutcomesStand world.outcomes w.cluster.quorums (entries_of (step_at built w a input) ++ w.ledger)
   pub logs : LogsStand world.logs w.cluster.quorums.centres (facts_of w.ledger)
   pub step_itself : made ≡ given (step_at built w a input)

@@ -23,5 +23,5 @@ returns-clause-made c w like =
     let nodes : NodesStand (with_items c.args.self.now.nodes c.step.new.nodes).items h.world = rw (with_items_is c.args.self.now.nodes c.step.new.nodes many) left in
     let itself = sym c.in-Ok.is ∙ c.in_ok-step.ensures.answer (counted_event w) here up in
     let counted = c.in_ok-count.ensures w.cluster.quorums w.ledger a parts refl like.outcomes in
-    made-counted c.args.self.now _ w a (Input.Begin parts) (Ok c.in-Ok.step) like up c.requires.formed refl
+    made-counted c.args.self.now _ w a (Input.Begin parts) (Ok c.in-Ok.step) like up c.requires.formed (omega arith) refl
     (begun-counted _ w a parts c.in-Ok.step itself counted) itself nodes

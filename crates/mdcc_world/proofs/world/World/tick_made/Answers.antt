@@ -21,4 +21,4 @@ returns-clause-made c w like =
     let left = c.in_ok-made.ensures.left (counted_event w) (counted-stays w like.records.itself) here up in
     let nodes : NodesStand (with_items c.args.self.now.nodes c.step.new.nodes).items h.world = rw (with_items_is c.args.self.now.nodes c.step.new.nodes many) left in
     let outcomes = input-counted c.args.self.now.outcomes (counted_event w) a Input.Tick (counted-stays w like.records.itself) tt refl like.outcomes in
-    made-counted c.args.self.now _ w a Input.Tick c.in_ok-made.made like up tt refl outcomes (c.in_ok-made.ensures.answer (counted_event w) here up) nodes
+    made-counted c.args.self.now _ w a Input.Tick c.in_ok-made.made like up tt (omega arith) refl outcomes (c.in_ok-made.ensures.answer (counted_event w) here up) nodes
