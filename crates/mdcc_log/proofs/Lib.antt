@@ -4,5 +4,6 @@ mod Bytes
 mod Calls
 mod Kept
 mod LogRead
-mod Moments
+pub mod Moments
+mod ReadCalls
 mod Repairs

@@ -4,7 +4,8 @@ ghost use Rattle.mdcc_base.specs.Causes.{Rose, HasCause};
 ghost use Rattle.mdcc_disks.specs.Disks.{Only, Within, KeepsOthers, LeavesOnly};
 ghost use Rattle.mdcc_log.specs.Log.{frame_body, read_log, log_limit, payload_limit};
 ghost use Rattle.mdcc_log.specs.Crash.{IsShut, IsBetween, MayRepair, ReadsAgain};
-ghost use Rattle.mdcc_log.specs.Frames.{IsAtRest, IsSettled, append_calls, MadeSome, added};
+ghost use Rattle.mdcc_disks.specs.Disks.DiskCall.{Length, Sync};
+ghost use Rattle.mdcc_log.specs.Frames.{IsAtRest, IsSettled, MadeSome, ReadsAll, ReadsSome, added, append_calls, close_calls, cut_calls, open_calls, read_calls, settle_calls};
 
 use crate::LogFault;
 use crate::reading::{PAYLOAD_LIMIT, read_file, read_frames};
@@ -65,6 +66,14 @@ fn load<D: Disks>(alloc: Global, disks: &mut D, place: u8) -> Result<Vec<u8>, Lo
         → Rose (D.disk disks.old place).faults (D.disk disks.new place).faults }
     ensures a_log { (n : ℕ) → IsErrOf result (LogFault.NotALog n) → ⊥ }
     ensures not_full { IsErrOf result LogFault.LogFull → ⊥ }
+    ensures calls { IsTrue (D.disk disks.old place).told
+        → ReadsSome (length (D.disk disks.old place).bytes)
+        (λ counts. Sync ∷ Length ∷ read_calls (length (D.disk disks.old place).bytes) 0 counts)
+        (D.disk disks.old place).calls (D.disk disks.new place).calls }
+    ensures all_calls { IsTrue (D.disk disks.old place).told
+        → OnOk result (ReadsAll (length (D.disk disks.old place).bytes)
+        (λ counts. Sync ∷ Length ∷ read_calls (length (D.disk disks.old place).bytes) 0 counts)
+        (D.disk disks.old place).calls (D.disk disks.new place).calls) }
 {
     disks.sync(place)?;
     read_file(alloc, disks, place)
@@ -84,6 +93,9 @@ fn close_gate<D: Disks>(disks: &mut D, place: u8, bytes: &[u8], gate: usize) -> 
         → LeavesOnly D.moment D.left_since disks.old disks.new place (MayRepair D.tears gate bytes.now) }
     ensures others { KeepsOthers D.disk D.may_leave D.moment D.left_since disks.old disks.new place }
     ensures cause { HasCause (D.disk disks.old place).faults (D.disk disks.new place).faults result }
+    ensures calls { MadeSome (close_calls gate bytes.now) (D.disk disks.old place).calls (D.disk disks.new place).calls }
+    ensures all_calls { OnOk result ((D.disk disks.new place).calls
+        ≡ added (close_calls gate bytes.now) (D.disk disks.old place).calls) }
 {
     if bytes[gate] == 0 {
         return Ok(());
@@ -106,6 +118,9 @@ fn cut_end<D: Disks>(disks: &mut D, place: u8, bytes: &[u8], gate: usize) -> Res
         → LeavesOnly D.moment D.left_since disks.old disks.new place (MayRepair D.tears gate bytes.now) }
     ensures others { KeepsOthers D.disk D.may_leave D.moment D.left_since disks.old disks.new place }
     ensures cause { HasCause (D.disk disks.old place).faults (D.disk disks.new place).faults result }
+    ensures calls { MadeSome (cut_calls gate bytes.now) (D.disk disks.old place).calls (D.disk disks.new place).calls }
+    ensures all_calls { OnOk result ((D.disk disks.new place).calls
+        ≡ added (cut_calls gate bytes.now) (D.disk disks.old place).calls) }
 {
     if bytes.len() == gate + 1 {
         return Ok(());
@@ -128,6 +143,9 @@ fn repair<D: Disks>(disks: &mut D, place: u8, bytes: &[u8], gate: usize) -> Resu
         → LeavesOnly D.moment D.left_since disks.old disks.new place (MayRepair D.tears gate bytes.now) }
     ensures others { KeepsOthers D.disk D.may_leave D.moment D.left_since disks.old disks.new place }
     ensures cause { HasCause (D.disk disks.old place).faults (D.disk disks.new place).faults result }
+    ensures calls { MadeSome (close_calls gate bytes.now ++ cut_calls gate bytes.now) (D.disk disks.old place).calls (D.disk disks.new place).calls }
+    ensures all_calls { OnOk result ((D.disk disks.new place).calls
+        ≡ added (close_calls gate bytes.now ++ cut_calls gate bytes.now) (D.disk disks.old place).calls) }
 {
     close_gate(disks, place, bytes, gate)?;
     cut_end(disks, place, bytes, gate)
@@ -164,6 +182,9 @@ fn recover<D: Disks>(
     ensures memory { IsErrOf result LogFault.Memory
         → (D.disk disks.new place).bytes ≡ (D.disk disks.old place).bytes }
     ensures not_full { IsErrOf result LogFault.LogFull → ⊥ }
+    ensures calls { MadeSome (settle_calls bytes.now) (D.disk disks.old place).calls (D.disk disks.new place).calls }
+    ensures all_calls { OnOk result ((D.disk disks.new place).calls
+        ≡ added (settle_calls bytes.now) (D.disk disks.old place).calls) }
 {
     if bytes.len() <= 9 {
         begin(disks, place)?;
@@ -257,6 +278,14 @@ impl Frames {
             → Within (IsBetween payloads payload) (D.may_leave disks.old place)
             → LeavesOnly D.moment D.left_since disks.old disks.new place (IsBetween payloads payload) }
         ensures others { KeepsOthers D.disk D.may_leave D.moment D.left_since disks.old disks.new place }
+
+        // A front of the calls that the bytes call for is made, and all of them at `Ok`; what stands behind them is not written.
+        ensures calls { IsTrue (D.disk disks.old place).told
+            → ReadsSome (length (D.disk disks.old place).bytes) (λ counts. open_calls counts (D.disk disks.old place).bytes)
+            (D.disk disks.old place).calls (D.disk disks.new place).calls }
+        ensures all_calls { IsTrue (D.disk disks.old place).told
+            → OnOk result (ReadsAll (length (D.disk disks.old place).bytes) (λ counts. open_calls counts (D.disk disks.old place).bytes)
+            (D.disk disks.old place).calls (D.disk disks.new place).calls) }
 
         ensures disk_fault { IsErrOf result LogFault.DiskFault
             → Rose (D.disk disks.old place).faults (D.disk disks.new place).faults }

@@ -1,10 +1,12 @@
 //! What stands in a file.
-ghost use Rattle.std.specs.Prelude.{◌≡◌, ◌≤◌, ◌<◌, ◌+◌, ◌++◌, ◌↔◌, false, true, ℕ, length, take, drop, IsTrue, IsSome, IfSome, IfNone, IfOk, OnOk, IsErrOf, Ok, Err};
+ghost use Rattle.std.specs.Prelude.{◌≡◌, ◌≤◌, ◌<◌, ◌+◌, ◌-◌, ◌++◌, ◌∷◌, ◌↔◌, false, true, ℕ, length, take, drop, IsTrue, IsSome, IfSome, IfNone, IfOk, OnOk, IsErrOf, Ok, Err};
 ghost use Rattle.std.specs.Int.{w32, to_le_bytes};
 ghost use Rattle.mdcc_base.specs.Causes.{Rose, HasCause};
-ghost use Rattle.mdcc_disks.specs.Disks.{Within, KeepsOthers, LeavesOnly};
+ghost use Rattle.mdcc_disks.specs.Disks.{AddsCall, Within, KeepsOthers, LeavesOnly};
+ghost use Rattle.mdcc_disks.specs.Disks.DiskCall.{Length, Read};
 ghost use Rattle.mdcc_log.specs.Log.{frame_bytes, is_open, is_whole, read_log};
 ghost use Rattle.mdcc_log.specs.Crash.{IsRead};
+ghost use Rattle.mdcc_log.specs.Frames.{ReadsAll, ReadsSome, read_calls};
 
 use crate::LogFault;
 use mdcc_base::{Failed, HeapList};
@@ -36,6 +38,8 @@ pub fn read_more<D: Disks>(
     ensures any_moment { LeavesOnly D.moment D.left_since disks.old disks.new place (D.may_leave disks.old place) }
     ensures others { KeepsOthers D.disk D.may_leave D.moment D.left_since disks.old disks.new place }
     ensures cause { HasCause (D.disk disks.old place).faults (D.disk disks.new place).faults result }
+    ensures call { AddsCall (Read done (length into.old - done))
+        (D.disk disks.old place).calls (D.disk disks.new place).calls result }
 {
     let count = disks.read(place, done as u64, &mut into[done..])?;
     Ok(count)
@@ -52,6 +56,10 @@ pub fn fill<D: Disks>(disks: &mut D, place: u8, into: &mut [u8]) -> Result<(), F
     ensures any_moment { LeavesOnly D.moment D.left_since disks.old disks.new place (D.may_leave disks.old place) }
     ensures others { KeepsOthers D.disk D.may_leave D.moment D.left_since disks.old disks.new place }
     ensures cause { HasCause (D.disk disks.old place).faults (D.disk disks.new place).faults result }
+    ensures calls { ReadsSome (length into.old) (read_calls (length into.old) 0)
+        (D.disk disks.old place).calls (D.disk disks.new place).calls }
+    ensures all_calls { OnOk result (ReadsAll (length into.old) (read_calls (length into.old) 0)
+        (D.disk disks.old place).calls (D.disk disks.new place).calls) }
 {
     let mut done = 0usize;
     for turn in 0..into.len() {
@@ -76,6 +84,14 @@ pub fn read_file<D: Disks>(alloc: Global, disks: &mut D, place: u8) -> Result<Ve
         → Rose (D.disk disks.old place).faults (D.disk disks.new place).faults }
     ensures a_log { (n : ℕ) → IsErrOf result (LogFault.NotALog n) → ⊥ }
     ensures not_full { IsErrOf result LogFault.LogFull → ⊥ }
+    ensures calls { IsTrue (D.disk disks.old place).told
+        → ReadsSome (length (D.disk disks.old place).bytes)
+        (λ counts. Length ∷ read_calls (length (D.disk disks.old place).bytes) 0 counts)
+        (D.disk disks.old place).calls (D.disk disks.new place).calls }
+    ensures all_calls { IsTrue (D.disk disks.old place).told
+        → OnOk result (ReadsAll (length (D.disk disks.old place).bytes)
+        (λ counts. Length ∷ read_calls (length (D.disk disks.old place).bytes) 0 counts)
+        (D.disk disks.old place).calls (D.disk disks.new place).calls) }
 {
     let size = disks.length(place)?;
     let mut bytes = Vec::from_elem(alloc, 0u8, size as usize)?;

@@ -1,5 +1,6 @@
 use Rattle.std.proofs.Common.{◌≡◌, ◌≤◌, length, take, IsTrue}
 use Rattle.mdcc_disks.specs.Disks.{Within, KeepsOthers, LeavesOnly}
+use Rattle.mdcc_log.specs.Frames.{ReadsAll, read_calls}
 use Rattle.mdcc_log.proofs.reading.fill.Given as goal
 
 abbrev pub invariant-loop-turn : goal.invariant-loop-turn
@@ -11,5 +12,6 @@ invariant-loop-turn g l = record {
   crash : Within (g.D.Disks.may_leave l.initial.disks l.place) (g.D.Disks.may_leave l.disks l.place);
   any_moment : LeavesOnly g.D.Disks.moment g.D.Disks.left_since l.initial.disks l.disks l.place (g.D.Disks.may_leave l.initial.disks l.place);
   others : KeepsOthers g.D.Disks.disk g.D.Disks.may_leave g.D.Disks.moment g.D.Disks.left_since l.initial.disks l.disks l.place;
+  calls : ReadsAll l.done (read_calls (length l.initial.into) 0) (g.D.Disks.disk l.initial.disks l.place).calls (g.D.Disks.disk l.disks l.place).calls;
   later : (g.D.Disks.disk l.initial.disks l.place).faults ≤ (g.D.Disks.disk l.disks l.place).faults;
 }

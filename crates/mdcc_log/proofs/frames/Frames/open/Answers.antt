@@ -1,6 +1,10 @@
-use Rattle.std.proofs.Common.{◌≡◌, ◌⊎◌, inl, inr, List, ℕ, Ok, sym, ◌∙◌, subst}
+use Rattle.std.proofs.Common.{◌≡◌, ◌⊎◌, ◌∷◌, inl, inr, List, ℕ, Ok, length, sym, ◌∙◌, ap, subst}
+use Rattle.mdcc_disks.specs.Disks.{DiskCall}
+use Rattle.mdcc_disks.specs.Disks.DiskCall.{Length, Sync}
 use Rattle.mdcc_log.specs.Log.{read_log}
 use Rattle.mdcc_log.specs.Crash.{IsShut, IsBetween, ReadsAgain}
+use Rattle.mdcc_log.specs.Frames.{MadeSome, added, open_calls, read_calls, settle_calls}
+use Rattle.mdcc_log.proofs.ReadCalls.{all_before, made_before, none_made, some_before}
 use Rattle.mdcc_log.proofs.Again.{none_opened}
 use Rattle.mdcc_log.proofs.Moments.{weakened, both}
 use Rattle.mdcc_log.proofs.frames.Frames.open.Goals as goal
@@ -66,3 +70,34 @@ returns-clause-any_moment_same g c ps told never within =
     both
     (weakened (λ (x : List ℕ). read_log x ≡ Ok ps) c.load.ensures.any_moment within)
     (weakened (λ (x : List ℕ). read_log x ≡ Ok ps) (c.recover.ensures.any_moment_again (c.load.ensures.others.told ∙ told)) (λ x again. none_opened tears ps _ x never here again))
+
+pub returns-in_err-buffer-clause-calls : goal.returns-in_err-buffer-clause-calls
+returns-in_err-buffer-clause-calls g c told =
+    let file = (g.D.Disks.disk c.args.disks.now c.args.place).bytes in
+    none_made (length file) (λ counts. open_calls counts file) _
+
+pub returns-in_err-bytes-clause-calls : goal.returns-in_err-bytes-clause-calls
+returns-in_err-bytes-clause-calls g c told =
+    let file = (g.D.Disks.disk c.args.disks.now c.args.place).bytes in
+    some_before (length file) (λ counts. Sync ∷ Length ∷ read_calls (length file) 0 counts) (settle_calls file) _ _ (c.load.ensures.calls told)
+
+pub returns-in_err-size-clause-calls : goal.returns-in_err-size-clause-calls
+returns-in_err-size-clause-calls g c told =
+    let file = (g.D.Disks.disk c.args.disks.now c.args.place).bytes in
+    let is = c.deref.ensures.value ∙ c.in_ok-bytes.ensures.file told in
+    made_before (length file) (λ counts. Sync ∷ Length ∷ read_calls (length file) 0 counts) (settle_calls file) _ _ _ (c.in_ok-bytes.ensures.all_calls told)
+    (subst (λ (l : List ℕ). MadeSome (settle_calls l) (g.D.Disks.disk c.load.new.disks c.args.place).calls (g.D.Disks.disk c.recover.new.disks c.args.place).calls) is c.recover.ensures.calls)
+
+pub returns-clause-calls : goal.returns-clause-calls
+returns-clause-calls g c told =
+    let file = (g.D.Disks.disk c.args.disks.now c.args.place).bytes in
+    let is = c.deref.ensures.value ∙ c.in_ok-bytes.ensures.file told in
+    made_before (length file) (λ counts. Sync ∷ Length ∷ read_calls (length file) 0 counts) (settle_calls file) _ _ _ (c.in_ok-bytes.ensures.all_calls told)
+    (subst (λ (l : List ℕ). MadeSome (settle_calls l) (g.D.Disks.disk c.load.new.disks c.args.place).calls (g.D.Disks.disk c.recover.new.disks c.args.place).calls) is c.recover.ensures.calls)
+
+pub returns-clause-all_calls : goal.returns-clause-all_calls
+returns-clause-all_calls g c told =
+    let file = (g.D.Disks.disk c.args.disks.now c.args.place).bytes in
+    let is = c.deref.ensures.value ∙ c.in_ok-bytes.ensures.file told in
+    all_before (length file) (λ counts. Sync ∷ Length ∷ read_calls (length file) 0 counts) (settle_calls file) _ _ _ (c.in_ok-bytes.ensures.all_calls told)
+    (subst (λ (l : List ℕ). (g.D.Disks.disk c.recover.new.disks c.args.place).calls ≡ added (settle_calls l) (g.D.Disks.disk c.load.new.disks c.args.place).calls) is c.in_ok-size.ensures.all_calls)
