@@ -1,6 +1,7 @@
 //! Why a text is refused, whatever its length.
-ghost use Rattle.std.specs.Prelude.{◌≡◌, ◌<◌, ◌^◌, IfErr};
+ghost use Rattle.std.specs.Prelude.{◌≡◌, ◌<◌, ◌-◌, ◌^◌, IfErr, min};
 ghost use Rattle.mdcc_language.specs.Words.{refused};
+ghost use Rattle.mdcc_words.specs.Columns.{with_column_within};
 
 use mdcc_language::{SchedCause, SchedFault};
 use std::alloc::AllocError;
@@ -67,6 +68,27 @@ pub fn narrowed<A>(read: Result<A, TextFault>) -> Result<A, SchedFault>
         Ok(value) => Ok(value),
         Err(fault) => Err(SchedFault {
             column: fault.column as u32,
+            cause: fault.cause,
+        }),
+    }
+}
+
+// A column in 32 bits, or the last one that there is.
+fn column_within(column: usize) -> u32
+    ensures { result ≡ min column (2 ^ 32 - 1) }
+{
+    u32::try_from(column).unwrap_or(u32::MAX)
+}
+
+/// The same, whatever its column.
+pub fn capped<A>(read: Result<A, TextFault>) -> Result<A, SchedFault>
+    ensures value { result ≡ with_column_within read }
+    ensures narrow { IfErr read (λ fault. fault.column < 2 ^ 32) → result ≡ read }
+{
+    match read {
+        Ok(value) => Ok(value),
+        Err(fault) => Err(SchedFault {
+            column: column_within(fault.column),
             cause: fault.cause,
         }),
     }

@@ -2,9 +2,10 @@
 ghost use Rattle.std.specs.Prelude.{◌≡◌, ◌+◌, ◌<◌, ◌≤◌, ◌^◌, IfErr, IsTrue, length};
 ghost use Rattle.mdcc_language.specs.Updates.{item_of, new_of, set_of, keep_of, is_named, update_of};
 ghost use Rattle.mdcc_built.specs.Built.{built};
+ghost use Rattle.mdcc_words.specs.Columns.{with_column_within};
 
 use crate::bodies::body_of;
-use crate::faults::{TextFault, narrowed, refused};
+use crate::faults::{TextFault, capped, refused};
 use crate::keys::key_of;
 use crate::numbers::count_of;
 use crate::places::{behind, end_at, part_at, part_end, text_eq};
@@ -91,10 +92,10 @@ pub fn update_of(word: &[u8], column: usize) -> Result<UpdateWord, TextFault>
     }
 }
 
-/// Reads an update word that begins at a column.
+/// Reads an update word that begins at a column. The column of a fault past 32 bits is told as the last one of 32 bits.
 pub fn parse_update(word: &[u8], column: u32) -> Result<UpdateWord, SchedFault>
-    requires { column + length word.now < 2 ^ 32 }
-    ensures { result ≡ update_of built word.now column }
+    ensures value { result ≡ with_column_within (update_of built word.now column) }
+    ensures narrow { column + length word.now < 2 ^ 32 → result ≡ update_of built word.now column }
 {
-    narrowed(update_of(word, column as usize))
+    capped(update_of(word, column as usize))
 }

@@ -1,8 +1,9 @@
 //! Values of items.
 ghost use Rattle.std.specs.Prelude.{◌≡◌, ◌+◌, ◌<◌, ◌≤◌, ◌^◌, IfErr, length};
 ghost use Rattle.mdcc_language.specs.Words.{values_of};
+ghost use Rattle.mdcc_words.specs.Columns.{with_column_within};
 
-use crate::faults::{TextFault, narrowed, refused};
+use crate::faults::{TextFault, capped, refused};
 use crate::numbers::value_of;
 use crate::places::part_at;
 use mdcc_base::BoundedList;
@@ -33,10 +34,11 @@ pub fn values_of(word: &[u8], column: usize) -> Result<Values, TextFault>
     Ok(values)
 }
 
-/// Reads 1 to 4 values with commas between them, the first of which stands at the column.
+/// Reads 1 to 4 values with commas between them, the first of which stands at the column. The column of a fault past 32
+/// bits is told as the last one of 32 bits.
 pub fn parse_values(word: &[u8], column: u32) -> Result<Values, SchedFault>
-    requires { column + length word.now < 2 ^ 32 }
-    ensures { result ≡ values_of word.now column }
+    ensures value { result ≡ with_column_within (values_of word.now column) }
+    ensures narrow { column + length word.now < 2 ^ 32 → result ≡ values_of word.now column }
 {
-    narrowed(values_of(word, column as usize))
+    capped(values_of(word, column as usize))
 }
