@@ -1,16 +1,18 @@
 //! The manager.
 ghost use Rattle.std.specs.Prelude.{◌≡◌, ◌<◌, ◌≤◌, ◌^◌, ◌-◌, ◌&&◌, [], IfOk, IsOkAnd, IsTrue, List, OnErr, OnOk, not, ℕ};
+ghost use Rattle.std.specs.Int.{IsInRange};
 ghost use Rattle.std.specs.Option.{option_copied};
 ghost use Rattle.mdcc_base.specs.AreQuorums.{AreQuorums};
 ghost use Rattle.mdcc_base.specs.Sizes.{Sizes};
 ghost use Rattle.mdcc_base.specs.Unless.{GivesUnless};
+ghost use Rattle.mdcc_option.specs.declared.choices.Cause.{Cause as ACause};
+ghost use Rattle.mdcc_base.specs.declared.identifiers.Ballot.{Ballot as ABallot};
 ghost use Rattle.mdcc_manager.specs.Begin.{is_memory, tx_begun};
 ghost use Rattle.mdcc_manager.specs.Numbered.{are_numbered};
 ghost use Rattle.mdcc_manager.specs.Stands.{Stands};
 ghost use Rattle.mdcc_protocol.specs.Learner.{is_learned};
 ghost use Rattle.mdcc_protocol.specs.Manager.{act_on_cause, act_on_vote, acted, after_act, begin, begun, choice_unled, decision, lead_act, on_escalate, on_voted, tick, vote_taken, would_decide};
 ghost use Rattle.mdcc_protocol.specs.Volatile.{Managing, is_open, manager_closed, txs_opened, with_led};
-ghost use Rattle.mdcc_messages.specs.WellFormedParts.{IsWellFormedCause};
 ghost use Rattle.mdcc_messages.specs.declared.facts.Fact.{Fact as AFact};
 
 use crate::begin::parts_begin_fault;
@@ -159,7 +161,7 @@ impl Manager {
     }
 
     /// Hears that a centre gives no vote at the fast ballot: data for one that is behind, else the
-    /// option goes to a leader, once. A cause that names a ballot names one of a leader.
+    /// option goes to a leader, once. A cause that names a ballot names one of a centre from 1 to 9.
     pub fn on_escalate(
         &mut self,
         cluster: &Cluster,
@@ -168,7 +170,7 @@ impl Manager {
         key: &Key,
         cause: Cause,
     ) -> Option<ManagerAct>
-        requires { IsWellFormedCause cause }
+        requires { (ballot : ABallot) → cause ≡ ACause.Classic ballot → IsInRange 1 9 ballot.centre }
         ensures act { (me epoch : ℕ) (managing : Managing) → Stands self.old me epoch cluster.now.quorums managing
             → result ≡ (on_escalate cluster.now.quorums managing from tx key.now cause).0 }
         ensures left { (me epoch : ℕ) (managing : Managing) → Stands self.old me epoch cluster.now.quorums managing
@@ -197,7 +199,7 @@ impl Manager {
         key: &Key,
         cause: Cause,
     ) -> Option<ManagerAct>
-        requires { IsWellFormedCause cause }
+        requires { (ballot : ABallot) → cause ≡ ACause.Classic ballot → IsInRange 1 9 ballot.centre }
         ensures act { (me epoch : ℕ) (managing : Managing) → Stands self.old me epoch quorums.now managing
             → result ≡ act_on_cause quorums.now managing from tx key.now cause }
         ensures left { (me epoch : ℕ) (managing : Managing) → Stands self.old me epoch quorums.now managing
