@@ -1,4 +1,5 @@
 pub mod Ample
+pub mod Kept
 pub mod Logged
 pub mod Short
 pub mod Starts

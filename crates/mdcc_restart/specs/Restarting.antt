@@ -1,8 +1,9 @@
 -- What comes of a restart over a log of facts.
-use Rattle.std.specs.Prelude.{Err, IsTrue, List, Ok, Result, [], length, ℕ, ◌+◌, ◌-◌, ◌<◌, ◌^◌, ◌∷◌, ◌≡◌, ◌≤◌, ⊤}
+use Rattle.std.specs.Prelude.{Err, IsTrue, List, Ok, Result, [], length, ℕ, ◌+◌, ◌-◌, ◌<◌, ◌^◌, ◌∷◌, ◌≡◌, ◌≤◌, ◌⊎◌, ⊤}
 use Rattle.mdcc_admission.specs.Boots.{AreAmple}
 use Rattle.mdcc_admission.specs.Loading.{Cells, Holds}
 use Rattle.mdcc_disks.specs.Disks.{Disk}
+use Rattle.mdcc_log.specs.Crash.{IsBetween}
 use Rattle.mdcc_log.specs.Frames.{IsAtRest}
 use Rattle.mdcc_log.specs.Log.{log_bytes, log_limit, read_log}
 use Rattle.mdcc_log.specs.declared.fault.LogFault.{LogFault}
@@ -11,6 +12,7 @@ use Rattle.mdcc_node.specs.declared.node.Node.{Node}
 use Rattle.mdcc_option.specs.declared.cluster.Cluster.{Cluster}
 use Rattle.mdcc_protocol.specs.Facts.{epoch_of}
 use Rattle.mdcc_protocol.specs.Volatile.{nothing_kept}
+use Rattle.mdcc_messages.specs.Spelling.{fact_bytes}
 use Rattle.mdcc_messages.specs.declared.facts.Fact.{Fact}
 use Rattle.mdcc_rules.specs.declared.node.BootFault.{BootFault}
 use Rattle.mdcc_restart.specs.Logged.{logged}
@@ -60,6 +62,24 @@ IsRefused facts _ = ⊥
 abbrev pub Restarts : {S : Type 0} → (S → List Fact → Type 0) → Result (Restarted S) RestartFault → Cluster → ℕ → List Fact → List ℕ → (List ℕ → Type 0) → Type 0
 Restarts stands (Ok centre) cluster me facts bytes may_leave = Runs stands centre cluster me facts bytes may_leave
 Restarts stands (Err fault) cluster me facts bytes may_leave = IsRefused facts fault
+
+-- ---- what stands on its disk
+
+-- what a crash may leave of a log of these facts while the next boot is appended: it has that boot, or not
+abbrev pub MayHaveBoot : List Fact → List ℕ → Type 0
+MayHaveBoot facts bytes = IsBetween (logged facts) (fact_bytes (next_boot facts)) bytes
+
+-- the same, where a crash of an append of this fact came before: the log has that fact or not, and then the next boot or not
+abbrev pub MayHaveFactAndBoot : List Fact → Fact → List ℕ → Type 0
+MayHaveFactAndBoot facts fact bytes =
+    IsBetween (logged facts) (fact_bytes fact) bytes ⊎ (MayHaveBoot facts bytes ⊎ MayHaveBoot (fact ∷ facts) bytes)
+
+-- What stands after a refusal: the log of the same payloads, all of it durable where it was opened. After a fault of the disk
+-- a part of what was being written may stand, as after a crash.
+abbrev pub KeepsLog : List (List ℕ) → RestartFault → List ℕ → (List ℕ → Type 0) → Type 0
+KeepsLog payloads (RestartFault.Log LogFault.DiskFault) bytes may_leave = ⊤
+KeepsLog payloads RestartFault.Memory bytes may_leave = read_log bytes ≡ Ok payloads
+KeepsLog payloads _ bytes may_leave = (size : ℕ) × IsAtRest payloads size bytes may_leave
 
 -- ---- its boot
 

@@ -1,23 +1,23 @@
 //! The start of a centre.
-ghost use Rattle.std.specs.Prelude.{◌≡◌, ◌≤◌, ◌⊎◌, ◌∷◌, [], List, IfOk, IsErrOf, IsTrue, length, true};
+ghost use Rattle.std.specs.Prelude.{◌≡◌, ◌≤◌, ◌⊎◌, ◌∷◌, [], List, IfErr, IfOk, IsErrOf, IsTrue, Ok, length, true, ℕ};
 ghost use Rattle.mdcc_base.specs.Causes.{Rose};
-ghost use Rattle.mdcc_disks.specs.Disks.{KeepsOthers};
+ghost use Rattle.mdcc_disks.specs.Disks.{KeepsOthers, LeavesOnly, Within};
 ghost use Rattle.mdcc_journal.specs.Counts.{HasCounts};
-ghost use Rattle.mdcc_log.specs.Crash.{IsBetween};
-ghost use Rattle.mdcc_log.specs.Log.{payload_limit};
+ghost use Rattle.mdcc_log.specs.Crash.{IsBetween, IsShut};
+ghost use Rattle.mdcc_log.specs.Log.{payload_limit, read_log};
 ghost use Rattle.mdcc_node.specs.Booting.{IsBoot};
 ghost use Rattle.mdcc_protocol.specs.Belongs.{is_centre};
 ghost use Rattle.mdcc_messages.specs.Spelling.{fact_bytes};
 ghost use Rattle.mdcc_messages.specs.declared.facts.Fact.{Fact as AFact};
 ghost use Rattle.mdcc_restart.specs.Logged.{AreLogged, logged};
-ghost use Rattle.mdcc_restart.specs.Restarting.{BootsNode, IsAmple, IsLogOf, Restarts};
+ghost use Rattle.mdcc_restart.specs.Restarting.{BootsNode, IsAmple, IsLogOf, KeepsLog, MayHaveBoot, MayHaveFactAndBoot, Restarts};
 
 use crate::RestartFault;
 use mdcc_base::{Centre, HeapList, Memory};
 use mdcc_disks::Disks;
 use mdcc_facts::FactStore;
 use mdcc_journal::encode_fact;
-use mdcc_log::{Frames, LogFault, between_is_read};
+use mdcc_log::{Frames, LogFault, between_is_read, rest_is_read, shut_is_read};
 use mdcc_messages::Fact;
 use mdcc_node::Node;
 use mdcc_option::Cluster;
@@ -63,8 +63,8 @@ fn boot_node<S: FactStore + Drop>(
 
 /// Starts a centre over an empty store: opens its log, boots its node from the payloads, and appends
 /// the boot of the next epoch. So no two starts that succeed begin the same epoch, and at `Ok` each
-/// later crash leaves a log that has the new boot. Want of memory is always `Memory`. The store is given
-/// up with a refusal.
+/// later crash leaves a log that has the new boot. After a refusal the log can be opened again: it has what it had, or where a
+/// call of the disk failed perhaps the new boot too. Want of memory is always `Memory`. The store is given up with a refusal.
 pub fn restart<D: Disks, S: FactStore + Drop>(
     alloc: Global,
     cluster: Cluster,
@@ -87,6 +87,19 @@ pub fn restart<D: Disks, S: FactStore + Drop>(
         → IsTrue (D.disk disks.old centre).told → IsBetween (logged facts) (fact_bytes fact) (D.disk disks.old centre).bytes
         → Restarts S.stands result cluster centre facts (D.disk disks.new centre).bytes (D.may_leave disks.new centre)
         ⊎ Restarts S.stands result cluster centre (fact ∷ facts) (D.disk disks.new centre).bytes (D.may_leave disks.new centre) }
+
+    // A refusal leaves the log as it was: its payloads are read again.
+    ensures refused { (payloads : List (List ℕ)) → IsTrue (D.disk disks.old centre).told
+        → read_log (D.disk disks.old centre).bytes ≡ Ok payloads
+        → IfErr result (λ fault. KeepsLog payloads fault (D.disk disks.new centre).bytes (D.may_leave disks.new centre)) }
+
+    // A crash at any moment of it leaves a log of the facts, or of these and the new boot, whether it is answered or refused.
+    ensures any_moment { (facts : List AFact) → IsAmple S.stands S.room S.cells_for store → AreLogged cluster facts
+        → IsTrue (D.disk disks.old centre).told → Within (IsShut (logged facts)) (D.may_leave disks.old centre)
+        → LeavesOnly D.moment D.left_since disks.old disks.new centre (MayHaveBoot facts) }
+    ensures any_moment_between { (facts : List AFact) (fact : AFact) → IsAmple S.stands S.room S.cells_for store → AreLogged cluster (fact ∷ facts)
+        → IsTrue (D.disk disks.old centre).told → Within (IsBetween (logged facts) (fact_bytes fact)) (D.may_leave disks.old centre)
+        → LeavesOnly D.moment D.left_since disks.old disks.new centre (MayHaveFactAndBoot facts fact) }
     ensures others { KeepsOthers D.disk D.may_leave D.moment D.left_since disks.old disks.new centre }
     ensures later { (D.disk disks.old centre).faults ≤ (D.disk disks.new centre).faults }
     ensures disk_fault { IsErrOf result (RestartFault.Log LogFault.DiskFault)
@@ -95,6 +108,8 @@ pub fn restart<D: Disks, S: FactStore + Drop>(
     ensures boot_memory { IsErrOf result (RestartFault.Boot BootFault.Memory) → ⊥ }
 {
     between_is_read();
+    shut_is_read();
+    rest_is_read();
     let (log, payloads) = Frames::open(alloc, disks, centre.number())?;
     let mut log = log;
     let (node, boot) = boot_node(alloc, cluster, centre, store, payloads.as_slice())?;

@@ -1,12 +1,14 @@
-use Rattle.std.proofs.Common.{rules, [], ◌∷◌, ◌++◌, List, ℕ, Ok, ◌∙◌, ap, length, subst}
+use Rattle.std.proofs.Common.{rules, [], ◌∷◌, ◌++◌, List, ℕ, Ok, ◌∙◌, ap, length, subst, sym}
 use Rattle.std.proofs.lemmas.Result.{err_from_is_err_and}
 use Rattle.mdcc_log.specs.Frames.{IsAtRest}
 use Rattle.mdcc_log.specs.Log.{log_bytes}
+use Rattle.mdcc_disks.specs.Disks.{LeavesOnly}
+use Rattle.mdcc_restart.proofs.Kept.{append-keeps, between-leaves, boot-leaves, each-fault, open-keeps, rest-keeps, shut-leaves, then-leaves, then-leaves-either}
 use Rattle.mdcc_restart.proofs.Starts.{after-crash, boot-length, lies-within, refuses, same-payloads}
 use Rattle.mdcc_messages.specs.Spelling.{fact_bytes}
 use Rattle.mdcc_messages.specs.declared.facts.Fact.{Fact}
-use Rattle.mdcc_restart.specs.Logged.{logged}
-use Rattle.mdcc_restart.specs.Restarting.{Restarts}
+use Rattle.mdcc_restart.specs.Logged.{AreLogged, logged}
+use Rattle.mdcc_restart.specs.Restarting.{IsLogOf, KeepsLog, MayHaveBoot, Restarts}
 use Rattle.mdcc_restart.proofs.restarting.restart.Goals as goal
 
 pub returns-in_err-log-clause-restarts : goal.returns-in_err-log-clause-restarts
@@ -70,3 +72,142 @@ pub returns-clause-after_crash : goal.returns-clause-after_crash
 returns-clause-after_crash g c facts fact ample are told between =
     after-crash (λ fs. Restarts g.S.FactStore.stands (Ok (record { node = c.in_ok-node.node; log = c.append.new.self; epoch = c.epoch-epoch.result })) c.args.cluster c.args.centre fs (g.D.Disks.disk c.append.new.disks c.args.centre).bytes (g.D.Disks.may_leave c.append.new.disks c.args.centre))
     c.args.cluster facts fact (g.D.Disks.disk c.args.disks.now c.args.centre) c.between_is_read.ensures (λ fs of_cluster log. returns-clause-restarts g c fs ample of_cluster log) are told between
+
+-- ---- after a refusal
+
+pub returns-in_err-log-clause-refused : goal.returns-in_err-log-clause-refused
+returns-in_err-log-clause-refused g c payloads told read =
+    let p = err_from_is_err_and c.from_residual.result c.from_residual.ensures.1 in
+    let not_a_log = rw c.number.ensures.value at c.in_err-log.ensures.not_a_log in
+    let memory = rw c.number.ensures.value at c.in_err-log.ensures.memory in
+    rw (p.1, p.2)
+    (open-keeps payloads c.in_err-log.field-0.0 (g.D.Disks.disk c.args.disks.now c.args.centre).bytes (g.D.Disks.disk c.open.new.disks c.args.centre).bytes (g.D.Disks.may_leave c.open.new.disks c.args.centre) read
+    (λ n is. (not_a_log n is told).0) memory c.in_err-log.ensures.not_full)
+
+pub returns-in_err-node-clause-refused : goal.returns-in_err-node-clause-refused
+returns-in_err-node-clause-refused g c payloads told read =
+    let opened = rw c.number.ensures.value at c.in_ok-log.ensures.payloads in
+    let rest = rw c.number.ensures.value at c.in_ok-log.ensures.at_rest in
+    let bytes = (g.D.Disks.disk c.open.new.disks c.args.centre).bytes in
+    let may_leave = g.D.Disks.may_leave c.open.new.disks c.args.centre in
+    let is = same-payloads (g.D.Disks.disk c.args.disks.now c.args.centre).bytes c.in_ok-log.payloads.items payloads (opened told) read in
+    let stood = subst (λ (ps : List (List ℕ)). IsAtRest ps c.in_ok-log.log.size bytes may_leave) is (rest told) in
+    each-fault (λ fault. KeepsLog payloads fault bytes may_leave) c.from_residual-in_err-node.result (λ fault. rest-keeps c.rest_is_read.ensures payloads fault c.in_ok-log.log.size bytes may_leave stood)
+
+pub returns-in_err-payload-clause-refused : goal.returns-in_err-payload-clause-refused
+returns-in_err-payload-clause-refused g c payloads told read =
+    let opened = rw c.number.ensures.value at c.in_ok-log.ensures.payloads in
+    let rest = rw c.number.ensures.value at c.in_ok-log.ensures.at_rest in
+    let bytes = (g.D.Disks.disk c.open.new.disks c.args.centre).bytes in
+    let may_leave = g.D.Disks.may_leave c.open.new.disks c.args.centre in
+    let is = same-payloads (g.D.Disks.disk c.args.disks.now c.args.centre).bytes c.in_ok-log.payloads.items payloads (opened told) read in
+    let stood = subst (λ (ps : List (List ℕ)). IsAtRest ps c.in_ok-log.log.size bytes may_leave) is (rest told) in
+    each-fault (λ fault. KeepsLog payloads fault bytes may_leave) c.from_residual-in_err-payload.result (λ fault. rest-keeps c.rest_is_read.ensures payloads fault c.in_ok-log.log.size bytes may_leave stood)
+
+pub returns-in_err-append-clause-refused : goal.returns-in_err-append-clause-refused
+returns-in_err-append-clause-refused g c payloads told read =
+    let p = err_from_is_err_and c.from_residual-in_err-append.result c.from_residual-in_err-append.ensures.1 in
+    let opened = rw c.number.ensures.value at c.in_ok-log.ensures.payloads in
+    let rest = rw c.number.ensures.value at c.in_ok-log.ensures.at_rest in
+    let is = same-payloads (g.D.Disks.disk c.args.disks.now c.args.centre).bytes c.in_ok-log.payloads.items payloads (opened told) read in
+    let stood = subst (λ (ps : List (List ℕ)). IsAtRest ps c.in_ok-log.log.size (g.D.Disks.disk c.open.new.disks c.args.centre).bytes (g.D.Disks.may_leave c.open.new.disks c.args.centre)) is (rest told) in
+    rw (p.1, p.2)
+    (append-keeps payloads c.in_err-append.field-0.0 c.in_ok-log.log.size (g.D.Disks.disk c.append.new.disks c.args.centre).bytes (g.D.Disks.may_leave c.append.new.disks c.args.centre)
+    (λ full. subst (λ d. IsAtRest payloads c.in_ok-log.log.size (g.D.Disks.disk d c.args.centre).bytes (g.D.Disks.may_leave d c.args.centre)) (sym (c.in_err-append.ensures.full_keeps full).0) stood)
+    c.in_err-append.ensures.a_log c.in_err-append.ensures.memory)
+
+-- ---- at any moment
+
+pub returns-in_err-log-clause-any_moment : goal.returns-in_err-log-clause-any_moment
+returns-in_err-log-clause-any_moment g c facts ample are told within =
+    let opened = rw c.number.ensures.value at c.open.ensures.any_moment in
+    shut-leaves facts (opened (logged facts) told within)
+
+pub returns-in_err-log-clause-any_moment_between : goal.returns-in_err-log-clause-any_moment_between
+returns-in_err-log-clause-any_moment_between g c facts fact ample are told within =
+    let opened = rw c.number.ensures.value at c.open.ensures.any_moment_between in
+    between-leaves facts fact (opened (logged facts) (fact_bytes fact) told within)
+
+pub returns-in_err-node-clause-any_moment : goal.returns-in_err-node-clause-any_moment
+returns-in_err-node-clause-any_moment g c facts ample are told within =
+    let opened = rw c.number.ensures.value at c.open.ensures.any_moment in
+    shut-leaves facts (opened (logged facts) told within)
+
+pub returns-in_err-node-clause-any_moment_between : goal.returns-in_err-node-clause-any_moment_between
+returns-in_err-node-clause-any_moment_between g c facts fact ample are told within =
+    let opened = rw c.number.ensures.value at c.open.ensures.any_moment_between in
+    between-leaves facts fact (opened (logged facts) (fact_bytes fact) told within)
+
+pub returns-in_err-payload-clause-any_moment : goal.returns-in_err-payload-clause-any_moment
+returns-in_err-payload-clause-any_moment g c facts ample are told within =
+    let opened = rw c.number.ensures.value at c.open.ensures.any_moment in
+    shut-leaves facts (opened (logged facts) told within)
+
+pub returns-in_err-payload-clause-any_moment_between : goal.returns-in_err-payload-clause-any_moment_between
+returns-in_err-payload-clause-any_moment_between g c facts fact ample are told within =
+    let opened = rw c.number.ensures.value at c.open.ensures.any_moment_between in
+    between-leaves facts fact (opened (logged facts) (fact_bytes fact) told within)
+
+pub returns-in_err-append-clause-any_moment : goal.returns-in_err-append-clause-any_moment
+returns-in_err-append-clause-any_moment g c facts ample are told within =
+    let opened = rw c.number.ensures.value at c.in_ok-log.ensures.payloads in
+    let rest = rw c.number.ensures.value at c.in_ok-log.ensures.at_rest in
+    let others = rw c.number.ensures.value at c.open.ensures.others in
+    let appending = rw (c.in_ok-log.ensures.place, c.number.ensures.value) at c.append.ensures.any_moment in
+    let appended = λ (fs : List Fact) (of_cluster : AreLogged c.args.cluster fs) (log : IsLogOf fs (g.D.Disks.disk c.args.disks.now c.args.centre)).
+    (let is = same-payloads (g.D.Disks.disk c.args.disks.now c.args.centre).bytes c.in_ok-log.payloads.items (logged fs) (opened log.told) log.read in
+    let booted = c.in_ok-node.ensures.node fs ample of_cluster (c.as_slice.ensures.value ∙ is) in
+    let bytes = c.deref.ensures.value ∙ c.in_ok-payload.ensures ∙ ap fact_bytes booted.2 in
+    boot-leaves fs c.in_ok-log.payloads.items c.deref.result.now is bytes (appending c.in_ok-log.payloads.items (others.told ∙ told) (rest told))) in
+    let opens = rw c.number.ensures.value at c.open.ensures.any_moment in
+    let read = c.shut_is_read.ensures (logged facts) (g.D.Disks.disk c.args.disks.now c.args.centre).bytes (within _ (g.met.D.Disks.as_read c.args.disks.now c.args.centre told)) in
+    then-leaves facts (opens (logged facts) told within) (appended facts are (record { told = told; read = read }))
+
+pub returns-in_err-append-clause-any_moment_between : goal.returns-in_err-append-clause-any_moment_between
+returns-in_err-append-clause-any_moment_between g c facts fact ample are told within =
+    let opened = rw c.number.ensures.value at c.in_ok-log.ensures.payloads in
+    let rest = rw c.number.ensures.value at c.in_ok-log.ensures.at_rest in
+    let others = rw c.number.ensures.value at c.open.ensures.others in
+    let appending = rw (c.in_ok-log.ensures.place, c.number.ensures.value) at c.append.ensures.any_moment in
+    let appended = λ (fs : List Fact) (of_cluster : AreLogged c.args.cluster fs) (log : IsLogOf fs (g.D.Disks.disk c.args.disks.now c.args.centre)).
+    (let is = same-payloads (g.D.Disks.disk c.args.disks.now c.args.centre).bytes c.in_ok-log.payloads.items (logged fs) (opened log.told) log.read in
+    let booted = c.in_ok-node.ensures.node fs ample of_cluster (c.as_slice.ensures.value ∙ is) in
+    let bytes = c.deref.ensures.value ∙ c.in_ok-payload.ensures ∙ ap fact_bytes booted.2 in
+    boot-leaves fs c.in_ok-log.payloads.items c.deref.result.now is bytes (appending c.in_ok-log.payloads.items (others.told ∙ told) (rest told))) in
+    let opens = rw c.number.ensures.value at c.open.ensures.any_moment_between in
+    let stood = within _ (g.met.D.Disks.as_read c.args.disks.now c.args.centre told) in
+    then-leaves-either facts fact (opens (logged facts) (fact_bytes fact) told within)
+    (after-crash (λ fs. LeavesOnly g.D.Disks.moment g.D.Disks.left_since c.open.new.disks c.append.new.disks c.args.centre (MayHaveBoot fs))
+    c.args.cluster facts fact (g.D.Disks.disk c.args.disks.now c.args.centre) c.between_is_read.ensures appended are told stood)
+
+pub returns-clause-any_moment : goal.returns-clause-any_moment
+returns-clause-any_moment g c facts ample are told within =
+    let opened = rw c.number.ensures.value at c.in_ok-log.ensures.payloads in
+    let rest = rw c.number.ensures.value at c.in_ok-log.ensures.at_rest in
+    let others = rw c.number.ensures.value at c.open.ensures.others in
+    let appending = rw (c.in_ok-log.ensures.place, c.number.ensures.value) at c.append.ensures.any_moment in
+    let appended = λ (fs : List Fact) (of_cluster : AreLogged c.args.cluster fs) (log : IsLogOf fs (g.D.Disks.disk c.args.disks.now c.args.centre)).
+    (let is = same-payloads (g.D.Disks.disk c.args.disks.now c.args.centre).bytes c.in_ok-log.payloads.items (logged fs) (opened log.told) log.read in
+    let booted = c.in_ok-node.ensures.node fs ample of_cluster (c.as_slice.ensures.value ∙ is) in
+    let bytes = c.deref.ensures.value ∙ c.in_ok-payload.ensures ∙ ap fact_bytes booted.2 in
+    boot-leaves fs c.in_ok-log.payloads.items c.deref.result.now is bytes (appending c.in_ok-log.payloads.items (others.told ∙ told) (rest told))) in
+    let opens = rw c.number.ensures.value at c.open.ensures.any_moment in
+    let read = c.shut_is_read.ensures (logged facts) (g.D.Disks.disk c.args.disks.now c.args.centre).bytes (within _ (g.met.D.Disks.as_read c.args.disks.now c.args.centre told)) in
+    then-leaves facts (opens (logged facts) told within) (appended facts are (record { told = told; read = read }))
+
+pub returns-clause-any_moment_between : goal.returns-clause-any_moment_between
+returns-clause-any_moment_between g c facts fact ample are told within =
+    let opened = rw c.number.ensures.value at c.in_ok-log.ensures.payloads in
+    let rest = rw c.number.ensures.value at c.in_ok-log.ensures.at_rest in
+    let others = rw c.number.ensures.value at c.open.ensures.others in
+    let appending = rw (c.in_ok-log.ensures.place, c.number.ensures.value) at c.append.ensures.any_moment in
+    let appended = λ (fs : List Fact) (of_cluster : AreLogged c.args.cluster fs) (log : IsLogOf fs (g.D.Disks.disk c.args.disks.now c.args.centre)).
+    (let is = same-payloads (g.D.Disks.disk c.args.disks.now c.args.centre).bytes c.in_ok-log.payloads.items (logged fs) (opened log.told) log.read in
+    let booted = c.in_ok-node.ensures.node fs ample of_cluster (c.as_slice.ensures.value ∙ is) in
+    let bytes = c.deref.ensures.value ∙ c.in_ok-payload.ensures ∙ ap fact_bytes booted.2 in
+    boot-leaves fs c.in_ok-log.payloads.items c.deref.result.now is bytes (appending c.in_ok-log.payloads.items (others.told ∙ told) (rest told))) in
+    let opens = rw c.number.ensures.value at c.open.ensures.any_moment_between in
+    let stood = within _ (g.met.D.Disks.as_read c.args.disks.now c.args.centre told) in
+    then-leaves-either facts fact (opens (logged facts) (fact_bytes fact) told within)
+    (after-crash (λ fs. LeavesOnly g.D.Disks.moment g.D.Disks.left_since c.open.new.disks c.append.new.disks c.args.centre (MayHaveBoot fs))
+    c.args.cluster facts fact (g.D.Disks.disk c.args.disks.now c.args.centre) c.between_is_read.ensures appended are told stood)
