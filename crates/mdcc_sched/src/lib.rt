@@ -18,6 +18,7 @@ pub use laws::events_are_spelled;
 pub use mdcc_language::{
     Event, HeaderCause, HeaderFault, Line, ResolveFault, SchedCause, SchedFault, UpdateWord,
 };
+pub use mdcc_option::Known;
 pub use mdcc_words::{parse_body, parse_key, parse_number, parse_update, parse_values};
 pub use parts::resolve;
 pub use print::print_line;
