@@ -24,7 +24,7 @@ use Rattle.mdcc_escrow.specs.Capped.{AreDeclared, IsShort}
 past_room : (room sum amount : ℤ) → room ≤ℤ pos (2 ^ 65) → pos 0 ≤ℤ amount → pos (2 ^ 96) ≤ℤ sum → int_lt room (sum +ℤ amount) ≡ true
 past_room room sum amount h k l = grind (arith, ints)
 
-room-capped : (room sum amount : ℤ) → room ≤ℤ pos (2 ^ 65) → pos 0 ≤ℤ amount → int_lt room (capped_sum sum +ℤ amount) ≡ int_lt room (sum +ℤ amount)
+pub room-capped : (room sum amount : ℤ) → room ≤ℤ pos (2 ^ 65) → pos 0 ≤ℤ amount → int_lt room (capped_sum sum +ℤ amount) ≡ int_lt room (sum +ℤ amount)
 room-capped room sum amount h k =
     elim (cases_Bool (int_lt (pos (2 ^ 96)) sum)) [
       | inl above ↦ rw above (past_room room (pos (2 ^ 96)) amount h k (omega (arith, ints)) ∙ rw (past_room room sum amount h k (grind (arith, ints))) refl)
@@ -88,13 +88,13 @@ count_share-capped share classic count h k =
 
 -- ---- quantities
 
-sum-capped : (sums : List ℤ) (place : ℕ) → get_or (map capped_sum sums) place (pos 0) ≡ capped_sum (get_or sums place (pos 0))
+pub sum-capped : (sums : List ℤ) (place : ℕ) → get_or (map capped_sum sums) place (pos 0) ≡ capped_sum (get_or sums place (pos 0))
 sum-capped [] place = refl
 sum-capped (sum ∷ sums) zero = refl
 sum-capped (sum ∷ sums) (suc place) = sum-capped sums place
 
 -- the room of a quantity is one of 65 bits at most
-short_room : (bounds : ℤ × ℤ) (value : ℤ) → is_bound bounds ≡ true → IsShort value
+pub short_room : (bounds : ℤ × ℤ) (value : ℤ) → is_bound bounds ≡ true → IsShort value
     → ((bounds.1 -ℤ value) ≤ℤ pos (2 ^ 65)) × ((value -ℤ bounds.0) ≤ℤ pos (2 ^ 65))
 short_room bounds value h k = (omega (arith, ints, upper, k.low), omega (arith, ints, lower, k.high))
   where
@@ -114,12 +114,12 @@ short_room bounds value h k = (omega (arith, ints, upper, k.low), omega (arith, 
     lower : neg_ℤ (pos 1000000000000000) ≤ℤ bounds.0
     lower = (above bounds.0 parts.0).1
 
-bound_at : (schema : List (ℤ × ℤ)) (place : ℕ) → list_all is_bound schema ≡ true → is_bound (get_or schema place (pos 0, pos 0)) ≡ true
+pub bound_at : (schema : List (ℤ × ℤ)) (place : ℕ) → list_all is_bound schema ≡ true → is_bound (get_or schema place (pos 0, pos 0)) ≡ true
 bound_at [] place h = refl
 bound_at (bounds ∷ schema) zero h = (and_parts _ _ h).0
 bound_at (bounds ∷ schema) (suc place) h = bound_at schema place (and_parts _ _ h).1
 
-short_at : (values : List ℤ) (place : ℕ) → All IsShort values → IsShort (get_or values place (pos 0))
+pub short_at : (values : List ℤ) (place : ℕ) → All IsShort values → IsShort (get_or values place (pos 0))
 short_at [] place h = record { low = omega (arith, ints); high = omega (arith, ints) }
 short_at (value ∷ values) zero h = All-head IsShort value values h
 short_at (value ∷ values) (suc place) h = short_at values place (All-tail IsShort value values h)

@@ -1,2 +1,4 @@
+pub mod Bounded
 pub mod Capped
 pub mod Weighing
+pub mod WithinRoom

@@ -9,8 +9,11 @@ pub mod laws;
 pub mod load;
 mod quantity;
 pub mod room;
+pub mod taken;
 
 pub use fits::{exact_fit, fast_fit};
 pub use load::{NO_LOAD, with_live};
 pub use mdcc_protocol::{Fit, Load};
+pub use quantity::parts_of;
 pub use room::{accept_room, reject_room};
+pub use taken::are_within_room;

@@ -1,5 +1,6 @@
 //! What live choices weigh, one after the other.
 ghost use Rattle.std.specs.Prelude.{◌≡◌, ◌++◌, ◌∷◌, []};
+ghost use Rattle.mdcc_escrow.specs.Sums.{IsBoundedLoad};
 ghost use Rattle.mdcc_escrow.specs.Weights.{added, counted, sums_with, with_live};
 ghost use Rattle.mdcc_option.specs.OneCopy.{amount_at};
 ghost use Rattle.mdcc_option.specs.declared.items.Update.{Update as Live};
@@ -124,6 +125,7 @@ fn amounts_in(update: &Update) -> &[(u8, i64)]
 /// and of this one.
 pub fn with_live(seen: &[TxId], load: &Load, tx: TxId, update: &Update) -> Load
     ensures value { result ≡ with_live seen.now load.now (tx, update.now) }
+    ensures bounded { IsBoundedLoad load.now → IsBoundedLoad result }
     ensures more { (live : TxMap Live) → load.now ≡ capped (load_of live seen.now)
         → result ≡ capped (load_of (live ++ (tx, update.now) ∷ []) seen.now) }
 {

@@ -43,6 +43,18 @@ fn delta_count(load: &Load) -> Quantity
     }
 }
 
+/// Quantity 0 as the live adds alone leave it.
+pub(crate) fn count_taken(load: &Load) -> Quantity
+    ensures { result ≡ record { number = 0; sum = pos load.now.count; room = pos 64; amount = pos 0 } }
+{
+    Quantity {
+        number: 0,
+        sum: i128::from(load.count),
+        room: 64,
+        amount: 0,
+    }
+}
+
 // What lies between a lower number and an upper one.
 fn room_between(lower: i64, upper: i64) -> i128
     ensures value { result ≡ upper -ℤ lower }
@@ -61,8 +73,14 @@ fn magnitude(amount: i64) -> i128
     i128::from(amount.unsigned_abs())
 }
 
-// Quantity n where an add takes from it: the room down to the lower bound.
-fn decreased(attribute: u8, value: i64, lower: i64, amount: i64, down: &[i128; 4]) -> Quantity
+/// Quantity n where an add takes from it: the room down to the lower bound.
+pub(crate) fn decreased(
+    attribute: u8,
+    value: i64,
+    lower: i64,
+    amount: i64,
+    down: &[i128; 4],
+) -> Quantity
     requires { AreBoundedSums down.now }
     ensures { result ≡ record {
       number = attribute;
@@ -79,8 +97,14 @@ fn decreased(attribute: u8, value: i64, lower: i64, amount: i64, down: &[i128; 4
     }
 }
 
-// Quantity n where an add adds to it: the room up to the upper bound.
-fn increased(attribute: u8, value: i64, upper: i64, amount: i64, up: &[i128; 4]) -> Quantity
+/// Quantity n where an add adds to it: the room up to the upper bound.
+pub(crate) fn increased(
+    attribute: u8,
+    value: i64,
+    upper: i64,
+    amount: i64,
+    up: &[i128; 4],
+) -> Quantity
     requires { AreBoundedSums up.now }
     ensures { result ≡ record {
       number = attribute;
@@ -129,8 +153,8 @@ fn total_of(quantity: &Quantity) -> i128
     quantity.sum + quantity.amount
 }
 
-// Whether the sum with the amount passes the room.
-fn is_past_room(quantity: &Quantity) -> bool
+/// Whether the sum with the amount passes the room.
+pub(crate) fn is_past_room(quantity: &Quantity) -> bool
     ensures { result ≡ is_past_room quantity.now }
 {
     quantity.room < total_of(quantity)
@@ -146,9 +170,9 @@ fn times(count: u8, number: i128) -> i128
     i128::from(count) * number
 }
 
-// Into how many parts an acceptor's room is cut: as many as a classic quorum has centres, or under
-// the wider limit as there are centres.
-fn parts_of(limit: FastLimit, quorums: &Quorums) -> u8
+/// Into how many parts an acceptor's room is cut: as many as a classic quorum has centres, or under
+/// the wider limit as there are centres.
+pub fn parts_of(limit: FastLimit, quorums: &Quorums) -> u8
     ensures value { result ≡ parts_of limit quorums.now }
     ensures within { result ≤ quorums.now.centres }
     ensures meet { AreQuorums quorums.now }

@@ -1,9 +1,17 @@
 use Rattle.std.proofs.Common.{◌∙◌, ap}
 use Rattle.mdcc_base.specs.declared.identifiers.TxId.{TxId}
 use Rattle.mdcc_option.specs.declared.items.Update.{Update}
+use Rattle.mdcc_protocol.specs.Fit.{decrease, increase}
 use Rattle.mdcc_escrow.specs.Weights.{with_live}
+use Rattle.mdcc_escrow.proofs.Bounded.{sums_with-bounded}
 use Rattle.mdcc_escrow.proofs.Weighing.{load_more}
 use Rattle.mdcc_escrow.proofs.load.with_live.Goals as goal
+
+pub returns-clause-bounded : goal.returns-clause-bounded
+returns-clause-bounded c h = record {
+  down = rw c.with_decreases.ensures (sums_with-bounded decrease c.amounts_in-amounts.result.now c.args.load.now.down h.down);
+  up = rw c.with_increases.ensures (sums_with-bounded increase c.amounts_in-amounts.result.now c.args.load.now.up h.up);
+}
 
 pub returns-clause-more : goal.returns-clause-more
 returns-clause-more c live whole =
