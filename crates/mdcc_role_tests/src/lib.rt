@@ -4,6 +4,8 @@
 #[cfg(test)]
 mod acceptor;
 #[cfg(test)]
+mod leader;
+#[cfg(test)]
 mod manager;
 #[cfg(test)]
 mod outcomes;

@@ -1,0 +1,5 @@
+pub mod Answers
+pub mod Extending
+pub mod Leads
+pub mod Promises
+pub mod Stands

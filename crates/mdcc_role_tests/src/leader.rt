@@ -1,0 +1,393 @@
+//! What a leader answers.
+use crate::values::{LED, centre, choice, cluster, holding, insert, item, key, tx};
+use mdcc_base::{Ballot, BoundedList, Plain, Quorums, TxId};
+use mdcc_facts::ListFacts;
+use mdcc_leader::Leader;
+use mdcc_option::{Choice, Claim, Cluster, FastLimit, Mark, Update};
+use mdcc_protocol::{LeadAnswer, Promise, PromiseAnswer};
+use mdcc_struct::Options;
+use std::alloc::Global;
+use std::process::Abort;
+use std::test::Fail;
+
+// A leader of the third centre in its first epoch.
+fn leader(alloc: Global) -> Result<Leader, Fail> {
+    Ok(Leader::new(alloc, centre(3), 1)?)
+}
+
+// A transaction asks for a mark on key a.
+fn claim(tx: TxId, version: u64, choice: Option<Choice>) -> Claim {
+    Claim {
+        tx,
+        key: key(b'a'),
+        version,
+        choice,
+    }
+}
+
+// The claim of a choice.
+fn claim_of(choice: &Choice) -> Claim {
+    claim(choice.tx, choice.version, Some(choice.copy()))
+}
+
+// A promise of the leader's first ballot, of a centre that voted these marks at the fast one.
+fn promise(version: u64, through: u64, votes: Options) -> Promise {
+    Promise {
+        key: key(b'a'),
+        version,
+        through,
+        ballot: LED,
+        reported: Ballot::FAST,
+        votes,
+    }
+}
+
+// Marks of two transactions.
+fn two(alloc: Global, first: (TxId, Mark), second: (TxId, Mark)) -> Result<Options, Fail> {
+    let mut options = Options::new(alloc)?;
+    options.insert(first.0, first.1)?;
+    if options.mark_of(second.0).is_some() {
+        return Err("two transactions".into());
+    }
+    options.insert(second.0, second.1)?;
+    Ok(options)
+}
+
+// Another insert of key a, by another transaction.
+fn other_insert() -> Choice {
+    choice(2, 0, Update::Write(item(20), BoundedList::new()))
+}
+
+// The votes of a centre to which the first insert came first.
+fn first_won(alloc: Global) -> Result<Options, Fail> {
+    two(
+        alloc,
+        (tx(1), Mark::Accept(insert())),
+        (tx(2), Mark::Reject),
+    )
+}
+
+// The votes of a centre to which the second came first.
+fn second_won(alloc: Global) -> Result<Options, Fail> {
+    two(
+        alloc,
+        (tx(1), Mark::Reject),
+        (tx(2), Mark::Accept(other_insert())),
+    )
+}
+
+// Whether a mark accepts.
+fn is_accepted(options: &Options, tx: TxId) -> Option<bool> {
+    options
+        .mark_of(tx)
+        .map(|mark| matches!(mark, Mark::Accept(_)))
+}
+
+// A centre of the cluster promises.
+fn promised(
+    leader: &mut Leader,
+    store: &ListFacts,
+    cluster: &Cluster,
+    number: u8,
+    promise: &Promise,
+) -> Result<PromiseAnswer, Fail> {
+    let from = centre(number);
+    if from.number() > cluster.quorums.centres() {
+        return Err("a centre of the cluster".into());
+    }
+    Ok(leader.on_promise(store, cluster, from, promise)?)
+}
+
+// The structure that an answer sends.
+fn structure(answer: PromiseAnswer) -> Result<Options, Fail> {
+    match answer {
+        PromiseAnswer::Accept {
+            version: _,
+            ballot: _,
+            options,
+        } => Ok(options),
+        _ => Err("a structure is sent".into()),
+    }
+}
+
+// A leader that asked for promises on a version, for a claim of it.
+fn asking(
+    rt: &impl Abort,
+    alloc: Global,
+    store: &ListFacts,
+    cluster: &Cluster,
+    claim: &Claim,
+) -> Result<Leader, Fail> {
+    let mut leader = leader(alloc)?;
+    match leader.lead(store, cluster, claim)? {
+        LeadAnswer::Prepare {
+            version,
+            through,
+            ballot,
+        } => {
+            assert_eq!(rt; (version, ballot), (claim.version, LED));
+            assert_eq!(rt; through, claim.version + 100);
+            Ok(leader)
+        }
+        _ => Err("promises are asked for".into()),
+    }
+}
+
+// Two of the first three centres voted the first insert: it is kept, and the other rejected.
+#[test]
+fn the_first_three_force_the_first_insert(rt: HostRuntime) -> Result<(), Fail> {
+    let cluster = cluster()?;
+    let store = ListFacts::new(rt.alloc())?;
+    let mut leader = asking(
+        &rt,
+        rt.alloc(),
+        &store,
+        &cluster,
+        &claim_of(&other_insert()),
+    )?;
+    let first = promise(0, 100, first_won(rt.alloc())?);
+    let second = promise(0, 100, second_won(rt.alloc())?);
+    let answer = promised(&mut leader, &store, &cluster, 1, &first)?;
+    assert!(rt; matches!(answer, PromiseAnswer::Waiting(1)));
+    let answer = promised(&mut leader, &store, &cluster, 1, &first)?;
+    assert!(rt; matches!(answer, PromiseAnswer::Ignored));
+    let answer = promised(&mut leader, &store, &cluster, 2, &first)?;
+    assert!(rt; matches!(answer, PromiseAnswer::Waiting(2)));
+    let options = structure(promised(&mut leader, &store, &cluster, 3, &second)?)?;
+    assert_eq!(rt; options.len(), 2);
+    assert_eq!(rt; is_accepted(&options, tx(1)), Some(true));
+    assert_eq!(rt; is_accepted(&options, tx(2)), Some(false));
+    let answer = promised(&mut leader, &store, &cluster, 4, &second)?;
+    assert!(rt; matches!(answer, PromiseAnswer::Counted));
+    Ok(())
+}
+
+// Of the last three centres all voted the second.
+#[test]
+fn the_last_three_force_the_second_insert(rt: HostRuntime) -> Result<(), Fail> {
+    let cluster = cluster()?;
+    let store = ListFacts::new(rt.alloc())?;
+    let mut leader = asking(&rt, rt.alloc(), &store, &cluster, &claim_of(&insert()))?;
+    let second = promise(0, 100, second_won(rt.alloc())?);
+    let _waiting = promised(&mut leader, &store, &cluster, 3, &second)?;
+    let _waiting = promised(&mut leader, &store, &cluster, 4, &second)?;
+    let options = structure(promised(&mut leader, &store, &cluster, 5, &second)?)?;
+    assert_eq!(rt; is_accepted(&options, tx(1)), Some(false));
+    assert_eq!(rt; is_accepted(&options, tx(2)), Some(true));
+    Ok(())
+}
+
+// A decrease of version 1 by this amount.
+fn decrease_by(seq: u32, amount: i64) -> Choice {
+    let amounts = BoundedList::from_slice(&[(1, -amount)]).unwrap_or_default();
+    choice(seq, 1, Update::Add(amounts))
+}
+
+// The votes of a centre that accepts two of the decreases.
+fn accepting(alloc: Global, first: u32, second: u32, amount: i64) -> Result<Options, Fail> {
+    two(
+        alloc,
+        (tx(first), Mark::Accept(decrease_by(first, amount))),
+        (tx(second), Mark::Accept(decrease_by(second, amount))),
+    )
+}
+
+// The answer to the third of three promises, each of which has two of three decreases.
+fn third(
+    alloc: Global,
+    leader: &mut Leader,
+    store: &ListFacts,
+    cluster: &Cluster,
+    amount: i64,
+) -> Result<PromiseAnswer, Fail> {
+    let ends = [(2, 3), (2, 4), (3, 4)];
+    let first = promise(1, 101, accepting(alloc, ends[0].0, ends[0].1, amount)?);
+    let second = promise(1, 101, accepting(alloc, ends[1].0, ends[1].1, amount)?);
+    let last = promise(1, 101, accepting(alloc, ends[2].0, ends[2].1, amount)?);
+    let _waiting = promised(leader, store, cluster, 1, &first)?;
+    let _waiting = promised(leader, store, cluster, 2, &second)?;
+    promised(leader, store, cluster, 3, &last)
+}
+
+// Three decreases of 3 from 10, of which each of three centres accepted two: all are kept.
+#[test]
+fn joint_decreases_are_all_kept(rt: HostRuntime) -> Result<(), Fail> {
+    let cluster = cluster()?;
+    let store = holding(rt.alloc(), vec![in rt.alloc(); insert()]?)?;
+    let mut leader = asking(
+        &rt,
+        rt.alloc(),
+        &store,
+        &cluster,
+        &claim_of(&decrease_by(2, 3)),
+    )?;
+    let options = structure(third(rt.alloc(), &mut leader, &store, &cluster, 3)?)?;
+    assert_eq!(rt; (options.accepted(), options.rejected()), (3, 0));
+    Ok(())
+}
+
+// Under the wider limit three decreases of 4 from 10 do not fit together, so that the leader waits
+// for a fourth promise. Of the four no decrease has three votes, and the last in order is rejected.
+#[test]
+fn promises_that_do_not_fit_are_not_enough(rt: HostRuntime) -> Result<(), Fail> {
+    let cluster = Cluster {
+        limit: FastLimit::Paper,
+        ..cluster()?
+    };
+    let store = holding(rt.alloc(), vec![in rt.alloc(); insert()]?)?;
+    let mut leader = asking(
+        &rt,
+        rt.alloc(),
+        &store,
+        &cluster,
+        &claim_of(&decrease_by(2, 4)),
+    )?;
+    let answer = third(rt.alloc(), &mut leader, &store, &cluster, 4)?;
+    assert!(rt; matches!(answer, PromiseAnswer::Waiting(3)));
+    let fourth = promise(1, 101, Options::new(rt.alloc())?);
+    let options = structure(promised(&mut leader, &store, &cluster, 4, &fourth)?)?;
+    assert_eq!(rt; is_accepted(&options, tx(2)), Some(true));
+    assert_eq!(rt; is_accepted(&options, tx(3)), Some(true));
+    assert_eq!(rt; is_accepted(&options, tx(4)), Some(false));
+    Ok(())
+}
+
+// A cluster of one centre.
+fn single() -> Result<Cluster, Fail> {
+    Ok(Cluster {
+        quorums: Quorums::new(1, 1, 1)?,
+        ..cluster()?
+    })
+}
+
+// A claim whose choice nobody gave is rejected, and one that is forced keeps its choice.
+#[test]
+fn a_claim_without_a_choice_is_rejected(rt: HostRuntime) -> Result<(), Fail> {
+    let cluster = single()?;
+    let store = ListFacts::new(rt.alloc())?;
+    let mut leader = asking(&rt, rt.alloc(), &store, &cluster, &claim(tx(1), 0, None))?;
+    let again = leader.lead(&store, &cluster, &claim(tx(2), 0, None))?;
+    assert!(rt; matches!(again, LeadAnswer::Prepare { .. }));
+    let mut votes = Options::new(rt.alloc())?;
+    votes.insert(tx(1), Mark::Accept(insert()))?;
+    let options = structure(promised(&mut leader, &store, &cluster, 1, &promise(0, 100, votes))?)?;
+    assert_eq!(rt; is_accepted(&options, tx(1)), Some(true));
+    assert_eq!(rt; is_accepted(&options, tx(2)), Some(false));
+    Ok(())
+}
+
+// A write of key a at this version.
+fn write(seq: u32, version: u64) -> Choice {
+    choice(seq, version, Update::Write(item(10), BoundedList::new()))
+}
+
+// The versions through the end of a range need no further promises; past it they are asked for
+// again, in the next round.
+#[test]
+fn a_range_ends(rt: HostRuntime) -> Result<(), Fail> {
+    let cluster = Cluster {
+        gamma: 2,
+        ..single()?
+    };
+    let written = vec![in rt.alloc(); insert(), write(2, 1), write(3, 2), write(4, 3)]?;
+    let store = holding(rt.alloc(), written)?;
+    let mut leader = leader(rt.alloc())?;
+    let asked = leader.lead(&store, &cluster, &claim(tx(5), 1, None))?;
+    assert!(rt;
+        matches!(
+            asked,
+            LeadAnswer::Prepare {
+                version: 1,
+                through: 3,
+                ballot: _
+            }
+        )
+    );
+    let none = Options::new(rt.alloc())?;
+    let _made = structure(promised(&mut leader, &store, &cluster, 1, &promise(1, 3, none))?)?;
+    let later = leader.lead(&store, &cluster, &claim(tx(6), 3, None))?;
+    assert!(rt;
+        matches!(
+            later,
+            LeadAnswer::Accept {
+                version: 3,
+                ballot: LED,
+                options: _
+            }
+        )
+    );
+    let past = leader.lead(&store, &cluster, &claim(tx(7), 4, None))?;
+    assert_eq!(rt; round_of(&past), Some(2));
+    let ahead = leader.lead(&store, &cluster, &claim(tx(7), 5, None))?;
+    assert!(rt; matches!(ahead, LeadAnswer::Behind));
+    Ok(())
+}
+
+// The round in which promises are asked for.
+fn round_of(answer: &LeadAnswer) -> Option<u32> {
+    match answer {
+        LeadAnswer::Prepare {
+            version: _,
+            through: _,
+            ballot,
+        } => Some(ballot.round),
+        _ => None,
+    }
+}
+
+// A refused lead is given up, and the next one is above the round that was promised.
+#[test]
+fn a_refused_lead_is_led_anew(rt: HostRuntime) -> Result<(), Fail> {
+    let cluster = cluster()?;
+    let store = ListFacts::new(rt.alloc())?;
+    let mut leader = asking(&rt, rt.alloc(), &store, &cluster, &claim_of(&insert()))?;
+    let higher = Ballot {
+        round: 7,
+        epoch: 1,
+        centre: 5,
+    };
+    leader.on_refused(&key(b'a'), LED, higher);
+    let late = promise(0, 100, first_won(rt.alloc())?);
+    let answer = promised(&mut leader, &store, &cluster, 1, &late)?;
+    assert!(rt; matches!(answer, PromiseAnswer::Ignored));
+    let anew = leader.lead(&store, &cluster, &claim_of(&insert()))?;
+    assert_eq!(rt; round_of(&anew), Some(8));
+    Ok(())
+}
+
+// The 16,385th rejection of a structure is left out.
+#[test]
+fn one_rejection_too_many_is_left_out(rt: HostRuntime) -> Result<(), Fail> {
+    let cluster = single()?;
+    let store = ListFacts::new(rt.alloc())?;
+    let mut leader = asking(&rt, rt.alloc(), &store, &cluster, &claim(tx(1), 0, None))?;
+    let votes = rejections(rt.alloc(), 16_384)?;
+    let options = structure(promised(&mut leader, &store, &cluster, 1, &promise(0, 100, votes))?)?;
+    assert_eq!(rt; options.rejected(), 16_384);
+    let answer = leader.lead(&store, &cluster, &claim(tx(16_385), 0, None))?;
+    assert!(rt; matches!(answer, LeadAnswer::Left));
+    let answer = leader.lead(&store, &cluster, &claim(tx(16_384), 0, None))?;
+    assert!(rt;
+        matches!(
+            answer,
+            LeadAnswer::Accept {
+                version: 0,
+                ballot: LED,
+                options: _
+            }
+        )
+    );
+    Ok(())
+}
+
+// The transactions 1.1.1 to 1.1.`count`, each rejected.
+fn rejections(alloc: Global, count: u32) -> Result<Options, Fail> {
+    let mut options = Options::new(alloc)?;
+    for seq in 1..=count {
+        let next = tx(seq);
+        if options.mark_of(next).is_none() {
+            options.insert(next, Mark::Reject)?;
+        }
+    }
+    Ok(options)
+}
