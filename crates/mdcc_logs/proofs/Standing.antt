@@ -19,6 +19,9 @@ pub record IsSame (old new : AllMemory) (a : ℕ) : Type 0 where
   pub bytes : (disk_of new a).bytes ≡ (disk_of old a).bytes
   pub leaves : Within (may_leave_of old a) (may_leave_of new a)
 
+pub same-disk : (disks : AllMemory) (a : ℕ) → IsSame disks disks a
+same-disk disks a = record { there = refl; bytes = refl; leaves = λ c left. left }
+
 pub both-same : (old mid new : AllMemory) (a : ℕ) → IsSame old mid a → IsSame mid new a → IsSame old new a
 both-same old mid new a one two = record {
   there = two.there ∙ one.there;

@@ -20,7 +20,7 @@ use Rattle.mdcc_protocol.specs.Volatile.{nothing_kept}
 use Rattle.mdcc_messages.specs.declared.facts.Fact.{Fact}
 use Rattle.mdcc_restart.proofs.Ample.{ample-as-list}
 use Rattle.mdcc_restart.specs.Logged.{logged}
-use Rattle.mdcc_restart.specs.Restarting.{IsAmple, IsLogOf as IsReadAs, IsRefused, Runs, next_boot, size_with_boot}
+use Rattle.mdcc_restart.specs.Restarting.{IsAmple, IsLogOf as IsReadAs, IsRefused, KeepsLog, Runs, next_boot, size_with_boot}
 use Rattle.mdcc_restart.specs.declared.fault.RestartFault.{RestartFault}
 use Rattle.mdcc_restart.specs.declared.restarting.Restarted.{Restarted}
 
@@ -34,6 +34,12 @@ ample-store store empty = ample-as-list are_stored (λ s. 2 ^ 64 - 1) (λ s fact
 pub full-over : (facts : List Fact) (fault : RestartFault) (inner : LogFault) → fault ≡ RestartFault.Log inner → inner ≡ LogFault.LogFull
     → IsRefused facts fault → log_limit < size_with_boot facts
 full-over facts fault inner outer full refused = (subst (λ (f : RestartFault). IsRefused facts f) (outer ∙ ap (λ (i : LogFault). RestartFault.Log i) full) refused).1
+
+-- then it is as it was
+pub full-kept : (payloads : List (List ℕ)) (fault : RestartFault) (inner : LogFault) → fault ≡ RestartFault.Log inner → inner ≡ LogFault.LogFull → (bytes : List ℕ) (may_leave : List ℕ → Type 0)
+    → KeepsLog payloads fault bytes may_leave → (size : ℕ) × IsAtRest payloads size bytes may_leave
+full-kept payloads fault inner outer full bytes may_leave kept =
+    subst (λ (f : RestartFault). KeepsLog payloads f bytes may_leave) (outer ∙ ap (λ (i : LogFault). RestartFault.Log i) full) kept
 
 pub full-log : (facts : List Fact) → log_limit < size_with_boot facts → nat_lt log_limit (log_length (next_boot facts ∷ facts)) ≡ true
 full-log facts long = let size = logged-length (next_boot facts ∷ facts) in grind (arith, nat_tests, size, long)

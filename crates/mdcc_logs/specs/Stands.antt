@@ -1,7 +1,10 @@
 -- Which facts of its centres the logs have.
-use Rattle.std.specs.Prelude.{◌≡◌, ◌≤◌, ◌-◌, ◌==◌, ◌∷◌, List, get_or, if◌then◌else◌, length, true, ℕ}
+use Rattle.std.specs.Prelude.{◌≡◌, ◌≢◌, ◌≤◌, ◌-◌, ◌==◌, ◌∷◌, List, get_or, if◌then◌else◌, length, true, ℕ}
+use Rattle.mdcc_disks.specs.Disks.{Within}
 use Rattle.mdcc_disks.specs.Memory.{disk_of, is_there, may_leave_of}
+use Rattle.mdcc_log.specs.Crash.{IsBetween}
 use Rattle.mdcc_log.specs.Frames.{IsAtRest, OpenLog}
+use Rattle.mdcc_messages.specs.Spelling.{fact_bytes}
 use Rattle.mdcc_restart.specs.Logged.{logged}
 use Rattle.mdcc_logs.specs.declared.logs.Logs.{Logs}
 use Rattle.mdcc_messages.specs.declared.facts.Fact.{Fact}
@@ -32,3 +35,10 @@ AreLogs logs = (centres : ℕ) × (facts : ℕ → List Fact) × LogsStand logs 
 -- facts with one more of a centre
 abbrev pub with_fact_at : (ℕ → List Fact) → ℕ → Fact → ℕ → List Fact
 with_fact_at facts a fact b = if a == b then fact ∷ facts b else facts b
+
+-- One fact more of a centre was perhaps not appended: of its disk these facts are read, with it or without, also after a crash.
+-- The logs of the other centres stand.
+pub record MayHave (logs : Logs) (centres a : ℕ) (facts : ℕ → List Fact) (fact : Fact) : Type 0 where
+  pub there : is_there logs.disks a ≡ true
+  pub left : Within (IsBetween (logged (facts a)) (fact_bytes fact)) (may_leave_of logs.disks a)
+  pub others : (b : ℕ) → 1 ≤ b → b ≤ centres → b ≢ a → IsLogOf logs b (facts b)

@@ -3,6 +3,7 @@ use Rattle.std.specs.Prelude.{◌≡◌, ◌≤◌, ◌+◌, ◌<◌, ◌∷◌,
 use Rattle.mdcc_base.specs.declared.faults.Memory.{Memory}
 use Rattle.mdcc_disks.specs.Memory.{disk_of, is_there}
 use Rattle.mdcc_facts.specs.declared.list_facts.ListFacts.{ListFacts}
+use Rattle.mdcc_log.specs.Frames.{IsAtRest}
 use Rattle.mdcc_log.specs.Log.{log_limit}
 use Rattle.mdcc_logs.specs.Nodes.{IsNodeOf, are_stored}
 use Rattle.mdcc_logs.specs.Stands.{LogsStand, with_fact_at}
@@ -25,6 +26,11 @@ StartsOver (Ok (Some centre)) cluster me facts bytes may_leave = Runs are_stored
 StartsOver (Ok None) cluster me facts bytes may_leave = log_limit < size_with_boot facts
 StartsOver (Err fault) cluster me facts bytes may_leave = ⊤
 
+-- where none runs, since the log has no room, the disk has the log of these payloads, all of it durable
+abbrev pub OnNone : Result (Option (Restarted ListFacts)) Memory → List (List ℕ) → List ℕ → (List ℕ → Type 0) → Type 0
+OnNone (Ok None) payloads bytes may_leave = (size : ℕ) × IsAtRest payloads size bytes may_leave
+OnNone _ payloads bytes may_leave = ⊤
+
 -- ---- among the centres
 
 -- The node of a centre has its facts and the boot of the next epoch, and so has its log, which lies within the limit.
@@ -40,6 +46,11 @@ Starts (Ok (Started.Node node epoch)) logs cluster centres a facts = HasStarted 
 Starts (Ok Started.Full) logs cluster centres a facts =
     nat_lt log_limit (log_length (Fact.Booted (epoch_of (facts a) + 1) ∷ facts a)) ≡ true
 Starts (Err fault) logs cluster centres a facts = ⊤
+
+-- where the log has no room
+abbrev pub OnFull : Result Started Memory → Type 0 → Type 0
+OnFull (Ok Started.Full) P = P
+OnFull _ P = ⊤
 
 -- ---- all centres, one after another
 

@@ -1,11 +1,12 @@
 //! The logs of the centres.
-ghost use Rattle.std.specs.Prelude.{◌≡◌, ◌≤◌, ◌<◌, ◌+◌, ◌-◌, ◌^◌, ◌∷◌, ◌++◌, [], List, ℕ, length, nat_lt, IfOk, IsTrue, OnOk, true};
-ghost use Rattle.mdcc_disks.specs.Disks.{KeepsOthers};
+ghost use Rattle.std.specs.Prelude.{◌≡◌, ◌≤◌, ◌<◌, ◌+◌, ◌-◌, ◌^◌, ◌∷◌, ◌++◌, [], List, ℕ, length, nat_lt, IfOk, IsTrue, OnErr, OnOk, true};
+ghost use Rattle.mdcc_disks.specs.Disks.{KeepsOthers, LeavesOnly};
 ghost use Rattle.mdcc_disks.specs.Memory.{IsBut, at_place, crashed, disk_of, may_leave_of, moment_of, left_since_of};
+ghost use Rattle.mdcc_log.specs.Crash.{IsBetween};
 ghost use Rattle.mdcc_log.specs.Frames.{IsAtRest, IsSettled};
 ghost use Rattle.mdcc_log.specs.Log.{log_limit};
-ghost use Rattle.mdcc_logs.specs.Stands.{AreLogs, LogsStand, with_fact_at};
-ghost use Rattle.mdcc_logs.specs.Starting.{Starts};
+ghost use Rattle.mdcc_logs.specs.Stands.{AreLogs, LogsStand, MayHave, with_fact_at};
+ghost use Rattle.mdcc_logs.specs.Starting.{OnFull, Starts};
 ghost use Rattle.mdcc_protocol.specs.Belongs.{is_centre};
 ghost use Rattle.mdcc_protocol.specs.Facts.{epoch_of};
 ghost use Rattle.mdcc_protocol.specs.IsCluster.{IsCluster};
@@ -13,6 +14,7 @@ ghost use Rattle.mdcc_messages.specs.Lengths.{fact_length, frame_length, log_len
 ghost use Rattle.mdcc_messages.specs.WellFormed.{IsWellFormedFact};
 ghost use Rattle.mdcc_messages.specs.declared.facts.Fact.{Fact as AFact};
 ghost use Rattle.mdcc_restart.specs.Logged.{AreLogged};
+ghost use Rattle.mdcc_restart.specs.Restarting.{next_boot};
 
 use crate::starting::{Started, start};
 use mdcc_base::{Centre, Image, Memory};
@@ -51,6 +53,9 @@ fn append(log: &mut Frames, disks: &mut MemoryDisks, payload: &[u8]) -> Result<(
         → IsAtRest payloads log.old.size (disk_of disks.old log.old.place).bytes (may_leave_of disks.old log.old.place)
         → OnOk result (IsAtRest (payloads ++ payload.now ∷ []) log.new.size
         (disk_of disks.new log.old.place).bytes (may_leave_of disks.new log.old.place)) }
+    ensures any_moment { (payloads : List (List ℕ)) → IsTrue (disk_of disks.old log.old.place).told
+        → IsAtRest payloads log.old.size (disk_of disks.old log.old.place).bytes (may_leave_of disks.old log.old.place)
+        → LeavesOnly moment_of left_since_of disks.old disks.new log.old.place (IsBetween payloads payload.now) }
     ensures others { KeepsOthers disk_of may_leave_of moment_of left_since_of disks.old disks.new log.old.place }
     ensures place { log.new.place ≡ log.old.place }
 {
@@ -80,7 +85,7 @@ impl Logs {
     }
 
     /// Makes a fact durable at the end of a centre's log, which is asked first whether it is full: a full
-    /// one is refused as well. After a refusal the logs are to be let go.
+    /// one is refused as well. After a refusal the log of the centre has the fact or not, and has to be opened again.
     pub fn append(&mut self, alloc: Global, centre: Centre, fact: &Fact) -> Result<(), Memory>
         requires within { centre ≤ length self.old.open.items }
         requires formed { IsWellFormedFact fact.now }
@@ -89,6 +94,8 @@ impl Logs {
         ensures as_many { length self.new.open.items ≡ length self.old.open.items }
         ensures appended { (centres : ℕ) (facts : ℕ → List AFact) → LogsStand self.old centres facts
             → OnOk result (LogsStand self.new centres (with_fact_at facts centre fact.now)) }
+        ensures refused { (centres : ℕ) (facts : ℕ → List AFact) → LogsStand self.old centres facts
+            → OnErr result (MayHave self.new centres centre facts fact.now) }
     {
         well_formed_facts_have_counts();
         let payload = payload_of(alloc, fact)?;
@@ -113,8 +120,8 @@ impl Logs {
         self.disks.crash(centre.number(), Image::Lost);
     }
 
-    /// A centre starts again from its log: it has the facts of its log and the new boot. After `Full` and
-    /// after want of memory the logs are to be let go.
+    /// A centre starts again from its log: it has the facts of its log and the new boot. After `Full` the logs are as before.
+    /// After want of memory the log of the centre has the new boot or not, and has to be opened again.
     pub fn restart(
         &mut self,
         alloc: Global,
@@ -126,6 +133,10 @@ impl Logs {
         ensures as_many { length self.new.open.items ≡ length self.old.open.items }
         ensures started { (centres : ℕ) (facts : ℕ → List AFact) → LogsStand self.old centres facts → AreLogged cluster.now (facts centre)
             → IsCluster cluster.now → epoch_of (facts centre) < 2 ^ 32 - 1 → Starts result self.new cluster.now centres centre facts }
+        ensures full { (centres : ℕ) (facts : ℕ → List AFact) → LogsStand self.old centres facts
+            → OnFull result (LogsStand self.new centres facts) }
+        ensures refused { (centres : ℕ) (facts : ℕ → List AFact) → LogsStand self.old centres facts → AreLogged cluster.now (facts centre)
+            → OnErr result (MayHave self.new centres centre facts (next_boot (facts centre))) }
     {
         let place = centre.number();
         rest_is_read();

@@ -1,13 +1,15 @@
 //! The start of one centre.
-ghost use Rattle.std.specs.Prelude.{◌≡◌, ◌<◌, ◌-◌, ◌^◌, List, true};
-ghost use Rattle.mdcc_disks.specs.Disks.{KeepsOthers};
+ghost use Rattle.std.specs.Prelude.{◌≡◌, ◌<◌, ◌-◌, ◌^◌, IsTrue, List, Ok, true, ℕ};
+ghost use Rattle.mdcc_disks.specs.Disks.{KeepsOthers, LeavesOnly, Within};
 ghost use Rattle.mdcc_disks.specs.Memory.{disk_of, may_leave_of, moment_of, left_since_of};
-ghost use Rattle.mdcc_logs.specs.Starting.{StartsOver};
+ghost use Rattle.mdcc_log.specs.Crash.{IsShut};
+ghost use Rattle.mdcc_log.specs.Log.{read_log};
+ghost use Rattle.mdcc_logs.specs.Starting.{OnNone, StartsOver};
 ghost use Rattle.mdcc_protocol.specs.Belongs.{is_centre};
 ghost use Rattle.mdcc_protocol.specs.Facts.{epoch_of};
 ghost use Rattle.mdcc_messages.specs.declared.facts.Fact.{Fact as AFact};
-ghost use Rattle.mdcc_restart.specs.Logged.{AreLogged};
-ghost use Rattle.mdcc_restart.specs.Restarting.{IsLogOf};
+ghost use Rattle.mdcc_restart.specs.Logged.{AreLogged, logged};
+ghost use Rattle.mdcc_restart.specs.Restarting.{IsLogOf, MayHaveBoot};
 
 use mdcc_base::{Centre, Memory, Plain};
 use mdcc_disks::MemoryDisks;
@@ -39,6 +41,11 @@ pub(crate) fn start(
     requires { is_centre cluster.now centre ≡ true }
     ensures starts { (facts : List AFact) → AreLogged cluster.now facts → IsLogOf facts (disk_of disks.old centre) → epoch_of facts < 2 ^ 32 - 1
         → StartsOver result cluster.now centre facts (disk_of disks.new centre).bytes (may_leave_of disks.new centre) }
+    ensures full { (payloads : List (List ℕ)) → IsTrue (disk_of disks.old centre).told → read_log (disk_of disks.old centre).bytes ≡ Ok payloads
+        → OnNone result payloads (disk_of disks.new centre).bytes (may_leave_of disks.new centre) }
+    ensures any_moment { (facts : List AFact) → AreLogged cluster.now facts
+        → IsTrue (disk_of disks.old centre).told → Within (IsShut (logged facts)) (may_leave_of disks.old centre)
+        → LeavesOnly moment_of left_since_of disks.old disks.new centre (MayHaveBoot facts) }
     ensures others { KeepsOthers disk_of may_leave_of moment_of left_since_of disks.old disks.new centre }
 {
     let store = ListFacts::new(alloc)?;

@@ -1,6 +1,6 @@
 use Rattle.std.proofs.Common.{◌≡◌, sym, subst}
 use Rattle.mdcc_disks.specs.Memory.{disk_of, may_leave_of}
-use Rattle.mdcc_logs.proofs.Starts.{ample-store, full-over}
+use Rattle.mdcc_logs.proofs.Starts.{ample-store, full-kept, full-over}
 use Rattle.mdcc_logs.proofs.starting.start.Goals as goal
 use Rattle.mdcc_logs.specs.Nodes.{are_stored}
 use Rattle.mdcc_option.specs.declared.cluster.Cluster.{Cluster}
@@ -20,3 +20,26 @@ returns-in-Err-Log-LogFull-clause-starts c facts logged is few =
     let was = subst (λ (cluster : Cluster). AreLogged cluster facts) (sym same) logged in
     let arm = c.in-Err-Log-LogFull in
     full-over facts arm.field-0 arm.field-0-0 arm.field-0-is arm.field-0-0-is (arm.ensures.restarts facts (ample-store c.in_ok-store.store c.in_ok-store.ensures) was is)
+
+pub returns-in-Err-Log-LogFull-clause-full : goal.returns-in-Err-Log-LogFull-clause-full
+returns-in-Err-Log-LogFull-clause-full c payloads told read =
+    let arm = c.in-Err-Log-LogFull in
+    full-kept payloads arm.field-0 arm.field-0-0 arm.field-0-is arm.field-0-0-is _ _ (arm.ensures.refused payloads told read)
+
+pub returns-in-Ok-clause-any_moment : goal.returns-in-Ok-clause-any_moment
+returns-in-Ok-clause-any_moment c facts logged told within =
+    let same : c.copy.result ≡ c.args.cluster.now = c.copy.ensures in
+    let was = subst (λ (cluster : Cluster). AreLogged cluster facts) (sym same) logged in
+    c.restart.ensures.any_moment facts (ample-store c.in_ok-store.store c.in_ok-store.ensures) was told within
+
+pub returns-in-Err-Log-LogFull-clause-any_moment : goal.returns-in-Err-Log-LogFull-clause-any_moment
+returns-in-Err-Log-LogFull-clause-any_moment c facts logged told within =
+    let same : c.copy.result ≡ c.args.cluster.now = c.copy.ensures in
+    let was = subst (λ (cluster : Cluster). AreLogged cluster facts) (sym same) logged in
+    c.restart.ensures.any_moment facts (ample-store c.in_ok-store.store c.in_ok-store.ensures) was told within
+
+pub returns-in-Err-clause-any_moment : goal.returns-in-Err-clause-any_moment
+returns-in-Err-clause-any_moment c facts logged told within =
+    let same : c.copy.result ≡ c.args.cluster.now = c.copy.ensures in
+    let was = subst (λ (cluster : Cluster). AreLogged cluster facts) (sym same) logged in
+    c.restart.ensures.any_moment facts (ample-store c.in_ok-store.store c.in_ok-store.ensures) was told within

@@ -1,6 +1,7 @@
-use Rattle.std.proofs.Common.{◌≡◌, ◌-◌, ◌≤◌, ap, arith, length, set, ◌∙◌, ℕ}
+use Rattle.std.proofs.Common.{◌≡◌, ◌-◌, ◌≤◌, ap, arith, length, refl, set, ◌∙◌, ℕ}
 use Rattle.mdcc_logs.proofs.Calls.{appended, settled-there}
-use Rattle.mdcc_logs.proofs.Standing.{log-is, reserved}
+use Rattle.mdcc_logs.proofs.Refusals.{append-may-have, on-err, same-may-have}
+use Rattle.mdcc_logs.proofs.Standing.{log-is, reserved, same-disk}
 use Rattle.mdcc_logs.proofs.logs.Logs.append.Goals as goal
 use Rattle.mdcc_spelling.proofs.Lengths.{length-fact}
 
@@ -30,3 +31,28 @@ returns-clause-appended c centres facts stand =
     (reserved c.args.self.now.disks c.reserve.new.self c.number-place.result c.reserve.ensures.others c.reserve.ensures.place)
     (ap (λ (n : ℕ). set c.args.self.now.open.items (n - 1) c.append.new.log) place)
     c.append.ensures.place c.append.ensures.others c.append.ensures.acknowledged
+
+pub returns-in_err-payload-clause-refused : goal.returns-in_err-payload-clause-refused
+returns-in_err-payload-clause-refused c centres facts stand =
+    let some : 1 ≤ c.args.centre = omega arith in
+    on-err _ (same-may-have c.args.self.now c.args.self.now c.args.centre centres facts stand some c.requires.within c.args.fact.now refl (λ b. same-disk c.args.self.now.disks b))
+
+pub returns-in_err-reserve-clause-refused : goal.returns-in_err-reserve-clause-refused
+returns-in_err-reserve-clause-refused c centres facts stand =
+    let some : 1 ≤ c.args.centre = omega arith in
+    on-err _ (same-may-have c.args.self.now _ c.args.centre centres facts stand some c.requires.within c.args.fact.now refl
+    (reserved c.args.self.now.disks c.reserve.new.self c.number-place.result c.reserve.ensures.others c.reserve.ensures.place))
+
+pub returns-clause-refused : goal.returns-clause-refused
+returns-clause-refused c centres facts stand =
+    let a = c.args.centre in
+    let place : c.from.result ≡ a = c.from.ensures ∙ c.number-place.ensures.value in
+    let some : 1 ≤ a = omega arith in
+    let log = c.index_mut.result.now in
+    on-err c.append.result
+    (append-may-have c.args.self.now _ a centres facts stand some c.requires.within c.reserve.new.self log c.append.new.log c.args.fact.now c.deref.result.now
+    (log-is c.args.self.now c.from.result a log place some c.requires.within c.index_mut.ensures.value)
+    (c.deref.ensures.value ∙ c.in_ok-payload.ensures)
+    (reserved c.args.self.now.disks c.reserve.new.self c.number-place.result c.reserve.ensures.others c.reserve.ensures.place)
+    (ap (λ (n : ℕ). set c.args.self.now.open.items (n - 1) c.append.new.log) place)
+    c.append.ensures.others c.append.ensures.any_moment)
