@@ -18,4 +18,5 @@ mod ticking;
 pub mod world;
 
 pub use mdcc_disks::MemoryDisks;
+pub use mdcc_language::{EventFault, LimitName};
 pub use world::World;
