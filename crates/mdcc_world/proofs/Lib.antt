@@ -7,6 +7,7 @@ mod Delivering
 mod Ended
 mod Ending
 mod Firsts
+mod Gathered
 mod Happened
 mod Left
 mod Limits

@@ -1,20 +1,22 @@
 //! One event of each kind.
 ghost use Rattle.std.specs.Bool.{OnFalse};
-ghost use Rattle.std.specs.Prelude.{◌≡◌, ◌≤◌, ◌++◌, Err, IfErr, IsOkAnd, IsTrue, OnOk};
+ghost use Rattle.std.specs.Prelude.{◌≡◌, ◌≤◌, ◌++◌, Err, IfErr, IsOkAnd, IsTrue, List, OnOk};
 ghost use Rattle.mdcc_built.specs.Built.{built};
 ghost use Rattle.mdcc_simulation.specs.State.{World as AWorld};
 ghost use Rattle.mdcc_simulation.specs.Events.{event_of};
 ghost use Rattle.mdcc_simulation.specs.Left.{left_of};
 ghost use Rattle.mdcc_world.specs.Faults.{OnRefusal, is_memory};
 ghost use Rattle.mdcc_world.specs.Stands.{Happens, HasHappened, IsLike, IsLikeSome, Stands};
+ghost use Rattle.mdcc_language.specs.declared.lines.Line.{Line as ALine};
 ghost use Rattle.mdcc_world.specs.Words.{is_built};
 
+use crate::telling::append;
 use crate::world::World;
 use mdcc_base::HeapList;
 use mdcc_language::{Event, EventFault, Line};
 
 impl World {
-    // An event of each built kind.
+    // An event of each enabled kind.
     fn happen(&mut self, event: &Event, lines: &mut HeapList<Line>) -> Result<(), EventFault>
         requires word { IsTrue (is_built event.now) }
         requires few { self.old.events ≤ 100000 }
@@ -38,9 +40,10 @@ impl World {
         }
     }
 
-    /// One event: its lines stand behind the others. Where it is refused nothing has changed, but of
+    /// One event: its lines stand after the others. Where it is refused nothing has changed, but of
     /// a deliver line the deliveries before the refused one stand, and so do their lines. Where
-    /// there was no memory, or a limit was reached, the world is to be let go.
+    /// there was no memory, or a limit was reached, the world must be dropped; the lines of earlier
+    /// events stand.
     pub fn event(&mut self, event: &Event, lines: &mut HeapList<Line>) -> Result<(), EventFault>
         requires word { IsTrue (is_built event.now) }
         requires known { (w : AWorld) × Stands self.old w }
@@ -52,7 +55,11 @@ impl World {
             → OnRefusal result (HasHappened self.new lines.old lines.new (left_of built w event.now)) }
         ensures stands { (w : AWorld) → Stands self.old w
             → OnRefusal result (Stands self.new (left_of built w event.now).world) }
+        ensures earlier { (more : List ALine) × (lines.new ≡ lines.old ++ more) }
     {
-        self.happen(event, lines)
+        let mut told = HeapList::new(self.alloc);
+        let happened = self.happen(event, &mut told);
+        append(lines, told)?;
+        happened
     }
 }

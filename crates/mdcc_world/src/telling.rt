@@ -1,5 +1,6 @@
 //! Lines of the report, one behind the other.
-ghost use Rattle.std.specs.Prelude.{◌≡◌, ◌++◌, ◌∷◌, IfErr, OnOk};
+ghost use Rattle.std.specs.Prelude.{◌≡◌, ◌++◌, ◌∷◌, IfErr, List, OnOk};
+ghost use Rattle.mdcc_language.specs.declared.lines.Line.{Line as ALine};
 ghost use Rattle.mdcc_language.specs.declared.world.EventFault.{EventFault as AFault};
 ghost use Rattle.mdcc_world.specs.Telling.{lines_begun};
 
@@ -7,9 +8,10 @@ use mdcc_base::{HeapList, Memory, Plain};
 use mdcc_language::{EventFault, Line};
 use mdcc_rules::Answer;
 
-// Puts lines behind others.
-fn append(lines: &mut HeapList<Line>, more: HeapList<Line>) -> Result<(), Memory>
-    ensures { OnOk result (lines.new ≡ lines.old ++ more) }
+/// Puts lines after others: all of them, or where there is no memory the first of them.
+pub(crate) fn append(lines: &mut HeapList<Line>, more: HeapList<Line>) -> Result<(), Memory>
+    ensures ok { OnOk result (lines.new ≡ lines.old ++ more) }
+    ensures earlier { (some : List ALine) × (lines.new ≡ lines.old ++ some) }
 {
     for line in more.into_vec() {
         lines.push(line)?;
