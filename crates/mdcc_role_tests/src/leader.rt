@@ -126,7 +126,7 @@ fn asking(
             ballot,
         } => {
             assert_eq!(rt; (version, ballot), (claim.version, LED));
-            assert_eq!(rt; through, claim.version + 100);
+            assert_eq!(rt; through, claim.version.saturating_add(100));
             Ok(leader)
         }
         _ => Err("promises are asked for".into()),
@@ -177,9 +177,9 @@ fn the_last_three_force_the_second_insert(rt: HostRuntime) -> Result<(), Fail> {
     Ok(())
 }
 
-// A decrease of version 1 by this amount.
-fn decrease_by(seq: u32, amount: i64) -> Choice {
-    let amounts = BoundedList::from_slice(&[(1, -amount)]).unwrap_or_default();
+// An add of this amount to version 1.
+fn add_of(seq: u32, amount: i64) -> Choice {
+    let amounts = BoundedList::from_slice(&[(1, amount)]).unwrap_or_default();
     choice(seq, 1, Update::Add(amounts))
 }
 
@@ -187,8 +187,8 @@ fn decrease_by(seq: u32, amount: i64) -> Choice {
 fn accepting(alloc: Global, first: u32, second: u32, amount: i64) -> Result<Options, Fail> {
     two(
         alloc,
-        (tx(first), Mark::Accept(decrease_by(first, amount))),
-        (tx(second), Mark::Accept(decrease_by(second, amount))),
+        (tx(first), Mark::Accept(add_of(first, amount))),
+        (tx(second), Mark::Accept(add_of(second, amount))),
     )
 }
 
@@ -214,14 +214,8 @@ fn third(
 fn joint_decreases_are_all_kept(rt: HostRuntime) -> Result<(), Fail> {
     let cluster = cluster()?;
     let store = holding(rt.alloc(), vec![in rt.alloc(); insert()]?)?;
-    let mut leader = asking(
-        &rt,
-        rt.alloc(),
-        &store,
-        &cluster,
-        &claim_of(&decrease_by(2, 3)),
-    )?;
-    let options = structure(third(rt.alloc(), &mut leader, &store, &cluster, 3)?)?;
+    let mut leader = asking(&rt, rt.alloc(), &store, &cluster, &claim_of(&add_of(2, -3)))?;
+    let options = structure(third(rt.alloc(), &mut leader, &store, &cluster, -3)?)?;
     assert_eq!(rt; (options.accepted(), options.rejected()), (3, 0));
     Ok(())
 }
@@ -235,14 +229,8 @@ fn promises_that_do_not_fit_are_not_enough(rt: HostRuntime) -> Result<(), Fail> 
         ..cluster()?
     };
     let store = holding(rt.alloc(), vec![in rt.alloc(); insert()]?)?;
-    let mut leader = asking(
-        &rt,
-        rt.alloc(),
-        &store,
-        &cluster,
-        &claim_of(&decrease_by(2, 4)),
-    )?;
-    let answer = third(rt.alloc(), &mut leader, &store, &cluster, 4)?;
+    let mut leader = asking(&rt, rt.alloc(), &store, &cluster, &claim_of(&add_of(2, -4)))?;
+    let answer = third(rt.alloc(), &mut leader, &store, &cluster, -4)?;
     assert!(rt; matches!(answer, PromiseAnswer::Waiting(3)));
     let fourth = promise(1, 101, Options::new(rt.alloc())?);
     let options = structure(promised(&mut leader, &store, &cluster, 4, &fourth)?)?;
