@@ -1,4 +1,8 @@
 pub mod Beginning
+pub mod Ending
+pub mod Led
+pub mod Marks
+pub mod Planned
 pub mod Ranges
 pub mod Rooms
 pub mod Standing

@@ -7,18 +7,13 @@ use Rattle.mdcc_base.specs.declared.identifiers.Ballot.{Ballot}
 use Rattle.mdcc_base.specs.declared.identifiers.TxId.{TxId}
 use Rattle.mdcc_base.specs.declared.key.Key.{Key}
 use Rattle.mdcc_facts.specs.Adding.{MayBeAdded}
-use Rattle.mdcc_node.specs.Doing.{ended}
 use Rattle.mdcc_node.specs.Telling.{vote_fact}
 use Rattle.mdcc_option.specs.declared.choices.Choice.{Choice}
 use Rattle.mdcc_option.specs.declared.choices.Mark.{Mark}
 use Rattle.mdcc_option.specs.declared.choices.Outcome.{Outcome}
 use Rattle.mdcc_option.specs.declared.cluster.Cluster.{Cluster}
 use Rattle.mdcc_protocol.specs.Acceptor.{answer_after, on_propose}
-use Rattle.mdcc_protocol.specs.Facts.{epoch_of, heard_of, is_heard, later_vote, mark_voted, marks_voted, vote_of, votes_of}
-use Rattle.mdcc_protocol.specs.Visible.{on_outcome}
-use Rattle.mdcc_protocol.specs.Volatile.{Volatile}
-use Rattle.mdcc_rules.specs.Steps.{adding, heard_by}
-use Rattle.mdcc_rules.specs.SyncRules.{outcome_step, outcome_step_by}
+use Rattle.mdcc_protocol.specs.Facts.{heard_of, later_vote, mark_voted, marks_voted, vote_of, votes_of}
 use Rattle.mdcc_protocol.specs.declared.acceptor.ProposeAnswer.{ProposeAnswer}
 use Rattle.mdcc_messages.specs.declared.facts.Fact.{Fact}
 use Rattle.mdcc_struct.specs.Maps.{value_of}
@@ -77,39 +72,3 @@ new_vote cluster facts choice mark e =
     let voted = vote-after cluster facts choice (heard_of facts choice.tx) (vote_of facts choice.key choice.version choice.tx) mark e in
     let none : value_of (votes_of facts choice.key choice.version fast_ballot) choice.tx ≡ None = unvoted facts choice.key choice.version choice.tx fast_ballot voted in
     record { promised = refl; voted = rw none refl; heard = refl }
-
--- ---- an outcome
-
-new-by : (facts : List Fact) (tx : TxId) (outcome : Outcome) (fact : Fact) (heard : Bool) → is_heard facts tx ≡ heard
-    → Some fact ≡ (if heard then None else Some (Fact.Heard tx outcome)) → MayBeAdded facts fact
-new-by facts tx outcome fact true h e = absurd (cc)
-new-by facts tx outcome fact false h e =
-    let is : fact ≡ Fact.Heard tx outcome = cc in
-    rw is (record { promised = refl; voted = refl; heard = h })
-
-pub new_outcome : (facts : List Fact) (tx : TxId) (outcome : Outcome) (fact : Fact) → Some fact ≡ on_outcome facts tx outcome → MayBeAdded facts fact
-new_outcome facts tx outcome fact e = new-by facts tx outcome fact (is_heard facts tx) refl e
-
-ends-by : (volatile : Volatile) (tx : TxId) (outcome : Outcome) (fact : Fact) (heard : Bool)
-    → Some fact ≡ (if heard then None else Some (Fact.Heard tx outcome))
-    → outcome_step_by volatile tx (if heard then None else Some (Fact.Heard tx outcome)) ≡ adding (ended (heard_by (Some fact)) volatile) fact []
-ends-by volatile tx outcome fact true e = absurd (cc)
-ends-by volatile tx outcome fact false e =
-    let is : fact ≡ Fact.Heard tx outcome = cc in
-    rw is refl
-
--- it closes its transaction
-pub step_heard : (facts : List Fact) (volatile : Volatile) (tx : TxId) (outcome : Outcome) (fact : Fact) → Some fact ≡ on_outcome facts tx outcome
-    → outcome_step facts volatile tx outcome ≡ adding (ended (heard_by (Some fact)) volatile) fact []
-step_heard facts volatile tx outcome fact e = ends-by volatile tx outcome fact (is_heard facts tx) e
-
-epoch-by : (facts : List Fact) (tx : TxId) (outcome : Outcome) (fact : Fact) (heard : Bool)
-    → Some fact ≡ (if heard then None else Some (Fact.Heard tx outcome)) → epoch_of (fact ∷ facts) ≡ epoch_of facts
-epoch-by facts tx outcome fact true e = absurd (cc)
-epoch-by facts tx outcome fact false e =
-    let is : fact ≡ Fact.Heard tx outcome = cc in
-    rw is refl
-
-pub epoch_outcome : (facts : List Fact) (tx : TxId) (outcome : Outcome) (fact : Fact) → Some fact ≡ on_outcome facts tx outcome
-    → epoch_of (fact ∷ facts) ≡ epoch_of facts
-epoch_outcome facts tx outcome fact e = epoch-by facts tx outcome fact (is_heard facts tx) e

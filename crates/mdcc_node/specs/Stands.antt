@@ -1,5 +1,6 @@
 -- Which centre of a cluster a node is, with its facts and with what it keeps beside them.
 use Rattle.std.specs.Prelude.{◌≡◌, List, Result, true, ℕ}
+use Rattle.mdcc_leader.specs.Stands.{Stands as LeaderStands}
 use Rattle.mdcc_manager.specs.Stands.{Stands as ManagerStands}
 use Rattle.mdcc_node.specs.Stepping.{facts_left, volatile_left}
 use Rattle.mdcc_node.specs.declared.node.Node.{Node}
@@ -11,14 +12,14 @@ use Rattle.mdcc_protocol.specs.Volatile.{Volatile, nothing_kept}
 use Rattle.mdcc_messages.specs.declared.facts.Fact.{Fact}
 use Rattle.mdcc_rules.specs.declared.node.StepFault.{StepFault}
 
--- as long as no centre leads or recovers, nothing but its manager is kept
+-- as long as no centre recovers, nothing is kept for that
 pub record Stands {S : Type 0} (stands : S → List Fact → Type 0) (node : Node S) (cluster : Cluster) (me : ℕ) (facts : List Fact) (volatile : Volatile) : Type 0 where
   pub of : node.cluster ≡ cluster
   pub at : node.centre ≡ me
   pub among : is_centre cluster me ≡ true
   pub store : stands node.store facts
   pub manager : ManagerStands node.manager me (epoch_of facts) cluster.quorums volatile.manager
-  pub leader : volatile.leader ≡ nothing_kept.leader
+  pub leader : LeaderStands node.leader me (epoch_of facts) cluster.quorums volatile.leader
   pub recovery : volatile.recovery ≡ nothing_kept.recovery
 
 -- the node after a step, or after a refusal that left it as it was

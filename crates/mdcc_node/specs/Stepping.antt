@@ -5,7 +5,7 @@ use Rattle.mdcc_facts.specs.Adding.{add_of}
 use Rattle.mdcc_option.specs.declared.cluster.Cluster.{Cluster}
 use Rattle.mdcc_switches.specs.Built.{Built}
 use Rattle.mdcc_rules.specs.Node.{is_own_message, message_step, step_of}
-use Rattle.mdcc_rules.specs.Steps.{NodeStep, step_fault, step_given}
+use Rattle.mdcc_rules.specs.Steps.{NodeStep, heard_by, step_fault, step_given}
 use Rattle.mdcc_protocol.specs.Volatile.{Volatile}
 use Rattle.mdcc_messages.specs.WellFormed.{IsWellFormedEnvelope}
 use Rattle.mdcc_messages.specs.declared.facts.Fact.{Fact}
@@ -51,6 +51,20 @@ step_by room built cluster me facts volatile input = step_of built cluster me fa
 abbrev pub given : Result NodeStep StepFault → Result Step StepFault
 given (Ok step) = Ok (step_given step)
 given (Err fault) = Err fault
+
+-- a refusal of the store is the step's
+abbrev pub add_given : Result (Unit {0}) StoreFault → Result (Unit {0}) StepFault
+add_given (Ok done) = Ok done
+add_given (Err fault) = Err (step_fault fault)
+
+-- a planned step, where the store takes its fact
+abbrev pub step_if : Step → Fact → Result (Unit {0}) StoreFault → Result Step StepFault
+step_if step fact (Ok _) = Ok (record step { heard = heard_by (Some fact) })
+step_if step fact (Err fault) = Err (step_fault fault)
+
+abbrev pub step_taken : Room → List Fact → Step → Option Fact → Result Step StepFault
+step_taken room facts step None = Ok step
+step_taken room facts step (Some fact) = step_if step fact (add_of room.spare (room.needed fact) facts fact)
 
 -- ---- what is left
 

@@ -14,17 +14,9 @@ use Rattle.mdcc_rules.specs.declared.node.Answer.{Answer}
 use Rattle.mdcc_rules.specs.declared.node.Step.{Step}
 use Rattle.mdcc_rules.specs.declared.node.StepFault.{StepFault}
 
--- messages alone
-abbrev pub sent : List Envelope → Step
-sent sends = record { fact = None; sends = sends; heard = None; answer = None }
-
 -- messages and an answer to a client
 abbrev pub replied : List Envelope → Answer → Step
 replied sends answer = record { fact = None; sends = sends; heard = None; answer = Some answer }
-
--- messages behind a fact
-abbrev pub added : Fact → List Envelope → Step
-added fact sends = record { fact = Some fact; sends = sends; heard = heard_by (Some fact); answer = None }
 
 -- a message to a centre, where it is another one
 abbrev pub to_other : ℕ → ℕ → Message → List Envelope

@@ -1,5 +1,5 @@
 //! Whether messages are for a node, and of its cluster.
-ghost use Rattle.std.specs.Prelude.{◌≡◌, ◌&&◌, None, Some, if◌then◌else◌, true};
+ghost use Rattle.std.specs.Prelude.{◌≡◌, ◌≤◌, ◌&&◌, IfSome, None, Some, if◌then◌else◌, true};
 ghost use Rattle.mdcc_protocol.specs.Belongs.{ballot_belongs, begin_fault_belongs, client_answer_belongs, is_centre, item_read_belongs, mark_belongs, message_belongs, options_belong, tx_belongs};
 ghost use Rattle.mdcc_rules.specs.Node.{is_own_message};
 
@@ -120,7 +120,8 @@ fn is_own_message(cluster: &Cluster, centre: u8, envelope: &Envelope) -> bool
 // The centre of this number.
 fn centre_of(cluster: &Cluster, number: u8) -> Option<Centre>
     requires { is_centre cluster.now number ≡ true }
-    ensures { result ≡ Some number }
+    ensures value { result ≡ Some number }
+    ensures member { number ≤ cluster.now.quorums.centres }
 {
     let _centres = cluster.quorums.centres();
     Centre::new(number)
@@ -128,7 +129,8 @@ fn centre_of(cluster: &Cluster, number: u8) -> Option<Centre>
 
 /// The centre from which a message comes that is for this one, and of its cluster.
 pub(crate) fn sender_of(cluster: &Cluster, centre: u8, envelope: &Envelope) -> Option<Centre>
-    ensures { result ≡ (if is_own_message cluster.now centre envelope.now then Some envelope.now.from else None) }
+    ensures value { result ≡ (if is_own_message cluster.now centre envelope.now then Some envelope.now.from else None) }
+    ensures member { IfSome result (λ from. from ≤ cluster.now.quorums.centres) }
 {
     if is_own_message(cluster, centre, envelope) {
         centre_of(cluster, envelope.from)

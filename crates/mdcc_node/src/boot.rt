@@ -8,6 +8,7 @@ use crate::node::Node;
 use mdcc_admission::boot_store;
 use mdcc_base::{Centre, HeapList};
 use mdcc_facts::FactStore;
+use mdcc_leader::Leader;
 use mdcc_manager::Manager;
 use mdcc_messages::Fact;
 use mdcc_option::Cluster;
@@ -39,12 +40,14 @@ impl<S: FactStore + Drop> Node<S> {
         match boot_store(alloc, &cluster, &mut store, payloads) {
             Ok(epoch) => {
                 let manager = Manager::new(alloc, centre, epoch)?;
+                let leader = Leader::new(alloc, centre, epoch)?;
                 let node = Node {
                     alloc,
                     cluster,
                     centre,
                     store,
                     manager,
+                    leader,
                 };
                 Ok((node, Fact::Booted(epoch)))
             }

@@ -2,12 +2,16 @@
 //! its answer.
 #![tactic(auto)]
 
+mod acceptor_rules;
 mod belongs;
 pub mod boot;
 pub mod laws;
+mod leader_rules;
+mod manager_rules;
 pub mod node;
 mod sends;
 mod steps;
+mod votes;
 
 pub use mdcc_rules::{Answer, BootFault, Input, Step, StepFault};
 pub use node::Node;

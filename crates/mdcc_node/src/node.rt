@@ -1,44 +1,32 @@
 //! One node.
-ghost use Rattle.std.specs.Prelude.{◌≡◌, ◌∷◌, List, ℕ, IfOk, Ok, Some, false};
+ghost use Rattle.std.specs.Prelude.{◌≡◌, ◌≤◌, ◌∷◌, List, ℕ, OnErr, OnOk, Some, false};
 ghost use Rattle.mdcc_base.specs.Unless.{GivesUnless};
-ghost use Rattle.mdcc_facts.specs.Adding.{MayBeAdded};
-ghost use Rattle.mdcc_node.specs.Doing.{Does, Follows, ended};
-ghost use Rattle.mdcc_node.specs.Stands.{Stands};
-ghost use Rattle.mdcc_node.specs.Stepping.{IsGiven, is_memory, room_of, step_by};
-ghost use Rattle.mdcc_node.specs.Telling.{refused_given, replied, sent, vote_fact};
-ghost use Rattle.mdcc_option.specs.Transaction.{choices_of};
-ghost use Rattle.mdcc_option.specs.declared.choices.Mark.{Mark as AMark};
-ghost use Rattle.mdcc_option.specs.declared.cluster.Cluster.{Cluster as ACluster};
-ghost use Rattle.mdcc_rules.specs.AcceptorRules.{propose_step, proposed_step};
 ghost use Rattle.mdcc_built.specs.Built.{built};
-ghost use Rattle.mdcc_protocol.specs.Facts.{epoch_of, is_heard};
-ghost use Rattle.mdcc_protocol.specs.Manager.{would_decide};
-ghost use Rattle.mdcc_rules.specs.ManagerRules.{act_sent, begin_step, decided_step, escalate_step, opened_step, proposals_sent as proposals_of, undecided_step, voted_step};
-ghost use Rattle.mdcc_protocol.specs.Manager.{key_refused as key_refused_of};
-ghost use Rattle.mdcc_rules.specs.Messages.{to_one};
-ghost use Rattle.mdcc_rules.specs.Node.{message_step};
-ghost use Rattle.mdcc_rules.specs.Steps.{adding, heard_by};
-ghost use Rattle.mdcc_rules.specs.SyncRules.{give_sent, outcome_step};
-ghost use Rattle.mdcc_protocol.specs.Volatile.{Volatile as AVolatile};
+ghost use Rattle.mdcc_facts.specs.Adding.{MayBeAdded, add_of};
 ghost use Rattle.mdcc_messages.specs.WellFormed.{IsWellFormedEnvelope, IsWellFormedMessage};
-ghost use Rattle.mdcc_messages.specs.WellFormedParts.{IsWellFormedCause};
-ghost use Rattle.mdcc_protocol.specs.declared.acceptor.ProposeAnswer.{ProposeAnswer as AProposeAnswer};
 ghost use Rattle.mdcc_messages.specs.declared.facts.Fact.{Fact as AFact};
-ghost use Rattle.mdcc_rules.specs.declared.node.Answer.{Answer as AnAnswer};
+ghost use Rattle.mdcc_node.specs.Doing.{Does, Follows, ended};
+ghost use Rattle.mdcc_node.specs.Planning.{MayFollow, Plans, blank, is_asked_by_leader, is_of_fast_path, written};
+ghost use Rattle.mdcc_node.specs.Stands.{Stands};
+ghost use Rattle.mdcc_node.specs.Stepping.{IsGiven, add_given, is_memory, room_of, step_by, step_taken, with_new};
+ghost use Rattle.mdcc_option.specs.declared.cluster.Cluster.{Cluster as ACluster};
+ghost use Rattle.mdcc_protocol.specs.Facts.{epoch_of};
+ghost use Rattle.mdcc_protocol.specs.Volatile.{Volatile as AVolatile};
+ghost use Rattle.mdcc_rules.specs.Node.{message_step};
+ghost use Rattle.mdcc_rules.specs.Steps.{heard_by};
 ghost use Rattle.mdcc_rules.specs.declared.node.Input.{Input as AInput};
 
 use crate::belongs::sender_of;
-use crate::sends::{outcome_sent, proposals_sent, to_one};
-use crate::steps::{added, replied, sent, vote_fact, voted_message};
-use mdcc_acceptor::on_propose;
-use mdcc_base::{Ballot, Centre, HeapList, Key, Memory, Plain, TxId};
+use crate::steps::{blank, heard_by};
+use mdcc_base::{Centre, Plain};
 use mdcc_facts::FactStore;
-use mdcc_manager::{Manager, key_refused};
+use mdcc_leader::Leader;
+use mdcc_manager::Manager;
 use mdcc_messages::{Envelope, Fact, Message};
-use mdcc_option::{BeginFault, Cause, Choice, Cluster, Outcome, Transaction};
-use mdcc_protocol::{ManagerAct, ProposeAnswer, Vote};
+use mdcc_option::Cluster;
+use mdcc_protocol::{Promise, Vote};
 use mdcc_rules::{Answer, Input, Step, StepFault};
-use mdcc_visible::{on_outcome, on_sync_ask, read};
+use mdcc_visible::read;
 use std::alloc::Global;
 
 /// The node of one centre, over a store of its facts.
@@ -49,6 +37,7 @@ pub struct Node<S> {
     pub(crate) centre: Centre,
     pub(crate) store: S,
     pub(crate) manager: Manager,
+    pub(crate) leader: Leader,
 }
 
 impl<S: FactStore + Drop> Node<S> {
@@ -60,180 +49,140 @@ impl<S: FactStore + Drop> Node<S> {
         self.store.epoch()
     }
 
-    // Adds a fact, which is let out before the messages. A transaction whose end it tells is closed.
-    fn add(&mut self, fact: Fact, sends: HeapList<Envelope>) -> Result<Step, StepFault>
-        requires new { (facts : List AFact) → S.stands self.old.store facts → MayBeAdded facts fact }
-        requires no_boot { (facts : List AFact) → S.stands self.old.store facts → epoch_of (fact ∷ facts) ≡ epoch_of facts }
-        ensures { Does S.stands S.room S.cells_for self.old result self.new (λ _ _ _ volatile. Ok (adding (ended (heard_by (Some fact)) volatile) fact sends)) }
+    // Adds a fact, and closes the transaction whose end it tells.
+    fn add(&mut self, fact: &Fact) -> Result<(), StepFault>
+        requires new { (facts : List AFact) → S.stands self.old.store facts → MayBeAdded facts fact.now }
+        requires no_boot { (facts : List AFact) → S.stands self.old.store facts → epoch_of (fact.now ∷ facts) ≡ epoch_of facts }
+        ensures answer { (facts : List AFact) → S.stands self.old.store facts
+            → GivesUnless is_memory result (add_given (add_of (S.room self.old.store) (S.cells_for self.old.store fact.now) facts fact.now)) }
+        ensures ok { (cluster : ACluster) (me : ℕ) (facts : List AFact) (volatile : AVolatile) → Stands S.stands self.old cluster me facts volatile
+            → OnOk result (Stands S.stands self.new cluster me (fact.now ∷ facts) (ended (heard_by (Some fact.now)) volatile)) }
+        ensures err { (cluster : ACluster) (me : ℕ) (facts : List AFact) (volatile : AVolatile) → Stands S.stands self.old cluster me facts volatile
+            → OnErr result (Stands S.stands self.new cluster me facts volatile) }
+        ensures left { (facts : List AFact) → S.stands self.old.store facts → OnErr result (S.stands self.new.store facts) }
     {
-        self.store.add(&fact)?;
-        let step = added(fact, sends);
-        if let Some((tx, _)) = step.heard {
-            self.manager.close(tx);
+        self.store.add(fact)?;
+        if let Fact::Heard { tx, .. } = fact {
+            self.manager.close(*tx);
         }
-        Ok(step)
+        Ok(())
     }
 
-    // A message to a centre.
-    fn reply(&self, to: u8, message: Message) -> Result<Step, StepFault>
-        ensures { GivesUnless is_memory result (Ok (sent (to_one self.now.centre to message))) }
+    // Adds the fact of a planned step, if there is one.
+    fn add_planned(&mut self, step: &mut Step) -> Result<(), StepFault>
+        requires { (facts : List AFact) → S.stands self.old.store facts → MayFollow facts step.old.fact }
+        ensures answer { (facts : List AFact) → S.stands self.old.store facts
+            → GivesUnless is_memory (written result step.new) (step_taken (room_of S.room S.cells_for self.old.store) facts step.old step.old.fact) }
+        ensures ok { (cluster : ACluster) (me : ℕ) (facts : List AFact) (volatile : AVolatile) → Stands S.stands self.old cluster me facts volatile
+            → OnOk result (Stands S.stands self.new cluster me (with_new facts step.old.fact) (ended (heard_by step.old.fact) volatile)) }
+        ensures err { (cluster : ACluster) (me : ℕ) (facts : List AFact) (volatile : AVolatile) → Stands S.stands self.old cluster me facts volatile
+            → OnErr result (Stands S.stands self.new cluster me facts volatile) }
+        ensures left { (facts : List AFact) → S.stands self.old.store facts → OnErr result (S.stands self.new.store facts) }
     {
-        Ok(sent(to_one(self.alloc, self.centre.number(), to, message)?))
-    }
-
-    // What the acceptor's answer to a choice adds and sends.
-    fn proposed(
-        &mut self,
-        from: u8,
-        choice: &Choice,
-        acceptor: ProposeAnswer,
-    ) -> Result<Step, StepFault>
-        requires { (facts : List AFact) (mark : AMark) → S.stands self.old.store facts → acceptor ≡ AProposeAnswer.Vote mark → MayBeAdded facts (vote_fact choice.now mark) }
-        ensures { Does S.stands S.room S.cells_for self.old result self.new (λ _ me _ volatile. Ok (proposed_step me volatile from choice.now acceptor)) }
-    {
-        match acceptor {
-            ProposeAnswer::Known(outcome) => {
-                let tx = choice.tx;
-                self.reply(from, Message::Outcome { tx, outcome })
-            }
-            ProposeAnswer::Again(ballot, mark) => {
-                self.reply(from, voted_message(choice, ballot, mark))
-            }
-            ProposeAnswer::Escalate(cause) => {
-                let message = Message::Escalate {
-                    key: choice.key,
-                    version: choice.version,
-                    tx: choice.tx,
-                    cause,
-                };
-                self.reply(from, message)
-            }
-            ProposeAnswer::Vote(mark) => {
-                let message = voted_message(choice, Ballot::FAST, mark.copy());
-                let sends = to_one(self.alloc, self.centre.number(), from, message)?;
-                let fact = vote_fact(self.alloc, choice, mark)?;
-                self.add(fact, sends)
-            }
+        if let Some(fact) = &step.fact {
+            self.add(fact)?;
+            let heard = heard_by(fact);
+            step.heard = heard;
         }
+        Ok(())
     }
 
-    // A choice was proposed.
-    fn propose(&mut self, from: u8, choice: &Choice) -> Result<Step, StepFault>
-        ensures { Does S.stands S.room S.cells_for self.old result self.new (λ cluster me facts volatile. Ok (propose_step cluster me facts volatile from choice.now)) }
-    {
-        let acceptor = on_propose(&self.store, &self.cluster, choice);
-        self.proposed(from, choice, acceptor)
-    }
-
-    // A transaction that was not heard is decided here.
-    fn decide(&mut self, tx: TxId, outcome: Outcome) -> Result<Step, StepFault>
-        requires { (facts : List AFact) → S.stands self.old.store facts → is_heard facts tx ≡ false }
-        ensures { Does S.stands S.room S.cells_for self.old result self.new (λ cluster me _ volatile. Ok (decided_step cluster me volatile tx outcome)) }
-    {
-        let centre = self.centre.number();
-        let sends = outcome_sent(self.alloc, &self.cluster.quorums, centre, tx, &outcome)?;
-        self.add(Fact::Heard { tx, outcome }, sends)
-    }
-
-    // What this node holds of a key, for a centre.
-    fn give_sent(&self, to: u8, key: &Key) -> Result<HeapList<Envelope>, Memory>
-        ensures { (facts : List AFact) → S.stands self.now.store facts
-            → IfOk result (λ sends. sends ≡ give_sent self.now.centre facts to key.now) }
-    {
-        match on_sync_ask(self.alloc, &self.store, key)? {
-            Some(give) => {
-                let message = Message::SyncGive {
-                    key: give.key,
-                    version: give.version,
-                    item: give.item,
-                    adds: give.adds,
-                };
-                to_one(self.alloc, self.centre.number(), to, message)
-            }
-            None => Ok(HeapList::new(self.alloc)),
-        }
-    }
-
-    // What an act of the manager sends.
-    fn act_sent(&self, act: &Option<ManagerAct>) -> Result<HeapList<Envelope>, Memory>
-        ensures { (facts : List AFact) → S.stands self.now.store facts
-            → IfOk result (λ sends. sends ≡ act_sent self.now.centre facts act.now) }
-    {
-        match act {
-            Some(ManagerAct::Lead(leader, choice)) => {
-                let message = Message::Lead(choice.copy());
-                to_one(self.alloc, self.centre.number(), leader.number(), message)
-            }
-            Some(ManagerAct::Give(centre, key)) => self.give_sent(centre.number(), key),
-            _ => Ok(HeapList::new(self.alloc)),
-        }
-    }
-
-    // A vote on an open transaction that decides nothing.
-    fn undecided(&mut self, vote: &Vote) -> Result<Step, StepFault>
-        ensures { Does S.stands S.room S.cells_for self.old result self.new (λ cluster me facts volatile. Ok (undecided_step built cluster me facts volatile vote.now)) }
-    {
-        let act = self.manager.on_voted(&self.cluster, vote)?;
-        Ok(sent(self.act_sent(&act)?))
-    }
-
-    // A vote on an open transaction that was not heard. One that decides is not taken, since its
-    // transaction is closed.
-    fn opened(&mut self, vote: &Vote) -> Result<Step, StepFault>
-        requires { (facts : List AFact) → S.stands self.old.store facts → is_heard facts vote.now.tx ≡ false }
-        ensures { Does S.stands S.room S.cells_for self.old result self.new (λ cluster me facts volatile. Ok (opened_step built cluster me facts volatile vote.now (would_decide cluster.quorums volatile.manager vote.now))) }
-    {
-        match self.manager.would_decide(&self.cluster, vote) {
-            Some(outcome) => self.decide(vote.tx, outcome),
-            None => self.undecided(vote),
-        }
-    }
-
-    // A vote came. One on a transaction that is not open here changes nothing.
-    fn voted(&mut self, vote: &Vote) -> Result<Step, StepFault>
-        ensures { Does S.stands S.room S.cells_for self.old result self.new (λ cluster me facts volatile. Ok (voted_step built cluster me facts volatile vote.now)) }
-    {
-        if self.store.is_heard(vote.tx) || !self.manager.is_open(vote.tx) {
-            return Ok(sent(HeapList::new(self.alloc)));
-        }
-        self.opened(vote)
-    }
-
-    // A centre gives no vote.
-    fn escalate(
+    // A message to this node's leader came, or one that this node does not take.
+    fn take_led(
         &mut self,
         from: Centre,
-        key: &Key,
-        tx: TxId,
-        cause: Cause,
-    ) -> Result<Step, StepFault>
-        requires { IsWellFormedCause cause }
-        ensures { Does S.stands S.room S.cells_for self.old result self.new (λ cluster me facts volatile. Ok (escalate_step cluster me facts volatile from key.now tx cause)) }
+        message: &Message,
+        step: &mut Step,
+    ) -> Result<(), StepFault>
+        requires other { is_of_fast_path message.now ≡ false }
+        requires left { is_asked_by_leader message.now ≡ false }
+        requires member { from ≤ self.old.cluster.quorums.centres }
+        requires blank { step.old ≡ blank }
+        ensures plan { Plans S.stands self.old (written result step.new) self.new (λ cluster me facts volatile. message_step built cluster me facts volatile from message.now) }
+        ensures fact { (facts : List AFact) → S.stands self.old.store facts → OnOk result (MayFollow facts step.new.fact) }
     {
-        let act = self
-            .manager
-            .on_escalate(&self.cluster, from, tx, key, cause);
-        Ok(sent(self.act_sent(&act)?))
-    }
-
-    // The outcome of a transaction came.
-    fn hear(&mut self, tx: TxId, outcome: &Outcome) -> Result<Step, StepFault>
-        ensures { Does S.stands S.room S.cells_for self.old result self.new (λ _ _ facts volatile. Ok (outcome_step facts volatile tx outcome.now)) }
-    {
-        let sends = HeapList::new(self.alloc);
-        match on_outcome(&self.store, tx, outcome) {
-            Some(fact) => self.add(fact, sends),
-            None => Ok(sent(sends)),
+        match message {
+            Message::Lead(choice) => self.lead(from.number(), choice, &mut step.sends),
+            Message::Promise {
+                key,
+                version,
+                through,
+                ballot,
+                reported,
+                votes,
+            } => {
+                let promise = Promise {
+                    key: *key,
+                    version: *version,
+                    through: *through,
+                    ballot: *ballot,
+                    reported: *reported,
+                    votes: votes.copy(self.alloc)?,
+                };
+                self.take_promise(from, &promise, &mut step.sends)
+            }
+            Message::Refused {
+                key,
+                ballot,
+                promised,
+                ..
+            } => {
+                self.take_refusal(key, *ballot, *promised);
+                Ok(())
+            }
+            _ => Ok(()),
         }
     }
 
-    // A message of the cluster came to this node.
-    fn take(&mut self, from: Centre, message: &Message) -> Result<Step, StepFault>
-        requires { IsWellFormedMessage message.now }
-        ensures { Does S.stands S.room S.cells_for self.old result self.new (λ cluster me facts volatile. message_step built cluster me facts volatile from message.now) }
+    // A message of classic ballots came, or one that this node does not take.
+    fn take_classic(
+        &mut self,
+        from: Centre,
+        message: &Message,
+        step: &mut Step,
+    ) -> Result<(), StepFault>
+        requires other { is_of_fast_path message.now ≡ false }
+        requires member { from ≤ self.old.cluster.quorums.centres }
+        requires blank { step.old ≡ blank }
+        ensures plan { Plans S.stands self.old (written result step.new) self.new (λ cluster me facts volatile. message_step built cluster me facts volatile from message.now) }
+        ensures fact { (facts : List AFact) → S.stands self.old.store facts → OnOk result (MayFollow facts step.new.fact) }
     {
         match message {
-            Message::Propose(choice) => self.propose(from.number(), choice),
+            Message::Prepare {
+                key,
+                version,
+                through,
+                ballot,
+            } => {
+                self.prepare(from.number(), key, *version, *through, *ballot, step)?;
+                Ok(())
+            }
+            Message::Accept {
+                key,
+                version,
+                ballot,
+                options,
+            } => {
+                self.accept(from.number(), key, *version, *ballot, options, step)?;
+                Ok(())
+            }
+            _ => self.take_led(from, message, step),
+        }
+    }
+
+    // A message of the cluster came to this node: what it plans.
+    fn take(&mut self, from: Centre, message: &Message, step: &mut Step) -> Result<(), StepFault>
+        requires message { IsWellFormedMessage message.now }
+        requires member { from ≤ self.old.cluster.quorums.centres }
+        requires blank { step.old ≡ blank }
+        ensures plan { Plans S.stands self.old (written result step.new) self.new (λ cluster me facts volatile. message_step built cluster me facts volatile from message.now) }
+        ensures fact { (facts : List AFact) → S.stands self.old.store facts → OnOk result (MayFollow facts step.new.fact) }
+    {
+        match message {
+            Message::Propose(choice) => {
+                self.propose(from.number(), choice, step)?;
+                Ok(())
+            }
             Message::Voted {
                 key,
                 version,
@@ -249,77 +198,70 @@ impl<S: FactStore + Drop> Node<S> {
                     tx: *tx,
                     mark: mark.copy(),
                 };
-                self.voted(&vote)
+                self.voted(&vote, step)
             }
-            Message::Escalate { key, tx, cause, .. } => self.escalate(from, key, *tx, *cause),
-            Message::Outcome { tx, outcome } => self.hear(*tx, outcome),
-            _ => Ok(sent(HeapList::new(self.alloc))),
+            Message::Escalate { key, tx, cause, .. } => {
+                self.escalate(from, key, *tx, *cause, &mut step.sends)
+            }
+            Message::Outcome { tx, outcome } => {
+                self.hear(*tx, outcome, step);
+                Ok(())
+            }
+            _ => self.take_classic(from, message, step),
         }
     }
 
+    // A message of the cluster came to this node.
+    fn receive(&mut self, from: Centre, message: &Message, step: &mut Step) -> Result<(), StepFault>
+        requires message { IsWellFormedMessage message.now }
+        requires member { from ≤ self.old.cluster.quorums.centres }
+        requires blank { step.old ≡ blank }
+        ensures { Does S.stands S.room S.cells_for self.old (written result step.new) self.new (λ cluster me facts volatile. message_step built cluster me facts volatile from message.now) }
+    {
+        self.take(from, message, step)?;
+        self.add_planned(step)
+    }
+
     // A message came. It is refused where it is for another centre or not of the cluster.
-    fn deliver(&mut self, envelope: &Envelope) -> Result<Step, StepFault>
-        requires { IsWellFormedEnvelope envelope.now }
-        ensures { Follows S.stands self.old result self.new (λ cluster me facts volatile. step_by (room_of S.room S.cells_for self.old.store) built cluster me facts volatile (AInput.Message envelope.now)) }
+    fn deliver(&mut self, envelope: &Envelope, step: &mut Step) -> Result<(), StepFault>
+        requires message { IsWellFormedEnvelope envelope.now }
+        requires blank { step.old ≡ blank }
+        ensures { Follows S.stands self.old (written result step.new) self.new (λ cluster me facts volatile. step_by (room_of S.room S.cells_for self.old.store) built cluster me facts volatile (AInput.Message envelope.now)) }
     {
         match sender_of(&self.cluster, self.centre.number(), envelope) {
-            Some(from) => self.take(from, &envelope.message),
+            Some(from) => self.receive(from, &envelope.message, step),
             None => Err(StepFault::Foreign),
         }
     }
 
-    // The transaction was begun.
-    fn begun(&self, tx: TxId, transaction: &Transaction) -> Result<Step, StepFault>
-        ensures { GivesUnless is_memory result
-            (Ok (replied (proposals_of self.now.cluster.quorums self.now.centre (choices_of tx transaction.now)) (AnAnswer.Begun tx))) }
+    // What an input does.
+    fn act_on(&mut self, input: &Input, step: &mut Step) -> Result<(), StepFault>
+        requires input { IsGiven input.now }
+        requires blank { step.old ≡ blank }
+        ensures { Follows S.stands self.old (written result step.new) self.new (λ cluster me facts volatile. step_by (room_of S.room S.cells_for self.old.store) built cluster me facts volatile input.now) }
     {
-        let choices = transaction.choices(tx);
-        let (quorums, centre) = (&self.cluster.quorums, self.centre.number());
-        let sends = proposals_sent(self.alloc, quorums, centre, choices.as_slice())?;
-        Ok(replied(sends, Answer::Begun(tx)))
-    }
-
-    // No transaction was begun.
-    fn refused(&self, transaction: &Transaction, fault: BeginFault) -> Result<Step, StepFault>
-        ensures { (facts : List AFact) → S.stands self.now.store facts
-            → result ≡ refused_given (key_refused_of facts transaction.now) fault }
-    {
-        match fault {
-            BeginFault::Memory => Err(StepFault::Memory),
-            fault => {
-                let key = key_refused(&self.store, transaction);
-                Ok(replied(HeapList::new(self.alloc), Answer::Refused(key, fault)))
+        match input {
+            Input::Message(envelope) => self.deliver(envelope, step),
+            Input::Tick => self.tick(&mut step.sends),
+            Input::Read(key) => {
+                step.answer = Some(Answer::Read(read(&self.store, key)));
+                Ok(())
             }
-        }
-    }
-
-    // A client begins a transaction.
-    fn begin(&mut self, transaction: &Transaction) -> Result<Step, StepFault>
-        ensures { Follows S.stands self.old result self.new (λ cluster me facts volatile. Ok (begin_step cluster me facts volatile transaction.now)) }
-    {
-        match self.manager.begin(&self.store, transaction) {
-            Ok(tx) => self.begun(tx, transaction),
-            Err(fault) => self.refused(transaction, fault),
+            Input::Begin(transaction) => self.begin(transaction, step),
         }
     }
 
     /// One input: at most one fact, the messages in order, and the answer to a client. The caller
     /// makes the fact durable before it lets anything out. A transaction was made under the
     /// cluster's schema. A message is refused where it is for another centre or not of the cluster,
-    /// and where its fact is. After a refusal the node is as it was, but where there was no memory
-    /// only its facts are, and it is to be booted again.
+    /// where its fact is, and where the leader refuses it. After a refusal the node is as it was, but
+    /// where there was no memory only its facts are, and it is to be booted again.
     pub fn step(&mut self, input: &Input) -> Result<Step, StepFault>
         requires { IsGiven input.now }
         ensures { Follows S.stands self.old result self.new (λ cluster me facts volatile. step_by (room_of S.room S.cells_for self.old.store) built cluster me facts volatile input.now) }
     {
-        match input {
-            Input::Message(envelope) => self.deliver(envelope),
-            Input::Tick => Ok(sent(HeapList::new(self.alloc))),
-            Input::Read(key) => {
-                let answer = Answer::Read(read(&self.store, key));
-                Ok(replied(HeapList::new(self.alloc), answer))
-            }
-            Input::Begin(transaction) => self.begin(transaction),
-        }
+        let mut step = blank(self.alloc);
+        self.act_on(input, &mut step)?;
+        Ok(step)
     }
 }

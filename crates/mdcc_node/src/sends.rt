@@ -1,32 +1,34 @@
-//! Messages, by whom they go to.
-ghost use Rattle.std.specs.Prelude.{◌≡◌, ◌++◌, IfOk, OnOk};
+//! Messages, by whom they go to, each written behind those before.
+ghost use Rattle.std.specs.Prelude.{◌≡◌, ◌++◌, OnOk};
 ghost use Rattle.mdcc_node.specs.Telling.{to_other};
+ghost use Rattle.mdcc_rules.specs.LeaderRules.{lead_sent, promise_sent};
 ghost use Rattle.mdcc_rules.specs.ManagerRules.{proposals_sent};
 ghost use Rattle.mdcc_rules.specs.Messages.{to_all, to_one, to_others};
 ghost use Rattle.mdcc_messages.specs.declared.messages.Message.{Message as AMessage};
 
-use mdcc_base::{HeapList, Memory, Plain, Quorums, TxId};
+use mdcc_base::{Ballot, HeapList, Key, Memory, Plain, Quorums, TxId};
 use mdcc_messages::{Envelope, Message};
-use mdcc_option::{Choice, Outcome};
+use mdcc_option::{Choice, Claim, Outcome};
+use mdcc_protocol::{LeadAnswer, PromiseAnswer};
+use mdcc_struct::Options;
 use std::alloc::Global;
 
 /// One message to one centre.
-pub(crate) fn to_one(
-    alloc: Global,
+pub(crate) fn send(
     from: u8,
     to: u8,
     message: Message,
-) -> Result<HeapList<Envelope>, Memory>
-    ensures { IfOk result (λ sends. sends ≡ to_one from to message) }
+    sends: &mut HeapList<Envelope>,
+) -> Result<(), Memory>
+    ensures { OnOk result (sends.new ≡ sends.old ++ to_one from to message) }
 {
-    let mut sends = HeapList::new(alloc);
     sends.push(Envelope { from, to, message })?;
-    Ok(sends)
+    Ok(())
 }
 
-// Proposes a choice to all centres.
+/// Proposes a choice to all centres.
 #[tactic(auto, using(crate::proofs::Ranges::next_sent))]
-fn propose(
+pub(crate) fn propose(
     quorums: &Quorums,
     from: u8,
     choice: &Choice,
@@ -45,19 +47,76 @@ fn propose(
 }
 
 /// Proposes choices to all centres.
-pub(crate) fn proposals_sent(
-    alloc: Global,
+pub(crate) fn propose_each(
     quorums: &Quorums,
     from: u8,
     choices: &[Choice],
-) -> Result<HeapList<Envelope>, Memory>
-    ensures { IfOk result (λ sends. sends ≡ proposals_sent quorums.now from choices.now) }
+    sends: &mut HeapList<Envelope>,
+) -> Result<(), Memory>
+    ensures { OnOk result (sends.new ≡ sends.old ++ proposals_sent quorums.now from choices.now) }
 {
-    let mut sends = HeapList::new(alloc);
     for choice in choices {
-        propose(quorums, from, choice, &mut sends)?;
+        propose(quorums, from, choice, sends)?;
     }
-    Ok(sends)
+    Ok(())
+}
+
+// Asks all centres for promises.
+#[tactic(auto, using(crate::proofs::Ranges::next_sent))]
+fn prepare(
+    quorums: &Quorums,
+    from: u8,
+    key: &Key,
+    version: u64,
+    through: u64,
+    ballot: Ballot,
+    sends: &mut HeapList<Envelope>,
+) -> Result<(), Memory>
+    ensures { OnOk result (sends.new ≡ sends.old ++ to_all quorums.now from (AMessage.Prepare key.now version through ballot)) }
+{
+    for to in 1..quorums.centres() + 1 {
+        sends.push(Envelope {
+            from,
+            to,
+            message: Message::Prepare {
+                key: *key,
+                version,
+                through,
+                ballot,
+            },
+        })?;
+    }
+    Ok(())
+}
+
+// Asks all centres for votes on a structure.
+#[tactic(auto, using(crate::proofs::Ranges::next_sent))]
+fn accept(
+    alloc: Global,
+    quorums: &Quorums,
+    from: u8,
+    key: &Key,
+    version: u64,
+    ballot: Ballot,
+    options: &Options,
+    sends: &mut HeapList<Envelope>,
+) -> Result<(), Memory>
+    ensures { OnOk result (sends.new ≡ sends.old ++ to_all quorums.now from (AMessage.Accept key.now version ballot options.now)) }
+{
+    for to in 1..quorums.centres() + 1 {
+        let options = options.copy(alloc)?;
+        sends.push(Envelope {
+            from,
+            to,
+            message: Message::Accept {
+                key: *key,
+                version,
+                ballot,
+                options,
+            },
+        })?;
+    }
+    Ok(())
 }
 
 // Tells a centre how a transaction ended, where it is another one.
@@ -85,18 +144,96 @@ fn tell(
 }
 
 /// Tells all other centres how a transaction ended.
-pub(crate) fn outcome_sent(
-    alloc: Global,
+pub(crate) fn tell_others(
     quorums: &Quorums,
     from: u8,
     tx: TxId,
     outcome: &Outcome,
-) -> Result<HeapList<Envelope>, Memory>
-    ensures { IfOk result (λ sends. sends ≡ to_others quorums.now from (AMessage.Outcome tx outcome.now)) }
+    sends: &mut HeapList<Envelope>,
+) -> Result<(), Memory>
+    ensures { OnOk result (sends.new ≡ sends.old ++ to_others quorums.now from (AMessage.Outcome tx outcome.now)) }
 {
-    let mut sends = HeapList::new(alloc);
     for to in 1..quorums.centres() + 1 {
-        tell(from, to, tx, outcome, &mut sends)?;
+        tell(from, to, tx, outcome, sends)?;
     }
-    Ok(sends)
+    Ok(())
+}
+
+// Asks a centre for what it holds of a key, where it is another one.
+fn ask(from: u8, to: u8, key: &Key, sends: &mut HeapList<Envelope>) -> Result<(), Memory>
+    ensures { OnOk result (sends.new ≡ sends.old ++ to_other from to (AMessage.SyncAsk key.now)) }
+{
+    if to == from {
+        return Ok(());
+    }
+    sends.push(Envelope {
+        from,
+        to,
+        message: Message::SyncAsk(*key),
+    })?;
+    Ok(())
+}
+
+// Asks all other centres for what they hold of a key.
+fn ask_others(
+    quorums: &Quorums,
+    from: u8,
+    key: &Key,
+    sends: &mut HeapList<Envelope>,
+) -> Result<(), Memory>
+    ensures { OnOk result (sends.new ≡ sends.old ++ to_others quorums.now from (AMessage.SyncAsk key.now)) }
+{
+    for to in 1..quorums.centres() + 1 {
+        ask(from, to, key, sends)?;
+    }
+    Ok(())
+}
+
+/// What the answer to a claim sends.
+pub(crate) fn send_lead(
+    alloc: Global,
+    quorums: &Quorums,
+    from: u8,
+    claim: &Claim,
+    answer: &LeadAnswer,
+    sends: &mut HeapList<Envelope>,
+) -> Result<(), Memory>
+    ensures { OnOk result (sends.new ≡ sends.old ++ lead_sent quorums.now from claim.now answer.now) }
+{
+    let key = &claim.key;
+    match answer {
+        LeadAnswer::Behind => ask_others(quorums, from, key, sends),
+        LeadAnswer::Accept {
+            version,
+            ballot,
+            options,
+        } => accept(alloc, quorums, from, key, *version, *ballot, options, sends),
+        LeadAnswer::Prepare {
+            version,
+            through,
+            ballot,
+        } => prepare(quorums, from, key, *version, *through, *ballot, sends),
+        LeadAnswer::Left => Ok(()),
+    }
+}
+
+/// What the answer to a promise sends.
+pub(crate) fn send_promised(
+    alloc: Global,
+    quorums: &Quorums,
+    from: u8,
+    key: &Key,
+    answer: &PromiseAnswer,
+    sends: &mut HeapList<Envelope>,
+) -> Result<(), Memory>
+    ensures { OnOk result (sends.new ≡ sends.old ++ promise_sent quorums.now from key.now answer.now) }
+{
+    match answer {
+        PromiseAnswer::Accept {
+            version,
+            ballot,
+            options,
+        } => accept(alloc, quorums, from, key, *version, *ballot, options, sends),
+        _ => Ok(()),
+    }
 }

@@ -1,55 +1,32 @@
 //! What steps are made of.
-ghost use Rattle.std.specs.Prelude.{◌≡◌, IfOk, Some};
-ghost use Rattle.mdcc_node.specs.Telling.{added, offered, replied, sent, vote_fact};
+ghost use Rattle.std.specs.Prelude.{◌≡◌, IfOk, None, Some};
+ghost use Rattle.mdcc_node.specs.Planning.{blank};
+ghost use Rattle.mdcc_node.specs.Telling.{offered, vote_fact};
+ghost use Rattle.mdcc_protocol.specs.Leader.{claim_of_choice};
 ghost use Rattle.mdcc_rules.specs.Steps.{heard_by};
 ghost use Rattle.mdcc_messages.specs.declared.messages.Message.{Message as AMessage};
 
 use mdcc_base::{Ballot, HeapList, Memory, Plain, TxId};
-use mdcc_messages::{Envelope, Fact, Message};
-use mdcc_option::{Choice, Mark, Outcome};
-use mdcc_rules::{Answer, Step};
+use mdcc_messages::{Fact, Message};
+use mdcc_option::{Choice, Claim, Mark, Outcome};
+use mdcc_rules::Step;
 use mdcc_struct::Options;
 use std::alloc::Global;
 
-/// A step that adds no fact.
-pub(crate) fn sent(sends: HeapList<Envelope>) -> Step
-    ensures { result ≡ sent sends }
+/// A step that does nothing.
+pub(crate) fn blank(alloc: Global) -> Step
+    ensures { result ≡ blank }
 {
     Step {
         fact: None,
-        sends,
+        sends: HeapList::new(alloc),
         heard: None,
         answer: None,
     }
 }
 
-/// A step that answers a client.
-pub(crate) fn replied(sends: HeapList<Envelope>, answer: Answer) -> Step
-    ensures { result ≡ replied sends answer }
-{
-    Step {
-        fact: None,
-        sends,
-        heard: None,
-        answer: Some(answer),
-    }
-}
-
-/// A step that adds a fact.
-pub(crate) fn added(fact: Fact, sends: HeapList<Envelope>) -> Step
-    ensures { result ≡ added fact sends }
-{
-    let heard = heard_by(&fact);
-    Step {
-        fact: Some(fact),
-        sends,
-        heard,
-        answer: None,
-    }
-}
-
-// The end of a transaction that a fact tells: true is commit.
-fn heard_by(fact: &Fact) -> Option<(TxId, bool)>
+/// The end of a transaction that a fact tells: true is commit.
+pub(crate) fn heard_by(fact: &Fact) -> Option<(TxId, bool)>
     ensures { result ≡ heard_by (Some fact.now) }
 {
     match fact {
@@ -58,6 +35,18 @@ fn heard_by(fact: &Fact) -> Option<(TxId, bool)>
             Outcome::Abort => Some((*tx, false)),
         },
         _ => None,
+    }
+}
+
+/// The claim of a choice.
+pub(crate) fn claim_of(choice: &Choice) -> Claim
+    ensures { result ≡ claim_of_choice choice.now }
+{
+    Claim {
+        tx: choice.tx,
+        key: choice.key,
+        version: choice.version,
+        choice: Some(choice.copy()),
     }
 }
 

@@ -3,6 +3,7 @@ use Rattle.std.proofs.lemmas.Result.{err_from_is_err_and}
 use Rattle.mdcc_log.specs.Frames.{IsAtRest}
 use Rattle.mdcc_log.specs.Log.{log_bytes}
 use Rattle.mdcc_disks.specs.Disks.{LeavesOnly}
+use Rattle.mdcc_log.proofs.Moments.{others_joined}
 use Rattle.mdcc_restart.proofs.Kept.{append-keeps, between-leaves, boot-leaves, each-fault, open-keeps, rest-keeps, shut-leaves, then-leaves, then-leaves-either}
 use Rattle.mdcc_restart.proofs.Starts.{after-crash, boot-length, lies-within, refuses, same-payloads}
 use Rattle.mdcc_messages.specs.Spelling.{fact_bytes}
@@ -211,3 +212,13 @@ returns-clause-any_moment_between g c facts fact ample are told within =
     then-leaves-either facts fact (opens (logged facts) (fact_bytes fact) told within)
     (after-crash (λ fs. LeavesOnly g.D.Disks.moment g.D.Disks.left_since c.open.new.disks c.append.new.disks c.args.centre (MayHaveBoot fs))
     c.args.cluster facts fact (g.D.Disks.disk c.args.disks.now c.args.centre) c.between_is_read.ensures appended are told stood)
+
+pub returns-in_err-append-clause-others : goal.returns-in_err-append-clause-others
+returns-in_err-append-clause-others g c =
+    others_joined g.D.Disks.disk g.D.Disks.may_leave g.D.Disks.moment g.D.Disks.left_since c.args.disks.now c.open.new.disks c.append.new.disks c.args.centre
+    (rw c.number.ensures.value at c.open.ensures.others) (rw (c.in_ok-log.ensures.place, c.number.ensures.value) at c.in_err-append.ensures.others)
+
+pub returns-clause-others : goal.returns-clause-others
+returns-clause-others g c =
+    others_joined g.D.Disks.disk g.D.Disks.may_leave g.D.Disks.moment g.D.Disks.left_since c.args.disks.now c.open.new.disks c.append.new.disks c.args.centre
+    (rw c.number.ensures.value at c.open.ensures.others) (rw (c.in_ok-log.ensures.place, c.number.ensures.value) at c.in_ok-append.ensures.others)

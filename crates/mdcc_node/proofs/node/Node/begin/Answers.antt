@@ -1,5 +1,6 @@
 use Rattle.mdcc_node.proofs.Beginning.{refused_gives, refused_leaves, step_begun}
 use Rattle.mdcc_node.proofs.Standing.{left_always, memory_always}
+use Rattle.mdcc_node.specs.Planning.{written}
 use Rattle.mdcc_protocol.specs.Facts.{epoch_of}
 use Rattle.mdcc_node.proofs.node.Node.begin.Goals as goal
 
@@ -10,7 +11,7 @@ returns-in-Ok g c = record {
       rw (step_begun cluster me facts volatile c.args.transaction.now c.in-Ok.tx (c.in-Ok.ensures.answer me (epoch_of facts) cluster.quorums facts volatile.manager stands.store stands.manager)) here;
   left = λ cluster me facts volatile stands.
       rw (step_begun cluster me facts volatile c.args.transaction.now c.in-Ok.tx (c.in-Ok.ensures.answer me (epoch_of facts) cluster.quorums facts volatile.manager stands.store stands.manager))
-      (left_always c.begun.result _ (record {
+      (left_always (written c.begun.result c.begun.new.step) _ (record {
         of = stands.of;
         at = stands.at;
         among = stands.among;
@@ -19,7 +20,7 @@ returns-in-Ok g c = record {
         leader = stands.leader;
         recovery = stands.recovery;
       }));
-  memory = λ facts store. memory_always c.begun.result _ store;
+  memory = λ facts store. memory_always (written c.begun.result c.begun.new.step) _ store;
 }
 
 pub returns-in-Err : goal.returns-in-Err
@@ -38,5 +39,5 @@ returns-in-Err g c = record {
         leader = stands.leader;
         recovery = stands.recovery;
       }));
-  memory = λ facts store. memory_always c.refused.result _ store;
+  memory = λ facts store. memory_always (written c.refused.result c.refused.new.step) _ store;
 }

@@ -9,22 +9,22 @@ pub returns-in-Some : goal.returns-in-Some
 returns-in-Some g c =
     let envelope = c.args.envelope.now in
     let room = room_of g.S.FactStore.room g.S.FactStore.cells_for c.args.self.now.store in
-    let found : Some c.in-Some.from ≡ (if is_own_message c.args.self.now.cluster c.number.result envelope then Some envelope.from else None) = c.in-Some.ensures in
+    let found : Some c.in-Some.from ≡ (if is_own_message c.args.self.now.cluster c.number.result envelope then Some envelope.from else None) = c.in-Some.ensures.value in
     record {
       answer = λ cluster me facts volatile stands.
           let here = rw (c.number.ensures.value, stands.of, stands.at) at found in
-          rw (own_step room built cluster me facts volatile envelope c.in-Some.from here) (c.take.ensures.answer cluster me facts volatile stands);
+          rw (own_step room built cluster me facts volatile envelope c.in-Some.from here) (c.receive.ensures.answer cluster me facts volatile stands);
       left = λ cluster me facts volatile stands.
           let here = rw (c.number.ensures.value, stands.of, stands.at) at found in
-          rw (own_step room built cluster me facts volatile envelope c.in-Some.from here) (c.take.ensures.left cluster me facts volatile stands);
-      memory = c.take.ensures.memory;
+          rw (own_step room built cluster me facts volatile envelope c.in-Some.from here) (c.receive.ensures.left cluster me facts volatile stands);
+      memory = c.receive.ensures.memory;
     }
 
 pub returns-in-None : goal.returns-in-None
 returns-in-None g c =
     let envelope = c.args.envelope.now in
     let room = room_of g.S.FactStore.room g.S.FactStore.cells_for c.args.self.now.store in
-    let none : None ≡ (if is_own_message c.args.self.now.cluster c.number.result envelope then Some envelope.from else None) = c.in-None.ensures in
+    let none : None ≡ (if is_own_message c.args.self.now.cluster c.number.result envelope then Some envelope.from else None) = c.in-None.ensures.value in
     record {
       answer = λ cluster me facts volatile stands.
           let here = rw (c.number.ensures.value, stands.of, stands.at) at none in

@@ -1,0 +1,32 @@
+//! Whole replays in which a leader decides.
+use crate::ballot_rows::{FIRST_FORCED, RANGE, Row, SECOND_FORCED};
+use mdcc_base::{MemorySink, MemorySource};
+use mdcc_command::run;
+use std::alloc::Global;
+use std::process::Abort;
+use std::test::Fail;
+
+// What a replay of a row writes and answers.
+fn check(rt: &impl Abort, alloc: Global, row: &Row) -> Result<(), Fail> {
+    let mut words = Vec::new(alloc);
+    words.push(String::from_str(alloc, "replay")?)?;
+    let mut source = MemorySource::new(alloc, row.schedule.as_bytes(), &[])?;
+    let mut out = MemorySink::new(alloc, &[])?;
+    let mut err = MemorySink::new(alloc, &[])?;
+    let status = run(alloc, &words, &mut source, &mut out, &mut err);
+    assert_eq!(rt; out.bytes(), row.report.as_bytes());
+    assert_eq!(rt; err.bytes(), b"".as_slice());
+    assert_eq!(rt; status, 0);
+    Ok(())
+}
+
+#[test]
+fn promises_force_what_may_be_chosen(rt: HostRuntime) -> Result<(), Fail> {
+    check(&rt, rt.alloc(), &FIRST_FORCED)?;
+    check(&rt, rt.alloc(), &SECOND_FORCED)
+}
+
+#[test]
+fn a_ballot_covers_its_range(rt: HostRuntime) -> Result<(), Fail> {
+    check(&rt, rt.alloc(), &RANGE)
+}

@@ -1,0 +1,266 @@
+-- A rule that adds a fact changes nothing but what the fact ends, and the fact may be added.
+use Rattle.std.proofs.Common.{◌≡◌, ℕ, Bool, true, false, List, [], ◌∷◌, Option, Some, None, Ok, Err, Result, refl, sym, subst, if◌then◌else◌, not, is_some, ◌+◌, ◌++◌, append_assoc, append-nil, drop, fold, get_or, length, ◌<◌}
+use Rattle.std.proofs.lemmas.Option.{slice_get-get_or}
+use Rattle.std.specs.List.{filter, list_any}
+use Rattle.std.specs.Prelude.{⊤, OnOk, slice_get}
+use Rattle.mdcc_base.specs.Ballot.{ballot_lt}
+use Rattle.mdcc_base.specs.declared.faults.Memory.{Memory}
+use Rattle.mdcc_base.specs.declared.identifiers.Ballot.{Ballot}
+use Rattle.mdcc_base.specs.declared.identifiers.TxId.{TxId}
+use Rattle.mdcc_base.specs.declared.key.Key.{Key}
+use Rattle.mdcc_facts.specs.Adding.{MayBeAdded}
+use Rattle.mdcc_messages.specs.declared.facts.Fact.{Fact}
+use Rattle.mdcc_messages.specs.declared.messages.Envelope.{Envelope}
+use Rattle.mdcc_messages.specs.declared.messages.Message.{Message}
+use Rattle.mdcc_node.specs.Planning.{MayFollow, kept_by, planned, unheard_sent}
+use Rattle.mdcc_option.specs.declared.choices.Choice.{Choice}
+use Rattle.mdcc_option.specs.declared.choices.Mark.{Mark}
+use Rattle.mdcc_option.specs.declared.choices.Outcome.{Outcome}
+use Rattle.mdcc_option.specs.declared.cluster.Cluster.{Cluster}
+use Rattle.mdcc_protocol.specs.Acceptor.{on_accept, on_prepare, on_propose, promise_answer, range_end}
+use Rattle.mdcc_protocol.specs.Facts.{heard_of, is_heard, promise_of, promised_through, vote_of, votes_of}
+use Rattle.mdcc_protocol.specs.Leader.{claim_of_choice, on_promise}
+use Rattle.mdcc_protocol.specs.Manager
+use Rattle.mdcc_protocol.specs.Recover
+use Rattle.mdcc_protocol.specs.News.{is_news}
+use Rattle.mdcc_protocol.specs.Volatile.{Managing, Volatile, is_open, nothing_kept}
+use Rattle.mdcc_protocol.specs.declared.acceptor.AcceptAnswer.{AcceptAnswer}
+use Rattle.mdcc_protocol.specs.declared.acceptor.PrepareAnswer.{PrepareAnswer}
+use Rattle.mdcc_protocol.specs.declared.acceptor.ProposeAnswer.{ProposeAnswer}
+use Rattle.mdcc_protocol.specs.declared.leader.LeadFault.{LeadFault}
+use Rattle.mdcc_protocol.specs.declared.leader.Promise.{Promise}
+use Rattle.mdcc_protocol.specs.declared.manager.ManagerAct.{ManagerAct}
+use Rattle.mdcc_protocol.specs.declared.visible.Give.{Give}
+use Rattle.mdcc_protocol.specs.declared.votes.Vote.{Vote}
+use Rattle.mdcc_rules.specs.AcceptorRules.{accept_step, accepted_step, all_votes_sent, ask_step_by, prepare_step, prepared_step, propose_step, proposed_step, votes_sent}
+use Rattle.mdcc_rules.specs.LeaderRules.{lead_step_after, led_of, promised_by_answer, step_of_led}
+use Rattle.mdcc_rules.specs.ManagerRules.{acted_step, opened_step, undecided_step, voted_step, watched_step}
+use Rattle.mdcc_rules.specs.Node.{message_step, rule}
+use Rattle.mdcc_rules.specs.Steps.{NodeStep, StepPart, nothing_done}
+use Rattle.mdcc_rules.specs.SyncRules.{outcome_step, outcome_step_by, sync_give_step_by}
+use Rattle.mdcc_rules.specs.declared.node.Step.{Step}
+use Rattle.mdcc_rules.specs.declared.node.StepFault.{StepFault}
+use Rattle.mdcc_struct.specs.Maps.{value_of}
+use Rattle.mdcc_struct.specs.declared.options.Options.{Options}
+use Rattle.mdcc_struct.proofs.Walks.{drop-get}
+use Rattle.mdcc_switches.specs.Built.{Built}
+use Rattle.mdcc_node.proofs.Planned.{Ends, EndsIn}
+use Rattle.mdcc_node.proofs.Unvoted.{new_vote}
+
+-- ---- rules whose fact is all that they change
+
+-- what it adds may be added, and nothing is kept otherwise
+pub record AddsAlone (facts : List Fact) (volatile : Volatile) (step : NodeStep) : Type 0 where
+  pub ends : Ends volatile step.after step.fact
+  pub keeps : kept_by volatile step.after step.fact ≡ volatile
+  pub follows : MayFollow facts step.fact
+
+module _ (me : ℕ) (facts : List Fact) (volatile : Volatile) (s : ℕ) where
+  proposed-adds : (cluster : Cluster) (choice : Choice) (answer : ProposeAnswer) → on_propose cluster facts choice ≡ answer
+      → AddsAlone facts volatile (proposed_step me volatile s choice answer)
+  proposed-adds cluster choice (ProposeAnswer.Known outcome) e = record { ends = tt; keeps = refl; follows = tt }
+  proposed-adds cluster choice (ProposeAnswer.Again ballot mark) e = record { ends = tt; keeps = refl; follows = tt }
+  proposed-adds cluster choice (ProposeAnswer.Escalate cause) e = record { ends = tt; keeps = refl; follows = tt }
+  proposed-adds cluster choice (ProposeAnswer.Vote mark) e = record { ends = refl; keeps = refl; follows = (new_vote cluster facts choice mark e, refl) }
+
+  pub propose-adds : (cluster : Cluster) (choice : Choice) → AddsAlone facts volatile (propose_step cluster me facts volatile s choice)
+  propose-adds cluster choice = proposed-adds cluster choice (on_propose cluster facts choice) refl
+
+  promised-adds : (key : Key) (version new : ℕ) (ballot : Ballot) (before : Option ℕ) → promised_through facts key version ballot ≡ before
+      → AddsAlone facts volatile (prepared_step me facts volatile s key version ballot (promise_answer before new))
+  promised-adds key version new ballot (Some high) e = record { ends = tt; keeps = refl; follows = tt }
+  promised-adds key version new ballot None e =
+      record { ends = refl; keeps = refl; follows = (record { promised = rw e refl; voted = refl; heard = refl }, refl) }
+
+  prepared-adds : (key : Key) (version through : ℕ) (ballot promise : Ballot) (low : Bool)
+      → AddsAlone facts volatile (prepared_step me facts volatile s key version ballot
+      (if low then PrepareAnswer.Refused promise else promise_answer (promised_through facts key version ballot) (range_end facts key version through)))
+  prepared-adds key version through ballot promise true = record { ends = tt; keeps = refl; follows = tt }
+  prepared-adds key version through ballot promise false = promised-adds key version (range_end facts key version through) ballot (promised_through facts key version ballot) refl
+
+  pub prepare-adds : (key : Key) (version through : ℕ) (ballot : Ballot) → AddsAlone facts volatile (prepare_step me facts volatile s key version through ballot)
+  prepare-adds key version through ballot =
+      prepared-adds key version through ballot (promise_of facts key version) (ballot_lt ballot (promise_of facts key version))
+
+  -- none of the new marks was voted
+  none-by : (votes es : Options) (e : TxId × Mark) (voted : Bool) → is_some (value_of votes e.0) ≡ voted
+      → list_any (λ e. is_some (value_of votes e.0)) (filter (λ e. not (is_some (value_of votes e.0))) es) ≡ false
+      → list_any (λ e. is_some (value_of votes e.0)) (filter (λ e. not (is_some (value_of votes e.0))) (e ∷ es)) ≡ false
+  none-by votes es e true h rest = rw h rest
+  none-by votes es e false h rest = rw (h, h) rest
+
+  none-voted : (votes options : Options) → list_any (λ e. is_some (value_of votes e.0)) (filter (λ e. not (is_some (value_of votes e.0))) options) ≡ false
+  none-voted votes [] = refl
+  none-voted votes (e ∷ es) = none-by votes es e (is_some (value_of votes e.0)) refl (none-voted votes es)
+
+  accepted-adds : (key : Key) (version : ℕ) (ballot : Ballot) (options : Options) (answer : AcceptAnswer)
+      → AddsAlone facts volatile (accepted_step me facts volatile s key version ballot options answer)
+  accepted-adds key version ballot options (AcceptAnswer.Refused promise) = record { ends = tt; keeps = refl; follows = tt }
+  accepted-adds key version ballot options (AcceptAnswer.Behind current) = record { ends = tt; keeps = refl; follows = tt }
+  accepted-adds key version ballot options AcceptAnswer.Older = record { ends = tt; keeps = refl; follows = tt }
+  accepted-adds key version ballot options AcceptAnswer.Vote = record {
+    ends = refl;
+    keeps = refl;
+    follows = (record { promised = refl; voted = none-voted (votes_of facts key version ballot) options; heard = refl }, refl);
+  }
+
+  pub accept-adds : (key : Key) (version : ℕ) (ballot : Ballot) (options : Options) → AddsAlone facts volatile (accept_step me facts volatile s key version ballot options)
+  accept-adds key version ballot options = accepted-adds key version ballot options (on_accept facts key version ballot options)
+
+module _ (facts : List Fact) (volatile : Volatile) (tx : TxId) (outcome : Outcome) where
+  pub heard-follows : is_heard facts tx ≡ false → MayFollow facts (Some (Fact.Heard tx outcome))
+  heard-follows e = (record { promised = refl; voted = refl; heard = e }, refl)
+
+  outcome-by : (heard : Bool) → is_heard facts tx ≡ heard
+      → AddsAlone facts volatile (outcome_step_by volatile tx (if heard then None else Some (Fact.Heard tx outcome)))
+  outcome-by true e = record { ends = tt; keeps = refl; follows = tt }
+  outcome-by false e = record { ends = refl; keeps = refl; follows = heard-follows e }
+
+  pub outcome-adds : AddsAlone facts volatile (outcome_step facts volatile tx outcome)
+  outcome-adds = outcome-by (is_heard facts tx) refl
+
+-- ---- all rules
+
+module _ (volatile : Volatile) where
+  ends-rule : (is_built : Bool) (step : Result NodeStep StepFault) → EndsIn volatile step → EndsIn volatile (rule is_built volatile step)
+  ends-rule true step h = h
+  ends-rule false step h = tt
+
+  ends-led : (part : Result StepPart LeadFault) → EndsIn volatile (step_of_led part)
+  ends-led (Ok part) = tt
+  ends-led (Err fault) = tt
+
+  ends-lead : (cluster : Cluster) (me : ℕ) (facts : List Fact) (s : ℕ) (choice : Choice) (heard : Option Outcome)
+      → EndsIn volatile (lead_step_after cluster me facts volatile s choice heard)
+  ends-lead cluster me facts s choice (Some outcome) = tt
+  ends-lead cluster me facts s choice None = ends-led (led_of cluster me facts volatile (claim_of_choice choice))
+
+  ends-act : (me : ℕ) (facts : List Fact) (acted : Option ManagerAct × Managing) → EndsIn volatile (Ok (acted_step me facts volatile acted))
+  ends-act me facts (act, manager) = tt
+
+  ends-undecided : (escalates : Bool) (me : ℕ) (facts : List Fact) (acted : Option ManagerAct × Managing) (step : NodeStep) → EndsIn volatile (Ok step)
+      → EndsIn volatile (Ok (if escalates then acted_step me facts volatile acted else step))
+  ends-undecided true me facts acted step h = ends-act me facts acted
+  ends-undecided false me facts acted step h = h
+
+  ends-opened : (built : Built) (cluster : Cluster) (me : ℕ) (facts : List Fact) (vote : Vote) (decided : Option Outcome)
+      → EndsIn volatile (Ok (opened_step built cluster me facts volatile vote decided))
+  ends-opened built cluster me facts vote (Some outcome) = refl
+  ends-opened built cluster me facts vote None =
+      ends-undecided built.escalations me facts (Manager.on_voted cluster.quorums volatile.manager vote) _ tt
+
+  ends-watched : (cluster : Cluster) (me : ℕ) (facts : List Fact) (vote : Vote) (decided : Option (TxId × Outcome))
+      → EndsIn volatile (Ok (watched_step cluster me facts volatile vote decided))
+  ends-watched cluster me facts vote (Some decided) = refl
+  ends-watched cluster me facts vote None = tt
+
+  ends-either : (heard opened : Bool) (a b c : NodeStep) → EndsIn volatile (Ok a) → EndsIn volatile (Ok b) → EndsIn volatile (Ok c)
+      → EndsIn volatile (Ok (if heard then a else (if opened then b else c)))
+  ends-either true opened a b c x y z = x
+  ends-either false true a b c x y z = y
+  ends-either false false a b c x y z = z
+
+  ends-voted : (built : Built) (cluster : Cluster) (me : ℕ) (facts : List Fact) (vote : Vote)
+      → EndsIn volatile (Ok (voted_step built cluster me facts volatile vote))
+  ends-voted built cluster me facts vote =
+      ends-either (is_heard facts vote.tx) (is_open volatile.manager vote.tx) _ _ _ tt
+      (ends-opened built cluster me facts vote (Manager.would_decide cluster.quorums volatile.manager vote))
+      (ends-watched cluster me facts vote (Recover.would_decide cluster.quorums facts volatile.recovery vote))
+
+  ends-ask : (me s : ℕ) (tx : TxId) (key : Key) (version : ℕ) (heard : Option Outcome) (vote : Option (Ballot × Mark))
+      → EndsIn volatile (Ok (ask_step_by me volatile s tx key version heard vote))
+  ends-ask me s tx key version (Some outcome) vote = tt
+  ends-ask me s tx key version None (Some vote) = tt
+  ends-ask me s tx key version None None = tt
+
+  ends-give : (give : Give) (news : Bool)
+      → EndsIn volatile (Ok (sync_give_step_by volatile (if news then Some (Fact.Adopted give.key give.version give.item give.adds) else None)))
+  ends-give give true = refl
+  ends-give give false = tt
+
+  pub ends : (built : Built) (cluster : Cluster) (me : ℕ) (facts : List Fact) (s : ℕ) (message : Message)
+      → EndsIn volatile (message_step built cluster me facts volatile s message)
+  ends built cluster me facts s (Message.Propose choice) = ends-rule built.proposals _ (propose-adds me facts volatile s cluster choice).ends
+  ends built cluster me facts s (Message.Voted key version ballot tx mark) =
+      ends-rule built.proposals _ (ends-voted built cluster me facts (record { from = s; key = key; version = version; ballot = ballot; tx = tx; mark = mark }))
+  ends built cluster me facts s (Message.Escalate key version tx cause) =
+      ends-rule built.escalations _ (ends-act me facts (Manager.on_escalate cluster.quorums volatile.manager s tx key cause))
+  ends built cluster me facts s (Message.Lead choice) = ends-rule built.leading _ (ends-lead cluster me facts s choice (heard_of facts choice.tx))
+  ends built cluster me facts s (Message.Prepare key version through ballot) =
+      ends-rule built.leading _ (prepare-adds me facts volatile s key version through ballot).ends
+  ends built cluster me facts s (Message.Promise key version through ballot reported votes) =
+      let promise : Promise = record { key = key; version = version; through = through; ballot = ballot; reported = reported; votes = votes } in
+      ends-rule built.leading _ (ends-led (promised_by_answer cluster.quorums me volatile key (on_promise cluster facts volatile.leader s promise)))
+  ends built cluster me facts s (Message.Accept key version ballot options) =
+      ends-rule built.leading _ (accept-adds me facts volatile s key version ballot options).ends
+  ends built cluster me facts s (Message.Refused key version ballot promised) = ends-rule built.leading _ tt
+  ends built cluster me facts s (Message.Outcome tx outcome) = ends-rule built.proposals _ (outcome-adds facts volatile tx outcome).ends
+  ends built cluster me facts s (Message.Ask tx key version) =
+      ends-rule built.recovery _ (ends-ask me s tx key version (heard_of facts tx) (vote_of facts key version tx))
+  ends built cluster me facts s (Message.SyncAsk key) = ends-rule built.catching_up _ tt
+  ends built cluster me facts s (Message.SyncGive key version item adds) =
+      ends-rule built.catching_up _ (ends-give (record { key = key; version = version; item = item; adds = adds }) (is_news facts key version adds))
+  ends built cluster me facts s (Message.ClientRead serial key) = tt
+  ends built cluster me facts s (Message.ClientBegin serial parts) = tt
+  ends built cluster me facts s (Message.ClientAnswer serial answer) = tt
+
+-- ---- votes on what is not open
+
+unwatched : (cluster : Cluster) (me : ℕ) (facts : List Fact) (volatile : Volatile) (vote : Vote) → volatile.recovery ≡ nothing_kept.recovery
+    → watched_step cluster me facts volatile vote (Recover.would_decide cluster.quorums facts volatile.recovery vote) ≡ nothing_done volatile
+unwatched cluster me facts volatile vote e =
+    subst (λ r. watched_step cluster me facts (record volatile { recovery = r }) vote (Recover.would_decide cluster.quorums facts r vote) ≡ nothing_done (record volatile { recovery = r }))
+    (sym e) refl
+
+closed-by : (heard : Bool) (nothing opened watched : NodeStep) → watched ≡ nothing
+    → (if heard then nothing else (if false then opened else watched)) ≡ nothing
+closed-by true nothing opened watched e = refl
+closed-by false nothing opened watched e = e
+
+-- a vote on a transaction that is neither open nor watched changes nothing
+pub voted-closed : (built : Built) (cluster : Cluster) (me : ℕ) (facts : List Fact) (volatile : Volatile) (vote : Vote)
+    → volatile.recovery ≡ nothing_kept.recovery → is_open volatile.manager vote.tx ≡ false
+    → voted_step built cluster me facts volatile vote ≡ nothing_done volatile
+voted-closed built cluster me facts volatile vote e closed =
+    rw closed (closed-by (is_heard facts vote.tx) (nothing_done volatile) (nothing_done volatile)
+    (watched_step cluster me facts volatile vote (Recover.would_decide cluster.quorums facts volatile.recovery vote)) (unwatched cluster me facts volatile vote e))
+
+pub voted-heard : (built : Built) (cluster : Cluster) (me : ℕ) (facts : List Fact) (volatile : Volatile) (vote : Vote)
+    → is_heard facts vote.tx ≡ true → voted_step built cluster me facts volatile vote ≡ nothing_done volatile
+voted-heard built cluster me facts volatile vote heard = rw heard refl
+
+-- ---- what a plan adds
+
+pub follows-planned : (facts : List Fact) (result : Result (Unit {0}) Memory) (plan : Step) (step : NodeStep) → OnOk result (plan ≡ planned step)
+    → MayFollow facts step.fact → OnOk result (MayFollow facts plan.fact)
+follows-planned facts (Ok done) plan step e h = rw e h
+follows-planned facts (Err fault) plan step e h = tt
+
+-- ---- votes, one after the other
+
+next-by : (sends rest sent whole : List Envelope) (heard : Bool) → sends ++ (if heard then rest else sent ++ rest) ≡ whole
+    → (sends ++ (if heard then [] else sent)) ++ rest ≡ whole
+next-by sends rest sent whole true e = rw (append-nil sends) e
+next-by sends rest sent whole false e = rw append_assoc e
+
+kept-by : (me : ℕ) (facts : List Fact) (key : Key) (version : ℕ) (ballot : Ballot) (e : TxId × Mark) (es : Options) (heard : Bool) → is_heard facts e.0 ≡ heard
+    → all_votes_sent me facts key version ballot (e ∷ es)
+    ≡ (if heard then all_votes_sent me facts key version ballot es else votes_sent me key version ballot e ++ all_votes_sent me facts key version ballot es)
+kept-by me facts key version ballot e es true h = rw h refl
+kept-by me facts key version ballot e es false h = rw h refl
+
+pub next-votes : (me : ℕ) (facts : List Fact) (key : Key) (version : ℕ) (ballot : Ballot) (marks : Options) (i : ℕ) (e : TxId × Mark) (sends whole : List Envelope)
+    → slice_get marks i ≡ Some e → sends ++ all_votes_sent me facts key version ballot (drop i marks) ≡ whole
+    → (sends ++ unheard_sent me facts key version ballot e) ++ all_votes_sent me facts key version ballot (drop (i + 1) marks) ≡ whole
+next-votes me facts key version ballot marks i e sends whole at h =
+    let here : sends ++ all_votes_sent me facts key version ballot (e ∷ drop (i + 1) marks) ≡ whole = rw (drop-get marks i e at) at h in
+    next-by sends (all_votes_sent me facts key version ballot (drop (i + 1) marks)) (votes_sent me key version ballot e) whole (is_heard facts e.0)
+    (rw (kept-by me facts key version ballot e (drop (i + 1) marks) (is_heard facts e.0) refl) at here)
+
+-- ---- acts at a tick, one after the other
+
+pub fold-next : {A B : Type 0} (f : B → A → B) (xs : List A) (i : ℕ) (x : A) (b whole : B) → i < length xs → x ≡ get_or xs i x
+    → fold f b (drop i xs) ≡ whole → fold f (f b x) (drop (i + 1) xs) ≡ whole
+fold-next f xs i x b whole within is h =
+    let here : slice_get xs i ≡ Some x = rw (slice_get-get_or xs i x within, ← is) refl in
+    rw (drop-get xs i x here) at h

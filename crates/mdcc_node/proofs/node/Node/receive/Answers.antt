@@ -1,0 +1,42 @@
+use Rattle.std.proofs.Common.{◌≡◌, ℕ, List, refl, subst}
+use Rattle.mdcc_base.specs.Unless.{GivesUnless}
+use Rattle.mdcc_built.specs.Built.{built}
+use Rattle.mdcc_messages.specs.declared.facts.Fact.{Fact}
+use Rattle.mdcc_node.proofs.Ending.{ends}
+use Rattle.mdcc_node.proofs.Planned.{fault-given, fault-left, memory-left, plan-given, plan-left}
+use Rattle.mdcc_node.proofs.Standing.{memory_always}
+use Rattle.mdcc_node.specs.Planning.{kept, written}
+use Rattle.mdcc_node.specs.Stands.{Stands}
+use Rattle.mdcc_node.specs.Stepping.{is_memory, room_of, step_taken}
+use Rattle.mdcc_option.specs.declared.cluster.Cluster.{Cluster}
+use Rattle.mdcc_protocol.specs.Volatile.{Volatile}
+use Rattle.mdcc_rules.specs.Node.{message_step}
+use Rattle.mdcc_node.proofs.node.Node.receive.Goals as goal
+
+pub returns : goal.returns
+returns g c =
+    let stands = g.S.FactStore.stands in
+    let room = room_of g.S.FactStore.room g.S.FactStore.cells_for c.args.self.now.store in
+    let mid = c.take.new.self in
+    let plan = c.take.new.step in
+    let same : mid.store ≡ c.args.self.now.store = c.in_ok-take.ensures.plan.store in
+    let given : (facts : List Fact) → stands c.args.self.now.store facts
+    → GivesUnless is_memory (written c.add_planned.result c.add_planned.new.step) (step_taken room facts plan plan.fact) =
+    λ facts store. subst (λ (held : g.row.S.Denot). GivesUnless is_memory (written c.add_planned.result c.add_planned.new.step) (step_taken (room_of g.S.FactStore.room g.S.FactStore.cells_for held) facts plan plan.fact)) same
+    (c.add_planned.ensures.answer facts (rw same store)) in
+    record {
+      answer = λ cluster me facts volatile known.
+          rw (plan-given room facts plan (message_step built cluster me facts volatile c.args.from c.args.message.now) (c.in_ok-take.ensures.plan.answer cluster me facts volatile known))
+          (given facts known.store);
+      left = λ cluster me facts volatile known.
+          let expected = message_step built cluster me facts volatile c.args.from c.args.message.now in
+          let now = c.in_ok-take.ensures.plan.left cluster me facts volatile known in
+          plan-left stands c.add_planned.new.self cluster me facts volatile room plan expected c.add_planned.result c.add_planned.new.step
+          (c.in_ok-take.ensures.plan.answer cluster me facts volatile known)
+          (ends volatile built cluster me facts c.args.from c.args.message.now)
+          (given facts known.store)
+          (c.add_planned.ensures.ok cluster me facts (kept volatile expected) now)
+          (c.add_planned.ensures.err cluster me facts (kept volatile expected) now);
+      memory = λ facts store.
+          memory-left c.add_planned.result c.add_planned.new.step (stands c.add_planned.new.self.store facts) (c.add_planned.ensures.left facts (rw same store));
+    }

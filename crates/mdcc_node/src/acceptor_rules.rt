@@ -1,0 +1,281 @@
+//! The node's rules around its acceptor: proposals, promises and votes on structures.
+ghost use Rattle.std.specs.Prelude.{◌≡◌, ◌++◌, [], IfOk, List, OnOk, if◌then◌else◌};
+ghost use Rattle.mdcc_base.specs.Ballot.{is_fast};
+ghost use Rattle.mdcc_messages.specs.declared.facts.Fact.{Fact as AFact};
+ghost use Rattle.mdcc_messages.specs.declared.messages.Message.{Message as AMessage};
+ghost use Rattle.mdcc_node.specs.Planning.{MayFollow, blank, planned};
+ghost use Rattle.mdcc_protocol.specs.Acceptor.{new_marks};
+ghost use Rattle.mdcc_protocol.specs.Facts.{votes_of};
+ghost use Rattle.mdcc_protocol.specs.Volatile.{Volatile as AVolatile};
+ghost use Rattle.mdcc_protocol.specs.declared.acceptor.ProposeAnswer.{ProposeAnswer as AProposeAnswer};
+ghost use Rattle.mdcc_rules.specs.AcceptorRules.{accept_step, accepted_step, prepare_step, prepared_step, promise_message, propose_step, proposed_step, voted_marks_step};
+ghost use Rattle.mdcc_rules.specs.Messages.{to_one};
+
+use crate::node::Node;
+use crate::sends::send;
+use crate::steps::{vote_fact, voted_message};
+use crate::votes::{new_marks, send_votes};
+use mdcc_acceptor::{on_accept, on_prepare, on_propose};
+use mdcc_base::{Ballot, HeapList, Key, Memory, Plain};
+use mdcc_facts::FactStore;
+use mdcc_messages::{Envelope, Fact, Message};
+use mdcc_option::{Choice, Mark};
+use mdcc_protocol::{AcceptAnswer, PrepareAnswer, ProposeAnswer};
+use mdcc_rules::Step;
+use mdcc_struct::Options;
+
+impl<S: FactStore + Drop> Node<S> {
+    // ---- proposals
+
+    // A vote at the fast ballot.
+    fn vote(&self, from: u8, choice: &Choice, mark: Mark, step: &mut Step) -> Result<(), Memory>
+        requires { step.old ≡ blank }
+        ensures { (volatile : AVolatile) → OnOk result (step.new ≡ planned (proposed_step self.now.centre volatile from choice.now (AProposeAnswer.Vote mark))) }
+    {
+        let message = voted_message(choice, Ballot::FAST, mark.copy());
+        send(self.centre.number(), from, message, &mut step.sends)?;
+        step.fact = Some(vote_fact(self.alloc, choice, mark)?);
+        Ok(())
+    }
+
+    // What the acceptor's answer to a choice adds and sends.
+    fn proposed(
+        &self,
+        from: u8,
+        choice: &Choice,
+        acceptor: ProposeAnswer,
+        step: &mut Step,
+    ) -> Result<(), Memory>
+        requires { step.old ≡ blank }
+        ensures { (volatile : AVolatile) → OnOk result (step.new ≡ planned (proposed_step self.now.centre volatile from choice.now acceptor)) }
+    {
+        let tx = choice.tx;
+        let message = match acceptor {
+            ProposeAnswer::Known(outcome) => Message::Outcome { tx, outcome },
+            ProposeAnswer::Again(ballot, mark) => voted_message(choice, ballot, mark),
+            ProposeAnswer::Escalate(cause) => Message::Escalate {
+                key: choice.key,
+                version: choice.version,
+                tx,
+                cause,
+            },
+            ProposeAnswer::Vote(mark) => return self.vote(from, choice, mark, step),
+        };
+        send(self.centre.number(), from, message, &mut step.sends)
+    }
+
+    // A choice was proposed.
+    pub(crate) fn propose(&self, from: u8, choice: &Choice, step: &mut Step) -> Result<(), Memory>
+        requires { step.old ≡ blank }
+        ensures plan { (facts : List AFact) (volatile : AVolatile) → S.stands self.now.store facts
+            → OnOk result (step.new ≡ planned (propose_step self.now.cluster self.now.centre facts volatile from choice.now)) }
+        ensures fact { (facts : List AFact) → S.stands self.now.store facts → OnOk result (MayFollow facts step.new.fact) }
+    {
+        let acceptor = on_propose(&self.store, &self.cluster, choice);
+        self.proposed(from, choice, acceptor, step)
+    }
+
+    // ---- promises
+
+    // What a leader that asks below a ballot is told of the votes at another one.
+    fn votes_told(
+        &self,
+        key: &Key,
+        version: u64,
+        below: Ballot,
+        ballot: Ballot,
+    ) -> Result<Options, Memory>
+        ensures { (facts : List AFact) → S.stands self.now.store facts
+            → IfOk result (λ votes. votes ≡ (if is_fast below then [] else votes_of facts key.now version ballot)) }
+    {
+        if below.is(&Ballot::FAST) {
+            return Options::new(self.alloc);
+        }
+        self.store.votes(self.alloc, key, version, ballot)
+    }
+
+    // A promise to a leader, with what this centre voted in the instance below its ballot.
+    fn promise(
+        &self,
+        to: u8,
+        key: &Key,
+        version: u64,
+        high: u64,
+        ballot: Ballot,
+        sends: &mut HeapList<Envelope>,
+    ) -> Result<(), Memory>
+        ensures { (facts : List AFact) → S.stands self.now.store facts
+            → OnOk result (sends.new ≡ sends.old ++ to_one self.now.centre to (promise_message facts key.now version high ballot)) }
+    {
+        let reported = self.store.voted_below(key, version, ballot);
+        let votes = self.votes_told(key, version, ballot, reported)?;
+        let message = Message::Promise {
+            key: *key,
+            version,
+            through: high,
+            ballot,
+            reported,
+            votes,
+        };
+        send(self.centre.number(), to, message, sends)
+    }
+
+    // This centre promised another ballot than that of a leader, or voted at it.
+    fn refuse(
+        &self,
+        to: u8,
+        key: &Key,
+        version: u64,
+        ballot: Ballot,
+        promised: Ballot,
+        sends: &mut HeapList<Envelope>,
+    ) -> Result<(), Memory>
+        ensures { OnOk result (sends.new ≡ sends.old ++ to_one self.now.centre to (AMessage.Refused key.now version ballot promised)) }
+    {
+        let message = Message::Refused {
+            key: *key,
+            version,
+            ballot,
+            promised,
+        };
+        send(self.centre.number(), to, message, sends)
+    }
+
+    // What the acceptor's answer to a leader that asks for a promise adds and sends.
+    fn prepared(
+        &self,
+        to: u8,
+        key: &Key,
+        version: u64,
+        ballot: Ballot,
+        acceptor: PrepareAnswer,
+        step: &mut Step,
+    ) -> Result<(), Memory>
+        requires { step.old ≡ blank }
+        ensures { (facts : List AFact) (volatile : AVolatile) → S.stands self.now.store facts
+            → OnOk result (step.new ≡ planned (prepared_step self.now.centre facts volatile to key.now version ballot acceptor)) }
+    {
+        match acceptor {
+            PrepareAnswer::Refused(promised) => {
+                self.refuse(to, key, version, ballot, promised, &mut step.sends)
+            }
+            PrepareAnswer::Again(high) => {
+                self.promise(to, key, version, high, ballot, &mut step.sends)
+            }
+            PrepareAnswer::Promise(high) => {
+                self.promise(to, key, version, high, ballot, &mut step.sends)?;
+                step.fact = Some(Fact::Promised {
+                    key: *key,
+                    low: version,
+                    high,
+                    ballot,
+                });
+                Ok(())
+            }
+        }
+    }
+
+    // A leader asks for a promise.
+    pub(crate) fn prepare(
+        &self,
+        from: u8,
+        key: &Key,
+        version: u64,
+        through: u64,
+        ballot: Ballot,
+        step: &mut Step,
+    ) -> Result<(), Memory>
+        requires { step.old ≡ blank }
+        ensures plan { (facts : List AFact) (volatile : AVolatile) → S.stands self.now.store facts
+            → OnOk result (step.new ≡ planned (prepare_step self.now.centre facts volatile from key.now version through ballot)) }
+        ensures fact { (facts : List AFact) → S.stands self.now.store facts → OnOk result (MayFollow facts step.new.fact) }
+    {
+        let acceptor = on_prepare(&self.store, key, version, through, ballot);
+        self.prepared(from, key, version, ballot, acceptor, step)
+    }
+
+    // ---- structures
+
+    // A vote adds the marks that are new.
+    fn vote_marks(
+        &self,
+        key: &Key,
+        version: u64,
+        ballot: Ballot,
+        options: &Options,
+        step: &mut Step,
+    ) -> Result<(), Memory>
+        requires { step.old ≡ blank }
+        ensures { (facts : List AFact) (volatile : AVolatile) → S.stands self.now.store facts
+            → OnOk result (step.new ≡ planned (voted_marks_step self.now.centre facts volatile key.now version ballot (new_marks facts key.now version ballot options.now))) }
+    {
+        let votes = self.store.votes(self.alloc, key, version, ballot)?;
+        let marks = new_marks(self.alloc, &votes, options)?;
+        let centre = self.centre.number();
+        send_votes(
+            &self.store,
+            centre,
+            key,
+            version,
+            ballot,
+            &marks,
+            &mut step.sends,
+        )?;
+        step.fact = Some(Fact::Voted {
+            key: *key,
+            version,
+            ballot,
+            options: marks,
+            offered: None,
+        });
+        Ok(())
+    }
+
+    // What the acceptor's answer to a structure adds and sends.
+    fn accepted(
+        &self,
+        to: u8,
+        key: &Key,
+        version: u64,
+        ballot: Ballot,
+        options: &Options,
+        acceptor: AcceptAnswer,
+        step: &mut Step,
+    ) -> Result<(), Memory>
+        requires { step.old ≡ blank }
+        ensures { (facts : List AFact) (volatile : AVolatile) → S.stands self.now.store facts
+            → OnOk result (step.new ≡ planned (accepted_step self.now.centre facts volatile to key.now version ballot options.now acceptor)) }
+    {
+        let centre = self.centre.number();
+        match acceptor {
+            AcceptAnswer::Refused(promised) => {
+                self.refuse(to, key, version, ballot, promised, &mut step.sends)
+            }
+            AcceptAnswer::Behind(_) => { send(centre, to, Message::SyncAsk(*key), &mut step.sends) }
+            AcceptAnswer::Older => {
+                let sends = &mut step.sends;
+                send_votes(&self.store, centre, key, version, ballot, options, sends)
+            }
+            AcceptAnswer::Vote => self.vote_marks(key, version, ballot, options, step),
+        }
+    }
+
+    // A leader asks for votes on a structure.
+    pub(crate) fn accept(
+        &self,
+        from: u8,
+        key: &Key,
+        version: u64,
+        ballot: Ballot,
+        options: &Options,
+        step: &mut Step,
+    ) -> Result<(), Memory>
+        requires { step.old ≡ blank }
+        ensures plan { (facts : List AFact) (volatile : AVolatile) → S.stands self.now.store facts
+            → OnOk result (step.new ≡ planned (accept_step self.now.centre facts volatile from key.now version ballot options.now)) }
+        ensures fact { (facts : List AFact) → S.stands self.now.store facts → OnOk result (MayFollow facts step.new.fact) }
+    {
+        let acceptor = on_accept(&self.store, key, version, ballot, options);
+        self.accepted(from, key, version, ballot, options, acceptor, step)
+    }
+}

@@ -1,0 +1,136 @@
+//! The node's rules around its leader: claims, promises and refusals, and its part of a tick.
+ghost use Rattle.std.specs.Prelude.{◌≡◌, ◌≤◌, List, Ok, ℕ};
+ghost use Rattle.mdcc_built.specs.Built.{built};
+ghost use Rattle.mdcc_messages.specs.declared.facts.Fact.{Fact as AFact};
+ghost use Rattle.mdcc_node.specs.Planning.{Acts, left_out, written};
+ghost use Rattle.mdcc_node.specs.Stands.{Stands};
+ghost use Rattle.mdcc_option.specs.declared.cluster.Cluster.{Cluster as ACluster};
+ghost use Rattle.mdcc_protocol.specs.Volatile.{Volatile as AVolatile};
+ghost use Rattle.mdcc_rules.specs.LeaderRules.{lead_step, led_of, promise_step, refused_step, step_of_led};
+ghost use Rattle.mdcc_rules.specs.Steps.{step_of_part};
+ghost use Rattle.mdcc_rules.specs.TickRules.{claim_led, manager_act, tick_step};
+
+use crate::node::Node;
+use crate::sends::{propose, send, send_lead, send_promised};
+use crate::steps::claim_of;
+use mdcc_base::{Ballot, Centre, HeapList, Key};
+use mdcc_facts::FactStore;
+use mdcc_messages::{Envelope, Message};
+use mdcc_option::{Choice, Claim};
+use mdcc_protocol::{LeadFault, ManagerAct, Promise};
+use mdcc_rules::StepFault;
+
+impl<S: FactStore + Drop> Node<S> {
+    // A claim is led here.
+    fn lead_claim(&mut self, claim: &Claim, sends: &mut HeapList<Envelope>) -> Result<(), StepFault>
+        ensures { Acts S.stands self.old sends.old (written result sends.new) self.new (λ cluster me facts volatile. step_of_led (led_of cluster me facts volatile claim.now)) }
+    {
+        let answer = self.leader.lead(&self.store, &self.cluster, claim)?;
+        let (quorums, centre) = (&self.cluster.quorums, self.centre.number());
+        send_lead(self.alloc, quorums, centre, claim, &answer, sends)?;
+        Ok(())
+    }
+
+    // A manager asks for a mark.
+    pub(crate) fn lead(
+        &mut self,
+        from: u8,
+        choice: &Choice,
+        sends: &mut HeapList<Envelope>,
+    ) -> Result<(), StepFault>
+        ensures { Acts S.stands self.old sends.old (written result sends.new) self.new (λ cluster me facts volatile. lead_step cluster me facts volatile from choice.now) }
+    {
+        match self.store.heard(choice.tx) {
+            Some(outcome) => {
+                let message = Message::Outcome {
+                    tx: choice.tx,
+                    outcome,
+                };
+                send(self.centre.number(), from, message, sends)?;
+                Ok(())
+            }
+            None => self.lead_claim(&claim_of(choice), sends),
+        }
+    }
+
+    // A centre promised a ballot that is led here.
+    pub(crate) fn take_promise(
+        &mut self,
+        from: Centre,
+        promise: &Promise,
+        sends: &mut HeapList<Envelope>,
+    ) -> Result<(), StepFault>
+        requires { from ≤ self.old.cluster.quorums.centres }
+        ensures { Acts S.stands self.old sends.old (written result sends.new) self.new (λ cluster me facts volatile. promise_step cluster me facts volatile from promise.now) }
+    {
+        let (store, cluster) = (&self.store, &self.cluster);
+        let answer = self.leader.on_promise(store, cluster, from, promise)?;
+        let (quorums, centre) = (&self.cluster.quorums, self.centre.number());
+        send_promised(self.alloc, quorums, centre, &promise.key, &answer, sends)?;
+        Ok(())
+    }
+
+    // A centre promised another ballot than one that is led here.
+    pub(crate) fn take_refusal(&mut self, key: &Key, ballot: Ballot, promised: Ballot)
+        ensures left { (cluster : ACluster) (me : ℕ) (facts : List AFact) (volatile : AVolatile) → Stands S.stands self.old cluster me facts volatile
+            → Stands S.stands self.new cluster me facts (refused_step volatile key.now ballot promised).after }
+        ensures store { self.new.store ≡ self.old.store }
+    {
+        self.leader.on_refused(key, ballot, promised);
+    }
+
+    // ---- the tick
+
+    // A claim is led here; one that the leader refuses is left out.
+    fn lead_or_leave(
+        &mut self,
+        claim: &Claim,
+        sends: &mut HeapList<Envelope>,
+    ) -> Result<(), StepFault>
+        ensures { Acts S.stands self.old sends.old (written result sends.new) self.new (λ cluster me facts volatile. Ok (step_of_part (claim_led built cluster me facts volatile claim.now))) }
+    {
+        match self.leader.lead(&self.store, &self.cluster, claim) {
+            Ok(answer) => {
+                let (quorums, centre) = (&self.cluster.quorums, self.centre.number());
+                send_lead(self.alloc, quorums, centre, claim, &answer, sends)?;
+                Ok(())
+            }
+            Err(fault) => leave_out(fault),
+        }
+    }
+
+    // What the manager wants done at a tick.
+    fn act(&mut self, act: &ManagerAct, sends: &mut HeapList<Envelope>) -> Result<(), StepFault>
+        ensures { Acts S.stands self.old sends.old (written result sends.new) self.new (λ cluster me facts volatile. Ok (step_of_part (manager_act built cluster me facts volatile act.now))) }
+    {
+        match act {
+            ManagerAct::Propose(choice) => {
+                propose(&self.cluster.quorums, self.centre.number(), choice, sends)?;
+                Ok(())
+            }
+            ManagerAct::LeadHere(choice) => self.lead_or_leave(&claim_of(choice), sends),
+            _ => Ok(()),
+        }
+    }
+
+    // Time has passed. Each act sees the leader that those before it left.
+    pub(crate) fn tick(&mut self, sends: &mut HeapList<Envelope>) -> Result<(), StepFault>
+        ensures { Acts S.stands self.old sends.old (written result sends.new) self.new (λ cluster me facts volatile. Ok (tick_step built cluster me facts volatile)) }
+    {
+        let acts = self.manager.tick()?;
+        for act in &acts {
+            self.act(act, sends)?;
+        }
+        Ok(())
+    }
+}
+
+// A claim that is refused is left out, but for want of memory.
+fn leave_out(fault: LeadFault) -> Result<(), StepFault>
+    ensures { result ≡ left_out fault }
+{
+    match fault {
+        LeadFault::Memory => Err(StepFault::Memory),
+        _ => Ok(()),
+    }
+}

@@ -1,0 +1,206 @@
+//! The node's rules around its manager: begins, votes, and acceptors that give no vote.
+ghost use Rattle.std.specs.Prelude.{◌≡◌, ◌++◌, List, Ok, OnOk, false};
+ghost use Rattle.mdcc_base.specs.Unless.{GivesUnless};
+ghost use Rattle.mdcc_built.specs.Built.{built};
+ghost use Rattle.mdcc_messages.specs.WellFormedParts.{IsWellFormedCause};
+ghost use Rattle.mdcc_messages.specs.declared.facts.Fact.{Fact as AFact};
+ghost use Rattle.mdcc_node.specs.Doing.{Follows};
+ghost use Rattle.mdcc_node.specs.Planning.{Acts, MayFollow, Plans, blank, planned, written};
+ghost use Rattle.mdcc_node.specs.Stepping.{is_memory};
+ghost use Rattle.mdcc_node.specs.Telling.{refused_given, replied};
+ghost use Rattle.mdcc_option.specs.Transaction.{choices_of};
+ghost use Rattle.mdcc_protocol.specs.Facts.{is_heard};
+ghost use Rattle.mdcc_protocol.specs.Manager.{key_refused as key_refused_of, would_decide};
+ghost use Rattle.mdcc_protocol.specs.Volatile.{Volatile as AVolatile};
+ghost use Rattle.mdcc_rules.specs.ManagerRules.{act_sent, begin_step, decided_step, escalate_step, opened_step, proposals_sent, undecided_step, voted_step};
+ghost use Rattle.mdcc_rules.specs.SyncRules.{give_sent, outcome_step};
+ghost use Rattle.mdcc_rules.specs.declared.node.Answer.{Answer as AnAnswer};
+
+use crate::node::Node;
+use crate::sends::{propose_each, send, tell_others};
+use mdcc_base::{Centre, HeapList, Key, Memory, Plain, TxId};
+use mdcc_facts::FactStore;
+use mdcc_manager::key_refused;
+use mdcc_messages::{Envelope, Fact, Message};
+use mdcc_option::{BeginFault, Cause, Outcome, Transaction};
+use mdcc_protocol::{ManagerAct, Vote};
+use mdcc_rules::{Answer, Step, StepFault};
+use mdcc_visible::{on_outcome, on_sync_ask};
+
+impl<S: FactStore + Drop> Node<S> {
+    // ---- begins
+
+    // The transaction was begun.
+    fn begun(&self, tx: TxId, transaction: &Transaction, step: &mut Step) -> Result<(), StepFault>
+        requires { step.old ≡ blank }
+        ensures { GivesUnless is_memory (written result step.new)
+            (Ok (replied (proposals_sent self.now.cluster.quorums self.now.centre (choices_of tx transaction.now)) (AnAnswer.Begun tx))) }
+    {
+        let choices = transaction.choices(tx);
+        let (quorums, centre) = (&self.cluster.quorums, self.centre.number());
+        propose_each(quorums, centre, choices.as_slice(), &mut step.sends)?;
+        step.answer = Some(Answer::Begun(tx));
+        Ok(())
+    }
+
+    // No transaction was begun.
+    fn refused(
+        &self,
+        transaction: &Transaction,
+        fault: BeginFault,
+        step: &mut Step,
+    ) -> Result<(), StepFault>
+        requires { step.old ≡ blank }
+        ensures { (facts : List AFact) → S.stands self.now.store facts
+            → written result step.new ≡ refused_given (key_refused_of facts transaction.now) fault }
+    {
+        match fault {
+            BeginFault::Memory => Err(StepFault::Memory),
+            fault => {
+                let key = key_refused(&self.store, transaction);
+                step.answer = Some(Answer::Refused(key, fault));
+                Ok(())
+            }
+        }
+    }
+
+    // A client begins a transaction.
+    pub(crate) fn begin(
+        &mut self,
+        transaction: &Transaction,
+        step: &mut Step,
+    ) -> Result<(), StepFault>
+        requires { step.old ≡ blank }
+        ensures { Follows S.stands self.old (written result step.new) self.new (λ cluster me facts volatile. Ok (begin_step cluster me facts volatile transaction.now)) }
+    {
+        match self.manager.begin(&self.store, transaction) {
+            Ok(tx) => self.begun(tx, transaction, step),
+            Err(fault) => self.refused(transaction, fault, step),
+        }
+    }
+
+    // ---- acts
+
+    // What this node holds of a key goes to a centre.
+    fn give(&self, to: u8, key: &Key, sends: &mut HeapList<Envelope>) -> Result<(), Memory>
+        ensures { (facts : List AFact) → S.stands self.now.store facts
+            → OnOk result (sends.new ≡ sends.old ++ give_sent self.now.centre facts to key.now) }
+    {
+        match on_sync_ask(self.alloc, &self.store, key)? {
+            Some(give) => {
+                let message = Message::SyncGive {
+                    key: give.key,
+                    version: give.version,
+                    item: give.item,
+                    adds: give.adds,
+                };
+                send(self.centre.number(), to, message, sends)
+            }
+            None => Ok(()),
+        }
+    }
+
+    // What an act of the manager sends.
+    fn send_act(
+        &self,
+        act: &Option<ManagerAct>,
+        sends: &mut HeapList<Envelope>,
+    ) -> Result<(), Memory>
+        ensures { (facts : List AFact) → S.stands self.now.store facts
+            → OnOk result (sends.new ≡ sends.old ++ act_sent self.now.centre facts act.now) }
+    {
+        match act {
+            Some(ManagerAct::Lead(leader, choice)) => {
+                let message = Message::Lead(choice.copy());
+                send(self.centre.number(), leader.number(), message, sends)
+            }
+            Some(ManagerAct::Give(centre, key)) => self.give(centre.number(), key, sends),
+            _ => Ok(()),
+        }
+    }
+
+    // ---- votes
+
+    // A transaction that was not heard is decided here.
+    fn decide(&self, tx: TxId, outcome: Outcome, step: &mut Step) -> Result<(), Memory>
+        requires { step.old ≡ blank }
+        ensures { (volatile : AVolatile) → OnOk result (step.new ≡ planned (decided_step self.now.cluster self.now.centre volatile tx outcome)) }
+    {
+        let (quorums, centre) = (&self.cluster.quorums, self.centre.number());
+        tell_others(quorums, centre, tx, &outcome, &mut step.sends)?;
+        step.fact = Some(Fact::Heard { tx, outcome });
+        Ok(())
+    }
+
+    // A vote on an open transaction that decides nothing.
+    fn undecided(&mut self, vote: &Vote, sends: &mut HeapList<Envelope>) -> Result<(), StepFault>
+        ensures { Acts S.stands self.old sends.old (written result sends.new) self.new (λ cluster me facts volatile. Ok (undecided_step built cluster me facts volatile vote.now)) }
+    {
+        let act = self.manager.on_voted(&self.cluster, vote)?;
+        self.send_act(&act, sends)?;
+        Ok(())
+    }
+
+    // A vote on an open transaction that was not heard. One that decides is not taken, since its
+    // transaction is closed.
+    fn opened(&mut self, vote: &Vote, step: &mut Step) -> Result<(), StepFault>
+        requires blank { step.old ≡ blank }
+        requires unheard { (facts : List AFact) → S.stands self.old.store facts → is_heard facts vote.now.tx ≡ false }
+        ensures plan { Plans S.stands self.old (written result step.new) self.new (λ cluster me facts volatile. Ok (opened_step built cluster me facts volatile vote.now (would_decide cluster.quorums volatile.manager vote.now))) }
+        ensures fact { (facts : List AFact) → S.stands self.old.store facts → OnOk result (MayFollow facts step.new.fact) }
+    {
+        match self.manager.would_decide(&self.cluster, vote) {
+            Some(outcome) => {
+                self.decide(vote.tx, outcome, step)?;
+                Ok(())
+            }
+            None => self.undecided(vote, &mut step.sends),
+        }
+    }
+
+    // A vote came. One on a transaction that is not open here changes nothing.
+    pub(crate) fn voted(&mut self, vote: &Vote, step: &mut Step) -> Result<(), StepFault>
+        requires { step.old ≡ blank }
+        ensures plan { Plans S.stands self.old (written result step.new) self.new (λ cluster me facts volatile. Ok (voted_step built cluster me facts volatile vote.now)) }
+        ensures fact { (facts : List AFact) → S.stands self.old.store facts → OnOk result (MayFollow facts step.new.fact) }
+    {
+        if self.store.is_heard(vote.tx) {
+            return Ok(());
+        }
+        if !self.manager.is_open(vote.tx) {
+            return Ok(());
+        }
+        self.opened(vote, step)
+    }
+
+    // A centre gives no vote.
+    pub(crate) fn escalate(
+        &mut self,
+        from: Centre,
+        key: &Key,
+        tx: TxId,
+        cause: Cause,
+        sends: &mut HeapList<Envelope>,
+    ) -> Result<(), StepFault>
+        requires { IsWellFormedCause cause }
+        ensures { Acts S.stands self.old sends.old (written result sends.new) self.new (λ cluster me facts volatile. Ok (escalate_step cluster me facts volatile from key.now tx cause)) }
+    {
+        let act = self
+            .manager
+            .on_escalate(&self.cluster, from, tx, key, cause);
+        self.send_act(&act, sends)?;
+        Ok(())
+    }
+
+    // ---- outcomes
+
+    // The outcome of a transaction came.
+    pub(crate) fn hear(&self, tx: TxId, outcome: &Outcome, step: &mut Step)
+        requires { step.old ≡ blank }
+        ensures plan { (facts : List AFact) (volatile : AVolatile) → S.stands self.now.store facts
+            → step.new ≡ planned (outcome_step facts volatile tx outcome.now) }
+        ensures fact { (facts : List AFact) → S.stands self.now.store facts → MayFollow facts step.new.fact }
+    {
+        step.fact = on_outcome(&self.store, tx, outcome);
+    }
+}
