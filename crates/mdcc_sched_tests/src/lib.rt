@@ -3,6 +3,8 @@
 #![tactic(auto)]
 
 #[cfg(test)]
+mod adds;
+#[cfg(test)]
 mod reports;
 #[cfg(test)]
 mod schedule_headers;

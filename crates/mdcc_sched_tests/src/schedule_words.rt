@@ -21,7 +21,7 @@ pub(crate) fn five_centres(rt: &impl Abort) -> Cluster {
     }
 }
 
-fn check(rt: &impl Abort, alloc: Global, rows: &[Row]) {
+pub(crate) fn check(rt: &impl Abort, alloc: Global, rows: &[Row]) {
     let cluster = five_centres(rt);
     for (line, column, cause) in rows {
         let expected = SchedFault {
@@ -195,7 +195,6 @@ fn beginnings(rt: HostRuntime) {
             ("begin 1 foo:1\n", 9, Word),
             ("begin 1 :\n", 9, Word),
             ("begin 1 New:a:-:1\n", 9, Word),
-            ("begin 1 add:1:1=2\n", 9, Word),
             ("begin 1 set\n", 12, Word),
             ("begin 1 set:0:-:1\n", 13, Range),
             ("begin 1 set:4294967296:-:1\n", 13, Range),

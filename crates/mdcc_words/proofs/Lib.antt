@@ -1,3 +1,4 @@
+pub mod AmountParts
 pub mod HexBodies
 pub mod Numerals
 pub mod Onto

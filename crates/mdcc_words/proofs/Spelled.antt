@@ -16,9 +16,9 @@ use Rattle.mdcc_language.specs.declared.events.UpdateWord.TheVariants.{New, Set,
 use Rattle.mdcc_language.specs.declared.schedule.SchedFault.{SchedFault}
 use Rattle.mdcc_language.specs.declared.schedule.SchedCause.TheVariants.{Word, Number, Key, Range}
 use Rattle.mdcc_language.specs.Report.{byte_text, body_text, values_text}
-use Rattle.mdcc_language.specs.Updates.{item_of, new_of, set_of, keep_of, is_named, update_of}
+use Rattle.mdcc_language.specs.Updates.{amount_of, amounts_from, amounts_of, add_of, item_of, new_of, set_of, keep_of, is_named, update_of}
 use Rattle.mdcc_language.specs.Words.{refused, text_eq, part_at, part_end, parts_from, behind, end_at, are_plain_digits, is_negative, within, number_of, natural_of, count_of, value_of, is_key, key_of, hex_digit_of, hex_byte_by, onto_bytes, hex_bytes_of, body_by, body_of, values_from, values_of}
-use Rattle.mdcc_words.specs.Spelled.{item_text, update_text}
+use Rattle.mdcc_words.specs.Spelled.{amount_text, item_text, update_text}
 use Rattle.mdcc_built.specs.Built.{built}
 use Rattle.mdcc_words.proofs.Numerals.{model, plain_digits, plain_numeral, no_sign}
 use Rattle.mdcc_words.proofs.Seams.{bind_ok, guard_ok, part_seam, front_seam, behind_ok, end_ok}
@@ -140,6 +140,39 @@ each_value (suc left) column (part ∷ parts) values e =
 pub values_spelled : (word : List ℕ) (column : ℕ) (values : List ℤ) → values_of word column ≡ Ok values → word ≡ values_text values
 values_spelled word column values e =
     sym (join_with_byte-slice_split 44 word) ∙ ap (join_with_byte 44) (each_value 4 column (parts_from 44 0 word) values e)
+
+-- ---- amounts
+
+amount_spelled : (word : List ℕ) (column : ℕ) (amount : ℕ × ℤ) → amount_of word column ≡ Ok amount → word ≡ amount_text amount
+amount_spelled word column amount e =
+    let attribute = bind_ok (natural_of (part_at 61 0 word) column 1 4) _ amount e in
+    let start = bind_ok (behind 61 (part_end 61 0 word) word column) _ amount attribute.2 in
+    let value = bind_ok (value_of (part_at 61 start.0 word) (column + start.0)) _ amount start.2 in
+    let end = bind_ok (end_at (part_end 61 start.0 word) word column) _ amount value.2 in
+    let made : ℕ × ℤ = (attribute.0, value.0) in
+    let same : made ≡ amount = cc (end.2) in
+    let last : drop start.0 word ≡ signed_decimal value.0 =
+    part_seam 61 start.0 word
+    ∙ (λ i. value_spelled (part_at 61 start.0 word) (column + start.0) value.0 value.1 i ++ end_ok (part_end 61 start.0 word) word column end.0 end.1 i)
+    ∙ append-nil (signed_decimal value.0) in
+    part_seam 61 0 word
+    ∙ (λ i. natural_spelled (part_at 61 0 word) column 1 4 attribute.0 (lit< tt) attribute.1 i ++ behind_ok 61 (part_end 61 0 word) word column start.0 start.1 i)
+    ∙ ap (λ rest. decimal attribute.0 ++ (61 ∷ rest)) last
+    ∙ ap amount_text same
+
+each_amount : (left column : ℕ) (parts : List (List ℕ)) (amounts : List (ℕ × ℤ)) → amounts_from left column parts ≡ Ok amounts → parts ≡ map amount_text amounts
+each_amount left column [] [] e = refl
+each_amount left column [] (amount ∷ amounts) e = absurd (cc)
+each_amount zero column (part ∷ parts) amounts e = absurd (cc)
+each_amount (suc left) column (part ∷ parts) amounts e =
+    let one = bind_ok (amount_of part column) _ amounts e in
+    let rest = bind_ok (amounts_from left (column + length part + 1) parts) _ amounts one.2 in
+    let all : one.0 ∷ rest.0 ≡ amounts = cc (rest.2) in
+    (λ i. amount_spelled part column one.0 one.1 i ∷ each_amount left (column + length part + 1) parts rest.0 rest.1 i) ∙ ap (map amount_text) all
+
+amounts_spelled : (word : List ℕ) (column : ℕ) (amounts : List (ℕ × ℤ)) → amounts_of word column ≡ Ok amounts → word ≡ join_with_byte 44 (map amount_text amounts)
+amounts_spelled word column amounts e =
+    sym (join_with_byte-slice_split 44 word) ∙ ap (join_with_byte 44) (each_amount 4 column (parts_from 44 0 word) amounts e)
 
 -- ---- bodies
 
@@ -269,6 +302,25 @@ set_spelled word column update h e =
     ∙ (λ i. count_spelled (part_at 58 start.0 word) (column + start.0) read.0 read.1 i ++ item_spelled (part_end 58 start.0 word) word column item.0 item.1 i))
     ∙ ap update_text same
 
+add_spelled : (word : List ℕ) (column : ℕ) (update : UpdateWord) → is_named (codes "add") word ≡ true → add_of word column ≡ Ok update → word ≡ update_text update
+add_spelled word column update h e =
+    let start = bind_ok (behind 58 3 word column) _ update e in
+    let read = bind_ok (count_of (part_at 58 start.0 word) (column + start.0)) _ update start.2 in
+    let next = bind_ok (behind 58 (part_end 58 start.0 word) word column) _ update read.2 in
+    let amounts = bind_ok (amounts_of (part_at 58 next.0 word) (column + next.0)) _ update next.2 in
+    let end = bind_ok (end_at (part_end 58 next.0 word) word column) _ update amounts.2 in
+    let same : UpdateWord.Add read.0 amounts.0 ≡ update = cc (end.2) in
+    let last : drop next.0 word ≡ join_with_byte 44 (map amount_text amounts.0) =
+    part_seam 58 next.0 word
+    ∙ (λ i. amounts_spelled (part_at 58 next.0 word) (column + next.0) amounts.0 amounts.1 i ++ end_ok (part_end 58 next.0 word) word column end.0 end.1 i)
+    ∙ append-nil (join_with_byte 44 (map amount_text amounts.0)) in
+    named (codes "add") word h
+    ∙ ap (λ rest. codes "add" ++ rest) (behind_ok 58 3 word column start.0 start.1)
+    ∙ ap (λ rest. codes "add:" ++ rest) (part_seam 58 start.0 word
+    ∙ (λ i. count_spelled (part_at 58 start.0 word) (column + start.0) read.0 read.1 i ++ behind_ok 58 (part_end 58 start.0 word) word column next.0 next.1 i)
+    ∙ ap (λ rest. decimal read.0 ++ (58 ∷ rest)) last)
+    ∙ ap update_text same
+
 keep_spelled : (word : List ℕ) (column : ℕ) (update : UpdateWord) → is_named (codes "keep") word ≡ true → keep_of word column ≡ Ok update → word ≡ update_text update
 keep_spelled word column update h e =
     let start = bind_ok (behind 58 4 word column) _ update e in
@@ -283,11 +335,13 @@ keep_spelled word column update h e =
     ∙ ap update_text same
 
 pub update_spelled : (word : List ℕ) (column : ℕ) (update : UpdateWord) → update_of built word column ≡ Ok update → word ≡ update_text update
-update_spelled word column update e = by (is_named (codes "new") word) refl (is_named (codes "set") word) refl (is_named (codes "keep") word) refl e
+update_spelled word column update e = by (is_named (codes "new") word) refl (is_named (codes "set") word) refl (is_named (codes "add") word) refl (is_named (codes "keep") word) refl e
   where
-    by : (new : Bool) → is_named (codes "new") word ≡ new → (set : Bool) → is_named (codes "set") word ≡ set → (keep : Bool) → is_named (codes "keep") word ≡ keep
-        → cond new (new_of word column) (cond set (set_of word column) (cond keep (keep_of word column) (refused column Word))) ≡ Ok update → word ≡ update_text update
-    by true h set k keep l e = new_spelled word column update h e
-    by false h true k keep l e = set_spelled word column update k e
-    by false h false k true l e = keep_spelled word column update l e
-    by false h false k false l e = absurd (cc)
+    by : (new : Bool) → is_named (codes "new") word ≡ new → (set : Bool) → is_named (codes "set") word ≡ set
+        → (add : Bool) → is_named (codes "add") word ≡ add → (keep : Bool) → is_named (codes "keep") word ≡ keep
+        → cond new (new_of word column) (cond set (set_of word column) (cond add (add_of word column) (cond keep (keep_of word column) (refused column Word)))) ≡ Ok update → word ≡ update_text update
+    by true h set k add l keep m e = new_spelled word column update h e
+    by false h true k add l keep m e = set_spelled word column update k e
+    by false h false k true l keep m e = add_spelled word column update l e
+    by false h false k false l true m e = keep_spelled word column update m e
+    by false h false k false l false m e = absurd (cc)

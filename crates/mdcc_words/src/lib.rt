@@ -1,6 +1,7 @@
 //! Words of a schedule: how numbers, keys, bodies, lists of values and update words are read.
 #![tactic(auto)]
 
+pub mod amounts;
 pub mod bodies;
 pub mod faults;
 pub mod keys;

@@ -1,9 +1,10 @@
 //! Update words.
 ghost use Rattle.std.specs.Prelude.{◌≡◌, ◌+◌, ◌<◌, ◌≤◌, ◌^◌, IfErr, IsTrue, length};
-ghost use Rattle.mdcc_language.specs.Updates.{item_of, new_of, set_of, keep_of, is_named, update_of};
+ghost use Rattle.mdcc_language.specs.Updates.{add_of, item_of, new_of, set_of, keep_of, is_named, update_of};
 ghost use Rattle.mdcc_built.specs.Built.{built};
 ghost use Rattle.mdcc_words.specs.Columns.{with_column_within};
 
+use crate::amounts::amounts_of;
 use crate::bodies::body_of;
 use crate::faults::{TextFault, capped, refused};
 use crate::keys::key_of;
@@ -54,6 +55,21 @@ fn set_of(word: &[u8], column: usize) -> Result<UpdateWord, TextFault>
     Ok(UpdateWord::Set(read, item))
 }
 
+// `add:R:ATTRIBUTE=AMOUNT,..`
+fn add_of(word: &[u8], column: usize) -> Result<UpdateWord, TextFault>
+    requires place { 3 ≤ length word.now }
+    requires fits { column + length word.now < 2 ^ 64 }
+    ensures value { result ≡ add_of word.now column }
+    ensures column { IfErr result (λ fault. fault.column ≤ column + length word.now) }
+{
+    let start = behind(b':', 3, word, column)?;
+    let read = count_of(part_at(b':', start, word), column + start)?;
+    let next = behind(b':', part_end(b':', start, word), word, column)?;
+    let amounts = amounts_of(part_at(b':', next, word), column + next)?;
+    end_at(part_end(b':', next, word), word, column)?;
+    Ok(UpdateWord::Add(read, amounts))
+}
+
 // `keep:R`
 fn keep_of(word: &[u8], column: usize) -> Result<UpdateWord, TextFault>
     requires place { 4 ≤ length word.now }
@@ -85,6 +101,8 @@ pub fn update_of(word: &[u8], column: usize) -> Result<UpdateWord, TextFault>
         new_of(word, column)
     } else if is_named(b"set", word) {
         set_of(word, column)
+    } else if is_named(b"add", word) {
+        add_of(word, column)
     } else if is_named(b"keep", word) {
         keep_of(word, column)
     } else {
