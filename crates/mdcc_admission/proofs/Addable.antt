@@ -1,5 +1,5 @@
 -- Admitted facts say nothing a second time.
-use Rattle.std.proofs.Common.{◌≡◌, ℕ, Bool, true, false, not, nat_le, nat_lt, ◌&&◌, ◌||◌, ◌==◌, List, [], ◌∷◌, length, Option, Some, None, is_some, refl, sym, ◌∙◌, arith, inl, inr}
+use Rattle.std.proofs.Common.{◌≡◌, ℕ, Bool, true, false, not, nat_le, nat_lt, ◌&&◌, ◌||◌, ◌==◌, ◌≤◌, List, [], ◌∷◌, length, Option, Some, None, is_some, refl, sym, ◌∙◌, arith, inl, inr}
 use Rattle.std.specs.List.{list_all, list_any}
 use Rattle.std.proofs.lemmas.Bool.{and_parts, cases_Bool}
 use Rattle.std.proofs.lemmas.Bool.Decides.{nat_tests}
@@ -24,6 +24,8 @@ use Rattle.mdcc_ledger.specs.AllowedFacts.{are_apart, is_booted}
 use Rattle.mdcc_ledger.specs.BootTest.{is_allowed_classic_vote, is_allowed_fast_vote, is_allowed_mark, is_answer}
 use Rattle.mdcc_protocol.specs.Belongs.{fact_belongs}
 use Rattle.mdcc_protocol.specs.Facts.{current_of, epoch_of, is_heard, promise_of, vote_of, votes_of}
+use Rattle.mdcc_messages.specs.Lengths.{fact_length}
+use Rattle.mdcc_messages.specs.WellFormed.{IsWellFormedFact}
 use Rattle.mdcc_messages.specs.declared.facts.Fact.{Fact}
 use Rattle.mdcc_ledger_laws.proofs.MayAddDecided.{Decides-promise}
 use Rattle.mdcc_ledger_laws.proofs.TestsDecide.{Decides-fast, Decides-none}
@@ -100,16 +102,20 @@ unvoted cluster facts key version ballot options offered h =
 
 -- ---- all facts
 
-addable : (cluster : Cluster) (facts : List Fact) (fact : Fact) → is_admitted_kind cluster facts fact ≡ true → MayBeAdded facts fact
-addable cluster facts (Fact.Booted epoch) h = record { promised = refl; voted = refl; heard = refl }
-addable cluster facts (Fact.Promised key low high ballot) h =
-    record { promised = rw ((Decides-promise facts key low high ballot).0 h).is_new refl; voted = refl; heard = refl }
-addable cluster facts (Fact.Voted key version ballot options offered) h =
-    record { promised = refl; voted = unvoted cluster facts key version ballot options offered h; heard = refl }
-addable cluster facts (Fact.Heard tx outcome) h = record { promised = refl; voted = refl; heard = not-true (is_heard facts tx) h }
-addable cluster facts (Fact.Adopted key version item adds) h = record { promised = refl; voted = refl; heard = refl }
+addable : (cluster : Cluster) (facts : List Fact) (fact : Fact)
+    → is_admitted_kind cluster facts fact ≡ true → IsWellFormedFact fact → fact_length fact ≤ 2097152
+    → MayBeAdded facts fact
+addable cluster facts (Fact.Booted epoch) h w s = record { well_formed = w; short = s; promised = refl; voted = refl; heard = refl }
+addable cluster facts (Fact.Promised key low high ballot) h w s =
+    record { well_formed = w; short = s; promised = rw ((Decides-promise facts key low high ballot).0 h).is_new refl; voted = refl; heard = refl }
+addable cluster facts (Fact.Voted key version ballot options offered) h w s =
+    record { well_formed = w; short = s; promised = refl; voted = unvoted cluster facts key version ballot options offered h; heard = refl }
+addable cluster facts (Fact.Heard tx outcome) h w s =
+    record { well_formed = w; short = s; promised = refl; voted = refl; heard = not-true (is_heard facts tx) h }
+addable cluster facts (Fact.Adopted key version item adds) h w s = record { well_formed = w; short = s; promised = refl; voted = refl; heard = refl }
 
 pub admitted_addable : AdmittedMayBeAdded
-admitted_addable cluster facts fact h =
+admitted_addable cluster facts fact h w s =
     addable cluster facts fact
     (and_parts (fact_belongs cluster fact && (is_booted fact || nat_lt 0 (epoch_of facts))) (is_admitted_kind cluster facts fact) h).1
+    w s

@@ -6,5 +6,6 @@ pub mod LastVotes
 pub mod Marks
 pub mod Settled
 pub mod Several
+pub mod Short
 pub mod Single
 pub mod Taking

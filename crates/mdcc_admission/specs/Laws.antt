@@ -1,5 +1,5 @@
 -- What it means that a fact is admitted.
-use Rattle.std.specs.Prelude.{IsTrue, List, not, ◌&&◌, ◌∷◌, ◌≡◌}
+use Rattle.std.specs.Prelude.{IsTrue, List, not, ◌&&◌, ◌∷◌, ◌≡◌, ◌≤◌}
 use Rattle.mdcc_base.specs.Counts.{number_of}
 use Rattle.mdcc_facts.specs.Adding.{MayBeAdded}
 use Rattle.mdcc_admission.specs.Admission.{is_admitted}
@@ -8,6 +8,8 @@ use Rattle.mdcc_ledger.specs.BootTest.{are_allowed_facts, is_allowed_fact}
 use Rattle.mdcc_ledger.specs.AllowedFacts.{is_booted}
 use Rattle.mdcc_protocol.specs.Facts.{epoch_of}
 use Rattle.mdcc_protocol.specs.News.{is_crowding}
+use Rattle.mdcc_messages.specs.Lengths.{fact_length}
+use Rattle.mdcc_messages.specs.WellFormed.{IsWellFormedFact}
 use Rattle.mdcc_messages.specs.declared.facts.Fact.{Fact}
 
 -- the last epoch is the number of boots
@@ -29,6 +31,9 @@ EpochsStayCounted =
 abbrev pub AllowedEpochsAreCounted : Type 0
 AllowedEpochsAreCounted = (cluster : Cluster) (facts : List Fact) → IsTrue (are_allowed_facts cluster facts) → AreCounted facts
 
--- it says nothing a second time
+-- where it is well-formed and short enough for a frame of a log, a store may be given it: it says nothing a second time
 abbrev pub AdmittedMayBeAdded : Type 0
-AdmittedMayBeAdded = (cluster : Cluster) (facts : List Fact) (fact : Fact) → IsTrue (is_admitted cluster facts fact) → MayBeAdded facts fact
+AdmittedMayBeAdded =
+    (cluster : Cluster) (facts : List Fact) (fact : Fact)
+    → IsTrue (is_admitted cluster facts fact) → IsWellFormedFact fact → fact_length fact ≤ 2097152
+    → MayBeAdded facts fact

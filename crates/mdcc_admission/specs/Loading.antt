@@ -1,6 +1,7 @@
 -- What is read from the payloads of a log over a store with so many cells, and what a boot adds to it.
 use Rattle.std.specs.Bool.{OnFalse}
-use Rattle.std.specs.Prelude.{Bool, Err, List, None, Ok, Option, Result, Some, [], false, if◌then◌else◌, min, nat_le, nat_lt, not, ℕ, ◌+◌, ◌-◌, ◌^◌, true, ◌&&◌, ◌||◌, ◌∷◌, ◌≡◌}
+use Rattle.std.specs.List.{AllByRecursion}
+use Rattle.std.specs.Prelude.{Bool, Err, List, None, Ok, Option, Result, Some, [], false, if◌then◌else◌, length, min, nat_le, nat_lt, not, ℕ, ◌+◌, ◌-◌, ◌^◌, true, ◌&&◌, ◌||◌, ◌∷◌, ◌≡◌, ◌≤◌}
 use Rattle.mdcc_admission.specs.Admission.{is_admitted}
 use Rattle.mdcc_admission.specs.Laws.{AreCounted}
 use Rattle.mdcc_base.specs.Counts.{sum_over}
@@ -23,6 +24,10 @@ fact_in (Err fault) = None
 -- the fact that a payload spells
 abbrev pub fact_read : List ℕ → Option Fact
 fact_read payload = fact_in (fact_of payload)
+
+-- no payload has more bytes than a frame of a log holds
+abbrev pub AreShort : List (List ℕ) → Type 0
+AreShort payloads = AllByRecursion (λ payload. length payload ≤ 2097152) payloads
 
 -- ---- cells
 

@@ -1,8 +1,14 @@
 //! The payloads of a log, taken into a store, and the boot after them.
-ghost use Rattle.std.specs.Prelude.{◌≡◌, ◌-◌, ◌<◌, ◌^◌, [], List, Ok, Some, length, map, slice_get, true};
+ghost use Rattle.std.specs.Prelude.{◌≡◌, ◌-◌, ◌<◌, ◌≤◌, ◌^◌, [], IfOk, IsTrue, List, Ok, Some, length, map, slice_get, true};
 ghost use Rattle.std.specs.Bool.{OnFalse};
-ghost use Rattle.mdcc_admission.specs.Loading.{BootsUnless, Cells, Holds, LoadsUnless, boot_by, fact_read, is_memory, is_memory_at, is_room, list_cells, loaded_by, next_by, read_fault, run_by, settle, store_fault, taken_by};
+ghost use Rattle.mdcc_admission.specs.Loading.{AreShort, BootsUnless, Cells, Holds, LoadsUnless, boot_by, fact_read, is_memory, is_memory_at, is_room, list_cells, loaded_by, next_by, read_fault, run_by, settle, store_fault, taken_by};
+ghost use Rattle.mdcc_base.specs.Unless.{GivesUnless};
+ghost use Rattle.mdcc_messages.specs.Lengths.{fact_length};
+ghost use Rattle.mdcc_messages.specs.Reading.{fact_of};
+ghost use Rattle.mdcc_messages.specs.WellFormed.{IsWellFormedFact};
 ghost use Rattle.mdcc_messages.specs.declared.facts.Fact.{Fact as AFact};
+ghost use Rattle.mdcc_parts.specs.Reads.{is_memory as is_reading_memory};
+ghost use Rattle.mdcc_spelling.specs.Laws.{AreBytes};
 
 use crate::admitted::is_admitted;
 use crate::laws::admitted_may_be_added;
@@ -13,6 +19,8 @@ use mdcc_messages::{Fact, WireFault};
 use mdcc_option::Cluster;
 use mdcc_protocol::StoreFault;
 use mdcc_rules::BootFault;
+use mdcc_spelling::facts::{facts_have_one_spelling, facts_read_are_well_formed};
+use mdcc_spelling::sizes::lengths_are_exact;
 use std::alloc::Global;
 
 // How many payloads were taken before one was not, and why.
@@ -74,7 +82,9 @@ fn take_fact<S: FactStore>(
     taken: u64,
     fact: &Fact,
 ) -> Result<(), Refusal>
-    requires { taken < 2 ^ 64 - 1 }
+    requires counted { taken < 2 ^ 64 - 1 }
+    requires well_formed { IsWellFormedFact fact.now }
+    requires short { fact_length fact.now ≤ 2097152 }
     ensures { (all : Cells) (facts : List AFact) → Holds S.stands S.room S.cells_for all store.old facts → all.total ≡ cells
         → LoadsUnless is_memory_at result (taken_by all cluster.now facts taken (Some fact.now)) (Holds S.stands S.room S.cells_for all store.new) }
 {
@@ -88,6 +98,26 @@ fn take_fact<S: FactStore>(
     }
 }
 
+// Bytes are below 256.
+fn are_bytes(bytes: &[u8])
+    ensures { AreBytes bytes.now }
+{}
+
+// The fact of a payload.
+#[tactic(auto, using(crate::proofs::Short::fits))]
+fn read_payload(alloc: Global, payload: &[u8]) -> Result<Fact, WireFault>
+    requires { length payload.now ≤ 2097152 }
+    ensures read { GivesUnless is_reading_memory result (fact_of payload.now) }
+    ensures well_formed { IfOk result (λ fact. IsWellFormedFact fact) }
+    ensures short { IfOk result (λ fact. fact_length fact ≤ 2097152) }
+{
+    facts_read_are_well_formed();
+    facts_have_one_spelling();
+    lengths_are_exact();
+    are_bytes(payload);
+    decode_fact(alloc, payload)
+}
+
 // Adds the fact of a payload.
 fn take_payload<S: FactStore>(
     alloc: Global,
@@ -97,20 +127,24 @@ fn take_payload<S: FactStore>(
     taken: u64,
     payload: &[u8],
 ) -> Result<(), Refusal>
-    requires { taken < 2 ^ 64 - 1 }
+    requires counted { taken < 2 ^ 64 - 1 }
+    requires short { length payload.now ≤ 2097152 }
     ensures { (all : Cells) (facts : List AFact) → Holds S.stands S.room S.cells_for all store.old facts → all.total ≡ cells
         → LoadsUnless is_memory_at result (taken_by all cluster.now facts taken (fact_read payload.now)) (Holds S.stands S.room S.cells_for all store.new) }
 {
-    match decode_fact(alloc, payload) {
+    match read_payload(alloc, payload) {
         Ok(fact) => take_fact(cluster, store, cells, taken, &fact),
         Err(fault) => Err((taken, read_fault(taken, fault))),
     }
 }
 
 // The payload at a place.
+#[tactic(auto, using(crate::proofs::Short::each_short))]
 fn payload_at(payloads: &[HeapList<u8>], place: usize) -> &[u8]
-    requires { place < length payloads.now }
-    ensures { slice_get payloads.now place ≡ Some result.now }
+    requires within { place < length payloads.now }
+    requires short { AreShort payloads.now }
+    ensures value { slice_get payloads.now place ≡ Some result.now }
+    ensures short { length result.now ≤ 2097152 }
 {
     payloads[place].as_slice()
 }
@@ -122,6 +156,7 @@ fn run<S: FactStore>(
     store: &mut S,
     payloads: &[HeapList<u8>],
 ) -> Result<(), Refusal>
+    requires { AreShort payloads.now }
     ensures { (all : Cells) → Holds S.stands S.room S.cells_for all store.old []
         → LoadsUnless is_memory_at result (run_by all cluster.now [] 0 (map fact_read payloads.now)) (Holds S.stands S.room S.cells_for all store.new) }
 {
@@ -134,6 +169,14 @@ fn run<S: FactStore>(
         }
     }
     Ok(())
+}
+
+/// Whether no payload has more bytes than a frame of a log holds, 2,097,152.
+#[tactic(auto, using(crate::proofs::Short::all_short))]
+pub fn are_short(payloads: &[HeapList<u8>]) -> bool
+    ensures { IsTrue result → AreShort payloads.now }
+{
+    payloads.iter().all(|payload| payload.len() <= 2_097_152)
 }
 
 // ---- all payloads
@@ -162,7 +205,8 @@ fn settled_by_list(
     taken: u64,
     fault: BootFault,
 ) -> BootFault
-    requires { is_room fault ≡ true }
+    requires room { is_room fault ≡ true }
+    requires short { AreShort payloads.now }
     ensures { OnFalse (is_memory result) (result ≡ settle (taken, fault) (run_by list_cells cluster.now [] 0 (map fact_read payloads.now))) }
 {
     match ListFacts::new(alloc) {
@@ -185,6 +229,7 @@ fn settled(
     taken: u64,
     fault: BootFault,
 ) -> BootFault
+    requires { AreShort payloads.now }
     ensures { OnFalse (is_memory result) (result ≡ settle (taken, fault) (run_by list_cells cluster.now [] 0 (map fact_read payloads.now))) }
 {
     if is_room(&fault) {
@@ -201,6 +246,7 @@ fn load<S: FactStore>(
     store: &mut S,
     payloads: &[HeapList<u8>],
 ) -> Result<(), BootFault>
+    requires { AreShort payloads.now }
     ensures { (all : Cells) → Holds S.stands S.room S.cells_for all store.old []
         → LoadsUnless is_memory result (loaded_by all cluster.now [] 0 (map fact_read payloads.now)) (Holds S.stands S.room S.cells_for all store.new) }
 {
@@ -236,6 +282,7 @@ pub fn boot_store<S: FactStore>(
     store: &mut S,
     payloads: &[HeapList<u8>],
 ) -> Result<u32, BootFault>
+    requires short { AreShort payloads.now }
     ensures { (all : Cells) → Holds S.stands S.room S.cells_for all store.old []
         → BootsUnless is_memory result (boot_by all cluster.now (map fact_read payloads.now)) (Holds S.stands S.room S.cells_for all store.new) }
 {

@@ -1,5 +1,6 @@
 //! Boots from a few payloads.
 use crate::setup::{BOOTED, HEARD, PROMISED, five_centres};
+use mdcc_admission::loading::are_short;
 use mdcc_admission::parts_belong::is_centre;
 use mdcc_base::{Centre, HeapList};
 use mdcc_facts::ListFacts;
@@ -41,7 +42,7 @@ fn booted(
     let centre = Centre::new(1).unwrap_or_default();
     let log = logged(alloc, payloads)?;
     let store = ListFacts::new(alloc).ok().ok_or("a store")?;
-    if !is_centre(&cluster, centre.number()) {
+    if !is_centre(&cluster, centre.number()) || !are_short(log.as_slice()) {
         return Ok(Ok(0));
     }
     match Node::boot(alloc, cluster, centre, store, log.as_slice()) {

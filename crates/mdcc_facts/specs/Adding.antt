@@ -1,9 +1,11 @@
 -- When a fact may be added to others, and what the store answers.
 use Rattle.std.specs.List.{list_any}
-use Rattle.std.specs.Prelude.{◌≡◌, Bool, Err, List, Ok, Result, false, if◌then◌else◌, is_some, nat_lt, true, ℕ}
+use Rattle.std.specs.Prelude.{◌≡◌, ◌≤◌, Bool, Err, List, Ok, Result, false, if◌then◌else◌, is_some, nat_lt, true, ℕ}
 use Rattle.mdcc_struct.specs.Maps.{value_of}
 use Rattle.mdcc_protocol.specs.Facts.{is_heard, promised_through, votes_of}
 use Rattle.mdcc_protocol.specs.News.{is_crowding}
+use Rattle.mdcc_messages.specs.Lengths.{fact_length}
+use Rattle.mdcc_messages.specs.WellFormed.{IsWellFormedFact}
 use Rattle.mdcc_messages.specs.declared.facts.Fact.{Fact}
 use Rattle.mdcc_protocol.specs.declared.stores.StoreFault.{StoreFault}
 
@@ -25,8 +27,10 @@ abbrev pub is_heard_before : List Fact → Fact → Bool
 is_heard_before facts (Fact.Heard tx outcome) = is_heard facts tx
 is_heard_before facts _ = false
 
--- it says nothing a second time
+-- it is well-formed, has at most as many bytes as a frame of a log holds, and says nothing a second time
 pub record MayBeAdded (facts : List Fact) (fact : Fact) : Type 0 where
+  pub well_formed : IsWellFormedFact fact
+  pub short : fact_length fact ≤ 2097152
   pub promised : is_promised_before facts fact ≡ false
   pub voted : is_voted_before facts fact ≡ false
   pub heard : is_heard_before facts fact ≡ false

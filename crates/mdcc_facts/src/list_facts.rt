@@ -36,6 +36,11 @@ impl ListFacts {
             alloc,
         })
     }
+
+    /// What it takes its memory from.
+    pub fn alloc(&self) -> Global {
+        self.alloc
+    }
 }
 
 impl FactStore for ListFacts {

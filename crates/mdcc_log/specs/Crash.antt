@@ -1,11 +1,11 @@
 -- What a crash leaves of a log.
 use Rattle.std.specs.Prelude.{◌≡◌, ◌≢◌, ◌⊎◌, ℕ, ◌+◌, ◌≤◌, ◌<◌, false, List, [], ◌∷◌, ◌++◌, length, take, drop, slice_index, Ok}
+use Rattle.std.specs.List.{AllByRecursion}
 use Rattle.mdcc_log.specs.Log.{log_front, frame_body, payload_limit, is_open, read_log}
 
 -- each payload is one that a frame may have
 abbrev pub AreShort : List (List ℕ) → Type 0
-AreShort [] = Unit {0}
-AreShort (payload ∷ payloads) = (length payload ≤ payload_limit) × AreShort payloads
+AreShort payloads = AllByRecursion (λ payload. length payload ≤ payload_limit) payloads
 
 -- A log of these payloads that was never begun, or whose last gate is closed. Behind that gate anything may stand.
 pub record IsShut (payloads : List (List ℕ)) (bytes : List ℕ) : Type 0 where

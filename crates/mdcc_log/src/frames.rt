@@ -3,7 +3,7 @@ ghost use Rattle.std.specs.Prelude.{◌≡◌, ◌≤◌, ◌<◌, ◌+◌, ◌-
 ghost use Rattle.mdcc_base.specs.Causes.{Rose, HasCause};
 ghost use Rattle.mdcc_disks.specs.Disks.{Only, Within, KeepsOthers, LeavesOnly};
 ghost use Rattle.mdcc_log.specs.Log.{frame_body, read_log, log_limit, payload_limit};
-ghost use Rattle.mdcc_log.specs.Crash.{IsShut, IsBetween, MayRepair, ReadsAgain};
+ghost use Rattle.mdcc_log.specs.Crash.{AreShort, IsShut, IsBetween, MayRepair, ReadsAgain};
 ghost use Rattle.mdcc_disks.specs.Disks.DiskCall.{Length, Sync};
 ghost use Rattle.mdcc_log.specs.Frames.{IsAtRest, IsSettled, MadeSome, ReadsAll, ReadsSome, added, append_calls, close_calls, cut_calls, open_calls, read_calls, settle_calls};
 
@@ -162,6 +162,7 @@ fn recover<D: Disks>(
     requires durable { IsTrue (D.disk disks.old place).told
         → Only (D.disk disks.old place).bytes (D.may_leave disks.old place) }
     ensures payloads { IfOk result (λ r. read_log bytes.now ≡ Ok r.1.items) }
+    ensures short { IfOk result (λ r. AreShort r.1.items) }
     ensures at_rest { IsTrue (D.disk disks.old place).told
         → IfOk result (λ r. IsAtRest r.1.items r.0 (D.disk disks.new place).bytes (D.may_leave disks.new place)) }
     ensures size { IfOk result (λ r. 9 ≤ r.0) }
@@ -251,6 +252,7 @@ impl Frames {
     ) -> Result<(Frames, Vec<HeapList<u8>>), LogFault>
         ensures payloads { IsTrue (D.disk disks.old place).told
             → IfOk result (λ r. read_log (D.disk disks.old place).bytes ≡ Ok r.1.items) }
+        ensures short { IfOk result (λ r. AreShort r.1.items) }
         ensures at_rest { IsTrue (D.disk disks.old place).told
             → IfOk result (λ r. IsAtRest r.1.items r.0.size (D.disk disks.new place).bytes (D.may_leave disks.new place)) }
         ensures settled { IsTrue (D.disk disks.old place).told

@@ -1,6 +1,6 @@
 //! The boot of a node from the payloads of its log.
 ghost use Rattle.std.specs.Prelude.{◌≡◌, [], IfOk, map, true};
-ghost use Rattle.mdcc_admission.specs.Loading.{Cells, Holds, boot_by, fact_read};
+ghost use Rattle.mdcc_admission.specs.Loading.{AreShort, Cells, Holds, boot_by, fact_read};
 ghost use Rattle.mdcc_node.specs.Booting.{Boots, IsBoot};
 ghost use Rattle.mdcc_protocol.specs.Belongs.{is_centre};
 
@@ -21,8 +21,8 @@ impl<S: FactStore + Drop> Node<S> {
     /// that spells no fact or one that may not stand after those before it; `Room` comes where an
     /// allowed fact needs more cells than are left, with the cells in use and its own, up to
     /// 2^64 - 1, and all cells; after the payloads `Epochs` comes where the last epoch is 2^32 - 1, and
-    /// last `Room` for the new boot. The store is given up with a refusal. A boot without memory may
-    /// be tried again.
+    /// last `Room` for the new boot. `mdcc_admission::loading::are_short` tests whether the payloads
+    /// are short. The store is given up with a refusal. A boot without memory may be tried again.
     pub fn boot(
         alloc: Global,
         cluster: Cluster,
@@ -32,6 +32,7 @@ impl<S: FactStore + Drop> Node<S> {
     ) -> Result<(Node<S>, Fact), BootFault>
         requires among { is_centre cluster centre ≡ true }
         requires empty { S.stands store [] }
+        requires short { AreShort payloads.now }
         ensures boots { (all : Cells) → Holds S.stands S.room S.cells_for all store []
             → Boots S.stands result cluster centre (boot_by all cluster (map fact_read payloads.now)) }
         ensures fact { IfOk result (λ r. IsBoot r.1) }

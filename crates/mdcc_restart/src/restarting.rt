@@ -1,5 +1,6 @@
 //! The start of a centre.
 ghost use Rattle.std.specs.Prelude.{◌≡◌, ◌≤◌, ◌⊎◌, ◌∷◌, [], List, IfErr, IfOk, IsErrOf, IsTrue, Ok, length, true, ℕ};
+ghost use Rattle.mdcc_admission.specs.Loading.{AreShort};
 ghost use Rattle.mdcc_base.specs.Causes.{Rose};
 ghost use Rattle.mdcc_disks.specs.Disks.{KeepsOthers, LeavesOnly, Within};
 ghost use Rattle.mdcc_journal.specs.Counts.{HasCounts};
@@ -52,6 +53,7 @@ fn boot_node<S: FactStore + Drop>(
 ) -> Result<(Node<S>, Fact), RestartFault>
     requires among { is_centre cluster centre ≡ true }
     requires empty { S.stands store [] }
+    requires short { AreShort payloads.now }
     ensures node { (facts : List AFact) → IsAmple S.stands S.room S.cells_for store → AreLogged cluster facts
         → payloads.now ≡ logged facts → BootsNode S.stands result cluster centre facts }
     ensures fact { IfOk result (λ r. IsBoot r.1) }

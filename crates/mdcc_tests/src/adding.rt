@@ -5,13 +5,22 @@ ghost use Rattle.mdcc_messages.specs.declared.facts.Fact.{Fact as AFact};
 ghost use Rattle.mdcc_struct.specs.Maps.{value_of};
 ghost use Rattle.mdcc_tests.specs.Lower.{is_lower};
 ghost use Rattle.std.specs.List.{list_any};
-ghost use Rattle.std.specs.Prelude.{◌≡◌, ◌∷◌, IsTrue, List, false, is_some};
+ghost use Rattle.mdcc_journal.specs.Counts.{HasCounts};
+ghost use Rattle.mdcc_messages.specs.Lengths.{fact_length};
+ghost use Rattle.mdcc_messages.specs.Spelling.{fact_bytes};
+ghost use Rattle.mdcc_messages.specs.WellFormed.{IsWellFormedFact};
+ghost use Rattle.mdcc_spelling.specs.Laws.{AreBytes};
+ghost use Rattle.std.specs.Prelude.{◌≡◌, ◌≤◌, ◌∷◌, IfSome, IsTrue, List, false, is_some, length};
 ghost use Rattle.std.specs.Bool.{OnTrue};
 
 use mdcc_base::{Ballot, Key};
 use mdcc_facts::{Fact, FactStore, ListFacts};
+use mdcc_journal::{decode_fact, encode_fact};
 use mdcc_option::Mark;
+use mdcc_spelling::facts::{facts_have_one_spelling, facts_read_are_well_formed};
+use mdcc_spelling::sizes::lengths_are_exact;
 use mdcc_struct::Options;
+use std::alloc::Global;
 
 // Whether a vote stands at a lower ballot, or there is none.
 fn is_lower(vote: &Option<(Ballot, Mark)>, ballot: &Ballot) -> bool
@@ -37,8 +46,62 @@ fn are_lower(store: &ListFacts, key: &Key, version: u64, ballot: &Ballot, option
     true
 }
 
+// Whether the lists of the fact are no longer than their counts can say.
+fn has_counts(fact: &Fact) -> bool
+    ensures { IsTrue result → HasCounts fact.now }
+{
+    match fact {
+        Fact::Voted { options, .. } => options.len() <= 4_294_967_295,
+        Fact::Adopted { adds, .. } => adds.len() <= 255,
+        _ => true,
+    }
+}
+
+// Bytes are below 256.
+fn are_bytes(bytes: &[u8])
+    ensures { AreBytes bytes.now }
+{}
+
+// The fact of the bytes, where a frame of a log holds them.
+#[tactic(auto, using(crate::proofs::Read::fits))]
+fn read_back(alloc: Global, bytes: &[u8]) -> Option<Fact>
+    ensures well_formed { IfSome result (λ read. IsWellFormedFact read) }
+    ensures short { IfSome result (λ read. fact_length read ≤ 2097152) }
+    ensures same { IfSome result (λ read. fact_bytes read ≡ bytes.now) }
+{
+    facts_read_are_well_formed();
+    facts_have_one_spelling();
+    lengths_are_exact();
+    are_bytes(bytes);
+    if 2_097_152 < bytes.len() {
+        return None;
+    }
+    match decode_fact(alloc, bytes) {
+        Ok(read) => Some(read),
+        Err(_) => None,
+    }
+}
+
+// What is read from the bytes of the fact.
+fn reread(alloc: Global, fact: &Fact) -> Option<Fact>
+    ensures well_formed { IfSome result (λ read. IsWellFormedFact read) }
+    ensures short { IfSome result (λ read. fact_length read ≤ 2097152) }
+    ensures same { IfSome result (λ read. fact_bytes read ≡ fact_bytes fact.now) }
+{
+    if !has_counts(fact) {
+        return None;
+    }
+    let mut bytes = Vec::new(alloc);
+    match encode_fact(fact, &mut bytes) {
+        Ok(()) => read_back(alloc, &bytes),
+        Err(_) => None,
+    }
+}
+
 // Whether the fact says nothing a second time.
 fn is_news(store: &ListFacts, fact: &Fact) -> bool
+    requires well_formed { IsWellFormedFact fact.now }
+    requires short { fact_length fact.now ≤ 2097152 }
     ensures { (facts : List AFact) → ⟦<ListFacts as FactStore>⟧.stands store.now facts → IsTrue result → MayBeAdded facts fact.now }
 {
     match fact {
@@ -66,8 +129,10 @@ fn is_news(store: &ListFacts, fact: &Fact) -> bool
     }
 }
 
-/// Adds a fact that says nothing a second time, and answers whether it was added.
-pub fn put(store: &mut ListFacts, fact: &Fact) -> bool
+// Adds a fact that says nothing a second time, and answers whether it was added.
+fn put_news(store: &mut ListFacts, fact: &Fact) -> bool
+    requires well_formed { IsWellFormedFact fact.now }
+    requires short { fact_length fact.now ≤ 2097152 }
     ensures { (facts : List AFact) → ⟦<ListFacts as FactStore>⟧.stands store.old facts
         → OnTrue result (⟦<ListFacts as FactStore>⟧.stands store.new (fact.now ∷ facts)) }
 {
@@ -77,5 +142,17 @@ pub fn put(store: &mut ListFacts, fact: &Fact) -> bool
     match store.add(fact) {
         Ok(()) => true,
         Err(_) => false,
+    }
+}
+
+/// Adds a well-formed fact that says nothing a second time, as it is read from its bytes, and answers
+/// whether it was added.
+pub fn put(store: &mut ListFacts, fact: &Fact) -> bool
+    ensures { (facts : List AFact) → ⟦<ListFacts as FactStore>⟧.stands store.old facts
+        → OnTrue result ((read : AFact) × (fact_bytes read ≡ fact_bytes fact.now) × ⟦<ListFacts as FactStore>⟧.stands store.new (read ∷ facts)) }
+{
+    match reread(store.alloc(), fact) {
+        Some(read) => put_news(store, &read),
+        None => false,
     }
 }

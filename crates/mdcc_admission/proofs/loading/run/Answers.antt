@@ -12,7 +12,7 @@ loop-place-preserved g c all held =
     let before = c.loop-place.invariant all held in
     let took = c.in-Ok.ensures all before.0 before.2 (all_spare _ all.total c.spare-cells.result held.spare c.spare-cells.ensures) in (
       took.0,
-      sym (run_on all c.args.cluster.now before.0 c.args.payloads.now c.loop-place.place c.payload_at-payload.result.now c.payload_at-payload.ensures took.0 took.1) ∙ before.1,
+      sym (run_on all c.args.cluster.now before.0 c.args.payloads.now c.loop-place.place c.payload_at-payload.result.now c.payload_at-payload.ensures.value took.0 took.1) ∙ before.1,
       took.2,
     )
 
@@ -23,7 +23,7 @@ returns-in-Err g c all held =
     on_false (is_memory_at c.in-Err.refusal) _ _
     (λ is.
     sym before.1
-    ∙ run_ends all c.args.cluster.now before.0 c.args.payloads.now c.loop-place.place c.payload_at-payload.result.now c.payload_at-payload.ensures c.in-Err.refusal is)
+    ∙ run_ends all c.args.cluster.now before.0 c.args.payloads.now c.loop-place.place c.payload_at-payload.result.now c.payload_at-payload.ensures.value c.in-Err.refusal is)
     took
 
 pub returns : goal.returns
