@@ -8,7 +8,7 @@ use Rattle.mdcc_facts.specs.Adding.{add_of}
 use Rattle.mdcc_messages.specs.declared.facts.Fact.{Fact}
 use Rattle.mdcc_messages.specs.declared.messages.Envelope.{Envelope}
 use Rattle.mdcc_node.specs.Doing.{ended}
-use Rattle.mdcc_node.specs.Planning.{kept, kept_by, plan_of, planned, sends_after, written}
+use Rattle.mdcc_node.specs.Planning.{FitsFrame, PlanFitsFrame, kept, kept_by, plan_of, planned, sends_after, written}
 use Rattle.mdcc_node.specs.Stands.{Left, Stands}
 use Rattle.mdcc_node.specs.Stepping.{OnMemory, Room, UnlessMemory, given, if_added, is_memory, step_if, step_taken, with_fact, with_new, with_store}
 use Rattle.mdcc_node.specs.declared.node.Node.{Node}
@@ -49,6 +49,18 @@ plan-given room facts plan (Err fault) e = absurd (cc)
 plan-given room facts plan (Ok step) e =
     let is : plan ≡ planned step = cc in
     rw is (taken room facts step step.fact refl)
+
+-- the fact of a planned step is the rule's
+plan-fits-by : (step : NodeStep) (fact : Option Fact) → ((other : Fact) → fact ≡ Some other → FitsFrame other) → PlanFitsFrame fact
+plan-fits-by step None h = tt
+plan-fits-by step (Some fact) h = h fact refl
+
+pub plan-fits : (plan : Step) (expected : Result NodeStep StepFault) → Ok plan ≡ plan_of expected
+    → ((step : NodeStep) (fact : Fact) → expected ≡ Ok step → step.fact ≡ Some fact → FitsFrame fact) → PlanFitsFrame plan.fact
+plan-fits plan (Err fault) e h = absurd (cc)
+plan-fits plan (Ok step) e h =
+    let is : plan ≡ planned step = cc in
+    rw is (plan-fits-by step step.fact (λ fact fits. h step fact refl fits))
 
 -- a rule's refusal is the step's
 pub fault-given : (room : Room) (facts : List Fact) (fault : StepFault) (expected : Result NodeStep StepFault)

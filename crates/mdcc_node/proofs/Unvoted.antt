@@ -6,7 +6,7 @@ use Rattle.mdcc_base.specs.Ballot.{ballot_lt, fast_ballot}
 use Rattle.mdcc_base.specs.declared.identifiers.Ballot.{Ballot}
 use Rattle.mdcc_base.specs.declared.identifiers.TxId.{TxId}
 use Rattle.mdcc_base.specs.declared.key.Key.{Key}
-use Rattle.mdcc_facts.specs.Adding.{MayBeAdded}
+use Rattle.mdcc_node.specs.Planning.{IsNews}
 use Rattle.mdcc_node.specs.Telling.{vote_fact}
 use Rattle.mdcc_option.specs.declared.choices.Choice.{Choice}
 use Rattle.mdcc_option.specs.declared.choices.Mark.{Mark}
@@ -67,7 +67,7 @@ vote-after cluster facts choice None (Some vote) mark e = absurd (cc)
 vote-after cluster facts choice None None mark e = refl
 
 pub new_vote : (cluster : Cluster) (facts : List Fact) (choice : Choice) (mark : Mark) → on_propose cluster facts choice ≡ ProposeAnswer.Vote mark
-    → MayBeAdded facts (vote_fact choice mark)
+    → IsNews facts (vote_fact choice mark)
 new_vote cluster facts choice mark e =
     let voted = vote-after cluster facts choice (heard_of facts choice.tx) (vote_of facts choice.key choice.version choice.tx) mark e in
     let none : value_of (votes_of facts choice.key choice.version fast_ballot) choice.tx ≡ None = unvoted facts choice.key choice.version choice.tx fast_ballot voted in

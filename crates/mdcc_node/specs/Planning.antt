@@ -1,10 +1,12 @@
 -- What a node's rule plans: a step whose fact is not added yet.
-use Rattle.std.specs.Prelude.{◌≡◌, ◌∷◌, ◌++◌, Bool, Err, List, None, Ok, Option, Result, Some, [], false, if◌then◌else◌, true, ⊤, ℕ}
+use Rattle.std.specs.Prelude.{◌≡◌, ◌≤◌, ◌∷◌, ◌++◌, Bool, Err, List, None, Ok, Option, Result, Some, [], false, if◌then◌else◌, true, ⊤, ℕ}
 use Rattle.mdcc_base.specs.Unless.{GivesUnless}
 use Rattle.mdcc_base.specs.declared.identifiers.Ballot.{Ballot}
 use Rattle.mdcc_base.specs.declared.identifiers.TxId.{TxId}
 use Rattle.mdcc_base.specs.declared.key.Key.{Key}
-use Rattle.mdcc_facts.specs.Adding.{MayBeAdded}
+use Rattle.mdcc_facts.specs.Adding.{is_heard_before, is_promised_before, is_voted_before}
+use Rattle.mdcc_messages.specs.Lengths.{fact_length}
+use Rattle.mdcc_messages.specs.WellFormed.{IsWellFormedFact}
 use Rattle.mdcc_messages.specs.declared.facts.Fact.{Fact}
 use Rattle.mdcc_messages.specs.declared.messages.Envelope.{Envelope}
 use Rattle.mdcc_messages.specs.declared.messages.Message.{Message}
@@ -84,10 +86,24 @@ abbrev pub kept : Volatile → Result NodeStep StepFault → Volatile
 kept volatile (Ok step) = kept_by volatile step.after step.fact
 kept volatile (Err fault) = volatile
 
--- a planned fact may be added, and is no boot
+-- a fact says nothing a second time
+pub record IsNews (facts : List Fact) (fact : Fact) : Type 0 where
+  pub promised : is_promised_before facts fact ≡ false
+  pub voted : is_voted_before facts fact ≡ false
+  pub heard : is_heard_before facts fact ≡ false
+
+-- a planned fact is news, and no boot
 abbrev pub MayFollow : List Fact → Option Fact → Type 0
 MayFollow facts None = ⊤
-MayFollow facts (Some fact) = MayBeAdded facts fact × (epoch_of (fact ∷ facts) ≡ epoch_of facts)
+MayFollow facts (Some fact) = IsNews facts fact × (epoch_of (fact ∷ facts) ≡ epoch_of facts)
+
+-- a fact is well-formed, and has at most as many bytes as a frame of a log holds
+abbrev pub FitsFrame : Fact → Type 0
+FitsFrame fact = IsWellFormedFact fact × (fact_length fact ≤ 2097152)
+
+abbrev pub PlanFitsFrame : Option Fact → Type 0
+PlanFitsFrame None = ⊤
+PlanFitsFrame (Some fact) = FitsFrame fact
 
 -- ---- what a method does
 

@@ -1,18 +1,19 @@
 -- What a node answers to an input over a store with so many spare cells, and what it is afterwards.
 use Rattle.std.specs.Bool.{OnFalse, OnTrue}
-use Rattle.std.specs.Prelude.{Bool, Err, List, None, Ok, Option, Result, Some, false, if◌then◌else◌, true, ⊤, ℕ, ◌∷◌}
+use Rattle.std.specs.Prelude.{Bool, Err, List, None, Ok, Option, Result, Some, false, if◌then◌else◌, true, ⊤, ℕ, ◌∷◌, ◌≤◌}
 use Rattle.mdcc_facts.specs.Adding.{add_of}
 use Rattle.mdcc_option.specs.declared.cluster.Cluster.{Cluster}
 use Rattle.mdcc_switches.specs.Built.{Built}
 use Rattle.mdcc_rules.specs.Node.{is_own_message, message_step, step_of}
 use Rattle.mdcc_rules.specs.Steps.{NodeStep, heard_by, step_fault, step_given}
 use Rattle.mdcc_protocol.specs.Volatile.{Volatile}
-use Rattle.mdcc_messages.specs.WellFormed.{IsWellFormedEnvelope}
 use Rattle.mdcc_messages.specs.declared.facts.Fact.{Fact}
 use Rattle.mdcc_protocol.specs.declared.stores.StoreFault.{StoreFault}
 use Rattle.mdcc_rules.specs.declared.node.Input.{Input}
 use Rattle.mdcc_rules.specs.declared.node.Step.{Step}
 use Rattle.mdcc_rules.specs.declared.node.StepFault.{StepFault}
+use Rattle.mdcc_steps.specs.Forming.{accept_length_in}
+use Rattle.mdcc_steps.specs.Inputs.{IsWellFormedInput}
 
 -- ---- the store's room
 
@@ -96,7 +97,6 @@ OnMemory (Err fault) P = OnTrue (is_memory fault) P
 
 -- ---- inputs
 
--- a message is well-formed
+-- an input is well-formed, and an Accept has at most as many bytes as a frame of a log holds
 abbrev pub IsGiven : Input → Type 0
-IsGiven (Input.Message envelope) = IsWellFormedEnvelope envelope
-IsGiven input = ⊤
+IsGiven input = IsWellFormedInput input × (accept_length_in input ≤ 2097152)

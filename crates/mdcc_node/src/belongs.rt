@@ -122,6 +122,7 @@ fn centre_of(cluster: &Cluster, number: u8) -> Option<Centre>
     requires { is_centre cluster.now number ≡ true }
     ensures value { result ≡ Some number }
     ensures member { number ≤ cluster.now.quorums.centres }
+    ensures centre { IfSome result (λ centre. is_centre cluster.now centre ≡ true) }
 {
     let _centres = cluster.quorums.centres();
     Centre::new(number)
@@ -131,6 +132,7 @@ fn centre_of(cluster: &Cluster, number: u8) -> Option<Centre>
 pub(crate) fn sender_of(cluster: &Cluster, centre: u8, envelope: &Envelope) -> Option<Centre>
     ensures value { result ≡ (if is_own_message cluster.now centre envelope.now then Some envelope.now.from else None) }
     ensures member { IfSome result (λ from. from ≤ cluster.now.quorums.centres) }
+    ensures centre { IfSome result (λ from. is_centre cluster.now from ≡ true) }
 {
     if is_own_message(cluster, centre, envelope) {
         centre_of(cluster, envelope.from)

@@ -1,20 +1,23 @@
 //! One node.
-ghost use Rattle.std.specs.Prelude.{◌≡◌, ◌≤◌, ◌∷◌, List, ℕ, OnErr, OnOk, Some, false};
+ghost use Rattle.std.specs.Prelude.{◌≡◌, ◌≤◌, ◌∷◌, List, ℕ, OnErr, OnOk, Some, false, true};
 ghost use Rattle.mdcc_base.specs.Unless.{GivesUnless};
 ghost use Rattle.mdcc_built.specs.Built.{built};
-ghost use Rattle.mdcc_facts.specs.Adding.{MayBeAdded, add_of};
+ghost use Rattle.mdcc_facts.specs.Adding.{add_of};
 ghost use Rattle.mdcc_messages.specs.WellFormed.{IsWellFormedEnvelope, IsWellFormedMessage};
 ghost use Rattle.mdcc_messages.specs.declared.facts.Fact.{Fact as AFact};
 ghost use Rattle.mdcc_node.specs.Doing.{Does, Follows, ended};
-ghost use Rattle.mdcc_node.specs.Planning.{MayFollow, Plans, blank, is_asked_by_leader, is_of_fast_path, written};
+ghost use Rattle.mdcc_node.specs.Planning.{FitsFrame, IsNews, MayFollow, PlanFitsFrame, Plans, blank, is_asked_by_leader, is_of_fast_path, written};
+ghost use Rattle.mdcc_node.specs.Running.{IsRunning};
 ghost use Rattle.mdcc_node.specs.Stands.{Stands};
 ghost use Rattle.mdcc_node.specs.Stepping.{IsGiven, add_given, is_memory, room_of, step_by, step_taken, with_new};
 ghost use Rattle.mdcc_option.specs.declared.cluster.Cluster.{Cluster as ACluster};
+ghost use Rattle.mdcc_protocol.specs.Belongs.{is_centre};
 ghost use Rattle.mdcc_protocol.specs.Facts.{epoch_of};
 ghost use Rattle.mdcc_protocol.specs.Volatile.{Volatile as AVolatile};
 ghost use Rattle.mdcc_rules.specs.Node.{message_step};
 ghost use Rattle.mdcc_rules.specs.Steps.{heard_by};
 ghost use Rattle.mdcc_rules.specs.declared.node.Input.{Input as AInput};
+ghost use Rattle.mdcc_steps.specs.Forming.{accept_length};
 
 use crate::belongs::sender_of;
 use crate::steps::{blank, heard_by};
@@ -51,7 +54,8 @@ impl<S: FactStore + Drop> Node<S> {
 
     // Adds a fact, and closes the transaction whose end it tells.
     fn add(&mut self, fact: &Fact) -> Result<(), StepFault>
-        requires new { (facts : List AFact) → S.stands self.old.store facts → MayBeAdded facts fact.now }
+        requires news { (facts : List AFact) → S.stands self.old.store facts → IsNews facts fact.now }
+        requires fits { FitsFrame fact.now }
         requires no_boot { (facts : List AFact) → S.stands self.old.store facts → epoch_of (fact.now ∷ facts) ≡ epoch_of facts }
         ensures answer { (facts : List AFact) → S.stands self.old.store facts
             → GivesUnless is_memory result (add_given (add_of (S.room self.old.store) (S.cells_for self.old.store fact.now) facts fact.now)) }
@@ -70,7 +74,8 @@ impl<S: FactStore + Drop> Node<S> {
 
     // Adds the fact of a planned step, if there is one.
     fn add_planned(&mut self, step: &mut Step) -> Result<(), StepFault>
-        requires { (facts : List AFact) → S.stands self.old.store facts → MayFollow facts step.old.fact }
+        requires follows { (facts : List AFact) → S.stands self.old.store facts → MayFollow facts step.old.fact }
+        requires fits { PlanFitsFrame step.old.fact }
         ensures answer { (facts : List AFact) → S.stands self.old.store facts
             → GivesUnless is_memory (written result step.new) (step_taken (room_of S.room S.cells_for self.old.store) facts step.old step.old.fact) }
         ensures ok { (cluster : ACluster) (me : ℕ) (facts : List AFact) (volatile : AVolatile) → Stands S.stands self.old cluster me facts volatile
@@ -214,6 +219,9 @@ impl<S: FactStore + Drop> Node<S> {
     // A message of the cluster came to this node.
     fn receive(&mut self, from: Centre, message: &Message, step: &mut Step) -> Result<(), StepFault>
         requires message { IsWellFormedMessage message.now }
+        requires short { accept_length message.now ≤ 2097152 }
+        requires centre { is_centre self.old.cluster from ≡ true }
+        requires running { IsRunning S.stands self.old }
         requires member { from ≤ self.old.cluster.quorums.centres }
         requires blank { step.old ≡ blank }
         ensures { Does S.stands S.room S.cells_for self.old (written result step.new) self.new (λ cluster me facts volatile. message_step built cluster me facts volatile from message.now) }
@@ -225,6 +233,8 @@ impl<S: FactStore + Drop> Node<S> {
     // A message came. It is refused where it is for another centre or not of the cluster.
     fn deliver(&mut self, envelope: &Envelope, step: &mut Step) -> Result<(), StepFault>
         requires message { IsWellFormedEnvelope envelope.now }
+        requires short { accept_length envelope.now.message ≤ 2097152 }
+        requires running { IsRunning S.stands self.old }
         requires blank { step.old ≡ blank }
         ensures { Follows S.stands self.old (written result step.new) self.new (λ cluster me facts volatile. step_by (room_of S.room S.cells_for self.old.store) built cluster me facts volatile (AInput.Message envelope.now)) }
     {
@@ -237,6 +247,7 @@ impl<S: FactStore + Drop> Node<S> {
     // What an input does.
     fn act_on(&mut self, input: &Input, step: &mut Step) -> Result<(), StepFault>
         requires input { IsGiven input.now }
+        requires running { IsRunning S.stands self.old }
         requires blank { step.old ≡ blank }
         ensures { Follows S.stands self.old (written result step.new) self.new (λ cluster me facts volatile. step_by (room_of S.room S.cells_for self.old.store) built cluster me facts volatile input.now) }
     {
@@ -253,11 +264,12 @@ impl<S: FactStore + Drop> Node<S> {
 
     /// One input: at most one fact, the messages in order, and the answer to a client. The caller
     /// makes the fact durable before it lets anything out. A transaction was made under the
-    /// cluster's schema. A message is refused where it is for another centre or not of the cluster,
+    /// cluster's schema, and an Accept has at most 2,097,152 bytes. A message is refused where it is for another centre or not of the cluster,
     /// where its fact is, and where the leader refuses it. After a refusal the node is as it was, but
     /// where there was no memory only its facts are, and it is to be booted again.
     pub fn step(&mut self, input: &Input) -> Result<Step, StepFault>
-        requires { IsGiven input.now }
+        requires input { IsGiven input.now }
+        requires running { IsRunning S.stands self.old }
         ensures { Follows S.stands self.old result self.new (λ cluster me facts volatile. step_by (room_of S.room S.cells_for self.old.store) built cluster me facts volatile input.now) }
     {
         let mut step = blank(self.alloc);

@@ -166,7 +166,7 @@ module _ (built : Built) (cluster : Cluster) (me : ℕ) (facts : List Fact) (vol
   room-for room (Message.ClientAnswer serial answer) = tt
 
   -- what is added and kept needs no room
-  kept-message : (s : ℕ) (message : Message) → IsInRange 1 9 s → IsWellFormedMessage message → OnStep IsFormedKept (message_step built cluster me facts volatile s message)
+  pub kept-message : (s : ℕ) (message : Message) → IsInRange 1 9 s → IsWellFormedMessage message → OnStep IsFormedKept (message_step built cluster me facts volatile s message)
   kept-message s (Message.Propose choice) h w = kept-part (message_step built cluster me facts volatile s (Message.Propose choice)) (formed-message s (Message.Propose choice) h w tt)
   kept-message s (Message.Voted key version ballot tx mark) h w = kept-part (message_step built cluster me facts volatile s (Message.Voted key version ballot tx mark)) (formed-message s (Message.Voted key version ballot tx mark) h w tt)
   kept-message s (Message.Escalate key version tx cause) h w = kept-part (message_step built cluster me facts volatile s (Message.Escalate key version tx cause)) (formed-message s (Message.Escalate key version tx cause) h w tt)
@@ -286,3 +286,12 @@ module _ (built : Built) (cluster : Cluster) (me : ℕ) (facts : List Fact) (vol
         votes = votes-stay built cluster me facts volatile input step node.votes made;
         volatile_itself = record { opened = kept.1; votes = counted.0; watched = counted.1; leads = kept.2 };
       }
+
+-- what a message brings is well-formed, also where the store has no room for it
+pub brought-formed : (built : Built) (cluster : Cluster) (me : ℕ) (facts : List Fact) (volatile : Volatile) (s : ℕ) (message : Message) (step : NodeStep) (fact : Fact)
+    → IsNode cluster me facts volatile → is_centre cluster s ≡ true → IsWellFormedMessage message
+    → message_step built cluster me facts volatile s message ≡ Ok step → step.fact ≡ Some fact → IsWellFormedFact fact
+brought-formed built cluster me facts volatile s message step fact node from w made is =
+    let sizes = node.cluster_itself.quorums in
+    let kept = kept-message built cluster me facts volatile sizes (centre-range cluster me sizes node.centre) node.facts_themselves node.volatile_itself s message (centre-range cluster s sizes from) w in
+    holds-at IsWellFormedFact step.fact fact (on_made IsFormedKept _ step kept made).0 is

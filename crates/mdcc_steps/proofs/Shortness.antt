@@ -15,6 +15,7 @@ use Rattle.mdcc_option.specs.declared.items.Delta.{Delta}
 use Rattle.mdcc_option.specs.declared.items.Part.{Part}
 use Rattle.mdcc_struct.specs.declared.options.Options.{Options}
 use Rattle.mdcc_protocol.specs.Acceptor.{on_accept, on_prepare, on_propose}
+use Rattle.mdcc_protocol.specs.Belongs.{is_centre}
 use Rattle.mdcc_rules.specs.AcceptorRules.{accepted_step, ask_step_by, prepared_step, proposed_step}
 use Rattle.mdcc_switches.specs.Built.{Built}
 use Rattle.mdcc_protocol.specs.Facts.{epoch_of, heard_of, is_heard, vote_of, votes_of}
@@ -50,7 +51,7 @@ use Rattle.mdcc_steps.specs.Forming.{HasRoom, IsNode, accept_length_in, accept_l
 use Rattle.mdcc_steps.proofs.Sending.{HasRoomIn, IsGoodSent}
 use Rattle.mdcc_steps.specs.Inputs.{IsWellFormedInput}
 use Rattle.mdcc_steps.proofs.Allowing.{OnStep, on_checked, on_rule}
-use Rattle.mdcc_steps.proofs.Dispatched.{fact-formed, sends-good}
+use Rattle.mdcc_steps.proofs.Dispatched.{brought-formed, fact-formed, sends-good}
 use Rattle.mdcc_steps.proofs.Each.{each-weaker}
 use Rattle.mdcc_steps.proofs.Structuring.{crowded-few}
 use Rattle.mdcc_protocol.specs.Marks.{accepts_in, rejects_in}
@@ -218,7 +219,7 @@ module _ (built : Built) (cluster : Cluster) (me : ℕ) (facts : List Fact) (vol
   single-message s (Message.ClientBegin serial parts) e = tt
   single-message s (Message.ClientAnswer serial answer) e = tt
 
-  brief-message : (s : ℕ) (envelope : Envelope) → OnStep (IsBriefStep (accept_length envelope.message)) (message_step built cluster me facts volatile s envelope.message)
+  pub brief-message : (s : ℕ) (envelope : Envelope) → OnStep (IsBriefStep (accept_length envelope.message)) (message_step built cluster me facts volatile s envelope.message)
   brief-message s envelope = by_message envelope.message refl
     where
       other : (message : Message) → is_accept_message message ≡ false → OnStep (IsBriefStep (accept_length envelope.message)) (message_step built cluster me facts volatile s message)
@@ -272,6 +273,22 @@ fact-short built cluster me facts volatile input step fact few node w made is =
       | inl one ↦ in-frame (fact_length fact) (longest-fact fact formed one)
       | inr same ↦ within (fact_length fact) (accept_length_in input) same few
     ]
+
+pub brought-fits : (built : Built) (cluster : Cluster) (me : ℕ) (facts : List Fact) (volatile : Volatile) (s : ℕ) (message : Message) (step : NodeStep) (fact : Fact)
+    → accept_length message ≤ 2097152
+    → IsNode cluster me facts volatile → is_centre cluster s ≡ true → IsWellFormedMessage message
+    → message_step built cluster me facts volatile s message ≡ Ok step → step.fact ≡ Some fact
+    → IsWellFormedFact fact × (fact_length fact ≤ 2097152)
+brought-fits built cluster me facts volatile s message step fact few node from w made is =
+    let formed = brought-formed built cluster me facts volatile s message step fact node from w made is in
+    let envelope : Envelope = record { from = s; to = s; message = message } in
+    let short = holds-at (IsBrief (accept_length message)) step.fact fact (on_made (IsBriefStep (accept_length message)) _ step (brief-message built cluster me facts volatile s envelope) made) is in (
+      formed,
+      elim short [
+        | inl one ↦ in-frame (fact_length fact) (longest-fact fact formed one)
+        | inr same ↦ within (fact_length fact) (accept_length message) same few
+      ],
+    )
 
 -- ---- the structures that a step sends
 

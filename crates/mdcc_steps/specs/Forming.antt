@@ -9,10 +9,10 @@ use Rattle.mdcc_switches.specs.Built.{Built}
 use Rattle.mdcc_protocol.specs.IsCluster.{IsCluster}
 use Rattle.mdcc_base.specs.Counts.{sum_over}
 use Rattle.mdcc_messages.specs.Lengths.{body_length, cells_used, fact_length, log_length}
-use Rattle.mdcc_rules.specs.Node.{step_of}
+use Rattle.mdcc_rules.specs.Node.{message_step, step_of}
 use Rattle.mdcc_rules.specs.Steps.{NodeStep}
 use Rattle.mdcc_protocol.specs.Volatile.{Volatile, nothing_kept}
-use Rattle.mdcc_messages.specs.WellFormed.{IsWellFormedEnvelope, IsWellFormedFact}
+use Rattle.mdcc_messages.specs.WellFormed.{IsWellFormedEnvelope, IsWellFormedFact, IsWellFormedMessage}
 use Rattle.mdcc_messages.specs.declared.facts.Fact.{Fact}
 use Rattle.mdcc_messages.specs.declared.messages.Message.{Message}
 use Rattle.mdcc_rules.specs.declared.node.Input.{Input}
@@ -123,6 +123,15 @@ AddedFactIsShort =
     → IsNode cluster me facts volatile → IsWellFormedInput input
     → step_of built cluster me facts volatile input ≡ Ok step → step.fact ≡ Some fact
     → fact_length fact ≤ 2097152
+
+-- so it is of the fact that a message brings, also where the store has no room for it
+abbrev pub BroughtFactFits : Type 0
+BroughtFactFits =
+    (built : Built) (cluster : Cluster) (me : ℕ) (facts : List Fact) (volatile : Volatile) (s : ℕ) (message : Message) (step : NodeStep) (fact : Fact)
+    → accept_length message ≤ 2097152
+    → IsNode cluster me facts volatile → IsTrue (is_centre cluster s) → IsWellFormedMessage message
+    → message_step built cluster me facts volatile s message ≡ Ok step → step.fact ≡ Some fact
+    → IsWellFormedFact fact × (fact_length fact ≤ 2097152)
 
 -- each Accept that a step sends has at most 1,474,618 bytes: it has at most 1,024 accepted and 32,768 rejected marks
 abbrev pub StructuresHaveRoom : Type 0

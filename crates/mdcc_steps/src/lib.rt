@@ -3,7 +3,7 @@
 
 ghost use Rattle.mdcc_steps.specs.Adding.{AddedFactIsAllowed, FactsStayAllowed, NoVotesAtBoot, NodeStaysBooted, VotesStayOf};
 ghost use Rattle.mdcc_steps.specs.Answering.{AnswerIsWellFormed};
-ghost use Rattle.mdcc_steps.specs.Forming.{AddedFactIsShort, AddedFactIsWellFormed, BootGivesNode, BootKeepsRoom, BootReadsFacts, CellsGiveRoom, LogsGiveRoom, NodeStays, RoomStays, SendsAreWellFormed, StructuresHaveRoom};
+ghost use Rattle.mdcc_steps.specs.Forming.{AddedFactIsShort, AddedFactIsWellFormed, BootGivesNode, BootKeepsRoom, BootReadsFacts, BroughtFactFits, CellsGiveRoom, LogsGiveRoom, NodeStays, RoomStays, SendsAreWellFormed, StructuresHaveRoom};
 
 /// A fact that a step adds is allowed after the node's facts, so that a boot over the log accepts it.
 pub fn added_facts_are_allowed()
@@ -22,6 +22,7 @@ pub fn votes_stay_of_the_cluster()
 pub fn steps_are_well_formed()
     ensures fact { AddedFactIsWellFormed }
     ensures short { AddedFactIsShort }
+    ensures brought { BroughtFactFits }
     ensures sends { SendsAreWellFormed }
     ensures roomy { StructuresHaveRoom }
     ensures answer { AnswerIsWellFormed }

@@ -73,7 +73,7 @@ module _ (world : TheWorld) (w : World) (number : ℕ) (envelope : Envelope) (li
   pub sent-formed : IsWellFormedEnvelope envelope
   sent-formed = subst (λ (e : Envelope). IsWellFormedEnvelope e) is.same (each-numbered (IsSent w.cluster) w.sent number is.sent like.records.itself.sent is.there).envelope_itself
 
-  sent-short : accept_length envelope.message ≤ 2097152
+  pub sent-short : accept_length envelope.message ≤ 2097152
   sent-short = subst (λ (e : Envelope). accept_length e.message ≤ 2097152) is.same (each-numbered (IsSent w.cluster) w.sent number is.sent like.records.itself.sent is.there).short
 
   pub sent-node : envelope.to ≤ length world.nodes.items

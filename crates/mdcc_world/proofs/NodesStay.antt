@@ -9,7 +9,8 @@ use Rattle.mdcc_facts.specs.declared.list_facts.ListFacts.{ListFacts}
 use Rattle.mdcc_base.specs.Unless.{GivesUnless}
 use Rattle.mdcc_base.specs.declared.faults.Memory.{Memory}
 use Rattle.mdcc_base.specs.declared.key.Key.{Key}
-use Rattle.mdcc_node.specs.Stepping.{IsGiven, UnlessMemory, facts_left, is_memory, volatile_left, with_new}
+use Rattle.mdcc_node.specs.Running.{IsRunning}
+use Rattle.mdcc_node.specs.Stepping.{UnlessMemory, facts_left, is_memory, volatile_left, with_new}
 use Rattle.mdcc_node.specs.declared.node.Node.{Node}
 use Rattle.mdcc_option.specs.declared.cluster.Cluster.{Cluster}
 use Rattle.mdcc_protocol.specs.Belongs.{is_centre}
@@ -28,8 +29,8 @@ use Rattle.mdcc_steps.specs.Inputs.{IsWellFormedInput}
 use Rattle.mdcc_worlds.proofs.Begins.{first-facts, first-site}
 use Rattle.mdcc_worlds.proofs.Stays.{each-put, facts-here, facts-there, happened-taken, refused-same, site-here, site-there}
 use Rattle.mdcc_worlds.proofs.Within.{made-stays}
-use Rattle.mdcc_logs.specs.Nodes.{AreStarted, IsNodeOf}
-use Rattle.mdcc_world.specs.Nodes.{NodesStand, is_memory_made}
+use Rattle.mdcc_logs.specs.Nodes.{AreStarted, IsNodeOf, are_stored}
+use Rattle.mdcc_world.specs.Nodes.{NodesStand, RunsAt, is_memory_made}
 use Rattle.mdcc_worlds.specs.Sending.{StaysWithin}
 use Rattle.mdcc_worlds.specs.Standing.{IsWorld}
 use Rattle.mdcc_worlds.specs.Taking.{world_taken}
@@ -173,13 +174,6 @@ after-step nodes w a node input standing world some few formed =
 
 -- ---- what is made of an input
 
--- what a node is given is well-formed
-pub given-input : (input : Input) → IsWellFormedInput input → IsGiven input
-given-input (Input.Message envelope) formed = formed
-given-input Input.Tick formed = tt
-given-input (Input.Read key) formed = tt
-given-input (Input.Begin parts) formed = tt
-
 -- a read leaves the nodes as they were
 pub read-left : (nodes : List (Node ListFacts)) (w : World) (a : ℕ) (key : Key) → IsWorld w → is_centre w.cluster a ≡ true
     → NodesStand nodes (input_happened w a (step_at built w a (Input.Read key))).world → NodesStand nodes w
@@ -225,3 +219,19 @@ pub node-under : (nodes : List (Node ListFacts)) (w : World) (a place : ℕ) (no
 node-under nodes w a place node standing up some few there is =
     subst (λ (n : Node ListFacts). IsNodeOf n w.cluster a (facts_of w.ledger a) (centre_at w a).volatile) is
     (node-in nodes w a place node standing up some few there is)
+
+-- a node of a centre that is up has facts and a state as steps bring them about
+pub runs-at : (nodes : List (Node ListFacts)) (a place : ℕ) (node : Node ListFacts) → RunsAt nodes a → 1 ≤ a → a ≤ length nodes → place ≡ a
+    → node ≡ get_or nodes (place - 1) node → IsRunning are_stored (get_or nodes (place - 1) node)
+runs-at nodes a place node runs some few there is = record {
+  cluster = runs.world.cluster;
+  me = a;
+  facts = facts_of runs.world.ledger a;
+  volatile = (centre_at runs.world a).volatile;
+  itself = node-under nodes runs.world a place node runs.standing runs.up some few there is;
+  kept = runs.itself.nodes a (and_parts (is_centre runs.world.cluster a) (centre_at runs.world a).is_up runs.up).0;
+}
+
+-- a centre that is up in a world has such a node
+pub runs-in : (nodes : List (Node ListFacts)) (w : World) (a : ℕ) → IsWorld w → NodesStand nodes w → is_up_at w a ≡ true → RunsAt nodes a
+runs-in nodes w a itself standing up = record { world = w; itself = itself; standing = standing; up = up }

@@ -8,6 +8,7 @@ use Rattle.mdcc_ledger.specs.Ledger.{facts_of}
 use Rattle.mdcc_simulation.specs.State.{World, centre_at, is_up_at}
 use Rattle.mdcc_rules.specs.declared.node.Step.{Step}
 use Rattle.mdcc_rules.specs.declared.node.StepFault.{StepFault}
+use Rattle.mdcc_worlds.specs.Standing.{IsWorld}
 
 -- a node for each centre; that of a centre that is up stands over a store of what the centre added, and that of another counts
 -- for nothing
@@ -15,6 +16,13 @@ pub record NodesStand (nodes : List (Node ListFacts)) (w : World) : Type 0 where
   pub as_many : length nodes ≡ w.cluster.quorums.centres
   pub each : (place : ℕ) (node : Node ListFacts) → slice_get nodes place ≡ Some node → (centre_at w (place + 1)).is_up ≡ true
       → IsNodeOf node w.cluster (place + 1) (facts_of w.ledger (place + 1)) (centre_at w (place + 1)).volatile
+
+-- they stand for some world in which a centre is up
+pub record RunsAt (nodes : List (Node ListFacts)) (a : ℕ) : Type 0 where
+  pub world : World
+  pub itself : IsWorld world
+  pub standing : NodesStand nodes world
+  pub up : is_up_at world a ≡ true
 
 -- which centres are up
 abbrev pub UpsStand : List Bool → World → Type 0

@@ -6,8 +6,9 @@ ghost use Rattle.mdcc_ledger.specs.Ledger.{facts_of};
 ghost use Rattle.mdcc_protocol.specs.Visible;
 ghost use Rattle.mdcc_simulation.specs.State.{World as AWorld, is_up_at};
 ghost use Rattle.mdcc_simulation.specs.Stepping.{input_happened, step_at};
+ghost use Rattle.mdcc_steps.specs.Forming.{accept_length_in};
 ghost use Rattle.mdcc_steps.specs.Inputs.{IsWellFormedInput};
-ghost use Rattle.mdcc_world.specs.Nodes.{NodesStand, is_memory_made};
+ghost use Rattle.mdcc_world.specs.Nodes.{NodesStand, RunsAt, is_memory_made};
 ghost use Rattle.mdcc_worlds.specs.Standing.{IsWorld};
 
 use mdcc_base::{Centre, Key, Memory};
@@ -35,6 +36,8 @@ pub(crate) fn step(
 ) -> Result<Result<Step, StepFault>, Memory>
     requires within { centre ≤ length nodes.old }
     requires formed { IsWellFormedInput input.now }
+    requires short { accept_length_in input.now ≤ 2097152 }
+    requires running { RunsAt nodes.old centre }
     ensures answer { (w : AWorld) → NodesStand nodes.old w → is_up_at w centre ≡ true
         → IfOk result (λ made. made ≡ given (step_at built w centre input.now)) }
     ensures left { (w : AWorld) → IsWorld w → NodesStand nodes.old w → is_up_at w centre ≡ true
@@ -49,7 +52,8 @@ pub(crate) fn read(
     centre: Centre,
     key: &Key,
 ) -> Result<Reading, Memory>
-    requires { centre ≤ length nodes.old }
+    requires within { centre ≤ length nodes.old }
+    requires running { RunsAt nodes.old centre }
     ensures shown { (w : AWorld) → NodesStand nodes.old w → is_up_at w centre ≡ true
         → IfOk result (λ reading. reading ≡ Visible.read (facts_of w.ledger centre) key.now) }
     ensures left { (w : AWorld) → IsWorld w → NodesStand nodes.old w → is_up_at w centre ≡ true

@@ -1,7 +1,7 @@
 use Rattle.mdcc_steps.proofs.Answered.{answer-formed}
 use Rattle.mdcc_steps.proofs.Dispatched.{fact-formed, node-stays, sends-formed}
 use Rattle.mdcc_steps.proofs.Roomy.{room-stays}
-use Rattle.mdcc_steps.proofs.Shortness.{fact-short, sends-short}
+use Rattle.mdcc_steps.proofs.Shortness.{brought-fits, fact-short, sends-short}
 use Rattle.mdcc_steps.proofs.steps_are_well_formed.Goals as goal
 
 pub returns-clause-fact : goal.returns-clause-fact
@@ -24,3 +24,7 @@ returns-clause-room c = room-stays
 
 pub returns-clause-roomy : goal.returns-clause-roomy
 returns-clause-roomy c = sends-short
+
+pub returns-clause-brought : goal.returns-clause-brought
+returns-clause-brought c built cluster me facts volatile s message step fact few node from w made is =
+    brought-fits built cluster me facts volatile s message step fact few node from w made is

@@ -5,12 +5,19 @@ use Rattle.mdcc_ledger.specs.Ledger.{facts_of}
 use Rattle.mdcc_rules.specs.Steps.{NodeStep}
 use Rattle.mdcc_simulation.specs.State.{centre_at}
 use Rattle.mdcc_rules.specs.declared.node.StepFault.{StepFault}
-use Rattle.mdcc_world.proofs.NodesStay.{given-input, made-is, made-kept, node-under, stepped}
+use Rattle.mdcc_world.proofs.NodesStay.{made-is, made-kept, node-under, runs-at, stepped}
 use Rattle.mdcc_world.proofs.Roomy.{step-roomy}
 use Rattle.mdcc_world.proofs.nodes.step.Goals as goal
 
-pub step-requires : goal.step-requires
-step-requires c = given-input c.args.input.now c.requires.formed
+pub step-requires-clause-input : goal.step-requires-clause-input
+step-requires-clause-input c = (c.requires.formed, c.requires.short)
+
+pub step-requires-clause-running : goal.step-requires-clause-running
+step-requires-clause-running c =
+    let a = c.args.centre in
+    let place : c.from.result ≡ a = cc in
+    let some : 1 ≤ a = (let e : c.number.result ≡ a = c.number.ensures.value in subst (λ n. 1 ≤ n) e c.number.ensures.range.0) in
+    runs-at c.args.nodes.now a c.from.result c.index-nodes-from.result c.requires.running some c.requires.within place c.index-nodes-from.is
 
 pub returns-clause-answer : goal.returns-clause-answer
 returns-clause-answer c w standing up =

@@ -1,17 +1,29 @@
-use Rattle.std.proofs.Common.{◌≡◌, ℕ, List, refl, subst}
+use Rattle.std.proofs.Common.{◌≡◌, ℕ, List, refl, subst, true}
 use Rattle.mdcc_base.specs.Unless.{GivesUnless}
 use Rattle.mdcc_built.specs.Built.{built}
 use Rattle.mdcc_messages.specs.declared.facts.Fact.{Fact}
 use Rattle.mdcc_node.proofs.Ending.{ends}
-use Rattle.mdcc_node.proofs.Planned.{fault-given, fault-left, memory-left, plan-given, plan-left}
+use Rattle.mdcc_node.proofs.Planned.{fault-given, fault-left, memory-left, plan-fits, plan-given, plan-left}
 use Rattle.mdcc_node.proofs.Standing.{memory_always}
 use Rattle.mdcc_node.specs.Planning.{kept, written}
 use Rattle.mdcc_node.specs.Stands.{Stands}
 use Rattle.mdcc_node.specs.Stepping.{is_memory, room_of, step_taken}
 use Rattle.mdcc_option.specs.declared.cluster.Cluster.{Cluster}
+use Rattle.mdcc_protocol.specs.Belongs.{is_centre}
 use Rattle.mdcc_protocol.specs.Volatile.{Volatile}
 use Rattle.mdcc_rules.specs.Node.{message_step}
+use Rattle.mdcc_steps.proofs.Shortness.{brought-fits}
 use Rattle.mdcc_node.proofs.node.Node.receive.Goals as goal
+
+pub add_planned-requires-clause-fits : goal.add_planned-requires-clause-fits
+add_planned-requires-clause-fits g c =
+    let runs = c.requires.running in
+    let from = c.args.from in
+    let message = c.args.message.now in
+    let centre : is_centre runs.cluster from ≡ true = subst (λ (cluster : Cluster). is_centre cluster from ≡ true) runs.itself.of c.requires.centre in
+    plan-fits c.take.new.step (message_step built runs.cluster runs.me runs.facts runs.volatile from message)
+    (c.in_ok-take.ensures.plan.answer runs.cluster runs.me runs.facts runs.volatile runs.itself)
+    (λ step fact made is. brought-fits built runs.cluster runs.me runs.facts runs.volatile from message step fact c.requires.short runs.kept centre c.requires.message made is)
 
 pub returns : goal.returns
 returns g c =

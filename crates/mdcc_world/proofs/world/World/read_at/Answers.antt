@@ -7,8 +7,16 @@ use Rattle.mdcc_protocol.specs.Visible
 use Rattle.mdcc_simulation.specs.Clients.{known_of}
 use Rattle.mdcc_protocol.specs.declared.visible.Reading.{Reading}
 use Rattle.mdcc_world.proofs.Counted.{has-read}
-use Rattle.mdcc_world.specs.Nodes.{NodesStand}
+use Rattle.mdcc_world.proofs.NodesStay.{runs-in}
+use Rattle.mdcc_world.specs.Nodes.{NodesStand, RunsAt}
 use Rattle.mdcc_world.proofs.world.World.read_at.Goals as goal
+
+pub read-requires-clause-running : goal.read-requires-clause-running
+read-requires-clause-running c =
+    let w = c.requires.like.0 in
+    let like = c.requires.like.1 in
+    let runs : RunsAt c.args.self.now.nodes.items c.args.centre = runs-in c.args.self.now.nodes.items w c.args.centre like.records.itself like.nodes (c.requires.up w like) in
+    rw c.deref_mut.ensures.value runs
 
 pub returns-clause-happened : goal.returns-clause-happened
 returns-clause-happened c w like =

@@ -7,9 +7,17 @@ use Rattle.mdcc_simulation.specs.Stepping.{input_happened, step_at}
 use Rattle.mdcc_rules.specs.declared.node.Input.{Input}
 use Rattle.mdcc_world.proofs.Counted.{counted-nodes, made-counted}
 use Rattle.mdcc_world.proofs.Took.{input-counted}
-use Rattle.mdcc_world.specs.Nodes.{NodesStand}
+use Rattle.mdcc_world.proofs.NodesStay.{runs-in}
+use Rattle.mdcc_world.specs.Nodes.{NodesStand, RunsAt}
 use Rattle.mdcc_worlds.proofs.Stays.{counted-stays}
 use Rattle.mdcc_world.proofs.world.World.tick_made.Goals as goal
+
+pub step-requires-clause-running : goal.step-requires-clause-running
+step-requires-clause-running c =
+    let w = c.requires.like.0 in
+    let like = c.requires.like.1 in
+    let runs : RunsAt c.args.self.now.nodes.items c.args.centre = runs-in c.args.self.now.nodes.items w c.args.centre like.records.itself like.nodes (c.requires.up w like) in
+    rw c.deref_mut.ensures.value runs
 
 pub returns-clause-made : goal.returns-clause-made
 returns-clause-made c w like =
