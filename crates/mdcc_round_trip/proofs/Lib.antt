@@ -1,0 +1,5 @@
+mod Lists
+mod Elsewhere
+mod Apart
+mod Counting
+mod Deciding

@@ -1,0 +1,19 @@
+//! One round trip: a transaction commits at the last vote of a fast quorum that accepts each of its choices.
+#![tactic(auto)]
+
+ghost use Rattle.mdcc_round_trip.specs.Accepting.{OtherKeysChangeNothing, ProposalsGiveVotes};
+ghost use Rattle.mdcc_round_trip.specs.Deciding.{QuorumsCommitAtLast};
+
+/// An acceptor that would accept each of several choices of different keys accepts them in any order: a
+/// vote on another key changes nothing that it asks. Each proposal gives a vote, which goes back to the
+/// centre that proposed.
+pub fn acceptors_accept_in_any_order()
+    ensures unchanged { OtherKeysChangeNothing }
+    ensures votes { ProposalsGiveVotes }
+{}
+
+/// A manager that counts the votes of a fast quorum on each choice, in whatever order they come, decides
+/// nothing and sees no collision before the last of them, and commits with it.
+pub fn quorums_commit_at_last()
+    ensures { QuorumsCommitAtLast }
+{}
