@@ -64,6 +64,13 @@ is_asked_by_leader (Message.Prepare key version through ballot) = true
 is_asked_by_leader (Message.Accept key version ballot options) = true
 is_asked_by_leader _ = false
 
+-- whether a leader is asked, or answered
+abbrev pub is_for_leader : Message → Bool
+is_for_leader (Message.Lead choice) = true
+is_for_leader (Message.Promise key version through ballot reported votes) = true
+is_for_leader (Message.Refused key version ballot promised) = true
+is_for_leader _ = false
+
 -- ---- what is left out
 
 -- at a tick a claim that is refused is left out, but for want of memory

@@ -11,6 +11,7 @@ mod manager_rules;
 pub mod node;
 mod sends;
 mod steps;
+mod sync_rules;
 mod votes;
 
 pub use mdcc_rules::{Answer, BootFault, Input, Step, StepFault};

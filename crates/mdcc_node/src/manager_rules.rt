@@ -13,7 +13,7 @@ ghost use Rattle.mdcc_protocol.specs.Facts.{is_heard};
 ghost use Rattle.mdcc_protocol.specs.Manager.{key_refused as key_refused_of, would_decide};
 ghost use Rattle.mdcc_protocol.specs.Volatile.{Volatile as AVolatile};
 ghost use Rattle.mdcc_rules.specs.ManagerRules.{act_sent, begin_step, decided_step, escalate_step, opened_step, proposals_sent, undecided_step, voted_step};
-ghost use Rattle.mdcc_rules.specs.SyncRules.{give_sent, outcome_step};
+ghost use Rattle.mdcc_rules.specs.SyncRules.{outcome_step};
 ghost use Rattle.mdcc_rules.specs.declared.node.Answer.{Answer as AnAnswer};
 
 use crate::node::Node;
@@ -25,7 +25,7 @@ use mdcc_messages::{Envelope, Fact, Message};
 use mdcc_option::{BeginFault, Cause, Outcome, Transaction};
 use mdcc_protocol::{ManagerAct, Vote};
 use mdcc_rules::{Answer, Step, StepFault};
-use mdcc_visible::{on_outcome, on_sync_ask};
+use mdcc_visible::on_outcome;
 
 impl<S: FactStore + Drop> Node<S> {
     // ---- begins
@@ -80,25 +80,6 @@ impl<S: FactStore + Drop> Node<S> {
     }
 
     // ---- acts
-
-    // What this node holds of a key goes to a centre.
-    fn give(&self, to: u8, key: &Key, sends: &mut HeapList<Envelope>) -> Result<(), Memory>
-        ensures { (facts : List AFact) → S.stands self.now.store facts
-            → OnOk result (sends.new ≡ sends.old ++ give_sent self.now.centre facts to key.now) }
-    {
-        match on_sync_ask(self.alloc, &self.store, key)? {
-            Some(give) => {
-                let message = Message::SyncGive {
-                    key: give.key,
-                    version: give.version,
-                    item: give.item,
-                    adds: give.adds,
-                };
-                send(self.centre.number(), to, message, sends)
-            }
-            None => Ok(()),
-        }
-    }
 
     // What an act of the manager sends.
     fn send_act(

@@ -6,7 +6,7 @@ ghost use Rattle.mdcc_facts.specs.Adding.{add_of};
 ghost use Rattle.mdcc_messages.specs.WellFormed.{IsWellFormedEnvelope, IsWellFormedMessage};
 ghost use Rattle.mdcc_messages.specs.declared.facts.Fact.{Fact as AFact};
 ghost use Rattle.mdcc_node.specs.Doing.{Does, Follows, ended};
-ghost use Rattle.mdcc_node.specs.Planning.{FitsFrame, IsNews, MayFollow, PlanFitsFrame, Plans, blank, is_asked_by_leader, is_of_fast_path, written};
+ghost use Rattle.mdcc_node.specs.Planning.{FitsFrame, IsNews, MayFollow, PlanFitsFrame, Plans, blank, is_asked_by_leader, is_for_leader, is_of_fast_path, written};
 ghost use Rattle.mdcc_node.specs.Running.{IsRunning};
 ghost use Rattle.mdcc_node.specs.Stands.{Stands};
 ghost use Rattle.mdcc_node.specs.Stepping.{IsGiven, add_given, is_memory, room_of, step_by, step_taken, with_new};
@@ -27,7 +27,7 @@ use mdcc_leader::Leader;
 use mdcc_manager::Manager;
 use mdcc_messages::{Envelope, Fact, Message};
 use mdcc_option::Cluster;
-use mdcc_protocol::{Promise, Vote};
+use mdcc_protocol::{Give, Promise, Vote};
 use mdcc_rules::{Answer, Input, Step, StepFault};
 use mdcc_visible::read;
 use std::alloc::Global;
@@ -92,6 +92,44 @@ impl<S: FactStore + Drop> Node<S> {
         Ok(())
     }
 
+    // A centre asks for what is held of a key, or gives it; or a message that this node does not take.
+    fn take_sync(
+        &mut self,
+        from: Centre,
+        message: &Message,
+        step: &mut Step,
+    ) -> Result<(), StepFault>
+        requires other { is_of_fast_path message.now ≡ false }
+        requires left { is_asked_by_leader message.now ≡ false }
+        requires led { is_for_leader message.now ≡ false }
+        requires blank { step.old ≡ blank }
+        ensures plan { Plans S.stands self.old (written result step.new) self.new (λ cluster me facts volatile. message_step built cluster me facts volatile from message.now) }
+        ensures fact { (facts : List AFact) → S.stands self.old.store facts → OnOk result (MayFollow facts step.new.fact) }
+    {
+        match message {
+            Message::SyncAsk(key) => {
+                self.give(from.number(), key, &mut step.sends)?;
+                Ok(())
+            }
+            Message::SyncGive {
+                key,
+                version,
+                item,
+                adds,
+            } => {
+                let give = Give {
+                    key: *key,
+                    version: *version,
+                    item: item.copy(),
+                    adds: adds.copy(self.alloc)?,
+                };
+                self.adopt(&give, step)?;
+                Ok(())
+            }
+            _ => Ok(()),
+        }
+    }
+
     // A message to this node's leader came, or one that this node does not take.
     fn take_led(
         &mut self,
@@ -135,7 +173,7 @@ impl<S: FactStore + Drop> Node<S> {
                 self.take_refusal(key, *ballot, *promised);
                 Ok(())
             }
-            _ => Ok(()),
+            _ => self.take_sync(from, message, step),
         }
     }
 

@@ -10,6 +10,8 @@ mod begins;
 #[cfg(test)]
 mod bytes;
 #[cfg(test)]
+mod catching_up;
+#[cfg(test)]
 mod foreign;
 #[cfg(test)]
 mod manager;
