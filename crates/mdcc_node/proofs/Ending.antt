@@ -31,12 +31,12 @@ use Rattle.mdcc_protocol.specs.declared.leader.Promise.{Promise}
 use Rattle.mdcc_protocol.specs.declared.manager.ManagerAct.{ManagerAct}
 use Rattle.mdcc_protocol.specs.declared.visible.Give.{Give}
 use Rattle.mdcc_protocol.specs.declared.votes.Vote.{Vote}
-use Rattle.mdcc_rules.specs.AcceptorRules.{accept_step, accepted_step, all_votes_sent, ask_step_by, prepare_step, prepared_step, propose_step, proposed_step, votes_sent}
+use Rattle.mdcc_rules.specs.AcceptorRules.{accept_step, accepted_step, all_votes_sent, ask_step, ask_step_by, prepare_step, prepared_step, propose_step, proposed_step, votes_sent}
 use Rattle.mdcc_rules.specs.LeaderRules.{lead_step_after, led_of, promised_by_answer, step_of_led}
 use Rattle.mdcc_rules.specs.ManagerRules.{acted_step, opened_step, undecided_step, voted_step, watched_step}
 use Rattle.mdcc_rules.specs.Node.{message_step, rule}
 use Rattle.mdcc_rules.specs.Steps.{NodeStep, StepPart, nothing_done}
-use Rattle.mdcc_rules.specs.SyncRules.{outcome_step, outcome_step_by, sync_give_step_by}
+use Rattle.mdcc_rules.specs.SyncRules.{outcome_step, outcome_step_by, sync_give_step, sync_give_step_by}
 use Rattle.mdcc_rules.specs.declared.node.Step.{Step}
 use Rattle.mdcc_rules.specs.declared.node.StepFault.{StepFault}
 use Rattle.mdcc_struct.specs.Maps.{value_of}
@@ -118,6 +118,36 @@ module _ (facts : List Fact) (volatile : Volatile) (tx : TxId) (outcome : Outcom
   pub outcome-adds : AddsAlone facts volatile (outcome_step facts volatile tx outcome)
   outcome-adds = outcome-by (is_heard facts tx) refl
 
+module _ (me : ℕ) (facts : List Fact) (volatile : Volatile) (s : ℕ) (tx : TxId) (key : Key) (version : ℕ) where
+  -- what is asked is answered by messages alone
+  pub asked-by : (heard : Option Outcome) (vote : Option (Ballot × Mark)) (sends : List Envelope)
+      → sends ≡ [] ++ (ask_step_by me volatile s tx key version heard vote).sends
+      → (record { fact = None; sends = sends; heard = None; answer = None }) ≡ planned (ask_step_by me volatile s tx key version heard vote)
+  asked-by (Some outcome) vote sends e = rw e refl
+  asked-by None (Some vote) sends e = rw e refl
+  asked-by None None sends e = rw e refl
+
+  asked-keeps : (heard : Option Outcome) (vote : Option (Ballot × Mark)) → AddsAlone facts volatile (ask_step_by me volatile s tx key version heard vote)
+  asked-keeps (Some outcome) vote = record { ends = tt; keeps = refl; follows = tt }
+  asked-keeps None (Some vote) = record { ends = tt; keeps = refl; follows = tt }
+  asked-keeps None None = record { ends = tt; keeps = refl; follows = tt }
+
+  pub asked-adds : AddsAlone facts volatile (ask_step me facts volatile s tx key version)
+  asked-adds = asked-keeps (heard_of facts tx) (vote_of facts key version tx)
+
+  pub asked-plan : (sends : List Envelope) → sends ≡ [] ++ (ask_step me facts volatile s tx key version).sends
+      → (record { fact = None; sends = sends; heard = None; answer = None }) ≡ planned (ask_step me facts volatile s tx key version)
+  asked-plan = asked-by (heard_of facts tx) (vote_of facts key version tx)
+
+module _ (facts : List Fact) (volatile : Volatile) (give : Give) where
+  adopted-by : (news : Bool)
+      → AddsAlone facts volatile (sync_give_step_by volatile (if news then Some (Fact.Adopted give.key give.version give.item give.adds) else None))
+  adopted-by true = record { ends = refl; keeps = refl; follows = (record { promised = refl; voted = refl; heard = refl }, refl) }
+  adopted-by false = record { ends = tt; keeps = refl; follows = tt }
+
+  pub adopted-adds : AddsAlone facts volatile (sync_give_step facts volatile give)
+  adopted-adds = adopted-by (is_news facts give.key give.version give.adds)
+
 -- ---- all rules
 
 module _ (volatile : Volatile) where
@@ -172,11 +202,6 @@ module _ (volatile : Volatile) where
   ends-ask me s tx key version None (Some vote) = tt
   ends-ask me s tx key version None None = tt
 
-  ends-give : (give : Give) (news : Bool)
-      → EndsIn volatile (Ok (sync_give_step_by volatile (if news then Some (Fact.Adopted give.key give.version give.item give.adds) else None)))
-  ends-give give true = refl
-  ends-give give false = tt
-
   pub ends : (built : Built) (cluster : Cluster) (me : ℕ) (facts : List Fact) (s : ℕ) (message : Message)
       → EndsIn volatile (message_step built cluster me facts volatile s message)
   ends built cluster me facts s (Message.Propose choice) = ends-rule built.proposals _ (propose-adds me facts volatile s cluster choice).ends
@@ -198,31 +223,12 @@ module _ (volatile : Volatile) where
       ends-rule built.recovery _ (ends-ask me s tx key version (heard_of facts tx) (vote_of facts key version tx))
   ends built cluster me facts s (Message.SyncAsk key) = ends-rule built.catching_up _ tt
   ends built cluster me facts s (Message.SyncGive key version item adds) =
-      ends-rule built.catching_up _ (ends-give (record { key = key; version = version; item = item; adds = adds }) (is_news facts key version adds))
+      ends-rule built.catching_up _ (adopted-adds facts volatile (record { key = key; version = version; item = item; adds = adds })).ends
   ends built cluster me facts s (Message.ClientRead serial key) = tt
   ends built cluster me facts s (Message.ClientBegin serial parts) = tt
   ends built cluster me facts s (Message.ClientAnswer serial answer) = tt
 
--- ---- votes on what is not open
-
-unwatched : (cluster : Cluster) (me : ℕ) (facts : List Fact) (volatile : Volatile) (vote : Vote) → volatile.recovery ≡ nothing_kept.recovery
-    → watched_step cluster me facts volatile vote (Recover.would_decide cluster.quorums facts volatile.recovery vote) ≡ nothing_done volatile
-unwatched cluster me facts volatile vote e =
-    subst (λ r. watched_step cluster me facts (record volatile { recovery = r }) vote (Recover.would_decide cluster.quorums facts r vote) ≡ nothing_done (record volatile { recovery = r }))
-    (sym e) refl
-
-closed-by : (heard : Bool) (nothing opened watched : NodeStep) → watched ≡ nothing
-    → (if heard then nothing else (if false then opened else watched)) ≡ nothing
-closed-by true nothing opened watched e = refl
-closed-by false nothing opened watched e = e
-
--- a vote on a transaction that is neither open nor watched changes nothing
-pub voted-closed : (built : Built) (cluster : Cluster) (me : ℕ) (facts : List Fact) (volatile : Volatile) (vote : Vote)
-    → volatile.recovery ≡ nothing_kept.recovery → is_open volatile.manager vote.tx ≡ false
-    → voted_step built cluster me facts volatile vote ≡ nothing_done volatile
-voted-closed built cluster me facts volatile vote e closed =
-    rw closed (closed-by (is_heard facts vote.tx) (nothing_done volatile) (nothing_done volatile)
-    (watched_step cluster me facts volatile vote (Recover.would_decide cluster.quorums facts volatile.recovery vote)) (unwatched cluster me facts volatile vote e))
+-- ---- votes on what was heard
 
 pub voted-heard : (built : Built) (cluster : Cluster) (me : ℕ) (facts : List Fact) (volatile : Volatile) (vote : Vote)
     → is_heard facts vote.tx ≡ true → voted_step built cluster me facts volatile vote ≡ nothing_done volatile

@@ -6,4 +6,5 @@ pub mod Planned
 pub mod Ranges
 pub mod Rooms
 pub mod Standing
+pub mod Ticks
 pub mod Unvoted

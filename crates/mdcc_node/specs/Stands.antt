@@ -8,11 +8,11 @@ use Rattle.mdcc_option.specs.declared.cluster.Cluster.{Cluster}
 use Rattle.mdcc_protocol.specs.Belongs.{is_centre}
 use Rattle.mdcc_protocol.specs.Facts.{epoch_of}
 use Rattle.mdcc_rules.specs.Steps.{NodeStep}
-use Rattle.mdcc_protocol.specs.Volatile.{Volatile, nothing_kept}
+use Rattle.mdcc_protocol.specs.Volatile.{Volatile}
+use Rattle.mdcc_recover.specs.Stands.{Stands as RecoverStands}
 use Rattle.mdcc_messages.specs.declared.facts.Fact.{Fact}
 use Rattle.mdcc_rules.specs.declared.node.StepFault.{StepFault}
 
--- as long as no centre recovers, nothing is kept for that
 pub record Stands {S : Type 0} (stands : S → List Fact → Type 0) (node : Node S) (cluster : Cluster) (me : ℕ) (facts : List Fact) (volatile : Volatile) : Type 0 where
   pub of : node.cluster ≡ cluster
   pub at : node.centre ≡ me
@@ -20,7 +20,7 @@ pub record Stands {S : Type 0} (stands : S → List Fact → Type 0) (node : Nod
   pub store : stands node.store facts
   pub manager : ManagerStands node.manager me (epoch_of facts) cluster.quorums volatile.manager
   pub leader : LeaderStands node.leader me (epoch_of facts) cluster.quorums volatile.leader
-  pub recovery : volatile.recovery ≡ nothing_kept.recovery
+  pub recovery : RecoverStands node.recover cluster.quorums volatile.recovery
 
 -- the node after a step, or after a refusal that left it as it was
 abbrev pub Left : {S : Type 0} → (S → List Fact → Type 0) → Node S → Cluster → ℕ → List Fact → Volatile → Result NodeStep StepFault → Type 0

@@ -12,6 +12,7 @@ use mdcc_leader::Leader;
 use mdcc_manager::Manager;
 use mdcc_messages::Fact;
 use mdcc_option::Cluster;
+use mdcc_recover::Recover;
 use mdcc_rules::BootFault;
 use std::alloc::Global;
 
@@ -42,6 +43,7 @@ impl<S: FactStore + Drop> Node<S> {
             Ok(epoch) => {
                 let manager = Manager::new(alloc, centre, epoch)?;
                 let leader = Leader::new(alloc, centre, epoch)?;
+                let recover = Recover::new(alloc)?;
                 let node = Node {
                     alloc,
                     cluster,
@@ -49,6 +51,7 @@ impl<S: FactStore + Drop> Node<S> {
                     store,
                     manager,
                     leader,
+                    recover,
                 };
                 Ok((node, Fact::Booted(epoch)))
             }

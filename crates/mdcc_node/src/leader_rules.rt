@@ -1,4 +1,4 @@
-//! The node's rules around its leader: claims, promises and refusals, and its part of a tick.
+//! The node's rules around its leader: claims, promises and refusals, and the open transactions at a tick.
 ghost use Rattle.std.specs.Prelude.{◌≡◌, ◌≤◌, List, Ok, ℕ};
 ghost use Rattle.mdcc_built.specs.Built.{built};
 ghost use Rattle.mdcc_messages.specs.declared.facts.Fact.{Fact as AFact};
@@ -8,7 +8,7 @@ ghost use Rattle.mdcc_option.specs.declared.cluster.Cluster.{Cluster as ACluster
 ghost use Rattle.mdcc_protocol.specs.Volatile.{Volatile as AVolatile};
 ghost use Rattle.mdcc_rules.specs.LeaderRules.{lead_step, led_of, promise_step, refused_step, step_of_led};
 ghost use Rattle.mdcc_rules.specs.Steps.{step_of_part};
-ghost use Rattle.mdcc_rules.specs.TickRules.{claim_led, manager_act, tick_step};
+ghost use Rattle.mdcc_rules.specs.TickRules.{claim_led, manager_act, manager_ticked};
 
 use crate::node::Node;
 use crate::sends::{propose, send, send_lead, send_promised};
@@ -82,7 +82,7 @@ impl<S: FactStore + Drop> Node<S> {
     // ---- the tick
 
     // A claim is led here; one that the leader refuses is left out.
-    fn lead_or_leave(
+    pub(crate) fn lead_or_leave(
         &mut self,
         claim: &Claim,
         sends: &mut HeapList<Envelope>,
@@ -113,9 +113,9 @@ impl<S: FactStore + Drop> Node<S> {
         }
     }
 
-    // Time has passed. Each act sees the leader that those before it left.
-    pub(crate) fn tick(&mut self, sends: &mut HeapList<Envelope>) -> Result<(), StepFault>
-        ensures { Acts S.stands self.old sends.old (written result sends.new) self.new (λ cluster me facts volatile. Ok (tick_step built cluster me facts volatile)) }
+    // Time has passed for the open transactions. Each act sees the leader that those before it left.
+    pub(crate) fn tick_opened(&mut self, sends: &mut HeapList<Envelope>) -> Result<(), StepFault>
+        ensures { Acts S.stands self.old sends.old (written result sends.new) self.new (λ cluster me facts volatile. Ok (step_of_part (manager_ticked built cluster me facts volatile))) }
     {
         let acts = self.manager.tick()?;
         for act in &acts {

@@ -9,6 +9,7 @@ pub mod laws;
 mod leader_rules;
 mod manager_rules;
 pub mod node;
+mod recovery_rules;
 mod sends;
 mod steps;
 mod sync_rules;

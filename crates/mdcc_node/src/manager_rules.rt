@@ -103,7 +103,7 @@ impl<S: FactStore + Drop> Node<S> {
     // ---- votes
 
     // A transaction that was not heard is decided here.
-    fn decide(&self, tx: TxId, outcome: Outcome, step: &mut Step) -> Result<(), Memory>
+    pub(crate) fn decide(&self, tx: TxId, outcome: Outcome, step: &mut Step) -> Result<(), Memory>
         requires { step.old ≡ blank }
         ensures { (volatile : AVolatile) → OnOk result (step.new ≡ planned (decided_step self.now.cluster self.now.centre volatile tx outcome)) }
     {
@@ -139,7 +139,7 @@ impl<S: FactStore + Drop> Node<S> {
         }
     }
 
-    // A vote came. One on a transaction that is not open here changes nothing.
+    // A vote came. One on a transaction that is neither open nor watched here changes nothing.
     pub(crate) fn voted(&mut self, vote: &Vote, step: &mut Step) -> Result<(), StepFault>
         requires { step.old ≡ blank }
         ensures plan { Plans S.stands self.old (written result step.new) self.new (λ cluster me facts volatile. Ok (voted_step built cluster me facts volatile vote.now)) }
@@ -148,10 +148,10 @@ impl<S: FactStore + Drop> Node<S> {
         if self.store.is_heard(vote.tx) {
             return Ok(());
         }
-        if !self.manager.is_open(vote.tx) {
-            return Ok(());
+        if self.manager.is_open(vote.tx) {
+            return self.opened(vote, step);
         }
-        self.opened(vote, step)
+        self.watched(vote, step)
     }
 
     // A centre gives no vote.

@@ -28,6 +28,7 @@ use mdcc_manager::Manager;
 use mdcc_messages::{Envelope, Fact, Message};
 use mdcc_option::Cluster;
 use mdcc_protocol::{Give, Promise, Vote};
+use mdcc_recover::Recover;
 use mdcc_rules::{Answer, Input, Step, StepFault};
 use mdcc_visible::read;
 use std::alloc::Global;
@@ -41,6 +42,7 @@ pub struct Node<S> {
     pub(crate) store: S,
     pub(crate) manager: Manager,
     pub(crate) leader: Leader,
+    pub(crate) recover: Recover,
 }
 
 impl<S: FactStore + Drop> Node<S> {
@@ -68,6 +70,7 @@ impl<S: FactStore + Drop> Node<S> {
         self.store.add(fact)?;
         if let Fact::Heard { tx, .. } = fact {
             self.manager.close(*tx);
+            self.recover.close(*tx);
         }
         Ok(())
     }
@@ -92,7 +95,8 @@ impl<S: FactStore + Drop> Node<S> {
         Ok(())
     }
 
-    // A centre asks for what is held of a key, or gives it; or a message that this node does not take.
+    // A centre asks for an outcome or a vote, or for what is held of a key, or gives it; or a message
+    // that this node does not take.
     fn take_sync(
         &mut self,
         from: Centre,
@@ -107,6 +111,10 @@ impl<S: FactStore + Drop> Node<S> {
         ensures fact { (facts : List AFact) → S.stands self.old.store facts → OnOk result (MayFollow facts step.new.fact) }
     {
         match message {
+            Message::Ask { tx, key, version } => {
+                self.asked(from.number(), *tx, key, *version, step)?;
+                Ok(())
+            }
             Message::SyncAsk(key) => {
                 self.give(from.number(), key, &mut step.sends)?;
                 Ok(())

@@ -119,6 +119,32 @@ fn accept(
     Ok(())
 }
 
+/// Asks all centres for their votes on a transaction.
+#[tactic(auto, using(crate::proofs::Ranges::next_sent))]
+pub(crate) fn ask_votes(
+    quorums: &Quorums,
+    from: u8,
+    tx: TxId,
+    key: &Key,
+    version: u64,
+    sends: &mut HeapList<Envelope>,
+) -> Result<(), Memory>
+    ensures { OnOk result (sends.new ≡ sends.old ++ to_all quorums.now from (AMessage.Ask tx key.now version)) }
+{
+    for to in 1..quorums.centres() + 1 {
+        sends.push(Envelope {
+            from,
+            to,
+            message: Message::Ask {
+                tx,
+                key: *key,
+                version,
+            },
+        })?;
+    }
+    Ok(())
+}
+
 // Tells a centre how a transaction ended, where it is another one.
 fn tell(
     from: u8,

@@ -1,8 +1,8 @@
 use Rattle.std.proofs.Common.{rules, refl}
 use Rattle.mdcc_node.proofs.node.Node.boot.Goals as goal
 
-pub returns-in_ok-leader-in-Ok-clause-boots : goal.returns-in_ok-leader-in-Ok-clause-boots
-returns-in_ok-leader-in-Ok-clause-boots g c all held =
+pub returns-in_ok-recover-in-Ok-clause-boots : goal.returns-in_ok-recover-in-Ok-clause-boots
+returns-in_ok-recover-in-Ok-clause-boots g c all held =
     let booted = c.in-Ok.ensures all held in (
       booted.0,
       booted.1,
@@ -13,6 +13,6 @@ returns-in_ok-leader-in-Ok-clause-boots g c all held =
         store = booted.2.list;
         manager = c.in_ok-manager-in-Ok.ensures c.args.cluster.quorums (search rules);
         leader = c.in_ok-leader-in-Ok.ensures c.args.cluster.quorums (search rules);
-        recovery = refl;
+        recovery = c.in_ok-recover-in-Ok.ensures c.args.cluster.quorums (search rules);
       },
     )

@@ -1,83 +1,40 @@
-use Rattle.std.proofs.Common.{◌≡◌, List, Ok, Result, ◌++◌, ◌∙◌, [], append_assoc, append-nil, arith, drop, refl}
-use Rattle.std.proofs.lemmas.List.{drop_all}
+use Rattle.std.proofs.Common.{◌≡◌, ◌++◌, ◌∙◌, [], List, Ok, Result, ap, append_assoc, subst, sym}
+use Rattle.mdcc_base.specs.Unless.{GivesUnless}
 use Rattle.mdcc_built.specs.Built.{built}
 use Rattle.mdcc_messages.specs.declared.messages.Envelope.{Envelope}
+use Rattle.mdcc_node.proofs.Ticks.{after-part}
+use Rattle.mdcc_node.specs.Planning.{written}
+use Rattle.mdcc_node.specs.Stands.{Stands}
+use Rattle.mdcc_node.specs.Stepping.{UnlessMemory, is_memory}
+use Rattle.mdcc_protocol.specs.Recover.{tick}
+use Rattle.mdcc_protocol.specs.Volatile.{Volatile, txs_opened, with_recovery}
+use Rattle.mdcc_rules.specs.Steps.{only_sending}
+use Rattle.mdcc_rules.specs.TickRules.{manager_ticked, recovery_act, recovery_ticked}
 use Rattle.mdcc_rules.specs.declared.node.StepFault.{StepFault}
-use Rattle.mdcc_node.proofs.Ending.{fold-next}
-use Rattle.mdcc_node.proofs.Led.{residual}
-use Rattle.mdcc_node.proofs.Planned.{only-memory, only-memory-left}
-use Rattle.mdcc_protocol.specs.Facts.{epoch_of}
-use Rattle.mdcc_protocol.specs.Manager.{tick}
-use Rattle.mdcc_protocol.specs.Volatile.{with_manager}
-use Rattle.mdcc_rules.specs.Steps.{and_then, only_sending}
-use Rattle.mdcc_rules.specs.TickRules.{manager_act, manager_ticked}
 use Rattle.mdcc_node.proofs.node.Node.tick.Goals as goal
 
 -- what a call that does not fail gives
 abbrev given_sends : List Envelope → Result (List Envelope) StepFault
 given_sends sends = Ok sends
 
-pub loop-act-init : goal.loop-act-init
-loop-act-init g c = record {
-  store = refl;
-  parts = λ cluster me facts volatile known. (
-    only_sending (with_manager volatile (tick cluster.quorums volatile.manager).1) [],
-    rw (append-nil c.args.sends.now) refl,
-    record {
-      of = known.of;
-      at = known.at;
-      among = known.among;
-      store = known.store;
-      manager = c.in_ok-acts.ensures.ok me (epoch_of facts) cluster.quorums volatile.manager known.manager;
-      leader = known.leader;
-      recovery = known.recovery;
-    },
-    rw (c.deref-act-items.ensures.value, c.in_ok-acts.ensures.acts me (epoch_of facts) cluster.quorums volatile.manager known.manager) refl,
-  );
-}
-
-pub returns-in_err-act : goal.returns-in_err-act
-returns-in_err-act g c =
-    let fault = c.in_err-act.field-0.0 in
-    let same = residual c.from_residual-in_err-act.result fault c.from_residual-in_err-act.ensures.1 in
-    record {
-      answer = λ cluster me facts volatile known.
-          let so = c.loop-act.invariant.parts cluster me facts volatile known in
-          rw same (only-memory fault _ _ (c.in_err-act.ensures.answer cluster me facts so.0.after so.2));
-      left = λ cluster me facts volatile known.
-          let so = c.loop-act.invariant.parts cluster me facts volatile known in
-          rw same (only-memory-left fault _ _ (c.in_err-act.ensures.answer cluster me facts so.0.after so.2));
-      store = c.in_err-act.ensures.store ∙ c.loop-act.invariant.store;
-    }
-
-pub loop-act-preserved : goal.loop-act-preserved
-loop-act-preserved g c = record {
-  store = c.in_ok-act.ensures.store ∙ c.loop-act.invariant.store;
-  parts = λ cluster me facts volatile known.
-      let so = c.loop-act.invariant.parts cluster me facts volatile known in
-      let part = so.0 in
-      let acted = manager_act built cluster me facts part.after c.act-item.result in
-      let given : given_sends c.act.new.sends ≡ given_sends (c.loop-act.sends ++ acted.sends) = c.in_ok-act.ensures.answer cluster me facts part.after so.2 in
-      let now : c.act.new.sends ≡ c.loop-act.sends ++ acted.sends = cc in (
-        and_then (manager_act built cluster me facts) part c.act-item.result,
-        rw (now, so.1, append_assoc) refl,
-        c.in_ok-act.ensures.left cluster me facts part.after so.2,
-        fold-next (and_then (manager_act built cluster me facts)) c.deref-act-items.result.now c.loop-act.act-index c.act-item.result part
-            (manager_ticked built cluster me facts volatile) (omega (arith, c.loop-act-test.true)) c.act-item.is so.3,
-      );
-}
-
 pub returns : goal.returns
 returns g c = record {
   answer = λ cluster me facts volatile known.
-      let so = c.loop-act.invariant.parts cluster me facts volatile known in
-      let past = drop_all c.loop-act.act-index c.deref-act-items.result.now (omega (arith, c.loop-act-test.false)) in
-      let done : so.0 ≡ manager_ticked built cluster me facts volatile = rw past at so.3 in
-      rw (so.1, done) refl;
+      let first = manager_ticked built cluster me facts volatile in
+      let next = tick cluster.quorums facts first.after.recovery (txs_opened first.after.manager) in
+      let second = recovery_ticked built cluster me facts (only_sending first.after []) in
+      let given : given_sends c.tick_opened.new.sends ≡ given_sends (c.args.sends.now ++ first.sends) = c.in_ok-tick_opened.ensures.answer cluster me facts volatile known in
+      let told : c.tick_opened.new.sends ≡ c.args.sends.now ++ first.sends = cc in
+      let both = after-part (recovery_act built cluster me facts) first (with_recovery first.after next.1) next.0 in
+      let same : c.tick_opened.new.sends ++ second.sends ≡ c.args.sends.now ++ (recovery_ticked built cluster me facts first).sends =
+      ap (λ (xs : List Envelope). xs ++ second.sends) told ∙ append_assoc c.args.sends.now first.sends second.sends ∙ ap (λ (xs : List Envelope). c.args.sends.now ++ xs) (sym both.0) in
+      subst (λ (xs : List Envelope). GivesUnless is_memory (written c.tick_dangling.result c.tick_dangling.new.sends) (given_sends xs)) same
+      (c.tick_dangling.ensures.answer cluster me facts first.after (c.in_ok-tick_opened.ensures.left cluster me facts volatile known));
   left = λ cluster me facts volatile known.
-      let so = c.loop-act.invariant.parts cluster me facts volatile known in
-      let past = drop_all c.loop-act.act-index c.deref-act-items.result.now (omega (arith, c.loop-act-test.false)) in
-      let done : so.0 ≡ manager_ticked built cluster me facts volatile = rw past at so.3 in
-      rw (← done) so.2;
-  store = c.loop-act.invariant.store;
+      let first = manager_ticked built cluster me facts volatile in
+      let next = tick cluster.quorums facts first.after.recovery (txs_opened first.after.manager) in
+      let both = after-part (recovery_act built cluster me facts) first (with_recovery first.after next.1) next.0 in
+      subst (λ (v : Volatile). UnlessMemory (written c.tick_dangling.result c.tick_dangling.new.sends) (Stands g.S.FactStore.stands c.tick_dangling.new.self cluster me facts v)) (sym both.1)
+      (c.tick_dangling.ensures.left cluster me facts first.after (c.in_ok-tick_opened.ensures.left cluster me facts volatile known));
+  store = c.tick_dangling.ensures.store ∙ c.in_ok-tick_opened.ensures.store;
 }

@@ -2,7 +2,7 @@ use Rattle.std.proofs.Common.{◌≡◌, ◌∙◌, sym, true, false, refl, arit
 use Rattle.mdcc_built.specs.Built.{built}
 use Rattle.mdcc_protocol.specs.Facts.{epoch_of}
 use Rattle.mdcc_protocol.specs.Volatile.{is_open}
-use Rattle.mdcc_node.proofs.Ending.{voted-closed, voted-heard}
+use Rattle.mdcc_node.proofs.Ending.{voted-heard}
 use Rattle.mdcc_node.proofs.node.Node.voted.Goals as goal
 
 pub returns-then-is_heard-clause-plan : goal.returns-then-is_heard-clause-plan
@@ -11,18 +11,5 @@ returns-then-is_heard-clause-plan g c = record {
       rw (voted-heard built cluster me facts volatile c.args.vote.now (sym (c.is_heard.ensures facts known.store) ∙ c.if-is_heard.true), c.requires) refl;
   left = λ cluster me facts volatile known.
       rw (voted-heard built cluster me facts volatile c.args.vote.now (sym (c.is_heard.ensures facts known.store) ∙ c.if-is_heard.true)) known;
-  store = refl;
-}
-
-pub returns-then-not-is_open-clause-plan : goal.returns-then-not-is_open-clause-plan
-returns-then-not-is_open-clause-plan g c = record {
-  answer = λ cluster me facts volatile known.
-      let opened = c.is_open.ensures me (epoch_of facts) cluster.quorums volatile.manager known.manager in
-      let closed : is_open volatile.manager c.args.vote.now.tx ≡ false = grind (arith, opened, c.if-not-is_open.true) in
-      rw (voted-closed built cluster me facts volatile c.args.vote.now known.recovery closed, c.requires) refl;
-  left = λ cluster me facts volatile known.
-      let opened = c.is_open.ensures me (epoch_of facts) cluster.quorums volatile.manager known.manager in
-      let closed : is_open volatile.manager c.args.vote.now.tx ≡ false = grind (arith, opened, c.if-not-is_open.true) in
-      rw (voted-closed built cluster me facts volatile c.args.vote.now known.recovery closed) known;
   store = refl;
 }

@@ -1,12 +1,12 @@
-use Rattle.std.proofs.Common.{◌≡◌, ◌++◌, List, ℕ, drop, fold}
+use Rattle.std.proofs.Common.{◌≡◌, ◌++◌, [], List, ℕ, drop, fold}
 use Rattle.mdcc_built.specs.Built.{built}
 use Rattle.mdcc_messages.specs.declared.facts.Fact.{Fact}
 use Rattle.mdcc_node.specs.Stands.{Stands}
 use Rattle.mdcc_option.specs.declared.cluster.Cluster.{Cluster}
 use Rattle.mdcc_protocol.specs.Volatile.{Volatile}
-use Rattle.mdcc_rules.specs.Steps.{StepPart, and_then}
-use Rattle.mdcc_rules.specs.TickRules.{manager_act, manager_ticked}
-use Rattle.mdcc_node.proofs.node.Node.tick.Given as goal
+use Rattle.mdcc_rules.specs.Steps.{StepPart, and_then, only_sending}
+use Rattle.mdcc_rules.specs.TickRules.{recovery_act, recovery_ticked}
+use Rattle.mdcc_node.proofs.node.Node.tick_dangling.Given as goal
 
 abbrev pub invariant-loop-act : goal.invariant-loop-act
 invariant-loop-act g l = record {
@@ -15,5 +15,5 @@ invariant-loop-act g l = record {
       → (part : StepPart)
       × (l.sends ≡ l.fn.sends ++ part.sends)
       × Stands g.S.FactStore.stands l.self cluster me facts part.after
-      × (fold (and_then (manager_act built cluster me facts)) part (drop l.act-index l.act-items) ≡ manager_ticked built cluster me facts volatile);
+      × (fold (and_then (recovery_act built cluster me facts)) part (drop l.act-index l.act-items) ≡ recovery_ticked built cluster me facts (only_sending volatile []));
 }
