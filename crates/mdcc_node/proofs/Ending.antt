@@ -1,9 +1,10 @@
 -- A rule that adds a fact changes nothing but what the fact ends, and the fact may be added.
-use Rattle.std.proofs.Common.{◌≡◌, ℕ, Bool, true, false, List, [], ◌∷◌, Option, Some, None, Ok, Err, Result, refl, sym, subst, if◌then◌else◌, not, is_some, ◌+◌, ◌++◌, append_assoc, append-nil, drop, fold, get_or, length, ◌<◌}
+use Rattle.std.proofs.Common.{◌≡◌, ap, ℕ, Bool, true, false, List, [], ◌∷◌, Option, Some, None, Ok, Err, Result, refl, sym, subst, if◌then◌else◌, not, is_some, ◌+◌, ◌++◌, append_assoc, append-nil, drop, fold, get_or, length, ◌<◌}
 use Rattle.std.proofs.lemmas.Option.{slice_get-get_or}
 use Rattle.std.specs.List.{filter, list_any}
-use Rattle.std.specs.Prelude.{⊤, OnOk, slice_get}
+use Rattle.std.specs.Prelude.{⊤, OnOk, option_map, slice_get}
 use Rattle.mdcc_base.specs.Ballot.{ballot_lt}
+use Rattle.mdcc_base.specs.Sizes.{Sizes}
 use Rattle.mdcc_base.specs.declared.faults.Memory.{Memory}
 use Rattle.mdcc_base.specs.declared.identifiers.Ballot.{Ballot}
 use Rattle.mdcc_base.specs.declared.identifiers.TxId.{TxId}
@@ -19,10 +20,11 @@ use Rattle.mdcc_option.specs.declared.cluster.Cluster.{Cluster}
 use Rattle.mdcc_protocol.specs.Acceptor.{on_accept, on_prepare, on_propose, promise_answer, range_end}
 use Rattle.mdcc_protocol.specs.Facts.{heard_of, is_heard, promise_of, promised_through, vote_of, votes_of}
 use Rattle.mdcc_protocol.specs.Leader.{claim_of_choice, on_promise}
+use Rattle.mdcc_protocol.specs.Learner.{decision_of}
 use Rattle.mdcc_protocol.specs.Manager
 use Rattle.mdcc_protocol.specs.Recover
 use Rattle.mdcc_protocol.specs.News.{is_news}
-use Rattle.mdcc_protocol.specs.Volatile.{Managing, Volatile, is_open, nothing_kept}
+use Rattle.mdcc_protocol.specs.Volatile.{Managing, Recovering, Volatile, is_open}
 use Rattle.mdcc_protocol.specs.declared.acceptor.AcceptAnswer.{AcceptAnswer}
 use Rattle.mdcc_protocol.specs.declared.acceptor.PrepareAnswer.{PrepareAnswer}
 use Rattle.mdcc_protocol.specs.declared.acceptor.ProposeAnswer.{ProposeAnswer}
@@ -120,7 +122,7 @@ module _ (facts : List Fact) (volatile : Volatile) (tx : TxId) (outcome : Outcom
 
 module _ (me : ℕ) (facts : List Fact) (volatile : Volatile) (s : ℕ) (tx : TxId) (key : Key) (version : ℕ) where
   -- what is asked is answered by messages alone
-  pub asked-by : (heard : Option Outcome) (vote : Option (Ballot × Mark)) (sends : List Envelope)
+  asked-by : (heard : Option Outcome) (vote : Option (Ballot × Mark)) (sends : List Envelope)
       → sends ≡ [] ++ (ask_step_by me volatile s tx key version heard vote).sends
       → (record { fact = None; sends = sends; heard = None; answer = None }) ≡ planned (ask_step_by me volatile s tx key version heard vote)
   asked-by (Some outcome) vote sends e = rw e refl
@@ -135,9 +137,15 @@ module _ (me : ℕ) (facts : List Fact) (volatile : Volatile) (s : ℕ) (tx : Tx
   pub asked-adds : AddsAlone facts volatile (ask_step me facts volatile s tx key version)
   asked-adds = asked-keeps (heard_of facts tx) (vote_of facts key version tx)
 
-  pub asked-plan : (sends : List Envelope) → sends ≡ [] ++ (ask_step me facts volatile s tx key version).sends
+  asked-plan : (sends : List Envelope) → sends ≡ [] ++ (ask_step me facts volatile s tx key version).sends
       → (record { fact = None; sends = sends; heard = None; answer = None }) ≡ planned (ask_step me facts volatile s tx key version)
   asked-plan = asked-by (heard_of facts tx) (vote_of facts key version tx)
+
+  pub asked-planned : (result : Result (Unit {0}) Memory) (sends : List Envelope)
+      → OnOk result (sends ≡ [] ++ (ask_step me facts volatile s tx key version).sends)
+      → OnOk result ((record { fact = None; sends = sends; heard = None; answer = None }) ≡ planned (ask_step me facts volatile s tx key version))
+  asked-planned (Ok done) sends e = asked-plan sends e
+  asked-planned (Err fault) sends e = tt
 
 module _ (facts : List Fact) (volatile : Volatile) (give : Give) where
   adopted-by : (news : Bool)
@@ -227,6 +235,23 @@ module _ (volatile : Volatile) where
   ends built cluster me facts s (Message.ClientRead serial key) = tt
   ends built cluster me facts s (Message.ClientBegin serial parts) = tt
   ends built cluster me facts s (Message.ClientAnswer serial answer) = tt
+
+-- ---- votes on what is watched
+
+module _ (quorums : Sizes) (facts : List Fact) (recovery : Recovering) (vote : Vote) (decided : TxId × Outcome) where
+  decided-by : (outcome : Option Outcome) → Some decided ≡ option_map {U = TxId × Outcome} (λ outcome. (vote.tx, outcome)) outcome → decided.0 ≡ vote.tx
+  decided-by (Some outcome) e =
+      let is : decided ≡ (vote.tx, outcome) = cc in
+      ap (λ (x : TxId × Outcome). x.0) is
+  decided-by None e = absurd (cc)
+
+  decided-in : (keys : Option (List Key)) → Some decided ≡ (Recover.on_voted_by quorums recovery vote keys).0 → decided.0 ≡ vote.tx
+  decided-in None e = absurd (cc)
+  decided-in (Some keys) e = decided-by (decision_of quorums (Recover.watched_vote quorums recovery vote).votes vote.tx keys) e
+
+  -- a vote decides of its own transaction
+  pub decided-tx : Some decided ≡ Recover.would_decide quorums facts recovery vote → decided.0 ≡ vote.tx
+  decided-tx = decided-in (Recover.keys_watched facts recovery vote.tx)
 
 -- ---- votes on what was heard
 

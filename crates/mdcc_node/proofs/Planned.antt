@@ -152,6 +152,11 @@ acts-plan step sends (Err fault) fact answer e =
       | inr not ↦ absurd (let bad : Err fault ≡ Ok step.sends = rw not at e in cc)
     ]
 
+pub unless-any : {T U : Type 0} (result : Result (Unit {0}) StepFault) (x : T) (y : U) (P : Type 0)
+    → UnlessMemory (written result x) P → UnlessMemory (written result y) P
+unless-any (Ok done) x y P h = h
+unless-any (Err fault) x y P h = h
+
 -- ---- where there was no memory
 
 on-true : (b : Bool) (P : Type 0) → P → OnTrue b P

@@ -83,7 +83,8 @@ impl<S: FactStore + Drop> Node<S> {
         ensures fact { (facts : List AFact) → S.stands self.old.store facts → OnOk result (MayFollow facts step.new.fact) }
     {
         match self.recover.would_decide(&self.store, &self.cluster, vote) {
-            Some((_, outcome)) => {
+            Some(decided) => {
+                let (_, outcome) = decided;
                 self.decide(vote.tx, outcome, step)?;
                 Ok(())
             }

@@ -15,5 +15,5 @@ returns-in-Heard-clause-ok g c = λ cluster me facts volatile known.
       store = c.in_ok-add.ensures.ok facts known.store;
       manager = rw same (c.close.ensures me (epoch_of facts) cluster.quorums volatile.manager known.manager);
       leader = rw same known.leader;
-      recovery = c.close-2.ensures cluster.quorums volatile.recovery known.recovery;
+      recovery = c.close-in-Heard.ensures cluster.quorums volatile.recovery known.recovery;
     })

@@ -17,7 +17,7 @@ pub returns-in_ok-asked-in-Ask-clause-plan : goal.returns-in_ok-asked-in-Ask-cla
 returns-in_ok-asked-in-Ask-clause-plan g c =
     let m = c.in-Ask in
     record {
-      answer = λ cluster me facts volatile known. rw m.is (rw (c.in_ok-asked-in-Ask.ensures.plan facts volatile known.store, known.at) refl);
+      answer = λ cluster me facts volatile known. rw m.is (rw (c.in_ok-asked-in-Ask.ensures.plan facts volatile known.store, known.at, c.number.ensures.value) refl);
       left = λ cluster me facts volatile known. rw m.is (rw (asked-adds me facts volatile c.args.from m.tx m.key m.version).keeps known);
       store = refl;
     }

@@ -2,6 +2,8 @@ use Rattle.std.proofs.Common.{◌≡◌, ◌++◌, ◌∙◌, [], List, Ok, Resu
 use Rattle.mdcc_base.specs.Unless.{GivesUnless}
 use Rattle.mdcc_built.specs.Built.{built}
 use Rattle.mdcc_messages.specs.declared.messages.Envelope.{Envelope}
+use Rattle.mdcc_node.proofs.Led.{residual}
+use Rattle.mdcc_node.proofs.Planned.{only-memory, only-memory-left}
 use Rattle.mdcc_node.proofs.Ticks.{after-part}
 use Rattle.mdcc_node.specs.Planning.{written}
 use Rattle.mdcc_node.specs.Stands.{Stands}
@@ -16,6 +18,16 @@ use Rattle.mdcc_node.proofs.node.Node.tick.Goals as goal
 -- what a call that does not fail gives
 abbrev given_sends : List Envelope → Result (List Envelope) StepFault
 given_sends sends = Ok sends
+
+pub returns-in_err-tick_opened : goal.returns-in_err-tick_opened
+returns-in_err-tick_opened g c =
+    let fault = c.in_err-tick_opened.field-0.0 in
+    let same = residual c.from_residual.result fault c.from_residual.ensures.1 in
+    record {
+      answer = λ cluster me facts volatile known. rw same (only-memory fault _ _ (c.in_err-tick_opened.ensures.answer cluster me facts volatile known));
+      left = λ cluster me facts volatile known. rw same (only-memory-left fault _ _ (c.in_err-tick_opened.ensures.answer cluster me facts volatile known));
+      store = c.in_err-tick_opened.ensures.store;
+    }
 
 pub returns : goal.returns
 returns g c = record {

@@ -38,32 +38,32 @@ loop-act-init g c = record {
       );
 }
 
-pub returns-in_err-act : goal.returns-in_err-act
-returns-in_err-act g c =
-    let fault = c.in_err-act.field-0.0 in
-    let same = residual c.from_residual-in_err-act.result fault c.from_residual-in_err-act.ensures.1 in
+pub returns-in_err-recover_by : goal.returns-in_err-recover_by
+returns-in_err-recover_by g c =
+    let fault = c.in_err-recover_by.field-0.0 in
+    let same = residual c.from_residual-in_err-recover_by.result fault c.from_residual-in_err-recover_by.ensures.1 in
     record {
       answer = λ cluster me facts volatile known.
           let so = c.loop-act.invariant.parts cluster me facts volatile known in
-          rw same (only-memory fault _ _ (c.in_err-act.ensures.answer cluster me facts so.0.after so.2));
+          rw same (only-memory fault _ _ (c.in_err-recover_by.ensures.answer cluster me facts so.0.after so.2));
       left = λ cluster me facts volatile known.
           let so = c.loop-act.invariant.parts cluster me facts volatile known in
-          rw same (only-memory-left fault _ _ (c.in_err-act.ensures.answer cluster me facts so.0.after so.2));
-      store = c.in_err-act.ensures.store ∙ c.loop-act.invariant.store;
+          rw same (only-memory-left fault _ _ (c.in_err-recover_by.ensures.answer cluster me facts so.0.after so.2));
+      store = c.in_err-recover_by.ensures.store ∙ c.loop-act.invariant.store;
     }
 
 pub loop-act-preserved : goal.loop-act-preserved
 loop-act-preserved g c = record {
-  store = c.in_ok-act.ensures.store ∙ c.loop-act.invariant.store;
+  store = c.in_ok-recover_by.ensures.store ∙ c.loop-act.invariant.store;
   parts = λ cluster me facts volatile known.
       let so = c.loop-act.invariant.parts cluster me facts volatile known in
       let part = so.0 in
       let acted = recovery_act built cluster me facts part.after c.act-item.result in
-      let given : given_sends c.act.new.sends ≡ given_sends (c.loop-act.sends ++ acted.sends) = c.in_ok-act.ensures.answer cluster me facts part.after so.2 in
-      let now : c.act.new.sends ≡ c.loop-act.sends ++ acted.sends = cc in (
+      let given : given_sends c.recover_by.new.sends ≡ given_sends (c.loop-act.sends ++ acted.sends) = c.in_ok-recover_by.ensures.answer cluster me facts part.after so.2 in
+      let now : c.recover_by.new.sends ≡ c.loop-act.sends ++ acted.sends = cc in (
         and_then (recovery_act built cluster me facts) part c.act-item.result,
         rw (now, so.1, append_assoc) refl,
-        c.in_ok-act.ensures.left cluster me facts part.after so.2,
+        c.in_ok-recover_by.ensures.left cluster me facts part.after so.2,
         fold-next (and_then (recovery_act built cluster me facts)) c.deref-act-items.result.now c.loop-act.act-index c.act-item.result part
             (recovery_ticked built cluster me facts (only_sending volatile [])) (omega (arith, c.loop-act-test.true)) c.act-item.is so.3,
       );
