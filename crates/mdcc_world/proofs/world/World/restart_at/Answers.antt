@@ -8,6 +8,7 @@ use Rattle.mdcc_protocol.specs.Volatile.{nothing_kept}
 use Rattle.mdcc_messages.specs.declared.facts.Fact.{Fact}
 use Rattle.mdcc_restart.specs.Logged.{AreLogged}
 use Rattle.mdcc_world.proofs.Crashed.{has-restarted, may-restart, more-epochs, restart-limit}
+use Rattle.mdcc_worlds.proofs.Stays.{some-centre}
 use Rattle.mdcc_world.proofs.world.World.restart_at.Goals as goal
 
 pub restart-requires-clause-among : goal.restart-requires-clause-among
@@ -15,6 +16,14 @@ restart-requires-clause-among c =
     let w = c.requires.like.0 in
     let like = c.requires.like.1 in
     rw like.records.cluster (c.requires.among w like)
+
+pub rise-requires-clause-within : goal.rise-requires-clause-within
+rise-requires-clause-within c =
+    let w = c.requires.like.0 in
+    let like = c.requires.like.1 in
+    let few = (some-centre w.cluster c.args.centre (c.requires.among w like)).1 in
+    let many = like.nodes.as_many in
+    omega (few, many, arith)
 
 pub returns-in_ok-push-in-Node-clause-happens : goal.returns-in_ok-push-in-Node-clause-happens
 returns-in_ok-push-in-Node-clause-happens c w like =
