@@ -1,7 +1,7 @@
 //! Lines of a schedule that are read, with their events, and lines at the longest that they may be.
 //! The expected values come from the grammar, by hand.
 use crate::schedule_words::five_centres;
-use mdcc_base::{Centre, HeapList, Key};
+use mdcc_base::{Centre, HeapList};
 use mdcc_option::Item;
 use mdcc_sched::{Event, SchedCause, SchedFault, UpdateWord, parse_line};
 use std::alloc::Global;
@@ -15,52 +15,66 @@ fn event_of(rt: &impl Abort, alloc: Global, line: &str) -> Event {
         .expect(rt, "an event")
 }
 
-fn read_of(event: Event) -> Option<(Centre, Key)> {
-    match event {
-        Event::Read(centre, key) => Some((centre, key)),
-        _ => None,
+// Whether the line is a read of this key at this centre.
+fn is_read(rt: &impl Abort, alloc: Global, line: &str, number: u8, name: &str) -> bool {
+    match event_of(rt, alloc, line) {
+        Event::Read(centre, key) => centre.number() == number && key.bytes() == name.as_bytes(),
+        _ => false,
     }
 }
 
-fn begin_of(event: Event) -> Option<(Centre, HeapList<UpdateWord>)> {
-    match event {
-        Event::Begin(centre, updates) => Some((centre, updates)),
-        _ => None,
+fn is_tick(rt: &impl Abort, alloc: Global, line: &str, number: u8) -> bool {
+    match event_of(rt, alloc, line) {
+        Event::Tick(centre) => centre.number() == number,
+        _ => false,
     }
 }
 
-fn delivery_of(event: Event) -> Option<HeapList<u32>> {
-    match event {
-        Event::Deliver(numbers) => Some(numbers),
-        _ => None,
+fn is_crash(rt: &impl Abort, alloc: Global, line: &str, number: u8) -> bool {
+    match event_of(rt, alloc, line) {
+        Event::Crash(centre) => centre.number() == number,
+        _ => false,
     }
 }
 
-fn settle_of(event: Event) -> Option<HeapList<Centre>> {
-    match event {
-        Event::Settle(centres) => Some(centres),
-        _ => None,
+fn is_restart(rt: &impl Abort, alloc: Global, line: &str, number: u8) -> bool {
+    match event_of(rt, alloc, line) {
+        Event::Restart(centre) => centre.number() == number,
+        _ => false,
     }
 }
 
-fn tick_of(event: Event) -> Option<Centre> {
-    match event {
-        Event::Tick(centre) => Some(centre),
-        _ => None,
+fn is_delivery(rt: &impl Abort, alloc: Global, line: &str, numbers: &[u32]) -> bool {
+    match event_of(rt, alloc, line) {
+        Event::Deliver(found) => found.as_slice() == numbers,
+        _ => false,
     }
 }
 
-fn crash_of(event: Event) -> Option<Centre> {
-    match event {
-        Event::Crash(centre) => Some(centre),
-        _ => None,
+fn are_centres(centres: &[Centre], numbers: &[u8]) -> bool {
+    if centres.len() != numbers.len() {
+        return false;
+    }
+    for i in 0..numbers.len() {
+        if centres[i].number() != numbers[i] {
+            return false;
+        }
+    }
+    true
+}
+
+fn is_settle(rt: &impl Abort, alloc: Global, line: &str, numbers: &[u8]) -> bool {
+    match event_of(rt, alloc, line) {
+        Event::Settle(centres) => are_centres(centres.as_slice(), numbers),
+        _ => false,
     }
 }
 
-fn restart_of(event: Event) -> Option<Centre> {
-    match event {
-        Event::Restart(centre) => Some(centre),
-        _ => None,
+// The updates of a line that begins a transaction at this centre.
+fn updates_of(rt: &impl Abort, alloc: Global, line: &str, number: u8) -> HeapList<UpdateWord> {
+    match event_of(rt, alloc, line) {
+        Event::Begin(centre, updates) if centre.number() == number => updates,
+        _ => HeapList::new(alloc),
     }
 }
 
@@ -91,157 +105,106 @@ fn is_keep(update: &UpdateWord, read: u32) -> bool {
     }
 }
 
+// Whether the line has no event.
+fn is_skipped(rt: &impl Abort, alloc: Global, line: &str) -> bool {
+    parse_line(alloc, line.as_bytes(), &five_centres(rt))
+        .expect(rt, "a line")
+        .is_none()
+}
+
 #[test]
 fn skipped_lines(rt: HostRuntime) {
-    let cluster = five_centres(&rt);
-    for line in ["\n", "#\n", "# read 9 x\n", "#  \n"] {
-        let found = parse_line(rt.alloc(), line.as_bytes(), &cluster).expect(&rt, "a line");
-        assert!(rt; found.is_none(), "{line}");
-    }
+    let alloc = rt.alloc();
+    assert!(rt; is_skipped(&rt, alloc, "\n") && is_skipped(&rt, alloc, "#\n"));
+    assert!(rt; is_skipped(&rt, alloc, "# read 9 x\n") && is_skipped(&rt, alloc, "#  \n"));
 }
 
 #[test]
 fn reads(rt: HostRuntime) {
-    for (line, centre, key) in [
-        ("read 1 a\n", 1, "a"),
-        ("read 5 Zz9_./-\n", 5, "Zz9_./-"),
-        (
+    let alloc = rt.alloc();
+    let longest = "abcdefghijklmnopqrstuvwxyz012345";
+    assert!(rt; is_read(&rt, alloc, "read 1 a\n", 1, "a"));
+    assert!(rt; is_read(&rt, alloc, "read 5 Zz9_./-\n", 5, "Zz9_./-"));
+    assert!(rt;
+        is_read(
+            &rt,
+            alloc,
             "read 3 abcdefghijklmnopqrstuvwxyz012345\n",
             3,
-            "abcdefghijklmnopqrstuvwxyz012345",
-        ),
-    ] {
-        let read = read_of(event_of(&rt, rt.alloc(), line)).expect(&rt, "a read");
-        assert_eq!(rt; read.0.number(), centre, "{line}");
-        assert_eq!(rt; read.1.bytes(), key.as_bytes(), "{line}");
-    }
+            longest
+        )
+    );
 }
 
 #[test]
 fn ticks(rt: HostRuntime) {
-    for (line, centre) in [("tick 1\n", 1), ("tick 5\n", 5)] {
-        let tick = tick_of(event_of(&rt, rt.alloc(), line)).expect(&rt, "a tick");
-        assert_eq!(rt; tick.number(), centre, "{line}");
-    }
+    let alloc = rt.alloc();
+    assert!(rt; is_tick(&rt, alloc, "tick 1\n", 1) && is_tick(&rt, alloc, "tick 5\n", 5));
 }
 
 #[test]
 fn crashes(rt: HostRuntime) {
-    for (line, centre) in [("crash 1\n", 1), ("crash 2\n", 2), ("crash 5\n", 5)] {
-        let crash = crash_of(event_of(&rt, rt.alloc(), line)).expect(&rt, "a crash");
-        assert_eq!(rt; crash.number(), centre, "{line}");
-    }
+    let alloc = rt.alloc();
+    assert!(rt; is_crash(&rt, alloc, "crash 1\n", 1) && is_crash(&rt, alloc, "crash 2\n", 2));
+    assert!(rt; is_crash(&rt, alloc, "crash 5\n", 5));
 }
 
 #[test]
 fn restarts(rt: HostRuntime) {
-    for (line, centre) in [("restart 1\n", 1), ("restart 2\n", 2), ("restart 5\n", 5)] {
-        let restart = restart_of(event_of(&rt, rt.alloc(), line)).expect(&rt, "a restart");
-        assert_eq!(rt; restart.number(), centre, "{line}");
-    }
-}
-
-fn check_delivery(rt: &impl Abort, alloc: Global, line: &str, numbers: &[u32]) {
-    let found = delivery_of(event_of(rt, alloc, line)).expect(rt, "a delivery");
-    assert_eq!(rt; found.as_slice(), numbers, "{line}");
+    let alloc = rt.alloc();
+    assert!(rt; is_restart(&rt, alloc, "restart 1\n", 1));
+    assert!(rt; is_restart(&rt, alloc, "restart 2\n", 2));
+    assert!(rt; is_restart(&rt, alloc, "restart 5\n", 5));
 }
 
 #[test]
 fn deliveries(rt: HostRuntime) {
-    check_delivery(&rt, rt.alloc(), "deliver 1\n", &[1]);
-    check_delivery(
-        &rt,
-        rt.alloc(),
-        "deliver 4294967295 1 1\n",
-        &[4_294_967_295, 1, 1],
-    );
-    check_delivery(
-        &rt,
-        rt.alloc(),
-        "deliver 1 2 3 4 5 6 7\n",
-        &[1, 2, 3, 4, 5, 6, 7],
-    );
-}
-
-fn check_settle(rt: &impl Abort, alloc: Global, line: &str, numbers: &[u8]) {
-    let found = settle_of(event_of(rt, alloc, line)).expect(rt, "a settle");
-    let centres = found.as_slice();
-    assert_eq!(rt; centres.len(), numbers.len(), "{line}");
-    for i in 0..numbers.len() {
-        assert_eq!(rt; centres[i].number(), numbers[i], "{line}");
-    }
+    let alloc = rt.alloc();
+    let longest = [4_294_967_295, 1, 1];
+    let seven = [1, 2, 3, 4, 5, 6, 7];
+    assert!(rt; is_delivery(&rt, alloc, "deliver 1\n", &[1]));
+    assert!(rt; is_delivery(&rt, alloc, "deliver 4294967295 1 1\n", &longest));
+    assert!(rt; is_delivery(&rt, alloc, "deliver 1 2 3 4 5 6 7\n", &seven));
 }
 
 #[test]
 fn settles(rt: HostRuntime) {
-    check_settle(&rt, rt.alloc(), "settle\n", &[]);
-    check_settle(&rt, rt.alloc(), "settle 1\n", &[1]);
-    check_settle(&rt, rt.alloc(), "settle 1 3 5\n", &[1, 3, 5]);
-    check_settle(&rt, rt.alloc(), "settle 1 2 3 4 5\n", &[1, 2, 3, 4, 5]);
+    let alloc = rt.alloc();
+    assert!(rt; is_settle(&rt, alloc, "settle\n", &[]));
+    assert!(rt; is_settle(&rt, alloc, "settle 1\n", &[1]));
+    assert!(rt; is_settle(&rt, alloc, "settle 1 3 5\n", &[1, 3, 5]));
+    assert!(rt; is_settle(&rt, alloc, "settle 1 2 3 4 5\n", &[1, 2, 3, 4, 5]));
+}
+
+// Whether the one update is a first item under key a.
+fn is_only_new(updates: &[UpdateWord], body: &[u8], values: &[i64]) -> bool {
+    updates.len() == 1 && is_new(&updates[0], "a", body, values)
 }
 
 #[test]
 fn one_update(rt: HostRuntime) {
-    let (centre, updates) = begin_of(event_of(&rt, rt.alloc(), "begin 1 new:a:-:10\n")).expect(
-        &rt, "a begin",
-    );
-    assert_eq!(rt; centre.number(), 1);
-    assert_eq!(rt; updates.len(), 1);
-    assert!(rt; is_new(&updates.as_slice()[0], "a", b"", &[10]));
+    let updates = updates_of(&rt, rt.alloc(), "begin 1 new:a:-:10\n", 1);
+    assert!(rt; is_only_new(updates.as_slice(), b"", &[10]));
+}
+
+fn are_three(updates: &[UpdateWord]) -> bool {
+    updates.len() == 3
+        && is_set(&updates[0], 1, &[0, 255, 122], &[-1, 0, 3, 4])
+        && is_keep(&updates[1], 4_294_967_295)
+        && is_new(&updates[2], "b.c", b"", &[-5])
 }
 
 #[test]
 fn three_updates(rt: HostRuntime) {
     let line = "begin 5 set:1:00ff7a:-1,0,3,4 keep:4294967295 new:b.c:-:-5\n";
-    let (centre, updates) = begin_of(event_of(&rt, rt.alloc(), line)).expect(&rt, "a begin");
-    assert_eq!(rt; centre.number(), 5);
-    assert_eq!(rt; updates.len(), 3);
-    let updates = updates.as_slice();
-    assert!(rt; is_set(&updates[0], 1, &[0, 255, 122], &[-1, 0, 3, 4]));
-    assert!(rt; is_keep(&updates[1], 4_294_967_295));
-    assert!(rt; is_new(&updates[2], "b.c", b"", &[-5]));
+    assert!(rt; are_three(updates_of(&rt, rt.alloc(), line, 5).as_slice()));
 }
 
 #[test]
 fn values_at_the_ends_of_64_bits(rt: HostRuntime) {
     let line = "begin 2 new:a:-:9223372036854775807,-9223372036854775808\n";
-    let (_, updates) = begin_of(event_of(&rt, rt.alloc(), line)).expect(&rt, "a begin");
-    assert_eq!(rt; updates.len(), 1);
-    let ends = [i64::MAX, i64::MIN];
-    assert!(rt; is_new(&updates.as_slice()[0], "a", b"", &ends));
-}
-
-// A line `begin` with a body of so many bytes, each of which is 171.
-fn line_with_body(alloc: Global, bytes: u32) -> Result<String, Fail> {
-    let mut line = String::new(alloc);
-    line.push_str("begin 1 new:a:")?;
-    for _ in 0..bytes {
-        line.push_str("ab")?;
-    }
-    line.push_str(":1\n")?;
-    Ok(line)
-}
-
-#[test]
-fn a_body_of_128_bytes(rt: HostRuntime) -> Result<(), Fail> {
-    let line = line_with_body(rt.alloc(), 128)?;
-    let event = event_of(&rt, rt.alloc(), line.as_str());
-    let (_, updates) = begin_of(event).expect(&rt, "a begin");
-    assert_eq!(rt; updates.len(), 1);
-    assert!(rt; is_new(&updates.as_slice()[0], "a", &[171; 128], &[1]));
-    Ok(())
-}
-
-#[test]
-fn a_body_of_129_bytes(rt: HostRuntime) -> Result<(), Fail> {
-    let line = line_with_body(rt.alloc(), 129)?;
-    let found = parse_line(rt.alloc(), line.as_bytes(), &five_centres(&rt)).err();
-    let expected = SchedFault {
-        column: 15,
-        cause: SchedCause::Range,
-    };
-    assert_eq!(rt; found, Some(expected));
-    Ok(())
+    let updates = updates_of(&rt, rt.alloc(), line, 2);
+    assert!(rt; is_only_new(updates.as_slice(), b"", &[i64::MAX, i64::MIN]));
 }
 
 // A front, a part so many times, and an end.
@@ -255,17 +218,48 @@ fn padded(alloc: Global, front: &str, part: &str, times: usize, end: &str) -> Re
     Ok(line)
 }
 
+// Whether the line is refused so.
+fn is_refused(rt: &impl Abort, alloc: Global, line: &str, column: u32, cause: SchedCause) -> bool {
+    parse_line(alloc, line.as_bytes(), &five_centres(rt)).err()
+        == Some(SchedFault { column, cause })
+}
+
+#[test]
+fn a_body_of_128_bytes(rt: HostRuntime) -> Result<(), Fail> {
+    let line = padded(rt.alloc(), "begin 1 new:a:", "ab", 128, ":1\n")?;
+    let updates = updates_of(&rt, rt.alloc(), &line, 1);
+    assert!(rt; is_only_new(updates.as_slice(), &[171; 128], &[1]));
+    Ok(())
+}
+
+#[test]
+fn a_body_of_129_bytes(rt: HostRuntime) -> Result<(), Fail> {
+    let line = padded(rt.alloc(), "begin 1 new:a:", "ab", 129, ":1\n")?;
+    assert!(rt; is_refused(&rt, rt.alloc(), &line, 15, SchedCause::Range));
+    Ok(())
+}
+
 #[test]
 fn a_comment_of_4096_bytes(rt: HostRuntime) -> Result<(), Fail> {
     let line = padded(rt.alloc(), "#", " ", 4095, "\n")?;
-    let found = parse_line(rt.alloc(), line.as_bytes(), &five_centres(&rt)).expect(&rt, "a line");
-    assert!(rt; found.is_none());
+    assert!(rt; is_skipped(&rt, rt.alloc(), &line));
+    Ok(())
+}
+
+// A long line: its front, a part and how often it stands, its end, and where and why it is refused.
+type Row<'a> = (&'a str, &'a str, usize, &'a str, u32, SchedCause);
+
+fn check(rt: &impl Abort, alloc: Global, rows: &[Row]) -> Result<(), Fail> {
+    for (front, part, times, end, column, cause) in rows {
+        let line = padded(alloc, front, part, *times, end)?;
+        assert!(rt; is_refused(rt, alloc, &line, *column, *cause), "{front}");
+    }
     Ok(())
 }
 
 #[test]
 fn long_lines(rt: HostRuntime) -> Result<(), Fail> {
-    for (front, part, times, end, column, cause) in [
+    let rows = [
         ("#", " ", 4095, "", 4097, SchedCause::Word),
         ("#", " ", 4096, "\n", 4097, SchedCause::Range),
         ("#", " ", 4096, "", 4097, SchedCause::Range),
@@ -278,10 +272,6 @@ fn long_lines(rt: HostRuntime) -> Result<(), Fail> {
         ("deliver", " 1", 2045, " x\n", 4097, SchedCause::Range),
         ("deliver", " 1", 2044, " x\n", 4097, SchedCause::Range),
         ("deliver", " 1", 2044, "x\n", 4095, SchedCause::Number),
-    ] {
-        let line = padded(rt.alloc(), front, part, times, end)?;
-        let found = parse_line(rt.alloc(), line.as_bytes(), &five_centres(&rt)).err();
-        assert_eq!(rt; found, Some(SchedFault { column, cause }), "{front}");
-    }
-    Ok(())
+    ];
+    check(&rt, rt.alloc(), &rows)
 }

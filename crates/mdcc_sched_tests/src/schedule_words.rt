@@ -21,6 +21,11 @@ pub(crate) fn five_centres(rt: &impl Abort) -> Cluster {
     }
 }
 
+// Whether a line is refused so.
+fn is_refused(alloc: Global, cluster: &Cluster, line: &str, expected: SchedFault) -> bool {
+    parse_line(alloc, line.as_bytes(), cluster).err() == Some(expected)
+}
+
 pub(crate) fn check(rt: &impl Abort, alloc: Global, rows: &[Row]) {
     let cluster = five_centres(rt);
     for (line, column, cause) in rows {
@@ -28,8 +33,7 @@ pub(crate) fn check(rt: &impl Abort, alloc: Global, rows: &[Row]) {
             column: *column,
             cause: *cause,
         };
-        let found = parse_line(alloc, line.as_bytes(), &cluster).err();
-        assert_eq!(rt; found, Some(expected), "{line}");
+        assert!(rt; is_refused(alloc, &cluster, line, expected), "{line}");
     }
 }
 
