@@ -30,20 +30,20 @@ fn parts_are_put_in_key_order(rt: HostRuntime) -> Result<(), Fail> {
     let schema = Schema::new(&[(0, 1000)])?;
     let parts = [insert(&rt, b'b', 2), insert(&rt, b'a', 1)];
     let transaction = Transaction::new(&schema, &parts)?;
-    assert_eq!(rt; transaction.parts()[0].key.bytes(), b"a".as_slice());
-    assert_eq!(rt; transaction.parts()[1].key.bytes(), b"b".as_slice());
+    assert!(rt; transaction.parts()[0].key.bytes() == b"a".as_slice());
+    assert!(rt; transaction.parts()[1].key.bytes() == b"b".as_slice());
     Ok(())
 }
 
 #[test]
 fn parts_that_make_no_transaction(rt: HostRuntime) -> Result<(), Fail> {
     let twice = [insert(&rt, b'a', 1), insert(&rt, b'a', 2)];
-    assert_eq!(rt; fault_of(&twice)?, Some(DraftFault::RepeatedKey));
+    assert!(rt; fault_of(&twice)? == Some(DraftFault::RepeatedKey));
     let outside = [insert(&rt, b'a', 1001)];
-    assert_eq!(rt; fault_of(&outside)?, Some(DraftFault::OutOfBounds));
+    assert!(rt; fault_of(&outside)? == Some(DraftFault::OutOfBounds));
     let twice_outside = [insert(&rt, b'a', 1), insert(&rt, b'a', 1001)];
-    assert_eq!(rt; fault_of(&twice_outside)?, Some(DraftFault::RepeatedKey));
-    assert_eq!(rt; fault_of(&[])?, Some(DraftFault::Empty));
+    assert!(rt; fault_of(&twice_outside)? == Some(DraftFault::RepeatedKey));
+    assert!(rt; fault_of(&[])? == Some(DraftFault::Empty));
     Ok(())
 }
 
@@ -53,8 +53,8 @@ fn eight_parts_and_nine(rt: HostRuntime) -> Result<(), Fail> {
     for key in b'a'..=b'h' {
         parts.push(insert(&rt, key, 1))?;
     }
-    assert_eq!(rt; fault_of(&parts)?, None);
+    assert!(rt; fault_of(&parts)?.is_none());
     parts.push(insert(&rt, b'i', 1))?;
-    assert_eq!(rt; fault_of(&parts)?, Some(DraftFault::TooMany));
+    assert!(rt; fault_of(&parts)? == Some(DraftFault::TooMany));
     Ok(())
 }

@@ -25,7 +25,7 @@ pub(crate) fn tx(seq: u32) -> TxId {
     }
 }
 
-fn item(value: i64) -> Item {
+pub(crate) fn item(value: i64) -> Item {
     Item {
         body: BoundedList::new(),
         values: BoundedList::from_slice(&[value]).unwrap(),
@@ -86,7 +86,7 @@ pub(crate) fn committed(rt: &impl Abort, choice: &Choice) -> Fact {
     }
 }
 
-fn seen(rt: &impl Abort, seqs: &[u32]) -> Seen {
+fn seen(seqs: &[u32]) -> Seen {
     let mut txs: BoundedList<TxId, 64> = BoundedList::new();
     for seq in seqs {
         if !txs.is_full() {
@@ -121,219 +121,269 @@ fn load(writes: u32, unseen: u32, count: u32, down: i128, up: i128) -> Load {
     }
 }
 
-// An insert of 10, at the centre that began it: voted, and heard committed.
+pub(crate) fn key() -> Key {
+    Key::new(b"a").unwrap_or_default()
+}
+
+// A first item with this value, written by the first transaction.
+fn insert(rt: &impl Abort, value: i64) -> Choice {
+    choice(key(), 1, 0, write(rt, value, &[]))
+}
+
+// A vote at the fast ballot that accepts a choice.
+fn fast_vote(alloc: Global, choice: &Choice) -> Result<Fact, Fail> {
+    let mark = Mark::Accept(choice.copy());
+    voted(
+        alloc,
+        choice.key,
+        choice.version,
+        Ballot::FAST,
+        &[(choice.tx.seq, mark)],
+        None,
+    )
+}
+
+// A store that heard an insert of this value.
+fn holding(rt: &impl Abort, alloc: Global, value: i64) -> Result<ListFacts, Fail> {
+    let mut store = ListFacts::new(alloc)?;
+    assert!(rt; put(&mut store, &committed(rt, &insert(rt, value))));
+    Ok(store)
+}
+
+// Whether this choice is the one at a place of the unresolved.
+fn is_unresolved(store: &ListFacts, place: usize, choice: &Choice) -> bool {
+    store.unresolved(place) == Some((choice.tx, choice.write_set.copy()))
+}
+
+// Whether the sums of a version of the key, where these were seen, are these.
+fn is_load(store: &ListFacts, version: u64, seen: &[TxId], expected: Load) -> bool {
+    store.load(&key(), version, seen) == expected
+}
+
+// Whether the mark at a place of the votes below a ballot is this transaction's.
+fn is_mark(
+    store: &ListFacts,
+    version: u64,
+    below: Ballot,
+    place: usize,
+    expected: (Ballot, u32, bool),
+) -> bool {
+    mark(store, &key(), version, below, place) == Some(expected)
+}
+
+// Whether a version of the key is held, with this item and these deltas.
+fn is_held(store: &ListFacts, version: u64, value: i64, seqs: &[u32]) -> bool {
+    let a = key();
+    store.current(&a) == version
+        && store.base(&a) == Some(item(value))
+        && store.executed(&a) == seen(seqs)
+}
+
+// ---- an insert of 10, at the centre that began it: voted, and heard committed
+
+fn has_nothing(store: &ListFacts) -> bool {
+    let a = key();
+    store.current(&a) == 0 && store.base(&a).is_none() && store.promise(&a, 0) == Ballot::FAST
+}
+
+fn has_the_load_of_a_write(store: &ListFacts) -> bool {
+    is_load(store, 0, &[], load(1, 1, 0, 0, 0))
+        && is_load(store, 0, &[tx(1)], load(1, 0, 0, 0, 0))
+        && store.entries(&key(), 0) == (1, 0)
+}
+
+fn has_one_mark(store: &ListFacts) -> bool {
+    is_mark(store, 0, LED, 0, (Ballot::FAST, 1, true))
+        && mark(store, &key(), 0, LED, 1).is_none()
+        && mark(store, &key(), 0, Ballot::FAST, 0).is_none()
+}
+
 #[test]
 fn an_insert_is_held_once_it_is_heard(rt: HostRuntime) -> Result<(), Fail> {
-    let a = Key::new(b"a").expect(&rt, "a key");
-    let insert = choice(a, 1, 0, write(&rt, 10, &[]));
+    let insert = insert(&rt, 10);
     let mut store = ListFacts::new(rt.alloc())?;
-    assert!(rt; put(&mut store, &Fact::Booted(1)));
-    assert_eq!(rt; store.epoch(), 1);
-    let vote = voted(
-        rt.alloc(),
-        a,
-        0,
-        Ballot::FAST,
-        &[(1, Mark::Accept(insert.copy()))],
-        None,
-    )?;
-    assert!(rt; put(&mut store, &vote));
-    assert_eq!(rt; store.current(&a), 0);
-    assert_eq!(rt; store.base(&a), None);
-    assert_eq!(rt; store.promise(&a, 0), Ballot::FAST);
-    assert_eq!(rt; store.load(&a, 0, &[]), load(1, 1, 0, 0, 0));
-    assert_eq!(rt; store.load(&a, 0, &[tx(1)]), load(1, 0, 0, 0, 0));
-    assert_eq!(rt; store.entries(&a, 0), (1, 0));
-    assert_eq!(rt; mark(&store, &a, 0, LED, 0), Some((Ballot::FAST, 1, true)));
-    assert_eq!(rt; mark(&store, &a, 0, LED, 1), None);
-    assert_eq!(rt; mark(&store, &a, 0, Ballot::FAST, 0), None);
-    assert_eq!(rt;
-        store.vote_of(&a, 0, tx(1)),
-        Some((Ballot::FAST, Mark::Accept(insert.copy())))
-    );
-    assert_eq!(rt; store.heard(tx(1)), None);
-    assert_eq!(rt; store.unresolved(0), Some((tx(1), insert.write_set.copy())));
-    assert_eq!(rt; store.unresolved(1), None);
-
+    assert!(rt; put(&mut store, &Fact::Booted(1)) && store.epoch() == 1);
+    assert!(rt; put(&mut store, &fast_vote(rt.alloc(), &insert)?));
+    assert!(rt; has_nothing(&store) && has_the_load_of_a_write(&store) && has_one_mark(&store));
+    let vote = store.vote_of(&key(), 0, tx(1));
+    assert!(rt; vote == Some((Ballot::FAST, Mark::Accept(insert.copy()))));
+    assert!(rt; store.heard(tx(1)).is_none());
+    assert!(rt; is_unresolved(&store, 0, &insert) && store.unresolved(1).is_none());
     assert!(rt; put(&mut store, &committed(&rt, &insert)));
-    assert_eq!(rt; store.current(&a), 1);
-    assert_eq!(rt; store.base(&a), Some(item(10)));
-    assert_eq!(rt; store.executed(&a), seen(&rt, &[]));
-    assert!(rt; store.heard(tx(1)).is_some());
-    assert_eq!(rt; store.unresolved(0), None);
-    assert_eq!(rt; store.load(&a, 1, &[]), load(0, 0, 0, 0, 0));
+    assert!(rt; is_held(&store, 1, 10, &[]) && store.heard(tx(1)).is_some());
+    assert!(rt; store.unresolved(0).is_none() && is_load(&store, 1, &[], load(0, 0, 0, 0, 0)));
     Ok(())
 }
 
-// Three decreases of 4 from 10: the first by fast votes, the second past the share and accepted by
-// the leader, the third rejected by it.
-#[test]
-fn decreases_are_summed_once_each(rt: HostRuntime) -> Result<(), Fail> {
-    let a = Key::new(b"a").expect(&rt, "a key");
-    let insert = choice(a, 1, 0, write(&rt, 10, &[]));
-    let first = choice(a, 2, 1, add(-4));
-    let second = choice(a, 3, 1, add(-4));
-    let mut store = ListFacts::new(rt.alloc())?;
-    assert!(rt; put(&mut store, &committed(&rt, &insert)));
-    let vote = voted(
-        rt.alloc(),
-        a,
-        1,
-        Ballot::FAST,
-        &[(2, Mark::Accept(first.copy()))],
-        None,
-    )?;
-    assert!(rt; put(&mut store, &vote));
-    assert_eq!(rt; store.load(&a, 1, &[]), load(0, 1, 1, 4, 0));
+// ---- three decreases of 4 from 10: the first by fast votes, the second past the share and accepted by
+// the leader, the third rejected by it
 
+pub(crate) fn decrease(seq: u32) -> Choice {
+    choice(key(), seq, 1, add(-4))
+}
+
+// The insert is held, and the first decrease is voted.
+fn voting(rt: &impl Abort, alloc: Global) -> Result<ListFacts, Fail> {
+    let mut store = holding(rt, alloc, 10)?;
+    assert!(rt; put(&mut store, &fast_vote(alloc, &decrease(2))?));
+    Ok(store)
+}
+
+// The leader's structure is voted too.
+pub(crate) fn led(rt: &impl Abort, alloc: Global) -> Result<ListFacts, Fail> {
+    let mut store = voting(rt, alloc)?;
+    let marks = [
+        (4, Mark::Reject),
+        (2, Mark::Accept(decrease(2))),
+        (3, Mark::Accept(decrease(3))),
+    ];
+    let vote = voted(alloc, key(), 1, LED, &marks, None)?;
+    assert!(rt; put(&mut store, &vote) && !put(&mut store, &vote));
+    Ok(store)
+}
+
+#[test]
+fn a_promise_is_kept_once(rt: HostRuntime) -> Result<(), Fail> {
+    let a = key();
+    let mut store = voting(&rt, rt.alloc())?;
+    assert!(rt; is_load(&store, 1, &[], load(0, 1, 1, 4, 0)));
     let promise = Fact::Promised {
         key: a,
         low: 1,
         high: 101,
         ballot: LED,
     };
-    assert!(rt; put(&mut store, &promise));
-    assert!(rt; !put(&mut store, &promise));
-    assert_eq!(rt; store.promised(&a, 1, LED), Some(101));
-    assert_eq!(rt; store.promise(&a, 101), LED);
-    assert_eq!(rt; store.promise(&a, 102), Ballot::FAST);
-    let marks = [
-        (4, Mark::Reject),
-        (2, Mark::Accept(first.copy())),
-        (3, Mark::Accept(second.copy())),
-    ];
-    let vote = voted(rt.alloc(), a, 1, LED, &marks, None)?;
-    assert!(rt; put(&mut store, &vote));
-    assert!(rt; !put(&mut store, &vote));
-    assert_eq!(rt; store.load(&a, 1, &[]), load(0, 2, 2, 8, 0));
-    assert_eq!(rt; store.load(&a, 1, &[tx(2)]), load(0, 1, 2, 8, 0));
-    assert_eq!(rt; store.entries(&a, 1), (1, 0));
-    assert_eq!(rt; mark(&store, &a, 1, LED, 0), Some((Ballot::FAST, 2, true)));
-    let next = Ballot { round: 2, ..LED };
-    assert_eq!(rt; mark(&store, &a, 1, next, 0), Some((LED, 2, true)));
-    assert_eq!(rt; mark(&store, &a, 1, next, 1), Some((LED, 3, true)));
-    assert_eq!(rt; mark(&store, &a, 1, next, 2), Some((LED, 4, false)));
-    assert_eq!(rt; mark(&store, &a, 1, next, 3), None);
-    assert_eq!(rt; store.vote_of(&a, 1, tx(4)), Some((LED, Mark::Reject)));
-    assert_eq!(rt; store.unresolved(0), Some((tx(2), first.write_set.copy())));
-    assert_eq!(rt; store.unresolved(1), Some((tx(3), second.write_set.copy())));
-    assert_eq!(rt; store.unresolved(2), None);
+    assert!(rt; put(&mut store, &promise) && !put(&mut store, &promise));
+    assert!(rt; store.promised(&a, 1, LED) == Some(101));
+    assert!(rt; store.promise(&a, 101) == LED && store.promise(&a, 102) == Ballot::FAST);
+    Ok(())
+}
 
-    assert!(rt; put(&mut store, &committed(&rt, &second)));
-    assert_eq!(rt; store.unresolved(0), Some((tx(2), first.write_set.copy())));
-    assert_eq!(rt; store.unresolved(1), None);
-    assert!(rt; put(&mut store, &committed(&rt, &first)));
-    assert!(rt; !put(&mut store, &committed(&rt, &first)));
-    assert_eq!(rt; store.current(&a), 1);
-    assert_eq!(rt; store.executed(&a), seen(&rt, &[2, 3]));
+// The leader's structure, below the next ballot.
+fn has_three_marks(store: &ListFacts) -> bool {
+    let next = Ballot { round: 2, ..LED };
+    is_mark(store, 1, next, 0, (LED, 2, true))
+        && is_mark(store, 1, next, 1, (LED, 3, true))
+        && is_mark(store, 1, next, 2, (LED, 4, false))
+        && mark(store, &key(), 1, next, 3).is_none()
+}
+
+#[test]
+fn decreases_are_summed_once_each(rt: HostRuntime) -> Result<(), Fail> {
+    let store = led(&rt, rt.alloc())?;
+    assert!(rt; is_load(&store, 1, &[], load(0, 2, 2, 8, 0)));
+    assert!(rt; is_load(&store, 1, &[tx(2)], load(0, 1, 2, 8, 0)));
+    assert!(rt; store.entries(&key(), 1) == (1, 0));
+    assert!(rt; is_mark(&store, 1, LED, 0, (Ballot::FAST, 2, true)) && has_three_marks(&store));
+    assert!(rt; store.vote_of(&key(), 1, tx(4)) == Some((LED, Mark::Reject)));
+    assert!(rt; is_unresolved(&store, 0, &decrease(2)) && is_unresolved(&store, 1, &decrease(3)));
+    assert!(rt; store.unresolved(2).is_none());
+    Ok(())
+}
+
+fn has_the_delta_of_the_third(store: &ListFacts) -> bool {
     let delta = Delta {
         tx: tx(3),
         amounts: BoundedList::from_slice(&[(1, -4)]).unwrap(),
     };
-    assert_eq!(rt; store.delta(&a, tx(3)), Some(delta));
-    assert_eq!(rt; store.load(&a, 1, &[]), load(0, 2, 2, 8, 0));
+    store.delta(&key(), tx(3)) == Some(delta)
+}
+
+#[test]
+fn decreases_are_executed_once_each(rt: HostRuntime) -> Result<(), Fail> {
+    let mut store = led(&rt, rt.alloc())?;
+    assert!(rt; put(&mut store, &committed(&rt, &decrease(3))));
+    assert!(rt; is_unresolved(&store, 0, &decrease(2)) && store.unresolved(1).is_none());
+    let first = committed(&rt, &decrease(2));
+    assert!(rt; put(&mut store, &first) && !put(&mut store, &first));
+    assert!(rt; is_held(&store, 1, 10, &[2, 3]) && has_the_delta_of_the_third(&store));
+    assert!(rt; is_load(&store, 1, &[], load(0, 2, 2, 8, 0)));
     Ok(())
 }
 
-// An increase of 5 gives a decrease of 5 no room until the item is written again.
-#[test]
-fn a_rejected_decrease_is_void_and_a_rebase_starts_anew(rt: HostRuntime) -> Result<(), Fail> {
-    let a = Key::new(b"a").expect(&rt, "a key");
-    let insert = choice(a, 1, 0, write(&rt, 0, &[]));
-    let more = choice(a, 2, 1, add(5));
-    let less = choice(a, 3, 1, add(-5));
-    let rebase = choice(a, 4, 1, write(&rt, 5, &[tx(2)]));
-    let again = choice(a, 5, 2, add(-5));
-    let mut store = ListFacts::new(rt.alloc())?;
-    assert!(rt; put(&mut store, &committed(&rt, &insert)));
-    let vote = voted(
-        rt.alloc(),
-        a,
-        1,
-        Ballot::FAST,
-        &[(2, Mark::Accept(more.copy()))],
-        None,
-    )?;
-    assert!(rt; put(&mut store, &vote));
-    assert!(rt; put(&mut store, &committed(&rt, &more)));
-    let vote = voted(
-        rt.alloc(),
-        a,
-        1,
-        Ballot::FAST,
-        &[(3, Mark::Reject)],
-        Some(less.copy()),
-    )?;
-    assert!(rt; put(&mut store, &vote));
-    assert_eq!(rt; store.entries(&a, 1), (1, 1));
-    assert_eq!(rt; store.load(&a, 1, &[]), load(0, 1, 1, 0, 5));
-    assert_eq!(rt; mark(&store, &a, 1, LED, 1), Some((Ballot::FAST, 3, false)));
-    assert_eq!(rt; store.unresolved(0), Some((tx(3), less.write_set.copy())));
-    assert_eq!(rt; store.choice_of(&a, 1, tx(3)), Some(less.copy()));
-    let aborted = Fact::Heard {
-        tx: tx(3),
+// ---- an increase of 5 gives a decrease of 5 no room until the item is written again
+
+fn aborted(seq: u32) -> Fact {
+    Fact::Heard {
+        tx: tx(seq),
         outcome: Outcome::Abort,
-    };
-    assert!(rt; put(&mut store, &aborted));
-    assert_eq!(rt; store.heard(tx(3)), Some(Outcome::Abort));
-    assert_eq!(rt; store.unresolved(0), None);
+    }
+}
 
-    let vote = voted(
-        rt.alloc(),
-        a,
-        1,
-        Ballot::FAST,
-        &[(4, Mark::Accept(rebase.copy()))],
-        None,
-    )?;
+// The increase is held.
+fn raised(rt: &impl Abort, alloc: Global) -> Result<ListFacts, Fail> {
+    let more = choice(key(), 2, 1, add(5));
+    let mut store = holding(rt, alloc, 0)?;
+    assert!(rt; put(&mut store, &fast_vote(alloc, &more)?));
+    assert!(rt; put(&mut store, &committed(rt, &more)));
+    Ok(store)
+}
+
+// And the decrease is rejected.
+fn rejecting(rt: &impl Abort, alloc: Global, less: &Choice) -> Result<ListFacts, Fail> {
+    let mut store = raised(rt, alloc)?;
+    let mark = [(3, Mark::Reject)];
+    let vote = voted(alloc, key(), 1, Ballot::FAST, &mark, Some(less.copy()))?;
     assert!(rt; put(&mut store, &vote));
-    assert_eq!(rt; store.load(&a, 1, &[tx(2)]), load(1, 1, 1, 0, 5));
-    assert_eq!(rt; store.executed(&a), seen(&rt, &[2]));
+    Ok(store)
+}
+
+#[test]
+fn a_rejected_decrease_is_void(rt: HostRuntime) -> Result<(), Fail> {
+    let less = choice(key(), 3, 1, add(-5));
+    let mut store = rejecting(&rt, rt.alloc(), &less)?;
+    assert!(rt; store.entries(&key(), 1) == (1, 1) && is_load(&store, 1, &[], load(0, 1, 1, 0, 5)));
+    assert!(rt; is_mark(&store, 1, LED, 1, (Ballot::FAST, 3, false)));
+    assert!(rt; is_unresolved(&store, 0, &less));
+    assert!(rt; store.choice_of(&key(), 1, tx(3)) == Some(less.copy()));
+    assert!(rt; put(&mut store, &aborted(3)));
+    assert!(rt; store.heard(tx(3)) == Some(Outcome::Abort) && store.unresolved(0).is_none());
+    Ok(())
+}
+
+// The decrease was rejected, and the item is to be written again.
+fn rebasing(rt: &impl Abort, alloc: Global, rebase: &Choice) -> Result<ListFacts, Fail> {
+    let mut store = rejecting(rt, alloc, &choice(key(), 3, 1, add(-5)))?;
+    assert!(rt; put(&mut store, &aborted(3)));
+    assert!(rt; put(&mut store, &fast_vote(alloc, rebase)?));
+    Ok(store)
+}
+
+#[test]
+fn a_rebase_starts_anew(rt: HostRuntime) -> Result<(), Fail> {
+    let rebase = choice(key(), 4, 1, write(&rt, 5, &[tx(2)]));
+    let mut store = rebasing(&rt, rt.alloc(), &rebase)?;
+    assert!(rt; is_load(&store, 1, &[tx(2)], load(1, 1, 1, 0, 5)));
+    assert!(rt; store.executed(&key()) == seen(&[2]));
     assert!(rt; put(&mut store, &committed(&rt, &rebase)));
-    assert_eq!(rt; store.current(&a), 2);
-    assert_eq!(rt; store.base(&a), Some(item(5)));
-    assert_eq!(rt; store.executed(&a), seen(&rt, &[]));
-    assert_eq!(rt; store.delta(&a, tx(2)), None);
-    assert_eq!(rt; store.load(&a, 2, &[]), load(0, 0, 0, 0, 0));
+    assert!(rt; is_held(&store, 2, 5, &[]) && store.delta(&key(), tx(2)).is_none());
+    assert!(rt; is_load(&store, 2, &[], load(0, 0, 0, 0, 0)));
+    Ok(())
+}
 
-    let vote = voted(
-        rt.alloc(),
-        a,
-        2,
-        LED,
-        &[(5, Mark::Accept(again.copy()))],
-        None,
-    )?;
+#[test]
+fn a_decrease_has_room_after_a_rebase(rt: HostRuntime) -> Result<(), Fail> {
+    let rebase = choice(key(), 4, 1, write(&rt, 5, &[tx(2)]));
+    let again = choice(key(), 5, 2, add(-5));
+    let mut store = rebasing(&rt, rt.alloc(), &rebase)?;
+    assert!(rt; put(&mut store, &committed(&rt, &rebase)));
+    let marks = [(5, Mark::Accept(again.copy()))];
+    let vote = voted(rt.alloc(), key(), 2, LED, &marks, None)?;
     assert!(rt; put(&mut store, &vote));
-    assert_eq!(rt; store.entries(&a, 2), (0, 0));
-    assert_eq!(rt; store.load(&a, 2, &[]), load(0, 1, 1, 5, 0));
+    assert!(rt; store.entries(&key(), 2) == (0, 0) && is_load(&store, 2, &[], load(0, 1, 1, 5, 0)));
     assert!(rt; put(&mut store, &committed(&rt, &again)));
-    assert_eq!(rt; store.executed(&a), seen(&rt, &[5]));
+    assert!(rt; store.executed(&key()) == seen(&[5]));
     Ok(())
 }
 
 // A vote on a choice that is heard aborted weighs nothing.
 #[test]
 fn a_void_vote_weighs_nothing(rt: HostRuntime) -> Result<(), Fail> {
-    let a = Key::new(b"a").expect(&rt, "a key");
-    let insert = choice(a, 1, 0, write(&rt, 1, &[]));
     let mut store = ListFacts::new(rt.alloc())?;
-    let vote = voted(
-        rt.alloc(),
-        a,
-        0,
-        Ballot::FAST,
-        &[(1, Mark::Accept(insert))],
-        None,
-    )?;
-    assert!(rt; put(&mut store, &vote));
-    assert_eq!(rt; store.load(&a, 0, &[]), load(1, 1, 0, 0, 0));
-    let aborted = Fact::Heard {
-        tx: tx(1),
-        outcome: Outcome::Abort,
-    };
-    assert!(rt; put(&mut store, &aborted));
-    assert_eq!(rt; store.load(&a, 0, &[]), load(0, 0, 0, 0, 0));
-    assert_eq!(rt; store.entries(&a, 0), (1, 0));
+    assert!(rt; put(&mut store, &fast_vote(rt.alloc(), &insert(&rt, 1))?));
+    assert!(rt; is_load(&store, 0, &[], load(1, 1, 0, 0, 0)));
+    assert!(rt; put(&mut store, &aborted(1)));
+    assert!(rt; is_load(&store, 0, &[], load(0, 0, 0, 0, 0)));
+    assert!(rt; store.entries(&key(), 0) == (1, 0));
     Ok(())
 }

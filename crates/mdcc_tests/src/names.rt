@@ -16,11 +16,11 @@ fn texts_of_names(rt: HostRuntime) -> Result<(), Fail> {
         centre: 3,
     };
     let key = Key::new(b"item/7").expect(&rt, "a key");
-    assert_eq!(rt; centre.to_string(rt.alloc())?.as_str(), "1");
-    assert_eq!(rt; tx.to_string(rt.alloc())?.as_str(), "1.1.2");
-    assert_eq!(rt; ballot.to_string(rt.alloc())?.as_str(), "1.1.3");
-    assert_eq!(rt; Ballot::FAST.to_string(rt.alloc())?.as_str(), "0.0.0");
-    assert_eq!(rt; key.to_string(rt.alloc())?.as_str(), "item/7");
+    assert!(rt; centre.to_string(rt.alloc())?.as_str() == "1");
+    assert!(rt; tx.to_string(rt.alloc())?.as_str() == "1.1.2");
+    assert!(rt; ballot.to_string(rt.alloc())?.as_str() == "1.1.3");
+    assert!(rt; Ballot::FAST.to_string(rt.alloc())?.as_str() == "0.0.0");
+    assert!(rt; key.to_string(rt.alloc())?.as_str() == "item/7");
     Ok(())
 }
 
@@ -33,7 +33,7 @@ fn quorums_of_worked_clusters(rt: HostRuntime) -> Result<(), Fail> {
         (5, 3, 6, QuorumFault::FastRange),
         (10, 6, 8, QuorumFault::Centres),
     ] {
-        assert_eq!(rt; Quorums::new(n, c, f), Err(fault));
+        assert!(rt; Quorums::new(n, c, f) == Err(fault));
     }
     for (n, c, f) in [(5, 3, 4), (4, 3, 3), (3, 2, 3), (1, 1, 1)] {
         assert!(rt; Quorums::new(n, c, f).is_ok());
@@ -45,8 +45,8 @@ fn quorums_of_worked_clusters(rt: HostRuntime) -> Result<(), Fail> {
 fn home_and_threshold_of_five_centres(rt: HostRuntime) -> Result<(), Fail> {
     let quorums = Quorums::new(5, 3, 4).unwrap();
     let key = Key::new(b"a").expect(&rt, "a key");
-    assert_eq!(rt; quorums.home(&key).number(), 3);
-    assert_eq!(rt; quorums.threshold(3), 2);
+    assert!(rt; quorums.home(&key).number() == 3);
+    assert!(rt; quorums.threshold(3) == 2);
     Ok(())
 }
 
@@ -56,7 +56,7 @@ fn a_list_on_the_heap_is_copied(rt: HostRuntime) -> Result<(), Fail> {
     list.push(7u64)?;
     list.push(9u64)?;
     let copy = list.copy(rt.alloc())?;
-    assert_eq!(rt; copy.as_slice(), [7, 9].as_slice());
+    assert!(rt; copy.as_slice() == [7, 9].as_slice());
     assert!(rt; copy.same(&list));
     Ok(())
 }

@@ -1,17 +1,10 @@
 //! Structures of marks.
-use mdcc_base::{Centre, Quorums, TxId};
+use crate::facts::tx;
+use mdcc_base::{Centre, Quorums};
 use mdcc_option::Mark;
 use mdcc_struct::{JoinFault, Options, Report, forced};
 use std::alloc::Global;
 use std::test::Fail;
-
-fn tx(seq: u32) -> TxId {
-    TxId {
-        centre: Centre::new(1).unwrap(),
-        epoch: 1,
-        seq,
-    }
-}
 
 // The transactions 1.1.1 to 1.1.`count`, each rejected.
 fn rejections(alloc: Global, count: u32) -> Result<Options, Fail> {
@@ -25,27 +18,41 @@ fn rejections(alloc: Global, count: u32) -> Result<Options, Fail> {
     Ok(options)
 }
 
+// Whether the first transaction alone is in a structure, rejected.
+fn is_one(options: &Options) -> bool {
+    if options.len() != 1 {
+        return false;
+    }
+    let (first, mark) = options.at(0);
+    first == tx(1) && matches!(mark, Mark::Reject)
+}
+
 #[test]
-fn a_structure_is_copied_met_and_joined(rt: HostRuntime) -> Result<(), Fail> {
+fn a_structure_is_copied_and_met(rt: HostRuntime) -> Result<(), Fail> {
+    let one = rejections(rt.alloc(), 1)?;
+    let copy = one.copy(rt.alloc())?;
+    assert!(rt; copy.extends(&one) && one.extends(&copy) && is_one(&copy));
+    let two = rejections(rt.alloc(), 2)?;
+    assert!(rt; is_one(&one.meet(rt.alloc(), &two)?));
+    Ok(())
+}
+
+// Whether both are in a structure, rejected.
+fn are_two(options: &Options) -> bool {
+    options.len() == 2
+        && options.at(1).0 == tx(2)
+        && (options.accepted(), options.rejected()) == (0, 2)
+}
+
+#[test]
+fn structures_are_joined(rt: HostRuntime) -> Result<(), Fail> {
     let one = rejections(rt.alloc(), 1)?;
     let two = rejections(rt.alloc(), 2)?;
-    let copy = one.copy(rt.alloc())?;
-    assert!(rt; copy.extends(&one) && one.extends(&copy));
-    assert_eq!(rt; copy.len(), 1);
-    assert_eq!(rt; copy.at(0).0, tx(1));
-    assert!(rt; matches!(copy.at(0).1, Mark::Reject));
-
-    let both = one.meet(rt.alloc(), &two)?;
-    assert_eq!(rt; both.len(), 1);
-    assert_eq!(rt; both.at(0).0, tx(1));
     let all = match one.join(rt.alloc(), &two) {
         Ok(all) => all,
         Err(JoinFault::Differ(_)) | Err(JoinFault::Memory) => Options::new(rt.alloc())?,
     };
-    assert_eq!(rt; all.len(), 2);
-    assert_eq!(rt; all.at(1).0, tx(2));
-    assert_eq!(rt; (all.accepted(), all.rejected()), (0, 2));
-    assert_eq!(rt; all.differing(&two), None);
+    assert!(rt; are_two(&all) && all.differing(&two).is_none());
     Ok(())
 }
 
@@ -68,7 +75,7 @@ fn two_of_three_reports_force_a_mark(rt: HostRuntime) -> Result<(), Fail> {
         report(3, Options::new(rt.alloc())?),
     ];
     let marks = forced(rt.alloc(), &quorums, &reports)?;
-    assert_eq!(rt; marks.len(), 1);
-    assert_eq!(rt; marks.at(0).0, tx(1));
+    assert!(rt; marks.len() == 1);
+    assert!(rt; marks.at(0).0 == tx(1));
     Ok(())
 }
