@@ -3,8 +3,8 @@ use crate::bytes::{
     AMOUNTS, ITEM, NEXT_TX, PLACE, TX, amounts, deltas, item, joined, key, seen, tx,
 };
 use crate::spelled::{is_written, message_of};
-use mdcc_base::{BoundedList, Plain};
-use mdcc_option::{BeginFault, DraftFault, Part, Token, Update};
+use mdcc_base::{BoundedList, HeapList, Plain};
+use mdcc_option::{BeginFault, Delta, DraftFault, Part, Token, Update};
 use mdcc_wire::{ClientAnswer, Message};
 use std::alloc::Global;
 use std::test::*;
@@ -12,48 +12,69 @@ use std::test::*;
 /// The number 258, of a client's request.
 const SERIAL: [u8; 4] = [2, 1, 0, 0];
 
-fn is_asked_for(alloc: Global) -> Result<bool, Fail> {
-    let read = match message_of(alloc, 11, &[&[1, 97]])? {
+fn is_question(message: &Message) -> bool {
+    match message {
         Message::SyncAsk(read) => read.is(&key()),
         _ => false,
-    };
-    Ok(read && is_written(alloc, 11, Message::SyncAsk(key()), &[&[1, 97]])?)
+    }
 }
 
-fn is_given(alloc: Global) -> Result<bool, Fail> {
-    let bytes: [&[u8]; 5] = [&PLACE, &ITEM, &[1], &TX, &AMOUNTS];
-    let given = deltas(alloc)?;
-    let read = match &message_of(alloc, 12, &bytes)? {
+fn is_asked_for(alloc: Global) -> Result<bool, Fail> {
+    Ok(
+        is_written(alloc, 11, Message::SyncAsk(key()), &[&[1, 97]])?
+            && is_question(&message_of(alloc, 11, &[&[1, 97]])?),
+    )
+}
+
+fn is_gift(message: &Message, given: &HeapList<Delta>) -> bool {
+    match message {
         Message::SyncGive {
             key: of,
             version,
             item: read,
             adds,
-        } => of.is(&key()) && *version == 7 && read.same(&item()) && adds.same(&given),
+        } => of.is(&key()) && *version == 7 && read.same(&item()) && adds.same(given),
         _ => false,
-    };
-    if given.len() != 1 {
+    }
+}
+
+fn is_gift_written(alloc: Global, adds: HeapList<Delta>, bytes: &[&[u8]]) -> Result<bool, Fail> {
+    if adds.len() != 1 {
         return Ok(false);
     }
     let give = Message::SyncGive {
         key: key(),
         version: 7,
         item: item(),
-        adds: given,
+        adds,
     };
-    Ok(read && is_written(alloc, 12, give, &bytes)?)
+    is_written(alloc, 12, give, bytes)
+}
+
+fn is_given(alloc: Global) -> Result<bool, Fail> {
+    let bytes: [&[u8]; 5] = [&PLACE, &ITEM, &[1], &TX, &AMOUNTS];
+    Ok(
+        is_gift_written(alloc, deltas(alloc)?, &bytes)?
+            && is_gift(&message_of(alloc, 12, &bytes)?, &deltas(alloc)?),
+    )
+}
+
+fn is_read_of(message: &Message) -> bool {
+    match message {
+        Message::ClientRead { serial, key: of } => *serial == 258 && of.is(&key()),
+        _ => false,
+    }
 }
 
 fn is_read(alloc: Global) -> Result<bool, Fail> {
-    let read = match message_of(alloc, 13, &[&SERIAL, &[1, 97]])? {
-        Message::ClientRead { serial, key: of } => serial == 258 && of.is(&key()),
-        _ => false,
-    };
     let sent = Message::ClientRead {
         serial: 258,
         key: key(),
     };
-    Ok(read && is_written(alloc, 13, sent, &[&SERIAL, &[1, 97]])?)
+    Ok(
+        is_written(alloc, 13, sent, &[&SERIAL, &[1, 97]])?
+            && is_read_of(&message_of(alloc, 13, &[&SERIAL, &[1, 97]])?),
+    )
 }
 
 // A write of the item that saw two transactions, and 5 more at attribute 2 of key bc at version 256.
@@ -71,31 +92,32 @@ fn parts() -> BoundedList<Part, 8> {
     BoundedList::from_slice(&[writes, adds]).unwrap_or_default()
 }
 
-fn is_begun(alloc: Global) -> Result<bool, Fail> {
-    let writes = joined(alloc, &[&PLACE, &[1], &ITEM, &[2], &TX, &NEXT_TX])?;
-    let adds = joined(alloc, &[&[2, 98, 99, 0, 1, 0, 0, 0, 0, 0, 0, 2], &AMOUNTS])?;
-    let bytes: [&[u8]; 4] = [&SERIAL, &[2], &writes, &adds];
-    let read = match &message_of(alloc, 14, &bytes)? {
+fn is_begin(message: &Message) -> bool {
+    match message {
         Message::ClientBegin {
             serial,
             parts: read,
         } => *serial == 258 && read.same(&parts()),
         _ => false,
-    };
+    }
+}
+
+fn is_begun(alloc: Global) -> Result<bool, Fail> {
+    let writes = joined(alloc, &[&PLACE, &[1], &ITEM, &[2], &TX, &NEXT_TX])?;
+    let adds = joined(alloc, &[&[2, 98, 99, 0, 1, 0, 0, 0, 0, 0, 0, 2], &AMOUNTS])?;
+    let bytes: [&[u8]; 4] = [&SERIAL, &[2], &writes, &adds];
     let begin = Message::ClientBegin {
         serial: 258,
         parts: parts(),
     };
-    Ok(read && is_written(alloc, 14, begin, &bytes)?)
+    Ok(is_written(alloc, 14, begin, &bytes)? && is_begin(&message_of(alloc, 14, &bytes)?))
 }
 
 #[test]
 fn states_and_requests(rt: HostRuntime) -> Result<(), Fail> {
     let alloc = rt.alloc();
-    assert!(rt; is_asked_for(alloc)?);
-    assert!(rt; is_given(alloc)?);
-    assert!(rt; is_read(alloc)?);
-    assert!(rt; is_begun(alloc)?);
+    assert!(rt; is_asked_for(alloc)? && is_given(alloc)?);
+    assert!(rt; is_read(alloc)? && is_begun(alloc)?);
     Ok(())
 }
 
@@ -130,20 +152,26 @@ fn is_same(a: &ClientAnswer, b: &ClientAnswer) -> bool {
     }
 }
 
-fn is_answered(alloc: Global, answer: ClientAnswer, answer_bytes: &[u8]) -> Result<bool, Fail> {
-    let bytes: [&[u8]; 2] = [&SERIAL, answer_bytes];
-    let read = match &message_of(alloc, 15, &bytes)? {
+fn is_answer(message: &Message, answer: &ClientAnswer) -> bool {
+    match message {
         Message::ClientAnswer {
             serial,
             answer: read,
-        } => *serial == 258 && is_same(read, &answer),
+        } => *serial == 258 && is_same(read, answer),
         _ => false,
-    };
+    }
+}
+
+fn is_answered(alloc: Global, answer: ClientAnswer, answer_bytes: &[u8]) -> Result<bool, Fail> {
+    let bytes: [&[u8]; 2] = [&SERIAL, answer_bytes];
+    if !is_answer(&message_of(alloc, 15, &bytes)?, &answer) {
+        return Ok(false);
+    }
     let sent = Message::ClientAnswer {
         serial: 258,
         answer,
     };
-    Ok(read && is_written(alloc, 15, sent, &bytes)?)
+    is_written(alloc, 15, sent, &bytes)
 }
 
 fn token() -> Token {

@@ -6,10 +6,10 @@ use crate::bytes::{
     key, options, tx,
 };
 use crate::spelled::are_same;
-use mdcc_base::{Ballot, BoundedList, Plain};
+use mdcc_base::{Ballot, BoundedList, HeapList, Plain};
 use mdcc_journal::{decode_fact, encode_fact, fact_length};
 use mdcc_messages::Fact;
-use mdcc_option::{Choice, Outcome};
+use mdcc_option::{Choice, Delta, Outcome};
 use mdcc_struct::Options;
 use std::alloc::Global;
 use std::test::*;
@@ -32,45 +32,43 @@ fn fact_of(alloc: Global, bytes: &[u8]) -> Result<Fact, Fail> {
     )
 }
 
-fn is_booted(alloc: Global) -> Result<bool, Fail> {
-    let bytes = [1, 2, 1, 0, 0];
-    let read = match fact_of(alloc, &bytes)? {
-        Fact::Booted(epoch) => epoch == 258,
+fn is_boot(fact: &Fact) -> bool {
+    match fact {
+        Fact::Booted(epoch) => *epoch == 258,
         _ => false,
-    };
-    Ok(read && is_written(alloc, &Fact::Booted(258), &bytes)?)
+    }
 }
 
-fn is_promised(alloc: Global) -> Result<bool, Fail> {
-    let bytes = joined(alloc, &[&[2], &PLACE, &[107, 0, 0, 0, 0, 0, 0, 0], &BALLOT])?;
-    let read = match fact_of(alloc, &bytes)? {
+fn is_booted(alloc: Global) -> Result<bool, Fail> {
+    let bytes = [1, 2, 1, 0, 0];
+    Ok(is_written(alloc, &Fact::Booted(258), &bytes)? && is_boot(&fact_of(alloc, &bytes)?))
+}
+
+fn is_promise(fact: &Fact) -> bool {
+    match fact {
         Fact::Promised {
             key: of,
             low,
             high,
             ballot: at,
-        } => of.is(&key()) && low == 7 && high == 107 && at.is(&ballot()),
+        } => of.is(&key()) && *low == 7 && *high == 107 && at.is(&ballot()),
         _ => false,
-    };
+    }
+}
+
+fn is_promised(alloc: Global) -> Result<bool, Fail> {
+    let bytes = joined(alloc, &[&[2], &PLACE, &[107, 0, 0, 0, 0, 0, 0, 0], &BALLOT])?;
     let promised = Fact::Promised {
         key: key(),
         low: 7,
         high: 107,
         ballot: ballot(),
     };
-    Ok(read && is_written(alloc, &promised, &bytes)?)
+    Ok(is_written(alloc, &promised, &bytes)? && is_promise(&fact_of(alloc, &bytes)?))
 }
 
-fn is_voted(
-    alloc: Global,
-    at: Ballot,
-    marks: Options,
-    offered: Option<Choice>,
-    rest: &[u8],
-) -> Result<bool, Fail> {
-    let head = if at.is(&Ballot::FAST) { &FAST } else { &BALLOT };
-    let bytes = joined(alloc, &[&[3], &PLACE, head, rest])?;
-    let read = match &fact_of(alloc, &bytes)? {
+fn is_vote(fact: &Fact, at: &Ballot, marks: &Options, offered: &Option<Choice>) -> bool {
+    match fact {
         Fact::Voted {
             key: of,
             version,
@@ -80,82 +78,115 @@ fn is_voted(
         } => {
             of.is(&key())
                 && *version == 7
-                && ballot.is(&at)
-                && are_same(options, &marks)
-                && read.same(&offered)
+                && ballot.is(at)
+                && are_same(options, marks)
+                && read.same(offered)
         }
         _ => false,
-    };
-    if marks.len() > 2 {
+    }
+}
+
+// Whether a vote is written as these bytes.
+fn is_vote_written(
+    alloc: Global,
+    ballot: Ballot,
+    options: Options,
+    offered: Option<Choice>,
+    bytes: &[u8],
+) -> Result<bool, Fail> {
+    if options.len() > 2 {
         return Ok(false);
     }
     let voted = Fact::Voted {
         key: key(),
         version: 7,
-        ballot: at,
-        options: marks,
+        ballot,
+        options,
         offered,
     };
-    Ok(read && is_written(alloc, &voted, &bytes)?)
+    is_written(alloc, &voted, bytes)
 }
 
-fn is_heard(alloc: Global, outcome: Outcome, outcome_bytes: &[u8]) -> Result<bool, Fail> {
-    let bytes = joined(alloc, &[&[4], &TX, outcome_bytes])?;
-    let read = match &fact_of(alloc, &bytes)? {
+fn is_heard_as(fact: &Fact, outcome: &Outcome) -> bool {
+    match fact {
         Fact::Heard {
             tx: of,
             outcome: read,
-        } => of.is(&tx()) && read.is(&outcome),
+        } => of.is(&tx()) && read.is(outcome),
         _ => false,
-    };
-    let heard = Fact::Heard { tx: tx(), outcome };
-    Ok(read && is_written(alloc, &heard, &bytes)?)
+    }
 }
 
-fn is_adopted(alloc: Global) -> Result<bool, Fail> {
-    let bytes = joined(alloc, &[&[5], &PLACE, &ITEM, &[1], &TX, &AMOUNTS])?;
-    let given = deltas(alloc)?;
-    let read = match &fact_of(alloc, &bytes)? {
+fn is_heard(alloc: Global, outcome: &Outcome, outcome_bytes: &[u8]) -> Result<bool, Fail> {
+    let bytes = joined(alloc, &[&[4], &TX, outcome_bytes])?;
+    let heard = Fact::Heard {
+        tx: tx(),
+        outcome: outcome.copy(),
+    };
+    Ok(is_written(alloc, &heard, &bytes)? && is_heard_as(&fact_of(alloc, &bytes)?, outcome))
+}
+
+fn is_adoption(fact: &Fact, given: &HeapList<Delta>) -> bool {
+    match fact {
         Fact::Adopted {
             key: of,
             version,
             item: read,
             adds,
-        } => of.is(&key()) && *version == 7 && read.same(&item()) && adds.same(&given),
+        } => of.is(&key()) && *version == 7 && read.same(&item()) && adds.same(given),
         _ => false,
-    };
-    if given.len() != 1 {
+    }
+}
+
+fn is_adoption_written(alloc: Global, adds: HeapList<Delta>, bytes: &[u8]) -> Result<bool, Fail> {
+    if adds.len() != 1 {
         return Ok(false);
     }
     let adopted = Fact::Adopted {
         key: key(),
         version: 7,
         item: item(),
-        adds: given,
+        adds,
     };
-    Ok(read && is_written(alloc, &adopted, &bytes)?)
+    is_written(alloc, &adopted, bytes)
+}
+
+fn is_adopted(alloc: Global) -> Result<bool, Fail> {
+    let bytes = joined(alloc, &[&[5], &PLACE, &ITEM, &[1], &TX, &AMOUNTS])?;
+    Ok(
+        is_adoption_written(alloc, deltas(alloc)?, &bytes)?
+            && is_adoption(&fact_of(alloc, &bytes)?, &deltas(alloc)?),
+    )
 }
 
 #[test]
 fn starts_promises_and_outcomes(rt: HostRuntime) -> Result<(), Fail> {
     let alloc = rt.alloc();
-    assert!(rt; is_booted(alloc)?);
-    assert!(rt; is_promised(alloc)?);
-    assert!(rt; is_heard(alloc, Outcome::Abort, &[0])?);
+    assert!(rt; is_booted(alloc)? && is_promised(alloc)? && is_adopted(alloc)?);
+    assert!(rt; is_heard(alloc, &Outcome::Abort, &[0])?);
     let commit = Outcome::Commit(BoundedList::from_slice(&[choice()]).unwrap_or_default());
     let bytes = joined(alloc, &[&[1, 1], &CHOICE])?;
-    assert!(rt; is_heard(alloc, commit, &bytes)?);
-    assert!(rt; is_adopted(alloc)?);
+    assert!(rt; is_heard(alloc, &commit, &bytes)?);
     Ok(())
 }
 
 #[test]
 fn votes(rt: HostRuntime) -> Result<(), Fail> {
     let alloc = rt.alloc();
-    let marks = joined(alloc, &[&[2, 0, 0, 0, 1], &CHOICE, &[0], &NEXT_TX, &[0]])?;
-    assert!(rt; is_voted(alloc, ballot(), options(alloc)?, None, &marks)?);
-    let rejects = joined(alloc, &[&[0, 0, 0, 0, 1], &CHOICE])?;
+    let marks: [&[u8]; 6] = [&[3], &PLACE, &BALLOT, &[2, 0, 0, 0, 1], &CHOICE, &[0]];
+    let bytes = joined(alloc, &[&joined(alloc, &marks)?, &NEXT_TX, &[0]])?;
+    assert!(rt; is_vote_written(alloc, ballot(), options(alloc)?, None, &bytes)?);
+    assert!(rt; is_vote(&fact_of(alloc, &bytes)?, &ballot(), &options(alloc)?, &None));
+    Ok(())
+}
+
+#[test]
+fn a_vote_with_a_rejected_choice(rt: HostRuntime) -> Result<(), Fail> {
+    let alloc = rt.alloc();
+    let bytes = joined(alloc, &[&[3], &PLACE, &FAST, &[0, 0, 0, 0, 1], &CHOICE])?;
+    let offered = Some(choice());
     let none = Options::new(alloc)?;
-    assert!(rt; is_voted(alloc, Ballot::FAST, none, Some(choice()), &rejects)?);
+    assert!(rt; is_vote(&fact_of(alloc, &bytes)?, &Ballot::FAST, &none, &offered));
+    assert!(rt; is_vote_written(alloc, Ballot::FAST, none, offered, &bytes)?);
     Ok(())
 }

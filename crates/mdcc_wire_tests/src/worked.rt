@@ -85,14 +85,14 @@ fn a_question(rt: HostRuntime) -> Result<(), Fail> {
 #[test]
 fn bytes_that_are_no_question(rt: HostRuntime) -> Result<(), Fail> {
     let alloc = rt.alloc();
-    assert_eq!(rt; view(&ASK[..22]).err(), Some(WireFault::Truncated(22)));
+    assert!(rt; view(&ASK[..22]).err() == Some(WireFault::Truncated(22)));
     let mut longer = Vec::new(alloc);
     longer.extend_from_slice(&ASK)?;
     longer.push(0)?;
-    assert_eq!(rt; view(&longer).err(), Some(WireFault::Trailing(23)));
+    assert!(rt; view(&longer).err() == Some(WireFault::Trailing(23)));
     longer.clear();
     longer.extend_from_slice(&[1, 16])?;
     longer.extend_from_slice(&ASK[2..])?;
-    assert_eq!(rt; view(&longer).err(), Some(WireFault::Kind));
+    assert!(rt; view(&longer).err() == Some(WireFault::Kind));
     Ok(())
 }
