@@ -39,9 +39,9 @@ fn a_decrease_past_the_share_is_not_voted(rt: HostRuntime) -> Result<(), Fail> {
 fn a_range_is_promised(rt: HostRuntime) -> Result<(), Fail> {
     let store = six(rt.alloc())?;
     let answer = on_prepare(&store, &key(b'a'), 1, 101, LED);
-    assert_eq!(rt; answer, PrepareAnswer::Promise(101));
+    assert!(rt; answer == PrepareAnswer::Promise(101));
     let answer = on_prepare(&store, &key(b'a'), 0, 100, LED);
-    assert_eq!(rt; answer, PrepareAnswer::Promise(0));
+    assert!(rt; answer == PrepareAnswer::Promise(0));
     Ok(())
 }
 
@@ -57,11 +57,11 @@ fn a_structure_is_voted_at_the_version_held(rt: HostRuntime) -> Result<(), Fail>
     let store = six(rt.alloc())?;
     let options = structure(rt.alloc())?;
     let answer = on_accept(&store, &key(b'a'), 1, LED, &options);
-    assert_eq!(rt; answer, AcceptAnswer::Vote);
+    assert!(rt; answer == AcceptAnswer::Vote);
     let answer = on_accept(&store, &key(b'a'), 2, LED, &options);
-    assert_eq!(rt; answer, AcceptAnswer::Behind(1));
+    assert!(rt; answer == AcceptAnswer::Behind(1));
     let none = Options::new(rt.alloc())?;
     let answer = on_accept(&store, &key(b'a'), 1, Ballot { round: 2, ..LED }, &none);
-    assert_eq!(rt; answer, AcceptAnswer::Older);
+    assert!(rt; answer == AcceptAnswer::Older);
     Ok(())
 }

@@ -98,9 +98,29 @@ fn promised(
     Ok(leader.on_promise(store, cluster, from, promise)?)
 }
 
-// The structure that an answer sends.
-fn structure(answer: PromiseAnswer) -> Result<Options, Fail> {
+// Whether a promise is not enough yet, after so many.
+fn is_waiting(answer: &PromiseAnswer, count: u8) -> bool {
     match answer {
+        PromiseAnswer::Waiting(found) => *found == count,
+        _ => false,
+    }
+}
+
+// Whether the first transaction and the second are in a structure, the first accepted or not, and
+// the second the other way.
+fn are_marked(options: &Options, first: bool) -> bool {
+    is_accepted(options, tx(1)) == Some(first) && is_accepted(options, tx(2)) == Some(!first)
+}
+
+// The structure that is sent once a centre promises.
+fn structure(
+    leader: &mut Leader,
+    store: &ListFacts,
+    cluster: &Cluster,
+    number: u8,
+    promise: &Promise,
+) -> Result<Options, Fail> {
+    match promised(leader, store, cluster, number, promise)? {
         PromiseAnswer::Accept {
             version: _,
             ballot: _,
@@ -125,8 +145,8 @@ fn asking(
             through,
             ballot,
         } => {
-            assert_eq!(rt; (version, ballot), (claim.version, LED));
-            assert_eq!(rt; through, claim.version.saturating_add(100));
+            assert!(rt; version == claim.version && ballot == LED);
+            assert!(rt; through == claim.version.saturating_add(100));
             Ok(leader)
         }
         _ => Err("promises are asked for".into()),
@@ -146,18 +166,27 @@ fn the_first_three_force_the_first_insert(rt: HostRuntime) -> Result<(), Fail> {
         &claim_of(&other_insert()),
     )?;
     let first = promise(0, 100, first_won(rt.alloc())?);
-    let second = promise(0, 100, second_won(rt.alloc())?);
     let answer = promised(&mut leader, &store, &cluster, 1, &first)?;
-    assert!(rt; matches!(answer, PromiseAnswer::Waiting(1)));
+    assert!(rt; is_waiting(&answer, 1));
     let answer = promised(&mut leader, &store, &cluster, 1, &first)?;
     assert!(rt; matches!(answer, PromiseAnswer::Ignored));
     let answer = promised(&mut leader, &store, &cluster, 2, &first)?;
-    assert!(rt; matches!(answer, PromiseAnswer::Waiting(2)));
-    let options = structure(promised(&mut leader, &store, &cluster, 3, &second)?)?;
-    assert_eq!(rt; options.len(), 2);
-    assert_eq!(rt; is_accepted(&options, tx(1)), Some(true));
-    assert_eq!(rt; is_accepted(&options, tx(2)), Some(false));
-    let answer = promised(&mut leader, &store, &cluster, 4, &second)?;
+    assert!(rt; is_waiting(&answer, 2));
+    force_the_first(&rt, rt.alloc(), &mut leader, &store, &cluster)
+}
+
+// The third centre promises, and after the structure the fourth.
+fn force_the_first(
+    rt: &impl Abort,
+    alloc: Global,
+    leader: &mut Leader,
+    store: &ListFacts,
+    cluster: &Cluster,
+) -> Result<(), Fail> {
+    let second = promise(0, 100, second_won(alloc)?);
+    let options = structure(leader, store, cluster, 3, &second)?;
+    assert!(rt; options.len() == 2 && are_marked(&options, true));
+    let answer = promised(leader, store, cluster, 4, &second)?;
     assert!(rt; matches!(answer, PromiseAnswer::Counted));
     Ok(())
 }
@@ -171,9 +200,8 @@ fn the_last_three_force_the_second_insert(rt: HostRuntime) -> Result<(), Fail> {
     let second = promise(0, 100, second_won(rt.alloc())?);
     let _waiting = promised(&mut leader, &store, &cluster, 3, &second)?;
     let _waiting = promised(&mut leader, &store, &cluster, 4, &second)?;
-    let options = structure(promised(&mut leader, &store, &cluster, 5, &second)?)?;
-    assert_eq!(rt; is_accepted(&options, tx(1)), Some(false));
-    assert_eq!(rt; is_accepted(&options, tx(2)), Some(true));
+    let options = structure(&mut leader, &store, &cluster, 5, &second)?;
+    assert!(rt; are_marked(&options, false));
     Ok(())
 }
 
@@ -192,7 +220,7 @@ fn accepting(alloc: Global, first: u32, second: u32, amount: i64) -> Result<Opti
     )
 }
 
-// The answer to the third of three promises, each of which has two of three decreases.
+// Each of three centres promises and has two of three decreases: the answer is to the third.
 fn third(
     alloc: Global,
     leader: &mut Leader,
@@ -200,13 +228,24 @@ fn third(
     cluster: &Cluster,
     amount: i64,
 ) -> Result<PromiseAnswer, Fail> {
-    let ends = [(2, 3), (2, 4), (3, 4)];
-    let first = promise(1, 101, accepting(alloc, ends[0].0, ends[0].1, amount)?);
-    let second = promise(1, 101, accepting(alloc, ends[1].0, ends[1].1, amount)?);
-    let last = promise(1, 101, accepting(alloc, ends[2].0, ends[2].1, amount)?);
+    let first = promise(1, 101, accepting(alloc, 2, 3, amount)?);
     let _waiting = promised(leader, store, cluster, 1, &first)?;
+    let second = promise(1, 101, accepting(alloc, 2, 4, amount)?);
     let _waiting = promised(leader, store, cluster, 2, &second)?;
+    let last = promise(1, 101, accepting(alloc, 3, 4, amount)?);
     promised(leader, store, cluster, 3, &last)
+}
+
+// Whether so many marks of the structure that is sent accept, and none rejects.
+fn all_accept(answer: &PromiseAnswer, count: usize) -> bool {
+    match answer {
+        PromiseAnswer::Accept {
+            version: _,
+            ballot: _,
+            options,
+        } => options.accepted() == count && options.rejected() == 0,
+        _ => false,
+    }
 }
 
 // Three decreases of 3 from 10, of which each of three centres accepted two: all are kept.
@@ -215,9 +254,16 @@ fn joint_decreases_are_all_kept(rt: HostRuntime) -> Result<(), Fail> {
     let cluster = cluster()?;
     let store = holding(rt.alloc(), vec![in rt.alloc(); insert()]?)?;
     let mut leader = asking(&rt, rt.alloc(), &store, &cluster, &claim_of(&add_of(2, -3)))?;
-    let options = structure(third(rt.alloc(), &mut leader, &store, &cluster, -3)?)?;
-    assert_eq!(rt; (options.accepted(), options.rejected()), (3, 0));
+    let answer = third(rt.alloc(), &mut leader, &store, &cluster, -3)?;
+    assert!(rt; all_accept(&answer, 3));
     Ok(())
+}
+
+// Whether the first two of three decreases are kept.
+fn are_first_two(options: &Options) -> bool {
+    is_accepted(options, tx(2)) == Some(true)
+        && is_accepted(options, tx(3)) == Some(true)
+        && is_accepted(options, tx(4)) == Some(false)
 }
 
 // Under the wider limit three decreases of 4 from 10 do not fit together, so that the leader waits
@@ -231,12 +277,10 @@ fn promises_that_do_not_fit_are_not_enough(rt: HostRuntime) -> Result<(), Fail> 
     let store = holding(rt.alloc(), vec![in rt.alloc(); insert()]?)?;
     let mut leader = asking(&rt, rt.alloc(), &store, &cluster, &claim_of(&add_of(2, -4)))?;
     let answer = third(rt.alloc(), &mut leader, &store, &cluster, -4)?;
-    assert!(rt; matches!(answer, PromiseAnswer::Waiting(3)));
+    assert!(rt; is_waiting(&answer, 3));
     let fourth = promise(1, 101, Options::new(rt.alloc())?);
-    let options = structure(promised(&mut leader, &store, &cluster, 4, &fourth)?)?;
-    assert_eq!(rt; is_accepted(&options, tx(2)), Some(true));
-    assert_eq!(rt; is_accepted(&options, tx(3)), Some(true));
-    assert_eq!(rt; is_accepted(&options, tx(4)), Some(false));
+    let options = structure(&mut leader, &store, &cluster, 4, &fourth)?;
+    assert!(rt; are_first_two(&options));
     Ok(())
 }
 
@@ -258,9 +302,8 @@ fn a_claim_without_a_choice_is_rejected(rt: HostRuntime) -> Result<(), Fail> {
     assert!(rt; matches!(again, LeadAnswer::Prepare { .. }));
     let mut votes = Options::new(rt.alloc())?;
     votes.insert(tx(1), Mark::Accept(insert()))?;
-    let options = structure(promised(&mut leader, &store, &cluster, 1, &promise(0, 100, votes))?)?;
-    assert_eq!(rt; is_accepted(&options, tx(1)), Some(true));
-    assert_eq!(rt; is_accepted(&options, tx(2)), Some(false));
+    let options = structure(&mut leader, &store, &cluster, 1, &promise(0, 100, votes))?;
+    assert!(rt; are_marked(&options, true));
     Ok(())
 }
 
@@ -281,45 +324,61 @@ fn a_range_ends(rt: HostRuntime) -> Result<(), Fail> {
     let store = holding(rt.alloc(), written)?;
     let mut leader = leader(rt.alloc())?;
     let asked = leader.lead(&store, &cluster, &claim(tx(5), 1, None))?;
-    assert!(rt;
-        matches!(
-            asked,
-            LeadAnswer::Prepare {
-                version: 1,
-                through: 3,
-                ballot: _
-            }
-        )
-    );
+    assert!(rt; is_asked(&asked, 1, 3));
     let none = Options::new(rt.alloc())?;
-    let _made = structure(promised(&mut leader, &store, &cluster, 1, &promise(1, 3, none))?)?;
-    let later = leader.lead(&store, &cluster, &claim(tx(6), 3, None))?;
-    assert!(rt;
-        matches!(
-            later,
-            LeadAnswer::Accept {
-                version: 3,
-                ballot: LED,
-                options: _
-            }
-        )
-    );
-    let past = leader.lead(&store, &cluster, &claim(tx(7), 4, None))?;
-    assert_eq!(rt; round_of(&past), Some(2));
-    let ahead = leader.lead(&store, &cluster, &claim(tx(7), 5, None))?;
+    let _made = structure(&mut leader, &store, &cluster, 1, &promise(1, 3, none))?;
+    lead_to_the_end(&rt, &mut leader, &store, &cluster)
+}
+
+// Whether promises are asked for from this version through that one.
+fn is_asked(answer: &LeadAnswer, low: u64, high: u64) -> bool {
+    match answer {
+        LeadAnswer::Prepare {
+            version,
+            through,
+            ballot: _,
+        } => *version == low && *through == high,
+        _ => false,
+    }
+}
+
+// Whether a structure is sent at this version at the first ballot.
+fn is_sent(answer: &LeadAnswer, at: u64) -> bool {
+    match answer {
+        LeadAnswer::Accept {
+            version,
+            ballot,
+            options: _,
+        } => *version == at && *ballot == LED,
+        _ => false,
+    }
+}
+
+// The last version of the range, the one after it, and one that is not held.
+fn lead_to_the_end(
+    rt: &impl Abort,
+    leader: &mut Leader,
+    store: &ListFacts,
+    cluster: &Cluster,
+) -> Result<(), Fail> {
+    let later = leader.lead(store, cluster, &claim(tx(6), 3, None))?;
+    assert!(rt; is_sent(&later, 3));
+    let past = leader.lead(store, cluster, &claim(tx(7), 4, None))?;
+    assert!(rt; is_in_round(&past, 2));
+    let ahead = leader.lead(store, cluster, &claim(tx(7), 5, None))?;
     assert!(rt; matches!(ahead, LeadAnswer::Behind));
     Ok(())
 }
 
-// The round in which promises are asked for.
-fn round_of(answer: &LeadAnswer) -> Option<u32> {
+// Whether promises are asked for in this round.
+fn is_in_round(answer: &LeadAnswer, round: u32) -> bool {
     match answer {
         LeadAnswer::Prepare {
             version: _,
             through: _,
             ballot,
-        } => Some(ballot.round),
-        _ => None,
+        } => ballot.round == round,
+        _ => false,
     }
 }
 
@@ -339,7 +398,7 @@ fn a_refused_lead_is_led_anew(rt: HostRuntime) -> Result<(), Fail> {
     let answer = promised(&mut leader, &store, &cluster, 1, &late)?;
     assert!(rt; matches!(answer, PromiseAnswer::Ignored));
     let anew = leader.lead(&store, &cluster, &claim_of(&insert()))?;
-    assert_eq!(rt; round_of(&anew), Some(8));
+    assert!(rt; is_in_round(&anew, 8));
     Ok(())
 }
 
@@ -350,21 +409,12 @@ fn one_rejection_too_many_is_left_out(rt: HostRuntime) -> Result<(), Fail> {
     let store = ListFacts::new(rt.alloc())?;
     let mut leader = asking(&rt, rt.alloc(), &store, &cluster, &claim(tx(1), 0, None))?;
     let votes = rejections(rt.alloc(), 16_384)?;
-    let options = structure(promised(&mut leader, &store, &cluster, 1, &promise(0, 100, votes))?)?;
-    assert_eq!(rt; options.rejected(), 16_384);
+    let options = structure(&mut leader, &store, &cluster, 1, &promise(0, 100, votes))?;
+    assert!(rt; options.rejected() == 16_384);
     let answer = leader.lead(&store, &cluster, &claim(tx(16_385), 0, None))?;
     assert!(rt; matches!(answer, LeadAnswer::Left));
     let answer = leader.lead(&store, &cluster, &claim(tx(16_384), 0, None))?;
-    assert!(rt;
-        matches!(
-            answer,
-            LeadAnswer::Accept {
-                version: 0,
-                ballot: LED,
-                options: _
-            }
-        )
-    );
+    assert!(rt; is_sent(&answer, 0));
     Ok(())
 }
 

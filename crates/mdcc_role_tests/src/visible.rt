@@ -3,23 +3,25 @@ use crate::values::{decrease, holding, insert, item, key, six, tx};
 use mdcc_base::{BoundedList, Plain};
 use mdcc_facts::ListFacts;
 use mdcc_option::{Delta, Outcome, Token};
-use mdcc_protocol::Give;
+use mdcc_protocol::{Give, Reading};
 use mdcc_visible::{on_outcome, on_sync_ask, on_sync_give, read, rebase_due};
+use std::alloc::Global;
 use std::test::Fail;
+
+// Whether a read shows 6 at version 1, with the second transaction in it.
+fn is_six(shown: &Reading) -> bool {
+    let token = Token {
+        version: 1,
+        seen: BoundedList::from_slice(&[tx(2)]).unwrap_or_default(),
+    };
+    shown.token == token && shown.item == Some(item(6)) && !shown.due
+}
 
 // 10 less 4, seen with the transaction that took them.
 #[test]
 fn a_read_shows_the_executed_deltas(rt: HostRuntime) -> Result<(), Fail> {
     let store = six(rt.alloc())?;
-    let shown = read(&store, &key(b'a'));
-    let token = Token {
-        version: 1,
-        seen: BoundedList::from_slice(&[tx(2)]).unwrap_or_default(),
-    };
-    assert_eq!(rt; shown.token, token);
-    assert_eq!(rt; shown.item, Some(item(6)));
-    assert!(rt; !shown.due);
-    assert!(rt; !rebase_due(&store, &key(b'a')));
+    assert!(rt; is_six(&read(&store, &key(b'a'))) && !rebase_due(&store, &key(b'a')));
     Ok(())
 }
 
@@ -56,20 +58,20 @@ fn a_centre_gives_what_it_holds(rt: HostRuntime) -> Result<(), Fail> {
     Ok(())
 }
 
+// Whether a rebase is due after so many decreases.
+fn is_due(alloc: Global, count: u32) -> Result<bool, Fail> {
+    let mut choices = vec![in alloc; insert()]?;
+    for seq in 1..=count {
+        choices.push(decrease(seq.saturating_add(1)))?;
+    }
+    let store = holding(alloc, choices)?;
+    Ok(rebase_due(&store, &key(b'a')))
+}
+
 // From 32 deltas on the value is to be written anew.
 #[test]
 fn a_rebase_is_due_at_32(rt: HostRuntime) -> Result<(), Fail> {
-    let mut choices = vec![in rt.alloc(); insert()]?;
-    for seq in 2..33 {
-        choices.push(decrease(seq))?;
-    }
-    let store = holding(rt.alloc(), choices)?;
-    assert!(rt; !rebase_due(&store, &key(b'a')));
-    let mut choices = vec![in rt.alloc(); insert()]?;
-    for seq in 2..34 {
-        choices.push(decrease(seq))?;
-    }
-    let store = holding(rt.alloc(), choices)?;
-    assert!(rt; rebase_due(&store, &key(b'a')));
+    assert!(rt; !is_due(rt.alloc(), 31)?);
+    assert!(rt; is_due(rt.alloc(), 32)?);
     Ok(())
 }
