@@ -1,5 +1,5 @@
 //! What a node votes.
-use crate::bytes::{FAST, INSERT, PLACE, TX, is_added, is_sent};
+use crate::bytes::{FAST, INSERT, PLACE, TX, is_added, is_sent, is_sent_alone};
 use crate::nodes::{deliver, item, key, one_of_five, read};
 use mdcc_facts::ListFacts;
 use mdcc_node::{Answer, Input, Node, Step};
@@ -27,21 +27,24 @@ const MORE: [u8; 41] = [
 // Key a at version 1.
 const NEXT_PLACE: [u8; 10] = [1, 97, 1, 0, 0, 0, 0, 0, 0, 0];
 
-// A second insert is rejected beside the first, and stands beside its mark.
+// A vote that accepts the first insert.
+fn is_accepted(alloc: Global, step: &Step) -> Result<bool, Fail> {
+    let vote: [&[u8]; 5] = [&[1, 2, 2, 1], &PLACE, &FAST, &[1], &INSERT];
+    is_sent(alloc, step, 0, &vote)
+}
+
+// A second insert is rejected beside the first, and stands beside its mark. A repeat is answered by
+// the same vote, and adds no fact.
 #[test]
 fn the_first_of_two_inserts_is_accepted(rt: HostRuntime) -> Result<(), Fail> {
     let alloc = rt.alloc();
     let mut node = one_of_five(alloc, 2)?;
     let step = deliver(alloc, &mut node, &[&[1, 1, 1, 2], &INSERT])?;
-    let vote: [&[u8]; 5] = [&[1, 2, 2, 1], &PLACE, &FAST, &[1], &INSERT];
-    assert!(rt; is_sent(alloc, &step, 0, &vote)?);
+    assert!(rt; is_accepted(alloc, &step)?);
     let step = deliver(alloc, &mut node, &[&[1, 1, 2, 2], &OTHER])?;
     assert!(rt; is_rejection(alloc, &step)?);
-    // A repeat is answered by the same vote, and adds no fact.
     let step = deliver(alloc, &mut node, &[&[1, 1, 1, 2], &INSERT])?;
-    assert!(rt; step.fact.is_none());
-    assert_eq!(rt; step.sends.len(), 1);
-    assert!(rt; is_sent(alloc, &step, 0, &vote)?);
+    assert!(rt; step.fact.is_none() && step.sends.len() == 1 && is_accepted(alloc, &step)?);
     Ok(())
 }
 
@@ -60,6 +63,18 @@ fn holding(alloc: Global) -> Result<Node<ListFacts>, Fail> {
     Ok(node)
 }
 
+// A vote that accepts the first decrease.
+fn is_less(alloc: Global, step: &Step) -> Result<bool, Fail> {
+    let vote: [&[u8]; 5] = [&[1, 2, 2, 1], &NEXT_PLACE, &FAST, &[1], &LESS];
+    Ok(step.fact.is_some() && is_sent(alloc, step, 0, &vote)?)
+}
+
+// The second decrease is escalated.
+fn is_escalated(alloc: Global, step: &Step) -> Result<bool, Fail> {
+    let limit: [&[u8]; 4] = [&[1, 3, 2, 1], &NEXT_PLACE, &MORE[..9], &[3, 1]];
+    Ok(step.fact.is_none() && is_sent(alloc, step, 0, &limit)?)
+}
+
 // The first decrease of 4 from 10 is accepted. The second is past this centre's share, since 3 * 8
 // is above 2 * 10.
 #[test]
@@ -67,13 +82,9 @@ fn a_decrease_past_the_share_is_escalated(rt: HostRuntime) -> Result<(), Fail> {
     let alloc = rt.alloc();
     let mut node = holding(alloc)?;
     let step = deliver(alloc, &mut node, &[&[1, 1, 1, 2], &LESS])?;
-    let vote: [&[u8]; 5] = [&[1, 2, 2, 1], &NEXT_PLACE, &FAST, &[1], &LESS];
-    assert!(rt; step.fact.is_some());
-    assert!(rt; is_sent(alloc, &step, 0, &vote)?);
+    assert!(rt; is_less(alloc, &step)?);
     let step = deliver(alloc, &mut node, &[&[1, 1, 1, 2], &MORE])?;
-    let limit: [&[u8]; 4] = [&[1, 3, 2, 1], &NEXT_PLACE, &MORE[..9], &[3, 1]];
-    assert!(rt; step.fact.is_none());
-    assert!(rt; is_sent(alloc, &step, 0, &limit)?);
+    assert!(rt; is_escalated(alloc, &step)?);
     Ok(())
 }
 
@@ -84,9 +95,7 @@ fn a_centre_that_is_behind_gives_no_vote(rt: HostRuntime) -> Result<(), Fail> {
     let mut node = one_of_five(alloc, 2)?;
     let step = deliver(alloc, &mut node, &[&[1, 1, 1, 2], &LESS])?;
     let behind: [&[u8]; 4] = [&[1, 3, 2, 1], &NEXT_PLACE, &LESS[..9], &[1]];
-    assert!(rt; step.fact.is_none());
-    assert_eq!(rt; step.sends.len(), 1);
-    assert!(rt; is_sent(alloc, &step, 0, &behind)?);
+    assert!(rt; is_sent_alone(alloc, &step, &behind)?);
     Ok(())
 }
 
@@ -96,15 +105,22 @@ fn a_read_shows_what_is_heard(rt: HostRuntime) -> Result<(), Fail> {
     let alloc = rt.alloc();
     let mut node = holding(alloc)?;
     let _step = deliver(alloc, &mut node, &[&[1, 1, 1, 2], &LESS])?;
-    assert_eq!(rt; read(&mut node, key(b'a'))?.item, Some(item(10)));
-    let tx = &LESS[..9];
-    let step = deliver(alloc, &mut node, &[&[1, 9, 1, 2], tx, &[1, 1], &LESS])?;
-    assert!(rt; is_added(alloc, &step, &[&[4], tx, &[1, 1], &LESS])?);
-    assert!(rt; step.sends.is_empty());
+    assert!(rt; read(&mut node, key(b'a'))?.item == Some(item(10)));
+    let step = deliver(
+        alloc,
+        &mut node,
+        &[&[1, 9, 1, 2], &LESS[..9], &[1, 1], &LESS],
+    )?;
+    assert!(rt; is_heard(alloc, &step)?);
     let step = node.step(&Input::Read(key(b'a')))?;
-    assert!(rt; step.fact.is_none());
-    assert!(rt; is_six(&step));
+    assert!(rt; step.fact.is_none() && is_six(&step));
     Ok(())
+}
+
+// Whether the commit of the first decrease is added, and nothing is sent.
+fn is_heard(alloc: Global, step: &Step) -> Result<bool, Fail> {
+    let fact: [&[u8]; 4] = [&[4], &LESS[..9], &[1, 1], &LESS];
+    Ok(step.sends.is_empty() && is_added(alloc, step, &fact)?)
 }
 
 // Whether the answer shows 6 at version 1 with one delta in it.

@@ -1,18 +1,18 @@
 //! What a client is answered that begins a transaction.
 use crate::bytes::{INSERT, TX, is_sent};
 use crate::nodes::{add, begin, deliver, insert, key, one_of_five};
-use mdcc_base::{Key, Plain};
+use mdcc_base::Plain;
 use mdcc_facts::ListFacts;
 use mdcc_node::{Answer, Node, Step};
 use mdcc_option::BeginFault;
 use std::alloc::Global;
 use std::test::*;
 
-// Why a transaction was not begun, and for which key.
-fn refused(step: &Step) -> Option<(Key, BeginFault)> {
+// Whether a transaction was not begun, for this reason and key.
+fn is_refused(step: &Step, letter: u8, expected: &BeginFault) -> bool {
     match &step.answer {
-        Some(Answer::Refused(key, fault)) => Some((*key, fault.copy())),
-        _ => None,
+        Some(Answer::Refused(name, fault)) => name.same(&key(letter)) && fault.same(expected),
+        _ => false,
     }
 }
 
@@ -37,34 +37,51 @@ const B_2: [u8; 22] = [
     1, 98, 0, 0, 0, 0, 0, 0, 0, 0, 1, 0, 1, 2, 0, 0, 0, 0, 0, 0, 0, 0,
 ];
 
+// Whether a proposal of each key goes to this centre.
+fn are_proposed(alloc: Global, step: &Step, to: u8) -> Result<bool, Fail> {
+    let head = [1, 1, 1, to];
+    let place = usize::from(to);
+    Ok(
+        is_sent(
+            alloc,
+            step,
+            place.saturating_sub(1),
+            &[&head, &TX, &A_1, &BOTH],
+        )? && is_sent(
+            alloc,
+            step,
+            place.saturating_add(4),
+            &[&head, &TX, &B_2, &BOTH],
+        )?,
+    )
+}
+
 #[test]
 fn each_key_is_proposed_to_all_centres(rt: HostRuntime) -> Result<(), Fail> {
-    let alloc = rt.alloc();
-    let mut node = one_of_five(alloc, 1)?;
+    let mut node = one_of_five(rt.alloc(), 1)?;
     let step = begin(&mut node, &[insert(b'b', 2), insert(b'a', 1)])?;
-    assert_eq!(rt; step.sends.len(), 10);
+    assert!(rt; step.sends.len() == 10);
     for to in 1..6u8 {
-        let head = [1, 1, 1, to];
-        let first: [&[u8]; 4] = [&head, &TX, &A_1, &BOTH];
-        assert!(rt; is_sent(alloc, &step, usize::from(to) - 1, &first)?);
-        let second: [&[u8]; 4] = [&head, &TX, &B_2, &BOTH];
-        assert!(rt; is_sent(alloc, &step, usize::from(to) + 4, &second)?);
+        assert!(rt; are_proposed(rt.alloc(), &step, to)?);
     }
     Ok(())
+}
+
+// Whether inserts of keys a and b are begun.
+fn begins(node: &mut Node<ListFacts>) -> Result<bool, Fail> {
+    let step = begin(node, &[insert(b'b', 2), insert(b'a', 1)])?;
+    Ok(matches!(step.answer, Some(Answer::Begun(_))))
 }
 
 // 256 transactions are open, and no more.
 #[test]
 fn the_257th_open_transaction_is_refused(rt: HostRuntime) -> Result<(), Fail> {
     let mut node = one_of_five(rt.alloc(), 1)?;
-    let inserts = [insert(b'b', 2), insert(b'a', 1)];
     for _ in 0..256 {
-        let step = begin(&mut node, &inserts)?;
-        assert!(rt; matches!(step.answer, Some(Answer::Begun(_))));
+        assert!(rt; begins(&mut node)?);
     }
-    let step = begin(&mut node, &inserts)?;
-    assert!(rt; step.sends.is_empty());
-    assert_eq!(rt; refused(&step), Some((key(b'a'), BeginFault::Busy)));
+    let step = begin(&mut node, &[insert(b'b', 2), insert(b'a', 1)])?;
+    assert!(rt; step.sends.is_empty() && is_refused(&step, b'a', &BeginFault::Busy));
     Ok(())
 }
 
@@ -73,14 +90,13 @@ fn the_257th_open_transaction_is_refused(rt: HostRuntime) -> Result<(), Fail> {
 fn what_was_not_seen_is_not_begun(rt: HostRuntime) -> Result<(), Fail> {
     let mut node = holding(rt.alloc())?;
     let step = begin(&mut node, &[insert(b'a', 1)])?;
-    assert!(rt; step.sends.is_empty());
-    assert!(rt; is_stale(&step));
+    assert!(rt; step.sends.is_empty() && is_stale(&step));
     let step = begin(&mut node, &[add(b'a', 0, -4)])?;
-    assert_eq!(rt; refused(&step), Some((key(b'a'), BeginFault::Unseen(1))));
+    assert!(rt; is_refused(&step, b'a', &BeginFault::Unseen(1)));
     let step = begin(&mut node, &[add(b'a', 1, -4), add(b'b', 0, 1)])?;
-    assert_eq!(rt; refused(&step), Some((key(b'b'), BeginFault::NoItem)));
+    assert!(rt; is_refused(&step, b'b', &BeginFault::NoItem));
     let step = begin(&mut node, &[add(b'a', 1, -4), insert(b'b', 1)])?;
-    assert_eq!(rt; step.sends.len(), 10);
+    assert!(rt; step.sends.len() == 10);
     Ok(())
 }
 

@@ -63,6 +63,11 @@ fn bytes_of(alloc: Global, envelope: &Envelope) -> Result<Vec<u8>, Fail> {
     Ok(out)
 }
 
+/// Whether a step adds no fact, and sends one message with these bytes.
+pub fn is_sent_alone(alloc: Global, step: &Step, parts: &[&[u8]]) -> Result<bool, Fail> {
+    Ok(step.fact.is_none() && step.sends.len() == 1 && is_sent(alloc, step, 0, parts)?)
+}
+
 /// Whether the message at a place of what a step sends has these bytes.
 pub fn is_sent(alloc: Global, step: &Step, place: usize, parts: &[&[u8]]) -> Result<bool, Fail> {
     let expected = joined(alloc, parts)?;

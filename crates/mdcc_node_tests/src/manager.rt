@@ -1,10 +1,9 @@
 //! What a node does with the votes on a transaction that it began.
-use crate::bytes::{FAST, INSERT, PLACE, TX, is_added, is_sent};
+use crate::bytes::{FAST, INSERT, PLACE, TX, is_added, is_sent, is_sent_alone};
 use crate::nodes::{begin, deliver, insert, one_of_five};
 use mdcc_facts::ListFacts;
 use mdcc_node::{Node, Step};
 use std::alloc::Global;
-use std::process::Abort;
 use std::test::*;
 
 // A node at centre 1 that began the insert.
@@ -31,6 +30,16 @@ fn is_nothing(step: &Step) -> bool {
     step.fact.is_none() && step.sends.is_empty() && step.heard.is_none() && step.answer.is_none()
 }
 
+// Whether a vote that accepts does nothing.
+fn accepts_idly(alloc: Global, node: &mut Node<ListFacts>, from: u8) -> Result<bool, Fail> {
+    Ok(is_nothing(&accepted(alloc, node, from)?))
+}
+
+// Whether a vote that rejects does nothing.
+fn rejects_idly(alloc: Global, node: &mut Node<ListFacts>, from: u8) -> Result<bool, Fail> {
+    Ok(is_nothing(&rejected(alloc, node, from)?))
+}
+
 // The outcome goes to the centres 2 to 5.
 fn is_told(alloc: Global, step: &Step, outcome: &[u8]) -> Result<bool, Fail> {
     for to in 2..6u8 {
@@ -42,23 +51,37 @@ fn is_told(alloc: Global, step: &Step, outcome: &[u8]) -> Result<bool, Fail> {
     Ok(step.sends.len() == 4)
 }
 
+// Whether the step is the commit.
+fn is_commit(alloc: Global, step: &Step) -> Result<bool, Fail> {
+    let commit = crate::bytes::joined(alloc, &[&[1, 1], &INSERT])?;
+    Ok(
+        matches!(step.heard, Some((_, true)))
+            && is_added(alloc, step, &[&[4], &TX, &commit])?
+            && is_told(alloc, step, &commit)?,
+    )
+}
+
 // Three votes of five that accept decide nothing, four commit, and the fifth does nothing.
 #[test]
 fn four_votes_of_five_commit(rt: HostRuntime) -> Result<(), Fail> {
     let alloc = rt.alloc();
     let mut node = beginning(alloc)?;
     for from in 1..4 {
-        let step = accepted(alloc, &mut node, from)?;
-        assert!(rt; is_nothing(&step));
+        assert!(rt; accepts_idly(alloc, &mut node, from)?);
     }
     let step = accepted(alloc, &mut node, 4)?;
-    let commit = crate::bytes::joined(alloc, &[&[1, 1], &INSERT])?;
-    assert!(rt; is_added(alloc, &step, &[&[4], &TX, &commit])?);
-    assert!(rt; is_told(alloc, &step, &commit)?);
-    assert!(rt; matches!(step.heard, Some((_, true))));
-    let step = accepted(alloc, &mut node, 5)?;
-    assert!(rt; is_nothing(&step));
+    assert!(rt; is_commit(alloc, &step)?);
+    assert!(rt; accepts_idly(alloc, &mut node, 5)?);
     Ok(())
+}
+
+// Whether the step is the abort.
+fn is_abort(alloc: Global, step: &Step) -> Result<bool, Fail> {
+    Ok(
+        matches!(step.heard, Some((_, false)))
+            && is_added(alloc, step, &[&[4], &TX, &[0]])?
+            && is_told(alloc, step, &[0])?,
+    )
 }
 
 #[test]
@@ -66,58 +89,55 @@ fn four_votes_of_five_abort(rt: HostRuntime) -> Result<(), Fail> {
     let alloc = rt.alloc();
     let mut node = beginning(alloc)?;
     for from in 2..5 {
-        let step = rejected(alloc, &mut node, from)?;
-        assert!(rt; is_nothing(&step));
+        assert!(rt; rejects_idly(alloc, &mut node, from)?);
     }
     let step = rejected(alloc, &mut node, 5)?;
-    assert!(rt; is_added(alloc, &step, &[&[4], &TX, &[0]])?);
-    assert!(rt; is_told(alloc, &step, &[0])?);
-    assert!(rt; matches!(step.heard, Some((_, false))));
+    assert!(rt; is_abort(alloc, &step)?);
     Ok(())
 }
 
-// The step sends the insert to centre 3, the home of key a, and nothing else.
-fn is_led(rt: &impl Abort, alloc: Global, step: &Step) -> Result<(), Fail> {
-    assert!(rt; step.fact.is_none());
-    assert_eq!(rt; step.sends.len(), 1);
-    assert!(rt; is_sent(alloc, step, 0, &[&[1, 4, 1, 3], &INSERT])?);
-    Ok(())
+// Whether the step sends the insert to this centre, and does nothing else.
+fn is_led(alloc: Global, step: &Step, to: u8) -> Result<bool, Fail> {
+    is_sent_alone(alloc, step, &[&[1, 4, 1, to], &INSERT])
 }
 
-// Two that accept and two that reject leave neither mark four: the home leads, once.
+// Two that accept and two that reject leave neither mark four: centre 3, the home of key a, leads,
+// once.
 #[test]
 fn a_collision_is_led_by_the_home(rt: HostRuntime) -> Result<(), Fail> {
     let alloc = rt.alloc();
     let mut node = beginning(alloc)?;
     for from in 1..3 {
-        let step = accepted(alloc, &mut node, from)?;
-        assert!(rt; is_nothing(&step));
+        assert!(rt; accepts_idly(alloc, &mut node, from)?);
     }
-    let step = rejected(alloc, &mut node, 3)?;
-    assert!(rt; is_nothing(&step));
+    assert!(rt; rejects_idly(alloc, &mut node, 3)?);
     let step = rejected(alloc, &mut node, 4)?;
-    is_led(&rt, alloc, &step)?;
-    let step = rejected(alloc, &mut node, 5)?;
-    assert!(rt; is_nothing(&step));
+    assert!(rt; is_led(alloc, &step, 3)?);
+    assert!(rt; rejects_idly(alloc, &mut node, 5)?);
     Ok(())
 }
 
-// A centre that gives no vote since it is at its share: the home leads. One that promised ballot
-// 1.1.4 names who leads.
+// A centre that gives no vote since it is at its share: the home leads.
 #[test]
 fn an_escalation_is_led(rt: HostRuntime) -> Result<(), Fail> {
     let alloc = rt.alloc();
     let mut node = beginning(alloc)?;
     let limit: [&[u8]; 4] = [&[1, 3, 2, 1], &PLACE, &TX, &[3, 1]];
     let step = deliver(alloc, &mut node, &limit)?;
-    is_led(&rt, alloc, &step)?;
+    assert!(rt; is_led(alloc, &step, 3)?);
     let step = deliver(alloc, &mut node, &limit)?;
     assert!(rt; is_nothing(&step));
+    Ok(())
+}
 
+// A centre that promised ballot 1.1.4 names who leads.
+#[test]
+fn a_promised_ballot_names_the_leader(rt: HostRuntime) -> Result<(), Fail> {
+    let alloc = rt.alloc();
     let mut node = beginning(alloc)?;
     let ballot = [2, 1, 0, 0, 0, 1, 0, 0, 0, 4];
     let step = deliver(alloc, &mut node, &[&[1, 3, 2, 1], &PLACE, &TX, &ballot])?;
-    assert_eq!(rt; step.sends.len(), 1);
+    assert!(rt; step.sends.len() == 1);
     assert!(rt; is_sent(alloc, &step, 0, &[&[1, 4, 1, 4], &INSERT])?);
     Ok(())
 }
