@@ -73,7 +73,7 @@ pub each-in : (P : Choice → Type 0) (choices : List Choice) (choice : Choice) 
 each-in P [] choice h i = absurd i
 each-in P (c ∷ cs) choice h i = elim i [ inl e ↦ subst P (sym e) h.0 | inr j ↦ each-in P cs choice h.1 j ]
 
-in-each : (choices : List Choice) → AllByRecursion (λ choice. IsIn choice choices) choices
+pub in-each : (choices : List Choice) → AllByRecursion (λ choice. IsIn choice choices) choices
 in-each [] = tt
 in-each (c ∷ cs) = (inl refl, each-weaker (λ choice. IsIn choice cs) (λ choice. IsIn choice (c ∷ cs)) cs (λ choice i. inr i) (in-each cs))
 
@@ -138,7 +138,7 @@ module _ (quorums : Sizes) (manager : Managing) (t : Undecided) (members : List 
   abbrev pub IsOfEach : List (Choice × ℕ) → Type 0
   IsOfEach pairs = AllByRecursion (λ (choice : Choice). AllByRecursion (λ (pair : Choice × ℕ). of_key choice.key pair ≡ true → pair.0 ≡ choice) pairs) t.choices
 
-  of-each : IsOfEach order
+  pub of-each : IsOfEach order
   of-each =
       each-weaker (IsOnlyOne t.choices) (λ choice. AllByRecursion (λ (pair : Choice × ℕ). of_key choice.key pair ≡ true → pair.0 ≡ choice) order) t.choices
       (λ choice only. each-permuted (λ (pair : Choice × ℕ). of_key choice.key pair ≡ true → pair.0 ≡ choice) (each_with t.choices members) order moved

@@ -98,7 +98,7 @@ module _ (cluster : Cluster) (facts others : List Fact) (choice : Choice) (h : A
 
 -- ---- one vote more
 
-or-none : {X : Type 0} (o : Option X) → option_or o None ≡ o
+pub or-none : {X : Type 0} (o : Option X) → option_or o None ≡ o
 or-none None = refl
 or-none (Some x) = refl
 

@@ -3,3 +3,7 @@ mod Elsewhere
 mod Apart
 mod Counting
 mod Deciding
+mod Delivering
+mod Proposing
+mod Answering
+mod Trips

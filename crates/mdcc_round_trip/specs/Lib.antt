@@ -1,3 +1,4 @@
 pub mod Accepting
 pub mod Deciding
 pub mod Messages
+pub mod RoundTrips

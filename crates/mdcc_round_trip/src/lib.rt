@@ -3,6 +3,7 @@
 
 ghost use Rattle.mdcc_round_trip.specs.Accepting.{OtherKeysChangeNothing, ProposalsGiveVotes};
 ghost use Rattle.mdcc_round_trip.specs.Deciding.{QuorumsCommitAtLast};
+ghost use Rattle.mdcc_round_trip.specs.RoundTrips.{OneRoundTripCommits, ProposalsSendVotes};
 
 /// An acceptor that would accept each of several choices of different keys accepts them in any order: a
 /// vote on another key changes nothing that it asks. Each proposal gives a vote, which goes back to the
@@ -16,4 +17,13 @@ pub fn acceptors_accept_in_any_order()
 /// nothing and sees no collision before the last of them, and commits with it.
 pub fn quorums_commit_at_last()
     ensures { QuorumsCommitAtLast }
+{}
+
+/// In a world, the deliveries of a transaction's proposals to a fast quorum whose members would accept
+/// each of its choices, in any order, followed by those of their votes, in any order, make the centre
+/// hear the commit at the last of these votes and not before. What the first deliveries send are just
+/// these votes.
+pub fn one_round_trip_commits()
+    ensures commits { OneRoundTripCommits }
+    ensures votes { ProposalsSendVotes }
 {}

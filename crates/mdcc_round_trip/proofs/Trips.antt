@@ -1,0 +1,123 @@
+-- One round trip, put together.
+use Rattle.std.proofs.Common.{◌≡◌, ℕ, ◌+◌, ◌-◌, ◌≤◌, ◌==◌, Bool, true, false, List, [], ◌∷◌, ◌++◌, refl, sym, ap, ◌∙◌, subst, arith, map, length, get_or, IsPermutation, Option, Some, None, Result, Ok, Err}
+use Rattle.std.specs.List.{AllByRecursion}
+use Rattle.std.proofs.lemmas.List.Sorted.{length_permutation}
+use Rattle.mdcc_base.specs.AreQuorums.{AreQuorums}
+use Rattle.mdcc_option.specs.declared.choices.Choice.{Choice}
+use Rattle.mdcc_option.specs.declared.cluster.Cluster.{Cluster}
+use Rattle.mdcc_option.specs.declared.choices.Outcome.{Outcome}
+use Rattle.mdcc_switches.specs.Built.{Built}
+use Rattle.mdcc_ledger.specs.Ledger.{facts_of}
+use Rattle.mdcc_language.specs.declared.lines.Line.{Line}
+use Rattle.mdcc_messages.specs.declared.facts.Fact.{Fact}
+use Rattle.mdcc_protocol.specs.Belongs.{choice_belongs, is_centre}
+use Rattle.mdcc_protocol.specs.Volatile.{Undecided}
+use Rattle.mdcc_simulation.specs.State.{Happened, Site, World, booted, centre_at}
+use Rattle.mdcc_round_trip.specs.Accepting.{IsAccepted}
+use Rattle.mdcc_round_trip.specs.Deciding.{IsFastQuorum, IsUncounted}
+use Rattle.mdcc_round_trip.specs.Messages.{each_with, proposal_of, vote_of_member}
+use Rattle.mdcc_round_trip.specs.RoundTrips.{AcceptsEach, EndsWithCommit, IsReady, IsRoundTrip, IsUndecidedAt, is_dropped, is_hearing, messages_of}
+use Rattle.mdcc_round_trip.proofs.Answering.{IsVoted, all-voted, nothing-counted}
+use Rattle.mdcc_round_trip.proofs.Apart.{each-pair, ordered-once}
+use Rattle.mdcc_round_trip.proofs.Deciding.{IsIn, in-each}
+use Rattle.mdcc_round_trip.proofs.Delivering.{Delivers, named, unrolled}
+use Rattle.mdcc_round_trip.proofs.Lists.{each-any, each-append, each-back, each-both, each-front, each-permuted, each-weaker}
+use Rattle.mdcc_round_trip.proofs.Proposing.{Accepts, After, NoneDropped, NoneHears, all-proposed}
+
+-- what holds for each member of each choice holds for each choice of each member
+turned : (Q : Choice → ℕ → Type 0) (choices : List Choice) (members : List ℕ) → AllByRecursion (λ (m : ℕ). AllByRecursion (λ (c : Choice). Q c m) choices) members
+    → AllByRecursion (λ (c : Choice). AllByRecursion (λ (m : ℕ). Q c m) members) choices
+turned Q [] members h = tt
+turned Q (choice ∷ choices) members h = (
+  each-weaker (λ (m : ℕ). Q choice m × AllByRecursion (λ (c : Choice). Q c m) choices) (λ (m : ℕ). Q choice m) members (λ m k. k.0) h,
+  turned Q choices members (each-weaker (λ (m : ℕ). Q choice m × AllByRecursion (λ (c : Choice). Q c m) choices) (λ (m : ℕ). AllByRecursion (λ (c : Choice). Q c m) choices) members (λ m k. k.1) h),
+)
+
+some-pair : (choices : List Choice) (members : List ℕ) → 1 ≤ length choices → 1 ≤ length members → 1 ≤ length (each_with choices members)
+some-pair [] members some any = absurd (omega (arith, some))
+some-pair (c ∷ cs) [] some any = absurd (omega (arith, any))
+some-pair (c ∷ cs) (m ∷ ms) some any = omega arith
+
+module _ (built : Built) (w : World) (a : ℕ) (t : Undecided) (members : List ℕ) (first second : Happened) (ready : IsReady built w a t members) (trip : IsRoundTrip built w a t members first second) where
+  accepting : AllByRecursion (Accepts w) trip.asked
+  accepting =
+      each-permuted (Accepts w) (each_with t.choices members) trip.asked trip.asks_each
+      (each-pair (Accepts w) t.choices members
+      (turned (λ (c : Choice) (m : ℕ). Accepts w (c, m)) t.choices members
+      (each-weaker (AcceptsEach w t.choices) (λ (m : ℕ). AllByRecursion (λ (c : Choice). Accepts w (c, m)) t.choices) members
+      (λ m h. each-weaker (λ (c : Choice). (choice_belongs w.cluster c ≡ true) × IsAccepted w.cluster (facts_of w.ledger m) c) (λ (c : Choice). Accepts w (c, m)) t.choices
+      (λ c k. record { belongs = k.0; unstopped = h.unstopped; accepted = k.1 })
+      (each-both (λ (c : Choice). choice_belongs w.cluster c ≡ true) (λ (c : Choice). IsAccepted w.cluster (facts_of w.ledger m) c) t.choices ready.belong h.accepts)) ready.accept)))
+
+  voting : AllByRecursion (IsVoted w.cluster t) trip.answered
+  voting =
+      each-permuted (IsVoted w.cluster t) (each_with t.choices members) trip.answered trip.answers_each
+      (each-pair (IsVoted w.cluster t) t.choices members
+      (turned (λ (c : Choice) (m : ℕ). IsVoted w.cluster t (c, m)) t.choices members
+      (each-weaker (AcceptsEach w t.choices) (λ (m : ℕ). AllByRecursion (λ (c : Choice). IsVoted w.cluster t (c, m)) t.choices) members
+      (λ m h. each-weaker (λ (c : Choice). ((c.tx ≡ t.tx) × IsIn c t.choices) × (choice_belongs w.cluster c ≡ true)) (λ (c : Choice). IsVoted w.cluster t (c, m)) t.choices
+      (λ c k. record { own = k.0.0; among = k.0.1; belongs = k.1; centre = h.centre })
+      (each-both (λ (c : Choice). (c.tx ≡ t.tx) × IsIn c t.choices) (λ (c : Choice). choice_belongs w.cluster c ≡ true) t.choices
+      (each-both (λ (c : Choice). c.tx ≡ t.tx) (λ c. IsIn c t.choices) t.choices ready.choices.own (in-each t.choices)) ready.belong)) ready.accept)))
+
+  asking : (lines : List Line) × (first.lines ≡ lines) × Delivers built w trip.proposals first.world lines
+  asking = unrolled built trip.proposals (record { world = w; lines = [] }) first trip.proposed
+
+  answering : (lines : List Line) × (second.lines ≡ lines) × Delivers built first.world trip.votes second.world lines
+  answering = unrolled built trip.votes (record { world = first.world; lines = [] }) second trip.voted
+
+  after-asking : After w first.world (map (vote_of_member a) trip.asked) × NoneHears a t.tx asking.0
+  after-asking =
+      all-proposed built a t.tx ready.enabled trip.proposals trip.asked w first.world asking.0 ready.undecided.centre
+      (named (proposal_of a) w trip.proposals trip.asked trip.proposals_are) accepting
+      (ordered-once t.choices members trip.asked trip.asks_each ready.choices.apart ready.quorum.apart) asking.2
+      (subst NoneDropped asking.1 (each-front (λ line. is_dropped line ≡ false) first.lines second.lines trip.undropped))
+
+  pub votes-sent : messages_of first.world ≡ messages_of w ++ map (vote_of_member a) trip.asked
+  votes-sent = after-asking.0.messages
+
+  undecided-then : IsUndecidedAt first.world a t
+  undecided-then =
+      let after = after-asking.0 in
+      let h = ready.undecided in
+      record {
+        centre = subst (λ (c : Cluster). is_centre c a ≡ true) (sym after.cluster) h.centre;
+        unstopped = subst (λ (cs : List Site). (get_or cs (a - 1) booted).stop ≡ None) (sym after.centres) h.unstopped;
+        uncounted = subst (λ (cs : List Site). IsUncounted (get_or cs (a - 1) booted).volatile.manager t) (sym after.centres) h.uncounted;
+        unheard = after.heard a t.tx ∙ h.unheard;
+        uncrowded = after.crowding a (Fact.Heard t.tx (Outcome.Commit t.choices)) ∙ h.uncrowded;
+      }
+
+  some-answered : 1 ≤ length trip.answered
+  some-answered =
+      let are = ready.quorums in
+      let low = are.some_classic in
+      let within = are.classic_within in
+      let size = ready.quorum.size in
+      let any : 1 ≤ length members = omega (arith, low, within, size) in
+      let pairs = some-pair t.choices members ready.choices.some any in
+      let same = length_permutation (each_with t.choices members) trip.answered trip.answers_each in
+      omega (arith, pairs, same)
+
+  committing : (earlier : List Line) × (answering.0 ≡ earlier ++ Line.Heard a t.tx true ∷ []) × NoneHears a t.tx earlier
+  committing =
+      let after = after-asking.0 in
+      let are = subst (λ (c : Cluster). AreQuorums c.quorums) (sym after.cluster) ready.quorums in
+      let sites = ap length after.centres ∙ ready.sites ∙ ap (λ (c : Cluster). c.quorums.centres) (sym after.cluster) in
+      let quorum = subst (λ (c : Cluster). IsFastQuorum c.quorums members) (sym after.cluster) ready.quorum in
+      let voted = subst (λ (c : Cluster). AllByRecursion (IsVoted c t) trip.answered) (sym after.cluster) voting in
+      let once = ordered-once t.choices members trip.answered trip.answers_each ready.choices.apart ready.quorum.apart in
+      all-voted built first.world a t members trip.answered ready.enabled are sites undecided-then ready.choices quorum trip.answers_each voted once
+      trip.votes [] trip.answered first.world second.world answering.0 refl some-answered
+      (nothing-counted built first.world a t members trip.answered ready.enabled are sites undecided-then ready.choices quorum trip.answers_each voted once)
+      (named (vote_of_member a) first.world trip.votes trip.answered trip.votes_are) answering.2
+      (subst NoneDropped answering.1 (each-back (λ line. is_dropped line ≡ false) first.lines second.lines trip.undropped))
+
+  pub ends-with-commit : EndsWithCommit a t.tx first.lines second.lines
+  ends-with-commit = record {
+    earlier = committing.0;
+    last = answering.1 ∙ committing.1;
+    unheard =
+        each-append (λ line. is_hearing a t.tx line ≡ false) first.lines committing.0
+        (subst (NoneHears a t.tx) (sym asking.1) after-asking.1) committing.2;
+  }
