@@ -1,5 +1,6 @@
 mod Lists
 mod Elsewhere
+mod Examples
 mod Apart
 mod Counting
 mod Deciding

@@ -2,3 +2,4 @@ pub mod Accepting
 pub mod Deciding
 pub mod Messages
 pub mod RoundTrips
+pub mod Example

@@ -3,7 +3,9 @@
 
 ghost use Rattle.mdcc_round_trip.specs.Accepting.{OtherKeysChangeNothing, ProposalsGiveVotes};
 ghost use Rattle.mdcc_round_trip.specs.Deciding.{QuorumsCommitAtLast};
-ghost use Rattle.mdcc_round_trip.specs.RoundTrips.{OneRoundTripCommits, ProposalsSendVotes};
+ghost use Rattle.mdcc_round_trip.specs.Example.{answered, asked, begun, members, transaction};
+ghost use Rattle.mdcc_round_trip.specs.RoundTrips.{IsReady, IsRoundTrip, OneRoundTripCommits, ProposalsSendVotes};
+ghost use Rattle.mdcc_switches.specs.Built.{all_built};
 
 /// An acceptor that would accept each of several choices of different keys accepts them in any order: a
 /// vote on another key changes nothing that it asks. Each proposal gives a vote, which goes back to the
@@ -26,4 +28,11 @@ pub fn quorums_commit_at_last()
 pub fn one_round_trip_commits()
     ensures commits { OneRoundTripCommits }
     ensures votes { ProposalsSendVotes }
+{}
+
+/// There are such round trips, so that the theorem does not speak of nothing: here three centres accept
+/// two choices, with everything enabled.
+pub fn example()
+    ensures ready { IsReady all_built begun 1 transaction members }
+    ensures trip { IsRoundTrip all_built begun 1 transaction members asked answered }
 {}
