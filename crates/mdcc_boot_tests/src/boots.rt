@@ -40,12 +40,16 @@ fn booted(
 ) -> Result<Result<u32, BootFault>, Fail> {
     let cluster = five_centres(rt);
     let centre = Centre::new(1).unwrap_or_default();
-    let log = logged(alloc, payloads)?;
+    let kept = logged(alloc, payloads)?;
+    let log = kept.as_slice();
     let store = ListFacts::new(alloc).ok().ok_or("a store")?;
-    if !is_centre(&cluster, centre.number()) || !are_short(log.as_slice()) {
+    if !is_centre(&cluster, centre.number()) {
         return Ok(Ok(0));
     }
-    match Node::boot(alloc, cluster, centre, store, log.as_slice()) {
+    if !are_short(log) {
+        return Ok(Ok(0));
+    }
+    match Node::boot(alloc, cluster, centre, store, log) {
         Ok((node, fact)) => {
             let epoch = epoch_in(&fact);
             Ok(Ok(if epoch == node.epoch() { epoch } else { 0 }))
