@@ -10,8 +10,8 @@ use Rattle.mdcc_base.specs.declared.identifiers.TxId.{TxId}
 use Rattle.mdcc_base.specs.declared.key.Key.{Key}
 use Rattle.mdcc_option.specs.declared.choices.Mark.{Mark}
 use Rattle.mdcc_option.specs.declared.items.Update.{Update}
-use Rattle.mdcc_struct.specs.Maps.{are_ascending, union, value_of}
-use Rattle.mdcc_struct.proofs.Walks.{ascending-union}
+use Rattle.mdcc_struct.specs.Maps.{TxMap, are_ascending, union, value_of}
+use Rattle.mdcc_struct.proofs.Walks.{ascending-union, union-none}
 use Rattle.mdcc_protocol.specs.Facts.{last_ballot, live_and_void, live_from, marks_voted, report_of, votes_of, write_sets_from, write_sets_of}
 use Rattle.mdcc_messages.specs.declared.facts.Fact.{Fact}
 use Rattle.mdcc_facts.specs.Walks.{is_next, least_from, next_tx}
@@ -35,6 +35,10 @@ ascending-live (f ∷ fs) key version = ascending-union (live_and_void fs key ve
 pub ascending-write_sets : (facts : List Fact) → are_ascending (write_sets_of facts) ≡ true
 ascending-write_sets [] = refl
 ascending-write_sets (f ∷ fs) = ascending-union (write_sets_of fs) (write_sets_from f) (ascending-write_sets fs)
+
+-- a union of no entries with others is these
+pub first_union : {X : Type 0} (m n copy : TxMap X) → m ≡ [] → copy ≡ n → are_ascending n ≡ true → copy ≡ union m n
+first_union m n copy none same up = rw none (same ∙ sym (union-none n up))
 
 -- ---- one more fact
 

@@ -1,5 +1,5 @@
 //! All votes of an instance at one ballot, in one pass.
-ghost use Rattle.std.specs.Prelude.{◌≡◌, IfOk, IsTrue, OnOk, is_some, reverse};
+ghost use Rattle.std.specs.Prelude.{◌≡◌, [], IfOk, IsTrue, OnOk, is_some, reverse};
 ghost use Rattle.std.specs.Option.{option_copied};
 ghost use Rattle.mdcc_base.specs.Counts.{number_of};
 ghost use Rattle.mdcc_facts.specs.Listed.{are_voted_once};
@@ -40,8 +40,19 @@ pub(crate) fn marks_voted<'a>(
     }
 }
 
-// Adds the marks of transactions that have none.
-fn join_marks(votes: &mut Options, marks: &Options) -> Result<(), Memory>
+// Takes the marks whole, where there are none yet.
+#[tactic(auto, using(crate::proofs::Gathered::first_union))]
+fn take_first(alloc: Global, votes: &mut Options, marks: &Options) -> Result<(), Memory>
+    requires { votes.old ≡ [] }
+    ensures { OnOk result (votes.new ≡ union votes.old marks.now) }
+{
+    let _most = marks.len();
+    *votes = marks.copy(alloc)?;
+    Ok(())
+}
+
+// Adds the marks of transactions that have none, one after the other.
+fn insert_marks(votes: &mut Options, marks: &Options) -> Result<(), Memory>
     ensures { OnOk result (votes.new ≡ union votes.old marks.now) }
 {
     for place in 0..marks.len() {
@@ -51,6 +62,17 @@ fn join_marks(votes: &mut Options, marks: &Options) -> Result<(), Memory>
         }
     }
     Ok(())
+}
+
+// Adds the marks of transactions that have none.
+fn join_marks(alloc: Global, votes: &mut Options, marks: &Options) -> Result<(), Memory>
+    ensures { OnOk result (votes.new ≡ union votes.old marks.now) }
+{
+    if votes.is_empty() {
+        take_first(alloc, votes, marks)
+    } else {
+        insert_marks(votes, marks)
+    }
 }
 
 /// All marks that were voted in an instance at a ballot.
@@ -66,7 +88,7 @@ pub(crate) fn votes_of(
     let mut votes = Options::new(alloc)?;
     for fact in facts {
         if let Some(marks) = marks_voted(fact, key, version, ballot) {
-            join_marks(&mut votes, marks)?;
+            join_marks(alloc, &mut votes, marks)?;
         }
     }
     Ok(votes)

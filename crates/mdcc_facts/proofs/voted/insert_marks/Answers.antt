@@ -3,8 +3,8 @@ use Rattle.mdcc_base.specs.declared.identifiers.TxId.{TxId}
 use Rattle.mdcc_option.specs.declared.choices.Mark.{Mark}
 use Rattle.mdcc_struct.specs.Maps.{value_of}
 use Rattle.mdcc_facts.proofs.Marked.{copied-some, entry-new, entry-there, union-next}
-use Rattle.mdcc_facts.proofs.voted.join_marks.Goals.{then-is_none+in_ok-insert, else-is_none}
-use Rattle.mdcc_facts.proofs.voted.join_marks.Goals as goal
+use Rattle.mdcc_facts.proofs.voted.insert_marks.Goals.{then-is_none+in_ok-insert, else-is_none}
+use Rattle.mdcc_facts.proofs.voted.insert_marks.Goals as goal
 
 pub loop-place-preserved : goal.loop-place-preserved
 loop-place-preserved c =
