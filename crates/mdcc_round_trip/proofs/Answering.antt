@@ -1,10 +1,9 @@
 -- The votes are delivered one after the other: the centre hears the commit at the last of them.
-use Rattle.std.proofs.Common.{◌≡◌, ℕ, zero, suc, ◌+◌, ◌-◌, ◌≤◌, ◌<◌, ◌==◌, ◌&&◌, ◌||◌, Bool, true, false, cond, not, List, [], ◌∷◌, ◌++◌, refl, sym, ap, ◌∙◌, subst, inl, inr, arith, map, length, nat_le, append_assoc, append-nil, get_or, IsPermutation, Option, Some, None, Result, Ok, Err}
+use Rattle.std.proofs.Common.{◌≡◌, ℕ, ◌+◌, ◌-◌, ◌≤◌, ◌<◌, ◌==◌, ◌&&◌, Bool, true, false, cond, List, [], ◌∷◌, ◌++◌, refl, sym, ap, ◌∙◌, subst, inl, inr, arith, map, length, nat_le, append_assoc, append-nil, IsPermutation, Option, Some, None, Ok, Err}
 use Rattle.std.specs.List.{AllByRecursion, list_any}
 use Rattle.std.proofs.lemmas.Bool.{and_left, and_parts, and_right, cases_Bool, leb-true, true≢false}
 use Rattle.std.proofs.lemmas.List.{get_or-set_same, length-set, map-append}
 use Rattle.mdcc_base.specs.AreQuorums.{AreQuorums}
-use Rattle.mdcc_base.specs.Ballot.{ballot_eq, fast_ballot}
 use Rattle.mdcc_base.specs.Counts.{number_of}
 use Rattle.mdcc_base.specs.Key.{key_eq}
 use Rattle.mdcc_base.specs.Sizes.{Sizes}
@@ -15,13 +14,13 @@ use Rattle.mdcc_option.specs.declared.choices.Choice.{Choice}
 use Rattle.mdcc_option.specs.declared.choices.Outcome.{Outcome}
 use Rattle.mdcc_option.specs.declared.cluster.Cluster.{Cluster}
 use Rattle.mdcc_switches.specs.Built.{Built}
-use Rattle.mdcc_ledger.specs.Ledger.{Added, Entry, facts_of}
+use Rattle.mdcc_ledger.specs.Ledger.{Entry, facts_of}
 use Rattle.mdcc_language.specs.declared.lines.Line.{Line}
 use Rattle.mdcc_messages.specs.Lengths.{cells_needed}
 use Rattle.mdcc_messages.specs.declared.facts.Fact.{Fact}
 use Rattle.mdcc_protocol.specs.Belongs.{choice_belongs, is_centre, tx_belongs, update_belongs}
-use Rattle.mdcc_protocol.specs.Facts.{heard_of, is_heard}
-use Rattle.mdcc_protocol.specs.Learner.{collided, is_barred_by, is_counted, with_vote}
+use Rattle.mdcc_protocol.specs.Facts.{heard_of}
+use Rattle.mdcc_protocol.specs.Learner.{collided, is_barred_by, with_vote}
 use Rattle.mdcc_protocol.specs.Manager
 use Rattle.mdcc_protocol.specs.Manager.{act_on_vote, acted, decision, vote_taken, would_decide}
 use Rattle.mdcc_protocol.specs.News.{is_crowding}
@@ -32,17 +31,17 @@ use Rattle.mdcc_rules.specs.Node.{cells_spare, checked, is_without_room, step_of
 use Rattle.mdcc_rules.specs.Steps.{NodeStep, nothing_done}
 use Rattle.mdcc_rules.specs.declared.node.Input.{Input}
 use Rattle.mdcc_rules.specs.declared.node.StepFault.{StepFault}
-use Rattle.mdcc_simulation.specs.Deliveries.{deliver_line, delivery_of}
+use Rattle.mdcc_simulation.specs.Deliveries.{delivery_of}
 use Rattle.mdcc_simulation.specs.State.{Happened, Site, World, booted, centre_at, next_message}
 use Rattle.mdcc_simulation.specs.Stepping.{fact_happened, fact_taken, input_happened, step_at, step_taken}
-use Rattle.mdcc_round_trip.specs.Deciding.{AreChoicesOf, IsFastQuorum, IsUncounted, counting}
+use Rattle.mdcc_round_trip.specs.Deciding.{AreChoicesOf, IsFastQuorum, counting}
 use Rattle.mdcc_round_trip.specs.Messages.{each_with, vote_counted, vote_of_member}
 use Rattle.mdcc_round_trip.specs.RoundTrips.{IsUndecidedAt, is_dropped, is_hearing, message_at, messages_of}
 use Rattle.mdcc_round_trip.proofs.Apart.{key-same, of_both, of_key}
 use Rattle.mdcc_round_trip.proofs.Deciding.{IsIn, committed-with, each-in, of-each, uncollided-before, undecided-before}
 use Rattle.mdcc_round_trip.proofs.Delivering.{Delivers, Name, counted, delivery-told, delivery_told, messages-after, name-more}
 use Rattle.mdcc_round_trip.proofs.Proposing.{NoneDropped, NoneHears, number-same}
-use Rattle.mdcc_round_trip.proofs.Lists.{each-any, each-append, each-back, each-both, each-front, each-map, each-weaker, none-numbered, number-append}
+use Rattle.mdcc_round_trip.proofs.Lists.{each-append, each-back, each-both, each-front, each-map, each-weaker, none-numbered, number-append}
 
 -- ---- a vote that is counted
 

@@ -1,7 +1,7 @@
 -- Pairs of choices and members: each once, and as many for each choice as there are members.
-use Rattle.std.proofs.Common.{◌≡◌, ℕ, zero, suc, ◌+◌, ◌*◌, ◌≤◌, ◌<◌, ◌==◌, ◌&&◌, Bool, true, false, cond, List, [], ◌∷◌, ◌++◌, refl, sym, ap, ◌∙◌, subst, inl, inr, arith, map, length, flat_map, IsPermutation}
+use Rattle.std.proofs.Common.{◌≡◌, ℕ, ◌*◌, ◌≤◌, ◌==◌, ◌&&◌, Bool, true, false, cond, List, [], ◌∷◌, refl, sym, ◌∙◌, subst, inl, inr, arith, map, length, IsPermutation}
 use Rattle.std.specs.List.{AllByRecursion}
-use Rattle.std.proofs.lemmas.Bool.{and_parts, cases_Bool, eqb-true, true≢false}
+use Rattle.std.proofs.lemmas.Bool.{cases_Bool, eqb-true, true≢false}
 use Rattle.mdcc_base.specs.Counts.{number_of}
 use Rattle.mdcc_base.specs.Key.{key_eq}
 use Rattle.mdcc_base.specs.declared.key.Key.{Key}
@@ -9,7 +9,7 @@ use Rattle.mdcc_option.proofs.Equal.{Decides-key}
 use Rattle.mdcc_option.specs.declared.choices.Choice.{Choice}
 use Rattle.mdcc_round_trip.specs.Deciding.{AreApart, have_one_key}
 use Rattle.mdcc_round_trip.specs.Messages.{each_with}
-use Rattle.mdcc_round_trip.proofs.Lists.{each-append, each-map, each-weaker, none-numbered, number-append, number-map, number-none, number-permuted}
+use Rattle.mdcc_round_trip.proofs.Lists.{each-append, each-map, each-weaker, number-append, number-map, number-none, number-permuted}
 
 -- of items that are apart at most one passes a test that only same ones pass together
 pub apart-once : {X : Type 0} (same : X → X → Bool) (test : X → Bool) (xs : List X) → ((x y : X) → test x ≡ true → test y ≡ true → same x y ≡ true)

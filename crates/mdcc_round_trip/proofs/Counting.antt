@@ -1,15 +1,13 @@
 -- Votes of one choice that are counted: what is learned of them, and that they do not collide.
-use Rattle.std.proofs.Common.{◌≡◌, ℕ, ◌+◌, ◌-◌, ◌≤◌, ◌<◌, ◌==◌, ◌&&◌, Bool, true, false, cond, not, List, [], ◌∷◌, ◌++◌, refl, sym, ap, ◌∙◌, subst, inl, inr, arith, filter, fold, map, length, option_map, Option, Some, None, is_some, nat_le, nat_lt, le-leb, leb-false, ltb-false}
-use Rattle.std.specs.List.{AllByRecursion, list_any, reduce}
-use Rattle.std.proofs.lemmas.Bool.{and_right, cases_Bool, leb-true, leb-false, ltb-false, le-leb}
-use Rattle.mdcc_base.specs.AreQuorums.{AreQuorums}
+use Rattle.std.proofs.Common.{◌≡◌, ℕ, ◌+◌, ◌-◌, ◌≤◌, ◌&&◌, Bool, true, false, cond, not, List, [], ◌∷◌, ◌++◌, refl, sym, ap, ◌∙◌, subst, inl, inr, arith, filter, fold, map, length, option_map, Some, None, nat_le, nat_lt}
+use Rattle.std.specs.List.{AllByRecursion, reduce}
+use Rattle.std.proofs.lemmas.Bool.{cases_Bool, leb-true}
 use Rattle.mdcc_base.specs.Ballot.{ballot_eq, ballot_lt, fast_ballot, is_fast}
 use Rattle.mdcc_base.specs.Counts.{number_of}
 use Rattle.mdcc_base.specs.Key.{key_eq}
 use Rattle.mdcc_base.specs.Quorums.{quorum_size}
 use Rattle.mdcc_base.specs.Sizes.{Sizes}
 use Rattle.mdcc_base.specs.TxId.{tx_eq}
-use Rattle.mdcc_base.specs.declared.identifiers.Ballot.{Ballot}
 use Rattle.mdcc_base.specs.declared.identifiers.TxId.{TxId}
 use Rattle.mdcc_base.specs.declared.key.Key.{Key}
 use Rattle.mdcc_option.proofs.Equal.{Decides-mark}
@@ -17,7 +15,7 @@ use Rattle.mdcc_option.specs.Equality.{mark_eq}
 use Rattle.mdcc_option.specs.declared.choices.Choice.{Choice}
 use Rattle.mdcc_option.specs.declared.choices.Mark.{Mark}
 use Rattle.mdcc_struct.proofs.Order.{tx_eq-refl}
-use Rattle.mdcc_protocol.specs.Learner.{collided, has_quorum, is_barred_by, is_counted, is_learned, is_out_of_reach, learned, lower_vote, votes_on, with_vote}
+use Rattle.mdcc_protocol.specs.Learner.{collided, has_quorum, is_learned, is_out_of_reach, learned, lower_vote, votes_on}
 use Rattle.mdcc_protocol.specs.Marks.{is_accept}
 use Rattle.mdcc_protocol.specs.declared.votes.Vote.{Vote}
 use Rattle.mdcc_round_trip.specs.Messages.{vote_counted}

@@ -1,5 +1,5 @@
 -- What the votes of a fast quorum on each choice decide: nothing before the last of them, and then the commit.
-use Rattle.std.proofs.Common.{◌≡◌, ℕ, suc, ◌+◌, ◌*◌, ◌≤◌, ◌<◌, ◌==◌, Bool, true, false, cond, ◌⊎◌, List, [], ◌∷◌, ◌++◌, refl, sym, ap, ◌∙◌, subst, inl, inr, arith, filter_map, map, length, IsPermutation, Option, Some, None, is_some, nat_le}
+use Rattle.std.proofs.Common.{◌≡◌, ℕ, ◌+◌, ◌≤◌, ◌<◌, Bool, true, false, cond, ◌⊎◌, List, [], ◌∷◌, ◌++◌, refl, sym, ap, ◌∙◌, subst, inl, inr, arith, filter_map, map, IsPermutation, Option, Some, None, is_some, nat_le}
 use Rattle.std.specs.List.{AllByRecursion, list_all, list_any}
 use Rattle.std.specs.Prelude.{option_and_then}
 use Rattle.std.proofs.lemmas.Bool.{and_right, cases_Bool, true≢false}
@@ -7,8 +7,6 @@ use Rattle.mdcc_base.specs.AreQuorums.{AreQuorums}
 use Rattle.mdcc_base.specs.Counts.{number_of}
 use Rattle.mdcc_base.specs.Key.{key_eq}
 use Rattle.mdcc_base.specs.Sizes.{Sizes}
-use Rattle.mdcc_base.specs.TxId.{tx_eq}
-use Rattle.mdcc_base.specs.declared.identifiers.TxId.{TxId}
 use Rattle.mdcc_base.specs.declared.key.Key.{Key}
 use Rattle.mdcc_option.specs.declared.choices.Choice.{Choice}
 use Rattle.mdcc_option.specs.declared.choices.Mark.{Mark}
@@ -16,10 +14,9 @@ use Rattle.mdcc_option.specs.declared.choices.Outcome.{Outcome}
 use Rattle.mdcc_protocol.specs.Learner.{collided, decision_of, learned}
 use Rattle.mdcc_protocol.specs.Manager.{decision, keys_of_choices}
 use Rattle.mdcc_protocol.specs.Marks.{choice_in, is_reject_found, outcome_of_marks}
-use Rattle.mdcc_protocol.specs.Volatile.{Managing, Undecided, opened_of}
-use Rattle.mdcc_protocol.specs.declared.votes.Vote.{Vote}
+use Rattle.mdcc_protocol.specs.Volatile.{Managing, Undecided}
 use Rattle.mdcc_round_trip.specs.Deciding.{AreApart, AreChoicesOf, CommitsAtLast, IsFastQuorum, IsUncounted, counting, have_one_key}
-use Rattle.mdcc_round_trip.specs.Messages.{each_with, vote_counted}
+use Rattle.mdcc_round_trip.specs.Messages.{each_with}
 use Rattle.mdcc_round_trip.proofs.Apart.{choice_of_key, each-pair, key-same, key-true, of_key, ordered-each}
 use Rattle.mdcc_round_trip.proofs.Counting.{learned-counted, uncollided}
 use Rattle.mdcc_round_trip.proofs.Lists.{each-any, each-back, each-both, each-front, each-permuted, each-weaker, number-append, number-none}

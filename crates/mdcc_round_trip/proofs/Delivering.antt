@@ -1,5 +1,5 @@
 -- A deliver line, number by number, and what a delivery that is not refused does.
-use Rattle.std.proofs.Common.{◌≡◌, ℕ, zero, suc, ◌+◌, ◌-◌, ◌&&◌, Bool, true, false, cond, List, [], ◌∷◌, ◌++◌, refl, sym, ap, ◌∙◌, subst, inl, inr, arith, map, length, option_map, slice_get, append_assoc, append-nil, Option, Some, None, Result, Ok, Err}
+use Rattle.std.proofs.Common.{◌≡◌, ℕ, zero, suc, ◌+◌, ◌-◌, ◌&&◌, Bool, true, false, cond, List, [], ◌∷◌, ◌++◌, refl, sym, ap, ◌∙◌, subst, inl, inr, map, option_map, slice_get, append_assoc, append-nil, Option, Some, None, Result, Ok, Err}
 use Rattle.std.proofs.lemmas.Bool.{cases_Bool}
 use Rattle.std.proofs.lemmas.List.{map-append}
 use Rattle.mdcc_switches.specs.Built.{Built}
@@ -7,9 +7,7 @@ use Rattle.mdcc_language.specs.declared.lines.Line.{Line}
 use Rattle.mdcc_language.specs.declared.world.EventFault.{EventFault}
 use Rattle.mdcc_messages.specs.Mailbox.{Sent, numbered, unsent, with_delivered}
 use Rattle.mdcc_messages.specs.declared.messages.Envelope.{Envelope}
-use Rattle.mdcc_rules.specs.Steps.{NodeStep}
 use Rattle.mdcc_rules.specs.declared.node.Input.{Input}
-use Rattle.mdcc_rules.specs.declared.node.StepFault.{StepFault}
 use Rattle.mdcc_simulation.specs.Deliveries.{deliver_line, deliveries_of, delivery_by, delivery_of}
 use Rattle.mdcc_simulation.specs.Limits.{if_up, is_limit, is_past_events, limit_if, most_events, step_limit, unless, with_lines, within_events}
 use Rattle.mdcc_simulation.specs.State.{Happened, World, after_lines, is_up_at}

@@ -1,10 +1,10 @@
 -- A vote on another key changes nothing that an acceptor asks about a proposal.
-use Rattle.std.proofs.Common.{◌≡◌, ℕ, ◌+◌, ◌==◌, ◌&&◌, Bool, true, false, cond, not, List, [], ◌∷◌, ◌++◌, refl, sym, ap, ◌∙◌, inl, inr, arith, Option, Some, None, map, filter, length, option_map, max}
+use Rattle.std.proofs.Common.{◌≡◌, ℕ, ◌==◌, ◌&&◌, false, cond, not, List, [], ◌∷◌, ◌++◌, refl, ap, ◌∙◌, arith, Option, Some, None, map, filter}
 use Rattle.std.specs.List.{AllByRecursion}
 use Rattle.std.specs.Option.{option_or}
 use Rattle.std.specs.Prelude.{nat_lt}
 use Rattle.std.proofs.Math.Nat.{max-zero}
-use Rattle.std.proofs.lemmas.Bool.{and_right, cases_Bool}
+use Rattle.std.proofs.lemmas.Bool.{and_right}
 use Rattle.mdcc_base.specs.Ballot.{ballot_eq, ballot_lt, ballot_max, fast_ballot, is_fast}
 use Rattle.mdcc_base.specs.Key.{key_eq}
 use Rattle.mdcc_base.specs.declared.identifiers.Ballot.{Ballot}
@@ -14,9 +14,6 @@ use Rattle.mdcc_option.specs.declared.choices.Choice.{Choice}
 use Rattle.mdcc_option.specs.declared.choices.Mark.{Mark}
 use Rattle.mdcc_option.specs.declared.choices.Outcome.{Outcome}
 use Rattle.mdcc_option.specs.declared.cluster.Cluster.{Cluster}
-use Rattle.mdcc_option.specs.declared.items.Item.{Item}
-use Rattle.mdcc_option.specs.declared.items.Update.{Update}
-use Rattle.mdcc_struct.specs.Maps.{TxMap, union}
 use Rattle.mdcc_struct.specs.declared.options.Options.{Options}
 use Rattle.mdcc_messages.specs.declared.facts.Fact.{Fact}
 use Rattle.mdcc_option.specs.declared.choices.Cause.{Cause}
@@ -25,8 +22,7 @@ use Rattle.mdcc_protocol.specs.Fit.{fast_fit, load_of}
 use Rattle.mdcc_protocol.specs.Marks.{seen_in}
 use Rattle.mdcc_protocol.specs.declared.acceptor.ProposeAnswer.{ProposeAnswer}
 use Rattle.mdcc_protocol.specs.declared.fit.Fit.{Fit}
-use Rattle.mdcc_protocol.specs.Facts.{ballot_promised, base_at, base_of, current_of, deltas_at, entries_of, executed_of, heard_of, is_void, later_vote, live_and_void, live_from, live_of, mark_voted, marks_voted, promise_of, vote_of, votes_of}
-use Rattle.mdcc_protocol.specs.News.{is_crowding}
+use Rattle.mdcc_protocol.specs.Facts.{base_at, base_of, current_of, deltas_at, executed_of, heard_of, is_void, later_vote, live_and_void, live_of, promise_of, vote_of, votes_of}
 use Rattle.mdcc_round_trip.specs.Messages.{accepting_fact}
 use Rattle.mdcc_round_trip.proofs.Lists.{filter-alike}
 

@@ -1,7 +1,7 @@
 -- What a computed example has to show.
 use Rattle.std.proofs.Common.{◌≡◌, Bool, true, false, List, [], ◌∷◌, refl, Result, Ok, Err, is_ok, not}
 use Rattle.std.specs.List.{AllByRecursion, list_all}
-use Rattle.std.proofs.lemmas.Bool.{and_parts, cases_Bool}
+use Rattle.std.proofs.lemmas.Bool.{and_parts}
 use Rattle.mdcc_language.specs.declared.lines.Line.{Line}
 use Rattle.mdcc_language.specs.declared.world.EventFault.{EventFault}
 use Rattle.mdcc_simulation.specs.State.{Happened, World}

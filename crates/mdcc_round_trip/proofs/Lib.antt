@@ -8,3 +8,4 @@ mod Delivering
 mod Proposing
 mod Answering
 mod Trips
+mod Worlds

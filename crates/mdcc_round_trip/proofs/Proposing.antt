@@ -1,5 +1,5 @@
 -- The proposals are delivered one after the other: each gives a vote, whatever their order.
-use Rattle.std.proofs.Common.{◌≡◌, ℕ, zero, suc, ◌+◌, ◌-◌, ◌≤◌, ◌<◌, ◌==◌, ◌&&◌, Bool, true, false, cond, List, [], ◌∷◌, ◌++◌, refl, sym, ap, ◌∙◌, subst, inl, inr, arith, map, length, max, nat_lt, append_assoc, append-nil, get_or, Option, Some, None, Result, Ok, Err}
+use Rattle.std.proofs.Common.{◌≡◌, ℕ, ◌+◌, ◌-◌, ◌≤◌, ◌==◌, Bool, true, false, cond, List, [], ◌∷◌, ◌++◌, refl, sym, ap, ◌∙◌, subst, inl, inr, arith, map, length, max, nat_lt, append_assoc, append-nil, get_or, Some, None, Ok, Err}
 use Rattle.std.specs.List.{AllByRecursion, list_any}
 use Rattle.std.proofs.Math.Nat.{max-zero}
 use Rattle.std.proofs.lemmas.Bool.{cases_Bool, eq-eqb, eqb-true, true≢false}
@@ -16,20 +16,17 @@ use Rattle.mdcc_ledger.specs.Ledger.{Added, Entry, facts_of}
 use Rattle.mdcc_language.specs.declared.lines.Line.{Line}
 use Rattle.mdcc_messages.specs.declared.facts.Fact.{Fact}
 use Rattle.mdcc_messages.specs.declared.messages.Envelope.{Envelope}
-use Rattle.mdcc_protocol.specs.Acceptor.{on_propose}
 use Rattle.mdcc_protocol.specs.Belongs.{choice_belongs, is_centre}
 use Rattle.mdcc_protocol.specs.Facts.{current_of, deltas_at, executed_of, heard_of, version_from}
 use Rattle.mdcc_protocol.specs.News.{is_crowding, keys_in}
 use Rattle.mdcc_protocol.specs.Volatile.{Volatile}
-use Rattle.mdcc_protocol.specs.declared.acceptor.ProposeAnswer.{ProposeAnswer}
 use Rattle.mdcc_messages.specs.Lengths.{cells_needed}
 use Rattle.mdcc_rules.specs.Node.{cells_spare, is_without_room, step_of}
-use Rattle.mdcc_rules.specs.Steps.{NodeStep}
 use Rattle.mdcc_rules.specs.declared.node.Input.{Input}
 use Rattle.mdcc_rules.specs.declared.node.StepFault.{StepFault}
 use Rattle.mdcc_simulation.specs.Deliveries.{delivery_of}
 use Rattle.mdcc_simulation.specs.State.{Happened, Site, World, booted, centre_at}
-use Rattle.mdcc_simulation.specs.Stepping.{chosen_lines, fact_happened, fact_taken, input_happened, step_at}
+use Rattle.mdcc_simulation.specs.Stepping.{chosen_lines, fact_happened, fact_taken, input_happened}
 use Rattle.mdcc_round_trip.specs.Accepting.{IsAccepted, vote_if_roomy, vote_step}
 use Rattle.mdcc_round_trip.specs.Messages.{accepting_fact, proposal_of, vote_of_member}
 use Rattle.mdcc_round_trip.specs.RoundTrips.{is_dropped, is_hearing, message_at, messages_of}

@@ -1,5 +1,5 @@
 -- One round trip, put together.
-use Rattle.std.proofs.Common.{◌≡◌, ℕ, ◌+◌, ◌-◌, ◌≤◌, ◌==◌, Bool, true, false, List, [], ◌∷◌, ◌++◌, refl, sym, ap, ◌∙◌, subst, arith, map, length, get_or, IsPermutation, Option, Some, None, Result, Ok, Err}
+use Rattle.std.proofs.Common.{◌≡◌, ℕ, ◌-◌, ◌≤◌, true, false, List, [], ◌∷◌, ◌++◌, refl, sym, ap, ◌∙◌, subst, arith, map, length, get_or, None}
 use Rattle.std.specs.List.{AllByRecursion}
 use Rattle.std.proofs.lemmas.List.Sorted.{length_permutation}
 use Rattle.mdcc_base.specs.AreQuorums.{AreQuorums}
@@ -12,7 +12,7 @@ use Rattle.mdcc_language.specs.declared.lines.Line.{Line}
 use Rattle.mdcc_messages.specs.declared.facts.Fact.{Fact}
 use Rattle.mdcc_protocol.specs.Belongs.{choice_belongs, is_centre}
 use Rattle.mdcc_protocol.specs.Volatile.{Undecided}
-use Rattle.mdcc_simulation.specs.State.{Happened, Site, World, booted, centre_at}
+use Rattle.mdcc_simulation.specs.State.{Happened, Site, World, booted}
 use Rattle.mdcc_round_trip.specs.Accepting.{IsAccepted}
 use Rattle.mdcc_round_trip.specs.Deciding.{IsFastQuorum, IsUncounted}
 use Rattle.mdcc_round_trip.specs.Messages.{each_with, proposal_of, vote_of_member}
@@ -21,7 +21,7 @@ use Rattle.mdcc_round_trip.proofs.Answering.{IsVoted, all-voted, nothing-counted
 use Rattle.mdcc_round_trip.proofs.Apart.{each-pair, ordered-once}
 use Rattle.mdcc_round_trip.proofs.Deciding.{IsIn, in-each}
 use Rattle.mdcc_round_trip.proofs.Delivering.{Delivers, named, unrolled}
-use Rattle.mdcc_round_trip.proofs.Lists.{each-any, each-append, each-back, each-both, each-front, each-permuted, each-weaker}
+use Rattle.mdcc_round_trip.proofs.Lists.{each-append, each-back, each-both, each-front, each-permuted, each-weaker}
 use Rattle.mdcc_round_trip.proofs.Proposing.{Accepts, After, NoneDropped, NoneHears, all-proposed}
 
 -- what holds for each member of each choice holds for each choice of each member

@@ -3,3 +3,4 @@ pub mod Deciding
 pub mod Messages
 pub mod RoundTrips
 pub mod Example
+pub mod Worlds

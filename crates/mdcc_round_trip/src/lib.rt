@@ -5,6 +5,7 @@ ghost use Rattle.mdcc_round_trip.specs.Accepting.{OtherKeysChangeNothing, Propos
 ghost use Rattle.mdcc_round_trip.specs.Deciding.{QuorumsCommitAtLast};
 ghost use Rattle.mdcc_round_trip.specs.Example.{answered, asked, begun, members, transaction};
 ghost use Rattle.mdcc_round_trip.specs.RoundTrips.{IsReady, IsRoundTrip, OneRoundTripCommits, ProposalsSendVotes};
+ghost use Rattle.mdcc_round_trip.specs.Worlds.{WorldsAreReady};
 ghost use Rattle.mdcc_switches.specs.Built.{all_built};
 
 /// An acceptor that would accept each of several choices of different keys accepts them in any order: a
@@ -28,6 +29,13 @@ pub fn quorums_commit_at_last()
 pub fn one_round_trip_commits()
     ensures commits { OneRoundTripCommits }
     ensures votes { ProposalsSendVotes }
+{}
+
+/// In a world that has its invariant an open transaction of which no vote was counted may commit so
+/// wherever the members of a fast quorum would accept each of its choices: its choices are of different
+/// keys, and no stop is armed.
+pub fn worlds_are_ready()
+    ensures { WorldsAreReady }
 {}
 
 /// There are such round trips, so that the theorem does not speak of nothing: here three centres accept
