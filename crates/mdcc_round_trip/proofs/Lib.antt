@@ -9,3 +9,4 @@ mod Proposing
 mod Answering
 mod Trips
 mod Worlds
+mod Refusals

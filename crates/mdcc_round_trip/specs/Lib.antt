@@ -4,3 +4,4 @@ pub mod Messages
 pub mod RoundTrips
 pub mod Example
 pub mod Worlds
+pub mod Refusals

@@ -4,6 +4,7 @@
 ghost use Rattle.mdcc_round_trip.specs.Accepting.{OtherKeysChangeNothing, ProposalsGiveVotes};
 ghost use Rattle.mdcc_round_trip.specs.Deciding.{QuorumsCommitAtLast};
 ghost use Rattle.mdcc_round_trip.specs.Example.{answered, asked, begun, members, transaction};
+ghost use Rattle.mdcc_round_trip.specs.Refusals.{OnlyLimitsRefuse};
 ghost use Rattle.mdcc_round_trip.specs.RoundTrips.{IsReady, IsRoundTrip, OneRoundTripCommits, ProposalsSendVotes};
 ghost use Rattle.mdcc_round_trip.specs.Worlds.{WorldsAreReady};
 ghost use Rattle.mdcc_switches.specs.Built.{all_built};
@@ -29,6 +30,12 @@ pub fn quorums_commit_at_last()
 pub fn one_round_trip_commits()
     ensures commits { OneRoundTripCommits }
     ensures votes { ProposalsSendVotes }
+{}
+
+/// A line of deliveries to centres that are up and have no armed stop is refused only for a limit, so that
+/// nothing else keeps the deliveries of a round trip from coming.
+pub fn only_limits_refuse_deliveries()
+    ensures { OnlyLimitsRefuse }
 {}
 
 /// In a world that has its invariant an open transaction of which no vote was counted may commit so
