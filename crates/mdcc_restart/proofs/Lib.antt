@@ -1,5 +1,6 @@
 pub mod Ample
 pub mod Kept
 pub mod Logged
+pub mod Named
 pub mod Short
 pub mod Starts

@@ -1,11 +1,15 @@
-use Rattle.std.proofs.Common.{rules, [], ◌∷◌, ◌++◌, List, ℕ, Ok, ◌∙◌, ap, length, subst, sym}
+use Rattle.std.proofs.Common.{rules, refl, ◌≡◌, [], ◌∷◌, ◌++◌, List, ℕ, Ok, ◌∙◌, ap, length, subst, sym}
 use Rattle.std.proofs.lemmas.Result.{err_from_is_err_and}
 use Rattle.mdcc_log.specs.Frames.{IsAtRest}
 use Rattle.mdcc_log.specs.Log.{log_bytes}
 use Rattle.mdcc_disks.specs.Disks.{LeavesOnly}
 use Rattle.mdcc_log.proofs.Moments.{others_joined}
 use Rattle.mdcc_restart.proofs.Kept.{append-keeps, between-leaves, boot-leaves, each-fault, open-keeps, rest-keeps, shut-leaves, then-leaves, then-leaves-either}
+use Rattle.mdcc_restart.proofs.Named.{no-boot-memory, no-log-memory, of-disk, rose-later}
 use Rattle.mdcc_restart.proofs.Starts.{after-crash, boot-length, lies-within, refuses, same-payloads}
+use Rattle.mdcc_restart.specs.declared.fault.RestartFault.{RestartFault}
+use Rattle.mdcc_log.specs.declared.fault.LogFault.{LogFault}
+use Rattle.mdcc_rules.specs.declared.node.BootFault.{BootFault}
 use Rattle.mdcc_messages.specs.Spelling.{fact_bytes}
 use Rattle.mdcc_messages.specs.declared.facts.Fact.{Fact}
 use Rattle.mdcc_restart.specs.Logged.{AreLogged, logged}
@@ -27,6 +31,16 @@ pub returns-in_err-node-clause-after_crash : goal.returns-in_err-node-clause-aft
 returns-in_err-node-clause-after_crash g c facts fact ample are told between =
     after-crash (λ fs. Restarts g.S.FactStore.stands c.from_residual-in_err-node.result c.args.cluster c.args.centre fs (g.D.Disks.disk c.open.new.disks c.args.centre).bytes (g.D.Disks.may_leave c.open.new.disks c.args.centre))
     c.args.cluster facts fact (g.D.Disks.disk c.args.disks.now c.args.centre) c.between_is_read.ensures (λ fs of_cluster log. returns-in_err-node-clause-restarts g c fs ample of_cluster log) are told between
+
+pub returns-in_err-payload-clause-restarts : goal.returns-in_err-payload-clause-restarts
+returns-in_err-payload-clause-restarts g c facts ample are log =
+    let p = err_from_is_err_and c.from_residual-in_err-payload.result c.from_residual-in_err-payload.ensures.1 in
+    rw (p.1, p.2) tt
+
+pub returns-in_err-payload-clause-after_crash : goal.returns-in_err-payload-clause-after_crash
+returns-in_err-payload-clause-after_crash g c facts fact ample are told between =
+    after-crash (λ fs. Restarts g.S.FactStore.stands c.from_residual-in_err-payload.result c.args.cluster c.args.centre fs (g.D.Disks.disk c.open.new.disks c.args.centre).bytes (g.D.Disks.may_leave c.open.new.disks c.args.centre))
+    c.args.cluster facts fact (g.D.Disks.disk c.args.disks.now c.args.centre) c.between_is_read.ensures (λ fs of_cluster log. returns-in_err-payload-clause-restarts g c fs ample of_cluster log) are told between
 
 pub returns-in_err-append-clause-restarts : goal.returns-in_err-append-clause-restarts
 returns-in_err-append-clause-restarts g c facts ample are log =
@@ -222,3 +236,29 @@ pub returns-clause-others : goal.returns-clause-others
 returns-clause-others g c =
     others_joined g.D.Disks.disk g.D.Disks.may_leave g.D.Disks.moment g.D.Disks.left_since c.args.disks.now c.open.new.disks c.append.new.disks c.args.centre
     (rw c.number.ensures.value at c.open.ensures.others) (rw (c.in_ok-log.ensures.place, c.number.ensures.value) at c.in_ok-append.ensures.others)
+
+-- ---- faults
+
+pub returns-in_err-append-clause-disk_fault : goal.returns-in_err-append-clause-disk_fault
+returns-in_err-append-clause-disk_fault g c = λ h.
+    let p = err_from_is_err_and c.from_residual-in_err-append.result c.from_residual-in_err-append.ensures.1 in
+    let is = sym p.1 ∙ h in
+    let same : p.0 ≡ RestartFault.Log LogFault.DiskFault = cc in
+    let fault : c.in_err-append.field-0.0 ≡ LogFault.DiskFault = of-disk c.in_err-append.field-0.0 (sym p.2 ∙ same) in
+    let rose = rw (c.in_ok-log.ensures.place, c.number.ensures.value) at (c.in_err-append.ensures.disk_fault (rw fault refl)) in
+    let before = rw c.number.ensures.value at c.open.ensures.later in
+    rose-later _ _ _ before rose
+
+pub returns-in_err-append-clause-log_memory : goal.returns-in_err-append-clause-log_memory
+returns-in_err-append-clause-log_memory g c = λ h.
+    let p = err_from_is_err_and c.from_residual-in_err-append.result c.from_residual-in_err-append.ensures.1 in
+    let is = sym p.1 ∙ h in
+    let same : p.0 ≡ RestartFault.Log LogFault.Memory = cc in
+    no-log-memory c.in_err-append.field-0.0 (sym p.2 ∙ same)
+
+pub returns-in_err-append-clause-boot_memory : goal.returns-in_err-append-clause-boot_memory
+returns-in_err-append-clause-boot_memory g c = λ h.
+    let p = err_from_is_err_and c.from_residual-in_err-append.result c.from_residual-in_err-append.ensures.1 in
+    let is = sym p.1 ∙ h in
+    let same : p.0 ≡ RestartFault.Boot BootFault.Memory = cc in
+    no-boot-memory c.in_err-append.field-0.0 (sym p.2 ∙ same)
