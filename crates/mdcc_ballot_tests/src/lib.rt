@@ -1,7 +1,10 @@
-//! Tests of whole replays with classic ballots, over objects in memory.
+//! Tests of whole replays over objects in memory: classic ballots, adds, dangling transactions, and
+//! centres that catch up.
 #![tactic(auto)]
 
 #[cfg(test)]
 mod ballot_rows;
 #[cfg(test)]
 mod ballots;
+#[cfg(test)]
+mod whole_rows;
