@@ -7,4 +7,6 @@ mod ballot_rows;
 #[cfg(test)]
 mod ballots;
 #[cfg(test)]
+mod moments;
+#[cfg(test)]
 mod whole_rows;
