@@ -1,8 +1,11 @@
 //! What a node votes.
+ghost use Rattle.std.specs.Prelude.{IfOk};
+ghost use Rattle.mdcc_node_tests.specs.Running.{Runs};
+
 use crate::bytes::{FAST, INSERT, PLACE, TX, is_added, is_sent, is_sent_alone};
-use crate::nodes::{deliver, item, key, one_of_five, read};
+use crate::nodes::{deliver, item, key, one_of_five, read, read_step};
 use mdcc_facts::ListFacts;
-use mdcc_node::{Answer, Input, Node, Step};
+use mdcc_node::{Answer, Node, Step};
 use std::alloc::Global;
 use std::test::*;
 
@@ -57,7 +60,9 @@ fn is_rejection(alloc: Global, step: &Step) -> Result<bool, Fail> {
 }
 
 // A node at centre 2 that heard the insert committed.
-fn holding(alloc: Global) -> Result<Node<ListFacts>, Fail> {
+fn holding(alloc: Global) -> Result<Node<ListFacts>, Fail>
+    ensures { IfOk result Runs }
+{
     let mut node = one_of_five(alloc, 2)?;
     let _step = deliver(alloc, &mut node, &[&[1, 9, 1, 2], &TX, &[1, 1], &INSERT])?;
     Ok(node)
@@ -112,7 +117,7 @@ fn a_read_shows_what_is_heard(rt: HostRuntime) -> Result<(), Fail> {
         &[&[1, 9, 1, 2], &LESS[..9], &[1, 1], &LESS],
     )?;
     assert!(rt; is_heard(alloc, &step)?);
-    let step = node.step(&Input::Read(key(b'a')))?;
+    let step = read_step(&mut node, key(b'a'))?;
     assert!(rt; step.fact.is_none() && is_six(&step));
     Ok(())
 }

@@ -1,4 +1,7 @@
 //! A node alone, of which each quorum is the node itself.
+ghost use Rattle.std.specs.Prelude.{IfOk, OnOk};
+ghost use Rattle.mdcc_node_tests.specs.Running.{Runs};
+
 use crate::bytes::{FAST, INSERT, PLACE, TX, is_added, is_sent, is_sent_alone};
 use crate::nodes::{begin, booted, cluster, deliver, insert, item, key, read};
 use mdcc_base::{Centre, Plain, TxId};
@@ -9,7 +12,9 @@ use mdcc_protocol::Reading;
 use std::alloc::Global;
 use std::test::*;
 
-fn alone(alloc: Global) -> Result<Node<ListFacts>, Fail> {
+fn alone(alloc: Global) -> Result<Node<ListFacts>, Fail>
+    ensures { IfOk result Runs }
+{
     let (node, _) = booted(alloc, cluster(1, 1, 1)?, 1)?;
     Ok(node)
 }
@@ -44,7 +49,10 @@ fn is_begun(step: &Step) -> bool {
 }
 
 // It is proposed to the one centre there is.
-fn begins(alloc: Global, node: &mut Node<ListFacts>) -> Result<bool, Fail> {
+fn begins(alloc: Global, node: &mut Node<ListFacts>) -> Result<bool, Fail>
+    requires { Runs node.old }
+    ensures { OnOk result (Runs node.new) }
+{
     let step = begin(node, &[insert(b'a', 10)])?;
     Ok(is_begun(&step) && is_sent_alone(alloc, &step, &[&[1, 1, 1, 1], &INSERT])?)
 }
@@ -57,13 +65,19 @@ fn is_vote(alloc: Global, step: &Step) -> Result<bool, Fail> {
 }
 
 // The proposal is voted.
-fn votes(alloc: Global, node: &mut Node<ListFacts>) -> Result<bool, Fail> {
+fn votes(alloc: Global, node: &mut Node<ListFacts>) -> Result<bool, Fail>
+    requires { Runs node.old }
+    ensures { OnOk result (Runs node.new) }
+{
     let step = deliver(alloc, node, &[&[1, 1, 1, 1], &INSERT])?;
     Ok(step.heard.is_none() && step.sends.len() == 1 && is_vote(alloc, &step)?)
 }
 
 // The vote is a quorum, and the outcome is a fact; there is no other centre to tell.
-fn decides(alloc: Global, node: &mut Node<ListFacts>) -> Result<bool, Fail> {
+fn decides(alloc: Global, node: &mut Node<ListFacts>) -> Result<bool, Fail>
+    requires { Runs node.old }
+    ensures { OnOk result (Runs node.new) }
+{
     let vote: [&[u8]; 5] = [&[1, 2, 1, 1], &PLACE, &FAST, &[1], &INSERT];
     let step = deliver(alloc, node, &vote)?;
     Ok(
@@ -74,7 +88,10 @@ fn decides(alloc: Global, node: &mut Node<ListFacts>) -> Result<bool, Fail> {
 }
 
 // A proposal that comes again is answered with the outcome, and adds nothing.
-fn knows(alloc: Global, node: &mut Node<ListFacts>) -> Result<bool, Fail> {
+fn knows(alloc: Global, node: &mut Node<ListFacts>) -> Result<bool, Fail>
+    requires { Runs node.old }
+    ensures { OnOk result (Runs node.new) }
+{
     let step = deliver(alloc, node, &[&[1, 1, 1, 1], &INSERT])?;
     is_sent_alone(alloc, &step, &[&[1, 9, 1, 1], &TX, &[1, 1], &INSERT])
 }

@@ -1,4 +1,7 @@
 //! What a client is answered that begins a transaction.
+ghost use Rattle.std.specs.Prelude.{IfOk, OnOk};
+ghost use Rattle.mdcc_node_tests.specs.Running.{Runs};
+
 use crate::bytes::{INSERT, TX, is_sent};
 use crate::nodes::{add, begin, deliver, insert, key, one_of_five};
 use mdcc_base::Plain;
@@ -17,7 +20,9 @@ fn is_refused(step: &Step, letter: u8, expected: &BeginFault) -> bool {
 }
 
 // A node that heard the insert committed.
-fn holding(alloc: Global) -> Result<Node<ListFacts>, Fail> {
+fn holding(alloc: Global) -> Result<Node<ListFacts>, Fail>
+    ensures { IfOk result Runs }
+{
     let mut node = one_of_five(alloc, 1)?;
     let _step = deliver(alloc, &mut node, &[&[1, 9, 2, 1], &TX, &[1, 1], &INSERT])?;
     Ok(node)
@@ -68,7 +73,10 @@ fn each_key_is_proposed_to_all_centres(rt: HostRuntime) -> Result<(), Fail> {
 }
 
 // Whether inserts of keys a and b are begun.
-fn begins(node: &mut Node<ListFacts>) -> Result<bool, Fail> {
+fn begins(node: &mut Node<ListFacts>) -> Result<bool, Fail>
+    requires { Runs node.old }
+    ensures { OnOk result (Runs node.new) }
+{
     let step = begin(node, &[insert(b'b', 2), insert(b'a', 1)])?;
     Ok(matches!(step.answer, Some(Answer::Begun(_))))
 }

@@ -1,12 +1,14 @@
 //! Messages and facts as bytes, written out by hand from the tables of the formats.
-ghost use Rattle.std.specs.Prelude.{IfOk};
+ghost use Rattle.std.specs.Prelude.{◌≡◌, ◌≤◌, IfOk, false, length};
 ghost use Rattle.mdcc_spelling.specs.Laws.{AreBytes};
 ghost use Rattle.mdcc_messages.specs.WellFormed.{IsWellFormedEnvelope};
+ghost use Rattle.mdcc_steps.specs.Forming.{accept_length};
 
 use mdcc_journal::encode_fact;
 use mdcc_messages::{Envelope, Fact, Message};
 use mdcc_node::Step;
-use mdcc_spelling::messages::messages_read_are_well_formed;
+use mdcc_spelling::messages::{messages_have_one_spelling, messages_read_are_well_formed};
+use mdcc_spelling::sizes::lengths_are_exact;
 use mdcc_wire::{encode, view};
 use std::alloc::Global;
 use std::test::Fail;
@@ -40,12 +42,24 @@ fn are_bytes(bytes: &[u8])
     ensures { AreBytes bytes.now }
 {}
 
-/// The message that the bytes spell.
-#[tactic(auto, using(crate::proofs::Shown::shown))]
-pub fn message(alloc: Global, bytes: &[u8]) -> Result<Envelope, Fail>
-    ensures { IfOk result (λ envelope. IsWellFormedEnvelope envelope) }
+// Whether there are more bytes than an Accept may have.
+fn is_long(bytes: &[u8]) -> bool
+    ensures { result ≡ false → length bytes.now ≤ 2097152 }
 {
+    bytes.len() > 2_097_152
+}
+
+/// The message that the bytes spell, of which there are at most 2,097,152.
+pub fn message(alloc: Global, bytes: &[u8]) -> Result<Envelope, Fail>
+    ensures formed { IfOk result (λ envelope. IsWellFormedEnvelope envelope) }
+    ensures short { IfOk result (λ envelope. accept_length envelope.message ≤ 2097152) }
+{
+    if is_long(bytes) {
+        return Err("too many bytes".into());
+    }
     messages_read_are_well_formed();
+    messages_have_one_spelling();
+    lengths_are_exact();
     are_bytes(bytes);
     let viewed = view(bytes)?;
     Ok(viewed.envelope(alloc)?)

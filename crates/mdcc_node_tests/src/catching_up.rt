@@ -1,4 +1,7 @@
 //! What a node gives a centre that is behind, and what it adopts.
+ghost use Rattle.std.specs.Prelude.{OnOk};
+ghost use Rattle.mdcc_node_tests.specs.Running.{Runs};
+
 use crate::bytes::{INSERT, TX, joined};
 use crate::nodes::{deliver, item, key, one_of_five, read, refusal};
 use mdcc_facts::ListFacts;
@@ -78,7 +81,10 @@ fn is_nothing(step: &Step) -> bool {
 }
 
 // Whether the node shows key a at this version with this value.
-fn is_shown(node: &mut Node<ListFacts>, version: u64, value: i64) -> Result<bool, Fail> {
+fn is_shown(node: &mut Node<ListFacts>, version: u64, value: i64) -> Result<bool, Fail>
+    requires { Runs node.old }
+    ensures { OnOk result (Runs node.new) }
+{
     let reading = read(node, key(b'a'))?;
     Ok(reading.token.version == version && reading.item == Some(item(value)))
 }

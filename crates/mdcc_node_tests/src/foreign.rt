@@ -1,4 +1,7 @@
 //! Messages that are not of the cluster, or not for the node.
+ghost use Rattle.std.specs.Prelude.{OnOk};
+ghost use Rattle.mdcc_node_tests.specs.Running.{Runs};
+
 use crate::bytes::{FAST, INSERT, PLACE, TX};
 use crate::nodes::{one_of_five, refusal};
 use mdcc_facts::ListFacts;
@@ -25,7 +28,10 @@ const SIXTH: [u8; 9] = [1, 0, 0, 0, 1, 0, 0, 0, 6];
 const SIXTH_TX: [u8; 9] = [6, 1, 0, 0, 0, 1, 0, 0, 0];
 
 // Whether a message is refused as foreign.
-fn is_foreign(alloc: Global, node: &mut Node<ListFacts>, parts: &[&[u8]]) -> Result<bool, Fail> {
+fn is_foreign(alloc: Global, node: &mut Node<ListFacts>, parts: &[&[u8]]) -> Result<bool, Fail>
+    requires { Runs node.old }
+    ensures { OnOk result (Runs node.new) }
+{
     Ok(refusal(alloc, node, parts)? == Some(StepFault::Foreign))
 }
 

@@ -1,4 +1,7 @@
 //! What a node does with the votes on a transaction that it began.
+ghost use Rattle.std.specs.Prelude.{IfOk, OnOk};
+ghost use Rattle.mdcc_node_tests.specs.Running.{Runs};
+
 use crate::bytes::{FAST, INSERT, PLACE, TX, is_added, is_sent, is_sent_alone};
 use crate::nodes::{begin, deliver, insert, one_of_five};
 use mdcc_facts::ListFacts;
@@ -7,20 +10,28 @@ use std::alloc::Global;
 use std::test::*;
 
 // A node at centre 1 that began the insert.
-fn beginning(alloc: Global) -> Result<Node<ListFacts>, Fail> {
+fn beginning(alloc: Global) -> Result<Node<ListFacts>, Fail>
+    ensures { IfOk result Runs }
+{
     let mut node = one_of_five(alloc, 1)?;
     let _step = begin(&mut node, &[insert(b'a', 10)])?;
     Ok(node)
 }
 
 // A vote of a centre that accepts the insert.
-fn accepted(alloc: Global, node: &mut Node<ListFacts>, from: u8) -> Result<Step, Fail> {
+fn accepted(alloc: Global, node: &mut Node<ListFacts>, from: u8) -> Result<Step, Fail>
+    requires { Runs node.old }
+    ensures { OnOk result (Runs node.new) }
+{
     let parts: [&[u8]; 5] = [&[1, 2, from, 1], &PLACE, &FAST, &[1], &INSERT];
     deliver(alloc, node, &parts)
 }
 
 // A vote of a centre that rejects it.
-fn rejected(alloc: Global, node: &mut Node<ListFacts>, from: u8) -> Result<Step, Fail> {
+fn rejected(alloc: Global, node: &mut Node<ListFacts>, from: u8) -> Result<Step, Fail>
+    requires { Runs node.old }
+    ensures { OnOk result (Runs node.new) }
+{
     let parts: [&[u8]; 5] = [&[1, 2, from, 1], &PLACE, &FAST, &[0], &TX];
     deliver(alloc, node, &parts)
 }
@@ -31,12 +42,18 @@ fn is_nothing(step: &Step) -> bool {
 }
 
 // Whether a vote that accepts does nothing.
-fn accepts_idly(alloc: Global, node: &mut Node<ListFacts>, from: u8) -> Result<bool, Fail> {
+fn accepts_idly(alloc: Global, node: &mut Node<ListFacts>, from: u8) -> Result<bool, Fail>
+    requires { Runs node.old }
+    ensures { OnOk result (Runs node.new) }
+{
     Ok(is_nothing(&accepted(alloc, node, from)?))
 }
 
 // Whether a vote that rejects does nothing.
-fn rejects_idly(alloc: Global, node: &mut Node<ListFacts>, from: u8) -> Result<bool, Fail> {
+fn rejects_idly(alloc: Global, node: &mut Node<ListFacts>, from: u8) -> Result<bool, Fail>
+    requires { Runs node.old }
+    ensures { OnOk result (Runs node.new) }
+{
     Ok(is_nothing(&rejected(alloc, node, from)?))
 }
 
