@@ -81,13 +81,59 @@ fn begins(node: &mut Node<ListFacts>) -> Result<bool, Fail>
     Ok(matches!(step.answer, Some(Answer::Begun(_))))
 }
 
+// Whether four such transactions are begun.
+fn begins_4(node: &mut Node<ListFacts>) -> Result<bool, Fail>
+    requires { Runs node.old }
+    ensures { OnOk result (Runs node.new) }
+{
+    let first = begins(node)?;
+    let second = begins(node)?;
+    let third = begins(node)?;
+    let fourth = begins(node)?;
+    Ok(first && second && third && fourth)
+}
+
+// Whether 16 are begun.
+fn begins_16(node: &mut Node<ListFacts>) -> Result<bool, Fail>
+    requires { Runs node.old }
+    ensures { OnOk result (Runs node.new) }
+{
+    let first = begins_4(node)?;
+    let second = begins_4(node)?;
+    let third = begins_4(node)?;
+    let fourth = begins_4(node)?;
+    Ok(first && second && third && fourth)
+}
+
+// Whether 64 are begun.
+fn begins_64(node: &mut Node<ListFacts>) -> Result<bool, Fail>
+    requires { Runs node.old }
+    ensures { OnOk result (Runs node.new) }
+{
+    let first = begins_16(node)?;
+    let second = begins_16(node)?;
+    let third = begins_16(node)?;
+    let fourth = begins_16(node)?;
+    Ok(first && second && third && fourth)
+}
+
+// Whether 256 are begun.
+fn begins_256(node: &mut Node<ListFacts>) -> Result<bool, Fail>
+    requires { Runs node.old }
+    ensures { OnOk result (Runs node.new) }
+{
+    let first = begins_64(node)?;
+    let second = begins_64(node)?;
+    let third = begins_64(node)?;
+    let fourth = begins_64(node)?;
+    Ok(first && second && third && fourth)
+}
+
 // 256 transactions are open, and no more.
 #[test]
 fn the_257th_open_transaction_is_refused(rt: HostRuntime) -> Result<(), Fail> {
     let mut node = one_of_five(rt.alloc(), 1)?;
-    for _ in 0..256 {
-        assert!(rt; begins(&mut node)?);
-    }
+    assert!(rt; begins_256(&mut node)?);
     let step = begin(&mut node, &[insert(b'b', 2), insert(b'a', 1)])?;
     assert!(rt; step.sends.is_empty() && is_refused(&step, b'a', &BeginFault::Busy));
     Ok(())

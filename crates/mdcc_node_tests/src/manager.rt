@@ -83,9 +83,9 @@ fn is_commit(alloc: Global, step: &Step) -> Result<bool, Fail> {
 fn four_votes_of_five_commit(rt: HostRuntime) -> Result<(), Fail> {
     let alloc = rt.alloc();
     let mut node = beginning(alloc)?;
-    for from in 1..4 {
-        assert!(rt; accepts_idly(alloc, &mut node, from)?);
-    }
+    assert!(rt; accepts_idly(alloc, &mut node, 1)?);
+    assert!(rt; accepts_idly(alloc, &mut node, 2)?);
+    assert!(rt; accepts_idly(alloc, &mut node, 3)?);
     let step = accepted(alloc, &mut node, 4)?;
     assert!(rt; is_commit(alloc, &step)?);
     assert!(rt; accepts_idly(alloc, &mut node, 5)?);
@@ -105,9 +105,9 @@ fn is_abort(alloc: Global, step: &Step) -> Result<bool, Fail> {
 fn four_votes_of_five_abort(rt: HostRuntime) -> Result<(), Fail> {
     let alloc = rt.alloc();
     let mut node = beginning(alloc)?;
-    for from in 2..5 {
-        assert!(rt; rejects_idly(alloc, &mut node, from)?);
-    }
+    assert!(rt; rejects_idly(alloc, &mut node, 2)?);
+    assert!(rt; rejects_idly(alloc, &mut node, 3)?);
+    assert!(rt; rejects_idly(alloc, &mut node, 4)?);
     let step = rejected(alloc, &mut node, 5)?;
     assert!(rt; is_abort(alloc, &step)?);
     Ok(())
@@ -124,9 +124,8 @@ fn is_led(alloc: Global, step: &Step, to: u8) -> Result<bool, Fail> {
 fn a_collision_is_led_by_the_home(rt: HostRuntime) -> Result<(), Fail> {
     let alloc = rt.alloc();
     let mut node = beginning(alloc)?;
-    for from in 1..3 {
-        assert!(rt; accepts_idly(alloc, &mut node, from)?);
-    }
+    assert!(rt; accepts_idly(alloc, &mut node, 1)?);
+    assert!(rt; accepts_idly(alloc, &mut node, 2)?);
     assert!(rt; rejects_idly(alloc, &mut node, 3)?);
     let step = rejected(alloc, &mut node, 4)?;
     assert!(rt; is_led(alloc, &step, 3)?);
