@@ -3,7 +3,6 @@ pub mod Crowding
 pub mod Gathered
 pub mod Heard
 pub mod Marked
-pub mod Sizes
 pub mod Walking
 pub mod Weighing
 pub mod Without

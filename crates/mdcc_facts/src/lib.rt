@@ -2,8 +2,6 @@
 #![tactic(auto)]
 
 mod copies;
-mod deltas;
-mod held;
 pub mod list_facts;
 mod live;
 mod load;

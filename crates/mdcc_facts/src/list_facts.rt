@@ -2,8 +2,6 @@
 ghost use Rattle.std.specs.Prelude.{◌≡◌, [], IsOkAnd};
 
 use crate::copies::copy_fact;
-use crate::deltas::{delta_of, executed_if_few, is_crowding, txs_of};
-use crate::held::{base_of, current_of};
 use crate::load::load_at;
 use crate::marks::{entries_at, last_ballot, mark_after, mark_below};
 use crate::promises::{epoch_of, promise_of, promised_through};
@@ -13,6 +11,7 @@ use crate::voted::{count_voted, votes_of};
 use crate::votes::{choice_known, ended_of, heard_of, is_heard, vote_of};
 use crate::{FactStore, StoreFault};
 use mdcc_base::{Ballot, HeapList, Key, Memory, TxId};
+use mdcc_held::{base_of, current_of, delta_of, executed_if_few, is_crowding, txs_of};
 use mdcc_messages::Fact;
 use mdcc_option::{Choice, Delta, Item, Mark, Outcome, Seen, WriteSet};
 use mdcc_protocol::Load;

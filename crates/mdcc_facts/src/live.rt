@@ -4,10 +4,10 @@ ghost use Rattle.mdcc_facts.specs.Walks.{adds_of, is_next, is_not_void, least_fr
 ghost use Rattle.mdcc_protocol.specs.Facts.{delta_given, is_void, live_and_void, live_from, live_mark};
 ghost use Rattle.mdcc_struct.specs.Maps.{value_of};
 
-use crate::deltas::delta_given;
 use crate::next::{is_above, is_lower};
 use crate::votes::ended_of;
 use mdcc_base::{Key, Plain, TxId};
+use mdcc_held::delta_given;
 use mdcc_messages::Fact;
 use mdcc_option::{Choice, Delta, Mark, Outcome, Update};
 use mdcc_struct::Options;

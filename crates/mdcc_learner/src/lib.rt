@@ -5,7 +5,9 @@ mod accepted;
 mod counting;
 mod decided;
 pub mod learner;
+pub mod outcome;
 mod places;
 
 pub use learner::Learner;
 pub use mdcc_protocol::Vote;
+pub use outcome::{LearnedMarks, outcome_of_marks};

@@ -16,12 +16,12 @@ ghost use Rattle.mdcc_protocol.specs.Volatile.{Managing, is_open, manager_closed
 ghost use Rattle.mdcc_messages.specs.declared.facts.Fact.{Fact as AFact};
 
 use crate::begin::parts_begin_fault;
-use crate::marks::{marks_learned, marks_with, outcome_of_marks};
+use crate::marks::{marks_learned, marks_with};
 use crate::opened::{OpenChoices, OpenTransaction, close, close_tx, mark_led, opened_of};
 use crate::ticks::{acts_of, count_tick};
 use mdcc_base::{Centre, Key, Memory, Quorums, TxId};
 use mdcc_facts::FactStore;
-use mdcc_learner::Learner;
+use mdcc_learner::{Learner, outcome_of_marks};
 use mdcc_option::{BeginFault, Cause, Choice, Cluster, Outcome, Transaction};
 use mdcc_protocol::{ManagerAct, Vote};
 use std::alloc::Global;

@@ -3,7 +3,6 @@ pub mod Ending
 pub mod Led
 pub mod Marks
 pub mod Planned
-pub mod Ranges
 pub mod Rooms
 pub mod Standing
 pub mod Ticks

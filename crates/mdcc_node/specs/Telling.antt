@@ -1,5 +1,5 @@
 -- What a step is made of.
-use Rattle.std.specs.Prelude.{Err, List, None, Ok, Option, Result, Some, [], if◌then◌else◌, not, ℕ, ◌==◌, ◌∷◌}
+use Rattle.std.specs.Prelude.{Err, List, None, Ok, Option, Result, Some, [], if◌then◌else◌, ◌∷◌}
 use Rattle.mdcc_base.specs.Ballot.{fast_ballot}
 use Rattle.mdcc_base.specs.declared.key.Key.{Key}
 use Rattle.mdcc_option.specs.declared.choices.Choice.{Choice}
@@ -9,7 +9,6 @@ use Rattle.mdcc_protocol.specs.Marks.{is_accept}
 use Rattle.mdcc_rules.specs.Steps.{heard_by}
 use Rattle.mdcc_messages.specs.declared.facts.Fact.{Fact}
 use Rattle.mdcc_messages.specs.declared.messages.Envelope.{Envelope}
-use Rattle.mdcc_messages.specs.declared.messages.Message.{Message}
 use Rattle.mdcc_rules.specs.declared.node.Answer.{Answer}
 use Rattle.mdcc_rules.specs.declared.node.Step.{Step}
 use Rattle.mdcc_rules.specs.declared.node.StepFault.{StepFault}
@@ -17,10 +16,6 @@ use Rattle.mdcc_rules.specs.declared.node.StepFault.{StepFault}
 -- messages and an answer to a client
 abbrev pub replied : List Envelope → Answer → Step
 replied sends answer = record { fact = None; sends = sends; heard = None; answer = Some answer }
-
--- a message to a centre, where it is another one
-abbrev pub to_other : ℕ → ℕ → Message → List Envelope
-to_other from to message = if not (to == from) then record { from = from; to = to; message = message } ∷ [] else []
 
 -- what is given where the manager refuses to begin: want of memory is no answer
 abbrev pub refused_given : Key → BeginFault → Result Step StepFault

@@ -12,7 +12,6 @@ ghost use Rattle.mdcc_rules.specs.AcceptorRules.{accept_step, accepted_step, pre
 ghost use Rattle.mdcc_rules.specs.Messages.{to_one};
 
 use crate::node::Node;
-use crate::sends::send;
 use crate::steps::{vote_fact, voted_message};
 use crate::votes::{new_marks, send_votes};
 use mdcc_acceptor::{on_accept, on_prepare, on_propose};
@@ -22,6 +21,7 @@ use mdcc_messages::{Envelope, Fact, Message};
 use mdcc_option::{Choice, Mark};
 use mdcc_protocol::{AcceptAnswer, PrepareAnswer, ProposeAnswer};
 use mdcc_rules::Step;
+use mdcc_sends::send;
 use mdcc_struct::Options;
 
 impl<S: FactStore + Drop> Node<S> {

@@ -11,7 +11,6 @@ ghost use Rattle.mdcc_rules.specs.Steps.{step_of_part};
 ghost use Rattle.mdcc_rules.specs.TickRules.{claim_led, manager_act, manager_ticked};
 
 use crate::node::Node;
-use crate::sends::{propose, send, send_lead, send_promised};
 use crate::steps::claim_of;
 use mdcc_base::{Ballot, Centre, HeapList, Key};
 use mdcc_facts::FactStore;
@@ -19,6 +18,7 @@ use mdcc_messages::{Envelope, Message};
 use mdcc_option::{Choice, Claim};
 use mdcc_protocol::{LeadFault, ManagerAct, Promise};
 use mdcc_rules::StepFault;
+use mdcc_sends::{propose, send, send_lead, send_promised};
 
 impl<S: FactStore + Drop> Node<S> {
     // A claim is led here.

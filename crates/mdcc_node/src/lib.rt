@@ -3,14 +3,12 @@
 #![tactic(auto)]
 
 mod acceptor_rules;
-mod belongs;
 pub mod boot;
 pub mod laws;
 mod leader_rules;
 mod manager_rules;
 pub mod node;
 mod recovery_rules;
-mod sends;
 mod steps;
 mod sync_rules;
 mod votes;

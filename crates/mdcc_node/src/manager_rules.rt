@@ -17,7 +17,6 @@ ghost use Rattle.mdcc_rules.specs.SyncRules.{outcome_step};
 ghost use Rattle.mdcc_rules.specs.declared.node.Answer.{Answer as AnAnswer};
 
 use crate::node::Node;
-use crate::sends::{propose_each, send, tell_others};
 use mdcc_base::{Centre, HeapList, Key, Memory, Plain, TxId};
 use mdcc_facts::FactStore;
 use mdcc_manager::key_refused;
@@ -25,6 +24,7 @@ use mdcc_messages::{Envelope, Fact, Message};
 use mdcc_option::{BeginFault, Cause, Outcome, Transaction};
 use mdcc_protocol::{ManagerAct, Vote};
 use mdcc_rules::{Answer, Step, StepFault};
+use mdcc_sends::{propose_each, send, tell_others};
 use mdcc_visible::on_outcome;
 
 impl<S: FactStore + Drop> Node<S> {

@@ -19,7 +19,6 @@ ghost use Rattle.mdcc_rules.specs.Steps.{heard_by};
 ghost use Rattle.mdcc_rules.specs.declared.node.Input.{Input as AInput};
 ghost use Rattle.mdcc_steps.specs.Forming.{accept_length};
 
-use crate::belongs::sender_of;
 use crate::steps::{blank, heard_by};
 use mdcc_base::{Centre, Plain};
 use mdcc_facts::FactStore;
@@ -30,6 +29,7 @@ use mdcc_option::Cluster;
 use mdcc_protocol::{Give, Promise, Vote};
 use mdcc_recover::Recover;
 use mdcc_rules::{Answer, Input, Step, StepFault};
+use mdcc_sends::sender_of;
 use mdcc_visible::read;
 use std::alloc::Global;
 

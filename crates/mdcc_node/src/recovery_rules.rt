@@ -13,12 +13,12 @@ ghost use Rattle.mdcc_rules.specs.Steps.{only_sending, step_of_part};
 ghost use Rattle.mdcc_rules.specs.TickRules.{recovery_act, recovery_ticked, tick_step};
 
 use crate::node::Node;
-use crate::sends::{ask_votes, send};
 use mdcc_base::{HeapList, Key, Memory, TxId};
 use mdcc_facts::FactStore;
 use mdcc_messages::{Envelope, Message};
 use mdcc_protocol::{RecoverAct, Vote};
 use mdcc_rules::{Step, StepFault};
+use mdcc_sends::{ask_votes, send};
 
 impl<S: FactStore + Drop> Node<S> {
     // ---- questions

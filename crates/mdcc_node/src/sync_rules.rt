@@ -6,12 +6,12 @@ ghost use Rattle.mdcc_protocol.specs.Volatile.{Volatile as AVolatile};
 ghost use Rattle.mdcc_rules.specs.SyncRules.{give_sent, sync_give_step};
 
 use crate::node::Node;
-use crate::sends::send;
 use mdcc_base::{HeapList, Key, Memory};
 use mdcc_facts::FactStore;
 use mdcc_messages::{Envelope, Message};
 use mdcc_protocol::Give;
 use mdcc_rules::Step;
+use mdcc_sends::send;
 use mdcc_visible::{on_sync_ask, on_sync_give};
 
 impl<S: FactStore + Drop> Node<S> {

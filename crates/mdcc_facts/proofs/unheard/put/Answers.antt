@@ -4,7 +4,7 @@ use Rattle.mdcc_base.specs.declared.key.Key.{Key}
 use Rattle.mdcc_struct.proofs.Ordered.{place_of-within}
 use Rattle.mdcc_struct.specs.Maps.{value_of}
 use Rattle.mdcc_struct.specs.Places.{place_of}
-use Rattle.mdcc_facts.proofs.Sizes.{with_entry-put}
+use Rattle.mdcc_held.proofs.Sizes.{with_entry-put}
 use Rattle.mdcc_facts.proofs.unheard.put.Goals as goal
 
 pub insert-requires : goal.insert-requires
