@@ -80,7 +80,7 @@ anew-fault cluster me epoch facts leader claim fault low h = pick (nat_le (2 ^ 3
         between n x y = omega (arith, x, y)
     pick false e r g = absurd (cc)
 
-lead-fault : (cluster : Cluster) (me epoch : ℕ) (facts : List Fact) (leader : Leading) (claim : Claim) (fault : LeadFault) → next_round facts leader claim.key claim.version < 2 ^ 32 → lead cluster me epoch facts leader claim ≡ Err fault → ⊥
+pub lead-fault : (cluster : Cluster) (me epoch : ℕ) (facts : List Fact) (leader : Leading) (claim : Claim) (fault : LeadFault) → next_round facts leader claim.key claim.version < 2 ^ 32 → lead cluster me epoch facts leader claim ≡ Err fault → ⊥
 lead-fault cluster me epoch facts leader claim fault low h = pick (nat_lt (current_of facts claim.key) claim.version) (λ g. by_lead (lead_of leader claim.key) g) h
   where
     pick2 : (x y z : Bool) (r s : LeadAnswer × Leading) → cond x (led_anew cluster me epoch facts leader claim) (cond y (Ok r) (cond z (Ok s) (led_anew cluster me epoch facts leader claim))) ≡ Err fault → ⊥

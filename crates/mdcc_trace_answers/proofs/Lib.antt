@@ -6,3 +6,4 @@ pub mod MessagesAreShort
 pub mod Proposing
 pub mod Traces
 pub mod VotesAreFew
+pub mod Ticks

@@ -1,3 +1,4 @@
 pub mod Answered
 pub mod Lengths
 pub mod Proposing
+pub mod Ticks

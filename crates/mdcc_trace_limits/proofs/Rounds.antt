@@ -263,16 +263,13 @@ product t d h = by_half (cases_Bool (nat_le t 25000)) (cases_Bool (nat_le t 5000
     by_half (inr e) (inr f) (inl g) = let a = leb-true t 75000 g in let b = leb-false t 50000 f in room 75000 50256 (omega (arith, a)) (omega (arith, b, h)) (omega arith)
     by_half (inr e) (inr f) (inr g) = let b = leb-false t 75000 g in room 100000 25256 (omega (arith, h)) (omega (arith, b, h)) (omega arith)
 
--- no leader would begin a ballot with a round of 2^32 or more
-pub rounds-low : (built : Built) → built.limit_on_events ≡ true → (cluster : Cluster) → IsCluster cluster → (events : List Event) → (a : ℕ) → is_centre (run_of built (first_world cluster) events).world.cluster a ≡ true → (key : Key) (version : ℕ) →
-    next_round (facts_of (run_of built (first_world cluster) events).world.ledger a) (centre_at (run_of built (first_world cluster) events).world a).volatile.leader key version < 2 ^ 32
-rounds-low built limited cluster is events a here key version =
+-- so all rounds of a trace are within a number that leaves room for those of one more tick
+pub rounds-within : (built : Built) → built.limit_on_events ≡ true → (cluster : Cluster) → IsCluster cluster → (events : List Event) → (key : Key) →
+    IsRoundWorld key 3770100000 (run_of built (first_world cluster) events).world
+rounds-within built limited cluster is events key =
     let c = calm-reached built cluster is events in
-    let w : World = (run_of built (first_world cluster) events).world in
     let p = product c.ticks c.others (few c.ticks c.others _ c.within (c.few limited)) in
-    let l = (c.is.rounds key).leaders a here in
-    next (promise_of (facts_of w.ledger a) key version).round (number_at (centre_at w a).volatile.leader.refused_rounds key) (number_at (centre_at w a).volatile.leader.last_rounds key) (most_rounds c.ticks c.others)
-    ((c.is.rounds key).facts a version) l.refused l.last (bound c.ticks c.others p (few c.ticks c.others _ c.within (c.few limited)))
+    world-more key (most_rounds c.ticks c.others) 3770100000 (run_of built (first_world cluster) events).world (bound c.ticks c.others p (few c.ticks c.others _ c.within (c.few limited))) (c.is.rounds key)
   where
     few : (t d n : ℕ) → t + d + 0 ≤ n → n ≤ 100000 → t + d ≤ 100000
     few t d n h g = omega (arith, h, g)
@@ -280,5 +277,15 @@ rounds-low built limited cluster is events a here key version =
     bound : (t d : ℕ) → t * (256 + d) ≤ 3770000000 → t + d ≤ 100000 → most_rounds t d ≤ 3770100000
     bound t d h g = omega (arith, h, g)
 
+-- no leader would begin a ballot with a round of 2^32 or more
+pub rounds-low : (built : Built) → built.limit_on_events ≡ true → (cluster : Cluster) → IsCluster cluster → (events : List Event) → (a : ℕ) → is_centre (run_of built (first_world cluster) events).world.cluster a ≡ true → (key : Key) (version : ℕ) →
+    next_round (facts_of (run_of built (first_world cluster) events).world.ledger a) (centre_at (run_of built (first_world cluster) events).world a).volatile.leader key version < 2 ^ 32
+rounds-low built limited cluster is events a here key version =
+    let w : World = (run_of built (first_world cluster) events).world in
+    let r = rounds-within built limited cluster is events key in
+    let l = r.leaders a here in
+    next (promise_of (facts_of w.ledger a) key version).round (number_at (centre_at w a).volatile.leader.refused_rounds key) (number_at (centre_at w a).volatile.leader.last_rounds key) 3770100000
+    (r.facts a version) l.refused l.last (omega arith)
+  where
     next : (x y z r : ℕ) → x ≤ r → y ≤ r → z ≤ r → r ≤ 3770100000 → 1 + max x (max y z) < 2 ^ 32
     next x y z r a b c h = omega (arith, a, b, c, h)
