@@ -1,12 +1,12 @@
-mod Lists
-mod Elsewhere
-mod Examples
-mod Apart
-mod Counting
-mod Deciding
-mod Delivering
-mod Proposing
-mod Answering
-mod Trips
-mod Worlds
-mod Refusals
+pub mod Lists
+pub mod Elsewhere
+pub mod Examples
+pub mod Apart
+pub mod Counting
+pub mod Deciding
+pub mod Delivering
+pub mod Proposing
+pub mod Answering
+pub mod Trips
+pub mod Worlds
+pub mod Refusals

@@ -1,0 +1,4 @@
+pub mod States
+pub mod Opened
+pub mod FastPaths
+pub mod Accepting
