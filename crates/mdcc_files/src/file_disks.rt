@@ -1,0 +1,149 @@
+//! Disks over files.
+ghost use Rattle.std.specs.Prelude.{◌≡◌, ◌≤◌, ◌<◌, length, IfSome};
+ghost use Rattle.mdcc_base.specs.Causes.{Rose};
+ghost use Rattle.mdcc_files.specs.Unspecified.{fault_at, unspecified_disk, Any, AnySince, one_moment, AnyByte, KeepsFaults};
+
+use mdcc_base::Failed;
+use mdcc_disks::Disks;
+use std::alloc::Global;
+use std::fs::{File, Files, OpenOptions};
+use std::io;
+use std::os::unix::fs::FileExt;
+
+#[derive(Drop)]
+struct OpenLog {
+    place: u8,
+    file: File,
+}
+
+/// The files `mdcc-K.log` of the present folder, K from 1 to 9. The first call at a disk opens its file, creates it where it
+/// is not there, and takes an exclusive lock of it (flock(2)), which ends with this object or its process. Where another has
+/// the lock, a call fails and the file stays as it is. What a file contains after a crash is the system's promise alone.
+#[derive(Drop)]
+pub struct FileDisks<'a, R: Files<File = File>> {
+    alloc: Global,
+    files: &'a R,
+    logs: Vec<OpenLog>,
+    faults: [u64; 10],
+}
+
+// Opens and locks a file, and creates it where it is not there. The folder is synced at each opening, so that its name is
+// durable also where another created the file and died before it had synced the folder.
+fn open_locked<R: Files<File = File>>(files: &R, name: &str) -> io::Result<File> {
+    let file = OpenOptions::new()
+        .read(true)
+        .write(true)
+        .create(true)
+        .open(files, name)?;
+    file.try_lock()?;
+    File::open(files, ".")?.sync_all()?;
+    Ok(file)
+}
+
+impl<'a, R: Files<File = File>> FileDisks<'a, R> {
+    /// No file is open yet.
+    pub fn new(alloc: Global, files: &'a R) -> Self {
+        FileDisks {
+            alloc,
+            files,
+            logs: Vec::new(alloc),
+            faults: [0; 10],
+        }
+    }
+
+    // Counts a fault. A disk past 9 has no count.
+    fn fail(&mut self, place: u8) -> Failed
+        ensures rose { Rose (fault_at self.old.faults place) (fault_at self.new.faults place) }
+        ensures later { fault_at self.old.faults place ≤ fault_at self.new.faults place }
+        ensures others { KeepsFaults place self.old.faults self.new.faults }
+    {
+        let index = place as usize;
+        if index < self.faults.len() {
+            self.faults[index] = self.faults[index].saturating_add(1);
+        }
+        Failed
+    }
+
+    // The index of the open file of a disk.
+    fn opened(&mut self, place: u8) -> Option<usize>
+        ensures faults { self.new.faults ≡ self.old.faults }
+        ensures found { IfSome result (λ i. i < length self.new.logs.items) }
+    {
+        if let Some(index) = self.logs.iter().position(|log| log.place == place) {
+            return Some(index);
+        }
+        if place == 0 || place > 9 {
+            return None;
+        }
+        let name = format!(in self.alloc; "mdcc-{place}.log").ok()?;
+        let file = open_locked(self.files, name.as_str()).ok()?;
+        self.logs.push(OpenLog { place, file }).ok()?;
+        Some(self.logs.len() - 1)
+    }
+}
+
+impl<'a, R: Files<File = File>> Disks for FileDisks<'a, R> {
+    ghost disk = { λ disks. unspecified_disk disks.faults };
+
+    ghost may_leave = { Any };
+
+    ghost tears = { AnyByte };
+
+    ghost moment = { one_moment };
+
+    ghost left_since = { AnySince };
+
+    ghost counts_now = { λ disks p t c _ _. tt };
+
+    ghost only_now = { λ disks p c _. tt };
+
+    ghost as_read = { λ disks p _. tt };
+
+    fn length(&mut self, place: u8) -> Result<u64, Failed> {
+        if let Some(index) = self.opened(place) {
+            if let Ok(metadata) = self.logs[index].file.metadata() {
+                return Ok(metadata.len());
+            }
+        }
+        Err(self.fail(place))
+    }
+
+    fn read(&mut self, place: u8, offset: u64, into: &mut [u8]) -> Result<usize, Failed> {
+        if let Some(index) = self.opened(place) {
+            if let Ok(count) = self.logs[index].file.read_at(into, offset) {
+                // At or past the end there is nothing to read.
+                if count > 0 || into.is_empty() {
+                    return Ok(count);
+                }
+            }
+        }
+        Err(self.fail(place))
+    }
+
+    fn write_at(&mut self, place: u8, offset: u64, bytes: &[u8]) -> Result<(), Failed> {
+        if let Some(index) = self.opened(place) {
+            if self.logs[index].file.write_all_at(bytes, offset).is_ok() {
+                return Ok(());
+            }
+        }
+        Err(self.fail(place))
+    }
+
+    fn cut(&mut self, place: u8, size: u64) -> Result<(), Failed> {
+        if let Some(index) = self.opened(place) {
+            if self.logs[index].file.set_len(size).is_ok() {
+                return Ok(());
+            }
+        }
+        Err(self.fail(place))
+    }
+
+    fn sync(&mut self, place: u8) -> Result<(), Failed> {
+        if let Some(index) = self.opened(place) {
+            if self.logs[index].file.sync_data().is_ok() {
+                return Ok(());
+            }
+        }
+        Err(self.fail(place))
+    }
+}

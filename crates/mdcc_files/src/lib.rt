@@ -1,0 +1,6 @@
+//! The logs of centres as files, each locked for one process.
+#![tactic(auto)]
+
+pub mod file_disks;
+
+pub use file_disks::FileDisks;

@@ -1,0 +1,5 @@
+//! Tests of files, sockets and links in memory.
+#![tactic(auto)]
+
+#[cfg(test)]
+mod files;
