@@ -1,0 +1,5 @@
+pub mod Chains
+pub mod Held
+pub mod Pool
+pub mod Reading
+pub mod Sizes
