@@ -1,0 +1,13 @@
+pub mod Chosen
+pub mod Covered
+pub mod Deltas
+pub mod Folded
+pub mod Ignored
+pub mod Joined
+pub mod Loads
+pub mod New
+pub mod Once
+pub mod Sorted
+pub mod Unheard
+pub mod Versions
+pub mod Walked

@@ -1,0 +1,8 @@
+use Rattle.mdcc_fact_folds.proofs.Deltas.{crowding-chains, next-counted}
+use Rattle.mdcc_fact_folds.proofs.held.would_crowd.Goals as goal
+
+pub returns-clause-chains : goal.returns-clause-chains
+returns-clause-chains c = crowding-chains
+
+pub returns-clause-counted : goal.returns-clause-counted
+returns-clause-counted c = next-counted

@@ -1,0 +1,8 @@
+use Rattle.mdcc_fact_folds.proofs.Joined.{after-chain, place-chain}
+use Rattle.mdcc_fact_folds.proofs.votes.marks.Goals as goal
+
+pub returns-clause-after : goal.returns-clause-after
+returns-clause-after c = after-chain
+
+pub returns-clause-place : goal.returns-clause-place
+returns-clause-place c = place-chain

@@ -1,0 +1,111 @@
+-- What is held at a key: two values that each further fact changes, and the deltas of a version in one walk of its chain.
+use Rattle.std.specs.List.{fold, list_any}
+use Rattle.std.specs.Option.{option_or}
+use Rattle.std.specs.Prelude.{◌≡◌, Bool, List, None, Option, [], false, filter, if◌then◌else◌, length, max, nat_lt, option_map, ℕ, ◌+◌, ◌∷◌}
+use Rattle.mdcc_base.specs.declared.identifiers.TxId.{TxId}
+use Rattle.mdcc_base.specs.declared.key.Key.{Key}
+use Rattle.mdcc_option.specs.declared.items.Delta.{Delta}
+use Rattle.mdcc_option.specs.declared.items.Item.{Item}
+use Rattle.mdcc_struct.specs.Maps.{TxMap, union, value_of}
+use Rattle.mdcc_protocol.specs.Facts.{base_from, base_of, current_of, deltas_at, deltas_from, executed_of, version_from}
+use Rattle.mdcc_protocol.specs.Marks.{Amounts}
+use Rattle.mdcc_protocol.specs.News.{is_crowding, keys_in}
+use Rattle.mdcc_protocol.specs.Stores.{delta_of}
+use Rattle.mdcc_messages.specs.declared.facts.Fact.{Fact}
+use Rattle.mdcc_fact_folds.specs.Chains.{Covers, is_delta_in, is_version_of}
+use Rattle.mdcc_fact_folds.specs.New.{new_entries}
+
+-- ---- what stands at a key
+
+-- the version that is held, and its base
+abbrev pub held_of : List Fact → Key → ℕ × Option Item
+held_of facts key = (current_of facts key, base_of facts key)
+
+-- with one more fact: the fact that gives a higher version gives its base, and no other fact changes either
+abbrev pub next_held : Key → Fact → ℕ × Option Item → ℕ × Option Item
+next_held key fact held =
+    let version = version_from key fact in
+    if nat_lt held.0 version then (version, base_from key version fact) else held
+
+abbrev pub HeldStands : Type 0
+HeldStands = (key : Key) (facts : List Fact) (fact : Fact) → held_of (fact ∷ facts) key ≡ next_held key fact (held_of facts key)
+
+abbrev pub HeldInChain : Type 0
+HeldInChain =
+    (keep : Fact → Bool) (key : Key) → Covers keep (is_version_of key)
+    → (facts : List Fact) → held_of facts key ≡ held_of (filter keep facts) key
+
+-- a fact that gives a key no version changes nothing that is held there
+abbrev pub HeldElsewhere : Type 0
+HeldElsewhere = (key : Key) (facts : List Fact) (fact : Fact) → is_version_of key fact ≡ false → held_of (fact ∷ facts) key ≡ held_of facts key
+
+-- ---- deltas
+
+-- the deltas of a fact, and beside them those that are later
+abbrev pub with_older_deltas : Key → ℕ → TxMap Amounts → Fact → TxMap Amounts
+with_older_deltas key version later fact = union (union [] (deltas_from key version fact)) later
+
+-- an older delta of the transaction counts before a later one
+abbrev pub older_amounts : Key → ℕ → TxId → Option Amounts → Fact → Option Amounts
+older_amounts key version tx later fact = option_or (value_of (deltas_from key version fact) tx) later
+
+abbrev pub DeltasInChain : Type 0
+DeltasInChain =
+    (keep : Fact → Bool) (key : Key) (version : ℕ) → Covers keep (is_delta_in key version)
+    → (facts : List Fact) → deltas_at facts key version ≡ deltas_at (filter keep facts) key version
+
+abbrev pub DeltasByWalk : Type 0
+DeltasByWalk =
+    (keep : Fact → Bool) (key : Key) (version : ℕ) → Covers keep (is_delta_in key version)
+    → (facts : List Fact) → deltas_at facts key version ≡ fold (with_older_deltas key version) [] (filter keep facts)
+
+-- the chain is that of the version held
+abbrev pub ExecutedInChain : Type 0
+ExecutedInChain =
+    (keep : Fact → Bool) (key : Key) (facts : List Fact) → Covers keep (is_delta_in key (current_of facts key))
+    → executed_of facts key ≡ deltas_at (filter keep facts) key (current_of facts key)
+
+abbrev pub delta_by : TxId → Amounts → Delta
+delta_by tx amounts = record { tx = tx; amounts = amounts }
+
+abbrev pub DeltaByWalk : Type 0
+DeltaByWalk =
+    (keep : Fact → Bool) (key : Key) (tx : TxId) (facts : List Fact) → Covers keep (is_delta_in key (current_of facts key))
+    → delta_of facts key tx ≡ option_map (delta_by tx) (fold (older_amounts key (current_of facts key) tx) None (filter keep facts))
+
+-- the deltas of a fact that no older fact of the chain has
+abbrev pub first_deltas : List Fact → Key → ℕ → Fact → TxMap Amounts
+first_deltas older key version fact = new_entries (deltas_at older key version) (deltas_from key version fact)
+
+-- how many deltas a version has, from the newest fact of the chain to the oldest
+abbrev pub deltas_walk : Key → ℕ → ℕ → List Fact → ℕ
+deltas_walk key version count [] = count
+deltas_walk key version count (fact ∷ older) = deltas_walk key version (count + length (first_deltas older key version fact)) older
+
+abbrev pub DeltasCounted : Type 0
+DeltasCounted =
+    (keep : Fact → Bool) (key : Key) (version : ℕ) → Covers keep (is_delta_in key version)
+    → (facts : List Fact) → length (deltas_at facts key version) ≡ deltas_walk key version 0 (filter keep facts)
+
+-- ---- crowding
+
+-- the version that is held with one more fact
+abbrev pub next_version_of : List Fact → Key → Fact → ℕ
+next_version_of facts key fact = max (current_of facts key) (version_from key fact)
+
+-- the deltas that are executed with one more fact, from the chain of the version that is held then
+abbrev pub next_executed : List Fact → Key → ℕ → Fact → TxMap Amounts
+next_executed chain key version fact = union (deltas_at chain key version) (deltas_from key version fact)
+
+-- one chain for each key of the fact
+abbrev pub CrowdingByChains : Type 0
+CrowdingByChains =
+    (keep : Key → ℕ → Fact → Bool) → ((key : Key) (version : ℕ) → Covers (keep key version) (is_delta_in key version))
+    → (facts : List Fact) (fact : Fact)
+    → is_crowding facts fact ≡ list_any (λ key. nat_lt 64 (length (next_executed (filter (keep key (next_version_of facts key fact)) facts) key (next_version_of facts key fact) fact))) (keys_in fact)
+
+-- so many as before, and those that are new
+abbrev pub NextDeltasCounted : Type 0
+NextDeltasCounted =
+    (chain : List Fact) (key : Key) (version : ℕ) (fact : Fact)
+    → length (next_executed chain key version fact) ≡ length (deltas_at chain key version) + length (first_deltas chain key version fact)

@@ -1,0 +1,55 @@
+-- The transactions that are not resolved: a list in order that each further fact changes, and a table of write sets.
+use Rattle.std.specs.List.{fold}
+use Rattle.std.specs.Option.{option_or}
+use Rattle.std.specs.Prelude.{◌≡◌, Bool, List, None, Option, filter, if◌then◌else◌, is_some, not, true, ℕ, ◌∷◌}
+use Rattle.mdcc_base.specs.TxId.{tx_eq}
+use Rattle.mdcc_base.specs.declared.identifiers.TxId.{TxId}
+use Rattle.mdcc_base.specs.declared.key.Key.{Key}
+use Rattle.mdcc_struct.specs.Maps.{TxMap, are_ascending, value_of, with_entry}
+use Rattle.mdcc_protocol.specs.Facts.{is_heard, unresolved_of, write_sets_from, write_sets_of}
+use Rattle.mdcc_messages.specs.declared.facts.Fact.{Fact}
+use Rattle.mdcc_fact_folds.specs.Chains.{Covers}
+
+-- without the entry of a transaction
+abbrev pub without : {X : Type 0} → TxId → TxMap X → TxMap X
+without tx m = filter (λ e. not (tx_eq e.0 tx)) m
+
+-- with the entry of a transaction that was not heard
+abbrev pub with_unheard : {X : Type 0} → List Fact → TxMap X → TxId × X → TxMap X
+with_unheard facts m e = if is_heard facts e.0 then m else with_entry m e
+
+-- with one more fact: an outcome takes its transaction out, and a vote puts in those of its choices that were not heard
+abbrev pub next_unresolved : List Fact → TxMap (List (Key × ℕ)) → Fact → TxMap (List (Key × ℕ))
+next_unresolved facts m (Fact.Heard tx outcome) = without tx m
+next_unresolved facts m fact = fold (with_unheard facts) m (write_sets_from fact)
+
+abbrev pub UnresolvedStands : Type 0
+UnresolvedStands = (facts : List Fact) (fact : Fact) → unresolved_of (fact ∷ facts) ≡ next_unresolved facts (unresolved_of facts) fact
+
+abbrev pub UnresolvedAscends : Type 0
+UnresolvedAscends = (facts : List Fact) → are_ascending (unresolved_of facts) ≡ true
+
+-- holds a choice of the transaction, accepted or offered
+abbrev pub is_choice_of : TxId → Fact → Bool
+is_choice_of tx fact = is_some (value_of (write_sets_from fact) tx)
+
+-- an older write set counts before a later one
+abbrev pub older_write_set : TxId → Option (List (Key × ℕ)) → Fact → Option (List (Key × ℕ))
+older_write_set tx later fact = option_or (value_of (write_sets_from fact) tx) later
+
+-- a table that has the first write set of each transaction, with one more fact
+abbrev pub WriteSetStands : Type 0
+WriteSetStands =
+    (facts : List Fact) (fact : Fact) (tx : TxId)
+    → value_of (write_sets_of (fact ∷ facts)) tx ≡ option_or (value_of (write_sets_of facts) tx) (value_of (write_sets_from fact) tx)
+
+-- the write set of a transaction that is not resolved stands in that table
+abbrev pub WriteSetUnheard : Type 0
+WriteSetUnheard =
+    (facts : List Fact) (tx : TxId)
+    → value_of (unresolved_of facts) tx ≡ (if is_heard facts tx then None else value_of (write_sets_of facts) tx)
+
+abbrev pub WriteSetByWalk : Type 0
+WriteSetByWalk =
+    (keep : Fact → Bool) (tx : TxId) → Covers keep (is_choice_of tx)
+    → (facts : List Fact) → value_of (write_sets_of facts) tx ≡ fold (older_write_set tx) None (filter keep facts)

@@ -1,0 +1,32 @@
+//! What is held at a key.
+ghost use Rattle.mdcc_fact_folds.specs.Held.{CrowdingByChains, DeltaByWalk, DeltasByWalk, DeltasCounted, DeltasInChain, ExecutedInChain};
+ghost use Rattle.mdcc_fact_folds.specs.Held.{HeldElsewhere, HeldInChain, HeldStands, NextDeltasCounted};
+
+/// The version that is held and its base stand as two values at the key: the fact that raises the
+/// version brings the base.
+pub fn held()
+    ensures stands { HeldStands }
+    ensures elsewhere { HeldElsewhere }
+    ensures chain { HeldInChain }
+{}
+
+/// The deltas of a version come from the chain of its instance, where an older delta counts before a
+/// later one.
+pub fn deltas()
+    ensures chain { DeltasInChain }
+    ensures walk { DeltasByWalk }
+    ensures counted { DeltasCounted }
+{}
+
+/// The executed deltas come from the chain of the version that is held.
+pub fn executed()
+    ensures chain { ExecutedInChain }
+    ensures delta { DeltaByWalk }
+{}
+
+/// Whether a fact crowds a key is seen from the chain of the version that is held with it: it has the
+/// deltas that were there, and those of the fact that are new.
+pub fn would_crowd()
+    ensures chains { CrowdingByChains }
+    ensures counted { NextDeltasCounted }
+{}
