@@ -41,7 +41,7 @@ no_deltas key version (Fact.Heard t Outcome.Abort) h = refl
 no_deltas key version (Fact.Heard t (Outcome.Commit choices)) h = no_given key version choices h
 no_deltas key version (Fact.Adopted k u item adds) h = rw h refl
 
-deltas-joined : (key : Key) (version : ℕ) (facts : List Fact) → deltas_at facts key version ≡ joined (deltas_from key version) facts
+pub deltas-joined : (key : Key) (version : ℕ) (facts : List Fact) → deltas_at facts key version ≡ joined (deltas_from key version) facts
 deltas-joined key version [] = refl
 deltas-joined key version (fact ∷ facts) = ap (λ m. union m (deltas_from key version fact)) (deltas-joined key version facts)
 

@@ -36,7 +36,7 @@ joined brings (fact ∷ facts) = union (joined brings facts) (brings fact)
 abbrev pub with_older_entries : {X : Type 0} → (Fact → TxMap X) → TxMap X → Fact → TxMap X
 with_older_entries brings later fact = union (union [] (brings fact)) later
 
-some-either : {X : Type 0} (a b : Option X) → is_some (option_or a b) ≡ (is_some b || is_some a)
+pub some-either : {X : Type 0} (a b : Option X) → is_some (option_or a b) ≡ (is_some b || is_some a)
 some-either None None = refl
 some-either None (Some y) = refl
 some-either (Some x) None = refl
@@ -94,7 +94,7 @@ module _ {X : Type 0} (brings : Fact → TxMap X) where
       ∙ gathered-walk option_or None (λ fact. value_of (brings fact) tx) or_left or_right or_assoc keep
       (λ fact left. ap (λ m. value_of m tx) (ignores fact left)) facts
 
-  found-any : (tx : TxId) (facts : List Fact) → is_some (value_of (joined brings facts) tx) ≡ list_any (λ fact. is_some (value_of (brings fact) tx)) facts
+  pub found-any : (tx : TxId) (facts : List Fact) → is_some (value_of (joined brings facts) tx) ≡ list_any (λ fact. is_some (value_of (brings fact) tx)) facts
   found-any tx [] = refl
   found-any tx (fact ∷ facts) =
       ap (λ o. is_some o) (value_of-union (joined brings facts) (brings fact) tx)

@@ -4,9 +4,11 @@ pub mod Deltas
 pub mod Folded
 pub mod Ignored
 pub mod Joined
+pub mod Kept
 pub mod Loads
 pub mod New
 pub mod Once
+pub mod Present
 pub mod Sorted
 pub mod Unheard
 pub mod Versions

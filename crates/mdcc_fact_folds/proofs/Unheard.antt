@@ -1,8 +1,10 @@
 -- The transactions that are not resolved, with one more fact.
-use Rattle.std.proofs.Common.{◌≡◌, Bool, true, false, List, [], ◌∷◌, Option, Some, None, is_some, refl, sym, ap, ◌∙◌, inl, inr, fold}
+use Rattle.mdcc_base.specs.declared.key.Key.{Key}
+use Rattle.std.proofs.Common.{◌≡◌, Bool, true, false, List, [], ◌∷◌, Option, Some, None, is_some, refl, sym, ap, ◌∙◌, inl, inr, fold, ℕ}
+use Rattle.std.specs.List.{list_all}
 use Rattle.std.specs.Option.{option_or}
 use Rattle.std.specs.Prelude.{filter, if◌then◌else◌, not}
-use Rattle.std.proofs.lemmas.Bool.{cases_Bool}
+use Rattle.std.proofs.lemmas.Bool.{and_parts, cases_Bool}
 use Rattle.mdcc_base.specs.TxId.{tx_eq}
 use Rattle.mdcc_base.specs.declared.identifiers.TxId.{TxId}
 use Rattle.mdcc_option.specs.declared.choices.Outcome.{Outcome}
@@ -13,7 +15,7 @@ use Rattle.mdcc_struct.proofs.Values.{entry_value, value_of-union, value_of-with
 use Rattle.mdcc_struct.proofs.Walks.{ascending-filter, ascending-union, ascending-with_entry}
 use Rattle.mdcc_protocol.specs.Facts.{heard_of, is_heard, outcome_in, unresolved_of, write_sets_from, write_sets_of}
 use Rattle.mdcc_messages.specs.declared.facts.Fact.{Fact}
-use Rattle.mdcc_fact_folds.specs.Unresolved.{UnresolvedAscends, UnresolvedStands, WriteSetByWalk, WriteSetStands, WriteSetUnheard, is_choice_of, with_unheard, without}
+use Rattle.mdcc_fact_folds.specs.Unresolved.{OutcomeOfUnknown, UnresolvedAscends, UnresolvedStands, VoteOfKnown, WriteSetByWalk, WriteSetStands, WriteSetUnheard, is_choice_of, with_unheard, without}
 use Rattle.mdcc_fact_folds.proofs.Chosen.{or_assoc, or_left, or_right}
 use Rattle.mdcc_fact_folds.proofs.Folded.{gathered, gathered-walk}
 use Rattle.mdcc_fact_folds.proofs.Ignored.{left_out}
@@ -185,3 +187,44 @@ write_set-walk keep tx covers facts =
     write_set-gathered tx facts
     ∙ gathered-walk option_or None (λ fact. value_of (write_sets_from fact) tx) or_left or_right or_assoc keep
     (λ fact left. none-found (value_of (write_sets_from fact) tx) (left_out keep (is_choice_of tx) covers fact left)) facts
+
+-- ---- facts that change nothing
+
+known-entry : (facts : List Fact) (e : TxId × List (Key × ℕ)) → is_some (value_of (write_sets_of facts) e.0) ≡ true
+    → with_unheard facts (unresolved_of facts) e ≡ unresolved_of facts
+known-entry facts e known =
+    elim (cases_Bool (is_heard facts e.0)) [
+      | inl heard ↦ rw heard refl
+      | inr unheard ↦
+          let there : is_some (value_of (unresolved_of facts) e.0) ≡ true =
+          ap (λ o. is_some o) (unresolved-value facts e.0) ∙ rw unheard known in
+          rw (unheard, there) refl
+    ]
+
+known-entries : (facts : List Fact) (es : TxMap (List (Key × ℕ))) → list_all (λ e. is_some (value_of (write_sets_of facts) e.0)) es ≡ true
+    → fold (with_unheard facts) (unresolved_of facts) es ≡ unresolved_of facts
+known-entries facts [] known = refl
+known-entries facts (e ∷ es) known =
+    let parts = and_parts (is_some (value_of (write_sets_of facts) e.0)) (list_all (λ e. is_some (value_of (write_sets_of facts) e.0)) es) known in
+    ap (λ m. fold (with_unheard facts) m es) (known-entry facts e parts.0) ∙ known-entries facts es parts.1
+
+pub vote-known : VoteOfKnown
+vote-known facts fact known = known-entries facts (write_sets_from fact) known
+
+-- without an entry that is not there
+without-none : {X : Type 0} (m : TxMap X) (tx : TxId) → is_some (value_of m tx) ≡ false → without tx m ≡ m
+without-none [] tx none = refl
+without-none (e ∷ es) tx none =
+    elim (cases_Bool (tx_eq e.0 tx)) [
+      | inl same ↦ absurd (let bad : true ≡ false = rw same at none in cc)
+      | inr other ↦ rw other (ap (λ xs. e ∷ xs) (without-none es tx (rw other at none)))
+    ]
+
+kept-none : {X : Type 0} (keep : Bool) (o : Option X) → is_some o ≡ false → is_some (kept_value keep o) ≡ false
+kept-none true o h = h
+kept-none false o h = refl
+
+pub outcome-unknown : OutcomeOfUnknown
+outcome-unknown facts tx none =
+    without-none (unresolved_of facts) tx
+    (ap (λ o. is_some o) (unresolved-value facts tx) ∙ kept-none (not (is_heard facts tx)) (value_of (write_sets_of facts) tx) none)

@@ -6,7 +6,7 @@ use Rattle.mdcc_base.specs.declared.identifiers.TxId.{TxId}
 use Rattle.mdcc_base.specs.declared.key.Key.{Key}
 use Rattle.mdcc_option.specs.declared.items.Delta.{Delta}
 use Rattle.mdcc_option.specs.declared.items.Item.{Item}
-use Rattle.mdcc_struct.specs.Maps.{TxMap, union, value_of}
+use Rattle.mdcc_struct.specs.Maps.{TxMap, txs_of, union, value_of}
 use Rattle.mdcc_protocol.specs.Facts.{base_from, base_of, current_of, deltas_at, deltas_from, executed_of, version_from}
 use Rattle.mdcc_protocol.specs.Marks.{Amounts}
 use Rattle.mdcc_protocol.specs.News.{is_crowding, keys_in}
@@ -72,6 +72,16 @@ abbrev pub DeltaByWalk : Type 0
 DeltaByWalk =
     (keep : Fact → Bool) (key : Key) (tx : TxId) (facts : List Fact) → Covers keep (is_delta_in key (current_of facts key))
     → delta_of facts key tx ≡ option_map (delta_by tx) (fold (older_amounts key (current_of facts key) tx) None (filter keep facts))
+
+-- the deltas so far, and beside them those of the fact
+abbrev pub with_deltas : Key → ℕ → TxMap Amounts → Fact → TxMap Amounts
+with_deltas key version later fact = union later (deltas_from key version fact)
+
+-- which transactions there are does not depend on the order
+abbrev pub ExecutedByJoin : Type 0
+ExecutedByJoin =
+    (keep : Fact → Bool) (key : Key) (version : ℕ) → Covers keep (is_delta_in key version)
+    → (facts : List Fact) → txs_of (deltas_at facts key version) ≡ txs_of (fold (with_deltas key version) [] (filter keep facts))
 
 -- the deltas of a fact that no older fact of the chain has
 abbrev pub first_deltas : List Fact → Key → ℕ → Fact → TxMap Amounts

@@ -1,3 +1,4 @@
+pub mod Added
 pub mod Chains
 pub mod Held
 pub mod Live

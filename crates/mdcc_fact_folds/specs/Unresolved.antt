@@ -1,7 +1,7 @@
 -- The transactions that are not resolved: a list in order that each further fact changes, and a table of write sets.
-use Rattle.std.specs.List.{fold}
+use Rattle.std.specs.List.{fold, list_all}
 use Rattle.std.specs.Option.{option_or}
-use Rattle.std.specs.Prelude.{◌≡◌, Bool, List, None, Option, filter, if◌then◌else◌, is_some, not, true, ℕ, ◌∷◌}
+use Rattle.std.specs.Prelude.{◌≡◌, Bool, List, None, Option, false, filter, if◌then◌else◌, is_some, not, true, ℕ, ◌∷◌}
 use Rattle.mdcc_base.specs.TxId.{tx_eq}
 use Rattle.mdcc_base.specs.declared.identifiers.TxId.{TxId}
 use Rattle.mdcc_base.specs.declared.key.Key.{Key}
@@ -53,3 +53,17 @@ abbrev pub WriteSetByWalk : Type 0
 WriteSetByWalk =
     (keep : Fact → Bool) (tx : TxId) → Covers keep (is_choice_of tx)
     → (facts : List Fact) → value_of (write_sets_of facts) tx ≡ fold (older_write_set tx) None (filter keep facts)
+
+-- ---- facts that change nothing
+
+-- a vote of whose choices all transactions stand in the table already
+abbrev pub VoteOfKnown : Type 0
+VoteOfKnown =
+    (facts : List Fact) (fact : Fact) → list_all (λ e. is_some (value_of (write_sets_of facts) e.0)) (write_sets_from fact) ≡ true
+    → fold (with_unheard facts) (unresolved_of facts) (write_sets_from fact) ≡ unresolved_of facts
+
+-- an outcome of a transaction that does not stand there
+abbrev pub OutcomeOfUnknown : Type 0
+OutcomeOfUnknown =
+    (facts : List Fact) (tx : TxId) → is_some (value_of (write_sets_of facts) tx) ≡ false
+    → without tx (unresolved_of facts) ≡ unresolved_of facts

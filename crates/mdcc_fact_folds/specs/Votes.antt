@@ -1,8 +1,8 @@
 -- The votes of an instance, in one walk of its chain from the newest fact to the oldest.
 use Rattle.std.specs.List.{fold, list_any}
-use Rattle.std.specs.Option.{option_or}
-use Rattle.std.specs.Prelude.{◌≡◌, Bool, List, None, Option, [], filter, is_some, true, ℕ}
-use Rattle.mdcc_base.specs.Ballot.{ballot_max, fast_ballot}
+use Rattle.std.specs.Option.{option_and_then, option_map, option_or}
+use Rattle.std.specs.Prelude.{◌≡◌, Bool, List, None, Option, [], filter, if◌then◌else◌, is_some, true, ℕ}
+use Rattle.mdcc_base.specs.Ballot.{ballot_max, fast_ballot, is_fast}
 use Rattle.mdcc_base.specs.declared.identifiers.Ballot.{Ballot}
 use Rattle.mdcc_base.specs.declared.identifiers.TxId.{TxId}
 use Rattle.mdcc_base.specs.declared.key.Key.{Key}
@@ -14,6 +14,7 @@ use Rattle.mdcc_protocol.specs.Facts.{ballot_voted, choice_known, choice_voted, 
 use Rattle.mdcc_messages.specs.declared.facts.Fact.{Fact}
 use Rattle.mdcc_protocol.specs.Stores.{mark_after, mark_below}
 use Rattle.mdcc_facts.specs.Listed.{are_voted_once}
+use Rattle.mdcc_facts.specs.Walks.{each_kept, is_next, least_from}
 use Rattle.mdcc_fact_folds.specs.Chains.{Covers, is_vote_in}
 
 -- of an older vote and a later one the later counts where its ballot is greater
@@ -115,3 +116,20 @@ abbrev pub MarkBelowInChain : Type 0
 MarkBelowInChain =
     (keep : Fact → Bool) (key : Key) (version : ℕ) (below : Ballot) (place : ℕ) → Covers keep (is_vote_in key version)
     → (facts : List Fact) → mark_below facts key version below place ≡ mark_below (filter keep facts) key version below place
+
+-- the least transaction above the last one that the fact votes on at a ballot, or that was found before
+abbrev pub least_above : Key → ℕ → Ballot → Option TxId → Option TxId → Fact → Option TxId
+least_above key version ballot last found fact = least_from (is_next each_kept last) found (marks_voted key version ballot fact)
+
+-- a walk for the ballot, one for the transaction, and one for its mark
+abbrev pub mark_walks : Key → ℕ → Ballot → Option TxId → List Fact → Option (Ballot × TxId × Mark)
+mark_walks key version below last chain =
+    let ballot = fold (with_ballot key version below) fast_ballot chain in
+    option_and_then (λ tx. option_map (λ mark. (ballot, tx, mark)) (fold (older_mark key version ballot tx) None chain))
+    (fold (least_above key version ballot last) None chain)
+
+-- below the fast ballot there is none
+abbrev pub MarkAfterByWalks : Type 0
+MarkAfterByWalks =
+    (keep : Fact → Bool) (key : Key) (version : ℕ) (below : Ballot) (last : Option TxId) → Covers keep (is_vote_in key version)
+    → (facts : List Fact) → mark_after facts key version below last ≡ (if is_fast below then None else mark_walks key version below last (filter keep facts))

@@ -1,5 +1,5 @@
 //! What is held at a key.
-ghost use Rattle.mdcc_fact_folds.specs.Held.{CrowdingByChains, DeltaByWalk, DeltasByWalk, DeltasCounted, DeltasInChain, ExecutedInChain};
+ghost use Rattle.mdcc_fact_folds.specs.Held.{CrowdingByChains, DeltaByWalk, DeltasByWalk, DeltasCounted, DeltasInChain, ExecutedByJoin, ExecutedInChain};
 ghost use Rattle.mdcc_fact_folds.specs.Held.{HeldElsewhere, HeldInChain, HeldStands, NextDeltasCounted};
 
 /// The version that is held and its base stand as two values at the key: the fact that raises the
@@ -18,9 +18,11 @@ pub fn deltas()
     ensures counted { DeltasCounted }
 {}
 
-/// The executed deltas come from the chain of the version that is held.
+/// The executed deltas come from the chain of the version that is held. Their transactions may be
+/// joined in any order.
 pub fn executed()
     ensures chain { ExecutedInChain }
+    ensures txs { ExecutedByJoin }
     ensures delta { DeltaByWalk }
 {}
 

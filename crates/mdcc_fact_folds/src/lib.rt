@@ -14,7 +14,7 @@
 //! | `voted_below` | votes in the instance | the greatest ballot | `votes::voted_below` |
 //! | `votes` | votes in the instance | the marks of the older fact, beside them the later ones | `votes::votes` |
 //! | `count_voted` | votes in the instance | where nothing was voted twice, a sum over the facts | `live::count_voted` |
-//! | `marks`, `mark_after` | votes in the instance | not one fold: `voted_below`, and then `votes` or `mark` | `votes::marks` |
+//! | `marks`, `mark_after` | votes in the instance | three folds: the ballot, the least transaction above, its mark | `votes::marks` |
 //! | `choice_of` | votes in the instance | the older counts | `votes::choice_of` |
 //! | `current`, `base` | none: two values at the key | the fact that raises the version brings the base | `held::held` |
 //! | `executed`, `delta` | commits and adoptions of the version held | the older counts | `held::executed` |
@@ -25,6 +25,7 @@
 //! | `write_set` | none: a table; or the facts with a choice of the transaction | the older counts | `unresolved::write_set` |
 #![tactic(auto)]
 
+pub mod added;
 pub mod chains;
 pub mod held;
 pub mod live;

@@ -1,5 +1,5 @@
 //! The votes of an instance.
-ghost use Rattle.mdcc_fact_folds.specs.Votes.{ChoiceByWalk, ChoiceInChain, IsVotedByWalk, MarkAfterInChain, MarkBelowInChain, MarkByWalk, VoteByWalk, VoteInChain};
+ghost use Rattle.mdcc_fact_folds.specs.Votes.{ChoiceByWalk, ChoiceInChain, IsVotedByWalk, MarkAfterByWalks, MarkAfterInChain, MarkBelowInChain, MarkByWalk, VoteByWalk, VoteInChain};
 ghost use Rattle.mdcc_fact_folds.specs.Votes.{VotedBelowByWalk, VotedBelowInChain, VotesByJoin, VotesByWalk, VotesInChain};
 
 /// The vote on a transaction is the one at the greatest ballot in the chain of the instance's votes.
@@ -29,9 +29,11 @@ pub fn mark()
 {}
 
 /// The marks of a report one by one come from the chain, but not in one walk of it: the ballot is
-/// known at the end of a walk, and the order of transactions is not that of the chain.
+/// known at the end of a walk, and the order of transactions is not that of the chain. A mark by its
+/// place is found by going over those before it.
 pub fn marks()
     ensures after { MarkAfterInChain }
+    ensures walks { MarkAfterByWalks }
     ensures place { MarkBelowInChain }
 {}
 
