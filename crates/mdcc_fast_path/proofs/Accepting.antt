@@ -1,5 +1,5 @@
 -- Just where an acceptor gives its vote to accept a choice.
-use Rattle.std.proofs.Common.{Bool, List, None, Option, Some, arith, cond, false, refl, sym, true, ℕ, ◌+◌, ◌<◌, ◌∙◌, ◌≡◌, ◌≤◌}
+use Rattle.std.proofs.Common.{Bool, List, None, Option, Some, arith, cond, false, refl, sym, true, ℕ, ◌<◌, ◌≡◌}
 use Rattle.std.specs.Prelude.{nat_lt}
 use Rattle.std.proofs.lemmas.Bool.{lt-ltb, ltb-false, ltb-true}
 use Rattle.mdcc_base.specs.Ballot.{is_fast}
@@ -10,7 +10,7 @@ use Rattle.mdcc_option.specs.declared.choices.Mark.{Mark}
 use Rattle.mdcc_option.specs.declared.choices.Outcome.{Outcome}
 use Rattle.mdcc_option.specs.declared.cluster.Cluster.{Cluster}
 use Rattle.mdcc_messages.specs.declared.facts.Fact.{Fact}
-use Rattle.mdcc_protocol.specs.Acceptor.{answer_after, answer_by_promise, answer_to_new, fit_of, vote_by_fit, vote_on, vote_to_accept, vote_to_reject}
+use Rattle.mdcc_protocol.specs.Acceptor.{answer_after, answer_to_new, fit_of, vote_by_fit, vote_to_accept, vote_to_reject}
 use Rattle.mdcc_protocol.specs.Facts.{current_of, entries_of, heard_of, promise_of, vote_of}
 use Rattle.mdcc_protocol.specs.Structures.{accept_room, reject_room}
 use Rattle.mdcc_protocol.specs.declared.acceptor.ProposeAnswer.{ProposeAnswer}

@@ -5,3 +5,4 @@ pub mod OpenSteps
 pub mod OpenWorlds
 pub mod States
 pub mod Accepting
+pub mod Splitting

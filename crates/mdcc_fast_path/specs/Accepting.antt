@@ -1,5 +1,5 @@
 -- Just where an acceptor gives its vote to accept a choice.
-use Rattle.std.specs.Prelude.{List, None, true, ℕ, ◌<◌, ◌≡◌}
+use Rattle.std.specs.Prelude.{List, None, true, ◌<◌, ◌≡◌}
 use Rattle.mdcc_base.specs.Ballot.{is_fast}
 use Rattle.mdcc_option.specs.declared.choices.Choice.{Choice}
 use Rattle.mdcc_option.specs.declared.cluster.Cluster.{Cluster}

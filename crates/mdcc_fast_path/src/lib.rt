@@ -2,8 +2,20 @@
 #![tactic(auto)]
 
 ghost use Rattle.mdcc_fast_path.specs.Accepting.{TheyAccept, TheyMay};
-ghost use Rattle.mdcc_fast_path.specs.FastPaths.{FastPathsCommit, RunsReportThem};
+ghost use Rattle.std.specs.List.{AllByRecursion};
+ghost use Rattle.std.specs.Prelude.{[], ◌∷◌, ◌≡◌};
+ghost use Rattle.mdcc_option.specs.declared.choices.Cause.{Cause};
+ghost use Rattle.mdcc_protocol.specs.IsCluster.{IsCluster};
+ghost use Rattle.mdcc_round_trip.specs.Deciding.{IsFastQuorum};
+ghost use Rattle.mdcc_round_trip.specs.Example.{answered, asked, members, three, transaction};
+ghost use Rattle.mdcc_round_trip.specs.RoundTrips.{IsRoundTrip};
+ghost use Rattle.mdcc_switches.specs.Built.{all_built};
+ghost use Rattle.mdcc_fast_path.specs.Broken.{LacksOne, ballot, decrease, first_write, older, older_lines, promised, promised_lines, second_write, taken, taken_lines, two_lines};
+ghost use Rattle.mdcc_fast_path.specs.Example.{schedule};
+ghost use Rattle.mdcc_fast_path.specs.FastPaths.{AcceptsAll, FastPathsCommit, IsUntaken, RunsReportThem};
 ghost use Rattle.mdcc_fast_path.specs.Opened.{OpenIsUnheard, OpenWereProposed};
+ghost use Rattle.mdcc_fast_path.specs.Splitting.{DeliverLinesSplit};
+ghost use Rattle.mdcc_fast_path.specs.States.{state_after};
 
 /// In every trace a centre has not heard the outcome of a transaction that is open there: it closes a
 /// transaction when it hears its outcome, and begins each under an identifier that was never used.
@@ -34,4 +46,39 @@ pub fn acceptors_accept_where_they_may()
 pub fn fast_paths_commit()
     ensures commits { FastPathsCommit }
     ensures report { RunsReportThem }
+{}
+
+/// A line of deliveries is the same as two, one after the other. So what was said of the states between
+/// lines holds of those within a line of deliveries too.
+pub fn deliver_lines_split()
+    ensures { DeliverLinesSplit }
+{}
+
+/// There are such fast paths, so that the theorem does not speak of nothing: here three centres accept
+/// two choices, with everything enabled.
+pub fn example()
+    ensures cluster { IsCluster three }
+    ensures untaken { IsUntaken (state_after all_built three schedule) 1 transaction }
+    ensures quorum { IsFastQuorum three.quorums members }
+    ensures accept { AllByRecursion (AcceptsAll (state_after all_built three schedule) transaction) members }
+    ensures trip { IsRoundTrip all_built (state_after all_built three schedule) 1 transaction members asked answered }
+{}
+
+/// Each premise on members is needed. A member that holds an older version gives no vote, and then the
+/// centre does not hear the commit.
+pub fn an_older_member_gives_no_vote()
+    ensures lacks { LacksOne older 1 second_write (1 ∷ 2 ∷ []) 3 Cause.Behind }
+    ensures lines { two_lines older (9 ∷ 10 ∷ 11 ∷ []) (12 ∷ 13 ∷ 14 ∷ []) ≡ older_lines }
+{}
+
+/// So it is with one that promised a classic ballot,
+pub fn a_promised_member_gives_no_vote()
+    ensures lacks { LacksOne promised 1 first_write (1 ∷ 2 ∷ []) 3 (Cause.Classic ballot) }
+    ensures lines { two_lines promised (11 ∷ 12 ∷ 13 ∷ []) (14 ∷ 15 ∷ 16 ∷ []) ≡ promised_lines }
+{}
+
+/// and with one whose share of the room the choice passes.
+pub fn a_member_past_its_share_gives_no_vote()
+    ensures lacks { LacksOne taken 2 decrease (1 ∷ 2 ∷ []) 3 (Cause.Limit 1) }
+    ensures lines { two_lines taken (16 ∷ 17 ∷ 18 ∷ []) (20 ∷ 21 ∷ 22 ∷ []) ≡ taken_lines }
 {}

@@ -1,0 +1,18 @@
+-- A line of deliveries is the same as two lines, one after the other.
+use Rattle.std.specs.Prelude.{Err, List, Ok, Result, ℕ, ◌++◌, ◌≡◌}
+use Rattle.mdcc_switches.specs.Built.{Built}
+use Rattle.mdcc_language.specs.declared.events.Event.{Event}
+use Rattle.mdcc_language.specs.declared.lines.Line.{Line}
+use Rattle.mdcc_language.specs.declared.world.EventFault.{EventFault}
+use Rattle.mdcc_simulation.specs.Events.{event_of}
+use Rattle.mdcc_simulation.specs.State.{Happened, World, after_lines}
+
+-- what a line reports after these lines, unless it is refused
+abbrev pub reported_after : List Line → Result Happened EventFault → Result Happened EventFault
+reported_after lines (Err fault) = Err fault
+reported_after lines (Ok h) = Ok (after_lines lines h)
+
+abbrev pub DeliverLinesSplit : Type 0
+DeliverLinesSplit =
+    (built : Built) (w : World) (first rest : List ℕ) (reached : Happened) → event_of built w (Event.Deliver first) ≡ Ok reached
+    → event_of built w (Event.Deliver (first ++ rest)) ≡ reported_after reached.lines (event_of built reached.world (Event.Deliver rest))
