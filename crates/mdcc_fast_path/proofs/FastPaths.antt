@@ -1,6 +1,7 @@
 -- The fast path of every trace: what a round trip needs is known of each of its states.
 use Rattle.std.proofs.Common.{List, None, get_or, ◌&&◌, Some, [], ap, arith, false, inl, inr, map, refl, subst, sym, true, ℕ, ◌++◌, ◌-◌, ◌<◌, ◌∙◌, ◌∷◌, ◌≡◌, ◌≤◌, ◌^◌}
 use Rattle.std.specs.List.{AllByRecursion}
+use Rattle.std.specs.List.Sorted.{IsPermutation}
 use Rattle.std.specs.Prelude.{length, option_map, slice_get, suc, zero}
 use Rattle.std.proofs.lemmas.Bool.{cases_Bool}
 use Rattle.std.proofs.lemmas.List.Sorted.{IsPermutation-sym}
@@ -50,7 +51,7 @@ use Rattle.mdcc_round_trip.proofs.Delivering.{Delivers, named, unrolled}
 use Rattle.mdcc_round_trip.proofs.Lists.{each-front, each-permuted, each-weaker}
 use Rattle.mdcc_round_trip.proofs.Proposing.{Accepts, After, NoneDropped, NoneHears, all-proposed}
 use Rattle.mdcc_round_trip.proofs.Trips.{ends-with-commit}
-use Rattle.mdcc_fast_path.specs.FastPaths.{AcceptsAll, IsUntaken}
+use Rattle.mdcc_fast_path.specs.FastPaths.{AcceptsAll, IsAsked, IsUntaken}
 use Rattle.mdcc_fast_path.specs.Opened.{IsOpen, IsProposal}
 use Rattle.mdcc_fast_path.specs.States.{state_after}
 use Rattle.mdcc_fast_path.proofs.Chosen.{Gives, outcome-commits}
@@ -86,11 +87,11 @@ message-there (s ∷ ss) env i =
 number-of-message : (w : World) (env : Envelope) → In env (envelopes w.sent) → (number : ℕ) × (message_at w number ≡ Some env)
 number-of-message w env i = let k = message-there w.sent env i in (suc k.0, k.1)
 
-numbers-of : (w : World) (a : ℕ) (order : List (Choice × ℕ)) → AllByRecursion (λ pair. In (proposal_of a pair) (envelopes w.sent)) order → (numbers : List ℕ) × AreNumbersOf w numbers (map (proposal_of a) order)
-numbers-of w a [] h = ([], refl)
-numbers-of w a (pair ∷ order) h =
-    let first = number-of-message w (proposal_of a pair) h.0 in
-    let rest = numbers-of w a order h.1 in
+numbers-of : (w : World) (message : Choice × ℕ → Envelope) (order : List (Choice × ℕ)) → AllByRecursion (λ pair. In (message pair) (envelopes w.sent)) order → (numbers : List ℕ) × AreNumbersOf w numbers (map message order)
+numbers-of w message [] h = ([], refl)
+numbers-of w message (pair ∷ order) h =
+    let first = number-of-message w (message pair) h.0 in
+    let rest = numbers-of w message order h.1 in
     (first.0 ∷ rest.0, cc (first.1, rest.1))
 
 pub were-proposed : (built : Built) (cluster : Cluster) → IsCluster cluster → (events : List Event) (a : ℕ) (t : Undecided) (order : List (Choice × ℕ))
@@ -99,7 +100,7 @@ pub were-proposed : (built : Built) (cluster : Cluster) → IsCluster cluster �
 were-proposed built cluster is events a t order h each =
     let w : World = state_after built cluster events in
     let same : cluster ≡ w.cluster = sym (holds built cluster is events).same in
-    numbers-of w a order
+    numbers-of w (proposal_of a) order
     (each-weaker (IsProposal cluster t) (λ pair. In (proposal_of a pair) (envelopes w.sent)) order
     (λ pair k. (well built cluster is events a t h).proposed pair.0 pair.1 k.own (subst (λ (c : Cluster). is_centre c pair.1 ≡ true) same k.centre)) each)
 
@@ -117,9 +118,9 @@ ascending-apart (c ∷ cs) h = (from (λ (d : Choice). have_one_key c d ≡ fals
 
 -- ---- ready
 
-module _ (built : Built) (enabled : built.proposals ≡ true) (limited : built.limit_on_events ≡ true) (cluster : Cluster) (is : IsCluster cluster) (events : List Event)
-    (a : ℕ) (t : Undecided) (members : List ℕ) (first second : Happened) (untaken : IsUntaken (state_after built cluster events) a t) (quorum : IsFastQuorum cluster.quorums members)
-    (accept : AllByRecursion (AcceptsAll (state_after built cluster events) t) members) (trip : IsRoundTrip built (state_after built cluster events) a t members first second) where
+module _ (built : Built) (enabled : built.proposals ≡ true) (cluster : Cluster) (is : IsCluster cluster) (events : List Event)
+    (a : ℕ) (t : Undecided) (members : List ℕ) (first : Happened) (untaken : IsUntaken (state_after built cluster events) a t) (quorum : IsFastQuorum cluster.quorums members)
+    (accept : AllByRecursion (AcceptsAll (state_after built cluster events) t) members) (ask : IsAsked built (state_after built cluster events) a t members first) where
   abbrev w : World
   w = state_after built cluster events
 
@@ -159,25 +160,25 @@ module _ (built : Built) (enabled : built.proposals ≡ true) (limited : built.l
 
   -- ---- the proposals are delivered
 
-  accepting : AllByRecursion (Accepts w) trip.asked
+  accepting : AllByRecursion (Accepts w) ask.asked
   accepting =
-      each-permuted (Accepts w) (each_with t.choices members) trip.asked trip.asks_each
+      each-permuted (Accepts w) (each_with t.choices members) ask.asked ask.asks_each
       (each-pair (Accepts w) t.choices members
       (from (λ (c : Choice). AllByRecursion (λ (m : ℕ). Accepts w (c, m)) members) t.choices
       (λ c i. each-weaker (AcceptsAll w t) (λ (m : ℕ). Accepts w (c, m)) members
       (λ m h. record { belongs = at (λ (choice : Choice). choice_belongs w.cluster choice ≡ true) t.choices c belong i; unstopped = h.unstopped; accepted = at (IsAccepted w.cluster (facts_of w.ledger m)) t.choices c h.accepts i }) accept)))
 
-  asking : (lines : List Line) × (first.lines ≡ lines) × Delivers built w trip.proposals first.world lines
-  asking = unrolled built trip.proposals (record { world = w; lines = [] }) first trip.proposed
+  asking : (lines : List Line) × (first.lines ≡ lines) × Delivers built w ask.proposals first.world lines
+  asking = unrolled built ask.proposals (record { world = w; lines = [] }) first ask.proposed
 
-  after-asking : After w first.world (map (vote_of_member a) trip.asked) × NoneHears a t.tx asking.0
+  after-asking : After w first.world (map (vote_of_member a) ask.asked) × NoneHears a t.tx asking.0
   after-asking =
-      all-proposed built a t.tx enabled trip.proposals trip.asked w first.world asking.0 up.centre
-      (named (proposal_of a) w trip.proposals trip.asked trip.proposals_are) accepting
-      (ordered-once t.choices members trip.asked trip.asks_each choices.apart quorum-here.apart) asking.2
-      (subst NoneDropped asking.1 (each-front (λ line. is_dropped line ≡ false) first.lines second.lines trip.undropped))
+      all-proposed built a t.tx enabled ask.proposals ask.asked w first.world asking.0 up.centre
+      (named (proposal_of a) w ask.proposals ask.asked ask.proposals_are) accepting
+      (ordered-once t.choices members ask.asked ask.asks_each choices.apart quorum-here.apart) asking.2
+      (subst NoneDropped asking.1 ask.undropped)
 
-  -- ---- then the transaction is committed
+  -- ---- then the votes have numbers, and the transaction is committed
 
   in-map : (pair : Choice × ℕ) (pairs : List (Choice × ℕ)) → In pair pairs → In (vote_of_member a pair) (map (vote_of_member a) pairs)
   in-map pair [] i = absurd i
@@ -187,29 +188,37 @@ module _ (built : Built) (enabled : built.proposals ≡ true) (limited : built.l
   listed P [] env h i = absurd i
   listed P (s ∷ ss) env h i = elim i [ inl e ↦ subst P (sym e) h.0 | inr r ↦ listed P ss env h.1 r ]
 
-  module _ (v : World) (more : List Event) (reached : state_after built cluster more ≡ v) (messages : messages_of v ≡ messages_of w ++ map (vote_of_member a) trip.asked)
+  pub votes-given : (order : List (Choice × ℕ)) → IsPermutation (each_with t.choices members) order → (votes : List ℕ) × AreNumbersOf first.world votes (map (vote_of_member a) order)
+  votes-given order moved =
+      numbers-of first.world (vote_of_member a) order
+      (each-permuted (λ pair. In (vote_of_member a pair) (envelopes first.world.sent)) (each_with t.choices members) order moved
+      (each-permuted (λ pair. In (vote_of_member a pair) (envelopes first.world.sent)) ask.asked (each_with t.choices members) (IsPermutation-sym (each_with t.choices members) ask.asked ask.asks_each)
+      (from (λ pair. In (vote_of_member a pair) (envelopes first.world.sent)) ask.asked
+      (λ pair i. subst (λ ms. In (vote_of_member a pair) ms) (sym after-asking.0.messages) (in-back (vote_of_member a pair) (messages_of w) (map (vote_of_member a) ask.asked) (in-map pair ask.asked i))))))
+
+  module _ (limited : built.limit_on_events ≡ true) (v : World) (more : List Event) (reached : state_after built cluster more ≡ v) (messages : messages_of v ≡ messages_of w ++ map (vote_of_member a) ask.asked)
       (begun : choices_begun v.ledger t.tx ≡ t.choices) where
     backed : Each (λ (s : Sent). IsBackedMessage cluster v.ledger s.envelope) v.sent
     backed = subst (λ (z : World). Each (λ (s : Sent). IsBackedMessage cluster z.ledger s.envelope) z.sent) reached (all_sent built cluster is more)
 
     given : AllByRecursion (λ (pair : Choice × ℕ). Gives v.ledger t.tx pair.0 pair.1) (each_with t.choices members)
     given =
-        each-permuted (λ (pair : Choice × ℕ). Gives v.ledger t.tx pair.0 pair.1) trip.asked (each_with t.choices members) (IsPermutation-sym (each_with t.choices members) trip.asked trip.asks_each)
-        (from (λ (pair : Choice × ℕ). Gives v.ledger t.tx pair.0 pair.1) trip.asked
+        each-permuted (λ (pair : Choice × ℕ). Gives v.ledger t.tx pair.0 pair.1) ask.asked (each_with t.choices members) (IsPermutation-sym (each_with t.choices members) ask.asked ask.asks_each)
+        (from (λ (pair : Choice × ℕ). Gives v.ledger t.tx pair.0 pair.1) ask.asked
         (λ pair i. gives pair (own pair i) (listed (IsBackedMessage cluster v.ledger) v.sent (vote_of_member a pair) backed
-        (subst (λ ms. In (vote_of_member a pair) ms) (sym messages) (in-back (vote_of_member a pair) (messages_of w) (map (vote_of_member a) trip.asked) (in-map pair trip.asked i))))))
+        (subst (λ ms. In (vote_of_member a pair) ms) (sym messages) (in-back (vote_of_member a pair) (messages_of w) (map (vote_of_member a) ask.asked) (in-map pair ask.asked i))))))
       where
         gives : (pair : Choice × ℕ) → pair.0.tx ≡ t.tx → IsBackedMessage cluster v.ledger (vote_of_member a pair) → Gives v.ledger t.tx pair.0 pair.1
         gives pair e h = subst (λ z. Gives v.ledger z pair.0 pair.1) e (h.still tt)
 
-        all-own : AllByRecursion (λ (pair : Choice × ℕ). pair.0.tx ≡ t.tx) trip.asked
+        all-own : AllByRecursion (λ (pair : Choice × ℕ). pair.0.tx ≡ t.tx) ask.asked
         all-own =
-            each-permuted (λ (pair : Choice × ℕ). pair.0.tx ≡ t.tx) (each_with t.choices members) trip.asked trip.asks_each
+            each-permuted (λ (pair : Choice × ℕ). pair.0.tx ≡ t.tx) (each_with t.choices members) ask.asked ask.asks_each
             (each-pair (λ (pair : Choice × ℕ). pair.0.tx ≡ t.tx) t.choices members
             (each-weaker (λ (c : Choice). c.tx ≡ t.tx) (λ (c : Choice). AllByRecursion (λ (m : ℕ). c.tx ≡ t.tx) members) t.choices (λ c e. from (λ (m : ℕ). c.tx ≡ t.tx) members (λ m j. e)) choices.own))
 
-        own : (pair : Choice × ℕ) → In pair trip.asked → pair.0.tx ≡ t.tx
-        own pair i = at (λ (pair : Choice × ℕ). pair.0.tx ≡ t.tx) trip.asked pair all-own i
+        own : (pair : Choice × ℕ) → In pair ask.asked → pair.0.tx ≡ t.tx
+        own pair i = at (λ (pair : Choice × ℕ). pair.0.tx ≡ t.tx) ask.asked pair all-own i
 
     ledger-there : IsLedger cluster v.ledger
     ledger-there =
@@ -236,18 +245,18 @@ module _ (built : Built) (enabled : built.proposals ≡ true) (limited : built.l
       subst (λ (c : Cluster). (is_centre c a && (centre_at first.world a).is_up) ≡ true) (sym after.cluster)
       (subst (λ (cs : List Site). (is_centre w.cluster a && (get_or cs (a - 1) booted).is_up) ≡ true) (sym after.centres) untaken.up)
 
-  uncrowded : is_crowding (facts_of w.ledger a) commit ≡ false
-  uncrowded =
+  uncrowded : built.limit_on_events ≡ true → is_crowding (facts_of w.ledger a) commit ≡ false
+  uncrowded limited =
       let after = after-asking.0 in
-      let there = next-state built cluster events (Event.Deliver trip.proposals) first trip.proposed in
+      let there = next-state built cluster events (Event.Deliver ask.proposals) first ask.proposed in
       let up-then = subst (λ (z : World). is_up_at z a ≡ true → IsUp IsSound z.cluster z.ledger a (centre_at z a).volatile) there.1 (is-up IsSound cluster (state_after built cluster there.0) a (holds built cluster is there.0)) up-there in
       let among : In t (centre_at first.world a).volatile.manager.opened =
       subst (λ (cs : List Site). In t (get_or cs (a - 1) booted).volatile.manager.opened) (sym after.centres) (open-in w a t untaken.uncounted.opened) in
       let still = Each-at (IsOpened first.world.ledger) (centre_at first.world a).volatile.manager.opened t up-then.keeps.manager.opened among in
-      sym (after.crowding a commit) ∙ uncrowded-there first.world there.0 there.1 after.messages still.choices
+      sym (after.crowding a commit) ∙ uncrowded-there limited first.world there.0 there.1 after.messages still.choices
 
-  ready : IsReady built w a t members
-  ready = record {
+  ready : built.limit_on_events ≡ true → IsReady built w a t members
+  ready limited = record {
     enabled = enabled;
     quorums = up.sizes;
     sites = (holds built cluster is events).size;
@@ -256,7 +265,7 @@ module _ (built : Built) (enabled : built.proposals ≡ true) (limited : built.l
       unstopped = untaken.unstopped;
       uncounted = untaken.uncounted;
       unheard = unheard built cluster is events a t (record { centre = up.centre; opened = untaken.uncounted.opened });
-      uncrowded = uncrowded;
+      uncrowded = uncrowded limited;
     };
     choices = choices;
     belong = belong;
@@ -264,5 +273,18 @@ module _ (built : Built) (enabled : built.proposals ≡ true) (limited : built.l
     accept = each-weaker (AcceptsAll w t) (AcceptsEach w t.choices) members (λ member h. record { centre = member-centre member h; unstopped = h.unstopped; accepts = h.accepts }) accept;
   }
 
-  pub commits : EndsWithCommit a t.tx first.lines second.lines
-  commits = ends-with-commit built w a t members first second ready trip
+pub commits : (built : Built) → built.proposals ≡ true → built.limit_on_events ≡ true → (cluster : Cluster) → IsCluster cluster
+    → (events : List Event) (a : ℕ) (t : Undecided) (members : List ℕ) (first second : Happened) → IsUntaken (state_after built cluster events) a t → IsFastQuorum cluster.quorums members
+    → AllByRecursion (AcceptsAll (state_after built cluster events) t) members → IsRoundTrip built (state_after built cluster events) a t members first second → EndsWithCommit a t.tx first.lines second.lines
+commits built enabled limited cluster is events a t members first second untaken quorum accept trip =
+    ends-with-commit built (state_after built cluster events) a t members first second (ready built enabled cluster is events a t members first untaken quorum accept ask limited) trip
+  where
+    ask : IsAsked built (state_after built cluster events) a t members first
+    ask = record {
+      asked = trip.asked;
+      proposals = trip.proposals;
+      asks_each = trip.asks_each;
+      proposals_are = trip.proposals_are;
+      proposed = trip.proposed;
+      undropped = each-front (λ line. is_dropped line ≡ false) first.lines second.lines trip.undropped;
+    }

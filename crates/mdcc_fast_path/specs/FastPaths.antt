@@ -1,17 +1,21 @@
 -- The fast path: from every state of a trace a transaction commits at the last vote of a fast quorum that accepts each of its choices.
 use Rattle.std.specs.List.{AllByRecursion}
-use Rattle.std.specs.Prelude.{List, None, [], true, ℕ, ◌++◌, ◌∷◌, ◌≡◌}
+use Rattle.std.specs.List.Sorted.{IsPermutation}
+use Rattle.std.specs.Prelude.{List, None, Ok, [], false, map, true, ℕ, ◌++◌, ◌∷◌, ◌≡◌}
+use Rattle.mdcc_option.specs.declared.choices.Choice.{Choice}
 use Rattle.mdcc_option.specs.declared.cluster.Cluster.{Cluster}
 use Rattle.mdcc_switches.specs.Built.{Built}
 use Rattle.mdcc_language.specs.declared.events.Event.{Event}
 use Rattle.mdcc_ledger.specs.Ledger.{facts_of}
 use Rattle.mdcc_protocol.specs.IsCluster.{IsCluster}
 use Rattle.mdcc_protocol.specs.Volatile.{Undecided}
+use Rattle.mdcc_simulation.specs.Events.{event_of}
 use Rattle.mdcc_simulation.specs.Runs.{run_of}
 use Rattle.mdcc_simulation.specs.State.{Happened, World, centre_at, first_world, is_up_at}
 use Rattle.mdcc_round_trip.specs.Accepting.{IsAccepted}
 use Rattle.mdcc_round_trip.specs.Deciding.{IsFastQuorum, IsUncounted}
-use Rattle.mdcc_round_trip.specs.RoundTrips.{EndsWithCommit, IsRoundTrip}
+use Rattle.mdcc_round_trip.specs.Messages.{each_with, proposal_of, vote_of_member}
+use Rattle.mdcc_round_trip.specs.RoundTrips.{AreNumbersOf, EndsWithCommit, IsRoundTrip, is_dropped}
 use Rattle.mdcc_fast_path.specs.States.{state_after}
 
 -- the centre is up and has no armed stop; the transaction is open there, and no vote on it was taken
@@ -25,6 +29,26 @@ pub record AcceptsAll (w : World) (t : Undecided) (member : ℕ) : Type 0 where
   pub up : is_up_at w member ≡ true
   pub unstopped : (centre_at w member).stop ≡ None
   pub accepts : AllByRecursion (IsAccepted w.cluster (facts_of w.ledger member)) t.choices
+
+-- the proposals are delivered to all members in some order. No limit is reached: the line is not refused, and none of its deliveries is
+-- dropped
+pub record IsAsked (built : Built) (w : World) (a : ℕ) (t : Undecided) (members : List ℕ) (first : Happened) : Type 0 where
+  pub asked : List (Choice × ℕ)
+  pub proposals : List ℕ
+  pub asks_each : IsPermutation (each_with t.choices members) asked
+  pub proposals_are : AreNumbersOf w proposals (map (proposal_of a) asked)
+  pub proposed : event_of built w (Event.Deliver proposals) ≡ Ok first
+  pub undropped : AllByRecursion (λ line. is_dropped line ≡ false) first.lines
+
+-- then each member has given its vote on each choice, so that such votes have numbers, in whatever order they are wanted
+abbrev pub VotesAreGiven : Type 0
+VotesAreGiven =
+    (built : Built) → built.proposals ≡ true → (cluster : Cluster) → IsCluster cluster
+    → (events : List Event) (a : ℕ) (t : Undecided) (members : List ℕ) (first : Happened) (order : List (Choice × ℕ))
+    → IsUntaken (state_after built cluster events) a t → IsFastQuorum cluster.quorums members
+    → AllByRecursion (AcceptsAll (state_after built cluster events) t) members
+    → IsAsked built (state_after built cluster events) a t members first → IsPermutation (each_with t.choices members) order
+    → (votes : List ℕ) × AreNumbersOf first.world votes (map (vote_of_member a) order)
 
 -- the deliveries of its proposals to these members in any order, and then of the votes that they gave in any order, report the commit
 -- at the last of these votes

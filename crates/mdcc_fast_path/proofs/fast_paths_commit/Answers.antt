@@ -1,9 +1,13 @@
 -- The laws are the lemmas.
 use Rattle.mdcc_simulation.specs.State.{first_world}
 use Rattle.mdcc_language.specs.declared.events.Event.{Event}
-use Rattle.mdcc_fast_path.proofs.FastPaths.{commits}
+use Rattle.mdcc_fast_path.proofs.FastPaths.{commits, votes-given}
 use Rattle.mdcc_fast_path.proofs.States.{two-more}
 use Rattle.mdcc_fast_path.proofs.fast_paths_commit.Goals as goal
+
+pub returns-clause-votes : goal.returns-clause-votes
+returns-clause-votes c built enabled cluster is events a t members first order untaken quorum accept ask moved =
+    votes-given built enabled cluster is events a t members first untaken quorum accept ask order moved
 
 pub returns-clause-commits : goal.returns-clause-commits
 returns-clause-commits c = commits
