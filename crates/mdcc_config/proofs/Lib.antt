@@ -1,0 +1,4 @@
+mod HostTexts
+mod Missing
+mod Objects
+mod Pairs
