@@ -2,6 +2,7 @@ pub mod Chosen
 pub mod Covered
 pub mod Deltas
 pub mod Folded
+pub mod Found
 pub mod Ignored
 pub mod Joined
 pub mod Kept

@@ -129,6 +129,17 @@ load-walk keep key version seen covers facts =
 
 -- ---- the walk of the entries
 
+abbrev pub entries_in : Options → ℕ × ℕ
+entries_in votes = (min (length (accepts_in votes)) (2 ^ 32 - 1), min (length (rejects_in votes)) (2 ^ 32 - 1))
+
+alike-length : (p : TxId × Mark → Bool) (a b : Options) → AreAlike a b → length (filter p a) ≡ length (filter p b)
+alike-length p a b h = length-number p a ∙ alike-number p a b h ∙ sym (length-number p b)
+
+pub entries-alike : (a b : Options) → AreAlike a b → entries_in a ≡ entries_in b
+entries-alike a b h =
+    ap (λ n. (min n (2 ^ 32 - 1), min (length (rejects_in a)) (2 ^ 32 - 1))) (alike-length (λ e. is_accept e.1) a b h)
+    ∙ ap (λ n. (min (length (accepts_in b)) (2 ^ 32 - 1), min n (2 ^ 32 - 1))) (alike-length (λ e. not (is_accept e.1)) a b h)
+
 module _ (key : Key) (version : ℕ) where
   abbrev fast_votes : List Fact → Options
   fast_votes facts = votes_of facts key version fast_ballot
@@ -142,24 +153,14 @@ module _ (key : Key) (version : ℕ) where
       entries-folded (fold with_mark from (first_marks older key version fast_ballot fact)) older
       ∙ sym (fold-append with_mark from (first_marks older key version fast_ballot fact) (firsts fast_votes fast_marks older))
 
-  votes-alike : (facts : List Fact) → AreAlike (fast_votes facts) (firsts fast_votes fast_marks facts)
+  pub votes-alike : (facts : List Fact) → AreAlike (fast_votes facts) (firsts fast_votes fast_marks facts)
   votes-alike facts w = sum-firsts fast_votes fast_marks refl (λ fact older. refl) w facts
-
-  alike-length : (p : TxId × Mark → Bool) (a b : Options) → AreAlike a b → length (filter p a) ≡ length (filter p b)
-  alike-length p a b h = length-number p a ∙ alike-number p a b h ∙ sym (length-number p b)
 
   pub walk-entries : (facts : List Fact) → entries_at facts key version ≡ entries_walk key version (0, 0) facts
   walk-entries facts =
-      let first = firsts fast_votes fast_marks facts in
-      ap (λ n. (min n (2 ^ 32 - 1), min (length (rejects_in (fast_votes facts))) (2 ^ 32 - 1)))
-      (alike-length (λ e. is_accept e.1) (fast_votes facts) first (votes-alike facts))
-      ∙ ap (λ n. (min (length (accepts_in first)) (2 ^ 32 - 1), min n (2 ^ 32 - 1)))
-      (alike-length (λ e. not (is_accept e.1)) (fast_votes facts) first (votes-alike facts))
-      ∙ sym (marks_counted first)
+      entries-alike (fast_votes facts) (firsts fast_votes fast_marks facts) (votes-alike facts)
+      ∙ sym (marks_counted (firsts fast_votes fast_marks facts))
       ∙ sym (entries-folded (0, 0) facts)
-
-abbrev entries_in : Options → ℕ × ℕ
-entries_in votes = (min (length (accepts_in votes)) (2 ^ 32 - 1), min (length (rejects_in votes)) (2 ^ 32 - 1))
 
 pub entries-chain : EntriesInChain
 entries-chain keep key version covers facts = ap entries_in (votes-chain keep key version fast_ballot covers facts)

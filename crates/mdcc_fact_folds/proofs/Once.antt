@@ -1,5 +1,7 @@
 -- Where no mark was voted twice at its ballot, each mark of a fact counts.
-use Rattle.std.proofs.Common.{◌≡◌, ℕ, ◌+◌, Bool, true, false, List, [], ◌∷◌, Option, Some, None, is_some, refl, sym, ap, ◌∙◌, arith, inl, inr, fold, add-zero, zero-add}
+use Rattle.std.proofs.lemmas.List.Sums.{fold-append}
+use Rattle.mdcc_facts.proofs.Weighing.{marks_counted}
+use Rattle.std.proofs.Common.{◌≡◌, ℕ, ◌+◌, Bool, true, false, List, [], ◌∷◌, Option, Some, None, is_some, refl, sym, ap, ◌∙◌, arith, inl, inr, fold, add-zero, zero-add, ◌++◌}
 use Rattle.std.specs.List.{list_all, list_any}
 use Rattle.std.specs.Option.{option_or}
 use Rattle.std.specs.Prelude.{filter, if◌then◌else◌, not, ◌&&◌, ◌==◌}
@@ -19,12 +21,12 @@ use Rattle.mdcc_struct.specs.Maps.{TxMap, union, value_of, are_ascending}
 use Rattle.mdcc_struct.specs.declared.options.Options.{Options}
 use Rattle.mdcc_messages.specs.declared.facts.Fact.{Fact}
 use Rattle.mdcc_protocol.specs.Facts.{marks_voted, votes_of}
-use Rattle.mdcc_protocol.specs.Stores.{count_voted}
+use Rattle.mdcc_protocol.specs.Stores.{count_voted, entries_at}
 use Rattle.mdcc_facts.specs.Adding.{is_voted_before}
 use Rattle.mdcc_facts.specs.Listed.{are_voted_once}
 use Rattle.mdcc_facts.specs.Weights.{with_mark}
 use Rattle.mdcc_fact_folds.specs.Chains.{is_vote_in}
-use Rattle.mdcc_fact_folds.specs.Live.{CountByFold, CountInChain, EntriesByFold, entries_walk, first_marks, is_ordered, with_count, with_entries}
+use Rattle.mdcc_fact_folds.specs.Live.{CountByFold, CountInChain, EntriesByFold, entries_walk, first_marks, is_ordered, with_count, with_entries, EntriesStand}
 use Rattle.mdcc_fact_folds.specs.New.{entries_beside}
 use Rattle.mdcc_fact_folds.proofs.Ignored.{left_out, no_marks}
 use Rattle.mdcc_fact_folds.proofs.Joined.{votes-chain}
@@ -32,9 +34,9 @@ use Rattle.mdcc_struct.proofs.Inclusion.{same_found}
 use Rattle.mdcc_struct.proofs.Walks.{ascending-union}
 use Rattle.mdcc_fact_folds.specs.Votes.{VotesByJoin, with_marks}
 use Rattle.mdcc_fact_folds.proofs.Chosen.{or_assoc, or_right}
-use Rattle.mdcc_fact_folds.proofs.Loads.{walk-entries}
-use Rattle.mdcc_fact_folds.proofs.New.{new-beside}
-use Rattle.mdcc_fact_folds.proofs.Sorted.{marks-ascend}
+use Rattle.mdcc_fact_folds.proofs.Loads.{walk-entries, AreAlike, entries-alike, votes-alike}
+use Rattle.mdcc_fact_folds.proofs.New.{new-beside, firsts, sum-append}
+use Rattle.mdcc_fact_folds.proofs.Sorted.{marks-ascend, well_formed-ordered}
 
 -- a map has the transaction of an entry
 abbrev has : {X Y : Type 0} → TxMap X → TxId × Y → Bool
@@ -117,6 +119,39 @@ entries-fold keep key version covers facts once ordered =
     ∙ walk-once key version (0, 0) facts once ordered
     ∙ fold-chain (with_entries key version) keep
     (λ counts fact left. ap (fold with_mark counts) (no_marks key version fast_ballot fact (left_out keep (is_vote_in key version) covers fact left))) (0, 0) facts
+
+-- ---- entries with one more fact
+
+module _ (key : Key) (version : ℕ) where
+  abbrev votes_in : List Fact → Options
+  votes_in facts = votes_of facts key version fast_ballot
+
+  abbrev marks_in : Fact → Options
+  marks_in fact = marks_voted key version fast_ballot fact
+
+  swapped : (a b : Options) → AreAlike (a ++ b) (b ++ a)
+  swapped a b w = let left = sum-append w a b in let right = sum-append w b a in omega (arith, left, right)
+
+  entries-more : (facts : List Fact) (fact : Fact)
+      → entries_at (fact ∷ facts) key version ≡ fold with_mark (entries_at facts key version) (first_marks facts key version fast_ballot fact)
+  entries-more facts fact =
+      let first = first_marks facts key version fast_ballot fact in
+      let rest = firsts votes_in marks_in facts in
+      entries-alike (votes_in (fact ∷ facts)) (first ++ rest) (votes-alike key version (fact ∷ facts))
+      ∙ entries-alike (first ++ rest) (rest ++ first) (swapped first rest)
+      ∙ sym (marks_counted (rest ++ first))
+      ∙ fold-append with_mark (0, 0) rest first
+      ∙ ap (λ counts. fold with_mark counts first)
+      (marks_counted rest ∙ sym (entries-alike (votes_in facts) rest (votes-alike key version facts)))
+
+pub entries-stand : EntriesStand
+entries-stand facts fact key version new =
+    let votes = votes_of facts key version fast_ballot in
+    let marks = marks_voted key version fast_ballot fact in
+    entries-more key version facts fact
+    ∙ ap (fold with_mark (entries_at facts key version))
+    (new-beside votes marks (marks-ascend key version fast_ballot fact (well_formed-ordered fact new.well_formed))
+    ∙ beside-all votes marks (voted-apart facts fact key version fast_ballot new.voted))
 
 -- ---- how many of a structure were voted
 

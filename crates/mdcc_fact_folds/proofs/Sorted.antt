@@ -80,7 +80,7 @@ adopted-ascend (a ∷ b ∷ adds) = ap (λ t. tx_lt a.tx b.tx && t) (adopted-asc
 
 -- ---- a commit has one choice of an instance
 
-lt-irrefl : (a : Key) → key_lt a a ≡ true → ⊥
+pub lt-irrefl : (a : Key) → key_lt a a ≡ true → ⊥
 lt-irrefl [] h = cc
 lt-irrefl (x ∷ xs) h =
     elim (or_cases (nat_lt x x) (x == x && key_lt xs xs) h) [
@@ -112,7 +112,7 @@ lt-trans (x ∷ xs) (y ∷ ys) (z ∷ zs) h g =
     ]
 
 -- all choices are of keys above
-abbrev IsKeyBelow : Key → List Choice → Type 0
+abbrev pub IsKeyBelow : Key → List Choice → Type 0
 IsKeyBelow key [] = Unit {0}
 IsKeyBelow key (c ∷ cs) = (key_lt key c.key ≡ true) × IsKeyBelow key cs
 
@@ -120,11 +120,11 @@ key-below : (a b : Key) (cs : List Choice) → key_lt a b ≡ true → IsKeyBelo
 key-below a b [] less h = tt
 key-below a b (c ∷ cs) less h = (lt-trans a b c.key less h.0, key-below a b cs less h.1)
 
-choices-tail : (c : Choice) (cs : List Choice) → is_ascending_by choice_lt (c ∷ cs) ≡ true → is_ascending_by choice_lt cs ≡ true
+pub choices-tail : (c : Choice) (cs : List Choice) → is_ascending_by choice_lt (c ∷ cs) ≡ true → is_ascending_by choice_lt cs ≡ true
 choices-tail c [] h = refl
 choices-tail c (d ∷ ds) h = (and_parts (key_lt c.key d.key) (is_ascending_by choice_lt (d ∷ ds)) h).1
 
-choices-below : (c : Choice) (cs : List Choice) → is_ascending_by choice_lt (c ∷ cs) ≡ true → IsKeyBelow c.key cs
+pub choices-below : (c : Choice) (cs : List Choice) → is_ascending_by choice_lt (c ∷ cs) ≡ true → IsKeyBelow c.key cs
 choices-below c [] h = tt
 choices-below c (d ∷ ds) h =
     let parts = and_parts (key_lt c.key d.key) (is_ascending_by choice_lt (d ∷ ds)) h in

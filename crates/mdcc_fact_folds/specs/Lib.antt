@@ -1,5 +1,6 @@
 pub mod Added
 pub mod Chains
+pub mod Entered
 pub mod Held
 pub mod Live
 pub mod New

@@ -18,6 +18,7 @@ use Rattle.mdcc_protocol.specs.Facts.{is_void, live_and_void, live_from, live_of
 use Rattle.mdcc_protocol.specs.Stores.{count_voted, entries_at, load_at}
 use Rattle.mdcc_protocol.specs.declared.fit.Load.{Load}
 use Rattle.mdcc_escrow.specs.Weights.{no_load, with_live}
+use Rattle.mdcc_facts.specs.Adding.{MayBeAdded}
 use Rattle.mdcc_facts.specs.Listed.{are_voted_once}
 use Rattle.mdcc_facts.specs.Weights.{with_mark}
 use Rattle.mdcc_fact_folds.specs.Chains.{Covers, is_of_instance, is_vote_in}
@@ -117,6 +118,12 @@ EntriesByFold =
     (keep : Fact → Bool) (key : Key) (version : ℕ) → Covers keep (is_vote_in key version)
     → (facts : List Fact) → are_voted_once facts ≡ true → list_all is_ordered facts ≡ true
     → entries_at facts key version ≡ fold (with_entries key version) (0, 0) (filter keep facts)
+
+-- so a store may keep the entries of each instance as two numbers
+abbrev pub EntriesStand : Type 0
+EntriesStand =
+    (facts : List Fact) (fact : Fact) (key : Key) (version : ℕ) → MayBeAdded facts fact
+    → entries_at (fact ∷ facts) key version ≡ with_entries key version (entries_at facts key version) fact
 
 -- how many transactions of a structure were voted, with those of one more fact
 abbrev pub with_count : Key → ℕ → Ballot → Options → ℕ → Fact → ℕ

@@ -1,5 +1,5 @@
 //! What is live in an instance, and how many marks stand there.
-ghost use Rattle.mdcc_fact_folds.specs.Live.{CountByFold, CountInChain, EntriesByFold, EntriesByWalk, EntriesInChain, FirstLiveOfOrdered, IsLiveByWalk};
+ghost use Rattle.mdcc_fact_folds.specs.Live.{CountByFold, CountInChain, EntriesByFold, EntriesByWalk, EntriesInChain, EntriesStand, FirstLiveOfOrdered, IsLiveByWalk};
 ghost use Rattle.mdcc_fact_folds.specs.Live.{LiveInChain, LoadByWalk, UpdateByWalk, WellFormedAreOrdered};
 
 /// The load of an instance is summed in one walk of its chain. A transaction counts at the oldest fact
@@ -25,11 +25,12 @@ pub fn update()
 {}
 
 /// The entries are counted in one walk of the chain. A transaction counts at the oldest fast vote;
-/// where no mark was voted twice at its ballot, each mark counts.
+/// where no mark was voted twice at its ballot, each mark counts, and a further fact adds its own.
 pub fn entries()
     ensures chain { EntriesInChain }
     ensures walk { EntriesByWalk }
     ensures once { EntriesByFold }
+    ensures stands { EntriesStand }
 {}
 
 /// How many transactions of a structure were voted is summed over the chain, where no mark was voted
