@@ -19,35 +19,35 @@ use Rattle.mdcc_fact_folds.specs.Entered.{AtMostEightInstances, FoundIsChain, In
 use Rattle.mdcc_fact_folds.specs.Live.{is_ordered}
 use Rattle.mdcc_fact_folds.proofs.Sorted.{IsKeyBelow, choices-below, choices-tail, lt-irrefl}
 
--- the entries of one place
-abbrev at_place : {K : Type 0} → ℕ → List K → List (K × ℕ)
-at_place place keys = map (λ k. (k, place)) keys
+-- the entries of one index
+abbrev at_index : {K : Type 0} → ℕ → List K → List (K × ℕ)
+at_index index keys = map (λ k. (k, index)) keys
 
 abbrev only_if : Bool → ℕ → List ℕ
-only_if test place = if test then place ∷ [] else []
+only_if test index = if test then index ∷ [] else []
 
 -- where each fact is found as often as it passes, the chain is found
 entered-found : {K : Type 0} (test : K → Bool) (keys : Fact → List K) (passes usual : Fact → Bool) (fact_at : ℕ → Fact)
-    → ((fact : Fact) (place : ℕ) → usual fact ≡ true → found_by test (at_place place (keys fact)) ≡ only_if (passes fact) place)
-    → (places : List ℕ) → list_all (λ place. usual (fact_at place)) places ≡ true
-    → found_by test (entered keys fact_at places) ≡ filter (λ place. passes (fact_at place)) places
+    → ((fact : Fact) (index : ℕ) → usual fact ≡ true → found_by test (at_index index (keys fact)) ≡ only_if (passes fact) index)
+    → (indices : List ℕ) → list_all (λ index. usual (fact_at index)) indices ≡ true
+    → found_by test (entered keys fact_at indices) ≡ filter (λ index. passes (fact_at index)) indices
 entered-found test keys passes usual fact_at each [] all = refl
-entered-found {K = K} test keys passes usual fact_at each (place ∷ places) all =
-    let parts = and_parts (usual (fact_at place)) (list_all (λ place. usual (fact_at place)) places) all in
-    let here = at_place place (keys (fact_at place)) in
-    let rest = entered keys fact_at places in
+entered-found {K = K} test keys passes usual fact_at each (index ∷ indices) all =
+    let parts = and_parts (usual (fact_at index)) (list_all (λ index. usual (fact_at index)) indices) all in
+    let here = at_index index (keys (fact_at index)) in
+    let rest = entered keys fact_at indices in
     ap (map (λ (e : K × ℕ). e.1)) (filter-append (λ (e : K × ℕ). test e.0) here rest)
     ∙ map-append (λ (e : K × ℕ). e.1) (filter (λ (e : K × ℕ). test e.0) here) (filter (λ (e : K × ℕ). test e.0) rest)
-    ∙ ap (λ xs. xs ++ found_by test rest) (each (fact_at place) place parts.0)
-    ∙ ap (λ xs. only_if (passes (fact_at place)) place ++ xs) (entered-found test keys passes usual fact_at each places parts.1)
-    ∙ by (passes (fact_at place)) (filter (λ place. passes (fact_at place)) places)
+    ∙ ap (λ xs. xs ++ found_by test rest) (each (fact_at index) index parts.0)
+    ∙ ap (λ xs. only_if (passes (fact_at index)) index ++ xs) (entered-found test keys passes usual fact_at each indices parts.1)
+    ∙ by (passes (fact_at index)) (filter (λ index. passes (fact_at index)) indices)
   where
-    by : (test : Bool) (xs : List ℕ) → only_if test place ++ xs ≡ (if test then place ∷ xs else xs)
+    by : (test : Bool) (xs : List ℕ) → only_if test index ++ xs ≡ (if test then index ∷ xs else xs)
     by true xs = refl
     by false xs = refl
 
-one_entry : {K : Type 0} (test : K → Bool) (k : K) (place : ℕ) → found_by test (at_place place (k ∷ [])) ≡ only_if (test k) place
-one_entry test k place =
+one_entry : {K : Type 0} (test : K → Bool) (k : K) (index : ℕ) → found_by test (at_index index (k ∷ [])) ≡ only_if (test k) index
+one_entry test k index =
     elim (cases_Bool (test k)) [
       | inl passes ↦ rw passes refl
       | inr fails ↦ rw fails refl
@@ -55,42 +55,42 @@ one_entry test k place =
 
 -- ---- instances
 
-none_found : (key : Key) (version place : ℕ) (cs : List Choice) → IsKeyBelow key cs → found_by (is_instance key version) (at_place place (map instance_of cs)) ≡ []
-none_found key version place [] h = refl
-none_found key version place (c ∷ cs) h =
+none_found : (key : Key) (version index : ℕ) (cs : List Choice) → IsKeyBelow key cs → found_by (is_instance key version) (at_index index (map instance_of cs)) ≡ []
+none_found key version index [] h = refl
+none_found key version index (c ∷ cs) h =
     elim (cases_Bool (is_choice_at key version c)) [
       | inl here ↦
           let parts = and_parts (c.version == version) (key_eq c.key key) here in
           let same : c.key ≡ key = (Decides-key c.key key).0 parts.1 in
           absurd (lt-irrefl key (subst (λ k. key_lt key k ≡ true) same h.0))
-      | inr other ↦ rw other (none_found key version place cs h.1)
+      | inr other ↦ rw other (none_found key version index cs h.1)
     ]
 
-commit_found : (key : Key) (version place : ℕ) (cs : List Choice) → is_ascending_by choice_lt cs ≡ true
-    → found_by (is_instance key version) (at_place place (map instance_of cs)) ≡ only_if (list_any (is_choice_at key version) cs) place
-commit_found key version place [] up = refl
-commit_found key version place (c ∷ cs) up =
+commit_found : (key : Key) (version index : ℕ) (cs : List Choice) → is_ascending_by choice_lt cs ≡ true
+    → found_by (is_instance key version) (at_index index (map instance_of cs)) ≡ only_if (list_any (is_choice_at key version) cs) index
+commit_found key version index [] up = refl
+commit_found key version index (c ∷ cs) up =
     elim (cases_Bool (is_choice_at key version c)) [
       | inl here ↦
           let parts = and_parts (c.version == version) (key_eq c.key key) here in
           let same : c.key ≡ key = (Decides-key c.key key).0 parts.1 in
-          let none = none_found key version place cs (subst (λ k. IsKeyBelow k cs) same (choices-below c cs up)) in
-          rw here (ap (λ xs. place ∷ xs) none)
-      | inr other ↦ rw other (commit_found key version place cs (choices-tail c cs up))
+          let none = none_found key version index cs (subst (λ k. IsKeyBelow k cs) same (choices-below c cs up)) in
+          rw here (ap (λ xs. index ∷ xs) none)
+      | inr other ↦ rw other (commit_found key version index cs (choices-tail c cs up))
     ]
 
-instance_found : (key : Key) (version : ℕ) (fact : Fact) (place : ℕ) → is_ordered fact ≡ true
-    → found_by (is_instance key version) (at_place place (instances_in fact)) ≡ only_if (is_of_instance key version fact) place
-instance_found key version (Fact.Booted epoch) place h = refl
-instance_found key version (Fact.Promised k low high b) place h = refl
-instance_found key version (Fact.Voted k v b options offered) place h = one_entry (is_instance key version) (k, v) place
-instance_found key version (Fact.Heard t Outcome.Abort) place h = refl
-instance_found key version (Fact.Heard t (Outcome.Commit choices)) place h = commit_found key version place choices h
-instance_found key version (Fact.Adopted k v item adds) place h = one_entry (is_instance key version) (k, v) place
+instance_found : (key : Key) (version : ℕ) (fact : Fact) (index : ℕ) → is_ordered fact ≡ true
+    → found_by (is_instance key version) (at_index index (instances_in fact)) ≡ only_if (is_of_instance key version fact) index
+instance_found key version (Fact.Booted epoch) index h = refl
+instance_found key version (Fact.Promised k low high b) index h = refl
+instance_found key version (Fact.Voted k v b options offered) index h = one_entry (is_instance key version) (k, v) index
+instance_found key version (Fact.Heard t Outcome.Abort) index h = refl
+instance_found key version (Fact.Heard t (Outcome.Commit choices)) index h = commit_found key version index choices h
+instance_found key version (Fact.Adopted k v item adds) index h = one_entry (is_instance key version) (k, v) index
 
 pub instance-found : InstanceIsFound
-instance-found fact_at places key version all =
-    entered-found (is_instance key version) instances_in (is_of_instance key version) is_ordered fact_at (instance_found key version) places all
+instance-found fact_at indices key version all =
+    entered-found (is_instance key version) instances_in (is_of_instance key version) is_ordered fact_at (instance_found key version) indices all
 
 pub eight-instances : AtMostEightInstances
 eight-instances (Fact.Booted epoch) h = omega arith
@@ -106,39 +106,39 @@ eight-instances (Fact.Adopted k v item adds) h = omega arith
 
 -- ---- promises and outcomes
 
-all_usual : (places : List ℕ) → list_all (λ (place : ℕ). true) places ≡ true
+all_usual : (indices : List ℕ) → list_all (λ (index : ℕ). true) indices ≡ true
 all_usual [] = refl
-all_usual (place ∷ places) = all_usual places
+all_usual (index ∷ indices) = all_usual indices
 
-promise_found : (key : Key) (fact : Fact) (place : ℕ) → true ≡ true → found_by (λ k. key_eq k key) (at_place place (promised_in fact)) ≡ only_if (is_promise_of key fact) place
-promise_found key (Fact.Booted epoch) place h = refl
-promise_found key (Fact.Promised k low high b) place h = one_entry (λ k. key_eq k key) k place
-promise_found key (Fact.Voted k v b options offered) place h = refl
-promise_found key (Fact.Heard t outcome) place h = refl
-promise_found key (Fact.Adopted k v item adds) place h = refl
+promise_found : (key : Key) (fact : Fact) (index : ℕ) → true ≡ true → found_by (λ k. key_eq k key) (at_index index (promised_in fact)) ≡ only_if (is_promise_of key fact) index
+promise_found key (Fact.Booted epoch) index h = refl
+promise_found key (Fact.Promised k low high b) index h = one_entry (λ k. key_eq k key) k index
+promise_found key (Fact.Voted k v b options offered) index h = refl
+promise_found key (Fact.Heard t outcome) index h = refl
+promise_found key (Fact.Adopted k v item adds) index h = refl
 
 pub promises-found : PromisesAreFound
-promises-found fact_at places key =
-    entered-found (λ k. key_eq k key) promised_in (is_promise_of key) (λ fact. true) fact_at (promise_found key) places (all_usual places)
+promises-found fact_at indices key =
+    entered-found (λ k. key_eq k key) promised_in (is_promise_of key) (λ fact. true) fact_at (promise_found key) indices (all_usual indices)
 
-outcome_found : (tx : TxId) (fact : Fact) (place : ℕ) → true ≡ true → found_by (λ t. tx_eq t tx) (at_place place (heard_in fact)) ≡ only_if (is_heard_of tx fact) place
-outcome_found tx (Fact.Booted epoch) place h = refl
-outcome_found tx (Fact.Promised k low high b) place h = refl
-outcome_found tx (Fact.Voted k v b options offered) place h = refl
-outcome_found tx (Fact.Heard t outcome) place h = one_entry (λ s. tx_eq s tx) t place
-outcome_found tx (Fact.Adopted k v item adds) place h = refl
+outcome_found : (tx : TxId) (fact : Fact) (index : ℕ) → true ≡ true → found_by (λ t. tx_eq t tx) (at_index index (heard_in fact)) ≡ only_if (is_heard_of tx fact) index
+outcome_found tx (Fact.Booted epoch) index h = refl
+outcome_found tx (Fact.Promised k low high b) index h = refl
+outcome_found tx (Fact.Voted k v b options offered) index h = refl
+outcome_found tx (Fact.Heard t outcome) index h = one_entry (λ s. tx_eq s tx) t index
+outcome_found tx (Fact.Adopted k v item adds) index h = refl
 
 pub outcomes-found : OutcomesAreFound
-outcomes-found fact_at places tx =
-    entered-found (λ t. tx_eq t tx) heard_in (is_heard_of tx) (λ fact. true) fact_at (outcome_found tx) places (all_usual places)
+outcomes-found fact_at indices tx =
+    entered-found (λ t. tx_eq t tx) heard_in (is_heard_of tx) (λ fact. true) fact_at (outcome_found tx) indices (all_usual indices)
 
--- ---- facts by their places
+-- ---- facts by their indices
 
 pub found-chain : FoundIsChain
 found-chain keep fact_at [] = refl
-found-chain keep fact_at (place ∷ places) =
-    let ih = found-chain keep fact_at places in
-    elim (cases_Bool (keep (fact_at place))) [
-      | inl kept ↦ rw kept (ap (λ xs. fact_at place ∷ xs) ih)
+found-chain keep fact_at (index ∷ indices) =
+    let ih = found-chain keep fact_at indices in
+    elim (cases_Bool (keep (fact_at index))) [
+      | inl kept ↦ rw kept (ap (λ xs. fact_at index ∷ xs) ih)
       | inr left ↦ rw left ih
     ]

@@ -8,9 +8,11 @@ pub mod Joined
 pub mod Kept
 pub mod Loads
 pub mod New
+pub mod Numbered
 pub mod Once
 pub mod Present
 pub mod Sorted
+pub mod Steps
 pub mod Unheard
 pub mod Versions
 pub mod Walked

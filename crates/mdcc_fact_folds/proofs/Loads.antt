@@ -40,7 +40,7 @@ no_live key version (Fact.Heard t Outcome.Abort) h = refl
 no_live key version (Fact.Heard t (Outcome.Commit choices)) h = rw (no_deltas key version (Fact.Heard t (Outcome.Commit choices)) h) refl
 no_live key version (Fact.Adopted k v item adds) h = rw h refl
 
-live-joined : (key : Key) (version : ℕ) (facts : List Fact) → live_and_void facts key version ≡ joined (live_from key version) facts
+pub live-joined : (key : Key) (version : ℕ) (facts : List Fact) → live_and_void facts key version ≡ joined (live_from key version) facts
 live-joined key version [] = refl
 live-joined key version (fact ∷ facts) = ap (λ m. union m (live_from key version fact)) (live-joined key version facts)
 

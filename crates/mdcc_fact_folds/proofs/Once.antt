@@ -26,7 +26,7 @@ use Rattle.mdcc_facts.specs.Adding.{is_voted_before}
 use Rattle.mdcc_facts.specs.Listed.{are_voted_once}
 use Rattle.mdcc_facts.specs.Weights.{with_mark}
 use Rattle.mdcc_fact_folds.specs.Chains.{is_vote_in}
-use Rattle.mdcc_fact_folds.specs.Live.{CountByFold, CountInChain, EntriesByFold, entries_walk, first_marks, is_ordered, with_count, with_entries, EntriesStand}
+use Rattle.mdcc_fact_folds.specs.Live.{CountByFold, CountInChain, EntriesByFold, entries_walk, first_marks, is_ordered, with_count, with_entries, EntriesUpdate}
 use Rattle.mdcc_fact_folds.specs.New.{entries_beside}
 use Rattle.mdcc_fact_folds.proofs.Ignored.{left_out, no_marks}
 use Rattle.mdcc_fact_folds.proofs.Joined.{votes-chain}
@@ -144,8 +144,8 @@ module _ (key : Key) (version : ℕ) where
       ∙ ap (λ counts. fold with_mark counts first)
       (marks_counted rest ∙ sym (entries-alike (votes_in facts) rest (votes-alike key version facts)))
 
-pub entries-stand : EntriesStand
-entries-stand facts fact key version new =
+pub entries-update : EntriesUpdate
+entries-update facts fact key version new =
     let votes = votes_of facts key version fast_ballot in
     let marks = marks_voted key version fast_ballot fact in
     entries-more key version facts fact

@@ -157,15 +157,23 @@ given-ascend key version (c ∷ cs) up =
       | inr other ↦ rw other (given-ascend key version cs (choices-tail c cs up))
     ]
 
+pub deltas-ascend : (key : Key) (version : ℕ) (fact : Fact) → is_ordered fact ≡ true → are_ascending (deltas_from key version fact) ≡ true
+deltas-ascend key version (Fact.Booted epoch) h = refl
+deltas-ascend key version (Fact.Promised k low high b) h = refl
+deltas-ascend key version (Fact.Voted k v b options offered) h = refl
+deltas-ascend key version (Fact.Heard t Outcome.Abort) h = refl
+deltas-ascend key version (Fact.Heard t (Outcome.Commit choices)) h = given-ascend key version choices h
+deltas-ascend key version (Fact.Adopted k v item adds) h = if-ascends (v == version && key_eq k key) (map pair_of adds) (adopted-ascend adds ∙ h)
+
 pub live_from-ascend : (key : Key) (version : ℕ) (fact : Fact) → is_ordered fact ≡ true → are_ascending (live_from key version fact) ≡ true
 live_from-ascend key version (Fact.Booted epoch) h = refl
 live_from-ascend key version (Fact.Promised k low high b) h = refl
 live_from-ascend key version (Fact.Voted k v b options offered) h = if-ascends (v == version && key_eq k key) (filter_map live_mark options) (live-ascend options h)
 live_from-ascend key version (Fact.Heard t Outcome.Abort) h = refl
-live_from-ascend key version (Fact.Heard t (Outcome.Commit choices)) h = adds-ascend (filter_map (delta_given key version) choices) ∙ given-ascend key version choices h
+live_from-ascend key version (Fact.Heard t (Outcome.Commit choices)) h =
+    adds-ascend (filter_map (delta_given key version) choices) ∙ deltas-ascend key version (Fact.Heard t (Outcome.Commit choices)) h
 live_from-ascend key version (Fact.Adopted k v item adds) h =
-    adds-ascend (deltas_from key version (Fact.Adopted k v item adds))
-    ∙ if-ascends (v == version && key_eq k key) (map pair_of adds) (adopted-ascend adds ∙ h)
+    adds-ascend (deltas_from key version (Fact.Adopted k v item adds)) ∙ deltas-ascend key version (Fact.Adopted k v item adds) h
 
 pub first-live : FirstLiveOfOrdered
 first-live older key version fact h = new-beside (live_and_void older key version) (live_from key version fact) (live_from-ascend key version fact h)

@@ -15,7 +15,7 @@ use Rattle.mdcc_struct.proofs.Values.{entry_value, value_of-union, value_of-with
 use Rattle.mdcc_struct.proofs.Walks.{ascending-filter, ascending-union, ascending-with_entry}
 use Rattle.mdcc_protocol.specs.Facts.{heard_of, is_heard, outcome_in, unresolved_of, write_sets_from, write_sets_of}
 use Rattle.mdcc_messages.specs.declared.facts.Fact.{Fact}
-use Rattle.mdcc_fact_folds.specs.Unresolved.{OutcomeOfUnknown, UnresolvedAscends, UnresolvedStands, VoteOfKnown, WriteSetByWalk, WriteSetStands, WriteSetUnheard, is_choice_of, with_unheard, without}
+use Rattle.mdcc_fact_folds.specs.Unresolved.{OutcomeOfUnknown, UnresolvedAscends, UnresolvedUpdates, VoteOfKnown, WriteSetByWalk, WriteSetUpdates, WriteSetUnheard, is_choice_of, with_unheard, without}
 use Rattle.mdcc_fact_folds.proofs.Chosen.{or_assoc, or_left, or_right}
 use Rattle.mdcc_fact_folds.proofs.Folded.{gathered, gathered-walk}
 use Rattle.mdcc_fact_folds.proofs.Ignored.{left_out}
@@ -161,22 +161,22 @@ heard-more facts t outcome =
     ∙ ap (λ o. kept_value (not (tx_eq tx t)) o) (sym (unresolved-value facts tx))
     ∙ sym (value-kept (λ s. not (tx_eq s t)) (unresolved_of facts) tx))
 
-pub unresolved-stands : UnresolvedStands
-unresolved-stands facts (Fact.Booted epoch) = vote-more facts (Fact.Booted epoch) (λ tx. refl)
-unresolved-stands facts (Fact.Promised k low high b) = vote-more facts (Fact.Promised k low high b) (λ tx. refl)
-unresolved-stands facts (Fact.Voted k v b options offered) = vote-more facts (Fact.Voted k v b options offered) (λ tx. refl)
-unresolved-stands facts (Fact.Heard t outcome) = heard-more facts t outcome
-unresolved-stands facts (Fact.Adopted k v item adds) = vote-more facts (Fact.Adopted k v item adds) (λ tx. refl)
+pub unresolved-updates : UnresolvedUpdates
+unresolved-updates facts (Fact.Booted epoch) = vote-more facts (Fact.Booted epoch) (λ tx. refl)
+unresolved-updates facts (Fact.Promised k low high b) = vote-more facts (Fact.Promised k low high b) (λ tx. refl)
+unresolved-updates facts (Fact.Voted k v b options offered) = vote-more facts (Fact.Voted k v b options offered) (λ tx. refl)
+unresolved-updates facts (Fact.Heard t outcome) = heard-more facts t outcome
+unresolved-updates facts (Fact.Adopted k v item adds) = vote-more facts (Fact.Adopted k v item adds) (λ tx. refl)
 
 -- ---- write sets
 
-pub write_set-stands : WriteSetStands
-write_set-stands facts fact tx = value_of-union (write_sets_of facts) (write_sets_from fact) tx
+pub write_set-updates : WriteSetUpdates
+write_set-updates facts fact tx = value_of-union (write_sets_of facts) (write_sets_from fact) tx
 
 write_set-gathered : (tx : TxId) (facts : List Fact) → value_of (write_sets_of facts) tx ≡ gathered option_or None (λ fact. value_of (write_sets_from fact) tx) facts
 write_set-gathered tx [] = refl
 write_set-gathered tx (fact ∷ facts) =
-    write_set-stands facts fact tx ∙ ap (λ o. option_or o (value_of (write_sets_from fact) tx)) (write_set-gathered tx facts)
+    write_set-updates facts fact tx ∙ ap (λ o. option_or o (value_of (write_sets_from fact) tx)) (write_set-gathered tx facts)
 
 none-found : {X : Type 0} (o : Option X) → is_some o ≡ false → o ≡ None
 none-found None h = refl

@@ -15,7 +15,7 @@ use Rattle.mdcc_option.specs.declared.items.Update.{Update}
 use Rattle.mdcc_protocol.specs.Facts.{base_at, base_from, base_given, base_of, current_of, version_from, version_given}
 use Rattle.mdcc_messages.specs.declared.facts.Fact.{Fact}
 use Rattle.mdcc_fact_folds.specs.Chains.{is_version_of}
-use Rattle.mdcc_fact_folds.specs.Held.{HeldElsewhere, HeldInChain, HeldStands, held_of, next_held}
+use Rattle.mdcc_fact_folds.specs.Held.{HeldElsewhere, HeldInChain, HeldUpdates, held_of, next_held}
 use Rattle.mdcc_fact_folds.proofs.Folded.{answered, answered-chain}
 use Rattle.mdcc_fact_folds.proofs.Ignored.{left_out}
 
@@ -177,8 +177,8 @@ module _ (key : Key) (facts : List Fact) (fact : Fact) where
         | inr low ↦ ap (λ b. (max c v, b)) (base-same low) ∙ ap (λ n. (n, base_of facts key)) (next_version_is c v low) ∙ rw low refl
       ]
 
-pub held-stands : HeldStands
-held-stands key facts fact = held-more key facts fact
+pub held-updates : HeldUpdates
+held-updates key facts fact = held-more key facts fact
 
 -- ---- facts of other keys
 
@@ -209,11 +209,11 @@ next_held-same key fact held h = rw (no_version key fact h, not_lt_zero held.0) 
     not_lt_zero n = grind (arith, nat_tests)
 
 pub held-elsewhere : HeldElsewhere
-held-elsewhere key facts fact h = held-stands key facts fact ∙ next_held-same key fact (held_of facts key) h
+held-elsewhere key facts fact h = held-updates key facts fact ∙ next_held-same key fact (held_of facts key) h
 
 held-answered : (key : Key) (facts : List Fact) → held_of facts key ≡ answered (λ held fact. next_held key fact held) (0, None) facts
 held-answered key [] = refl
-held-answered key (fact ∷ facts) = held-stands key facts fact ∙ ap (next_held key fact) (held-answered key facts)
+held-answered key (fact ∷ facts) = held-updates key facts fact ∙ ap (next_held key fact) (held-answered key facts)
 
 pub held-chain : HeldInChain
 held-chain keep key covers facts =

@@ -18,7 +18,7 @@ use Rattle.mdcc_protocol.specs.Stores.{ended_of}
 use Rattle.mdcc_messages.specs.declared.facts.Fact.{Fact}
 use Rattle.mdcc_fact_folds.specs.Chains.{Covers, is_heard_of, is_promise_of, is_vote_in}
 use Rattle.mdcc_fact_folds.specs.Outcomes.{EndedByWalk, HeardAtFirst, HeardByWalk, HeardInChain, IsHeardByWalk, IsVoidByWalk, are_heard_once, first_outcome}
-use Rattle.mdcc_fact_folds.specs.Promises.{EpochStands, PromiseByWalks, PromisedByWalk, PromisedInChain, with_promise}
+use Rattle.mdcc_fact_folds.specs.Promises.{EpochUpdates, PromiseByWalks, PromisedByWalk, PromisedInChain, with_promise}
 use Rattle.mdcc_fact_folds.specs.Votes.{ChoiceByWalk, ChoiceInChain, VoteByWalk, VoteInChain, VotedBelowByWalk, VotedBelowInChain}
 use Rattle.mdcc_fact_folds.proofs.Chosen.{later_assoc, later_left, later_right, max_assoc, max_both, max_first, max_left, max_right, or_assoc, or_left, or_right}
 use Rattle.mdcc_fact_folds.proofs.Folded.{folded, folded-from, gathered, gathered-chain, gathered-walk}
@@ -184,12 +184,12 @@ promise-walks of_key of_instance key version covers_key covers_instance facts =
     ∙ sym (folded-from ballot_max fast_ballot (ballot_promised key version) max_left max_right max_assoc
     (fold (with_promise key version) fast_ballot (filter of_key facts)) (filter of_instance facts))
 
-pub epoch-stands : EpochStands
-epoch-stands facts (Fact.Booted epoch) = refl
-epoch-stands facts (Fact.Promised k low high b) = refl
-epoch-stands facts (Fact.Voted k v b options offered) = refl
-epoch-stands facts (Fact.Heard t outcome) = refl
-epoch-stands facts (Fact.Adopted k v item adds) = refl
+pub epoch-updates : EpochUpdates
+epoch-updates facts (Fact.Booted epoch) = refl
+epoch-updates facts (Fact.Promised k low high b) = refl
+epoch-updates facts (Fact.Voted k v b options offered) = refl
+epoch-updates facts (Fact.Heard t outcome) = refl
+epoch-updates facts (Fact.Adopted k v item adds) = refl
 
 -- ---- votes
 

@@ -39,36 +39,36 @@ is_instance key version i = i.1 == version && key_eq i.0 key
 
 -- ---- entries
 
--- places of facts, the newest first, each with every key under which its fact is entered
+-- indices of facts, the newest first, each with every key under which its fact is entered
 abbrev pub entered : {K : Type 0} → (Fact → List K) → (ℕ → Fact) → List ℕ → List (K × ℕ)
 entered keys fact_at [] = []
-entered keys fact_at (place ∷ places) = map (λ k. (k, place)) (keys (fact_at place)) ++ entered keys fact_at places
+entered keys fact_at (index ∷ indices) = map (λ k. (k, index)) (keys (fact_at index)) ++ entered keys fact_at indices
 
--- the places that are found by a test on keys
+-- the indices that are found by a test on keys
 abbrev pub found_by : {K : Type 0} → (K → Bool) → List (K × ℕ) → List ℕ
 found_by test entries = map (λ e. e.1) (filter (λ e. test e.0) entries)
 
 -- each fact of an instance is found once
 abbrev pub InstanceIsFound : Type 0
 InstanceIsFound =
-    (fact_at : ℕ → Fact) (places : List ℕ) (key : Key) (version : ℕ) → list_all (λ place. is_ordered (fact_at place)) places ≡ true
-    → found_by (is_instance key version) (entered instances_in fact_at places) ≡ filter (λ place. is_of_instance key version (fact_at place)) places
+    (fact_at : ℕ → Fact) (indices : List ℕ) (key : Key) (version : ℕ) → list_all (λ index. is_ordered (fact_at index)) indices ≡ true
+    → found_by (is_instance key version) (entered instances_in fact_at indices) ≡ filter (λ index. is_of_instance key version (fact_at index)) indices
 
 abbrev pub PromisesAreFound : Type 0
 PromisesAreFound =
-    (fact_at : ℕ → Fact) (places : List ℕ) (key : Key)
-    → found_by (λ k. key_eq k key) (entered promised_in fact_at places) ≡ filter (λ place. is_promise_of key (fact_at place)) places
+    (fact_at : ℕ → Fact) (indices : List ℕ) (key : Key)
+    → found_by (λ k. key_eq k key) (entered promised_in fact_at indices) ≡ filter (λ index. is_promise_of key (fact_at index)) indices
 
 abbrev pub OutcomesAreFound : Type 0
 OutcomesAreFound =
-    (fact_at : ℕ → Fact) (places : List ℕ) (tx : TxId)
-    → found_by (λ t. tx_eq t tx) (entered heard_in fact_at places) ≡ filter (λ place. is_heard_of tx (fact_at place)) places
+    (fact_at : ℕ → Fact) (indices : List ℕ) (tx : TxId)
+    → found_by (λ t. tx_eq t tx) (entered heard_in fact_at indices) ≡ filter (λ index. is_heard_of tx (fact_at index)) indices
 
--- the facts at the places that a walk finds are the chain
+-- the facts at the indices that a walk finds are the chain
 abbrev pub FoundIsChain : Type 0
 FoundIsChain =
-    (keep : Fact → Bool) (fact_at : ℕ → Fact) (places : List ℕ)
-    → map fact_at (filter (λ place. keep (fact_at place)) places) ≡ filter keep (map fact_at places)
+    (keep : Fact → Bool) (fact_at : ℕ → Fact) (indices : List ℕ)
+    → map fact_at (filter (λ index. keep (fact_at index)) indices) ≡ filter keep (map fact_at indices)
 
 abbrev pub AtMostEightInstances : Type 0
 AtMostEightInstances = (fact : Fact) → IsWellFormedFact fact → length (instances_in fact) ≤ 8

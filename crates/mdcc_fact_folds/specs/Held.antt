@@ -1,7 +1,7 @@
 -- What is held at a key: two values that each further fact changes, and the deltas of a version in one walk of its chain.
 use Rattle.std.specs.List.{fold, list_any}
 use Rattle.std.specs.Option.{option_or}
-use Rattle.std.specs.Prelude.{◌≡◌, Bool, List, None, Option, [], false, filter, if◌then◌else◌, length, max, nat_lt, option_map, ℕ, ◌+◌, ◌∷◌}
+use Rattle.std.specs.Prelude.{◌≡◌, Bool, List, None, Option, [], false, filter, if◌then◌else◌, is_some, length, max, nat_lt, not, option_map, true, ℕ, ◌+◌, ◌∷◌}
 use Rattle.mdcc_base.specs.declared.identifiers.TxId.{TxId}
 use Rattle.mdcc_base.specs.declared.key.Key.{Key}
 use Rattle.mdcc_option.specs.declared.items.Delta.{Delta}
@@ -13,6 +13,7 @@ use Rattle.mdcc_protocol.specs.News.{is_crowding, keys_in}
 use Rattle.mdcc_protocol.specs.Stores.{delta_of}
 use Rattle.mdcc_messages.specs.declared.facts.Fact.{Fact}
 use Rattle.mdcc_fact_folds.specs.Chains.{Covers, is_delta_in, is_version_of}
+use Rattle.mdcc_fact_folds.specs.Live.{is_ordered}
 use Rattle.mdcc_fact_folds.specs.New.{new_entries}
 
 -- ---- what stands at a key
@@ -27,8 +28,8 @@ next_held key fact held =
     let version = version_from key fact in
     if nat_lt held.0 version then (version, base_from key version fact) else held
 
-abbrev pub HeldStands : Type 0
-HeldStands = (key : Key) (facts : List Fact) (fact : Fact) → held_of (fact ∷ facts) key ≡ next_held key fact (held_of facts key)
+abbrev pub HeldUpdates : Type 0
+HeldUpdates = (key : Key) (facts : List Fact) (fact : Fact) → held_of (fact ∷ facts) key ≡ next_held key fact (held_of facts key)
 
 abbrev pub HeldInChain : Type 0
 HeldInChain =
@@ -96,6 +97,16 @@ abbrev pub DeltasCounted : Type 0
 DeltasCounted =
     (keep : Fact → Bool) (key : Key) (version : ℕ) → Covers keep (is_delta_in key version)
     → (facts : List Fact) → length (deltas_at facts key version) ≡ deltas_walk key version 0 (filter keep facts)
+
+-- brings a delta of the transaction
+abbrev pub is_delta_by : Key → ℕ → TxId → Fact → Bool
+is_delta_by key version tx fact = is_some (value_of (deltas_from key version fact) tx)
+
+-- of a fact whose entries stand in order, the deltas of transactions of which no older fact brings one
+abbrev pub FirstDeltasOfOrdered : Type 0
+FirstDeltasOfOrdered =
+    (older : List Fact) (key : Key) (version : ℕ) (fact : Fact) → is_ordered fact ≡ true
+    → first_deltas older key version fact ≡ filter (λ e. not (list_any (is_delta_by key version e.0) older)) (deltas_from key version fact)
 
 -- ---- crowding
 

@@ -1,7 +1,7 @@
 -- What is live in an instance, and how many marks stand there, in one walk of its chain. Of several facts that make a transaction live there the oldest counts, at whatever ballot.
 use Rattle.std.specs.List.{fold, list_all, list_any}
 use Rattle.std.specs.Option.{option_or}
-use Rattle.std.specs.Prelude.{◌≡◌, Bool, List, None, Option, [], filter, is_some, not, true, ℕ, ◌+◌, ◌∷◌}
+use Rattle.std.specs.Prelude.{◌≡◌, Bool, List, None, Option, [], filter, is_some, not, true, ℕ, ◌&&◌, ◌+◌, ◌∷◌}
 use Rattle.mdcc_base.specs.Ballot.{fast_ballot}
 use Rattle.mdcc_base.specs.Counts.{number_of}
 use Rattle.mdcc_base.specs.declared.identifiers.Ballot.{Ballot}
@@ -69,6 +69,40 @@ IsLiveByWalk =
     (keep : Fact → Bool) (key : Key) (version : ℕ) (tx : TxId) → Covers keep (is_of_instance key version)
     → (facts : List Fact) → is_some (value_of (live_and_void facts key version) tx) ≡ list_any (is_live_by key version tx) (filter keep facts)
 
+-- ---- facts whose entries stand in order
+
+-- marks ascend by transaction, committed choices by key, and adopted deltas by transaction
+abbrev pub is_ordered : Fact → Bool
+is_ordered (Fact.Voted key version ballot options offered) = are_ascending options
+is_ordered (Fact.Heard tx (Outcome.Commit choices)) = is_ascending_by choice_lt choices
+is_ordered (Fact.Adopted key version item adds) = is_ascending_by delta_lt adds
+is_ordered _ = true
+
+abbrev pub WellFormedAreOrdered : Type 0
+WellFormedAreOrdered = (fact : Fact) → IsWellFormedFact fact → is_ordered fact ≡ true
+
+-- each transaction of such a fact counts where no older fact has it
+abbrev pub FirstLiveOfOrdered : Type 0
+FirstLiveOfOrdered =
+    (older : List Fact) (key : Key) (version : ℕ) (fact : Fact) → is_ordered fact ≡ true
+    → first_live older key version fact ≡ entries_beside (live_and_void older key version) (live_from key version fact)
+
+-- whether a transaction that a fact makes live counts: it is not void, and no older fact of the chain makes it live
+abbrev pub is_counted : (TxId → Bool) → List Fact → Key → ℕ → TxId → Bool
+is_counted void older key version tx = not (void tx) && not (list_any (is_live_by key version tx) older)
+
+-- the load, one entry at a time
+abbrev pub load_steps : List TxId → (TxId → Bool) → Key → ℕ → Load → List Fact → Load
+load_steps seen void key version load [] = load
+load_steps seen void key version load (fact ∷ older) =
+    load_steps seen void key version (fold (with_live seen) load (filter (λ e. is_counted void older key version e.0) (live_from key version fact))) older
+
+abbrev pub LoadBySteps : Type 0
+LoadBySteps =
+    (keep : Fact → Bool) (key : Key) (version : ℕ) (seen : List TxId) → Covers keep (is_of_instance key version)
+    → (facts : List Fact) → list_all is_ordered facts ≡ true
+    → load_at facts key version seen ≡ load_steps seen (is_void facts) key version no_load (filter keep facts)
+
 -- ---- entries
 
 -- the marks of a fact at a ballot that no older fact of the chain has
@@ -90,24 +124,6 @@ EntriesByWalk =
     (keep : Fact → Bool) (key : Key) (version : ℕ) → Covers keep (is_vote_in key version)
     → (facts : List Fact) → entries_at facts key version ≡ entries_walk key version (0, 0) (filter keep facts)
 
--- ---- facts whose entries stand in order, and say nothing a second time
-
--- marks ascend by transaction, committed choices by key, and adopted deltas by transaction
-abbrev pub is_ordered : Fact → Bool
-is_ordered (Fact.Voted key version ballot options offered) = are_ascending options
-is_ordered (Fact.Heard tx (Outcome.Commit choices)) = is_ascending_by choice_lt choices
-is_ordered (Fact.Adopted key version item adds) = is_ascending_by delta_lt adds
-is_ordered _ = true
-
-abbrev pub WellFormedAreOrdered : Type 0
-WellFormedAreOrdered = (fact : Fact) → IsWellFormedFact fact → is_ordered fact ≡ true
-
--- each transaction of such a fact counts where no older fact has it
-abbrev pub FirstLiveOfOrdered : Type 0
-FirstLiveOfOrdered =
-    (older : List Fact) (key : Key) (version : ℕ) (fact : Fact) → is_ordered fact ≡ true
-    → first_live older key version fact ≡ entries_beside (live_and_void older key version) (live_from key version fact)
-
 -- the counts with all marks of a fact at the fast ballot
 abbrev pub with_entries : Key → ℕ → ℕ × ℕ → Fact → ℕ × ℕ
 with_entries key version counts fact = fold with_mark counts (marks_voted key version fast_ballot fact)
@@ -120,8 +136,8 @@ EntriesByFold =
     → entries_at facts key version ≡ fold (with_entries key version) (0, 0) (filter keep facts)
 
 -- so a store may keep the entries of each instance as two numbers
-abbrev pub EntriesStand : Type 0
-EntriesStand =
+abbrev pub EntriesUpdate : Type 0
+EntriesUpdate =
     (facts : List Fact) (fact : Fact) (key : Key) (version : ℕ) → MayBeAdded facts fact
     → entries_at (fact ∷ facts) key version ≡ with_entries key version (entries_at facts key version) fact
 

@@ -41,5 +41,5 @@ abbrev pub next_epoch : Fact → ℕ → ℕ
 next_epoch (Fact.Booted epoch) last = epoch
 next_epoch fact last = last
 
-abbrev pub EpochStands : Type 0
-EpochStands = (facts : List Fact) (fact : Fact) → epoch_of (fact ∷ facts) ≡ next_epoch fact (epoch_of facts)
+abbrev pub EpochUpdates : Type 0
+EpochUpdates = (facts : List Fact) (fact : Fact) → epoch_of (fact ∷ facts) ≡ next_epoch fact (epoch_of facts)

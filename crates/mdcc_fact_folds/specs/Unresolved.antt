@@ -1,7 +1,7 @@
 -- The transactions that are not resolved: a list in order that each further fact changes, and a table of write sets.
 use Rattle.std.specs.List.{fold, list_all}
 use Rattle.std.specs.Option.{option_or}
-use Rattle.std.specs.Prelude.{◌≡◌, Bool, List, None, Option, false, filter, if◌then◌else◌, is_some, not, true, ℕ, ◌∷◌}
+use Rattle.std.specs.Prelude.{◌≡◌, Bool, List, None, Option, false, filter, if◌then◌else◌, is_some, map, not, option_map, true, ℕ, ◌∷◌}
 use Rattle.mdcc_base.specs.TxId.{tx_eq}
 use Rattle.mdcc_base.specs.declared.identifiers.TxId.{TxId}
 use Rattle.mdcc_base.specs.declared.key.Key.{Key}
@@ -23,8 +23,8 @@ abbrev pub next_unresolved : List Fact → TxMap (List (Key × ℕ)) → Fact �
 next_unresolved facts m (Fact.Heard tx outcome) = without tx m
 next_unresolved facts m fact = fold (with_unheard facts) m (write_sets_from fact)
 
-abbrev pub UnresolvedStands : Type 0
-UnresolvedStands = (facts : List Fact) (fact : Fact) → unresolved_of (fact ∷ facts) ≡ next_unresolved facts (unresolved_of facts) fact
+abbrev pub UnresolvedUpdates : Type 0
+UnresolvedUpdates = (facts : List Fact) (fact : Fact) → unresolved_of (fact ∷ facts) ≡ next_unresolved facts (unresolved_of facts) fact
 
 abbrev pub UnresolvedAscends : Type 0
 UnresolvedAscends = (facts : List Fact) → are_ascending (unresolved_of facts) ≡ true
@@ -38,8 +38,8 @@ abbrev pub older_write_set : TxId → Option (List (Key × ℕ)) → Fact → Op
 older_write_set tx later fact = option_or (value_of (write_sets_from fact) tx) later
 
 -- a table that has the first write set of each transaction, with one more fact
-abbrev pub WriteSetStands : Type 0
-WriteSetStands =
+abbrev pub WriteSetUpdates : Type 0
+WriteSetUpdates =
     (facts : List Fact) (fact : Fact) (tx : TxId)
     → value_of (write_sets_of (fact ∷ facts)) tx ≡ option_or (value_of (write_sets_of facts) tx) (value_of (write_sets_from fact) tx)
 
@@ -67,3 +67,24 @@ abbrev pub OutcomeOfUnknown : Type 0
 OutcomeOfUnknown =
     (facts : List Fact) (tx : TxId) → is_some (value_of (write_sets_of facts) tx) ≡ false
     → without tx (unresolved_of facts) ≡ unresolved_of facts
+
+-- ---- a list that has numbers in the place of write sets
+
+-- what each number represents
+abbrev pub listed_by : {X Y : Type 0} → (X → Y) → TxMap X → TxMap Y
+listed_by represents m = map (λ e. (e.0, represents e.1)) m
+
+abbrev pub PutByNumber : Type 0
+PutByNumber =
+    (write_set_at : ℕ → List (Key × ℕ)) (m : TxMap ℕ) (tx : TxId) (number : ℕ)
+    → listed_by write_set_at (with_entry m (tx, number)) ≡ with_entry (listed_by write_set_at m) (tx, write_set_at number)
+
+abbrev pub TakenByNumber : Type 0
+TakenByNumber =
+    (write_set_at : ℕ → List (Key × ℕ)) (m : TxMap ℕ) (tx : TxId)
+    → listed_by write_set_at (without tx m) ≡ without tx (listed_by write_set_at m)
+
+abbrev pub FoundByNumber : Type 0
+FoundByNumber =
+    (write_set_at : ℕ → List (Key × ℕ)) (m : TxMap ℕ) (tx : TxId)
+    → value_of (listed_by write_set_at m) tx ≡ option_map write_set_at (value_of m tx)

@@ -1,11 +1,11 @@
 //! What is held at a key.
-ghost use Rattle.mdcc_fact_folds.specs.Held.{CrowdingByChains, DeltaByWalk, DeltasByWalk, DeltasCounted, DeltasInChain, ExecutedByJoin, ExecutedInChain};
-ghost use Rattle.mdcc_fact_folds.specs.Held.{HeldElsewhere, HeldInChain, HeldStands, NextDeltasCounted};
+ghost use Rattle.mdcc_fact_folds.specs.Held.{CrowdingByChains, DeltaByWalk, DeltasByWalk, DeltasCounted, DeltasInChain, ExecutedByJoin, ExecutedInChain, FirstDeltasOfOrdered};
+ghost use Rattle.mdcc_fact_folds.specs.Held.{HeldElsewhere, HeldInChain, HeldUpdates, NextDeltasCounted};
 
 /// The version that is held and its base stand as two values at the key: the fact that raises the
 /// version brings the base.
 pub fn held()
-    ensures stands { HeldStands }
+    ensures updates { HeldUpdates }
     ensures elsewhere { HeldElsewhere }
     ensures chain { HeldInChain }
 {}
@@ -31,4 +31,5 @@ pub fn executed()
 pub fn would_crowd()
     ensures chains { CrowdingByChains }
     ensures counted { NextDeltasCounted }
+    ensures ordered { FirstDeltasOfOrdered }
 {}

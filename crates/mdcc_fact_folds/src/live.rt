@@ -1,13 +1,15 @@
 //! What is live in an instance, and how many marks stand there.
-ghost use Rattle.mdcc_fact_folds.specs.Live.{CountByFold, CountInChain, EntriesByFold, EntriesByWalk, EntriesInChain, EntriesStand, FirstLiveOfOrdered, IsLiveByWalk};
-ghost use Rattle.mdcc_fact_folds.specs.Live.{LiveInChain, LoadByWalk, UpdateByWalk, WellFormedAreOrdered};
+ghost use Rattle.mdcc_fact_folds.specs.Live.{CountByFold, CountInChain, EntriesByFold, EntriesByWalk, EntriesInChain, EntriesUpdate, FirstLiveOfOrdered, IsLiveByWalk};
+ghost use Rattle.mdcc_fact_folds.specs.Live.{LiveInChain, LoadBySteps, LoadByWalk, UpdateByWalk, WellFormedAreOrdered};
 
 /// The load of an instance is summed in one walk of its chain. A transaction counts at the oldest fact
 /// that makes it live there, whether by a fast vote, a classic one, a commit or an adoption, and not
-/// where it is void.
+/// where it is void. Where the entries of each fact stand in order, it counts where no older fact of the
+/// chain makes it live.
 pub fn load()
     ensures chain { LiveInChain }
     ensures walk { LoadByWalk }
+    ensures steps { LoadBySteps }
 {}
 
 /// What a fact makes live first, where its own entries stand in order, as those of a well-formed fact
@@ -30,7 +32,7 @@ pub fn entries()
     ensures chain { EntriesInChain }
     ensures walk { EntriesByWalk }
     ensures once { EntriesByFold }
-    ensures stands { EntriesStand }
+    ensures updates { EntriesUpdate }
 {}
 
 /// How many transactions of a structure were voted is summed over the chain, where no mark was voted

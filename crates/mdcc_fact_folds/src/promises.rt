@@ -1,5 +1,5 @@
 //! Promises and epochs.
-ghost use Rattle.mdcc_fact_folds.specs.Promises.{EpochStands, PromiseByWalks, PromisedByWalk, PromisedInChain};
+ghost use Rattle.mdcc_fact_folds.specs.Promises.{EpochUpdates, PromiseByWalks, PromisedByWalk, PromisedInChain};
 
 /// The promise of an instance is the greatest ballot in the chain of its key's promises and in that of
 /// its votes.
@@ -13,7 +13,7 @@ pub fn promised()
     ensures walk { PromisedByWalk }
 {}
 
-/// The epoch stands as a number.
+/// The epoch is a number that each boot sets.
 pub fn epoch()
-    ensures { EpochStands }
+    ensures { EpochUpdates }
 {}

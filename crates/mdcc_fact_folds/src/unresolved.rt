@@ -1,10 +1,11 @@
 //! Transactions that are not resolved.
-ghost use Rattle.mdcc_fact_folds.specs.Unresolved.{OutcomeOfUnknown, UnresolvedAscends, UnresolvedStands, VoteOfKnown, WriteSetByWalk, WriteSetStands, WriteSetUnheard};
+ghost use Rattle.mdcc_fact_folds.specs.Unresolved.{FoundByNumber, OutcomeOfUnknown, PutByNumber, TakenByNumber, UnresolvedAscends};
+ghost use Rattle.mdcc_fact_folds.specs.Unresolved.{UnresolvedUpdates, VoteOfKnown, WriteSetByWalk, WriteSetUpdates, WriteSetUnheard};
 
 /// The list of the unresolved transactions ascends, and each further fact changes it by its own
 /// transactions alone.
 pub fn unresolved()
-    ensures stands { UnresolvedStands }
+    ensures updates { UnresolvedUpdates }
     ensures ascends { UnresolvedAscends }
 {}
 
@@ -17,7 +18,14 @@ pub fn unchanged()
 
 /// A table of the first write set of each transaction is enough for that of an unresolved one.
 pub fn write_set()
-    ensures stands { WriteSetStands }
+    ensures updates { WriteSetUpdates }
     ensures unheard { WriteSetUnheard }
     ensures walk { WriteSetByWalk }
+{}
+
+/// A list may have numbers in the place of write sets: what it represents changes as it does.
+pub fn by_number()
+    ensures put { PutByNumber }
+    ensures taken { TakenByNumber }
+    ensures found { FoundByNumber }
 {}

@@ -1,8 +1,8 @@
-use Rattle.mdcc_fact_folds.proofs.Versions.{held-chain, held-elsewhere, held-stands}
+use Rattle.mdcc_fact_folds.proofs.Versions.{held-chain, held-elsewhere, held-updates}
 use Rattle.mdcc_fact_folds.proofs.held.held.Goals as goal
 
-pub returns-clause-stands : goal.returns-clause-stands
-returns-clause-stands c = held-stands
+pub returns-clause-updates : goal.returns-clause-updates
+returns-clause-updates c = held-updates
 
 pub returns-clause-elsewhere : goal.returns-clause-elsewhere
 returns-clause-elsewhere c = held-elsewhere

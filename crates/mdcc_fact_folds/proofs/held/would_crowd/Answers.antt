@@ -1,4 +1,5 @@
 use Rattle.mdcc_fact_folds.proofs.Deltas.{crowding-chains, next-counted}
+use Rattle.mdcc_fact_folds.proofs.Steps.{first-deltas}
 use Rattle.mdcc_fact_folds.proofs.held.would_crowd.Goals as goal
 
 pub returns-clause-chains : goal.returns-clause-chains
@@ -6,3 +7,6 @@ returns-clause-chains c = crowding-chains
 
 pub returns-clause-counted : goal.returns-clause-counted
 returns-clause-counted c = next-counted
+
+pub returns-clause-ordered : goal.returns-clause-ordered
+returns-clause-ordered c = first-deltas

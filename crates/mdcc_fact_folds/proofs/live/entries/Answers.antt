@@ -1,5 +1,5 @@
 use Rattle.mdcc_fact_folds.proofs.Loads.{entries-chain, entries-walk}
-use Rattle.mdcc_fact_folds.proofs.Once.{entries-fold, entries-stand}
+use Rattle.mdcc_fact_folds.proofs.Once.{entries-fold, entries-update}
 use Rattle.mdcc_fact_folds.proofs.live.entries.Goals as goal
 
 pub returns-clause-chain : goal.returns-clause-chain
@@ -11,5 +11,5 @@ returns-clause-walk c = entries-walk
 pub returns-clause-once : goal.returns-clause-once
 returns-clause-once c = entries-fold
 
-pub returns-clause-stands : goal.returns-clause-stands
-returns-clause-stands c = entries-stand
+pub returns-clause-updates : goal.returns-clause-updates
+returns-clause-updates c = entries-update
