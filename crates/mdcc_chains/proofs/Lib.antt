@@ -1,0 +1,4 @@
+pub mod Filtered
+mod Indexed
+mod Linked
+mod OnWay

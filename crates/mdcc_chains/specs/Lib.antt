@@ -1,0 +1,6 @@
+pub mod Hashes
+pub mod Keyed
+pub mod KeyTables
+pub mod Keys
+pub mod Links
+pub mod Walks
