@@ -1,0 +1,40 @@
+-- Sockets: their addresses, which errors are no fault, and which receive does not wait.
+use Rattle.std.specs.Prelude.{◌≡◌, ℕ, ◌+◌, Bool, true, false, ◌==◌, Option, Some, None, Result, Ok, Err}
+use Rattle.std.specs.declared.net.socket_addr.SocketAddr.{SocketAddr}
+use Rattle.std.specs.declared.net.ip_addr.IpAddr.TheVariants as ip
+use Rattle.std.specs.declared.net.ipv4_addr.Ipv4Addr.{Ipv4Addr}
+use Rattle.std.specs.Net.Addr.{ipv4_octets}
+use Rattle.std.specs.Net.Socket.{socket_ip, socket_port}
+use Rattle.std.specs.declared.io.ErrorKind.{ErrorKind}
+use Rattle.std.specs.declared.io.ErrorKind.TheVariants as kind
+use Rattle.mdcc_base.specs.declared.faults.Failed.{Failed}
+use Rattle.mdcc_base.specs.declared.outside.Address.{Address}
+use Rattle.mdcc_link.specs.declared.link.Received.{Received}
+use Rattle.mdcc_link.specs.declared.link.Received.TheVariants.{Got, Nothing}
+
+-- the socket's address has this host and this port
+pub record IsSocketAddress (address : Address) (socket : SocketAddr) : Type 0 where
+  pub host : Ipv4Addr
+  pub ip : socket_ip socket ≡ ip.V4 host
+  pub octets : ipv4_octets host ≡ address.host
+  pub port : socket_port socket ≡ address.port
+
+-- Whether a receive that ended so brought nothing, and is no fault: nothing came, a signal came, or an earlier datagram found no
+-- receiver.
+abbrev pub is_quiet : ErrorKind → Bool
+is_quiet kind.WouldBlock = true
+is_quiet kind.TimedOut = true
+is_quiet kind.Interrupted = true
+is_quiet kind.ConnectionRefused = true
+is_quiet _ = false
+
+-- the endpoint at which a receive brought a datagram
+abbrev pub served_by : ℕ → Result Received Failed → Option ℕ
+served_by at (Ok (Got _)) = Some at
+served_by at (Ok Nothing) = None
+served_by at (Err _) = None
+
+-- whether this is a client's endpoint, and the receive just before brought a datagram at the centre's own
+abbrev pub is_served : Option ℕ → ℕ → Bool
+is_served None at = false
+is_served (Some own) at = at == own + 16

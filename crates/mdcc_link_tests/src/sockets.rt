@@ -1,0 +1,77 @@
+//! A link over UDP sockets, on loopback.
+ghost use Rattle.std.specs.Prelude.{◌<◌};
+
+use mdcc_base::Address;
+use mdcc_link::{Link, Received, UdpLink};
+use std::test::Fail;
+use std::time::{Duration, Instant};
+
+fn at_port(port: u16) -> Address {
+    Address {
+        host: [127, 0, 0, 1],
+        port,
+    }
+}
+
+// A datagram from one endpoint to another comes once and whole, a longer one than the buffer comes cut, and one that finds no
+// receiver is no fault then or later.
+#[test]
+fn carries_datagrams(rt: HostRuntime) -> Result<(), Fail> {
+    let mut buffer = [0u8; 1401];
+    let mut link = UdpLink::new(rt.alloc(), &rt);
+    assert_eq!(rt; link.bind(1, at_port(39_301)), Ok(()));
+    assert_eq!(rt; link.bind(17, at_port(39_317)), Ok(()));
+    assert!(rt; link.bind(1, at_port(39_302)).is_err());
+    assert!(rt; link.bind(2, at_port(39_301)).is_err());
+    assert_eq!(rt; link.send(1, at_port(39_317), b"abc"), Ok(()));
+    assert_eq!(rt; link.receive(17, &mut buffer), Ok(Received::Got(3)));
+    assert!(rt; buffer.starts_with(b"abc"));
+    assert_eq!(rt; link.send(17, at_port(39_301), b""), Ok(()));
+    assert_eq!(rt; link.receive(1, &mut buffer), Ok(Received::Got(0)));
+    let long = [7u8; 1500];
+    assert_eq!(rt; link.send(17, at_port(39_301), &long), Ok(()));
+    assert_eq!(rt; link.receive(1, &mut buffer), Ok(Received::Got(1401)));
+    assert!(rt; buffer.iter().all(|byte| *byte == 7));
+    assert_eq!(rt; link.send(1, at_port(39_305), b"x"), Ok(()));
+    assert_eq!(rt; link.receive(1, &mut buffer), Ok(Received::Nothing));
+    assert_eq!(rt; link.receive(17, &mut buffer), Ok(Received::Nothing));
+    assert!(rt; link.send(3, at_port(39_301), b"x").is_err());
+    assert!(rt; link.send(1, at_port(0), b"x").is_err());
+    assert!(rt; link.receive(3, &mut buffer).is_err());
+    Ok(())
+}
+
+// A receive waits 20 milliseconds where nothing is there; not where the other endpoint of its centre has something, and not at
+// a client's endpoint where the receive just before brought a datagram at the centre's own.
+#[test]
+fn waits_when_idle(rt: HostRuntime) -> Result<(), Fail> {
+    let mut buffer = [0u8; 8];
+    let mut link = UdpLink::new(rt.alloc(), &rt);
+    assert_eq!(rt; link.bind(1, at_port(39_401)), Ok(()));
+    assert_eq!(rt; link.bind(17, at_port(39_417)), Ok(()));
+    let start = Instant::now(&rt)?;
+    assert_eq!(rt; link.receive(1, &mut buffer), Ok(Received::Nothing));
+    assert!(rt; start.elapsed(&rt)? >= Duration::from_millis(19));
+    let start = Instant::now(&rt)?;
+    assert_eq!(rt; link.receive(17, &mut buffer), Ok(Received::Nothing));
+    assert!(rt; start.elapsed(&rt)? >= Duration::from_millis(19));
+
+    // Thirty turns in which the centre's own endpoint has a datagram, and its client's has none: no receive waits.
+    let start = Instant::now(&rt)?;
+    for turn in 0..30u8 {
+        assert_eq!(rt; link.send(17, at_port(39_401), b"own"), Ok(()));
+        assert_eq!(rt; link.receive(1, &mut buffer), Ok(Received::Got(3)));
+        assert_eq!(rt; link.receive(17, &mut buffer), Ok(Received::Nothing));
+    }
+    assert!(rt; start.elapsed(&rt)? < Duration::from_millis(400));
+
+    // Thirty turns in which the client's endpoint alone has one: the receive at the centre's own ends at once.
+    let start = Instant::now(&rt)?;
+    for turn in 0..30u8 {
+        assert_eq!(rt; link.send(1, at_port(39_417), b"client"), Ok(()));
+        assert_eq!(rt; link.receive(1, &mut buffer), Ok(Received::Nothing));
+        assert_eq!(rt; link.receive(17, &mut buffer), Ok(Received::Got(6)));
+    }
+    assert!(rt; start.elapsed(&rt)? < Duration::from_millis(400));
+    Ok(())
+}
