@@ -89,7 +89,7 @@ length-union {X = X} m n =
     let sums = sum-union (λ (e : TxId × X). 1) m n in
     omega (arith, all, one, new, sums)
 
-counted-from : (key : Key) (version count : ℕ) (facts : List Fact) → deltas_walk key version count facts ≡ count + length (deltas_at facts key version)
+pub counted-from : (key : Key) (version count : ℕ) (facts : List Fact) → deltas_walk key version count facts ≡ count + length (deltas_at facts key version)
 counted-from key version count [] = sym (add-zero count)
 counted-from key version count (fact ∷ older) =
     let ih = counted-from key version (count + length (first_deltas older key version fact)) older in

@@ -1,9 +1,12 @@
 -- Which transactions facts bring does not depend on the order of the facts.
-use Rattle.std.proofs.Common.{◌≡◌, ℕ, Bool, true, false, List, [], ◌∷◌, Option, Some, None, is_some, refl, sym, ap, ◌∙◌, inl, inr, fold}
+use Rattle.mdcc_option.specs.declared.choices.Mark.{Mark}
+use Rattle.mdcc_struct.specs.declared.options.Options.{Options}
+use Rattle.mdcc_facts.proofs.Gathered.{ascending-report}
+use Rattle.std.proofs.Common.{◌≡◌, ℕ, Bool, true, false, List, [], ◌∷◌, Option, Some, None, is_some, refl, sym, ap, ◌∙◌, inl, inr, fold, suc, zero}
 use Rattle.std.proofs.lemmas.Bool.{cases_Bool}
 use Rattle.std.specs.List.{list_any}
 use Rattle.std.specs.Option.{option_and_then, option_map}
-use Rattle.std.specs.Prelude.{filter, find, if◌then◌else◌, map, ◌&&◌, ◌||◌}
+use Rattle.std.specs.Prelude.{filter, find, if◌then◌else◌, map, ◌&&◌, ◌||◌, slice_get}
 use Rattle.mdcc_base.specs.Ballot.{is_fast}
 use Rattle.mdcc_base.specs.TxId.{tx_eq, tx_lt}
 use Rattle.mdcc_base.specs.declared.identifiers.Ballot.{Ballot}
@@ -14,13 +17,13 @@ use Rattle.mdcc_struct.proofs.Values.{value_of-union}
 use Rattle.mdcc_struct.proofs.Walks.{ascending-union}
 use Rattle.mdcc_struct.specs.Maps.{TxMap, are_ascending, txs_of, union, value_of}
 use Rattle.mdcc_messages.specs.declared.facts.Fact.{Fact}
-use Rattle.mdcc_protocol.specs.Facts.{deltas_from, last_ballot, marks_voted, votes_of}
+use Rattle.mdcc_protocol.specs.Facts.{deltas_from, last_ballot, marks_voted, votes_of, report_of}
 use Rattle.mdcc_protocol.specs.Stores.{is_above, mark_after}
-use Rattle.mdcc_facts.proofs.Walking.{beside, found-end, found-none, found-some, least_union}
-use Rattle.mdcc_facts.specs.Walks.{each_kept, is_next, least_from, lower_passing, next_tx}
+use Rattle.mdcc_facts.proofs.Walking.{beside, found-end, found-none, found-some, least_union, rest-next}
+use Rattle.mdcc_facts.specs.Walks.{each_kept, is_next, least_from, lower_passing, next_tx, rest_of}
 use Rattle.mdcc_fact_folds.specs.Chains.{Covers, is_delta_in, is_vote_in}
 use Rattle.mdcc_fact_folds.specs.Held.{ExecutedByJoin}
-use Rattle.mdcc_fact_folds.specs.Votes.{MarkAfterByWalks, least_above, mark_walks, older_mark}
+use Rattle.mdcc_fact_folds.specs.Votes.{MarkAfterByWalks, least_above, mark_walks, older_mark, MarkBelowBySteps, marks_further}
 use Rattle.mdcc_fact_folds.proofs.Deltas.{deltas-joined, no_deltas}
 use Rattle.mdcc_fact_folds.proofs.Ignored.{left_out, no_marks}
 use Rattle.mdcc_fact_folds.proofs.Joined.{found-any, joined, joined-ascends, joined-chain, mark-walk, some-either, votes-joined}
@@ -217,3 +220,50 @@ after-walks keep key version below last covers facts = by (is_fast below) refl
         (after-ballot keep key version covers facts (last_ballot facts key version below) last
         ∙ ap (λ ballot. option_and_then (λ tx. marked ballot tx (fold (older_mark key version ballot tx) None (filter keep facts)))
         (fold (least_above key version ballot last) None (filter keep facts))) (below-walk keep key version below covers facts))
+
+-- ---- one mark after the other
+
+next-first : {X : Type 0} (last : Option TxId) (m : TxMap X) → find (λ e. is_above last e.0) m ≡ slice_get (rest_of each_kept last m) 0
+next-first last [] = refl
+next-first last (e ∷ es) =
+    elim (cases_Bool (is_above last e.0)) [
+      | inl above ↦ rw above refl
+      | inr below ↦ rw below (next-first last es)
+    ]
+
+-- so many entries further
+abbrev entries_further : {X : Type 0} → TxMap X → Option TxId → ℕ → Option (TxId × X)
+entries_further m last zero = find (λ e. is_above last e.0) m
+entries_further m last (suc more) = option_and_then (λ e. entries_further m (Some e.0) more) (find (λ e. is_above last e.0) m)
+
+further-at : {X : Type 0} (m : TxMap X) → are_ascending m ≡ true → (last : Option TxId) (more : ℕ) → entries_further m last more ≡ slice_get (rest_of each_kept last m) more
+further-at m up last zero = next-first last m
+further-at {X = X} m up last (suc more) = go (rest_of each_kept last m) refl (λ tx. further-at m up (Some tx) more)
+  where
+    go : (rest : TxMap X) → rest_of each_kept last m ≡ rest → ((tx : TxId) → entries_further m (Some tx) more ≡ slice_get (rest_of each_kept (Some tx) m) more)
+        → entries_further m last (suc more) ≡ slice_get (rest_of each_kept last m) (suc more)
+    go [] is ih = rw (next-first last m, is) refl
+    go (e ∷ es) is ih = rw (next-first last m, is) (ih e.0 ∙ ap (λ rest. slice_get rest more) (rest-next each_kept last m e es up is))
+
+all-above : {X : Type 0} (m : TxMap X) → rest_of each_kept None m ≡ m
+all-above [] = refl
+all-above (e ∷ es) = ap (λ rest. e ∷ rest) (all-above es)
+
+module _ (ballot : Ballot) (m : Options) where
+  abbrev next_in : Option TxId → Option (Ballot × TxId × Mark)
+  next_in last = beside ballot (find (λ e. is_above last e.0) m)
+
+  further-beside : (last : Option TxId) (more : ℕ) → marks_further next_in last more ≡ beside ballot (entries_further m last more)
+  further-beside last zero = refl
+  further-beside last (suc more) = by (find (λ e. is_above last e.0) m) (λ tx. further-beside (Some tx) more)
+    where
+      by : (o : Option (TxId × Mark)) → ((tx : TxId) → marks_further next_in (Some tx) more ≡ beside ballot (entries_further m (Some tx) more))
+          → option_and_then (λ mark. marks_further next_in (Some mark.1) more) (beside ballot o) ≡ beside ballot (option_and_then (λ e. entries_further m (Some e.0) more) o)
+      by None ih = refl
+      by (Some e) ih = ih e.0
+
+pub place-steps : MarkBelowBySteps
+place-steps facts key version below place =
+    let report = report_of 0 facts key version below in
+    ap (beside report.ballot) (sym (further-at report.votes (ascending-report facts key version below) None place ∙ ap (λ rest. slice_get rest place) (all-above report.votes)))
+    ∙ sym (further-beside report.ballot report.votes None place)

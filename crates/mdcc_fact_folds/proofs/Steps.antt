@@ -1,7 +1,9 @@
 -- The load and the deltas of an instance, one entry of a fact at a time.
-use Rattle.std.proofs.Common.{◌≡◌, ℕ, Bool, true, List, [], ◌∷◌, is_some, refl, sym, ap, ◌∙◌, inl, inr, fold}
+use Rattle.mdcc_protocol.specs.News.{keys_in}
+use Rattle.mdcc_base.specs.Counts.{number_of}
+use Rattle.std.proofs.Common.{◌≡◌, ℕ, Bool, true, List, [], ◌∷◌, is_some, refl, sym, ap, ◌∙◌, inl, inr, fold, length, ◌+◌, zero-add}
 use Rattle.std.specs.List.{list_all, list_any}
-use Rattle.std.specs.Prelude.{filter, not, ◌&&◌}
+use Rattle.std.specs.Prelude.{filter, not, ◌&&◌, nat_lt, ◌||◌}
 use Rattle.std.proofs.lemmas.Bool.{and_from, and_parts, cases_Bool}
 use Rattle.mdcc_base.specs.declared.identifiers.TxId.{TxId}
 use Rattle.mdcc_base.specs.declared.key.Key.{Key}
@@ -10,9 +12,9 @@ use Rattle.mdcc_struct.specs.Maps.{value_of}
 use Rattle.mdcc_messages.specs.declared.facts.Fact.{Fact}
 use Rattle.mdcc_protocol.specs.Facts.{deltas_at, deltas_from, is_void, live_and_void, live_from}
 use Rattle.mdcc_protocol.specs.Marks.{Amounts}
-use Rattle.mdcc_fact_folds.specs.Held.{FirstDeltasOfOrdered, is_delta_by}
-use Rattle.mdcc_fact_folds.proofs.Deltas.{deltas-joined}
-use Rattle.mdcc_fact_folds.proofs.New.{new-beside}
+use Rattle.mdcc_fact_folds.specs.Held.{FirstDeltasOfOrdered, is_delta_by, CrowdingBySteps, deltas_steps, deltas_walk, next_version_of}
+use Rattle.mdcc_fact_folds.proofs.Deltas.{deltas-joined, counted-from, crowding-chains}
+use Rattle.mdcc_fact_folds.proofs.New.{new-beside, length-number}
 use Rattle.mdcc_protocol.specs.declared.fit.Load.{Load}
 use Rattle.mdcc_escrow.specs.Weights.{no_load, with_live}
 use Rattle.mdcc_fact_folds.specs.Live.{LoadBySteps, counted_live, is_counted, is_live_by, is_ordered, load_steps, load_walk}
@@ -83,3 +85,37 @@ first-deltas older key version fact ordered =
     ∙ kept-alike (λ (e : TxId × Amounts). not (is_some (value_of (deltas_at older key version) e.0)))
     (λ e. not (list_any (is_delta_by key version e.0) older)) (deltas_from key version fact)
     (λ e. ap (λ b. not b) (ap (λ m. is_some (value_of m e.0)) (deltas-joined key version older) ∙ found-any (deltas_from key version) e.0 older))
+
+deltas-steps : (key : Key) (version count : ℕ) (facts : List Fact) → list_all is_ordered facts ≡ true → deltas_walk key version count facts ≡ deltas_steps key version count facts
+deltas-steps key version count [] ordered = refl
+deltas-steps key version count (fact ∷ older) ordered =
+    let parts = and_parts (is_ordered fact) (list_all is_ordered older) ordered in
+    let new = λ (e : TxId × Amounts). not (list_any (is_delta_by key version e.0) older) in
+    ap (λ n. deltas_walk key version (count + n) older)
+    (ap (λ m. length m) (first-deltas older key version fact parts.0) ∙ length-number new (deltas_from key version fact))
+    ∙ deltas-steps key version (count + number_of new (deltas_from key version fact)) older parts.1
+
+any-alike : {X : Type 0} (p q : X → Bool) (xs : List X) → ((x : X) → p x ≡ q x) → list_any p xs ≡ list_any q xs
+any-alike p q [] h = refl
+any-alike p q (x ∷ xs) h = ap (λ b. b || list_any p xs) (h x) ∙ ap (λ b. q x || b) (any-alike p q xs h)
+
+module _ (keep : Key → ℕ → Fact → Bool) (facts : List Fact) (fact : Fact) where
+  abbrev version_with : Key → ℕ
+  version_with key = next_version_of facts key fact
+
+  abbrev chain_with : Key → List Fact
+  chain_with key = fact ∷ filter (keep key (version_with key)) facts
+
+  key-steps : (key : Key) → is_ordered fact ≡ true → list_all is_ordered facts ≡ true
+      → length (deltas_at (chain_with key) key (version_with key)) ≡ deltas_steps key (version_with key) 0 (chain_with key)
+  key-steps key ordered all =
+      sym (counted-from key (version_with key) 0 (chain_with key) ∙ zero-add (length (deltas_at (chain_with key) key (version_with key))))
+      ∙ deltas-steps key (version_with key) 0 (chain_with key)
+      (and_from (is_ordered fact) (list_all is_ordered (filter (keep key (version_with key)) facts)) ordered (all-kept is_ordered (keep key (version_with key)) facts all))
+
+pub crowding-steps : CrowdingBySteps
+crowding-steps keep covers facts fact ordered all =
+    crowding-chains keep covers facts fact
+    ∙ any-alike (λ key. nat_lt 64 (length (deltas_at (chain_with keep facts fact key) key (version_with keep facts fact key))))
+    (λ key. nat_lt 64 (deltas_steps key (version_with keep facts fact key) 0 (chain_with keep facts fact key))) (keys_in fact)
+    (λ key. ap (nat_lt 64) (key-steps keep facts fact key ordered all))

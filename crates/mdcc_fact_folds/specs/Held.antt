@@ -1,7 +1,8 @@
 -- What is held at a key: two values that each further fact changes, and the deltas of a version in one walk of its chain.
-use Rattle.std.specs.List.{fold, list_any}
+use Rattle.std.specs.List.{fold, list_all, list_any}
 use Rattle.std.specs.Option.{option_or}
 use Rattle.std.specs.Prelude.{◌≡◌, Bool, List, None, Option, [], false, filter, if◌then◌else◌, is_some, length, max, nat_lt, not, option_map, true, ℕ, ◌+◌, ◌∷◌}
+use Rattle.mdcc_base.specs.Counts.{number_of}
 use Rattle.mdcc_base.specs.declared.identifiers.TxId.{TxId}
 use Rattle.mdcc_base.specs.declared.key.Key.{Key}
 use Rattle.mdcc_option.specs.declared.items.Delta.{Delta}
@@ -130,3 +131,17 @@ abbrev pub NextDeltasCounted : Type 0
 NextDeltasCounted =
     (chain : List Fact) (key : Key) (version : ℕ) (fact : Fact)
     → length (next_executed chain key version fact) ≡ length (deltas_at chain key version) + length (first_deltas chain key version fact)
+
+-- the deltas of a version, one at a time: each that no older fact of the chain brings
+abbrev pub deltas_steps : Key → ℕ → ℕ → List Fact → ℕ
+deltas_steps key version count [] = count
+deltas_steps key version count (fact ∷ older) =
+    deltas_steps key version (count + number_of (λ e. not (list_any (is_delta_by key version e.0) older)) (deltas_from key version fact)) older
+
+-- the fact before the chain of the version that is held with it
+abbrev pub CrowdingBySteps : Type 0
+CrowdingBySteps =
+    (keep : Key → ℕ → Fact → Bool) → ((key : Key) (version : ℕ) → Covers (keep key version) (is_delta_in key version))
+    → (facts : List Fact) (fact : Fact) → is_ordered fact ≡ true → list_all is_ordered facts ≡ true
+    → is_crowding facts fact
+    ≡ list_any (λ key. nat_lt 64 (deltas_steps key (next_version_of facts key fact) 0 (fact ∷ filter (keep key (next_version_of facts key fact)) facts))) (keys_in fact)

@@ -1,7 +1,7 @@
 -- The votes of an instance, in one walk of its chain from the newest fact to the oldest.
 use Rattle.std.specs.List.{fold, list_any}
 use Rattle.std.specs.Option.{option_and_then, option_map, option_or}
-use Rattle.std.specs.Prelude.{◌≡◌, Bool, List, None, Option, [], filter, if◌then◌else◌, is_some, true, ℕ}
+use Rattle.std.specs.Prelude.{◌≡◌, Bool, List, None, Option, Some, [], filter, if◌then◌else◌, is_some, suc, true, zero, ℕ}
 use Rattle.mdcc_base.specs.Ballot.{ballot_max, fast_ballot, is_fast}
 use Rattle.mdcc_base.specs.declared.identifiers.Ballot.{Ballot}
 use Rattle.mdcc_base.specs.declared.identifiers.TxId.{TxId}
@@ -133,3 +133,13 @@ abbrev pub MarkAfterByWalks : Type 0
 MarkAfterByWalks =
     (keep : Fact → Bool) (key : Key) (version : ℕ) (below : Ballot) (last : Option TxId) → Covers keep (is_vote_in key version)
     → (facts : List Fact) → mark_after facts key version below last ≡ (if is_fast below then None else mark_walks key version below last (filter keep facts))
+
+-- so many marks further, each time by the next one above the last
+abbrev pub marks_further : (Option TxId → Option (Ballot × TxId × Mark)) → Option TxId → ℕ → Option (Ballot × TxId × Mark)
+marks_further next last zero = next last
+marks_further next last (suc more) = option_and_then (λ mark. marks_further next (Some mark.1) more) (next last)
+
+abbrev pub MarkBelowBySteps : Type 0
+MarkBelowBySteps =
+    (facts : List Fact) (key : Key) (version : ℕ) (below : Ballot) (place : ℕ)
+    → mark_below facts key version below place ≡ marks_further (mark_after facts key version below) None place

@@ -1,5 +1,5 @@
 //! What is held at a key.
-ghost use Rattle.mdcc_fact_folds.specs.Held.{CrowdingByChains, DeltaByWalk, DeltasByWalk, DeltasCounted, DeltasInChain, ExecutedByJoin, ExecutedInChain, FirstDeltasOfOrdered};
+ghost use Rattle.mdcc_fact_folds.specs.Held.{CrowdingByChains, CrowdingBySteps, DeltaByWalk, DeltasByWalk, DeltasCounted, DeltasInChain, ExecutedByJoin, ExecutedInChain, FirstDeltasOfOrdered};
 ghost use Rattle.mdcc_fact_folds.specs.Held.{HeldElsewhere, HeldInChain, HeldUpdates, NextDeltasCounted};
 
 /// The version that is held and its base stand as two values at the key: the fact that raises the
@@ -32,4 +32,5 @@ pub fn would_crowd()
     ensures chains { CrowdingByChains }
     ensures counted { NextDeltasCounted }
     ensures ordered { FirstDeltasOfOrdered }
+    ensures steps { CrowdingBySteps }
 {}

@@ -14,7 +14,8 @@
 //! | `voted_below` | votes in the instance | the greatest ballot | `votes::voted_below` |
 //! | `votes` | votes in the instance | the marks of the older fact, beside them the later ones | `votes::votes` |
 //! | `count_voted` | votes in the instance | where nothing was voted twice, a sum over the facts | `live::count_voted` |
-//! | `marks`, `mark_after` | votes in the instance | three folds: the ballot, the least transaction above, its mark | `votes::marks` |
+//! | `mark_after` | votes in the instance | three folds: the ballot, the least transaction above, its mark | `votes::marks` |
+//! | `marks` | votes in the instance | not a fold: `mark_after` so many times | `votes::marks` |
 //! | `choice_of` | votes in the instance | the older counts | `votes::choice_of` |
 //! | `current`, `base` | none: two values at the key | the fact that raises the version brings the base | `held::held` |
 //! | `executed`, `delta` | commits and adoptions of the version held | the older counts | `held::executed` |

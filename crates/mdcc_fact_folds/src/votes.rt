@@ -1,5 +1,6 @@
 //! The votes of an instance.
-ghost use Rattle.mdcc_fact_folds.specs.Votes.{ChoiceByWalk, ChoiceInChain, IsVotedByWalk, MarkAfterByWalks, MarkAfterInChain, MarkBelowInChain, MarkByWalk, VoteByWalk, VoteInChain};
+ghost use Rattle.mdcc_fact_folds.specs.Votes.{ChoiceByWalk, ChoiceInChain, IsVotedByWalk, MarkAfterByWalks, MarkAfterInChain};
+ghost use Rattle.mdcc_fact_folds.specs.Votes.{MarkBelowBySteps, MarkBelowInChain, MarkByWalk, VoteByWalk, VoteInChain};
 ghost use Rattle.mdcc_fact_folds.specs.Votes.{VotedBelowByWalk, VotedBelowInChain, VotesByJoin, VotesByWalk, VotesInChain};
 
 /// The vote on a transaction is the one at the greatest ballot in the chain of the instance's votes.
@@ -35,6 +36,7 @@ pub fn marks()
     ensures after { MarkAfterInChain }
     ensures walks { MarkAfterByWalks }
     ensures place { MarkBelowInChain }
+    ensures steps { MarkBelowBySteps }
 {}
 
 /// The choice of a transaction is the oldest one in the chain.

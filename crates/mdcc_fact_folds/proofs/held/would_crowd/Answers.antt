@@ -1,5 +1,5 @@
 use Rattle.mdcc_fact_folds.proofs.Deltas.{crowding-chains, next-counted}
-use Rattle.mdcc_fact_folds.proofs.Steps.{first-deltas}
+use Rattle.mdcc_fact_folds.proofs.Steps.{crowding-steps, first-deltas}
 use Rattle.mdcc_fact_folds.proofs.held.would_crowd.Goals as goal
 
 pub returns-clause-chains : goal.returns-clause-chains
@@ -10,3 +10,6 @@ returns-clause-counted c = next-counted
 
 pub returns-clause-ordered : goal.returns-clause-ordered
 returns-clause-ordered c = first-deltas
+
+pub returns-clause-steps : goal.returns-clause-steps
+returns-clause-steps c = crowding-steps

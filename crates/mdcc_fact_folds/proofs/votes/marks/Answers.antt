@@ -1,5 +1,5 @@
 use Rattle.mdcc_fact_folds.proofs.Joined.{after-chain, place-chain}
-use Rattle.mdcc_fact_folds.proofs.Present.{after-walks}
+use Rattle.mdcc_fact_folds.proofs.Present.{after-walks, place-steps}
 use Rattle.mdcc_fact_folds.proofs.votes.marks.Goals as goal
 
 pub returns-clause-after : goal.returns-clause-after
@@ -10,3 +10,6 @@ returns-clause-walks c = after-walks
 
 pub returns-clause-place : goal.returns-clause-place
 returns-clause-place c = place-chain
+
+pub returns-clause-steps : goal.returns-clause-steps
+returns-clause-steps c = place-steps
