@@ -4,6 +4,7 @@ pub mod Deltas
 pub mod Folded
 pub mod Found
 pub mod Ignored
+pub mod IndexWalked
 pub mod Joined
 pub mod Kept
 pub mod Loads

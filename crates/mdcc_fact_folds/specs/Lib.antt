@@ -2,6 +2,7 @@ pub mod Added
 pub mod Chains
 pub mod Entered
 pub mod Held
+pub mod IndexWalks
 pub mod Live
 pub mod New
 pub mod Outcomes

@@ -1,5 +1,6 @@
 //! Chains, and where a fact is entered.
 ghost use Rattle.mdcc_fact_folds.specs.Chains.{InstanceCoversDeltas, InstanceCoversVotes};
+ghost use Rattle.mdcc_fact_folds.specs.IndexWalks.{InstanceIsWalked, OutcomesAreWalked, PromisesAreWalked};
 ghost use Rattle.mdcc_fact_folds.specs.Entered.{AtMostEightInstances, FoundIsChain, InstanceIsFound, OutcomesAreFound, PromisesAreFound};
 
 /// The chain of an instance has its votes, and the commits and adoptions that bring deltas there.
@@ -15,6 +16,14 @@ pub fn walks_find_chains()
     ensures promises { PromisesAreFound }
     ensures outcomes { OutcomesAreFound }
     ensures facts { FoundIsChain }
+{}
+
+/// So does an index of `mdcc_chains` that has these keys, with the indices of the facts in a list beside
+/// it: its walk stops at each fact of the chain once.
+pub fn index_walks()
+    ensures instance { InstanceIsWalked }
+    ensures promises { PromisesAreWalked }
+    ensures outcomes { OutcomesAreWalked }
 {}
 
 /// A fact is of at most eight instances.
