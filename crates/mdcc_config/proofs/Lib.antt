@@ -2,3 +2,4 @@ mod HostTexts
 mod Missing
 mod Objects
 mod Pairs
+pub mod Ports

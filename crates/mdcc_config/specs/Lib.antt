@@ -1,3 +1,4 @@
 pub mod Names
 pub mod Readings
 pub mod Configuration
+pub mod IsConfig

@@ -1,7 +1,8 @@
 -- What the values of members are read as. No value: it is not of the kind that is stated. Inside, no value: it is of
 -- that kind, and outside its range.
-use Rattle.std.specs.Prelude.{ℕ, ℤ, if◌then◌else◌, List, codes, Option, Some, None, option_map, option_and_then, bytes_eq}
+use Rattle.std.specs.Prelude.{◌≡◌, ◌↔◌, ℕ, ℤ, if◌then◌else◌, List, codes, Option, Some, None, option_map, option_and_then, bytes_eq}
 use Rattle.std.specs.Option.{option_zip}
+use Rattle.std.specs.Net.Grammar.{IsDotted}
 use Rattle.std.specs.Net.Reader.{read_ipv4, whole_value}
 use Rattle.serde_json.specs.Data.{Data, Items, no_items, item}
 use Rattle.serde_json.specs.Find.{as_number, as_u64, as_i64, as_str, as_array}
@@ -43,6 +44,10 @@ pair d = option_and_then pair_in (as_array d)
 -- four numbers below 256 without leading zeros, with dots between them
 abbrev pub host_of : List ℕ → Option (List ℕ)
 host_of text = whole_value (read_ipv4 text)
+
+-- a text is read as a host if and only if it is the host in dotted decimal
+abbrev pub HostsAreDotted : Type 0
+HostsAreDotted = (text octets : List ℕ) → (host_of text ≡ Some octets) ↔ IsDotted text octets
 
 abbrev pub host : Data → Option (Option (List ℕ))
 host d = option_map host_of (as_str d)

@@ -2,6 +2,7 @@
 ghost use Rattle.std.specs.Prelude.{◌≡◌, ◌+◌, ◌≤◌, [], IfOk, length};
 ghost use Rattle.mdcc_base.specs.Unless.{GivesUnless};
 ghost use Rattle.mdcc_config.specs.Configuration.{is_memory, address_of, each_address};
+ghost use Rattle.mdcc_config.specs.IsConfig.{ports_of, centre_ports};
 
 use crate::ConfigFault;
 use mdcc_base::{Address, HeapList};
@@ -19,6 +20,7 @@ fn address_of(
     requires within { before ≤ centres }
     ensures value { result ≡ address_of centres port (before + 1) host }
     ensures within { IfOk result (λ _. before + 1 ≤ centres) }
+    ensures port { IfOk result (λ address. address.port ≡ port + (before + 1)) }
 {
     let number = before as u8 + 1;
     match host {
@@ -39,7 +41,8 @@ pub(crate) fn addresses_of(
 ) -> Result<HeapList<Address>, ConfigFault>
     requires nine { centres ≤ 9 }
     requires room { port ≤ 65000 }
-    ensures { GivesUnless is_memory result (each_address centres port [] hosts.now) }
+    ensures value { GivesUnless is_memory result (each_address centres port [] hosts.now) }
+    ensures ports { IfOk result (λ addresses. ports_of addresses ≡ centre_ports port centres) }
 {
     let mut addresses = HeapList::new(alloc);
     for host in hosts {

@@ -1,19 +1,9 @@
-//! A configuration and its text.
-ghost use Rattle.std.specs.Prelude.{◌≡◌, ◌≤◌, Ok, Err, IfOk, IfErr, false};
-ghost use Rattle.serde_json.specs.View.{view, members_view};
-ghost use Rattle.mdcc_base.specs.Unless.{GivesUnless};
-ghost use Rattle.mdcc_config.specs.Configuration.{is_memory, object_of, refused_name, cluster_of, config_with, config_in, config_of};
-ghost use Rattle.mdcc_config.specs.Names.{wrong_name};
+//! A configuration, and where its centres are.
+ghost use Rattle.std.specs.Prelude.{◌≡◌, ◌≤◌, ◌<◌, length, slice_get, Some};
+ghost use Rattle.mdcc_config.specs.IsConfig.{IsConfig, address_above};
 
-use crate::addresses::addresses_of;
-use crate::fields::fields_of;
-use crate::names::wrong_name;
-use crate::settings::{Settings, settings_of};
-use crate::{ConfigFault, Name};
-use mdcc_base::{Address, HeapList, Quorums};
-use mdcc_option::{Cluster, Schema};
-use serde_json::{Map, Value};
-use std::alloc::Global;
+use mdcc_base::{Address, Centre, HeapList};
+use mdcc_option::Cluster;
 
 /// What all nodes of a cluster are started with.
 #[derive(Debug, Drop)]
@@ -25,79 +15,55 @@ pub struct Config {
     pub port: u16,
 }
 
-// The value that a text is in JSON.
-fn value_of(alloc: Global, text: &[u8]) -> Result<Value, ConfigFault>
-    ensures ok { IfOk result (λ value. object_of text.now ≡ Ok (view value)) }
-    ensures err { IfErr result (λ fault. is_memory fault ≡ false → object_of text.now ≡ Err fault) }
+// The address in this place of a list.
+fn address_at(addresses: &[Address], place: usize) -> Address
+    requires { place < length addresses.now }
+    ensures { slice_get addresses.now place ≡ Some result }
 {
-    match Value::from_slice(alloc, text) {
-        Ok(value) => Ok(value),
-        Err(error) if error.is_memory() => Err(ConfigFault::Memory),
-        Err(_) => Err(ConfigFault::Json),
+    addresses[place]
+}
+
+impl Config {
+    // The address at the host of a centre, on a port so far above that of the centre.
+    #[tactic(auto, using(crate::proofs::Ports::address_for_each))]
+    fn address_above(&self, above: u16, centre: Centre) -> Address
+        requires config { IsConfig self.now }
+        requires centre { centre ≤ self.now.cluster.quorums.centres }
+        requires above { above ≤ 32 }
+        ensures { Some result ≡ address_above self.now above centre }
+    {
+        let number = centre.number();
+        let host = address_at(self.addresses.as_slice(), usize::from(number) - 1).host;
+        Address {
+            host,
+            port: self.port + above + u16::from(number),
+        }
     }
-}
 
-// Refuses members of which one is missing or unknown.
-fn check_names(alloc: Global, members: &Map<String, Value>) -> Result<(), ConfigFault>
-    ensures { GivesUnless is_memory result (refused_name (wrong_name (members_view members.now.entries))) }
-{
-    match wrong_name(members) {
-        Some(name) => Err(ConfigFault::Member(Name::new(alloc, name)?)),
-        None => Ok(()),
+    /// Where a centre receives the messages of the other centres.
+    pub fn centre_address(&self, centre: Centre) -> Address
+        requires config { IsConfig self.now }
+        requires centre { centre ≤ self.now.cluster.quorums.centres }
+        ensures { Some result ≡ address_above self.now 0 centre }
+    {
+        self.address_above(0, centre)
     }
-}
 
-// The cluster of members in their ranges.
-fn cluster_of(settings: &Settings) -> Result<Cluster, ConfigFault>
-    ensures { result ≡ cluster_of settings.now }
-{
-    let quorums = Quorums::new(settings.centres, settings.classic, settings.fast)?;
-    let schema = Schema::new(settings.bounds.as_slice())?;
-    Ok(Cluster {
-        quorums,
-        schema,
-        gamma: settings.gamma,
-        cells: settings.cells,
-        limit: settings.limit,
-    })
-}
+    /// Where a centre receives the messages of its client.
+    pub fn client_address(&self, centre: Centre) -> Address
+        requires config { IsConfig self.now }
+        requires centre { centre ≤ self.now.cluster.quorums.centres }
+        ensures { Some result ≡ address_above self.now 16 centre }
+    {
+        self.address_above(16, centre)
+    }
 
-// The configuration of members in their ranges.
-fn config_with(alloc: Global, settings: &Settings) -> Result<Config, ConfigFault>
-    requires { settings.now.port ≤ 65000 }
-    ensures { GivesUnless is_memory result (config_with settings.now) }
-{
-    let cluster = cluster_of(settings)?;
-    let addresses = addresses_of(
-        alloc,
-        settings.centres,
-        settings.port,
-        settings.hosts.as_slice(),
-    )?;
-    Ok(Config {
-        cluster,
-        addresses,
-        port: settings.port,
-    })
-}
-
-// The configuration that a JSON value is.
-fn config_in(alloc: Global, value: &Value) -> Result<Config, ConfigFault>
-    ensures { GivesUnless is_memory result (config_in (view value.now)) }
-{
-    let Some(members) = value.as_object() else {
-        return Err(ConfigFault::Json);
-    };
-    check_names(alloc, members)?;
-    let fields = fields_of(alloc, value)?;
-    let settings = settings_of(alloc, fields)?;
-    config_with(alloc, &settings)
-}
-
-/// The configuration that a JSON text is.
-pub fn read_config(alloc: Global, text: &[u8]) -> Result<Config, ConfigFault>
-    ensures { GivesUnless is_memory result (config_of text.now) }
-{
-    let value = value_of(alloc, text)?;
-    config_in(alloc, &value)
+    /// Where the client of a centre receives its answers.
+    pub fn answer_address(&self, centre: Centre) -> Address
+        requires config { IsConfig self.now }
+        requires centre { centre ≤ self.now.cluster.quorums.centres }
+        ensures { Some result ≡ address_above self.now 32 centre }
+    {
+        self.address_above(32, centre)
+    }
 }

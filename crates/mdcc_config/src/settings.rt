@@ -4,6 +4,7 @@ ghost use Rattle.mdcc_base.specs.Unless.{GivesUnless};
 ghost use Rattle.mdcc_config.specs.declared.faults.ConfigFault.TheVariants.{Range};
 ghost use Rattle.mdcc_config.specs.declared.faults.MemberName.TheVariants.{Port, Cells};
 ghost use Rattle.mdcc_config.specs.Configuration.{is_memory, number_in, settings_of};
+ghost use Rattle.mdcc_config.specs.IsConfig.{AreInRange};
 
 use crate::fields::Fields;
 use crate::lists::bounds_of;
@@ -47,14 +48,15 @@ fn byte_in(name: MemberName, number: Option<u64>) -> Result<u8, ConfigFault>
 // A port that leaves room for those of the centres.
 fn port_in(number: Option<u64>) -> Result<u16, ConfigFault>
     ensures value { result ≡ number_in 1 65000 Port number }
-    ensures within { IfOk result (λ port. port ≤ 65000) }
+    ensures within { IfOk result (λ port. (1 ≤ port) × (port ≤ 65000)) }
 {
     Ok(number_in(1, 65_000, MemberName::Port, number)? as u16)
 }
 
 // How many cells a node has.
 fn cells_in(number: Option<u64>) -> Result<u32, ConfigFault>
-    ensures { result ≡ number_in 1 4194304 Cells number }
+    ensures value { result ≡ number_in 1 4194304 Cells number }
+    ensures within { IfOk result (λ cells. (1 ≤ cells) × (cells ≤ 4194304)) }
 {
     Ok(number_in(1, 4_194_304, MemberName::Cells, number)? as u32)
 }
@@ -62,7 +64,7 @@ fn cells_in(number: Option<u64>) -> Result<u32, ConfigFault>
 /// The members, each in its range.
 pub(crate) fn settings_of(alloc: Global, fields: Fields) -> Result<Settings, ConfigFault>
     ensures value { GivesUnless is_memory result (settings_of fields) }
-    ensures port { IfOk result (λ settings. settings.port ≤ 65000) }
+    ensures ranges { IfOk result AreInRange }
 {
     let Fields {
         centres,

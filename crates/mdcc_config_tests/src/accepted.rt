@@ -1,5 +1,8 @@
 //! Configurations that are read. The expected values come from the format, by hand.
+ghost use Rattle.mdcc_config.specs.IsConfig.{IsConfig};
+
 use crate::texts::{ONE_CENTRE, joined};
+use mdcc_base::Centre;
 use mdcc_config::{Address, Config, read_config};
 use mdcc_option::FastLimit;
 use std::alloc::Global;
@@ -22,7 +25,9 @@ fn are_sizes(config: &Config, centres: u8, classic: u8, fast: u8) -> bool {
 }
 
 // The configuration that a text is.
-fn config_of(rt: &impl Abort, alloc: Global, text: &str) -> Config {
+fn config_of(rt: &impl Abort, alloc: Global, text: &str) -> Config
+    ensures { IsConfig result }
+{
     read_config(alloc, text.as_bytes()).expect(rt, "a configuration")
 }
 
@@ -69,6 +74,41 @@ fn five_centres(rt: HostRuntime) -> Result<(), Fail> {
         let address = config.addresses.as_slice()[i];
         assert!(rt; address.host == hosts[i] && address.port == 65_001 + i as u16);
     }
+    Ok(())
+}
+
+// Whether a centre is at this host, and on these ports for other centres, its client, and the client's answers.
+fn is_at(config: &Config, number: u8, host: [u8; 4], ports: [u16; 3]) -> bool
+    requires { IsConfig config.now }
+{
+    let Some(centre) = Centre::new(number) else {
+        return false;
+    };
+    if centre.number() > config.cluster.quorums.centres() {
+        return false;
+    }
+    let addresses = [
+        config.centre_address(centre),
+        config.client_address(centre),
+        config.answer_address(centre),
+    ];
+    for i in 0..3 {
+        if addresses[i].host != host || addresses[i].port != ports[i] {
+            return false;
+        }
+    }
+    true
+}
+
+#[test]
+fn addresses_of_centres(rt: HostRuntime) -> Result<(), Fail> {
+    let config = config_of(&rt, rt.alloc(), FIVE_CENTRES);
+    assert!(rt; is_at(&config, 1, [127, 0, 0, 1], [65_001, 65_017, 65_033]));
+    assert!(rt; is_at(&config, 5, [192, 168, 10, 100], [65_005, 65_021, 65_037]));
+    assert!(rt; !is_at(&config, 6, [192, 168, 10, 100], [65_006, 65_022, 65_038]));
+    let text = joined(rt.alloc(), ONE_CENTRE, "}")?;
+    let config = config_of(&rt, rt.alloc(), text.as_str());
+    assert!(rt; is_at(&config, 1, [127, 0, 0, 1], [9001, 9017, 9033]));
     Ok(())
 }
 

@@ -1,6 +1,6 @@
 use Rattle.std.proofs.Common.{sym, ◌∙◌, true≢false}
 use Rattle.mdcc_config.proofs.Objects.{text_read, text_refused}
-use Rattle.mdcc_config.proofs.config.value_of.Goals as goal
+use Rattle.mdcc_config.proofs.reading.value_of.Goals as goal
 
 pub returns-in-Ok-clause-ok : goal.returns-in-Ok-clause-ok
 returns-in-Ok-clause-ok c = text_read c.args.text.now _ c.in-Ok.ensures.ok.0 c.in-Ok.ensures.ok.1
