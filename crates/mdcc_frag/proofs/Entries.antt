@@ -1,0 +1,176 @@
+-- The entry of a message, and what is asked of it.
+use Rattle.std.proofs.Common.{◌≡◌, ℕ, ◌==◌, length, take, Bool, true, false, List, [], ◌∷◌, if◌then◌else◌, Option, Some, None, option_map, refl, sym, ◌∙◌, ap, subst}
+use Rattle.std.specs.Option.{option_map_or}
+use Rattle.std.specs.Map.{lookup, lookup_entry, set_value}
+use Rattle.lru.specs.LruCache.{LruCache, lru_cache, put_entries, promoted}
+use Rattle.lru.proofs.CallerLemmas.{Contains-lookup_entry}
+use Rattle.mdcc_frag.specs.declared.datagrams.FragHead.{FragHead}
+use Rattle.mdcc_frag.specs.declared.reading.Piece.{Piece}
+use Rattle.mdcc_frag.specs.declared.joined.NextStep.TheVariants.{Begin, Disagree, Repeat, Advance}
+use Rattle.mdcc_frag.specs.declared.joined.Joined.TheVariants.{Whole, Kept, Repeated, Dropped}
+use Rattle.mdcc_frag.specs.declared.reading.DropCause.TheVariants.{Disagrees}
+use Rattle.mdcc_frag.specs.Partial.{PartialMessage, nothing_of, with_piece, is_held, is_whole}
+use Rattle.mdcc_frag.specs.Joining.{Entry, Step, IsTaken, same_head, arrived, step, entry_of, message_of, others, take_piece, known_step, next_step, first_piece, missing_piece}
+
+-- the value that is found is that of the entry that is found
+pub value_of_entry : {K V : Type 0} (test : K → Bool) (entries : List (K × V)) → lookup test entries ≡ option_map (λ e. e.1) (lookup_entry test entries)
+value_of_entry test [] = refl
+value_of_entry test (e ∷ entries) = (elim (test e.0) as (λ b. test e.0 ≡ b → lookup test (e ∷ entries) ≡ option_map (λ f. f.1) (lookup_entry test (e ∷ entries))) [
+  | true ↦ λ t. rw t refl
+  | false ↦ λ t. rw t (value_of_entry test entries)
+]) refl
+
+pub message_of_entry : (piece : Piece) (entries : List Entry) → message_of piece entries ≡ option_map (λ e. e.1) (entry_of piece entries)
+message_of_entry piece entries = value_of_entry _ entries
+
+repeat_chosen : (same held : Bool) (x y z : Step) → (if same then (if held then Repeat else Advance) else Disagree) ≡ Repeat →
+    (if same then (if held then x else y) else z) ≡ x
+repeat_chosen true true x y z h = refl
+repeat_chosen true false x y z h = cc
+repeat_chosen false held x y z h = cc
+
+advance_chosen : (same held : Bool) (x y z : Step) → (if same then (if held then Repeat else Advance) else Disagree) ≡ Advance →
+    (if same then (if held then x else y) else z) ≡ y
+advance_chosen true true x y z h = cc
+advance_chosen true false x y z h = refl
+advance_chosen false held x y z h = cc
+
+disagree_chosen : (same held : Bool) (x y z : Step) → (if same then (if held then Repeat else Advance) else Disagree) ≡ Disagree →
+    (if same then (if held then x else y) else z) ≡ z
+disagree_chosen true true x y z h = cc
+disagree_chosen true false x y z h = cc
+disagree_chosen false held x y z h = refl
+
+arrived_whole : (message : PartialMessage) (without with : List Entry) → is_whole message ≡ true → arrived message without with ≡ step (Whole message.bytes) without
+arrived_whole message without with h = rw h refl
+
+arrived_part : (message : PartialMessage) (without with : List Entry) → is_whole message ≡ false → arrived message without with ≡ step Kept with
+arrived_part message without with h = rw h refl
+
+-- ---- a first piece
+
+none_there : (o : Option Entry) → option_map (λ e. e.1) o ≡ None → o ≡ None
+none_there None h = refl
+none_there (Some e) h = cc
+
+pub no_entry : (piece : Piece) (entries : List Entry) → message_of piece entries ≡ None → entry_of piece entries ≡ None
+no_entry piece entries h = none_there (entry_of piece entries) (sym (message_of_entry piece entries) ∙ h)
+
+known_begins : {P : Type 0} (same held : Bool) → Begin ≡ (if same then (if held then Repeat else Advance) else Disagree) → P
+known_begins true true h = cc
+known_begins true false h = cc
+known_begins false held h = cc
+
+absent_at : (piece : Piece) (o : Option PartialMessage) → Begin ≡ next_step piece o → o ≡ None
+absent_at piece None h = refl
+absent_at piece (Some message) h = known_begins (length message.bytes == piece.total) (is_held piece.index message) h
+
+pub absent : (piece : Piece) (entries : List Entry) → Begin ≡ next_step piece (message_of piece entries) → entry_of piece entries ≡ None
+absent piece entries h = no_entry piece entries (absent_at piece (message_of piece entries) h)
+
+first_taken : (piece : Piece) (bytes : List ℕ) (entries : List Entry) → message_of piece entries ≡ None →
+    first_piece piece bytes entries ≡ take_piece piece bytes entries (entry_of piece entries)
+first_taken piece bytes entries absent = ap (take_piece piece bytes entries) (sym (no_entry piece entries absent))
+
+pub first_whole : (piece : Piece) (bytes : List ℕ) (entries : List Entry) (message : PartialMessage) →
+    message_of piece entries ≡ None → message ≡ with_piece piece.index bytes (nothing_of piece.total) → is_whole message ≡ true →
+    step (Whole message.bytes) entries ≡ take_piece piece bytes entries (entry_of piece entries)
+first_whole piece bytes entries message absent is whole =
+    let P : PartialMessage → Type 0 = λ m. step (Whole message.bytes) entries ≡ arrived m entries ((piece.head, m) ∷ take 63 entries) in
+    subst P is (sym (arrived_whole message entries ((piece.head, message) ∷ take 63 entries) whole)) ∙ first_taken piece bytes entries absent
+
+pub first_kept : (piece : Piece) (bytes : List ℕ) (table new : LruCache FragHead PartialMessage) (message : PartialMessage) →
+    table.cap ≡ 64 → message_of piece table.entries ≡ None → message ≡ with_piece piece.index bytes (nothing_of piece.total) →
+    is_whole message ≡ false → new ≡ lru_cache (put_entries same_head table piece.head message) table.cap →
+    step Kept new.entries ≡ take_piece piece bytes table.entries (entry_of piece table.entries)
+first_kept piece bytes table new message full absent is part put =
+    let P : PartialMessage → Type 0 = λ m. step Kept ((piece.head, message) ∷ take 63 table.entries) ≡ arrived m table.entries ((piece.head, m) ∷ take 63 table.entries) in
+    let kept = subst P is (sym (arrived_part message table.entries ((piece.head, message) ∷ take 63 table.entries) part)) ∙ first_taken piece bytes table.entries absent in
+    let there : new.entries ≡ (piece.head, message) ∷ take 63 table.entries = rw put (rw (no_entry piece table.entries absent) (rw full refl)) in
+    ap (step Kept) there ∙ kept
+
+-- ---- a piece that was missing
+
+some_there : (piece : Piece) (o : Option Entry) → next_step piece (option_map (λ e. e.1) o) ≡ Advance → (e : Entry) × (o ≡ Some e)
+some_there piece None h = cc
+some_there piece (Some e) h = (e, refl)
+
+pub entry_there : (piece : Piece) (entries : List Entry) → next_step piece (message_of piece entries) ≡ Advance → (e : Entry) × (entry_of piece entries ≡ Some e)
+entry_there piece entries h = some_there piece (entry_of piece entries) (rw (← message_of_entry piece entries) h)
+
+pub taken : (piece : Piece) (bytes : List ℕ) (entries : List Entry) (old message : PartialMessage) (complete : Bool) →
+    Some old ≡ message_of piece entries → next_step piece (message_of piece entries) ≡ Advance →
+    message ≡ with_piece piece.index bytes old → complete ≡ is_whole message →
+    IsTaken piece bytes entries complete (set_value (same_head piece.head) (promoted (same_head piece.head) entries) message)
+taken piece bytes entries old message complete there missing is whole =
+    let found = entry_there piece entries missing in
+    let value : Some old ≡ option_map (λ e. e.1) (Some found.0) = there ∙ message_of_entry piece entries ∙ ap (option_map (λ e. e.1)) found.1 in
+    let same : old ≡ found.0.1 = cc in
+    let now : message ≡ with_piece piece.index bytes found.0.1 = is ∙ ap (with_piece piece.index bytes) same in
+    let passes = (Contains-lookup_entry (same_head piece.head) entries found.0 found.1).1 in
+    record {
+      entry = found.0;
+      was = found.1;
+      whole = whole ∙ ap is_whole now;
+      is = rw found.1 (rw passes (ap (λ m. (found.0.0, m) ∷ others piece entries) now));
+    }
+
+-- the entry of a missing piece is that of the definition
+advance_is : (piece : Piece) (bytes : List ℕ) (old : List Entry) (entry : Entry) → next_step piece (message_of piece old) ≡ Advance →
+    entry_of piece old ≡ Some entry → missing_piece piece bytes entry (others piece old) ≡ take_piece piece bytes old (entry_of piece old)
+advance_is piece bytes old entry missing was =
+    let value : message_of piece old ≡ Some entry.1 = message_of_entry piece old ∙ ap (option_map (λ e. e.1)) was in
+    let known : known_step piece entry.1 ≡ Advance = sym (ap (next_step piece) value) ∙ missing in
+    sym (advance_chosen _ _ _ _ _ known) ∙ ap (take_piece piece bytes old) (sym was)
+
+pub advance_kept : (piece : Piece) (bytes : List ℕ) (old new : List Entry) (complete : Bool) →
+    next_step piece (message_of piece old) ≡ Advance → IsTaken piece bytes old complete new → complete ≡ false →
+    step Kept new ≡ take_piece piece bytes old (entry_of piece old)
+advance_kept piece bytes old new complete missing taken part =
+    ap (step Kept) taken.is
+    ∙ sym (arrived_part (with_piece piece.index bytes taken.entry.1) (others piece old) _ (sym taken.whole ∙ part))
+    ∙ advance_is piece bytes old taken.entry missing taken.was
+
+in_front : (piece : Piece) (bytes : List ℕ) (old new : List Entry) (complete : Bool)
+    (t : IsTaken piece bytes old complete new) → (message_of piece new ≡ Some (with_piece piece.index bytes t.entry.1)) × (others piece new ≡ others piece old)
+in_front piece bytes old new complete t =
+    let passes = (Contains-lookup_entry (same_head piece.head) old t.entry t.was).1 in
+    (rw t.is (rw passes refl), rw t.is (rw passes refl))
+
+pub is_there : (piece : Piece) (bytes : List ℕ) (old new : List Entry) (complete : Bool) → IsTaken piece bytes old complete new →
+    None ≡ message_of piece new → ⊥
+is_there piece bytes old new complete t none = let there = (in_front piece bytes old new complete t).0 in cc
+
+pub advance_whole : (piece : Piece) (bytes : List ℕ) (old new : List Entry) (complete : Bool) (message : PartialMessage) →
+    next_step piece (message_of piece old) ≡ Advance → IsTaken piece bytes old complete new → complete ≡ true →
+    Some message ≡ message_of piece new →
+    step (Whole message.bytes) (others piece new) ≡ take_piece piece bytes old (entry_of piece old)
+advance_whole piece bytes old new complete message missing taken all out =
+    let front = in_front piece bytes old new complete taken in
+    let whole = with_piece piece.index bytes taken.entry.1 in
+    let some : Some message ≡ Some whole = out ∙ front.0 in
+    let same : message ≡ whole = cc in
+    ap (λ m. step (Whole m.bytes) (others piece new)) same
+    ∙ ap (step (Whole whole.bytes)) front.1
+    ∙ sym (arrived_whole whole (others piece old) _ (sym taken.whole ∙ all))
+    ∙ advance_is piece bytes old taken.entry missing taken.was
+
+-- ---- a piece that came before, and one of another message
+
+repeat_is : (piece : Piece) (bytes : List ℕ) (entries : List Entry) (o : Option Entry) → next_step piece (option_map (λ e. e.1) o) ≡ Repeat →
+    step Repeated (option_map_or (λ e. e ∷ others piece entries) o entries) ≡ take_piece piece bytes entries o
+repeat_is piece bytes entries None h = cc
+repeat_is piece bytes entries (Some e) h = sym (repeat_chosen _ _ _ _ _ h)
+
+pub repeated : (piece : Piece) (bytes : List ℕ) (entries : List Entry) → next_step piece (message_of piece entries) ≡ Repeat →
+    step Repeated (promoted (same_head piece.head) entries) ≡ take_piece piece bytes entries (entry_of piece entries)
+repeated piece bytes entries h = repeat_is piece bytes entries (entry_of piece entries) (rw (← message_of_entry piece entries) h)
+
+disagree_is : (piece : Piece) (bytes : List ℕ) (entries : List Entry) (o : Option Entry) → next_step piece (option_map (λ e. e.1) o) ≡ Disagree →
+    step (Dropped Disagrees) entries ≡ take_piece piece bytes entries o
+disagree_is piece bytes entries None h = cc
+disagree_is piece bytes entries (Some e) h = sym (disagree_chosen _ _ _ _ _ h)
+
+pub disagreed : (piece : Piece) (bytes : List ℕ) (entries : List Entry) → next_step piece (message_of piece entries) ≡ Disagree →
+    step (Dropped Disagrees) entries ≡ take_piece piece bytes entries (entry_of piece entries)
+disagreed piece bytes entries h = disagree_is piece bytes entries (entry_of piece entries) (rw (← message_of_entry piece entries) h)

@@ -1,0 +1,22 @@
+use Rattle.std.proofs.Common.{◌∙◌, ap}
+use Rattle.mdcc_frag.specs.Joining.{step}
+use Rattle.mdcc_frag.specs.declared.joined.Joined.TheVariants.{Whole}
+use Rattle.mdcc_frag.proofs.Entries.{advance_kept, advance_whole, is_there}
+use Rattle.mdcc_frag.proofs.joiner.advance.Goals as goal
+
+pub returns-then-not-take_missing-clause-taken : goal.returns-then-not-take_missing-clause-taken
+returns-then-not-take_missing-clause-taken c =
+    advance_kept c.args.piece.now c.args.bytes.now c.args.table.now.entries c.take_missing.new.table.entries c.take_missing.result
+    c.requires.missing c.take_missing.ensures.taken c.if-not-take_missing.true
+
+pub unreachable-requires : goal.unreachable-requires
+unreachable-requires c =
+    is_there c.args.piece.now c.args.bytes.now c.args.table.now.entries c.take_missing.new.table.entries c.take_missing.result
+    c.take_missing.ensures.taken c.in-None.ensures.value
+
+pub returns-clause-taken : goal.returns-clause-taken
+returns-clause-taken c =
+    ap (λ bytes. step (Whole bytes) c.pop.new.self.entries) c.into_bytes.ensures
+    ∙ ap (λ table. step (Whole c.in-Some.partial.bytes) table.entries) c.in-Some.ensures.entries
+    ∙ advance_whole c.args.piece.now c.args.bytes.now c.args.table.now.entries c.take_missing.new.table.entries c.take_missing.result
+    c.in-Some.partial c.requires.missing c.take_missing.ensures.taken c.if-not-take_missing.false c.in-Some.ensures.value

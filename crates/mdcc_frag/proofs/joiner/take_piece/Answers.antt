@@ -1,0 +1,17 @@
+use Rattle.std.proofs.Common.{◌∙◌, ap, sym}
+use Rattle.mdcc_frag.specs.Joining.{step}
+use Rattle.mdcc_frag.specs.declared.joined.Joined.TheVariants.{Repeated}
+use Rattle.mdcc_frag.proofs.Entries.{absent, repeated, disagreed}
+use Rattle.mdcc_frag.proofs.joiner.take_piece.Goals as goal
+
+pub returns-in-Begin-clause-first : goal.returns-in-Begin-clause-first
+returns-in-Begin-clause-first c = λ _. absent c.args.piece.now c.args.table.now.entries c.in-Begin.ensures
+
+pub returns-in-Disagree-clause-taken : goal.returns-in-Disagree-clause-taken
+returns-in-Disagree-clause-taken c =
+    disagreed c.args.piece.now c.args.bytes.now c.args.table.now.entries (sym c.in-Disagree.ensures)
+
+pub returns-in-Repeat-clause-taken : goal.returns-in-Repeat-clause-taken
+returns-in-Repeat-clause-taken c =
+    ap (λ table. step Repeated table.entries) c.promote.ensures.entries
+    ∙ repeated c.args.piece.now c.args.bytes.now c.args.table.now.entries (sym c.in-Repeat.ensures)

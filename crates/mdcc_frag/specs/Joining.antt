@@ -1,0 +1,97 @@
+-- A table of messages of which some pieces came, the most recently used first, and what a datagram makes of it.
+use Rattle.std.specs.Prelude.{◌≡◌, ℕ, Bool, ◌==◌, ◌&&◌, nat_eq, List, ◌∷◌, length, take, if◌then◌else◌, Option, Some, None, Result, Ok, Err}
+use Rattle.std.specs.Map.{lookup, lookup_entry, remove_entry}
+use Rattle.mdcc_frag.specs.declared.datagrams.FragHead.{FragHead}
+use Rattle.mdcc_frag.specs.declared.reading.Piece.{Piece}
+use Rattle.mdcc_frag.specs.declared.reading.DropCause.{DropCause}
+use Rattle.mdcc_frag.specs.declared.reading.DropCause.TheVariants.{Disagrees}
+use Rattle.mdcc_frag.specs.declared.joined.Joined.{Joined}
+use Rattle.mdcc_frag.specs.declared.joined.Joined.TheVariants.{Whole, Kept, Repeated, Dropped}
+use Rattle.mdcc_frag.specs.declared.joined.NextStep.{NextStep}
+use Rattle.mdcc_frag.specs.declared.joined.NextStep.TheVariants.{Begin, Disagree, Repeat, Advance}
+use Rattle.mdcc_frag.specs.Reading.{payload, piece_in}
+use Rattle.mdcc_frag.specs.Partial.{PartialMessage, nothing_of, with_piece, is_held, is_whole}
+
+abbrev pub Entry : Type 0
+Entry = FragHead × PartialMessage
+
+abbrev pub same_head : FragHead → FragHead → Bool
+same_head a b = nat_eq a.sender b.sender && (nat_eq a.epoch b.epoch && nat_eq a.serial b.serial)
+
+-- the entry of the message that a piece belongs to, and the entries of the others
+abbrev pub entry_of : Piece → List Entry → Option Entry
+entry_of piece entries = lookup_entry (same_head piece.head) entries
+
+abbrev pub others : Piece → List Entry → List Entry
+others piece entries = remove_entry (same_head piece.head) entries
+
+-- the answer, and the table behind it
+pub record Step : Type 0 where
+  pub answer : Joined
+  pub entries : List Entry
+
+abbrev pub step : Joined → List Entry → Step
+step answer entries = record { answer = answer; entries = entries }
+
+-- a message that has all pieces leaves the table
+abbrev pub arrived : PartialMessage → List Entry → List Entry → Step
+arrived message without with =
+    if is_whole message then step (Whole message.bytes) without else step Kept with
+
+-- The first piece of a message goes in front, and the least recently used of 64 goes.
+abbrev pub first_piece : Piece → List ℕ → List Entry → Step
+first_piece piece bytes entries =
+    arrived (with_piece piece.index bytes (nothing_of piece.total)) entries
+    ((piece.head, with_piece piece.index bytes (nothing_of piece.total)) ∷ take 63 entries)
+
+abbrev pub missing_piece : Piece → List ℕ → Entry → List Entry → Step
+missing_piece piece bytes entry rest =
+    arrived (with_piece piece.index bytes entry.1) rest ((entry.0, with_piece piece.index bytes entry.1) ∷ rest)
+
+-- a piece of a message of which some came
+abbrev pub known_piece : Piece → List ℕ → Entry → List Entry → Step
+known_piece piece bytes entry entries =
+    if length entry.1.bytes == piece.total
+    then (if is_held piece.index entry.1
+    then step Repeated (entry ∷ others piece entries)
+    else missing_piece piece bytes entry (others piece entries))
+    else step (Dropped Disagrees) entries
+
+abbrev pub take_piece : Piece → List ℕ → List Entry → Option Entry → Step
+take_piece piece bytes entries None = first_piece piece bytes entries
+take_piece piece bytes entries (Some entry) = known_piece piece bytes entry entries
+
+abbrev pub take_read : Result Piece DropCause → List ℕ → List Entry → Step
+take_read (Ok piece) bytes entries = take_piece piece bytes entries (entry_of piece entries)
+take_read (Err cause) bytes entries = step (Dropped cause) entries
+
+-- what comes of a datagram
+abbrev pub join : List ℕ → List Entry → Step
+join datagram entries = take_read (piece_in datagram) (payload datagram) entries
+
+-- The datagram has a piece of a message of which none came.
+pub record IsBeginning (datagram : List ℕ) (entries : List Entry) : Type 0 where
+  pub piece : Piece
+  pub read : piece_in datagram ≡ Ok piece
+  pub first : entry_of piece entries ≡ None
+
+-- which of the four a piece is
+abbrev pub known_step : Piece → PartialMessage → NextStep
+known_step piece message =
+    if length message.bytes == piece.total
+    then (if is_held piece.index message then Repeat else Advance)
+    else Disagree
+
+abbrev pub next_step : Piece → Option PartialMessage → NextStep
+next_step piece None = Begin
+next_step piece (Some message) = known_step piece message
+
+abbrev pub message_of : Piece → List Entry → Option PartialMessage
+message_of piece entries = lookup (same_head piece.head) entries
+
+-- What a table becomes when it takes a piece that was missing, and whether all pieces are there then.
+pub record IsTaken (piece : Piece) (bytes : List ℕ) (old : List Entry) (complete : Bool) (new : List Entry) : Type 0 where
+  pub entry : Entry
+  pub was : entry_of piece old ≡ Some entry
+  pub whole : complete ≡ is_whole (with_piece piece.index bytes entry.1)
+  pub is : new ≡ (entry.0, with_piece piece.index bytes entry.1) ∷ others piece old

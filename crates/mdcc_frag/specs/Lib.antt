@@ -1,0 +1,4 @@
+pub mod Datagrams
+pub mod Reading
+pub mod Partial
+pub mod Joining

@@ -1,0 +1,48 @@
+-- What was cut is joined again, in whatever order its pieces come.
+use Rattle.std.specs.Prelude.{◌≡◌, ℕ, ◌^◌, ◌<◌, ◌≤◌, Bool, true, false, List, [], ◌∷◌, ◌++◌, length, take, drop, replicate, slice_set, if◌then◌else◌, Ok}
+use Rattle.std.specs.List.{list_all}
+use Rattle.mdcc_frag.specs.declared.datagrams.FragHead.{FragHead}
+use Rattle.mdcc_frag.specs.Datagrams.{message_limit, count, piece_of, datagram}
+use Rattle.mdcc_frag.specs.Reading.{is_endpoint, payload, piece_in}
+use Rattle.mdcc_frag.specs.Partial.{PartialMessage, nothing_of, with_piece}
+
+-- an endpoint sends it, and its numbers have four bytes
+pub record IsHead (head : FragHead) : Type 0 where
+  pub sender : is_endpoint head.sender ≡ true
+  pub epoch : head.epoch < 2 ^ 32
+  pub serial : head.serial < 2 ^ 32
+
+-- a message that may be sent
+pub record IsMessage (message : List ℕ) : Type 0 where
+  pub some : 1 ≤ length message
+  pub short : length message ≤ message_limit
+
+-- what a datagram is read as, and the bytes of its piece
+pub record IsRead (head : FragHead) (index : ℕ) (message : List ℕ) : Type 0 where
+  pub piece : piece_in (datagram head index message) ≡ Ok (record { head = head; total = length message; index = index })
+  pub bytes : payload (datagram head index message) ≡ piece_of index message
+
+abbrev pub DatagramIsRead : Type 0
+DatagramIsRead = (head : FragHead) (index : ℕ) (message : List ℕ) → IsHead head → IsMessage message → index < count (length message)
+    → IsRead head index message
+
+-- the bytes of the pieces that came, and zeros for the others
+abbrev pub partly_bytes : List Bool → List ℕ → List ℕ
+partly_bytes [] message = []
+partly_bytes (came ∷ held) message =
+    (if came then take 1383 message else replicate (length (take 1383 message)) 0) ++ partly_bytes held (drop 1383 message)
+
+-- a message of which these pieces came
+abbrev pub partly : List Bool → List ℕ → PartialMessage
+partly held message = record { bytes = partly_bytes held message; held = held }
+
+abbrev pub NothingIsPartly : Type 0
+NothingIsPartly = (message : List ℕ) → nothing_of (length message) ≡ partly (replicate (count (length message)) false) message
+
+abbrev pub PieceIsTaken : Type 0
+PieceIsTaken = (message : List ℕ) (held : List Bool) (index : ℕ) → length held ≡ count (length message) → index < length held
+    → with_piece index (piece_of index message) (partly held message) ≡ partly (slice_set held index true) message
+
+abbrev pub AllPiecesAreTheMessage : Type 0
+AllPiecesAreTheMessage = (message : List ℕ) (held : List Bool) → length held ≡ count (length message) → list_all (λ came. came) held ≡ true
+    → (partly held message).bytes ≡ message

@@ -1,0 +1,22 @@
+//! What was cut is joined again.
+ghost use Rattle.mdcc_frag_laws.specs.Laws.{DatagramIsRead, NothingIsPartly, PieceIsTaken, AllPiecesAreTheMessage};
+
+/// The datagram of a piece is read as that piece.
+pub fn datagram_is_read()
+    ensures { DatagramIsRead }
+{}
+
+/// A message of which no piece came has none of its bytes.
+pub fn nothing_is_partly()
+    ensures { NothingIsPartly }
+{}
+
+/// A piece of a message, whichever it is, adds its bytes and no others.
+pub fn a_piece_is_taken()
+    ensures { PieceIsTaken }
+{}
+
+/// All pieces of a message are the message.
+pub fn all_pieces_are_the_message()
+    ensures { AllPiecesAreTheMessage }
+{}

@@ -1,0 +1,6 @@
+//! Theorems about messages in datagrams: what was cut is joined again, in whatever order its pieces come.
+#![tactic(auto)]
+
+pub mod laws;
+
+pub use laws::{a_piece_is_taken, all_pieces_are_the_message, datagram_is_read, nothing_is_partly};
