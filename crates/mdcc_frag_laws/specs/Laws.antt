@@ -1,10 +1,13 @@
 -- What was cut is joined again, in whatever order its pieces come.
-use Rattle.std.specs.Prelude.{◌≡◌, ℕ, ◌^◌, ◌<◌, ◌≤◌, Bool, true, false, List, [], ◌∷◌, ◌++◌, length, take, drop, replicate, slice_set, if◌then◌else◌, Ok}
+use Rattle.std.specs.Prelude.{◌≡◌, ℕ, ◌^◌, ◌<◌, ◌≤◌, Bool, true, false, List, [], ◌∷◌, ◌++◌, length, take, drop, replicate, slice_set, if◌then◌else◌, Some, Ok}
 use Rattle.std.specs.List.{list_all}
+use Rattle.std.specs.Map.{lookup_entry}
 use Rattle.mdcc_frag.specs.declared.datagrams.FragHead.{FragHead}
+use Rattle.mdcc_frag.specs.declared.joined.Joined.TheVariants.{Whole}
 use Rattle.mdcc_frag.specs.Datagrams.{message_limit, count, piece_of, datagram}
 use Rattle.mdcc_frag.specs.Reading.{is_endpoint, payload, piece_in}
 use Rattle.mdcc_frag.specs.Partial.{PartialMessage, nothing_of, with_piece}
+use Rattle.mdcc_frag.specs.Joining.{Entry, same_head, join}
 
 -- an endpoint sends it, and its numbers have four bytes
 pub record IsHead (head : FragHead) : Type 0 where
@@ -46,3 +49,16 @@ PieceIsTaken = (message : List ℕ) (held : List Bool) (index : ℕ) → length 
 abbrev pub AllPiecesAreTheMessage : Type 0
 AllPiecesAreTheMessage = (message : List ℕ) (held : List Bool) → length held ≡ count (length message) → list_all (λ came. came) held ≡ true
     → (partly held message).bytes ≡ message
+
+-- some pieces of this message came, or none, and nothing else
+abbrev pub IsPartly : List ℕ → PartialMessage → Type 0
+IsPartly message there = (held : List Bool) × (length held ≡ count (length message)) × (there ≡ partly held message)
+
+-- Where a table has an entry of this head, it has pieces of this message alone.
+abbrev pub HoldsOnly : FragHead → List ℕ → List Entry → Type 0
+HoldsOnly head message entries = (entry : Entry) → lookup_entry (same_head head) entries ≡ Some entry → IsPartly message entry.1
+
+abbrev pub WholeIsTheMessage : Type 0
+WholeIsTheMessage = (head : FragHead) (index : ℕ) (message : List ℕ) (entries : List Entry) → IsHead head → IsMessage message
+    → index < count (length message) → HoldsOnly head message entries
+    → (bytes : List ℕ) → (join (datagram head index message) entries).answer ≡ Whole bytes → bytes ≡ message

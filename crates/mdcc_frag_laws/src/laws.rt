@@ -1,5 +1,5 @@
 //! What was cut is joined again.
-ghost use Rattle.mdcc_frag_laws.specs.Laws.{DatagramIsRead, NothingIsPartly, PieceIsTaken, AllPiecesAreTheMessage};
+ghost use Rattle.mdcc_frag_laws.specs.Laws.{DatagramIsRead, NothingIsPartly, PieceIsTaken, AllPiecesAreTheMessage, WholeIsTheMessage};
 
 /// The datagram of a piece is read as that piece.
 pub fn datagram_is_read()
@@ -19,4 +19,9 @@ pub fn a_piece_is_taken()
 /// All pieces of a message are the message.
 pub fn all_pieces_are_the_message()
     ensures { AllPiecesAreTheMessage }
+{}
+
+/// What comes whole of a message's pieces is that message.
+pub fn whole_is_the_message()
+    ensures { WholeIsTheMessage }
 {}

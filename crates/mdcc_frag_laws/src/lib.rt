@@ -3,4 +3,7 @@
 
 pub mod laws;
 
-pub use laws::{a_piece_is_taken, all_pieces_are_the_message, datagram_is_read, nothing_is_partly};
+pub use laws::{
+    a_piece_is_taken, all_pieces_are_the_message, datagram_is_read, nothing_is_partly,
+    whole_is_the_message,
+};
