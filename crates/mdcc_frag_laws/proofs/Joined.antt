@@ -21,6 +21,17 @@ arrived_as message without with bytes true h = (refl, cc)
 arrived_as message without with bytes false h = cc
 
 -- one more piece of a message of which some came
+pub with_one_more : (index : ℕ) (message : List ℕ) (there : PartialMessage) → index < count (length message) → IsPartly message there →
+    IsPartly message (with_piece index (piece_of index message) there)
+with_one_more index message there within p =
+    let held = p.0 in
+    let within' : index < length held = rw p.1 within in (
+      slice_set held index true,
+      length-set held index true ∙ p.1,
+      ap (with_piece index (piece_of index message)) p.2
+          ∙ ap (λ b. record { bytes = b; held = slice_set held index true }) (taken_bytes index held message p.1 within'),
+    )
+
 one_more : (index : ℕ) (message : List ℕ) (there : PartialMessage) (without with : List Entry) (bytes : List ℕ) →
     index < count (length message) → IsPartly message there →
     (arrived (with_piece index (piece_of index message) there) without with).answer ≡ Whole bytes → bytes ≡ message
@@ -35,7 +46,7 @@ one_more index message there without with bytes within p h =
     let size : length (slice_set held index true) ≡ count (length message) = length-set held index true ∙ p.1 in
     sym came.1 ∙ ap (λ m. m.bytes) now ∙ whole_bytes (slice_set held index true) message size all
 
-nothing_came : (message : List ℕ) → IsPartly message (nothing_of (length message))
+pub nothing_came : (message : List ℕ) → IsPartly message (nothing_of (length message))
 nothing_came message = (
   replicate (count (length message)) false,
   length-replicate (count (length message)) false,

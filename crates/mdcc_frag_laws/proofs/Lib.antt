@@ -1,3 +1,4 @@
 pub mod Pieces
 pub mod ReadBack
 pub mod Joined
+pub mod Runs

@@ -1,8 +1,9 @@
 -- What was cut is joined again, in whatever order its pieces come.
-use Rattle.std.specs.Prelude.{◌≡◌, ℕ, ◌^◌, ◌<◌, ◌≤◌, Bool, true, false, List, [], ◌∷◌, ◌++◌, length, take, drop, replicate, slice_set, if◌then◌else◌, Some, Ok}
-use Rattle.std.specs.List.{list_all}
+use Rattle.std.specs.Prelude.{◌≡◌, ℕ, ◌^◌, ◌<◌, ◌≤◌, Bool, true, false, List, [], ◌∷◌, ◌++◌, length, take, drop, replicate, slice_set, Contains, if◌then◌else◌, Some, Ok}
+use Rattle.std.specs.List.{list_all, AllByRecursion}
 use Rattle.std.specs.Map.{lookup_entry}
 use Rattle.mdcc_frag.specs.declared.datagrams.FragHead.{FragHead}
+use Rattle.mdcc_frag.specs.declared.reading.Piece.{Piece}
 use Rattle.mdcc_frag.specs.declared.joined.Joined.TheVariants.{Whole}
 use Rattle.mdcc_frag.specs.Datagrams.{message_limit, count, piece_of, datagram}
 use Rattle.mdcc_frag.specs.Reading.{is_endpoint, payload, piece_in}
@@ -62,3 +63,28 @@ abbrev pub WholeIsTheMessage : Type 0
 WholeIsTheMessage = (head : FragHead) (index : ℕ) (message : List ℕ) (entries : List Entry) → IsHead head → IsMessage message
     → index < count (length message) → HoldsOnly head message entries
     → (bytes : List ℕ) → (join (datagram head index message) entries).answer ≡ Whole bytes → bytes ≡ message
+
+-- It is a piece of this message.
+pub record IsPieceOf (message : List ℕ) (piece : Piece) (found : List ℕ) : Type 0 where
+  pub total : piece.total ≡ length message
+  pub index : piece.index < count (length message)
+  pub bytes : found ≡ piece_of piece.index message
+
+-- Where a datagram is read as a piece under this head, it is one of this message. So are all datagrams of it, those of other
+-- messages, and those that are dropped.
+abbrev pub IsHonest : FragHead → List ℕ → List ℕ → Type 0
+IsHonest head message bytes = (piece : Piece) → piece_in bytes ≡ Ok piece → same_head head piece.head ≡ true → IsPieceOf message piece (payload bytes)
+
+-- Each entry of this head has pieces of this message alone.
+abbrev pub AllHoldOnly : FragHead → List ℕ → List Entry → Type 0
+AllHoldOnly head message entries = (entry : Entry) → Contains entries entry → same_head head entry.0 ≡ true → IsPartly message entry.1
+
+-- the table after these datagrams
+abbrev pub table_after : List (List ℕ) → List Entry → List Entry
+table_after [] entries = entries
+table_after (bytes ∷ more) entries = table_after more (join bytes entries).entries
+
+abbrev pub JoinedFromAnything : Type 0
+JoinedFromAnything = (head : FragHead) (index : ℕ) (message : List ℕ) (before : List (List ℕ)) → IsHead head → IsMessage message
+    → index < count (length message) → AllByRecursion (IsHonest head message) before
+    → (bytes : List ℕ) → (join (datagram head index message) (table_after before [])).answer ≡ Whole bytes → bytes ≡ message

@@ -1,5 +1,5 @@
 //! What was cut is joined again.
-ghost use Rattle.mdcc_frag_laws.specs.Laws.{DatagramIsRead, NothingIsPartly, PieceIsTaken, AllPiecesAreTheMessage, WholeIsTheMessage};
+ghost use Rattle.mdcc_frag_laws.specs.Laws.{DatagramIsRead, NothingIsPartly, PieceIsTaken, AllPiecesAreTheMessage, WholeIsTheMessage, JoinedFromAnything};
 
 /// The datagram of a piece is read as that piece.
 pub fn datagram_is_read()
@@ -24,4 +24,9 @@ pub fn all_pieces_are_the_message()
 /// What comes whole of a message's pieces is that message.
 pub fn whole_is_the_message()
     ensures { WholeIsTheMessage }
+{}
+
+/// So it is after any datagrams, in any order, of which those under the message's head are its own.
+pub fn joined_from_anything()
+    ensures { JoinedFromAnything }
 {}

@@ -4,6 +4,6 @@
 pub mod laws;
 
 pub use laws::{
-    a_piece_is_taken, all_pieces_are_the_message, datagram_is_read, nothing_is_partly,
-    whole_is_the_message,
+    a_piece_is_taken, all_pieces_are_the_message, datagram_is_read, joined_from_anything,
+    nothing_is_partly, whole_is_the_message,
 };
