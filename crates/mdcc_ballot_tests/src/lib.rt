@@ -1,5 +1,5 @@
-//! Tests of whole replays over objects in memory: classic ballots, adds, dangling transactions, and
-//! centres that catch up.
+//! Tests of whole replays over objects in memory: classic ballots, adds, dangling transactions,
+//! centres that catch up, and appends that stop.
 #![tactic(auto)]
 
 #[cfg(test)]
@@ -8,5 +8,9 @@ mod ballot_rows;
 mod ballots;
 #[cfg(test)]
 mod moments;
+#[cfg(test)]
+mod stop_rows;
+#[cfg(test)]
+mod stops;
 #[cfg(test)]
 mod whole_rows;

@@ -1,4 +1,4 @@
--- What is enabled now: the fast path, classic ballots, ticks, dangling transactions, catching up, crashes and restarts, the update word `add`, the header line of the fast limit, and the limits on events, messages and logs.
+-- What is enabled now: the fast path, classic ballots, ticks, dangling transactions, catching up, crashes, restarts and stops, the update word `add`, the header line of the fast limit, and the limits on events, messages and logs.
 use Rattle.std.specs.Prelude.{true}
 use Rattle.mdcc_switches.specs.Built.{Built, nothing_built}
 
@@ -12,6 +12,7 @@ built = record nothing_built {
   catching_up = true;
   restarts = true;
   adds = true;
+  stops = true;
   limit_line = true;
   limit_on_events = true;
   limit_on_bytes = true;

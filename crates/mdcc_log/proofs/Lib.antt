@@ -1,9 +1,9 @@
 mod Again
 mod Appends
-mod Bytes
+pub mod Bytes
 mod Calls
-mod Kept
-mod LogRead
+pub mod Kept
+pub mod LogRead
 pub mod Moments
 mod ReadCalls
 mod Repairs

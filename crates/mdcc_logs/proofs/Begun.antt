@@ -1,5 +1,5 @@
 -- One centre more that is booted for the first time.
-use Rattle.std.proofs.Common.{◌≡◌, ◌≢◌, ◌+◌, ◌-◌, ◌≤◌, ◌<◌, ◌∷◌, ◌++◌, [], List, None, Option, ap, arith, get_or, inl, inr, length, nat_le, refl, subst, suc, sym, zero, ℕ, ◌∙◌}
+use Rattle.std.proofs.Common.{◌≡◌, ◌≢◌, ◌+◌, ◌-◌, ◌≤◌, ◌<◌, ◌∷◌, ◌++◌, [], List, None, Option, ap, arith, get_or, inl, inr, length, nat_le, refl, subst, suc, sym, true, zero, ℕ, ◌∙◌}
 use Rattle.std.proofs.lemmas.Bool.{and_from, le-leb}
 use Rattle.std.proofs.lemmas.Bool.Decides.{eqb_tells}
 use Rattle.std.proofs.lemmas.List.{get_or-append_right, get_or_append_left}
@@ -11,7 +11,7 @@ use Rattle.mdcc_disks.specs.Memory.{AllMemory, AreNew, IsNewMemory, Place, at_pl
 use Rattle.mdcc_log.specs.Frames.{IsAtRest, OpenLog}
 use Rattle.mdcc_log.specs.Log.{read_log}
 use Rattle.mdcc_logs.proofs.Nodes.{length-more}
-use Rattle.mdcc_logs.proofs.Standing.{IsSame, both-same, elsewhere, log-stays}
+use Rattle.mdcc_logs.proofs.Standing.{IsSame, both-same, elsewhere, log-at-rest, log-stays}
 use Rattle.mdcc_logs.specs.Stands.{IsLogOf, log_at, no_log}
 use Rattle.mdcc_logs.specs.Starting.{AreBegun, first_facts}
 use Rattle.mdcc_logs.specs.declared.logs.Logs.{Logs}
@@ -60,21 +60,17 @@ next-begun old new d centres count a log begun next few same keeps items place r
     let none : (a - 1) - (a - 1) ≡ 0 = omega arith in
     let log_here : log_at new a ≡ log =
     ap (λ (logs : List OpenLog). get_or logs (a - 1) no_log) items ∙ get_or-append_right old.open.items (log ∷ []) (a - 1) (a - 1) no_log before (omega arith) ∙ ap (λ (n : ℕ). get_or (log ∷ []) n no_log) none in
-    let here : IsLogOf new a (first_facts a) = record {
-      there = keeps.told ∙ (same a).there ∙ begun.there a (omega (next, arith)) few;
-      place = ap (λ (l : OpenLog). l.place) log_here ∙ place;
-      at_rest = subst (λ (l : OpenLog). IsAtRest (logged (Fact.Booted 1 ∷ [])) l.size (disk_of new.disks a).bytes (may_leave_of new.disks a)) (sym log_here) rest;
-    } in
+    let here : IsLogOf new a true (first_facts a) = log-at-rest new a log true (first_facts a) (keeps.told ∙ (same a).there ∙ begun.there a (omega (next, arith)) few) log_here place rest in
     record {
       stand = record {
         as_many = ap length items ∙ length-more old.open.items log ∙ omega (before, next, arith);
         each = λ b some most. elim (eqb_tells b a) [
-          | inl is ↦ subst (λ (n : ℕ). IsLogOf new n (first_facts n)) (sym is.1) here
+          | inl is ↦ subst (λ (n : ℕ). IsLogOf new n true (first_facts n)) (sym is.1) here
           | inr other ↦
               let less : b ≤ count = omega (other.1, most, next, arith) in
               let log_there : log_at new b ≡ log_at old b =
               ap (λ (logs : List OpenLog). get_or logs (b - 1) no_log) items ∙ get_or_append_left old.open.items (log ∷ []) no_log (b - 1) (omega (some, less, begun.stand.as_many, arith)) in
-              log-stays old new b (first_facts b) log_there (others b other.1) (begun.stand.each b some less)
+              log-stays old new b true (first_facts b) log_there (others b other.1) (begun.stand.each b some less)
         ];
       };
       there = λ b more most. (others b (λ is. absurd (omega (is, more, arith)))).there ∙ begun.there b (omega (next, more, arith)) most;

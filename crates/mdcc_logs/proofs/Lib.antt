@@ -1,7 +1,10 @@
 mod Begun
 mod Calls
+mod Made
 mod Nodes
 mod Payloads
 mod Refusals
+mod Stages
 mod Standing
 mod Starts
+mod Stops

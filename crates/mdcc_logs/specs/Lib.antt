@@ -1,3 +1,4 @@
 pub mod Nodes
 pub mod Stands
 pub mod Starting
+pub mod Stopping

@@ -1,5 +1,5 @@
 -- What comes of a start of a centre.
-use Rattle.std.specs.Prelude.{◌≡◌, ◌≤◌, ◌+◌, ◌<◌, ◌∷◌, [], Err, List, None, Ok, Option, Result, Some, nat_lt, true, false, ℕ, ⊤}
+use Rattle.std.specs.Prelude.{◌≡◌, ◌≤◌, ◌+◌, ◌<◌, ◌∷◌, [], Bool, Err, List, None, Ok, Option, Result, Some, nat_lt, true, false, ℕ, ⊤}
 use Rattle.mdcc_base.specs.declared.faults.Memory.{Memory}
 use Rattle.mdcc_disks.specs.Memory.{disk_of, is_there}
 use Rattle.mdcc_facts.specs.declared.list_facts.ListFacts.{ListFacts}
@@ -33,19 +33,19 @@ OnNone _ payloads bytes may_leave = ⊤
 
 -- ---- among the centres
 
--- The node of a centre has its facts and the boot of the next epoch, and so has its log, which lies within the limit.
-pub record HasStarted (node : Node ListFacts) (epoch : ℕ) (logs : Logs) (cluster : Cluster) (centres a : ℕ) (facts : ℕ → List Fact) : Type 0 where
+-- The node of a centre has its facts and the boot of the next epoch, and so has its log, which lies within the limit; then these centres are up.
+pub record HasStarted (node : Node ListFacts) (epoch : ℕ) (logs : Logs) (cluster : Cluster) (centres : ℕ) (up : ℕ → Bool) (a : ℕ) (facts : ℕ → List Fact) : Type 0 where
   pub next : epoch ≡ epoch_of (facts a) + 1
   pub node_of : IsNodeOf node cluster a (Fact.Booted epoch ∷ facts a) nothing_kept
-  pub stand : LogsStand logs centres (with_fact_at facts a (Fact.Booted epoch))
+  pub stand : LogsStand logs centres up (with_fact_at facts a (Fact.Booted epoch))
   pub room : nat_lt log_limit (log_length (Fact.Booted epoch ∷ facts a)) ≡ false
 
 -- it has started; or the new boot would pass the limit of the log; or there was no memory
-abbrev pub Starts : Result Started Memory → Logs → Cluster → (centres a : ℕ) → (ℕ → List Fact) → Type 0
-Starts (Ok (Started.Node node epoch)) logs cluster centres a facts = HasStarted node epoch logs cluster centres a facts
-Starts (Ok Started.Full) logs cluster centres a facts =
+abbrev pub Starts : Result Started Memory → Logs → Cluster → ℕ → (ℕ → Bool) → ℕ → (ℕ → List Fact) → Type 0
+Starts (Ok (Started.Node node epoch)) logs cluster centres up a facts = HasStarted node epoch logs cluster centres up a facts
+Starts (Ok Started.Full) logs cluster centres up a facts =
     nat_lt log_limit (log_length (Fact.Booted (epoch_of (facts a) + 1) ∷ facts a)) ≡ true
-Starts (Err fault) logs cluster centres a facts = ⊤
+Starts (Err fault) logs cluster centres up a facts = ⊤
 
 -- where the log has no room
 abbrev pub OnFull : Result Started Memory → Type 0 → Type 0
@@ -60,6 +60,6 @@ first_facts a = Fact.Booted 1 ∷ []
 
 -- So many of the centres have booted for the first time, and the disks of the others are empty.
 pub record AreBegun (logs : Logs) (centres count : ℕ) : Type 0 where
-  pub stand : LogsStand logs count first_facts
+  pub stand : LogsStand logs count (λ a. true) first_facts
   pub there : (a : ℕ) → count < a → a ≤ centres → is_there logs.disks a ≡ true
   pub empty : (a : ℕ) → count < a → a ≤ centres → (disk_of logs.disks a).bytes ≡ []

@@ -55,7 +55,7 @@ fn none_begun(alloc: Global, cluster: &Cluster) -> Result<Logs, Memory>
 pub fn boot_all(alloc: Global, cluster: &Cluster) -> Result<(Vec<Node<ListFacts>>, Logs), Memory>
     requires { IsCluster cluster.now }
     ensures nodes { IfOk result (λ r. AreStarted r.0.items cluster.now cluster.now.quorums.centres) }
-    ensures logs { IfOk result (λ r. LogsStand r.1 cluster.now.quorums.centres first_facts) }
+    ensures logs { IfOk result (λ r. LogsStand r.1 cluster.now.quorums.centres (λ a. true) first_facts) }
 {
     let mut logs = none_begun(alloc, cluster)?;
     let mut nodes = Vec::new(alloc);

@@ -4,6 +4,7 @@
 pub mod booting;
 pub mod logs;
 pub mod starting;
+pub mod stopping;
 
 pub use booting::boot_all;
 pub use logs::Logs;

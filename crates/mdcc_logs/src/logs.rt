@@ -1,11 +1,11 @@
 //! The logs of the centres.
-ghost use Rattle.std.specs.Prelude.{◌≡◌, ◌≤◌, ◌<◌, ◌+◌, ◌-◌, ◌^◌, ◌∷◌, ◌++◌, [], List, ℕ, length, nat_lt, IfOk, IsTrue, OnErr, OnOk, true};
-ghost use Rattle.mdcc_disks.specs.Disks.{KeepsOthers, LeavesOnly};
+ghost use Rattle.std.specs.Prelude.{◌≡◌, ◌≤◌, ◌<◌, ◌+◌, ◌-◌, ◌^◌, ◌∷◌, ◌++◌, [], Bool, List, ℕ, false, length, nat_lt, IfOk, IsTrue, OnErr, OnOk, true};
+ghost use Rattle.mdcc_disks.specs.Disks.{KeepsOthers, LeavesOnly, Within};
 ghost use Rattle.mdcc_disks.specs.Memory.{IsBut, at_place, crashed, disk_of, may_leave_of, moment_of, left_since_of};
-ghost use Rattle.mdcc_log.specs.Crash.{IsBetween};
+ghost use Rattle.mdcc_log.specs.Crash.{IsBetween, IsShut};
 ghost use Rattle.mdcc_log.specs.Frames.{IsAtRest, IsSettled};
 ghost use Rattle.mdcc_log.specs.Log.{log_limit};
-ghost use Rattle.mdcc_logs.specs.Stands.{AreLogs, LogsStand, MayHave, with_fact_at};
+ghost use Rattle.mdcc_logs.specs.Stands.{IsOpenAt, LogsStand, MayHave, MayRead, with_fact_at, with_up};
 ghost use Rattle.mdcc_logs.specs.Starting.{OnFull, Starts};
 ghost use Rattle.mdcc_protocol.specs.Belongs.{is_centre};
 ghost use Rattle.mdcc_protocol.specs.Facts.{epoch_of};
@@ -13,7 +13,7 @@ ghost use Rattle.mdcc_protocol.specs.IsCluster.{IsCluster};
 ghost use Rattle.mdcc_messages.specs.Lengths.{fact_length, frame_length, log_length};
 ghost use Rattle.mdcc_messages.specs.WellFormed.{IsWellFormedFact};
 ghost use Rattle.mdcc_messages.specs.declared.facts.Fact.{Fact as AFact};
-ghost use Rattle.mdcc_restart.specs.Logged.{AreLogged};
+ghost use Rattle.mdcc_restart.specs.Logged.{AreLogged, logged};
 ghost use Rattle.mdcc_restart.specs.Restarting.{next_boot};
 
 use crate::starting::{Started, start};
@@ -21,7 +21,7 @@ use mdcc_base::{Centre, Image, Memory};
 use mdcc_disks::{MemoryDisks, crash_leaves_the_image};
 use mdcc_journal::counts::well_formed_facts_have_counts;
 use mdcc_journal::fact_length;
-use mdcc_log::{Frames, LOG_LIMIT, rest_is_read};
+use mdcc_log::{Frames, LOG_LIMIT};
 use mdcc_messages::Fact;
 use mdcc_option::Cluster;
 use mdcc_restart::{Restarted, payload_of};
@@ -77,7 +77,7 @@ impl Logs {
     pub fn is_full(&self, centre: Centre, fact: &Fact) -> bool
         requires within { centre ≤ length self.now.open.items }
         requires formed { IsWellFormedFact fact.now }
-        ensures { (centres : ℕ) (facts : ℕ → List AFact) → LogsStand self.now centres facts → 1 ≤ centre → centre ≤ centres
+        ensures { (centres : ℕ) (up : ℕ → Bool) (facts : ℕ → List AFact) → LogsStand self.now centres up facts → up centre ≡ true → 1 ≤ centre → centre ≤ centres
             → result ≡ nat_lt log_limit (log_length (fact.now ∷ facts centre)) }
     {
         let size = self.open[usize::from(centre.number()) - 1].size();
@@ -90,12 +90,12 @@ impl Logs {
         requires within { centre ≤ length self.old.open.items }
         requires formed { IsWellFormedFact fact.now }
         requires short { fact_length fact.now ≤ 2097152 }
-        requires stand { AreLogs self.old }
+        requires stand { IsOpenAt self.old centre }
         ensures as_many { length self.new.open.items ≡ length self.old.open.items }
-        ensures appended { (centres : ℕ) (facts : ℕ → List AFact) → LogsStand self.old centres facts
-            → OnOk result (LogsStand self.new centres (with_fact_at facts centre fact.now)) }
-        ensures refused { (centres : ℕ) (facts : ℕ → List AFact) → LogsStand self.old centres facts
-            → OnErr result (MayHave self.new centres centre facts fact.now) }
+        ensures appended { (centres : ℕ) (up : ℕ → Bool) (facts : ℕ → List AFact) → LogsStand self.old centres up facts → up centre ≡ true
+            → OnOk result (LogsStand self.new centres up (with_fact_at facts centre fact.now)) }
+        ensures refused { (centres : ℕ) (up : ℕ → Bool) (facts : ℕ → List AFact) → LogsStand self.old centres up facts → up centre ≡ true
+            → OnErr result (MayHave self.new centres up centre facts fact.now) }
     {
         well_formed_facts_have_counts();
         let payload = payload_of(alloc, fact)?;
@@ -113,15 +113,16 @@ impl Logs {
         requires { centre ≤ length self.old.open.items }
         ensures as_many { length self.new.open.items ≡ length self.old.open.items }
         ensures crashed { IsBut (crashed Image.Lost (at_place self.old.disks centre)) (at_place self.new.disks centre) }
-        ensures kept { (centres : ℕ) (facts : ℕ → List AFact) → LogsStand self.old centres facts
-            → LogsStand self.new centres facts }
+        ensures kept { (centres : ℕ) (up : ℕ → Bool) (facts : ℕ → List AFact) → LogsStand self.old centres up facts → up centre ≡ true
+            → LogsStand self.new centres (with_up up centre false) facts }
     {
         crash_leaves_the_image();
         self.disks.crash(centre.number(), Image::Lost);
     }
 
-    /// A centre starts again from its log: it has the facts of its log and the new boot. After `Full` the logs are as before.
-    /// After want of memory the log of the centre has the new boot or not, and has to be opened again.
+    /// A centre starts again from its log, also where a stop left something behind it: it has the facts of its log and the new
+    /// boot. After `Full` the logs stand as before. After want of memory the log of the centre has the new boot or not, and has to
+    /// be opened again; where its last gate was torn it may be torn still.
     pub fn restart(
         &mut self,
         alloc: Global,
@@ -131,15 +132,18 @@ impl Logs {
         requires among { is_centre cluster.now centre ≡ true }
         requires within { centre ≤ length self.old.open.items }
         ensures as_many { length self.new.open.items ≡ length self.old.open.items }
-        ensures started { (centres : ℕ) (facts : ℕ → List AFact) → LogsStand self.old centres facts → AreLogged cluster.now (facts centre)
-            → IsCluster cluster.now → epoch_of (facts centre) < 2 ^ 32 - 1 → Starts result self.new cluster.now centres centre facts }
-        ensures full { (centres : ℕ) (facts : ℕ → List AFact) → LogsStand self.old centres facts
-            → OnFull result (LogsStand self.new centres facts) }
-        ensures refused { (centres : ℕ) (facts : ℕ → List AFact) → LogsStand self.old centres facts → AreLogged cluster.now (facts centre)
-            → OnErr result (MayHave self.new centres centre facts (next_boot (facts centre))) }
+        ensures started { (centres : ℕ) (up : ℕ → Bool) (facts : ℕ → List AFact) → LogsStand self.old centres up facts
+            → AreLogged cluster.now (facts centre) → IsCluster cluster.now → epoch_of (facts centre) < 2 ^ 32 - 1
+            → Starts result self.new cluster.now centres (with_up up centre true) centre facts }
+        ensures full { (centres : ℕ) (up : ℕ → Bool) (facts : ℕ → List AFact) → LogsStand self.old centres up facts
+            → OnFull result (LogsStand self.new centres up facts) }
+        ensures refused { (centres : ℕ) (up : ℕ → Bool) (facts : ℕ → List AFact) → LogsStand self.old centres up facts
+            → AreLogged cluster.now (facts centre) → Within (IsShut (logged (facts centre))) (may_leave_of self.old.disks centre)
+            → OnErr result (MayHave self.new centres up centre facts (next_boot (facts centre))) }
+        ensures read { (centres : ℕ) (up : ℕ → Bool) (facts : ℕ → List AFact) → LogsStand self.old centres up facts → AreLogged cluster.now (facts centre)
+            → OnErr result (MayRead self.new centres up centre facts (next_boot (facts centre))) }
     {
         let place = centre.number();
-        rest_is_read();
         self.disks.reserve(place, 16, 32)?;
         match start(alloc, cluster, centre, &mut self.disks)? {
             Some(started) => {

@@ -2,14 +2,15 @@
 ghost use Rattle.std.specs.Prelude.{◌≡◌, ◌<◌, ◌-◌, ◌^◌, IsTrue, List, Ok, true, ℕ};
 ghost use Rattle.mdcc_disks.specs.Disks.{KeepsOthers, LeavesOnly, Within};
 ghost use Rattle.mdcc_disks.specs.Memory.{disk_of, may_leave_of, moment_of, left_since_of};
-ghost use Rattle.mdcc_log.specs.Crash.{IsShut};
+ghost use Rattle.mdcc_log.specs.Crash.{IsShut, ReadsAsEither};
 ghost use Rattle.mdcc_log.specs.Log.{read_log};
 ghost use Rattle.mdcc_logs.specs.Starting.{OnNone, StartsOver};
 ghost use Rattle.mdcc_protocol.specs.Belongs.{is_centre};
 ghost use Rattle.mdcc_protocol.specs.Facts.{epoch_of};
+ghost use Rattle.mdcc_messages.specs.Spelling.{fact_bytes};
 ghost use Rattle.mdcc_messages.specs.declared.facts.Fact.{Fact as AFact};
 ghost use Rattle.mdcc_restart.specs.Logged.{AreLogged, logged};
-ghost use Rattle.mdcc_restart.specs.Restarting.{IsLogOf, MayHaveBoot};
+ghost use Rattle.mdcc_restart.specs.Restarting.{IsLogOf, MayHaveBoot, next_boot};
 
 use mdcc_base::{Centre, Memory, Plain};
 use mdcc_disks::MemoryDisks;
@@ -46,6 +47,9 @@ pub(crate) fn start(
     ensures any_moment { (facts : List AFact) → AreLogged cluster.now facts
         → IsTrue (disk_of disks.old centre).told → Within (IsShut (logged facts)) (may_leave_of disks.old centre)
         → LeavesOnly moment_of left_since_of disks.old disks.new centre (MayHaveBoot facts) }
+    ensures any_moment_same { (facts : List AFact) → AreLogged cluster.now facts
+        → IsTrue (disk_of disks.old centre).told → Within (λ c. read_log c ≡ Ok (logged facts)) (may_leave_of disks.old centre)
+        → LeavesOnly moment_of left_since_of disks.old disks.new centre (ReadsAsEither (logged facts) (fact_bytes (next_boot facts))) }
     ensures others { KeepsOthers disk_of may_leave_of moment_of left_since_of disks.old disks.new centre }
 {
     let store = ListFacts::new(alloc)?;

@@ -1,5 +1,5 @@
 -- What a header that is read says of its cluster, and of what is left behind it.
-use Rattle.std.proofs.Common.{◌≡◌, ◌+◌, ◌≤◌, ◌==◌, ◌&&◌, ◌∷◌, [], List, ℕ, ℤ, pos, negsuc, nat_abs, int_le, int_lt, ◌≤ℤ◌, ◌||◌, Bool, true, false, cond, zero, suc, length, drop, get_or, codes, Result, Ok, Err, IfOk, refl, sym, ap, ◌∙◌, subst, arith, T, leb→le}
+use Rattle.std.proofs.Common.{◌≡◌, ◌+◌, ◌≤◌, ◌==◌, ◌&&◌, ◌∷◌, [], List, ℕ, ℤ, pos, negsuc, nat_abs, int_le, int_lt, ◌≤ℤ◌, ◌||◌, Bool, true, false, cond, zero, suc, length, drop, get_or, codes, Result, Ok, Err, IfOk, refl, sym, ap, ◌∙◌, subst, T, leb→le}
 use Rattle.std.specs.List.{onto_first}
 use Rattle.std.specs.Str.Parse.{signed_digits_value}
 use Rattle.std.proofs.lemmas.Bool.{and_parts}

@@ -7,4 +7,3 @@ pub mod Splits
 pub mod Statuses
 pub mod Steps
 pub mod Taken
-pub mod Words

@@ -15,7 +15,6 @@ use Rattle.mdcc_language.specs.declared.world.EventFault.{EventFault}
 use Rattle.mdcc_simulation.specs.Events.{event_of}
 use Rattle.mdcc_simulation.specs.Replay.{ended, lines_replayed, replay_behind, replay_of}
 use Rattle.mdcc_simulation.specs.State.{Happened, World, first_world}
-use Rattle.mdcc_replay.specs.Refusals.{faults_of}
 use Rattle.mdcc_replay.specs.Runs.{IsStatus}
 use Rattle.mdcc_replay.specs.Writing.{Replayed}
 use Rattle.mdcc_replay.specs.declared.refusals.Refusal.{Refusal}

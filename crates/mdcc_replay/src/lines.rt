@@ -1,17 +1,11 @@
 //! Parts of an input.
-ghost use Rattle.std.specs.Prelude.{◌≡◌, ◌++◌, ◌+◌, ◌∷◌, ◌<◌, ◌≤◌, codes, drop, length, take, IfOk, IfSome, IsTrue};
-ghost use Rattle.mdcc_base.specs.Unless.{GivesUnless};
-ghost use Rattle.mdcc_built.specs.Built.{built};
+ghost use Rattle.std.specs.Prelude.{◌≡◌, ◌++◌, ◌+◌, ◌∷◌, ◌<◌, ◌≤◌, codes, drop, length, take, IfOk};
 ghost use Rattle.mdcc_language.specs.Lines.{lines_in};
 ghost use Rattle.mdcc_language.specs.Report.{header_text};
-ghost use Rattle.mdcc_language.specs.Schedule.{line_of};
 ghost use Rattle.mdcc_sched.specs.Free.{is_memory};
-ghost use Rattle.mdcc_replay.specs.Words.{is_built};
 
 use mdcc_base::Memory;
-use mdcc_language::{Event, SchedCause, SchedFault};
-use mdcc_option::Cluster;
-use mdcc_sched::parse_line;
+use mdcc_language::{SchedCause, SchedFault};
 use mdcc_words::places::part_at;
 use std::alloc::Global;
 
@@ -73,16 +67,4 @@ pub(crate) fn is_memory(fault: &SchedFault) -> bool
         _ => false,
     };
     fault.column == 1 && is_cause
-}
-
-/// The event of a line, which is of a built word.
-pub(crate) fn read_line(
-    alloc: Global,
-    line: &[u8],
-    cluster: &Cluster,
-) -> Result<Option<Event>, SchedFault>
-    ensures value { GivesUnless is_memory result (line_of built cluster.now line.now) }
-    ensures word { IfOk result (λ event. IfSome event (λ event. IsTrue (is_built event))) }
-{
-    parse_line(alloc, line, cluster)
 }

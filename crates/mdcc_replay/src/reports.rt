@@ -1,5 +1,5 @@
 //! Replays an input, line by line.
-ghost use Rattle.std.specs.Prelude.{◌≡◌, ◌+◌, ◌<◌, ◌≤◌, ◌^◌, ◌∷◌, [], List, ℕ, length, IfErr, IfOk, IsErrOf, IsOkAnd, IsTrue, Ok};
+ghost use Rattle.std.specs.Prelude.{◌≡◌, ◌+◌, ◌<◌, ◌≤◌, ◌^◌, ◌∷◌, [], List, ℕ, length, IfErr, IfOk, IsErrOf, IsOkAnd, Ok};
 ghost use Rattle.std.specs.Bool.{OnFalse};
 ghost use Rattle.mdcc_base.specs.AreQuorums.{AreQuorums};
 ghost use Rattle.mdcc_base.specs.Causes.{Rose};
@@ -15,15 +15,14 @@ ghost use Rattle.mdcc_simulation.specs.Events.{event_of};
 ghost use Rattle.mdcc_replay.specs.Refusals.{is_memory};
 ghost use Rattle.mdcc_replay.specs.Runs.{event_told};
 ghost use Rattle.mdcc_replay.specs.Writing.{Replayed, ReplayedTo};
-ghost use Rattle.mdcc_replay.specs.Words.{is_built};
 
-use crate::lines::{behind, header_text, is_memory, read_line, split_line};
+use crate::lines::{behind, header_text, is_memory, split_line};
 use crate::writing::{line_text, lines_text, write_text};
 use crate::{Failure, Refusal, Simulation};
 use mdcc_base::{HeapList, LIMIT, Plain, Sink};
 use mdcc_language::{Event, EventFault};
 use mdcc_option::Cluster;
-use mdcc_sched::parse_numbered_header;
+use mdcc_sched::{parse_line, parse_numbered_header};
 use std::alloc::Global;
 
 // Whether it is want of memory.
@@ -42,7 +41,6 @@ fn event_text<W: Simulation>(
     world: &mut W,
     event: &Event,
 ) -> Result<Vec<u8>, EventFault>
-    requires word { IsTrue (is_built event.now) }
     requires known { (w : AWorld) × W.stands world.old w }
     ensures ok { (w : AWorld) → W.stands world.old w → IfOk result (λ text.
         IsOkAnd (event_of built w event.now) (λ h. (text.items ≡ lines_text h.lines) × W.stands world.new h.world)) }
@@ -63,7 +61,6 @@ fn replay_event<W: Simulation, O: Sink>(
     event: &Event,
     out: &mut O,
 ) -> Result<Option<Refusal>, Failure>
-    requires word { IsTrue (is_built event.now) }
     requires known { (w : AWorld) × W.stands world.old w }
     ensures written { (w : AWorld) (cluster : ACluster) (lines : List (List ℕ)) → W.stands world.old w
         → ReplayedTo (λ next. W.stands world.new next) (O.held out.old) (O.held out.new) (event_told built cluster number w lines (event_of built w event.now))
@@ -101,7 +98,7 @@ fn replay_line<W: Simulation, O: Sink>(
     ensures later { O.faults out.old ≤ O.faults out.new }
     ensures failed { IsErrOf result Failure.Output → Rose (O.faults out.old) (O.faults out.new) }
 {
-    match read_line(alloc, line, cluster) {
+    match parse_line(alloc, line, cluster) {
         Ok(None) => Ok(None),
         Ok(Some(event)) => replay_event(alloc, world, number, &event, out),
         Err(fault) => {

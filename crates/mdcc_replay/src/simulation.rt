@@ -1,5 +1,5 @@
 //! What the events of a schedule happen to.
-ghost use Rattle.std.specs.Prelude.{◌≡◌, ◌++◌, IfErr, IfOk, IsOkAnd, IsTrue, OnOk};
+ghost use Rattle.std.specs.Prelude.{◌≡◌, ◌++◌, IfErr, IfOk, IsOkAnd, OnOk};
 ghost use Rattle.std.specs.Bool.{OnFalse};
 ghost use Rattle.mdcc_built.specs.Built.{built};
 ghost use Rattle.mdcc_protocol.specs.IsCluster.{IsCluster};
@@ -7,7 +7,6 @@ ghost use Rattle.mdcc_simulation.specs.State.{World as AWorld, first_world};
 ghost use Rattle.mdcc_simulation.specs.Runs.{end_line};
 ghost use Rattle.mdcc_simulation.specs.Events.{event_of};
 ghost use Rattle.mdcc_replay.specs.Refusals.{is_memory};
-ghost use Rattle.mdcc_replay.specs.Words.{is_built};
 
 use mdcc_base::{HeapList, Memory};
 use mdcc_language::{Event, EventFault, Line};
@@ -24,9 +23,8 @@ pub trait Simulation {
         requires { IsCluster cluster }
         ensures { IfOk result (λ world. stands world (first_world cluster)) };
 
-    /// An event of a built word happens, and its lines are put behind the others.
+    /// An event happens, and its lines are put behind the others.
     fn take(&mut self, event: &Event, lines: &mut HeapList<Line>) -> Result<(), EventFault>
-        requires word { IsTrue (is_built event.now) }
         requires known { (w : AWorld) × stands self.old w }
         ensures ok { (w : AWorld) → stands self.old w → OnOk result (IsOkAnd (event_of built w event.now)
             (λ h. (lines.new ≡ lines.old ++ h.lines) × stands self.new h.world)) }

@@ -1,9 +1,8 @@
 //! Centres that crash and restart: whole replays, and the bytes of the logs.
-ghost use Rattle.std.specs.Prelude.{IfOk, IsTrue, OnOk};
+ghost use Rattle.std.specs.Prelude.{IfOk, OnOk};
 ghost use Rattle.mdcc_protocol.specs.IsCluster.{IsCluster};
 ghost use Rattle.mdcc_simulation.specs.State.{World as AWorld};
 ghost use Rattle.mdcc_world.specs.Stands.{Stands};
-ghost use Rattle.mdcc_world.specs.Words.{is_built};
 
 use crate::replay_rows::{REPORT, Row, SCHEDULE};
 use crate::replays::check_behind;
@@ -337,7 +336,6 @@ fn five_centres() -> Result<Cluster, Fail>
 
 // What happens next in a world; its lines are let go.
 fn happen(alloc: Global, world: &mut World, event: &Event) -> Result<(), EventFault>
-    requires word { IsTrue (is_built event.now) }
     requires known { (w : AWorld) × Stands world.old w }
     ensures { OnOk result ((w : AWorld) × Stands world.new w) }
 {

@@ -2,7 +2,7 @@
 use Rattle.std.proofs.Common.{◌≡◌, ◌⊎◌, inl, inr, ℕ, List, ◌∷◌, IfErr, IsErrOf, Result, Err, Ok, refl, ◌∙◌, ap, subst}
 use Rattle.mdcc_disks.specs.Disks.{LeavesOnly}
 use Rattle.mdcc_log.proofs.Moments.{both, weakened}
-use Rattle.mdcc_log.specs.Crash.{IsBetween, IsShut}
+use Rattle.mdcc_log.specs.Crash.{BetweenIsRead, IsBetween, IsShut, ReadsAsEither}
 use Rattle.mdcc_log.specs.Frames.{IsAtRest, RestIsRead}
 use Rattle.mdcc_log.specs.Log.{read_log}
 use Rattle.mdcc_log.specs.declared.fault.LogFault.{LogFault}
@@ -67,6 +67,17 @@ module _ {D : Type 0} {moment : D → ℕ} {left_since : D → ℕ → ℕ → L
   pub then-leaves : {old mid new : D} (facts : List Fact) → LeavesOnly moment left_since old mid place (IsShut (logged facts)) → LeavesOnly moment left_since mid new place (MayHaveBoot facts)
       → LeavesOnly moment left_since old new place (MayHaveBoot facts)
   then-leaves facts opened appended = both (shut-leaves facts opened) appended
+
+  -- the same, as it is read
+  pub same-leaves : {old mid : D} (facts : List Fact) → LeavesOnly moment left_since old mid place (λ c. read_log c ≡ Ok (logged facts))
+      → LeavesOnly moment left_since old mid place (ReadsAsEither (logged facts) (fact_bytes (next_boot facts)))
+  same-leaves facts opened = weakened (ReadsAsEither (logged facts) (fact_bytes (next_boot facts))) opened (λ c read. inl read)
+
+  pub then-leaves-same : BetweenIsRead → {old mid new : D} (facts : List Fact) → LeavesOnly moment left_since old mid place (λ c. read_log c ≡ Ok (logged facts))
+      → LeavesOnly moment left_since mid new place (MayHaveBoot facts) → LeavesOnly moment left_since old new place (ReadsAsEither (logged facts) (fact_bytes (next_boot facts)))
+  then-leaves-same law facts opened appended =
+      both (same-leaves facts opened)
+      (weakened (ReadsAsEither (logged facts) (fact_bytes (next_boot facts))) appended (λ c between. law (logged facts) (fact_bytes (next_boot facts)) c between))
 
   -- the same over what a crash of an append left
   pub between-leaves : {old mid : D} (facts : List Fact) (fact : Fact) → LeavesOnly moment left_since old mid place (IsBetween (logged facts) (fact_bytes fact)) → LeavesOnly moment left_since old mid place (MayHaveFactAndBoot facts fact)

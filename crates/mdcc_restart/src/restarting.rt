@@ -4,14 +4,14 @@ ghost use Rattle.mdcc_admission.specs.Loading.{AreShort};
 ghost use Rattle.mdcc_base.specs.Causes.{Rose};
 ghost use Rattle.mdcc_disks.specs.Disks.{KeepsOthers, LeavesOnly, Within};
 ghost use Rattle.mdcc_journal.specs.Counts.{HasCounts};
-ghost use Rattle.mdcc_log.specs.Crash.{IsBetween, IsShut};
+ghost use Rattle.mdcc_log.specs.Crash.{IsBetween, IsShut, ReadsAsEither};
 ghost use Rattle.mdcc_log.specs.Log.{payload_limit, read_log};
 ghost use Rattle.mdcc_node.specs.Booting.{IsBoot};
 ghost use Rattle.mdcc_protocol.specs.Belongs.{is_centre};
 ghost use Rattle.mdcc_messages.specs.Spelling.{fact_bytes};
 ghost use Rattle.mdcc_messages.specs.declared.facts.Fact.{Fact as AFact};
 ghost use Rattle.mdcc_restart.specs.Logged.{AreLogged, logged};
-ghost use Rattle.mdcc_restart.specs.Restarting.{BootsNode, IsAmple, IsLogOf, KeepsLog, MayHaveBoot, MayHaveFactAndBoot, Restarts};
+ghost use Rattle.mdcc_restart.specs.Restarting.{BootsNode, IsAmple, IsLogOf, KeepsLog, MayHaveBoot, MayHaveFactAndBoot, Restarts, next_boot};
 
 use crate::RestartFault;
 use mdcc_base::{Centre, HeapList, Memory};
@@ -102,6 +102,11 @@ pub fn restart<D: Disks, S: FactStore + Drop>(
     ensures any_moment_between { (facts : List AFact) (fact : AFact) → IsAmple S.stands S.room S.cells_for store → AreLogged cluster (fact ∷ facts)
         → IsTrue (D.disk disks.old centre).told → Within (IsBetween (logged facts) (fact_bytes fact)) (D.may_leave disks.old centre)
         → LeavesOnly D.moment D.left_since disks.old disks.new centre (MayHaveFactAndBoot facts fact) }
+
+    // So it is of a log of which just the facts are read, whatever stands behind them, where no byte is torn to 1.
+    ensures any_moment_same { (facts : List AFact) → IsAmple S.stands S.room S.cells_for store → AreLogged cluster facts
+        → IsTrue (D.disk disks.old centre).told → (D.tears 1 → ⊥) → Within (λ c. read_log c ≡ Ok (logged facts)) (D.may_leave disks.old centre)
+        → LeavesOnly D.moment D.left_since disks.old disks.new centre (ReadsAsEither (logged facts) (fact_bytes (next_boot facts))) }
     ensures others { KeepsOthers D.disk D.may_leave D.moment D.left_since disks.old disks.new centre }
     ensures later { (D.disk disks.old centre).faults ≤ (D.disk disks.new centre).faults }
     ensures disk_fault { IsErrOf result (RestartFault.Log LogFault.DiskFault)

@@ -16,7 +16,7 @@ use Rattle.mdcc_steps.specs.Keeping.{IsWellFormedOpen}
 use Rattle.mdcc_worlds.specs.Standing.{IsWorld}
 use Rattle.mdcc_round_trip.specs.Deciding.{AreApart, AreChoicesOf, IsFastQuorum, have_one_key}
 use Rattle.mdcc_round_trip.specs.RoundTrips.{AcceptsEach, IsReady}
-use Rattle.mdcc_round_trip.specs.Worlds.{MayCommit, WouldAccept}
+use Rattle.mdcc_round_trip.specs.Worlds.{MayCommit}
 use Rattle.mdcc_round_trip.proofs.Apart.{key-true}
 use Rattle.mdcc_round_trip.proofs.Lists.{each-weaker}
 
@@ -66,7 +66,7 @@ choices-of tx choices h = record {
 }
 
 pub worlds-ready : (built : Built) (w : World) (a : ℕ) (t : Undecided) (members : List ℕ) → built.proposals ≡ true → IsWorld w
-    → MayCommit w a t → IsFastQuorum w.cluster.quorums members → AllByRecursion (WouldAccept w t.choices) members
+    → MayCommit w a t → IsFastQuorum w.cluster.quorums members → AllByRecursion (AcceptsEach w t.choices) members
     → IsReady built w a t members
 worlds-ready built w a t members enabled world may quorum accept =
     let node = world.nodes a may.centre in
@@ -75,9 +75,9 @@ worlds-ready built w a t members enabled world may quorum accept =
       enabled = enabled;
       quorums = world.cluster_itself.quorums;
       sites = world.sites;
-      undecided = record { centre = may.centre; unstopped = world.unstopped a may.centre; uncounted = may.uncounted; unheard = may.unheard; uncrowded = may.uncrowded };
+      undecided = record { centre = may.centre; unstopped = may.unstopped; uncounted = may.uncounted; unheard = may.unheard; uncrowded = may.uncrowded };
       choices = choices-of t.tx t.choices found.0;
       belong = may.belong;
       quorum = quorum;
-      accept = each-weaker (WouldAccept w t.choices) (AcceptsEach w t.choices) members (λ member h. record { centre = h.centre; unstopped = world.unstopped member h.centre; accepts = h.accepts }) accept;
+      accept = accept;
     }

@@ -12,27 +12,22 @@ use Rattle.mdcc_protocol.specs.News.{is_crowding}
 use Rattle.mdcc_protocol.specs.Volatile.{Undecided}
 use Rattle.mdcc_simulation.specs.State.{World, centre_at}
 use Rattle.mdcc_worlds.specs.Standing.{IsWorld}
-use Rattle.mdcc_round_trip.specs.Accepting.{IsAccepted}
 use Rattle.mdcc_round_trip.specs.Deciding.{IsFastQuorum, IsUncounted}
-use Rattle.mdcc_round_trip.specs.RoundTrips.{IsReady}
+use Rattle.mdcc_round_trip.specs.RoundTrips.{AcceptsEach, IsReady}
 
--- the transaction is open at the centre, which has neither counted a vote on it nor heard of it; its choices are of the cluster, and the
--- deltas of a commit would crowd no version there
+-- the transaction is open at the centre, where no stop is armed, and which has neither counted a vote on it nor heard of it; its choices
+-- are of the cluster, and the deltas of a commit would crowd no version there
 pub record MayCommit (w : World) (a : ℕ) (t : Undecided) : Type 0 where
   pub centre : is_centre w.cluster a ≡ true
+  pub unstopped : (centre_at w a).stop ≡ None
   pub uncounted : IsUncounted (centre_at w a).volatile.manager t
   pub unheard : heard_of (facts_of w.ledger a) t.tx ≡ None
   pub belong : AllByRecursion (λ (choice : Choice). choice_belongs w.cluster choice ≡ true) t.choices
   pub uncrowded : is_crowding (facts_of w.ledger a) (Fact.Heard t.tx (Outcome.Commit t.choices)) ≡ false
 
--- the member is a centre that would accept each choice
-pub record WouldAccept (w : World) (choices : List Choice) (member : ℕ) : Type 0 where
-  pub centre : is_centre w.cluster member ≡ true
-  pub accepts : AllByRecursion (IsAccepted w.cluster (facts_of w.ledger member)) choices
-
--- then it may commit in one round trip: the choices are of different keys, and no stop is armed
+-- then it may commit in one round trip: the choices are of different keys
 abbrev pub WorldsAreReady : Type 0
 WorldsAreReady =
     (built : Built) (w : World) (a : ℕ) (t : Undecided) (members : List ℕ) → built.proposals ≡ true → IsWorld w
-    → MayCommit w a t → IsFastQuorum w.cluster.quorums members → AllByRecursion (WouldAccept w t.choices) members
+    → MayCommit w a t → IsFastQuorum w.cluster.quorums members → AllByRecursion (AcceptsEach w t.choices) members
     → IsReady built w a t members

@@ -40,7 +40,7 @@ pub fn only_limits_refuse_deliveries()
 
 /// In a world that has its invariant an open transaction of which no vote was counted may commit so
 /// wherever the members of a fast quorum would accept each of its choices: its choices are of different
-/// keys, and no stop is armed.
+/// keys.
 pub fn worlds_are_ready()
     ensures { WorldsAreReady }
 {}

@@ -5,16 +5,19 @@ use Rattle.std.specs.List.{join_with_byte, position_or_len}
 use Rattle.std.proofs.lemmas.Bool.{eqb-true, eqb-false}
 use Rattle.std.proofs.lemmas.List.Splits.{join_with_byte-slice_split, length-slice_split}
 use Rattle.mdcc_base.specs.AreQuorums.{AreQuorums}
+use Rattle.mdcc_base.specs.declared.outside.Image.{Image}
+use Rattle.mdcc_base.specs.declared.outside.Image.TheVariants.{Lost, Kept, Torn}
 use Rattle.mdcc_option.specs.declared.cluster.Cluster.{Cluster}
 use Rattle.mdcc_language.specs.declared.events.Event.{Event}
-use Rattle.mdcc_language.specs.declared.events.Event.TheVariants.{Read, Begin, Deliver, Settle, Tick, Crash, Restart}
+use Rattle.mdcc_language.specs.declared.events.Event.TheVariants.{Read, Begin, Deliver, Settle, Tick, Crash, Restart, Stop}
 use Rattle.mdcc_language.specs.declared.events.UpdateWord.{UpdateWord}
 use Rattle.mdcc_language.specs.declared.schedule.SchedFault.{SchedFault}
 use Rattle.mdcc_language.specs.declared.schedule.SchedCause.TheVariants.{Word, Range}
 use Rattle.mdcc_language.specs.Lines.{bounded, bytes_of_line, most_bytes, of_long, line_end_by, line_end_of}
-use Rattle.mdcc_language.specs.Schedule.{centre_of, above, numbers_from, updates_from, centres_from, last_centre, tick_of, crash_of, restart_of, read_of, begin_of, deliver_of, settle_of, begins_with, event_of, event_or_none, event_in, line_of}
+use Rattle.mdcc_language.specs.Report.{image_text}
+use Rattle.mdcc_language.specs.Schedule.{centre_of, image_of, stop_of, above, numbers_from, updates_from, centres_from, last_centre, tick_of, crash_of, restart_of, read_of, begin_of, deliver_of, settle_of, begins_with, event_of, event_or_none, event_in, line_of}
 use Rattle.mdcc_language.specs.Updates.{update_of}
-use Rattle.mdcc_language.specs.Words.{◌>>=◌, refused, part_at, parts_from, behind, end_at, word_at, word_end, not_empty, word_behind, count_of, key_of}
+use Rattle.mdcc_language.specs.Words.{◌>>=◌, refused, part_at, parts_from, behind, end_at, word_at, word_end, not_empty, word_behind, count_of, key_of, natural_of, text_eq}
 use Rattle.mdcc_words.specs.Spelled.{update_text}
 use Rattle.mdcc_built.specs.Built.{built}
 use Rattle.mdcc_words.proofs.Parts.{part_len_is, place_within}
@@ -213,21 +216,59 @@ settle_spelled cluster line event h b e = by (length line == 6) refl e
         begun (codes "settle") line b ∙ ap (λ n. codes "settle" ++ drop n line) (sym len) ∙ ap (λ rest. codes "settle" ++ rest) (drop_all line) ∙ ap event_text same
     by false more e = settle_on cluster line event h b more (drop 6 line) refl e
 
--- a line of `tick`, `crash` or `restart`
+image_spelled : (word : List ℕ) (column : ℕ) (image : Image) → image_of word column ≡ Ok image → word ≡ image_text image
+image_spelled word column image e = by (text_eq word (codes "lost")) refl (text_eq word (codes "kept")) refl (text_eq word (codes "torn")) refl e
+  where
+    by : (l : Bool) → text_eq word (codes "lost") ≡ l → (k : Bool) → text_eq word (codes "kept") ≡ k → (t : Bool) → text_eq word (codes "torn") ≡ t
+        → cond l (Ok Lost) (cond k (Ok Kept) (cond t (Ok Torn) (refused column Word))) ≡ Ok image → word ≡ image_text image
+    by true i k j t m e = let same : Lost ≡ image = cc (e) in same_text word (codes "lost") (sym i) ∙ ap image_text same
+    by false i true j t m e = let same : Kept ≡ image = cc (e) in same_text word (codes "kept") (sym j) ∙ ap image_text same
+    by false i false j true m e = let same : Torn ≡ image = cc (e) in same_text word (codes "torn") (sym m) ∙ ap image_text same
+    by false i false j false m e = absurd (cc)
+
+read_event : (one other : Event) → ◌≡◌ {A = Result Event SchedFault} (Ok one) (Ok other) → one ≡ other
+read_event one other e = cc
+
+stop_spelled : (cluster : Cluster) (line : List ℕ) (event : Event) → AreQuorums cluster.quorums → begins_with (codes "stop") line ≡ true → stop_of cluster line ≡ Ok event → line ≡ event_text event
+stop_spelled cluster line event h b e =
+    let start = bind_ok (word_behind 4 line) _ event e in
+    let centre = bind_ok (centre_of cluster (word_at start.0 line) (start.0 + 1)) _ event start.2 in
+    let next = bind_ok (word_behind (word_end start.0 line) line) _ event centre.2 in
+    let call = bind_ok (natural_of (word_at next.0 line) (next.0 + 1) 1 4) _ event next.2 in
+    let place = bind_ok (word_behind (word_end next.0 line) line) _ event call.2 in
+    let image = bind_ok (image_of (word_at place.0 line) (place.0 + 1)) _ event place.2 in
+    let end = bind_ok (end_at (word_end place.0 line) line 1) _ event image.2 in
+    let same = read_event (Stop centre.0 call.0 image.0) event end.2 in
+    let few : 4 < 2 ^ 64 = lit< tt in
+    let last : drop place.0 line ≡ image_text image.0 =
+    part_seam 32 place.0 line ∙ (λ i. image_spelled (word_at place.0 line) (place.0 + 1) image.0 image.1 i ++ end_ok (word_end place.0 line) line 1 end.0 end.1 i) ∙ append-nil (image_text image.0) in
+    let middle : drop next.0 line ≡ decimal call.0 ++ (32 ∷ image_text image.0) =
+    part_seam 32 next.0 line
+    ∙ (λ i. natural_spelled (word_at next.0 line) (next.0 + 1) 1 4 call.0 few call.1 i ++ spaced (word_end next.0 line) line place.0 place.1 i)
+    ∙ ap (λ rest. decimal call.0 ++ (32 ∷ rest)) last in
+    begun (codes "stop") line b
+    ∙ ap (λ rest. codes "stop" ++ rest) (spaced 4 line start.0 start.1)
+    ∙ ap (λ rest. codes "stop " ++ rest) (part_seam 32 start.0 line
+    ∙ (λ i. centre_spelled cluster (word_at start.0 line) (start.0 + 1) centre.0 h centre.1 i ++ spaced (word_end start.0 line) line next.0 next.1 i)
+    ∙ ap (λ rest. decimal centre.0 ++ (32 ∷ rest)) middle)
+    ∙ ap event_text same
+
+-- a line of `tick`, `crash`, `restart` or `stop`
 last_words_spelled : (cluster : Cluster) (line : List ℕ) (event : Event) → AreQuorums cluster.quorums → (t : Bool) → begins_with (codes "tick") line ≡ t
-    → (c : Bool) → begins_with (codes "crash") line ≡ c → (r : Bool) → begins_with (codes "restart") line ≡ r
-    → cond t (tick_of cluster line) (cond c (crash_of cluster line) (cond r (restart_of cluster line) (refused 1 Word))) ≡ Ok event → line ≡ event_text event
-last_words_spelled cluster line event h true i c j r k e = tick_spelled cluster line event h i e
-last_words_spelled cluster line event h false i true j r k e = crash_spelled cluster line event h j e
-last_words_spelled cluster line event h false i false j true k e = restart_spelled cluster line event h k e
-last_words_spelled cluster line event h false i false j false k e = absurd (cc)
+    → (c : Bool) → begins_with (codes "crash") line ≡ c → (r : Bool) → begins_with (codes "restart") line ≡ r → (s : Bool) → begins_with (codes "stop") line ≡ s
+    → cond t (tick_of cluster line) (cond c (crash_of cluster line) (cond r (restart_of cluster line) (cond s (stop_of cluster line) (refused 1 Word)))) ≡ Ok event → line ≡ event_text event
+last_words_spelled cluster line event h true i c j r k s l e = tick_spelled cluster line event h i e
+last_words_spelled cluster line event h false i true j r k s l e = crash_spelled cluster line event h j e
+last_words_spelled cluster line event h false i false j true k s l e = restart_spelled cluster line event h k e
+last_words_spelled cluster line event h false i false j false k true l e = stop_spelled cluster line event h l e
+last_words_spelled cluster line event h false i false j false k false l e = absurd (cc)
 
 event_spelled : (cluster : Cluster) (line : List ℕ) (event : Event) → AreQuorums cluster.quorums → event_of built cluster line ≡ Ok event → line ≡ event_text event
 event_spelled cluster line event h e =
     by (begins_with (codes "read") line) refl (begins_with (codes "begin") line) refl (begins_with (codes "deliver") line) refl (begins_with (codes "settle") line) refl e
   where
     last : Result Event SchedFault
-    last = cond (begins_with (codes "tick") line) (tick_of cluster line) (cond (begins_with (codes "crash") line) (crash_of cluster line) (cond (begins_with (codes "restart") line) (restart_of cluster line) (refused 1 Word)))
+    last = cond (begins_with (codes "tick") line) (tick_of cluster line) (cond (begins_with (codes "crash") line) (crash_of cluster line) (cond (begins_with (codes "restart") line) (restart_of cluster line) (cond (begins_with (codes "stop") line) (stop_of cluster line) (refused 1 Word))))
 
     by : (r : Bool) → begins_with (codes "read") line ≡ r → (b : Bool) → begins_with (codes "begin") line ≡ b → (d : Bool) → begins_with (codes "deliver") line ≡ d
         → (s : Bool) → begins_with (codes "settle") line ≡ s
@@ -237,7 +278,7 @@ event_spelled cluster line event h e =
     by false i true j d k s l e = begin_spelled cluster line event h j e
     by false i false j true k s l e = deliver_spelled line event k e
     by false i false j false k true l e = settle_spelled cluster line event h l e
-    by false i false j false k false l e = last_words_spelled cluster line event h (begins_with (codes "tick") line) refl (begins_with (codes "crash") line) refl (begins_with (codes "restart") line) refl e
+    by false i false j false k false l e = last_words_spelled cluster line event h (begins_with (codes "tick") line) refl (begins_with (codes "crash") line) refl (begins_with (codes "restart") line) refl (begins_with (codes "stop") line) refl e
 
 -- ---- lines
 

@@ -1,7 +1,7 @@
 //! Lines of a schedule.
 ghost use Rattle.std.specs.Prelude.{◌≡◌, ◌+◌, ◌≤◌, IfErr, length};
 ghost use Rattle.mdcc_base.specs.Unless.{GivesUnless};
-ghost use Rattle.mdcc_language.specs.Schedule.{last_centre, tick_of, crash_of, restart_of, read_of, begin_of, deliver_of, settle_of, event_of, event_or_none, event_in, line_of};
+ghost use Rattle.mdcc_language.specs.Schedule.{last_centre, tick_of, crash_of, restart_of, read_of, begin_of, deliver_of, settle_of, image_of, stop_of, event_of, event_or_none, event_in, line_of};
 ghost use Rattle.mdcc_language.specs.Lines.{bytes_of_line};
 ghost use Rattle.mdcc_sched.specs.Free.{is_memory};
 ghost use Rattle.mdcc_built.specs.Built.{built};
@@ -9,13 +9,14 @@ ghost use Rattle.mdcc_built.specs.Built.{built};
 use crate::lines::{bounded, bytes_of_line, line_end_of};
 use crate::lists::{centre_of, centres_from, numbers_from, updates_from};
 use crate::words::{begins_with, word_at, word_behind, word_end};
-use mdcc_base::{Centre, HeapList};
+use mdcc_base::{Centre, HeapList, Image};
 use mdcc_language::{Event, SchedCause, SchedFault};
 use mdcc_option::Cluster;
 use mdcc_words::TextFault;
 use mdcc_words::faults::{narrowed, refused};
 use mdcc_words::keys::key_of;
-use mdcc_words::places::end_at;
+use mdcc_words::numbers::natural_of;
+use mdcc_words::places::{end_at, text_eq};
 use std::alloc::Global;
 
 // The centre behind a place, which ends the line.
@@ -111,6 +112,38 @@ fn settle_of(alloc: Global, cluster: &Cluster, line: &[u8]) -> Result<Event, Tex
     Ok(Event::Settle(centres))
 }
 
+// What a crash leaves of what was not synced.
+fn image_of(word: &[u8], column: usize) -> Result<Image, TextFault>
+    ensures value { result ≡ image_of word.now column }
+    ensures column { IfErr result (λ fault. fault.column ≡ column) }
+{
+    if text_eq(word, b"lost") {
+        Ok(Image::Lost)
+    } else if text_eq(word, b"kept") {
+        Ok(Image::Kept)
+    } else if text_eq(word, b"torn") {
+        Ok(Image::Torn)
+    } else {
+        refused(column, SchedCause::Word)
+    }
+}
+
+// `stop K N IMAGE`
+fn stop_of(cluster: &Cluster, line: &[u8]) -> Result<Event, TextFault>
+    requires { 4 ≤ length line.now }
+    ensures value { result ≡ stop_of cluster.now line.now }
+    ensures column { IfErr result (λ fault. fault.column ≤ length line.now + 1) }
+{
+    let start = word_behind(4, line)?;
+    let centre = centre_of(cluster, word_at(start, line), start + 1)?;
+    let next = word_behind(word_end(start, line), line)?;
+    let call = natural_of(word_at(next, line), next + 1, 1, 4)?;
+    let last = word_behind(word_end(next, line), line)?;
+    let image = image_of(word_at(last, line), last + 1)?;
+    end_at(word_end(last, line), line, 1)?;
+    Ok(Event::Stop(centre, call as u8, image))
+}
+
 // The event of a line that is not skipped.
 fn event_of(alloc: Global, cluster: &Cluster, line: &[u8]) -> Result<Event, TextFault>
     ensures value { GivesUnless is_memory result (event_of built cluster.now line.now) }
@@ -130,6 +163,8 @@ fn event_of(alloc: Global, cluster: &Cluster, line: &[u8]) -> Result<Event, Text
         crash_of(cluster, line)
     } else if begins_with(b"restart", line) {
         restart_of(cluster, line)
+    } else if begins_with(b"stop", line) {
+        stop_of(cluster, line)
     } else {
         refused(1, SchedCause::Word)
     }

@@ -1,7 +1,7 @@
 //! Lines of a schedule that are read, with their events, and lines at the longest that they may be.
 //! The expected values come from the grammar, by hand.
 use crate::schedule_words::five_centres;
-use mdcc_base::{Centre, HeapList};
+use mdcc_base::{Centre, HeapList, Image};
 use mdcc_option::Item;
 use mdcc_sched::{Event, SchedCause, SchedFault, UpdateWord, parse_line};
 use std::alloc::Global;
@@ -40,6 +40,22 @@ fn is_crash(rt: &impl Abort, alloc: Global, line: &str, number: u8) -> bool {
 fn is_restart(rt: &impl Abort, alloc: Global, line: &str, number: u8) -> bool {
     match event_of(rt, alloc, line) {
         Event::Restart(centre) => centre.number() == number,
+        _ => false,
+    }
+}
+
+fn is_stop(
+    rt: &impl Abort,
+    alloc: Global,
+    line: &str,
+    number: u8,
+    place: u8,
+    image: Image,
+) -> bool {
+    match event_of(rt, alloc, line) {
+        Event::Stop(centre, call, left) => {
+            centre.number() == number && call == place && left == image
+        }
         _ => false,
     }
 }
@@ -155,6 +171,14 @@ fn restarts(rt: HostRuntime) {
     assert!(rt; is_restart(&rt, alloc, "restart 1\n", 1));
     assert!(rt; is_restart(&rt, alloc, "restart 2\n", 2));
     assert!(rt; is_restart(&rt, alloc, "restart 5\n", 5));
+}
+
+#[test]
+fn stops(rt: HostRuntime) {
+    let alloc = rt.alloc();
+    assert!(rt; is_stop(&rt, alloc, "stop 1 1 lost\n", 1, 1, Image::Lost));
+    assert!(rt; is_stop(&rt, alloc, "stop 2 3 kept\n", 2, 3, Image::Kept));
+    assert!(rt; is_stop(&rt, alloc, "stop 5 4 torn\n", 5, 4, Image::Torn));
 }
 
 #[test]

@@ -56,8 +56,8 @@ fn whole_lines(rt: HostRuntime) {
             ("tic 1\n", 1, Word),
             ("crashes 1\n", 1, Word),
             ("Restart 1\n", 1, Word),
-            ("stop 1 1 lost\n", 1, Word),
-            ("stop 1 2 kept\n", 1, Word),
+            ("stops 1 1 lost\n", 1, Word),
+            ("stopped 2\n", 1, Word),
             ("start\n", 1, Word),
             ("end events 0\n", 1, Word),
         ],
@@ -157,6 +157,35 @@ fn crashes_and_restarts(rt: HostRuntime) {
             ("restart 2 epoch 2\n", 11, Word),
             ("restart 2 \n", 11, Word),
             ("restart 2", 10, Word),
+        ],
+    );
+}
+
+#[test]
+fn stops(rt: HostRuntime) {
+    check(
+        &rt,
+        rt.alloc(),
+        &[
+            ("stop\n", 5, Word),
+            ("stop \n", 6, Word),
+            ("stop 1\n", 7, Word),
+            ("stop 1 \n", 8, Word),
+            ("stop 1  1 lost\n", 8, Word),
+            ("stop 1 1\n", 9, Word),
+            ("stop 0 1 lost\n", 6, Range),
+            ("stop 6 1 lost\n", 6, Range),
+            ("stop x 1 lost\n", 6, Number),
+            ("stop 1 0 lost\n", 8, Range),
+            ("stop 1 5 lost\n", 8, Range),
+            ("stop 1 01 lost\n", 8, Number),
+            ("stop 1 -1 lost\n", 8, Number),
+            ("stop 1 1 Lost\n", 10, Word),
+            ("stop 1 1 los\n", 10, Word),
+            ("stop 1 1 lost 2\n", 15, Word),
+            ("stop 1 1 lost \n", 15, Word),
+            ("stop 1 1 lost", 14, Word),
+            ("stop 6 9 nothing", 6, Range),
         ],
     );
 }

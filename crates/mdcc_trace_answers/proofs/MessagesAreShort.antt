@@ -35,9 +35,9 @@ use Rattle.mdcc_trace.proofs.Safety.{votes-told}
 use Rattle.mdcc_trace_limits.proofs.Short.{ledger-short}
 use Rattle.mdcc_worlds.proofs.Begins.{first-stands}
 use Rattle.mdcc_worlds.proofs.Staying.{event-between}
+use Rattle.mdcc_worlds.specs.Words.{IsGivenEvent}
 use Rattle.mdcc_worlds.specs.Events.{AreBounded, IsBetween}
 use Rattle.mdcc_worlds.specs.Standing.{IsSent}
-use Rattle.mdcc_trace_answers.specs.Lengths.{MayCome}
 use Rattle.mdcc_trace_answers.proofs.VotesAreFew.{AreFew, votes-few}
 
 -- ---- one message
@@ -116,18 +116,18 @@ next-between built event events h go between = by_answer (event_of built h.world
     by_answer (Err fault) e = rw (e, run_from) between
     by_answer (Ok next) e = rw (e, run_from) (go next e)
 
-run-between : (built : Built) → AreBounded built → (events : List Event) (h : Happened) → AllByRecursion (MayCome built) events → IsBetween h.world → IsBetween (run_from built events h).world
+run-between : (built : Built) → AreBounded built → (events : List Event) (h : Happened) → AllByRecursion IsGivenEvent events → IsBetween h.world → IsBetween (run_from built events h).world
 run-between built bounded [] h may between = between
 run-between built bounded (event ∷ events) h may between =
     next-between built event events h
-    (λ next e. run-between built bounded events (after_lines h.lines next) may.1 (let stays = event-between built bounded h.world event next between may.0.enabled may.0.given e in record { itself = stays.itself; few = stays.few })) between
+    (λ next e. run-between built bounded events (after_lines h.lines next) may.1 (let stays = event-between built bounded h.world event next between may.0 e in record { itself = stays.itself; few = stays.few })) between
 
 both-each : (cluster : Cluster) (sent : List Sent) → Each (λ (s : Sent). IsWellFormedMessage s.envelope.message → message_length s.envelope ≤ 1473505) sent → AllByRecursion (IsSent cluster) sent
     → Each (λ (s : Sent). message_length s.envelope ≤ 1473505) sent
 both-each cluster [] h w = tt
 both-each cluster (s ∷ ss) h w = (h.0 w.0.envelope_itself.message, both-each cluster ss h.1 w.1)
 
-pub messages-short : (built : Built) → AreBounded built → (cluster : Cluster) → IsCluster cluster → (events : List Event) → AllByRecursion (MayCome built) events
+pub messages-short : (built : Built) → AreBounded built → (cluster : Cluster) → IsCluster cluster → (events : List Event) → AllByRecursion IsGivenEvent events
     → Each (λ (s : Sent). message_length s.envelope ≤ 1473505) (trace built cluster events).sent
 messages-short built bounded cluster is events may =
     let between = run-between built bounded events (record { world = first_world cluster; lines = [] }) may (record { itself = first-stands cluster is; few = omega arith }) in

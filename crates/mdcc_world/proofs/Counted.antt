@@ -70,6 +70,7 @@ has-read world new w a key known before lines like up key_itself shown nodes res
           few_reads = subst (λ (k : Known). length (w.reads ++ k ∷ []) ≤ w.events + 1) shown (omega (many, few, arith));
           events = ap (λ (x : TheWorld). x.events) rest ∙ ap (λ (n : ℕ). n + 1) like.records.events;
           ups = rw rest like.records.ups;
+          stops = rw rest like.records.stops;
         };
         outcomes = rw rest like.outcomes;
         nodes = record { as_many = nodes.as_many; each = nodes.each };
@@ -98,8 +99,10 @@ made-counted world new w a input made like up formed short rest outcomes itself 
       few_reads = (let few = like.records.few_reads in omega (few, arith));
       events = ap (λ (x : TheWorld). x.events) rest ∙ ap (λ (n : ℕ). n + 1) like.records.events;
       ups = rw rest like.records.ups;
+      stops = rw rest like.records.stops;
     };
     centre = up-centre w a up;
+    up = up;
     well_formed = formed;
     short = short;
     outcomes = outcomes;

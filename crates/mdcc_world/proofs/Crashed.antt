@@ -1,38 +1,37 @@
 -- A centre crashes, or starts again.
-use Rattle.std.proofs.Common.{◌≡◌, ℕ, ◌+◌, ◌-◌, ◌≤◌, ◌<◌, ◌^◌, ◌==◌, ◌&&◌, Bool, true, false, List, [], ◌∷◌, ◌++◌, refl, sym, ap, ◌∙◌, subst, inl, inr, Ok, Err, arith, length, get_or, nat_lt}
+use Rattle.std.proofs.Common.{◌≡◌, ℕ, ◌+◌, ◌-◌, ◌≤◌, ◌<◌, ◌^◌, ◌==◌, ◌&&◌, Bool, true, false, List, [], ◌∷◌, ◌++◌, refl, sym, ap, ◌∙◌, subst, inl, inr, None, Option, Some, Ok, Err, arith, length, get_or, nat_lt}
 use Rattle.std.specs.Prelude.{set}
 use Rattle.std.proofs.lemmas.Bool.{cases_Bool, eqb-true, eq-eqb}
 use Rattle.std.proofs.lemmas.List.{get_or-set_other, get_or-set_same, length-set}
+use Rattle.mdcc_base.specs.declared.outside.Image.{Image}
 use Rattle.mdcc_built.specs.Built.{built}
-use Rattle.mdcc_disks.specs.Memory.{disk_of}
 use Rattle.mdcc_facts.specs.declared.list_facts.ListFacts.{ListFacts}
-use Rattle.mdcc_log.specs.Frames.{RestIsRead}
 use Rattle.mdcc_logs.specs.Nodes.{IsNodeOf}
-use Rattle.mdcc_logs.specs.Stands.{LogsStand, with_fact_at}
+use Rattle.mdcc_logs.specs.Stands.{LogsStand, with_fact_at, with_up}
 use Rattle.mdcc_logs.specs.declared.logs.Logs.{Logs}
 use Rattle.mdcc_node.specs.declared.node.Node.{Node}
 use Rattle.mdcc_protocol.specs.Belongs.{is_centre}
 use Rattle.mdcc_protocol.specs.Facts.{epoch_of}
 use Rattle.mdcc_ledger.specs.Ledger.{Added, facts_of}
 use Rattle.mdcc_messages.specs.Lengths.{log_length}
-use Rattle.mdcc_protocol.specs.Volatile.{nothing_kept}
+use Rattle.mdcc_protocol.specs.Volatile.{Volatile, nothing_kept}
 use Rattle.mdcc_simulation.specs.State.{Site, World, booted, centre_at, counted_event, down, is_up_at}
-use Rattle.mdcc_simulation.specs.Centres.{crash_happened, restart_happened}
+use Rattle.mdcc_simulation.specs.Centres.{crash_happened, restart_happened, stop_happened}
 use Rattle.mdcc_simulation.specs.Limits.{most_log}
 use Rattle.mdcc_messages.specs.declared.facts.Fact.{Fact}
 use Rattle.mdcc_language.specs.declared.lines.Line.{Line}
 use Rattle.mdcc_language.specs.declared.world.EventFault.{EventFault}
 use Rattle.mdcc_language.specs.declared.world.LimitName.{LimitName}
-use Rattle.mdcc_restart.specs.Logged.{AreLogged, logged}
+use Rattle.mdcc_restart.specs.Logged.{AreLogged}
 use Rattle.mdcc_world.proofs.Counted.{up-centre}
 use Rattle.mdcc_world.proofs.NodesStay.{set-get}
 use Rattle.mdcc_world.proofs.Took.{booted-counted, logs-same}
 use Rattle.mdcc_world.specs.Disks.{DisksShow}
-use Rattle.mdcc_world.specs.Nodes.{NodesStand, UpsStand}
+use Rattle.mdcc_world.specs.Nodes.{NodesStand, StopsStand, UpsStand}
 use Rattle.mdcc_world.specs.Stands.{HasHappened, Happens, IsLike}
 use Rattle.mdcc_world.specs.declared.world.World.{World as TheWorld}
 use Rattle.mdcc_worlds.proofs.Staying.{restarted-stays}
-use Rattle.mdcc_worlds.proofs.Stays.{counted-stays, crash-stays, site-other, site-same, some-centre}
+use Rattle.mdcc_worlds.proofs.Stays.{counted-stays, crash-stays, each-put, site-other, site-same, some-centre, stop-stays}
 use Rattle.mdcc_worlds.specs.Happening.{next_epoch, restarted}
 use Rattle.mdcc_worlds.specs.Standing.{IsWorld}
 
@@ -68,6 +67,34 @@ module _ (w : World) (a : ℕ) (site : Site) (world : IsWorld w) (centre : is_ce
         there ∙ stand b positive few ∙ ap (λ (s : Site). is_centre w.cluster b && s.is_up) (sym (site-elsewhere b positive e))
   ]
 
+  -- where a stop is armed
+  pub stops-set : (stops : List (Option (ℕ × Image))) (stop : Option (ℕ × Image)) → a ≤ length stops → site.stop ≡ stop → StopsStand stops w
+      → (b : ℕ) → is_centre w.cluster b ≡ true → get_or (set stops (a - 1) stop) (b - 1) None ≡ (get_or (set w.centres (a - 1) site) (b - 1) booted).stop
+  stops-set stops stop many is stand b here = elim (cases_Bool (a == b)) [
+    | inl e ↦
+        let same : a ≡ b = eqb-true a b e in
+        let at : get_or (set stops (a - 1) stop) (a - 1) None ≡ stop = get_or-set_same stops (a - 1) stop None (omega (some, many, arith)) in
+        subst (λ (n : ℕ). get_or (set stops (a - 1) stop) (n - 1) None ≡ (get_or (set w.centres (a - 1) site) (n - 1) booted).stop) same
+        (at ∙ sym is ∙ ap (λ (s : Site). s.stop) (sym site-at))
+    | inr e ↦
+        let positive = (some-centre w.cluster b here).0 in
+        let there : get_or (set stops (a - 1) stop) (b - 1) None ≡ get_or stops (b - 1) None = get_or-set_other stops (a - 1) (b - 1) stop None (λ f.
+        let same : a ≡ b = omega (f, some, positive, arith) in
+        let clash : true ≡ false = sym (eq-eqb a b same) ∙ e in
+        absurd (cc)) in
+        there ∙ stand b here ∙ ap (λ (s : Site). s.stop) (sym (site-elsewhere b positive e))
+  ]
+
+  -- which logs are open
+  pub open-set : (up : Bool) → site.is_up ≡ up → (b : ℕ) → 1 ≤ b
+      → with_up (is_up_at w) a up b ≡ (is_centre w.cluster b && (get_or (set w.centres (a - 1) site) (b - 1) booted).is_up)
+  open-set up is b positive = elim (cases_Bool (a == b)) [
+    | inl e ↦
+        let same : a ≡ b = eqb-true a b e in
+        rw e (subst (λ (n : ℕ). up ≡ (is_centre w.cluster n && (get_or (set w.centres (a - 1) site) (n - 1) booted).is_up)) same (rw (site-at, centre) (sym is)))
+    | inr e ↦ rw e (ap (λ (s : Site). is_centre w.cluster b && s.is_up) (sym (site-elsewhere b positive e)))
+  ]
+
 other-place : (a j : ℕ) → 1 ≤ a → ((a - 1) == j) ≡ false → (a == (j + 1)) ≡ false
 other-place a j some other = elim (cases_Bool (a == (j + 1))) [
   | inl e ↦
@@ -98,11 +125,12 @@ crashed-nodes nodes w a world centre stand = record {
 
 pub has-crashed : (world new : TheWorld) (w : World) (a : ℕ) (before lines : List Line) → IsLike world w → is_up_at w a ≡ true
     → length world.up ≡ 9 → a ≤ 9
-    → new ≡ record world { up = set world.up (a - 1) false; logs = new.logs; events = world.events + 1 }
-    → LogsStand new.logs w.cluster.quorums.centres (facts_of w.ledger)
+    → new ≡ record world { up = set world.up (a - 1) false; stops = set world.stops (a - 1) None; logs = new.logs; events = world.events + 1 }
+    → length world.stops ≡ 9
+    → LogsStand new.logs w.cluster.quorums.centres (with_up (is_up_at w) a false) (facts_of w.ledger)
     → lines ≡ before ++ Line.Crash a ∷ []
     → HasHappened new before lines (crash_happened (counted_event w) a)
-has-crashed world new w a before lines like up many nine rest logs told =
+has-crashed world new w a before lines like up many nine rest armed logs told =
     let centre = up-centre w a up in
     let counted = counted-stays w like.records.itself in
     let few = like.records.few_reads in
@@ -118,10 +146,61 @@ has-crashed world new w a before lines like up many nine rest logs told =
           few_reads = omega (few, arith);
           events = ap (λ (x : TheWorld). x.events) rest ∙ ap (λ (n : ℕ). n + 1) like.records.events;
           ups = rw rest (ups-set (counted_event w) a down counted centre world.up false many nine refl like.records.ups);
+          stops = rw rest (stops-set (counted_event w) a down counted centre world.stops None (omega (armed, nine, arith)) refl like.records.stops);
         };
         outcomes = rw rest like.outcomes;
         nodes = rw rest (crashed-nodes world.nodes.items (counted_event w) a counted centre nodes);
-        logs = logs;
+        logs = logs-same new.logs w.cluster.quorums.centres (with_up (is_up_at w) a false) (is_up_at (crash_happened (counted_event w) a).world) (facts_of w.ledger) (facts_of w.ledger)
+            (λ b some few. open-set (counted_event w) a down counted centre false refl b some) (λ b some few. refl) logs;
+      };
+      lines = told;
+    }
+
+-- ---- a stop is armed
+
+armed-nodes : (nodes : List (Node ListFacts)) (w : World) (a call : ℕ) (image : Image) → IsWorld w → is_centre w.cluster a ≡ true → NodesStand nodes w
+    → NodesStand nodes (stop_happened w a call image).world
+armed-nodes nodes w a call image world centre stand = record {
+  as_many = stand.as_many;
+  each = λ j node at up.
+      let same = each-put w a (record (centre_at w a) { stop = Some (call, image) }) None
+      (λ n facts s. (s.is_up ≡ (centre_at w n).is_up) × (s.volatile ≡ (centre_at w n).volatile)) world centre (λ n. (refl, refl)) (refl, refl) (j + 1) (omega arith) in
+      subst (λ (volatile : Volatile). IsNodeOf node w.cluster (j + 1) (facts_of w.ledger (j + 1)) volatile) (sym same.1) (stand.each j node at (sym same.0 ∙ up));
+}
+
+armed-up : (w : World) (a call : ℕ) (image : Image) → IsWorld w → is_centre w.cluster a ≡ true → (b : ℕ) → 1 ≤ b → is_up_at w b ≡ is_up_at (stop_happened w a call image).world b
+armed-up w a call image world centre b some =
+    let same = each-put w a (record (centre_at w a) { stop = Some (call, image) }) None (λ n facts s. s.is_up ≡ (centre_at w n).is_up) world centre (λ n. refl) refl b some in
+    ap (λ (up : Bool). is_centre w.cluster b && up) (sym same)
+
+pub has-armed : (world new : TheWorld) (w : World) (a call : ℕ) (image : Image) (before lines : List Line) → IsLike world w → is_up_at w a ≡ true
+    → length world.stops ≡ 9 → a ≤ 9
+    → new ≡ record world { stops = set world.stops (a - 1) (Some (call, image)); events = world.events + 1 }
+    → lines ≡ before ++ Line.Stop a call image ∷ []
+    → HasHappened new before lines (stop_happened (counted_event w) a call image)
+has-armed world new w a call image before lines like up many nine rest told =
+    let centre = up-centre w a up in
+    let counted = counted-stays w like.records.itself in
+    let few = like.records.few_reads in
+    let nodes : NodesStand world.nodes.items (counted_event w) = record { as_many = like.nodes.as_many; each = like.nodes.each } in
+    record {
+      like = record {
+        records = record {
+          itself = stop-stays (counted_event w) a call image counted centre;
+          cluster = ap (λ (x : TheWorld). x.cluster) rest ∙ like.records.cluster;
+          mail = ap (λ (x : TheWorld). x.mail) rest ∙ like.records.mail;
+          bytes = ap (λ (x : TheWorld). x.bytes) rest ∙ like.records.bytes;
+          reads = ap (λ (x : TheWorld). x.reads) rest ∙ like.records.reads;
+          few_reads = omega (few, arith);
+          events = ap (λ (x : TheWorld). x.events) rest ∙ ap (λ (n : ℕ). n + 1) like.records.events;
+          ups = λ b some within. ap (λ (x : TheWorld). get_or x.up (b - 1) false) rest ∙ like.records.ups b some within ∙ armed-up (counted_event w) a call image counted centre b some;
+          stops = rw (ap (λ (x : TheWorld). x.stops) rest)
+              (stops-set (counted_event w) a (record (centre_at w a) { stop = Some (call, image) }) counted centre world.stops (Some (call, image)) (omega (many, nine, arith)) refl like.records.stops);
+        };
+        outcomes = rw rest like.outcomes;
+        nodes = rw rest (armed-nodes world.nodes.items (counted_event w) a call image counted centre nodes);
+        logs = rw rest (logs-same world.logs w.cluster.quorums.centres (is_up_at w) (is_up_at (stop_happened (counted_event w) a call image).world) (facts_of w.ledger) (facts_of w.ledger)
+            (λ b some within. armed-up (counted_event w) a call image counted centre b some) (λ b some within. refl) like.logs);
       };
       lines = told;
     }
@@ -161,15 +240,16 @@ facts-restarted w a epoch b = refl
 
 pub has-restarted : (world new : TheWorld) (kept : Logs) (w : World) (a epoch : ℕ) (node : Node ListFacts) (before lines : List Line) → IsLike world w → is_centre w.cluster a ≡ true
     → w.events < 100000 → length world.up ≡ 9 → a ≤ 9
-    → new ≡ record world { nodes = new.nodes; up = set world.up (a - 1) true; logs = kept; events = world.events + 1 }
+    → new ≡ record world { nodes = new.nodes; up = set world.up (a - 1) true; stops = set world.stops (a - 1) None; logs = kept; events = world.events + 1 }
+    → length world.stops ≡ 9
     → new.nodes.items ≡ set world.nodes.items (a - 1) node
     → epoch ≡ next_epoch w a
     → IsNodeOf node w.cluster a (Fact.Booted epoch ∷ facts_of w.ledger a) nothing_kept
-    → LogsStand kept w.cluster.quorums.centres (with_fact_at (facts_of w.ledger) a (Fact.Booted epoch))
+    → LogsStand kept w.cluster.quorums.centres (with_up (is_up_at w) a true) (with_fact_at (facts_of w.ledger) a (Fact.Booted epoch))
     → nat_lt most_log (log_length (Fact.Booted epoch ∷ facts_of w.ledger a)) ≡ false
     → lines ≡ before ++ Line.Restart a epoch ∷ []
     → Happens {T = Unit {0}} new before lines (Ok tt) (restarted built w a)
-has-restarted world new kept w a epoch node before lines like centre early many nine rest nodes same is logs room told =
+has-restarted world new kept w a epoch node before lines like centre early many nine rest armed nodes same is logs room told =
     let counted = counted-stays w like.records.itself in
     let few = like.records.few_reads in
     let standing : NodesStand world.nodes.items (counted_event w) = record { as_many = like.nodes.as_many; each = like.nodes.each } in
@@ -179,8 +259,12 @@ has-restarted world new kept w a epoch node before lines like centre early many 
     let itself : IsWorld (restart_happened (counted_event w) a epoch).world =
     restarted-stays built w a (restart_happened (counted_event w) a epoch) refl like.records.itself centre early within in
     let ups : UpsStand (set world.up (a - 1) true) (restart_happened (counted_event w) a epoch).world = ups-set (counted_event w) a booted counted centre world.up true many nine refl like.records.ups in
-    let standing-logs : LogsStand kept w.cluster.quorums.centres (facts_of (Added a (Fact.Booted epoch) ∷ w.ledger)) =
-    logs-same kept w.cluster.quorums.centres (with_fact_at (facts_of w.ledger) a (Fact.Booted epoch)) (facts_of (Added a (Fact.Booted epoch) ∷ w.ledger)) (λ b some within. facts-restarted w a epoch b) logs in
+    let stops : StopsStand (set world.stops (a - 1) None) (restart_happened (counted_event w) a epoch).world =
+    stops-set (counted_event w) a booted counted centre world.stops None (omega (armed, nine, arith)) refl like.records.stops in
+    let standing-logs : LogsStand kept w.cluster.quorums.centres (is_up_at (restart_happened (counted_event w) a epoch).world) (facts_of (Added a (Fact.Booted epoch) ∷ w.ledger)) =
+    logs-same kept w.cluster.quorums.centres (with_up (is_up_at w) a true) (is_up_at (restart_happened (counted_event w) a epoch).world)
+    (with_fact_at (facts_of w.ledger) a (Fact.Booted epoch)) (facts_of (Added a (Fact.Booted epoch) ∷ w.ledger))
+    (λ b some within. open-set (counted_event w) a booted counted centre true refl b some) (λ b some within. facts-restarted w a epoch b) logs in
     rw within (record {
       like = record {
         records = record {
@@ -192,6 +276,7 @@ has-restarted world new kept w a epoch node before lines like centre early many 
           few_reads = omega (few, arith);
           events = ap (λ (x : TheWorld). x.events) rest ∙ ap (λ (n : ℕ). n + 1) like.records.events;
           ups = rw (ap (λ (x : TheWorld). x.up) rest) ups;
+          stops = rw (ap (λ (x : TheWorld). x.stops) rest) stops;
         };
         outcomes = rw (ap (λ (x : TheWorld). x.outcomes) rest) (booted-counted world.outcomes w.cluster.quorums w.ledger a epoch like.outcomes);
         nodes = rw nodes (restarted-nodes world.nodes.items node (counted_event w) a epoch counted centre standing is);
@@ -202,11 +287,8 @@ has-restarted world new kept w a epoch node before lines like centre early many 
 
 -- ---- what the disks show
 
-pub disks-show : RestIsRead → (world : TheWorld) (w : World) → IsLike world w → DisksShow world.logs.disks w
-disks-show read world w like a centre =
-    let both = some-centre w.cluster a centre in
-    let log = like.logs.each a both.0 both.1 in
-    read (logged (facts_of w.ledger a)) (disk_of world.logs.disks a).bytes log.at_rest.short log.at_rest.file
+pub disks-show : (world : TheWorld) (w : World) → IsLike world w → DisksShow world.logs.disks w
+disks-show world w like a centre = let both = some-centre w.cluster a centre in (like.logs.each a both.0 both.1).reads
 
 -- ---- what a restart asks for
 

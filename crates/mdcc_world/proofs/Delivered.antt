@@ -108,8 +108,10 @@ module _ (world : TheWorld) (w : World) (number : ℕ) (envelope : Envelope) (li
             few_reads = omega (few, arith);
             events = ap (λ (x : TheWorld). x.events) rest ∙ ap (λ (n : ℕ). n + 1) like.records.events;
             ups = rw rest like.records.ups;
+            stops = rw rest like.records.stops;
           };
           centre = up-centre w envelope.to is.up;
+          up = is.up;
           well_formed = sent-formed;
           short = sent-short;
           outcomes = rw rest (input-counted world.outcomes after envelope.to (Input.Message envelope) counted-world sent-formed refl like.outcomes);

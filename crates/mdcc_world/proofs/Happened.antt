@@ -127,6 +127,7 @@ like-counted world w like = record {
     few_reads = (let few = like.records.few_reads in omega (few, arith));
     events = ap (λ (n : ℕ). n + 1) like.records.events;
     ups = like.records.ups;
+    stops = like.records.stops;
   };
   outcomes = like.outcomes;
   nodes = record { as_many = like.nodes.as_many; each = like.nodes.each };
@@ -144,6 +145,7 @@ like-mail world mail w kept like = record {
     few_reads = like.records.few_reads;
     events = like.records.events;
     ups = like.records.ups;
+    stops = like.records.stops;
   };
   outcomes = like.outcomes;
   nodes = like.nodes;

@@ -16,4 +16,5 @@ mod Next
 mod NodesStay
 mod Roomy
 mod Settled
+mod StoppedStep
 mod Took

@@ -1,12 +1,13 @@
 -- The limits that a step is asked for.
-use Rattle.std.proofs.Common.{◌≡◌, ℕ, ◌≤◌, Bool, true, false, List, ◌∷◌, refl, sym, ap, ◌∙◌, subst, Option, Some, None, Ok, Err, arith, length, nat_lt}
+use Rattle.std.proofs.Common.{◌≡◌, ℕ, ◌≤◌, Bool, true, false, List, ◌∷◌, refl, sym, ap, ◌∙◌, subst, Option, Some, None, Result, Ok, Err, arith, length, nat_lt}
+use Rattle.std.specs.Option.{option_or}
 use Rattle.mdcc_logs.specs.Stands.{LogsStand}
 use Rattle.mdcc_protocol.specs.Belongs.{is_centre}
 use Rattle.mdcc_built.specs.Built.{built}
 use Rattle.mdcc_ledger.specs.Ledger.{facts_of}
 use Rattle.mdcc_messages.specs.Lengths.{fact_length, log_length}
 use Rattle.mdcc_messages.specs.WellFormed.{IsWellFormedEnvelope, IsWellFormedFact}
-use Rattle.mdcc_simulation.specs.State.{World, centre_at}
+use Rattle.mdcc_simulation.specs.State.{World, centre_at, is_up_at}
 use Rattle.mdcc_simulation.specs.Limits.{log_limit, most_log}
 use Rattle.mdcc_simulation.specs.Stepping.{step_at}
 use Rattle.mdcc_rules.specs.Steps.{NodeStep, step_given}
@@ -21,7 +22,7 @@ use Rattle.mdcc_steps.proofs.Dispatched.{fact-formed, sends-formed}
 use Rattle.mdcc_steps.proofs.Shortness.{fact-short}
 use Rattle.mdcc_world.proofs.Happened.{clear, may_be}
 use Rattle.mdcc_world.proofs.Took.{ok-given}
-use Rattle.mdcc_world.specs.Letting.{IsFormed, IsFramed, Measures}
+use Rattle.mdcc_world.specs.Letting.{IsFormed, IsFramed, MayAppend, Measures}
 use Rattle.mdcc_world.specs.Making.{IsMade}
 use Rattle.mdcc_world.specs.declared.world.World.{World as TheWorld}
 use Rattle.mdcc_worlds.proofs.Stays.{log-few, some-centre}
@@ -38,7 +39,7 @@ pub log-room : (w : World) (a : ℕ) (fact : Fact) (b : Bool) → b ≡ nat_lt m
 log-room w a fact b is e = let within : nat_lt most_log (log_length (fact ∷ facts_of w.ledger a)) ≡ false = sym is ∙ e in rw within refl
 
 -- a centre has a log
-pub log-there : (world : TheWorld) (w : World) (a : ℕ) → is_centre w.cluster a ≡ true → LogsStand world.logs w.cluster.quorums.centres (facts_of w.ledger)
+pub log-there : (world : TheWorld) (w : World) (a : ℕ) → is_centre w.cluster a ≡ true → LogsStand world.logs w.cluster.quorums.centres (is_up_at w) (facts_of w.ledger)
     → a ≤ length world.logs.open.items
 log-there world w a centre stand =
     let few = (some-centre w.cluster a centre).1 in
@@ -52,7 +53,7 @@ module _ (world : TheWorld) (w : World) (a : ℕ) (input : Input) (step : Step) 
   gave = ok-given step (step_at built w a input) made.before.step_itself
 
   pub step-measures : Measures world w a
-  step-measures = record { centre = made.before.centre; bytes = made.before.records.bytes; logs = made.before.logs }
+  step-measures = record { up = made.before.up; bytes = made.before.records.bytes; logs = made.before.logs }
 
   pub step-sends : AllByRecursion IsWellFormedEnvelope step.sends
   step-sends =
@@ -80,13 +81,26 @@ module _ (world : TheWorld) (w : World) (a : ℕ) (input : Input) (step : Step) 
   pub fact-is-formed : IsFormed step.fact
   fact-is-formed = formed-by step.fact refl
 
-  framed-by : (o : Option Fact) → step.fact ≡ o → IsFramed world.logs o
-  framed-by None e = tt
-  framed-by (Some fact) e = record {
+  pub fact-may : (fact : Fact) → step.fact ≡ Some fact → MayAppend world.logs a fact
+  fact-may fact e = record {
     formed = step-formed fact e;
     short = step-short fact e;
-    logs_themselves = (w.cluster.quorums.centres, facts_of w.ledger, made.before.logs);
+    log_itself = (w.cluster.quorums.centres, is_up_at w, facts_of w.ledger, made.before.logs, made.before.up);
   }
 
-  pub fact-is-framed : IsFramed world.logs step.fact
+  framed-by : (o : Option Fact) → step.fact ≡ o → IsFramed world.logs a o
+  framed-by None e = tt
+  framed-by (Some fact) e = fact-may fact e
+
+  pub fact-is-framed : IsFramed world.logs a step.fact
   fact-is-framed = framed-by step.fact refl
+
+-- ---- one limit and another
+
+pub limit-first : (one other : Option EventFault) (fault : EventFault) → Err fault ≡ may_be one → Err fault ≡ may_be (option_or one other)
+limit-first None other fault e = absurd (cc)
+limit-first (Some found) other fault e = e
+
+pub limit-then : (one other : Option EventFault) (r : Result (Unit {0}) EventFault) → Ok tt ≡ may_be one → r ≡ may_be other → r ≡ may_be (option_or one other)
+limit-then None other r e f = f
+limit-then (Some found) other r e f = absurd (cc)

@@ -1,11 +1,11 @@
 -- The centres for which a settle delivers.
-use Rattle.std.proofs.Common.{◌≡◌, ℕ, ◌-◌, ◌==◌, ◌&&◌, ◌≤◌, Bool, true, false, List, refl, sym, ap, ◌∙◌, inl, inr, arith, get_or, nat_le}
+use Rattle.std.proofs.Common.{◌≡◌, ℕ, ◌-◌, ◌==◌, ◌&&◌, ◌≤◌, Bool, true, false, List, refl, ap, ◌∙◌, inl, inr, arith, get_or, nat_le}
 use Rattle.std.specs.List.{list_any}
 use Rattle.std.proofs.lemmas.Bool.{and_parts, cases_Bool, le-leb, leb-true}
 use Rattle.mdcc_protocol.specs.Belongs.{is_centre}
 use Rattle.mdcc_simulation.specs.State.{World, centre_at, is_up_at}
 use Rattle.mdcc_world.specs.Nodes.{UpsStand}
-use Rattle.mdcc_world.specs.Settling.{AreAsked, AreUp, is_named}
+use Rattle.mdcc_world.specs.Settling.{AreAsked, is_named}
 use Rattle.mdcc_world.specs.Stands.{IsLike}
 use Rattle.mdcc_world.specs.declared.world.World.{World as TheWorld}
 use Rattle.mdcc_worlds.proofs.Stays.{some-centre}
@@ -52,11 +52,3 @@ among w a listed ups stand nine = elim (cases_Bool (nat_le 1 a && nat_le a 9)) [
 
 pub all-asked : (world : TheWorld) (w : World) (listed centres : List ℕ) → IsLike world w → AreAskedTo world.up 9 listed centres → AreAsked w listed centres
 all-asked world w listed centres like are a = are a ∙ among w a listed world.up like.records.ups like.records.itself.cluster_itself.quorums.nine_centres
-
-pub asked-up : (ups : List Bool) (listed centres : List ℕ) → AreAskedTo ups 9 listed centres → AreUp ups centres
-asked-up ups listed centres are a among =
-    let is : asked_to ups 9 listed a ≡ true = sym (are a) ∙ among in
-    let first = and_parts (nat_le 1 a && nat_le a 9) (get_or ups (a - 1) false && is_named listed a) is in
-    let second = and_parts (nat_le 1 a) (nat_le a 9) first.0 in
-    let third = and_parts (get_or ups (a - 1) false) (is_named listed a) first.1 in
-    (leb-true 1 a second.0, (leb-true a 9 second.1, third.0))

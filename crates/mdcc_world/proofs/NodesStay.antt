@@ -9,6 +9,7 @@ use Rattle.mdcc_facts.specs.declared.list_facts.ListFacts.{ListFacts}
 use Rattle.mdcc_base.specs.Unless.{GivesUnless}
 use Rattle.mdcc_base.specs.declared.faults.Memory.{Memory}
 use Rattle.mdcc_base.specs.declared.key.Key.{Key}
+use Rattle.mdcc_base.specs.declared.outside.Image.{Image}
 use Rattle.mdcc_node.specs.Running.{IsRunning}
 use Rattle.mdcc_node.specs.Stepping.{UnlessMemory, facts_left, is_memory, volatile_left, with_new}
 use Rattle.mdcc_node.specs.declared.node.Node.{Node}
@@ -18,8 +19,8 @@ use Rattle.mdcc_built.specs.Built.{built}
 use Rattle.mdcc_protocol.specs.Volatile.{Volatile}
 use Rattle.mdcc_ledger.specs.Ledger.{facts_of}
 use Rattle.mdcc_rules.specs.Steps.{NodeStep}
-use Rattle.mdcc_simulation.specs.State.{Site, World, centre_at, first_world, is_up_at}
-use Rattle.mdcc_simulation.specs.Stepping.{input_happened, step_at}
+use Rattle.mdcc_simulation.specs.State.{Happened, Site, World, booted, centre_at, down, first_world, is_up_at, with_centre}
+use Rattle.mdcc_simulation.specs.Stepping.{input_happened, is_frame_kept, step_at, step_happened_by, step_stopped}
 use Rattle.mdcc_messages.specs.declared.facts.Fact.{Fact}
 use Rattle.mdcc_rules.specs.declared.node.Input.{Input}
 use Rattle.mdcc_rules.specs.declared.node.Step.{Step}
@@ -27,13 +28,13 @@ use Rattle.mdcc_rules.specs.declared.node.StepFault.{StepFault}
 use Rattle.mdcc_steps.specs.Forming.{with_new as with_new_fact}
 use Rattle.mdcc_steps.specs.Inputs.{IsWellFormedInput}
 use Rattle.mdcc_worlds.proofs.Begins.{first-facts, first-site}
-use Rattle.mdcc_worlds.proofs.Stays.{each-put, facts-here, facts-there, happened-taken, refused-same, site-here, site-there}
+use Rattle.mdcc_worlds.proofs.Stays.{by-none, by-some, each-put, facts-here, facts-there, facts-with, refused-same, site-here, site-other, site-same, site-there}
 use Rattle.mdcc_worlds.proofs.Within.{made-stays}
 use Rattle.mdcc_logs.specs.Nodes.{AreStarted, IsNodeOf, are_stored}
 use Rattle.mdcc_world.specs.Nodes.{NodesStand, RunsAt, is_memory_made}
 use Rattle.mdcc_worlds.specs.Sending.{StaysWithin}
 use Rattle.mdcc_worlds.specs.Standing.{IsWorld}
-use Rattle.mdcc_worlds.specs.Taking.{world_taken}
+use Rattle.mdcc_worlds.specs.Taking.{with_fact, world_taken}
 
 -- ---- places
 
@@ -119,13 +120,46 @@ module _ (nodes : List (Node ListFacts)) (w : World) (place : ℕ) (node : Node 
     ];
   }
 
+  -- its centre is down, and its node counts for nothing
+  gone : (o : Option Fact) → NodesStand (set nodes place node) (record (with_centre w (place + 1) down) { ledger = with_fact (place + 1) o w.ledger })
+  gone o = record {
+    as_many = length-set nodes place node ∙ standing.as_many;
+    each = λ j x at up. elim (set-get nodes place j node x at) [
+      | inl here ↦
+          let few : place + 1 ≤ length w.centres = omega (within, standing.as_many, world.sites, arith) in
+          let here_down : get_or (set w.centres (place + 1 - 1) down) (place + 1 - 1) booted ≡ down = site-same w.centres (place + 1) down (omega arith) few in
+          let there : (get_or (set w.centres (place + 1 - 1) down) (place + 1 - 1) booted).is_up ≡ true =
+          subst (λ (n : ℕ). (get_or (set w.centres (place + 1 - 1) down) (n + 1 - 1) booted).is_up ≡ true) here.0 up in
+          let bad : false ≡ true = ap (λ (s : Site). s.is_up) (sym here_down) ∙ there in
+          absurd (cc)
+      | inr there ↦
+          let other = other-next place j there.0 in
+          let site = site-other w.centres (place + 1) (j + 1) down (omega arith) (omega arith) other in
+          let facts : facts_of (with_fact (place + 1) o w.ledger) (j + 1) ≡ facts_of w.ledger (j + 1) = facts-with (place + 1) (j + 1) o w.ledger ∙ rw other refl in
+          rw (facts, site) (standing.each j x there.1 (ap (λ (s : Site). s.is_up) (sym site) ∙ up))
+    ];
+  }
+
+  stopped : (fact : Fact) (stop : ℕ × Image) → NodesStand (set nodes place node) (step_stopped w (place + 1) fact stop).world
+  stopped fact stop = elim (cases_Bool (is_frame_kept stop.0 stop.1)) [
+    | inl e ↦ rw e (gone (Some fact))
+    | inr e ↦ rw e (gone None)
+  ]
+
   pub nodes-stay : (input : Input) → IsWellFormedInput input → (r : Result NodeStep StepFault) → step_at built w (place + 1) input ≡ r
       → IsNodeOf node w.cluster (place + 1) (facts_left (facts_of w.ledger (place + 1)) r) (volatile_left (centre_at w (place + 1)).volatile r)
       → NodesStand (set nodes place node) (input_happened w (place + 1) r).world
   nodes-stay input formed (Err fault) e after = rw (refused-same w (place + 1) fault) (refused after)
   nodes-stay input formed (Ok step) e after =
-      rw (happened-taken w (place + 1) step (world.unstopped (place + 1) centre-here))
+      by_fact step
       (made step (made-stays built w.cluster (place + 1) (facts_of w.ledger (place + 1)) (centre_at w (place + 1)).volatile input step world.cluster_itself.quorums formed e) after)
+      step.fact refl (centre_at w (place + 1)).stop refl
+    where
+      by_fact : (step : NodeStep) → NodesStand (set nodes place node) (world_taken w (place + 1) step) → (o : Option Fact) → step.fact ≡ o
+          → (stop : Option (ℕ × Image)) → (centre_at w (place + 1)).stop ≡ stop → NodesStand (set nodes place node) (step_happened_by w (place + 1) step o).world
+      by_fact step whole None e stop k = subst (λ (x : Happened). NodesStand (set nodes place node) x.world) (sym (by-none w (place + 1) step e)) whole
+      by_fact step whole (Some fact) e None k = subst (λ (x : Happened). NodesStand (set nodes place node) x.world) (sym (by-some w (place + 1) step fact e k)) whole
+      by_fact step whole (Some fact) e (Some stop) k = rw k (stopped fact stop)
 
 -- ---- the first nodes
 

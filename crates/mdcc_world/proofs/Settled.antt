@@ -1,9 +1,9 @@
 -- A settle line, delivery by delivery.
-use Rattle.std.proofs.Common.{◌≡◌, ℕ, suc, ◌+◌, ◌≤◌, ◌<◌, ◌==◌, ◌&&◌, Bool, true, List, [], ◌∷◌, ◌++◌, refl, sym, ap, ◌∙◌, subst, inl, inr, Option, Some, None, Ok, Err, arith, length, nat_lt, append_assoc, nat_le}
+use Rattle.std.proofs.Common.{◌≡◌, ℕ, suc, ◌+◌, ◌≤◌, ◌<◌, ◌==◌, true, List, [], ◌∷◌, ◌++◌, refl, sym, ap, ◌∙◌, subst, inl, inr, Option, Some, None, Ok, Err, arith, length, nat_lt, append_assoc, nat_le}
 use Rattle.std.specs.Bool.{OnFalse}
 use Rattle.std.specs.List.{list_any}
 use Rattle.std.specs.Option.{option_map}
-use Rattle.std.specs.Prelude.{slice_get, not}
+use Rattle.std.specs.Prelude.{IfSome, slice_get, not}
 use Rattle.std.proofs.lemmas.Bool.{and_parts, cases_Bool, leb-true, ltb-true}
 use Rattle.mdcc_mail.specs.Waiting.{before_first, first_to, waits_among}
 use Rattle.mdcc_built.specs.Built.{built}
@@ -20,10 +20,9 @@ use Rattle.mdcc_language.specs.declared.world.LimitName.{LimitName}
 use Rattle.mdcc_world.proofs.Happened.{fault-then, happened-then, has-come}
 use Rattle.mdcc_world.proofs.Next.{message_of, next-is, with_number}
 use Rattle.mdcc_world.specs.Faults.{is_memory}
-use Rattle.mdcc_world.specs.Settling.{AreAsked, AreUp, EndsAfter, HasSettled, is_named}
+use Rattle.mdcc_world.specs.Settling.{AreAsked, EndsAfter, HasSettled, IsNext, is_named}
 use Rattle.mdcc_world.specs.Stands.{HasHappened, Happens, IsLike}
 use Rattle.mdcc_world.specs.declared.world.World.{World as TheWorld}
-use Rattle.mdcc_worlds.proofs.Delivers.{up-stays}
 use Rattle.mdcc_worlds.proofs.Settles.{settle-closed, settling-begins, settling-breaks, settling-ends, settling-goes_on, settling-stops}
 use Rattle.mdcc_worlds.specs.Delivering.{at_message, delivery, message_by}
 use Rattle.mdcc_worlds.specs.Happening.{at_limit}
@@ -74,23 +73,28 @@ first-there centres sent number at = elim (cases_Bool (nat_lt (before_first (wai
   | inr e ↦ let is : Some number ≡ None = rw e at at in absurd (cc)
 ]
 
-pub some-waits : (w : World) (listed centres : List ℕ) (mail : List Sent) (number : ℕ) → AreAsked w listed centres → mail ≡ w.sent
-    → Some number ≡ first_to centres mail → WaitsFirst w listed number
-some-waits w listed centres mail number are same first =
-    let here : Some number ≡ first_to centres w.sent = first ∙ ap (λ (sent : List Sent). first_to centres sent) same in
-    let there = first-there centres w.sent number here in
-    record {
-      next = (number, there.message.envelope);
-      waits = next-is w listed centres w.sent are ∙ ap (λ (o : Option ℕ). message_of w.sent o) (sym here)
-          ∙ ap (λ (o : Option Sent). option_map (with_number number) o) there.there;
-      numbers = refl;
-    }
+-- the number of the message that a settle delivers next
+pub next-of : (w : World) (listed centres : List ℕ) (number : Option ℕ) → AreAsked w listed centres → number ≡ first_to centres w.sent → IsNext w listed number
+next-of w listed centres None are first =
+    ap (λ (o : Option (ℕ × Envelope)). option_map (λ (n : ℕ × Envelope). n.0) o) (next-is w listed centres w.sent are ∙ ap (λ (o : Option ℕ). message_of w.sent o) (sym first))
+next-of w listed centres (Some number) are first =
+    let there = first-there centres w.sent number first in
+    ap (λ (o : Option (ℕ × Envelope)). option_map (λ (n : ℕ × Envelope). n.0) o)
+    (next-is w listed centres w.sent are ∙ ap (λ (o : Option ℕ). message_of w.sent o) (sym first) ∙ ap (λ (o : Option Sent). option_map (with_number number) o) there.there)
 
-pub none-waits : (w : World) (listed centres : List ℕ) (mail : List Sent) → AreAsked w listed centres → mail ≡ w.sent
-    → None ≡ first_to centres mail → first_waiting w listed 1 w.sent ≡ None
-none-waits w listed centres mail are same first =
-    let here : None ≡ first_to centres w.sent = first ∙ ap (λ (sent : List Sent). first_to centres sent) same in
-    next-is w listed centres w.sent are ∙ ap (λ (o : Option ℕ). message_of w.sent o) (sym here)
+some-waits : (w : World) (listed : List ℕ) (number : ℕ) → IsNext w listed (Some number) → WaitsFirst w listed number
+some-waits w listed number next = by_first (first_waiting w listed 1 w.sent) refl next
+  where
+    by_first : (o : Option (ℕ × Envelope)) → first_waiting w listed 1 w.sent ≡ o → option_map (λ (n : ℕ × Envelope). n.0) o ≡ Some number → WaitsFirst w listed number
+    by_first None e k = absurd (cc)
+    by_first (Some next) e k = let same : next.0 ≡ number = cc in record { next = next; waits = e; numbers = same }
+
+none-waits : (w : World) (listed : List ℕ) → IsNext w listed None → first_waiting w listed 1 w.sent ≡ None
+none-waits w listed next = by_first (first_waiting w listed 1 w.sent) next
+  where
+    by_first : (o : Option (ℕ × Envelope)) → option_map (λ (n : ℕ × Envelope). n.0) o ≡ None → o ≡ None
+    by_first None k = refl
+    by_first (Some next) k = absurd (cc)
 
 -- nothing keeps it back, where there may be one more event
 open-limit : (w : World) → w.events < most_events → at_limit built w ≡ Ok tt
@@ -99,29 +103,24 @@ open-limit w few = elim (cases_Bool (nat_le most_events w.events)) [
   | inr e ↦ rw e refl
 ]
 
-pub clear-first : (world : TheWorld) (centres : List ℕ) (number : ℕ) (w : World) → AreUp world.up centres → world.events < 100000
-    → Some number ≡ first_to centres world.mail → IsLike world w → at_message built w number ≡ Ok tt
-clear-first world centres number w ups few first like =
-    let there = first-there centres world.mail number first in
-    let at : numbered w.sent number ≡ Some there.message = ap (λ (sent : List Sent). numbered sent number) (sym like.records.mail) ∙ there.there in
-    let up = ups there.message.envelope.to there.among in
-    let is : is_up_at w there.message.envelope.to ≡ true = sym (like.records.ups there.message.envelope.to up.0 up.1.0) ∙ up.1.1 in
-    let events = like.records.events in
-    let clear : message_by built w number (Some there.message) ≡ Ok tt = rw is (open-limit w (omega (events, few, arith))) in
-    ap (λ (o : Option Sent). message_by built w number o) at ∙ clear
+pub clear-next : (w : World) (listed centres : List ℕ) (number : Option ℕ) → AreAsked w listed centres → number ≡ first_to centres w.sent → w.events < 100000
+    → IfSome number (λ n. at_message built w n ≡ Ok tt)
+clear-next w listed centres None are first few = tt
+clear-next w listed centres (Some number) are first few =
+    let there = first-there centres w.sent number first in
+    let to = there.message.envelope.to in
+    let up = and_parts (is_up_at w to) (is_named listed to) (sym (are to) ∙ there.among) in
+    let clear : message_by built w number (Some there.message) ≡ Ok tt = rw up.0 (open-limit w few) in
+    ap (λ (o : Option Sent). message_by built w number o) there.there ∙ clear
 
 -- ---- the settle
 
-module _ (world : TheWorld) (before lines : List Line) (w : World) (listed centres : List ℕ) (deliveries : ℕ) (has : HasSettled world before lines w listed centres deliveries)
-    (mail : List Sent) (kept : mail ≡ world.mail) where
-  here-mail : mail ≡ has.reached.world.sent
-  here-mail = kept ∙ has.happened.like.records.mail
-
-  pub settle-goes_on : (new : TheWorld) (after : List Line) (number : ℕ) → Some number ≡ first_to centres mail → world.events < 100000
+module _ (world : TheWorld) (before lines : List Line) (w : World) (listed : List ℕ) (deliveries : ℕ) (has : HasSettled world before lines w listed deliveries) where
+  pub settle-goes_on : (new : TheWorld) (after : List Line) (number : ℕ) → IsNext has.reached.world listed (Some number) → world.events < 100000
       → Happens {T = Unit {0}} new lines after (Ok tt) (delivery built has.reached.world number)
-      → HasSettled new before after w listed centres (deliveries + 1)
-  settle-goes_on new after number first few happens =
-      let waits = some-waits has.reached.world listed centres mail number has.asked here-mail first in
+      → HasSettled new before after w listed (deliveries + 1)
+  settle-goes_on new after number next few happens =
+      let waits = some-waits has.reached.world listed number next in
       let come = has-come {T = Unit {0}} tt new lines after (delivery built has.reached.world number) happens in
       let events = has.happened.like.records.events in
       let is : delivery built has.reached.world waits.next.0 ≡ Ok come.h = ap (λ (n : ℕ). delivery built has.reached.world n) waits.numbers ∙ come.is in
@@ -129,41 +128,39 @@ module _ (world : TheWorld) (before lines : List Line) (w : World) (listed centr
         reached = after_lines has.reached.lines come.h;
         happened = happened-then world new before lines after has.reached come.h has.happened come.happened;
         so_far = settling-goes_on built w listed has.reached come.h deliveries waits.next has.so_far waits.waits (omega (events, few, arith)) is;
-        asked = λ a. has.asked a ∙ ap (λ (b : Bool). b && is_named listed a) (sym (up-stays built has.reached.world number a come.h has.happened.like.records.itself come.is));
       }
 
-  pub settle-breaks : (number : ℕ) (fault : EventFault) → Some number ≡ first_to centres mail → world.events < 100000 → w.events < 100000
+  pub settle-breaks : (number : ℕ) (fault : EventFault) → IsNext has.reached.world listed (Some number) → world.events < 100000 → w.events < 100000
       → OnFalse (is_memory fault) (delivery built has.reached.world number ≡ Err fault)
       → OnFalse (is_memory fault) (event_of built w (Event.Settle listed) ≡ Err fault)
-  settle-breaks number fault first few begun refused =
-      let waits = some-waits has.reached.world listed centres mail number has.asked here-mail first in
+  settle-breaks number fault next few begun refused =
+      let waits = some-waits has.reached.world listed number next in
       let events = has.happened.like.records.events in
       fault-then (is_memory fault) (λ (e : delivery built has.reached.world number ≡ Err fault).
       settling-breaks built w listed has.reached deliveries waits.next fault has.so_far waits.waits (omega (events, few, arith)) begun
       (ap (λ (n : ℕ). delivery built has.reached.world n) waits.numbers ∙ e)) refused
 
-  pub settle-ends : (new : TheWorld) → IsLike new has.reached.world → None ≡ first_to centres mail → w.events < 100000 → EndsAfter new before lines w listed deliveries
-  settle-ends new like first few = record {
+  pub settle-ends : (new : TheWorld) → new ≡ world → IsNext has.reached.world listed None → w.events < 100000 → EndsAfter new before lines w listed deliveries
+  settle-ends new same next few = record {
     reached = has.reached;
-    happened = record { like = like; lines = has.happened.lines };
-    answer = settling-ends built w listed has.reached deliveries has.so_far (none-waits has.reached.world listed centres mail has.asked here-mail first) few;
+    happened = record { like = subst (λ (x : TheWorld). IsLike x has.reached.world) (sym same) has.happened.like; lines = has.happened.lines };
+    answer = settling-ends built w listed has.reached deliveries has.so_far (none-waits has.reached.world listed next) few;
   }
 
-  pub settle-stops : (number : ℕ) → Some number ≡ first_to centres mail → 100000 ≤ world.events
+  pub settle-stops : (number : ℕ) → IsNext has.reached.world listed (Some number) → 100000 ≤ world.events
       → event_of built w (Event.Settle listed) ≡ Err (EventFault.Limit LimitName.Events most_events)
-  settle-stops number first full =
-      let waits = some-waits has.reached.world listed centres mail number has.asked here-mail first in
+  settle-stops number next full =
+      let waits = some-waits has.reached.world listed number next in
       let events = has.happened.like.records.events in
       settling-stops built w listed has.reached deliveries waits.next has.so_far waits.waits (omega (events, full, arith))
 
 -- a settle begins with no delivery
-pub settle-begins : (world : TheWorld) (before lines : List Line) (w : World) (listed centres : List ℕ) → AreAsked w listed centres
-    → HasHappened world before lines (settle_told w listed) → HasSettled world before lines w listed centres 0
-settle-begins world before lines w listed centres asked happened = record {
+pub settle-begins : (world : TheWorld) (before lines : List Line) (w : World) (listed : List ℕ) → HasHappened world before lines (settle_told w listed)
+    → HasSettled world before lines w listed 0
+settle-begins world before lines w listed happened = record {
   reached = settle_told w listed;
   happened = happened;
   so_far = settling-begins built w listed;
-  asked = asked;
 }
 
 -- the line of the end

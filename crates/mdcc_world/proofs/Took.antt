@@ -5,6 +5,7 @@ use Rattle.std.specs.List.{AllByRecursion}
 use Rattle.std.proofs.lemmas.Bool.{cases_Bool, eqb-true}
 use Rattle.mdcc_base.specs.Sizes.{Sizes}
 use Rattle.mdcc_base.specs.declared.faults.Memory.{Memory}
+use Rattle.mdcc_base.specs.declared.outside.Image.{Image}
 use Rattle.mdcc_logs.specs.Stands.{IsLogOf, LogsStand}
 use Rattle.mdcc_logs.specs.declared.logs.Logs.{Logs}
 use Rattle.mdcc_node.specs.Stepping.{given}
@@ -18,9 +19,9 @@ use Rattle.mdcc_ledger.specs.Ledger.{Added, Begun, Entry, Valued, facts_of, new_
 use Rattle.mdcc_messages.specs.Lengths.{messages_length}
 use Rattle.mdcc_protocol.specs.Marks.{is_commit}
 use Rattle.mdcc_rules.specs.Steps.{NodeStep, step_given}
-use Rattle.mdcc_simulation.specs.State.{Happened, Site, World, booted_to, centre_at}
+use Rattle.mdcc_simulation.specs.State.{Happened, Site, World, booted_to, centre_at, is_up_at}
 use Rattle.mdcc_messages.specs.Mailbox.{Sent, unsent}
-use Rattle.mdcc_simulation.specs.Stepping.{chosen_lines, input_happened, step_at}
+use Rattle.mdcc_simulation.specs.Stepping.{chosen_lines, input_happened, step_at, step_happened, step_happened_by}
 use Rattle.mdcc_simulation.specs.Limits.{input_limited, unless}
 use Rattle.mdcc_messages.specs.declared.facts.Fact.{Fact}
 use Rattle.mdcc_language.specs.declared.lines.Line.{Line}
@@ -33,17 +34,18 @@ use Rattle.mdcc_struct.specs.Maps.{TxMap}
 use Rattle.mdcc_steps.specs.Inputs.{IsWellFormedInput}
 use Rattle.mdcc_worlds.proofs.Events.{input-is}
 use Rattle.mdcc_worlds.proofs.Staying.{limited-stays}
-use Rattle.mdcc_worlds.proofs.Stays.{happened-taken, refused-same, site-here, site-there}
+use Rattle.mdcc_worlds.proofs.Stays.{by-none, by-some, refused-same, site-here, site-there, some-centre}
 use Rattle.mdcc_worlds.proofs.Within.{made-quiet, made-stays}
 use Rattle.mdcc_worlds.specs.Sending.{IsValuedBy, StaysWithin, is_begin}
 use Rattle.mdcc_worlds.specs.Standing.{IsWorld}
-use Rattle.mdcc_worlds.specs.Taking.{chosen_line, limit_of, step_lines, step_told, taken, with_fact, world_taken}
+use Rattle.mdcc_worlds.specs.Taking.{chosen_line, limit_of, step_lines, step_told, taken, told_by, told_whole, with_fact, world_taken}
 use Rattle.mdcc_world.proofs.Happened.{any-fault, limited, may_be}
 use Rattle.mdcc_world.specs.Faults.{is_memory}
 use Rattle.mdcc_world.specs.Letting.{facts_with}
 use Rattle.mdcc_world.specs.Making.{IsMade}
-use Rattle.mdcc_world.specs.Nodes.{NodesStand, UpsStand}
+use Rattle.mdcc_world.specs.Nodes.{NodesStand, StopsStand, UpsStand}
 use Rattle.mdcc_world.specs.Stands.{Happens, entries_of}
+use Rattle.mdcc_world.specs.Stopping.{IsWhole}
 use Rattle.mdcc_world.specs.Telling.{dropped_lines}
 use Rattle.mdcc_world.specs.declared.world.World.{World as TheWorld}
 
@@ -76,6 +78,23 @@ valued-counted outcomes quorums me (Valued centre key version ballot options ∷
       counts = rest.counts;
       few = rest.few;
     }
+
+-- nor without them
+pub valued-uncounted : (outcomes : Outcomes) (quorums : Sizes) (me : ℕ) (entries ledger : List Entry) → AllByRecursion (IsValuedBy me) entries
+    → OutcomesStand outcomes quorums (entries ++ ledger) → OutcomesStand outcomes quorums ledger
+valued-uncounted outcomes quorums me [] ledger h stands = stands
+valued-uncounted outcomes quorums me (Added centre fact ∷ entries) ledger h stands = absurd h.0
+valued-uncounted outcomes quorums me (Begun centre tx choices ∷ entries) ledger h stands = absurd h.0
+valued-uncounted outcomes quorums me (Valued centre key version ballot options ∷ entries) ledger h stands =
+    valued-uncounted outcomes quorums me entries ledger h.1
+    (record {
+      knows = stands.knows;
+      begun = stands.begun;
+      casts = λ tx. stands.casts tx ∙ append-nil _;
+      ballots = stands.ballots;
+      counts = stands.counts;
+      few = stands.few;
+    })
 
 -- what an input tells beside its fact, but a begin
 pub input-counted : (outcomes : Outcomes) (w : World) (a : ℕ) (input : Input) → IsWorld w → IsWellFormedInput input → is_begin input ≡ false
@@ -122,12 +141,13 @@ refused-lines w a StepFault.Memory = refl
 
 -- ---- what stands of the centres after a step
 
--- logs stand for the same facts
-pub logs-same : (logs : Logs) (centres : ℕ) (facts others : ℕ → List Fact) → ((a : ℕ) → 1 ≤ a → a ≤ centres → facts a ≡ others a) → LogsStand logs centres facts
-    → LogsStand logs centres others
-logs-same logs centres facts others same stand = record {
+-- logs stand for the same facts, of centres of which the same are up
+pub logs-same : (logs : Logs) (centres : ℕ) (up ups : ℕ → Bool) (facts others : ℕ → List Fact) → ((a : ℕ) → 1 ≤ a → a ≤ centres → up a ≡ ups a)
+    → ((a : ℕ) → 1 ≤ a → a ≤ centres → facts a ≡ others a) → LogsStand logs centres up facts → LogsStand logs centres ups others
+logs-same logs centres up ups facts others alike same stand = record {
   as_many = stand.as_many;
-  each = λ a some within. subst (λ (x : List Fact). IsLogOf logs a x) (same a some within) (stand.each a some within);
+  each = λ a some within.
+      subst (λ (b : Bool). IsLogOf logs a b (others a)) (alike a some within) (subst (λ (x : List Fact). IsLogOf logs a (up a) x) (same a some within) (stand.each a some within));
 }
 
 module _ (w : World) (a : ℕ) (step : NodeStep) (world : IsWorld w) (centre : is_centre w.cluster a ≡ true) (stays : StaysWithin w.cluster step) where
@@ -149,12 +169,40 @@ module _ (w : World) (a : ℕ) (step : NodeStep) (world : IsWorld w) (centre : i
     | inr e ↦ ap (λ (s : Site). s.is_up) (site-there w a step world centre stays b some e)
   ]
 
+  pub up-taken : (b : ℕ) → 1 ≤ b → is_up_at w b ≡ is_up_at (world_taken w a step) b
+  up-taken b some = ap (λ (x : Bool). is_centre w.cluster b && x) (sym (up-same b some))
+
   pub ups-taken : (ups : List Bool) → UpsStand ups w → UpsStand ups (world_taken w a step)
-  ups-taken ups stand b some few = stand b some few ∙ ap (λ (x : Bool). is_centre w.cluster b && x) (sym (up-same b some))
+  ups-taken ups stand b some few = stand b some few ∙ up-taken b some
+
+  pub stops-taken : (stops : List (Option (ℕ × Image))) → StopsStand stops w → StopsStand stops (world_taken w a step)
+  stops-taken stops stand b here = stand b here ∙ elim (cases_Bool (a == b)) [
+    | inl e ↦
+        let same : a ≡ b = eqb-true a b e in
+        subst (λ (n : ℕ). (centre_at w n).stop ≡ (centre_at (world_taken w a step) n).stop) same (ap (λ (s : Site). s.stop) (sym (site-here w a step world centre stays)))
+    | inr e ↦ ap (λ (s : Site). s.stop) (sym (site-there w a step world centre stays b (some-centre w.cluster b here).0 e))
+  ]
 
 -- ---- what is taken
 
-module _ (world : TheWorld) (w : World) (a : ℕ) (input : Input) (step : Step) (made : IsMade world w a input (Ok step)) where
+-- a step that does not stop
+pub whole-happened : (w : World) (a : ℕ) (step : NodeStep) → IsWhole w a step.fact → step_happened w a step ≡ taken w a step
+whole-happened w a step (inl none) = ap (step_happened_by w a step) none ∙ by-none w a step none
+whole-happened w a step (inr unstopped) = by_fact step.fact refl
+  where
+    by_fact : (o : Option Fact) → step.fact ≡ o → step_happened_by w a step o ≡ taken w a step
+    by_fact None e = by-none w a step e
+    by_fact (Some fact) e = by-some w a step fact e unstopped
+
+pub whole-told : (w : World) (a : ℕ) (step : NodeStep) → IsWhole w a step.fact → told_by built w a step step.fact (centre_at w a).stop ≡ told_whole built w a step
+whole-told w a step (inl none) = ap (λ (o : Option Fact). told_by built w a step o (centre_at w a).stop) none
+whole-told w a step (inr unstopped) = ap (told_by built w a step step.fact) unstopped ∙ by_fact step.fact
+  where
+    by_fact : (o : Option Fact) → told_by built w a step o None ≡ told_whole built w a step
+    by_fact None = refl
+    by_fact (Some fact) = refl
+
+module _ (world : TheWorld) (w : World) (a : ℕ) (input : Input) (step : Step) (made : IsMade world w a input (Ok step)) (whole : IsWhole w a step.fact) where
   abbrev result : Result NodeStep StepFault
   result = step_at built w a input
 
@@ -176,11 +224,14 @@ module _ (world : TheWorld) (w : World) (a : ℕ) (input : Input) (step : Step) 
   pub step-stays : StaysWithin w.cluster s
   step-stays = made-stays built w.cluster a (facts_of w.ledger a) (centre_at w a).volatile input s world-is.cluster_itself.quorums made.before.well_formed gave.1
 
+  whole-is : IsWhole w a s.fact
+  whole-is = subst (IsWhole w a) fact-is whole
+
   happens : input_happened w a result ≡ taken w a s
-  happens = ap (input_happened w a) gave.1 ∙ happened-taken w a s (world-is.unstopped a made.before.centre)
+  happens = ap (input_happened w a) gave.1 ∙ whole-happened w a s whole-is
 
   comes : input_limited built w a result ≡ unless (limit_of built w a s.fact s.sends) (taken w a s)
-  comes = input-is built w a result world-is made.before.centre ∙ ap (step_told built w a) gave.1
+  comes = input-is built w a result ∙ ap (step_told built w a) gave.1 ∙ whole-told w a s whole-is
 
   limit-is : limit_of built w a step.fact step.sends ≡ limit_of built w a s.fact s.sends
   limit-is = ap (λ (o : Option Fact). limit_of built w a o step.sends) fact-is ∙ ap (λ (xs : List Envelope). limit_of built w a s.fact xs) sends-are
@@ -196,7 +247,7 @@ module _ (world : TheWorld) (w : World) (a : ℕ) (input : Input) (step : Step) 
       → new ≡ record world { logs = new.logs; mail = new.mail; bytes = new.bytes; outcomes = new.outcomes }
       → limit_of built w a step.fact step.sends ≡ None
       → new.mail ≡ world.mail ++ map unsent step.sends → new.bytes ≡ world.bytes + messages_length step.sends
-      → LogsStand new.logs w.cluster.quorums.centres (facts_with (facts_of w.ledger) a step.fact)
+      → LogsStand new.logs w.cluster.quorums.centres (is_up_at w) (facts_with (facts_of w.ledger) a step.fact)
       → ((quorums : Sizes) (entries : List Entry) → OutcomesStand world.outcomes quorums entries → OutcomesStand new.outcomes quorums (with_fact a step.fact entries))
       → ((quorums : Sizes) (entries : List Entry) → OutcomesStand world.outcomes quorums entries → lines ≡ before ++ step_lines quorums a step.fact entries)
       → Happens {T = Unit {0}} new before lines (Ok tt) (input_limited built w a (step_at built w a input))
@@ -206,8 +257,8 @@ module _ (world : TheWorld) (w : World) (a : ℕ) (input : Input) (step : Step) 
       let is : input_limited built w a result ≡ Ok (taken w a s) = comes ∙ ap (λ (o : Option EventFault). unless o (taken w a s)) clear in
       let here : OutcomesStand world.outcomes w.cluster.quorums (s.entries ++ w.ledger) =
       subst (λ (r : Result NodeStep StepFault). OutcomesStand world.outcomes w.cluster.quorums (entries_of r ++ w.ledger)) gave.1 made.before.outcomes in
-      let kept : LogsStand new.logs w.cluster.quorums.centres (facts_with (facts_of w.ledger) a s.fact) =
-      subst (λ (o : Option Fact). LogsStand new.logs w.cluster.quorums.centres (facts_with (facts_of w.ledger) a o)) fact-is logs in
+      let kept : LogsStand new.logs w.cluster.quorums.centres (is_up_at w) (facts_with (facts_of w.ledger) a s.fact) =
+      subst (λ (o : Option Fact). LogsStand new.logs w.cluster.quorums.centres (is_up_at w) (facts_with (facts_of w.ledger) a o)) fact-is logs in
       let nodes : NodesStand new.nodes.items (taken w a s).world =
       rw rest (subst (λ (h : Happened). NodesStand world.nodes.items h.world) happens made.nodes) in
       subst (λ (r : Result Happened EventFault). Happens {T = Unit {0}} new before lines (Ok tt) r) (sym is) (record {
@@ -221,10 +272,12 @@ module _ (world : TheWorld) (w : World) (a : ℕ) (input : Input) (step : Step) 
             few_reads = records.few_reads;
             events = ap (λ (x : TheWorld). x.events) rest ∙ records.events;
             ups = ups-taken w a s world-is made.before.centre step-stays new.up (rw rest records.ups);
+            stops = stops-taken w a s world-is made.before.centre step-stays new.stops (rw rest records.stops);
           };
           outcomes = subst (λ (o : Option Fact). OutcomesStand new.outcomes w.cluster.quorums (with_fact a o (s.entries ++ w.ledger))) fact-is (ledger w.cluster.quorums (s.entries ++ w.ledger) here);
           nodes = nodes;
-          logs = logs-same new.logs w.cluster.quorums.centres (facts_with (facts_of w.ledger) a s.fact) (facts_of (world_taken w a s).ledger) (λ b some within. facts-taken w a s world-is made.before.centre step-stays b) kept;
+          logs = logs-same new.logs w.cluster.quorums.centres (is_up_at w) (is_up_at (world_taken w a s)) (facts_with (facts_of w.ledger) a s.fact) (facts_of (world_taken w a s).ledger)
+              (λ b some within. up-taken w a s world-is made.before.centre step-stays b some) (λ b some within. facts-taken w a s world-is made.before.centre step-stays b) kept;
         };
         lines = told w.cluster.quorums (s.entries ++ w.ledger) here ∙ ap (λ (o : Option Fact). before ++ step_lines w.cluster.quorums a o (s.entries ++ w.ledger)) fact-is;
       })
@@ -238,7 +291,7 @@ step-left world w a input fault made before lines told =
     let result = step_at built w a input in
     let e : result ≡ Err fault = err-given fault result made.before.step_itself in
     let same : (input_happened w a result).world ≡ w = ap (λ (r : Result NodeStep StepFault). (input_happened w a r).world) e ∙ refused-same w a fault in
-    let is : input_limited built w a result ≡ Ok (input_happened w a (Err fault)) = input-is built w a result records.itself made.before.centre ∙ ap (step_told built w a) e in
+    let is : input_limited built w a result ≡ Ok (input_happened w a (Err fault)) = input-is built w a result ∙ ap (step_told built w a) e in
     let here : OutcomesStand world.outcomes w.cluster.quorums w.ledger =
     subst (λ (r : Result NodeStep StepFault). OutcomesStand world.outcomes w.cluster.quorums (entries_of r ++ w.ledger)) e made.before.outcomes in
     subst (λ (r : Result Happened EventFault). Happens {T = Unit {0}} world before lines (Ok tt) r) (sym is) (record {

@@ -5,5 +5,5 @@ pub mod Making
 pub mod Nodes
 pub mod Settling
 pub mod Stands
+pub mod Stopping
 pub mod Telling
-pub mod Words

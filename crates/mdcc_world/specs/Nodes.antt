@@ -1,9 +1,11 @@
 -- Which nodes stand for the centres of a world.
-use Rattle.std.specs.Prelude.{◌≡◌, ◌+◌, ◌-◌, ◌≤◌, Bool, Err, List, Ok, Result, Some, false, get_or, length, slice_get, true, ℕ}
+use Rattle.std.specs.Prelude.{◌≡◌, ◌+◌, ◌-◌, ◌≤◌, Bool, Err, List, None, Ok, Option, Result, Some, false, get_or, length, slice_get, true, ℕ}
+use Rattle.mdcc_base.specs.declared.outside.Image.{Image}
 use Rattle.mdcc_facts.specs.declared.list_facts.ListFacts.{ListFacts}
 use Rattle.mdcc_logs.specs.Nodes.{IsNodeOf}
 use Rattle.mdcc_node.specs.Stepping.{is_memory}
 use Rattle.mdcc_node.specs.declared.node.Node.{Node}
+use Rattle.mdcc_protocol.specs.Belongs.{is_centre}
 use Rattle.mdcc_ledger.specs.Ledger.{facts_of}
 use Rattle.mdcc_simulation.specs.State.{World, centre_at, is_up_at}
 use Rattle.mdcc_rules.specs.declared.node.Step.{Step}
@@ -27,6 +29,10 @@ pub record RunsAt (nodes : List (Node ListFacts)) (a : ℕ) : Type 0 where
 -- which centres are up
 abbrev pub UpsStand : List Bool → World → Type 0
 UpsStand ups w = (a : ℕ) → 1 ≤ a → a ≤ 9 → get_or ups (a - 1) false ≡ is_up_at w a
+
+-- where a stop is armed: inside which device call of the next append, and with which image
+abbrev pub StopsStand : List (Option (ℕ × Image)) → World → Type 0
+StopsStand stops w = (a : ℕ) → is_centre w.cluster a ≡ true → get_or stops (a - 1) None ≡ (centre_at w a).stop
 
 -- whether there was no memory for an input
 abbrev pub is_memory_made : Result Step StepFault → Bool

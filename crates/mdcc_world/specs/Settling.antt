@@ -1,9 +1,11 @@
 -- How a settle ends.
 use Rattle.std.specs.Bool.{OnFalse}
 use Rattle.std.specs.List.{list_any}
-use Rattle.std.specs.Prelude.{◌≡◌, ◌≤◌, ◌-◌, ◌==◌, ◌&&◌, ◌||◌, Bool, Err, List, Ok, Result, false, get_or, length, true, ℕ}
+use Rattle.std.specs.Option.{option_map}
+use Rattle.std.specs.Prelude.{◌≡◌, ◌==◌, ◌&&◌, ◌||◌, Bool, Err, List, Ok, Option, Result, length, ℕ}
 use Rattle.mdcc_built.specs.Built.{built}
 use Rattle.mdcc_simulation.specs.State.{Happened, World, is_up_at}
+use Rattle.mdcc_simulation.specs.Deliveries.{first_waiting}
 use Rattle.mdcc_simulation.specs.Events.{event_of}
 use Rattle.mdcc_language.specs.declared.events.Event.{Event}
 use Rattle.mdcc_language.specs.declared.lines.Line.{Line}
@@ -22,12 +24,15 @@ abbrev pub AreAsked : World → List ℕ → List ℕ → Type 0
 AreAsked w listed centres =
     (a : ℕ) → list_any (λ centre. centre == a) centres ≡ (is_up_at w a && (length listed == 0 || list_any (λ centre. centre == a) listed))
 
--- the world stands for what a settle line has brought with so many deliveries, and it delivers for these centres
-pub record HasSettled (world : TheWorld) (before after : List Line) (w : World) (listed centres : List ℕ) (deliveries : ℕ) : Type 0 where
+-- the world stands for what a settle line has brought with so many deliveries
+pub record HasSettled (world : TheWorld) (before after : List Line) (w : World) (listed : List ℕ) (deliveries : ℕ) : Type 0 where
   pub reached : Happened
   pub happened : HasHappened world before after reached
   pub so_far : IsSettling built w listed reached deliveries
-  pub asked : AreAsked reached.world listed centres
+
+-- the number is that of the message that a settle delivers next, where one waits
+abbrev pub IsNext : World → List ℕ → Option ℕ → Type 0
+IsNext w listed number = option_map (λ next. next.0) (first_waiting w listed 1 w.sent) ≡ number
 
 -- so many messages were delivered until none waited, and the settle is at its end
 pub record EndsAfter (world : TheWorld) (before after : List Line) (w : World) (listed : List ℕ) (deliveries : ℕ) : Type 0 where
@@ -39,7 +44,3 @@ pub record EndsAfter (world : TheWorld) (before after : List Line) (w : World) (
 abbrev pub SettlesTo : TheWorld → List Line → List Line → World → List ℕ → Result ℕ EventFault → Type 0
 SettlesTo world before after w listed (Ok deliveries) = EndsAfter world before after w listed deliveries
 SettlesTo world before after w listed (Err fault) = OnFalse (is_memory fault) (event_of built w (Event.Settle listed) ≡ Err fault)
-
--- each of these centres is up
-abbrev pub AreUp : List Bool → List ℕ → Type 0
-AreUp ups centres = (a : ℕ) → list_any (λ centre. centre == a) centres ≡ true → (1 ≤ a) × ((a ≤ 9) × (get_or ups (a - 1) false ≡ true))

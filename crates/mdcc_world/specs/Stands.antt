@@ -8,7 +8,7 @@ use Rattle.mdcc_protocol.specs.Belongs.{is_centre}
 use Rattle.mdcc_built.specs.Built.{built}
 use Rattle.mdcc_ledger.specs.Ledger.{Entry, facts_of}
 use Rattle.mdcc_rules.specs.Steps.{NodeStep}
-use Rattle.mdcc_simulation.specs.State.{Happened, World}
+use Rattle.mdcc_simulation.specs.State.{Happened, World, is_up_at}
 use Rattle.mdcc_simulation.specs.Stepping.{step_at}
 use Rattle.mdcc_language.specs.declared.lines.Line.{Line}
 use Rattle.mdcc_rules.specs.declared.node.Input.{Input}
@@ -18,11 +18,12 @@ use Rattle.mdcc_language.specs.declared.world.EventFault.{EventFault}
 use Rattle.mdcc_steps.specs.Forming.{accept_length_in}
 use Rattle.mdcc_steps.specs.Inputs.{IsWellFormedInput}
 use Rattle.mdcc_world.specs.Faults.{is_memory}
-use Rattle.mdcc_world.specs.Nodes.{NodesStand, UpsStand}
+use Rattle.mdcc_world.specs.Nodes.{NodesStand, StopsStand, UpsStand}
 use Rattle.mdcc_world.specs.declared.world.World.{World as TheWorld}
 use Rattle.mdcc_worlds.specs.Standing.{IsWorld}
 
--- its cluster, its messages and their bytes, the reads that were made, the number of events, and which centres are up
+-- its cluster, its messages and their bytes, the reads that were made, the number of events, which centres are up, and where a stop is
+-- armed
 pub record RecordsStand (world : TheWorld) (w : World) : Type 0 where
   pub itself : IsWorld w
   pub cluster : world.cluster ≡ w.cluster
@@ -32,13 +33,14 @@ pub record RecordsStand (world : TheWorld) (w : World) : Type 0 where
   pub few_reads : length w.reads ≤ w.events
   pub events : world.events ≡ w.events
   pub ups : UpsStand world.up w
+  pub stops : StopsStand world.stops w
 
 -- with these go the votes that were counted, the nodes, and the logs: on the disk of each centre stand its facts of the ledger
 pub record IsLike (world : TheWorld) (w : World) : Type 0 where
   pub records : RecordsStand world w
   pub outcomes : OutcomesStand world.outcomes w.cluster.quorums w.ledger
   pub nodes : NodesStand world.nodes.items w
-  pub logs : LogsStand world.logs w.cluster.quorums.centres (facts_of w.ledger)
+  pub logs : LogsStand world.logs w.cluster.quorums.centres (is_up_at w) (facts_of w.ledger)
 
 -- and there were no more events than there may be
 pub record Stands (world : TheWorld) (w : World) : Type 0 where
@@ -50,21 +52,22 @@ abbrev pub entries_of : Result NodeStep StepFault → List Entry
 entries_of (Ok step) = step.entries
 entries_of (Err fault) = []
 
--- before what a centre made of an input is taken: all but its node is as before, and its entries were told
+-- before what a centre that is up made of an input is taken: all but its node is as before, and its entries were told
 pub record IsBeforeTaking (world : TheWorld) (w : World) (a : ℕ) (input : Input) (made : Result Step StepFault) : Type 0 where
   pub records : RecordsStand world w
   pub centre : is_centre w.cluster a ≡ true
+  pub up : is_up_at w a ≡ true
   pub well_formed : IsWellFormedInput input
   pub short : accept_length_in input ≤ 2097152
   pub outcomes : OutcomesStand world.outcomes w.cluster.quorums (entries_of (step_at built w a input) ++ w.ledger)
-  pub logs : LogsStand world.logs w.cluster.quorums.centres (facts_of w.ledger)
+  pub logs : LogsStand world.logs w.cluster.quorums.centres (is_up_at w) (facts_of w.ledger)
   pub step_itself : made ≡ given (step_at built w a input)
 
 -- and after it
 pub record IsTaken (world : TheWorld) (before after : List Line) (h : Happened) : Type 0 where
   pub records : RecordsStand world h.world
   pub outcomes : OutcomesStand world.outcomes h.world.cluster.quorums h.world.ledger
-  pub logs : LogsStand world.logs h.world.cluster.quorums.centres (facts_of h.world.ledger)
+  pub logs : LogsStand world.logs h.world.cluster.quorums.centres (is_up_at h.world) (facts_of h.world.ledger)
   pub lines : after ≡ before ++ h.lines
 
 -- the world stands for what happened, and its lines stand behind the others

@@ -1,5 +1,5 @@
 //! Crashes and restarts.
-ghost use Rattle.std.specs.Prelude.{◌≡◌, ◌≤◌, ◌<◌, ◌+◌, ◌-◌, IfErr, OnOk, length, set, true};
+ghost use Rattle.std.specs.Prelude.{◌≡◌, ◌≤◌, ◌<◌, ◌+◌, ◌-◌, IfErr, None, OnOk, length, set, false, true};
 ghost use Rattle.mdcc_protocol.specs.Belongs.{is_centre};
 ghost use Rattle.mdcc_built.specs.Built.{built};
 ghost use Rattle.mdcc_simulation.specs.State.{World as AWorld, counted_event, is_up_at};
@@ -19,6 +19,17 @@ use mdcc_logs::Started;
 use mdcc_node::Node;
 
 impl World {
+    // A centre goes down. A stop that was armed there is armed no more.
+    pub(crate) fn fall(&mut self, centre: Centre)
+        ensures rest { self.new ≡ record self.old { up = self.new.up; stops = self.new.stops } }
+        ensures up { self.new.up ≡ set self.old.up (centre - 1) false }
+        ensures stops { self.new.stops ≡ set self.old.stops (centre - 1) None }
+    {
+        let place = usize::from(centre.number()) - 1;
+        self.up[place] = false;
+        self.stops[place] = None;
+    }
+
     // A centre loses all but its log, which is an event.
     fn crash_at(&mut self, centre: Centre, lines: &mut HeapList<Line>) -> Result<(), Memory>
         requires few { self.old.events < 100000 }
@@ -30,7 +41,7 @@ impl World {
     {
         lines.push(Line::Crash(centre))?;
         self.events += 1;
-        self.up[usize::from(centre.number()) - 1] = false;
+        self.fall(centre);
         self.logs.crash(centre);
         Ok(())
     }
@@ -71,12 +82,14 @@ impl World {
     fn rise(&mut self, centre: Centre, node: Node<ListFacts>)
         requires few { self.old.events < 100000 }
         requires within { centre ≤ length self.old.nodes.items }
-        ensures rest { self.new ≡ record self.old { nodes = self.new.nodes; up = self.new.up; events = self.old.events + 1 } }
+        ensures rest { self.new ≡ record self.old { nodes = self.new.nodes; up = self.new.up; stops = self.new.stops; events = self.old.events + 1 } }
         ensures nodes { self.new.nodes.items ≡ set self.old.nodes.items (centre - 1) node }
         ensures up { self.new.up ≡ set self.old.up (centre - 1) true }
+        ensures stops { self.new.stops ≡ set self.old.stops (centre - 1) None }
     {
         let place = usize::from(centre.number()) - 1;
         self.nodes[place] = node;
+        self.stops[place] = None;
         self.up[place] = true;
         self.events += 1;
     }

@@ -28,7 +28,6 @@ impl World {
             → Happens self.new lines.old lines.new result (delivery built w number) }
         ensures free { IfErr result (λ fault. is_free fault ≡ true) }
         ensures few { self.new.events ≤ self.old.events + 1 }
-        ensures up { self.new.up ≡ self.old.up }
     {
         let (centre, made) = self.message_made(number)?;
         self.taken(centre, &made, lines)

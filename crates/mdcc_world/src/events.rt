@@ -1,6 +1,6 @@
 //! One event of each kind.
 ghost use Rattle.std.specs.Bool.{OnFalse};
-ghost use Rattle.std.specs.Prelude.{◌≡◌, ◌≤◌, ◌++◌, Err, IfErr, IsOkAnd, IsTrue, List, OnOk};
+ghost use Rattle.std.specs.Prelude.{◌≡◌, ◌≤◌, ◌++◌, Err, IfErr, IsOkAnd, List, OnOk};
 ghost use Rattle.mdcc_built.specs.Built.{built};
 ghost use Rattle.mdcc_simulation.specs.State.{World as AWorld};
 ghost use Rattle.mdcc_simulation.specs.Events.{event_of};
@@ -8,7 +8,6 @@ ghost use Rattle.mdcc_simulation.specs.Left.{left_of};
 ghost use Rattle.mdcc_world.specs.Faults.{OnRefusal, is_memory};
 ghost use Rattle.mdcc_world.specs.Stands.{Happens, HasHappened, IsLike, IsLikeSome, Stands};
 ghost use Rattle.mdcc_language.specs.declared.lines.Line.{Line as ALine};
-ghost use Rattle.mdcc_world.specs.Words.{is_built};
 
 use crate::telling::append;
 use crate::world::World;
@@ -16,9 +15,8 @@ use mdcc_base::HeapList;
 use mdcc_language::{Event, EventFault, Line};
 
 impl World {
-    // An event of each enabled kind.
+    // An event of each kind.
     fn happen(&mut self, event: &Event, lines: &mut HeapList<Line>) -> Result<(), EventFault>
-        requires word { IsTrue (is_built event.now) }
         requires few { self.old.events ≤ 100000 }
         requires like { IsLikeSome self.old }
         ensures happens { (w : AWorld) → IsLike self.old w
@@ -36,7 +34,7 @@ impl World {
             Event::Tick(centre) => self.tick(*centre, lines),
             Event::Crash(centre) => self.crash(*centre, lines),
             Event::Restart(centre) => self.restart(*centre, lines),
-            Event::Stop(_, _, _) => Ok(()),
+            Event::Stop(centre, call, image) => self.stop(*centre, *call, *image, lines),
         }
     }
 
@@ -45,7 +43,6 @@ impl World {
     /// there was no memory, or a limit was reached, the world must be dropped; the lines of earlier
     /// events stand.
     pub fn event(&mut self, event: &Event, lines: &mut HeapList<Line>) -> Result<(), EventFault>
-        requires word { IsTrue (is_built event.now) }
         requires known { (w : AWorld) × Stands self.old w }
         ensures ok { (w : AWorld) → Stands self.old w
             → OnOk result (IsOkAnd (event_of built w event.now) (λ h. (lines.new ≡ lines.old ++ h.lines) × Stands self.new h.world)) }

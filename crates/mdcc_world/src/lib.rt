@@ -12,6 +12,7 @@ mod nodes;
 mod reads;
 mod settling;
 mod stepping;
+mod stops;
 mod taking;
 mod telling;
 mod ticking;

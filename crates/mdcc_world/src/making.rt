@@ -106,7 +106,6 @@ impl World {
         ensures made { (w : AWorld) → IsLike self.old w
             → IfOk result (λ r. IsMessageMade self.new w number r.0 r.1) }
         ensures few { self.new.events ≤ self.old.events + 1 }
-        ensures up { self.new.up ≡ self.old.up }
     {
         let Some(envelope) = self.mail.envelope(self.alloc, number)? else {
             return Err(Memory);

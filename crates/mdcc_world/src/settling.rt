@@ -1,14 +1,15 @@
 //! Settle lines: messages are delivered until none waits.
 ghost use Rattle.std.specs.List.{list_any};
-ghost use Rattle.std.specs.Prelude.{◌≡◌, ◌≤◌, ◌<◌, ◌==◌, ◌&&◌, ◌-◌, IfErr, IfOk, List, OnOk, false, get_or, true, ℕ};
+ghost use Rattle.std.specs.Prelude.{◌≡◌, ◌≤◌, ◌<◌, ◌==◌, ◌&&◌, ◌-◌, IfErr, IfOk, IfSome, List, Ok, OnOk, false, get_or, true};
 ghost use Rattle.mdcc_built.specs.Built.{built};
 ghost use Rattle.mdcc_simulation.specs.State.{World as AWorld};
 ghost use Rattle.mdcc_simulation.specs.Events.{event_of};
 ghost use Rattle.mdcc_language.specs.declared.events.Event.{Event as AEvent};
 ghost use Rattle.mdcc_language.specs.declared.lines.Line.{Line as ALine};
 ghost use Rattle.mdcc_world.specs.Faults.{is_free};
-ghost use Rattle.mdcc_world.specs.Settling.{AreAsked, AreUp, SettlesTo, is_named};
+ghost use Rattle.mdcc_world.specs.Settling.{AreAsked, IsNext, SettlesTo, is_named};
 ghost use Rattle.mdcc_world.specs.Stands.{Happens, HasHappened, IsLike, IsLikeSome};
+ghost use Rattle.mdcc_worlds.specs.Delivering.{at_message};
 ghost use Rattle.mdcc_worlds.specs.Settling.{settle_told};
 
 use crate::world::{MOST_EVENTS, World};
@@ -39,8 +40,7 @@ impl World {
 
     // The centres for which a settle delivers.
     fn asked(&self, listed: &[Centre]) -> Result<HeapList<Centre>, Memory>
-        ensures asked { (w : AWorld) → IsLike self.now w → IfOk result (λ centres. AreAsked w listed.now centres) }
-        ensures up { IfOk result (λ centres. AreUp self.now.up centres) }
+        ensures { (w : AWorld) → IsLike self.now w → IfOk result (AreAsked w listed.now) }
     {
         let mut centres = HeapList::new(self.alloc);
         for number in 1..10 {
@@ -53,73 +53,73 @@ impl World {
         Ok(centres)
     }
 
-    // Messages for these centres are delivered, until none waits: how many were. It is refused where
-    // there are as many events as there may be, and one waits.
+    // The message that a settle delivers next, where one waits.
+    fn next_asked(&mut self, listed: &[Centre]) -> Result<Option<u32>, Memory>
+        ensures next { (w : AWorld) → IsLike self.old w → IfOk result (IsNext w listed.now) }
+        ensures clear { (w : AWorld) → IsLike self.old w → self.old.events < 100000
+            → IfOk result (λ next. IfSome next (λ number. at_message built w number ≡ Ok tt)) }
+        ensures kept { self.new ≡ self.old }
+    {
+        let centres = self.asked(listed)?;
+        Ok(self.mail.first_waiting(centres.as_slice()))
+    }
+
+    // Messages are delivered until none waits for a centre that is asked: how many were. It is refused
+    // where there are as many events as there may be, and one waits.
     fn settle_for(
         &mut self,
-        centres: &[Centre],
+        listed: &[Centre],
         lines: &mut HeapList<Line>,
     ) -> Result<u32, EventFault>
         requires few { self.old.events ≤ 100000 }
         requires like { IsLikeSome self.old }
-        requires up { AreUp self.old.up centres.now }
-        ensures ends { (w : AWorld) (listed : List ℕ) (before : List ALine)
-            → w.events < 100000 → AreAsked w listed centres.now
-            → HasHappened self.old before lines.old (settle_told w listed)
-            → SettlesTo self.new before lines.new w listed result }
+        ensures ends { (w : AWorld) (before : List ALine)
+            → w.events < 100000 → HasHappened self.old before lines.old (settle_told w listed.now)
+            → SettlesTo self.new before lines.new w listed.now result }
         ensures free { IfErr result (λ fault. is_free fault ≡ true) }
         ensures few { OnOk result (self.new.events ≤ 100000) }
     {
         let left = MOST_EVENTS - self.events;
         for deliveries in 0..left {
-            match self.mail.first_waiting(centres) {
+            match self.next_asked(listed)? {
                 Some(number) => self.delivered(number, lines)?,
                 None => return Ok(deliveries),
             }
         }
-        match self.mail.first_waiting(centres) {
+        match self.next_asked(listed)? {
             Some(_) => Err(EventFault::Limit(LimitName::Events, u64::from(MOST_EVENTS))),
             None => Ok(left),
         }
     }
 
-    // A settle line is an event: the centres for which it delivers.
+    // A settle line is an event.
     fn settle_begun(
         &mut self,
         listed: &HeapList<Centre>,
         lines: &mut HeapList<Line>,
-    ) -> Result<HeapList<Centre>, Memory>
+    ) -> Result<(), Memory>
         requires few { self.old.events < 100000 }
         requires like { IsLikeSome self.old }
         ensures told { (w : AWorld) → IsLike self.old w
             → OnOk result (HasHappened self.new lines.old lines.new (settle_told w listed.now)) }
-        ensures asked { (w : AWorld) → IsLike self.old w → IfOk result (λ centres. AreAsked w listed.now centres) }
-        ensures up { IfOk result (λ centres. AreUp self.new.up centres) }
         ensures few { self.new.events ≤ 100000 }
     {
-        let centres = self.asked(listed.as_slice())?;
         self.events += 1;
         lines.push(Line::Settle(listed.copy(self.alloc)?))?;
-        Ok(centres)
+        Ok(())
     }
 
-    // Messages are delivered for the centres, and it is told how many were.
-    fn settle_at(
-        &mut self,
-        centres: &[Centre],
-        lines: &mut HeapList<Line>,
-    ) -> Result<(), EventFault>
+    // Messages are delivered, and it is told how many were.
+    fn settle_at(&mut self, listed: &[Centre], lines: &mut HeapList<Line>) -> Result<(), EventFault>
         requires few { self.old.events ≤ 100000 }
         requires like { IsLikeSome self.old }
-        requires up { AreUp self.old.up centres.now }
-        ensures settled { (w : AWorld) (listed : List ℕ) (before : List ALine)
-            → w.events < 100000 → AreAsked w listed centres.now
-            → HasHappened self.old before lines.old (settle_told w listed)
-            → Happens self.new before lines.new result (event_of built w (AEvent.Settle listed)) }
+        ensures settled { (w : AWorld) (before : List ALine)
+            → w.events < 100000 → HasHappened self.old before lines.old (settle_told w listed.now)
+            → Happens self.new before lines.new result (event_of built w (AEvent.Settle listed.now)) }
         ensures free { IfErr result (λ fault. is_free fault ≡ true) }
         ensures few { OnOk result (self.new.events ≤ 100000) }
     {
-        let deliveries = self.settle_for(centres, lines)?;
+        let deliveries = self.settle_for(listed, lines)?;
         lines.push(Line::Settled(deliveries, self.next_message()))?;
         Ok(())
     }
@@ -137,7 +137,7 @@ impl World {
         ensures free { IfErr result (λ fault. is_free fault ≡ true) }
     {
         self.at_limit()?;
-        let centres = self.settle_begun(listed, lines)?;
-        self.settle_at(centres.as_slice(), lines)
+        self.settle_begun(listed, lines)?;
+        self.settle_at(listed.as_slice(), lines)
     }
 }

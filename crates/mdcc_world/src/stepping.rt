@@ -1,7 +1,9 @@
 //! A step is taken: what it lets out, or the limit that it would pass.
-ghost use Rattle.std.specs.Prelude.{◌≡◌, ◌≤◌, ◌<◌, ◌+◌, ◌^◌, ◌++◌, Err, IfErr, List, Ok, OnOk, length, map, true, ℕ};
+ghost use Rattle.std.specs.Prelude.{◌≡◌, ◌≤◌, ◌<◌, ◌+◌, ◌-◌, ◌^◌, ◌++◌, ◌∷◌, [], Bool, Err, IfErr, List, None, Ok, OnOk, Some, get_or, length, map, set, false, true, ℕ};
 ghost use Rattle.mdcc_base.specs.Sizes.{Sizes};
-ghost use Rattle.mdcc_logs.specs.Stands.{LogsStand};
+ghost use Rattle.mdcc_base.specs.declared.outside.Image.{Image as AnImage};
+ghost use Rattle.mdcc_language.specs.declared.lines.Line.{Line as ALine};
+ghost use Rattle.mdcc_logs.specs.Stands.{LogsStand, with_up};
 ghost use Rattle.mdcc_outcomes.specs.Stands.{Stands as OutcomesStand};
 ghost use Rattle.mdcc_built.specs.Built.{built};
 ghost use Rattle.mdcc_ledger.specs.Ledger.{Entry};
@@ -9,24 +11,33 @@ ghost use Rattle.mdcc_messages.specs.Lengths.{messages_length};
 ghost use Rattle.mdcc_messages.specs.WellFormed.{IsWellFormedFact};
 ghost use Rattle.mdcc_simulation.specs.State.{World as AWorld};
 ghost use Rattle.mdcc_simulation.specs.Limits.{bytes_limit, input_limited, log_limit, unless};
-ghost use Rattle.mdcc_simulation.specs.Stepping.{step_at};
+ghost use Rattle.mdcc_simulation.specs.Stepping.{is_frame_kept, step_at};
 ghost use Rattle.mdcc_messages.specs.Mailbox.{unsent};
 ghost use Rattle.mdcc_messages.specs.declared.facts.Fact.{Fact as AFact};
 ghost use Rattle.mdcc_rules.specs.declared.node.Input.{Input as AInput};
 ghost use Rattle.mdcc_world.specs.Faults.{is_free};
-ghost use Rattle.mdcc_world.specs.Letting.{Measures, IsFormed, IsFramed, facts_with};
+ghost use Rattle.mdcc_world.specs.Letting.{Measures, IsFormed, IsFramed, MayAppend, facts_with};
 ghost use Rattle.mdcc_world.specs.Making.{IsMade, IsMadeSome};
 ghost use Rattle.mdcc_world.specs.Stands.{Happens};
+ghost use Rattle.mdcc_world.specs.Stopping.{IsWhole, kept_entries, kept_facts, kept_lines};
 ghost use Rattle.mdcc_worlds.specs.Taking.{limit_of, step_lines, with_fact};
 
-use crate::taking::{let_out, push_dropped, tell_fact};
+use crate::taking::{count_kept, let_out, push_dropped, tell_fact};
 use crate::world::World;
-use mdcc_base::{Centre, HeapList, Memory};
+use mdcc_base::{Centre, HeapList, Image, Memory};
 use mdcc_language::{EventFault, LimitName, Line};
 use mdcc_log::LOG_LIMIT;
 use mdcc_mail::Outgoing;
 use mdcc_messages::Fact;
 use mdcc_rules::{Step, StepFault};
+
+// The device call of an append in which a stop of this number falls: an append has four.
+fn in_append(call: u8) -> u8
+    ensures within { (1 ≤ result) × (result ≤ 4) }
+    ensures kept { (image : AnImage) → is_frame_kept result image ≡ is_frame_kept call image }
+{
+    call.clamp(1, 4)
+}
 
 // How many bytes of messages there may be.
 const MOST_BYTES: u64 = 536_870_912;
@@ -85,11 +96,11 @@ impl World {
         lines: &mut HeapList<Line>,
     ) -> Result<(), Memory>
         requires within { centre ≤ length self.old.logs.open.items }
-        requires framed { IsFramed self.old.logs fact.now }
+        requires framed { IsFramed self.old.logs centre fact.now }
         requires few { self.old.bytes + messages_length outgoing < 2 ^ 64 }
         ensures rest { self.new ≡ record self.old { logs = self.new.logs; mail = self.new.mail; bytes = self.new.bytes; outcomes = self.new.outcomes } }
-        ensures logs { (centres : ℕ) (facts : ℕ → List AFact) → LogsStand self.old.logs centres facts → centre ≤ centres
-            → OnOk result (LogsStand self.new.logs centres (facts_with facts centre fact.now)) }
+        ensures logs { (centres : ℕ) (up : ℕ → Bool) (facts : ℕ → List AFact) → LogsStand self.old.logs centres up facts → up centre ≡ true
+            → OnOk result (LogsStand self.new.logs centres up (facts_with facts centre fact.now)) }
         ensures sent { OnOk result (self.new.mail ≡ self.old.mail ++ map unsent outgoing) }
         ensures bytes { OnOk result (self.new.bytes ≡ self.old.bytes + messages_length outgoing) }
         ensures ledger { (quorums : Sizes) (entries : List Entry) → OutcomesStand self.old.outcomes quorums entries
@@ -106,7 +117,7 @@ impl World {
     }
 
     // The fact and the messages of a step are let out, unless they would pass a limit.
-    fn let_step(
+    fn let_written(
         &mut self,
         centre: Centre,
         step: &Step,
@@ -115,15 +126,102 @@ impl World {
     ) -> Result<(), EventFault>
         requires some { IsMadeSome self.old centre (Ok step.now) }
         requires written { outgoing ≡ step.now.sends }
-        ensures happens { (w : AWorld) (input : AInput) → IsMade self.old w centre input (Ok step.now)
+        ensures happens { (w : AWorld) (input : AInput) → IsMade self.old w centre input (Ok step.now) → IsWhole w centre step.now.fact
             → Happens self.new lines.old lines.new result (input_limited built w centre (step_at built w centre input)) }
         ensures free { IfErr result (λ fault. is_free fault ≡ true) }
         ensures events { self.new.events ≡ self.old.events }
-        ensures up { self.new.up ≡ self.old.up }
     {
         self.at_limits(centre, &step.fact, &outgoing)?;
         self.let_out(centre, &step.fact, outgoing, lines)?;
         Ok(())
+    }
+
+    // A step of a centre is taken whole.
+    fn let_step(
+        &mut self,
+        centre: Centre,
+        step: &Step,
+        lines: &mut HeapList<Line>,
+    ) -> Result<(), EventFault>
+        requires some { IsMadeSome self.old centre (Ok step.now) }
+        ensures happens { (w : AWorld) (input : AInput) → IsMade self.old w centre input (Ok step.now) → IsWhole w centre step.now.fact
+            → Happens self.new lines.old lines.new result (input_limited built w centre (step_at built w centre input)) }
+        ensures free { IfErr result (λ fault. is_free fault ≡ true) }
+        ensures events { self.new.events ≡ self.old.events }
+    {
+        let outgoing = Outgoing::write(self.alloc, step.sends.as_slice())?;
+        self.let_written(centre, step, outgoing, lines)
+    }
+
+    // The append of a fact stops, and its centre goes down with nothing sent.
+    fn stop_append(
+        &mut self,
+        centre: Centre,
+        fact: &Fact,
+        call: u8,
+        image: Image,
+        lines: &mut HeapList<Line>,
+    ) -> Result<(), Memory>
+        requires within { centre ≤ length self.old.logs.open.items }
+        requires framed { MayAppend self.old.logs centre fact.now }
+        ensures rest { self.new ≡ record self.old { up = self.new.up; stops = self.new.stops; logs = self.new.logs; outcomes = self.new.outcomes } }
+        ensures down { self.new.up ≡ set self.old.up (centre - 1) false }
+        ensures stops { self.new.stops ≡ set self.old.stops (centre - 1) None }
+        ensures logs { (centres : ℕ) (up : ℕ → Bool) (facts : ℕ → List AFact) → LogsStand self.old.logs centres up facts → up centre ≡ true
+            → OnOk result (LogsStand self.new.logs centres (with_up up centre false) (kept_facts facts centre fact.now call image)) }
+        ensures ledger { (quorums : Sizes) (entries : List Entry) → OutcomesStand self.old.outcomes quorums entries
+            → OnOk result (OutcomesStand self.new.outcomes quorums (kept_entries centre fact.now call image entries)) }
+        ensures lines { (quorums : Sizes) (entries : List Entry) → OutcomesStand self.old.outcomes quorums entries
+            → OnOk result (lines.new ≡ (lines.old ++ ALine.Stopped centre ∷ []) ++ kept_lines quorums centre fact.now call image entries) }
+    {
+        self.fall(centre);
+        lines.push(Line::Stopped(centre))?;
+        self.logs
+            .stop_append(self.alloc, centre, fact, in_append(call), image)?;
+        count_kept(&mut self.outcomes, centre, fact, call, image, lines)
+    }
+
+    // A step stops at its fact, unless that would pass the limit of the log.
+    fn stop_step(
+        &mut self,
+        centre: Centre,
+        step: &Step,
+        fact: &Fact,
+        stop: (u8, Image),
+        lines: &mut HeapList<Line>,
+    ) -> Result<(), EventFault>
+        requires some { IsMadeSome self.old centre (Ok step.now) }
+        requires fact { step.now.fact ≡ Some fact.now }
+        requires armed { get_or self.old.stops (centre - 1) None ≡ Some stop }
+        ensures happens { (w : AWorld) (input : AInput) → IsMade self.old w centre input (Ok step.now)
+            → Happens self.new lines.old lines.new result (input_limited built w centre (step_at built w centre input)) }
+        ensures free { IfErr result (λ fault. is_free fault ≡ true) }
+        ensures events { self.new.events ≡ self.old.events }
+    {
+        self.at_log_limit(centre, fact)?;
+        self.stop_append(centre, fact, stop.0, stop.1, lines)?;
+        Ok(())
+    }
+
+    // A step of a centre with this fact is taken.
+    fn take_fact(
+        &mut self,
+        centre: Centre,
+        step: &Step,
+        fact: &Fact,
+        lines: &mut HeapList<Line>,
+    ) -> Result<(), EventFault>
+        requires some { IsMadeSome self.old centre (Ok step.now) }
+        requires fact { step.now.fact ≡ Some fact.now }
+        ensures happens { (w : AWorld) (input : AInput) → IsMade self.old w centre input (Ok step.now)
+            → Happens self.new lines.old lines.new result (input_limited built w centre (step_at built w centre input)) }
+        ensures free { IfErr result (λ fault. is_free fault ≡ true) }
+        ensures events { self.new.events ≡ self.old.events }
+    {
+        match self.stop_at(centre) {
+            Some(stop) => self.stop_step(centre, step, fact, stop, lines),
+            None => self.let_step(centre, step, lines),
+        }
     }
 
     // A step of a centre is taken.
@@ -138,10 +236,11 @@ impl World {
             → Happens self.new lines.old lines.new result (input_limited built w centre (step_at built w centre input)) }
         ensures free { IfErr result (λ fault. is_free fault ≡ true) }
         ensures events { self.new.events ≡ self.old.events }
-        ensures up { self.new.up ≡ self.old.up }
     {
-        let outgoing = Outgoing::write(self.alloc, step.sends.as_slice())?;
-        self.let_step(centre, step, outgoing, lines)
+        match &step.fact {
+            Some(fact) => self.take_fact(centre, step, fact, lines),
+            None => self.let_step(centre, step, lines),
+        }
     }
 
     // The step that a centre refused changes nothing.
@@ -155,7 +254,6 @@ impl World {
             → Happens self.new lines.old lines.new result (input_limited built w centre (step_at built w centre input)) }
         ensures free { IfErr result (λ fault. is_free fault ≡ true) }
         ensures events { self.new.events ≡ self.old.events }
-        ensures up { self.new.up ≡ self.old.up }
     {
         push_dropped(lines, centre, fault)?;
         Ok(())
@@ -173,7 +271,6 @@ impl World {
             → Happens self.new lines.old lines.new result (input_limited built w centre (step_at built w centre input)) }
         ensures free { IfErr result (λ fault. is_free fault ≡ true) }
         ensures events { self.new.events ≡ self.old.events }
-        ensures up { self.new.up ≡ self.old.up }
     {
         match made {
             Ok(step) => self.take(centre, step, lines),

@@ -1,18 +1,19 @@
 //! What a step lets out: its fact, once it is durable, then its messages, and lines of the report.
-ghost use Rattle.std.specs.Prelude.{◌≡◌, ◌≤◌, ◌++◌, ◌∷◌, List, OnErr, OnOk, false, length, map, true, ℕ};
+ghost use Rattle.std.specs.Prelude.{◌≡◌, ◌≤◌, ◌++◌, ◌∷◌, Bool, List, OnErr, OnOk, false, length, map, true, ℕ};
 ghost use Rattle.mdcc_base.specs.Sizes.{Sizes};
 ghost use Rattle.mdcc_logs.specs.Stands.{LogsStand};
 ghost use Rattle.mdcc_outcomes.specs.Stands.{Stands as OutcomesStand};
 ghost use Rattle.mdcc_ledger.specs.Ledger.{Added, Entry};
 ghost use Rattle.mdcc_protocol.specs.Marks.{is_commit};
-ghost use Rattle.mdcc_simulation.specs.Stepping.{heard_lines};
+ghost use Rattle.mdcc_simulation.specs.Stepping.{chosen_lines, heard_lines, is_frame_kept};
 ghost use Rattle.mdcc_messages.specs.Mailbox.{unsent};
 ghost use Rattle.mdcc_messages.specs.declared.facts.Fact.{Fact as AFact};
 ghost use Rattle.mdcc_world.specs.Letting.{IsFramed, facts_with};
+ghost use Rattle.mdcc_world.specs.Stopping.{kept_entries, kept_lines};
 ghost use Rattle.mdcc_world.specs.Telling.{dropped_lines};
 ghost use Rattle.mdcc_worlds.specs.Taking.{chosen_line, fact_lines, step_lines, with_fact};
 
-use mdcc_base::{Centre, HeapList, Memory, TxId};
+use mdcc_base::{Centre, HeapList, Image, Memory, TxId};
 use mdcc_language::Line;
 use mdcc_logs::Logs;
 use mdcc_mail::{Mail, Outgoing};
@@ -63,6 +64,54 @@ pub(crate) fn push_dropped(
     Ok(())
 }
 
+// A fact counts at a centre: the transactions that it decides.
+fn count_fact(
+    outcomes: &mut Outcomes,
+    centre: Centre,
+    fact: &Fact,
+    lines: &mut HeapList<Line>,
+) -> Result<(), Memory>
+    ensures ledger { (quorums : Sizes) (entries : List Entry) → OutcomesStand outcomes.old quorums entries
+        → OnOk result (OutcomesStand outcomes.new quorums (Added centre fact.now ∷ entries)) }
+    ensures lines { (quorums : Sizes) (entries : List Entry) → OutcomesStand outcomes.old quorums entries
+        → OnOk result (lines.new ≡ lines.old ++ chosen_lines quorums (Added centre fact.now) entries) }
+{
+    let endings = outcomes.add(centre.number(), fact)?;
+    push_chosen(lines, endings.as_slice())?;
+    Ok(())
+}
+
+// Whether the frame of a fact is there after a stop inside a device call of its append.
+fn is_frame_kept(call: u8, image: Image) -> bool
+    ensures { result ≡ is_frame_kept call image }
+{
+    match image {
+        Image::Kept => call >= 3,
+        _ => false,
+    }
+}
+
+/// The fact of a step whose append stopped counts where its frame is in the image.
+pub(crate) fn count_kept(
+    outcomes: &mut Outcomes,
+    centre: Centre,
+    fact: &Fact,
+    call: u8,
+    image: Image,
+    lines: &mut HeapList<Line>,
+) -> Result<(), Memory>
+    ensures ledger { (quorums : Sizes) (entries : List Entry) → OutcomesStand outcomes.old quorums entries
+        → OnOk result (OutcomesStand outcomes.new quorums (kept_entries centre fact.now call image entries)) }
+    ensures lines { (quorums : Sizes) (entries : List Entry) → OutcomesStand outcomes.old quorums entries
+        → OnOk result (lines.new ≡ lines.old ++ kept_lines quorums centre fact.now call image entries) }
+{
+    if is_frame_kept(call, image) {
+        count_fact(outcomes, centre, fact, lines)
+    } else {
+        Ok(())
+    }
+}
+
 // A fact is added at a centre.
 fn add_fact(
     outcomes: &mut Outcomes,
@@ -75,8 +124,7 @@ fn add_fact(
     ensures lines { (quorums : Sizes) (entries : List Entry) → OutcomesStand outcomes.old quorums entries
         → OnOk result (lines.new ≡ lines.old ++ fact_lines quorums centre fact.now entries) }
 {
-    let endings = outcomes.add(centre.number(), fact)?;
-    push_chosen(lines, endings.as_slice())?;
+    count_fact(outcomes, centre, fact, lines)?;
     push_heard(lines, centre, fact)?;
     Ok(())
 }
@@ -110,9 +158,9 @@ fn append_fact(
     fact: &Option<Fact>,
 ) -> Result<(), Memory>
     requires within { centre ≤ length logs.old.open.items }
-    requires framed { IsFramed logs.old fact.now }
-    ensures { (centres : ℕ) (facts : ℕ → List AFact) → LogsStand logs.old centres facts → centre ≤ centres
-        → OnOk result (LogsStand logs.new centres (facts_with facts centre fact.now)) }
+    requires framed { IsFramed logs.old centre fact.now }
+    ensures { (centres : ℕ) (up : ℕ → Bool) (facts : ℕ → List AFact) → LogsStand logs.old centres up facts → up centre ≡ true
+        → OnOk result (LogsStand logs.new centres up (facts_with facts centre fact.now)) }
 {
     match fact {
         Some(fact) => logs.append(alloc, centre, fact),
@@ -131,9 +179,9 @@ pub(crate) fn let_out(
     outgoing: Outgoing,
 ) -> Result<(), Memory>
     requires within { centre ≤ length logs.old.open.items }
-    requires framed { IsFramed logs.old fact.now }
-    ensures logs { (centres : ℕ) (facts : ℕ → List AFact) → LogsStand logs.old centres facts → centre ≤ centres
-        → OnOk result (LogsStand logs.new centres (facts_with facts centre fact.now)) }
+    requires framed { IsFramed logs.old centre fact.now }
+    ensures logs { (centres : ℕ) (up : ℕ → Bool) (facts : ℕ → List AFact) → LogsStand logs.old centres up facts → up centre ≡ true
+        → OnOk result (LogsStand logs.new centres up (facts_with facts centre fact.now)) }
     ensures sent { OnOk result (mail.new ≡ mail.old ++ map unsent outgoing) }
     ensures unsent { OnErr result (mail.new ≡ mail.old) }
 {

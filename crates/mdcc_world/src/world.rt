@@ -9,11 +9,10 @@ ghost use Rattle.mdcc_world.specs.Faults.{is_free};
 ghost use Rattle.mdcc_world.specs.Stands.{IsLike, Stands};
 ghost use Rattle.mdcc_worlds.specs.Happening.{at_centre, at_limit};
 
-use mdcc_base::{Centre, HeapList, Memory};
+use mdcc_base::{Centre, HeapList, Image, Memory};
 use mdcc_disks::MemoryDisks;
 use mdcc_facts::ListFacts;
 use mdcc_language::{EventFault, LimitName, Line};
-use mdcc_log::rest_is_read;
 use mdcc_logs::{Logs, boot_all};
 use mdcc_mail::Mail;
 use mdcc_node::Node;
@@ -26,12 +25,14 @@ pub(crate) const MOST_EVENTS: u32 = 100_000;
 
 /// The nodes of a cluster with their logs, all messages between them as bytes, and the reads that
 /// were made. The node of a centre that is down counts for nothing; its log is what it starts from.
+/// Where a stop is armed, the next append of its centre stops inside the device call of that number.
 #[derive(Drop)]
 pub struct World {
     pub(crate) alloc: Global,
     pub(crate) cluster: Cluster,
     pub(crate) nodes: Vec<Node<ListFacts>>,
     pub(crate) up: [bool; 9],
+    pub(crate) stops: [Option<(u8, Image)>; 9],
     pub(crate) logs: Logs,
     pub(crate) mail: Mail,
     pub(crate) bytes: u64,
@@ -72,6 +73,7 @@ impl World {
             cluster,
             nodes,
             up,
+            stops: [None; 9],
             logs,
             mail,
             bytes: 0,
@@ -86,7 +88,6 @@ impl World {
     pub fn disks(&self) -> &MemoryDisks
         ensures { (w : AWorld) → Stands self.now w → DisksShow result.now w }
     {
-        rest_is_read();
         self.logs.disks()
     }
 

@@ -51,7 +51,6 @@ pub first-stands : (cluster : Cluster) → IsCluster cluster → IsWorld (first_
 first-stands cluster itself = record {
   cluster_itself = itself;
   sites = length-replicate cluster.quorums.centres booted;
-  unstopped = λ a h. rw (first-site cluster a h) refl;
   nodes = λ a h.
       let both = some-centre cluster a h in
       rw (first-site cluster a h, first-facts cluster.quorums.centres a both.0 both.1) (first-node cluster a itself h);

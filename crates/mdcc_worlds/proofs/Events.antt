@@ -16,10 +16,10 @@ use Rattle.mdcc_simulation.specs.State.{Happened, World, centre_at, counted_even
 use Rattle.mdcc_messages.specs.Mailbox.{Sent, numbered}
 use Rattle.mdcc_simulation.specs.Clients.{answer_in, begin_lines, begin_of, begun_by, no_item, parts_begun, read_happened}
 use Rattle.mdcc_simulation.specs.Limits.{bytes_limit, cells_limit, input_limited, input_taken, is_limit, is_past_events, limit_if, log_limit, step_limit, step_limit_by, unless, with_lines, within_events}
-use Rattle.mdcc_simulation.specs.Centres.{crash_happened, restart_happened, restart_of, tick_line}
+use Rattle.mdcc_simulation.specs.Centres.{crash_happened, restart_happened, restart_of, stop_happened, tick_line}
 use Rattle.mdcc_simulation.specs.Deliveries.{deliver_line, delivered, delivery_of}
 use Rattle.mdcc_simulation.specs.Events.{event_of}
-use Rattle.mdcc_simulation.specs.Stepping.{step_at, step_happened}
+use Rattle.mdcc_simulation.specs.Stepping.{step_at, step_happened_by, step_stopped}
 use Rattle.mdcc_simulation.specs.Deliveries as deliveries
 use Rattle.mdcc_simulation.specs.Limits as limits
 use Rattle.mdcc_simulation.specs.Stepping as stepping
@@ -32,12 +32,11 @@ use Rattle.mdcc_rules.specs.declared.node.StepFault.{StepFault}
 use Rattle.mdcc_language.specs.declared.schedule.ResolveFault.{ResolveFault}
 use Rattle.mdcc_language.specs.declared.world.EventFault.{EventFault}
 use Rattle.mdcc_language.specs.declared.world.LimitName.{LimitName}
-use Rattle.mdcc_worlds.proofs.Stays.{happened-taken}
+use Rattle.mdcc_worlds.proofs.Stays.{by-none, by-some}
 use Rattle.mdcc_worlds.specs.Beginning.{begin_by, begin_told, begun, begun_if}
 use Rattle.mdcc_worlds.specs.Delivering.{at_message, delivery, delivery_by, delivery_told, message_by, message_counted}
 use Rattle.mdcc_worlds.specs.Happening.{at_centre, at_limit, at_restart, if_open, next_epoch, restarted, ticked}
-use Rattle.mdcc_worlds.specs.Standing.{IsWorld}
-use Rattle.mdcc_worlds.specs.Taking.{limit_of, step_told, taken}
+use Rattle.mdcc_worlds.specs.Taking.{limit_of, step_told, taken, told_by}
 
 -- ---- limits
 
@@ -92,19 +91,22 @@ open-is built w (Err fault) only = elim (cases_Bool (is_past_events built w)) [ 
 -- ---- inputs
 
 -- an input comes to its step, where no limit is passed
-pub input-is : (built : Built) (w : World) (a : ℕ) (result : Result NodeStep StepFault) → IsWorld w → is_centre w.cluster a ≡ true
-    → input_limited built w a result ≡ step_told built w a result
-input-is built w a (Err fault) stands centre = refl
-input-is built w a (Ok step) stands centre = by_fact step.fact
+pub input-is : (built : Built) (w : World) (a : ℕ) (result : Result NodeStep StepFault) → input_limited built w a result ≡ step_told built w a result
+input-is built w a (Err fault) = refl
+input-is built w a (Ok step) = by_fact step.fact refl (centre_at w a).stop refl
   where
-    same : step_happened w a step ≡ taken w a step
-    same = happened-taken w a step (stands.unstopped a centre)
+    or-none : (o : Option EventFault) → option_or o None ≡ o
+    or-none None = refl
+    or-none (Some fault) = refl
 
-    by_fact : (o : Option Fact) → unless (step_limit_by built w a step o) (step_happened w a step) ≡ unless (limit_of built w a o step.sends) (taken w a step)
-    by_fact None = ap (λ (h : Happened). unless (bytes_limit built w step.sends) h) same
-    by_fact (Some fact) =
-        ap (λ (o : Option (ℕ × Image)). unless (option_or (log_limit built w a fact) (if is_some o then None else bytes_limit built w step.sends)) (step_happened w a step)) (stands.unstopped a centre)
-        ∙ ap (λ (h : Happened). unless (option_or (log_limit built w a fact) (bytes_limit built w step.sends)) h) same
+    by_fact : (o : Option Fact) → step.fact ≡ o → (stop : Option (ℕ × Image)) → (centre_at w a).stop ≡ stop
+        → unless (step_limit_by built w a step o) (step_happened_by w a step o) ≡ told_by built w a step o stop
+    by_fact None e stop k = rw (by-none w a step e) (ap (λ (o : Option Fact). unless (limit_of built w a o step.sends) (taken w a step)) (sym e))
+    by_fact (Some fact) e None k =
+        ap (λ (o : Option (ℕ × Image)). unless (option_or (log_limit built w a fact) (if is_some o then None else bytes_limit built w step.sends)) (step_happened_by w a step (Some fact))) k
+        ∙ ap (λ (h : Happened). unless (option_or (log_limit built w a fact) (bytes_limit built w step.sends)) h) (by-some w a step fact e k)
+        ∙ ap (λ (o : Option Fact). unless (limit_of built w a o step.sends) (taken w a step)) (sym e)
+    by_fact (Some fact) e (Some stop) k = rw k (ap (λ (o : Option EventFault). unless o (step_stopped w a fact stop)) (or-none (log_limit built w a fact)))
 
 -- ---- events at a centre
 
@@ -126,6 +128,10 @@ tick-is built w a =
 
 pub crash-is : (built : Built) (w : World) (a : ℕ) → event_of built w (Event.Crash a) ≡ if_open (at_centre built w a) (Ok (crash_happened (counted_event w) a))
 crash-is built w a = at-centre-is built w a (Ok (crash_happened (counted_event w) a)) tt
+
+pub stop-is : (built : Built) (w : World) (a call : ℕ) (image : Image)
+    → event_of built w (Event.Stop a call image) ≡ if_open (at_centre built w a) (Ok (stop_happened (counted_event w) a call image))
+stop-is built w a call image = at-centre-is built w a (Ok (stop_happened (counted_event w) a call image)) tt
 
 -- ---- restarts
 

@@ -6,6 +6,7 @@ use Rattle.std.specs.Prelude.{IsTrue, is_some}
 use Rattle.std.proofs.lemmas.Bool.{and_parts, cases_Bool, leb-false, leb-true, ltb-false}
 use Rattle.mdcc_base.specs.Key.{IsKey}
 use Rattle.mdcc_base.specs.declared.key.Key.{Key}
+use Rattle.mdcc_base.specs.declared.outside.Image.{Image}
 use Rattle.mdcc_option.specs.Transaction.{transaction_of}
 use Rattle.mdcc_option.specs.declared.faults.DraftFault.{DraftFault}
 use Rattle.mdcc_option.specs.declared.items.Part.{Part}
@@ -19,7 +20,7 @@ use Rattle.mdcc_language.specs.Resolve.{resolve}
 use Rattle.mdcc_simulation.specs.State.{Happened, World, after_lines, centre_at, counted_event, is_up_at}
 use Rattle.mdcc_messages.specs.Mailbox.{Sent, numbered}
 use Rattle.mdcc_simulation.specs.Clients.{answer_in, begin_lines, no_item, read_happened}
-use Rattle.mdcc_simulation.specs.Centres.{crash_happened, restart_happened, tick_line}
+use Rattle.mdcc_simulation.specs.Centres.{crash_happened, restart_happened, stop_happened, tick_line}
 use Rattle.mdcc_simulation.specs.Deliveries.{deliver_line, deliveries_of, delivery_of, first_waiting, settled_line, settled_of}
 use Rattle.mdcc_simulation.specs.Events.{event_of}
 use Rattle.mdcc_simulation.specs.Stepping.{input_happened, step_at}
@@ -38,17 +39,17 @@ use Rattle.mdcc_steps.specs.Inputs.{IsWellFormedInput}
 use Rattle.mdcc_worlds.proofs.Counts.{delivery-events, limited-events, open-few, unless-happened}
 use Rattle.mdcc_worlds.proofs.Delivers.{next-of, refused-of}
 use Rattle.mdcc_worlds.proofs.Drafting.{parts-formed}
-use Rattle.mdcc_worlds.proofs.Events.{begin-is, crash-is, delivery-is, open-is, read-is, restart-is, tick-is}
+use Rattle.mdcc_worlds.proofs.Events.{begin-is, crash-is, delivery-is, open-is, read-is, restart-is, stop-is, tick-is}
 use Rattle.mdcc_worlds.proofs.Numbers.{each-numbered}
 use Rattle.mdcc_worlds.proofs.Settles.{settle-closed, settled-limit, settled-next, settled-none, settled-refused, waiting-events}
-use Rattle.mdcc_worlds.proofs.Stays.{KeepsLog, counted-stays, crash-stays, delivered-stays, input-stays, read-stays, restart-stays}
+use Rattle.mdcc_worlds.proofs.Stays.{KeepsLog, counted-stays, crash-stays, delivered-stays, input-stays, read-stays, restart-stays, stop-stays}
 use Rattle.mdcc_worlds.specs.Beginning.{begin_by, begun, begun_if}
 use Rattle.mdcc_worlds.specs.Delivering.{at_message, delivery, delivery_by, delivery_told, message_by, message_counted, unmoved}
 use Rattle.mdcc_worlds.specs.Events.{AreBounded, IsBetween}
 use Rattle.mdcc_worlds.specs.Happening.{at_centre, at_limit, at_restart, if_open, next_epoch, restarted, ticked}
 use Rattle.mdcc_worlds.specs.Settling.{settle_told, settled}
 use Rattle.mdcc_worlds.specs.Standing.{IsSent, IsWorld}
-use Rattle.mdcc_worlds.specs.Words.{IsGivenEvent, IsGivenWord, is_built}
+use Rattle.mdcc_worlds.specs.Words.{IsGivenEvent, IsGivenWord}
 
 -- ---- limits
 
@@ -209,6 +210,14 @@ crash-between built bounded w a h between e =
     happened-between (crash_happened (counted_event w) a) h both.1
     (record { itself = crash-stays (counted_event w) a (counted-stays w between.itself) there.0; few = omega (few, arith) })
 
+stop-between : (built : Built) (bounded : AreBounded built) (w : World) (a call : ℕ) (image : Image) (h : Happened) → IsBetween w → event_of built w (Event.Stop a call image) ≡ Ok h → IsBetween h.world
+stop-between built bounded w a call image h between e =
+    let both = opened (at_centre built w a) (Ok (stop_happened (counted_event w) a call image)) h (sym (stop-is built w a call image) ∙ e) in
+    let there = open-centre built bounded w a both.0 in
+    let few = there.1 in
+    happened-between (stop_happened (counted_event w) a call image) h both.1
+    (record { itself = stop-stays (counted_event w) a call image (counted-stays w between.itself) there.0; few = omega (few, arith) })
+
 restart-between : (built : Built) (bounded : AreBounded built) (w : World) (a : ℕ) (h : Happened) → IsBetween w → event_of built w (Event.Restart a) ≡ Ok h → IsBetween h.world
 restart-between built bounded w a h between e =
     let both = opened (at_restart built w a) (restarted built w a) h (sym (restart-is built w a) ∙ e) in
@@ -337,12 +346,12 @@ settle-between built bounded w listed h between e = by_limit (cases_Bool (nat_le
 
 -- ---- every event
 
-pub event-between : (built : Built) (bounded : AreBounded built) (w : World) (event : Event) (h : Happened) → IsBetween w → IsTrue (is_built built event) → IsGivenEvent event → event_of built w event ≡ Ok h → IsBetween h.world
-event-between built bounded w (Event.Read a key) h between word given e = read-between built bounded w a key h between given e
-event-between built bounded w (Event.Begin a words) h between word given e = begin-between built bounded w a words h between given e
-event-between built bounded w (Event.Deliver numbers) h between word given e = deliveries-between built bounded numbers (unmoved w) h between e
-event-between built bounded w (Event.Settle listed) h between word given e = settle-between built bounded w listed h between e
-event-between built bounded w (Event.Tick a) h between word given e = tick-between built bounded w a h between e
-event-between built bounded w (Event.Crash a) h between word given e = crash-between built bounded w a h between e
-event-between built bounded w (Event.Restart a) h between word given e = restart-between built bounded w a h between e
-event-between built bounded w (Event.Stop a call image) h between word given e = let none : IsTrue false = rw bounded.unstopped at word in absurd (cc)
+pub event-between : (built : Built) (bounded : AreBounded built) (w : World) (event : Event) (h : Happened) → IsBetween w → IsGivenEvent event → event_of built w event ≡ Ok h → IsBetween h.world
+event-between built bounded w (Event.Read a key) h between given e = read-between built bounded w a key h between given e
+event-between built bounded w (Event.Begin a words) h between given e = begin-between built bounded w a words h between given e
+event-between built bounded w (Event.Deliver numbers) h between given e = deliveries-between built bounded numbers (unmoved w) h between e
+event-between built bounded w (Event.Settle listed) h between given e = settle-between built bounded w listed h between e
+event-between built bounded w (Event.Tick a) h between given e = tick-between built bounded w a h between e
+event-between built bounded w (Event.Crash a) h between given e = crash-between built bounded w a h between e
+event-between built bounded w (Event.Restart a) h between given e = restart-between built bounded w a h between e
+event-between built bounded w (Event.Stop a call image) h between given e = stop-between built bounded w a call image h between e

@@ -6,6 +6,7 @@ use Rattle.std.proofs.lemmas.Bool.{and_parts, cases_Bool, eq-eqb, eqb-true, leb-
 use Rattle.std.proofs.lemmas.List.{get_or-set_other, get_or-set_same, length-set}
 use Rattle.mdcc_base.specs.Key.{IsKey}
 use Rattle.mdcc_base.specs.declared.key.Key.{Key}
+use Rattle.mdcc_base.specs.declared.outside.Image.{Image}
 use Rattle.mdcc_option.specs.declared.cluster.Cluster.{Cluster}
 use Rattle.mdcc_protocol.specs.Belongs.{is_centre}
 use Rattle.mdcc_rules.specs.Boot.{booted_by}
@@ -18,9 +19,9 @@ use Rattle.mdcc_protocol.specs.Volatile.{Volatile, nothing_kept}
 use Rattle.mdcc_messages.specs.Lengths.{log_length}
 use Rattle.mdcc_messages.specs.WellFormed.{IsWellFormedEnvelope, IsWellFormedFact}
 use Rattle.mdcc_messages.specs.Mailbox.{Sent, unsent, with_delivered}
-use Rattle.mdcc_simulation.specs.State.{Site, World, booted, centre_at, counted_event, down, with_centre}
-use Rattle.mdcc_simulation.specs.Centres.{crash_happened, restart_happened}
-use Rattle.mdcc_simulation.specs.Stepping.{fact_happened, input_happened, step_at, step_happened, step_happened_by}
+use Rattle.mdcc_simulation.specs.State.{Happened, Site, World, booted, centre_at, counted_event, down, with_centre}
+use Rattle.mdcc_simulation.specs.Centres.{crash_happened, restart_happened, stop_happened}
+use Rattle.mdcc_simulation.specs.Stepping.{fact_happened, input_happened, is_frame_kept, step_at, step_happened_by, step_stopped}
 use Rattle.mdcc_simulation.specs.Clients.{known_of, read_happened}
 use Rattle.mdcc_simulation.specs.Limits.{most_events, most_log}
 use Rattle.mdcc_messages.specs.declared.facts.Fact.{Fact}
@@ -87,14 +88,15 @@ each-put w a site new P stands centre others here b some = elim (cases_Bool (a =
 
 -- ---- what happens is that the step is taken
 
-pub happened-taken : (w : World) (a : ℕ) (step : NodeStep) → (centre_at w a).stop ≡ None → step_happened w a step ≡ taken w a step
-happened-taken w a step unstopped = by_fact step.fact refl
-  where
-    by_fact : (o : Option Fact) → step.fact ≡ o → step_happened_by w a step o ≡ taken w a step
-    by_fact None e = rw e refl
-    by_fact (Some fact) e =
-        let rest : fact_happened w a step fact None ≡ taken w a step = rw e refl in
-        ap (fact_happened w a step fact) unstopped ∙ rest
+-- where it has no fact
+pub by-none : (w : World) (a : ℕ) (step : NodeStep) → step.fact ≡ None → step_happened_by w a step None ≡ taken w a step
+by-none w a step e = rw e refl
+
+-- and where no stop is armed
+pub by-some : (w : World) (a : ℕ) (step : NodeStep) (fact : Fact) → step.fact ≡ Some fact → (centre_at w a).stop ≡ None → step_happened_by w a step (Some fact) ≡ taken w a step
+by-some w a step fact e unstopped =
+    let rest : fact_happened w a step fact None ≡ taken w a step = rw e refl in
+    ap (fact_happened w a step fact) unstopped ∙ rest
 
 -- a refusal changes nothing
 pub refused-same : (w : World) (a : ℕ) (fault : StepFault) → (input_happened w a (Err fault)).world ≡ w
@@ -103,6 +105,16 @@ refused-same w a (StepFault.NoRoom needed spare) = refl
 refused-same w a StepFault.Crowded = refl
 refused-same w a StepFault.Exhausted = refl
 refused-same w a StepFault.Memory = refl
+
+-- a node keeps its facts where it loses all else
+node-lost : (cluster : Cluster) (a : ℕ) (facts : List Fact) (volatile : Volatile) → IsNode cluster a facts volatile → IsNode cluster a facts nothing_kept
+node-lost cluster a facts volatile node = record {
+  cluster_itself = node.cluster_itself;
+  centre = node.centre;
+  facts_themselves = node.facts_themselves;
+  votes = record { manager = tt; recovery = tt };
+  volatile_itself = record { opened = tt; votes = tt; watched = tt; leads = tt };
+}
 
 -- ---- a step
 
@@ -156,7 +168,6 @@ module _ (w : World) (a : ℕ) (step : NodeStep) (stands : IsWorld w) (centre : 
   world-stays node epoch formed short log = record {
     cluster_itself = stands.cluster_itself;
     sites = length-set w.centres (a - 1) (record (centre_at w a) { volatile = step.after }) ∙ stands.sites;
-    unstopped = λ b h. each-stays (λ b facts s. is_centre w.cluster b ≡ true → s.stop ≡ None) (λ b some e h. stands.unstopped b h) (λ h. stands.unstopped a h) b (some-centre w.cluster b h).0 h;
     nodes = λ b h. each-stays (λ b facts s. is_centre w.cluster b ≡ true → IsNode w.cluster b facts s.volatile) (λ b some e h. stands.nodes b h) (λ h. node) b (some-centre w.cluster b h).0 h;
     logs = λ b h. each-stays (λ b facts s. is_centre w.cluster b ≡ true → log_length facts ≤ most_log) (λ b some e h. stands.logs b h) (λ h. log) b (some-centre w.cluster b h).0 h;
     epochs = λ b h. each-stays (λ b facts s. is_centre w.cluster b ≡ true → epoch_of facts ≤ w.events + 1) (λ b some e h. stands.epochs b h)
@@ -164,6 +175,35 @@ module _ (w : World) (a : ℕ) (step : NodeStep) (stands : IsWorld w) (centre : 
     sent = each-append (IsSent w.cluster) w.sent (map unsent step.sends) stands.sent (each-sent w.cluster step.sends formed stays.sends short);
     reads = stands.reads;
   }
+
+-- ---- a step whose append stops
+
+-- a centre goes down with a new fact, or without one
+down-stays : (w : World) (a : ℕ) (new : Option Fact) → IsWorld w → is_centre w.cluster a ≡ true → IsNode w.cluster a (with_new (facts_of w.ledger a) new) nothing_kept
+    → LeavesEpoch new → log_length (with_new (facts_of w.ledger a) new) ≤ most_log
+    → IsWorld (record (with_centre w a down) { ledger = with_fact a new w.ledger })
+down-stays w a new stands centre node epoch log = record {
+  cluster_itself = stands.cluster_itself;
+  sites = length-set w.centres (a - 1) down ∙ stands.sites;
+  nodes = λ b h. each-put w a down new (λ b facts s. is_centre w.cluster b ≡ true → IsNode w.cluster b facts s.volatile) stands centre stands.nodes (λ h. node) b (some-centre w.cluster b h).0 h;
+  logs = λ b h. each-put w a down new (λ b facts s. is_centre w.cluster b ≡ true → log_length facts ≤ most_log) stands centre stands.logs (λ h. log) b (some-centre w.cluster b h).0 h;
+  epochs = λ b h. each-put w a down new (λ b facts s. is_centre w.cluster b ≡ true → epoch_of facts ≤ w.events + 1) stands centre stands.epochs
+      (λ h. rw (epoch (facts_of w.ledger a)) (stands.epochs a h)) b (some-centre w.cluster b h).0 h;
+  sent = stands.sent;
+  reads = stands.reads;
+}
+
+pub stopped-stays : (w : World) (a : ℕ) (fact : Fact) (stop : ℕ × Image) → IsWorld w → is_centre w.cluster a ≡ true
+    → (after : Volatile) → IsNode w.cluster a (fact ∷ facts_of w.ledger a) after → LeavesEpoch (Some fact) → log_length (fact ∷ facts_of w.ledger a) ≤ most_log
+    → IsWorld (step_stopped w a fact stop).world
+stopped-stays w a fact stop stands centre after node epoch log = elim (cases_Bool (is_frame_kept stop.0 stop.1)) [
+  | inl e ↦ rw e (down-stays w a (Some fact) stands centre (node-lost w.cluster a (fact ∷ facts_of w.ledger a) after node) epoch log)
+  | inr e ↦
+      rw e
+      (down-stays w a None stands centre (node-lost w.cluster a (facts_of w.ledger a) (centre_at w a).volatile (stands.nodes a centre)) (λ facts. refl) (stands.logs a centre))
+]
+
+-- ---- an input
 
 -- the votes that its promises report are few enough
 pub log-few : (built : Built) (w : World) (a : ℕ) → IsWorld w → is_centre w.cluster a ≡ true → HasRoom built (facts_of w.ledger a)
@@ -177,6 +217,16 @@ pub input-stays : (built : Built) (w : World) (a : ℕ) (input : Input) → Keep
     → IsWorld (input_happened w a (step_at built w a input)).world
 input-stays built w a input keeps stands centre formed = by_result (step_at built w a input) refl
   where
+    by_fact : (step : NodeStep) → IsNode w.cluster a (with_new (facts_of w.ledger a) step.fact) step.after → LeavesEpoch step.fact
+        → log_length (with_new (facts_of w.ledger a) step.fact) ≤ most_log → IsWorld (world_taken w a step)
+        → (o : Option Fact) → step.fact ≡ o → (stop : Option (ℕ × Image)) → (centre_at w a).stop ≡ stop → IsWorld (step_happened_by w a step o).world
+    by_fact step node epoch log whole None e stop k = subst (λ (x : Happened). IsWorld x.world) (sym (by-none w a step e)) whole
+    by_fact step node epoch log whole (Some fact) e None k = subst (λ (x : Happened). IsWorld x.world) (sym (by-some w a step fact e k)) whole
+    by_fact step node epoch log whole (Some fact) e (Some stop) k =
+        rw k
+        (stopped-stays w a fact stop stands centre step.after (subst (λ (o : Option Fact). IsNode w.cluster a (with_new (facts_of w.ledger a) o) step.after) e node)
+        (subst LeavesEpoch e epoch) (subst (λ (o : Option Fact). log_length (with_new (facts_of w.ledger a) o) ≤ most_log) e log))
+
     by_result : (r : Result NodeStep StepFault) → step_at built w a input ≡ r → IsWorld (input_happened w a r).world
     by_result (Err fault) e = rw (refused-same w a fault) stands
     by_result (Ok step) e =
@@ -185,10 +235,9 @@ input-stays built w a input keeps stands centre formed = by_result (step_at buil
         let room = log-few built w a stands centre in
         let sends = sends-formed built w.cluster a (facts_of w.ledger a) (centre_at w a).volatile input step node formed e room in
         let short = sends-short built w.cluster a (facts_of w.ledger a) (centre_at w a).volatile input step room node formed e in
-        rw (happened-taken w a step (stands.unstopped a centre))
-        (world-stays w a step stands centre within
-        (node-stays built w.cluster a (facts_of w.ledger a) (centre_at w a).volatile input step node formed e)
-        (made-epoch built w.cluster a (facts_of w.ledger a) (centre_at w a).volatile input step stands.cluster_itself.quorums formed e) sends short (keeps step e))
+        let stays = node-stays built w.cluster a (facts_of w.ledger a) (centre_at w a).volatile input step node formed e in
+        let epoch = made-epoch built w.cluster a (facts_of w.ledger a) (centre_at w a).volatile input step stands.cluster_itself.quorums formed e in
+        by_fact step stays epoch (keeps step e) (world-stays w a step stands centre within stays epoch sends short (keeps step e)) step.fact refl (centre_at w a).stop refl
 
 -- ---- a delivery
 
@@ -201,7 +250,6 @@ pub delivered-stays : (w : World) (place events : ℕ) → w.events ≤ events �
 delivered-stays w place events more stands = record {
   cluster_itself = stands.cluster_itself;
   sites = stands.sites;
-  unstopped = stands.unstopped;
   nodes = stands.nodes;
   logs = stands.logs;
   epochs = λ a h. later (epoch_of (facts_of w.ledger a)) w.events events (stands.epochs a h) more;
@@ -218,7 +266,6 @@ pub counted-stays : (w : World) → IsWorld w → IsWorld (counted_event w)
 counted-stays w stands = record {
   cluster_itself = stands.cluster_itself;
   sites = stands.sites;
-  unstopped = stands.unstopped;
   nodes = stands.nodes;
   logs = stands.logs;
   epochs = λ a h. later (epoch_of (facts_of w.ledger a)) w.events (stands.epochs a h);
@@ -239,7 +286,6 @@ read-stays w a key stands centre is =
     record {
       cluster_itself = stands.cluster_itself;
       sites = stands.sites;
-      unstopped = stands.unstopped;
       nodes = stands.nodes;
       logs = stands.logs;
       epochs = stands.epochs;
@@ -250,23 +296,26 @@ read-stays w a key stands centre is =
 
 -- ---- a crash
 
--- a node keeps its facts where it loses all else
-node-lost : (cluster : Cluster) (a : ℕ) (facts : List Fact) (volatile : Volatile) → IsNode cluster a facts volatile → IsNode cluster a facts nothing_kept
-node-lost cluster a facts volatile node = record {
-  cluster_itself = node.cluster_itself;
-  centre = node.centre;
-  facts_themselves = node.facts_themselves;
-  votes = record { manager = tt; recovery = tt };
-  volatile_itself = record { opened = tt; votes = tt; watched = tt; leads = tt };
-}
-
 pub crash-stays : (w : World) (a : ℕ) → IsWorld w → is_centre w.cluster a ≡ true → IsWorld (crash_happened w a).world
 crash-stays w a stands centre = record {
   cluster_itself = stands.cluster_itself;
   sites = length-set w.centres (a - 1) down ∙ stands.sites;
-  unstopped = λ b h. each-put w a down None (λ b facts s. is_centre w.cluster b ≡ true → s.stop ≡ None) stands centre stands.unstopped (λ h. refl) b (some-centre w.cluster b h).0 h;
   nodes = λ b h. each-put w a down None (λ b facts s. is_centre w.cluster b ≡ true → IsNode w.cluster b facts s.volatile) stands centre stands.nodes
       (λ h. node-lost w.cluster a (facts_of w.ledger a) (centre_at w a).volatile (stands.nodes a h)) b (some-centre w.cluster b h).0 h;
+  logs = stands.logs;
+  epochs = stands.epochs;
+  sent = stands.sent;
+  reads = stands.reads;
+}
+
+-- ---- a stop is armed
+
+pub stop-stays : (w : World) (a call : ℕ) (image : Image) → IsWorld w → is_centre w.cluster a ≡ true → IsWorld (stop_happened w a call image).world
+stop-stays w a call image stands centre = record {
+  cluster_itself = stands.cluster_itself;
+  sites = length-set w.centres (a - 1) (record (centre_at w a) { stop = Some (call, image) }) ∙ stands.sites;
+  nodes = λ b h. each-put w a (record (centre_at w a) { stop = Some (call, image) }) None (λ b facts s. is_centre w.cluster b ≡ true → IsNode w.cluster b facts s.volatile) stands centre stands.nodes
+      (λ h. stands.nodes a h) b (some-centre w.cluster b h).0 h;
   logs = stands.logs;
   epochs = stands.epochs;
   sent = stands.sent;
@@ -301,7 +350,6 @@ pub restart-stays : (w : World) (a : ℕ) → IsWorld w → is_centre w.cluster 
 restart-stays w a stands centre few log = record {
   cluster_itself = stands.cluster_itself;
   sites = length-set w.centres (a - 1) booted ∙ stands.sites;
-  unstopped = λ b h. each-put w a booted (Some fact) (λ b facts s. is_centre w.cluster b ≡ true → s.stop ≡ None) stands centre stands.unstopped (λ h. refl) b (some-centre w.cluster b h).0 h;
   nodes = λ b h. each-put w a booted (Some fact) (λ b facts s. is_centre w.cluster b ≡ true → IsNode w.cluster b facts s.volatile) stands centre stands.nodes
       (λ h. restarted-node w.cluster a (facts_of w.ledger a) (centre_at w a).volatile (stands.nodes a h) (below-last (epoch_of (facts_of w.ledger a)) w.events (stands.epochs a h) few))
       b (some-centre w.cluster b h).0 h;

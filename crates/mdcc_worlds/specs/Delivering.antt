@@ -10,7 +10,6 @@ use Rattle.mdcc_simulation.specs.Limits.{with_lines}
 use Rattle.mdcc_language.specs.declared.events.Event.{Event}
 use Rattle.mdcc_language.specs.declared.world.EventFault.{EventFault}
 use Rattle.mdcc_worlds.specs.Happening.{at_limit, if_open}
-use Rattle.mdcc_worlds.specs.Standing.{IsWorld}
 
 -- a message counts as delivered, which is an event
 abbrev pub message_counted : World → ℕ → World
@@ -72,7 +71,3 @@ DeliversStop =
     (built : Built) (w : World) (whole left rest : List ℕ) (number : ℕ) (reached : Happened) (fault : EventFault) → left ≡ number ∷ rest
     → IsDelivering built w whole left reached → delivery_of built reached.world number ≡ Err fault
     → (event_of built w (Event.Deliver whole) ≡ Err fault) × (deliveries_before built whole (unmoved w) ≡ reached)
-
--- no centre goes up or down by a delivery
-abbrev pub UpStays : Type 0
-UpStays = (built : Built) (w : World) (number a : ℕ) (h : Happened) → IsWorld w → delivery built w number ≡ Ok h → is_up_at h.world a ≡ is_up_at w a

@@ -2,12 +2,13 @@
 use Rattle.std.specs.Option.{option_or}
 use Rattle.std.specs.Prelude.{◌≡◌, ◌+◌, Err, Ok, Result, if◌then◌else◌, ℕ}
 use Rattle.mdcc_base.specs.declared.key.Key.{Key}
+use Rattle.mdcc_base.specs.declared.outside.Image.{Image}
 use Rattle.mdcc_protocol.specs.Belongs.{is_centre}
 use Rattle.mdcc_switches.specs.Built.{Built}
 use Rattle.mdcc_protocol.specs.Facts.{epoch_of}
 use Rattle.mdcc_ledger.specs.Ledger.{facts_of}
 use Rattle.mdcc_simulation.specs.State.{Happened, World, counted_event, is_up_at}
-use Rattle.mdcc_simulation.specs.Centres.{crash_happened, restart_happened, tick_line}
+use Rattle.mdcc_simulation.specs.Centres.{crash_happened, restart_happened, stop_happened, tick_line}
 use Rattle.mdcc_simulation.specs.Events.{event_of}
 use Rattle.mdcc_simulation.specs.Limits.{cells_limit, input_taken, is_past_events, limit_if, log_limit, most_events, unless, with_lines}
 use Rattle.mdcc_simulation.specs.Clients.{read_happened}
@@ -65,3 +66,9 @@ CrashesHappen = (built : Built) (w : World) (a : ℕ) → event_of built w (Even
 -- and a restart line
 abbrev pub RestartsHappen : Type 0
 RestartsHappen = (built : Built) (w : World) (a : ℕ) → event_of built w (Event.Restart a) ≡ if_open (at_restart built w a) (restarted built w a)
+
+-- and a stop line
+abbrev pub StopsHappen : Type 0
+StopsHappen =
+    (built : Built) (w : World) (a call : ℕ) (image : Image)
+    → event_of built w (Event.Stop a call image) ≡ if_open (at_centre built w a) (Ok (stop_happened (counted_event w) a call image))

@@ -1,8 +1,9 @@
--- What holds of a world at every moment, as long as no stop is armed.
+-- What holds of a world at every moment.
 use Rattle.std.specs.List.{AllByRecursion}
-use Rattle.std.specs.Prelude.{◌≡◌, ◌<◌, ◌≤◌, ◌+◌, IsTrue, None, Ok, length, true, ℕ}
+use Rattle.std.specs.Prelude.{◌≡◌, ◌<◌, ◌≤◌, ◌+◌, IsTrue, Ok, length, true, ℕ}
 use Rattle.mdcc_base.specs.Key.{IsKey}
 use Rattle.mdcc_base.specs.declared.key.Key.{Key}
+use Rattle.mdcc_base.specs.declared.outside.Image.{Image}
 use Rattle.mdcc_option.specs.declared.cluster.Cluster.{Cluster}
 use Rattle.mdcc_option.specs.declared.items.Known.{Known}
 use Rattle.mdcc_protocol.specs.Belongs.{is_centre}
@@ -14,7 +15,7 @@ use Rattle.mdcc_messages.specs.Lengths.{log_length}
 use Rattle.mdcc_messages.specs.WellFormed.{IsWellFormedEnvelope, IsWellFormedRead}
 use Rattle.mdcc_messages.specs.Mailbox.{Sent, with_delivered}
 use Rattle.mdcc_simulation.specs.State.{Happened, World, centre_at, counted_event, first_world}
-use Rattle.mdcc_simulation.specs.Centres.{crash_happened}
+use Rattle.mdcc_simulation.specs.Centres.{crash_happened, stop_happened}
 use Rattle.mdcc_simulation.specs.Limits.{input_taken, most_events, most_log}
 use Rattle.mdcc_simulation.specs.Clients.{read_happened}
 use Rattle.mdcc_rules.specs.declared.node.Input.{Input}
@@ -33,12 +34,11 @@ pub record IsSent (cluster : Cluster) (sent : Sent) : Type 0 where
 abbrev pub IsRead : Known → Type 0
 IsRead known = IsWellFormedRead known.key known.token known.item
 
--- no stop is armed; what each centre added and keeps is that of a node, also where it is down; its log is within its limit; its
--- epochs are no more than the events and one; and all messages and reads are such
+-- what each centre added and keeps is that of a node, also where it is down; its log is within its limit; its epochs are no more
+-- than the events and one; and all messages and reads are such
 pub record IsWorld (w : World) : Type 0 where
   pub cluster_itself : IsCluster w.cluster
   pub sites : length w.centres ≡ w.cluster.quorums.centres
-  pub unstopped : (a : ℕ) → is_centre w.cluster a ≡ true → (centre_at w a).stop ≡ None
   pub nodes : (a : ℕ) → is_centre w.cluster a ≡ true → IsNode w.cluster a (facts_of w.ledger a) (centre_at w a).volatile
   pub logs : (a : ℕ) → is_centre w.cluster a ≡ true → log_length (facts_of w.ledger a) ≤ most_log
   pub epochs : (a : ℕ) → is_centre w.cluster a ≡ true → epoch_of (facts_of w.ledger a) ≤ w.events + 1
@@ -74,6 +74,10 @@ ReadStays =
 -- and after a crash
 abbrev pub CrashStays : Type 0
 CrashStays = (w : World) (a : ℕ) → IsWorld w → is_centre w.cluster a ≡ true → IsWorld (crash_happened w a).world
+
+-- and after a stop is armed
+abbrev pub StopStays : Type 0
+StopStays = (w : World) (a call : ℕ) (image : Image) → IsWorld w → is_centre w.cluster a ≡ true → IsWorld (stop_happened w a call image).world
 
 -- and after a restart that passes no limit
 abbrev pub RestartStays : Type 0

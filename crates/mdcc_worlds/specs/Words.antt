@@ -1,16 +1,10 @@
--- Which events are enabled, and what the types of an event already say.
+-- What the types of an event already say.
 use Rattle.std.specs.List.{AllByRecursion}
-use Rattle.std.specs.Prelude.{Bool, length, true, ⊤, ◌<◌, ◌^◌, ◌≤◌}
+use Rattle.std.specs.Prelude.{length, ⊤, ◌<◌, ◌^◌, ◌≤◌}
 use Rattle.mdcc_base.specs.Key.{IsKey}
 use Rattle.mdcc_option.specs.declared.items.Item.{Item}
-use Rattle.mdcc_switches.specs.Built.{Built}
 use Rattle.mdcc_language.specs.declared.events.Event.{Event}
 use Rattle.mdcc_language.specs.declared.events.UpdateWord.{UpdateWord}
-
--- a stop only where stops are enabled
-abbrev pub is_built : Built → Event → Bool
-is_built built (Event.Stop a call image) = built.stops
-is_built built event = true
 
 -- a body of at most 128 bytes
 pub record HasBody (item : Item) : Type 0 where

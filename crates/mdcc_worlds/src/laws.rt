@@ -1,12 +1,12 @@
 //! What holds of a world at every moment, and what its events do, for any set of switches. A law that
 //! holds only while a rule or a limit is switched so has that as a premise.
 ghost use Rattle.mdcc_worlds.specs.Beginning.{BeginsHappen, PartsAreWellFormed};
-ghost use Rattle.mdcc_worlds.specs.Delivering.{DeliveriesHappen, DeliversBegin, DeliversEnd, DeliversGoOn, DeliversStop, UpStays};
+ghost use Rattle.mdcc_worlds.specs.Delivering.{DeliveriesHappen, DeliversBegin, DeliversEnd, DeliversGoOn, DeliversStop};
 ghost use Rattle.mdcc_worlds.specs.Events.{EventsStay};
-ghost use Rattle.mdcc_worlds.specs.Happening.{CrashesHappen, ReadsHappen, RestartsHappen, TicksHappen};
+ghost use Rattle.mdcc_worlds.specs.Happening.{CrashesHappen, ReadsHappen, RestartsHappen, StopsHappen, TicksHappen};
 ghost use Rattle.mdcc_worlds.specs.Sending.{OthersBeginNothing, StepsStayWithin};
 ghost use Rattle.mdcc_worlds.specs.Settling.{SettlesBegin, SettlesBreak, SettlesEnd, SettlesFail, SettlesGoOn, SettlesStop};
-ghost use Rattle.mdcc_worlds.specs.Standing.{CountedStays, CrashStays, DeliveredStays, FirstStands, ReadStays, RestartStays, WorldStays};
+ghost use Rattle.mdcc_worlds.specs.Standing.{CountedStays, CrashStays, DeliveredStays, FirstStands, ReadStays, RestartStays, StopStays, WorldStays};
 ghost use Rattle.mdcc_worlds.specs.Taking.{InputsHappen};
 
 /// Messages go to centres of the cluster, no step tells a fact but its own, and no input but a begin
@@ -16,9 +16,9 @@ pub fn steps_stay_within()
     ensures quiet { OthersBeginNothing }
 {}
 
-/// In a world each centre has a node, also one that is down, no stop is armed, and all messages are
-/// well-formed and for centres of the cluster: at first, after each input of a centre, after each
-/// delivery and read, and after a crash and a restart. Logs stay within their limit, and each message
+/// In a world each centre has a node, also one that is down, and all messages are well-formed and for
+/// centres of the cluster: at first, after each input of a centre, after each delivery and read, after a
+/// crash and a restart, and after a stop is armed. Logs stay within their limit, and each message
 /// that brings a structure is short enough for a frame of a log.
 pub fn worlds_stay()
     ensures first { FirstStands }
@@ -28,22 +28,25 @@ pub fn worlds_stay()
     ensures read { ReadStays }
     ensures crash { CrashStays }
     ensures restart { RestartStays }
+    ensures stop { StopStays }
 {}
 
 /// It is so after each event that happens, and there are no more events than there may be, where
-/// events and logs are limited and no stop is armed.
+/// events and logs are limited.
 pub fn events_stay()
     ensures { EventsStay }
 {}
 
-/// What a read, a tick, a crash, a restart, a delivery and a begin do, and for which cause nothing
+/// What a read, a tick, a crash, a restart, a stop, a delivery and a begin do, and for which cause nothing
 /// happens: the causes stand in the order in which they are asked. An input of a centre comes to its
-/// step, unless that would pass a limit: that of the log is asked before that of the messages.
+/// step, unless that would pass a limit: that of the log is asked before that of the messages. One whose
+/// append stops sends nothing.
 pub fn events_happen()
     ensures read { ReadsHappen }
     ensures tick { TicksHappen }
     ensures crash { CrashesHappen }
     ensures restart { RestartsHappen }
+    ensures stop { StopsHappen }
     ensures delivery { DeliveriesHappen }
     ensures begin { BeginsHappen }
     ensures input { InputsHappen }
@@ -55,13 +58,12 @@ pub fn begun_parts_are_well_formed()
 {}
 
 /// A deliver line delivers its messages in turn, and the first that is refused refuses the line. What
-/// was delivered before stays so. No centre goes up or down by a delivery.
+/// was delivered before stays so.
 pub fn delivers_deliver()
     ensures begins { DeliversBegin }
     ensures goes_on { DeliversGoOn }
     ensures ends { DeliversEnd }
     ensures stops { DeliversStop }
-    ensures up { UpStays }
 {}
 
 /// A settle delivers the first message that waits for a centre that is up, again and again until none

@@ -25,3 +25,9 @@ loop-number-preserved c = elim c.match-new.branch [
       }
   | in_default w ↦ let h = w.in_default.ensures.valid in absurd (false≢true (h.1 (omega arith, omega arith)))
 ]
+
+pub returns-clause-logs : goal.returns-clause-logs
+returns-clause-logs c =
+    let centres = c.args.cluster.now.quorums.centres in
+    let all : c.loop-number.number - 1 ≡ centres = omega (c.loop-number-test.false, c.loop-number.auto.number-end (omega arith), c.centres-number-end.ensures.value, arith) in
+    (subst (λ (k : ℕ). AreBegun c.loop-number.logs centres k) all c.loop-number.invariant.begun).stand

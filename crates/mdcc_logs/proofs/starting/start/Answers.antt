@@ -1,6 +1,6 @@
 use Rattle.std.proofs.Common.{◌≡◌, sym, subst}
 use Rattle.mdcc_disks.specs.Memory.{disk_of, may_leave_of}
-use Rattle.mdcc_logs.proofs.Starts.{ample-store, full-kept, full-over}
+use Rattle.mdcc_logs.proofs.Starts.{ample-store, full-kept, full-over, no-gate-is-torn-open}
 use Rattle.mdcc_logs.proofs.starting.start.Goals as goal
 use Rattle.mdcc_logs.specs.Nodes.{are_stored}
 use Rattle.mdcc_option.specs.declared.cluster.Cluster.{Cluster}
@@ -43,3 +43,21 @@ returns-in-Err-clause-any_moment c facts logged told within =
     let same : c.copy.result ≡ c.args.cluster.now = c.copy.ensures in
     let was = subst (λ (cluster : Cluster). AreLogged cluster facts) (sym same) logged in
     c.restart.ensures.any_moment facts (ample-store c.in_ok-store.store c.in_ok-store.ensures) was told within
+
+pub returns-in-Ok-clause-any_moment_same : goal.returns-in-Ok-clause-any_moment_same
+returns-in-Ok-clause-any_moment_same c facts logged told within =
+    let same : c.copy.result ≡ c.args.cluster.now = c.copy.ensures in
+    let was = subst (λ (cluster : Cluster). AreLogged cluster facts) (sym same) logged in
+    c.restart.ensures.any_moment_same facts (ample-store c.in_ok-store.store c.in_ok-store.ensures) was told no-gate-is-torn-open within
+
+pub returns-in-Err-Log-LogFull-clause-any_moment_same : goal.returns-in-Err-Log-LogFull-clause-any_moment_same
+returns-in-Err-Log-LogFull-clause-any_moment_same c facts logged told within =
+    let same : c.copy.result ≡ c.args.cluster.now = c.copy.ensures in
+    let was = subst (λ (cluster : Cluster). AreLogged cluster facts) (sym same) logged in
+    c.restart.ensures.any_moment_same facts (ample-store c.in_ok-store.store c.in_ok-store.ensures) was told no-gate-is-torn-open within
+
+pub returns-in-Err-clause-any_moment_same : goal.returns-in-Err-clause-any_moment_same
+returns-in-Err-clause-any_moment_same c facts logged told within =
+    let same : c.copy.result ≡ c.args.cluster.now = c.copy.ensures in
+    let was = subst (λ (cluster : Cluster). AreLogged cluster facts) (sym same) logged in
+    c.restart.ensures.any_moment_same facts (ample-store c.in_ok-store.store c.in_ok-store.ensures) was told no-gate-is-torn-open within

@@ -1,4 +1,4 @@
-use Rattle.std.proofs.Common.{◌≤◌, length, arith, sym, ◌∙◌}
+use Rattle.std.proofs.Common.{◌≤◌, length, arith}
 use Rattle.mdcc_replay.proofs.Inputs.{header_refused}
 use Rattle.mdcc_replay.proofs.reports.replay.Goals as goal
 

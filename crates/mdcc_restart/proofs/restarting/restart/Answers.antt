@@ -4,7 +4,7 @@ use Rattle.mdcc_log.specs.Frames.{IsAtRest}
 use Rattle.mdcc_log.specs.Log.{log_bytes}
 use Rattle.mdcc_disks.specs.Disks.{LeavesOnly}
 use Rattle.mdcc_log.proofs.Moments.{others_joined}
-use Rattle.mdcc_restart.proofs.Kept.{append-keeps, between-leaves, boot-leaves, each-fault, open-keeps, rest-keeps, shut-leaves, then-leaves, then-leaves-either}
+use Rattle.mdcc_restart.proofs.Kept.{append-keeps, between-leaves, boot-leaves, each-fault, open-keeps, rest-keeps, same-leaves, shut-leaves, then-leaves, then-leaves-either, then-leaves-same}
 use Rattle.mdcc_restart.proofs.Named.{no-boot-memory, no-log-memory, of-disk, rose-later}
 use Rattle.mdcc_restart.proofs.Starts.{after-crash, boot-length, lies-within, refuses, same-payloads}
 use Rattle.mdcc_restart.specs.declared.fault.RestartFault.{RestartFault}
@@ -226,6 +226,51 @@ returns-clause-any_moment_between g c facts fact ample are told within =
     then-leaves-either facts fact (opens (logged facts) (fact_bytes fact) told within)
     (after-crash (λ fs. LeavesOnly g.D.Disks.moment g.D.Disks.left_since c.open.new.disks c.append.new.disks c.args.centre (MayHaveBoot fs))
     c.args.cluster facts fact (g.D.Disks.disk c.args.disks.now c.args.centre) c.between_is_read.ensures appended are told stood)
+
+pub returns-in_err-log-clause-any_moment_same : goal.returns-in_err-log-clause-any_moment_same
+returns-in_err-log-clause-any_moment_same g c facts ample are told no_one within =
+    let opened = rw c.number.ensures.value at c.open.ensures.any_moment_same in
+    same-leaves facts (opened (logged facts) told no_one within)
+
+pub returns-in_err-node-clause-any_moment_same : goal.returns-in_err-node-clause-any_moment_same
+returns-in_err-node-clause-any_moment_same g c facts ample are told no_one within =
+    let opened = rw c.number.ensures.value at c.open.ensures.any_moment_same in
+    same-leaves facts (opened (logged facts) told no_one within)
+
+pub returns-in_err-payload-clause-any_moment_same : goal.returns-in_err-payload-clause-any_moment_same
+returns-in_err-payload-clause-any_moment_same g c facts ample are told no_one within =
+    let opened = rw c.number.ensures.value at c.open.ensures.any_moment_same in
+    same-leaves facts (opened (logged facts) told no_one within)
+
+pub returns-in_err-append-clause-any_moment_same : goal.returns-in_err-append-clause-any_moment_same
+returns-in_err-append-clause-any_moment_same g c facts ample are told no_one within =
+    let opened = rw c.number.ensures.value at c.in_ok-log.ensures.payloads in
+    let rest = rw c.number.ensures.value at c.in_ok-log.ensures.at_rest in
+    let others = rw c.number.ensures.value at c.open.ensures.others in
+    let appending = rw (c.in_ok-log.ensures.place, c.number.ensures.value) at c.append.ensures.any_moment in
+    let appended = λ (fs : List Fact) (of_cluster : AreLogged c.args.cluster fs) (log : IsLogOf fs (g.D.Disks.disk c.args.disks.now c.args.centre)).
+    (let is = same-payloads (g.D.Disks.disk c.args.disks.now c.args.centre).bytes c.in_ok-log.payloads.items (logged fs) (opened log.told) log.read in
+    let booted = c.in_ok-node.ensures.node fs ample of_cluster (c.as_slice.ensures.value ∙ is) in
+    let bytes = c.deref.ensures.value ∙ c.in_ok-payload.ensures ∙ ap fact_bytes booted.2 in
+    boot-leaves fs c.in_ok-log.payloads.items c.deref.result.now is bytes (appending c.in_ok-log.payloads.items (others.told ∙ told) (rest told))) in
+    let opens = rw c.number.ensures.value at c.open.ensures.any_moment_same in
+    let read = within _ (g.met.D.Disks.as_read c.args.disks.now c.args.centre told) in
+    then-leaves-same c.between_is_read.ensures facts (opens (logged facts) told no_one within) (appended facts are (record { told = told; read = read }))
+
+pub returns-clause-any_moment_same : goal.returns-clause-any_moment_same
+returns-clause-any_moment_same g c facts ample are told no_one within =
+    let opened = rw c.number.ensures.value at c.in_ok-log.ensures.payloads in
+    let rest = rw c.number.ensures.value at c.in_ok-log.ensures.at_rest in
+    let others = rw c.number.ensures.value at c.open.ensures.others in
+    let appending = rw (c.in_ok-log.ensures.place, c.number.ensures.value) at c.append.ensures.any_moment in
+    let appended = λ (fs : List Fact) (of_cluster : AreLogged c.args.cluster fs) (log : IsLogOf fs (g.D.Disks.disk c.args.disks.now c.args.centre)).
+    (let is = same-payloads (g.D.Disks.disk c.args.disks.now c.args.centre).bytes c.in_ok-log.payloads.items (logged fs) (opened log.told) log.read in
+    let booted = c.in_ok-node.ensures.node fs ample of_cluster (c.as_slice.ensures.value ∙ is) in
+    let bytes = c.deref.ensures.value ∙ c.in_ok-payload.ensures ∙ ap fact_bytes booted.2 in
+    boot-leaves fs c.in_ok-log.payloads.items c.deref.result.now is bytes (appending c.in_ok-log.payloads.items (others.told ∙ told) (rest told))) in
+    let opens = rw c.number.ensures.value at c.open.ensures.any_moment_same in
+    let read = within _ (g.met.D.Disks.as_read c.args.disks.now c.args.centre told) in
+    then-leaves-same c.between_is_read.ensures facts (opens (logged facts) told no_one within) (appended facts are (record { told = told; read = read }))
 
 pub returns-in_err-append-clause-others : goal.returns-in_err-append-clause-others
 returns-in_err-append-clause-others g c =

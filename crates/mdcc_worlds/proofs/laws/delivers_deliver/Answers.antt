@@ -1,4 +1,4 @@
-use Rattle.mdcc_worlds.proofs.Delivers.{delivering-begins, delivering-ends, delivering-goes_on, delivering-refused, up-stays}
+use Rattle.mdcc_worlds.proofs.Delivers.{delivering-begins, delivering-ends, delivering-goes_on, delivering-refused}
 use Rattle.mdcc_worlds.proofs.laws.delivers_deliver.Goals as goal
 
 pub returns-clause-begins : goal.returns-clause-begins
@@ -12,6 +12,3 @@ returns-clause-ends c = delivering-ends
 
 pub returns-clause-stops : goal.returns-clause-stops
 returns-clause-stops c = delivering-refused
-
-pub returns-clause-up : goal.returns-clause-up
-returns-clause-up c = up-stays

@@ -1,4 +1,4 @@
-use Rattle.mdcc_worlds.proofs.Events.{begin-is, crash-is, delivery-is, input-is, read-is, restart-is, tick-is}
+use Rattle.mdcc_worlds.proofs.Events.{begin-is, crash-is, delivery-is, input-is, read-is, restart-is, stop-is, tick-is}
 use Rattle.mdcc_worlds.proofs.laws.events_happen.Goals as goal
 
 pub returns-clause-read : goal.returns-clause-read
@@ -21,3 +21,6 @@ returns-clause-begin c = begin-is
 
 pub returns-clause-input : goal.returns-clause-input
 returns-clause-input c = input-is
+
+pub returns-clause-stop : goal.returns-clause-stop
+returns-clause-stop c = stop-is

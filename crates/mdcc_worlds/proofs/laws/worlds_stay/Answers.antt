@@ -1,6 +1,6 @@
 use Rattle.mdcc_worlds.proofs.Begins.{first-stands}
 use Rattle.mdcc_worlds.proofs.Staying.{limited-stays, restarted-stays}
-use Rattle.mdcc_worlds.proofs.Stays.{counted-stays, crash-stays, delivered-stays, read-stays}
+use Rattle.mdcc_worlds.proofs.Stays.{counted-stays, crash-stays, delivered-stays, read-stays, stop-stays}
 use Rattle.mdcc_worlds.proofs.laws.worlds_stay.Goals as goal
 
 pub returns-clause-first : goal.returns-clause-first
@@ -23,3 +23,6 @@ returns-clause-crash c = crash-stays
 
 pub returns-clause-restart : goal.returns-clause-restart
 returns-clause-restart c = restarted-stays
+
+pub returns-clause-stop : goal.returns-clause-stop
+returns-clause-stop c = stop-stays

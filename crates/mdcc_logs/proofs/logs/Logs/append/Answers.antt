@@ -20,12 +20,12 @@ append-requires-clause-settled c told =
     (reserved c.args.self.now.disks c.reserve.new.self c.number-place.result c.reserve.ensures.others c.reserve.ensures.place)
 
 pub returns-clause-appended : goal.returns-clause-appended
-returns-clause-appended c centres facts stand =
+returns-clause-appended c centres up facts stand running =
     let a = c.args.centre in
     let place : c.from.result ≡ a = c.from.ensures ∙ c.number-place.ensures.value in
     let some : 1 ≤ a = omega arith in
     let log = c.index_mut.result.now in
-    appended c.args.self.now _ c.reserve.new.self log c.append.new.log a c.args.fact.now c.deref.result.now c.append.result centres facts stand some c.requires.within
+    appended c.args.self.now _ c.reserve.new.self log c.append.new.log a c.args.fact.now c.deref.result.now c.append.result centres up facts stand running some c.requires.within
     (log-is c.args.self.now c.from.result a log place some c.requires.within c.index_mut.ensures.value)
     (c.deref.ensures.value ∙ c.in_ok-payload.ensures)
     (reserved c.args.self.now.disks c.reserve.new.self c.number-place.result c.reserve.ensures.others c.reserve.ensures.place)
@@ -33,24 +33,24 @@ returns-clause-appended c centres facts stand =
     c.append.ensures.place c.append.ensures.others c.append.ensures.acknowledged
 
 pub returns-in_err-payload-clause-refused : goal.returns-in_err-payload-clause-refused
-returns-in_err-payload-clause-refused c centres facts stand =
+returns-in_err-payload-clause-refused c centres up facts stand running =
     let some : 1 ≤ c.args.centre = omega arith in
-    on-err _ (same-may-have c.args.self.now c.args.self.now c.args.centre centres facts stand some c.requires.within c.args.fact.now refl (λ b. same-disk c.args.self.now.disks b))
+    on-err _ (same-may-have c.args.self.now c.args.self.now c.args.centre centres up facts stand some c.requires.within c.args.fact.now running refl (λ b. same-disk c.args.self.now.disks b))
 
 pub returns-in_err-reserve-clause-refused : goal.returns-in_err-reserve-clause-refused
-returns-in_err-reserve-clause-refused c centres facts stand =
+returns-in_err-reserve-clause-refused c centres up facts stand running =
     let some : 1 ≤ c.args.centre = omega arith in
-    on-err _ (same-may-have c.args.self.now _ c.args.centre centres facts stand some c.requires.within c.args.fact.now refl
+    on-err _ (same-may-have c.args.self.now _ c.args.centre centres up facts stand some c.requires.within c.args.fact.now running refl
     (reserved c.args.self.now.disks c.reserve.new.self c.number-place.result c.reserve.ensures.others c.reserve.ensures.place))
 
 pub returns-clause-refused : goal.returns-clause-refused
-returns-clause-refused c centres facts stand =
+returns-clause-refused c centres up facts stand running =
     let a = c.args.centre in
     let place : c.from.result ≡ a = c.from.ensures ∙ c.number-place.ensures.value in
     let some : 1 ≤ a = omega arith in
     let log = c.index_mut.result.now in
     on-err c.append.result
-    (append-may-have c.args.self.now _ a centres facts stand some c.requires.within c.reserve.new.self log c.append.new.log c.args.fact.now c.deref.result.now
+    (append-may-have c.args.self.now _ a centres up facts stand some c.requires.within c.reserve.new.self log c.append.new.log c.args.fact.now c.deref.result.now running
     (log-is c.args.self.now c.from.result a log place some c.requires.within c.index_mut.ensures.value)
     (c.deref.ensures.value ∙ c.in_ok-payload.ensures)
     (reserved c.args.self.now.disks c.reserve.new.self c.number-place.result c.reserve.ensures.others c.reserve.ensures.place)

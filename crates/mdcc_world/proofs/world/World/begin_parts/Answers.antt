@@ -8,3 +8,6 @@ returns-in-Ok-clause-happens c w like =
     let same : transaction_of w.cluster.schema c.args.parts.now ≡ Ok c.in-Ok.transaction =
     ap (λ (cluster : Cluster). transaction_of cluster.schema c.args.parts.now) (sym like.records.cluster) ∙ sym c.in-Ok.ensures.exact in
     rw same (c.begin_transaction.ensures.happens w like)
+
+pub begin_transaction-requires-clause-formed : goal.begin_transaction-requires-clause-formed
+begin_transaction-requires-clause-formed c = c.requires.formed c.in-Ok.transaction (sym c.in-Ok.ensures.exact)

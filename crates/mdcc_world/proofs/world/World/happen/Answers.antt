@@ -50,3 +50,13 @@ returns-in-Restart-clause-left c w like =
 
 pub returns-in-Restart-clause-few_left : goal.returns-in-Restart-clause-few_left
 returns-in-Restart-clause-few_left c = left-few c.restart.result c.args.self.now c.restart.new.self c.args.lines.now c.restart.new.lines c.requires.few c.restart.ensures.kept
+
+pub returns-in-Stop-clause-happens : goal.returns-in-Stop-clause-happens
+returns-in-Stop-clause-happens c w like = rw c.in-Stop.is (c.stop.ensures.happens w like)
+
+pub returns-in-Stop-clause-left : goal.returns-in-Stop-clause-left
+returns-in-Stop-clause-left c w like =
+    rw c.in-Stop.is (left-unmoved c.stop.result c.args.self.now c.stop.new.self c.args.lines.now c.stop.new.lines w like c.stop.ensures.kept)
+
+pub returns-in-Stop-clause-few_left : goal.returns-in-Stop-clause-few_left
+returns-in-Stop-clause-few_left c = left-few c.stop.result c.args.self.now c.stop.new.self c.args.lines.now c.stop.new.lines c.requires.few c.stop.ensures.kept

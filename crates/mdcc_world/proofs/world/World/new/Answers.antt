@@ -1,5 +1,5 @@
-use Rattle.std.proofs.Common.{[], arith, refl}
-use Rattle.mdcc_world.proofs.Firsts.{first-logs, first-ups}
+use Rattle.std.proofs.Common.{[], ◌-◌, None, arith, refl, replicate}
+use Rattle.mdcc_world.proofs.Firsts.{first-logs, first-stops, first-ups, none-armed}
 use Rattle.mdcc_world.proofs.NodesStay.{first-nodes}
 use Rattle.mdcc_world.proofs.Took.{first-counted, value-of}
 use Rattle.mdcc_worlds.proofs.Begins.{first-stands}
@@ -18,6 +18,7 @@ returns c =
           reads = c.new-3.ensures;
           few_reads = omega arith;
           events = refl;
+          stops = first-stops (replicate 9 None) cluster (λ a. none-armed 9 (a - 1));
           ups = first-ups c.first_ups-up.result cluster (rw (c.centres.ensures.value) at c.first_ups-up.ensures);
         };
         outcomes = first-counted c.in_ok-outcomes.outcomes cluster.quorums cluster.quorums.centres c.in_ok-outcomes.ensures;

@@ -1,9 +1,13 @@
-use Rattle.std.proofs.Common.{◌<◌, ◌+◌, ◌∷◌, Bool, List, Ok, arith, ap, ◌∙◌, subst}
+use Rattle.std.proofs.Common.{◌<◌, ◌+◌, ◌-◌, ◌∷◌, Bool, List, Ok, Option, true, ℕ, arith, ap, ◌∙◌, subst}
 use Rattle.mdcc_logs.specs.Nodes.{IsNodeOf}
+use Rattle.mdcc_logs.specs.Stands.{with_up}
 use Rattle.mdcc_logs.specs.Starting.{HasStarted, Starts}
 use Rattle.mdcc_logs.specs.declared.starting.Started.{Started}
 use Rattle.mdcc_protocol.specs.IsCluster.{IsCluster}
+use Rattle.mdcc_base.specs.declared.outside.Image.{Image}
 use Rattle.mdcc_ledger.specs.Ledger.{facts_of}
+use Rattle.mdcc_simulation.specs.State.{is_up_at}
+use Rattle.std.specs.Prelude.{set}
 use Rattle.mdcc_protocol.specs.Volatile.{nothing_kept}
 use Rattle.mdcc_messages.specs.declared.facts.Fact.{Fact}
 use Rattle.mdcc_restart.specs.Logged.{AreLogged}
@@ -34,14 +38,15 @@ returns-in_ok-push-in-Node-clause-happens c w like =
     let early : w.events < 100000 = omega (events, c.requires.few, arith) in
     let logged : AreLogged world.cluster (facts_of w.ledger a) = rw like.records.cluster (may-restart w a like.records.itself centre) in
     let cluster : IsCluster world.cluster = rw like.records.cluster like.records.itself.cluster_itself in
-    let started : HasStarted c.in-Node.node c.in-Node.epoch c.restart.new.self world.cluster w.cluster.quorums.centres a (facts_of w.ledger) =
-    subst (λ (s : Started). Starts (Ok s) c.restart.new.self world.cluster w.cluster.quorums.centres a (facts_of w.ledger)) c.in-Node.is
-    (c.in_ok-node.ensures.started w.cluster.quorums.centres (facts_of w.ledger) like.logs logged cluster (more-epochs w a like.records.itself centre early)) in
+    let started : HasStarted c.in-Node.node c.in-Node.epoch c.restart.new.self world.cluster w.cluster.quorums.centres (with_up (is_up_at w) a true) a (facts_of w.ledger) =
+    subst (λ (s : Started). Starts (Ok s) c.restart.new.self world.cluster w.cluster.quorums.centres (with_up (is_up_at w) a true) a (facts_of w.ledger)) c.in-Node.is
+    (c.in_ok-node.ensures.started w.cluster.quorums.centres (is_up_at w) (facts_of w.ledger) like.logs logged cluster (more-epochs w a like.records.itself centre early)) in
     let node : IsNodeOf c.in-Node.node w.cluster a (Fact.Booted c.in-Node.epoch ∷ facts_of w.ledger a) nothing_kept = rw (← like.records.cluster) started.node_of in
     let rest = c.rise.ensures.rest
-    ∙ ap (λ (ups : List Bool). record world { nodes = c.rise.new.self.nodes; up = ups; logs = c.restart.new.self; events = world.events + 1 }) c.rise.ensures.up in
+    ∙ ap (λ (ups : List Bool). record world { nodes = c.rise.new.self.nodes; up = ups; stops = c.rise.new.self.stops; logs = c.restart.new.self; events = world.events + 1 }) c.rise.ensures.up
+    ∙ ap (λ (stops : List (Option (ℕ × Image))). record world { nodes = c.rise.new.self.nodes; up = set world.up (a - 1) true; stops = stops; logs = c.restart.new.self; events = world.events + 1 }) c.rise.ensures.stops in
     has-restarted world c.rise.new.self c.restart.new.self w a c.in-Node.epoch c.in-Node.node c.args.lines.now c.push.new.self like centre early
-    (omega arith) (omega arith) rest c.rise.ensures.nodes started.next node started.stand started.room c.in_ok-push-in-Node.ensures.ok
+    (omega arith) (omega arith) rest (omega arith) c.rise.ensures.nodes started.next node started.stand started.room c.in_ok-push-in-Node.ensures.ok
 
 pub returns-in-Full-clause-happens : goal.returns-in-Full-clause-happens
 returns-in-Full-clause-happens c w like =
@@ -53,5 +58,5 @@ returns-in-Full-clause-happens c w like =
     let logged : AreLogged world.cluster (facts_of w.ledger a) = rw like.records.cluster (may-restart w a like.records.itself centre) in
     let cluster : IsCluster world.cluster = rw like.records.cluster like.records.itself.cluster_itself in
     restart-limit w a
-    (subst (λ (s : Started). Starts (Ok s) c.restart.new.self world.cluster w.cluster.quorums.centres a (facts_of w.ledger)) c.in-Full.is
-    (c.in_ok-node.ensures.started w.cluster.quorums.centres (facts_of w.ledger) like.logs logged cluster (more-epochs w a like.records.itself centre early)))
+    (subst (λ (s : Started). Starts (Ok s) c.restart.new.self world.cluster w.cluster.quorums.centres (with_up (is_up_at w) a true) a (facts_of w.ledger)) c.in-Full.is
+    (c.in_ok-node.ensures.started w.cluster.quorums.centres (is_up_at w) (facts_of w.ledger) like.logs logged cluster (more-epochs w a like.records.itself centre early)))

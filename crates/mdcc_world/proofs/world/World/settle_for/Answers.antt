@@ -1,76 +1,74 @@
-use Rattle.std.proofs.Common.{◌≡◌, ◌-◌, ◌<◌, ◌∙◌, List, ap, arith, refl, sym}
+use Rattle.std.proofs.Common.{◌≡◌, ◌+◌, ◌-◌, ◌<◌, ◌≤◌, Option, arith, subst, sym, ℕ}
 use Rattle.mdcc_built.specs.Built.{built}
-use Rattle.mdcc_mail.specs.Waiting.{first_to}
-use Rattle.mdcc_messages.specs.Mailbox.{Sent}
-use Rattle.mdcc_world.proofs.Happened.{has-come, like-mail, residual}
-use Rattle.mdcc_world.proofs.Settled.{clear-first, ends-after, settle-breaks, settle-ends, settle-goes_on, settle-stops}
-use Rattle.mdcc_world.specs.Settling.{AreUp}
+use Rattle.mdcc_simulation.specs.State.{World}
+use Rattle.mdcc_world.proofs.Happened.{has-come, residual}
+use Rattle.mdcc_world.proofs.Settled.{ends-after, settle-breaks, settle-ends, settle-goes_on, settle-stops}
+use Rattle.mdcc_world.specs.Settling.{IsNext}
+use Rattle.mdcc_world.specs.Stands.{IsLike}
+use Rattle.mdcc_world.specs.declared.world.World.{World as TheWorld}
 use Rattle.mdcc_worlds.specs.Delivering.{delivery}
 use Rattle.mdcc_world.proofs.world.World.settle_for.Goals as goal
 
-pub delivered-requires-clause-clear : goal.delivered-requires-clause-clear
-delivered-requires-clause-clear c w like =
-    let at = c.loop-deliveries in
-    let centres = c.args.centres.now in
-    let ups : AreUp at.self.up centres = rw at.invariant.up c.requires.up in
-    let below : at.self.events < 100000 = (let events = at.invariant.events in omega (events, arith)) in
-    clear-first _ centres c.in-Some.number w ups below
-    (c.in-Some.ensures.number ∙ ap (λ (sent : List Sent). first_to centres sent) (sym c.first_waiting.ensures.kept)) like
-
 pub returns-in_err-delivered-in-Some-clause-ends : goal.returns-in_err-delivered-in-Some-clause-ends
-returns-in_err-delivered-in-Some-clause-ends c w listed before few asked happened =
+returns-in_err-delivered-in-Some-clause-ends c w before few happened =
     let at = c.loop-deliveries in
-    let has = at.invariant.has w listed before few asked happened in
+    let listed = c.args.listed.now in
+    let has = at.invariant.has w before few happened in
     let below : at.self.events < 100000 = (let events = at.invariant.events in omega (events, arith)) in
     let fault = c.in_err-delivered-in-Some.field-0.0 in
-    rw (residual c.from_residual.result fault c.from_residual.ensures.1)
-    (settle-breaks at.self before at.lines w listed c.args.centres.now at.deliveries has at.self.mail refl c.in-Some.number fault c.in-Some.ensures.number below few
-    (c.in_err-delivered-in-Some.ensures.happens has.reached.world
-    (like-mail at.self c.first_waiting.new.self has.reached.world c.first_waiting.ensures.kept has.happened.like)))
+    let next = subst (λ (o : Option ℕ). IsNext has.reached.world listed o) c.in-Some.is (c.in_ok-number.ensures.next has.reached.world has.happened.like) in
+    let here = subst (λ (x : TheWorld). IsLike x has.reached.world) (sym c.in_ok-number.ensures.kept) has.happened.like in
+    rw (residual c.from_residual-in_err-delivered-in-Some.result fault c.from_residual-in_err-delivered-in-Some.ensures.1)
+    (settle-breaks at.self before at.lines w listed at.deliveries has c.in-Some.number fault next below few
+    (c.in_err-delivered-in-Some.ensures.happens has.reached.world here))
 
 pub returns-in-None-clause-ends : goal.returns-in-None-clause-ends
-returns-in-None-clause-ends c w listed before few asked happened =
+returns-in-None-clause-ends c w before few happened =
     let at = c.loop-deliveries in
-    let has = at.invariant.has w listed before few asked happened in
-    settle-ends at.self before at.lines w listed c.args.centres.now at.deliveries has at.self.mail refl _
-    (like-mail at.self c.first_waiting.new.self has.reached.world c.first_waiting.ensures.kept has.happened.like) c.in-None.ensures.number few
+    let listed = c.args.listed.now in
+    let has = at.invariant.has w before few happened in
+    let next = subst (λ (o : Option ℕ). IsNext has.reached.world listed o) c.in-None.is (c.in_ok-number.ensures.next has.reached.world has.happened.like) in
+    settle-ends at.self before at.lines w listed at.deliveries has _ c.in_ok-number.ensures.kept next few
 
 pub loop-deliveries-preserved : goal.loop-deliveries-preserved
 loop-deliveries-preserved c =
     let at = c.loop-deliveries in
+    let listed = c.args.listed.now in
     let some = at.invariant.some in
     let number = c.in-Some.number in
-    let here = like-mail at.self c.first_waiting.new.self some.0 c.first_waiting.ensures.kept some.1 in
-    let come = has-come {T = Unit {0}} tt c.delivered.new.self at.lines c.delivered.new.lines (delivery built some.0 number) (c.in_ok-delivered-in-Some.ensures.happens some.0 here) in
+    let here : (w : World) → IsLike at.self w → IsLike c.next_asked.new.self w = λ w like. subst (λ (x : TheWorld). IsLike x w) (sym c.in_ok-number.ensures.kept) like in
+    let come = has-come {T = Unit {0}} tt c.delivered.new.self at.lines c.delivered.new.lines (delivery built some.0 number) (c.in_ok-delivered-in-Some.ensures.happens some.0 (here some.0 some.1)) in
     record {
-      up = c.in_ok-delivered-in-Some.ensures.up ∙ at.invariant.up;
-      events = (let more = c.in_ok-delivered-in-Some.ensures.few in let events = at.invariant.events in omega (more, events, arith));
+      events = (let more = c.in_ok-delivered-in-Some.ensures.few in let events = at.invariant.events in let kept = c.in_ok-number.ensures.kept in
+          subst (λ (x : TheWorld). c.delivered.new.self.events ≤ x.events + 1 → c.delivered.new.self.events ≤ c.args.self.now.events + (at.deliveries + 1)) (sym kept)
+          (λ (h : c.delivered.new.self.events ≤ at.self.events + 1). omega (h, events, arith)) more);
       some = (come.h.world, come.happened.like);
-      has = λ w listed before few asked happened.
-          let has = at.invariant.has w listed before few asked happened in
+      has = λ w before few happened.
+          let has = at.invariant.has w before few happened in
           let below : at.self.events < 100000 = (let events = at.invariant.events in omega (events, arith)) in
-          settle-goes_on at.self before at.lines w listed c.args.centres.now at.deliveries has at.self.mail refl
-          c.delivered.new.self c.delivered.new.lines number c.in-Some.ensures.number below
-          (c.in_ok-delivered-in-Some.ensures.happens has.reached.world
-          (like-mail at.self c.first_waiting.new.self has.reached.world c.first_waiting.ensures.kept has.happened.like));
+          let next = subst (λ (o : Option ℕ). IsNext has.reached.world listed o) c.in-Some.is (c.in_ok-number.ensures.next has.reached.world has.happened.like) in
+          settle-goes_on at.self before at.lines w listed at.deliveries has c.delivered.new.self c.delivered.new.lines number next below
+          (c.in_ok-delivered-in-Some.ensures.happens has.reached.world (here has.reached.world has.happened.like));
     }
 
-pub returns-in-Some-first_waiting-clause-ends : goal.returns-in-Some-first_waiting-clause-ends
-returns-in-Some-first_waiting-clause-ends c w listed before few asked happened =
+pub returns-in-Some-2-clause-ends : goal.returns-in-Some-2-clause-ends
+returns-in-Some-2-clause-ends c w before few happened =
     let at = c.loop-deliveries in
-    let has = at.invariant.has w listed before few asked happened in
+    let listed = c.args.listed.now in
+    let has = at.invariant.has w before few happened in
     let reached = has.happened.like.records.events in
     let count = has.so_far.count in
     let first = happened.like.records.events in
     let limit : c.from.result ≡ 100000 = cc in
-    rw limit (settle-stops at.self before at.lines w listed c.args.centres.now at.deliveries has at.self.mail refl c.in-Some-first_waiting.field-0
-    c.in-Some-first_waiting.ensures.number (omega (reached, count, first, arith)))
+    let next = subst (λ (o : Option ℕ). IsNext has.reached.world listed o) c.in-Some-2.is (c.in_ok-next_asked.ensures.next has.reached.world has.happened.like) in
+    rw limit (settle-stops at.self before at.lines w listed at.deliveries has c.in-Some-2.field-0 next (omega (reached, count, first, arith)))
 
-pub returns-in-None-first_waiting-clause-ends : goal.returns-in-None-first_waiting-clause-ends
-returns-in-None-first_waiting-clause-ends c w listed before few asked happened =
+pub returns-in-None-2-clause-ends : goal.returns-in-None-2-clause-ends
+returns-in-None-2-clause-ends c w before few happened =
     let at = c.loop-deliveries in
-    let has = at.invariant.has w listed before few asked happened in
+    let listed = c.args.listed.now in
+    let has = at.invariant.has w before few happened in
     let all : at.deliveries ≡ 100000 - c.args.self.now.events = omega arith in
+    let next = subst (λ (o : Option ℕ). IsNext has.reached.world listed o) c.in-None-2.is (c.in_ok-next_asked.ensures.next has.reached.world has.happened.like) in
     ends-after _ before at.lines w listed at.deliveries _ all
-    (settle-ends at.self before at.lines w listed c.args.centres.now at.deliveries has at.self.mail refl _
-    (like-mail at.self c.first_waiting-2.new.self has.reached.world c.first_waiting-2.ensures.kept has.happened.like) c.in-None-first_waiting.ensures.number few)
+    (settle-ends at.self before at.lines w listed at.deliveries has _ c.in_ok-next_asked.ensures.kept next few)

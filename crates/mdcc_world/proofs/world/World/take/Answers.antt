@@ -1,5 +1,5 @@
-use Rattle.mdcc_world.proofs.Limits.{step-sends}
+use Rattle.std.proofs.Common.{inl}
 use Rattle.mdcc_world.proofs.world.World.take.Goals as goal
 
-pub write-requires : goal.write-requires
-write-requires c = rw c.as_slice.ensures (step-sends c.args.self.now c.requires.some.0 c.args.centre c.requires.some.1 c.args.step.now c.requires.some.2)
+pub returns-in-None-clause-happens : goal.returns-in-None-clause-happens
+returns-in-None-clause-happens c w input made = c.let_step.ensures.happens w input made (inl c.in-None.is)

@@ -1,0 +1,33 @@
+-- An append that stops inside one of its device calls.
+use Rattle.std.specs.Prelude.{Bool, List, [], ◌∷◌, ◌≡◌, false, if◌then◌else◌, length, nat_le, suc, true, zero, ℕ}
+use Rattle.mdcc_base.specs.declared.outside.Image.{Image}
+use Rattle.mdcc_disks.specs.Contents.{Contents, done, durable, image_of}
+use Rattle.mdcc_disks.specs.Disks.{DiskCall}
+use Rattle.mdcc_log.specs.Frames.{append_calls}
+use Rattle.mdcc_log.specs.Log.{log_bytes}
+use Rattle.mdcc_logs.specs.Stands.{with_fact_at}
+use Rattle.mdcc_messages.specs.Spelling.{fact_bytes}
+use Rattle.mdcc_messages.specs.declared.facts.Fact.{Fact}
+use Rattle.mdcc_restart.specs.Logged.{logged}
+
+-- whether a frame is there after a stop inside a device call of its append
+abbrev pub is_frame_kept : ℕ → Image → Bool
+is_frame_kept call Image.Kept = nat_le 3 call
+is_frame_kept call _ = false
+
+-- the facts after it
+abbrev pub stopped_facts : (ℕ → List Fact) → ℕ → Fact → ℕ → Image → ℕ → List Fact
+stopped_facts facts a fact call image = if is_frame_kept call image then with_fact_at facts a fact else facts
+
+-- what a disk holds when the call of this number of these stops: those before it were made, and it failed
+abbrev pub stopped_at : ℕ → List DiskCall → Contents → Contents
+stopped_at zero calls contents = contents
+stopped_at (suc n) [] contents = contents
+stopped_at (suc zero) (call ∷ calls) contents = done call true contents
+stopped_at (suc (suc n)) (call ∷ calls) contents = stopped_at (suc n) calls (done call false contents)
+
+-- these bytes are left of the log of these facts, where the append of one more stops and then the disk crashes
+abbrev pub IsStruck : List Fact → Fact → ℕ → Image → List ℕ → Type 0
+IsStruck facts fact call image bytes =
+    let old = log_bytes (logged facts) in
+    bytes ≡ image_of image (stopped_at call (append_calls (length old) (fact_bytes fact)) (durable old))

@@ -1,0 +1,121 @@
+//! Appends that stop inside a device call.
+ghost use Rattle.std.specs.Prelude.{◌≡◌, ◌≤◌, ◌-◌, ◌∷◌, ◌++◌, ◌⊎◌, [], Bool, IfOk, IsTrue, List, OnErr, OnOk, false, length, true, ℕ};
+ghost use Rattle.mdcc_disks.specs.Contents.{done, durable};
+ghost use Rattle.mdcc_disks.specs.Disks.{Within};
+ghost use Rattle.mdcc_disks.specs.Disks.DiskCall.{Sync, Write};
+ghost use Rattle.mdcc_disks.specs.Memory.{KeepsPlaces, at_place, disk_of, may_leave_of, standing};
+ghost use Rattle.mdcc_log.specs.Crash.{AreShort, IsBetween};
+ghost use Rattle.mdcc_log.specs.Frames.{append_calls};
+ghost use Rattle.mdcc_log.specs.Log.{frame_body, log_bytes};
+ghost use Rattle.mdcc_logs.specs.Stands.{IsOpenAt, LogsStand, MayHave, with_up};
+ghost use Rattle.mdcc_logs.specs.Stopping.{IsStruck, stopped_at, stopped_facts};
+ghost use Rattle.mdcc_messages.specs.Lengths.{fact_length};
+ghost use Rattle.mdcc_messages.specs.WellFormed.{IsWellFormedFact};
+ghost use Rattle.mdcc_messages.specs.declared.facts.Fact.{Fact as AFact};
+
+use crate::Logs;
+use mdcc_base::{Centre, Failed, Image, Memory};
+use mdcc_disks::{Disks, MemoryDisks, crash_leaves_the_image};
+use mdcc_journal::counts::well_formed_facts_have_counts;
+use mdcc_messages::Fact;
+use mdcc_restart::payload_of;
+use std::alloc::Global;
+
+// What an append writes behind the closed gate: the frame, and a closed gate.
+fn frame_of(alloc: Global, payload: &[u8]) -> Result<Vec<u8>, Memory>
+    requires short { length payload.now ≤ 2097152 }
+    ensures { IfOk result (λ frame. frame.items ≡ frame_body payload.now ++ 0 ∷ []) }
+{
+    let mut frame = Vec::new(alloc);
+    frame.extend_from_slice(&(payload.len() as u32).to_le_bytes())?;
+    frame.extend_from_slice(payload)?;
+    frame.push(0)?;
+    Ok(frame)
+}
+
+// Makes what was written durable, and opens the last gate.
+fn open_gate(disks: &mut MemoryDisks, place: u8, size: u64) -> Result<(), Failed>
+    requires some { 1 ≤ size }
+    requires within { IsTrue (disk_of disks.old place).told → size ≤ length (disk_of disks.old place).bytes }
+    ensures made { OnOk result (standing (at_place disks.new place) ≡ done (Write (size - 1) (1 ∷ [])) false (done Sync false (standing (at_place disks.old place)))) }
+    ensures left { OnErr result ((standing (at_place disks.new place) ≡ standing (at_place disks.old place))
+        ⊎ ((standing (at_place disks.new place) ≡ done Sync false (standing (at_place disks.old place)))
+        ⊎ (standing (at_place disks.new place) ≡ done (Write (size - 1) (1 ∷ [])) false (done Sync false (standing (at_place disks.old place)))))) }
+    ensures others { KeepsPlaces place disks.old disks.new }
+{
+    disks.sync(place)?;
+    disks.write_at(place, size - 1, &[1])
+}
+
+// Makes the calls of an append to a log of this size, up to the one that stops. What that one writes is written, and a sync that
+// stops makes nothing durable, so it is not made.
+fn write_until(
+    disks: &mut MemoryDisks,
+    place: u8,
+    size: u64,
+    payload: &[u8],
+    frame: &[u8],
+    call: u8,
+) -> Result<(), Failed>
+    requires first { 1 ≤ call }
+    requires last { call ≤ 4 }
+    requires some { 1 ≤ size }
+    requires short { length payload.now ≤ 2097152 }
+    requires frame { frame.now ≡ frame_body payload.now ++ 0 ∷ [] }
+    requires within { IsTrue (disk_of disks.old place).told → size ≤ length (disk_of disks.old place).bytes }
+    ensures made { OnOk result (standing (at_place disks.new place) ≡ stopped_at call (append_calls size payload.now) (standing (at_place disks.old place))) }
+    ensures left { (payloads : List (List ℕ)) → AreShort payloads → size ≡ length (log_bytes payloads)
+        → standing (at_place disks.old place) ≡ durable (log_bytes payloads)
+        → OnErr result (Within (IsBetween payloads payload.now) (may_leave_of disks.new place)) }
+    ensures others { KeepsPlaces place disks.old disks.new }
+{
+    disks.write_at(place, size, frame)?;
+    if call < 3 {
+        return Ok(());
+    }
+    open_gate(disks, place, size)
+}
+
+impl Logs {
+    /// A centre stops inside a device call, 1 to 4, of the append of a fact, and its disk is left with this image of what was
+    /// written since the last sync. The fact counts where its gate was written, in call 3 or 4, and the image is kept; else what
+    /// was written stands behind the last gate, and a start cuts it off. After a refusal, for want of memory, the log of the
+    /// centre has the fact or not, and has to be opened again.
+    pub fn stop_append(
+        &mut self,
+        alloc: Global,
+        centre: Centre,
+        fact: &Fact,
+        call: u8,
+        image: Image,
+    ) -> Result<(), Memory>
+        requires within { centre ≤ length self.old.open.items }
+        requires formed { IsWellFormedFact fact.now }
+        requires short { fact_length fact.now ≤ 2097152 }
+        requires stand { IsOpenAt self.old centre }
+        requires first { 1 ≤ call }
+        requires last { call ≤ 4 }
+        ensures as_many { length self.new.open.items ≡ length self.old.open.items }
+        ensures stopped { (centres : ℕ) (up : ℕ → Bool) (facts : ℕ → List AFact) → LogsStand self.old centres up facts → up centre ≡ true
+            → OnOk result (LogsStand self.new centres (with_up up centre false) (stopped_facts facts centre fact.now call image)) }
+        ensures struck { (centres : ℕ) (up : ℕ → Bool) (facts : ℕ → List AFact) → LogsStand self.old centres up facts → up centre ≡ true
+            → OnOk result (IsStruck (facts centre) fact.now call image (disk_of self.new.disks centre).bytes) }
+        ensures refused { (centres : ℕ) (up : ℕ → Bool) (facts : ℕ → List AFact) → LogsStand self.old centres up facts → up centre ≡ true
+            → OnErr result (MayHave self.new centres up centre facts fact.now) }
+    {
+        well_formed_facts_have_counts();
+        crash_leaves_the_image();
+        let payload = payload_of(alloc, fact)?;
+        let frame = frame_of(alloc, &payload)?;
+        let place = centre.number();
+        let size = self.open[usize::from(place) - 1].size();
+        self.disks.reserve(place, 4, payload.len() as u64 + 6)?;
+        match write_until(&mut self.disks, place, size, &payload, &frame, call) {
+            Ok(()) => {
+                self.disks.crash(place, image);
+                Ok(())
+            }
+            Err(_) => Err(Memory),
+        }
+    }
+}

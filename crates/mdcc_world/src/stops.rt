@@ -1,0 +1,62 @@
+//! Appends that stop: the stop is armed, and the next step that brings a fact takes its centre down.
+ghost use Rattle.std.specs.Prelude.{◌≡◌, ◌≤◌, ◌<◌, ◌+◌, ◌-◌, IfErr, None, OnOk, Some, get_or, length, true};
+ghost use Rattle.mdcc_built.specs.Built.{built};
+ghost use Rattle.mdcc_language.specs.declared.events.Event.{Event as AEvent};
+ghost use Rattle.mdcc_simulation.specs.Centres.{stop_happened};
+ghost use Rattle.mdcc_simulation.specs.Events.{event_of};
+ghost use Rattle.mdcc_simulation.specs.State.{World as AWorld, counted_event, is_up_at};
+ghost use Rattle.mdcc_world.specs.Faults.{OnRefusal};
+ghost use Rattle.mdcc_world.specs.Stands.{Happens, HasHappened, IsLike, IsLikeSome};
+
+use crate::world::World;
+use mdcc_base::{Centre, HeapList, Image, Memory};
+use mdcc_language::{EventFault, Line};
+
+impl World {
+    // The stop that is armed at a centre.
+    pub(crate) fn stop_at(&self, centre: Centre) -> Option<(u8, Image)>
+        ensures { result ≡ get_or self.now.stops (centre - 1) None }
+    {
+        self.stops[usize::from(centre.number()) - 1]
+    }
+
+    // A stop is armed at a centre, in place of an earlier one, which is an event.
+    fn arm(
+        &mut self,
+        centre: Centre,
+        call: u8,
+        image: Image,
+        lines: &mut HeapList<Line>,
+    ) -> Result<(), Memory>
+        requires few { self.old.events < 100000 }
+        requires like { IsLikeSome self.old }
+        requires up { (w : AWorld) → IsLike self.old w → is_up_at w centre ≡ true }
+        ensures happened { (w : AWorld) → IsLike self.old w
+            → OnOk result (HasHappened self.new lines.old lines.new (stop_happened (counted_event w) centre call image)) }
+        ensures few { OnOk result (self.new.events ≤ 100000) }
+    {
+        lines.push(Line::Stop(centre, call, image))?;
+        self.events += 1;
+        self.stops[usize::from(centre.number()) - 1] = Some((call, image));
+        Ok(())
+    }
+
+    // A stop line.
+    pub(crate) fn stop(
+        &mut self,
+        centre: Centre,
+        call: u8,
+        image: Image,
+        lines: &mut HeapList<Line>,
+    ) -> Result<(), EventFault>
+        requires { IsLikeSome self.old }
+        ensures happens { (w : AWorld) → IsLike self.old w
+            → Happens self.new lines.old lines.new result (event_of built w (AEvent.Stop centre call image)) }
+        ensures few { OnOk result (self.new.events ≤ 100000) }
+        ensures kept { OnRefusal result ((self.new ≡ self.old) × (lines.new ≡ lines.old)) }
+    {
+        self.at_centre(centre)?;
+        self.arm(centre, call, image, lines)?;
+        Ok(())
+    }
+}
