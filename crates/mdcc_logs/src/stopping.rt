@@ -79,8 +79,8 @@ fn write_until(
 impl Logs {
     /// A centre stops inside a device call, 1 to 4, of the append of a fact, and its disk is left with this image of what was
     /// written since the last sync. The fact counts where its gate was written, in call 3 or 4, and the image is kept; else what
-    /// was written stands behind the last gate, and a start cuts it off. After a refusal, for want of memory, the log of the
-    /// centre has the fact or not, and has to be opened again.
+    /// was written stands behind the last gate, and a start cuts it off. The log is asked first whether it is full, as before an
+    /// append. After a refusal, for want of memory, the log of the centre has the fact or not, and has to be opened again.
     pub fn stop_append(
         &mut self,
         alloc: Global,
