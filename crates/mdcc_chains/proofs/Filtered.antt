@@ -1,11 +1,11 @@
 -- A walk goes through the filtered entries, step by step.
-use Rattle.std.proofs.Common.{◌≡◌, ◌==◌, inl, inr, ℕ, ◌+◌, ◌<◌, ◌≤◌, ◌∷◌, [], List, Option, Some, None, Bool, true, length, sym, ◌∙◌, ap, arith, refl}
+use Rattle.std.proofs.Common.{◌≡◌, ◌==◌, inl, inr, ℕ, ◌+◌, ◌<◌, ◌≤◌, ◌∷◌, [], List, Option, Some, None, Bool, length, sym, ◌∙◌, ap, arith, refl}
 use Rattle.std.specs.Option.{option_or}
 use Rattle.std.specs.Prelude.{nat_lt, map, IfSome}
 use Rattle.std.specs.List.{filter, filter_map, cons_option}
 use Rattle.std.proofs.lemmas.Bool.{cases_Bool, lt-ltb, le-ltb, ltb-true, ltb-false, eq-eqb, eqb-true}
 use Rattle.std.proofs.lemmas.List.{length-map}
-use Rattle.mdcc_chains.specs.Walks.{walk, first_in, last_in, first_below, entry_at, older}
+use Rattle.mdcc_chains.specs.Walks.{IsFound, walk, first_in, last_in, first_below, entry_at, older}
 
 -- a walk by a part of each entry
 pub walk-map : {X Y : Type 0} (f : X → Y) (passes : Y → Bool) (xs : List X) → walk passes (map f xs) ≡ walk (λ x. passes (f x)) xs
@@ -81,15 +81,6 @@ walk-next passes i (x ∷ xs) = elim (cases_Bool (nat_lt (length xs) i)) [
     | inr failing ↦ rw (past, failing) (walk-next passes i xs)
   ]
 ]
-
--- what stands at the first index of a walk
-pub record IsFound {X : Type 0} (passes : X → Bool) (xs : List X) (i : ℕ) : Type 0 where
-  pub entry : X
-  pub within : i < length xs
-  pub at : entry_at xs i ≡ Some entry
-  pub passing : passes entry ≡ true
-  pub filtered : filter passes xs ≡ entry ∷ filter passes (older i xs)
-  pub walked : walk passes xs ≡ i ∷ walk passes (older i xs)
 
 pub walk-found : {X : Type 0} (passes : X → Bool) (xs : List X) (i : ℕ) → first_in (walk passes xs) ≡ Some i → IsFound passes xs i
 walk-found passes [] i first = absurd (cc)

@@ -1,3 +1,4 @@
+mod Ascending
 pub mod Filtered
 mod Indexed
 mod Linked

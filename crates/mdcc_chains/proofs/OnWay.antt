@@ -3,8 +3,8 @@ use Rattle.std.proofs.Common.{◌≡◌, ◌==◌, inl, inr, ℕ, ◌<◌, ◌�
 use Rattle.std.specs.Prelude.{if◌then◌else◌}
 use Rattle.std.proofs.lemmas.Bool.{cases_Bool, lt-ltb, le-ltb, eq-eqb}
 use Rattle.mdcc_chains.specs.Keyed.{IsOnWay}
-use Rattle.mdcc_chains.specs.Walks.{walk, first_in, first_below, entry_at, older}
-use Rattle.mdcc_chains.proofs.Filtered.{IsFound, walk-found, walk-next, older-all, older-skip, older-older, length-older, length-older-le, entry-skip, entry-older}
+use Rattle.mdcc_chains.specs.Walks.{IsFound, walk, first_in, first_below, entry_at, older}
+use Rattle.mdcc_chains.proofs.Filtered.{walk-found, walk-next, older-all, older-skip, older-older, length-older, length-older-le, entry-skip, entry-older}
 
 -- all that pass the one test pass the other
 abbrev pub Implies : {X : Type 0} → (X → Bool) → (X → Bool) → Type 0

@@ -3,10 +3,10 @@ use Rattle.std.specs.Prelude.{ℕ, ◌+◌, ◌*◌, ◌/◌, ◌%◌, ◌^◌, 
 
 -- transactions of one epoch of a manager have neighbouring numbers
 abbrev pub tx_hash : (centre epoch seq : ℕ) → ℕ
-tx_hash centre epoch seq = seq + epoch * 257 + centre * 65537
+tx_hash centre epoch seq = seq + epoch * 1000003 + centre * 15485863
 
 abbrev pub mixed : ℕ → ℕ → ℕ
-mixed hash byte = ((hash * 11400714819323198485) % 2 ^ 64 + byte) % 2 ^ 64
+mixed hash byte = ((hash + byte) % 2 ^ 64 * 11400714819323198485) % 2 ^ 64
 
 -- the upper half of what the bytes are mixed into
 abbrev pub bytes_hash : List ℕ → ℕ

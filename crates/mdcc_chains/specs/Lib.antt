@@ -3,4 +3,5 @@ pub mod Keyed
 pub mod KeyTables
 pub mod Keys
 pub mod Links
+pub mod Unresolved
 pub mod Walks

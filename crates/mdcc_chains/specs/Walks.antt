@@ -1,5 +1,6 @@
 -- Walks over entries that were added one by one, the newest first. The index of an entry is the number of the older ones.
-use Rattle.std.specs.Prelude.{List, [], ◌∷◌, Option, None, Some, Bool, false, ℕ, ◌==◌, nat_lt, if◌then◌else◌, length}
+use Rattle.std.specs.List.{filter}
+use Rattle.std.specs.Prelude.{List, [], ◌∷◌, Option, None, Some, Bool, true, false, ℕ, ◌≡◌, ◌<◌, ◌==◌, nat_lt, if◌then◌else◌, length}
 
 -- the indices of the entries that pass, the newest first
 abbrev pub walk : {X : Type 0} → (X → Bool) → List X → List ℕ
@@ -37,3 +38,12 @@ older n (x ∷ xs) = if nat_lt (length xs) n then x ∷ xs else older n xs
 abbrev pub has_at : {X : Type 0} → (X → Bool) → List X → ℕ → Bool
 has_at passes [] i = false
 has_at passes (x ∷ xs) i = if i == length xs then passes x else has_at passes xs i
+
+-- what stands at the first index of a walk, and what comes after it
+pub record IsFound {X : Type 0} (passes : X → Bool) (xs : List X) (i : ℕ) : Type 0 where
+  pub entry : X
+  pub within : i < length xs
+  pub at : entry_at xs i ≡ Some entry
+  pub passing : passes entry ≡ true
+  pub filtered : filter passes xs ≡ entry ∷ filter passes (older i xs)
+  pub walked : walk passes xs ≡ i ∷ walk passes (older i xs)

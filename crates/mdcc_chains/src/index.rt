@@ -9,7 +9,7 @@ use std::alloc::Global;
 use std::marker::Model;
 
 /// Keys with the indices from 0 on, in the order in which they were added. All indices of a key
-/// are found, the newest first, in the time that they take, however many other keys there are.
+/// are found, the newest first, and other keys are passed by.
 #[derive(Drop)]
 pub struct Index<K: IndexKey> {
     chains: Chains,

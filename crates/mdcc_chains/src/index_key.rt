@@ -28,7 +28,7 @@ pub trait IndexKey: Drop {
 fn tx_hash(centre: u8, epoch: u32, seq: u32) -> u64
     ensures { result ≡ tx_hash centre epoch seq }
 {
-    u64::from(seq) + u64::from(epoch) * 257 + u64::from(centre) * 65_537
+    u64::from(seq) + u64::from(epoch) * 1_000_003 + u64::from(centre) * 15_485_863
 }
 
 // One number of some bytes.
@@ -38,8 +38,8 @@ fn bytes_hash(bytes: &[u8]) -> u64
     let mut hash: u64 = 14_695_981_039_346_656_037;
     for byte in bytes {
         hash = hash
-            .wrapping_mul(11_400_714_819_323_198_485)
-            .wrapping_add(u64::from(*byte));
+            .wrapping_add(u64::from(*byte))
+            .wrapping_mul(11_400_714_819_323_198_485);
     }
     hash / 4_294_967_296
 }

@@ -8,4 +8,6 @@ mod indexes;
 #[cfg(test)]
 mod key_tables;
 #[cfg(test)]
+mod unresolved;
+#[cfg(test)]
 mod values;
