@@ -1,0 +1,208 @@
+-- What is found by transaction is how it ended.
+use Rattle.std.proofs.Common.{◌≡◌, ℕ, suc, ◌+◌, ◌<◌, ◌≤◌, ◌⊎◌, Bool, true, false, List, [], ◌∷◌, ◌++◌, Option, Some, None, is_some, length, get_or, drop, inl, inr, refl, sym, ap, ◌∙◌, arith, append-nil, length-append}
+use Rattle.std.specs.Option.{option_or}
+use Rattle.std.specs.Prelude.{if◌then◌else◌}
+use Rattle.std.proofs.lemmas.Bool.{cases_Bool}
+use Rattle.std.proofs.lemmas.List.{get_or_append_left, get_or_at}
+use Rattle.mdcc_base.specs.TxId.{tx_eq}
+use Rattle.mdcc_base.specs.declared.identifiers.TxId.{TxId}
+use Rattle.mdcc_option.specs.declared.choices.Outcome.{Outcome}
+use Rattle.mdcc_struct.proofs.Order.{tx_eq-sym}
+use Rattle.mdcc_messages.specs.Lengths.{fact_length}
+use Rattle.mdcc_messages.specs.SpelledParts.{heard_bytes}
+use Rattle.mdcc_messages.specs.Spelling.{fact_bytes}
+use Rattle.mdcc_messages.specs.WellFormed.{IsWellFormedFact}
+use Rattle.mdcc_messages.specs.declared.facts.Fact.{Fact}
+use Rattle.mdcc_protocol.specs.Facts.{epoch_of, heard_of, is_heard, outcome_in}
+use Rattle.mdcc_spelling.proofs.Common.{heard_again}
+use Rattle.mdcc_spelling.proofs.Lengths.{length-fact}
+use Rattle.mdcc_chains.specs.Walks.{last_in, walk}
+use Rattle.mdcc_index.specs.Heard.{encodings_of, heard_by, heard_numbers, heard_txs, next_epoch, numbers_by, outcome_read, outcome_spelled, AreReadable, IsShort, Represents, Store}
+
+-- ---- lengths
+
+length-numbers_by : (fact : Fact) (number : ℕ) → length (numbers_by fact number) ≡ length (heard_by fact)
+length-numbers_by (Fact.Heard tx outcome) number = refl
+length-numbers_by (Fact.Booted epoch) number = refl
+length-numbers_by (Fact.Promised key low high ballot) number = refl
+length-numbers_by (Fact.Voted key version ballot options offered) number = refl
+length-numbers_by (Fact.Adopted key version item adds) number = refl
+
+numbers-alike : (facts : List Fact) → length (heard_numbers facts) ≡ length (heard_txs facts)
+numbers-alike [] = refl
+numbers-alike (fact ∷ facts) =
+    omega (
+      arith,
+      length-append (heard_numbers facts) (numbers_by fact (length facts)),
+      length-append (heard_by fact) (heard_txs facts),
+      length-numbers_by fact (length facts),
+      numbers-alike facts,
+    )
+
+pub encodings-length : (facts : List Fact) → length (encodings_of facts) ≡ length facts
+encodings-length [] = refl
+encodings-length (fact ∷ facts) = omega (arith, length-append (encodings_of facts) (fact_bytes fact ∷ []), encodings-length facts)
+
+-- ---- walks
+
+-- the oldest of a walk is its newest one, where there is no older one
+last-cases : (b : Bool) (n i : ℕ) (w : List ℕ) → last_in (if b then n ∷ w else w) ≡ Some i → ((b ≡ true) × (last_in w ≡ None) × (n ≡ i)) ⊎ (last_in w ≡ Some i)
+last-cases true n i [] is = inl (refl, refl, cc)
+last-cases true n i (j ∷ js) is = inr is
+last-cases false n i w is = inr is
+
+-- the oldest that passes is among those that are there
+pub last-within : {X : Type 0} (passes : X → Bool) (xs : List X) (i : ℕ) → last_in (walk passes xs) ≡ Some i → i < length xs
+last-within passes [] i is = absurd (cc)
+last-within passes (x ∷ xs) i is =
+    elim (last-cases (passes x) (length xs) i (walk passes xs) is) [
+      | inl newest ↦ omega (arith, newest.2)
+      | inr older ↦ omega (arith, last-within passes xs i older)
+    ]
+
+-- ---- what is found
+
+or-none : {X : Type 0} (a : Option X) → option_or a None ≡ a
+or-none None = refl
+or-none (Some x) = refl
+
+or-first : {X : Type 0} (a b : Option X) (x : X) → a ≡ Some x → option_or a b ≡ Some x
+or-first None b x is = absurd (cc)
+or-first (Some y) b x is = is
+
+-- the fact of an index in the list of outcomes says how the transaction ended
+record Found (tx : TxId) (facts : List Fact) (i : ℕ) : Type 0 where
+  other : TxId
+  outcome : Outcome
+  within : i < length (heard_numbers facts)
+  below : get_or (heard_numbers facts) i 0 < length facts
+  bytes : get_or (encodings_of facts) (get_or (heard_numbers facts) i 0) [] ≡ fact_bytes (Fact.Heard other outcome)
+  fits : IsWellFormedFact (Fact.Heard other outcome)
+  short : fact_length (Fact.Heard other outcome) ≤ 8964
+  heard : heard_of facts tx ≡ Some outcome
+
+found-more : (tx : TxId) (facts : List Fact) (fact : Fact) (i : ℕ) → Found tx facts i → Found tx (fact ∷ facts) i
+found-more tx facts fact i found =
+    let number : ℕ = get_or (heard_numbers facts) i 0 in
+    let same : get_or (heard_numbers facts ++ numbers_by fact (length facts)) i 0 ≡ number = get_or_append_left (heard_numbers facts) (numbers_by fact (length facts)) 0 i found.within in
+    record {
+      other = found.other;
+      outcome = found.outcome;
+      within = omega (arith, found.within, length-append (heard_numbers facts) (numbers_by fact (length facts)));
+      below = omega (arith, same, found.below);
+      bytes = ap (λ n. get_or (encodings_of facts ++ fact_bytes fact ∷ []) n []) same
+          ∙ get_or_append_left (encodings_of facts) (fact_bytes fact ∷ []) [] number (omega (arith, found.below, encodings-length facts))
+          ∙ found.bytes;
+      fits = found.fits;
+      short = found.short;
+      heard = or-first (heard_of facts tx) (outcome_in tx fact) found.outcome found.heard;
+    }
+
+missing : (tx : TxId) (facts : List Fact) → last_in (walk (tx_eq tx) (heard_txs facts)) ≡ None → heard_of facts tx ≡ None
+missing tx [] is = refl
+missing tx (Fact.Heard t outcome ∷ facts) is =
+    elim (cases_Bool (tx_eq tx t)) [
+      | inl same ↦
+          let no : last_in (length (heard_txs facts) ∷ walk (tx_eq tx) (heard_txs facts)) ≡ None =
+          ap (λ b. last_in (if b then length (heard_txs facts) ∷ walk (tx_eq tx) (heard_txs facts) else walk (tx_eq tx) (heard_txs facts))) (sym same) ∙ is in
+          absurd (cc)
+      | inr other ↦
+          let older : last_in (walk (tx_eq tx) (heard_txs facts)) ≡ None =
+          ap (λ b. last_in (if b then length (heard_txs facts) ∷ walk (tx_eq tx) (heard_txs facts) else walk (tx_eq tx) (heard_txs facts))) (sym other) ∙ is in
+          ap (λ h. option_or h (if tx_eq t tx then Some outcome else None)) (missing tx facts older)
+          ∙ ap (λ b. if b then Some outcome else None) (tx_eq-sym t tx ∙ other)
+    ]
+missing tx (Fact.Booted epoch ∷ facts) is = or-none (heard_of facts tx) ∙ missing tx facts is
+missing tx (Fact.Promised key low high ballot ∷ facts) is = or-none (heard_of facts tx) ∙ missing tx facts is
+missing tx (Fact.Voted key version ballot options offered ∷ facts) is = or-none (heard_of facts tx) ∙ missing tx facts is
+missing tx (Fact.Adopted key version item adds ∷ facts) is = or-none (heard_of facts tx) ∙ missing tx facts is
+
+found-newest : (tx t : TxId) (outcome : Outcome) (facts : List Fact) (i : ℕ) → AreReadable (Fact.Heard t outcome ∷ facts) → length (heard_txs facts) ≡ i → tx_eq tx t ≡ true
+    → heard_of facts tx ≡ None → Found tx (Fact.Heard t outcome ∷ facts) i
+found-newest tx t outcome facts i readable e same none =
+    let number : get_or (heard_numbers facts ++ length facts ∷ []) i 0 ≡ length facts = get_or_at (heard_numbers facts) (length facts) [] 0 i (numbers-alike facts ∙ e) in
+    record {
+      other = t;
+      outcome = outcome;
+      within = omega (arith, e, numbers-alike facts, length-append (heard_numbers facts) (length facts ∷ []));
+      below = omega (arith, number);
+      bytes = ap (λ n. get_or (encodings_of facts ++ fact_bytes (Fact.Heard t outcome) ∷ []) n []) number
+          ∙ get_or_at (encodings_of facts) (fact_bytes (Fact.Heard t outcome)) [] [] (length facts) (encodings-length facts);
+      fits = readable.0;
+      short = readable.1;
+      heard = ap (λ h. option_or h (if tx_eq t tx then Some outcome else None)) none
+          ∙ ap (λ b. if b then Some outcome else None) (tx_eq-sym t tx ∙ same);
+    }
+
+present : (tx : TxId) (facts : List Fact) (i : ℕ) → AreReadable facts → last_in (walk (tx_eq tx) (heard_txs facts)) ≡ Some i → Found tx facts i
+present tx [] i readable is = absurd (cc)
+present tx (Fact.Heard t outcome ∷ facts) i readable is =
+    elim (last-cases (tx_eq tx t) (length (heard_txs facts)) i (walk (tx_eq tx) (heard_txs facts)) is) [
+      | inl newest ↦ found-newest tx t outcome facts i readable newest.2 newest.0 (missing tx facts newest.1)
+      | inr older ↦ found-more tx facts (Fact.Heard t outcome) i (present tx facts i readable.2 older)
+    ]
+present tx (Fact.Booted epoch ∷ facts) i readable is = found-more tx facts (Fact.Booted epoch) i (present tx facts i readable.2 is)
+present tx (Fact.Promised key low high ballot ∷ facts) i readable is = found-more tx facts (Fact.Promised key low high ballot) i (present tx facts i readable.2 is)
+present tx (Fact.Voted key version ballot options offered ∷ facts) i readable is = found-more tx facts (Fact.Voted key version ballot options offered) i (present tx facts i readable.2 is)
+present tx (Fact.Adopted key version item adds ∷ facts) i readable is = found-more tx facts (Fact.Adopted key version item adds) i (present tx facts i readable.2 is)
+
+-- ---- what is read
+
+none-left : (bytes : List ℕ) → drop (length bytes) bytes ≡ []
+none-left [] = refl
+none-left (b ∷ bytes) = none-left bytes
+
+-- how a transaction ended is read back from the bytes of the fact that says so
+outcome-again : (tx : TxId) (outcome : Outcome) → IsWellFormedFact (Fact.Heard tx outcome) → outcome_spelled (fact_bytes (Fact.Heard tx outcome)) ≡ Some outcome
+outcome-again tx outcome fits =
+    let text : List ℕ = heard_bytes tx outcome in
+    let one : 1 + length text ≡ suc (length text) = omega arith in
+    let none : drop (1 + length text) (4 ∷ text) ≡ [] = ap (λ k. drop k (4 ∷ text)) one ∙ none-left text in
+    ap outcome_read (heard_again (4 ∷ text) 1 tx outcome fits (record { is = sym (append-nil text) ∙ ap (λ rest. text ++ rest) (sym none) }))
+
+-- ---- the answers
+
+pub answer-some : (store : Store) (facts : List Fact) (tx : TxId) (i number room : ℕ) (result : Option Outcome) → Represents store facts
+    → last_in (walk (tx_eq tx) store.heard.keys) ≡ Some i → number ≡ get_or store.numbers i 0 → 8964 ≤ room
+    → (length (get_or store.cells.encodings number []) ≤ room → result ≡ outcome_spelled (get_or store.cells.encodings number []))
+    → result ≡ heard_of facts tx
+answer-some store facts tx i number room result kept is number-is long read =
+    let found : Found tx facts i = present tx facts i kept.readable (ap (λ keys. last_in (walk (tx_eq tx) keys)) (sym kept.heard) ∙ is) in
+    let bytes : get_or store.cells.encodings number [] ≡ fact_bytes (Fact.Heard found.other found.outcome) =
+    ap (λ n. get_or store.cells.encodings n []) (number-is ∙ ap (λ ns. get_or ns i 0) kept.numbers)
+    ∙ ap (λ es. get_or es (get_or (heard_numbers facts) i 0) []) kept.encodings ∙ found.bytes in
+    read (omega (arith, ap length bytes, long, found.short, length-fact (Fact.Heard found.other found.outcome)))
+    ∙ ap outcome_spelled bytes ∙ outcome-again found.other found.outcome found.fits ∙ sym found.heard
+
+pub answer-none : (store : Store) (facts : List Fact) (tx : TxId) → Represents store facts → last_in (walk (tx_eq tx) store.heard.keys) ≡ None → None ≡ heard_of facts tx
+answer-none store facts tx kept is = sym (missing tx facts (ap (λ keys. last_in (walk (tx_eq tx) keys)) (sym kept.heard) ∙ is))
+
+pub heard-known : (store : Store) (facts : List Fact) (tx : TxId) → Represents store facts → is_some (last_in (walk (tx_eq tx) store.heard.keys)) ≡ is_heard facts tx
+heard-known store facts tx kept = by_found (last_in (walk (tx_eq tx) store.heard.keys)) refl
+  where
+    by_found : (found : Option ℕ) → last_in (walk (tx_eq tx) store.heard.keys) ≡ found → is_some (last_in (walk (tx_eq tx) store.heard.keys)) ≡ is_heard facts tx
+    by_found None is = ap is_some is ∙ ap is_some (answer-none store facts tx kept is)
+    by_found (Some i) is =
+        ap is_some is ∙ sym (ap is_some (present tx facts i kept.readable (ap (λ keys. last_in (walk (tx_eq tx) keys)) (sym kept.heard) ∙ is)).heard)
+
+-- ---- one more fact
+
+epoch-next : (fact : Fact) (facts : List Fact) → next_epoch fact (epoch_of facts) ≡ epoch_of (fact ∷ facts)
+epoch-next (Fact.Booted epoch) facts = refl
+epoch-next (Fact.Promised key low high ballot) facts = refl
+epoch-next (Fact.Voted key version ballot options offered) facts = refl
+epoch-next (Fact.Heard tx outcome) facts = refl
+epoch-next (Fact.Adopted key version item adds) facts = refl
+
+pub represents-more : (old new : Store) (facts : List Fact) (fact : Fact) (number : ℕ) → IsWellFormedFact fact → IsShort fact
+    → new.cells.encodings ≡ old.cells.encodings ++ fact_bytes fact ∷ [] → new.heard.keys ≡ heard_by fact ++ old.heard.keys
+    → number ≡ length old.cells.encodings → new.numbers ≡ old.numbers ++ numbers_by fact number → new.epoch ≡ next_epoch fact old.epoch
+    → Represents old facts → Represents new (fact ∷ facts)
+represents-more old new facts fact number fits short encodings heard number-is numbers epoch kept = record {
+  encodings = encodings ∙ ap (λ es. es ++ fact_bytes fact ∷ []) kept.encodings;
+  readable = (fits, short, kept.readable);
+  heard = heard ∙ ap (λ keys. heard_by fact ++ keys) kept.heard;
+  numbers = numbers ∙ ap (λ ns. ns ++ numbers_by fact number) kept.numbers
+      ∙ ap (λ n. heard_numbers facts ++ numbers_by fact n) (number-is ∙ ap length kept.encodings ∙ encodings-length facts);
+  epoch = epoch ∙ ap (next_epoch fact) kept.epoch ∙ epoch-next fact facts;
+}
