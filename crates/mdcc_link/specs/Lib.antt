@@ -1,2 +1,4 @@
 pub mod Link
+pub mod Memory
 pub mod Sockets
+pub mod Stored

@@ -1,0 +1,4 @@
+mod Firsts
+mod Pieces
+mod Queues
+mod Storing

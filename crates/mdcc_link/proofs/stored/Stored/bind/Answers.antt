@@ -1,0 +1,25 @@
+use Rattle.std.proofs.Common.{◌≡◌, [], ◌∷◌, ◌++◌, length, arith, rules}
+use Rattle.mdcc_link.specs.declared.stored.Note.{Note}
+use Rattle.mdcc_link.specs.declared.stored.Noted.TheVariants as noted
+use Rattle.mdcc_link.proofs.Pieces.{pushed_within}
+use Rattle.mdcc_link.proofs.stored.Stored.bind.Goals as goal
+
+pub invariant_of-self : goal.invariant_of-self
+invariant_of-self c =
+    let note : Note = record { call = noted.Bind c.args.at c.args.address c.args.answer; piece = record { start = 0; count = 0 } } in
+    let is : c.add.new.list.items ≡ c.self.inside.notes.items ++ note ∷ [] = search rules in
+    record {
+      calls = pushed_within (λ (n : Note). n.piece) (length c.self.inside.bytes.items) c.self.inside.notes.items c.add.new.list.items note is c.self.invariant.calls (omega arith);
+      sent = c.self.invariant.sent;
+      waiting = c.self.invariant.waiting;
+    }
+
+pub invariant_of-self-in-Err : goal.invariant_of-self-in-Err
+invariant_of-self-in-Err c =
+    let note : Note = record { call = noted.Bind c.args.at c.args.address c.args.answer; piece = record { start = 0; count = 0 } } in
+    let is : c.add.new.list.items ≡ c.self.inside.notes.items ++ note ∷ [] = search rules in
+    record {
+      calls = pushed_within (λ (n : Note). n.piece) (length c.self.inside.bytes.items) c.self.inside.notes.items c.add.new.list.items note is c.self.invariant.calls (omega arith);
+      sent = c.self.invariant.sent;
+      waiting = c.self.invariant.waiting;
+    }
