@@ -1,5 +1,5 @@
 -- What is found by transaction is how it ended.
-use Rattle.std.proofs.Common.{◌≡◌, ℕ, suc, ◌+◌, ◌<◌, ◌≤◌, ◌⊎◌, Bool, true, false, List, [], ◌∷◌, ◌++◌, Option, Some, None, is_some, length, get_or, drop, inl, inr, refl, sym, ap, ◌∙◌, arith, append-nil, length-append}
+use Rattle.std.proofs.Common.{◌≡◌, ℕ, zero, suc, ◌+◌, ◌<◌, ◌≤◌, ◌⊎◌, Bool, true, false, List, [], ◌∷◌, ◌++◌, Option, Some, None, is_some, length, get_or, take, drop, min, option_map, inl, inr, refl, sym, ap, ◌∙◌, arith, append-nil, length-append}
 use Rattle.std.specs.Option.{option_or}
 use Rattle.std.specs.Prelude.{if◌then◌else◌}
 use Rattle.std.proofs.lemmas.Bool.{cases_Bool}
@@ -14,10 +14,12 @@ use Rattle.mdcc_messages.specs.Spelling.{fact_bytes}
 use Rattle.mdcc_messages.specs.WellFormed.{IsWellFormedFact}
 use Rattle.mdcc_messages.specs.declared.facts.Fact.{Fact}
 use Rattle.mdcc_protocol.specs.Facts.{epoch_of, heard_of, is_heard, outcome_in}
+use Rattle.mdcc_protocol.specs.Marks.{is_commit}
+use Rattle.mdcc_protocol.specs.Stores.{ended_of}
 use Rattle.mdcc_spelling.proofs.Common.{heard_again}
 use Rattle.mdcc_spelling.proofs.Lengths.{length-fact}
 use Rattle.mdcc_chains.specs.Walks.{last_in, walk}
-use Rattle.mdcc_index.specs.Heard.{encodings_of, heard_by, heard_numbers, heard_txs, next_epoch, numbers_by, outcome_read, outcome_spelled, AreReadable, IsShort, Represents, Store}
+use Rattle.mdcc_index.specs.Heard.{encodings_of, heard_by, heard_numbers, heard_txs, is_commit_spelled, next_epoch, number_found, number_in, numbers_by, outcome_read, outcome_spelled, AreReadable, IsShort, Represents, Store}
 
 -- ---- lengths
 
@@ -160,30 +162,82 @@ outcome-again tx outcome fits =
     let none : drop (1 + length text) (4 ∷ text) ≡ [] = ap (λ k. drop k (4 ∷ text)) one ∙ none-left text in
     ap outcome_read (heard_again (4 ∷ text) 1 tx outcome fits (record { is = sym (append-nil text) ∙ ap (λ rest. text ++ rest) (sym none) }))
 
+commit-again : (tx : TxId) (outcome : Outcome) → is_commit_spelled (fact_bytes (Fact.Heard tx outcome)) ≡ is_commit outcome
+commit-again tx Outcome.Abort = refl
+commit-again tx (Outcome.Commit choices) = refl
+
+-- ---- one byte
+
+pub byte-after : (n : ℕ) (bytes : List ℕ) → get_or (drop n bytes) 0 0 ≡ get_or bytes n 0
+byte-after zero bytes = refl
+byte-after (suc n) [] = refl
+byte-after (suc n) (b ∷ bytes) = byte-after n bytes
+
+pub first-byte : (rest tag : List ℕ) (count : ℕ) → count ≡ min (length rest) 1 → tag ≡ take count rest ++ drop count (0 ∷ []) → get_or tag 0 0 ≡ get_or rest 0 0
+first-byte [] tag count count-is tag-is =
+    let none : count ≡ 0 = omega arith in
+    ap (λ t. get_or t 0 0) tag-is ∙ ap (λ k. get_or (take k [] ++ drop k (0 ∷ [])) 0 0) none
+first-byte (b ∷ rest) tag count count-is tag-is =
+    let one : count ≡ 1 = omega arith in
+    ap (λ t. get_or t 0 0) tag-is ∙ ap (λ k. get_or (take k (b ∷ rest) ++ drop k (0 ∷ [])) 0 0) one
+
 -- ---- the answers
 
-pub answer-some : (store : Store) (facts : List Fact) (tx : TxId) (i number room : ℕ) (result : Option Outcome) → Represents store facts
-    → last_in (walk (tx_eq tx) store.heard.keys) ≡ Some i → number ≡ get_or store.numbers i 0 → 8964 ≤ room
+some-number : (numbers : List ℕ) (index : Option ℕ) (number : ℕ) → number_in numbers index ≡ Some number → (i : ℕ) × (index ≡ Some i) × (get_or numbers i 0 ≡ number)
+some-number numbers None number is = absurd (cc)
+some-number numbers (Some i) number is = (i, refl, cc)
+
+no-number : (numbers : List ℕ) (index : Option ℕ) → number_in numbers index ≡ None → index ≡ None
+no-number numbers None is = refl
+no-number numbers (Some i) is = absurd (cc)
+
+-- the fact of a number that was found says how the transaction ended
+record Answer (store : Store) (facts : List Fact) (tx : TxId) (number : ℕ) : Type 0 where
+  other : TxId
+  outcome : Outcome
+  bytes : get_or store.cells.encodings number [] ≡ fact_bytes (Fact.Heard other outcome)
+  fits : IsWellFormedFact (Fact.Heard other outcome)
+  short : fact_length (Fact.Heard other outcome) ≤ 8964
+  heard : heard_of facts tx ≡ Some outcome
+
+answered : (store : Store) (facts : List Fact) (tx : TxId) (number : ℕ) → Represents store facts → number_found store tx ≡ Some number → Answer store facts tx number
+answered store facts tx number kept is =
+    let at = some-number store.numbers (last_in (walk (tx_eq tx) store.heard.keys)) number is in
+    let found : Found tx facts at.0 = present tx facts at.0 kept.readable (ap (λ keys. last_in (walk (tx_eq tx) keys)) (sym kept.heard) ∙ at.1) in
+    record {
+      other = found.other;
+      outcome = found.outcome;
+      bytes = ap (λ n. get_or store.cells.encodings n []) (sym at.2 ∙ ap (λ ns. get_or ns at.0 0) kept.numbers)
+          ∙ ap (λ es. get_or es (get_or (heard_numbers facts) at.0 0) []) kept.encodings ∙ found.bytes;
+      fits = found.fits;
+      short = found.short;
+      heard = found.heard;
+    }
+
+pub answer-some : (store : Store) (facts : List Fact) (tx : TxId) (number room : ℕ) (result : Option Outcome) → Represents store facts → number_found store tx ≡ Some number → 8964 ≤ room
     → (length (get_or store.cells.encodings number []) ≤ room → result ≡ outcome_spelled (get_or store.cells.encodings number []))
     → result ≡ heard_of facts tx
-answer-some store facts tx i number room result kept is number-is long read =
-    let found : Found tx facts i = present tx facts i kept.readable (ap (λ keys. last_in (walk (tx_eq tx) keys)) (sym kept.heard) ∙ is) in
-    let bytes : get_or store.cells.encodings number [] ≡ fact_bytes (Fact.Heard found.other found.outcome) =
-    ap (λ n. get_or store.cells.encodings n []) (number-is ∙ ap (λ ns. get_or ns i 0) kept.numbers)
-    ∙ ap (λ es. get_or es (get_or (heard_numbers facts) i 0) []) kept.encodings ∙ found.bytes in
-    read (omega (arith, ap length bytes, long, found.short, length-fact (Fact.Heard found.other found.outcome)))
-    ∙ ap outcome_spelled bytes ∙ outcome-again found.other found.outcome found.fits ∙ sym found.heard
+answer-some store facts tx number room result kept is long read =
+    let a : Answer store facts tx number = answered store facts tx number kept is in
+    read (omega (arith, ap length a.bytes, long, a.short, length-fact (Fact.Heard a.other a.outcome)))
+    ∙ ap outcome_spelled a.bytes ∙ outcome-again a.other a.outcome a.fits ∙ sym a.heard
 
-pub answer-none : (store : Store) (facts : List Fact) (tx : TxId) → Represents store facts → last_in (walk (tx_eq tx) store.heard.keys) ≡ None → None ≡ heard_of facts tx
-answer-none store facts tx kept is = sym (missing tx facts (ap (λ keys. last_in (walk (tx_eq tx) keys)) (sym kept.heard) ∙ is))
+pub answer-commit : (store : Store) (facts : List Fact) (tx : TxId) (number : ℕ) (result : Bool) → Represents store facts → number_found store tx ≡ Some number
+    → result ≡ is_commit_spelled (get_or store.cells.encodings number []) → Some result ≡ ended_of facts tx
+answer-commit store facts tx number result kept is read =
+    let a : Answer store facts tx number = answered store facts tx number kept is in
+    ap Some (read ∙ ap is_commit_spelled a.bytes ∙ commit-again a.other a.outcome) ∙ ap (option_map is_commit) (sym a.heard)
 
-pub heard-known : (store : Store) (facts : List Fact) (tx : TxId) → Represents store facts → is_some (last_in (walk (tx_eq tx) store.heard.keys)) ≡ is_heard facts tx
-heard-known store facts tx kept = by_found (last_in (walk (tx_eq tx) store.heard.keys)) refl
+pub answer-none : (store : Store) (facts : List Fact) (tx : TxId) → Represents store facts → number_found store tx ≡ None → heard_of facts tx ≡ None
+answer-none store facts tx kept is =
+    missing tx facts (ap (λ keys. last_in (walk (tx_eq tx) keys)) (sym kept.heard) ∙ no-number store.numbers (last_in (walk (tx_eq tx) store.heard.keys)) is)
+
+pub heard-known : (store : Store) (facts : List Fact) (tx : TxId) → Represents store facts → is_some (number_found store tx) ≡ is_heard facts tx
+heard-known store facts tx kept = by_found (number_found store tx) refl
   where
-    by_found : (found : Option ℕ) → last_in (walk (tx_eq tx) store.heard.keys) ≡ found → is_some (last_in (walk (tx_eq tx) store.heard.keys)) ≡ is_heard facts tx
-    by_found None is = ap is_some is ∙ ap is_some (answer-none store facts tx kept is)
-    by_found (Some i) is =
-        ap is_some is ∙ sym (ap is_some (present tx facts i kept.readable (ap (λ keys. last_in (walk (tx_eq tx) keys)) (sym kept.heard) ∙ is)).heard)
+    by_found : (found : Option ℕ) → number_found store tx ≡ found → is_some (number_found store tx) ≡ is_heard facts tx
+    by_found None is = ap is_some is ∙ sym (ap is_some (answer-none store facts tx kept is))
+    by_found (Some number) is = ap is_some is ∙ sym (ap is_some (answered store facts tx number kept is).heard)
 
 -- ---- one more fact
 

@@ -1,5 +1,6 @@
 -- How transactions ended, in a store that finds the facts of outcomes by their transactions.
-use Rattle.std.specs.Prelude.{List, Option, None, Some, Result, Ok, Err, [], ◌∷◌, ◌++◌, ◌≡◌, ◌+◌, ◌<◌, ◌≤◌, ⊤, Bool, true, false, ℕ, get_or, length}
+use Rattle.std.specs.Prelude.{List, Option, None, Some, Result, Ok, Err, [], ◌∷◌, ◌++◌, ◌≡◌, ◌+◌, ◌<◌, ◌≤◌, ⊤, Bool, true, false, ℕ, ◌==◌, get_or, length, option_map}
+use Rattle.mdcc_base.specs.TxId.{tx_eq}
 use Rattle.mdcc_base.specs.declared.identifiers.TxId.{TxId}
 use Rattle.mdcc_option.specs.declared.choices.Outcome.{Outcome}
 use Rattle.mdcc_messages.specs.Lengths.{fact_length}
@@ -11,6 +12,7 @@ use Rattle.mdcc_messages.specs.declared.wire.WireFault.{WireFault}
 use Rattle.mdcc_protocol.specs.Facts.{epoch_of}
 use Rattle.mdcc_protocol.specs.declared.stores.StoreFault.{StoreFault}
 use Rattle.mdcc_chains.specs.Keyed.{Keyed}
+use Rattle.mdcc_chains.specs.Walks.{last_in, walk}
 use Rattle.mdcc_index.specs.Stored.{Stored}
 
 -- ---- what is found by transaction
@@ -83,6 +85,17 @@ outcome_read (Err fault) = None
 -- how a transaction ended, by the bytes of a fact that says so
 abbrev pub outcome_spelled : List ℕ → Option Outcome
 outcome_spelled bytes = outcome_read (heard_at bytes 1)
+
+-- whether it committed: the byte after the kind and the transaction
+abbrev pub is_commit_spelled : List ℕ → Bool
+is_commit_spelled bytes = get_or bytes 10 0 == 1
+
+-- the number of the oldest fact that says how a transaction ended
+abbrev pub number_in : List ℕ → Option ℕ → Option ℕ
+number_in numbers index = option_map (λ i. get_or numbers i 0) index
+
+abbrev pub number_found : Store → TxId → Option ℕ
+number_found store tx = number_in store.numbers (last_in (walk (tx_eq tx) store.heard.keys))
 
 -- ---- with one more fact
 

@@ -1,11 +1,12 @@
 //! Facts in cells, and how transactions ended by them.
-ghost use Rattle.std.specs.Prelude.{◌≡◌, ◌∷◌, ◌++◌, ◌<◌, ◌≤◌, ◌+◌, [], OnOk, OnErr, IfOk, List, Option, None, Some, is_some, get_or, length, vec_capacity, vec_len};
+ghost use Rattle.std.specs.Prelude.{◌≡◌, ◌∷◌, ◌++◌, ◌<◌, ◌≤◌, ◌+◌, [], OnOk, OnErr, IfOk, IfSome, List, Option, None, Some, is_some, get_or, length, vec_capacity, vec_len};
 ghost use Rattle.mdcc_base.specs.Unless.{GivesUnless};
 ghost use Rattle.mdcc_messages.specs.Lengths.{cells_needed};
 ghost use Rattle.mdcc_messages.specs.WellFormed.{IsWellFormedFact};
 ghost use Rattle.mdcc_messages.specs.declared.facts.Fact.{Fact as AFact};
 ghost use Rattle.mdcc_protocol.specs.Facts.{epoch_of, heard_of, is_heard};
-ghost use Rattle.mdcc_index.specs.Heard.{IsShort, Represents, heard_by, is_memory, next_epoch, numbers_by, outcome_spelled};
+ghost use Rattle.mdcc_protocol.specs.Stores.{ended_of};
+ghost use Rattle.mdcc_index.specs.Heard.{IsShort, Represents, heard_by, is_commit_spelled, is_memory, next_epoch, number_found, numbers_by, outcome_spelled};
 ghost use Rattle.mdcc_index.specs.Stored.{room_for};
 
 use crate::FactCells;
@@ -59,6 +60,18 @@ fn outcome_at(cells: &FactCells, number: u32, window: &mut [u8]) -> Option<Outco
 {
     let count = cells.start(number).peek(window);
     outcome_in(&window[..count])
+}
+
+// Whether a transaction committed, by the fact of a number that says how it ended.
+fn is_commit_at(cells: &FactCells, number: u32) -> bool
+    requires { number < length cells.now.encodings }
+    ensures { result ≡ is_commit_spelled (get_or cells.now.encodings number []) }
+{
+    let mut cursor = cells.start(number);
+    cursor.skip(10);
+    let mut tag = [0u8];
+    let _count = cursor.peek(tag.as_mut_slice());
+    tag[0] == 1
 }
 
 // An outcome has at most eight choices.
@@ -126,16 +139,36 @@ impl PoolFacts {
         Ok(())
     }
 
+    // The number of the oldest fact that says how the transaction ended.
+    fn number_of(&self, tx: &TxId) -> Option<u32>
+        ensures value { result ≡ number_found self.now tx.now }
+        ensures within { IfSome result (λ number. number < length self.now.cells.encodings) }
+    {
+        match self.heard.oldest(tx) {
+            Some(index) => Some(self.numbers[index as usize]),
+            None => None,
+        }
+    }
+
     /// The outcome that was heard of a transaction. It takes no memory.
     pub fn heard(&self, tx: TxId) -> Option<Outcome>
         ensures { (facts : List AFact) → Represents self.now facts → result ≡ heard_of facts tx }
     {
-        match self.heard.oldest(&tx) {
-            Some(index) => {
-                let number = self.numbers[index as usize];
+        match self.number_of(&tx) {
+            Some(number) => {
                 let mut window = [0u8; LONGEST_HEARD];
                 outcome_at(&self.cells, number, &mut window)
             }
+            None => None,
+        }
+    }
+
+    /// Whether the outcome that was heard of a transaction is a commit. It takes no memory.
+    pub fn ended(&self, tx: TxId) -> Option<bool>
+        ensures { (facts : List AFact) → Represents self.now facts → result ≡ ended_of facts tx }
+    {
+        match self.number_of(&tx) {
+            Some(number) => Some(is_commit_at(&self.cells, number)),
             None => None,
         }
     }
@@ -144,7 +177,7 @@ impl PoolFacts {
     pub fn is_heard(&self, tx: TxId) -> bool
         ensures { (facts : List AFact) → Represents self.now facts → result ≡ is_heard facts tx }
     {
-        self.heard.oldest(&tx).is_some()
+        self.number_of(&tx).is_some()
     }
 
     /// The epoch of the last boot.

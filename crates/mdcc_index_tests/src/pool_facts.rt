@@ -69,6 +69,10 @@ fn facts_fill_the_cells(rt: HostRuntime) -> Result<(), Fail> {
     assert_eq!(rt; (store.epoch(), store.spare()), (108, 0));
     assert!(rt; is_aborted(&store, 5));
     assert!(rt; is_aborted(&store, 6));
+    assert_eq!(rt;
+        (store.ended(tx(6)), store.ended(tx(7))),
+        (Some(false), None)
+    );
     assert!(rt; store.is_heard(tx(6)));
     assert!(rt; !store.is_heard(tx(7)));
     Ok(())
