@@ -1,5 +1,5 @@
 //! Disks over files.
-ghost use Rattle.std.specs.Prelude.{◌≡◌, ◌≤◌, ◌<◌, length, IfSome};
+ghost use Rattle.std.specs.Prelude.{◌≡◌, ◌≤◌, ◌<◌, [], length, option_map, replicate, slice_get, IfSome, Some};
 ghost use Rattle.mdcc_base.specs.Causes.{Rose};
 ghost use Rattle.mdcc_files.specs.Unspecified.{fault_at, unspecified_disk, Any, AnySince, one_moment, AnyByte, KeepsFaults};
 
@@ -42,7 +42,10 @@ fn open_locked<R: Files<File = File>>(files: &R, name: &str) -> io::Result<File>
 
 impl<'a, R: Files<File = File>> FileDisks<'a, R> {
     /// No file is open yet.
-    pub fn new(alloc: Global, files: &'a R) -> Self {
+    pub fn new(alloc: Global, files: &'a R) -> Self
+        ensures logs { result.logs.items ≡ [] }
+        ensures faults { result.faults ≡ replicate 10 0 }
+    {
         FileDisks {
             alloc,
             files,
@@ -68,6 +71,7 @@ impl<'a, R: Files<File = File>> FileDisks<'a, R> {
     fn opened(&mut self, place: u8) -> Option<usize>
         ensures faults { self.new.faults ≡ self.old.faults }
         ensures found { IfSome result (λ i. i < length self.new.logs.items) }
+        ensures disk { IfSome result (λ i. option_map (λ log. log.place) (slice_get self.new.logs.items i) ≡ Some place) }
     {
         if let Some(index) = self.logs.iter().position(|log| log.place == place) {
             return Some(index);

@@ -1,5 +1,5 @@
 //! A link over UDP sockets.
-ghost use Rattle.std.specs.Prelude.{◌≡◌, length, None, Ok, IfSome};
+ghost use Rattle.std.specs.Prelude.{◌≡◌, [], length, None, Ok, IfSome};
 ghost use Rattle.mdcc_link.specs.Link.{ReceivesAtMost};
 
 use crate::sockets::{is_quiet, is_served, served_by, socket_address};
@@ -35,7 +35,11 @@ pub struct UdpLink<'a, R: Net> {
 
 impl<'a, R: Net> UdpLink<'a, R> {
     /// A link with no endpoint.
-    pub fn new(alloc: Global, net: &'a R) -> Self {
+    pub fn new(alloc: Global, net: &'a R) -> Self
+        ensures endpoints { result.endpoints.items ≡ [] }
+        ensures lost { result.lost ≡ 0 }
+        ensures faults { result.faults ≡ 0 }
+    {
         UdpLink {
             net,
             endpoints: Vec::new(alloc),
