@@ -68,7 +68,8 @@ fn put_offered(offered: &Option<Choice>, out: &mut Vec<u8>)
 // Appends a promise, as a fact.
 fn put_promised(key: &Key, low: u64, high: u64, ballot: &Ballot, out: &mut Vec<u8>)
     requires { vec_len out.old + (26 + key_length key.now) ≤ vec_capacity out.old }
-    ensures { out.new.items ≡ out.old.items ++ (u8_bytes 2 ++ key_bytes key.now ++ u64_bytes low ++ u64_bytes high ++ ballot_bytes ballot.now) }
+    ensures bytes { out.new.items ≡ out.old.items ++ (u8_bytes 2 ++ key_bytes key.now ++ u64_bytes low ++ u64_bytes high ++ ballot_bytes ballot.now) }
+    ensures capacity { vec_capacity out.old ≤ vec_capacity out.new }
 {
     put_u8(2, out);
     put_key(key, out);
@@ -82,6 +83,7 @@ fn put_fact(fact: &Fact, out: &mut Vec<u8>)
     requires counts { HasCounts fact.now }
     requires room { vec_len out.old + fact_length fact.now ≤ vec_capacity out.old }
     ensures bytes { out.new.items ≡ out.old.items ++ fact_bytes fact.now }
+    ensures capacity { vec_capacity out.old ≤ vec_capacity out.new }
 {
     match fact {
         Fact::Booted(epoch) => {
@@ -125,11 +127,12 @@ fn put_fact(fact: &Fact, out: &mut Vec<u8>)
 }
 
 /// Writes a fact behind the bytes that are there. It succeeds where the vector has the capacity for the
-/// fact. Where there is no memory, the vector has the bytes that it had.
+/// fact. Where there is no memory, the vector has the bytes that it had. Its capacity never shrinks.
 pub fn encode_fact(fact: &Fact, out: &mut Vec<u8>) -> Result<(), Memory>
     requires { HasCounts fact.now }
     ensures ok { OnOk result (out.new.items ≡ out.old.items ++ fact_bytes fact.now) }
     ensures err { OnErr result (out.new.items ≡ out.old.items) }
+    ensures capacity { vec_capacity out.old ≤ vec_capacity out.new }
     ensures succeeds { vec_len out.old + fact_length fact.now ≤ vec_capacity out.old → IsOk result }
 {
     out.try_reserve(fact_length(fact))?;
