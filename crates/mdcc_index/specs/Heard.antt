@@ -1,5 +1,5 @@
 -- How transactions ended, in a store that finds the facts of outcomes by their transactions.
-use Rattle.std.specs.Prelude.{List, Option, None, Some, Result, Ok, Err, [], ◌∷◌, ◌++◌, ◌≡◌, ◌+◌, ◌<◌, ◌≤◌, ⊤, Bool, true, false, ℕ, ◌==◌, get_or, length, option_map}
+use Rattle.std.specs.Prelude.{List, Option, None, Some, Result, Ok, Err, [], ◌∷◌, ◌++◌, ◌≡◌, ◌+◌, ◌<◌, ◌≤◌, ⊤, Bool, ℕ, ◌==◌, get_or, length, option_map}
 use Rattle.mdcc_base.specs.TxId.{tx_eq}
 use Rattle.mdcc_base.specs.declared.identifiers.TxId.{TxId}
 use Rattle.mdcc_option.specs.declared.choices.Outcome.{Outcome}
@@ -10,10 +10,9 @@ use Rattle.mdcc_messages.specs.WellFormed.{IsWellFormedFact}
 use Rattle.mdcc_messages.specs.declared.facts.Fact.{Fact}
 use Rattle.mdcc_messages.specs.declared.wire.WireFault.{WireFault}
 use Rattle.mdcc_protocol.specs.Facts.{epoch_of}
-use Rattle.mdcc_protocol.specs.declared.stores.StoreFault.{StoreFault}
 use Rattle.mdcc_chains.specs.Keyed.{Keyed}
 use Rattle.mdcc_chains.specs.Walks.{last_in, walk}
-use Rattle.mdcc_index.specs.Stored.{Stored}
+use Rattle.mdcc_fact_cells.specs.Stored.{Stored}
 
 -- ---- what is found by transaction
 
@@ -102,7 +101,3 @@ number_found store tx = number_in store.numbers (last_in (walk (tx_eq tx) store.
 abbrev pub next_epoch : Fact → ℕ → ℕ
 next_epoch (Fact.Booted epoch) last = epoch
 next_epoch _ last = last
-
-abbrev pub is_memory : StoreFault → Bool
-is_memory StoreFault.Memory = true
-is_memory _ = false

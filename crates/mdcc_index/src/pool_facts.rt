@@ -1,18 +1,17 @@
 //! Facts in cells, and how transactions ended by them.
 ghost use Rattle.std.specs.Prelude.{◌≡◌, ◌∷◌, ◌++◌, ◌<◌, ◌≤◌, ◌+◌, [], OnOk, OnErr, IfOk, IfSome, List, Option, None, Some, is_some, get_or, length, vec_capacity, vec_len};
-ghost use Rattle.mdcc_base.specs.Unless.{GivesUnless};
-ghost use Rattle.mdcc_messages.specs.Lengths.{cells_needed};
+ghost use Rattle.mdcc_messages.specs.Lengths.{cells_needed, fact_length};
 ghost use Rattle.mdcc_messages.specs.WellFormed.{IsWellFormedFact};
 ghost use Rattle.mdcc_messages.specs.declared.facts.Fact.{Fact as AFact};
 ghost use Rattle.mdcc_protocol.specs.Facts.{epoch_of, heard_of, is_heard};
 ghost use Rattle.mdcc_protocol.specs.Stores.{ended_of};
-ghost use Rattle.mdcc_index.specs.Heard.{IsShort, Represents, heard_by, is_commit_spelled, is_memory, next_epoch, number_found, numbers_by, outcome_spelled};
-ghost use Rattle.mdcc_index.specs.Stored.{room_for};
+ghost use Rattle.mdcc_index.specs.Heard.{IsShort, Represents, heard_by, is_commit_spelled, next_epoch, number_found, numbers_by, outcome_spelled};
+ghost use Rattle.mdcc_fact_cells.specs.Stored.{room_for};
 
-use crate::FactCells;
 use mdcc_append::lengths::heard_length;
 use mdcc_base::{Memory, TxId};
 use mdcc_chains::TransactionIndex;
+use mdcc_fact_cells::FactCells;
 use mdcc_messages::Fact;
 use mdcc_option::Outcome;
 use mdcc_parts::given::read_heard;
@@ -124,8 +123,9 @@ impl PoolFacts {
 
     /// Adds a fact.
     pub fn add(&mut self, fact: &Fact) -> Result<(), StoreFault>
-        requires { IsWellFormedFact fact.now }
-        ensures answer { GivesUnless is_memory result (room_for self.old.cells.spare (cells_needed fact.now)) }
+        requires well_formed { IsWellFormedFact fact.now }
+        requires short { fact_length fact.now ≤ 2097152 }
+        ensures answer { result ≡ room_for self.old.cells.spare (cells_needed fact.now) }
         ensures ok { (facts : List AFact) → Represents self.old facts → OnOk result (Represents self.new (fact.now ∷ facts)) }
         ensures used { OnOk result (self.new.cells.spare + cells_needed fact.now ≡ self.old.cells.spare) }
         ensures err { OnErr result (self.new ≡ self.old) }
@@ -133,7 +133,7 @@ impl PoolFacts {
         self.cells.room_for(fact)?;
         show_short(fact);
         let number = self.cells.len();
-        self.cells.add(fact)?;
+        self.cells.add(fact);
         enter_heard(&mut self.heard, &mut self.numbers, fact, number);
         self.epoch = next_epoch(fact, self.epoch);
         Ok(())

@@ -11,7 +11,7 @@ use Rattle.mdcc_spelling.proofs.Lengths.{length-fact}
 use Rattle.mdcc_pool.specs.Held.{Held, held_at}
 use Rattle.mdcc_pool.specs.Sizes.{cells_for}
 use Rattle.mdcc_pool.specs.declared.pool.Ticket.{Ticket}
-use Rattle.mdcc_index.specs.Stored.{bytes_or_none, bytes_under, encodings_in, no_ticket, AreTicketed}
+use Rattle.mdcc_fact_cells.specs.Stored.{bytes_or_none, bytes_under, encodings_in, no_ticket, AreTicketed}
 
 abbrev pub nothing : Option (List ℕ)
 nothing = None

@@ -3,7 +3,7 @@ ghost use Rattle.std.specs.Prelude.{◌≡◌, ◌≤◌, ◌<◌, ◌+◌, ◌-
 ghost use Rattle.mdcc_messages.specs.Lengths.{cells_needed, fact_length};
 ghost use Rattle.mdcc_messages.specs.Spelling.{fact_bytes};
 ghost use Rattle.mdcc_messages.specs.WellFormed.{IsWellFormedFact};
-ghost use Rattle.mdcc_index.specs.Stored.{room_for};
+ghost use Rattle.mdcc_fact_cells.specs.Stored.{room_for};
 
 use mdcc_base::Memory;
 use mdcc_journal::counts::well_formed_facts_have_counts;
@@ -26,14 +26,14 @@ pub struct FactCells {
 }
 
 impl Model for FactCells {
-    ghost use Rattle.std.specs.Prelude.{vec_capacity};
-    ghost use Rattle.mdcc_index.specs.Stored.{Stored, AreTicketed, encodings_in};
+    ghost use Rattle.std.specs.Prelude.{vec_capacity, ◌≤◌};
+    ghost use Rattle.mdcc_fact_cells.specs.Stored.{Stored, AreTicketed, encodings_in};
 
     ghost Value = { Stored };
 
     ghost view = { λ s. record { spare = s.pool.spare; encodings = encodings_in s.pool.held s.tickets.items } };
 
-    ghost invariant = { λ s. AreTicketed s.pool s.tickets.items (vec_capacity s.tickets) };
+    ghost invariant = { λ s. AreTicketed s.pool s.tickets.items (vec_capacity s.tickets) × (2097152 ≤ vec_capacity s.buffer) };
 }
 
 impl FactCells {
@@ -77,20 +77,19 @@ impl FactCells {
         }
     }
 
-    /// Adds a fact whose cells are spare. Where there is no memory to encode it, nothing changes.
-    pub fn add(&mut self, fact: &Fact) -> Result<(), Memory>
+    /// Adds a fact whose cells are spare. It takes no memory.
+    pub fn add(&mut self, fact: &Fact)
         requires well_formed { IsWellFormedFact fact.now }
+        requires short { fact_length fact.now ≤ 2097152 }
         requires room { cells_needed fact.now ≤ self.old.spare }
-        ensures encodings { OnOk result (self.new.encodings ≡ self.old.encodings ++ fact_bytes fact.now ∷ []) }
-        ensures used { OnOk result (self.new.spare + cells_needed fact.now ≡ self.old.spare) }
-        ensures err { OnErr result (self.new ≡ self.old) }
+        ensures encodings { self.new.encodings ≡ self.old.encodings ++ fact_bytes fact.now ∷ [] }
+        ensures used { self.new.spare + cells_needed fact.now ≡ self.old.spare }
     {
         well_formed_facts_have_counts();
         self.buffer.clear();
-        encode_fact(fact, &mut self.buffer)?;
+        encode_fact(fact, &mut self.buffer).unwrap();
         let ticket = self.pool.put(&self.buffer).unwrap();
         self.tickets.push_reserved(ticket);
-        Ok(())
     }
 
     /// A cursor at the first byte of the fact of a number.

@@ -1,0 +1,19 @@
+-- Facts whose encodings are stored, the newest first.
+use Rattle.std.specs.Prelude.{◌≡◌, ◌++◌, ◌∷◌, [], List, ⊤, ℕ}
+use Rattle.mdcc_messages.specs.Spelling.{fact_bytes}
+use Rattle.mdcc_messages.specs.WellFormed.{IsWellFormedFact}
+use Rattle.mdcc_messages.specs.declared.facts.Fact.{Fact}
+
+-- the encodings of facts, the oldest first, so that each stands at its number
+abbrev pub encodings_of : List Fact → List (List ℕ)
+encodings_of [] = []
+encodings_of (fact ∷ facts) = encodings_of facts ++ fact_bytes fact ∷ []
+
+abbrev pub AreWellFormed : List Fact → Type 0
+AreWellFormed [] = ⊤
+AreWellFormed (fact ∷ facts) = IsWellFormedFact fact × AreWellFormed facts
+
+-- the encodings are those of these facts
+pub record Holds (encodings : List (List ℕ)) (facts : List Fact) : Type 0 where
+  pub encodings_are : encodings ≡ encodings_of facts
+  pub well_formed : AreWellFormed facts

@@ -1,0 +1,4 @@
+pub mod Beside
+pub mod Entered
+pub mod Folding
+pub mod Promised

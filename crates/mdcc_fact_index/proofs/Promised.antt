@@ -1,0 +1,91 @@
+-- The end of a promise is that of the oldest fact that promises it.
+use Rattle.std.proofs.Common.{◌≡◌, ◌==◌, ◌<◌, ℕ, Bool, true, false, List, [], ◌∷◌, Option, Some, None, get_or, length, refl, sym, ap, ◌∙◌, arith, inl, inr}
+use Rattle.std.specs.List.{filter, fold}
+use Rattle.std.specs.Option.{option_or}
+use Rattle.std.specs.Prelude.{IfSome}
+use Rattle.std.specs.Cmp.Lexicographic.{nat_list_eq_equiv}
+use Rattle.std.proofs.lemmas.Bool.{cases_Bool, eqb-true}
+use Rattle.std.proofs.lemmas.List.{get_or_append_left, get_or_at, length-append}
+use Rattle.mdcc_base.specs.Ballot.{ballot_eq}
+use Rattle.mdcc_base.specs.Key.{key_eq}
+use Rattle.mdcc_base.specs.declared.identifiers.Ballot.{Ballot}
+use Rattle.mdcc_base.specs.declared.key.Key.{Key}
+use Rattle.mdcc_messages.specs.declared.facts.Fact.{Fact}
+use Rattle.mdcc_protocol.specs.Facts.{promised_through, range_promised}
+use Rattle.mdcc_chains.specs.Walks.{entry_at}
+use Rattle.mdcc_chains.proofs.Filtered.{entry-within}
+use Rattle.mdcc_fact_index.specs.Promises.{is_at, older_end, older_end_at, promises_of, ranges_in}
+use Rattle.mdcc_fact_index.specs.declared.promises.Promise.{Promise}
+
+-- ---- the range at an index
+
+pub length-ranges : (entries : List (Key × Promise)) → length (ranges_in entries) ≡ length entries
+length-ranges [] = refl
+length-ranges (entry ∷ entries) = omega (arith, length-append (ranges_in entries) (entry.1 ∷ []), length-ranges entries)
+
+pub range-at : (entries : List (Key × Promise)) (i : ℕ) (entry : Key × Promise) (default : Promise) → entry_at entries i ≡ Some entry → get_or (ranges_in entries) i default ≡ entry.1
+range-at [] i entry default at = absurd (cc)
+range-at (e ∷ entries) i entry default at = elim (cases_Bool (i == length entries)) [
+  | inl here ↦
+      let same : i ≡ length entries = eqb-true i (length entries) here in
+      let one : Some e ≡ Some entry = rw here at at in
+      get_or_at (ranges_in entries) e.1 [] default i (length-ranges entries ∙ sym same) ∙ (let is : e ≡ entry = cc in ap (λ x. x.1) is)
+  | inr there ↦
+      let older : entry_at entries i ≡ Some entry = rw there at at in
+      get_or_append_left (ranges_in entries) (e.1 ∷ []) default i (omega (arith, entry-within entries i entry older, length-ranges entries))
+      ∙ range-at entries i entry default older
+]
+
+pub still-within : (bound index : ℕ) (next : Option ℕ) → index < bound → IfSome next (λ i. i < index) → IfSome next (λ i. i < bound)
+still-within bound index None within lower = tt
+still-within bound index (Some i) within lower = omega (arith, within, lower)
+
+-- ---- the oldest end
+
+or-one : {X : Type 0} (a b c : Option X) → option_or (option_or a b) c ≡ option_or a (option_or b c)
+or-one None b c = refl
+or-one (Some x) b c = refl
+
+or-none : {X : Type 0} (a : Option X) → option_or a None ≡ a
+or-none None = refl
+or-none (Some x) = refl
+
+module _ (key : Key) (version : ℕ) (ballot : Ballot) where
+  range-here : (k : Key) (low high : ℕ) (b : Ballot) (later : Option ℕ) → key_eq key k ≡ true
+      → older_end version ballot later (record { low = low; high = high; ballot = b }) ≡ option_or (range_promised key version ballot (Fact.Promised k low high b)) later
+  range-here k low high b later is = by (low == version) refl (ballot_eq b ballot) refl (nat_list_eq_equiv.symm k key ∙ is)
+    where
+      by : (begins : Bool) → (low == version) ≡ begins → (same : Bool) → ballot_eq b ballot ≡ same → key_eq k key ≡ true
+          → older_end version ballot later (record { low = low; high = high; ballot = b }) ≡ option_or (range_promised key version ballot (Fact.Promised k low high b)) later
+      by true begins-is true same-is at = rw (begins-is, same-is, at) refl
+      by true begins-is false same-is at = rw (begins-is, same-is) refl
+      by false begins-is same same-is at = rw begins-is refl
+
+  range-elsewhere : (k : Key) (low high : ℕ) (b : Ballot) → key_eq key k ≡ false → range_promised key version ballot (Fact.Promised k low high b) ≡ None
+  range-elsewhere k low high b is = by (low == version) refl (ballot_eq b ballot) refl (nat_list_eq_equiv.symm k key ∙ is)
+    where
+      by : (begins : Bool) → (low == version) ≡ begins → (same : Bool) → ballot_eq b ballot ≡ same → key_eq k key ≡ false → range_promised key version ballot (Fact.Promised k low high b) ≡ None
+      by true begins-is true same-is at = rw (begins-is, same-is, at) refl
+      by true begins-is false same-is at = rw (begins-is, same-is) refl
+      by false begins-is same same-is at = rw begins-is refl
+
+  -- the fold so far, and what the older facts promise
+  ends : (facts : List Fact) (later : Option ℕ) → fold (older_end_at version ballot) later (filter (is_at key) (promises_of facts)) ≡ option_or (promised_through facts key version ballot) later
+  ends [] later = refl
+  ends (Fact.Promised k low high b ∷ facts) later = elim (cases_Bool (key_eq key k)) [
+    | inl same ↦
+        rw same (ends facts (older_end version ballot later (record { low = low; high = high; ballot = b })))
+        ∙ ap (option_or (promised_through facts key version ballot)) (range-here k low high b later same)
+        ∙ sym (or-one (promised_through facts key version ballot) (range_promised key version ballot (Fact.Promised k low high b)) later)
+    | inr other ↦
+        rw other (ends facts later)
+        ∙ ap (λ range. option_or (promised_through facts key version ballot) (option_or range later)) (sym (range-elsewhere k low high b other))
+        ∙ sym (or-one (promised_through facts key version ballot) (range_promised key version ballot (Fact.Promised k low high b)) later)
+  ]
+  ends (Fact.Booted epoch ∷ facts) later = ends facts later ∙ sym (or-one (promised_through facts key version ballot) None later)
+  ends (Fact.Voted k v b options offered ∷ facts) later = ends facts later ∙ sym (or-one (promised_through facts key version ballot) None later)
+  ends (Fact.Heard tx outcome ∷ facts) later = ends facts later ∙ sym (or-one (promised_through facts key version ballot) None later)
+  ends (Fact.Adopted k v item adds ∷ facts) later = ends facts later ∙ sym (or-one (promised_through facts key version ballot) None later)
+
+  pub end-found : (facts : List Fact) → fold (older_end_at version ballot) None (filter (is_at key) (promises_of facts)) ≡ promised_through facts key version ballot
+  end-found facts = ends facts None ∙ or-none (promised_through facts key version ballot)

@@ -1,0 +1,8 @@
+//! Indices of facts in cells: what a fact concerns, and the numbers of the facts that concern it.
+#![tactic(auto)]
+
+pub mod instance_chains;
+pub mod promises;
+
+pub use instance_chains::InstanceChains;
+pub use promises::{Promise, Promises};
