@@ -65,7 +65,7 @@ entries-entered all (fact ∷ facts) older =
 
 -- ---- what is stored under a number
 
-encodings-length : (facts : List Fact) → length (encodings_of facts) ≡ length facts
+pub encodings-length : (facts : List Fact) → length (encodings_of facts) ≡ length facts
 encodings-length [] = refl
 encodings-length (fact ∷ facts) = omega (arith, length-append (encodings_of facts) (fact_bytes fact ∷ []), encodings-length facts)
 

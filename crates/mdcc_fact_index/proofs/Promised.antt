@@ -1,11 +1,11 @@
--- The end of a promise is that of the oldest fact that promises it.
-use Rattle.std.proofs.Common.{◌≡◌, ◌==◌, ◌<◌, ℕ, Bool, true, false, List, [], ◌∷◌, Option, Some, None, get_or, length, refl, sym, ap, ◌∙◌, arith, inl, inr}
+-- What promises are found in a store that has them by their keys.
+use Rattle.std.proofs.Common.{◌≡◌, ◌==◌, ◌<◌, ℕ, Bool, true, false, List, [], ◌∷◌, ◌++◌, ◌≤◌, Option, Some, None, get_or, length, map, refl, sym, ap, ◌∙◌, arith, inl, inr, append-nil, append_assoc}
 use Rattle.std.specs.List.{filter, fold}
 use Rattle.std.specs.Option.{option_or}
-use Rattle.std.specs.Prelude.{IfSome}
+use Rattle.std.specs.Prelude.{IfSome, nat_le}
 use Rattle.std.specs.Cmp.Lexicographic.{nat_list_eq_equiv}
 use Rattle.std.proofs.lemmas.Bool.{cases_Bool, eqb-true}
-use Rattle.std.proofs.lemmas.List.{get_or_append_left, get_or_at, length-append}
+use Rattle.std.proofs.lemmas.List.{get_or_append_left, get_or_at, length-append, map-append}
 use Rattle.mdcc_base.specs.Ballot.{ballot_eq}
 use Rattle.mdcc_base.specs.Key.{key_eq}
 use Rattle.mdcc_base.specs.declared.identifiers.Ballot.{Ballot}
@@ -14,7 +14,9 @@ use Rattle.mdcc_messages.specs.declared.facts.Fact.{Fact}
 use Rattle.mdcc_protocol.specs.Facts.{promised_through, range_promised}
 use Rattle.mdcc_chains.specs.Walks.{entry_at}
 use Rattle.mdcc_chains.proofs.Filtered.{entry-within}
-use Rattle.mdcc_fact_index.specs.Promises.{is_at, older_end, older_end_at, promises_of, ranges_in}
+use Rattle.mdcc_fact_folds.specs.Chains.{is_promise_of}
+use Rattle.mdcc_fact_folds.specs.Promises.{with_promise}
+use Rattle.mdcc_fact_index.specs.Promises.{ArePromised, is_at, Kept, older_end, older_end_at, promised_by, promises_of, ranges_in, with_range, with_range_at}
 use Rattle.mdcc_fact_index.specs.declared.promises.Promise.{Promise}
 
 -- ---- the range at an index
@@ -89,3 +91,56 @@ module _ (key : Key) (version : ℕ) (ballot : Ballot) where
 
   pub end-found : (facts : List Fact) → fold (older_end_at version ballot) None (filter (is_at key) (promises_of facts)) ≡ promised_through facts key version ballot
   end-found facts = ends facts None ∙ or-none (promised_through facts key version ballot)
+
+-- ---- the greatest ballot
+
+module _ (key : Key) (version : ℕ) where
+  ballot-here : (k : Key) (low high : ℕ) (b ballot : Ballot) → key_eq key k ≡ true
+      → with_range version ballot (record { low = low; high = high; ballot = b }) ≡ with_promise key version ballot (Fact.Promised k low high b)
+  ballot-here k low high b ballot is = by (nat_le low version) refl (nat_le version high) refl (nat_list_eq_equiv.symm k key ∙ is)
+    where
+      by : (begins : Bool) → nat_le low version ≡ begins → (ends : Bool) → nat_le version high ≡ ends → key_eq k key ≡ true
+          → with_range version ballot (record { low = low; high = high; ballot = b }) ≡ with_promise key version ballot (Fact.Promised k low high b)
+      by true begins-is true ends-is at = rw (begins-is, ends-is, at) refl
+      by true begins-is false ends-is at = rw (begins-is, ends-is) refl
+      by false begins-is ends ends-is at = rw begins-is refl
+
+  pub greatest-found : (facts : List Fact) (start : Ballot)
+      → fold (with_range_at version) start (filter (is_at key) (promises_of facts)) ≡ fold (with_promise key version) start (filter (is_promise_of key) facts)
+  greatest-found [] start = refl
+  greatest-found (Fact.Promised k low high b ∷ facts) start = elim (cases_Bool (key_eq key k)) [
+    | inl same ↦
+        let turned : key_eq k key ≡ true = nat_list_eq_equiv.symm k key ∙ same in
+        rw (same, turned) (
+          greatest-found facts (with_range version start (record { low = low; high = high; ballot = b }))
+          ∙ ap (λ ballot. fold (with_promise key version) ballot (filter (is_promise_of key) facts)) (ballot-here k low high b start same)
+        )
+    | inr other ↦
+        let turned : key_eq k key ≡ false = nat_list_eq_equiv.symm k key ∙ other in
+        rw (other, turned) (greatest-found facts start)
+  ]
+  greatest-found (Fact.Booted epoch ∷ facts) start = greatest-found facts start
+  greatest-found (Fact.Voted k v b options offered ∷ facts) start = greatest-found facts start
+  greatest-found (Fact.Heard tx outcome ∷ facts) start = greatest-found facts start
+  greatest-found (Fact.Adopted k v item adds ∷ facts) start = greatest-found facts start
+
+-- ---- one more fact
+
+ranges-more : (more entries : List (Key × Promise)) → ranges_in (more ++ entries) ≡ ranges_in entries ++ ranges_in more
+ranges-more [] entries = sym (append-nil (ranges_in entries))
+ranges-more (entry ∷ more) entries = ap (λ ranges. ranges ++ entry.1 ∷ []) (ranges-more more entries) ∙ append_assoc (ranges_in entries) (ranges_in more) (entry.1 ∷ [])
+
+pub promised-more : (old new : Kept) (facts : List Fact) (fact : Fact) → new.keys.keys ≡ map (λ entry. entry.0) (promised_by fact) ++ old.keys.keys
+    → new.ranges ≡ old.ranges ++ ranges_in (promised_by fact) → ArePromised old facts → ArePromised new (fact ∷ facts)
+promised-more old new facts fact keys ranges promised = record {
+  keys_of = keys ∙ ap (λ ks. map (λ (entry : Key × Promise). entry.0) (promised_by fact) ++ ks) promised.keys_of
+      ∙ sym (map-append (λ (entry : Key × Promise). entry.0) (promised_by fact) (promises_of facts));
+  ranges_of = ranges ∙ ap (λ rs. rs ++ ranges_in (promised_by fact)) promised.ranges_of ∙ sym (ranges-more (promised_by fact) (promises_of facts));
+}
+
+pub length-promised : (fact : Fact) → length (map (λ (entry : Key × Promise). entry.0) (promised_by fact)) ≤ 1
+length-promised (Fact.Promised key low high ballot) = omega arith
+length-promised (Fact.Booted epoch) = omega arith
+length-promised (Fact.Voted key version ballot options offered) = omega arith
+length-promised (Fact.Heard tx outcome) = omega arith
+length-promised (Fact.Adopted key version item adds) = omega arith

@@ -1,6 +1,6 @@
 -- Promises, in a store that finds them by their keys.
-use Rattle.std.specs.Prelude.{List, Option, [], ◌∷◌, ◌++◌, ◌≡◌, ◌≤◌, ◌==◌, ◌&&◌, Some, Bool, ℕ, if◌then◌else◌, length, map}
-use Rattle.mdcc_base.specs.Ballot.{ballot_eq}
+use Rattle.std.specs.Prelude.{List, Option, [], ◌∷◌, ◌++◌, ◌≡◌, ◌≤◌, ◌==◌, ◌&&◌, Some, Bool, ℕ, if◌then◌else◌, length, map, nat_le}
+use Rattle.mdcc_base.specs.Ballot.{ballot_eq, ballot_max, fast_ballot}
 use Rattle.mdcc_base.specs.Key.{key_eq}
 use Rattle.mdcc_base.specs.declared.identifiers.Ballot.{Ballot}
 use Rattle.mdcc_base.specs.declared.key.Key.{Key}
@@ -40,6 +40,10 @@ pub record AreListed (keys : List Key) (ranges : List Promise) (entries : List (
   pub keys_of : keys ≡ map (λ entry. entry.0) entries
   pub ranges_of : ranges ≡ ranges_in entries
 
+-- so they are what these facts promise
+abbrev pub ArePromised : Kept → List Fact → Type 0
+ArePromised promises facts = AreListed promises.keys.keys promises.ranges (promises_of facts)
+
 -- ---- what is found
 
 abbrev pub is_at : Key → Key × Promise → Bool
@@ -51,3 +55,10 @@ older_end version ballot later promise = if promise.low == version && ballot_eq 
 
 abbrev pub older_end_at : ℕ → Ballot → Option ℕ → Key × Promise → Option ℕ
 older_end_at version ballot later entry = older_end version ballot later entry.1
+
+-- the greater of a ballot and that of a promise of this version
+abbrev pub with_range : ℕ → Ballot → Promise → Ballot
+with_range version ballot promise = ballot_max (if nat_le promise.low version && nat_le version promise.high then promise.ballot else fast_ballot) ballot
+
+abbrev pub with_range_at : ℕ → Ballot → Key × Promise → Ballot
+with_range_at version ballot entry = with_range version ballot entry.1

@@ -99,7 +99,7 @@ impl InstanceChains {
     }
 
     /// Enters a fact with its number under every instance that it is of.
-    pub fn push_all(&mut self, fact: &Fact, number: u32)
+    pub fn add(&mut self, fact: &Fact, number: u32)
         requires { length (instances_in fact.now) + length self.old.entries ≤ self.old.room }
         ensures entries { self.new.entries ≡ entries_in fact.now number ++ self.old.entries }
         ensures room { self.new.room ≡ self.old.room }

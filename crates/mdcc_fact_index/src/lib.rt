@@ -2,7 +2,9 @@
 #![tactic(auto)]
 
 pub mod instance_chains;
+pub mod outcomes;
 pub mod promises;
 
 pub use instance_chains::InstanceChains;
+pub use outcomes::OutcomeIndex;
 pub use promises::{Promise, Promises};

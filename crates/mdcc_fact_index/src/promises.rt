@@ -1,12 +1,18 @@
 //! Promises, found by key.
 ghost use Rattle.std.specs.List.{filter, fold};
-ghost use Rattle.std.specs.Prelude.{◌≡◌, ◌++◌, ◌∷◌, ◌<◌, [], IfOk, List, None, Some, length, vec_capacity};
+ghost use Rattle.std.specs.Prelude.{◌≡◌, ◌+◌, ◌++◌, ◌∷◌, ◌<◌, ◌≤◌, [], IfOk, List, None, Some, length, map, vec_capacity};
+ghost use Rattle.mdcc_base.specs.Ballot.{ballot_max, fast_ballot};
 ghost use Rattle.mdcc_base.specs.declared.key.Key.{Key as AKey};
-ghost use Rattle.mdcc_fact_index.specs.Promises.{AreListed, is_at, older_end, older_end_at};
+ghost use Rattle.mdcc_messages.specs.declared.facts.Fact.{Fact as AFact};
+ghost use Rattle.mdcc_protocol.specs.Facts.{promised_through};
+ghost use Rattle.mdcc_fact_folds.specs.Chains.{is_promise_of};
+ghost use Rattle.mdcc_fact_folds.specs.Promises.{with_promise};
+ghost use Rattle.mdcc_fact_index.specs.Promises.{AreListed, ArePromised, is_at, older_end, older_end_at, promised_by, ranges_in, with_range, with_range_at};
 ghost use Rattle.mdcc_fact_index.specs.declared.promises.Promise.{Promise as APromise};
 
 use mdcc_base::{Ballot, Key, Memory};
 use mdcc_chains::KeyIndex;
+use mdcc_messages::Fact;
 use std::alloc::Global;
 use std::marker::Model;
 
@@ -67,6 +73,38 @@ fn oldest_end(
     found
 }
 
+// The greater of two ballots.
+fn ballot_max(a: Ballot, b: Ballot) -> Ballot
+    ensures { result ≡ ballot_max a b }
+{
+    if a.is_below(&b) { b } else { a }
+}
+
+// The greater of a ballot and that of a promise of this version.
+fn with_range(promise: &Promise, version: u64, ballot: Ballot) -> Ballot
+    ensures { result ≡ with_range version ballot promise.now }
+{
+    if promise.low <= version && version <= promise.high {
+        ballot_max(promise.ballot, ballot)
+    } else {
+        ballot_max(Ballot::FAST, ballot)
+    }
+}
+
+// The greatest ballot of the promises of a version of a key.
+fn greatest(keys: &KeyIndex, ranges: &[Promise], key: &Key, version: u64) -> Ballot
+    requires { length ranges.now ≡ length keys.now.keys }
+    ensures { (entries : List (AKey × APromise)) → AreListed keys.now.keys ranges.now entries → result ≡ fold (with_range_at version) fast_ballot (filter (is_at key.now) entries) }
+{
+    let mut found = Ballot::FAST;
+    let mut at = keys.first(key);
+    while let Some(index) = at {
+        found = with_range(&ranges[index as usize], version, found);
+        at = keys.next(key, index);
+    }
+    found
+}
+
 impl Promises {
     /// No promise, with room for so many.
     pub fn new(alloc: Global, room: u32) -> Result<Promises, Memory>
@@ -78,8 +116,8 @@ impl Promises {
         })
     }
 
-    /// Adds a promise.
-    pub fn push(&mut self, key: Key, promise: Promise)
+    // Adds a promise.
+    fn push(&mut self, key: Key, promise: Promise)
         requires { length self.old.keys.keys < self.old.keys.room }
         ensures keys { self.new.keys.keys ≡ key ∷ self.old.keys.keys }
         ensures room { self.new.keys.room ≡ self.old.keys.room }
@@ -89,10 +127,52 @@ impl Promises {
         self.ranges.push_reserved(promise);
     }
 
+    // Adds what a fact promises.
+    fn enter(&mut self, fact: &Fact)
+        requires { length self.old.keys.keys < self.old.keys.room }
+        ensures keys { self.new.keys.keys ≡ map (λ entry. entry.0) (promised_by fact.now) ++ self.old.keys.keys }
+        ensures room { self.new.keys.room ≡ self.old.keys.room }
+        ensures ranges { self.new.ranges ≡ self.old.ranges ++ ranges_in (promised_by fact.now) }
+    {
+        if let Fact::Promised {
+            key,
+            low,
+            high,
+            ballot,
+        } = fact
+        {
+            self.push(
+                *key,
+                Promise {
+                    low: *low,
+                    high: *high,
+                    ballot: *ballot,
+                },
+            );
+        }
+    }
+
+    /// Adds a fact.
+    pub fn add(&mut self, fact: &Fact)
+        requires { length self.old.keys.keys < self.old.keys.room }
+        ensures promises { (facts : List AFact) → ArePromised self.old facts → ArePromised self.new (fact.now ∷ facts) }
+        ensures few { length self.new.keys.keys ≤ length self.old.keys.keys + 1 }
+        ensures room { self.new.keys.room ≡ self.old.keys.room }
+    {
+        self.enter(fact);
+    }
+
     /// The high end of the oldest promise of a key of this ballot that begins at this version.
-    pub fn oldest_end(&self, key: &Key, version: u64, ballot: Ballot) -> Option<u64>
-        ensures { (entries : List (AKey × APromise)) → AreListed self.now.keys.keys self.now.ranges entries → result ≡ fold (older_end_at version ballot) None (filter (is_at key.now) entries) }
+    pub fn promised(&self, key: &Key, version: u64, ballot: Ballot) -> Option<u64>
+        ensures { (facts : List AFact) → ArePromised self.now facts → result ≡ promised_through facts key.now version ballot }
     {
         oldest_end(&self.keys, &self.ranges, key, version, ballot)
+    }
+
+    /// The greatest ballot that was promised for a version of a key.
+    pub fn greatest(&self, key: &Key, version: u64) -> Ballot
+        ensures { (facts : List AFact) → ArePromised self.now facts → result ≡ fold (with_promise key.now version) fast_ballot (filter (is_promise_of key.now) facts) }
+    {
+        greatest(&self.keys, &self.ranges, key, version)
     }
 }

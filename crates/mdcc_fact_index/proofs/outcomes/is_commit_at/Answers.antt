@@ -1,7 +1,7 @@
 use Rattle.std.proofs.Common.{◌++◌, [], get_or, length, take, drop, min, ap, ◌∙◌}
 use Rattle.std.specs.Prelude.{◌==◌}
-use Rattle.mdcc_index.proofs.Endings.{byte-after, first-byte}
-use Rattle.mdcc_index.proofs.pool_facts.is_commit_at.Goals as goal
+use Rattle.mdcc_fact_index.proofs.Endings.{byte-after, first-byte}
+use Rattle.mdcc_fact_index.proofs.outcomes.is_commit_at.Goals as goal
 
 pub returns : goal.returns
 returns c =

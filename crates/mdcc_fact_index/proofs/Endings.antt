@@ -2,7 +2,7 @@
 use Rattle.std.proofs.Common.{◌≡◌, ℕ, zero, suc, ◌+◌, ◌<◌, ◌≤◌, ◌⊎◌, Bool, true, false, List, [], ◌∷◌, ◌++◌, Option, Some, None, is_some, length, get_or, take, drop, min, option_map, inl, inr, refl, sym, ap, ◌∙◌, arith, append-nil, length-append}
 use Rattle.std.specs.Option.{option_or}
 use Rattle.std.specs.Prelude.{if◌then◌else◌}
-use Rattle.std.proofs.lemmas.Bool.{cases_Bool}
+use Rattle.std.proofs.lemmas.Bool.{cases_Bool, cases_lt}
 use Rattle.std.proofs.lemmas.List.{get_or_append_left, get_or_at}
 use Rattle.mdcc_base.specs.TxId.{tx_eq}
 use Rattle.mdcc_base.specs.declared.identifiers.TxId.{TxId}
@@ -19,7 +19,10 @@ use Rattle.mdcc_protocol.specs.Stores.{ended_of}
 use Rattle.mdcc_spelling.proofs.Common.{heard_again}
 use Rattle.mdcc_spelling.proofs.Lengths.{length-fact}
 use Rattle.mdcc_chains.specs.Walks.{last_in, walk}
-use Rattle.mdcc_index.specs.Heard.{encodings_of, heard_by, heard_numbers, heard_txs, is_commit_spelled, next_epoch, number_found, number_in, numbers_by, outcome_read, outcome_spelled, AreReadable, IsShort, Represents, Store}
+use Rattle.mdcc_fact_cells.specs.Holding.{AreWellFormed, encodings_of, Holds}
+use Rattle.mdcc_fact_index.specs.Heard.{heard_by, heard_numbers, heard_txs, is_commit_spelled, number_found, number_in, numbers_by, outcome_read, outcome_spelled, AreHeard, AreNumbersBelow, HeardTxs}
+use Rattle.mdcc_fact_index.proofs.Entered.{encodings-length}
+use Rattle.mdcc_fact_index.proofs.Short.{heard-short}
 
 -- ---- lengths
 
@@ -40,10 +43,6 @@ numbers-alike (fact ∷ facts) =
       length-numbers_by fact (length facts),
       numbers-alike facts,
     )
-
-pub encodings-length : (facts : List Fact) → length (encodings_of facts) ≡ length facts
-encodings-length [] = refl
-encodings-length (fact ∷ facts) = omega (arith, length-append (encodings_of facts) (fact_bytes fact ∷ []), encodings-length facts)
 
 -- ---- walks
 
@@ -119,7 +118,7 @@ missing tx (Fact.Promised key low high ballot ∷ facts) is = or-none (heard_of 
 missing tx (Fact.Voted key version ballot options offered ∷ facts) is = or-none (heard_of facts tx) ∙ missing tx facts is
 missing tx (Fact.Adopted key version item adds ∷ facts) is = or-none (heard_of facts tx) ∙ missing tx facts is
 
-found-newest : (tx t : TxId) (outcome : Outcome) (facts : List Fact) (i : ℕ) → AreReadable (Fact.Heard t outcome ∷ facts) → length (heard_txs facts) ≡ i → tx_eq tx t ≡ true
+found-newest : (tx t : TxId) (outcome : Outcome) (facts : List Fact) (i : ℕ) → AreWellFormed (Fact.Heard t outcome ∷ facts) → length (heard_txs facts) ≡ i → tx_eq tx t ≡ true
     → heard_of facts tx ≡ None → Found tx (Fact.Heard t outcome ∷ facts) i
 found-newest tx t outcome facts i readable e same none =
     let number : get_or (heard_numbers facts ++ length facts ∷ []) i 0 ≡ length facts = get_or_at (heard_numbers facts) (length facts) [] 0 i (numbers-alike facts ∙ e) in
@@ -131,22 +130,22 @@ found-newest tx t outcome facts i readable e same none =
       bytes = ap (λ n. get_or (encodings_of facts ++ fact_bytes (Fact.Heard t outcome) ∷ []) n []) number
           ∙ get_or_at (encodings_of facts) (fact_bytes (Fact.Heard t outcome)) [] [] (length facts) (encodings-length facts);
       fits = readable.0;
-      short = readable.1;
+      short = heard-short t outcome readable.0;
       heard = ap (λ h. option_or h (if tx_eq t tx then Some outcome else None)) none
           ∙ ap (λ b. if b then Some outcome else None) (tx_eq-sym t tx ∙ same);
     }
 
-present : (tx : TxId) (facts : List Fact) (i : ℕ) → AreReadable facts → last_in (walk (tx_eq tx) (heard_txs facts)) ≡ Some i → Found tx facts i
+present : (tx : TxId) (facts : List Fact) (i : ℕ) → AreWellFormed facts → last_in (walk (tx_eq tx) (heard_txs facts)) ≡ Some i → Found tx facts i
 present tx [] i readable is = absurd (cc)
 present tx (Fact.Heard t outcome ∷ facts) i readable is =
     elim (last-cases (tx_eq tx t) (length (heard_txs facts)) i (walk (tx_eq tx) (heard_txs facts)) is) [
       | inl newest ↦ found-newest tx t outcome facts i readable newest.2 newest.0 (missing tx facts newest.1)
-      | inr older ↦ found-more tx facts (Fact.Heard t outcome) i (present tx facts i readable.2 older)
+      | inr older ↦ found-more tx facts (Fact.Heard t outcome) i (present tx facts i readable.1 older)
     ]
-present tx (Fact.Booted epoch ∷ facts) i readable is = found-more tx facts (Fact.Booted epoch) i (present tx facts i readable.2 is)
-present tx (Fact.Promised key low high ballot ∷ facts) i readable is = found-more tx facts (Fact.Promised key low high ballot) i (present tx facts i readable.2 is)
-present tx (Fact.Voted key version ballot options offered ∷ facts) i readable is = found-more tx facts (Fact.Voted key version ballot options offered) i (present tx facts i readable.2 is)
-present tx (Fact.Adopted key version item adds ∷ facts) i readable is = found-more tx facts (Fact.Adopted key version item adds) i (present tx facts i readable.2 is)
+present tx (Fact.Booted epoch ∷ facts) i readable is = found-more tx facts (Fact.Booted epoch) i (present tx facts i readable.1 is)
+present tx (Fact.Promised key low high ballot ∷ facts) i readable is = found-more tx facts (Fact.Promised key low high ballot) i (present tx facts i readable.1 is)
+present tx (Fact.Voted key version ballot options offered ∷ facts) i readable is = found-more tx facts (Fact.Voted key version ballot options offered) i (present tx facts i readable.1 is)
+present tx (Fact.Adopted key version item adds ∷ facts) i readable is = found-more tx facts (Fact.Adopted key version item adds) i (present tx facts i readable.1 is)
 
 -- ---- what is read
 
@@ -192,71 +191,89 @@ no-number numbers None is = refl
 no-number numbers (Some i) is = absurd (cc)
 
 -- the fact of a number that was found says how the transaction ended
-record Answer (store : Store) (facts : List Fact) (tx : TxId) (number : ℕ) : Type 0 where
+record Answer (encodings : List (List ℕ)) (facts : List Fact) (tx : TxId) (number : ℕ) : Type 0 where
   other : TxId
   outcome : Outcome
-  bytes : get_or store.cells.encodings number [] ≡ fact_bytes (Fact.Heard other outcome)
+  bytes : get_or encodings number [] ≡ fact_bytes (Fact.Heard other outcome)
   fits : IsWellFormedFact (Fact.Heard other outcome)
   short : fact_length (Fact.Heard other outcome) ≤ 8964
   heard : heard_of facts tx ≡ Some outcome
 
-answered : (store : Store) (facts : List Fact) (tx : TxId) (number : ℕ) → Represents store facts → number_found store tx ≡ Some number → Answer store facts tx number
-answered store facts tx number kept is =
-    let at = some-number store.numbers (last_in (walk (tx_eq tx) store.heard.keys)) number is in
-    let found : Found tx facts at.0 = present tx facts at.0 kept.readable (ap (λ keys. last_in (walk (tx_eq tx) keys)) (sym kept.heard) ∙ at.1) in
+answered : (encodings : List (List ℕ)) (index : HeardTxs) (facts : List Fact) (tx : TxId) (number : ℕ) → Holds encodings facts → AreHeard index facts → number_found index tx ≡ Some number
+    → Answer encodings facts tx number
+answered encodings index facts tx number holds kept is =
+    let at = some-number index.numbers (last_in (walk (tx_eq tx) index.txs.keys)) number is in
+    let found : Found tx facts at.0 = present tx facts at.0 holds.well_formed (ap (λ keys. last_in (walk (tx_eq tx) keys)) (sym kept.txs_are) ∙ at.1) in
     record {
       other = found.other;
       outcome = found.outcome;
-      bytes = ap (λ n. get_or store.cells.encodings n []) (sym at.2 ∙ ap (λ ns. get_or ns at.0 0) kept.numbers)
-          ∙ ap (λ es. get_or es (get_or (heard_numbers facts) at.0 0) []) kept.encodings ∙ found.bytes;
+      bytes = ap (λ n. get_or encodings n []) (sym at.2 ∙ ap (λ ns. get_or ns at.0 0) kept.numbers_are)
+          ∙ ap (λ es. get_or es (get_or (heard_numbers facts) at.0 0) []) holds.encodings_are ∙ found.bytes;
       fits = found.fits;
       short = found.short;
       heard = found.heard;
     }
 
-pub answer-some : (store : Store) (facts : List Fact) (tx : TxId) (number room : ℕ) (result : Option Outcome) → Represents store facts → number_found store tx ≡ Some number → 8964 ≤ room
-    → (length (get_or store.cells.encodings number []) ≤ room → result ≡ outcome_spelled (get_or store.cells.encodings number []))
+pub answer-some : (encodings : List (List ℕ)) (index : HeardTxs) (facts : List Fact) (tx : TxId) (number room : ℕ) (result : Option Outcome) → Holds encodings facts → AreHeard index facts
+    → number_found index tx ≡ Some number → 8964 ≤ room
+    → (length (get_or encodings number []) ≤ room → result ≡ outcome_spelled (get_or encodings number []))
     → result ≡ heard_of facts tx
-answer-some store facts tx number room result kept is long read =
-    let a : Answer store facts tx number = answered store facts tx number kept is in
+answer-some encodings index facts tx number room result holds kept is long read =
+    let a : Answer encodings facts tx number = answered encodings index facts tx number holds kept is in
     read (omega (arith, ap length a.bytes, long, a.short, length-fact (Fact.Heard a.other a.outcome)))
     ∙ ap outcome_spelled a.bytes ∙ outcome-again a.other a.outcome a.fits ∙ sym a.heard
 
-pub answer-commit : (store : Store) (facts : List Fact) (tx : TxId) (number : ℕ) (result : Bool) → Represents store facts → number_found store tx ≡ Some number
-    → result ≡ is_commit_spelled (get_or store.cells.encodings number []) → Some result ≡ ended_of facts tx
-answer-commit store facts tx number result kept is read =
-    let a : Answer store facts tx number = answered store facts tx number kept is in
+pub answer-commit : (encodings : List (List ℕ)) (index : HeardTxs) (facts : List Fact) (tx : TxId) (number : ℕ) (result : Bool) → Holds encodings facts → AreHeard index facts
+    → number_found index tx ≡ Some number
+    → result ≡ is_commit_spelled (get_or encodings number []) → Some result ≡ ended_of facts tx
+answer-commit encodings index facts tx number result holds kept is read =
+    let a : Answer encodings facts tx number = answered encodings index facts tx number holds kept is in
     ap Some (read ∙ ap is_commit_spelled a.bytes ∙ commit-again a.other a.outcome) ∙ ap (option_map is_commit) (sym a.heard)
 
-pub answer-none : (store : Store) (facts : List Fact) (tx : TxId) → Represents store facts → number_found store tx ≡ None → heard_of facts tx ≡ None
-answer-none store facts tx kept is =
-    missing tx facts (ap (λ keys. last_in (walk (tx_eq tx) keys)) (sym kept.heard) ∙ no-number store.numbers (last_in (walk (tx_eq tx) store.heard.keys)) is)
+pub answer-none : (index : HeardTxs) (facts : List Fact) (tx : TxId) → AreHeard index facts → number_found index tx ≡ None → heard_of facts tx ≡ None
+answer-none index facts tx kept is =
+    missing tx facts (ap (λ keys. last_in (walk (tx_eq tx) keys)) (sym kept.txs_are) ∙ no-number index.numbers (last_in (walk (tx_eq tx) index.txs.keys)) is)
 
-pub heard-known : (store : Store) (facts : List Fact) (tx : TxId) → Represents store facts → is_some (number_found store tx) ≡ is_heard facts tx
-heard-known store facts tx kept = by_found (number_found store tx) refl
+pub heard-known : (index : HeardTxs) (facts : List Fact) (tx : TxId) → AreWellFormed facts → AreHeard index facts → is_some (number_found index tx) ≡ is_heard facts tx
+heard-known index facts tx fits kept = by_found (number_found index tx) refl
   where
-    by_found : (found : Option ℕ) → number_found store tx ≡ found → is_some (number_found store tx) ≡ is_heard facts tx
-    by_found None is = ap is_some is ∙ sym (ap is_some (answer-none store facts tx kept is))
-    by_found (Some number) is = ap is_some is ∙ sym (ap is_some (answered store facts tx number kept is).heard)
+    by_found : (found : Option ℕ) → number_found index tx ≡ found → is_some (number_found index tx) ≡ is_heard facts tx
+    by_found None is = ap is_some is ∙ sym (ap is_some (answer-none index facts tx kept is))
+    by_found (Some number) is =
+        ap is_some is ∙ sym (ap is_some (answered (encodings_of facts) index facts tx number (record { encodings_are = refl; well_formed = fits }) kept is).heard)
 
 -- ---- one more fact
 
-epoch-next : (fact : Fact) (facts : List Fact) → next_epoch fact (epoch_of facts) ≡ epoch_of (fact ∷ facts)
-epoch-next (Fact.Booted epoch) facts = refl
-epoch-next (Fact.Promised key low high ballot) facts = refl
-epoch-next (Fact.Voted key version ballot options offered) facts = refl
-epoch-next (Fact.Heard tx outcome) facts = refl
-epoch-next (Fact.Adopted key version item adds) facts = refl
-
-pub represents-more : (old new : Store) (facts : List Fact) (fact : Fact) (number : ℕ) → IsWellFormedFact fact → IsShort fact
-    → new.cells.encodings ≡ old.cells.encodings ++ fact_bytes fact ∷ [] → new.heard.keys ≡ heard_by fact ++ old.heard.keys
-    → number ≡ length old.cells.encodings → new.numbers ≡ old.numbers ++ numbers_by fact number → new.epoch ≡ next_epoch fact old.epoch
-    → Represents old facts → Represents new (fact ∷ facts)
-represents-more old new facts fact number fits short encodings heard number-is numbers epoch kept = record {
-  encodings = encodings ∙ ap (λ es. es ++ fact_bytes fact ∷ []) kept.encodings;
-  readable = (fits, short, kept.readable);
-  heard = heard ∙ ap (λ keys. heard_by fact ++ keys) kept.heard;
-  numbers = numbers ∙ ap (λ ns. ns ++ numbers_by fact number) kept.numbers
-      ∙ ap (λ n. heard_numbers facts ++ numbers_by fact n) (number-is ∙ ap length kept.encodings ∙ encodings-length facts);
-  epoch = epoch ∙ ap (next_epoch fact) kept.epoch ∙ epoch-next fact facts;
+pub heard-more : (old new : HeardTxs) (facts : List Fact) (fact : Fact) (number : ℕ) → new.txs.keys ≡ heard_by fact ++ old.txs.keys → new.numbers ≡ old.numbers ++ numbers_by fact number
+    → AreHeard old facts → number ≡ length facts → AreHeard new (fact ∷ facts)
+heard-more old new facts fact number txs numbers kept number-is = record {
+  txs_are = txs ∙ ap (λ keys. heard_by fact ++ keys) kept.txs_are;
+  numbers_are = numbers ∙ ap (λ ns. ns ++ numbers_by fact number) kept.numbers_are ∙ ap (λ n. heard_numbers facts ++ numbers_by fact n) number-is;
 }
+
+pub length-heard : (fact : Fact) → length (heard_by fact) ≤ 1
+length-heard (Fact.Heard tx outcome) = omega arith
+length-heard (Fact.Booted epoch) = omega arith
+length-heard (Fact.Promised key low high ballot) = omega arith
+length-heard (Fact.Voted key version ballot options offered) = omega arith
+length-heard (Fact.Adopted key version item adds) = omega arith
+
+one-below : (numbers : List ℕ) (number : ℕ) → AreNumbersBelow number numbers → AreNumbersBelow (number + 1) (numbers ++ number ∷ [])
+one-below numbers number below i within = elim (cases_lt i (length numbers)) [
+  | inl older ↦ omega (arith, get_or_append_left numbers (number ∷ []) 0 i older, below i older)
+  | inr newest ↦
+      let same : length numbers ≡ i = omega (arith, length-append numbers (number ∷ [])) in
+      omega (arith, get_or_at numbers number [] 0 i same)
+]
+
+none-below : (numbers : List ℕ) (number : ℕ) → AreNumbersBelow number numbers → AreNumbersBelow (number + 1) (numbers ++ [])
+none-below numbers number below i within =
+    let same : numbers ++ [] ≡ numbers = append-nil numbers in
+    omega (arith, ap (λ ns. get_or ns i 0) same, below i (omega (arith, ap length same)))
+
+pub below-by : (fact : Fact) (numbers : List ℕ) (number : ℕ) → AreNumbersBelow number numbers → AreNumbersBelow (number + 1) (numbers ++ numbers_by fact number)
+below-by (Fact.Heard tx outcome) numbers number below = one-below numbers number below
+below-by (Fact.Booted epoch) numbers number below = none-below numbers number below
+below-by (Fact.Promised key low high ballot) numbers number below = none-below numbers number below
+below-by (Fact.Voted key version ballot options offered) numbers number below = none-below numbers number below
+below-by (Fact.Adopted key version item adds) numbers number below = none-below numbers number below

@@ -1,0 +1,17 @@
+use Rattle.mdcc_base.specs.Ballot.{fast_ballot}
+use Rattle.std.proofs.Common.{List, None, length, ◌<◌}
+use Rattle.std.specs.Prelude.{IfSome}
+use Rattle.mdcc_base.specs.declared.key.Key.{Key}
+use Rattle.mdcc_chains.proofs.Filtered.{rank}
+use Rattle.mdcc_fact_index.specs.Promises.{AreListed, is_at, with_range_at}
+use Rattle.mdcc_fact_index.specs.declared.promises.Promise.{Promise}
+use Rattle.mdcc_fact_index.proofs.Folding.{IsFolding}
+use Rattle.mdcc_fact_index.proofs.promises.greatest.Given as goal
+
+abbrev pub invariant-loop-at : goal.invariant-loop-at
+invariant-loop-at l =
+    IfSome l.at (λ index. index < length l.keys.keys)
+    × ((entries : List (Key × Promise)) → AreListed l.keys.keys l.ranges entries → IsFolding (with_range_at l.version) fast_ballot (is_at l.key) entries l.at l.found)
+
+abbrev pub decreases-loop-at : goal.decreases-loop-at
+decreases-loop-at l = rank l.at
