@@ -1,0 +1,2 @@
+pub mod HeldMore
+pub mod KeyPut

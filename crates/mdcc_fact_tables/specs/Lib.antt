@@ -1,0 +1,2 @@
+pub mod HeldVersions
+pub mod Numbers
