@@ -1,2 +1,4 @@
 pub mod HeldVersions
+pub mod InCells
 pub mod Numbers
+pub mod UnresolvedNumbers

@@ -6,5 +6,11 @@
 #![tactic(auto)]
 
 pub mod held_table;
+pub mod rooms;
+pub mod theorems;
+pub mod unresolved_table;
 
 pub use held_table::{HeldTable, HeldVersion};
+pub use rooms::entries_in_cells;
+pub use theorems::write_sets_are_read;
+pub use unresolved_table::{HeardTest, UnresolvedTable};
