@@ -1,0 +1,5 @@
+//! Tests of sample schedules, against texts that another program made.
+#![tactic(auto)]
+
+#[cfg(test)]
+mod samples;
