@@ -1,0 +1,4 @@
+pub mod Ballots
+pub mod Heads
+pub mod Marks
+pub mod Passing
