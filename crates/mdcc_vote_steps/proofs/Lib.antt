@@ -1,5 +1,6 @@
 pub mod Balloted
 pub mod Fronts
 pub mod Headed
+pub mod Marked
 pub mod Passed
 pub mod Tagged
