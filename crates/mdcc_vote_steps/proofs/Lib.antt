@@ -1,3 +1,4 @@
+pub mod Answered
 pub mod Balloted
 pub mod Fronts
 pub mod Headed

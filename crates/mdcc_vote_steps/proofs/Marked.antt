@@ -1,9 +1,10 @@
 -- The marks of a vote, as they are read in its bytes.
-use Rattle.std.proofs.Common.{◌≡◌, ℕ, ◌+◌, ◌≤◌, ◌<◌, Bool, true, false, List, [], ◌∷◌, ◌++◌, Option, Some, None, Ok, length, take, drop, map, refl, sym, ap, subst, ◌∙◌, append_assoc, arith, inl, inr}
+use Rattle.std.proofs.Common.{◌≡◌, ℕ, ◌+◌, ◌≤◌, ◌<◌, Bool, true, false, List, [], ◌∷◌, ◌++◌, Option, Some, None, Ok, length, take, drop, map, refl, sym, ap, subst, ◌∙◌, append_assoc, append-nil, arith, inl, inr}
 use Rattle.std.proofs.lemmas.Bool.{cases_Bool}
 use Rattle.std.specs.List.{AllByRecursion, flat_map}
-use Rattle.std.specs.Option.{option_and_then, option_map}
-use Rattle.std.specs.Prelude.{if◌then◌else◌, ◌==◌}
+use Rattle.std.specs.Option.{option_and_then, option_map, option_or}
+use Rattle.std.specs.Prelude.{if◌then◌else◌, ◌&&◌, ◌==◌}
+use Rattle.mdcc_base.specs.declared.identifiers.Ballot.{Ballot}
 use Rattle.mdcc_base.specs.TxId.{tx_eq}
 use Rattle.mdcc_base.specs.declared.identifiers.TxId.{TxId}
 use Rattle.mdcc_option.specs.declared.choices.Choice.{Choice}
@@ -13,6 +14,11 @@ use Rattle.mdcc_struct.specs.Maps.{TxMap, value_of}
 use Rattle.mdcc_struct.specs.Options.{Marks, is_accept}
 use Rattle.mdcc_messages.specs.Bytes.{u8_bytes}
 use Rattle.mdcc_messages.specs.SpelledParts.{choice_bytes, entry_bytes, tx_bytes}
+use Rattle.mdcc_messages.specs.Spelling.{fact_bytes, offered_bytes}
+use Rattle.mdcc_messages.specs.WellFormed.{IsWellFormedFact, IsWellFormedOffered}
+use Rattle.mdcc_messages.specs.declared.facts.Fact.{Fact}
+use Rattle.mdcc_protocol.specs.Facts.{choice_of_tx}
+use Rattle.mdcc_protocol.specs.Marks.{choice_in}
 use Rattle.mdcc_messages.specs.WellFormedParts.{IsWellFormedChoice, IsWellFormedEntry, IsWellFormedTx}
 use Rattle.mdcc_spelling.proofs.Choices.{choice_again, entry_spelled}
 use Rattle.mdcc_spelling.proofs.Identifiers.{tx_again}
@@ -20,10 +26,12 @@ use Rattle.mdcc_spelling.proofs.Lengths.{length-choice}
 use Rattle.mdcc_spelling.proofs.Longest.{longest_choice}
 use Rattle.mdcc_spelling.proofs.Numbers.{u8_within_again}
 use Rattle.mdcc_spelling.proofs.Places.{apart-2}
-use Rattle.mdcc_vote_steps.specs.Marks.{accepted, choice_read, first_choice, first_mark, first_tag, found_here, found_in, tag_at, tag_before, tagged, tags_in}
-use Rattle.mdcc_vote_steps.specs.Passing.{after_mark}
+use Rattle.mdcc_vote_steps.specs.Marks.{accepted, choice_of, choice_read, first_choice, first_mark, first_tag, found_here, found_in, is_offered, mark_of, offered_of, offered_to, tag_at, tag_before, tagged, tags_in}
+use Rattle.mdcc_vote_steps.specs.Passing.{after_mark, after_marks}
+use Rattle.mdcc_vote_steps.specs.declared.heads.Head.{Head}
 use Rattle.mdcc_vote_steps.proofs.Fronts.{front-at}
-use Rattle.mdcc_vote_steps.proofs.Passed.{after-mark}
+use Rattle.mdcc_vote_steps.proofs.Headed.{marks-begin}
+use Rattle.mdcc_vote_steps.proofs.Passed.{after-mark, after-marks}
 
 -- ---- one mark
 
@@ -86,3 +94,40 @@ mark-again key version tx (e ∷ es) rest w =
     by : (same : Bool) → option_and_then first_mark (found_in tx (length es) others) ≡ value_of es tx → option_and_then first_mark (if same then Some all else found_in tx (length es) (after_mark all)) ≡ (if same then Some e.1 else value_of es tx)
     by true others-are = mark-first key version e.0 e.1 others w.0
     by false others-are = ap (λ bytes. option_and_then first_mark (found_in tx (length es) bytes)) (after-mark e.0 e.1 others) ∙ others-are
+
+-- ---- the choice after the marks
+
+pub offered-again : (key : List ℕ) (version : ℕ) (tx : TxId) (offered : Option Choice) → IsWellFormedOffered key version offered
+    → offered_to tx (offered_bytes offered) ≡ option_and_then (choice_of_tx tx) offered
+offered-again key version tx None w = refl
+offered-again key version tx (Some choice) w =
+    ap (λ tag. if is_offered tx (tagged tag) then first_choice (choice_bytes choice) else None) (tag-again 1 choice.tx (drop 10 (offered_bytes (Some choice))) (omega arith) w.choice_itself.tx)
+    ∙ by (tx_eq choice.tx tx)
+  where
+    by : (same : Bool) → (if true && same then first_choice (choice_bytes choice) else None) ≡ (if same then Some choice else None)
+    by true = ap first_choice (sym (append-nil (choice_bytes choice))) ∙ choice-first choice [] w.choice_itself
+    by false = refl
+
+-- ---- of a vote
+
+module _ (key : List ℕ) (version : ℕ) (ballot : Ballot) (options : Marks) (offered : Option Choice) (w : IsWellFormedFact (Fact.Voted key version ballot options offered)) where
+  abbrev pub head_itself : Head
+  head_itself = record { ballot = ballot; count = length options; begin = 23 + length key }
+
+  abbrev pub encoding : List ℕ
+  encoding = fact_bytes (Fact.Voted key version ballot options offered)
+
+  pub tags-of : tags_in (length options) (drop (23 + length key) encoding) ≡ map tag_of options
+  tags-of = ap (tags_in (length options)) (marks-begin key version ballot options offered) ∙ tags-again key version options (offered_bytes offered) w.options_itself.each
+
+  pub mark-of : (tx : TxId) → mark_of tx head_itself encoding ≡ value_of options tx
+  mark-of tx =
+      ap (λ bytes. option_and_then first_mark (found_in tx (length options) bytes)) (marks-begin key version ballot options offered)
+      ∙ mark-again key version tx options (offered_bytes offered) w.options_itself.each
+
+  pub choice-of : (tx : TxId) → choice_of tx head_itself encoding ≡ option_or (option_and_then choice_in (value_of options tx)) (option_and_then (choice_of_tx tx) offered)
+  choice-of tx =
+      ap (λ mark. option_or (option_and_then choice_in mark) (offered_of tx head_itself encoding)) (mark-of tx)
+      ∙ ap (λ bytes. option_or (option_and_then choice_in (value_of options tx)) (offered_to tx (after_marks (length options) bytes))) (marks-begin key version ballot options offered)
+      ∙ ap (λ bytes. option_or (option_and_then choice_in (value_of options tx)) (offered_to tx bytes)) (after-marks options (offered_bytes offered))
+      ∙ ap (option_or (option_and_then choice_in (value_of options tx))) (offered-again key version tx offered w.offered_itself)

@@ -1,4 +1,6 @@
 pub mod Ballots
 pub mod Heads
 pub mod Marks
+pub mod Older
 pub mod Passing
+pub mod Tags

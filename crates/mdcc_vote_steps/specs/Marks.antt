@@ -1,6 +1,6 @@
 -- The marks of a vote, in the bytes that begin with them.
-use Rattle.std.specs.Option.{option_and_then, option_map}
-use Rattle.std.specs.Prelude.{Bool, List, None, Option, Some, Result, Ok, Err, [], ℕ, ◌==◌, ◌∷◌, drop, get_or, if◌then◌else◌, suc, take, zero}
+use Rattle.std.specs.Option.{option_and_then, option_map, option_or}
+use Rattle.std.specs.Prelude.{Bool, List, None, Option, Some, Result, Ok, Err, [], false, ℕ, ◌&&◌, ◌==◌, ◌∷◌, drop, get_or, if◌then◌else◌, suc, take, zero}
 use Rattle.mdcc_base.specs.TxId.{tx_eq}
 use Rattle.mdcc_base.specs.declared.identifiers.TxId.{TxId}
 use Rattle.mdcc_option.specs.declared.choices.Choice.{Choice}
@@ -10,7 +10,8 @@ use Rattle.mdcc_struct.specs.Maps.{TxMap}
 use Rattle.mdcc_messages.specs.declared.wire.WireFault.{WireFault}
 use Rattle.mdcc_messages.specs.ReadingParts.{choice_at, tx_at}
 use Rattle.mdcc_messages.specs.ReadingSteps.{◌>>=◌, u8_within}
-use Rattle.mdcc_vote_steps.specs.Passing.{after_mark}
+use Rattle.mdcc_vote_steps.specs.Passing.{after_mark, after_marks}
+use Rattle.mdcc_protocol.specs.Marks.{choice_in}
 use Rattle.mdcc_vote_steps.specs.declared.heads.Head.{Head}
 
 -- ---- what marks begin with
@@ -68,3 +69,25 @@ first_mark bytes = if get_or bytes 0 0 == 1 then option_map accepted (first_choi
 -- the mark of a transaction in a vote with this head
 abbrev pub mark_of : TxId → Head → List ℕ → Option Mark
 mark_of tx head bytes = option_and_then first_mark (found_in tx head.count (drop head.begin bytes))
+
+-- ---- the choice of a transaction
+
+abbrev pub is_offered : TxId → Option (TxId × Bool) → Bool
+is_offered tx None = false
+is_offered tx (Some tag) = tag.1 && tx_eq tag.0 tx
+
+-- the choice that bytes offer a transaction
+abbrev pub offered_to : TxId → List ℕ → Option Choice
+offered_to tx bytes = if is_offered tx (first_tag bytes) then first_choice (drop 1 bytes) else None
+
+-- the choice of a transaction that a vote with this head accepts
+abbrev pub accepted_of : TxId → Head → List ℕ → Option Choice
+accepted_of tx head bytes = option_and_then choice_in (mark_of tx head bytes)
+
+-- the one that stands after its marks
+abbrev pub offered_of : TxId → Head → List ℕ → Option Choice
+offered_of tx head bytes = offered_to tx (after_marks head.count (drop head.begin bytes))
+
+-- the choice of a transaction in a vote with this head, accepted or offered
+abbrev pub choice_of : TxId → Head → List ℕ → Option Choice
+choice_of tx head bytes = option_or (accepted_of tx head bytes) (offered_of tx head bytes)

@@ -4,6 +4,9 @@
 pub mod ballots;
 pub mod heads;
 pub mod marks;
+pub mod older;
 pub mod passing;
+pub mod tags;
 
 pub use ballots::{WithBallot, WithPromise};
+pub use older::{OlderChoice, OlderMark, OlderVote};

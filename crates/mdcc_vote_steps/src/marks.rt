@@ -1,21 +1,21 @@
 //! The marks of a vote, read in the cells.
-ghost use Rattle.std.specs.Prelude.{◌≡◌, ◌∷◌, [], Some, None, IfSome, IsNone, drop, if◌then◌else◌, length, take};
+ghost use Rattle.std.specs.Prelude.{◌≡◌, ◌<◌, ◌∷◌, [], Some, None, drop, get_or, if◌then◌else◌, length, take};
 ghost use Rattle.std.specs.Option.{option_map};
 ghost use Rattle.mdcc_base.specs.TxId.{tx_eq};
 ghost use Rattle.mdcc_base.specs.declared.identifiers.TxId.{TxId as ATxId};
 ghost use Rattle.mdcc_messages.specs.ReadingParts.{choice_at};
-ghost use Rattle.mdcc_vote_steps.specs.Marks.{choice_read, first_choice, first_mark, first_tag, found_in, mark_of, tag_at, tagged, tags_in};
+ghost use Rattle.mdcc_vote_steps.specs.Marks.{accepted_of, choice_of, choice_read, first_choice, first_mark, first_tag, found_in, is_offered, mark_of, offered_of, offered_to, tag_at, tagged, tags_in};
 ghost use Rattle.mdcc_vote_steps.specs.Passing.{after_mark};
 
 use crate::heads::Head;
-use crate::passing::{first_byte, next_bytes, skip_mark};
+use crate::passing::{first_byte, next_bytes, skip_mark, skip_marks};
 use mdcc_base::TxId;
+use mdcc_fact_cells::FactCells;
 use mdcc_messages::WireFault;
 use mdcc_option::{Choice, Mark};
 use mdcc_parts::numbers::u8_within;
 use mdcc_parts::{read_choice, read_tx};
 use mdcc_pool::Cursor;
-use std::marker::Model;
 
 /// The longest choice fits.
 const LONGEST: usize = 1120;
@@ -39,71 +39,21 @@ fn tagged(bytes: &[u8]) -> Option<(TxId, bool)>
     }
 }
 
-// The transaction of the first mark, and whether it is accepted.
-fn first_tag(cursor: &Cursor<'_>) -> Option<(TxId, bool)>
+/// The transaction of the first mark, and whether it is accepted.
+pub(crate) fn first_tag(cursor: &Cursor<'_>) -> Option<(TxId, bool)>
     ensures { result ≡ first_tag cursor.now }
 {
     let mut window = [0u8; 10];
     tagged(next_bytes(cursor, &mut window))
 }
 
-// Passes a mark, where others are left after it.
-fn skip_to_next(cursor: &mut Cursor<'_>, left: u32)
+/// Passes a mark, where others are left after it.
+pub(crate) fn skip_to_next(cursor: &mut Cursor<'_>, left: u32)
     ensures tags { tags_in left cursor.new ≡ tags_in left (after_mark cursor.old) }
     ensures found { (tx : ATxId) → found_in tx left cursor.new ≡ found_in tx left (after_mark cursor.old) }
 {
     if left > 0 {
         skip_mark(cursor);
-    }
-}
-
-/// The transactions of the marks of a vote, and which of them are accepted.
-#[derive(Drop)]
-pub struct Tags<'a> {
-    cursor: Cursor<'a>,
-    left: u32,
-}
-
-impl<'a> Model for Tags<'a> {
-    ghost use Rattle.std.specs.Prelude.{Bool};
-    ghost use Rattle.mdcc_struct.specs.Maps.{TxMap};
-    ghost use Rattle.mdcc_vote_steps.specs.Marks.{tags_in};
-
-    ghost Value = { TxMap Bool };
-
-    ghost view = { λ t. tags_in t.left t.cursor };
-}
-
-impl<'a> Tags<'a> {
-    /// The next one.
-    
-    pub(crate) fn next(&mut self) -> Option<(TxId, bool)>
-        ensures some { IfSome result (λ tag. self.old ≡ tag ∷ self.new) }
-        ensures none { IsNone result → self.old ≡ [] }
-    {
-        if self.left == 0 {
-            return None;
-        }
-        match first_tag(&self.cursor) {
-            Some(tag) => {
-                self.left -= 1;
-                skip_to_next(&mut self.cursor, self.left);
-                Some(tag)
-            }
-            None => None,
-        }
-    }
-}
-
-/// The tags of the marks of a vote with this head.
-pub(crate) fn tags_of<'a>(cursor: Cursor<'a>, head: &Head) -> Tags<'a>
-    ensures { result ≡ tags_in head.now.count (drop head.now.begin cursor.entry) }
-{
-    let mut cursor = cursor;
-    cursor.skip(head.begin);
-    Tags {
-        cursor,
-        left: head.count,
     }
 }
 
@@ -168,15 +118,72 @@ pub(crate) fn first_mark(cursor: &mut Cursor<'_>) -> Option<Mark>
     }
 }
 
-/// The mark of a transaction in a vote with this head.
-pub(crate) fn mark_of(cursor: Cursor<'_>, head: &Head, tx: &TxId) -> Option<Mark>
-    ensures { result ≡ mark_of tx.now head.now cursor.entry }
+/// The mark of a transaction in the fact of a number, which is a vote with this head.
+pub(crate) fn mark_of(cells: &FactCells, number: u32, head: &Head, tx: &TxId) -> Option<Mark>
+    requires { number < length cells.now.encodings }
+    ensures { result ≡ mark_of tx.now head.now (get_or cells.now.encodings number []) }
 {
-    let mut cursor = cursor;
+    let mut cursor = cells.start(number);
     cursor.skip(head.begin);
     if seek(&mut cursor, head.count, tx) {
         first_mark(&mut cursor)
     } else {
         None
+    }
+}
+
+// Whether a choice of the transaction comes after a tag.
+fn is_offered(cursor: &Cursor<'_>, tx: &TxId) -> bool
+    ensures { result ≡ is_offered tx.now (first_tag cursor.now) }
+{
+    match first_tag(cursor) {
+        Some((other, accepted)) => accepted && other.is(tx),
+        None => false,
+    }
+}
+
+// The choice of the transaction that comes after a tag.
+fn offered_to(cursor: &mut Cursor<'_>, tx: &TxId) -> Option<Choice>
+    ensures { result ≡ offered_to tx.now cursor.old }
+{
+    if is_offered(cursor, tx) {
+        cursor.skip(1);
+        first_choice(cursor)
+    } else {
+        None
+    }
+}
+
+// The choice of a transaction that the vote accepts.
+fn accepted_of(cells: &FactCells, number: u32, head: &Head, tx: &TxId) -> Option<Choice>
+    requires { number < length cells.now.encodings }
+    ensures { result ≡ accepted_of tx.now head.now (get_or cells.now.encodings number []) }
+{
+    match mark_of(cells, number, head, tx) {
+        Some(Mark::Accept(choice)) => Some(choice),
+        _ => None,
+    }
+}
+
+// The choice of a transaction that stands after the marks of the vote.
+fn offered_of(cells: &FactCells, number: u32, head: &Head, tx: &TxId) -> Option<Choice>
+    requires { number < length cells.now.encodings }
+    ensures { result ≡ offered_of tx.now head.now (get_or cells.now.encodings number []) }
+{
+    let mut cursor = cells.start(number);
+    cursor.skip(head.begin);
+    skip_marks(&mut cursor, head.count);
+    offered_to(&mut cursor, tx)
+}
+
+/// The choice of a transaction in the fact of a number, which is a vote with this head, accepted or
+/// offered.
+pub(crate) fn choice_of(cells: &FactCells, number: u32, head: &Head, tx: &TxId) -> Option<Choice>
+    requires { number < length cells.now.encodings }
+    ensures { result ≡ choice_of tx.now head.now (get_or cells.now.encodings number []) }
+{
+    match accepted_of(cells, number, head, tx) {
+        Some(choice) => Some(choice),
+        None => offered_of(cells, number, head, tx),
     }
 }

@@ -1,6 +1,6 @@
 use Rattle.std.proofs.Common.{◌∷◌, sym, ap, ◌∙◌, arith}
 use Rattle.mdcc_vote_steps.proofs.Tagged.{tags_next}
-use Rattle.mdcc_vote_steps.proofs.marks.Tags.next.Goals as goal
+use Rattle.mdcc_vote_steps.proofs.tags.Tags.next.Goals as goal
 
 pub returns-in-Some-clause-some : goal.returns-in-Some-clause-some
 returns-in-Some-clause-some c =
