@@ -25,7 +25,7 @@ use Rattle.mdcc_spelling.proofs.Identifiers.{ballot_again, key_again}
 use Rattle.mdcc_spelling.proofs.Numbers.{u32_again, u64_again, u8_again, u8_within_again}
 use Rattle.mdcc_spelling.proofs.Places.{IsAt, apart-5}
 use Rattle.mdcc_spelling.proofs.Steps.{done}
-use Rattle.mdcc_vote_steps.specs.Heads.{head_in, head_of, promise_at, promise_in, promise_of, vote_at}
+use Rattle.mdcc_vote_steps.specs.Heads.{any_head, head_any, head_in, head_of, promise_at, promise_in, promise_of, vote_at}
 use Rattle.mdcc_vote_steps.specs.declared.heads.Head.{Head}
 use Rattle.mdcc_vote_steps.proofs.Fronts.{front-at}
 
@@ -99,6 +99,22 @@ head-again key version (facts.Booted epoch) w = no-vote key version 1 (drop 1 (f
 head-again key version (facts.Promised k low high ballot) w = no-vote key version 2 (drop 1 (fact_bytes (facts.Promised k low high ballot))) (omega arith) refl
 head-again key version (facts.Heard tx outcome) w = no-vote key version 4 (drop 1 (fact_bytes (facts.Heard tx outcome))) (omega arith) refl
 head-again key version (facts.Adopted k v item adds) w = no-vote key version 5 (drop 1 (fact_bytes (facts.Adopted k v item adds))) (omega arith) refl
+
+-- ---- votes in any instance
+
+abbrev pub any_head_from : Fact → Option Head
+any_head_from (facts.Voted k v ballot options offered) = Some (record { ballot = ballot; count = length options; begin = 23 + length k })
+any_head_from _ = None
+
+no-head : (n : ℕ) (rest : List ℕ) → n < 2 ^ 8 → is_in_range 3 3 n ≡ false → head_any (n ∷ rest) ≡ None
+no-head n rest small other = ap (λ tag. any_head (tag >>= vote_after (take 64 (n ∷ rest)))) (tag-other 3 3 n rest small other)
+
+pub any-head-again : (fact : Fact) → IsWellFormedFact fact → head_any (fact_bytes fact) ≡ any_head_from fact
+any-head-again (facts.Voted k v ballot options offered) w = ap any_head (vote-again k v ballot options offered w)
+any-head-again (facts.Booted epoch) w = no-head 1 (drop 1 (fact_bytes (facts.Booted epoch))) (omega arith) refl
+any-head-again (facts.Promised k low high ballot) w = no-head 2 (drop 1 (fact_bytes (facts.Promised k low high ballot))) (omega arith) refl
+any-head-again (facts.Heard tx outcome) w = no-head 4 (drop 1 (fact_bytes (facts.Heard tx outcome))) (omega arith) refl
+any-head-again (facts.Adopted k v item adds) w = no-head 5 (drop 1 (fact_bytes (facts.Adopted k v item adds))) (omega arith) refl
 
 -- ---- promises
 

@@ -5,3 +5,5 @@ pub mod Headed
 pub mod Marked
 pub mod Passed
 pub mod Tagged
+pub mod Tallied
+pub mod WriteSetsRead

@@ -27,6 +27,14 @@ head_of key version (Err fault) = None
 abbrev pub head_in : List ℕ → ℕ → List ℕ → Option Head
 head_in key version bytes = head_of key version (vote_at (take 64 bytes))
 
+abbrev pub any_head : Result ((List ℕ × ℕ × Ballot × ℕ) × ℕ) WireFault → Option Head
+any_head (Ok vote) = Some (record { ballot = vote.0.2; count = vote.0.3; begin = vote.1 })
+any_head (Err fault) = None
+
+-- the head of a vote in any instance
+abbrev pub head_any : List ℕ → Option Head
+head_any bytes = any_head (vote_at (take 64 bytes))
+
 -- the key, the versions and the ballot of a promise
 abbrev pub promise_at : List ℕ → Result ((List ℕ × ℕ × ℕ × Ballot) × ℕ) WireFault
 promise_at bytes = do

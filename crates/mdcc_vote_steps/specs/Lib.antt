@@ -4,3 +4,5 @@ pub mod Marks
 pub mod Older
 pub mod Passing
 pub mod Tags
+pub mod Tallies
+pub mod WriteSets

@@ -1,6 +1,6 @@
 //! The heads of votes and of promises, read in the cells.
 ghost use Rattle.std.specs.Prelude.{◌≡◌, take};
-ghost use Rattle.mdcc_vote_steps.specs.Heads.{head_in, head_of, promise_at, promise_in, promise_of, vote_at};
+ghost use Rattle.mdcc_vote_steps.specs.Heads.{any_head, head_any, head_in, head_of, promise_at, promise_in, promise_of, vote_at};
 
 use crate::passing::next_bytes;
 use mdcc_base::{Ballot, Key};
@@ -52,12 +52,34 @@ fn head_of(key: &Key, version: u64, bytes: &[u8]) -> Option<Head>
     }
 }
 
-/// The head of the fact of a number, where it is a vote in the instance.
+/// The head of the fact that is next, where it is a vote in the instance.
 pub(crate) fn head_in(cursor: &Cursor<'_>, key: &Key, version: u64) -> Option<Head>
     ensures { result ≡ head_in key.now version cursor.now }
 {
     let mut window = [0u8; WINDOW];
     head_of(key, version, next_bytes(cursor, &mut window))
+}
+
+// The head of a vote that begins with these bytes.
+fn any_head(bytes: &[u8]) -> Option<Head>
+    ensures { result ≡ any_head (vote_at bytes.now) }
+{
+    match vote_at(bytes) {
+        Ok(((_, _, ballot, count), begin)) => Some(Head {
+            ballot,
+            count,
+            begin,
+        }),
+        Err(_) => None,
+    }
+}
+
+/// The head of the fact that is next, where it is a vote.
+pub(crate) fn head_any(cursor: &Cursor<'_>) -> Option<Head>
+    ensures { result ≡ head_any cursor.now }
+{
+    let mut window = [0u8; WINDOW];
+    any_head(next_bytes(cursor, &mut window))
 }
 
 // The key, the versions and the ballot of a promise.
@@ -87,7 +109,7 @@ fn promise_of(key: &Key, version: u64, bytes: &[u8]) -> Ballot
     }
 }
 
-/// The ballot that the fact of a number promises in the instance, where it is a promise.
+/// The ballot that the fact that is next promises in the instance, where it is a promise.
 pub(crate) fn promise_in(cursor: &Cursor<'_>, key: &Key, version: u64) -> Ballot
     ensures { result ≡ promise_in key.now version cursor.now }
 {

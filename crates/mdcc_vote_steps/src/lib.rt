@@ -7,6 +7,10 @@ pub mod marks;
 pub mod older;
 pub mod passing;
 pub mod tags;
+pub mod tallies;
+pub mod write_sets;
 
 pub use ballots::{WithBallot, WithPromise};
 pub use older::{OlderChoice, OlderMark, OlderVote};
+pub use tallies::{HasMark, LeastAbove, WithCount, WithEntries};
+pub use write_sets::write_set_at;

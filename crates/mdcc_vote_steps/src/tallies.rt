@@ -1,0 +1,183 @@
+//! What the marks of an instance at a ballot amount to.
+ghost use Rattle.std.specs.List.{fold};
+ghost use Rattle.std.specs.Prelude.{◌≡◌, ◌+◌, ◌-◌, ◌^◌, ◌||◌, is_some, min};
+ghost use Rattle.mdcc_base.specs.Ballot.{fast_ballot};
+ghost use Rattle.mdcc_base.specs.Counts.{number_of};
+ghost use Rattle.mdcc_struct.specs.Maps.{value_of};
+ghost use Rattle.mdcc_protocol.specs.Stores.{is_above};
+ghost use Rattle.mdcc_facts.specs.Walks.{each_kept, is_lower, is_next, least_from, lower_passing};
+ghost use Rattle.mdcc_facts.specs.Weights.{counted};
+ghost use Rattle.mdcc_fact_folds.specs.Live.{with_count, with_entries};
+ghost use Rattle.mdcc_fact_folds.specs.Votes.{is_mark_of, least_above};
+ghost use Rattle.mdcc_vote_steps.specs.Tallies.{with_tag};
+
+use crate::tags::{Tags, tags_at};
+use mdcc_base::{Ballot, Key, TxId};
+use mdcc_fact_cells::{FactCells, FactStep};
+use mdcc_struct::Options;
+
+/// Whether so far a transaction has a mark in an instance at a ballot.
+#[derive(Drop)]
+pub struct HasMark {
+    pub key: Key,
+    pub version: u64,
+    pub ballot: Ballot,
+    pub tx: TxId,
+    pub found: bool,
+}
+
+/// The least transaction so far above the last one that has a mark in an instance at a ballot.
+#[derive(Drop)]
+pub struct LeastAbove {
+    pub key: Key,
+    pub version: u64,
+    pub ballot: Ballot,
+    pub last: Option<TxId>,
+    pub found: Option<TxId>,
+}
+
+/// How many marks so far accept and how many reject in an instance at the fast ballot.
+#[derive(Drop)]
+pub struct WithEntries {
+    pub key: Key,
+    pub version: u64,
+    pub accepts: u32,
+    pub rejects: u32,
+}
+
+/// How many transactions of a structure have marks so far in an instance at a ballot, one for each
+/// fact.
+#[derive(Drop)]
+pub struct WithCount<'a> {
+    pub key: Key,
+    pub version: u64,
+    pub ballot: Ballot,
+    pub options: &'a Options,
+    pub count: usize,
+}
+
+// Whether a mark is of the transaction.
+fn has_tx(tags: &mut Tags<'_>, tx: &TxId) -> bool
+    ensures { result ≡ is_some (value_of tags.old tx.now) }
+{
+    while let Some((other, _)) = tags.next() {
+        if other.is(tx) {
+            return true;
+        }
+    }
+    false
+}
+
+// Whether it is above the last one; each is where there is no last one.
+fn is_above(last: &Option<TxId>, tx: &TxId) -> bool
+    ensures { result ≡ is_above last.now tx.now }
+{
+    match last {
+        Some(last) => last.is_below(tx),
+        None => true,
+    }
+}
+
+// Whether it is below the one that was found; each is where none was.
+fn is_lower(found: &Option<TxId>, tx: &TxId) -> bool
+    ensures { result ≡ is_lower found.now tx.now }
+{
+    match found {
+        Some(found) => tx.is_below(found),
+        None => true,
+    }
+}
+
+// The lower of two transactions, where the second is above the last one.
+fn lower_next(found: Option<TxId>, tx: &TxId, last: &Option<TxId>) -> Option<TxId>
+    ensures { result ≡ lower_passing (is_next each_kept last.now) found tx.now }
+{
+    if is_above(last, tx) && is_lower(&found, tx) {
+        Some(*tx)
+    } else {
+        found
+    }
+}
+
+// The least of one transaction and those of marks that are above the last one.
+fn least_from(tags: &mut Tags<'_>, last: &Option<TxId>, found: Option<TxId>) -> Option<TxId>
+    ensures { result ≡ least_from (is_next each_kept last.now) found tags.old }
+{
+    let mut least = found;
+    while let Some((tx, _)) = tags.next() {
+        least = lower_next(least, &tx, last);
+    }
+    least
+}
+
+// One more where the test holds.
+fn counted(test: bool, count: u32) -> u32
+    ensures { result ≡ counted test count }
+{
+    if test { count.saturating_add(1) } else { count }
+}
+
+// The counts with more marks.
+fn with_tags(tags: &mut Tags<'_>, accepts: u32, rejects: u32) -> (u32, u32)
+    ensures { result ≡ fold with_tag (accepts, rejects) tags.old }
+{
+    let mut counts = (accepts, rejects);
+    while let Some((_, accepted)) = tags.next() {
+        counts = (counted(accepted, counts.0), counted(!accepted, counts.1));
+    }
+    counts
+}
+
+// A count with the marks whose transactions a structure has.
+fn with_common(tags: &mut Tags<'_>, options: &Options, count: usize) -> usize
+    ensures { result ≡ min (count + number_of (λ tag. is_some (value_of options.now tag.0)) tags.old) (2 ^ 64 - 1) }
+{
+    let mut all = count;
+    while let Some((tx, _)) = tags.next() {
+        if options.mark_of(tx).is_some() {
+            all = all.saturating_add(1);
+        }
+    }
+    all
+}
+
+impl FactStep for HasMark {
+    ghost step = { λ s fact. record s { found = s.found || is_mark_of s.key s.version s.ballot s.tx fact } };
+
+    fn take(&mut self, cells: &FactCells, number: u32) {
+        if !self.found {
+            let mut tags = tags_at(cells, number, &self.key, self.version, &self.ballot);
+            self.found = has_tx(&mut tags, &self.tx);
+        }
+    }
+}
+
+impl FactStep for LeastAbove {
+    ghost step = { λ s fact. record s { found = least_above s.key s.version s.ballot s.last s.found fact } };
+
+    fn take(&mut self, cells: &FactCells, number: u32) {
+        let mut tags = tags_at(cells, number, &self.key, self.version, &self.ballot);
+        self.found = least_from(&mut tags, &self.last, self.found);
+    }
+}
+
+impl FactStep for WithEntries {
+    ghost step = { λ s fact. let counts = with_entries s.key s.version (s.accepts, s.rejects) fact in record s { accepts = counts.0; rejects = counts.1 } };
+
+    fn take(&mut self, cells: &FactCells, number: u32) {
+        let mut tags = tags_at(cells, number, &self.key, self.version, &Ballot::FAST);
+        let (accepts, rejects) = with_tags(&mut tags, self.accepts, self.rejects);
+        self.accepts = accepts;
+        self.rejects = rejects;
+    }
+}
+
+impl<'a> FactStep for WithCount<'a> {
+    ghost step = { λ s fact. record s { count = min (with_count s.key s.version s.ballot s.options.now s.count fact) (2 ^ 64 - 1) } };
+
+    fn take(&mut self, cells: &FactCells, number: u32) {
+        let _most = self.options.len();
+        let mut tags = tags_at(cells, number, &self.key, self.version, &self.ballot);
+        self.count = with_common(&mut tags, self.options, self.count);
+    }
+}
