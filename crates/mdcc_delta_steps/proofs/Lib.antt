@@ -1,0 +1,9 @@
+pub mod ChoicesEntered
+pub mod FactsEntered
+pub mod Heads
+pub mod MarksEntered
+pub mod Noted
+pub mod PartsThere
+pub mod Passed
+pub mod Stepping
+pub mod Told

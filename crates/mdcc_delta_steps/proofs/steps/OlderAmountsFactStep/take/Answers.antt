@@ -1,0 +1,22 @@
+use Rattle.std.proofs.Common.{◌≡◌, ap, sym, ◌∙◌}
+use Rattle.std.specs.Option.{option_or}
+use Rattle.mdcc_struct.specs.Maps.{value_of}
+use Rattle.mdcc_protocol.specs.Facts.{deltas_from}
+use Rattle.mdcc_delta_steps.specs.Steps.{amounts_told}
+use Rattle.mdcc_delta_steps.proofs.Told.{amounts-are-told}
+use Rattle.mdcc_delta_steps.proofs.Noted.{older-none, older-some}
+use Rattle.mdcc_delta_steps.proofs.steps.OlderAmountsFactStep.take.Goals as goal
+
+pub returns-then-is_some : goal.returns-then-is_some
+returns-then-is_some c = λ fact fits is.
+    let s = c.args.self.now in
+    ap (λ found. record s { found = found })
+    (older-some c.amounts_of-older.result s.found (sym c.is_some.ensures ∙ c.if-is_some.true)
+    ∙ ap (λ older. option_or older s.found) (c.amounts_of-older.ensures ∙ ap (amounts_told s.key s.version s.tx) is ∙ amounts-are-told s.key s.version s.tx fact fits))
+
+pub returns-else-is_some : goal.returns-else-is_some
+returns-else-is_some c = λ fact fits is.
+    let s = c.args.self.now in
+    ap (λ found. record s { found = found })
+    (older-none c.amounts_of-older.result s.found (sym c.is_some.ensures ∙ c.if-is_some.false)
+    ∙ ap (λ older. option_or older s.found) (c.amounts_of-older.ensures ∙ ap (amounts_told s.key s.version s.tx) is ∙ amounts-are-told s.key s.version s.tx fact fits))

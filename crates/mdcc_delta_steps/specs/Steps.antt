@@ -1,0 +1,63 @@
+-- What steps over facts know, with one more fact.
+use Rattle.std.specs.List.{fold, prefix_len}
+use Rattle.std.specs.Prelude.{Bool, List, None, Option, Some, [], false, if◌then◌else◌, insert, is_some, length, nat_lt, not, true, ℕ, ◌&&◌, ◌==◌, ◌||◌}
+use Rattle.mdcc_base.specs.TxId.{tx_eq, tx_lt}
+use Rattle.mdcc_base.specs.declared.identifiers.TxId.{TxId}
+use Rattle.mdcc_base.specs.declared.key.Key.{Key}
+use Rattle.mdcc_messages.specs.declared.facts.Fact.{Fact}
+use Rattle.mdcc_protocol.specs.Facts.{deltas_from}
+use Rattle.mdcc_protocol.specs.Fit.{has_tx}
+use Rattle.mdcc_struct.specs.Maps.{txs_of, value_of}
+use Rattle.mdcc_fact_folds.specs.Held.{is_delta_by, older_amounts}
+use Rattle.mdcc_fact_folds.specs.Live.{is_live_by}
+use Rattle.mdcc_delta_steps.specs.Entries.{Amounts, Entry, deltas_read, live_read, tx_in}
+use Rattle.mdcc_delta_steps.specs.Passing.{byte_at, head_of}
+use Rattle.mdcc_delta_steps.specs.declared.steps.IsDelta.{IsDelta}
+use Rattle.mdcc_delta_steps.specs.declared.steps.IsLive.{IsLive}
+use Rattle.mdcc_delta_steps.specs.declared.steps.OlderAmounts.{OlderAmounts}
+use Rattle.mdcc_delta_steps.specs.declared.steps.WithDeltas.{WithDeltas}
+
+abbrev pub delta_step : IsDelta → Fact → IsDelta
+delta_step s fact = record s { found = s.found || is_delta_by s.key s.version s.tx fact }
+
+abbrev pub live_step : IsLive → Fact → IsLive
+live_step s fact = record s { found = s.found || is_live_by s.key s.version s.tx fact }
+
+abbrev pub amounts_step : OlderAmounts → Fact → OlderAmounts
+amounts_step s fact = record s { found = older_amounts s.key s.version s.tx s.found fact }
+
+-- with a transaction in its place, where it is not there; they are crowded where it would be the 65th
+abbrev pub noted : WithDeltas → TxId → WithDeltas
+noted s tx =
+    if s.crowded || has_tx s.seen tx then s
+    else (if length s.seen == 64 then record s { crowded = true } else record s { seen = insert s.seen (prefix_len (λ other. tx_lt other tx) s.seen) tx })
+
+abbrev pub deltas_step : WithDeltas → Fact → WithDeltas
+deltas_step s fact = fold noted s (txs_of (deltas_from s.key s.version fact))
+
+abbrev pub no_deltas : Key → ℕ → WithDeltas
+no_deltas key version = record { key = key; version = version; seen = []; crowded = false }
+
+-- ---- what is read
+
+-- the fact that is encoded tells how another transaction ended
+abbrev pub is_of_other : TxId → List ℕ → Bool
+is_of_other tx bytes = byte_at 0 (head_of bytes) == 4 && not (tx_eq (tx_in (head_of bytes) 1) tx)
+
+abbrev pub joined : Option (Option Amounts) → Option Amounts
+joined None = None
+joined (Some added) = added
+
+-- what the first entry of a transaction adds
+abbrev pub value_in : TxId → List Entry → Option Amounts
+value_in tx entries = joined (value_of entries tx)
+
+-- whether a fact brings a delta of a transaction, by its encoding
+abbrev pub delta_told : Key → ℕ → TxId → List ℕ → Bool
+delta_told key version tx bytes = not (is_of_other tx bytes) && is_some (value_of (deltas_read key version bytes) tx)
+
+abbrev pub live_told : Key → ℕ → TxId → List ℕ → Bool
+live_told key version tx bytes = not (is_of_other tx bytes) && is_some (value_of (live_read key version bytes) tx)
+
+abbrev pub amounts_told : Key → ℕ → TxId → List ℕ → Option Amounts
+amounts_told key version tx bytes = if is_of_other tx bytes then None else value_in tx (deltas_read key version bytes)

@@ -1,0 +1,9 @@
+//! What a walk over facts in cells takes of those that commit or adopt something: deltas, bases and live updates.
+#![tactic(auto)]
+
+mod entries;
+mod parts;
+mod passing;
+pub mod steps;
+
+pub use steps::{IsDelta, IsLive, OlderAmounts, WithDeltas};
