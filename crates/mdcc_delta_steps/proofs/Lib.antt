@@ -7,3 +7,4 @@ pub mod PartsThere
 pub mod Passed
 pub mod Stepping
 pub mod Told
+pub mod Walked

@@ -1,13 +1,14 @@
 -- What steps over facts know, with one more fact.
-use Rattle.std.specs.List.{fold, prefix_len}
-use Rattle.std.specs.Prelude.{Bool, List, None, Option, Some, [], false, if◌then◌else◌, insert, is_some, length, nat_lt, not, true, ℕ, ◌&&◌, ◌==◌, ◌||◌}
+use Rattle.std.specs.List.{fold, list_any, prefix_len}
+use Rattle.std.specs.Prelude.{◌≡◌, ◌≤◌, Bool, List, None, Option, Some, [], false, filter, if◌then◌else◌, insert, is_some, length, nat_lt, not, true, ℕ, ◌&&◌, ◌==◌, ◌||◌}
 use Rattle.mdcc_base.specs.TxId.{tx_eq, tx_lt}
 use Rattle.mdcc_base.specs.declared.identifiers.TxId.{TxId}
 use Rattle.mdcc_base.specs.declared.key.Key.{Key}
 use Rattle.mdcc_messages.specs.declared.facts.Fact.{Fact}
-use Rattle.mdcc_protocol.specs.Facts.{deltas_from}
+use Rattle.mdcc_protocol.specs.Facts.{current_of, deltas_at, deltas_from, executed_of}
 use Rattle.mdcc_protocol.specs.Fit.{has_tx}
 use Rattle.mdcc_struct.specs.Maps.{txs_of, value_of}
+use Rattle.mdcc_fact_folds.specs.Chains.{Covers, is_delta_in}
 use Rattle.mdcc_fact_folds.specs.Held.{is_delta_by, older_amounts}
 use Rattle.mdcc_fact_folds.specs.Live.{is_live_by}
 use Rattle.mdcc_delta_steps.specs.Entries.{Amounts, Entry, deltas_read, live_read, tx_in}
@@ -61,3 +62,42 @@ live_told key version tx bytes = not (is_of_other tx bytes) && is_some (value_of
 
 abbrev pub amounts_told : Key → ℕ → TxId → List ℕ → Option Amounts
 amounts_told key version tx bytes = if is_of_other tx bytes then None else value_in tx (deltas_read key version bytes)
+
+-- ---- what walks know at their end
+
+-- they are crowded where the version has more than 64 deltas
+abbrev pub CrowdedByDeltas : Type 0
+CrowdedByDeltas =
+    (keep : Fact → Bool) (key : Key) (version : ℕ) → Covers keep (is_delta_in key version)
+    → (facts : List Fact) → (fold deltas_step (no_deltas key version) (filter keep facts)).crowded ≡ nat_lt 64 (length (deltas_at facts key version))
+
+-- where at most 64 deltas are executed, the transactions that were noted are theirs
+abbrev pub ExecutedAreNoted : Type 0
+ExecutedAreNoted =
+    (keep : Fact → Bool) (key : Key) (facts : List Fact) → Covers keep (is_delta_in key (current_of facts key)) → length (executed_of facts key) ≤ 64
+    → (fold deltas_step (no_deltas key (current_of facts key)) (filter keep facts)).seen ≡ txs_of (executed_of facts key)
+
+abbrev pub amounts_sought : Key → ℕ → TxId → OlderAmounts
+amounts_sought key version tx = record { key = key; version = version; tx = tx; found = None }
+
+-- the amounts that were found are the fold's
+abbrev pub AmountsAreFolded : Type 0
+AmountsAreFolded =
+    (key : Key) (version : ℕ) (tx : TxId) (facts : List Fact)
+    → (fold amounts_step (amounts_sought key version tx) facts).found ≡ fold (older_amounts key version tx) None facts
+
+abbrev pub delta_sought : Key → ℕ → TxId → IsDelta
+delta_sought key version tx = record { key = key; version = version; tx = tx; found = false }
+
+abbrev pub DeltaIsAny : Type 0
+DeltaIsAny =
+    (key : Key) (version : ℕ) (tx : TxId) (facts : List Fact)
+    → (fold delta_step (delta_sought key version tx) facts).found ≡ list_any (is_delta_by key version tx) facts
+
+abbrev pub live_sought : Key → ℕ → TxId → IsLive
+live_sought key version tx = record { key = key; version = version; tx = tx; found = false }
+
+abbrev pub LiveIsAny : Type 0
+LiveIsAny =
+    (key : Key) (version : ℕ) (tx : TxId) (facts : List Fact)
+    → (fold live_step (live_sought key version tx) facts).found ≡ list_any (is_live_by key version tx) facts

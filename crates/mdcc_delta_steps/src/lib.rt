@@ -5,5 +5,6 @@ mod entries;
 mod parts;
 mod passing;
 pub mod steps;
+pub mod theorems;
 
 pub use steps::{IsDelta, IsLive, OlderAmounts, WithDeltas};
