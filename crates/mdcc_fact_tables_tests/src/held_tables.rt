@@ -8,18 +8,12 @@ fn a_greater_version_brings_its_number(rt: HostRuntime) -> Result<(), Fail> {
     let mut table = HeldTable::new(rt.alloc(), 4)?;
     table.add(&committed(write(b'a', 1, 0)), 0);
     table.add(&adopted(rt.alloc(), b'a', 1), 1);
-    assert_eq!(rt; table.base_number(&key(b'a')), Some((1, 0)));
+    assert!(rt; table.base_number(&key(b'a')) == Some((1, 0)));
     table.add(&committed(write(b'b', 2, 6)), 2);
     table.add(&adopted(rt.alloc(), b'a', 4), 3);
-    assert_eq!(rt; table.base_number(&key(b'a')), Some((4, 3)));
-    assert_eq!(rt; table.base_number(&key(b'b')), Some((7, 2)));
-    assert_eq!(rt;
-        (table.current(&key(b'a')), table.current(&key(b'b'))),
-        (4, 7)
-    );
-    assert_eq!(rt;
-        (table.current(&key(b'c')), table.base_number(&key(b'c'))),
-        (0, None)
-    );
+    assert!(rt; table.base_number(&key(b'a')) == Some((4, 3)));
+    assert!(rt; table.base_number(&key(b'b')) == Some((7, 2)));
+    assert!(rt; table.current(&key(b'a')) == 4 && table.current(&key(b'b')) == 7);
+    assert!(rt; table.current(&key(b'c')) == 0 && table.base_number(&key(b'c')).is_none());
     Ok(())
 }
