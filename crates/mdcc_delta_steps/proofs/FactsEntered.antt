@@ -130,11 +130,11 @@ heard-read at_key at_version tx (Outcome.Commit choices) fits =
 abbrev pub adopted_text : List ℕ → ℕ → Item → List Delta → List ℕ
 adopted_text key version item adds = fact_bytes (Fact.Adopted key version item adds)
 
-adopted-parts : (key : List ℕ) (version : ℕ) (item : Item) (adds : List Delta)
+pub adopted-parts : (key : List ℕ) (version : ℕ) (item : Item) (adds : List Delta)
     → adopted_text key version item adds ≡ (u8_bytes 5 ++ (key_bytes key ++ u64_bytes version)) ++ (item_bytes item ++ counted delta_bytes adds)
 adopted-parts key version item adds = ap (λ t. u8_bytes 5 ++ t) (append_assoc (key_bytes key ++ u64_bytes version) (item_bytes item) (counted delta_bytes adds))
 
-adopted-instance : (key : List ℕ) (version : ℕ) (item : Item) (adds : List Delta) → IsAt (adopted_text key version item adds) 1 (key_bytes key ++ u64_bytes version)
+pub adopted-instance : (key : List ℕ) (version : ℕ) (item : Item) (adds : List Delta) → IsAt (adopted_text key version item adds) 1 (key_bytes key ++ u64_bytes version)
 adopted-instance key version item adds =
     let whole : IsAt (adopted_text key version item adds) 0 (u8_bytes 5 ++ (key_bytes key ++ u64_bytes version)) =
     subst (λ b. IsAt b 0 (u8_bytes 5 ++ (key_bytes key ++ u64_bytes version))) (sym (adopted-parts key version item adds))

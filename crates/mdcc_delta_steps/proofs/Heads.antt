@@ -19,17 +19,20 @@ take-front (b ∷ text) more n =
     let one : suc (length text) + n ≡ suc (length text + n) = omega arith in
     ap (λ k. take k (b ∷ (text ++ more))) one ∙ ap (λ t. b ∷ t) (take-front text more n)
 
--- the head of bytes from a place on, whose end is so many bytes after that place
-head-from : (bytes : List ℕ) (at n : ℕ) → at + n ≡ 64 → drop at (head_of bytes) ≡ take n (drop at bytes)
-head-from bytes at n ends = ap (λ k. drop at (take k bytes)) (sym ends) ∙ drop-take at n bytes
+-- a window of bytes from a place on, whose end is so many bytes after that place
+window-from : (size : ℕ) (bytes : List ℕ) (at n : ℕ) → at + n ≡ size → drop at (take size bytes) ≡ take n (drop at bytes)
+window-from size bytes at n ends = ap (λ k. drop at (take k bytes)) (sym ends) ∙ drop-take at n bytes
 
--- what stands within the head stands there as well
-pub in-head : (bytes : List ℕ) (at : ℕ) (text : List ℕ) → IsAt bytes at text → at + length text ≤ 64 → IsAt (head_of bytes) at text
-in-head bytes at text h within =
-    let left : ℕ = 64 - (at + length text) in
+-- what stands within the window stands there as well
+pub in-window : (size : ℕ) (bytes : List ℕ) (at : ℕ) (text : List ℕ) → IsAt bytes at text → at + length text ≤ size → IsAt (take size bytes) at text
+in-window size bytes at text h within =
+    let left : ℕ = size - (at + length text) in
     record {
-      is = head-from bytes at (length text + left) (omega arith)
+      is = window-from size bytes at (length text + left) (omega arith)
           ∙ ap (take (length text + left)) h.is
           ∙ take-front text (drop (at + length text) bytes) left
-          ∙ ap (λ t. text ++ t) (sym (head-from bytes (at + length text) left (omega arith)));
+          ∙ ap (λ t. text ++ t) (sym (window-from size bytes (at + length text) left (omega arith)));
     }
+
+pub in-head : (bytes : List ℕ) (at : ℕ) (text : List ℕ) → IsAt bytes at text → at + length text ≤ 64 → IsAt (head_of bytes) at text
+in-head bytes at text h within = in-window 64 bytes at text h within

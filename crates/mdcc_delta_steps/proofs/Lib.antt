@@ -1,3 +1,4 @@
+pub mod BasesTold
 pub mod ChoicesEntered
 pub mod FactsEntered
 pub mod Heads

@@ -1,3 +1,4 @@
+pub mod Bases
 pub mod Entries
 pub mod Passing
 pub mod Steps
