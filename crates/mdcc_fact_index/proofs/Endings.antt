@@ -21,6 +21,7 @@ use Rattle.mdcc_spelling.proofs.Lengths.{length-fact}
 use Rattle.mdcc_chains.specs.Walks.{last_in, walk}
 use Rattle.mdcc_fact_cells.specs.Holding.{AreWellFormed, encodings_of, Holds}
 use Rattle.mdcc_fact_index.specs.Heard.{heard_by, heard_numbers, heard_txs, is_commit_spelled, number_found, number_in, numbers_by, outcome_read, outcome_spelled, AreHeard, AreNumbersBelow, HeardTxs}
+use Rattle.mdcc_fact_tables.specs.UnresolvedNumbers.{TellsHeard}
 use Rattle.mdcc_fact_index.proofs.Entered.{encodings-length}
 use Rattle.mdcc_fact_index.proofs.Short.{heard-short}
 
@@ -277,3 +278,7 @@ below-by (Fact.Booted epoch) numbers number below = none-below numbers number be
 below-by (Fact.Promised key low high ballot) numbers number below = none-below numbers number below
 below-by (Fact.Voted key version ballot options offered) numbers number below = none-below numbers number below
 below-by (Fact.Adopted key version item adds) numbers number below = none-below numbers number below
+
+-- a transaction was heard where it is found
+pub tells-heard : (index : HeardTxs) (facts : List Fact) → AreWellFormed facts → AreHeard index facts → TellsHeard (λ tx. is_some (number_found index tx)) facts
+tells-heard index facts fits kept tx = heard-known index facts tx fits kept

@@ -112,8 +112,8 @@ module _ (key : Key) (version : ℕ) where
     | inl same ↦
         let turned : key_eq k key ≡ true = nat_list_eq_equiv.symm k key ∙ same in
         rw (same, turned) (
-          greatest-found facts (with_range version start (record { low = low; high = high; ballot = b }))
-          ∙ ap (λ ballot. fold (with_promise key version) ballot (filter (is_promise_of key) facts)) (ballot-here k low high b start same)
+        greatest-found facts (with_range version start (record { low = low; high = high; ballot = b }))
+        ∙ ap (λ ballot. fold (with_promise key version) ballot (filter (is_promise_of key) facts)) (ballot-here k low high b start same)
         )
     | inr other ↦
         let turned : key_eq k key ≡ false = nat_list_eq_equiv.symm k key ∙ other in

@@ -4,7 +4,9 @@
 pub mod instance_chains;
 pub mod outcomes;
 pub mod promises;
+pub mod rooms;
 
 pub use instance_chains::InstanceChains;
 pub use outcomes::OutcomeIndex;
 pub use promises::{Promise, Promises};
+pub use rooms::instances_in_cells;

@@ -1,14 +1,15 @@
 //! How transactions ended, found by transaction.
 ghost use Rattle.std.specs.Prelude.{◌≡◌, ◌∷◌, ◌++◌, ◌<◌, ◌≤◌, ◌+◌, [], IfOk, IfSome, List, ℕ, get_or, length, vec_capacity, vec_len};
 ghost use Rattle.mdcc_messages.specs.declared.facts.Fact.{Fact as AFact};
-ghost use Rattle.mdcc_protocol.specs.Facts.{heard_of, is_heard};
+ghost use Rattle.mdcc_protocol.specs.Facts.{heard_of};
 ghost use Rattle.mdcc_protocol.specs.Stores.{ended_of};
-ghost use Rattle.mdcc_fact_cells.specs.Holding.{AreWellFormed, Holds};
+ghost use Rattle.mdcc_fact_cells.specs.Holding.{Holds};
 ghost use Rattle.mdcc_fact_index.specs.Heard.{AreHeard, AreNumbersBelow, heard_by, is_commit_spelled, number_found, numbers_by, outcome_spelled};
 
 use mdcc_base::{Memory, TxId};
 use mdcc_chains::TransactionIndex;
 use mdcc_fact_cells::FactCells;
+use mdcc_fact_tables::HeardTest;
 use mdcc_messages::Fact;
 use mdcc_option::Outcome;
 use mdcc_parts::given::read_heard;
@@ -137,11 +138,15 @@ impl OutcomeIndex {
             None => None,
         }
     }
+}
 
-    /// Whether an outcome of the transaction was heard.
-    pub fn is_heard(&self, tx: TxId) -> bool
-        ensures { (facts : List AFact) → AreWellFormed facts → AreHeard self.now facts → result ≡ is_heard facts tx }
-    {
+impl HeardTest for OutcomeIndex {
+    ghost use Rattle.std.specs.Prelude.{is_some};
+    ghost use Rattle.mdcc_fact_index.specs.Heard.{number_found};
+
+    ghost heard = { λ outcomes tx. is_some (number_found outcomes tx) };
+
+    fn is_heard(&self, tx: TxId) -> bool {
         self.number_of(&tx).is_some()
     }
 }

@@ -1,0 +1,42 @@
+-- The numbers in a store are those of facts that it has.
+use Rattle.std.proofs.Common.{◌≡◌, ◌<◌, ◌≤◌, ◌+◌, ℕ, List, [], ◌∷◌, length, sym, ap, ◌∙◌, arith, subst}
+use Rattle.mdcc_messages.specs.declared.facts.Fact.{Fact}
+use Rattle.mdcc_fact_folds.specs.Entered.{instances_in}
+use Rattle.mdcc_fact_tables.specs.HeldVersions.{AreGivenBelow}
+use Rattle.mdcc_fact_tables.specs.UnresolvedNumbers as unresolved
+use Rattle.mdcc_fact_index.specs.Entries.{AreBelow, entries_in, entries_of}
+use Rattle.mdcc_fact_index.specs.Heard.{AreNumbersBelow, heard_numbers}
+use Rattle.mdcc_fact_index.proofs.Beside.{below-append, below-more, below-one}
+use Rattle.mdcc_fact_index.proofs.Endings.{below-by}
+use Rattle.mdcc_fact_index.proofs.Entered.{held-length}
+use Rattle.mdcc_index.specs.Stores.{Represents, Store}
+
+entries-below : (facts : List Fact) → AreBelow (length facts) (entries_of facts)
+entries-below [] = tt
+entries-below (fact ∷ facts) =
+    below-append (length (fact ∷ facts)) (entries_in fact (length facts)) (entries_of facts)
+    (below-one (length (fact ∷ facts)) (length facts) (instances_in fact) (omega arith))
+    (below-more (length facts) (length (fact ∷ facts)) (entries_of facts) (omega arith) (entries-below facts))
+
+numbers-below : (facts : List Fact) → AreNumbersBelow (length facts) (heard_numbers facts)
+numbers-below [] i within = absurd (omega arith)
+numbers-below (fact ∷ facts) i within =
+    let below = below-by fact (heard_numbers facts) (length facts) (numbers-below facts) i within in omega (arith, below)
+
+module _ (store : Store) (facts : List Fact) (kept : Represents store facts) where
+  pub outcomes-below : AreNumbersBelow (length store.cells.encodings) store.outcomes.numbers
+  outcomes-below =
+      subst (λ bound. AreNumbersBelow bound store.outcomes.numbers) (sym (held-length store.cells.encodings facts kept.cells))
+      (subst (AreNumbersBelow (length facts)) (sym kept.outcomes.numbers_are) (numbers-below facts))
+
+  pub instances-below : AreBelow (length store.cells.encodings) store.instances.entries
+  instances-below =
+      subst (λ bound. AreBelow bound store.instances.entries) (sym (held-length store.cells.encodings facts kept.cells))
+      (subst (AreBelow (length facts)) (sym kept.instances) (entries-below facts))
+
+  pub given-below : AreGivenBelow (length store.cells.encodings) store.held
+  given-below key some = omega (arith, (kept.held key).number some, held-length store.cells.encodings facts kept.cells)
+
+  pub unresolved-below : unresolved.AreBelow (length store.cells.encodings) store.unresolved.entries
+  unresolved-below =
+      subst (λ bound. unresolved.AreBelow bound store.unresolved.entries) (sym (held-length store.cells.encodings facts kept.cells)) kept.unresolved.numbers

@@ -1,0 +1,71 @@
+use Rattle.std.proofs.Common.{List, ℕ, ◌∷◌, arith, length, length-append, ap, subst, sym}
+use Rattle.std.proofs.lemmas.List.{length-map}
+use Rattle.mdcc_base.specs.declared.key.Key.{Key}
+use Rattle.mdcc_messages.specs.declared.facts.Fact.{Fact}
+use Rattle.mdcc_facts.specs.Adding.{MayBeAdded}
+use Rattle.mdcc_fact_tables.proofs.Entries.{keys-in_cells, transactions-in_cells}
+use Rattle.mdcc_fact_index.proofs.InCells.{instances-in_cells}
+use Rattle.mdcc_fact_cells.proofs.Ticketed.{some-cells}
+use Rattle.mdcc_fact_folds.specs.Entered.{instances_in}
+use Rattle.mdcc_fact_index.specs.Entries.{entries_in}
+use Rattle.mdcc_index.specs.Stores.{Represents, store_of}
+use Rattle.mdcc_index.proofs.Adding.{AddsFact, represents-more}
+use Rattle.mdcc_index.proofs.pool_facts.PoolFacts.add.Goals as goal
+
+pub add-requires-2 : goal.add-requires-2
+add-requires-2 c =
+    let may = c.requires c.self.invariant.facts (subst (λ s. Represents s c.self.invariant.facts) c.self.view_is c.self.invariant.represented) in
+    omega (arith, transactions-in_cells c.args.fact.now may.well_formed, c.self.invariant.room.unresolved, c.add.ensures.used)
+
+pub add-requires-5 : goal.add-requires-5
+add-requires-5 c =
+    let may = c.requires c.self.invariant.facts (subst (λ s. Represents s c.self.invariant.facts) c.self.view_is c.self.invariant.represented) in
+    omega (arith, instances-in_cells c.args.fact.now may.well_formed, c.self.invariant.room.instances, c.add.ensures.used)
+
+pub add-requires-6 : goal.add-requires-6
+add-requires-6 c =
+    let may = c.requires c.self.invariant.facts (subst (λ s. Represents s c.self.invariant.facts) c.self.view_is c.self.invariant.represented) in
+    omega (arith, keys-in_cells c.args.fact.now may.well_formed, c.self.invariant.room.held, c.add.ensures.used)
+
+-- every part has the fact
+adds : (c : goal.After-self-1)
+    → AddsFact (store_of c.self.inside.cells c.self.inside.outcomes c.self.inside.promises c.self.inside.instances c.self.inside.held c.self.inside.unresolved c.self.inside.epoch)
+    (store_of c.add.new.self c.add-3.new.self c.add-4.new.self c.add-5.new.self c.add-6.new.self c.add-2.new.self c.next_epoch-self-inside.result) c.args.fact.now c.len-number.result
+adds c = record {
+  number_is = c.len-number.ensures;
+  cells = c.add.ensures.encodings;
+  outcomes = c.add-3.ensures.heard;
+  promises = c.add-4.ensures.promises;
+  instances = c.add-5.ensures.entries;
+  held = c.add-6.ensures.holds;
+  unresolved = c.add-2.ensures.lists;
+  epoch = c.next_epoch-self-inside.ensures;
+}
+
+pub invariant_of-self : goal.invariant_of-self
+invariant_of-self c =
+    let may = c.requires c.self.invariant.facts (subst (λ s. Represents s c.self.invariant.facts) c.self.view_is c.self.invariant.represented) in
+    record {
+      facts = c.args.fact.now ∷ c.self.invariant.facts;
+      represented = represents-more _ _ c.self.invariant.facts c.args.fact.now c.len-number.result (adds c) may c.self.invariant.represented;
+      room = record {
+        outcomes = omega (arith, c.self.invariant.room.outcomes, c.add.ensures.used, c.add-3.ensures.few, c.add-3.ensures.room, some-cells c.args.fact.now);
+        promises = omega (arith, c.self.invariant.room.promises, c.add.ensures.used, c.add-4.ensures.few, c.add-4.ensures.room, some-cells c.args.fact.now);
+        instances = omega (
+          arith,
+          c.self.invariant.room.instances,
+          c.add.ensures.used,
+          ap length c.add-5.ensures.entries,
+          length-append (entries_in c.args.fact.now c.len-number.result) c.self.inside.instances.entries,
+          length-map {B = (Key × ℕ) × ℕ} (instances_in c.args.fact.now) (λ instance. (instance, c.len-number.result)),
+          c.add-5.ensures.room,
+          instances-in_cells c.args.fact.now may.well_formed,
+        );
+        held = omega (arith, c.self.invariant.room.held, c.add.ensures.used, c.add-6.ensures.keys, c.add-6.ensures.room, keys-in_cells c.args.fact.now may.well_formed);
+        unresolved = omega (arith, c.self.invariant.room.unresolved, c.add.ensures.used, c.add-2.ensures.more, c.add-2.ensures.room, transactions-in_cells c.args.fact.now may.well_formed);
+      };
+    }
+
+pub returns-clause-ok : goal.returns-clause-ok
+returns-clause-ok c facts kept =
+    represents-more _ _ facts c.args.fact.now c.len-number.result (adds c) (c.requires facts kept) (subst (λ s. Represents s facts) (sym c.self.view_is) kept)

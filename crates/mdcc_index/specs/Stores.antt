@@ -1,0 +1,52 @@
+-- A store of facts in cells, and the lists of facts that it represents.
+use Rattle.std.specs.Prelude.{List, ◌≡◌, ◌+◌, ◌*◌, ◌≤◌, ℕ, length}
+use Rattle.mdcc_messages.specs.declared.facts.Fact.{Fact}
+use Rattle.mdcc_protocol.specs.Facts.{epoch_of}
+use Rattle.mdcc_chains.specs.Unresolved.{Numbered}
+use Rattle.mdcc_fact_cells.specs.Holding.{Holds}
+use Rattle.mdcc_fact_cells.specs.Stored.{Stored}
+use Rattle.mdcc_fact_folds.specs.Added.{AreAdded}
+use Rattle.mdcc_fact_tables.specs.HeldVersions.{HoldsVersions, Versions}
+use Rattle.mdcc_fact_tables.specs.UnresolvedNumbers.{ListsUnresolved}
+use Rattle.mdcc_fact_index.specs.Entries.{Entries, entries_of}
+use Rattle.mdcc_fact_index.specs.Heard.{AreHeard, HeardTxs}
+use Rattle.mdcc_fact_index.specs.Promises.{ArePromised, Kept}
+
+-- the facts in their cells, and what is found without reading them
+pub record Store : Type 0 where
+  pub cells : Stored
+  pub outcomes : HeardTxs
+  pub promises : Kept
+  pub instances : Entries
+  pub held : Versions
+  pub unresolved : Numbered
+  pub epoch : ℕ
+
+abbrev pub store_of : Stored → HeardTxs → Kept → Entries → Versions → Numbered → ℕ → Store
+store_of cells outcomes promises instances held unresolved epoch =
+    record { cells = cells; outcomes = outcomes; promises = promises; instances = instances; held = held; unresolved = unresolved; epoch = epoch }
+
+-- the store has these facts, the newest first
+pub record Represents (store : Store) (facts : List Fact) : Type 0 where
+  pub cells : Holds store.cells.encodings facts
+  pub outcomes : AreHeard store.outcomes facts
+  pub promises : ArePromised store.promises facts
+  pub instances : store.instances.entries ≡ entries_of facts
+  pub held : HoldsVersions store.held facts
+  pub unresolved : ListsUnresolved store.unresolved.entries facts
+  pub epoch : store.epoch ≡ epoch_of facts
+  pub added : AreAdded facts
+
+-- for each spare cell there is room for what a fact may bring
+pub record HasRoom (store : Store) : Type 0 where
+  pub outcomes : length store.outcomes.txs.keys + store.cells.spare ≤ store.outcomes.txs.room
+  pub promises : length store.promises.keys.keys + store.cells.spare ≤ store.promises.keys.room
+  pub instances : length store.instances.entries + 2 * store.cells.spare ≤ store.instances.room
+  pub held : length store.held.keys.keys + 2 * store.cells.spare ≤ store.held.keys.room
+  pub unresolved : length store.unresolved.entries + 2 * store.cells.spare ≤ store.unresolved.room
+
+-- it represents some facts, and has room for more
+pub record IsStore (store : Store) : Type 0 where
+  pub facts : List Fact
+  pub represented : Represents store facts
+  pub room : HasRoom store
