@@ -7,5 +7,7 @@ pub mod Noted
 pub mod PartsThere
 pub mod Passed
 pub mod Stepping
+pub mod Summed
 pub mod Told
 pub mod Walked
+pub mod WalksOn

@@ -1,4 +1,6 @@
 pub mod Bases
+pub mod Chains
 pub mod Entries
+pub mod Loads
 pub mod Passing
 pub mod Steps

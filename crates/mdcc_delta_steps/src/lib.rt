@@ -2,11 +2,15 @@
 #![tactic(auto)]
 
 pub mod bases;
+pub mod chain;
 mod entries;
+pub mod loads;
 mod parts;
 mod passing;
 pub mod steps;
 pub mod theorems;
 
 pub use bases::item_at;
+pub use chain::InstanceWalk;
+pub use loads::{VoidTest, load};
 pub use steps::{IsDelta, IsLive, OlderAmounts, WithDeltas};

@@ -1,7 +1,7 @@
 //! What a walk takes of each fact: deltas and live updates of transactions.
 ghost use Rattle.std.specs.List.{fold, prefix_len};
 ghost use Rattle.std.specs.Option.{option_or};
-ghost use Rattle.std.specs.Prelude.{◌≡◌, ◌<◌, [], get_or, is_some, length};
+ghost use Rattle.std.specs.Prelude.{◌≡◌, is_some};
 ghost use Rattle.mdcc_base.specs.TxId.{tx_lt};
 ghost use Rattle.mdcc_protocol.specs.Fit.{has_tx};
 ghost use Rattle.mdcc_struct.specs.Maps.{txs_of, value_of};
@@ -90,36 +90,25 @@ fn value_in<'a>(entries: Entries<'a>, tx: &TxId) -> Option<Amounts>
     None
 }
 
-// Whether the fact of a number brings a delta of the transaction into a version of a key.
-pub(crate) fn has_delta(cells: &FactCells, number: u32, key: &Key, version: u64, tx: &TxId) -> bool
-    requires { number < length cells.now.encodings }
-    ensures { result ≡ delta_told key.now version tx.now (get_or cells.now.encodings number []) }
+/// Whether the fact at whose beginning a cursor stands brings a delta of the transaction into a version
+/// of a key.
+pub(crate) fn tells_delta<'a>(cursor: Cursor<'a>, key: &Key, version: u64, tx: &TxId) -> bool
+    ensures { result ≡ delta_told key.now version tx.now cursor.entry }
 {
-    let cursor = cells.start(number);
     !is_of_other(&cursor, tx) && has_entry(delta_entries(cursor, key, version), tx)
 }
 
-// Whether it makes the transaction live there.
-pub(crate) fn has_live(cells: &FactCells, number: u32, key: &Key, version: u64, tx: &TxId) -> bool
-    requires { number < length cells.now.encodings }
-    ensures { result ≡ live_told key.now version tx.now (get_or cells.now.encodings number []) }
+/// Whether it makes the transaction live there.
+pub(crate) fn tells_live<'a>(cursor: Cursor<'a>, key: &Key, version: u64, tx: &TxId) -> bool
+    ensures { result ≡ live_told key.now version tx.now cursor.entry }
 {
-    let cursor = cells.start(number);
     !is_of_other(&cursor, tx) && has_entry(live_entries(cursor, key, version), tx)
 }
 
 // The amounts of the transaction's delta there.
-fn amounts_of(
-    cells: &FactCells,
-    number: u32,
-    key: &Key,
-    version: u64,
-    tx: &TxId,
-) -> Option<Amounts>
-    requires { number < length cells.now.encodings }
-    ensures { result ≡ amounts_told key.now version tx.now (get_or cells.now.encodings number []) }
+fn amounts_told<'a>(cursor: Cursor<'a>, key: &Key, version: u64, tx: &TxId) -> Option<Amounts>
+    ensures { result ≡ amounts_told key.now version tx.now cursor.entry }
 {
-    let cursor = cells.start(number);
     if is_of_other(&cursor, tx) {
         None
     } else {
@@ -158,7 +147,8 @@ impl FactStep for IsDelta {
 
     fn take(&mut self, cells: &FactCells, number: u32) {
         if !self.found {
-            self.found = has_delta(cells, number, &self.key, self.version, &self.tx);
+            let cursor = cells.start(number);
+            self.found = tells_delta(cursor, &self.key, self.version, &self.tx);
         }
     }
 }
@@ -168,7 +158,8 @@ impl FactStep for IsLive {
 
     fn take(&mut self, cells: &FactCells, number: u32) {
         if !self.found {
-            self.found = has_live(cells, number, &self.key, self.version, &self.tx);
+            let cursor = cells.start(number);
+            self.found = tells_live(cursor, &self.key, self.version, &self.tx);
         }
     }
 }
@@ -177,7 +168,8 @@ impl FactStep for OlderAmounts {
     ghost step = { amounts_step };
 
     fn take(&mut self, cells: &FactCells, number: u32) {
-        let older = amounts_of(cells, number, &self.key, self.version, &self.tx);
+        let cursor = cells.start(number);
+        let older = amounts_told(cursor, &self.key, self.version, &self.tx);
         if older.is_some() {
             self.found = older;
         }

@@ -9,5 +9,5 @@ pub returns-then-not-self : goal.returns-then-not-self
 returns-then-not-self c = λ fact fits is.
     let s = c.args.self.now in
     ap (λ found. record s { found = found })
-    (c.has_delta-self.ensures ∙ ap (delta_told s.key s.version s.tx) is ∙ delta-is-told s.key s.version s.tx fact fits
+    (c.tells_delta-self.ensures ∙ ap (delta_told s.key s.version s.tx) (c.start-cursor.ensures ∙ is) ∙ delta-is-told s.key s.version s.tx fact fits
     ∙ ap (λ found. found || is_delta_by s.key s.version s.tx fact) (sym c.if-not-self.true))

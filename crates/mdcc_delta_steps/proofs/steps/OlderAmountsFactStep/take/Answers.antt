@@ -11,12 +11,12 @@ pub returns-then-is_some : goal.returns-then-is_some
 returns-then-is_some c = λ fact fits is.
     let s = c.args.self.now in
     ap (λ found. record s { found = found })
-    (older-some c.amounts_of-older.result s.found (sym c.is_some.ensures ∙ c.if-is_some.true)
-    ∙ ap (λ older. option_or older s.found) (c.amounts_of-older.ensures ∙ ap (amounts_told s.key s.version s.tx) is ∙ amounts-are-told s.key s.version s.tx fact fits))
+    (older-some c.amounts_told-older.result s.found (sym c.is_some.ensures ∙ c.if-is_some.true)
+    ∙ ap (λ older. option_or older s.found) (c.amounts_told-older.ensures ∙ ap (amounts_told s.key s.version s.tx) (c.start-cursor.ensures ∙ is) ∙ amounts-are-told s.key s.version s.tx fact fits))
 
 pub returns-else-is_some : goal.returns-else-is_some
 returns-else-is_some c = λ fact fits is.
     let s = c.args.self.now in
     ap (λ found. record s { found = found })
-    (older-none c.amounts_of-older.result s.found (sym c.is_some.ensures ∙ c.if-is_some.false)
-    ∙ ap (λ older. option_or older s.found) (c.amounts_of-older.ensures ∙ ap (amounts_told s.key s.version s.tx) is ∙ amounts-are-told s.key s.version s.tx fact fits))
+    (older-none c.amounts_told-older.result s.found (sym c.is_some.ensures ∙ c.if-is_some.false)
+    ∙ ap (λ older. option_or older s.found) (c.amounts_told-older.ensures ∙ ap (amounts_told s.key s.version s.tx) (c.start-cursor.ensures ∙ is) ∙ amounts-are-told s.key s.version s.tx fact fits))

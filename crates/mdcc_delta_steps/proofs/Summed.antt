@@ -1,0 +1,101 @@
+-- Loads over encodings, one entry and one encoding after the other.
+use Rattle.std.proofs.Common.{◌≡◌, ◌∷◌, ℕ, Bool, true, false, List, [], Option, Some, None, ap, sym, ◌∙◌, refl, inl, inr}
+use Rattle.std.specs.List.{fold, list_any}
+use Rattle.std.specs.Prelude.{◌&&◌, ◌||◌, filter, map, not}
+use Rattle.std.proofs.lemmas.Bool.{cases_Bool}
+use Rattle.mdcc_base.specs.declared.identifiers.TxId.{TxId}
+use Rattle.mdcc_base.specs.declared.key.Key.{Key}
+use Rattle.mdcc_option.specs.declared.items.Update.{Update}
+use Rattle.mdcc_struct.specs.Maps.{TxMap}
+use Rattle.mdcc_messages.specs.Spelling.{fact_bytes}
+use Rattle.mdcc_messages.specs.declared.facts.Fact.{Fact}
+use Rattle.mdcc_protocol.specs.Facts.{amounts_added, live_from}
+use Rattle.mdcc_protocol.specs.declared.fit.Load.{Load}
+use Rattle.mdcc_escrow.specs.Weights.{with_live}
+use Rattle.mdcc_fact_cells.specs.Holding.{AreWellFormed}
+use Rattle.mdcc_fact_folds.specs.Live.{is_counted, is_live_by, load_steps}
+use Rattle.mdcc_delta_steps.specs.Chains.{AreOf, first_text, later_texts}
+use Rattle.mdcc_delta_steps.specs.Entries.{Entry, IsAtFirst, added_by, live_read, rest_in}
+use Rattle.mdcc_delta_steps.specs.Loads.{counts, load_told, update_as, with_added, with_entries}
+use Rattle.mdcc_delta_steps.specs.Steps.{live_told}
+use Rattle.mdcc_delta_steps.specs.declared.entries.Entries.{Entries}
+use Rattle.mdcc_delta_steps.proofs.FactsEntered.{live-is-read}
+use Rattle.mdcc_delta_steps.proofs.MarksEntered.{weighed}
+use Rattle.mdcc_delta_steps.proofs.Told.{live-is-told}
+
+-- ---- what a reader and a walk come by
+
+-- an entry that was found is the first
+pub at-first : (es : List Entry) (tx : TxId) (e : Entries) → IsAtFirst es (Some tx) e → es ≡ (tx, added_by e) ∷ rest_in e
+at-first [] tx e is = absurd (cc)
+at-first (first ∷ others) tx e is =
+    let some : Some tx ≡ Some first.0 = is.tx in
+    let same : first.0 ≡ tx = cc in
+    ap (λ t. (t, first.1) ∷ others) same ∙ ap (λ a. (tx, a) ∷ others) (sym is.added) ∙ ap (λ es. (tx, added_by e) ∷ es) (sym is.rest)
+
+-- where none is found there is none
+pub at-none : (es : List Entry) (e : Entries) → IsAtFirst es None e → es ≡ []
+at-none [] e is = refl
+at-none (first ∷ others) e is = let none : None ≡ Some first.0 = is.tx in absurd (cc)
+
+pub read-first : (texts : List (List ℕ)) (text : List ℕ) → Some text ≡ first_text texts → texts ≡ text ∷ later_texts texts
+read-first [] text is = absurd (cc)
+read-first (first ∷ texts) text is = let same : first ≡ text = cc in ap (λ t. t ∷ texts) same
+
+pub read-none : (texts : List (List ℕ)) → None ≡ first_text texts → texts ≡ []
+read-none [] is = refl
+read-none (first ∷ texts) is = absurd (cc)
+
+-- ---- entries
+
+module _ (seen : List TxId) (void : TxId → Bool) (key : Key) (version : ℕ) (older : List (List ℕ)) (load : Load) (e : Entry) (es : List Entry) where
+  pub entry-counted : counts void key version older e.0 ≡ true
+      → with_entries seen void key version older load (e ∷ es) ≡ with_entries seen void key version older (with_added seen load e) es
+  entry-counted is = rw is refl
+
+  pub entry-passed : counts void key version older e.0 ≡ false
+      → with_entries seen void key version older load (e ∷ es) ≡ with_entries seen void key version older load es
+  entry-passed is = rw is refl
+
+-- ---- facts
+
+-- a write weighs nothing but that it is one
+alike : (seen : List TxId) (load : Load) (tx : TxId) (update : Update) → with_added seen load (tx, amounts_added update) ≡ with_live seen load (tx, update)
+alike seen load tx (Update.Write item of_seen) = refl
+alike seen load tx (Update.Add amounts) = refl
+
+folded : (seen : List TxId) (told says : TxId → Bool) → ((tx : TxId) → told tx ≡ says tx) → (load : Load) (es : TxMap Update)
+    → fold (with_added seen) load (filter (λ e. told e.0) (map weighed es)) ≡ fold (with_live seen) load (filter (λ e. says e.0) es)
+folded seen told says same load [] = refl
+folded seen told says same load (e ∷ es) =
+    elim (cases_Bool (says e.0)) [
+      | inl counted ↦
+          let also : told e.0 ≡ true = same e.0 ∙ counted in
+          rw (also, counted) (folded seen told says same (with_added seen load (weighed e)) es
+          ∙ ap (λ l. fold (with_live seen) l (filter (λ e. says e.0) es)) (alike seen load e.0 e.1))
+      | inr passed ↦
+          let also : told e.0 ≡ false = same e.0 ∙ passed in
+          rw (also, passed) (folded seen told says same load es)
+    ]
+
+any-live : (key : Key) (version : ℕ) (tx : TxId) (facts : List Fact) → AreWellFormed facts
+    → list_any (live_told key version tx) (map fact_bytes facts) ≡ list_any (is_live_by key version tx) facts
+any-live key version tx [] fits = refl
+any-live key version tx (fact ∷ facts) fits =
+    ap (λ b. b || list_any (live_told key version tx) (map fact_bytes facts)) (live-is-told key version tx fact fits.0)
+    ∙ ap (λ b. is_live_by key version tx fact || b) (any-live key version tx facts fits.1)
+
+steps-told : (seen : List TxId) (void : TxId → Bool) (key : Key) (version : ℕ) (load : Load) (facts : List Fact) → AreWellFormed facts
+    → load_told seen void key version load (map fact_bytes facts) ≡ load_steps seen void key version load facts
+steps-told seen void key version load [] fits = refl
+steps-told seen void key version load (fact ∷ older) fits =
+    ap (λ es. load_told seen void key version (with_entries seen void key version (map fact_bytes older) load es) (map fact_bytes older)) (live-is-read key version fact fits.0)
+    ∙ ap (λ l. load_told seen void key version l (map fact_bytes older))
+    (folded seen (counts void key version (map fact_bytes older)) (is_counted void older key version)
+    (λ tx. ap (λ b. not (void tx) && not b) (any-live key version tx older fits.1)) load (live_from key version fact))
+    ∙ steps-told seen void key version (fold (with_live seen) load (filter (λ e. is_counted void older key version e.0) (live_from key version fact))) older fits.1
+
+pub load-is-told : (seen : List TxId) (void : TxId → Bool) (key : Key) (version : ℕ) (load : Load) (texts : List (List ℕ)) (facts : List Fact) → AreOf texts facts
+    → load_told seen void key version load texts ≡ load_steps seen void key version load facts
+load-is-told seen void key version load texts facts of =
+    ap (load_told seen void key version load) of.texts_are ∙ steps-told seen void key version load facts of.well_formed

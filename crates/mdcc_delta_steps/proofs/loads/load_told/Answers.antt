@@ -1,0 +1,19 @@
+use Rattle.std.proofs.Common.{◌≡◌, ◌∷◌, ap, sym, ◌∙◌}
+use Rattle.mdcc_delta_steps.specs.Entries.{left_in, live_read, opened_live}
+use Rattle.mdcc_delta_steps.specs.Loads.{load_told, with_entries}
+use Rattle.mdcc_delta_steps.proofs.Summed.{read-first}
+use Rattle.mdcc_delta_steps.proofs.loads.load_told.Goals as goal
+
+pub loop-cursor-preserved : goal.loop-cursor-preserved
+loop-cursor-preserved g c =
+    let seen = c.args.seen.now in
+    let void = g.V.VoidTest.void c.args.void.now in
+    let key = c.args.instance.now.0 in
+    let version = c.args.instance.now.1 in
+    let older = c.read.new.self in
+    let whole : c.loop-cursor.walk ≡ c.in-Some.cursor ∷ older =
+    read-first c.loop-cursor.walk c.in-Some.cursor c.in-Some.ensures.first ∙ ap (λ ts. c.in-Some.cursor ∷ ts) (sym c.read.ensures.rest) in
+    ap (λ l. load_told seen void key version l older) (c.with_entries-load.ensures
+    ∙ ap (λ e. with_entries seen void key version older c.loop-cursor.load (left_in e)) c.live_entries-entries.ensures)
+    ∙ sym (ap (load_told seen void key version c.loop-cursor.load) whole)
+    ∙ c.loop-cursor.invariant

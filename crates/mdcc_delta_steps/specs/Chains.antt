@@ -1,0 +1,39 @@
+-- The encodings that a walk of an index comes by, the newest first.
+use Rattle.std.specs.Prelude.{◌≡◌, ◌<◌, List, None, Option, Some, [], get_or, length, map, ℕ, ◌∷◌}
+use Rattle.mdcc_base.specs.declared.key.Key.{Key}
+use Rattle.mdcc_chains.specs.Keys.{instance_eq}
+use Rattle.mdcc_chains.specs.Walks.{older, walk}
+use Rattle.mdcc_messages.specs.Spelling.{fact_bytes}
+use Rattle.mdcc_messages.specs.declared.facts.Fact.{Fact}
+use Rattle.mdcc_fact_cells.specs.Holding.{AreWellFormed}
+
+-- the encoding of the fact that is entered at an index
+abbrev pub text_at : List (List ℕ) → List ℕ → ℕ → List ℕ
+text_at encodings numbers index = get_or encodings (get_or numbers index 0) []
+
+-- those of a walk
+abbrev pub texts_of : List (List ℕ) → List (Key × ℕ) → List ℕ → Key × ℕ → List (List ℕ)
+texts_of encodings keys numbers instance = map (text_at encodings numbers) (walk (instance_eq instance) keys)
+
+-- those of a walk from an index on, which is the one at which it stands
+abbrev pub texts_from : List (List ℕ) → List (Key × ℕ) → List ℕ → Key × ℕ → Option ℕ → List (List ℕ)
+texts_from encodings keys numbers instance None = []
+texts_from encodings keys numbers instance (Some index) = text_at encodings numbers index ∷ texts_of encodings (older index keys) numbers instance
+
+-- each entry of an index has the number of a fact
+pub record AreNumbered (encodings : List (List ℕ)) (keys : List (Key × ℕ)) (numbers : List ℕ) : Type 0 where
+  pub alike : length numbers ≡ length keys
+  pub below : (index : ℕ) → index < length numbers → get_or numbers index 0 < length encodings
+
+abbrev pub first_text : List (List ℕ) → Option (List ℕ)
+first_text [] = None
+first_text (text ∷ texts) = Some text
+
+abbrev pub later_texts : List (List ℕ) → List (List ℕ)
+later_texts [] = []
+later_texts (text ∷ texts) = texts
+
+-- these are the encodings of these facts
+pub record AreOf (texts : List (List ℕ)) (facts : List Fact) : Type 0 where
+  pub texts_are : texts ≡ map fact_bytes facts
+  pub well_formed : AreWellFormed facts

@@ -1,0 +1,82 @@
+//! A walk over the facts of an instance.
+ghost use Rattle.std.specs.Prelude.{◌≡◌};
+ghost use Rattle.mdcc_delta_steps.specs.Chains.{AreNumbered, first_text, later_texts, texts_of};
+
+use mdcc_base::Key;
+use mdcc_chains::InstanceIndex;
+use mdcc_fact_cells::FactCells;
+use mdcc_pool::Cursor;
+use std::marker::Model;
+
+/// The facts of a version of a key that an index finds, the newest first. Beside the index stand the
+/// numbers of the facts that are entered in it.
+#[derive(Drop)]
+pub struct InstanceWalk<'a> {
+    cells: &'a FactCells,
+    index: &'a InstanceIndex,
+    numbers: &'a [u32],
+    instance: &'a (Key, u64),
+    at: Option<u32>,
+}
+
+impl<'a> Model for InstanceWalk<'a> {
+    ghost use Rattle.std.specs.Prelude.{List, ℕ};
+
+    ghost Value = { List (List ℕ) };
+
+    ghost use Rattle.std.specs.Prelude.{◌<◌, IfSome, length};
+    ghost use Rattle.mdcc_delta_steps.specs.Chains.{AreNumbered, texts_from};
+
+    ghost view = { λ w. texts_from w.cells.now.encodings w.index.now.keys w.numbers.now w.instance.now w.at };
+
+    ghost invariant = { λ w. AreNumbered w.cells.now.encodings w.index.now.keys w.numbers.now × IfSome w.at (λ index. index < length w.index.now.keys) };
+}
+
+impl<'a> InstanceWalk<'a> {
+    /// All facts of an instance.
+    pub fn new(
+        cells: &'a FactCells,
+        index: &'a InstanceIndex,
+        numbers: &'a [u32],
+        instance: &'a (Key, u64),
+    ) -> InstanceWalk<'a>
+        requires { AreNumbered cells.now.encodings index.now.keys numbers.now }
+        ensures { result ≡ texts_of cells.now.encodings index.now.keys numbers.now instance.now }
+    {
+        InstanceWalk {
+            cells,
+            index,
+            numbers,
+            instance,
+            at: index.first(instance),
+        }
+    }
+
+    /// A walk from where this one stands.
+    pub fn fork(&self) -> InstanceWalk<'a>
+        ensures { result ≡ self.now }
+    {
+        InstanceWalk {
+            cells: self.cells,
+            index: self.index,
+            numbers: self.numbers,
+            instance: self.instance,
+            at: self.at,
+        }
+    }
+
+    /// A cursor at the beginning of the next fact, which is passed.
+    pub fn read(&mut self) -> Option<Cursor<'a>>
+        ensures first { result ≡ first_text self.old }
+        ensures rest { self.new ≡ later_texts self.old }
+    {
+        match self.at {
+            Some(index) => {
+                let number = self.numbers[index as usize];
+                self.at = self.index.next(self.instance, index);
+                Some(self.cells.start(number))
+            }
+            None => None,
+        }
+    }
+}

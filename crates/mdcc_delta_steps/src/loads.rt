@@ -1,0 +1,129 @@
+//! What the live updates of an instance weigh.
+ghost use Rattle.std.specs.List.{list_any};
+ghost use Rattle.std.specs.Prelude.{◌≡◌, Bool, List};
+ghost use Rattle.mdcc_base.specs.declared.identifiers.TxId.{TxId as ATxId};
+ghost use Rattle.mdcc_escrow.specs.Weights.{no_load};
+ghost use Rattle.mdcc_fact_folds.specs.Live.{load_steps};
+ghost use Rattle.mdcc_messages.specs.declared.facts.Fact.{Fact as AFact};
+ghost use Rattle.mdcc_delta_steps.specs.Chains.{AreOf};
+ghost use Rattle.mdcc_delta_steps.specs.Entries.{left_in};
+ghost use Rattle.mdcc_delta_steps.specs.Loads.{counts, load_told, no_item, with_added, with_entries};
+ghost use Rattle.mdcc_delta_steps.specs.Steps.{live_told};
+
+use crate::InstanceWalk;
+use crate::entries::{Entries, live_entries};
+use crate::steps::tells_live;
+use mdcc_base::{BoundedList, Key, TxId};
+use mdcc_escrow::{NO_LOAD, with_live};
+use mdcc_option::{Amounts, Item, Update};
+use mdcc_protocol::Load;
+
+/// What knows which transactions are void.
+pub trait VoidTest {
+    ghost void: { Self → ATxId → Bool };
+
+    /// Whether a transaction is void.
+    fn is_void(&self, tx: TxId) -> bool
+        ensures { result ≡ void self.now tx };
+}
+
+fn no_item() -> Item
+    ensures { result ≡ no_item }
+{
+    Item {
+        body: BoundedList::new(),
+        values: BoundedList::new(),
+    }
+}
+
+// The load with one more entry.
+fn with_added(seen: &[TxId], load: &Load, tx: TxId, added: Option<Amounts>) -> Load
+    ensures { result ≡ with_added seen.now load.now (tx, added) }
+{
+    match added {
+        Some(amounts) => with_live(seen, load, tx, &Update::Add(amounts)),
+        None => with_live(
+            seen,
+            load,
+            tx,
+            &Update::Write(no_item(), BoundedList::new()),
+        ),
+    }
+}
+
+// Whether one of these facts makes the transaction live.
+fn is_live_in<'a>(walk: InstanceWalk<'a>, instance: &(Key, u64), tx: &TxId) -> bool
+    ensures { result ≡ list_any (live_told instance.now.0 instance.now.1 tx.now) walk.entry }
+{
+    let mut walk = walk;
+    while let Some(cursor) = walk.read() {
+        if tells_live(cursor, &instance.0, instance.1, tx) {
+            return true;
+        }
+    }
+    false
+}
+
+// Whether a transaction counts, where these are the older facts.
+fn counts<V: VoidTest>(
+    older: &InstanceWalk<'_>,
+    instance: &(Key, u64),
+    void: &V,
+    tx: TxId,
+) -> bool
+    ensures { result ≡ counts (V.void void.now) instance.now.0 instance.now.1 older.now tx }
+{
+    !void.is_void(tx) && !is_live_in(older.fork(), instance, &tx)
+}
+
+// The load with the entries of a fact that count.
+fn with_entries<'a, V: VoidTest>(
+    older: &InstanceWalk<'_>,
+    instance: &(Key, u64),
+    seen: &[TxId],
+    void: &V,
+    load: Load,
+    entries: Entries<'a>,
+) -> Load
+    ensures { result ≡ with_entries seen.now (V.void void.now) instance.now.0 instance.now.1 older.now load (left_in entries.entry) }
+{
+    let mut load = load;
+    let mut entries = entries;
+    while let Some(tx) = entries.find() {
+        if counts(older, instance, void, tx) {
+            load = with_added(seen, &load, tx, entries.added());
+        }
+        entries.pass();
+    }
+    load
+}
+
+// What is live by the facts of a walk.
+fn load_told<'a, V: VoidTest>(
+    walk: InstanceWalk<'a>,
+    instance: &(Key, u64),
+    seen: &[TxId],
+    void: &V,
+) -> Load
+    ensures { result ≡ load_told seen.now (V.void void.now) instance.now.0 instance.now.1 no_load walk.entry }
+{
+    let mut walk = walk;
+    let mut load = NO_LOAD;
+    while let Some(cursor) = walk.read() {
+        let entries = live_entries(cursor, &instance.0, instance.1);
+        load = with_entries(&walk, instance, seen, void, load, entries);
+    }
+    load
+}
+
+/// What the live updates of an instance weigh beside a seen set, where the walk comes by all its facts.
+pub fn load<'a, V: VoidTest>(
+    walk: InstanceWalk<'a>,
+    instance: &(Key, u64),
+    seen: &[TxId],
+    void: &V,
+) -> Load
+    ensures { (facts : List AFact) → AreOf walk.entry facts → result ≡ load_steps seen.now (V.void void.now) instance.now.0 instance.now.1 no_load facts }
+{
+    load_told(walk, instance, seen, void)
+}
