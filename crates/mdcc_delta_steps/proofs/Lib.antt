@@ -1,5 +1,6 @@
 pub mod BasesTold
 pub mod ChoicesEntered
+pub mod Crowded
 pub mod FactsEntered
 pub mod Heads
 pub mod MarksEntered

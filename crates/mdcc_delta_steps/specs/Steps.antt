@@ -36,6 +36,10 @@ noted s tx =
 abbrev pub deltas_step : WithDeltas → Fact → WithDeltas
 deltas_step s fact = fold noted s (txs_of (deltas_from s.key s.version fact))
 
+-- with the deltas of an encoding
+abbrev pub text_noted : WithDeltas → List ℕ → WithDeltas
+text_noted s text = fold noted s (txs_of (deltas_read s.key s.version text))
+
 abbrev pub no_deltas : Key → ℕ → WithDeltas
 no_deltas key version = record { key = key; version = version; seen = []; crowded = false }
 

@@ -3,6 +3,7 @@
 
 pub mod bases;
 pub mod chain;
+pub mod crowding;
 mod entries;
 pub mod loads;
 mod parts;
@@ -12,5 +13,6 @@ pub mod theorems;
 
 pub use bases::item_at;
 pub use chain::InstanceWalk;
+pub use crowding::is_crowded;
 pub use loads::{VoidTest, load};
 pub use steps::{IsDelta, IsLive, OlderAmounts, WithDeltas};

@@ -205,7 +205,7 @@ impl WithDeltas {
     }
 
     // Puts those of entries.
-    fn note_all(&mut self, entries: Entries<'_>)
+    pub(crate) fn note_all(&mut self, entries: Entries<'_>)
         ensures { self.new ≡ fold noted self.old (txs_of (left_in entries.entry)) }
     {
         let mut entries = entries;
