@@ -1,5 +1,5 @@
 -- The base that an encoding tells is what the fact gives.
-use Rattle.std.proofs.Common.{◌≡◌, ◌+◌, ◌*◌, ◌≤◌, ◌++◌, ◌∷◌, ℕ, zero, suc, ℤ, Bool, true, false, List, [], Option, Some, None, cond, length, drop, take, ap, sym, ◌∙◌, arith, refl, append_assoc, append-nil, length-append, subst}
+use Rattle.std.proofs.Common.{◌≡◌, ◌+◌, ◌≤◌, ◌++◌, ◌∷◌, ℕ, suc, Bool, true, false, List, [], Option, Some, None, cond, length, drop, take, ap, sym, ◌∙◌, arith, refl, append_assoc, append-nil, length-append}
 use Rattle.std.specs.List.{AllByRecursion, flat_map, fold}
 use Rattle.std.specs.Option.{option_or}
 use Rattle.std.specs.Prelude.{◌&&◌, ◌==◌}
@@ -26,7 +26,7 @@ use Rattle.mdcc_spelling.proofs.Common.{instance_again}
 use Rattle.mdcc_spelling.proofs.Whole.{at_front}
 use Rattle.mdcc_delta_steps.specs.Passing.{byte_at, head_of, past_update}
 use Rattle.mdcc_delta_steps.specs.Bases.{base_adopted, base_committed, base_told, gives_version, is_before_in, is_write_of, item_in, item_read, written_in}
-use Rattle.mdcc_delta_steps.specs.Entries.{is_instance_in, update_of}
+use Rattle.mdcc_delta_steps.specs.Entries.{update_of}
 use Rattle.mdcc_delta_steps.proofs.Heads.{in-head, in-window}
 use Rattle.mdcc_delta_steps.proofs.Passed.{passed, wide}
 use Rattle.mdcc_delta_steps.proofs.PartsThere.{IsChoiceThere, choice-there, instance-there, key-length}

@@ -1,8 +1,7 @@
 -- The choices of a commit, entered one after the other.
-use Rattle.std.proofs.Common.{◌≡◌, ◌+◌, ◌≤◌, ◌++◌, ◌∷◌, ℕ, zero, suc, Bool, true, false, List, [], Option, Some, None, cond, length, drop, ap, sym, ◌∙◌, arith, refl, append_assoc, inl, inr}
+use Rattle.std.proofs.Common.{◌≡◌, ◌+◌, ◌++◌, ◌∷◌, ℕ, suc, Bool, true, false, List, [], Option, Some, None, cond, length, drop, ap, ◌∙◌, arith, refl, append_assoc}
 use Rattle.std.specs.List.{AllByRecursion, cons_option, flat_map}
 use Rattle.std.specs.Prelude.{◌&&◌, ◌==◌, filter_map, map, not, option_map}
-use Rattle.std.proofs.lemmas.Bool.{cases_Bool}
 use Rattle.mdcc_base.specs.Key.{key_eq}
 use Rattle.mdcc_base.specs.declared.identifiers.TxId.{TxId}
 use Rattle.mdcc_base.specs.declared.key.Key.{Key}
@@ -73,7 +72,6 @@ choice-entered : (key : Key) (version : ℕ) (c : Choice) (rest : List ℕ) (rea
     (read (past_update (after_choice key version (choice_bytes c ++ rest)))) (read (after_choice key version (choice_bytes c ++ rest)))
     ≡ taken_first (delta_given key version c) (read rest)
 choice-entered key version c rest read fits =
-    let bytes : List ℕ = choice_bytes c ++ rest in
     let there : IsChoiceThere (choice_bytes c ++ rest) 0 c = choice-there (choice_bytes c ++ rest) 0 c (at_front (choice_bytes c) rest) in
     let tx : tx_in (head_of (choice_bytes c ++ rest)) 0 ≡ c.tx = tx-there (choice_bytes c ++ rest) 0 c.tx fits.tx there.tx (omega arith) in
     let added : added_in (update_of (choice_bytes c ++ rest)) ≡ amounts_added c.update = ap added_in (update-of c rest fits) ∙ update-there c.update (write_set_bytes c.write_set ++ rest) fits.update in

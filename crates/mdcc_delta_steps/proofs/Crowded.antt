@@ -1,5 +1,5 @@
 -- The deltas of a version, noted from a fact and the chain before it, are crowded where they are more than 64.
-use Rattle.std.proofs.Common.{◌≡◌, ◌+◌, ◌∷◌, ℕ, Bool, true, false, List, [], length, ap, sym, ◌∙◌, refl, zero-add}
+use Rattle.std.proofs.Common.{◌≡◌, ◌+◌, ◌∷◌, ℕ, Bool, true, List, [], length, ap, sym, ◌∙◌, refl, zero-add}
 use Rattle.std.specs.List.{fold, list_all, list_any}
 use Rattle.std.specs.Prelude.{filter, map, nat_lt, not}
 use Rattle.std.proofs.lemmas.Bool.{and_from, and_parts}
@@ -8,7 +8,6 @@ use Rattle.mdcc_base.specs.declared.identifiers.TxId.{TxId}
 use Rattle.mdcc_base.specs.declared.key.Key.{Key}
 use Rattle.mdcc_struct.specs.Maps.{txs_of}
 use Rattle.mdcc_messages.specs.Spelling.{fact_bytes}
-use Rattle.mdcc_messages.specs.WellFormed.{IsWellFormedFact}
 use Rattle.mdcc_messages.specs.declared.facts.Fact.{Fact}
 use Rattle.mdcc_protocol.specs.Facts.{deltas_at, deltas_from}
 use Rattle.mdcc_protocol.specs.Marks.{Amounts}

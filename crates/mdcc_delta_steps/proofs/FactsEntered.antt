@@ -1,5 +1,5 @@
 -- The entries of a well-formed fact, as they are read in its encoding.
-use Rattle.std.proofs.Common.{◌≡◌, ◌+◌, ◌≤◌, ◌++◌, ◌∷◌, ℕ, zero, suc, Bool, true, false, List, [], Option, Some, None, cond, length, drop, ap, sym, ◌∙◌, arith, refl, append_assoc, append-nil, length-append, subst}
+use Rattle.std.proofs.Common.{◌≡◌, ◌+◌, ◌≤◌, ◌++◌, ◌∷◌, ℕ, Bool, true, false, List, [], Option, cond, length, drop, ap, sym, ◌∙◌, arith, refl, append_assoc, append-nil, length-append, subst}
 use Rattle.std.specs.List.{flat_map}
 use Rattle.std.specs.Prelude.{◌&&◌, ◌==◌, filter_map, map}
 use Rattle.mdcc_base.specs.Key.{key_eq}

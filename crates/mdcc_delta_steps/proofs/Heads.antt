@@ -1,5 +1,5 @@
 -- What is read at the head of what stands there.
-use Rattle.std.proofs.Common.{◌≡◌, ◌+◌, ◌-◌, ◌<◌, ◌≤◌, ◌++◌, ◌∷◌, ℕ, zero, suc, List, [], length, drop, take, get_or, ap, sym, ◌∙◌, arith, refl}
+use Rattle.std.proofs.Common.{◌≡◌, ◌+◌, ◌-◌, ◌≤◌, ◌++◌, ◌∷◌, ℕ, zero, suc, List, [], length, drop, take, get_or, ap, sym, ◌∙◌, arith, refl}
 use Rattle.std.proofs.lemmas.List.{drop-take}
 use Rattle.mdcc_spelling.proofs.Places.{IsAt}
 use Rattle.mdcc_delta_steps.specs.Passing.{byte_at, head_of}

@@ -1,5 +1,5 @@
 -- The marks of a vote and the deltas of an adoption, entered one after the other.
-use Rattle.std.proofs.Common.{◌≡◌, ◌+◌, ◌++◌, ◌∷◌, ℕ, zero, suc, Bool, true, false, List, [], Option, Some, None, cond, length, drop, ap, sym, ◌∙◌, arith, refl, append_assoc}
+use Rattle.std.proofs.Common.{◌≡◌, ◌+◌, ◌++◌, ◌∷◌, ℕ, suc, List, [], Option, Some, length, drop, ap, sym, ◌∙◌, arith, refl, append_assoc}
 use Rattle.std.specs.List.{AllByRecursion, cons_option, flat_map}
 use Rattle.std.specs.Prelude.{filter_map, map}
 use Rattle.mdcc_base.specs.declared.identifiers.TxId.{TxId}
@@ -11,7 +11,7 @@ use Rattle.mdcc_option.specs.declared.items.Update.{Update}
 use Rattle.mdcc_struct.specs.Options.{Marks}
 use Rattle.mdcc_messages.specs.Bytes.{u8_bytes}
 use Rattle.mdcc_messages.specs.SpelledParts.{amounts_bytes, choice_bytes, delta_bytes, entry_bytes, tx_bytes, write_set_bytes}
-use Rattle.mdcc_messages.specs.WellFormedParts.{IsWellFormedDelta, IsWellFormedEntry, IsWellFormedWithin}
+use Rattle.mdcc_messages.specs.WellFormedParts.{IsWellFormedDelta, IsWellFormedEntry}
 use Rattle.mdcc_protocol.specs.Facts.{amounts_added, live_mark}
 use Rattle.mdcc_protocol.specs.Marks.{Amounts}
 use Rattle.mdcc_spelling.proofs.Places.{IsAt, apart-2}
@@ -38,9 +38,6 @@ mark-after c tx rest long =
     ∙ ap (drop (18 + length c.key)) (choice-parts c rest)
     ∙ passed (18 + length c.key) (choice_front c) (update_rest c rest) (front-length c)
 
-abbrev pub first_mark : Option Entry → List Entry → List Entry
-first_mark found others = cons_option found others
-
 mark-entered : (key : List ℕ) (version : ℕ) (tx : TxId) (mark : Mark) (rest : List ℕ) (read : List ℕ → List Entry) → IsWellFormedEntry key version tx mark
     → (others : List (TxId × Update)) → read rest ≡ map weighed others
     → cons_entry (tx_of_mark (entry_bytes tx mark ++ rest)) (added_in (after_mark (entry_bytes tx mark ++ rest)))
@@ -48,7 +45,6 @@ mark-entered : (key : List ℕ) (version : ℕ) (tx : TxId) (mark : Mark) (rest 
     ≡ map weighed (cons_option (live_mark (tx, mark)) others)
 mark-entered key version tx Mark.Reject rest read fits others is = is
 mark-entered key version tx (Mark.Accept c) rest read fits others is =
-    let bytes : List ℕ = entry_bytes tx (Mark.Accept c) ++ rest in
     let front : IsAt (entry_bytes tx (Mark.Accept c) ++ rest) 0 (u8_bytes 1 ++ choice_bytes c) = at_front (u8_bytes 1 ++ choice_bytes c) rest in
     let there : IsChoiceThere (entry_bytes tx (Mark.Accept c) ++ rest) 1 c = choice-there (entry_bytes tx (Mark.Accept c) ++ rest) 1 c (apart-2 (entry_bytes tx (Mark.Accept c) ++ rest) 0 (u8_bytes 1) (choice_bytes c) front).1 in
     let long : byte_at 10 (head_of (entry_bytes tx (Mark.Accept c) ++ rest)) ≡ length c.key =

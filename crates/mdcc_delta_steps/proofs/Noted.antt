@@ -1,5 +1,5 @@
 -- Transactions of deltas, kept in order while they are at most 64.
-use Rattle.std.proofs.Common.{◌≡◌, ◌≢◌, ◌⊎◌, ◌+◌, ◌<◌, ◌≤◌, ◌∷◌, ℕ, zero, suc, Bool, true, false, List, [], Option, Some, None, cond, length, ap, sym, ◌∙◌, arith, one-add, refl, inl, inr, subst}
+use Rattle.std.proofs.Common.{◌≡◌, ◌≢◌, ◌⊎◌, ◌<◌, ◌≤◌, ◌∷◌, ℕ, Bool, true, false, List, [], Option, Some, None, length, ap, sym, ◌∙◌, arith, one-add, refl, inl, inr, subst}
 use Rattle.std.specs.List.{fold, prefix_len}
 use Rattle.std.specs.Option.{option_or}
 use Rattle.std.specs.Prelude.{◌==◌, ◌||◌, insert, is_some, map}
@@ -113,7 +113,7 @@ module _ (key : Key) (version : ℕ) (m : TxMap Amounts) (e : TxId × Amounts) (
     noted-open =
         elim (cases_Bool (is_some (value_of m e.0))) [
           | inl found ↦ there found
-          | inr none ↦ elim (cases_Bool (length s.seen == 64)) [ | inl full ↦ new-one none full | inr room ↦ new-within none room ]
+          | inr none ↦ elim (cases_Bool (length s.seen == 64)) [ inl full ↦ new-one none full | inr room ↦ new-within none room ]
         ]
 
   noted-crowded : s.crowded ≡ true → 64 < length m → IsNoted key version (with_entry m e) (noted s e.0)
@@ -123,7 +123,7 @@ module _ (key : Key) (version : ℕ) (m : TxMap Amounts) (e : TxId × Amounts) (
       rw same (record { same_key = is.same_key; same_version = is.same_version; state = inr (crowded, more) })
 
   pub noted-one : IsNoted key version (with_entry m e) (noted s e.0)
-  noted-one = elim is.state [ | inl still ↦ noted-open still.0 still.1 still.2 | inr over ↦ noted-crowded over.0 over.1 ]
+  noted-one = elim is.state [ inl still ↦ noted-open still.0 still.1 still.2 | inr over ↦ noted-crowded over.0 over.1 ]
 
 pub noted-all : (key : Key) (version : ℕ) (m es : TxMap Amounts) (s : WithDeltas) → IsNoted key version m s → IsNoted key version (union m es) (fold noted s (txs_of es))
 noted-all key version m [] s is = is

@@ -1,5 +1,5 @@
 -- Parts that stand at the head of entries are read there.
-use Rattle.std.proofs.Common.{◌≡◌, ◌+◌, ◌*◌, ◌<◌, ◌≤◌, ◌++◌, ◌∷◌, ◌^◌, ℕ, zero, suc, ℤ, Bool, true, false, List, [], Option, Some, None, length, drop, ap, sym, ◌∙◌, arith, refl, append_assoc, length-append}
+use Rattle.std.proofs.Common.{◌≡◌, ◌+◌, ◌<◌, ◌≤◌, ◌++◌, ◌^◌, ℕ, ℤ, List, Some, length, ap, ◌∙◌, arith, refl, append_assoc, length-append}
 use Rattle.std.specs.Prelude.{◌&&◌, ◌==◌, not}
 use Rattle.mdcc_base.specs.Key.{key_eq}
 use Rattle.mdcc_base.specs.declared.identifiers.TxId.{TxId}
@@ -8,7 +8,7 @@ use Rattle.mdcc_option.specs.declared.choices.Choice.{Choice}
 use Rattle.mdcc_option.specs.declared.items.Update.{Update}
 use Rattle.mdcc_messages.specs.Bytes.{u32_bytes, u64_bytes, u8_bytes}
 use Rattle.mdcc_messages.specs.SpelledParts.{amount_bytes, amounts_bytes, choice_bytes, key_bytes, tx_bytes, update_bytes, write_set_bytes}
-use Rattle.mdcc_messages.specs.WellFormedParts.{IsWellFormedAmounts, IsWellFormedChoice, IsWellFormedInstance, IsWellFormedTx, IsWellFormedUpdate}
+use Rattle.mdcc_messages.specs.WellFormedParts.{IsWellFormedAmounts, IsWellFormedInstance, IsWellFormedTx, IsWellFormedUpdate}
 use Rattle.mdcc_protocol.specs.Facts.{amounts_added}
 use Rattle.mdcc_protocol.specs.Marks.{is_write}
 use Rattle.mdcc_spelling.proofs.Places.{IsAt, apart-2, apart-5, together}
@@ -17,10 +17,10 @@ use Rattle.mdcc_spelling.proofs.Identifiers.{tx_again}
 use Rattle.mdcc_spelling.proofs.Items.{amounts_again}
 use Rattle.mdcc_spelling.proofs.Common.{instance_again}
 use Rattle.mdcc_spelling.proofs.Whole.{at_front}
-use Rattle.mdcc_delta_steps.specs.Passing.{byte_at, head_of, past_update}
-use Rattle.mdcc_delta_steps.specs.Entries.{added_in, amounts_in, amounts_read, is_instance_in, is_same_instance, number_in, number_read, tx_in, tx_read, update_of}
+use Rattle.mdcc_delta_steps.specs.Passing.{byte_at, head_of}
+use Rattle.mdcc_delta_steps.specs.Entries.{added_in, amounts_in, amounts_read, is_instance_in, is_same_instance, number_in, number_read, tx_in, tx_read}
 use Rattle.mdcc_delta_steps.proofs.Heads.{byte-there, in-head}
-use Rattle.mdcc_delta_steps.proofs.Passed.{choice-passed, passed, wide}
+use Rattle.mdcc_delta_steps.proofs.Passed.{wide}
 
 pub tx-there : (bytes : List ℕ) (at : ℕ) (tx : TxId) → IsWellFormedTx tx → IsAt bytes at (tx_bytes tx) → at + 9 ≤ 64 → tx_in (head_of bytes) at ≡ tx
 tx-there bytes at tx fits h within = ap tx_read (tx_again (head_of bytes) at tx fits (in-head bytes at (tx_bytes tx) h within))

@@ -1,5 +1,5 @@
 -- Parts of encodings that are passed: what stands after them is left.
-use Rattle.std.proofs.Common.{◌≡◌, ◌+◌, ◌*◌, ◌++◌, ◌∷◌, ℕ, zero, suc, ℤ, List, [], length, drop, ap, sym, ◌∙◌, arith, refl, append_assoc, length-append}
+use Rattle.std.proofs.Common.{◌≡◌, ◌+◌, ◌*◌, ◌++◌, ◌∷◌, ℕ, ℤ, List, [], length, drop, ap, ◌∙◌, arith, refl, append_assoc, length-append}
 use Rattle.std.specs.List.{flat_map}
 use Rattle.std.proofs.lemmas.List.{drop_at}
 use Rattle.mdcc_base.specs.declared.identifiers.TxId.{TxId}

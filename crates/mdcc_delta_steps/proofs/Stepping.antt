@@ -1,5 +1,5 @@
 -- A reader goes on by one entry.
-use Rattle.std.proofs.Common.{◌≡◌, ◌-◌, ◌<◌, ℕ, zero, suc, List, Option, None, Some, Bool, true, false, ap, sym, ◌∙◌, arith, refl}
+use Rattle.std.proofs.Common.{◌≡◌, ◌-◌, ◌<◌, ℕ, zero, suc, List, Option, None, Some, false, ap, sym, ◌∙◌, arith, refl}
 use Rattle.std.specs.Prelude.{is_some}
 use Rattle.mdcc_base.specs.declared.identifiers.TxId.{TxId}
 use Rattle.mdcc_base.specs.declared.key.Key.{Key}

@@ -1,5 +1,5 @@
 -- Loads over encodings, one entry and one encoding after the other.
-use Rattle.std.proofs.Common.{◌≡◌, ◌∷◌, ℕ, Bool, true, false, List, [], Option, Some, None, ap, sym, ◌∙◌, refl, inl, inr}
+use Rattle.std.proofs.Common.{◌≡◌, ◌∷◌, ℕ, Bool, true, false, List, [], Some, None, ap, sym, ◌∙◌, refl, inl, inr}
 use Rattle.std.specs.List.{fold, list_any}
 use Rattle.std.specs.Prelude.{◌&&◌, ◌||◌, filter, map, not}
 use Rattle.std.proofs.lemmas.Bool.{cases_Bool}
@@ -15,8 +15,8 @@ use Rattle.mdcc_escrow.specs.Weights.{with_live}
 use Rattle.mdcc_fact_cells.specs.Holding.{AreWellFormed}
 use Rattle.mdcc_fact_folds.specs.Live.{is_counted, is_live_by, load_steps}
 use Rattle.mdcc_delta_steps.specs.Chains.{AreOf, first_text, later_texts}
-use Rattle.mdcc_delta_steps.specs.Entries.{Entry, IsAtFirst, added_by, live_read, rest_in}
-use Rattle.mdcc_delta_steps.specs.Loads.{counts, load_told, update_as, with_added, with_entries}
+use Rattle.mdcc_delta_steps.specs.Entries.{Entry, IsAtFirst, added_by, rest_in}
+use Rattle.mdcc_delta_steps.specs.Loads.{counts, load_told, with_added, with_entries}
 use Rattle.mdcc_delta_steps.specs.Steps.{live_told}
 use Rattle.mdcc_delta_steps.specs.declared.entries.Entries.{Entries}
 use Rattle.mdcc_delta_steps.proofs.FactsEntered.{live-is-read}

@@ -1,5 +1,5 @@
 -- What is told of a transaction by an encoding is what the fact says.
-use Rattle.std.proofs.Common.{◌≡◌, ◌++◌, ◌∷◌, ℕ, Bool, true, false, List, [], Option, Some, None, cond, length, ap, sym, ◌∙◌, arith, refl, append_assoc, inl, inr, subst}
+use Rattle.std.proofs.Common.{◌≡◌, ◌++◌, ◌∷◌, ℕ, Bool, true, false, List, [], Option, Some, None, cond, ap, sym, ◌∙◌, arith, refl, append_assoc, inl, inr, subst}
 use Rattle.std.specs.List.{AllByRecursion, cons_option}
 use Rattle.std.specs.Prelude.{◌&&◌, ◌==◌, filter_map, is_some, map, not, option_map}
 use Rattle.std.proofs.lemmas.Bool.{cases_Bool}

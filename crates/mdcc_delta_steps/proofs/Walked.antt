@@ -1,16 +1,14 @@
 -- What walks by steps know at their end.
-use Rattle.std.proofs.Common.{◌≡◌, ◌<◌, ◌≤◌, ◌⊎◌, ◌∷◌, ℕ, Bool, true, false, List, [], Option, None, length, ap, sym, ◌∙◌, arith, refl, inl, inr}
+use Rattle.std.proofs.Common.{◌≡◌, ◌≤◌, ◌∷◌, ℕ, Bool, true, false, List, [], None, length, ap, sym, ◌∙◌, arith, refl, inl, inr}
 use Rattle.std.specs.List.{fold, list_any}
 use Rattle.std.specs.Prelude.{◌||◌, filter, nat_lt}
 use Rattle.std.proofs.lemmas.Bool.{le-ltb, lt-ltb}
 use Rattle.std.proofs.lemmas.List.{length-map}
-use Rattle.mdcc_base.specs.declared.identifiers.TxId.{TxId}
 use Rattle.mdcc_base.specs.declared.key.Key.{Key}
 use Rattle.mdcc_struct.specs.Maps.{TxMap, txs_of}
 use Rattle.mdcc_messages.specs.declared.facts.Fact.{Fact}
 use Rattle.mdcc_protocol.specs.Facts.{current_of, deltas_at, executed_of}
 use Rattle.mdcc_protocol.specs.Marks.{Amounts}
-use Rattle.mdcc_fact_folds.specs.Chains.{Covers, is_delta_in}
 use Rattle.mdcc_fact_folds.specs.Held.{is_delta_by, older_amounts, with_deltas}
 use Rattle.mdcc_fact_folds.specs.Live.{is_live_by}
 use Rattle.mdcc_fact_folds.proofs.Present.{executed-join}

@@ -1,5 +1,5 @@
 -- A walk goes on to the next index of its instance.
-use Rattle.std.proofs.Common.{◌≡◌, ◌<◌, ◌∷◌, ℕ, List, [], Option, Some, None, ap, sym, ◌∙◌, arith, refl}
+use Rattle.std.proofs.Common.{◌≡◌, ◌∷◌, ℕ, List, Option, Some, None, ap, sym, ◌∙◌, arith}
 use Rattle.std.specs.Prelude.{map}
 use Rattle.mdcc_base.specs.declared.key.Key.{Key}
 use Rattle.mdcc_chains.specs.Keys.{instance_eq}

@@ -65,12 +65,7 @@ fn is_live_in<'a>(walk: InstanceWalk<'a>, instance: &(Key, u64), tx: &TxId) -> b
 }
 
 // Whether a transaction counts, where these are the older facts.
-fn counts<V: VoidTest>(
-    older: &InstanceWalk<'_>,
-    instance: &(Key, u64),
-    void: &V,
-    tx: TxId,
-) -> bool
+fn counts<V: VoidTest>(older: &InstanceWalk<'_>, instance: &(Key, u64), void: &V, tx: TxId) -> bool
     ensures { result ≡ counts (V.void void.now) instance.now.0 instance.now.1 older.now tx }
 {
     !void.is_void(tx) && !is_live_in(older.fork(), instance, &tx)

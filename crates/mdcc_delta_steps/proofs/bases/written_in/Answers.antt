@@ -1,4 +1,4 @@
-use Rattle.std.proofs.Common.{◌≡◌, ◌+◌, ◌-◌, ℕ, suc, zero, ap, arith, sym, ◌∙◌, drop}
+use Rattle.std.proofs.Common.{◌+◌, ◌-◌, ℕ, suc, zero, ap, arith, sym, ◌∙◌, drop}
 use Rattle.mdcc_delta_steps.specs.Passing.{past_update}
 use Rattle.mdcc_delta_steps.specs.Bases.{item_in, written_in}
 use Rattle.mdcc_delta_steps.proofs.BasesTold.{written-pass, written-write}

@@ -1,7 +1,7 @@
-use Rattle.std.proofs.Common.{◌≡◌, ap, ◌∙◌, length}
+use Rattle.std.proofs.Common.{ap, ◌∙◌}
 use Rattle.std.specs.List.{fold}
 use Rattle.std.specs.Prelude.{nat_lt}
-use Rattle.mdcc_delta_steps.specs.Steps.{deltas_step, no_deltas, text_noted}
+use Rattle.mdcc_delta_steps.specs.Steps.{deltas_step, text_noted}
 use Rattle.mdcc_delta_steps.proofs.Crowded.{crowded-chain, executed-steps}
 use Rattle.mdcc_delta_steps.proofs.crowding.is_crowded.Goals as goal
 

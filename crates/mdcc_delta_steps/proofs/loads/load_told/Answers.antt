@@ -1,5 +1,5 @@
 use Rattle.std.proofs.Common.{◌≡◌, ◌∷◌, ap, sym, ◌∙◌}
-use Rattle.mdcc_delta_steps.specs.Entries.{left_in, live_read, opened_live}
+use Rattle.mdcc_delta_steps.specs.Entries.{left_in}
 use Rattle.mdcc_delta_steps.specs.Loads.{load_told, with_entries}
 use Rattle.mdcc_delta_steps.proofs.Summed.{read-first}
 use Rattle.mdcc_delta_steps.proofs.loads.load_told.Goals as goal

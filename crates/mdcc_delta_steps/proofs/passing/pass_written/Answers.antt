@@ -1,6 +1,6 @@
-use Rattle.std.proofs.Common.{◌≡◌, ◌+◌, ℕ, suc, zero, ap, arith, ◌∙◌}
+use Rattle.std.proofs.Common.{suc, zero, ap, arith, ◌∙◌}
 use Rattle.std.specs.Prelude.{drop}
-use Rattle.mdcc_delta_steps.specs.Passing.{after_counted, after_written}
+use Rattle.mdcc_delta_steps.specs.Passing.{after_written}
 use Rattle.mdcc_delta_steps.proofs.passing.pass_written.Goals as goal
 
 pub loop-preserved : goal.loop-preserved

@@ -1,4 +1,4 @@
-use Rattle.std.proofs.Common.{◌≡◌, ap, sym, ◌∙◌}
+use Rattle.std.proofs.Common.{ap, sym, ◌∙◌}
 use Rattle.std.specs.Prelude.{◌||◌}
 use Rattle.mdcc_fact_folds.specs.Live.{is_live_by}
 use Rattle.mdcc_delta_steps.specs.Steps.{live_told}

@@ -1,7 +1,5 @@
-use Rattle.std.proofs.Common.{◌≡◌, ap, sym, ◌∙◌}
+use Rattle.std.proofs.Common.{ap, sym, ◌∙◌}
 use Rattle.std.specs.Option.{option_or}
-use Rattle.mdcc_struct.specs.Maps.{value_of}
-use Rattle.mdcc_protocol.specs.Facts.{deltas_from}
 use Rattle.mdcc_delta_steps.specs.Steps.{amounts_told}
 use Rattle.mdcc_delta_steps.proofs.Told.{amounts-are-told}
 use Rattle.mdcc_delta_steps.proofs.Noted.{older-none, older-some}

@@ -1,5 +1,4 @@
-use Rattle.std.proofs.Common.{◌≡◌, ◌<◌, ◌≤◌, length, arith, ap}
-use Rattle.std.specs.List.{prefix_len}
+use Rattle.std.proofs.Common.{◌<◌, length, arith}
 use Rattle.mdcc_base.specs.TxId.{tx_lt}
 use Rattle.mdcc_held.proofs.Sizes.{below_64}
 use Rattle.mdcc_delta_steps.proofs.Noted.{prefix-within}

@@ -1,8 +1,8 @@
-use Rattle.std.proofs.Common.{◌≡◌, ap, sym, ◌∙◌}
+use Rattle.std.proofs.Common.{ap, ◌∙◌}
 use Rattle.std.specs.List.{fold}
 use Rattle.mdcc_struct.specs.Maps.{txs_of}
 use Rattle.mdcc_protocol.specs.Facts.{deltas_from}
-use Rattle.mdcc_delta_steps.specs.Entries.{deltas_read, left_in, opened_deltas}
+use Rattle.mdcc_delta_steps.specs.Entries.{left_in, opened_deltas}
 use Rattle.mdcc_delta_steps.specs.Steps.{noted}
 use Rattle.mdcc_delta_steps.proofs.FactsEntered.{deltas-are-read}
 use Rattle.mdcc_delta_steps.proofs.Noted.{txs-of-deltas}
