@@ -1,9 +1,13 @@
 pub mod Answered
 pub mod Balloted
 pub mod Fronts
+pub mod GatheredVotes
 pub mod Headed
 pub mod Marked
+pub mod MarksGathered
+pub mod OldestFirst
 pub mod Passed
+pub mod Picked
 pub mod Tagged
 pub mod Tallied
 pub mod WriteSetsRead

@@ -46,21 +46,22 @@ tag-again n tx rest one fits =
 abbrev pub tag_of : TxId × Mark → TxId × Bool
 tag_of e = (e.0, is_accept e.1)
 
-tag-first : (key : List ℕ) (version : ℕ) (tx : TxId) (mark : Mark) (rest : List ℕ) → IsWellFormedEntry key version tx mark → first_tag (entry_bytes tx mark ++ rest) ≡ Some (tag_of (tx, mark))
+pub tag-first : (key : List ℕ) (version : ℕ) (tx : TxId) (mark : Mark) (rest : List ℕ) → IsWellFormedEntry key version tx mark → first_tag (entry_bytes tx mark ++ rest) ≡ Some (tag_of (tx, mark))
 tag-first key version tx Reject rest w = ap tagged (tag-again 0 tx rest (omega arith) w)
 tag-first key version tx (Accept choice) rest w =
     ap tagged (tag-again 1 choice.tx (drop 10 (entry_bytes tx (Accept choice) ++ rest)) (omega arith) w.choice_itself.tx)
     ∙ ap (λ (t : TxId). Some (t, true)) w.same_tx
 
-pub choice-first : (choice : Choice) (rest : List ℕ) → IsWellFormedChoice choice → first_choice (choice_bytes choice ++ rest) ≡ Some choice
-choice-first choice rest w =
-    let bytes = choice_bytes choice ++ rest in
-    let short : length (choice_bytes choice) ≤ 1120 = omega (arith, length-choice choice, longest_choice choice w) in
-    ap choice_read (choice_again (take 1120 bytes) 0 choice w (front-at bytes (choice_bytes choice) rest 1120 refl short))
+pub choice-first : (n : ℕ) (choice : Choice) (rest : List ℕ) → IsWellFormedChoice choice → first_choice ((u8_bytes n ++ choice_bytes choice) ++ rest) ≡ Some choice
+choice-first n choice rest w =
+    let bytes = take 1120 ((u8_bytes n ++ choice_bytes choice) ++ rest) in
+    let short : length (u8_bytes n ++ choice_bytes choice) ≤ 1120 = omega (arith, length-choice choice, longest_choice choice w) in
+    let p = apart-2 bytes 0 (u8_bytes n) (choice_bytes choice) (front-at ((u8_bytes n ++ choice_bytes choice) ++ rest) (u8_bytes n ++ choice_bytes choice) rest 1120 refl short) in
+    ap choice_read (choice_again bytes 1 choice w p.1)
 
-mark-first : (key : List ℕ) (version : ℕ) (tx : TxId) (mark : Mark) (rest : List ℕ) → IsWellFormedEntry key version tx mark → first_mark (entry_bytes tx mark ++ rest) ≡ Some mark
+pub mark-first : (key : List ℕ) (version : ℕ) (tx : TxId) (mark : Mark) (rest : List ℕ) → IsWellFormedEntry key version tx mark → first_mark (entry_bytes tx mark ++ rest) ≡ Some mark
 mark-first key version tx Reject rest w = refl
-mark-first key version tx (Accept choice) rest w = ap (option_map accepted) (choice-first choice rest w.choice_itself)
+mark-first key version tx (Accept choice) rest w = ap (option_map accepted) (choice-first 1 choice rest w.choice_itself)
 
 -- ---- all marks
 
@@ -101,11 +102,11 @@ pub offered-again : (key : List ℕ) (version : ℕ) (tx : TxId) (offered : Opti
     → offered_to tx (offered_bytes offered) ≡ option_and_then (choice_of_tx tx) offered
 offered-again key version tx None w = refl
 offered-again key version tx (Some choice) w =
-    ap (λ tag. if is_offered tx (tagged tag) then first_choice (choice_bytes choice) else None) (tag-again 1 choice.tx (drop 10 (offered_bytes (Some choice))) (omega arith) w.choice_itself.tx)
+    ap (λ tag. if is_offered tx (tagged tag) then first_choice (offered_bytes (Some choice)) else None) (tag-again 1 choice.tx (drop 10 (offered_bytes (Some choice))) (omega arith) w.choice_itself.tx)
     ∙ by (tx_eq choice.tx tx)
   where
-    by : (same : Bool) → (if true && same then first_choice (choice_bytes choice) else None) ≡ (if same then Some choice else None)
-    by true = ap first_choice (sym (append-nil (choice_bytes choice))) ∙ choice-first choice [] w.choice_itself
+    by : (same : Bool) → (if true && same then first_choice (offered_bytes (Some choice)) else None) ≡ (if same then Some choice else None)
+    by true = ap first_choice (sym (append-nil (offered_bytes (Some choice)))) ∙ choice-first 1 choice [] w.choice_itself
     by false = refl
 
 -- ---- of a vote

@@ -1,4 +1,5 @@
 pub mod Ballots
+pub mod Gathered
 pub mod Heads
 pub mod Marks
 pub mod Older

@@ -55,16 +55,16 @@ abbrev pub choice_read : Result (Choice × ℕ) WireFault → Option Choice
 choice_read (Ok choice) = Some choice.0
 choice_read (Err fault) = None
 
--- the choice that bytes begin with
+-- the choice that comes after a tag
 abbrev pub first_choice : List ℕ → Option Choice
-first_choice bytes = choice_read (choice_at (take 1120 bytes) 0)
+first_choice bytes = choice_read (choice_at (take 1120 bytes) 1)
 
 abbrev pub accepted : Choice → Mark
 accepted choice = Accept choice
 
 -- the mark that bytes begin with
 abbrev pub first_mark : List ℕ → Option Mark
-first_mark bytes = if get_or bytes 0 0 == 1 then option_map accepted (first_choice (drop 1 bytes)) else Some Reject
+first_mark bytes = if get_or bytes 0 0 == 1 then option_map accepted (first_choice bytes) else Some Reject
 
 -- the mark of a transaction in a vote with this head
 abbrev pub mark_of : TxId → Head → List ℕ → Option Mark
@@ -78,7 +78,7 @@ is_offered tx (Some tag) = tag.1 && tx_eq tag.0 tx
 
 -- the choice that bytes offer a transaction
 abbrev pub offered_to : TxId → List ℕ → Option Choice
-offered_to tx bytes = if is_offered tx (first_tag bytes) then first_choice (drop 1 bytes) else None
+offered_to tx bytes = if is_offered tx (first_tag bytes) then first_choice bytes else None
 
 -- the choice of a transaction that a vote with this head accepts
 abbrev pub accepted_of : TxId → Head → List ℕ → Option Choice

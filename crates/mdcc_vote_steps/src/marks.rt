@@ -4,6 +4,7 @@ ghost use Rattle.std.specs.Option.{option_map};
 ghost use Rattle.mdcc_base.specs.TxId.{tx_eq};
 ghost use Rattle.mdcc_base.specs.declared.identifiers.TxId.{TxId as ATxId};
 ghost use Rattle.mdcc_messages.specs.ReadingParts.{choice_at};
+ghost use Rattle.mdcc_vote_steps.specs.Gathered.{marks_read};
 ghost use Rattle.mdcc_vote_steps.specs.Marks.{accepted_of, choice_of, choice_read, first_choice, first_mark, first_tag, found_in, is_offered, mark_of, offered_of, offered_to, tag_at, tagged, tags_in};
 ghost use Rattle.mdcc_vote_steps.specs.Passing.{after_mark};
 
@@ -17,7 +18,7 @@ use mdcc_parts::numbers::u8_within;
 use mdcc_parts::{read_choice, read_tx};
 use mdcc_pool::Cursor;
 
-/// The longest choice fits.
+/// A tag and the longest choice fit.
 const LONGEST: usize = 1120;
 
 // The transaction of a mark, and its tag.
@@ -50,6 +51,7 @@ pub(crate) fn first_tag(cursor: &Cursor<'_>) -> Option<(TxId, bool)>
 /// Passes a mark, where others are left after it.
 pub(crate) fn skip_to_next(cursor: &mut Cursor<'_>, left: u32)
     ensures tags { tags_in left cursor.new ≡ tags_in left (after_mark cursor.old) }
+    ensures marks { marks_read left cursor.new ≡ marks_read left (after_mark cursor.old) }
     ensures found { (tx : ATxId) → found_in tx left cursor.new ≡ found_in tx left (after_mark cursor.old) }
 {
     if left > 0 {
@@ -85,18 +87,18 @@ fn seek(cursor: &mut Cursor<'_>, count: u32, tx: &TxId) -> bool
     false
 }
 
-// The choice that the bytes begin with.
+// The choice that comes after a tag.
 fn choice_read(bytes: &[u8]) -> Option<Choice>
-    ensures { result ≡ choice_read (choice_at bytes.now 0) }
+    ensures { result ≡ choice_read (choice_at bytes.now 1) }
 {
-    match read_choice(bytes, 0) {
+    match read_choice(bytes, 1) {
         Ok((choice, _)) => Some(choice),
         Err(_) => None,
     }
 }
 
-/// The choice that is next.
-pub(crate) fn first_choice(cursor: &Cursor<'_>) -> Option<Choice>
+// The choice that comes after the tag that is next.
+fn first_choice(cursor: &Cursor<'_>) -> Option<Choice>
     ensures { result ≡ first_choice cursor.now }
 {
     let mut window = [0u8; LONGEST];
@@ -104,11 +106,10 @@ pub(crate) fn first_choice(cursor: &Cursor<'_>) -> Option<Choice>
 }
 
 /// The mark that is next.
-pub(crate) fn first_mark(cursor: &mut Cursor<'_>) -> Option<Mark>
-    ensures { result ≡ first_mark cursor.old }
+pub(crate) fn first_mark(cursor: &Cursor<'_>) -> Option<Mark>
+    ensures { result ≡ first_mark cursor.now }
 {
     if first_byte(cursor) == 1 {
-        cursor.skip(1);
         match first_choice(cursor) {
             Some(choice) => Some(Mark::Accept(choice)),
             None => None,
@@ -126,7 +127,7 @@ pub(crate) fn mark_of(cells: &FactCells, number: u32, head: &Head, tx: &TxId) ->
     let mut cursor = cells.start(number);
     cursor.skip(head.begin);
     if seek(&mut cursor, head.count, tx) {
-        first_mark(&mut cursor)
+        first_mark(&cursor)
     } else {
         None
     }
@@ -143,11 +144,10 @@ fn is_offered(cursor: &Cursor<'_>, tx: &TxId) -> bool
 }
 
 // The choice of the transaction that comes after a tag.
-fn offered_to(cursor: &mut Cursor<'_>, tx: &TxId) -> Option<Choice>
-    ensures { result ≡ offered_to tx.now cursor.old }
+fn offered_to(cursor: &Cursor<'_>, tx: &TxId) -> Option<Choice>
+    ensures { result ≡ offered_to tx.now cursor.now }
 {
     if is_offered(cursor, tx) {
-        cursor.skip(1);
         first_choice(cursor)
     } else {
         None
@@ -173,7 +173,7 @@ fn offered_of(cells: &FactCells, number: u32, head: &Head, tx: &TxId) -> Option<
     let mut cursor = cells.start(number);
     cursor.skip(head.begin);
     skip_marks(&mut cursor, head.count);
-    offered_to(&mut cursor, tx)
+    offered_to(&cursor, tx)
 }
 
 /// The choice of a transaction in the fact of a number, which is a vote with this head, accepted or
