@@ -1,23 +1,20 @@
 -- What a fact says of one transaction, as it is read in its bytes.
-use Rattle.std.proofs.Common.{◌≡◌, ℕ, ◌+◌, Bool, true, false, List, [], Option, Some, None, length, refl, ap, ◌∙◌}
+use Rattle.std.proofs.Common.{◌≡◌, ℕ, Bool, true, false, List, [], Option, Some, None, refl, ap, ◌∙◌}
 use Rattle.std.specs.Option.{option_and_then, option_map, option_or}
 use Rattle.std.specs.Prelude.{if◌then◌else◌, ◌&&◌, ◌==◌}
 use Rattle.mdcc_base.specs.Ballot.{ballot_eq, ballot_lt}
 use Rattle.mdcc_base.specs.Key.{key_eq}
 use Rattle.mdcc_base.specs.declared.identifiers.Ballot.{Ballot}
 use Rattle.mdcc_base.specs.declared.identifiers.TxId.{TxId}
-use Rattle.mdcc_option.specs.declared.choices.Choice.{Choice}
 use Rattle.mdcc_option.specs.declared.choices.Mark.{Mark}
 use Rattle.mdcc_struct.specs.Maps.{value_of}
-use Rattle.mdcc_struct.specs.Options.{Marks}
 use Rattle.mdcc_messages.specs.Spelling.{fact_bytes}
 use Rattle.mdcc_messages.specs.WellFormed.{IsWellFormedFact}
 use Rattle.mdcc_messages.specs.declared.facts.Fact.{Fact}
 use Rattle.mdcc_protocol.specs.Facts.{choice_of_tx, choice_voted, later_vote, mark_voted, marks_voted}
 use Rattle.mdcc_protocol.specs.Marks.{choice_in}
-use Rattle.mdcc_vote_steps.specs.Marks.{choice_of, mark_of}
+use Rattle.mdcc_vote_steps.specs.Marks.{mark_of}
 use Rattle.mdcc_vote_steps.specs.Older.{choice_by, choice_in_bytes, is_below_found, mark_by, mark_in, vote_by, vote_in}
-use Rattle.mdcc_vote_steps.specs.declared.heads.Head.{Head}
 use Rattle.mdcc_vote_steps.proofs.Headed.{head-again, head_from}
 use Rattle.mdcc_vote_steps.proofs.Marked.{choice-of, encoding, head_itself, mark-of}
 

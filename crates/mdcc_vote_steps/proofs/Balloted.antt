@@ -1,5 +1,5 @@
 -- The ballots of facts, as they are read in their bytes.
-use Rattle.std.proofs.Common.{◌≡◌, ℕ, ◌+◌, Bool, true, false, List, Option, Some, None, length, refl, ap, ◌∙◌}
+use Rattle.std.proofs.Common.{◌≡◌, ℕ, ◌+◌, Bool, true, false, List, Some, None, length, refl, ap, ◌∙◌}
 use Rattle.std.specs.Prelude.{if◌then◌else◌, ◌&&◌, ◌==◌}
 use Rattle.mdcc_base.specs.Ballot.{ballot_lt, fast_ballot}
 use Rattle.mdcc_base.specs.Key.{key_eq}
@@ -10,8 +10,7 @@ use Rattle.mdcc_messages.specs.declared.facts.Fact.{Fact}
 use Rattle.mdcc_messages.specs.declared.facts.Fact.TheVariants as facts
 use Rattle.mdcc_protocol.specs.Facts.{ballot_promised, ballot_voted}
 use Rattle.mdcc_vote_steps.specs.Ballots.{ballot_below, ballot_or, promised_in, voted_in}
-use Rattle.mdcc_vote_steps.specs.Heads.{head_in, promise_in}
-use Rattle.mdcc_vote_steps.specs.declared.heads.Head.{Head}
+use Rattle.mdcc_vote_steps.specs.Heads.{promise_in}
 use Rattle.mdcc_vote_steps.proofs.Headed.{head-again, head_from, promise-in-again, promise_from}
 
 promise-of : (key : List ℕ) (version : ℕ) (fact : Fact) → ballot_or (head_from key version fact) (promise_from key version fact) ≡ ballot_promised key version fact

@@ -1,17 +1,16 @@
 -- What is gathered in a walk from the newest fact to the oldest and joined then are the votes.
-use Rattle.std.proofs.Common.{◌≡◌, ℕ, Bool, true, false, List, [], ◌∷◌, ◌++◌, Option, Some, None, refl, sym, ap, ◌∙◌, inl, inr, ◌⊎◌}
+use Rattle.std.proofs.Common.{◌≡◌, ℕ, true, false, List, [], ◌∷◌, ◌++◌, Option, Some, None, refl, sym, ap, ◌∙◌, inl, inr, ◌⊎◌}
 use Rattle.std.specs.List.{fold, list_all}
 use Rattle.std.specs.Option.{option_or}
 use Rattle.std.specs.Prelude.{if◌then◌else◌, reverse}
 use Rattle.std.proofs.lemmas.Bool.{and_parts, cases_Bool}
 use Rattle.std.proofs.lemmas.List.{reverse-append}
-use mathlib.Core.List.{reverse-cons}
 use Rattle.mdcc_base.specs.TxId.{tx_eq}
 use Rattle.mdcc_base.specs.declared.identifiers.Ballot.{Ballot}
 use Rattle.mdcc_base.specs.declared.identifiers.TxId.{TxId}
 use Rattle.mdcc_base.specs.declared.key.Key.{Key}
 use Rattle.mdcc_option.specs.declared.choices.Mark.{Mark}
-use Rattle.mdcc_struct.specs.Maps.{ are_ascending, union, value_of}
+use Rattle.mdcc_struct.specs.Maps.{are_ascending, union, value_of}
 use Rattle.mdcc_struct.specs.Options.{Marks}
 use Rattle.mdcc_struct.proofs.Inclusion.{same_found}
 use Rattle.mdcc_struct.proofs.Order.{tx_eq-same}

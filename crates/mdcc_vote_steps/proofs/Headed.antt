@@ -1,5 +1,5 @@
 -- The heads of facts, as they are read in their bytes.
-use Rattle.std.proofs.Common.{◌≡◌, ℕ, ◌+◌, ◌<◌, ◌≤◌, ◌^◌, Bool, true, false, List, [], ◌∷◌, ◌++◌, Option, Some, None, Ok, Err, length, take, drop, refl, sym, ap, ◌∙◌, append_assoc, append-nil, arith, length-append}
+use Rattle.std.proofs.Common.{◌≡◌, ℕ, ◌+◌, ◌<◌, ◌≤◌, ◌^◌, false, List, [], ◌∷◌, ◌++◌, Option, Some, None, Ok, Err, length, take, drop, refl, sym, ap, ◌∙◌, append_assoc, append-nil, arith, length-append}
 use Rattle.std.specs.Prelude.{if◌then◌else◌, nat_le, Result, ◌&&◌, ◌==◌}
 use Rattle.std.proofs.lemmas.List.{drop_at}
 use Rattle.std.specs.Int.{is_in_range}
@@ -14,7 +14,7 @@ use Rattle.mdcc_messages.specs.Reading.{instance_at}
 use Rattle.mdcc_messages.specs.ReadingParts.{ballot_at}
 use Rattle.mdcc_messages.specs.ReadingSteps.{◌>>=◌, u32_at, u64_at, u8_within}
 use Rattle.mdcc_messages.specs.Spelling.{fact_bytes, offered_bytes}
-use Rattle.mdcc_messages.specs.SpelledParts.{ballot_bytes, key_bytes, options_bytes}
+use Rattle.mdcc_messages.specs.SpelledParts.{ballot_bytes, key_bytes}
 use Rattle.mdcc_messages.specs.WellFormed.{IsWellFormedFact}
 use Rattle.mdcc_messages.specs.declared.facts.Fact.{Fact}
 use Rattle.mdcc_messages.specs.declared.facts.Fact.TheVariants as facts

@@ -1,7 +1,7 @@
 -- Marks that are gathered one after the other.
-use Rattle.std.proofs.Common.{◌≡◌, ℕ, zero, suc, ◌+◌, ◌-◌, ◌<◌, ◌≤◌, Bool, true, false, List, [], ◌∷◌, ◌++◌, Option, Some, None, length, drop, map, refl, sym, ap, ◌∙◌, append_assoc, arith}
+use Rattle.std.proofs.Common.{◌≡◌, ℕ, zero, suc, ◌+◌, ◌-◌, ◌<◌, ◌≤◌, Bool, true, false, List, [], ◌∷◌, ◌++◌, Some, None, length, drop, refl, ap, ◌∙◌, append_assoc, arith}
 use Rattle.std.specs.List.{flat_map}
-use Rattle.std.specs.Prelude.{All, if◌then◌else◌, ◌&&◌, ◌==◌}
+use Rattle.std.specs.Prelude.{if◌then◌else◌, ◌&&◌, ◌==◌}
 use Rattle.std.proofs.lemmas.List.{map-append}
 use Rattle.std.proofs.lemmas.List.Elements.{All-head, All-tail}
 use Rattle.mdcc_base.specs.Ballot.{ballot_eq}
@@ -13,15 +13,13 @@ use Rattle.mdcc_struct.specs.Fields.{kept, kept_place, mark_in}
 use Rattle.mdcc_struct.specs.Maps.{TxMap}
 use Rattle.mdcc_struct.specs.Options.{Marks, is_accept}
 use Rattle.mdcc_struct.proofs.Entries.{mark_in-kept, mark_in-kept_place}
-use Rattle.mdcc_messages.specs.SpelledParts.{entry_bytes}
 use Rattle.mdcc_messages.specs.Spelling.{fact_bytes, offered_bytes}
 use Rattle.mdcc_messages.specs.WellFormed.{IsWellFormedFact}
-use Rattle.mdcc_messages.specs.WellFormedParts.{IsWellFormedEntry}
 use Rattle.mdcc_messages.specs.declared.facts.Fact.{Fact}
 use Rattle.mdcc_protocol.specs.Facts.{marks_voted}
 use Rattle.mdcc_spelling.proofs.Choices.{entry_spelled}
 use Rattle.mdcc_vote_steps.specs.Gathered.{AreWithin, entry_before, first_entry, listed, marks_at, marks_by, marks_read, named}
-use Rattle.mdcc_vote_steps.specs.Marks.{first_mark, first_tag}
+use Rattle.mdcc_vote_steps.specs.Marks.{first_mark}
 use Rattle.mdcc_vote_steps.specs.Passing.{after_mark}
 use Rattle.mdcc_vote_steps.proofs.Headed.{head-again, head_from, marks-begin}
 use Rattle.mdcc_vote_steps.proofs.Marked.{AreFit, encoding, head_itself, mark-first, tag-first}

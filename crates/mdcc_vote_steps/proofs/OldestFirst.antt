@@ -1,29 +1,25 @@
 -- The first mark of a transaction in the order of transactions, and of their marks the last gathered first, is its oldest one.
-use Rattle.std.proofs.Common.{Equal, Ordering, ◌≡◌, ℕ, zero, suc, ◌+◌, ◌-◌, ◌<◌, ◌≤◌, Bool, true, false, List, [], ◌∷◌, ◌++◌, Option, Some, None, get_or, length, refl, sym, ap, subst, ◌∙◌, arith, inl, inr, ◌⊎◌}
-use Rattle.std.specs.List.{Contains, fold, list_all}
+use Rattle.std.proofs.Common.{Equal, Ordering, ◌≡◌, ℕ, zero, suc, ◌+◌, ◌<◌, ◌≤◌, Bool, true, false, [], ◌∷◌, ◌++◌, Option, Some, None, get_or, length, refl, sym, ap, subst, ◌∙◌, arith, inl, inr, ◌⊎◌}
+use Rattle.std.specs.List.{Contains}
 use Rattle.std.specs.List.Sorted.{IsPermutation, IsSortedBy}
 use Rattle.std.specs.Cmp.{IsStrictWeakOrder, IsTotalOrder}
 use Rattle.std.specs.Option.{option_or}
 use Rattle.std.specs.Ordering.{is_lt, nat_cmp, ordering_then}
-use Rattle.std.specs.Prelude.{if◌then◌else◌, nat_lt, reverse, ◌&&◌, ◌==◌}
-use Rattle.std.proofs.lemmas.Bool.{and_parts, cases_Bool, eqb-true, eqb-false, ltb-false}
+use Rattle.std.specs.Prelude.{if◌then◌else◌, nat_lt, reverse, ◌==◌}
+use Rattle.std.proofs.lemmas.Bool.{cases_Bool, eqb-true, eqb-false, ltb-false}
 use Rattle.std.proofs.lemmas.Cmp.{nat_cmp_total, on_total, then_total, tied_itself}
-use Rattle.std.proofs.lemmas.List.{reverse-append}
 use Rattle.std.proofs.lemmas.List.Sorted.{Contains-permutation, IsPermutation-sym, ranks_by, sorted_far}
 use mathlib.Core.List.{reverse-cons}
 use Rattle.mdcc_base.specs.TxId.{tx_eq}
-use Rattle.mdcc_base.specs.declared.identifiers.Ballot.{Ballot}
 use Rattle.mdcc_base.specs.declared.identifiers.TxId.{TxId}
-use Rattle.mdcc_base.specs.declared.key.Key.{Key}
 use Rattle.mdcc_option.specs.declared.choices.Mark.{Mark}
 use Rattle.mdcc_struct.specs.Maps.{TxMap, are_ascending, union, value_of}
 use Rattle.mdcc_struct.specs.Options.{Marks}
 use Rattle.mdcc_struct.proofs.Inclusion.{same_found}
-use Rattle.mdcc_struct.proofs.Order.{tx_eq-refl, tx_eq-same}
-use Rattle.mdcc_struct.proofs.Ordered.{ascending-below, ascending-tail, value_of-below}
+use Rattle.mdcc_struct.proofs.Order.{tx_eq-same}
 use Rattle.mdcc_struct.proofs.Values.{value_of-union}
 use Rattle.mdcc_struct.proofs.Walks.{ascending-union}
-use Rattle.mdcc_vote_steps.specs.Gathered.{mark_if, mark_ranked, oldest_marks, picked, ranked}
+use Rattle.mdcc_vote_steps.specs.Gathered.{mark_ranked, oldest_marks, picked, ranked}
 
 -- ---- entries of an order
 

@@ -11,7 +11,7 @@ use Rattle.mdcc_option.specs.declared.items.Update.TheVariants.{Add, Write}
 use Rattle.mdcc_base.specs.declared.identifiers.TxId.{TxId}
 use Rattle.mdcc_struct.specs.Options.{Marks}
 use Rattle.mdcc_messages.specs.Bytes.{counted, i64_bytes, u64_bytes}
-use Rattle.mdcc_messages.specs.SpelledParts.{amount_bytes, amounts_bytes, choice_bytes, entry_bytes, item_bytes, key_bytes, seen_bytes, tx_bytes, update_bytes, write_set_bytes, written_bytes}
+use Rattle.mdcc_messages.specs.SpelledParts.{amount_bytes, choice_bytes, entry_bytes, item_bytes, key_bytes, seen_bytes, tx_bytes, update_bytes, write_set_bytes, written_bytes}
 use Rattle.mdcc_spelling.proofs.Choices.{entry_spelled}
 use Rattle.mdcc_vote_steps.specs.Passing.{after_choice, after_each, after_item, after_list, after_mark, after_marks, after_update, after_write_set, after_written}
 

@@ -1,19 +1,18 @@
 -- Gathered marks, in the order of their transactions.
-use Rattle.std.proofs.Common.{◌≡◌, ℕ, zero, suc, ◌+◌, ◌-◌, ◌<◌, ◌≤◌, Bool, true, false, List, [], ◌∷◌, ◌++◌, Ok, Option, Some, None, get_or, length, map, refl, sym, ap, subst, ◌∙◌, append_assoc, arith, inl, inr, ◌⊎◌}
+use Rattle.std.proofs.Common.{◌≡◌, ℕ, suc, ◌-◌, ◌<◌, ◌≤◌, true, false, List, [], ◌∷◌, Ok, Option, Some, None, get_or, length, refl, ap, ◌∙◌, arith, inl, inr, ◌⊎◌}
 use Rattle.std.specs.Option.{option_or}
 use Rattle.mdcc_base.specs.declared.faults.Memory.{Memory}
-use Rattle.std.specs.Prelude.{Result, if◌then◌else◌, reverse, ◌==◌}
+use Rattle.std.specs.Prelude.{Result, if◌then◌else◌, ◌==◌}
 use Rattle.std.proofs.lemmas.Bool.{cases_Bool, eqb-true, eqb-false}
-use mathlib.Core.List.{reverse-cons}
 use Rattle.mdcc_base.specs.TxId.{tx_eq}
 use Rattle.mdcc_base.specs.declared.identifiers.TxId.{TxId}
 use Rattle.mdcc_option.specs.declared.choices.Mark.{Mark}
 use Rattle.mdcc_struct.specs.Fields.{mark_in}
 use Rattle.mdcc_struct.specs.Maps.{TxMap, inserted, value_of}
 use Rattle.mdcc_struct.specs.Options.{Marks}
-use Rattle.mdcc_struct.proofs.Order.{tx_eq-refl, tx_eq-same}
+use Rattle.mdcc_struct.proofs.Order.{tx_eq-same}
 use Rattle.mdcc_struct.proofs.Values.{value_of-inserted}
-use Rattle.mdcc_vote_steps.specs.Gathered.{listed, mark_if, mark_ranked, picked, ranked}
+use Rattle.mdcc_vote_steps.specs.Gathered.{listed, mark_if, mark_ranked, ranked}
 
 or-none : {X : Type 0} (a : Option X) → a ≡ option_or a None
 or-none None = refl

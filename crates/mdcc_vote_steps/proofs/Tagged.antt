@@ -1,9 +1,8 @@
 -- Marks one after the other, by their tags.
-use Rattle.std.proofs.Common.{◌≡◌, ℕ, zero, suc, ◌-◌, ◌<◌, Bool, true, false, List, [], ◌∷◌, Option, Some, None, refl, ap, ◌∙◌, arith}
+use Rattle.std.proofs.Common.{◌≡◌, ℕ, zero, suc, ◌-◌, ◌<◌, Bool, true, false, List, ◌∷◌, Option, Some, None, refl, ap, ◌∙◌, arith}
 use Rattle.std.specs.Option.{option_map}
 use Rattle.mdcc_base.specs.TxId.{tx_eq}
 use Rattle.mdcc_base.specs.declared.identifiers.TxId.{TxId}
-use Rattle.mdcc_struct.specs.Maps.{TxMap}
 use Rattle.mdcc_vote_steps.specs.Marks.{first_tag, found_here, found_in, tag_before, tags_in}
 use Rattle.mdcc_vote_steps.specs.Passing.{after_mark}
 

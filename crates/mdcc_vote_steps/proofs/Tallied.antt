@@ -1,5 +1,5 @@
 -- What the marks of a fact amount to, as they are read in its bytes.
-use Rattle.std.proofs.Common.{◌≡◌, ℕ, ◌+◌, Bool, true, false, List, [], ◌∷◌, Option, Some, None, length, drop, map, refl, sym, ap, ◌∙◌, arith}
+use Rattle.std.proofs.Common.{◌≡◌, ℕ, ◌+◌, Bool, true, false, List, [], ◌∷◌, Option, Some, None, length, drop, map, refl, ap, ◌∙◌}
 use Rattle.std.specs.List.{fold}
 use Rattle.std.specs.Prelude.{if◌then◌else◌, is_some, ◌&&◌, ◌==◌, ◌||◌}
 use Rattle.mdcc_base.specs.Ballot.{ballot_eq}
@@ -8,9 +8,7 @@ use Rattle.mdcc_base.specs.Key.{key_eq}
 use Rattle.mdcc_base.specs.TxId.{tx_eq}
 use Rattle.mdcc_base.specs.declared.identifiers.Ballot.{Ballot}
 use Rattle.mdcc_base.specs.declared.identifiers.TxId.{TxId}
-use Rattle.mdcc_option.specs.declared.choices.Choice.{Choice}
-use Rattle.mdcc_option.specs.declared.choices.Mark.{Mark}
-use Rattle.mdcc_struct.specs.Maps.{TxMap, are_ascending, value_of}
+use Rattle.mdcc_struct.specs.Maps.{are_ascending, value_of}
 use Rattle.mdcc_struct.specs.Options.{Marks}
 use Rattle.mdcc_messages.specs.Spelling.{fact_bytes}
 use Rattle.mdcc_messages.specs.WellFormed.{IsWellFormedFact}

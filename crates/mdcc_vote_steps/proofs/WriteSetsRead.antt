@@ -1,9 +1,8 @@
 -- The write sets of a fact, as they are read in its bytes.
-use Rattle.std.proofs.Common.{◌≡◌, ℕ, ◌+◌, Bool, true, false, List, [], ◌∷◌, ◌++◌, Option, Some, None, length, refl, sym, ap, ◌∙◌, append-nil, ◌⊎◌, inl, inr}
+use Rattle.std.proofs.Common.{◌≡◌, ℕ, Bool, true, false, List, [], ◌∷◌, ◌++◌, Option, Some, None, refl, sym, ap, ◌∙◌, append-nil, ◌⊎◌, inl, inr}
 use Rattle.std.specs.Option.{option_and_then, option_map, option_or}
 use Rattle.std.specs.Prelude.{filter_map, if◌then◌else◌}
 use Rattle.std.proofs.lemmas.Bool.{cases_Bool}
-use Rattle.mdcc_base.specs.Ballot.{ballot_eq}
 use Rattle.mdcc_base.specs.TxId.{tx_eq}
 use Rattle.mdcc_base.specs.declared.identifiers.Ballot.{Ballot}
 use Rattle.mdcc_base.specs.declared.identifiers.TxId.{TxId}
@@ -20,13 +19,11 @@ use Rattle.mdcc_messages.specs.WellFormed.{IsWellFormedFact}
 use Rattle.mdcc_messages.specs.declared.facts.Fact.{Fact}
 use Rattle.mdcc_protocol.specs.Facts.{choice_of_tx, write_set_in, write_sets_from}
 use Rattle.mdcc_protocol.specs.Marks.{choice_in}
-use Rattle.mdcc_vote_steps.specs.Heads.{any_head, head_any}
 use Rattle.mdcc_vote_steps.specs.Older.{choice_by}
 use Rattle.mdcc_vote_steps.specs.WriteSets.{choice_any, write_set_of}
 use Rattle.mdcc_vote_steps.specs.WriteSets as read
-use Rattle.mdcc_vote_steps.specs.declared.heads.Head.{Head}
 use Rattle.mdcc_vote_steps.proofs.Headed.{any-head-again, any_head_from}
-use Rattle.mdcc_vote_steps.proofs.Marked.{choice-of, encoding, head_itself}
+use Rattle.mdcc_vote_steps.proofs.Marked.{choice-of}
 
 -- ---- in a list of marks
 

@@ -1,6 +1,6 @@
 -- The write set of a transaction's choice, in the bytes of a fact.
 use Rattle.std.specs.Option.{option_map}
-use Rattle.std.specs.Prelude.{List, None, Option, Some, ℕ}
+use Rattle.std.specs.Prelude.{List, Option, ℕ}
 use Rattle.mdcc_base.specs.declared.identifiers.TxId.{TxId}
 use Rattle.mdcc_option.specs.declared.choices.Choice.{Choice}
 use Rattle.mdcc_vote_steps.specs.Heads.{head_any}

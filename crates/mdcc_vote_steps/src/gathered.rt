@@ -21,12 +21,12 @@ use std::marker::Model;
 
 /// Marks with their transactions, in the order in which they were gathered.
 #[derive(Drop)]
-pub struct Gathered {
+pub struct GatheredMarks {
     places: Vec<(TxId, usize)>,
     accepted: Vec<Mark>,
 }
 
-impl Model for Gathered {
+impl Model for GatheredMarks {
     ghost use Rattle.mdcc_struct.specs.Options.{Marks};
     ghost use Rattle.mdcc_vote_steps.specs.Gathered.{AreWithin, listed};
 
@@ -95,12 +95,12 @@ fn mark_in(accepted: &[Mark], place: usize) -> Mark
     }
 }
 
-impl Gathered {
+impl GatheredMarks {
     /// No mark.
-    pub fn new(alloc: Global) -> Gathered
+    pub fn new(alloc: Global) -> GatheredMarks
         ensures { result ≡ [] }
     {
-        Gathered {
+        GatheredMarks {
             places: Vec::new(alloc),
             accepted: Vec::new(alloc),
         }

@@ -15,7 +15,7 @@ const WINDOW: usize = 64;
 
 /// The ballot of a vote, how many marks it has, and the offset of the first one.
 #[derive(Clone, Copy)]
-pub struct Head {
+pub(crate) struct Head {
     pub ballot: Ballot,
     pub count: u32,
     pub begin: usize,

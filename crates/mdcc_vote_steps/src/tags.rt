@@ -11,7 +11,7 @@ use std::marker::Model;
 
 /// The transactions of the marks of a vote, and which of them are accepted.
 #[derive(Drop)]
-pub struct Tags<'a> {
+pub(crate) struct Tags<'a> {
     cursor: Cursor<'a>,
     left: u32,
 }
@@ -28,7 +28,7 @@ impl<'a> Model for Tags<'a> {
 
 impl<'a> Tags<'a> {
     /// The next one.
-    
+
     pub(crate) fn next(&mut self) -> Option<(TxId, bool)>
         ensures some { IfSome result (λ tag. self.old ≡ tag ∷ self.new) }
         ensures none { IsNone result → self.old ≡ [] }
@@ -61,7 +61,11 @@ pub(crate) fn tags_at<'a>(
     let mut cursor = cells.start(number);
     match head_in(&cursor, key, version) {
         Some(head) => {
-            let left = if head.ballot.is(ballot) { head.count } else { 0 };
+            let left = if head.ballot.is(ballot) {
+                head.count
+            } else {
+                0
+            };
             cursor.skip(head.begin);
             Tags { cursor, left }
         }

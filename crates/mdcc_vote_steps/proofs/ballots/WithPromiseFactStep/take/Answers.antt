@@ -9,6 +9,6 @@ pub returns : goal.returns
 returns c =
     let s = c.args.self.now in
     λ fact fits is.
-      ap (λ (b : Ballot). record s { ballot = b })
-      (c.ballot_max-self.ensures
-      ∙ ap (λ (b : Ballot). ballot_max b s.ballot) (c.promised_in-promised.ensures ∙ ap (promised_in s.key s.version) is ∙ promised-again s.key s.version fact fits))
+    ap (λ (b : Ballot). record s { ballot = b })
+    (c.ballot_max-self.ensures
+    ∙ ap (λ (b : Ballot). ballot_max b s.ballot) (c.promised_in-promised.ensures ∙ ap (promised_in s.key s.version) is ∙ promised-again s.key s.version fact fits))

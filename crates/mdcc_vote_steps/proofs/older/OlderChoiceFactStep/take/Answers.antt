@@ -9,6 +9,6 @@ pub returns : goal.returns
 returns c =
     let s = c.args.self.now in
     λ fact fits is.
-      ap (λ (found : Option Choice). record s { found = found })
-      (c.keep_older.ensures
-      ∙ ap (λ (older : Option Choice). option_or older s.found) (c.choice_in-choice.ensures ∙ ap (choice_in_bytes s.key s.version s.tx) is ∙ choice-in-again s.key s.version s.tx fact fits))
+    ap (λ (found : Option Choice). record s { found = found })
+    (c.keep_older.ensures
+    ∙ ap (λ (older : Option Choice). option_or older s.found) (c.choice_in-choice.ensures ∙ ap (choice_in_bytes s.key s.version s.tx) is ∙ choice-in-again s.key s.version s.tx fact fits))

@@ -9,6 +9,6 @@ pub returns : goal.returns
 returns c =
     let s = c.args.self.now in
     λ fact fits is.
-      ap (λ (found : Option Mark). record s { found = found })
-      (c.keep_older.ensures
-      ∙ ap (λ (older : Option Mark). option_or older s.found) (c.mark_in-mark.ensures ∙ ap (mark_in s.key s.version s.ballot s.tx) is ∙ mark-in-again s.key s.version s.ballot s.tx fact fits))
+    ap (λ (found : Option Mark). record s { found = found })
+    (c.keep_older.ensures
+    ∙ ap (λ (older : Option Mark). option_or older s.found) (c.mark_in-mark.ensures ∙ ap (mark_in s.key s.version s.ballot s.tx) is ∙ mark-in-again s.key s.version s.ballot s.tx fact fits))

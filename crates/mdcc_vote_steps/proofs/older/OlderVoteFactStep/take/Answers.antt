@@ -10,7 +10,7 @@ pub returns : goal.returns
 returns c =
     let s = c.args.self.now in
     λ fact fits is.
-      ap (λ (found : Option (Ballot × Mark)). record s { found = found })
-      (c.keep_older.ensures
-      ∙ ap (λ (older : Option (Ballot × Mark)). option_or older s.found) (c.vote_in-vote.ensures ∙ ap (vote_in s.key s.version s.tx s.found) is)
-      ∙ vote-in-again s.key s.version s.tx s.found fact fits)
+    ap (λ (found : Option (Ballot × Mark)). record s { found = found })
+    (c.keep_older.ensures
+    ∙ ap (λ (older : Option (Ballot × Mark)). option_or older s.found) (c.vote_in-vote.ensures ∙ ap (vote_in s.key s.version s.tx s.found) is)
+    ∙ vote-in-again s.key s.version s.tx s.found fact fits)

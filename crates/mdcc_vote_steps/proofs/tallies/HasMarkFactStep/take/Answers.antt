@@ -11,9 +11,9 @@ pub returns-then-not-self : goal.returns-then-not-self
 returns-then-not-self c =
     let s = c.args.self.now in
     λ fact fits is.
-      ap (λ (found : Bool). record s { found = found })
-      (c.has_tx-self.ensures
-      ∙ ap (λ (tags : TxMap Bool). is_some (value_of tags s.tx))
-      (c.tags_at-tags.ensures ∙ ap (tags_at s.key s.version s.ballot) is ∙ tags-at-again s.key s.version s.ballot fact fits)
-      ∙ has-of-tags (marks_voted s.key s.version s.ballot fact) s.tx
-      ∙ or-false s.found (is_mark_of s.key s.version s.ballot s.tx fact) c.if-not-self.true)
+    ap (λ (found : Bool). record s { found = found })
+    (c.has_tx-self.ensures
+    ∙ ap (λ (tags : TxMap Bool). is_some (value_of tags s.tx))
+    (c.tags_at-tags.ensures ∙ ap (tags_at s.key s.version s.ballot) is ∙ tags-at-again s.key s.version s.ballot fact fits)
+    ∙ has-of-tags (marks_voted s.key s.version s.ballot fact) s.tx
+    ∙ or-false s.found (is_mark_of s.key s.version s.ballot s.tx fact) c.if-not-self.true)

@@ -11,8 +11,8 @@ pub returns : goal.returns
 returns c =
     let s = c.args.self.now in
     λ fact fits is.
-      ap (λ (found : Option TxId). record s { found = found })
-      (c.least_from-self.ensures
-      ∙ ap (λ (tags : TxMap Bool). least_from (is_next each_kept s.last) s.found tags)
-      (c.tags_at-tags.ensures ∙ ap (tags_at s.key s.version s.ballot) is ∙ tags-at-again s.key s.version s.ballot fact fits)
-      ∙ least-of-tags (is_next each_kept s.last) s.found (marks_voted s.key s.version s.ballot fact))
+    ap (λ (found : Option TxId). record s { found = found })
+    (c.least_from-self.ensures
+    ∙ ap (λ (tags : TxMap Bool). least_from (is_next each_kept s.last) s.found tags)
+    (c.tags_at-tags.ensures ∙ ap (tags_at s.key s.version s.ballot) is ∙ tags-at-again s.key s.version s.ballot fact fits)
+    ∙ least-of-tags (is_next each_kept s.last) s.found (marks_voted s.key s.version s.ballot fact))

@@ -12,8 +12,8 @@ pub returns : goal.returns
 returns c =
     let s = c.args.self.now in
     λ fact fits is.
-      ap (λ (counts : ℕ × ℕ). record s { accepts = counts.0; rejects = counts.1 })
-      (c.with_tags-accepts.ensures
-      ∙ ap (λ (tags : TxMap Bool). fold with_tag (s.accepts, s.rejects) tags)
-      (c.tags_at-tags.ensures ∙ ap (tags_at s.key s.version fast_ballot) is ∙ tags-at-again s.key s.version fast_ballot fact fits)
-      ∙ fold-of-tags (s.accepts, s.rejects) (marks_voted s.key s.version fast_ballot fact))
+    ap (λ (counts : ℕ × ℕ). record s { accepts = counts.0; rejects = counts.1 })
+    (c.with_tags-accepts.ensures
+    ∙ ap (λ (tags : TxMap Bool). fold with_tag (s.accepts, s.rejects) tags)
+    (c.tags_at-tags.ensures ∙ ap (tags_at s.key s.version fast_ballot) is ∙ tags-at-again s.key s.version fast_ballot fact fits)
+    ∙ fold-of-tags (s.accepts, s.rejects) (marks_voted s.key s.version fast_ballot fact))

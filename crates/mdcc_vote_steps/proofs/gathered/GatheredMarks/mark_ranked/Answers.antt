@@ -5,7 +5,7 @@ use Rattle.mdcc_struct.specs.Options.{Marks}
 use Rattle.std.specs.Prelude.{List, ℕ}
 use Rattle.mdcc_vote_steps.specs.Gathered.{mark_ranked}
 use Rattle.mdcc_vote_steps.proofs.Picked.{ranked-beyond, ranked-there}
-use Rattle.mdcc_vote_steps.proofs.gathered.Gathered.mark_ranked.Goals as goal
+use Rattle.mdcc_vote_steps.proofs.gathered.GatheredMarks.mark_ranked.Goals as goal
 
 pub returns-then-rank-len : goal.returns-then-rank-len
 returns-then-rank-len c =

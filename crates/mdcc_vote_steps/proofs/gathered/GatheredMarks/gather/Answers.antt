@@ -3,7 +3,7 @@ use Rattle.std.specs.Prelude.{OnOk}
 use Rattle.mdcc_struct.specs.Options.{Marks}
 use Rattle.mdcc_vote_steps.specs.Gathered.{marks_at}
 use Rattle.mdcc_vote_steps.proofs.MarksGathered.{marks-at-again}
-use Rattle.mdcc_vote_steps.proofs.gathered.Gathered.gather.Goals as goal
+use Rattle.mdcc_vote_steps.proofs.gathered.GatheredMarks.gather.Goals as goal
 
 pub returns : goal.returns
 returns c fact fits is =

@@ -1,5 +1,5 @@
 use Rattle.mdcc_vote_steps.proofs.MarksGathered.{listed-more}
-use Rattle.mdcc_vote_steps.proofs.gathered.Gathered.push.Goals as goal
+use Rattle.mdcc_vote_steps.proofs.gathered.GatheredMarks.push.Goals as goal
 
 pub returns : goal.returns
 returns c =

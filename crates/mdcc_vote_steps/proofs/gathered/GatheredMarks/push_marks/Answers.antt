@@ -2,7 +2,7 @@ use Rattle.std.proofs.Common.{◌≡◌, ◌-◌, ◌++◌, ◌∷◌, [], Some,
 use Rattle.mdcc_struct.specs.Options.{Marks}
 use Rattle.mdcc_vote_steps.specs.Gathered.{first_entry, marks_read}
 use Rattle.mdcc_vote_steps.proofs.MarksGathered.{read_next}
-use Rattle.mdcc_vote_steps.proofs.gathered.Gathered.push_marks.Goals as goal
+use Rattle.mdcc_vote_steps.proofs.gathered.GatheredMarks.push_marks.Goals as goal
 
 pub loop-left-preserved : goal.loop-left-preserved
 loop-left-preserved c =

@@ -3,7 +3,7 @@ use Rattle.mdcc_struct.specs.Maps.{value_of}
 use Rattle.mdcc_struct.specs.Options.{Marks}
 use Rattle.mdcc_vote_steps.specs.Gathered.{mark_ranked}
 use Rattle.mdcc_vote_steps.proofs.Picked.{put-one}
-use Rattle.mdcc_vote_steps.proofs.gathered.Gathered.put.Goals as goal
+use Rattle.mdcc_vote_steps.proofs.gathered.GatheredMarks.put.Goals as goal
 
 pub returns-in_ok-insert : goal.returns-in_ok-insert
 returns-in_ok-insert c t =

@@ -1,14 +1,13 @@
-use Rattle.std.proofs.Common.{◌≡◌, List, [], ap, subst, sym, ◌∙◌}
+use Rattle.std.proofs.Common.{◌≡◌, [], ap, subst, sym, ◌∙◌}
 use Rattle.std.specs.List.Sorted.{IsPermutation}
 use Rattle.std.specs.Option.{option_or}
-use Rattle.mdcc_base.specs.declared.identifiers.TxId.{TxId}
 use Rattle.mdcc_struct.specs.Maps.{TxMap, value_of}
 use Rattle.mdcc_struct.specs.Options.{Marks}
 use Rattle.std.specs.Prelude.{ℕ}
 use Rattle.mdcc_vote_steps.specs.Gathered.{picked, ranked}
 use Rattle.mdcc_vote_steps.proofs.OldestFirst.{joined-oldest}
 use Rattle.mdcc_vote_steps.proofs.Picked.{given-same, ranked-listed}
-use Rattle.mdcc_vote_steps.proofs.gathered.Gathered.joined.Goals as goal
+use Rattle.mdcc_vote_steps.proofs.gathered.GatheredMarks.joined.Goals as goal
 
 pub returns : goal.returns
 returns c =

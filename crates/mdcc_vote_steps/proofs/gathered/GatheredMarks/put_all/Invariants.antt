@@ -3,7 +3,7 @@ use Rattle.std.specs.Option.{option_or}
 use Rattle.mdcc_base.specs.declared.identifiers.TxId.{TxId}
 use Rattle.mdcc_struct.specs.Maps.{value_of}
 use Rattle.mdcc_vote_steps.specs.Gathered.{picked}
-use Rattle.mdcc_vote_steps.proofs.gathered.Gathered.put_all.Given as goal
+use Rattle.mdcc_vote_steps.proofs.gathered.GatheredMarks.put_all.Given as goal
 
 abbrev pub invariant-loop-tx : goal.invariant-loop-tx
 invariant-loop-tx l =
