@@ -8,6 +8,7 @@ pub mod MarksGathered
 pub mod OldestFirst
 pub mod Passed
 pub mod Picked
+pub mod StepsFolded
 pub mod Tagged
 pub mod Tallied
 pub mod WriteSetsRead

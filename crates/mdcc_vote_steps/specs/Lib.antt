@@ -4,6 +4,7 @@ pub mod Heads
 pub mod Marks
 pub mod Older
 pub mod Passing
+pub mod Steps
 pub mod Tags
 pub mod Tallies
 pub mod WriteSets

@@ -1,9 +1,8 @@
 //! The ballots of votes and of promises.
 ghost use Rattle.std.specs.Prelude.{◌≡◌, ◌<◌, [], get_or, length};
 ghost use Rattle.mdcc_base.specs.Ballot.{ballot_max};
-ghost use Rattle.mdcc_fact_folds.specs.Promises.{with_promise};
-ghost use Rattle.mdcc_fact_folds.specs.Votes.{with_ballot};
 ghost use Rattle.mdcc_vote_steps.specs.Ballots.{promised_in, voted_in};
+ghost use Rattle.mdcc_vote_steps.specs.Steps.{ballot_step, promise_step};
 
 use crate::heads::{head_in, promise_in};
 use mdcc_base::{Ballot, Key};
@@ -63,7 +62,7 @@ fn voted_in(cells: &FactCells, number: u32, key: &Key, version: u64, below: &Bal
 }
 
 impl FactStep for WithPromise {
-    ghost step = { λ s fact. record s { ballot = with_promise s.key s.version s.ballot fact } };
+    ghost step = { promise_step };
 
     fn take(&mut self, cells: &FactCells, number: u32) {
         let promised = promised_in(cells, number, &self.key, self.version);
@@ -72,7 +71,7 @@ impl FactStep for WithPromise {
 }
 
 impl FactStep for WithBallot {
-    ghost step = { λ s fact. record s { ballot = with_ballot s.key s.version s.below s.ballot fact } };
+    ghost step = { ballot_step };
 
     fn take(&mut self, cells: &FactCells, number: u32) {
         let voted = voted_in(cells, number, &self.key, self.version, &self.below);

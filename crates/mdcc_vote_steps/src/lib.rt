@@ -9,10 +9,12 @@ pub mod older;
 mod passing;
 mod tags;
 pub mod tallies;
+pub mod walks;
 pub mod write_sets;
 
 pub use ballots::{WithBallot, WithPromise};
 pub use gathered::{GatheredMarks, gathered_marks_are_votes};
 pub use older::{OlderChoice, OlderMark, OlderVote};
 pub use tallies::{HasMark, LeastAbove, WithCount, WithEntries};
+pub use walks::steps_are_folds;
 pub use write_sets::write_set_at;

@@ -1,8 +1,8 @@
 //! Votes on one transaction, and its choices.
 ghost use Rattle.std.specs.Prelude.{◌≡◌, ◌<◌, [], get_or, length};
 ghost use Rattle.std.specs.Option.{option_or};
-ghost use Rattle.mdcc_fact_folds.specs.Votes.{older_choice, older_mark, older_vote};
 ghost use Rattle.mdcc_vote_steps.specs.Older.{choice_by, choice_in_bytes, is_below_found, mark_by, mark_in, vote_by, vote_in};
+ghost use Rattle.mdcc_vote_steps.specs.Steps.{choice_step, mark_step, vote_step};
 
 use crate::heads::{Head, head_in};
 use crate::marks::{choice_of, mark_of};
@@ -120,7 +120,7 @@ fn keep_older<T: Drop>(found: &mut Option<T>, older: Option<T>)
 }
 
 impl FactStep for OlderVote {
-    ghost step = { λ s fact. record s { found = older_vote s.key s.version s.tx s.found fact } };
+    ghost step = { vote_step };
 
     fn take(&mut self, cells: &FactCells, number: u32) {
         let vote = vote_in(
@@ -136,7 +136,7 @@ impl FactStep for OlderVote {
 }
 
 impl FactStep for OlderMark {
-    ghost step = { λ s fact. record s { found = older_mark s.key s.version s.ballot s.tx s.found fact } };
+    ghost step = { mark_step };
 
     fn take(&mut self, cells: &FactCells, number: u32) {
         let mark = mark_in(
@@ -152,7 +152,7 @@ impl FactStep for OlderMark {
 }
 
 impl FactStep for OlderChoice {
-    ghost step = { λ s fact. record s { found = older_choice s.key s.version s.tx s.found fact } };
+    ghost step = { choice_step };
 
     fn take(&mut self, cells: &FactCells, number: u32) {
         let choice = choice_in(cells, number, &self.key, self.version, &self.tx);

@@ -1,14 +1,12 @@
 //! What the marks of an instance at a ballot amount to.
 ghost use Rattle.std.specs.List.{fold};
-ghost use Rattle.std.specs.Prelude.{◌≡◌, ◌+◌, ◌-◌, ◌^◌, ◌||◌, is_some, min};
-ghost use Rattle.mdcc_base.specs.Ballot.{fast_ballot};
+ghost use Rattle.std.specs.Prelude.{◌≡◌, ◌+◌, ◌-◌, ◌^◌, is_some, min};
 ghost use Rattle.mdcc_base.specs.Counts.{number_of};
 ghost use Rattle.mdcc_struct.specs.Maps.{value_of};
 ghost use Rattle.mdcc_protocol.specs.Stores.{is_above};
 ghost use Rattle.mdcc_facts.specs.Walks.{each_kept, is_lower, is_next, least_from, lower_passing};
 ghost use Rattle.mdcc_facts.specs.Weights.{counted};
-ghost use Rattle.mdcc_fact_folds.specs.Live.{with_count, with_entries};
-ghost use Rattle.mdcc_fact_folds.specs.Votes.{is_mark_of, least_above};
+ghost use Rattle.mdcc_vote_steps.specs.Steps.{count_step, entries_step, has_mark_step, least_step};
 ghost use Rattle.mdcc_vote_steps.specs.Tallies.{with_tag};
 
 use crate::tags::{Tags, tags_at};
@@ -142,7 +140,7 @@ fn with_common(tags: &mut Tags<'_>, options: &Options, count: usize) -> usize
 }
 
 impl FactStep for HasMark {
-    ghost step = { λ s fact. record s { found = s.found || is_mark_of s.key s.version s.ballot s.tx fact } };
+    ghost step = { has_mark_step };
 
     fn take(&mut self, cells: &FactCells, number: u32) {
         if !self.found {
@@ -153,7 +151,7 @@ impl FactStep for HasMark {
 }
 
 impl FactStep for LeastAbove {
-    ghost step = { λ s fact. record s { found = least_above s.key s.version s.ballot s.last s.found fact } };
+    ghost step = { least_step };
 
     fn take(&mut self, cells: &FactCells, number: u32) {
         let mut tags = tags_at(cells, number, &self.key, self.version, &self.ballot);
@@ -162,7 +160,7 @@ impl FactStep for LeastAbove {
 }
 
 impl FactStep for WithEntries {
-    ghost step = { λ s fact. let counts = with_entries s.key s.version (s.accepts, s.rejects) fact in record s { accepts = counts.0; rejects = counts.1 } };
+    ghost step = { entries_step };
 
     fn take(&mut self, cells: &FactCells, number: u32) {
         let mut tags = tags_at(cells, number, &self.key, self.version, &Ballot::FAST);
@@ -173,7 +171,7 @@ impl FactStep for WithEntries {
 }
 
 impl<'a> FactStep for WithCount<'a> {
-    ghost step = { λ s fact. record s { count = min (with_count s.key s.version s.ballot s.options.now s.count fact) (2 ^ 64 - 1) } };
+    ghost step = { count_step };
 
     fn take(&mut self, cells: &FactCells, number: u32) {
         let _most = self.options.len();
