@@ -1,5 +1,5 @@
 -- The marks of a vote and the deltas of an adoption, entered one after the other.
-use Rattle.std.proofs.Common.{◌≡◌, ◌+◌, ◌++◌, ◌∷◌, ℕ, suc, List, [], Option, Some, length, drop, ap, sym, ◌∙◌, arith, refl, append_assoc}
+use Rattle.std.proofs.Common.{◌≡◌, ◌+◌, ◌++◌, ◌∷◌, ℕ, suc, List, [], Some, length, drop, ap, sym, ◌∙◌, arith, refl, append_assoc}
 use Rattle.std.specs.List.{AllByRecursion, cons_option, flat_map}
 use Rattle.std.specs.Prelude.{filter_map, map}
 use Rattle.mdcc_base.specs.declared.identifiers.TxId.{TxId}

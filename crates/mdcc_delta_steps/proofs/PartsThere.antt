@@ -1,5 +1,5 @@
 -- Parts that stand at the head of entries are read there.
-use Rattle.std.proofs.Common.{◌≡◌, ◌+◌, ◌<◌, ◌≤◌, ◌++◌, ◌^◌, ℕ, ℤ, List, Some, length, ap, ◌∙◌, arith, refl, append_assoc, length-append}
+use Rattle.std.proofs.Common.{◌≡◌, ◌+◌, ◌<◌, ◌≤◌, ◌++◌, ◌^◌, ℕ, ℤ, Bool, true, false, List, Some, drop, length, take, ap, ◌∙◌, arith, refl, append_assoc, length-append}
 use Rattle.std.specs.Prelude.{◌&&◌, ◌==◌, not}
 use Rattle.mdcc_base.specs.Key.{key_eq}
 use Rattle.mdcc_base.specs.declared.identifiers.TxId.{TxId}
@@ -11,14 +11,13 @@ use Rattle.mdcc_messages.specs.SpelledParts.{amount_bytes, amounts_bytes, choice
 use Rattle.mdcc_messages.specs.WellFormedParts.{IsWellFormedAmounts, IsWellFormedInstance, IsWellFormedTx, IsWellFormedUpdate}
 use Rattle.mdcc_protocol.specs.Facts.{amounts_added}
 use Rattle.mdcc_protocol.specs.Marks.{is_write}
-use Rattle.mdcc_spelling.proofs.Places.{IsAt, apart-2, apart-5, together}
-use Rattle.mdcc_spelling.proofs.Numbers.{u32_again}
+use Rattle.mdcc_spelling.proofs.Places.{IsAt, apart-2, apart-5, taken, together}
+use Rattle.mdcc_spelling.proofs.Numbers.{u32_again, u64_again}
 use Rattle.mdcc_spelling.proofs.Identifiers.{tx_again}
 use Rattle.mdcc_spelling.proofs.Items.{amounts_again}
-use Rattle.mdcc_spelling.proofs.Common.{instance_again}
 use Rattle.mdcc_spelling.proofs.Whole.{at_front}
 use Rattle.mdcc_delta_steps.specs.Passing.{byte_at, head_of}
-use Rattle.mdcc_delta_steps.specs.Entries.{added_in, amounts_in, amounts_read, is_instance_in, is_same_instance, number_in, number_read, tx_in, tx_read}
+use Rattle.mdcc_delta_steps.specs.Entries.{added_in, amounts_in, amounts_read, is_instance_in, number_in, number_read, tx_in, tx_read, version_in}
 use Rattle.mdcc_delta_steps.proofs.Heads.{byte-there, in-head}
 use Rattle.mdcc_delta_steps.proofs.Passed.{wide}
 
@@ -29,8 +28,26 @@ pub instance-there : (bytes : List ℕ) (at : ℕ) (key : Key) (version : ℕ) (
     → IsAt bytes at (key_bytes other ++ u64_bytes found) → at + 41 ≤ 64
     → is_instance_in key version (head_of bytes) at ≡ (found == version && key_eq other key)
 instance-there bytes at key version other found fits h within =
-    ap (is_same_instance key version) (instance_again (head_of bytes) at other found fits (in-head bytes at (key_bytes other ++ u64_bytes found) h
-    (omega (arith, fits.key_itself.fits, length-append (key_bytes other) (u64_bytes found), length-append (u8_bytes (length other)) other))))
+    let head : List ℕ = head_of bytes in
+    let long : length (key_bytes other) ≡ 1 + length other = omega (arith, length-append (u8_bytes (length other)) other) in
+    let there : IsAt (head_of bytes) at (key_bytes other ++ u64_bytes found) =
+    in-head bytes at (key_bytes other ++ u64_bytes found) h (omega (arith, fits.key_itself.fits, long, length-append (key_bytes other) (u64_bytes found))) in
+    let p = apart-2 head at (key_bytes other) (u64_bytes found) there in
+    let q = apart-2 head at (u8_bytes (length other)) other p.0 in
+    let count : byte_at at head ≡ length other = byte-there head at (length other) other p.0 in
+    let text : take (byte_at at head) (drop (at + 1) head) ≡ other = ap (λ n. take n (drop (at + 1) head)) count ∙ taken head (at + 1) other q.1 in
+    let place : at + 1 + byte_at at head ≡ at + length (key_bytes other) = omega (arith, count, long) in
+    let number : version_in head (at + 1 + byte_at at head) ≡ found =
+    ap (version_in head) place ∙ ap number_read (u64_again head (at + length (key_bytes other)) found fits.version_fits p.1) in
+    ap (λ t. key_eq t key && version_in head (at + 1 + byte_at at head) == version) text
+    ∙ ap (λ n. key_eq other key && n == version) number
+    ∙ both-ways (key_eq other key) (found == version)
+  where
+    both-ways : (a b : Bool) → (a && b) ≡ (b && a)
+    both-ways true true = refl
+    both-ways true false = refl
+    both-ways false true = refl
+    both-ways false false = refl
 
 pub number-there : (bytes : List ℕ) (at n : ℕ) → n < 2 ^ 32 → IsAt bytes at (u32_bytes n) → at + 4 ≤ 64 → number_in (head_of bytes) at ≡ n
 number-there bytes at n fits h within = ap number_read (u32_again (head_of bytes) at n fits (in-head bytes at (u32_bytes n) h within))

@@ -1,5 +1,5 @@
 -- Loads over encodings, one entry and one encoding after the other.
-use Rattle.std.proofs.Common.{◌≡◌, ◌∷◌, ℕ, Bool, true, false, List, [], Some, None, ap, sym, ◌∙◌, refl, inl, inr}
+use Rattle.std.proofs.Common.{◌≡◌, ◌∷◌, ℕ, Bool, true, false, List, [], Some, None, ap, sym, ◌∙◌, refl, inl, inr, cond}
 use Rattle.std.specs.List.{fold, list_any}
 use Rattle.std.specs.Prelude.{◌&&◌, ◌||◌, filter, map, not}
 use Rattle.std.proofs.lemmas.Bool.{cases_Bool}
@@ -49,13 +49,28 @@ read-none (first ∷ texts) is = absurd (cc)
 -- ---- entries
 
 module _ (seen : List TxId) (void : TxId → Bool) (key : Key) (version : ℕ) (older : List (List ℕ)) (load : Load) (e : Entry) (es : List Entry) where
-  pub entry-counted : counts void key version older e.0 ≡ true
+  entry-counted : counts void key version older e.0 ≡ true
       → with_entries seen void key version older load (e ∷ es) ≡ with_entries seen void key version older (with_added seen load e) es
   entry-counted is = rw is refl
 
-  pub entry-passed : counts void key version older e.0 ≡ false
+  entry-passed : counts void key version older e.0 ≡ false
       → with_entries seen void key version older load (e ∷ es) ≡ with_entries seen void key version older load es
   entry-passed is = rw is refl
+
+-- the entries that are left once the first was counted or passed
+pub entries-go : (seen : List TxId) (void : TxId → Bool) (key : Key) (version : ℕ) (older : List (List ℕ)) (load next : Load) (entries left rest : List Entry) (e : Entry) (counted : Bool)
+    → entries ≡ e ∷ rest → left ≡ rest → counted ≡ counts void key version older e.0 → next ≡ cond counted (with_added seen load e) load
+    → with_entries seen void key version older next left ≡ with_entries seen void key version older load entries
+entries-go seen void key version older load next entries left rest e true whole is test by =
+    ap (with_entries seen void key version older next) is
+    ∙ ap (λ l. with_entries seen void key version older l rest) by
+    ∙ sym (entry-counted seen void key version older load e rest (sym test))
+    ∙ ap (with_entries seen void key version older load) (sym whole)
+entries-go seen void key version older load next entries left rest e false whole is test by =
+    ap (with_entries seen void key version older next) is
+    ∙ ap (λ l. with_entries seen void key version older l rest) by
+    ∙ sym (entry-passed seen void key version older load e rest (sym test))
+    ∙ ap (with_entries seen void key version older load) (sym whole)
 
 -- ---- facts
 

@@ -1,11 +1,15 @@
 -- A walk goes on to the next index of its instance.
-use Rattle.std.proofs.Common.{◌≡◌, ◌∷◌, ℕ, List, Option, Some, None, ap, sym, ◌∙◌, arith}
+use Rattle.std.proofs.Common.{◌≡◌, ◌∷◌, ℕ, List, [], Option, Some, None, get_or, length, ap, sym, ◌∙◌, arith, eq-eqb, inl, inr, refl}
 use Rattle.std.specs.Prelude.{map}
+use Rattle.std.proofs.lemmas.Bool.{cases_Bool}
+use Rattle.std.proofs.lemmas.List.{length-map}
 use Rattle.mdcc_base.specs.declared.key.Key.{Key}
 use Rattle.mdcc_chains.specs.Keys.{instance_eq}
-use Rattle.mdcc_chains.specs.Walks.{IsFound, first_below, first_in, older, walk}
-use Rattle.mdcc_chains.proofs.Filtered.{length-older, older-older, walk-end, walk-found, walk-next}
-use Rattle.mdcc_delta_steps.specs.Chains.{text_at, texts_from, texts_of}
+use Rattle.mdcc_chains.specs.Walks.{IsFound, entry_at, first_below, first_in, older, walk}
+use Rattle.mdcc_chains.proofs.Filtered.{entry-skip, entry-within, length-older, older-older, walk-end, walk-found, walk-next}
+use Rattle.mdcc_fact_folds.specs.Entered.{found_by}
+use Rattle.mdcc_fact_folds.specs.IndexWalks.{keys_of}
+use Rattle.mdcc_delta_steps.specs.Chains.{TextsAreFound, text_at, texts_from, texts_of}
 
 module _ (encodings : List (List ℕ)) (numbers : List ℕ) (instance : Key × ℕ) where
   -- from the first index on it is the whole walk
@@ -26,3 +30,17 @@ module _ (encodings : List (List ℕ)) (numbers : List ℕ) (instance : Key × �
       let same : older next (older index keys) ≡ older next keys = older-older next index keys (omega (arith, found.within, length-older index keys)) in
       ap (λ ks. text_at encodings numbers next ∷ texts_of encodings ks numbers instance) (sym same)
       ∙ from-first (older index keys) (Some next) (sym first)
+
+-- what it comes by is stored under the numbers of the entries that are found
+pub texts-found : TextsAreFound
+texts-found encodings [] numbers instance at = refl
+texts-found encodings (e ∷ es) numbers instance at =
+    let long : length (keys_of es) ≡ length es = length-map es (λ x. x.0) in
+    let here : entry_at (e ∷ es) (length es) ≡ Some e = rw (eq-eqb (length es) (length es) refl) refl in
+    let number : get_or numbers (length (keys_of es)) 0 ≡ e.1 = ap (λ n. get_or numbers n 0) long ∙ at (length es) e here in
+    let rest : texts_of encodings (keys_of es) numbers instance ≡ map (λ n. get_or encodings n []) (found_by (instance_eq instance) es) =
+    texts-found encodings es numbers instance (λ index entry is. at index entry (entry-skip e es index (entry-within es index entry is) ∙ is)) in
+    elim (cases_Bool (instance_eq instance e.0)) [
+      | inl same ↦ rw same (ap (λ n. get_or encodings n [] ∷ texts_of encodings (keys_of es) numbers instance) number ∙ ap (λ ts. get_or encodings e.1 [] ∷ ts) rest)
+      | inr other ↦ rw other rest
+    ]

@@ -2,10 +2,12 @@
 use Rattle.std.specs.Prelude.{◌≡◌, ◌<◌, List, None, Option, Some, [], get_or, length, map, ℕ, ◌∷◌}
 use Rattle.mdcc_base.specs.declared.key.Key.{Key}
 use Rattle.mdcc_chains.specs.Keys.{instance_eq}
-use Rattle.mdcc_chains.specs.Walks.{older, walk}
+use Rattle.mdcc_chains.specs.Walks.{entry_at, older, walk}
 use Rattle.mdcc_messages.specs.Spelling.{fact_bytes}
 use Rattle.mdcc_messages.specs.declared.facts.Fact.{Fact}
 use Rattle.mdcc_fact_cells.specs.Holding.{AreWellFormed}
+use Rattle.mdcc_fact_folds.specs.Entered.{found_by}
+use Rattle.mdcc_fact_folds.specs.IndexWalks.{keys_of}
 
 -- the encoding of the fact that is entered at an index
 abbrev pub text_at : List (List ℕ) → List ℕ → ℕ → List ℕ
@@ -37,3 +39,10 @@ later_texts (text ∷ texts) = texts
 pub record AreOf (texts : List (List ℕ)) (facts : List Fact) : Type 0 where
   pub texts_are : texts ≡ map fact_bytes facts
   pub well_formed : AreWellFormed facts
+
+-- where the index has the keys of entries, and the numbers beside them stand at their indices, a walk comes by what is stored under the numbers that are found by the instance
+abbrev pub TextsAreFound : Type 0
+TextsAreFound =
+    (encodings : List (List ℕ)) (entries : List ((Key × ℕ) × ℕ)) (numbers : List ℕ) (instance : Key × ℕ)
+    → ((index : ℕ) (entry : (Key × ℕ) × ℕ) → entry_at entries index ≡ Some entry → get_or numbers index 0 ≡ entry.1)
+    → texts_of encodings (keys_of entries) numbers instance ≡ map (λ number. get_or encodings number []) (found_by (instance_eq instance) entries)

@@ -1,11 +1,10 @@
 -- The entries of a fact that bring an update into an instance, as they are read in its encoding: of each its transaction, and the amounts that it adds, none where it writes.
-use Rattle.std.specs.Prelude.{◌≡◌, Bool, List, None, Ok, Err, Option, Result, Some, [], false, drop, if◌then◌else◌, suc, zero, ℕ, ℤ, ◌&&◌, ◌+◌, ◌==◌, ◌∷◌}
+use Rattle.std.specs.Prelude.{◌≡◌, Bool, List, None, Ok, Err, Option, Result, Some, [], drop, if◌then◌else◌, suc, take, zero, ℕ, ℤ, ◌&&◌, ◌+◌, ◌==◌, ◌∷◌}
 use Rattle.mdcc_base.specs.Key.{key_eq}
 use Rattle.mdcc_base.specs.declared.identifiers.TxId.{TxId}
 use Rattle.mdcc_base.specs.declared.key.Key.{Key}
-use Rattle.mdcc_messages.specs.Reading.{instance_at}
 use Rattle.mdcc_messages.specs.ReadingParts.{amounts_at, tx_at}
-use Rattle.mdcc_messages.specs.ReadingSteps.{u32_at}
+use Rattle.mdcc_messages.specs.ReadingSteps.{u32_at, u64_at}
 use Rattle.mdcc_messages.specs.declared.wire.WireFault.{WireFault}
 use Rattle.mdcc_delta_steps.specs.Passing.{after_counted, after_item, byte_at, head_of, past_update}
 use Rattle.mdcc_delta_steps.specs.declared.entries.Entries.{Entries}
@@ -43,13 +42,13 @@ number_read (Err fault) = 0
 abbrev pub number_in : List ℕ → ℕ → ℕ
 number_in bytes at = number_read (u32_at bytes at)
 
-abbrev pub is_same_instance : Key → ℕ → Result ((List ℕ × ℕ) × ℕ) WireFault → Bool
-is_same_instance key version (Ok found) = found.0.1 == version && key_eq found.0.0 key
-is_same_instance key version (Err fault) = false
+-- the number of eight bytes there
+abbrev pub version_in : List ℕ → ℕ → ℕ
+version_in bytes at = number_read (u64_at bytes at)
 
 -- whether there is the key with the version
 abbrev pub is_instance_in : Key → ℕ → List ℕ → ℕ → Bool
-is_instance_in key version bytes at = is_same_instance key version (instance_at bytes at)
+is_instance_in key version bytes at = key_eq (take (byte_at at bytes) (drop (at + 1) bytes)) key && version_in bytes (at + 1 + byte_at at bytes) == version
 
 -- ---- where the update of an entry begins
 
@@ -163,12 +162,12 @@ deltas_opened key version bytes =
 -- those of a fact that bring deltas
 abbrev pub opened_deltas : Key → ℕ → List ℕ → Entries
 opened_deltas key version bytes =
-    if byte_at 0 bytes == 4 then choices_opened key version bytes
-    else (if byte_at 0 bytes == 5 then deltas_opened key version bytes else no_entries key version bytes)
+    if byte_at 0 (head_of bytes) == 4 then choices_opened key version bytes
+    else (if byte_at 0 (head_of bytes) == 5 then deltas_opened key version bytes else no_entries key version bytes)
 
 -- those of a fact that bring live updates
 abbrev pub opened_live : Key → ℕ → List ℕ → Entries
-opened_live key version bytes = if byte_at 0 bytes == 3 then marks_opened key version bytes else opened_deltas key version bytes
+opened_live key version bytes = if byte_at 0 (head_of bytes) == 3 then marks_opened key version bytes else opened_deltas key version bytes
 
 abbrev pub deltas_read : Key → ℕ → List ℕ → List Entry
 deltas_read key version bytes = left_in (opened_deltas key version bytes)

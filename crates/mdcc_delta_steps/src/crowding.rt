@@ -9,7 +9,7 @@ ghost use Rattle.mdcc_fact_folds.specs.Live.{is_ordered};
 ghost use Rattle.mdcc_delta_steps.specs.Chains.{AreOf};
 ghost use Rattle.mdcc_delta_steps.specs.Steps.{deltas_step, no_deltas, noted, text_noted};
 
-use crate::entries::delta_entries;
+use crate::entries::read_deltas;
 use crate::{InstanceWalk, WithDeltas};
 use mdcc_base::Key;
 use mdcc_held::delta_given;
@@ -38,26 +38,28 @@ fn note_adopted(deltas: &mut WithDeltas, adds: &[Delta])
     }
 }
 
-// Puts those of a fact.
-fn note_fact(deltas: &mut WithDeltas, fact: &Fact)
-    ensures { deltas.new ≡ deltas_step deltas.old fact.now }
-{
-    match fact {
-        Fact::Heard {
-            tx: _,
-            outcome: Outcome::Commit(choices),
-        } => note_given(deltas, choices.as_slice()),
-        Fact::Adopted {
-            key,
-            version,
-            item: _,
-            adds,
-        } => {
-            if *version == deltas.version && key.is(&deltas.key) {
-                note_adopted(deltas, adds.as_slice());
+impl WithDeltas {
+    /// Puts the deltas of a fact.
+    pub fn note_fact(&mut self, fact: &Fact)
+        ensures { self.new ≡ deltas_step self.old fact.now }
+    {
+        match fact {
+            Fact::Heard {
+                tx: _,
+                outcome: Outcome::Commit(choices),
+            } => note_given(self, choices.as_slice()),
+            Fact::Adopted {
+                key,
+                version,
+                item: _,
+                adds,
+            } => {
+                if *version == self.version && key.is(&self.key) {
+                    note_adopted(self, adds.as_slice());
+                }
             }
+            _ => {}
         }
-        _ => {}
     }
 }
 
@@ -70,7 +72,7 @@ fn note_walk<'a>(deltas: &mut WithDeltas, walk: InstanceWalk<'a>)
         if deltas.crowded {
             return;
         }
-        let entries = delta_entries(cursor, &deltas.key, deltas.version);
+        let entries = read_deltas(cursor, &deltas.key, deltas.version);
         deltas.note_all(entries);
     }
 }
@@ -82,7 +84,7 @@ pub fn is_crowded<'a>(walk: InstanceWalk<'a>, instance: &(Key, u64), fact: &Fact
     ensures steps { (facts : List AFact) → AreOf walk.entry facts → is_ordered fact.now ≡ true → result ≡ nat_lt 64 (deltas_steps instance.now.0 instance.now.1 0 (fact.now ∷ facts)) }
 {
     let mut deltas = WithDeltas::new(instance.0, instance.1);
-    note_fact(&mut deltas, fact);
+    deltas.note_fact(fact);
     note_walk(&mut deltas, walk);
     deltas.crowded
 }

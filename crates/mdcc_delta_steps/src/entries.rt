@@ -131,12 +131,11 @@ fn no_entries<'a>(cursor: Cursor<'a>, key: &Key, version: u64) -> Entries<'a>
 }
 
 // The marks of a vote in the instance.
-fn open_marks<'a>(cursor: Cursor<'a>, key: &Key, version: u64) -> Entries<'a>
+fn open_marks<'a>(cursor: Cursor<'a>, head: &[u8], key: &Key, version: u64) -> Entries<'a>
+    requires { head.now ≡ head_of cursor }
     ensures { result ≡ marks_opened key.now version cursor.entry }
 {
     let mut cursor = cursor;
-    let mut window = [0u8; HEAD];
-    let head = peeked(&cursor, window.as_mut_slice());
     if !is_instance_in(head, 1, key, version) {
         return no_entries(cursor, key, version);
     }
@@ -153,12 +152,11 @@ fn open_marks<'a>(cursor: Cursor<'a>, key: &Key, version: u64) -> Entries<'a>
 }
 
 // The choices of a commit.
-fn open_choices<'a>(cursor: Cursor<'a>, key: &Key, version: u64) -> Entries<'a>
+fn open_choices<'a>(cursor: Cursor<'a>, head: &[u8], key: &Key, version: u64) -> Entries<'a>
+    requires { head.now ≡ head_of cursor }
     ensures { result ≡ choices_opened key.now version cursor.entry }
 {
     let mut cursor = cursor;
-    let mut window = [0u8; HEAD];
-    let head = peeked(&cursor, window.as_mut_slice());
     if byte_in(head, 10) != 1 {
         return no_entries(cursor, key, version);
     }
@@ -174,12 +172,11 @@ fn open_choices<'a>(cursor: Cursor<'a>, key: &Key, version: u64) -> Entries<'a>
 }
 
 // The deltas that were adopted with the version.
-fn open_deltas<'a>(cursor: Cursor<'a>, key: &Key, version: u64) -> Entries<'a>
+fn open_deltas<'a>(cursor: Cursor<'a>, head: &[u8], key: &Key, version: u64) -> Entries<'a>
+    requires { head.now ≡ head_of cursor }
     ensures { result ≡ deltas_opened key.now version cursor.entry }
 {
     let mut cursor = cursor;
-    let mut window = [0u8; HEAD];
-    let head = peeked(&cursor, window.as_mut_slice());
     if !is_instance_in(head, 1, key, version) {
         return no_entries(cursor, key, version);
     }
@@ -196,26 +193,57 @@ fn open_deltas<'a>(cursor: Cursor<'a>, key: &Key, version: u64) -> Entries<'a>
     }
 }
 
-/// Those of the fact at whose beginning a cursor stands that bring deltas into a version of a key.
-pub(crate) fn delta_entries<'a>(cursor: Cursor<'a>, key: &Key, version: u64) -> Entries<'a>
+/// Those of the fact at whose beginning a cursor stands that bring deltas into a version of a key. The
+/// head is that of the fact.
+pub(crate) fn delta_entries<'a>(
+    cursor: Cursor<'a>,
+    head: &[u8],
+    key: &Key,
+    version: u64,
+) -> Entries<'a>
+    requires { head.now ≡ head_of cursor }
     ensures { result ≡ opened_deltas key.now version cursor.entry }
 {
-    match first_byte(&cursor) {
-        4 => open_choices(cursor, key, version),
-        5 => open_deltas(cursor, key, version),
+    match byte_in(head, 0) {
+        4 => open_choices(cursor, head, key, version),
+        5 => open_deltas(cursor, head, key, version),
         _ => no_entries(cursor, key, version),
     }
 }
 
-/// Those of the fact that bring live updates.
-pub(crate) fn live_entries<'a>(cursor: Cursor<'a>, key: &Key, version: u64) -> Entries<'a>
+/// Those that bring live updates.
+pub(crate) fn live_entries<'a>(
+    cursor: Cursor<'a>,
+    head: &[u8],
+    key: &Key,
+    version: u64,
+) -> Entries<'a>
+    requires { head.now ≡ head_of cursor }
     ensures { result ≡ opened_live key.now version cursor.entry }
 {
-    if first_byte(&cursor) == 3 {
-        open_marks(cursor, key, version)
+    if byte_in(head, 0) == 3 {
+        open_marks(cursor, head, key, version)
     } else {
-        delta_entries(cursor, key, version)
+        delta_entries(cursor, head, key, version)
     }
+}
+
+/// The entries of a fact that bring deltas.
+pub(crate) fn read_deltas<'a>(cursor: Cursor<'a>, key: &Key, version: u64) -> Entries<'a>
+    ensures { result ≡ opened_deltas key.now version cursor.entry }
+{
+    let mut window = [0u8; HEAD];
+    let head = peeked(&cursor, window.as_mut_slice());
+    delta_entries(cursor, head, key, version)
+}
+
+/// The entries of a fact that bring live updates.
+pub(crate) fn read_live<'a>(cursor: Cursor<'a>, key: &Key, version: u64) -> Entries<'a>
+    ensures { result ≡ opened_live key.now version cursor.entry }
+{
+    let mut window = [0u8; HEAD];
+    let head = peeked(&cursor, window.as_mut_slice());
+    live_entries(cursor, head, key, version)
 }
 
 impl<'a> Entries<'a> {

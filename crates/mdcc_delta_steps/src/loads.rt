@@ -11,7 +11,7 @@ ghost use Rattle.mdcc_delta_steps.specs.Loads.{counts, load_told, no_item, with_
 ghost use Rattle.mdcc_delta_steps.specs.Steps.{live_told};
 
 use crate::InstanceWalk;
-use crate::entries::{Entries, live_entries};
+use crate::entries::{Entries, read_live};
 use crate::steps::tells_live;
 use mdcc_base::{BoundedList, Key, TxId};
 use mdcc_escrow::{NO_LOAD, with_live};
@@ -105,7 +105,7 @@ fn load_told<'a, V: VoidTest>(
     let mut walk = walk;
     let mut load = NO_LOAD;
     while let Some(cursor) = walk.read() {
-        let entries = live_entries(cursor, &instance.0, instance.1);
+        let entries = read_live(cursor, &instance.0, instance.1);
         load = with_entries(&walk, instance, seen, void, load, entries);
     }
     load

@@ -1,14 +1,15 @@
 //! What a walk takes of each fact: deltas and live updates of transactions.
 ghost use Rattle.std.specs.List.{fold, prefix_len};
 ghost use Rattle.std.specs.Option.{option_or};
-ghost use Rattle.std.specs.Prelude.{◌≡◌, is_some};
-ghost use Rattle.mdcc_base.specs.TxId.{tx_lt};
+ghost use Rattle.std.specs.Prelude.{◌≡◌, ◌==◌, ◌&&◌, is_some, not};
+ghost use Rattle.mdcc_base.specs.TxId.{tx_eq, tx_lt};
 ghost use Rattle.mdcc_protocol.specs.Fit.{has_tx};
 ghost use Rattle.mdcc_struct.specs.Maps.{txs_of, value_of};
-ghost use Rattle.mdcc_delta_steps.specs.Entries.{left_in};
-ghost use Rattle.mdcc_delta_steps.specs.Steps.{amounts_step, amounts_told, delta_step, delta_told, deltas_step, is_of_other, live_step, live_told, no_deltas, noted, value_in};
+ghost use Rattle.mdcc_delta_steps.specs.Entries.{left_in, tx_in};
+ghost use Rattle.mdcc_delta_steps.specs.Passing.{byte_at};
+ghost use Rattle.mdcc_delta_steps.specs.Steps.{amounts_step, amounts_told, delta_step, delta_told, deltas_step, live_step, live_told, no_deltas, noted, value_in};
 
-use crate::entries::{Entries, delta_entries, live_entries};
+use crate::entries::{Entries, delta_entries, live_entries, read_deltas};
 use crate::parts::tx_in;
 use crate::passing::{HEAD, byte_in, peeked};
 use mdcc_base::{BoundedList, Key, TxId};
@@ -53,12 +54,10 @@ pub struct WithDeltas {
     pub crowded: bool,
 }
 
-// Whether the fact at whose beginning a cursor stands tells how another transaction ended.
-fn is_of_other(cursor: &Cursor<'_>, tx: &TxId) -> bool
-    ensures { result ≡ is_of_other tx.now cursor.now }
+// Whether the fact with this head tells how another transaction ended.
+fn is_of_other(head: &[u8], tx: &TxId) -> bool
+    ensures { result ≡ (byte_at 0 head.now == 4 && not (tx_eq (tx_in head.now 1) tx.now)) }
 {
-    let mut window = [0u8; HEAD];
-    let head = peeked(cursor, window.as_mut_slice());
     byte_in(head, 0) == 4 && !tx_in(head, 1).is(tx)
 }
 
@@ -95,24 +94,30 @@ fn value_in<'a>(entries: Entries<'a>, tx: &TxId) -> Option<Amounts>
 pub(crate) fn tells_delta<'a>(cursor: Cursor<'a>, key: &Key, version: u64, tx: &TxId) -> bool
     ensures { result ≡ delta_told key.now version tx.now cursor.entry }
 {
-    !is_of_other(&cursor, tx) && has_entry(delta_entries(cursor, key, version), tx)
+    let mut window = [0u8; HEAD];
+    let head = peeked(&cursor, window.as_mut_slice());
+    !is_of_other(head, tx) && has_entry(delta_entries(cursor, head, key, version), tx)
 }
 
 /// Whether it makes the transaction live there.
 pub(crate) fn tells_live<'a>(cursor: Cursor<'a>, key: &Key, version: u64, tx: &TxId) -> bool
     ensures { result ≡ live_told key.now version tx.now cursor.entry }
 {
-    !is_of_other(&cursor, tx) && has_entry(live_entries(cursor, key, version), tx)
+    let mut window = [0u8; HEAD];
+    let head = peeked(&cursor, window.as_mut_slice());
+    !is_of_other(head, tx) && has_entry(live_entries(cursor, head, key, version), tx)
 }
 
 // The amounts of the transaction's delta there.
 fn amounts_told<'a>(cursor: Cursor<'a>, key: &Key, version: u64, tx: &TxId) -> Option<Amounts>
     ensures { result ≡ amounts_told key.now version tx.now cursor.entry }
 {
-    if is_of_other(&cursor, tx) {
+    let mut window = [0u8; HEAD];
+    let head = peeked(&cursor, window.as_mut_slice());
+    if is_of_other(head, tx) {
         None
     } else {
-        value_in(delta_entries(cursor, key, version), tx)
+        value_in(delta_entries(cursor, head, key, version), tx)
     }
 }
 
@@ -220,7 +225,7 @@ impl FactStep for WithDeltas {
     ghost step = { deltas_step };
 
     fn take(&mut self, cells: &FactCells, number: u32) {
-        let entries = delta_entries(cells.start(number), &self.key, self.version);
+        let entries = read_deltas(cells.start(number), &self.key, self.version);
         self.note_all(entries);
     }
 }

@@ -15,6 +15,6 @@ loop-cursor-preserved c =
     let s = c.loop-cursor.deltas in
     let whole : c.loop-cursor.walk ≡ c.in-Some.cursor ∷ c.read.new.self =
     read-first c.loop-cursor.walk c.in-Some.cursor c.in-Some.ensures.first ∙ ap (λ ts. c.in-Some.cursor ∷ ts) (sym c.read.ensures.rest) in
-    ap (λ t. fold text_noted t c.read.new.self) (c.note_all.ensures ∙ ap (λ e. fold noted s (txs_of (left_in e))) c.delta_entries-entries.ensures)
+    ap (λ t. fold text_noted t c.read.new.self) (c.note_all.ensures ∙ ap (λ e. fold noted s (txs_of (left_in e))) c.read_deltas-entries.ensures)
     ∙ sym (ap (fold text_noted s) whole)
     ∙ c.loop-cursor.invariant

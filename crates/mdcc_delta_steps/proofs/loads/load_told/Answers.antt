@@ -14,6 +14,6 @@ loop-cursor-preserved g c =
     let whole : c.loop-cursor.walk ≡ c.in-Some.cursor ∷ older =
     read-first c.loop-cursor.walk c.in-Some.cursor c.in-Some.ensures.first ∙ ap (λ ts. c.in-Some.cursor ∷ ts) (sym c.read.ensures.rest) in
     ap (λ l. load_told seen void key version l older) (c.with_entries-load.ensures
-    ∙ ap (λ e. with_entries seen void key version older c.loop-cursor.load (left_in e)) c.live_entries-entries.ensures)
+    ∙ ap (λ e. with_entries seen void key version older c.loop-cursor.load (left_in e)) c.read_live-entries.ensures)
     ∙ sym (ap (load_told seen void key version c.loop-cursor.load) whole)
     ∙ c.loop-cursor.invariant

@@ -12,6 +12,6 @@ pub returns : goal.returns
 returns c = λ fact fits is.
     let s = c.args.self.now in
     c.note_all.ensures
-    ∙ ap (λ entries. fold noted s (txs_of (left_in entries))) (c.delta_entries-entries.ensures ∙ ap (opened_deltas s.key s.version) (c.start.ensures ∙ is))
+    ∙ ap (λ entries. fold noted s (txs_of (left_in entries))) (c.read_deltas-entries.ensures ∙ ap (opened_deltas s.key s.version) (c.start.ensures ∙ is))
     ∙ ap (λ entries. fold noted s (txs_of entries)) (deltas-are-read s.key s.version fact fits)
     ∙ ap (fold noted s) (txs-of-deltas (deltas_from s.key s.version fact))
