@@ -20,7 +20,7 @@ use Rattle.mdcc_fact_folds.proofs.Sorted.{well_formed-ordered}
 use Rattle.mdcc_fact_folds.proofs.Steps.{first-deltas}
 use Rattle.mdcc_delta_steps.specs.Chains.{AreOf}
 use Rattle.mdcc_delta_steps.specs.Entries.{deltas_read}
-use Rattle.mdcc_delta_steps.specs.Steps.{deltas_step, no_deltas, noted, text_noted}
+use Rattle.mdcc_delta_steps.specs.Steps.{deltas_step, no_deltas, noted, encoding_noted}
 use Rattle.mdcc_delta_steps.specs.declared.steps.WithDeltas.{WithDeltas}
 use Rattle.mdcc_delta_steps.proofs.FactsEntered.{deltas-are-read}
 use Rattle.mdcc_delta_steps.proofs.Noted.{txs-of-deltas}
@@ -32,18 +32,18 @@ noted-stays : (s : WithDeltas) (txs : List TxId) → s.crowded ≡ true → fold
 noted-stays s [] crowded = refl
 noted-stays s (tx ∷ txs) crowded = let same : noted s tx ≡ s = rw crowded refl in ap (λ t. fold noted t txs) same ∙ noted-stays s txs crowded
 
-pub crowded-stays : (s : WithDeltas) (texts : List (List ℕ)) → s.crowded ≡ true → fold text_noted s texts ≡ s
+pub crowded-stays : (s : WithDeltas) (texts : List (List ℕ)) → s.crowded ≡ true → fold encoding_noted s texts ≡ s
 crowded-stays s [] crowded = refl
 crowded-stays s (text ∷ texts) crowded =
-    ap (λ t. fold text_noted t texts) (noted-stays s (txs_of (deltas_read s.key s.version text)) crowded) ∙ crowded-stays s texts crowded
+    ap (λ t. fold encoding_noted t texts) (noted-stays s (txs_of (deltas_read s.key s.version text)) crowded) ∙ crowded-stays s texts crowded
 
 -- ---- encodings and facts
 
-steps-noted : (s : WithDeltas) (facts : List Fact) → AreWellFormed facts → fold text_noted s (map fact_bytes facts) ≡ fold deltas_step s facts
+steps-noted : (s : WithDeltas) (facts : List Fact) → AreWellFormed facts → fold encoding_noted s (map fact_bytes facts) ≡ fold deltas_step s facts
 steps-noted s [] fits = refl
 steps-noted s (fact ∷ facts) fits =
-    ap (λ es. fold text_noted (fold noted s (txs_of es)) (map fact_bytes facts)) (deltas-are-read s.key s.version fact fits.0)
-    ∙ ap (λ txs. fold text_noted (fold noted s txs) (map fact_bytes facts)) (txs-of-deltas (deltas_from s.key s.version fact))
+    ap (λ es. fold encoding_noted (fold noted s (txs_of es)) (map fact_bytes facts)) (deltas-are-read s.key s.version fact fits.0)
+    ∙ ap (λ txs. fold encoding_noted (fold noted s txs) (map fact_bytes facts)) (txs-of-deltas (deltas_from s.key s.version fact))
     ∙ steps-noted (deltas_step s fact) facts fits.1
 
 abbrev every : Fact → Bool
@@ -54,9 +54,9 @@ every-kept [] = refl
 every-kept (fact ∷ facts) = ap (λ fs. fact ∷ fs) (every-kept facts)
 
 pub crowded-chain : (key : Key) (version : ℕ) (texts : List (List ℕ)) (facts : List Fact) (fact : Fact) → AreOf texts facts
-    → (fold text_noted (deltas_step (no_deltas key version) fact) texts).crowded ≡ nat_lt 64 (length (next_executed facts key version fact))
+    → (fold encoding_noted (deltas_step (no_deltas key version) fact) texts).crowded ≡ nat_lt 64 (length (next_executed facts key version fact))
 crowded-chain key version texts facts fact of =
-    ap (λ ts. (fold text_noted (deltas_step (no_deltas key version) fact) ts).crowded) of.texts_are
+    ap (λ ts. (fold encoding_noted (deltas_step (no_deltas key version) fact) ts).crowded) of.encodings_are
     ∙ ap (λ s. s.crowded) (steps-noted (deltas_step (no_deltas key version) fact) facts of.well_formed)
     ∙ ap (λ fs. (fold deltas_step (no_deltas key version) fs).crowded) (sym (every-kept (fact ∷ facts)))
     ∙ crowded-by-deltas every key version (λ f is. refl) (fact ∷ facts)

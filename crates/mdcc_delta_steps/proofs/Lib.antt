@@ -1,7 +1,8 @@
-pub mod BasesTold
+pub mod BasesRead
 pub mod ChoicesEntered
 pub mod Crowded
 pub mod FactsEntered
+pub mod Found
 pub mod Heads
 pub mod MarksEntered
 pub mod Noted
@@ -9,6 +10,5 @@ pub mod PartsThere
 pub mod Passed
 pub mod Stepping
 pub mod Summed
-pub mod Told
 pub mod Walked
 pub mod WalksOn

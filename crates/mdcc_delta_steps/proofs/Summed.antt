@@ -14,14 +14,14 @@ use Rattle.mdcc_protocol.specs.declared.fit.Load.{Load}
 use Rattle.mdcc_escrow.specs.Weights.{with_live}
 use Rattle.mdcc_fact_cells.specs.Holding.{AreWellFormed}
 use Rattle.mdcc_fact_folds.specs.Live.{is_counted, is_live_by, load_steps}
-use Rattle.mdcc_delta_steps.specs.Chains.{AreOf, first_text, later_texts}
+use Rattle.mdcc_delta_steps.specs.Chains.{AreOf, first_encoding, later_encodings}
 use Rattle.mdcc_delta_steps.specs.Entries.{Entry, IsAtFirst, added_by, rest_in}
-use Rattle.mdcc_delta_steps.specs.Loads.{counts, load_told, with_added, with_entries}
-use Rattle.mdcc_delta_steps.specs.Steps.{live_told}
+use Rattle.mdcc_delta_steps.specs.Loads.{counts, load_over, with_added, with_entries}
+use Rattle.mdcc_delta_steps.specs.Steps.{has_live}
 use Rattle.mdcc_delta_steps.specs.declared.entries.Entries.{Entries}
 use Rattle.mdcc_delta_steps.proofs.FactsEntered.{live-is-read}
 use Rattle.mdcc_delta_steps.proofs.MarksEntered.{weighed}
-use Rattle.mdcc_delta_steps.proofs.Told.{live-is-told}
+use Rattle.mdcc_delta_steps.proofs.Found.{live-is-found}
 
 -- ---- what a reader and a walk come by
 
@@ -38,11 +38,11 @@ pub at-none : (es : List Entry) (e : Entries) → IsAtFirst es None e → es ≡
 at-none [] e is = refl
 at-none (first ∷ others) e is = let none : None ≡ Some first.0 = is.tx in absurd (cc)
 
-pub read-first : (texts : List (List ℕ)) (text : List ℕ) → Some text ≡ first_text texts → texts ≡ text ∷ later_texts texts
+pub read-first : (texts : List (List ℕ)) (text : List ℕ) → Some text ≡ first_encoding texts → texts ≡ text ∷ later_encodings texts
 read-first [] text is = absurd (cc)
 read-first (first ∷ texts) text is = let same : first ≡ text = cc in ap (λ t. t ∷ texts) same
 
-pub read-none : (texts : List (List ℕ)) → None ≡ first_text texts → texts ≡ []
+pub read-none : (texts : List (List ℕ)) → None ≡ first_encoding texts → texts ≡ []
 read-none [] is = refl
 read-none (first ∷ texts) is = absurd (cc)
 
@@ -94,23 +94,23 @@ folded seen told says same load (e ∷ es) =
     ]
 
 any-live : (key : Key) (version : ℕ) (tx : TxId) (facts : List Fact) → AreWellFormed facts
-    → list_any (live_told key version tx) (map fact_bytes facts) ≡ list_any (is_live_by key version tx) facts
+    → list_any (has_live key version tx) (map fact_bytes facts) ≡ list_any (is_live_by key version tx) facts
 any-live key version tx [] fits = refl
 any-live key version tx (fact ∷ facts) fits =
-    ap (λ b. b || list_any (live_told key version tx) (map fact_bytes facts)) (live-is-told key version tx fact fits.0)
+    ap (λ b. b || list_any (has_live key version tx) (map fact_bytes facts)) (live-is-found key version tx fact fits.0)
     ∙ ap (λ b. is_live_by key version tx fact || b) (any-live key version tx facts fits.1)
 
-steps-told : (seen : List TxId) (void : TxId → Bool) (key : Key) (version : ℕ) (load : Load) (facts : List Fact) → AreWellFormed facts
-    → load_told seen void key version load (map fact_bytes facts) ≡ load_steps seen void key version load facts
-steps-told seen void key version load [] fits = refl
-steps-told seen void key version load (fact ∷ older) fits =
-    ap (λ es. load_told seen void key version (with_entries seen void key version (map fact_bytes older) load es) (map fact_bytes older)) (live-is-read key version fact fits.0)
-    ∙ ap (λ l. load_told seen void key version l (map fact_bytes older))
+steps-summed : (seen : List TxId) (void : TxId → Bool) (key : Key) (version : ℕ) (load : Load) (facts : List Fact) → AreWellFormed facts
+    → load_over seen void key version load (map fact_bytes facts) ≡ load_steps seen void key version load facts
+steps-summed seen void key version load [] fits = refl
+steps-summed seen void key version load (fact ∷ older) fits =
+    ap (λ es. load_over seen void key version (with_entries seen void key version (map fact_bytes older) load es) (map fact_bytes older)) (live-is-read key version fact fits.0)
+    ∙ ap (λ l. load_over seen void key version l (map fact_bytes older))
     (folded seen (counts void key version (map fact_bytes older)) (is_counted void older key version)
     (λ tx. ap (λ b. not (void tx) && not b) (any-live key version tx older fits.1)) load (live_from key version fact))
-    ∙ steps-told seen void key version (fold (with_live seen) load (filter (λ e. is_counted void older key version e.0) (live_from key version fact))) older fits.1
+    ∙ steps-summed seen void key version (fold (with_live seen) load (filter (λ e. is_counted void older key version e.0) (live_from key version fact))) older fits.1
 
-pub load-is-told : (seen : List TxId) (void : TxId → Bool) (key : Key) (version : ℕ) (load : Load) (texts : List (List ℕ)) (facts : List Fact) → AreOf texts facts
-    → load_told seen void key version load texts ≡ load_steps seen void key version load facts
-load-is-told seen void key version load texts facts of =
-    ap (load_told seen void key version load) of.texts_are ∙ steps-told seen void key version load facts of.well_formed
+pub load-is-summed : (seen : List TxId) (void : TxId → Bool) (key : Key) (version : ℕ) (load : Load) (texts : List (List ℕ)) (facts : List Fact) → AreOf texts facts
+    → load_over seen void key version load texts ≡ load_steps seen void key version load facts
+load-is-summed seen void key version load texts facts of =
+    ap (load_over seen void key version load) of.encodings_are ∙ steps-summed seen void key version load facts of.well_formed

@@ -45,7 +45,7 @@ base_committed key version bytes = if byte_at 10 (head_of bytes) == 1 then writt
 abbrev pub base_adopted : Key → ℕ → List ℕ → Option Item
 base_adopted key version bytes = if is_instance_in key version (head_of bytes) 1 then item_in (drop (10 + byte_at 1 (head_of bytes)) bytes) else None
 
-abbrev pub base_told : Key → ℕ → List ℕ → Option Item
-base_told key version bytes =
+abbrev pub base_in : Key → ℕ → List ℕ → Option Item
+base_in key version bytes =
     if byte_at 0 bytes == 4 then base_committed key version bytes
     else (if byte_at 0 bytes == 5 then base_adopted key version bytes else None)

@@ -10,39 +10,39 @@ use Rattle.mdcc_fact_folds.specs.Entered.{found_by}
 use Rattle.mdcc_fact_folds.specs.IndexWalks.{keys_of}
 
 -- the encoding of the fact that is entered at an index
-abbrev pub text_at : List (List ℕ) → List ℕ → ℕ → List ℕ
-text_at encodings numbers index = get_or encodings (get_or numbers index 0) []
+abbrev pub encoding_at : List (List ℕ) → List ℕ → ℕ → List ℕ
+encoding_at encodings numbers index = get_or encodings (get_or numbers index 0) []
 
 -- those of a walk
-abbrev pub texts_of : List (List ℕ) → List (Key × ℕ) → List ℕ → Key × ℕ → List (List ℕ)
-texts_of encodings keys numbers instance = map (text_at encodings numbers) (walk (instance_eq instance) keys)
+abbrev pub encodings_walked : List (List ℕ) → List (Key × ℕ) → List ℕ → Key × ℕ → List (List ℕ)
+encodings_walked encodings keys numbers instance = map (encoding_at encodings numbers) (walk (instance_eq instance) keys)
 
 -- those of a walk from an index on, which is the one at which it stands
-abbrev pub texts_from : List (List ℕ) → List (Key × ℕ) → List ℕ → Key × ℕ → Option ℕ → List (List ℕ)
-texts_from encodings keys numbers instance None = []
-texts_from encodings keys numbers instance (Some index) = text_at encodings numbers index ∷ texts_of encodings (older index keys) numbers instance
+abbrev pub encodings_from : List (List ℕ) → List (Key × ℕ) → List ℕ → Key × ℕ → Option ℕ → List (List ℕ)
+encodings_from encodings keys numbers instance None = []
+encodings_from encodings keys numbers instance (Some index) = encoding_at encodings numbers index ∷ encodings_walked encodings (older index keys) numbers instance
 
 -- each entry of an index has the number of a fact
 pub record AreNumbered (encodings : List (List ℕ)) (keys : List (Key × ℕ)) (numbers : List ℕ) : Type 0 where
   pub alike : length numbers ≡ length keys
   pub below : (index : ℕ) → index < length numbers → get_or numbers index 0 < length encodings
 
-abbrev pub first_text : List (List ℕ) → Option (List ℕ)
-first_text [] = None
-first_text (text ∷ texts) = Some text
+abbrev pub first_encoding : List (List ℕ) → Option (List ℕ)
+first_encoding [] = None
+first_encoding (text ∷ texts) = Some text
 
-abbrev pub later_texts : List (List ℕ) → List (List ℕ)
-later_texts [] = []
-later_texts (text ∷ texts) = texts
+abbrev pub later_encodings : List (List ℕ) → List (List ℕ)
+later_encodings [] = []
+later_encodings (text ∷ texts) = texts
 
 -- these are the encodings of these facts
 pub record AreOf (texts : List (List ℕ)) (facts : List Fact) : Type 0 where
-  pub texts_are : texts ≡ map fact_bytes facts
+  pub encodings_are : texts ≡ map fact_bytes facts
   pub well_formed : AreWellFormed facts
 
 -- where the index has the keys of entries, and the numbers beside them stand at their indices, a walk comes by what is stored under the numbers that are found by the instance
-abbrev pub TextsAreFound : Type 0
-TextsAreFound =
+abbrev pub EncodingsAreFound : Type 0
+EncodingsAreFound =
     (encodings : List (List ℕ)) (entries : List ((Key × ℕ) × ℕ)) (numbers : List ℕ) (instance : Key × ℕ)
     → ((index : ℕ) (entry : (Key × ℕ) × ℕ) → entry_at entries index ≡ Some entry → get_or numbers index 0 ≡ entry.1)
-    → texts_of encodings (keys_of entries) numbers instance ≡ map (λ number. get_or encodings number []) (found_by (instance_eq instance) entries)
+    → encodings_walked encodings (keys_of entries) numbers instance ≡ map (λ number. get_or encodings number []) (found_by (instance_eq instance) entries)

@@ -8,7 +8,7 @@ use Rattle.mdcc_option.specs.declared.items.Update.{Update}
 use Rattle.mdcc_protocol.specs.declared.fit.Load.{Load}
 use Rattle.mdcc_escrow.specs.Weights.{with_live}
 use Rattle.mdcc_delta_steps.specs.Entries.{Amounts, Entry, live_read}
-use Rattle.mdcc_delta_steps.specs.Steps.{live_told}
+use Rattle.mdcc_delta_steps.specs.Steps.{has_live}
 
 abbrev pub no_item : Item
 no_item = record { body = []; values = [] }
@@ -24,12 +24,12 @@ with_added seen load e = with_live seen load (e.0, update_as e.1)
 
 -- whether a transaction counts before these older encodings
 abbrev pub counts : (TxId → Bool) → Key → ℕ → List (List ℕ) → TxId → Bool
-counts void key version older tx = not (void tx) && not (list_any (live_told key version tx) older)
+counts void key version older tx = not (void tx) && not (list_any (has_live key version tx) older)
 
 -- the load with those of a fact's entries that count
 abbrev pub with_entries : List TxId → (TxId → Bool) → Key → ℕ → List (List ℕ) → Load → List Entry → Load
 with_entries seen void key version older load entries = fold (with_added seen) load (filter (λ e. counts void key version older e.0) entries)
 
-abbrev pub load_told : List TxId → (TxId → Bool) → Key → ℕ → Load → List (List ℕ) → Load
-load_told seen void key version load [] = load
-load_told seen void key version load (text ∷ older) = load_told seen void key version (with_entries seen void key version older load (live_read key version text)) older
+abbrev pub load_over : List TxId → (TxId → Bool) → Key → ℕ → Load → List (List ℕ) → Load
+load_over seen void key version load [] = load
+load_over seen void key version load (text ∷ older) = load_over seen void key version (with_entries seen void key version older load (live_read key version text)) older

@@ -37,15 +37,15 @@ abbrev pub deltas_step : WithDeltas → Fact → WithDeltas
 deltas_step s fact = fold noted s (txs_of (deltas_from s.key s.version fact))
 
 -- with the deltas of an encoding
-abbrev pub text_noted : WithDeltas → List ℕ → WithDeltas
-text_noted s text = fold noted s (txs_of (deltas_read s.key s.version text))
+abbrev pub encoding_noted : WithDeltas → List ℕ → WithDeltas
+encoding_noted s text = fold noted s (txs_of (deltas_read s.key s.version text))
 
 abbrev pub no_deltas : Key → ℕ → WithDeltas
 no_deltas key version = record { key = key; version = version; seen = []; crowded = false }
 
 -- ---- what is read
 
--- the fact that is encoded tells how another transaction ended
+-- the fact that is encoded says how another transaction ended
 abbrev pub is_of_other : TxId → List ℕ → Bool
 is_of_other tx bytes = byte_at 0 (head_of bytes) == 4 && not (tx_eq (tx_in (head_of bytes) 1) tx)
 
@@ -58,14 +58,14 @@ abbrev pub value_in : TxId → List Entry → Option Amounts
 value_in tx entries = joined (value_of entries tx)
 
 -- whether a fact brings a delta of a transaction, by its encoding
-abbrev pub delta_told : Key → ℕ → TxId → List ℕ → Bool
-delta_told key version tx bytes = not (is_of_other tx bytes) && is_some (value_of (deltas_read key version bytes) tx)
+abbrev pub has_delta : Key → ℕ → TxId → List ℕ → Bool
+has_delta key version tx bytes = not (is_of_other tx bytes) && is_some (value_of (deltas_read key version bytes) tx)
 
-abbrev pub live_told : Key → ℕ → TxId → List ℕ → Bool
-live_told key version tx bytes = not (is_of_other tx bytes) && is_some (value_of (live_read key version bytes) tx)
+abbrev pub has_live : Key → ℕ → TxId → List ℕ → Bool
+has_live key version tx bytes = not (is_of_other tx bytes) && is_some (value_of (live_read key version bytes) tx)
 
-abbrev pub amounts_told : Key → ℕ → TxId → List ℕ → Option Amounts
-amounts_told key version tx bytes = if is_of_other tx bytes then None else value_in tx (deltas_read key version bytes)
+abbrev pub amounts_of : Key → ℕ → TxId → List ℕ → Option Amounts
+amounts_of key version tx bytes = if is_of_other tx bytes then None else value_in tx (deltas_read key version bytes)
 
 -- ---- what walks know at their end
 

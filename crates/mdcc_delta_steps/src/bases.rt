@@ -6,7 +6,7 @@ ghost use Rattle.mdcc_messages.specs.declared.facts.Fact.{Fact as AFact};
 ghost use Rattle.mdcc_protocol.specs.Facts.{base_from};
 ghost use Rattle.mdcc_option.specs.OneCopy.{next_version};
 ghost use Rattle.mdcc_delta_steps.specs.Entries.{update_of};
-ghost use Rattle.mdcc_delta_steps.specs.Bases.{base_adopted, base_committed, base_told, is_before_in, is_write_of, item_in, written_in};
+ghost use Rattle.mdcc_delta_steps.specs.Bases.{base_adopted, base_committed, base_in, is_before_in, is_write_of, item_in, written_in};
 
 use crate::parts::is_instance_in;
 use crate::passing::{HEAD, byte_in, first_byte, pass_rest, peeked};
@@ -105,8 +105,8 @@ fn base_adopted<'a>(cursor: Cursor<'a>, key: &Key, version: u64) -> Option<Item>
 }
 
 // By the fact at whose beginning a cursor stands.
-fn base_told<'a>(cursor: Cursor<'a>, key: &Key, version: u64) -> Option<Item>
-    ensures { result ≡ base_told key.now version cursor.entry }
+fn base_in<'a>(cursor: Cursor<'a>, key: &Key, version: u64) -> Option<Item>
+    ensures { result ≡ base_in key.now version cursor.entry }
 {
     match first_byte(&cursor) {
         4 => base_committed(cursor, key, version),
@@ -120,5 +120,5 @@ pub fn item_at(cells: &FactCells, number: u32, key: &Key, version: u64) -> Optio
     requires { number < length cells.now.encodings }
     ensures { (fact : AFact) → IsWellFormedFact fact → get_or cells.now.encodings number [] ≡ fact_bytes fact → result ≡ base_from key.now version fact }
 {
-    base_told(cells.start(number), key, version)
+    base_in(cells.start(number), key, version)
 }

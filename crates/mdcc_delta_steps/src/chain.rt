@@ -1,6 +1,6 @@
 //! A walk over the facts of an instance.
 ghost use Rattle.std.specs.Prelude.{◌≡◌};
-ghost use Rattle.mdcc_delta_steps.specs.Chains.{AreNumbered, first_text, later_texts, texts_of};
+ghost use Rattle.mdcc_delta_steps.specs.Chains.{AreNumbered, first_encoding, later_encodings, encodings_walked};
 
 use mdcc_base::Key;
 use mdcc_chains::InstanceIndex;
@@ -25,9 +25,9 @@ impl<'a> Model for InstanceWalk<'a> {
     ghost Value = { List (List ℕ) };
 
     ghost use Rattle.std.specs.Prelude.{◌<◌, IfSome, length};
-    ghost use Rattle.mdcc_delta_steps.specs.Chains.{AreNumbered, texts_from};
+    ghost use Rattle.mdcc_delta_steps.specs.Chains.{AreNumbered, encodings_from};
 
-    ghost view = { λ w. texts_from w.cells.now.encodings w.index.now.keys w.numbers.now w.instance.now w.at };
+    ghost view = { λ w. encodings_from w.cells.now.encodings w.index.now.keys w.numbers.now w.instance.now w.at };
 
     ghost invariant = { λ w. AreNumbered w.cells.now.encodings w.index.now.keys w.numbers.now × IfSome w.at (λ index. index < length w.index.now.keys) };
 }
@@ -41,7 +41,7 @@ impl<'a> InstanceWalk<'a> {
         instance: &'a (Key, u64),
     ) -> InstanceWalk<'a>
         requires { AreNumbered cells.now.encodings index.now.keys numbers.now }
-        ensures { result ≡ texts_of cells.now.encodings index.now.keys numbers.now instance.now }
+        ensures { result ≡ encodings_walked cells.now.encodings index.now.keys numbers.now instance.now }
     {
         InstanceWalk {
             cells,
@@ -67,8 +67,8 @@ impl<'a> InstanceWalk<'a> {
 
     /// A cursor at the beginning of the next fact, which is passed.
     pub fn read(&mut self) -> Option<Cursor<'a>>
-        ensures first { result ≡ first_text self.old }
-        ensures rest { self.new ≡ later_texts self.old }
+        ensures first { result ≡ first_encoding self.old }
+        ensures rest { self.new ≡ later_encodings self.old }
     {
         match self.at {
             Some(index) => {

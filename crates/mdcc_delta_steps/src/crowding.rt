@@ -7,7 +7,7 @@ ghost use Rattle.mdcc_struct.specs.Maps.{txs_of};
 ghost use Rattle.mdcc_fact_folds.specs.Held.{deltas_steps, next_executed};
 ghost use Rattle.mdcc_fact_folds.specs.Live.{is_ordered};
 ghost use Rattle.mdcc_delta_steps.specs.Chains.{AreOf};
-ghost use Rattle.mdcc_delta_steps.specs.Steps.{deltas_step, no_deltas, noted, text_noted};
+ghost use Rattle.mdcc_delta_steps.specs.Steps.{deltas_step, no_deltas, noted, encoding_noted};
 
 use crate::entries::read_deltas;
 use crate::{InstanceWalk, WithDeltas};
@@ -65,7 +65,7 @@ impl WithDeltas {
 
 // Puts those of the facts of a walk, until they are crowded.
 fn note_walk<'a>(deltas: &mut WithDeltas, walk: InstanceWalk<'a>)
-    ensures { deltas.new ≡ fold text_noted deltas.old walk.entry }
+    ensures { deltas.new ≡ fold encoding_noted deltas.old walk.entry }
 {
     let mut walk = walk;
     while let Some(cursor) = walk.read() {

@@ -7,12 +7,12 @@ ghost use Rattle.mdcc_fact_folds.specs.Live.{load_steps};
 ghost use Rattle.mdcc_messages.specs.declared.facts.Fact.{Fact as AFact};
 ghost use Rattle.mdcc_delta_steps.specs.Chains.{AreOf};
 ghost use Rattle.mdcc_delta_steps.specs.Entries.{left_in};
-ghost use Rattle.mdcc_delta_steps.specs.Loads.{counts, load_told, no_item, with_added, with_entries};
-ghost use Rattle.mdcc_delta_steps.specs.Steps.{live_told};
+ghost use Rattle.mdcc_delta_steps.specs.Loads.{counts, load_over, no_item, with_added, with_entries};
+ghost use Rattle.mdcc_delta_steps.specs.Steps.{has_live};
 
 use crate::InstanceWalk;
 use crate::entries::{Entries, read_live};
-use crate::steps::tells_live;
+use crate::steps::has_live;
 use mdcc_base::{BoundedList, Key, TxId};
 use mdcc_escrow::{NO_LOAD, with_live};
 use mdcc_option::{Amounts, Item, Update};
@@ -53,11 +53,11 @@ fn with_added(seen: &[TxId], load: &Load, tx: TxId, added: Option<Amounts>) -> L
 
 // Whether one of these facts makes the transaction live.
 fn is_live_in<'a>(walk: InstanceWalk<'a>, instance: &(Key, u64), tx: &TxId) -> bool
-    ensures { result ≡ list_any (live_told instance.now.0 instance.now.1 tx.now) walk.entry }
+    ensures { result ≡ list_any (has_live instance.now.0 instance.now.1 tx.now) walk.entry }
 {
     let mut walk = walk;
     while let Some(cursor) = walk.read() {
-        if tells_live(cursor, &instance.0, instance.1, tx) {
+        if has_live(cursor, &instance.0, instance.1, tx) {
             return true;
         }
     }
@@ -94,13 +94,13 @@ fn with_entries<'a, V: VoidTest>(
 }
 
 // What is live by the facts of a walk.
-fn load_told<'a, V: VoidTest>(
+fn load_over<'a, V: VoidTest>(
     walk: InstanceWalk<'a>,
     instance: &(Key, u64),
     seen: &[TxId],
     void: &V,
 ) -> Load
-    ensures { result ≡ load_told seen.now (V.void void.now) instance.now.0 instance.now.1 no_load walk.entry }
+    ensures { result ≡ load_over seen.now (V.void void.now) instance.now.0 instance.now.1 no_load walk.entry }
 {
     let mut walk = walk;
     let mut load = NO_LOAD;
@@ -120,5 +120,5 @@ pub fn load<'a, V: VoidTest>(
 ) -> Load
     ensures { (facts : List AFact) → AreOf walk.entry facts → result ≡ load_steps seen.now (V.void void.now) instance.now.0 instance.now.1 no_load facts }
 {
-    load_told(walk, instance, seen, void)
+    load_over(walk, instance, seen, void)
 }

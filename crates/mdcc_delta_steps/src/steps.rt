@@ -7,7 +7,7 @@ ghost use Rattle.mdcc_protocol.specs.Fit.{has_tx};
 ghost use Rattle.mdcc_struct.specs.Maps.{txs_of, value_of};
 ghost use Rattle.mdcc_delta_steps.specs.Entries.{left_in, tx_in};
 ghost use Rattle.mdcc_delta_steps.specs.Passing.{byte_at};
-ghost use Rattle.mdcc_delta_steps.specs.Steps.{amounts_step, amounts_told, delta_step, delta_told, deltas_step, live_step, live_told, no_deltas, noted, value_in};
+ghost use Rattle.mdcc_delta_steps.specs.Steps.{amounts_step, amounts_of, delta_step, has_delta, deltas_step, live_step, has_live, no_deltas, noted, value_in};
 
 use crate::entries::{Entries, delta_entries, live_entries, read_deltas};
 use crate::parts::tx_in;
@@ -54,7 +54,7 @@ pub struct WithDeltas {
     pub crowded: bool,
 }
 
-// Whether the fact with this head tells how another transaction ended.
+// Whether the fact with this head says how another transaction ended.
 fn is_of_other(head: &[u8], tx: &TxId) -> bool
     ensures { result ≡ (byte_at 0 head.now == 4 && not (tx_eq (tx_in head.now 1) tx.now)) }
 {
@@ -91,8 +91,8 @@ fn value_in<'a>(entries: Entries<'a>, tx: &TxId) -> Option<Amounts>
 
 /// Whether the fact at whose beginning a cursor stands brings a delta of the transaction into a version
 /// of a key.
-pub(crate) fn tells_delta<'a>(cursor: Cursor<'a>, key: &Key, version: u64, tx: &TxId) -> bool
-    ensures { result ≡ delta_told key.now version tx.now cursor.entry }
+pub(crate) fn has_delta<'a>(cursor: Cursor<'a>, key: &Key, version: u64, tx: &TxId) -> bool
+    ensures { result ≡ has_delta key.now version tx.now cursor.entry }
 {
     let mut window = [0u8; HEAD];
     let head = peeked(&cursor, window.as_mut_slice());
@@ -100,8 +100,8 @@ pub(crate) fn tells_delta<'a>(cursor: Cursor<'a>, key: &Key, version: u64, tx: &
 }
 
 /// Whether it makes the transaction live there.
-pub(crate) fn tells_live<'a>(cursor: Cursor<'a>, key: &Key, version: u64, tx: &TxId) -> bool
-    ensures { result ≡ live_told key.now version tx.now cursor.entry }
+pub(crate) fn has_live<'a>(cursor: Cursor<'a>, key: &Key, version: u64, tx: &TxId) -> bool
+    ensures { result ≡ has_live key.now version tx.now cursor.entry }
 {
     let mut window = [0u8; HEAD];
     let head = peeked(&cursor, window.as_mut_slice());
@@ -109,8 +109,8 @@ pub(crate) fn tells_live<'a>(cursor: Cursor<'a>, key: &Key, version: u64, tx: &T
 }
 
 // The amounts of the transaction's delta there.
-fn amounts_told<'a>(cursor: Cursor<'a>, key: &Key, version: u64, tx: &TxId) -> Option<Amounts>
-    ensures { result ≡ amounts_told key.now version tx.now cursor.entry }
+fn amounts_of<'a>(cursor: Cursor<'a>, key: &Key, version: u64, tx: &TxId) -> Option<Amounts>
+    ensures { result ≡ amounts_of key.now version tx.now cursor.entry }
 {
     let mut window = [0u8; HEAD];
     let head = peeked(&cursor, window.as_mut_slice());
@@ -153,7 +153,7 @@ impl FactStep for IsDelta {
     fn take(&mut self, cells: &FactCells, number: u32) {
         if !self.found {
             let cursor = cells.start(number);
-            self.found = tells_delta(cursor, &self.key, self.version, &self.tx);
+            self.found = has_delta(cursor, &self.key, self.version, &self.tx);
         }
     }
 }
@@ -164,7 +164,7 @@ impl FactStep for IsLive {
     fn take(&mut self, cells: &FactCells, number: u32) {
         if !self.found {
             let cursor = cells.start(number);
-            self.found = tells_live(cursor, &self.key, self.version, &self.tx);
+            self.found = has_live(cursor, &self.key, self.version, &self.tx);
         }
     }
 }
@@ -174,7 +174,7 @@ impl FactStep for OlderAmounts {
 
     fn take(&mut self, cells: &FactCells, number: u32) {
         let cursor = cells.start(number);
-        let older = amounts_told(cursor, &self.key, self.version, &self.tx);
+        let older = amounts_of(cursor, &self.key, self.version, &self.tx);
         if older.is_some() {
             self.found = older;
         }

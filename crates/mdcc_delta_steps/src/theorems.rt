@@ -1,5 +1,5 @@
 //! What a walk over a chain of facts knows at its end by these steps.
-ghost use Rattle.mdcc_delta_steps.specs.Chains.{TextsAreFound};
+ghost use Rattle.mdcc_delta_steps.specs.Chains.{EncodingsAreFound};
 ghost use Rattle.mdcc_delta_steps.specs.Steps.{AmountsAreFolded, CrowdedByDeltas, DeltaIsAny, ExecutedAreNoted, LiveIsAny};
 
 /// The transactions of the executed deltas, where they are at most 64; and whether there are more.
@@ -17,6 +17,6 @@ pub fn steps_are_folded()
 {}
 
 /// A walk comes by the facts whose numbers are found under its instance.
-pub fn texts_are_found()
-    ensures { TextsAreFound }
+pub fn encodings_are_found()
+    ensures { EncodingsAreFound }
 {}

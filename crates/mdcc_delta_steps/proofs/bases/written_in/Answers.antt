@@ -1,7 +1,7 @@
 use Rattle.std.proofs.Common.{◌+◌, ◌-◌, ℕ, suc, zero, ap, arith, sym, ◌∙◌, drop}
 use Rattle.mdcc_delta_steps.specs.Passing.{past_update}
 use Rattle.mdcc_delta_steps.specs.Bases.{item_in, written_in}
-use Rattle.mdcc_delta_steps.proofs.BasesTold.{written-pass, written-write}
+use Rattle.mdcc_delta_steps.proofs.BasesRead.{written-pass, written-write}
 use Rattle.mdcc_delta_steps.proofs.bases.written_in.Goals as goal
 
 pub returns-then-enter_write : goal.returns-then-enter_write

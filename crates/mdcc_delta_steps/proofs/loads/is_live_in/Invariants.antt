@@ -1,10 +1,10 @@
 use Rattle.std.proofs.Common.{◌≡◌, length}
 use Rattle.std.specs.List.{list_any}
-use Rattle.mdcc_delta_steps.specs.Steps.{live_told}
+use Rattle.mdcc_delta_steps.specs.Steps.{has_live}
 use Rattle.mdcc_delta_steps.proofs.loads.is_live_in.Given as goal
 
 abbrev pub invariant-loop-cursor : goal.invariant-loop-cursor
-invariant-loop-cursor l = list_any (live_told l.instance.0 l.instance.1 l.tx) l.walk ≡ list_any (live_told l.instance.0 l.instance.1 l.tx) l.initial.walk
+invariant-loop-cursor l = list_any (has_live l.instance.0 l.instance.1 l.tx) l.walk ≡ list_any (has_live l.instance.0 l.instance.1 l.tx) l.initial.walk
 
 abbrev pub decreases-loop-cursor : goal.decreases-loop-cursor
 decreases-loop-cursor l = length l.walk

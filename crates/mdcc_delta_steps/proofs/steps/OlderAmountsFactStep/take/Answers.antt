@@ -1,7 +1,7 @@
 use Rattle.std.proofs.Common.{ap, sym, ◌∙◌}
 use Rattle.std.specs.Option.{option_or}
-use Rattle.mdcc_delta_steps.specs.Steps.{amounts_told}
-use Rattle.mdcc_delta_steps.proofs.Told.{amounts-are-told}
+use Rattle.mdcc_delta_steps.specs.Steps.{amounts_of}
+use Rattle.mdcc_delta_steps.proofs.Found.{amounts-are-found}
 use Rattle.mdcc_delta_steps.proofs.Noted.{older-none, older-some}
 use Rattle.mdcc_delta_steps.proofs.steps.OlderAmountsFactStep.take.Goals as goal
 
@@ -9,12 +9,12 @@ pub returns-then-is_some : goal.returns-then-is_some
 returns-then-is_some c = λ fact fits is.
     let s = c.args.self.now in
     ap (λ found. record s { found = found })
-    (older-some c.amounts_told-older.result s.found (sym c.is_some.ensures ∙ c.if-is_some.true)
-    ∙ ap (λ older. option_or older s.found) (c.amounts_told-older.ensures ∙ ap (amounts_told s.key s.version s.tx) (c.start-cursor.ensures ∙ is) ∙ amounts-are-told s.key s.version s.tx fact fits))
+    (older-some c.amounts_of-older.result s.found (sym c.is_some.ensures ∙ c.if-is_some.true)
+    ∙ ap (λ older. option_or older s.found) (c.amounts_of-older.ensures ∙ ap (amounts_of s.key s.version s.tx) (c.start-cursor.ensures ∙ is) ∙ amounts-are-found s.key s.version s.tx fact fits))
 
 pub returns-else-is_some : goal.returns-else-is_some
 returns-else-is_some c = λ fact fits is.
     let s = c.args.self.now in
     ap (λ found. record s { found = found })
-    (older-none c.amounts_told-older.result s.found (sym c.is_some.ensures ∙ c.if-is_some.false)
-    ∙ ap (λ older. option_or older s.found) (c.amounts_told-older.ensures ∙ ap (amounts_told s.key s.version s.tx) (c.start-cursor.ensures ∙ is) ∙ amounts-are-told s.key s.version s.tx fact fits))
+    (older-none c.amounts_of-older.result s.found (sym c.is_some.ensures ∙ c.if-is_some.false)
+    ∙ ap (λ older. option_or older s.found) (c.amounts_of-older.ensures ∙ ap (amounts_of s.key s.version s.tx) (c.start-cursor.ensures ∙ is) ∙ amounts-are-found s.key s.version s.tx fact fits))

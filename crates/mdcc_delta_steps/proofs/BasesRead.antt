@@ -25,7 +25,7 @@ use Rattle.mdcc_spelling.proofs.Items.{item_again}
 use Rattle.mdcc_spelling.proofs.Common.{instance_again}
 use Rattle.mdcc_spelling.proofs.Whole.{at_front}
 use Rattle.mdcc_delta_steps.specs.Passing.{byte_at, head_of, past_update}
-use Rattle.mdcc_delta_steps.specs.Bases.{base_adopted, base_committed, base_told, gives_version, is_before_in, is_write_of, item_in, item_read, written_in}
+use Rattle.mdcc_delta_steps.specs.Bases.{base_adopted, base_committed, base_in, gives_version, is_before_in, is_write_of, item_in, item_read, written_in}
 use Rattle.mdcc_delta_steps.specs.Entries.{update_of}
 use Rattle.mdcc_delta_steps.proofs.Heads.{in-head, in-window}
 use Rattle.mdcc_delta_steps.proofs.Passed.{passed, wide}
@@ -141,9 +141,9 @@ adopted-base at_key at_version key version item adds fits =
 
 -- ---- facts
 
-pub base-is-told : (key : Key) (version : ℕ) (fact : Fact) → IsWellFormedFact fact → base_told key version (fact_bytes fact) ≡ base_from key version fact
-base-is-told key version (Fact.Booted epoch) fits = refl
-base-is-told key version (Fact.Promised other low high ballot) fits = refl
-base-is-told key version (Fact.Voted other at ballot options offered) fits = refl
-base-is-told key version (Fact.Heard tx outcome) fits = heard-base key version tx outcome fits
-base-is-told key version (Fact.Adopted other at item adds) fits = adopted-base key version other at item adds fits
+pub base-is-read : (key : Key) (version : ℕ) (fact : Fact) → IsWellFormedFact fact → base_in key version (fact_bytes fact) ≡ base_from key version fact
+base-is-read key version (Fact.Booted epoch) fits = refl
+base-is-read key version (Fact.Promised other low high ballot) fits = refl
+base-is-read key version (Fact.Voted other at ballot options offered) fits = refl
+base-is-read key version (Fact.Heard tx outcome) fits = heard-base key version tx outcome fits
+base-is-read key version (Fact.Adopted other at item adds) fits = adopted-base key version other at item adds fits

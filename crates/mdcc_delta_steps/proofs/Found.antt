@@ -25,7 +25,7 @@ use Rattle.mdcc_fact_folds.specs.Held.{is_delta_by}
 use Rattle.mdcc_fact_folds.specs.Live.{is_live_by}
 use Rattle.mdcc_delta_steps.specs.Passing.{head_of}
 use Rattle.mdcc_delta_steps.specs.Entries.{deltas_read, live_read, tx_in}
-use Rattle.mdcc_delta_steps.specs.Steps.{amounts_told, delta_told, is_of_other, joined, live_told, value_in}
+use Rattle.mdcc_delta_steps.specs.Steps.{amounts_of, has_delta, is_of_other, joined, has_live, value_in}
 use Rattle.mdcc_delta_steps.proofs.PartsThere.{tx-there}
 use Rattle.mdcc_delta_steps.proofs.ChoicesEntered.{delta_entry}
 use Rattle.mdcc_delta_steps.proofs.MarksEntered.{weighed}
@@ -127,24 +127,24 @@ not-live-of-other key version tx (Fact.Adopted of_key at item adds) fits other =
 
 -- ---- what is told
 
-told-unless : (other found says : Bool) → found ≡ says → (other ≡ true → says ≡ false) → (not other && found) ≡ says
-told-unless true found says is none = sym (none refl)
-told-unless false found says is none = is
+found-unless : (other found says : Bool) → found ≡ says → (other ≡ true → says ≡ false) → (not other && found) ≡ says
+found-unless true found says is none = sym (none refl)
+found-unless false found says is none = is
 
-pub delta-is-told : (key : Key) (version : ℕ) (tx : TxId) (fact : Fact) → IsWellFormedFact fact → delta_told key version tx (fact_bytes fact) ≡ is_delta_by key version tx fact
-delta-is-told key version tx fact fits =
-    told-unless (is_of_other tx (fact_bytes fact)) (is_some (value_of (deltas_read key version (fact_bytes fact)) tx)) (is_delta_by key version tx fact)
+pub delta-is-found : (key : Key) (version : ℕ) (tx : TxId) (fact : Fact) → IsWellFormedFact fact → has_delta key version tx (fact_bytes fact) ≡ is_delta_by key version tx fact
+delta-is-found key version tx fact fits =
+    found-unless (is_of_other tx (fact_bytes fact)) (is_some (value_of (deltas_read key version (fact_bytes fact)) tx)) (is_delta_by key version tx fact)
     (ap (λ es. is_some (value_of es tx)) (deltas-are-read key version fact fits) ∙ has-deltas (deltas_from key version fact) tx)
     (λ other. ap is_some (none-of-other key version tx fact fits other))
 
-pub live-is-told : (key : Key) (version : ℕ) (tx : TxId) (fact : Fact) → IsWellFormedFact fact → live_told key version tx (fact_bytes fact) ≡ is_live_by key version tx fact
-live-is-told key version tx fact fits =
-    told-unless (is_of_other tx (fact_bytes fact)) (is_some (value_of (live_read key version (fact_bytes fact)) tx)) (is_live_by key version tx fact)
+pub live-is-found : (key : Key) (version : ℕ) (tx : TxId) (fact : Fact) → IsWellFormedFact fact → has_live key version tx (fact_bytes fact) ≡ is_live_by key version tx fact
+live-is-found key version tx fact fits =
+    found-unless (is_of_other tx (fact_bytes fact)) (is_some (value_of (live_read key version (fact_bytes fact)) tx)) (is_live_by key version tx fact)
     (ap (λ es. is_some (value_of es tx)) (live-is-read key version fact fits) ∙ has-weighed (live_from key version fact) tx)
     (λ other. not-live-of-other key version tx fact fits other)
 
-pub amounts-are-told : (key : Key) (version : ℕ) (tx : TxId) (fact : Fact) → IsWellFormedFact fact → amounts_told key version tx (fact_bytes fact) ≡ value_of (deltas_from key version fact) tx
-amounts-are-told key version tx fact fits = by_other (is_of_other tx (fact_bytes fact)) refl
+pub amounts-are-found : (key : Key) (version : ℕ) (tx : TxId) (fact : Fact) → IsWellFormedFact fact → amounts_of key version tx (fact_bytes fact) ≡ value_of (deltas_from key version fact) tx
+amounts-are-found key version tx fact fits = by_other (is_of_other tx (fact_bytes fact)) refl
   where
     by_other : (other : Bool) → is_of_other tx (fact_bytes fact) ≡ other
         → cond other None (value_in tx (deltas_read key version (fact_bytes fact))) ≡ value_of (deltas_from key version fact) tx

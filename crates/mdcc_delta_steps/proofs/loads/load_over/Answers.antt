@@ -1,8 +1,8 @@
 use Rattle.std.proofs.Common.{◌≡◌, ◌∷◌, ap, sym, ◌∙◌}
 use Rattle.mdcc_delta_steps.specs.Entries.{left_in}
-use Rattle.mdcc_delta_steps.specs.Loads.{load_told, with_entries}
+use Rattle.mdcc_delta_steps.specs.Loads.{load_over, with_entries}
 use Rattle.mdcc_delta_steps.proofs.Summed.{read-first}
-use Rattle.mdcc_delta_steps.proofs.loads.load_told.Goals as goal
+use Rattle.mdcc_delta_steps.proofs.loads.load_over.Goals as goal
 
 pub loop-cursor-preserved : goal.loop-cursor-preserved
 loop-cursor-preserved g c =
@@ -13,7 +13,7 @@ loop-cursor-preserved g c =
     let older = c.read.new.self in
     let whole : c.loop-cursor.walk ≡ c.in-Some.cursor ∷ older =
     read-first c.loop-cursor.walk c.in-Some.cursor c.in-Some.ensures.first ∙ ap (λ ts. c.in-Some.cursor ∷ ts) (sym c.read.ensures.rest) in
-    ap (λ l. load_told seen void key version l older) (c.with_entries-load.ensures
+    ap (λ l. load_over seen void key version l older) (c.with_entries-load.ensures
     ∙ ap (λ e. with_entries seen void key version older c.loop-cursor.load (left_in e)) c.read_live-entries.ensures)
-    ∙ sym (ap (load_told seen void key version c.loop-cursor.load) whole)
+    ∙ sym (ap (load_over seen void key version c.loop-cursor.load) whole)
     ∙ c.loop-cursor.invariant
