@@ -159,8 +159,8 @@ impl GatheredMarks {
         }
     }
 
-    /// Adds the marks that the fact of a number votes in the instance at a ballot. Of facts that have a
-    /// mark of one transaction each, that of the last one added counts.
+    /// Adds the marks that the fact of a number votes in the instance at a ballot. After an error there
+    /// may be some of them.
     pub fn gather(
         &mut self,
         cells: &FactCells,
@@ -210,8 +210,8 @@ impl GatheredMarks {
         Ok(())
     }
 
-    /// The oldest mark of each transaction, where the newest was gathered first. They are put in order
-    /// first, so that each is added after the others.
+    /// The oldest mark of each transaction, where the newest fact was gathered first. The marks are put
+    /// in order before, so that each is added after the others.
     pub fn joined(&self, alloc: Global) -> Result<Options, Memory>
         ensures { IfOk result (λ votes. votes ≡ oldest_marks self.now) }
     {

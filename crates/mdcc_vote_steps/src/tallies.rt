@@ -34,7 +34,8 @@ pub struct LeastAbove {
     pub found: Option<TxId>,
 }
 
-/// How many marks so far accept and how many reject in an instance at the fast ballot.
+/// How many marks so far accept and how many reject in an instance at the fast ballot. Each count
+/// stops at 2^32 - 1.
 #[derive(Drop)]
 pub struct WithEntries {
     pub key: Key,
@@ -43,8 +44,8 @@ pub struct WithEntries {
     pub rejects: u32,
 }
 
-/// How many transactions of a structure have marks so far in an instance at a ballot, one for each
-/// fact.
+/// How many marks so far in an instance at a ballot are of transactions of a structure. The count
+/// stops at 2^64 - 1.
 #[derive(Drop)]
 pub struct WithCount<'a> {
     pub key: Key,
