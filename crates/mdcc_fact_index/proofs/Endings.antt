@@ -13,7 +13,7 @@ use Rattle.mdcc_messages.specs.SpelledParts.{heard_bytes}
 use Rattle.mdcc_messages.specs.Spelling.{fact_bytes}
 use Rattle.mdcc_messages.specs.WellFormed.{IsWellFormedFact}
 use Rattle.mdcc_messages.specs.declared.facts.Fact.{Fact}
-use Rattle.mdcc_protocol.specs.Facts.{epoch_of, heard_of, is_heard, outcome_in}
+use Rattle.mdcc_protocol.specs.Facts.{heard_of, is_heard, outcome_in}
 use Rattle.mdcc_protocol.specs.Marks.{is_commit}
 use Rattle.mdcc_protocol.specs.Stores.{ended_of}
 use Rattle.mdcc_spelling.proofs.Common.{heard_again}

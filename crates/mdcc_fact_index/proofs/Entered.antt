@@ -21,7 +21,8 @@ use Rattle.mdcc_fact_folds.specs.Entered.{entered, found_by, instances_in, is_in
 use Rattle.mdcc_fact_folds.specs.Live.{is_ordered}
 use Rattle.mdcc_fact_folds.proofs.Found.{found-chain, instance-found}
 use Rattle.mdcc_fact_folds.proofs.Sorted.{well_formed-ordered}
-use Rattle.mdcc_fact_index.specs.Entries.{entries_in, entries_of}
+use Rattle.mdcc_fact_index.specs.Entries.{AreBelow, entries_in, entries_of}
+use Rattle.mdcc_fact_index.proofs.Beside.{below-append, below-more, below-one}
 
 -- ---- facts by their numbers
 
@@ -137,7 +138,7 @@ all-ordered : (facts : List Fact) → AreWellFormed facts → list_all is_ordere
 all-ordered [] fits = refl
 all-ordered (fact ∷ facts) fits = rw (well_formed-ordered fact fits.0) (all-ordered facts fits.1)
 
-found-facts : (facts : List Fact) (key : Key) (version : ℕ) → AreWellFormed facts
+pub found-facts : (facts : List Fact) (key : Key) (version : ℕ) → AreWellFormed facts
     → map (fact_at facts) (found_by (instance_eq (key, version)) (entries_of facts)) ≡ filter (is_of_instance key version) facts
 found-facts facts key version fits =
     let whole : AreOlder facts facts = λ number within. refl in
@@ -165,3 +166,11 @@ walk-facts step start facts key version fits =
     sym (fold-map (λ state number. step state (fact_at facts number)) (λ (e : (Key × ℕ) × ℕ). e.1) start passing)
     ∙ sym (fold-map step (fact_at facts) start (found_by (instance_eq (key, version)) (entries_of facts)))
     ∙ ap (fold step start) (found-facts facts key version fits)
+
+-- the numbers of entries are those of facts
+pub entries-below : (facts : List Fact) → AreBelow (length facts) (entries_of facts)
+entries-below [] = tt
+entries-below (fact ∷ facts) =
+    below-append (length (fact ∷ facts)) (entries_in fact (length facts)) (entries_of facts)
+    (below-one (length (fact ∷ facts)) (length facts) (instances_in fact) (omega arith))
+    (below-more (length facts) (length (fact ∷ facts)) (entries_of facts) (omega arith) (entries-below facts))

@@ -5,3 +5,4 @@ pub mod Folding
 pub mod InCells
 pub mod Promised
 pub mod Short
+pub mod Walking

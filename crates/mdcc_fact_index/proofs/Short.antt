@@ -1,14 +1,14 @@
 -- A well-formed outcome has few bytes.
-use Rattle.std.proofs.Common.{ℕ, ◌+◌, ◌*◌, ◌≤◌, ◌∷◌, List, [], length, arith}
+use Rattle.std.proofs.Common.{ℕ, ◌*◌, ◌≤◌, ◌∷◌, List, [], length, arith}
 use Rattle.std.specs.List.{AllByRecursion}
 use Rattle.mdcc_base.specs.Counts.{sum_over}
 use Rattle.mdcc_base.specs.declared.identifiers.TxId.{TxId}
 use Rattle.mdcc_option.specs.declared.choices.Choice.{Choice}
 use Rattle.mdcc_option.specs.declared.choices.Outcome.{Outcome}
 use Rattle.mdcc_option.specs.declared.items.Update.{Update}
-use Rattle.mdcc_messages.specs.Lengths.{choice_length, fact_length, update_length, write_set_length, written_length}
+use Rattle.mdcc_messages.specs.Lengths.{choice_length, fact_length, update_length, written_length}
 use Rattle.mdcc_messages.specs.WellFormed.{IsWellFormedFact}
-use Rattle.mdcc_messages.specs.WellFormedParts.{IsWellFormedChoice, IsWellFormedOf, IsWellFormedUpdate, IsWellFormedWriteSet, IsWellFormedWritten}
+use Rattle.mdcc_messages.specs.WellFormedParts.{IsWellFormedChoice, IsWellFormedOf, IsWellFormedUpdate, IsWellFormedWritten}
 use Rattle.mdcc_messages.specs.declared.facts.Fact.{Fact}
 
 update-short : (update : Update) → IsWellFormedUpdate update → update_length update ≤ 740

@@ -72,3 +72,7 @@ number_in numbers index = option_map (λ i. get_or numbers i 0) index
 
 abbrev pub number_found : HeardTxs → TxId → Option ℕ
 number_found heard tx = number_in heard.numbers (last_in (walk (tx_eq tx) heard.txs.keys))
+
+-- whether a transaction committed, by the fact that is found
+abbrev pub ended_told : List (List ℕ) → HeardTxs → TxId → Option Bool
+ended_told encodings heard tx = option_map (λ number. is_commit_spelled (get_or encodings number [])) (number_found heard tx)

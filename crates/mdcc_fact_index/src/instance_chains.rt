@@ -1,17 +1,21 @@
 //! The facts of each instance, found by it.
 ghost use Rattle.std.specs.List.{filter, fold};
-ghost use Rattle.std.specs.Prelude.{◌≡◌, ◌+◌, ◌++◌, ◌∷◌, ◌<◌, ◌≤◌, [], IfOk, List, length, map};
+ghost use Rattle.std.specs.Prelude.{◌≡◌, ◌+◌, ◌++◌, ◌∷◌, ◌<◌, ◌≤◌, [], IfOk, OnOk, List, length, map};
 ghost use Rattle.mdcc_messages.specs.declared.facts.Fact.{Fact as AFact};
 ghost use Rattle.mdcc_fact_cells.specs.Holding.{Holds};
 ghost use Rattle.mdcc_fact_folds.specs.Chains.{is_of_instance};
 ghost use Rattle.mdcc_fact_folds.specs.Entered.{instance_of, instances_in};
+ghost use Rattle.mdcc_delta_steps.specs.Chains.{AreOf};
+ghost use Rattle.mdcc_vote_steps.specs.Gathered.{with_gathered};
 ghost use Rattle.mdcc_fact_index.specs.Entries.{AreBelow, beside, entries_at, entries_in, entries_of, instances_of};
 
-use mdcc_base::{Key, Memory};
+use mdcc_base::{Ballot, Key, Memory};
 use mdcc_chains::InstanceIndex;
+use mdcc_delta_steps::InstanceWalk;
 use mdcc_fact_cells::{FactCells, FactStep};
 use mdcc_messages::Fact;
 use mdcc_option::{Choice, Outcome};
+use mdcc_vote_steps::GatheredMarks;
 use std::alloc::Global;
 use std::marker::Model;
 
@@ -50,6 +54,33 @@ fn walk<S: FactStep>(
         state.take(cells, numbers[entry as usize]);
         at = index.next(instance, entry);
     }
+}
+
+// Gathers the marks of each fact of an instance at a ballot, from the newest to the oldest.
+fn gather(
+    index: &InstanceIndex,
+    numbers: &[u32],
+    cells: &FactCells,
+    instance: &(Key, u64),
+    ballot: &Ballot,
+    gathered: &mut GatheredMarks,
+) -> Result<(), Memory>
+    requires alike { length numbers.now ≡ length index.now.keys }
+    requires below { AreBelow (length cells.now.encodings) (beside index.now.keys numbers.now) }
+    ensures { (facts : List AFact) → Holds cells.now.encodings facts → beside index.now.keys numbers.now ≡ entries_of facts → OnOk result (gathered.new ≡ fold (with_gathered instance.now.0 instance.now.1 ballot.now) gathered.old (filter (is_of_instance instance.now.0 instance.now.1) facts)) }
+{
+    let mut at = index.first(instance);
+    while let Some(entry) = at {
+        gathered.gather(
+            cells,
+            numbers[entry as usize],
+            &instance.0,
+            instance.1,
+            ballot,
+        )?;
+        at = index.next(instance, entry);
+    }
+    Ok(())
 }
 
 impl InstanceChains {
@@ -118,5 +149,39 @@ impl InstanceChains {
         ensures { (facts : List AFact) → Holds cells.now.encodings facts → self.now.entries ≡ entries_of facts → state.new ≡ fold S.step state.old (filter (is_of_instance key.now version) facts) }
     {
         walk(&self.index, &self.numbers, cells, &(*key, version), state);
+    }
+
+    /// Gathers the marks of each fact of an instance at a ballot, from the newest to the oldest.
+    pub fn gather(
+        &self,
+        cells: &FactCells,
+        key: &Key,
+        version: u64,
+        ballot: &Ballot,
+        gathered: &mut GatheredMarks,
+    ) -> Result<(), Memory>
+        requires { AreBelow (length cells.now.encodings) self.now.entries }
+        ensures { (facts : List AFact) → Holds cells.now.encodings facts → self.now.entries ≡ entries_of facts → OnOk result (gathered.new ≡ fold (with_gathered key.now version ballot.now) gathered.old (filter (is_of_instance key.now version) facts)) }
+    {
+        gather(
+            &self.index,
+            &self.numbers,
+            cells,
+            &(*key, version),
+            ballot,
+            gathered,
+        )
+    }
+
+    /// The facts of an instance, from the newest to the oldest.
+    pub fn facts_of<'a>(
+        &'a self,
+        cells: &'a FactCells,
+        instance: &'a (Key, u64),
+    ) -> InstanceWalk<'a>
+        requires { AreBelow (length cells.now.encodings) self.now.entries }
+        ensures { (facts : List AFact) → Holds cells.now.encodings facts → self.now.entries ≡ entries_of facts → AreOf result (filter (is_of_instance instance.now.0 instance.now.1) facts) }
+    {
+        InstanceWalk::new(cells, &self.index, &self.numbers, instance)
     }
 }

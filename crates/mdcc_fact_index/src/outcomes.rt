@@ -4,7 +4,7 @@ ghost use Rattle.mdcc_messages.specs.declared.facts.Fact.{Fact as AFact};
 ghost use Rattle.mdcc_protocol.specs.Facts.{heard_of};
 ghost use Rattle.mdcc_protocol.specs.Stores.{ended_of};
 ghost use Rattle.mdcc_fact_cells.specs.Holding.{Holds};
-ghost use Rattle.mdcc_fact_index.specs.Heard.{AreHeard, AreNumbersBelow, heard_by, is_commit_spelled, number_found, numbers_by, outcome_spelled};
+ghost use Rattle.mdcc_fact_index.specs.Heard.{AreHeard, AreNumbersBelow, ended_told, heard_by, is_commit_spelled, number_found, numbers_by, outcome_spelled};
 
 use mdcc_base::{Memory, TxId};
 use mdcc_chains::TransactionIndex;
@@ -131,7 +131,8 @@ impl OutcomeIndex {
     /// Whether the outcome that was heard of a transaction is a commit.
     pub fn ended(&self, cells: &FactCells, tx: TxId) -> Option<bool>
         requires { AreNumbersBelow (length cells.now.encodings) self.now.numbers }
-        ensures { (facts : List AFact) → Holds cells.now.encodings facts → AreHeard self.now facts → result ≡ ended_of facts tx }
+        ensures told { result ≡ ended_told cells.now.encodings self.now tx }
+        ensures ended { (facts : List AFact) → Holds cells.now.encodings facts → AreHeard self.now facts → result ≡ ended_of facts tx }
     {
         match self.number_of(&tx) {
             Some(number) => Some(is_commit_at(cells, number)),

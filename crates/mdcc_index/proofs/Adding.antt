@@ -1,10 +1,10 @@
 -- A store represents one more fact once each of its parts has it.
-use Rattle.std.proofs.Common.{◌≡◌, ◌+◌, ◌*◌, ◌≤◌, ◌++◌, ◌∷◌, ℕ, List, [], is_some, length, sym, ap, ◌∙◌, arith}
+use Rattle.std.proofs.Common.{◌≡◌, ◌++◌, ◌∷◌, ℕ, false, List, [], is_some, length, sym, ap, ◌∙◌}
 use Rattle.mdcc_messages.specs.Spelling.{fact_bytes}
 use Rattle.mdcc_messages.specs.declared.facts.Fact.{Fact}
-use Rattle.mdcc_protocol.specs.Facts.{epoch_of}
+use Rattle.mdcc_protocol.specs.News.{is_crowding}
 use Rattle.mdcc_facts.specs.Adding.{MayBeAdded}
-use Rattle.mdcc_fact_cells.specs.Holding.{Holds}
+use Rattle.mdcc_facts.proofs.Crowding.{few_added}
 use Rattle.mdcc_fact_folds.specs.Promises.{next_epoch}
 use Rattle.mdcc_fact_folds.proofs.Walked.{epoch-updates}
 use Rattle.mdcc_fact_folds.proofs.Kept.{stay-added}
@@ -29,8 +29,8 @@ pub record AddsFact (old new : Store) (fact : Fact) (number : ℕ) : Type 0 wher
       → ListsUnresolved new.unresolved.entries (fact ∷ facts)
   pub epoch : new.epoch ≡ next_epoch fact old.epoch
 
-pub represents-more : (old new : Store) (facts : List Fact) (fact : Fact) (number : ℕ) → AddsFact old new fact number → MayBeAdded facts fact → Represents old facts → Represents new (fact ∷ facts)
-represents-more old new facts fact number adds may kept =
+pub represents-more : (old new : Store) (facts : List Fact) (fact : Fact) (number : ℕ) → AddsFact old new fact number → MayBeAdded facts fact → is_crowding facts fact ≡ false → Represents old facts → Represents new (fact ∷ facts)
+represents-more old new facts fact number adds may free kept =
     let long : number ≡ length facts = adds.number_is ∙ held-length old.cells.encodings facts kept.cells in
     record {
       cells = record {
@@ -44,4 +44,5 @@ represents-more old new facts fact number adds may kept =
       unresolved = adds.unresolved facts kept.unresolved (tells-heard old.outcomes facts kept.cells.well_formed kept.outcomes) long;
       epoch = adds.epoch ∙ ap (next_epoch fact) kept.epoch ∙ sym (epoch-updates facts fact);
       added = stay-added facts fact kept.added may;
+      few = few_added facts fact free kept.few;
     }

@@ -1,2 +1,5 @@
 pub mod Adding
+pub mod Marked
+pub mod Reading
+pub mod Stepped
 pub mod Tied

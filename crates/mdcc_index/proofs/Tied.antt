@@ -1,22 +1,13 @@
 -- The numbers in a store are those of facts that it has.
-use Rattle.std.proofs.Common.{◌≡◌, ◌<◌, ◌≤◌, ◌+◌, ℕ, List, [], ◌∷◌, length, sym, ap, ◌∙◌, arith, subst}
+use Rattle.std.proofs.Common.{List, [], ◌∷◌, length, sym, arith, subst}
 use Rattle.mdcc_messages.specs.declared.facts.Fact.{Fact}
-use Rattle.mdcc_fact_folds.specs.Entered.{instances_in}
 use Rattle.mdcc_fact_tables.specs.HeldVersions.{AreGivenBelow}
 use Rattle.mdcc_fact_tables.specs.UnresolvedNumbers as unresolved
-use Rattle.mdcc_fact_index.specs.Entries.{AreBelow, entries_in, entries_of}
+use Rattle.mdcc_fact_index.specs.Entries.{AreBelow}
 use Rattle.mdcc_fact_index.specs.Heard.{AreNumbersBelow, heard_numbers}
-use Rattle.mdcc_fact_index.proofs.Beside.{below-append, below-more, below-one}
 use Rattle.mdcc_fact_index.proofs.Endings.{below-by}
-use Rattle.mdcc_fact_index.proofs.Entered.{held-length}
+use Rattle.mdcc_fact_index.proofs.Entered.{entries-below, held-length}
 use Rattle.mdcc_index.specs.Stores.{Represents, Store}
-
-entries-below : (facts : List Fact) → AreBelow (length facts) (entries_of facts)
-entries-below [] = tt
-entries-below (fact ∷ facts) =
-    below-append (length (fact ∷ facts)) (entries_in fact (length facts)) (entries_of facts)
-    (below-one (length (fact ∷ facts)) (length facts) (instances_in fact) (omega arith))
-    (below-more (length facts) (length (fact ∷ facts)) (entries_of facts) (omega arith) (entries-below facts))
 
 numbers-below : (facts : List Fact) → AreNumbersBelow (length facts) (heard_numbers facts)
 numbers-below [] i within = absurd (omega arith)

@@ -1,1 +1,3 @@
+pub mod Crowding
+pub mod Marks
 pub mod Stores

@@ -1,7 +1,9 @@
 -- A store of facts in cells, and the lists of facts that it represents.
-use Rattle.std.specs.Prelude.{List, ◌≡◌, ◌+◌, ◌*◌, ◌≤◌, ℕ, length}
+use Rattle.std.specs.Prelude.{List, Option, None, Some, Bool, false, not, ◌≡◌, ◌+◌, ◌*◌, ◌≤◌, ℕ, length}
+use Rattle.mdcc_base.specs.declared.identifiers.TxId.{TxId}
+use Rattle.mdcc_base.specs.declared.key.Key.{Key}
 use Rattle.mdcc_messages.specs.declared.facts.Fact.{Fact}
-use Rattle.mdcc_protocol.specs.Facts.{epoch_of}
+use Rattle.mdcc_protocol.specs.Facts.{epoch_of, executed_of}
 use Rattle.mdcc_chains.specs.Unresolved.{Numbered}
 use Rattle.mdcc_fact_cells.specs.Holding.{Holds}
 use Rattle.mdcc_fact_cells.specs.Stored.{Stored}
@@ -9,7 +11,7 @@ use Rattle.mdcc_fact_folds.specs.Added.{AreAdded}
 use Rattle.mdcc_fact_tables.specs.HeldVersions.{HoldsVersions, Versions}
 use Rattle.mdcc_fact_tables.specs.UnresolvedNumbers.{ListsUnresolved}
 use Rattle.mdcc_fact_index.specs.Entries.{Entries, entries_of}
-use Rattle.mdcc_fact_index.specs.Heard.{AreHeard, HeardTxs}
+use Rattle.mdcc_fact_index.specs.Heard.{AreHeard, HeardTxs, ended_told}
 use Rattle.mdcc_fact_index.specs.Promises.{ArePromised, Kept}
 
 -- the facts in their cells, and what is found without reading them
@@ -36,6 +38,7 @@ pub record Represents (store : Store) (facts : List Fact) : Type 0 where
   pub unresolved : ListsUnresolved store.unresolved.entries facts
   pub epoch : store.epoch ≡ epoch_of facts
   pub added : AreAdded facts
+  pub few : (key : Key) → length (executed_of facts key) ≤ 64
 
 -- for each spare cell there is room for what a fact may bring
 pub record HasRoom (store : Store) : Type 0 where
@@ -50,3 +53,11 @@ pub record IsStore (store : Store) : Type 0 where
   pub facts : List Fact
   pub represented : Represents store facts
   pub room : HasRoom store
+
+-- whether a transaction was aborted, by the fact that is found
+abbrev pub is_abort_ended : Option Bool → Bool
+is_abort_ended None = false
+is_abort_ended (Some commit) = not commit
+
+abbrev pub is_void_told : Store → TxId → Bool
+is_void_told store tx = is_abort_ended (ended_told store.cells.encodings store.outcomes tx)

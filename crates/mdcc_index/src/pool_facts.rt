@@ -2,11 +2,11 @@
 ghost use Rattle.std.specs.Prelude.{◌≡◌, ◌∷◌, ◌+◌, [], OnOk, OnErr, IfOk, List};
 ghost use Rattle.mdcc_messages.specs.Lengths.{cells_needed};
 ghost use Rattle.mdcc_messages.specs.declared.facts.Fact.{Fact as AFact};
-ghost use Rattle.mdcc_protocol.specs.Facts.{current_of, epoch_of, heard_of, is_heard, promised_through};
+ghost use Rattle.mdcc_protocol.specs.Facts.{epoch_of, heard_of, is_heard, promised_through};
 ghost use Rattle.mdcc_protocol.specs.Stores.{ended_of};
-ghost use Rattle.mdcc_facts.specs.Adding.{MayBeAdded};
-ghost use Rattle.mdcc_fact_cells.specs.Stored.{room_for};
+ghost use Rattle.mdcc_facts.specs.Adding.{MayBeAdded, add_of};
 ghost use Rattle.mdcc_fact_folds.specs.Promises.{next_epoch};
+ghost use Rattle.mdcc_fact_index.specs.Heard.{ended_told};
 ghost use Rattle.mdcc_index.specs.Stores.{Represents};
 
 use mdcc_base::{Ballot, Key, Memory, TxId};
@@ -22,13 +22,13 @@ use std::marker::Model;
 /// Facts in cells, found by what they say. Only `new` takes memory, all of it at once.
 #[derive(Drop)]
 pub struct PoolFacts {
-    cells: FactCells,
-    outcomes: OutcomeIndex,
-    promises: Promises,
-    instances: InstanceChains,
-    held: HeldTable,
-    unresolved: UnresolvedTable,
-    epoch: u32,
+    pub(crate) cells: FactCells,
+    pub(crate) outcomes: OutcomeIndex,
+    pub(crate) promises: Promises,
+    pub(crate) instances: InstanceChains,
+    pub(crate) held: HeldTable,
+    pub(crate) unresolved: UnresolvedTable,
+    pub(crate) epoch: u32,
 }
 
 impl Model for PoolFacts {
@@ -72,12 +72,15 @@ impl PoolFacts {
     /// Adds a fact. It takes no memory.
     pub fn add(&mut self, fact: &Fact) -> Result<(), StoreFault>
         requires { (facts : List AFact) → Represents self.old facts → MayBeAdded facts fact.now }
-        ensures answer { result ≡ room_for self.old.cells.spare (cells_needed fact.now) }
+        ensures answer { (facts : List AFact) → Represents self.old facts → result ≡ add_of self.old.cells.spare (cells_needed fact.now) facts fact.now }
         ensures ok { (facts : List AFact) → Represents self.old facts → OnOk result (Represents self.new (fact.now ∷ facts)) }
         ensures used { OnOk result (self.new.cells.spare + cells_needed fact.now ≡ self.old.cells.spare) }
         ensures err { OnErr result (self.new ≡ self.old) }
     {
         self.cells.room_for(fact)?;
+        if self.would_crowd(fact) {
+            return Err(StoreFault::Crowded);
+        }
         let number = self.cells.len();
         self.cells.add(fact);
         self.unresolved.add(fact, number, &self.outcomes);
@@ -98,7 +101,8 @@ impl PoolFacts {
 
     /// Whether the outcome that was heard of a transaction is a commit.
     pub fn ended(&self, tx: TxId) -> Option<bool>
-        ensures { (facts : List AFact) → Represents self.now facts → result ≡ ended_of facts tx }
+        ensures told { result ≡ ended_told self.now.cells.encodings self.now.outcomes tx }
+        ensures ended { (facts : List AFact) → Represents self.now facts → result ≡ ended_of facts tx }
     {
         self.outcomes.ended(&self.cells, tx)
     }
@@ -115,13 +119,6 @@ impl PoolFacts {
         ensures { (facts : List AFact) → Represents self.now facts → result ≡ promised_through facts key.now version ballot }
     {
         self.promises.promised(key, version, ballot)
-    }
-
-    /// The version that is held.
-    pub fn current(&self, key: &Key) -> u64
-        ensures { (facts : List AFact) → Represents self.now facts → result ≡ current_of facts key.now }
-    {
-        self.held.current(key)
     }
 
     /// The epoch of the last boot.

@@ -1,4 +1,4 @@
-use Rattle.std.proofs.Common.{◌<◌, None, length, sym, ap, ◌∙◌, arith, subst}
+use Rattle.std.proofs.Common.{◌<◌, length, sym, ap, ◌∙◌, arith, subst}
 use Rattle.std.specs.Prelude.{IfSome, get_or}
 use Rattle.mdcc_base.specs.Ballot.{fast_ballot}
 use Rattle.mdcc_base.specs.Key.{key_eq}

@@ -1,5 +1,5 @@
 use Rattle.mdcc_base.specs.Ballot.{fast_ballot}
-use Rattle.std.proofs.Common.{List, None, length, ◌<◌}
+use Rattle.std.proofs.Common.{List, length, ◌<◌}
 use Rattle.std.specs.Prelude.{IfSome}
 use Rattle.mdcc_base.specs.declared.key.Key.{Key}
 use Rattle.mdcc_chains.proofs.Filtered.{rank}

@@ -1,5 +1,5 @@
-use Rattle.std.proofs.Common.{◌+◌, ◌++◌, sym, ap, length, arith, length-append, subst}
-use Rattle.mdcc_fact_index.specs.Heard.{AreNumbersBelow, heard_by, numbers_by}
+use Rattle.std.proofs.Common.{◌+◌, sym, ap, length, arith, length-append, subst}
+use Rattle.mdcc_fact_index.specs.Heard.{AreNumbersBelow, heard_by}
 use Rattle.mdcc_fact_index.proofs.Endings.{below-by, heard-more, length-heard}
 use Rattle.mdcc_fact_index.proofs.outcomes.OutcomeIndex.add.Goals as goal
 

@@ -1,4 +1,4 @@
-use Rattle.std.proofs.Common.{◌≡◌, Some, get_or, length, sym, ap, ◌∙◌, arith, subst}
+use Rattle.std.proofs.Common.{◌≡◌, Some, get_or, sym, ap, ◌∙◌, arith, subst}
 use Rattle.std.proofs.lemmas.List.{get_or_default}
 use Rattle.mdcc_base.specs.TxId.{tx_eq}
 use Rattle.mdcc_fact_index.specs.Heard.{AreNumbersBelow, number_found, number_in}

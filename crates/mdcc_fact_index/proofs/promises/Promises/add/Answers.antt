@@ -1,4 +1,4 @@
-use Rattle.std.proofs.Common.{◌++◌, ap, length, map, arith, length-append}
+use Rattle.std.proofs.Common.{ap, length, map, arith, length-append}
 use Rattle.mdcc_base.specs.declared.key.Key.{Key}
 use Rattle.mdcc_fact_index.specs.Promises.{promised_by}
 use Rattle.mdcc_fact_index.specs.declared.promises.Promise.{Promise}

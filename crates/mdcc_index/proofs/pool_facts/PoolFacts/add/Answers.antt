@@ -1,8 +1,6 @@
-use Rattle.std.proofs.Common.{List, ℕ, ◌∷◌, arith, length, length-append, ap, subst, sym}
+use Rattle.std.proofs.Common.{ℕ, ◌∷◌, arith, length, length-append, ap, subst, sym, ◌∙◌}
 use Rattle.std.proofs.lemmas.List.{length-map}
 use Rattle.mdcc_base.specs.declared.key.Key.{Key}
-use Rattle.mdcc_messages.specs.declared.facts.Fact.{Fact}
-use Rattle.mdcc_facts.specs.Adding.{MayBeAdded}
 use Rattle.mdcc_fact_tables.proofs.Entries.{keys-in_cells, transactions-in_cells}
 use Rattle.mdcc_fact_index.proofs.InCells.{instances-in_cells}
 use Rattle.mdcc_fact_cells.proofs.Ticketed.{some-cells}
@@ -44,10 +42,11 @@ adds c = record {
 
 pub invariant_of-self : goal.invariant_of-self
 invariant_of-self c =
-    let may = c.requires c.self.invariant.facts (subst (λ s. Represents s c.self.invariant.facts) c.self.view_is c.self.invariant.represented) in
+    let now = subst (λ s. Represents s c.self.invariant.facts) c.self.view_is c.self.invariant.represented in
+    let may = c.requires c.self.invariant.facts now in
     record {
       facts = c.args.fact.now ∷ c.self.invariant.facts;
-      represented = represents-more _ _ c.self.invariant.facts c.args.fact.now c.len-number.result (adds c) may c.self.invariant.represented;
+      represented = represents-more _ _ c.self.invariant.facts c.args.fact.now c.len-number.result (adds c) may (sym (c.would_crowd.ensures c.self.invariant.facts now) ∙ c.if-would_crowd.false) c.self.invariant.represented;
       room = record {
         outcomes = omega (arith, c.self.invariant.room.outcomes, c.add.ensures.used, c.add-3.ensures.few, c.add-3.ensures.room, some-cells c.args.fact.now);
         promises = omega (arith, c.self.invariant.room.promises, c.add.ensures.used, c.add-4.ensures.few, c.add-4.ensures.room, some-cells c.args.fact.now);
@@ -68,4 +67,4 @@ invariant_of-self c =
 
 pub returns-clause-ok : goal.returns-clause-ok
 returns-clause-ok c facts kept =
-    represents-more _ _ facts c.args.fact.now c.len-number.result (adds c) (c.requires facts kept) (subst (λ s. Represents s facts) (sym c.self.view_is) kept)
+    represents-more _ _ facts c.args.fact.now c.len-number.result (adds c) (c.requires facts kept) (sym (c.would_crowd.ensures facts kept) ∙ c.if-would_crowd.false) (subst (λ s. Represents s facts) (sym c.self.view_is) kept)

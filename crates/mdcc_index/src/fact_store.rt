@@ -1,0 +1,138 @@
+//! The questions of a store of facts, answered from cells.
+use crate::PoolFacts;
+use mdcc_base::{Ballot, HeapList, Key, Memory, TxId};
+use mdcc_facts::FactStore;
+use mdcc_messages::Fact;
+use mdcc_option::{Choice, Delta, Item, Mark, Outcome, Seen, WriteSet};
+use mdcc_protocol::{Load, StoreFault};
+use mdcc_struct::Options;
+use std::alloc::Global;
+
+impl FactStore for PoolFacts {
+    ghost use Rattle.mdcc_messages.specs.Lengths.{cells_needed};
+    ghost use Rattle.mdcc_index.specs.Stores.{Represents};
+
+    ghost stands = { Represents };
+
+    ghost room = { λ store. store.cells.spare };
+
+    ghost cells_for = { λ store fact. cells_needed fact };
+
+    fn add(&mut self, fact: &Fact) -> Result<(), StoreFault> {
+        self.add(fact)
+    }
+
+    fn promise(&self, key: &Key, version: u64) -> Ballot {
+        self.promise(key, version)
+    }
+
+    fn promised(&self, key: &Key, version: u64, ballot: Ballot) -> Option<u64> {
+        self.promised(key, version, ballot)
+    }
+
+    fn vote_of(&self, key: &Key, version: u64, tx: TxId) -> Option<(Ballot, Mark)> {
+        self.vote_of(key, version, tx)
+    }
+
+    fn voted_below(&self, key: &Key, version: u64, below: Ballot) -> Ballot {
+        self.voted_below(key, version, below)
+    }
+
+    fn votes(
+        &self,
+        alloc: Global,
+        key: &Key,
+        version: u64,
+        ballot: Ballot,
+    ) -> Result<Options, Memory> {
+        self.votes(alloc, key, version, ballot)
+    }
+
+    fn count_voted(&self, key: &Key, version: u64, ballot: Ballot, options: &Options) -> usize {
+        self.count_voted(key, version, ballot, options)
+    }
+
+    fn is_heard(&self, tx: TxId) -> bool {
+        self.is_heard(tx)
+    }
+
+    fn ended(&self, tx: TxId) -> Option<bool> {
+        self.ended(tx)
+    }
+
+    fn heard(&self, tx: TxId) -> Option<Outcome> {
+        self.heard(tx)
+    }
+
+    fn current(&self, key: &Key) -> u64 {
+        self.current(key)
+    }
+
+    fn base(&self, key: &Key) -> Option<Item> {
+        self.base(key)
+    }
+
+    fn executed(&self, key: &Key) -> Seen {
+        self.executed(key)
+    }
+
+    fn delta(&self, key: &Key, tx: TxId) -> Option<Delta> {
+        self.delta(key, tx)
+    }
+
+    fn load(&self, key: &Key, version: u64, seen: &[TxId]) -> Load {
+        self.load(key, version, seen)
+    }
+
+    fn entries(&self, key: &Key, version: u64) -> (u32, u32) {
+        self.entries(key, version)
+    }
+
+    fn marks(
+        &self,
+        key: &Key,
+        version: u64,
+        below: Ballot,
+        place: usize,
+    ) -> Option<(Ballot, TxId, Mark)> {
+        self.marks(key, version, below, place)
+    }
+
+    fn mark_after(
+        &self,
+        key: &Key,
+        version: u64,
+        below: Ballot,
+        last: Option<TxId>,
+    ) -> Option<(Ballot, TxId, Mark)> {
+        self.mark_after(key, version, below, last)
+    }
+
+    fn unresolved(&self, place: usize) -> Option<(TxId, WriteSet)> {
+        self.unresolved(place)
+    }
+
+    fn write_set(&self, tx: TxId) -> Option<WriteSet> {
+        self.write_set(tx)
+    }
+
+    fn unresolved_all(&self, alloc: Global) -> Result<HeapList<(TxId, WriteSet)>, Memory> {
+        self.unresolved_all(alloc)
+    }
+
+    fn choice_of(&self, key: &Key, version: u64, tx: TxId) -> Option<Choice> {
+        self.choice_of(key, version, tx)
+    }
+
+    fn would_crowd(&self, fact: &Fact) -> bool {
+        self.would_crowd(fact)
+    }
+
+    fn epoch(&self) -> u32 {
+        self.epoch()
+    }
+
+    fn spare(&self) -> u64 {
+        self.spare()
+    }
+}

@@ -1,0 +1,42 @@
+//! What is live in an instance.
+ghost use Rattle.std.specs.Prelude.{◌≡◌, List};
+ghost use Rattle.mdcc_messages.specs.declared.facts.Fact.{Fact as AFact};
+ghost use Rattle.mdcc_protocol.specs.Stores.{load_at};
+ghost use Rattle.mdcc_index.specs.Stores.{Represents, is_abort_ended};
+
+use crate::PoolFacts;
+use mdcc_base::{Key, TxId};
+use mdcc_delta_steps::{VoidTest, load};
+use mdcc_protocol::Load;
+
+impl PoolFacts {
+    /// What the live choices of an instance weigh beside a seen set. Counts stop at 2^32 - 1 and
+    /// sums at 2^96.
+    pub fn load(&self, key: &Key, version: u64, seen: &[TxId]) -> Load
+        ensures { (facts : List AFact) → Represents self.now facts → result ≡ load_at facts key.now version seen.now }
+    {
+        let instance = (*key, version);
+        let walk = self.instances.facts_of(&self.cells, &instance);
+        load(walk, &instance, seen, self)
+    }
+}
+
+// Whether a transaction was aborted, by its outcome.
+fn is_abort_ended(ended: Option<bool>) -> bool
+    ensures { result ≡ is_abort_ended ended }
+{
+    match ended {
+        Some(commit) => !commit,
+        None => false,
+    }
+}
+
+impl VoidTest for PoolFacts {
+    ghost use Rattle.mdcc_index.specs.Stores.{is_void_told};
+
+    ghost void = { is_void_told };
+
+    fn is_void(&self, tx: TxId) -> bool {
+        is_abort_ended(self.ended(tx))
+    }
+}
