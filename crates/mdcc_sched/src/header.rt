@@ -1,7 +1,7 @@
 //! The header of a schedule.
 ghost use Rattle.std.specs.Prelude.{◌≡◌, ◌++◌, ◌∷◌, [], ◌+◌, ◌≤◌, ◌<◌, codes, length, true, IfOk};
 ghost use Rattle.mdcc_option.specs.Bounds.{IsSchema, is_bound};
-ghost use Rattle.mdcc_language.specs.Header.{header_line, version_of, quorums_line, last_number, limit_line, bound_line, bounds_lines, header_lines, header_of};
+ghost use Rattle.mdcc_language.specs.Header.{header_line, version_of, quorums_line, last_number, cells_line, limit_line, bound_line, bounds_lines, header_lines, header_of};
 ghost use Rattle.mdcc_language.specs.Words.{end_at};
 ghost use Rattle.mdcc_built.specs.Built.{built};
 ghost use Rattle.mdcc_sched.specs.Headers.{numbered_header};
@@ -49,6 +49,19 @@ fn gamma_line<'a>(left: &Left<'a>) -> Result<(u64, Left<'a>), HeaderFault>
 {
     let gamma = left.read_line(header_lines::gamma_line(left.next_line()))?;
     Ok((gamma, left.without_next()))
+}
+
+// `cells C`, which may be left out.
+fn cells_line<'a>(left: Left<'a>) -> Result<(u32, Left<'a>), HeaderFault>
+    requires { left.number ≤ 50 }
+    ensures value { result ≡ cells_line built left.entry }
+    ensures next { IfOk result (λ line. line.1.number ≤ left.entry.number + 1) }
+{
+    if !left.is_next(b"cells") {
+        return Ok((DEFAULT_CELLS, left));
+    }
+    let cells = left.read_line(header_lines::cells_line(left.next_line()))?;
+    Ok((cells as u32, left.without_next()))
 }
 
 // `limit safe` or `limit paper`, which may be left out.
@@ -133,11 +146,12 @@ fn schema_of(bounds: &Bounds) -> Schema
 fn read_lines<'a>(left: &Left<'a>) -> Result<(Cluster, Left<'a>), HeaderFault>
     requires { left.now.number ≤ 1 }
     ensures value { result ≡ header_lines built left.now }
-    ensures few { IfOk result (λ header. header.1.number ≤ 10) }
+    ensures few { IfOk result (λ header. header.1.number ≤ 11) }
 {
     let (_, left) = version_line(left)?;
     let (quorums, left) = quorums_line(&left)?;
     let (gamma, left) = gamma_line(&left)?;
+    let (cells, left) = cells_line(left)?;
     let (limit, left) = limit_line(left)?;
     let (bounds, left) = bounds_lines(&left)?;
     let (_, left) = start_line(&left)?;
@@ -145,7 +159,7 @@ fn read_lines<'a>(left: &Left<'a>) -> Result<(Cluster, Left<'a>), HeaderFault>
         quorums,
         schema: schema_of(&bounds),
         gamma,
-        cells: DEFAULT_CELLS,
+        cells,
         limit,
     };
     Ok((cluster, left))
@@ -162,10 +176,10 @@ pub fn parse_header(text: &[u8]) -> Result<(Cluster, usize), HeaderFault>
 }
 
 /// Reads the header as `parse_header` does, and gives also the number of the first line behind it. How
-/// many lines a header has is not said by its cluster, since a line of the safe limit may be left out.
+/// many lines a header has is not said by its cluster, since the lines of the cells and of the safe limit may be left out.
 pub fn parse_numbered_header(text: &[u8]) -> Result<(Cluster, usize, u32), HeaderFault>
     ensures value { result ≡ numbered_header text.now }
-    ensures few { IfOk result (λ header. header.2 ≤ 10) }
+    ensures few { IfOk result (λ header. header.2 ≤ 11) }
 {
     let (cluster, left) = read_lines(&Left::new(text))?;
     Ok((cluster, left.place(), left.number()))

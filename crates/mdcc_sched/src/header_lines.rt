@@ -141,6 +141,18 @@ pub fn gamma_line(line: &[u8]) -> Result<u64, TextFault>
     Ok(gamma)
 }
 
+/// `cells C`
+pub fn cells_line(line: &[u8]) -> Result<u64, TextFault>
+    ensures value { result ≡ whole_line (codes "cells") (last_number 1 4194304 5) line.now }
+    ensures within { IfOk result (λ cells. cells ≤ 4194304) }
+{
+    let text = bytes_of_line(line);
+    in_order(b"cells", text)?;
+    let cells = last_number(1, 4_194_304, 5, text)?;
+    line_end_of(text, line)?;
+    Ok(cells)
+}
+
 /// `limit safe` or `limit paper`
 pub fn limit_line(line: &[u8]) -> Result<FastLimit, TextFault>
     ensures { result ≡ whole_line (codes "limit") fast_limit_of line.now }
