@@ -55,6 +55,10 @@ first-stands cluster itself = record {
       let both = some-centre cluster a h in
       rw (first-site cluster a h, first-facts cluster.quorums.centres a both.0 both.1) (first-node cluster a itself h);
   logs = λ a h. let both = some-centre cluster a h in rw (first-facts cluster.quorums.centres a both.0 both.1) (omega arith);
+  cells = λ a h.
+      let both = some-centre cluster a h in
+      let some = itself.some_cells in
+      rw (first-facts cluster.quorums.centres a both.0 both.1) some;
   epochs = λ a h. let both = some-centre cluster a h in rw (first-facts cluster.quorums.centres a both.0 both.1) (omega arith);
   sent = tt;
   reads = tt;

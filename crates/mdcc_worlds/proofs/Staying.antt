@@ -12,7 +12,7 @@ use Rattle.mdcc_option.specs.declared.faults.DraftFault.{DraftFault}
 use Rattle.mdcc_option.specs.declared.items.Part.{Part}
 use Rattle.mdcc_protocol.specs.Belongs.{is_centre}
 use Rattle.mdcc_ledger.specs.Ledger.{facts_of}
-use Rattle.mdcc_messages.specs.Lengths.{log_length}
+use Rattle.mdcc_messages.specs.Lengths.{cells_needed, cells_used, log_length}
 use Rattle.mdcc_rules.specs.Steps.{NodeStep}
 use Rattle.mdcc_rules.specs.declared.node.StepFault.{StepFault}
 use Rattle.mdcc_switches.specs.Built.{Built}
@@ -72,6 +72,17 @@ log-open built w a fact limited e =
     let past : nat_lt most_log (log_length (fact ∷ facts_of w.ledger a)) ≡ false = rw limited at clear in
     ltb-false most_log (log_length (fact ∷ facts_of w.ledger a)) past
 
+-- nor does a boot that the cells do not refuse pass them
+cells-open : (built : Built) (w : World) (a : ℕ) (fact : Fact) → IsTrue built.limit_on_cells → cells_limit built w a fact ≡ None → cells_used (fact ∷ facts_of w.ledger a) ≤ w.cluster.cells
+cells-open built w a fact limited e =
+    let facts = facts_of w.ledger a in
+    let clear = limit-open (built.limit_on_cells && nat_lt w.cluster.cells (cells_used facts + cells_needed fact)) LimitName.Cells (cells_used facts + cells_needed fact) e in
+    let past : nat_lt w.cluster.cells (cells_used facts + cells_needed fact) ≡ false = rw limited at clear in
+    turned (cells_needed fact) (cells_used facts) w.cluster.cells (ltb-false w.cluster.cells (cells_used facts + cells_needed fact) past)
+  where
+    turned : (a b c : ℕ) → b + a ≤ c → a + b ≤ c
+    turned a b c h = omega (h, arith)
+
 log-kept : (built : Built) (w : World) (a : ℕ) (r : Result NodeStep StepFault) → IsTrue built.limit_on_log → IsWorld w → is_centre w.cluster a ≡ true
     → step_limit built w a r ≡ None → KeepsLog w a r
 log-kept built w a r limited stands centre e step is = by_fact step.fact (subst (λ (x : Result NodeStep StepFault). step_limit built w a x ≡ None) is e)
@@ -81,24 +92,26 @@ log-kept built w a r limited stands centre e step is = by_fact step.fact (subst 
     by_fact (Some fact) k = log-open built w a fact limited (either-open (log_limit built w a fact) (if is_some (centre_at w a).stop then None else bytes_limit built w step.sends) k)
 
 -- an input that no limit refuses
-pub limited-stays : (built : Built) (w : World) (a : ℕ) (input : Input) (h : Happened) → IsTrue built.limit_on_log → IsWorld w → is_centre w.cluster a ≡ true → IsWellFormedInput input
+pub limited-stays : (built : Built) (w : World) (a : ℕ) (input : Input) (h : Happened) → IsTrue built.limit_on_log → IsTrue built.limit_on_cells → IsWorld w → is_centre w.cluster a ≡ true → IsWellFormedInput input
     → input_taken built w a input ≡ Ok h → IsWorld h.world
-limited-stays built w a input h limited stands centre formed e =
+limited-stays built w a input h limited celled stands centre formed e =
     let result = step_at built w a input in
     let clear = unless-open (step_limit built w a result) (input_happened w a result) h e in
     let same = unless-happened (step_limit built w a result) (input_happened w a result) h e in
-    subst (λ (x : Happened). IsWorld x.world) same (input-stays built w a input (log-kept built w a result limited stands centre clear) stands centre formed)
+    subst (λ (x : Happened). IsWorld x.world) same (input-stays built w a input celled (log-kept built w a result limited stands centre clear) stands centre formed)
 
 -- and such a restart
-pub restarted-stays : (built : Built) (w : World) (a : ℕ) (h : Happened) → IsTrue built.limit_on_log → IsWorld w → is_centre w.cluster a ≡ true → w.events < most_events
+pub restarted-stays : (built : Built) (w : World) (a : ℕ) (h : Happened) → IsTrue built.limit_on_log → IsTrue built.limit_on_cells → IsWorld w → is_centre w.cluster a ≡ true → w.events < most_events
     → restarted built w a ≡ Ok h → IsWorld h.world
-restarted-stays built w a h limited stands centre few e =
+restarted-stays built w a h limited celled stands centre few e =
     let boot = Fact.Booted (next_epoch w a) in
     let after = restart_happened (counted_event w) a (next_epoch w a) in
     let limit = option_or (cells_limit built w a boot) (log_limit built w a boot) in
     let same = unless-happened limit after h e in
-    let clear = other-open (cells_limit built w a boot) (log_limit built w a boot) (unless-open limit after h e) in
-    subst (λ (x : Happened). IsWorld x.world) same (restart-stays w a stands centre few (log-open built w a boot limited clear))
+    let none = unless-open limit after h e in
+    let clear = other-open (cells_limit built w a boot) (log_limit built w a boot) none in
+    let roomy = either-open (cells_limit built w a boot) (log_limit built w a boot) none in
+    subst (λ (x : Happened). IsWorld x.world) same (restart-stays w a stands centre few (log-open built w a boot limited clear) (cells-open built w a boot celled roomy))
   where
     other-open : (o p : Option EventFault) → option_or o p ≡ None → p ≡ None
     other-open None p e = e
@@ -113,7 +126,7 @@ delivery-stays built bounded w number h stands e = by_sent (numbered w.sent numb
     by_sent None f k = absurd (cc)
     by_sent (Some sent) f k =
         let is = each-numbered (IsSent w.cluster) w.sent number sent stands.sent f in
-        limited-stays built (message_counted w number) sent.envelope.to (Input.Message sent.envelope) h bounded.logs_limited
+        limited-stays built (message_counted w number) sent.envelope.to (Input.Message sent.envelope) h bounded.logs_limited bounded.cells_limited
         (delivered-stays w (number - 1) (w.events + 1) (omega arith) stands) is.within is.envelope_itself k
 
 -- ---- what is not refused
@@ -165,7 +178,7 @@ open-message built bounded w number clear = by_sent (numbered w.sent number) ref
 input-between : (built : Built) (bounded : AreBounded built) (w : World) (a : ℕ) (input : Input) (h : Happened) → IsBetween w → is_centre w.cluster a ≡ true → w.events < most_events → IsWellFormedInput input
     → input_taken built (counted_event w) a input ≡ Ok h → IsBetween h.world
 input-between built bounded w a input h between centre few formed e = record {
-  itself = limited-stays built (counted_event w) a input h bounded.logs_limited (counted-stays w between.itself) centre formed e;
+  itself = limited-stays built (counted_event w) a input h bounded.logs_limited bounded.cells_limited (counted-stays w between.itself) centre formed e;
   few =
       let same = limited-events built (counted_event w) a (step_at built (counted_event w) a input) h e in
       omega (same, few, arith);
@@ -227,7 +240,7 @@ restart-between built bounded w a h between e =
     let after = restart_happened (counted_event w) a (next_epoch w a) in
     let same = unless-happened (option_or (cells_limit built w a boot) (log_limit built w a boot)) after h both.1 in
     let itself : IsWorld after.world =
-    subst (λ (x : Happened). IsWorld x.world) (sym same) (restarted-stays built w a h bounded.logs_limited between.itself there.0 few both.1) in
+    subst (λ (x : Happened). IsWorld x.world) (sym same) (restarted-stays built w a h bounded.logs_limited bounded.cells_limited between.itself there.0 few both.1) in
     subst (λ (x : Happened). IsBetween x.world) same
     (record { itself = itself; few = omega (few, arith) })
 

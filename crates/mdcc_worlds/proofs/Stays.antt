@@ -1,7 +1,7 @@
 -- What holds of a world holds after a step, a delivery, a read, a crash and a restart.
 use Rattle.std.proofs.Common.{◌≡◌, ℕ, zero, suc, ◌-◌, ◌≤◌, ◌<◌, ◌+◌, ◌^◌, ◌==◌, true, false, List, [], ◌∷◌, ◌++◌, refl, sym, ap, ◌∙◌, subst, inl, inr, Option, Some, None, Result, Ok, Err, arith, length, map, get_or, nat_le, if◌then◌else◌}
 use Rattle.std.specs.List.{AllByRecursion}
-use Rattle.std.specs.Prelude.{set}
+use Rattle.std.specs.Prelude.{IsTrue, set}
 use Rattle.std.proofs.lemmas.Bool.{and_parts, cases_Bool, eq-eqb, eqb-true, leb-true, lt-leb}
 use Rattle.std.proofs.lemmas.List.{get_or-set_other, get_or-set_same, length-set}
 use Rattle.mdcc_base.specs.Key.{IsKey}
@@ -16,7 +16,7 @@ use Rattle.mdcc_ledger.specs.Ledger.{Entry, facts_of}
 use Rattle.mdcc_rules.specs.Steps.{NodeStep, answering}
 use Rattle.mdcc_protocol.specs.Visible
 use Rattle.mdcc_protocol.specs.Volatile.{Volatile, nothing_kept}
-use Rattle.mdcc_messages.specs.Lengths.{log_length}
+use Rattle.mdcc_messages.specs.Lengths.{cells_used, log_length}
 use Rattle.mdcc_messages.specs.WellFormed.{IsWellFormedEnvelope, IsWellFormedFact}
 use Rattle.mdcc_messages.specs.Mailbox.{Sent, unsent, with_delivered}
 use Rattle.mdcc_simulation.specs.State.{Happened, Site, World, booted, centre_at, counted_event, down, with_centre}
@@ -29,6 +29,7 @@ use Rattle.mdcc_messages.specs.declared.messages.Envelope.{Envelope}
 use Rattle.mdcc_rules.specs.declared.node.Answer.{Answer}
 use Rattle.mdcc_rules.specs.declared.node.Input.{Input}
 use Rattle.mdcc_rules.specs.declared.node.StepFault.{StepFault}
+use Rattle.mdcc_steps.proofs.Roomy.{room-stays}
 use Rattle.mdcc_steps.proofs.Answered.{answer-formed}
 use Rattle.mdcc_steps.proofs.Booting.{boot-node, boot-reads}
 use Rattle.mdcc_steps.proofs.Cells.{few-logged}
@@ -163,13 +164,14 @@ module _ (w : World) (a : ℕ) (step : NodeStep) (stands : IsWorld w) (centre : 
   ]
 
   pub world-stays : IsNode w.cluster a (with_new (facts_of w.ledger a) step.fact) step.after → LeavesEpoch step.fact → AllByRecursion IsWellFormedEnvelope step.sends → AreShort step.sends
-      → log_length (with_new (facts_of w.ledger a) step.fact) ≤ most_log
+      → log_length (with_new (facts_of w.ledger a) step.fact) ≤ most_log → cells_used (with_new (facts_of w.ledger a) step.fact) ≤ w.cluster.cells
       → IsWorld (world_taken w a step)
-  world-stays node epoch formed short log = record {
+  world-stays node epoch formed short log cells = record {
     cluster_itself = stands.cluster_itself;
     sites = length-set w.centres (a - 1) (record (centre_at w a) { volatile = step.after }) ∙ stands.sites;
     nodes = λ b h. each-stays (λ b facts s. is_centre w.cluster b ≡ true → IsNode w.cluster b facts s.volatile) (λ b some e h. stands.nodes b h) (λ h. node) b (some-centre w.cluster b h).0 h;
     logs = λ b h. each-stays (λ b facts s. is_centre w.cluster b ≡ true → log_length facts ≤ most_log) (λ b some e h. stands.logs b h) (λ h. log) b (some-centre w.cluster b h).0 h;
+    cells = λ b h. each-stays (λ b facts s. is_centre w.cluster b ≡ true → cells_used facts ≤ w.cluster.cells) (λ b some e h. stands.cells b h) (λ h. cells) b (some-centre w.cluster b h).0 h;
     epochs = λ b h. each-stays (λ b facts s. is_centre w.cluster b ≡ true → epoch_of facts ≤ w.events + 1) (λ b some e h. stands.epochs b h)
         (λ h. rw (epoch (facts_of w.ledger a)) (stands.epochs a h)) b (some-centre w.cluster b h).0 h;
     sent = each-append (IsSent w.cluster) w.sent (map unsent step.sends) stands.sent (each-sent w.cluster step.sends formed stays.sends short);
@@ -180,13 +182,14 @@ module _ (w : World) (a : ℕ) (step : NodeStep) (stands : IsWorld w) (centre : 
 
 -- a centre goes down with a new fact, or without one
 down-stays : (w : World) (a : ℕ) (new : Option Fact) → IsWorld w → is_centre w.cluster a ≡ true → IsNode w.cluster a (with_new (facts_of w.ledger a) new) nothing_kept
-    → LeavesEpoch new → log_length (with_new (facts_of w.ledger a) new) ≤ most_log
+    → LeavesEpoch new → log_length (with_new (facts_of w.ledger a) new) ≤ most_log → cells_used (with_new (facts_of w.ledger a) new) ≤ w.cluster.cells
     → IsWorld (record (with_centre w a down) { ledger = with_fact a new w.ledger })
-down-stays w a new stands centre node epoch log = record {
+down-stays w a new stands centre node epoch log cells = record {
   cluster_itself = stands.cluster_itself;
   sites = length-set w.centres (a - 1) down ∙ stands.sites;
   nodes = λ b h. each-put w a down new (λ b facts s. is_centre w.cluster b ≡ true → IsNode w.cluster b facts s.volatile) stands centre stands.nodes (λ h. node) b (some-centre w.cluster b h).0 h;
   logs = λ b h. each-put w a down new (λ b facts s. is_centre w.cluster b ≡ true → log_length facts ≤ most_log) stands centre stands.logs (λ h. log) b (some-centre w.cluster b h).0 h;
+  cells = λ b h. each-put w a down new (λ b facts s. is_centre w.cluster b ≡ true → cells_used facts ≤ w.cluster.cells) stands centre stands.cells (λ h. cells) b (some-centre w.cluster b h).0 h;
   epochs = λ b h. each-put w a down new (λ b facts s. is_centre w.cluster b ≡ true → epoch_of facts ≤ w.events + 1) stands centre stands.epochs
       (λ h. rw (epoch (facts_of w.ledger a)) (stands.epochs a h)) b (some-centre w.cluster b h).0 h;
   sent = stands.sent;
@@ -195,12 +198,13 @@ down-stays w a new stands centre node epoch log = record {
 
 pub stopped-stays : (w : World) (a : ℕ) (fact : Fact) (stop : ℕ × Image) → IsWorld w → is_centre w.cluster a ≡ true
     → (after : Volatile) → IsNode w.cluster a (fact ∷ facts_of w.ledger a) after → LeavesEpoch (Some fact) → log_length (fact ∷ facts_of w.ledger a) ≤ most_log
+    → cells_used (fact ∷ facts_of w.ledger a) ≤ w.cluster.cells
     → IsWorld (step_stopped w a fact stop).world
-stopped-stays w a fact stop stands centre after node epoch log = elim (cases_Bool (is_frame_kept stop.0 stop.1)) [
-  | inl e ↦ rw e (down-stays w a (Some fact) stands centre (node-lost w.cluster a (fact ∷ facts_of w.ledger a) after node) epoch log)
+stopped-stays w a fact stop stands centre after node epoch log cells = elim (cases_Bool (is_frame_kept stop.0 stop.1)) [
+  | inl e ↦ rw e (down-stays w a (Some fact) stands centre (node-lost w.cluster a (fact ∷ facts_of w.ledger a) after node) epoch log cells)
   | inr e ↦
       rw e
-      (down-stays w a None stands centre (node-lost w.cluster a (facts_of w.ledger a) (centre_at w a).volatile (stands.nodes a centre)) (λ facts. refl) (stands.logs a centre))
+      (down-stays w a None stands centre (node-lost w.cluster a (facts_of w.ledger a) (centre_at w a).volatile (stands.nodes a centre)) (λ facts. refl) (stands.logs a centre) (stands.cells a centre))
 ]
 
 -- ---- an input
@@ -213,19 +217,20 @@ log-few built w a stands centre leading = few-logged (facts_of w.ledger a) (stan
 abbrev pub KeepsLog : World → ℕ → Result NodeStep StepFault → Type 0
 KeepsLog w a r = (step : NodeStep) → r ≡ Ok step → log_length (with_new (facts_of w.ledger a) step.fact) ≤ most_log
 
-pub input-stays : (built : Built) (w : World) (a : ℕ) (input : Input) → KeepsLog w a (step_at built w a input) → IsWorld w → is_centre w.cluster a ≡ true → IsWellFormedInput input
+pub input-stays : (built : Built) (w : World) (a : ℕ) (input : Input) → IsTrue built.limit_on_cells → KeepsLog w a (step_at built w a input) → IsWorld w → is_centre w.cluster a ≡ true → IsWellFormedInput input
     → IsWorld (input_happened w a (step_at built w a input)).world
-input-stays built w a input keeps stands centre formed = by_result (step_at built w a input) refl
+input-stays built w a input limited keeps stands centre formed = by_result (step_at built w a input) refl
   where
     by_fact : (step : NodeStep) → IsNode w.cluster a (with_new (facts_of w.ledger a) step.fact) step.after → LeavesEpoch step.fact
-        → log_length (with_new (facts_of w.ledger a) step.fact) ≤ most_log → IsWorld (world_taken w a step)
+        → log_length (with_new (facts_of w.ledger a) step.fact) ≤ most_log → cells_used (with_new (facts_of w.ledger a) step.fact) ≤ w.cluster.cells → IsWorld (world_taken w a step)
         → (o : Option Fact) → step.fact ≡ o → (stop : Option (ℕ × Image)) → (centre_at w a).stop ≡ stop → IsWorld (step_happened_by w a step o).world
-    by_fact step node epoch log whole None e stop k = subst (λ (x : Happened). IsWorld x.world) (sym (by-none w a step e)) whole
-    by_fact step node epoch log whole (Some fact) e None k = subst (λ (x : Happened). IsWorld x.world) (sym (by-some w a step fact e k)) whole
-    by_fact step node epoch log whole (Some fact) e (Some stop) k =
+    by_fact step node epoch log cells whole None e stop k = subst (λ (x : Happened). IsWorld x.world) (sym (by-none w a step e)) whole
+    by_fact step node epoch log cells whole (Some fact) e None k = subst (λ (x : Happened). IsWorld x.world) (sym (by-some w a step fact e k)) whole
+    by_fact step node epoch log cells whole (Some fact) e (Some stop) k =
         rw k
         (stopped-stays w a fact stop stands centre step.after (subst (λ (o : Option Fact). IsNode w.cluster a (with_new (facts_of w.ledger a) o) step.after) e node)
-        (subst LeavesEpoch e epoch) (subst (λ (o : Option Fact). log_length (with_new (facts_of w.ledger a) o) ≤ most_log) e log))
+        (subst LeavesEpoch e epoch) (subst (λ (o : Option Fact). log_length (with_new (facts_of w.ledger a) o) ≤ most_log) e log)
+        (subst (λ (o : Option Fact). cells_used (with_new (facts_of w.ledger a) o) ≤ w.cluster.cells) e cells))
 
     by_result : (r : Result NodeStep StepFault) → step_at built w a input ≡ r → IsWorld (input_happened w a r).world
     by_result (Err fault) e = rw (refused-same w a fault) stands
@@ -237,7 +242,8 @@ input-stays built w a input keeps stands centre formed = by_result (step_at buil
         let short = sends-short built w.cluster a (facts_of w.ledger a) (centre_at w a).volatile input step room node formed e in
         let stays = node-stays built w.cluster a (facts_of w.ledger a) (centre_at w a).volatile input step node formed e in
         let epoch = made-epoch built w.cluster a (facts_of w.ledger a) (centre_at w a).volatile input step stands.cluster_itself.quorums formed e in
-        by_fact step stays epoch (keeps step e) (world-stays w a step stands centre within stays epoch sends short (keeps step e)) step.fact refl (centre_at w a).stop refl
+        let cells = room-stays built w.cluster a (facts_of w.ledger a) (centre_at w a).volatile input step limited (stands.cells a centre) e in
+        by_fact step stays epoch (keeps step e) cells (world-stays w a step stands centre within stays epoch sends short (keeps step e) cells) step.fact refl (centre_at w a).stop refl
 
 -- ---- a delivery
 
@@ -252,6 +258,7 @@ delivered-stays w place events more stands = record {
   sites = stands.sites;
   nodes = stands.nodes;
   logs = stands.logs;
+  cells = stands.cells;
   epochs = λ a h. later (epoch_of (facts_of w.ledger a)) w.events events (stands.epochs a h) more;
   sent = delivered-sent w.cluster w.sent place stands.sent;
   reads = stands.reads;
@@ -268,6 +275,7 @@ counted-stays w stands = record {
   sites = stands.sites;
   nodes = stands.nodes;
   logs = stands.logs;
+  cells = stands.cells;
   epochs = λ a h. later (epoch_of (facts_of w.ledger a)) w.events (stands.epochs a h);
   sent = stands.sent;
   reads = stands.reads;
@@ -288,6 +296,7 @@ read-stays w a key stands centre is =
       sites = stands.sites;
       nodes = stands.nodes;
       logs = stands.logs;
+      cells = stands.cells;
       epochs = stands.epochs;
       sent = stands.sent;
       reads = each-append IsRead w.reads (known_of key (Visible.read (facts_of w.ledger a) key) ∷ []) stands.reads
@@ -303,6 +312,7 @@ crash-stays w a stands centre = record {
   nodes = λ b h. each-put w a down None (λ b facts s. is_centre w.cluster b ≡ true → IsNode w.cluster b facts s.volatile) stands centre stands.nodes
       (λ h. node-lost w.cluster a (facts_of w.ledger a) (centre_at w a).volatile (stands.nodes a h)) b (some-centre w.cluster b h).0 h;
   logs = stands.logs;
+  cells = stands.cells;
   epochs = stands.epochs;
   sent = stands.sent;
   reads = stands.reads;
@@ -317,6 +327,7 @@ stop-stays w a call image stands centre = record {
   nodes = λ b h. each-put w a (record (centre_at w a) { stop = Some (call, image) }) None (λ b facts s. is_centre w.cluster b ≡ true → IsNode w.cluster b facts s.volatile) stands centre stands.nodes
       (λ h. stands.nodes a h) b (some-centre w.cluster b h).0 h;
   logs = stands.logs;
+  cells = stands.cells;
   epochs = stands.epochs;
   sent = stands.sent;
   reads = stands.reads;
@@ -346,14 +357,16 @@ restarted-node cluster a facts volatile node below =
 
 pub restart-stays : (w : World) (a : ℕ) → IsWorld w → is_centre w.cluster a ≡ true → w.events < most_events
     → log_length (Fact.Booted (epoch_of (facts_of w.ledger a) + 1) ∷ facts_of w.ledger a) ≤ most_log
+    → cells_used (Fact.Booted (epoch_of (facts_of w.ledger a) + 1) ∷ facts_of w.ledger a) ≤ w.cluster.cells
     → IsWorld (restart_happened (counted_event w) a (epoch_of (facts_of w.ledger a) + 1)).world
-restart-stays w a stands centre few log = record {
+restart-stays w a stands centre few log cells = record {
   cluster_itself = stands.cluster_itself;
   sites = length-set w.centres (a - 1) booted ∙ stands.sites;
   nodes = λ b h. each-put w a booted (Some fact) (λ b facts s. is_centre w.cluster b ≡ true → IsNode w.cluster b facts s.volatile) stands centre stands.nodes
       (λ h. restarted-node w.cluster a (facts_of w.ledger a) (centre_at w a).volatile (stands.nodes a h) (below-last (epoch_of (facts_of w.ledger a)) w.events (stands.epochs a h) few))
       b (some-centre w.cluster b h).0 h;
   logs = λ b h. each-put w a booted (Some fact) (λ b facts s. is_centre w.cluster b ≡ true → log_length facts ≤ most_log) stands centre stands.logs (λ h. log) b (some-centre w.cluster b h).0 h;
+  cells = λ b h. each-put w a booted (Some fact) (λ b facts s. is_centre w.cluster b ≡ true → cells_used facts ≤ w.cluster.cells) stands centre stands.cells (λ h. cells) b (some-centre w.cluster b h).0 h;
   epochs = λ b h. each-put w a booted (Some fact) (λ b facts s. is_centre w.cluster b ≡ true → epoch_of facts ≤ w.events + 1 + 1) stands centre
       (λ b h. later (epoch_of (facts_of w.ledger b)) w.events (stands.epochs b h)) (λ h. next (epoch_of (facts_of w.ledger a)) w.events (stands.epochs a h)) b (some-centre w.cluster b h).0 h;
   sent = stands.sent;

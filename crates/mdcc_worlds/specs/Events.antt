@@ -13,10 +13,11 @@ pub record IsBetween (w : World) : Type 0 where
   pub itself : IsWorld w
   pub few : w.events ≤ most_events
 
--- where events and logs are limited
+-- where events, logs and cells are limited
 pub record AreBounded (built : Built) : Type 0 where
   pub events_limited : built.limit_on_events ≡ true
   pub logs_limited : built.limit_on_log ≡ true
+  pub cells_limited : built.limit_on_cells ≡ true
 
 -- it is so after each event that happens
 abbrev pub EventsStay : Type 0

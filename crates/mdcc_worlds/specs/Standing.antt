@@ -11,7 +11,7 @@ use Rattle.mdcc_switches.specs.Built.{Built}
 use Rattle.mdcc_protocol.specs.Facts.{epoch_of}
 use Rattle.mdcc_protocol.specs.IsCluster.{IsCluster}
 use Rattle.mdcc_ledger.specs.Ledger.{facts_of}
-use Rattle.mdcc_messages.specs.Lengths.{log_length}
+use Rattle.mdcc_messages.specs.Lengths.{cells_used, log_length}
 use Rattle.mdcc_messages.specs.WellFormed.{IsWellFormedEnvelope, IsWellFormedRead}
 use Rattle.mdcc_messages.specs.Mailbox.{Sent, with_delivered}
 use Rattle.mdcc_simulation.specs.State.{Happened, World, centre_at, counted_event, first_world}
@@ -34,13 +34,14 @@ pub record IsSent (cluster : Cluster) (sent : Sent) : Type 0 where
 abbrev pub IsRead : Known → Type 0
 IsRead known = IsWellFormedRead known.key known.token known.item
 
--- what each centre added and keeps is that of a node, also where it is down; its log is within its limit; its epochs are no more
--- than the events and one; and all messages and reads are such
+-- what each centre added and keeps is that of a node, also where it is down; its log is within its limit, and its facts lie in the
+-- cells of a node; its epochs are no more than the events and one; and all messages and reads are such
 pub record IsWorld (w : World) : Type 0 where
   pub cluster_itself : IsCluster w.cluster
   pub sites : length w.centres ≡ w.cluster.quorums.centres
   pub nodes : (a : ℕ) → is_centre w.cluster a ≡ true → IsNode w.cluster a (facts_of w.ledger a) (centre_at w a).volatile
   pub logs : (a : ℕ) → is_centre w.cluster a ≡ true → log_length (facts_of w.ledger a) ≤ most_log
+  pub cells : (a : ℕ) → is_centre w.cluster a ≡ true → cells_used (facts_of w.ledger a) ≤ w.cluster.cells
   pub epochs : (a : ℕ) → is_centre w.cluster a ≡ true → epoch_of (facts_of w.ledger a) ≤ w.events + 1
   pub sent : AllByRecursion (IsSent w.cluster) w.sent
   pub reads : AllByRecursion IsRead w.reads
@@ -49,10 +50,10 @@ pub record IsWorld (w : World) : Type 0 where
 abbrev pub FirstStands : Type 0
 FirstStands = (cluster : Cluster) → IsCluster cluster → IsWorld (first_world cluster)
 
--- and after each input of a centre that passes no limit, where logs have one
+-- and after each input of a centre that passes no limit, where logs and cells have one
 abbrev pub WorldStays : Type 0
 WorldStays =
-    (built : Built) (w : World) (a : ℕ) (input : Input) (h : Happened) → IsTrue built.limit_on_log
+    (built : Built) (w : World) (a : ℕ) (input : Input) (h : Happened) → IsTrue built.limit_on_log → IsTrue built.limit_on_cells
     → IsWorld w → is_centre w.cluster a ≡ true → IsWellFormedInput input
     → input_taken built w a input ≡ Ok h → IsWorld h.world
 
@@ -82,6 +83,6 @@ StopStays = (w : World) (a call : ℕ) (image : Image) → IsWorld w → is_cent
 -- and after a restart that passes no limit
 abbrev pub RestartStays : Type 0
 RestartStays =
-    (built : Built) (w : World) (a : ℕ) (h : Happened) → IsTrue built.limit_on_log
+    (built : Built) (w : World) (a : ℕ) (h : Happened) → IsTrue built.limit_on_log → IsTrue built.limit_on_cells
     → IsWorld w → is_centre w.cluster a ≡ true → w.events < most_events
     → restarted built w a ≡ Ok h → IsWorld h.world

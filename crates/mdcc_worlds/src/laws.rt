@@ -18,8 +18,8 @@ pub fn steps_stay_within()
 
 /// In a world each centre has a node, also one that is down, and all messages are well-formed and for
 /// centres of the cluster: at first, after each input of a centre, after each delivery and read, after a
-/// crash and a restart, and after a stop is armed. Logs stay within their limit, and each message
-/// that brings a structure is short enough for a frame of a log.
+/// crash and a restart, and after a stop is armed. Logs stay within their limit, the facts of a centre lie
+/// in the cells of its node, and each message that brings a structure is short enough for a frame of a log.
 pub fn worlds_stay()
     ensures first { FirstStands }
     ensures input { WorldStays }
@@ -32,7 +32,7 @@ pub fn worlds_stay()
 {}
 
 /// It is so after each event that happens, and there are no more events than there may be, where
-/// events and logs are limited.
+/// events, logs and cells are limited.
 pub fn events_stay()
     ensures { EventsStay }
 {}
