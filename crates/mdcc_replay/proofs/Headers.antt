@@ -8,7 +8,7 @@ use Rattle.mdcc_base.specs.Quorums.{quorums_of}
 use Rattle.mdcc_option.specs.declared.cluster.Cluster.{Cluster}
 use Rattle.mdcc_option.specs.declared.cluster.FastLimit.{FastLimit}
 use Rattle.mdcc_built.specs.Built.{built}
-use Rattle.mdcc_language.specs.Header.{Left, all_of, next_line, without_next, in_line, is_next, whole_line, in_order, header_line, version_of, last_number, sizes_of, bound_of, fast_limit_of, limit_line, quorums_in, quorums_line, bounds_in, bound_line, Bounds, more_bounds, bounds_lines, header_lines, default_cells}
+use Rattle.mdcc_language.specs.Header.{Left, all_of, next_line, without_next, in_line, is_next, whole_line, in_order, header_line, version_of, last_number, sizes_of, bound_of, fast_limit_of, cells_line, limit_line, quorums_in, quorums_line, bounds_in, bound_line, Bounds, more_bounds, bounds_lines, header_lines, default_cells}
 use Rattle.mdcc_language.specs.Lines.{bounded, bytes_of_line, lines_in, line_end_of}
 use Rattle.mdcc_language.specs.Words.{◌>>=◌, are_plain_digits, is_negative, refused, within, number_of, natural_of, end_at, word_at, word_behind, word_end}
 use Rattle.mdcc_sched.specs.Headers.{numbered, numbered_header}
@@ -76,32 +76,39 @@ line_read P text word read left p h =
 passed : (a b : ℤ) → int_le a b ≡ true → a ≤ℤ b
 passed a b e = record { le = subst T (sym e) tt }
 
-below : (low high : ℕ) (value : ℤ) → int_le (pos low) value ≡ true → int_le value (pos high) ≡ true → nat_abs value ≤ high
-below low high (pos n) e f = let le = passed (pos n) (pos high) f in leb→le n high le.le
-below low high (negsuc n) e f = let le = passed (pos low) (negsuc n) e in absurd le.le
+-- a number from the least to the most
+abbrev pub IsBetween : ℕ → ℕ → ℕ → Type 0
+IsBetween low high n = (low ≤ n) × (n ≤ high)
 
-within_ok : (column low high : ℕ) (value : ℤ) → IfOk (within column (pos low) (pos high) value) (λ v. nat_abs v ≤ high)
+between : (low high : ℕ) (value : ℤ) → int_le (pos low) value ≡ true → int_le value (pos high) ≡ true → IsBetween low high (nat_abs value)
+between low high (pos n) e f =
+    let least = passed (pos low) (pos n) e in
+    let most = passed (pos n) (pos high) f in
+    (leb→le low n least.le, leb→le n high most.le)
+between low high (negsuc n) e f = let le = passed (pos low) (negsuc n) e in absurd le.le
+
+within_ok : (column low high : ℕ) (value : ℤ) → IfOk (within column (pos low) (pos high) value) (λ v. IsBetween low high (nat_abs v))
 within_ok column low high value = by (int_le (pos low) value && int_le value (pos high)) refl
   where
-    by : (test : Bool) → (int_le (pos low) value && int_le value (pos high)) ≡ test → IfOk (cond test (Ok value) (refused column Range)) (λ v. nat_abs v ≤ high)
-    by true e = let parts = and_parts (int_le (pos low) value) (int_le value (pos high)) e in below low high value parts.0 parts.1
+    by : (test : Bool) → (int_le (pos low) value && int_le value (pos high)) ≡ test → IfOk (cond test (Ok value) (refused column Range)) (λ v. IsBetween low high (nat_abs v))
+    by true e = let parts = and_parts (int_le (pos low) value) (int_le value (pos high)) e in between low high value parts.0 parts.1
     by false e = tt
 
 either_ok : {A : Type 0} (P : A → Type 0) (test : Bool) (r : Result A SchedFault) (column : ℕ) → IfOk r P → IfOk (cond test r (refused column Number)) P
 either_ok P true r column p = p
 either_ok P false r column p = tt
 
-natural_ok : (word : List ℕ) (column low high : ℕ) → IfOk (natural_of word column low high) (λ n. n ≤ high)
+natural_ok : (word : List ℕ) (column low high : ℕ) → IfOk (natural_of word column low high) (IsBetween low high)
 natural_ok word column low high =
-    bind_ok (λ (v : ℤ). nat_abs v ≤ high) (λ (n : ℕ). n ≤ high) (number_of word column (pos low) (pos high)) (λ number. Ok (nat_abs number))
-    (either_ok (λ (v : ℤ). nat_abs v ≤ high) (are_plain_digits word || (int_lt (pos low) (pos 0) && is_negative word)) (within column (pos low) (pos high) (signed_digits_value 10 word)) column
+    bind_ok (λ (v : ℤ). IsBetween low high (nat_abs v)) (IsBetween low high) (number_of word column (pos low) (pos high)) (λ number. Ok (nat_abs number))
+    (either_ok (λ (v : ℤ). IsBetween low high (nat_abs v)) (are_plain_digits word || (int_lt (pos low) (pos 0) && is_negative word)) (within column (pos low) (pos high) (signed_digits_value 10 word)) column
     (within_ok column low high (signed_digits_value 10 word)))
     (λ v good. good)
 
-last_ok : (low high at : ℕ) (line : List ℕ) → IfOk (last_number low high at line) (λ n. n ≤ high)
+last_ok : (low high at : ℕ) (line : List ℕ) → IfOk (last_number low high at line) (IsBetween low high)
 last_ok low high at line =
     bind_ok Any _ (word_behind at line) _ (any_ok (word_behind at line)) (λ start _.
-    bind_ok (λ (n : ℕ). n ≤ high) _ (natural_of (word_at start line) (start + 1) low high) _ (natural_ok (word_at start line) (start + 1) low high) (λ number good.
+    bind_ok (IsBetween low high) _ (natural_of (word_at start line) (start + 1) low high) _ (natural_ok (word_at start line) (start + 1) low high) (λ number good.
     bind_ok Any _ (end_at (word_end start line) line 1) _ (any_ok (end_at (word_end start line) line 1)) (λ _ _. good)))
 
 whole_ok : {A : Type 0} (P : A → Type 0) (word : List ℕ) (read : List ℕ → Result A SchedFault) (line : List ℕ) → ((text : List ℕ) → IfOk (read text) P) → IfOk (whole_line word read line) P
@@ -120,6 +127,23 @@ quorums_read : (text : List ℕ) (left : Left) → IsLeft text left → IfOk (qu
 quorums_read text left h =
     bind_ok (Read Any text) (Read Any text) (header_line (codes "quorums") sizes_of left) _ (any_read text (codes "quorums") sizes_of left h) (λ sizes read.
     bind_ok Any (Read Any text) (quorums_in left (quorums_of sizes.0.0 sizes.0.1 sizes.0.2)) _ (any_ok (quorums_in left (quorums_of sizes.0.0 sizes.0.1 sizes.0.2))) (λ quorums _. (tt, read.1)))
+
+-- the last number of a line
+number_read : (text word : List ℕ) (low high at : ℕ) (left : Left) → IsLeft text left → IfOk (header_line word (last_number low high at) left) (Read (IsBetween low high) text)
+number_read text word low high at left h =
+    line_read (IsBetween low high) text word (last_number low high at) left (whole_ok (IsBetween low high) word (last_number low high at) (next_line left) (last_ok low high at)) h
+
+abbrev given_cells : Left → Result (ℕ × Left) HeaderFault
+given_cells left = Ok (default_cells, left)
+
+cells_by : (text : List ℕ) (left : Left) → IsLeft text left → (test : Bool)
+    → IfOk (cond test (header_line (codes "cells") (last_number 1 4194304 5) left) (given_cells left)) (Read (IsBetween 1 4194304) text)
+cells_by text left h true = number_read text (codes "cells") 1 4194304 5 left h
+cells_by text left h false = ((leb→le 1 default_cells tt, leb→le default_cells 4194304 tt), h)
+
+-- the line of the cells may be left out
+cells_read : (text : List ℕ) (left : Left) → IsLeft text left → IfOk (cells_line built left) (Read (IsBetween 1 4194304) text)
+cells_read text left h = cells_by text left h (is_next (codes "cells") left)
 
 abbrev safe_at : Left → Result (FastLimit × Left) HeaderFault
 safe_at left = Ok (FastLimit.Safe, left)
@@ -165,25 +189,25 @@ bounds_read text left h =
 -- the range of a cluster and its cells are in their limits, and the lines behind the header are left
 pub record IsRead (text : List ℕ) (header : Cluster × Left) : Type 0 where
   pub range : header.0.gamma ≤ 1000
-  pub cells : header.0.cells ≡ default_cells
+  pub cells : IsBetween 1 4194304 header.0.cells
   pub left : IsLeft text header.1
 
 pub header_read : (text : List ℕ) → IfOk (header_lines built (all_of text)) (IsRead text)
 header_read text =
     bind_ok (Read Any text) _ (header_line (codes "mdcc-schedule") version_of (all_of text)) _ (any_read text (codes "mdcc-schedule") version_of (all_of text) refl) (λ version a.
     bind_ok (Read Any text) _ (quorums_line version.1) _ (quorums_read text version.1 a.1) (λ quorums b.
-    bind_ok (Read (λ (g : ℕ). g ≤ 1000) text) _ (header_line (codes "gamma") (last_number 0 1000 5) quorums.1) _
-    (line_read (λ (g : ℕ). g ≤ 1000) text (codes "gamma") (last_number 0 1000 5) quorums.1 (whole_ok (λ (g : ℕ). g ≤ 1000) (codes "gamma") (last_number 0 1000 5) (next_line quorums.1) (last_ok 0 1000 5)) b.1) (λ gamma c.
-    bind_ok (Read Any text) _ (limit_line built gamma.1) _ (limit_read text gamma.1 c.1) (λ limit l.
+    bind_ok (Read (IsBetween 0 1000) text) _ (header_line (codes "gamma") (last_number 0 1000 5) quorums.1) _ (number_read text (codes "gamma") 0 1000 5 quorums.1 b.1) (λ gamma c.
+    bind_ok (Read (IsBetween 1 4194304) text) _ (cells_line built gamma.1) _ (cells_read text gamma.1 c.1) (λ cells m.
+    bind_ok (Read Any text) _ (limit_line built cells.1) _ (limit_read text cells.1 m.1) (λ limit l.
     bind_ok (Read Any text) _ (bounds_lines limit.1) _ (bounds_read text limit.1 l.1) (λ bounds d.
     bind_ok (Read Any text) _ (header_line (codes "start") (λ line. end_at 5 line 1) bounds.1) _ (any_read text (codes "start") (λ line. end_at 5 line 1) bounds.1 d.1) (λ start e.
-    record { range = c.0; cells = refl; left = e.1 }))))))
+    record { range = c.0.1; cells = m.0; left = e.1 })))))))
 
 -- ---- the cluster, the place and the number of the line that a header gives
 
 pub record IsHeader (text : List ℕ) (cluster : Cluster) (end first : ℕ) : Type 0 where
   pub range : cluster.gamma ≤ 1000
-  pub cells : cluster.cells ≡ default_cells
+  pub cells : IsBetween 1 4194304 cluster.cells
   pub left : Left
   pub read : header_lines built (all_of text) ≡ Ok (cluster, left)
   pub at : left.at ≡ end
@@ -204,7 +228,7 @@ given_by text cluster end first (Ok (found, left)) e h f =
     let same : found ≡ cluster = ap (λ (p : Cluster × ℕ × ℕ). p.0) all in
     record {
       range = subst (λ (c : Cluster). c.gamma ≤ 1000) same h.range;
-      cells = subst (λ (c : Cluster). c.cells ≡ default_cells) same h.cells;
+      cells = subst (λ (c : Cluster). IsBetween 1 4194304 c.cells) same h.cells;
       left = left;
       read = e ∙ ap (λ (c : Cluster). let r : Result (Cluster × Left) HeaderFault = Ok (c, left) in r) same;
       at = ap (λ (p : Cluster × ℕ × ℕ). p.1) all;

@@ -29,7 +29,7 @@ use Rattle.mdcc_replay.specs.declared.writing.Failure.{Failure}
 pub cluster_given : (text : List ℕ) (cluster : Cluster) (end first : ℕ) → numbered_header text ≡ Ok (cluster, end, first) → AreQuorums cluster.quorums → IsSchema cluster.schema → IsCluster cluster
 cluster_given text cluster end first e quorums schema =
     let header = header_given text cluster end first e in
-    record { quorums = quorums; schema = schema; range = header.range; some_cells = omega (arith, header.cells); cells = omega (arith, header.cells) }
+    record { quorums = quorums; schema = schema; range = header.range; some_cells = header.cells.0; cells = header.cells.1 }
 
 -- ---- lengths
 

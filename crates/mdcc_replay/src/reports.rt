@@ -175,7 +175,7 @@ fn replay_behind<W: Simulation + Drop, O: Sink>(
     out: &mut O,
 ) -> Result<Option<Refusal>, Failure>
     requires short { length input.now ≤ LIMIT }
-    requires few { first ≤ 10 }
+    requires few { first ≤ 11 }
     requires header { numbered_header input.now ≡ Ok (cluster.now, end, first) }
     ensures written { Replayed (O.held out.old) (O.held out.new) (replay_of built input.now) result }
     ensures later { O.faults out.old ≤ O.faults out.new }
