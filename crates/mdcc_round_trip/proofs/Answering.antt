@@ -16,7 +16,7 @@ use Rattle.mdcc_option.specs.declared.cluster.Cluster.{Cluster}
 use Rattle.mdcc_switches.specs.Built.{Built}
 use Rattle.mdcc_ledger.specs.Ledger.{Entry, facts_of}
 use Rattle.mdcc_language.specs.declared.lines.Line.{Line}
-use Rattle.mdcc_messages.specs.Lengths.{cells_needed}
+use Rattle.mdcc_messages.specs.Lengths.{cells_needed, cells_used}
 use Rattle.mdcc_messages.specs.declared.facts.Fact.{Fact}
 use Rattle.mdcc_protocol.specs.Belongs.{choice_belongs, is_centre, tx_belongs, update_belongs}
 use Rattle.mdcc_protocol.specs.Facts.{heard_of}
@@ -40,7 +40,7 @@ use Rattle.mdcc_round_trip.specs.RoundTrips.{IsUndecidedAt, is_dropped, is_heari
 use Rattle.mdcc_round_trip.proofs.Apart.{key-same, of_both, of_key}
 use Rattle.mdcc_round_trip.proofs.Deciding.{IsIn, committed-with, each-in, of-each, uncollided-before, undecided-before}
 use Rattle.mdcc_round_trip.proofs.Delivering.{Delivers, Name, counted, delivery-told, delivery_told, messages-after, name-more}
-use Rattle.mdcc_round_trip.proofs.Proposing.{NoneDropped, NoneHears, number-same}
+use Rattle.mdcc_round_trip.proofs.Proposing.{NoneDropped, NoneHears, number-same, room-fits}
 use Rattle.mdcc_round_trip.proofs.Lists.{each-append, each-back, each-both, each-front, each-map, each-weaker, none-numbered, number-append}
 
 -- ---- a vote that is counted
@@ -259,9 +259,12 @@ module _ (built : Built) (w : World) (a : ℕ) (t : Undecided) (members : List �
       quiet-there : NoneHears a t.tx next.lines
       quiet-there = subst (λ (x : Happened). NoneHears a t.tx x.lines) (sym quiet-told) (refl, tt)
 
+      undropped-there : NoneDropped next.lines
+      undropped-there = subst (λ (x : Happened). NoneDropped x.lines) (sym quiet-told) (refl, tt)
+
     -- ---- the one that decides
 
-    module _ (all : decision w.cluster.quorums (counting (centre_at w a).volatile.manager (before ++ pair ∷ [])) t.tx ≡ Some (Outcome.Commit t.choices)) (roomy : NoneDropped next.lines) where
+    module _ (all : decision w.cluster.quorums (counting (centre_at w a).volatile.manager (before ++ pair ∷ [])) t.tx ≡ Some (Outcome.Commit t.choices)) where
       abbrev fact : Fact
       fact = Fact.Heard pair.0.tx (Outcome.Commit t.choices)
 
@@ -273,21 +276,25 @@ module _ (built : Built) (w : World) (a : ℕ) (t : Undecided) (members : List �
           ap (λ (es : List Entry). is_crowding (facts_of es a) (Fact.Heard pair.0.tx (Outcome.Commit t.choices))) c.ledger
           ∙ ap (λ tx. is_crowding (facts_of w.ledger a) (Fact.Heard tx (Outcome.Commit t.choices))) pair-is.own ∙ undecided.uncrowded
 
-      last-lines : next.lines ≡ Line.Deliver number (next_message (fact_taken (counted u number) a last_step fact).world) ∷ Line.Heard a pair.0.tx true ∷ []
-      last-lines = by (is_without_room built u.cluster (facts_of u.ledger a) (Fact.Heard pair.0.tx (Outcome.Commit t.choices))) refl
-        where
-          whole : next ≡ delivery_told number (input_happened (counted u number) a (checked built u.cluster (facts_of u.ledger a) (Ok (decided_step u.cluster a (centre_at u a).volatile pair.0.tx (Outcome.Commit t.choices)))))
-          whole = told-by (Some (Outcome.Commit t.choices)) (decides-here ∙ all)
+      whole : next ≡ delivery_told number (input_happened (counted u number) a (checked built u.cluster (facts_of u.ledger a) (Ok (decided_step u.cluster a (centre_at u a).volatile pair.0.tx (Outcome.Commit t.choices)))))
+      whole = told-by (Some (Outcome.Commit t.choices)) (decides-here ∙ all)
 
-          by : (b : Bool) → is_without_room built u.cluster (facts_of u.ledger a) (Fact.Heard pair.0.tx (Outcome.Commit t.choices)) ≡ b
-              → next.lines ≡ Line.Deliver number (next_message (fact_taken (counted u number) a last_step fact).world) ∷ Line.Heard a pair.0.tx true ∷ []
+      -- it has room where it is not dropped
+      roomy-commit : NoneDropped next.lines → is_without_room built u.cluster (facts_of u.ledger a) (Fact.Heard pair.0.tx (Outcome.Commit t.choices)) ≡ false
+      roomy-commit roomy = by (is_without_room built u.cluster (facts_of u.ledger a) (Fact.Heard pair.0.tx (Outcome.Commit t.choices))) refl
+        where
+          by : (b : Bool) → is_without_room built u.cluster (facts_of u.ledger a) (Fact.Heard pair.0.tx (Outcome.Commit t.choices)) ≡ b → b ≡ false
           by true e =
               let dropped : next.lines ≡ (delivery_told number (input_happened (counted u number) a (Err (StepFault.NoRoom (cells_needed (Fact.Heard pair.0.tx (Outcome.Commit t.choices))) (cells_spare u.cluster (facts_of u.ledger a)))))).lines =
               ap (λ (x : Happened). x.lines) whole ∙ rw e refl in
               let kept = subst NoneDropped dropped roomy in absurd (true≢false kept.1.0)
-          by false e =
-              ap (λ (x : Happened). x.lines) whole
-              ∙ rw (e, uncrowded-here) (ap (λ stop. (delivery_told number (fact_happened (counted u number) a last_step fact stop)).lines) c.unstopped)
+          by false e = refl
+
+      last-lines : is_without_room built u.cluster (facts_of u.ledger a) (Fact.Heard pair.0.tx (Outcome.Commit t.choices)) ≡ false
+          → next.lines ≡ Line.Deliver number (next_message (fact_taken (counted u number) a last_step fact).world) ∷ Line.Heard a pair.0.tx true ∷ []
+      last-lines e =
+          ap (λ (x : Happened). x.lines) whole
+          ∙ rw (e, uncrowded-here) (ap (λ stop. (delivery_told number (fact_happened (counted u number) a last_step fact stop)).lines) c.unstopped)
 
   -- the last line of all is the commit that the centre hears
   pub all-voted : (numbers : List ℕ) (before after : List (Choice × ℕ)) (u v : World) (lines : List Line) → order ≡ before ++ after → 1 ≤ length after → Counted before u
@@ -302,7 +309,7 @@ module _ (built : Built) (w : World) (a : ℕ) (t : Undecided) (members : List �
       let all : decision w.cluster.quorums (counting (centre_at w a).volatile.manager (before ++ pair ∷ [])) t.tx ≡ Some (Outcome.Commit t.choices) =
       subst (λ ps. decision w.cluster.quorums (counting (centre_at w a).volatile.manager ps) t.tx ≡ Some (Outcome.Commit t.choices)) is
       (committed-with w.cluster.quorums (centre_at w a).volatile.manager t members order are undecided.uncounted choices quorum moved) in
-      let told = last-lines before pair [] is u c number next name.0 d.1 all first in
+      let told = last-lines before pair [] is u c number next name.0 d.1 all (roomy-commit before pair [] is u c number next name.0 d.1 all first) in
       let own = (at-split before pair [] is).own in (
         Line.Deliver number (next_message (fact_taken (counted u number) a (decided_step u.cluster a (centre_at u a).volatile pair.0.tx (Outcome.Commit t.choices)) (Fact.Heard pair.0.tx (Outcome.Commit t.choices))).world) ∷ [],
         d.2.1 ∙ ap (λ rest. next.lines ++ rest) d.2.2.1 ∙ append-nil next.lines ∙ told
@@ -326,6 +333,39 @@ module _ (built : Built) (w : World) (a : ℕ) (t : Undecided) (members : List �
         d.2.1 ∙ ap (λ ls. next.lines ++ ls) ih.1 ∙ sym (append_assoc next.lines ih.0 (Line.Heard a t.tx true ∷ [])),
         each-append (λ line. is_hearing a t.tx line ≡ false) next.lines ih.0 quiet ih.2,
       )
+
+  -- where the centre has cells for the commit, none of the deliveries is dropped
+  pub all-kept : (numbers : List ℕ) (before after : List (Choice × ℕ)) (u v : World) (lines : List Line) → order ≡ before ++ after → Counted before u
+      → Name (vote_of_member a) u numbers after → Delivers built u numbers v lines
+      → cells_used (facts_of w.ledger a) + cells_needed (Fact.Heard t.tx (Outcome.Commit t.choices)) ≤ w.cluster.cells → NoneDropped lines
+  all-kept [] before [] u v lines is c name d room = subst NoneDropped (sym d.1) tt
+  all-kept (number ∷ numbers) before [] u v lines is c name d room = absurd name
+  all-kept [] before (pair ∷ after) u v lines is c name d room = absurd name
+  all-kept (number ∷ []) before (pair ∷ []) u v lines is c name d room =
+      let next = d.0 in
+      let all : decision w.cluster.quorums (counting (centre_at w a).volatile.manager (before ++ pair ∷ [])) t.tx ≡ Some (Outcome.Commit t.choices) =
+      subst (λ ps. decision w.cluster.quorums (counting (centre_at w a).volatile.manager ps) t.tx ≡ Some (Outcome.Commit t.choices)) is
+      (committed-with w.cluster.quorums (centre_at w a).volatile.manager t members order are undecided.uncounted choices quorum moved) in
+      let own = (at-split before pair [] is).own in
+      let fits : is_without_room built u.cluster (facts_of u.ledger a) (Fact.Heard pair.0.tx (Outcome.Commit t.choices)) ≡ false =
+      ap (λ (es : List Entry). is_without_room built u.cluster (facts_of es a) (Fact.Heard pair.0.tx (Outcome.Commit t.choices))) c.ledger
+      ∙ ap (λ (k : Cluster). is_without_room built k (facts_of w.ledger a) (Fact.Heard pair.0.tx (Outcome.Commit t.choices))) c.cluster
+      ∙ ap (λ tx. is_without_room built w.cluster (facts_of w.ledger a) (Fact.Heard tx (Outcome.Commit t.choices))) own
+      ∙ room-fits built w.cluster (facts_of w.ledger a) (Fact.Heard t.tx (Outcome.Commit t.choices)) room in
+      let told = last-lines before pair [] is u c number next name.0 d.1 all fits in
+      subst NoneDropped (sym (d.2.1 ∙ ap (λ rest. next.lines ++ rest) d.2.2.1 ∙ append-nil next.lines ∙ told)) (refl, (refl, tt))
+  all-kept (number ∷ m ∷ numbers) before (pair ∷ []) u v lines is c name d room = absurd name.1
+  all-kept (number ∷ numbers) before (pair ∷ q ∷ after) u v lines is c name d room =
+      let next = d.0 in
+      let is' : order ≡ (before ++ pair ∷ []) ++ q ∷ after = is ∙ sym (append_assoc before (pair ∷ []) (q ∷ after)) in
+      let none = undecided-before w.cluster.quorums (centre_at w a).volatile.manager t members order are undecided.uncounted choices quorum moved (before ++ pair ∷ []) q after is' in
+      let apart = uncollided-before w.cluster.quorums (centre_at w a).volatile.manager t members order are undecided.uncounted choices quorum moved (before ++ pair ∷ []) (q ∷ after) is' pair.0.key in
+      let there = counted-there before pair (q ∷ after) is u c number next name.0 d.1 none apart in
+      let messages = messages-there before pair (q ∷ after) is u c number next name.0 d.1 none apart in
+      let kept = undropped-there before pair (q ∷ after) is u c number next name.0 d.1 none apart in
+      let ih = all-kept numbers (before ++ pair ∷ []) (q ∷ after) next.world v d.2.0 is' there
+      (name-more (vote_of_member a) u next.world [] numbers (q ∷ after) messages name.1) d.2.2 room in
+      subst NoneDropped (sym d.2.1) (each-append (λ line. is_dropped line ≡ false) next.lines d.2.0 kept ih)
 
   pub nothing-counted : Counted [] w
   nothing-counted = record { cluster = refl; ledger = refl; size = refl; unstopped = undecided.unstopped; votes = rw (append-nil (centre_at w a).volatile.manager.votes) refl }

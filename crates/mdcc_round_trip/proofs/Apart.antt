@@ -99,7 +99,7 @@ each-pair P (choice ∷ choices) members h =
 one_key : (key : Key) (a b : Choice) → choice_of_key key a ≡ true → choice_of_key key b ≡ true → have_one_key a b ≡ true
 one_key key a b h g = subst (λ k. key_eq a.key k ≡ true) (sym (key-true b.key key g)) h
 
-one_member : (member : ℕ) (m n : ℕ) → (m == member) ≡ true → (n == member) ≡ true → (m == n) ≡ true
+pub one_member : (member : ℕ) (m n : ℕ) → (m == member) ≡ true → (n == member) ≡ true → (m == n) ≡ true
 one_member member m n h g = subst (λ k. (m == k) ≡ true) (sym (eqb-true n member g)) h
 
 module _ (choices : List Choice) (members : List ℕ) (order : List (Choice × ℕ)) (moved : IsPermutation (each_with choices members) order) where

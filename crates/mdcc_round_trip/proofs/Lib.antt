@@ -7,6 +7,7 @@ pub mod Deciding
 pub mod Delivering
 pub mod Proposing
 pub mod Answering
+pub mod Roomy
 pub mod Trips
 pub mod Worlds
 pub mod Refusals

@@ -1,8 +1,8 @@
 -- The proposals are delivered one after the other: each gives a vote, whatever their order.
-use Rattle.std.proofs.Common.{◌≡◌, ℕ, ◌+◌, ◌-◌, ◌≤◌, ◌==◌, Bool, true, false, cond, List, [], ◌∷◌, ◌++◌, refl, sym, ap, ◌∙◌, subst, inl, inr, arith, map, length, max, nat_lt, append_assoc, append-nil, get_or, Some, None, Ok, Err}
+use Rattle.std.proofs.Common.{◌≡◌, ℕ, ◌+◌, ◌-◌, ◌≤◌, ◌==◌, ◌&&◌, Bool, true, false, cond, List, [], ◌∷◌, ◌++◌, refl, sym, ap, ◌∙◌, subst, inl, inr, arith, map, length, max, nat_lt, append_assoc, append-nil, get_or, Some, None, Ok, Err}
 use Rattle.std.specs.List.{AllByRecursion, list_any}
 use Rattle.std.proofs.Math.Nat.{max-zero}
-use Rattle.std.proofs.lemmas.Bool.{cases_Bool, eq-eqb, eqb-true, true≢false}
+use Rattle.std.proofs.lemmas.Bool.{cases_Bool, eq-eqb, eqb-true, le-ltb, true≢false}
 use Rattle.std.proofs.lemmas.List.{set-get_or}
 use Rattle.mdcc_base.specs.Counts.{number_of}
 use Rattle.mdcc_base.specs.Key.{key_eq}
@@ -20,7 +20,7 @@ use Rattle.mdcc_protocol.specs.Belongs.{choice_belongs, is_centre}
 use Rattle.mdcc_protocol.specs.Facts.{current_of, deltas_at, executed_of, heard_of, version_from}
 use Rattle.mdcc_protocol.specs.News.{is_crowding, keys_in}
 use Rattle.mdcc_protocol.specs.Volatile.{Volatile}
-use Rattle.mdcc_messages.specs.Lengths.{cells_needed}
+use Rattle.mdcc_messages.specs.Lengths.{cells_needed, cells_used}
 use Rattle.mdcc_rules.specs.Node.{cells_spare, is_without_room, step_of}
 use Rattle.mdcc_rules.specs.declared.node.Input.{Input}
 use Rattle.mdcc_rules.specs.declared.node.StepFault.{StepFault}
@@ -55,6 +55,18 @@ voted-crowding facts choice fact =
     any-alike (λ key. nat_lt 64 (length (executed_of (fact ∷ accepting_fact choice ∷ facts) key))) (λ key. nat_lt 64 (length (executed_of (fact ∷ facts) key))) (keys_in fact)
     (λ key. ap (λ n. nat_lt 64 (length (deltas_at (fact ∷ facts) key (max n (version_from key fact))))) (max-zero (current_of facts key)))
 
+-- a fact that lies in the cells with the others has room
+pub room-fits : (built : Built) (cluster : Cluster) (facts : List Fact) (fact : Fact) → cells_used facts + cells_needed fact ≤ cluster.cells → is_without_room built cluster facts fact ≡ false
+room-fits built cluster facts fact h =
+    by built.limit_on_cells (nat_lt (cells_spare cluster facts) (cells_needed fact)) (le-ltb (cells_spare cluster facts) (cells_needed fact) (spare (cells_used facts) (cells_needed fact) cluster.cells h))
+  where
+    spare : (used needed all : ℕ) → used + needed ≤ all → needed ≤ all - used
+    spare used needed all h = omega (arith, h)
+
+    by : (limited lacks : Bool) → lacks ≡ false → (limited && lacks) ≡ false
+    by true lacks e = e
+    by false lacks e = refl
+
 -- ---- the world after some proposals
 
 pub record After (w v : World) (sends : List Envelope) : Type 0 where
@@ -78,51 +90,60 @@ NoneHears a tx lines = AllByRecursion (λ line. is_hearing a tx line ≡ false) 
 
 module _ (built : Built) (a : ℕ) (tx : TxId) (enabled : built.proposals ≡ true) where
   -- one proposal that was delivered
-  record Proposed (w : World) (pair : Choice × ℕ) (next : Happened) : Type 0 where
-    cluster : next.world.cluster ≡ w.cluster
-    centres : next.world.centres ≡ w.centres
-    messages : messages_of next.world ≡ messages_of w ++ vote_of_member a pair ∷ []
-    ledger : next.world.ledger ≡ Added pair.1 (accepting_fact pair.0) ∷ w.ledger
-    quiet : NoneHears a tx next.lines
+  pub record Proposed (w : World) (pair : Choice × ℕ) (next : Happened) : Type 0 where
+    pub cluster : next.world.cluster ≡ w.cluster
+    pub centres : next.world.centres ≡ w.centres
+    pub messages : messages_of next.world ≡ messages_of w ++ vote_of_member a pair ∷ []
+    pub ledger : next.world.ledger ≡ Added pair.1 (accepting_fact pair.0) ∷ w.ledger
+    pub quiet : NoneHears a tx next.lines
+    pub undropped : NoneDropped next.lines
 
-  proposed : (w : World) (number : ℕ) (pair : Choice × ℕ) (next : Happened) → is_centre w.cluster a ≡ true → Accepts w pair
-      → message_at w number ≡ Some (proposal_of a pair) → delivery_of built w number ≡ Ok next → NoneDropped next.lines → Proposed w pair next
-  proposed w number pair next centre h named answer roomy = by (is_without_room built w.cluster facts (accepting_fact pair.0)) refl
-    where
-      facts : List Fact
-      facts = facts_of w.ledger pair.1
+  -- the member has cells for the vote
+  abbrev pub HasRoom : World → Choice × ℕ → Type 0
+  HasRoom w pair = is_without_room built w.cluster (facts_of w.ledger pair.1) (accepting_fact pair.0) ≡ false
 
-      volatile : Volatile
-      volatile = (centre_at w pair.1).volatile
+  module _ (w : World) (number : ℕ) (pair : Choice × ℕ) (next : Happened) (centre : is_centre w.cluster a ≡ true) (h : Accepts w pair)
+      (named : message_at w number ≡ Some (proposal_of a pair)) (answer : delivery_of built w number ≡ Ok next) where
+    told : next ≡ delivery_told number (input_happened (counted w number) pair.1 (vote_if_roomy built w.cluster (facts_of w.ledger pair.1) (centre_at w pair.1).volatile a pair))
+    told =
+        delivery-told built w number (proposal_of a pair) next named answer
+        ∙ ap (λ r. delivery_told number (input_happened (counted w number) pair.1 r)) (proposal-step built w.cluster a (facts_of w.ledger pair.1) (centre_at w pair.1).volatile pair enabled centre h.belongs h.accepted)
 
-      told : next ≡ delivery_told number (input_happened (counted w number) pair.1 (vote_if_roomy built w.cluster (facts_of w.ledger pair.1) (centre_at w pair.1).volatile a pair))
-      told =
-          delivery-told built w number (proposal_of a pair) next named answer
-          ∙ ap (λ r. delivery_told number (input_happened (counted w number) pair.1 r)) (proposal-step built w.cluster a (facts_of w.ledger pair.1) (centre_at w pair.1).volatile pair enabled centre h.belongs h.accepted)
+    -- so it is where nothing is dropped
+    pub roomy-undropped : NoneDropped next.lines → HasRoom w pair
+    roomy-undropped roomy = by (is_without_room built w.cluster (facts_of w.ledger pair.1) (accepting_fact pair.0)) refl
+      where
+        by : (b : Bool) → is_without_room built w.cluster (facts_of w.ledger pair.1) (accepting_fact pair.0) ≡ b → b ≡ false
+        by true e =
+            let is : next.lines ≡ (delivery_told number (input_happened (counted w number) pair.1 (Err (StepFault.NoRoom (cells_needed (accepting_fact pair.0)) (cells_spare w.cluster (facts_of w.ledger pair.1)))))).lines = ap (λ (x : Happened). x.lines) told ∙ rw e refl in
+            let kept = subst NoneDropped is roomy in absurd (true≢false kept.1.0)
+        by false e = refl
 
-      by : (b : Bool) → is_without_room built w.cluster (facts_of w.ledger pair.1) (accepting_fact pair.0) ≡ b → Proposed w pair next
-      by true e =
-          let is : next.lines ≡ (delivery_told number (input_happened (counted w number) pair.1 (Err (StepFault.NoRoom (cells_needed (accepting_fact pair.0)) (cells_spare w.cluster (facts_of w.ledger pair.1)))))).lines = ap (λ (x : Happened). x.lines) told ∙ rw e refl in
-          let kept = subst NoneDropped is roomy in absurd (true≢false kept.1.0)
-      by false e =
-          let step = vote_step (centre_at w pair.1).volatile a pair in
-          let fact = accepting_fact pair.0 in
-          let is : next ≡ delivery_told number (fact_taken (counted w number) pair.1 step fact) =
-          told ∙ rw e (ap (λ stop. delivery_told number (fact_happened (counted w number) pair.1 step fact stop)) h.unstopped) in
-          record {
-            cluster = ap (λ (x : Happened). x.world.cluster) is;
-            centres = ap (λ (x : Happened). x.world.centres) is ∙ set-get_or w.centres (pair.1 - 1) booted;
-            messages = ap (λ (x : Happened). messages_of x.world) is ∙ messages-after w.sent (number - 1) (vote_of_member a pair ∷ []);
-            ledger = ap (λ (x : Happened). x.world.ledger) is;
-            quiet = subst (λ (x : Happened). NoneHears a tx x.lines) (sym is) (
-              refl,
-              each-append (λ line. is_hearing a tx line ≡ false) (chosen_lines w.cluster.quorums (Added pair.1 fact) w.ledger) []
-                  (each-map (λ line. is_hearing a tx line ≡ false) _ _ (each-any _ _ (λ e. refl))) tt,
-            );
-          }
+    pub proposed : HasRoom w pair → Proposed w pair next
+    proposed e =
+        let step = vote_step (centre_at w pair.1).volatile a pair in
+        let fact = accepting_fact pair.0 in
+        let is : next ≡ delivery_told number (fact_taken (counted w number) pair.1 step fact) =
+        told ∙ rw e (ap (λ stop. delivery_told number (fact_happened (counted w number) pair.1 step fact stop)) h.unstopped) in
+        record {
+          cluster = ap (λ (x : Happened). x.world.cluster) is;
+          centres = ap (λ (x : Happened). x.world.centres) is ∙ set-get_or w.centres (pair.1 - 1) booted;
+          messages = ap (λ (x : Happened). messages_of x.world) is ∙ messages-after w.sent (number - 1) (vote_of_member a pair ∷ []);
+          ledger = ap (λ (x : Happened). x.world.ledger) is;
+          quiet = subst (λ (x : Happened). NoneHears a tx x.lines) (sym is) (
+            refl,
+            each-append (λ line. is_hearing a tx line ≡ false) (chosen_lines w.cluster.quorums (Added pair.1 fact) w.ledger) []
+                (each-map (λ line. is_hearing a tx line ≡ false) _ _ (each-any _ _ (λ e. refl))) tt,
+          );
+          undropped = subst (λ (x : Happened). NoneDropped x.lines) (sym is) (
+            refl,
+            each-append (λ line. is_dropped line ≡ false) (chosen_lines w.cluster.quorums (Added pair.1 fact) w.ledger) []
+                (each-map (λ line. is_dropped line ≡ false) _ _ (each-any _ _ (λ e. refl))) tt,
+          );
+        }
 
   -- what another member, or this one about another key, would accept it still would
-  still : (w : World) (pair : Choice × ℕ) (next : Happened) → Proposed w pair next → (other : Choice × ℕ) → Accepts w other → of_both pair.0.key pair.1 other ≡ false → Accepts next.world other
+  pub still : (w : World) (pair : Choice × ℕ) (next : Happened) → Proposed w pair next → (other : Choice × ℕ) → Accepts w other → of_both pair.0.key pair.1 other ≡ false → Accepts next.world other
   still w pair next d other h differ = record {
     belongs = subst (λ (c : Cluster). choice_belongs c other.0 ≡ true) (sym d.cluster) h.belongs;
     unstopped = subst (λ (cs : List Site). (get_or cs (other.1 - 1) booted).stop ≡ None) (sym d.centres) h.unstopped;
@@ -167,13 +188,13 @@ module _ (built : Built) (a : ℕ) (tx : TxId) (enabled : built.proposals ≡ tr
   abbrev pub AreOnce : List (Choice × ℕ) → Type 0
   AreOnce order = (key : Key) (member : ℕ) → number_of (of_both key member) order ≤ 1
 
-  first-apart : (pair : Choice × ℕ) (order : List (Choice × ℕ)) → AreOnce (pair ∷ order) → AllByRecursion (λ other. of_both pair.0.key pair.1 other ≡ false) order
+  pub first-apart : (pair : Choice × ℕ) (order : List (Choice × ℕ)) → AreOnce (pair ∷ order) → AllByRecursion (λ other. of_both pair.0.key pair.1 other ≡ false) order
   first-apart pair order once =
       let all = once pair.0.key pair.1 in
       let head : number_of (of_both pair.0.key pair.1) (pair ∷ order) ≡ 1 + number_of (of_both pair.0.key pair.1) order = rw (key-same pair.0.key, number-same pair.1) refl in
       none-numbered (of_both pair.0.key pair.1) order (omega (arith, all, head))
 
-  rest-once : (pair : Choice × ℕ) (order : List (Choice × ℕ)) → AreOnce (pair ∷ order) → AreOnce order
+  pub rest-once : (pair : Choice × ℕ) (order : List (Choice × ℕ)) → AreOnce (pair ∷ order) → AreOnce order
   rest-once pair order once key member = let all = once key member in omega (arith, all)
 
   pub all-proposed : (numbers : List ℕ) (order : List (Choice × ℕ)) (w v : World) (lines : List Line) → is_centre w.cluster a ≡ true → Name (proposal_of a) w numbers order
@@ -195,7 +216,8 @@ module _ (built : Built) (a : ℕ) (tx : TxId) (enabled : built.proposals ≡ tr
       let next = d.0 in
       let rest = d.2.0 in
       let both = subst NoneDropped d.2.1 roomy in
-      let one = proposed w number pair next centre accept.0 name.0 d.1 (each-front (λ line. is_dropped line ≡ false) next.lines rest both) in
+      let room = roomy-undropped w number pair next centre accept.0 name.0 d.1 (each-front (λ line. is_dropped line ≡ false) next.lines rest both) in
+      let one = proposed w number pair next centre accept.0 name.0 d.1 room in
       let ih = all-proposed numbers order next.world v rest (subst (λ (c : Cluster). is_centre c a ≡ true) (sym one.cluster) centre)
       (name-more (proposal_of a) w next.world (vote_of_member a pair ∷ []) numbers order one.messages name.1)
       (each-weaker (λ other. Accepts w other × (of_both pair.0.key pair.1 other ≡ false)) (Accepts next.world) order (λ other h. still w pair next one other h.0 h.1)

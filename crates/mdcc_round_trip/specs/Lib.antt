@@ -4,4 +4,5 @@ pub mod Messages
 pub mod RoundTrips
 pub mod Example
 pub mod Worlds
+pub mod Cells
 pub mod Refusals

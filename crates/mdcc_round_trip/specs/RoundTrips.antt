@@ -68,9 +68,9 @@ abbrev pub is_hearing : ℕ → TxId → Line → Bool
 is_hearing a tx (Line.Heard b tx' is_commit) = b == a && tx_eq tx' tx
 is_hearing a tx line = false
 
--- the proposals are delivered to all members in some order, and then the votes that they gave to the centre, in some other order. No limit
--- is reached: neither line is refused, and none of their deliveries is dropped
-pub record IsRoundTrip (built : Built) (w : World) (a : ℕ) (t : Undecided) (members : List ℕ) (first second : Happened) : Type 0 where
+-- the proposals are delivered to all members in some order, and then the votes that they gave to the centre, in some other order; neither
+-- line is refused
+pub record AreDelivered (built : Built) (w : World) (a : ℕ) (t : Undecided) (members : List ℕ) (first second : Happened) : Type 0 where
   pub asked : List (Choice × ℕ)
   pub proposals : List ℕ
   pub asks_each : IsPermutation (each_with t.choices members) asked
@@ -81,7 +81,15 @@ pub record IsRoundTrip (built : Built) (w : World) (a : ℕ) (t : Undecided) (me
   pub answers_each : IsPermutation (each_with t.choices members) answered
   pub votes_are : AreNumbersOf first.world votes (map (vote_of_member a) answered)
   pub voted : event_of built first.world (Event.Deliver votes) ≡ Ok second
-  pub undropped : AllByRecursion (λ line. is_dropped line ≡ false) (first.lines ++ second.lines)
+
+-- no delivery is dropped
+abbrev pub AreUndropped : List Line → Type 0
+AreUndropped lines = AllByRecursion (λ line. is_dropped line ≡ false) lines
+
+-- no limit is reached: neither line is refused, and none of their deliveries is dropped
+pub record IsRoundTrip (built : Built) (w : World) (a : ℕ) (t : Undecided) (members : List ℕ) (first second : Happened) : Type 0 where
+  pub deliveries : AreDelivered built w a t members first second
+  pub undropped : AreUndropped (first.lines ++ second.lines)
 
 -- the last line of all is that the centre hears the commit, and no earlier one says that it hears of an outcome
 pub record EndsWithCommit (a : ℕ) (tx : TxId) (first second : List Line) : Type 0 where
@@ -104,4 +112,4 @@ abbrev pub ProposalsSendVotes : Type 0
 ProposalsSendVotes =
     (built : Built) (w : World) (a : ℕ) (t : Undecided) (members : List ℕ) (first second : Happened)
     → IsReady built w a t members → (trip : IsRoundTrip built w a t members first second)
-    → messages_of first.world ≡ messages_of w ++ map (vote_of_member a) trip.asked
+    → messages_of first.world ≡ messages_of w ++ map (vote_of_member a) trip.deliveries.asked

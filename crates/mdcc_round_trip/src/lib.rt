@@ -2,6 +2,7 @@
 #![tactic(auto)]
 
 ghost use Rattle.mdcc_round_trip.specs.Accepting.{OtherKeysChangeNothing, ProposalsGiveVotes};
+ghost use Rattle.mdcc_round_trip.specs.Cells.{CellsSuffice, HaveCells, RoomyRoundTripCommits};
 ghost use Rattle.mdcc_round_trip.specs.Deciding.{QuorumsCommitAtLast};
 ghost use Rattle.mdcc_round_trip.specs.Example.{answered, asked, begun, members, transaction};
 ghost use Rattle.mdcc_round_trip.specs.Refusals.{OnlyLimitsRefuse};
@@ -32,6 +33,13 @@ pub fn one_round_trip_commits()
     ensures votes { ProposalsSendVotes }
 {}
 
+/// Where each member has cells spare for its votes, and the centre for as many and for the commit, no delivery of a round trip is
+/// dropped, and the transaction commits.
+pub fn cells_suffice()
+    ensures undropped { CellsSuffice }
+    ensures commits { RoomyRoundTripCommits }
+{}
+
 /// A line of deliveries to centres that are up and have no armed stop is refused only for a limit, so that
 /// nothing else keeps the deliveries of a round trip from coming.
 pub fn only_limits_refuse_deliveries()
@@ -49,5 +57,6 @@ pub fn worlds_are_ready()
 /// two choices, with everything enabled.
 pub fn example()
     ensures ready { IsReady all_built begun 1 transaction members }
+    ensures cells { HaveCells begun 1 transaction members }
     ensures trip { IsRoundTrip all_built begun 1 transaction members asked answered }
 {}
