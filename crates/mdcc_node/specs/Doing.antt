@@ -1,5 +1,5 @@
 -- What a node's method does: what it answers, and what the node is afterwards.
-use Rattle.std.specs.Prelude.{Bool, List, None, Option, Result, Some, ℕ}
+use Rattle.std.specs.Prelude.{Bool, Err, List, None, Ok, Option, Result, Some, ℕ, ◌+◌, ◌≡◌}
 use Rattle.mdcc_base.specs.declared.identifiers.TxId.{TxId}
 use Rattle.mdcc_base.specs.Unless.{GivesUnless}
 use Rattle.mdcc_messages.specs.declared.facts.Fact.{Fact}
@@ -33,3 +33,15 @@ Does stands spare needed before result after rule =
 abbrev pub ended : Option (TxId × Bool) → Volatile → Volatile
 ended None volatile = volatile
 ended (Some (tx, is_commit)) volatile = closed volatile tx
+
+-- ---- cells
+
+-- how many cells the fact of a step needs
+abbrev pub cells_taken : (Fact → ℕ) → Option Fact → ℕ
+cells_taken needed None = 0
+cells_taken needed (Some fact) = needed fact
+
+-- the store has fewer cells spare by those of the step's fact; after a refusal it has as many as before
+abbrev pub Spends : {S : Type 0} → (S → ℕ) → (S → Fact → ℕ) → S → Result Step StepFault → S → Type 0
+Spends spare needed before (Ok step) after = spare after + cells_taken (needed before) step.fact ≡ spare before
+Spends spare needed before (Err fault) after = spare after ≡ spare before

@@ -35,7 +35,7 @@ impl<S: FactStore + Drop> Node<S> {
         requires empty { S.stands store [] }
         requires short { AreShort payloads.now }
         ensures boots { (all : Cells) → Holds S.stands S.room S.cells_for all store []
-            → Boots S.stands result cluster centre (boot_by all cluster (map fact_read payloads.now)) }
+            → Boots S.stands S.room S.cells_for all result cluster centre (boot_by all cluster (map fact_read payloads.now)) }
         ensures fact { IfOk result (λ r. IsBoot r.1) }
     {
         let mut store = store;

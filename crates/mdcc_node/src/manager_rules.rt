@@ -1,5 +1,5 @@
 //! The node's rules around its manager: begins, votes, and acceptors that give no vote.
-ghost use Rattle.std.specs.Prelude.{◌≡◌, ◌++◌, List, Ok, OnOk, false};
+ghost use Rattle.std.specs.Prelude.{◌≡◌, ◌++◌, List, None, Ok, OnOk, false};
 ghost use Rattle.mdcc_base.specs.Unless.{GivesUnless};
 ghost use Rattle.mdcc_built.specs.Built.{built};
 ghost use Rattle.mdcc_messages.specs.WellFormedParts.{IsWellFormedCause};
@@ -33,8 +33,9 @@ impl<S: FactStore + Drop> Node<S> {
     // The transaction was begun.
     fn begun(&self, tx: TxId, transaction: &Transaction, step: &mut Step) -> Result<(), StepFault>
         requires { step.old ≡ blank }
-        ensures { GivesUnless is_memory (written result step.new)
+        ensures answer { GivesUnless is_memory (written result step.new)
             (Ok (replied (proposals_sent self.now.cluster.quorums self.now.centre (choices_of tx transaction.now)) (AnAnswer.Begun tx))) }
+        ensures fact { step.new.fact ≡ step.old.fact }
     {
         let choices = transaction.choices(tx);
         let (quorums, centre) = (&self.cluster.quorums, self.centre.number());
@@ -51,8 +52,9 @@ impl<S: FactStore + Drop> Node<S> {
         step: &mut Step,
     ) -> Result<(), StepFault>
         requires { step.old ≡ blank }
-        ensures { (facts : List AFact) → S.stands self.now.store facts
+        ensures answer { (facts : List AFact) → S.stands self.now.store facts
             → written result step.new ≡ refused_given (key_refused_of facts transaction.now) fault }
+        ensures fact { step.new.fact ≡ step.old.fact }
     {
         match fault {
             BeginFault::Memory => Err(StepFault::Memory),
@@ -71,7 +73,9 @@ impl<S: FactStore + Drop> Node<S> {
         step: &mut Step,
     ) -> Result<(), StepFault>
         requires { step.old ≡ blank }
-        ensures { Follows S.stands self.old (written result step.new) self.new (λ cluster me facts volatile. Ok (begin_step cluster me facts volatile transaction.now)) }
+        ensures follows { Follows S.stands self.old (written result step.new) self.new (λ cluster me facts volatile. Ok (begin_step cluster me facts volatile transaction.now)) }
+        ensures fact { step.new.fact ≡ None }
+        ensures store { self.new.store ≡ self.old.store }
     {
         match self.manager.begin(&self.store, transaction) {
             Ok(tx) => self.begun(tx, transaction, step),

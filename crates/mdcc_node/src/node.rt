@@ -1,11 +1,11 @@
 //! One node.
-ghost use Rattle.std.specs.Prelude.{◌≡◌, ◌≤◌, ◌∷◌, List, ℕ, OnErr, OnOk, Some, false, true};
+ghost use Rattle.std.specs.Prelude.{◌≡◌, ◌≤◌, ◌+◌, ◌∷◌, List, ℕ, OnErr, OnOk, Some, false, true};
 ghost use Rattle.mdcc_base.specs.Unless.{GivesUnless};
 ghost use Rattle.mdcc_built.specs.Built.{built};
 ghost use Rattle.mdcc_facts.specs.Adding.{add_of};
 ghost use Rattle.mdcc_messages.specs.WellFormed.{IsWellFormedEnvelope, IsWellFormedMessage};
 ghost use Rattle.mdcc_messages.specs.declared.facts.Fact.{Fact as AFact};
-ghost use Rattle.mdcc_node.specs.Doing.{Does, Follows, ended};
+ghost use Rattle.mdcc_node.specs.Doing.{Does, Follows, Spends, ended};
 ghost use Rattle.mdcc_node.specs.Planning.{FitsFrame, IsNews, MayFollow, PlanFitsFrame, Plans, blank, is_asked_by_leader, is_for_leader, is_of_fast_path, written};
 ghost use Rattle.mdcc_node.specs.Running.{IsRunning};
 ghost use Rattle.mdcc_node.specs.Stands.{Stands};
@@ -66,6 +66,8 @@ impl<S: FactStore + Drop> Node<S> {
         ensures err { (cluster : ACluster) (me : ℕ) (facts : List AFact) (volatile : AVolatile) → Stands S.stands self.old cluster me facts volatile
             → OnErr result (Stands S.stands self.new cluster me facts volatile) }
         ensures left { (facts : List AFact) → S.stands self.old.store facts → OnErr result (S.stands self.new.store facts) }
+        ensures used { OnOk result (S.room self.new.store + S.cells_for self.old.store fact.now ≡ S.room self.old.store) }
+        ensures unused { OnErr result (S.room self.new.store ≡ S.room self.old.store) }
     {
         self.store.add(fact)?;
         if let Fact::Heard { tx, .. } = fact {
@@ -86,6 +88,7 @@ impl<S: FactStore + Drop> Node<S> {
         ensures err { (cluster : ACluster) (me : ℕ) (facts : List AFact) (volatile : AVolatile) → Stands S.stands self.old cluster me facts volatile
             → OnErr result (Stands S.stands self.new cluster me facts volatile) }
         ensures left { (facts : List AFact) → S.stands self.old.store facts → OnErr result (S.stands self.new.store facts) }
+        ensures spent { Spends S.room S.cells_for self.old.store (written result step.new) self.new.store }
     {
         if let Some(fact) = &step.fact {
             self.add(fact)?;
@@ -270,7 +273,8 @@ impl<S: FactStore + Drop> Node<S> {
         requires running { IsRunning S.stands self.old }
         requires member { from ≤ self.old.cluster.quorums.centres }
         requires blank { step.old ≡ blank }
-        ensures { Does S.stands S.room S.cells_for self.old (written result step.new) self.new (λ cluster me facts volatile. message_step built cluster me facts volatile from message.now) }
+        ensures does { Does S.stands S.room S.cells_for self.old (written result step.new) self.new (λ cluster me facts volatile. message_step built cluster me facts volatile from message.now) }
+        ensures spent { Spends S.room S.cells_for self.old.store (written result step.new) self.new.store }
     {
         self.take(from, message, step)?;
         self.add_planned(step)
@@ -282,7 +286,8 @@ impl<S: FactStore + Drop> Node<S> {
         requires short { accept_length envelope.now.message ≤ 2097152 }
         requires running { IsRunning S.stands self.old }
         requires blank { step.old ≡ blank }
-        ensures { Follows S.stands self.old (written result step.new) self.new (λ cluster me facts volatile. step_by (room_of S.room S.cells_for self.old.store) built cluster me facts volatile (AInput.Message envelope.now)) }
+        ensures follows { Follows S.stands self.old (written result step.new) self.new (λ cluster me facts volatile. step_by (room_of S.room S.cells_for self.old.store) built cluster me facts volatile (AInput.Message envelope.now)) }
+        ensures spent { Spends S.room S.cells_for self.old.store (written result step.new) self.new.store }
     {
         match sender_of(&self.cluster, self.centre.number(), envelope) {
             Some(from) => self.receive(from, &envelope.message, step),
@@ -295,7 +300,8 @@ impl<S: FactStore + Drop> Node<S> {
         requires input { IsGiven input.now }
         requires running { IsRunning S.stands self.old }
         requires blank { step.old ≡ blank }
-        ensures { Follows S.stands self.old (written result step.new) self.new (λ cluster me facts volatile. step_by (room_of S.room S.cells_for self.old.store) built cluster me facts volatile input.now) }
+        ensures follows { Follows S.stands self.old (written result step.new) self.new (λ cluster me facts volatile. step_by (room_of S.room S.cells_for self.old.store) built cluster me facts volatile input.now) }
+        ensures spent { Spends S.room S.cells_for self.old.store (written result step.new) self.new.store }
     {
         match input {
             Input::Message(envelope) => self.deliver(envelope, step),
@@ -312,11 +318,13 @@ impl<S: FactStore + Drop> Node<S> {
     /// makes the fact durable before it lets anything out. A transaction was made under the
     /// cluster's schema, and an Accept has at most 2,097,152 bytes. A message is refused where it is for another centre or not of the cluster,
     /// where its fact is, and where the leader refuses it. After a refusal the node is as it was, but
-    /// where there was no memory only its facts are, and it is to be booted again.
+    /// where there was no memory only its facts are, and it is to be booted again. The store has fewer
+    /// cells spare by those of the fact.
     pub fn step(&mut self, input: &Input) -> Result<Step, StepFault>
         requires input { IsGiven input.now }
         requires running { IsRunning S.stands self.old }
-        ensures { Follows S.stands self.old result self.new (λ cluster me facts volatile. step_by (room_of S.room S.cells_for self.old.store) built cluster me facts volatile input.now) }
+        ensures follows { Follows S.stands self.old result self.new (λ cluster me facts volatile. step_by (room_of S.room S.cells_for self.old.store) built cluster me facts volatile input.now) }
+        ensures spent { Spends S.room S.cells_for self.old.store result self.new.store }
     {
         let mut step = blank(self.alloc);
         self.act_on(input, &mut step)?;

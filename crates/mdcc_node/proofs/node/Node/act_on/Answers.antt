@@ -6,8 +6,8 @@ use Rattle.mdcc_node.specs.Planning.{written}
 use Rattle.mdcc_rules.specs.TickRules.{tick_step}
 use Rattle.mdcc_node.proofs.node.Node.act_on.Goals as goal
 
-pub returns-in-Tick : goal.returns-in-Tick
-returns-in-Tick g c = record {
+pub returns-in-Tick-clause-follows : goal.returns-in-Tick-clause-follows
+returns-in-Tick-clause-follows g c = record {
   answer = λ cluster me facts volatile known.
       rw (c.in-Tick.is, c.requires.blank)
       (acts-plan (tick_step built cluster me facts volatile) c.tick.new.sends c.tick.result refl refl

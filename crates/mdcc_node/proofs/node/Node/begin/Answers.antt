@@ -4,10 +4,10 @@ use Rattle.mdcc_node.specs.Planning.{written}
 use Rattle.mdcc_protocol.specs.Facts.{epoch_of}
 use Rattle.mdcc_node.proofs.node.Node.begin.Goals as goal
 
-pub returns-in-Ok : goal.returns-in-Ok
-returns-in-Ok g c = record {
+pub returns-in-Ok-clause-follows : goal.returns-in-Ok-clause-follows
+returns-in-Ok-clause-follows g c = record {
   answer = λ cluster me facts volatile stands.
-      let here = rw (stands.of, stands.at) at c.begun.ensures in
+      let here = rw (stands.of, stands.at) at c.begun.ensures.answer in
       rw (step_begun cluster me facts volatile c.args.transaction.now c.in-Ok.tx (c.in-Ok.ensures.answer me (epoch_of facts) cluster.quorums facts volatile.manager stands.store stands.manager)) here;
   left = λ cluster me facts volatile stands.
       rw (step_begun cluster me facts volatile c.args.transaction.now c.in-Ok.tx (c.in-Ok.ensures.answer me (epoch_of facts) cluster.quorums facts volatile.manager stands.store stands.manager))
@@ -23,13 +23,13 @@ returns-in-Ok g c = record {
   memory = λ facts store. memory_always (written c.begun.result c.begun.new.step) _ store;
 }
 
-pub returns-in-Err : goal.returns-in-Err
-returns-in-Err g c = record {
+pub returns-in-Err-clause-follows : goal.returns-in-Err-clause-follows
+returns-in-Err-clause-follows g c = record {
   answer = λ cluster me facts volatile stands.
-      rw (c.refused.ensures facts stands.store)
+      rw (c.refused.ensures.answer facts stands.store)
       (refused_gives cluster me facts volatile c.args.transaction.now c.in-Err.fault (c.in-Err.ensures.answer me (epoch_of facts) cluster.quorums facts volatile.manager stands.store stands.manager));
   left = λ cluster me facts volatile stands.
-      rw (c.refused.ensures facts stands.store)
+      rw (c.refused.ensures.answer facts stands.store)
       (refused_leaves cluster me facts volatile c.args.transaction.now g.S.FactStore.stands _ c.in-Err.fault (c.in-Err.ensures.answer me (epoch_of facts) cluster.quorums facts volatile.manager stands.store stands.manager) (record {
         of = stands.of;
         at = stands.at;

@@ -15,4 +15,5 @@ returns-in_ok-recover-in-Ok-clause-boots g c all held =
         leader = c.in_ok-leader-in-Ok.ensures c.args.cluster.quorums (search rules);
         recovery = c.in_ok-recover-in-Ok.ensures c.args.cluster.quorums (search rules);
       },
+      booted.2,
     )

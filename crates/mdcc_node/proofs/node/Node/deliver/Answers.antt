@@ -5,23 +5,23 @@ use Rattle.mdcc_node.specs.Stepping.{room_of}
 use Rattle.mdcc_rules.specs.Node.{is_own_message}
 use Rattle.mdcc_node.proofs.node.Node.deliver.Goals as goal
 
-pub returns-in-Some : goal.returns-in-Some
-returns-in-Some g c =
+pub returns-in-Some-clause-follows : goal.returns-in-Some-clause-follows
+returns-in-Some-clause-follows g c =
     let envelope = c.args.envelope.now in
     let room = room_of g.S.FactStore.room g.S.FactStore.cells_for c.args.self.now.store in
     let found : Some c.in-Some.from ≡ (if is_own_message c.args.self.now.cluster c.number.result envelope then Some envelope.from else None) = c.in-Some.ensures.value in
     record {
       answer = λ cluster me facts volatile stands.
           let here = rw (c.number.ensures.value, stands.of, stands.at) at found in
-          rw (own_step room built cluster me facts volatile envelope c.in-Some.from here) (c.receive.ensures.answer cluster me facts volatile stands);
+          rw (own_step room built cluster me facts volatile envelope c.in-Some.from here) (c.receive.ensures.does.answer cluster me facts volatile stands);
       left = λ cluster me facts volatile stands.
           let here = rw (c.number.ensures.value, stands.of, stands.at) at found in
-          rw (own_step room built cluster me facts volatile envelope c.in-Some.from here) (c.receive.ensures.left cluster me facts volatile stands);
-      memory = c.receive.ensures.memory;
+          rw (own_step room built cluster me facts volatile envelope c.in-Some.from here) (c.receive.ensures.does.left cluster me facts volatile stands);
+      memory = c.receive.ensures.does.memory;
     }
 
-pub returns-in-None : goal.returns-in-None
-returns-in-None g c =
+pub returns-in-None-clause-follows : goal.returns-in-None-clause-follows
+returns-in-None-clause-follows g c =
     let envelope = c.args.envelope.now in
     let room = room_of g.S.FactStore.room g.S.FactStore.cells_for c.args.self.now.store in
     let none : None ≡ (if is_own_message c.args.self.now.cluster c.number.result envelope then Some envelope.from else None) = c.in-None.ensures.value in

@@ -5,6 +5,7 @@ use Rattle.mdcc_messages.specs.declared.facts.Fact.{Fact}
 use Rattle.mdcc_node.proofs.Ending.{ends}
 use Rattle.mdcc_node.proofs.Planned.{fault-given, fault-left, memory-left, plan-fits, plan-given, plan-left}
 use Rattle.mdcc_node.proofs.Standing.{memory_always}
+use Rattle.mdcc_node.specs.Doing.{Spends}
 use Rattle.mdcc_node.specs.Planning.{kept, written}
 use Rattle.mdcc_node.specs.Stands.{Stands}
 use Rattle.mdcc_node.specs.Stepping.{is_memory, room_of, step_taken}
@@ -25,8 +26,8 @@ add_planned-requires-clause-fits g c =
     (c.in_ok-take.ensures.plan.answer runs.cluster runs.me runs.facts runs.volatile runs.itself)
     (λ step fact made is. brought-fits built runs.cluster runs.me runs.facts runs.volatile from message step fact c.requires.short runs.kept centre c.requires.message made is)
 
-pub returns : goal.returns
-returns g c =
+pub returns-clause-does : goal.returns-clause-does
+returns-clause-does g c =
     let stands = g.S.FactStore.stands in
     let room = room_of g.S.FactStore.room g.S.FactStore.cells_for c.args.self.now.store in
     let mid = c.take.new.self in
@@ -52,3 +53,8 @@ returns g c =
       memory = λ facts store.
           memory-left c.add_planned.result c.add_planned.new.step (stands c.add_planned.new.self.store facts) (c.add_planned.ensures.left facts (rw same store));
     }
+
+pub returns-clause-spent : goal.returns-clause-spent
+returns-clause-spent g c =
+    subst (λ (held : g.row.S.Denot). Spends g.S.FactStore.room g.S.FactStore.cells_for held (written c.add_planned.result c.add_planned.new.step) c.add_planned.new.self.store)
+    c.in_ok-take.ensures.plan.store c.add_planned.ensures.spent
