@@ -1,8 +1,8 @@
 -- A rule that adds a fact changes nothing but what the fact ends, and the fact may be added.
-use Rattle.std.proofs.Common.{◌≡◌, ap, ℕ, Bool, true, false, List, [], ◌∷◌, Option, Some, None, Ok, Err, Result, refl, sym, subst, if◌then◌else◌, not, is_some, ◌+◌, ◌++◌, append_assoc, append-nil, drop, fold, get_or, length, ◌<◌}
+use Rattle.std.proofs.Common.{◌≡◌, ap, ℕ, Bool, true, false, List, [], ◌∷◌, Option, Some, None, Ok, Err, Result, refl, if◌then◌else◌, not, is_some, ◌+◌, ◌++◌, append_assoc, append-nil, drop, fold, get_or, length, ◌<◌}
 use Rattle.std.proofs.lemmas.Option.{slice_get-get_or}
 use Rattle.std.specs.List.{filter, list_any}
-use Rattle.std.specs.Prelude.{⊤, OnOk, option_map, slice_get}
+use Rattle.std.specs.Prelude.{OnOk, option_map, slice_get}
 use Rattle.mdcc_base.specs.Ballot.{ballot_lt}
 use Rattle.mdcc_base.specs.Sizes.{Sizes}
 use Rattle.mdcc_base.specs.declared.faults.Memory.{Memory}
@@ -17,7 +17,7 @@ use Rattle.mdcc_option.specs.declared.choices.Choice.{Choice}
 use Rattle.mdcc_option.specs.declared.choices.Mark.{Mark}
 use Rattle.mdcc_option.specs.declared.choices.Outcome.{Outcome}
 use Rattle.mdcc_option.specs.declared.cluster.Cluster.{Cluster}
-use Rattle.mdcc_protocol.specs.Acceptor.{on_accept, on_prepare, on_propose, promise_answer, range_end}
+use Rattle.mdcc_protocol.specs.Acceptor.{on_accept, on_propose, promise_answer, range_end}
 use Rattle.mdcc_protocol.specs.Facts.{heard_of, is_heard, promise_of, promised_through, vote_of, votes_of}
 use Rattle.mdcc_protocol.specs.Leader.{claim_of_choice, on_promise}
 use Rattle.mdcc_protocol.specs.Learner.{decision_of}
@@ -35,7 +35,7 @@ use Rattle.mdcc_protocol.specs.declared.visible.Give.{Give}
 use Rattle.mdcc_protocol.specs.declared.votes.Vote.{Vote}
 use Rattle.mdcc_rules.specs.AcceptorRules.{accept_step, accepted_step, all_votes_sent, ask_step, ask_step_by, prepare_step, prepared_step, propose_step, proposed_step, votes_sent}
 use Rattle.mdcc_rules.specs.LeaderRules.{lead_step_after, led_of, promised_by_answer, step_of_led}
-use Rattle.mdcc_rules.specs.ManagerRules.{acted_step, opened_step, undecided_step, voted_step, watched_step}
+use Rattle.mdcc_rules.specs.ManagerRules.{acted_step, opened_step, voted_step, watched_step}
 use Rattle.mdcc_rules.specs.Node.{message_step, rule}
 use Rattle.mdcc_rules.specs.Steps.{NodeStep, StepPart, nothing_done}
 use Rattle.mdcc_rules.specs.SyncRules.{outcome_step, outcome_step_by, sync_give_step, sync_give_step_by}

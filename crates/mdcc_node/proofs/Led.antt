@@ -1,5 +1,5 @@
 -- What a leader's answer gives and leaves at its node.
-use Rattle.std.proofs.Common.{◌≡◌, ℕ, true, false, List, [], ◌++◌, Option, Some, None, Ok, Err, Result, refl, ap, append-nil}
+use Rattle.std.proofs.Common.{◌≡◌, ℕ, List, ◌++◌, Ok, Err, Result, refl, ap, append-nil}
 use Rattle.std.specs.Prelude.{IsErrAnd}
 use Rattle.mdcc_base.specs.Sizes.{Sizes}
 use Rattle.mdcc_base.specs.Unless.{GivesUnless}
@@ -14,7 +14,6 @@ use Rattle.mdcc_protocol.specs.declared.leader.LeadAnswer.{LeadAnswer}
 use Rattle.mdcc_protocol.specs.declared.leader.LeadFault.{LeadFault}
 use Rattle.mdcc_protocol.specs.declared.leader.PromiseAnswer.{PromiseAnswer}
 use Rattle.mdcc_rules.specs.LeaderRules.{lead_sent, led_by_answer, promise_sent, promised_by_answer, step_fault, step_of_led}
-use Rattle.mdcc_rules.specs.Steps.{NodeStep, StepPart, only_sending, step_of_part}
 use Rattle.mdcc_rules.specs.TickRules.{led_or_left}
 use Rattle.mdcc_rules.specs.declared.node.StepFault.{StepFault}
 

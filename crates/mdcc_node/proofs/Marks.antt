@@ -1,7 +1,6 @@
 -- A mark put behind others in order.
 use Rattle.std.proofs.Common.{◌≡◌, ◌∷◌, ◌++◌, [], ap, Bool, None, refl, true, is_some, not}
-use Rattle.std.proofs.lemmas.Bool.{and_parts}
-use Rattle.mdcc_base.specs.TxId.{tx_eq, tx_lt}
+use Rattle.mdcc_base.specs.TxId.{tx_lt}
 use Rattle.mdcc_base.specs.declared.identifiers.TxId.{TxId}
 use Rattle.mdcc_option.specs.declared.choices.Mark.{Mark}
 use Rattle.mdcc_struct.specs.Maps.{TxMap, are_ascending, inserted, value_of}

@@ -1,6 +1,6 @@
 -- What a planned step is once its fact is added.
 use Rattle.std.proofs.Common.{◌≡◌, ℕ, Bool, true, false, List, ◌∷◌, Option, Some, None, Ok, Err, Result, refl, inl, inr}
-use Rattle.std.specs.Bool.{OnFalse, OnTrue}
+use Rattle.std.specs.Bool.{OnTrue}
 use Rattle.std.specs.Prelude.{OnErr, OnOk, ⊤}
 use Rattle.std.proofs.lemmas.Bool.{cases_Bool}
 use Rattle.mdcc_base.specs.Unless.{GivesUnless}
@@ -8,14 +8,14 @@ use Rattle.mdcc_facts.specs.Adding.{add_of}
 use Rattle.mdcc_messages.specs.declared.facts.Fact.{Fact}
 use Rattle.mdcc_messages.specs.declared.messages.Envelope.{Envelope}
 use Rattle.mdcc_node.specs.Doing.{ended}
-use Rattle.mdcc_node.specs.Planning.{FitsFrame, PlanFitsFrame, kept, kept_by, plan_of, planned, sends_after, written}
+use Rattle.mdcc_node.specs.Planning.{FitsFrame, PlanFitsFrame, kept, kept_by, plan_of, planned, written}
 use Rattle.mdcc_node.specs.Stands.{Left, Stands}
 use Rattle.mdcc_node.specs.Stepping.{OnMemory, Room, UnlessMemory, given, if_added, is_memory, step_if, step_taken, with_fact, with_new, with_store}
 use Rattle.mdcc_node.specs.declared.node.Node.{Node}
 use Rattle.mdcc_option.specs.declared.cluster.Cluster.{Cluster}
 use Rattle.mdcc_protocol.specs.Volatile.{Volatile}
 use Rattle.mdcc_protocol.specs.declared.stores.StoreFault.{StoreFault}
-use Rattle.mdcc_rules.specs.Steps.{NodeStep, heard_by, step_fault}
+use Rattle.mdcc_rules.specs.Steps.{NodeStep, heard_by}
 use Rattle.mdcc_rules.specs.declared.node.Step.{Step}
 use Rattle.mdcc_rules.specs.declared.node.StepFault.{StepFault}
 

@@ -1,17 +1,14 @@
-use Rattle.std.proofs.Common.{◌≡◌, ℕ, List, refl, subst, true}
+use Rattle.std.proofs.Common.{◌≡◌, List, subst, true}
 use Rattle.mdcc_base.specs.Unless.{GivesUnless}
 use Rattle.mdcc_built.specs.Built.{built}
 use Rattle.mdcc_messages.specs.declared.facts.Fact.{Fact}
 use Rattle.mdcc_node.proofs.Ending.{ends}
-use Rattle.mdcc_node.proofs.Planned.{fault-given, fault-left, memory-left, plan-fits, plan-given, plan-left}
-use Rattle.mdcc_node.proofs.Standing.{memory_always}
+use Rattle.mdcc_node.proofs.Planned.{memory-left, plan-fits, plan-given, plan-left}
 use Rattle.mdcc_node.specs.Doing.{Spends}
 use Rattle.mdcc_node.specs.Planning.{kept, written}
-use Rattle.mdcc_node.specs.Stands.{Stands}
 use Rattle.mdcc_node.specs.Stepping.{is_memory, room_of, step_taken}
 use Rattle.mdcc_option.specs.declared.cluster.Cluster.{Cluster}
 use Rattle.mdcc_protocol.specs.Belongs.{is_centre}
-use Rattle.mdcc_protocol.specs.Volatile.{Volatile}
 use Rattle.mdcc_rules.specs.Node.{message_step}
 use Rattle.mdcc_steps.proofs.Shortness.{brought-fits}
 use Rattle.mdcc_node.proofs.node.Node.receive.Goals as goal

@@ -1,4 +1,4 @@
-use Rattle.std.proofs.Common.{◌≡◌, List, Ok, Result, ◌++◌, ◌∙◌, [], append_assoc, append-nil, arith, drop, refl}
+use Rattle.std.proofs.Common.{◌≡◌, List, Ok, Result, ◌++◌, ◌∙◌, [], append_assoc, append-nil, arith, refl}
 use Rattle.std.proofs.lemmas.List.{drop_all}
 use Rattle.mdcc_built.specs.Built.{built}
 use Rattle.mdcc_messages.specs.declared.messages.Envelope.{Envelope}

@@ -1,7 +1,5 @@
-use Rattle.std.proofs.Common.{◌≡◌, ◌∙◌, sym, true, false, refl, arith}
+use Rattle.std.proofs.Common.{◌∙◌, sym, refl}
 use Rattle.mdcc_built.specs.Built.{built}
-use Rattle.mdcc_protocol.specs.Facts.{epoch_of}
-use Rattle.mdcc_protocol.specs.Volatile.{is_open}
 use Rattle.mdcc_node.proofs.Ending.{voted-heard}
 use Rattle.mdcc_node.proofs.node.Node.voted.Goals as goal
 
