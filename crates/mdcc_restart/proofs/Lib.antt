@@ -1,5 +1,5 @@
-pub mod Ample
 pub mod Kept
+pub mod Loaded
 pub mod Logged
 pub mod Named
 pub mod Short

@@ -1,9 +1,8 @@
 -- What a centre starts with: the facts of its log, and the next boot.
-use Rattle.std.proofs.Common.{◌≡◌, ◌⊎◌, inl, inr, ℕ, ◌+◌, ◌-◌, ◌^◌, ◌<◌, ◌≤◌, Bool, true, false, List, ◌∷◌, map, Ok, Err, refl, sym, ◌∙◌, ap, subst, arith, nat_le, length, IsErrOf, IsTrue, if◌then◌else◌}
+use Rattle.std.proofs.Common.{◌≡◌, ◌⊎◌, inl, inr, ℕ, ◌+◌, ◌-◌, ◌^◌, ◌<◌, ◌≤◌, Bool, true, false, List, ◌∷◌, map, min, Ok, Err, refl, sym, ◌∙◌, ap, subst, arith, nat_le, length, IsErrOf, IsTrue, if◌then◌else◌}
 use Rattle.std.proofs.lemmas.Bool.{and_parts, leb-false, leb-true}
-use Rattle.mdcc_admission.proofs.Alike.{ample_boots}
-use Rattle.mdcc_admission.specs.Boots.{AreAmple}
-use Rattle.mdcc_admission.specs.Loading.{Cells, boot_by, fact_read}
+use Rattle.mdcc_admission.specs.Loading.{Cells, boot_by, cells_with, fact_read, is_past, past_fault}
+use Rattle.mdcc_base.specs.Counts.{sum_over}
 use Rattle.mdcc_disks.specs.Disks.{Disk}
 use Rattle.mdcc_log.specs.Crash.{BetweenIsRead, IsBetween}
 use Rattle.mdcc_log.specs.Log.{log_bytes, log_limit, read_log}
@@ -13,66 +12,93 @@ use Rattle.mdcc_node.specs.Stands.{Stands}
 use Rattle.mdcc_node.specs.declared.node.Node.{Node}
 use Rattle.mdcc_option.specs.declared.cluster.Cluster.{Cluster}
 use Rattle.mdcc_ledger.specs.BootTest.{are_allowed_facts, is_allowed_fact}
-use Rattle.mdcc_rules.specs.Boot.{booted_by}
-use Rattle.mdcc_switches.specs.Built.{nothing_built}
 use Rattle.mdcc_protocol.specs.Facts.{epoch_of}
 use Rattle.mdcc_messages.specs.Spelling.{fact_bytes}
 use Rattle.mdcc_protocol.specs.Volatile.{nothing_kept}
 use Rattle.mdcc_messages.specs.declared.facts.Fact.{Fact}
 use Rattle.mdcc_rules.specs.declared.node.BootFault.{BootFault}
+use Rattle.mdcc_restart.proofs.Loaded.{own-boots}
 use Rattle.mdcc_restart.proofs.Logged.{log-grows, payloads-read}
 use Rattle.mdcc_restart.specs.Faults.{of_boot, of_log}
 use Rattle.mdcc_restart.specs.Logged.{AreLogged, logged}
-use Rattle.mdcc_restart.specs.Restarting.{BootsNode, IsLogOf, IsRefused, next_boot, size_with_boot}
-use Rattle.mdcc_steps.proofs.Booting.{boot-reads}
-use Rattle.mdcc_steps.specs.Forming.{payloads_of}
+use Rattle.mdcc_restart.specs.declared.fault.RestartFault.{RestartFault}
+use Rattle.mdcc_restart.specs.Restarting.{BootsNode, IsLogOf, IsRefused, booted_over, next_boot, size_with_boot}
 
 -- ---- the boot
 
--- a boot over the payloads of facts gives these and the next boot
-boots-again : (cells : Cells) (cluster : Cluster) (facts : List Fact) (payloads : List (List ℕ)) → AreAmple cells → AreLogged cluster facts → payloads ≡ logged facts
-    → boot_by cells cluster (map fact_read payloads) ≡ booted_by nothing_built cluster (Ok facts)
-boots-again cells cluster facts payloads ample are is =
-    ap (λ read. boot_by cells cluster (map fact_read read)) is
-    ∙ ap (boot_by cells cluster) (payloads-read facts are.well_formed)
-    ∙ ample_boots cells nothing_built cluster (payloads_of facts) refl ample
-    ∙ boot-reads nothing_built cluster facts are.allowed (λ limited. absurd (cc))
+module _ {S : Type 0} (stands : S → List Fact → Type 0) (room : S → ℕ) (cells_for : S → Fact → ℕ) (cells : Cells) (cluster : Cluster) (me : ℕ) (facts : List Fact) (payloads : List (List ℕ))
+    (is : payloads ≡ logged facts) (are : AreLogged cluster facts) where
+  -- the payloads are read as the facts
+  read-over : boot_by cells cluster (map fact_read payloads) ≡ booted_over cells cluster facts
+  read-over = ap (λ read. boot_by cells cluster (map fact_read read)) is ∙ ap (boot_by cells cluster) (payloads-read facts are.well_formed)
 
-module _ {S : Type 0} (stands : S → List Fact → Type 0) (cluster : Cluster) (me : ℕ) (facts : List Fact) (payloads : List (List ℕ)) (is : payloads ≡ logged facts) where
-  node-by : (ended : Bool) (node : Node S) (fact : Fact) (more : List Fact)
-      → (if ended then Err BootFault.Epochs else Ok (next_boot facts ∷ facts)) ≡ Ok (fact ∷ more)
-      → Stands stands node cluster me (fact ∷ more) nothing_kept
-      → (ended ≡ false) × Stands stands node cluster me (next_boot facts ∷ facts) nothing_kept × (fact ≡ next_boot facts)
-  node-by true node fact more e st = absurd (cc)
-  node-by false node fact more e st = let same : fact ∷ more ≡ next_boot facts ∷ facts = cc in (refl, subst (λ fs. Stands stands node cluster me fs nothing_kept) same st, cc)
+  node-by : (ended past : Bool) (why : BootFault) (all : List Fact)
+      → (if ended then Err BootFault.Epochs else (if past then Err why else Ok (next_boot facts ∷ facts))) ≡ Ok all
+      → (ended ≡ false) × (all ≡ next_boot facts ∷ facts)
+  node-by true past why all e = absurd (cc)
+  node-by false true why all e = absurd (cc)
+  node-by false false why all e = (refl, cc)
+
+  node-of : (all : List Fact) → booted_over cells cluster facts ≡ Ok all → (epoch_of facts < 2 ^ 32 - 1) × (all ≡ next_boot facts ∷ facts)
+  node-of all e = elim (own-boots cells cluster facts are.allowed) [
+    | inl same ↦
+        let found = node-by (nat_le (2 ^ 32 - 1) (epoch_of facts)) (is_past cells facts (next_boot facts)) (past_fault cells facts (next_boot facts)) all (sym same ∙ e) in
+        (leb-false (2 ^ 32 - 1) (epoch_of facts) found.0, found.1)
+    | inr lacks ↦ absurd (let bad : Err (BootFault.Room lacks.0 cells.total) ≡ Ok all = sym lacks.1 ∙ e in cc)
+  ]
 
   -- it gives a node
-  pub node-boots : (cells : Cells) (r : Node S × Fact) → AreAmple cells → AreLogged cluster facts
-      → Boots stands (Ok r) cluster me (boot_by cells cluster (map fact_read payloads))
-      → (epoch_of facts < 2 ^ 32 - 1) × Stands stands r.0 cluster me (next_boot facts ∷ facts) nothing_kept × (r.1 ≡ next_boot facts)
-  node-boots cells r ample are h =
-      let found = node-by (nat_le (2 ^ 32 - 1) (epoch_of facts)) r.0 r.1 h.0 (sym (boots-again cells cluster facts payloads ample are is) ∙ h.1) h.2 in
-      (leb-false (2 ^ 32 - 1) (epoch_of facts) found.0, found.1, found.2)
+  pub node-boots : (r : Node S × Fact) → Boots stands room cells_for cells (Ok r) cluster me (boot_by cells cluster (map fact_read payloads)) → BootsNode stands room cells (Ok r) cluster me facts
+  node-boots r h =
+      let over : booted_over cells cluster facts ≡ Ok (r.1 ∷ h.0) = sym read-over ∙ h.1 in
+      let found = node-of (r.1 ∷ h.0) over in
+      let same : r.1 ∷ h.0 ≡ next_boot facts ∷ facts = found.1 in (
+        found.0,
+        subst (λ fs. Stands stands r.0 cluster me fs nothing_kept) same h.2,
+        cc,
+        over ∙ ap (λ fs. Ok fs) same,
+        subst (λ fs. room r.0.store + sum_over cells.needed fs ≡ cells.total) same h.3.spare,
+      )
 
-  ends-by : (ended : Bool) (fault : BootFault) → (ended ≡ true → 2 ^ 32 - 1 ≤ epoch_of facts)
-      → (if ended then Err BootFault.Epochs else Ok (next_boot facts ∷ facts)) ≡ Err fault → BootsNode {S = S} stands (Err (of_boot fault)) cluster me facts
-  ends-by false fault most e = absurd (cc)
-  ends-by true BootFault.Epochs most e = most refl
-  ends-by true (BootFault.NotARun n) most e = absurd (cc)
-  ends-by true (BootFault.Room needed cells) most e = absurd (cc)
-  ends-by true BootFault.Memory most e = tt
+  ends-by : (ended past : Bool) (needed : ℕ) (fault : BootFault) → (ended ≡ true → 2 ^ 32 - 1 ≤ epoch_of facts) → booted_over cells cluster facts ≡ Err fault
+      → (if ended then Err BootFault.Epochs else (if past then Err (BootFault.Room needed cells.total) else Ok (next_boot facts ∷ facts))) ≡ Err fault
+      → BootsNode {S = S} stands room cells (Err (of_boot fault)) cluster me facts
+  ends-by ended past needed BootFault.Memory most over e = tt
+  ends-by ended past needed (BootFault.Room more all) most over e = over
+  ends-by true past needed BootFault.Epochs most over e = most refl
+  ends-by false true needed BootFault.Epochs most over e = absurd (cc)
+  ends-by false false needed BootFault.Epochs most over e = absurd (cc)
+  ends-by true past needed (BootFault.NotARun n) most over e = absurd (cc)
+  ends-by false true needed (BootFault.NotARun n) most over e = absurd (cc)
+  ends-by false false needed (BootFault.NotARun n) most over e = absurd (cc)
 
-  -- or the epochs are used up
-  pub boot-ends : (cells : Cells) (fault : BootFault) → AreAmple cells → AreLogged cluster facts
-      → Boots {S = S} stands (Err fault) cluster me (boot_by cells cluster (map fact_read payloads))
-      → BootsNode {S = S} stands (Err (of_boot fault)) cluster me facts
-  boot-ends cells BootFault.Memory ample are h = tt
-  boot-ends cells BootFault.Epochs ample are h =
-      ends-by (nat_le (2 ^ 32 - 1) (epoch_of facts)) BootFault.Epochs (leb-true (2 ^ 32 - 1) (epoch_of facts)) (sym (boots-again cells cluster facts payloads ample are is) ∙ h)
-  boot-ends cells (BootFault.NotARun n) ample are h =
-      ends-by (nat_le (2 ^ 32 - 1) (epoch_of facts)) (BootFault.NotARun n) (leb-true (2 ^ 32 - 1) (epoch_of facts)) (sym (boots-again cells cluster facts payloads ample are is) ∙ h)
-  boot-ends cells (BootFault.Room needed all) ample are h =
-      ends-by (nat_le (2 ^ 32 - 1) (epoch_of facts)) (BootFault.Room needed all) (leb-true (2 ^ 32 - 1) (epoch_of facts)) (sym (boots-again cells cluster facts payloads ample are is) ∙ h)
+  ends-over : (fault : BootFault) → booted_over cells cluster facts ≡ Err fault → BootsNode {S = S} stands room cells (Err (of_boot fault)) cluster me facts
+  ends-over fault e = elim (own-boots cells cluster facts are.allowed) [
+    | inl same ↦
+        ends-by (nat_le (2 ^ 32 - 1) (epoch_of facts)) (is_past cells facts (next_boot facts)) (min (cells_with cells facts (next_boot facts)) (2 ^ 64 - 1)) fault
+        (leb-true (2 ^ 32 - 1) (epoch_of facts)) e (sym same ∙ e)
+    | inr lacks ↦
+        let room_fault : BootFault.Room lacks.0 cells.total ≡ fault = (let both : Err (BootFault.Room lacks.0 cells.total) ≡ Err fault = sym lacks.1 ∙ e in cc) in
+        subst (λ (f : BootFault). BootsNode {S = S} stands room cells (Err (of_boot f)) cluster me facts) room_fault lacks.1
+  ]
+
+  -- or cells lack, or the epochs are used up
+  pub boot-ends : (fault : BootFault) → Boots {S = S} stands room cells_for cells (Err fault) cluster me (boot_by cells cluster (map fact_read payloads))
+      → BootsNode {S = S} stands room cells (Err (of_boot fault)) cluster me facts
+  boot-ends BootFault.Memory h = tt
+  boot-ends BootFault.Epochs h = ends-over BootFault.Epochs (sym read-over ∙ h)
+  boot-ends (BootFault.NotARun n) h = ends-over (BootFault.NotARun n) (sym read-over ∙ h)
+  boot-ends (BootFault.Room needed all) h = ends-over (BootFault.Room needed all) (sym read-over ∙ h)
+
+-- a boot that is refused refuses the start
+pub boot-refuses : {S : Type 0} (stands : S → List Fact → Type 0) (room : S → ℕ) (cells : Cells) (cluster : Cluster) (me : ℕ) (facts : List Fact) (fault : RestartFault)
+    → BootsNode {S = S} stands room cells (Err fault) cluster me facts → IsRefused cells cluster facts fault
+boot-refuses stands room cells cluster me facts (RestartFault.Boot BootFault.Epochs) h = h
+boot-refuses stands room cells cluster me facts (RestartFault.Boot (BootFault.Room needed all)) h = h
+boot-refuses stands room cells cluster me facts (RestartFault.Boot (BootFault.NotARun n)) h = h
+boot-refuses stands room cells cluster me facts (RestartFault.Boot BootFault.Memory) h = h
+boot-refuses stands room cells cluster me facts (RestartFault.Log fault) h = absurd h
+boot-refuses stands room cells cluster me facts RestartFault.Memory h = tt
 
 -- ---- the log
 
@@ -93,14 +119,15 @@ boot-size : (facts : List Fact) → size_with_boot facts ≡ length (log_bytes (
 boot-size facts = log-grows (logged facts) (fact_bytes (next_boot facts))
 
 -- why the new boot was not appended
-pub refuses : (facts : List Fact) (fault : LogFault) (size : ℕ) (payload : List ℕ) → epoch_of facts < 2 ^ 32 - 1 → size ≡ length (log_bytes (logged facts)) → length payload ≡ 5
+pub refuses : (cells : Cells) (cluster : Cluster) (facts : List Fact) (fault : LogFault) (size : ℕ) (payload : List ℕ) → booted_over cells cluster facts ≡ Ok (next_boot facts ∷ facts)
+    → size ≡ length (log_bytes (logged facts)) → length payload ≡ 5
     → (IsErrOf {T = Unit {0}} (Err fault) LogFault.LogFull → log_limit < size + length payload + 5)
     → ((n : ℕ) → IsErrOf {T = Unit {0}} (Err fault) (LogFault.NotALog n) → ⊥)
-    → IsRefused facts (of_log fault)
-refuses facts LogFault.DiskFault size payload below sized five full not_a_log = tt
-refuses facts (LogFault.NotALog n) size payload below sized five full not_a_log = not_a_log n refl
-refuses facts LogFault.LogFull size payload below sized five full not_a_log = (below, omega (arith, full refl, boot-size facts))
-refuses facts LogFault.Memory size payload below sized five full not_a_log = tt
+    → IsRefused cells cluster facts (of_log fault)
+refuses cells cluster facts LogFault.DiskFault size payload boots sized five full not_a_log = tt
+refuses cells cluster facts (LogFault.NotALog n) size payload boots sized five full not_a_log = not_a_log n refl
+refuses cells cluster facts LogFault.LogFull size payload boots sized five full not_a_log = (boots, omega (arith, full refl, boot-size facts))
+refuses cells cluster facts LogFault.Memory size payload boots sized five full not_a_log = tt
 
 -- the new boot lies within the limit
 pub lies-within : (facts : List Fact) (size : ℕ) (payload : List ℕ) → size ≡ length (log_bytes (logged facts)) → length payload ≡ 5

@@ -1,7 +1,7 @@
 -- What comes of a restart over a log of facts.
 use Rattle.std.specs.Prelude.{Err, IsTrue, List, Ok, Result, [], length, ℕ, ◌+◌, ◌-◌, ◌<◌, ◌^◌, ◌∷◌, ◌≡◌, ◌≤◌, ◌⊎◌, ⊤}
-use Rattle.mdcc_admission.specs.Boots.{AreAmple}
-use Rattle.mdcc_admission.specs.Loading.{Cells, Holds}
+use Rattle.mdcc_admission.specs.Loading.{Cells, Holds, boot_by}
+use Rattle.mdcc_base.specs.Counts.{sum_over}
 use Rattle.mdcc_disks.specs.Disks.{Disk}
 use Rattle.mdcc_log.specs.Crash.{IsBetween}
 use Rattle.mdcc_log.specs.Frames.{IsAtRest}
@@ -15,17 +15,12 @@ use Rattle.mdcc_protocol.specs.Volatile.{nothing_kept}
 use Rattle.mdcc_messages.specs.Spelling.{fact_bytes}
 use Rattle.mdcc_messages.specs.declared.facts.Fact.{Fact}
 use Rattle.mdcc_rules.specs.declared.node.BootFault.{BootFault}
+use Rattle.mdcc_steps.specs.Forming.{payloads_of}
 use Rattle.mdcc_restart.specs.Logged.{logged}
 use Rattle.mdcc_restart.specs.declared.fault.RestartFault.{RestartFault}
 use Rattle.mdcc_restart.specs.declared.restarting.Restarted.{Restarted}
 
 -- ---- what stands before it
-
--- an empty store in which cells never lack
-pub record IsAmple {S : Type 0} (stands : S → List Fact → Type 0) (room : S → ℕ) (cells_for : S → Fact → ℕ) (store : S) : Type 0 where
-  pub cells : Cells
-  pub empty : Holds stands room cells_for cells store []
-  pub ample : AreAmple cells
 
 -- a disk that tells its bytes, of which these facts are read
 pub record IsLogOf (facts : List Fact) (disk : Disk) : Type 0 where
@@ -42,26 +37,33 @@ next_boot facts = Fact.Booted (epoch_of facts + 1)
 abbrev pub size_with_boot : List Fact → ℕ
 size_with_boot facts = length (log_bytes (logged (next_boot facts ∷ facts)))
 
--- A centre that runs: its node has these facts and the new boot, and its log, which lies within the limit, has them too, all of it durable.
-pub record Runs {S : Type 0} (stands : S → List Fact → Type 0) (centre : Restarted S) (cluster : Cluster) (me : ℕ) (facts : List Fact) (bytes : List ℕ) (may_leave : List ℕ → Type 0) : Type 0 where
+-- what a boot makes of these facts over an empty store with these cells: they and the new boot, or why there is no node
+abbrev pub booted_over : Cells → Cluster → List Fact → Result (List Fact) BootFault
+booted_over cells cluster facts = boot_by cells cluster (payloads_of facts)
+
+-- A centre that runs: its node has these facts and the new boot, and its log, which lies within the limit, has them too, all of it
+-- durable. Its store has as many cells spare as these facts leave.
+pub record Runs {S : Type 0} (stands : S → List Fact → Type 0) (room : S → ℕ) (cells : Cells) (centre : Restarted S) (cluster : Cluster) (me : ℕ) (facts : List Fact) (bytes : List ℕ) (may_leave : List ℕ → Type 0) : Type 0 where
   pub epoch : centre.epoch ≡ epoch_of facts + 1
   pub below : epoch_of facts < 2 ^ 32 - 1
   pub node : Stands stands centre.node cluster me (next_boot facts ∷ facts) nothing_kept
+  pub spare : room centre.node.store + sum_over cells.needed (next_boot facts ∷ facts) ≡ cells.total
   pub place : centre.log.place ≡ me
   pub at_rest : IsAtRest (logged (next_boot facts ∷ facts)) centre.log.size bytes may_leave
   pub within : size_with_boot facts ≤ log_limit
 
 -- Why no centre runs. A fault of the disk and want of memory may come at any time.
-abbrev pub IsRefused : List Fact → RestartFault → Type 0
-IsRefused facts (RestartFault.Boot BootFault.Epochs) = 2 ^ 32 - 1 ≤ epoch_of facts
-IsRefused facts (RestartFault.Log LogFault.LogFull) = (epoch_of facts < 2 ^ 32 - 1) × (log_limit < size_with_boot facts)
-IsRefused facts (RestartFault.Log LogFault.DiskFault) = ⊤
-IsRefused facts RestartFault.Memory = ⊤
-IsRefused facts _ = ⊥
+abbrev pub IsRefused : Cells → Cluster → List Fact → RestartFault → Type 0
+IsRefused cells cluster facts (RestartFault.Boot BootFault.Epochs) = 2 ^ 32 - 1 ≤ epoch_of facts
+IsRefused cells cluster facts (RestartFault.Boot (BootFault.Room needed all)) = booted_over cells cluster facts ≡ Err (BootFault.Room needed all)
+IsRefused cells cluster facts (RestartFault.Log LogFault.LogFull) = (booted_over cells cluster facts ≡ Ok (next_boot facts ∷ facts)) × (log_limit < size_with_boot facts)
+IsRefused cells cluster facts (RestartFault.Log LogFault.DiskFault) = ⊤
+IsRefused cells cluster facts RestartFault.Memory = ⊤
+IsRefused cells cluster facts _ = ⊥
 
-abbrev pub Restarts : {S : Type 0} → (S → List Fact → Type 0) → Result (Restarted S) RestartFault → Cluster → ℕ → List Fact → List ℕ → (List ℕ → Type 0) → Type 0
-Restarts stands (Ok centre) cluster me facts bytes may_leave = Runs stands centre cluster me facts bytes may_leave
-Restarts stands (Err fault) cluster me facts bytes may_leave = IsRefused facts fault
+abbrev pub Restarts : {S : Type 0} → (S → List Fact → Type 0) → (S → ℕ) → Cells → Result (Restarted S) RestartFault → Cluster → ℕ → List Fact → List ℕ → (List ℕ → Type 0) → Type 0
+Restarts stands room cells (Ok centre) cluster me facts bytes may_leave = Runs stands room cells centre cluster me facts bytes may_leave
+Restarts stands room cells (Err fault) cluster me facts bytes may_leave = IsRefused cells cluster facts fault
 
 -- ---- what stands on its disk
 
@@ -83,10 +85,12 @@ KeepsLog payloads _ bytes may_leave = (size : ℕ) × IsAtRest payloads size byt
 
 -- ---- its boot
 
--- a node of these facts and the new boot, with this boot, or the fault: the epochs are used up, or there was no memory
-abbrev pub BootsNode : {S : Type 0} → (S → List Fact → Type 0) → Result (Node S × Fact) RestartFault → Cluster → ℕ → List Fact → Type 0
-BootsNode stands (Ok r) cluster me facts =
+-- a node of these facts and the new boot, with this boot, or the fault: the epochs are used up, cells lack, or there was no memory
+abbrev pub BootsNode : {S : Type 0} → (S → List Fact → Type 0) → (S → ℕ) → Cells → Result (Node S × Fact) RestartFault → Cluster → ℕ → List Fact → Type 0
+BootsNode stands room cells (Ok r) cluster me facts =
     (epoch_of facts < 2 ^ 32 - 1) × Stands stands r.0 cluster me (next_boot facts ∷ facts) nothing_kept × (r.1 ≡ next_boot facts)
-BootsNode stands (Err (RestartFault.Boot BootFault.Epochs)) cluster me facts = 2 ^ 32 - 1 ≤ epoch_of facts
-BootsNode stands (Err RestartFault.Memory) cluster me facts = ⊤
-BootsNode stands (Err fault) cluster me facts = ⊥
+    × (booted_over cells cluster facts ≡ Ok (next_boot facts ∷ facts)) × (room r.0.store + sum_over cells.needed (next_boot facts ∷ facts) ≡ cells.total)
+BootsNode stands room cells (Err (RestartFault.Boot BootFault.Epochs)) cluster me facts = 2 ^ 32 - 1 ≤ epoch_of facts
+BootsNode stands room cells (Err (RestartFault.Boot (BootFault.Room needed all))) cluster me facts = booted_over cells cluster facts ≡ Err (BootFault.Room needed all)
+BootsNode stands room cells (Err RestartFault.Memory) cluster me facts = ⊤
+BootsNode stands room cells (Err fault) cluster me facts = ⊥

@@ -1,6 +1,6 @@
 //! The start of a centre.
 ghost use Rattle.std.specs.Prelude.{◌≡◌, ◌≤◌, ◌⊎◌, ◌∷◌, [], List, IfErr, IfOk, IsErrOf, IsTrue, Ok, length, true, ℕ};
-ghost use Rattle.mdcc_admission.specs.Loading.{AreShort};
+ghost use Rattle.mdcc_admission.specs.Loading.{AreShort, Cells, Holds};
 ghost use Rattle.mdcc_base.specs.Causes.{Rose};
 ghost use Rattle.mdcc_disks.specs.Disks.{KeepsOthers, LeavesOnly, Within};
 ghost use Rattle.mdcc_journal.specs.Counts.{HasCounts};
@@ -11,7 +11,7 @@ ghost use Rattle.mdcc_protocol.specs.Belongs.{is_centre};
 ghost use Rattle.mdcc_messages.specs.Spelling.{fact_bytes};
 ghost use Rattle.mdcc_messages.specs.declared.facts.Fact.{Fact as AFact};
 ghost use Rattle.mdcc_restart.specs.Logged.{AreLogged, logged};
-ghost use Rattle.mdcc_restart.specs.Restarting.{BootsNode, IsAmple, IsLogOf, KeepsLog, MayHaveBoot, MayHaveFactAndBoot, Restarts, next_boot};
+ghost use Rattle.mdcc_restart.specs.Restarting.{BootsNode, IsLogOf, KeepsLog, MayHaveBoot, MayHaveFactAndBoot, Restarts, next_boot};
 
 use crate::RestartFault;
 use mdcc_base::{Centre, HeapList, Memory};
@@ -54,8 +54,8 @@ fn boot_node<S: FactStore + Drop>(
     requires among { is_centre cluster centre ≡ true }
     requires empty { S.stands store [] }
     requires short { AreShort payloads.now }
-    ensures node { (facts : List AFact) → IsAmple S.stands S.room S.cells_for store → AreLogged cluster facts
-        → payloads.now ≡ logged facts → BootsNode S.stands result cluster centre facts }
+    ensures node { (cells : Cells) (facts : List AFact) → Holds S.stands S.room S.cells_for cells store [] → AreLogged cluster facts
+        → payloads.now ≡ logged facts → BootsNode S.stands S.room cells result cluster centre facts }
     ensures fact { IfOk result (λ r. IsBoot r.1) }
     ensures no_log { (fault : LogFault) → IsErrOf result (RestartFault.Log fault) → ⊥ }
     ensures memory { IsErrOf result (RestartFault.Boot BootFault.Memory) → ⊥ }
@@ -78,17 +78,18 @@ pub fn restart<D: Disks, S: FactStore + Drop>(
     requires empty { S.stands store [] }
 
     // Over a log of facts that the centre may have added it has just these and the new boot. It is
-    // refused where the epochs are used up, and where the new boot would pass the limit of the log.
-    ensures restarts { (facts : List AFact) → IsAmple S.stands S.room S.cells_for store → AreLogged cluster facts
+    // refused where the epochs are used up, where the store has too few cells, with those that are needed,
+    // and where the new boot would pass the limit of the log.
+    ensures restarts { (cells : Cells) (facts : List AFact) → Holds S.stands S.room S.cells_for cells store [] → AreLogged cluster facts
         → IsLogOf facts (D.disk disks.old centre)
-        → Restarts S.stands result cluster centre facts (D.disk disks.new centre).bytes (D.may_leave disks.new centre) }
+        → Restarts S.stands S.room cells result cluster centre facts (D.disk disks.new centre).bytes (D.may_leave disks.new centre) }
 
     // So too where a crash came at any moment of an append: with the fact that was being added, or
     // without it.
-    ensures after_crash { (facts : List AFact) (fact : AFact) → IsAmple S.stands S.room S.cells_for store → AreLogged cluster (fact ∷ facts)
+    ensures after_crash { (cells : Cells) (facts : List AFact) (fact : AFact) → Holds S.stands S.room S.cells_for cells store [] → AreLogged cluster (fact ∷ facts)
         → IsTrue (D.disk disks.old centre).told → IsBetween (logged facts) (fact_bytes fact) (D.disk disks.old centre).bytes
-        → Restarts S.stands result cluster centre facts (D.disk disks.new centre).bytes (D.may_leave disks.new centre)
-        ⊎ Restarts S.stands result cluster centre (fact ∷ facts) (D.disk disks.new centre).bytes (D.may_leave disks.new centre) }
+        → Restarts S.stands S.room cells result cluster centre facts (D.disk disks.new centre).bytes (D.may_leave disks.new centre)
+        ⊎ Restarts S.stands S.room cells result cluster centre (fact ∷ facts) (D.disk disks.new centre).bytes (D.may_leave disks.new centre) }
 
     // A refusal leaves the log as it was: its payloads are read again.
     ensures refused { (payloads : List (List ℕ)) → IsTrue (D.disk disks.old centre).told
@@ -96,15 +97,15 @@ pub fn restart<D: Disks, S: FactStore + Drop>(
         → IfErr result (λ fault. KeepsLog payloads fault (D.disk disks.new centre).bytes (D.may_leave disks.new centre)) }
 
     // A crash at any moment of it leaves a log of the facts, or of these and the new boot, whether it is answered or refused.
-    ensures any_moment { (facts : List AFact) → IsAmple S.stands S.room S.cells_for store → AreLogged cluster facts
+    ensures any_moment { (cells : Cells) (facts : List AFact) → Holds S.stands S.room S.cells_for cells store [] → AreLogged cluster facts
         → IsTrue (D.disk disks.old centre).told → Within (IsShut (logged facts)) (D.may_leave disks.old centre)
         → LeavesOnly D.moment D.left_since disks.old disks.new centre (MayHaveBoot facts) }
-    ensures any_moment_between { (facts : List AFact) (fact : AFact) → IsAmple S.stands S.room S.cells_for store → AreLogged cluster (fact ∷ facts)
+    ensures any_moment_between { (cells : Cells) (facts : List AFact) (fact : AFact) → Holds S.stands S.room S.cells_for cells store [] → AreLogged cluster (fact ∷ facts)
         → IsTrue (D.disk disks.old centre).told → Within (IsBetween (logged facts) (fact_bytes fact)) (D.may_leave disks.old centre)
         → LeavesOnly D.moment D.left_since disks.old disks.new centre (MayHaveFactAndBoot facts fact) }
 
     // So it is of a log of which just the facts are read, whatever stands behind them, where no byte is torn to 1.
-    ensures any_moment_same { (facts : List AFact) → IsAmple S.stands S.room S.cells_for store → AreLogged cluster facts
+    ensures any_moment_same { (cells : Cells) (facts : List AFact) → Holds S.stands S.room S.cells_for cells store [] → AreLogged cluster facts
         → IsTrue (D.disk disks.old centre).told → (D.tears 1 → ⊥) → Within (λ c. read_log c ≡ Ok (logged facts)) (D.may_leave disks.old centre)
         → LeavesOnly D.moment D.left_since disks.old disks.new centre (ReadsAsEither (logged facts) (fact_bytes (next_boot facts))) }
     ensures others { KeepsOthers D.disk D.may_leave D.moment D.left_since disks.old disks.new centre }

@@ -3,13 +3,13 @@ use Rattle.mdcc_restart.proofs.Starts.{boot-ends, node-boots}
 use Rattle.mdcc_restart.proofs.restarting.boot_node.Goals as goal
 
 pub returns-in_err-boot-clause-node : goal.returns-in_err-boot-clause-node
-returns-in_err-boot-clause-node g c facts ample are is =
+returns-in_err-boot-clause-node g c cells facts holds are is =
     let p = err_from_is_err_and c.from_residual.result c.from_residual.ensures.1 in
     rw (p.1, p.2)
-    (boot-ends g.S.FactStore.stands c.args.cluster c.args.centre facts c.args.payloads.now is ample.cells c.in_err-boot.field-0.0 ample.ample are
-    (c.in_err-boot.ensures.boots ample.cells ample.empty))
+    (boot-ends g.S.FactStore.stands g.S.FactStore.room g.S.FactStore.cells_for cells c.args.cluster c.args.centre facts c.args.payloads.now is are c.in_err-boot.field-0.0
+    (c.in_err-boot.ensures.boots cells holds))
 
 pub returns-clause-node : goal.returns-clause-node
-returns-clause-node g c facts ample are is =
-    node-boots g.S.FactStore.stands c.args.cluster c.args.centre facts c.args.payloads.now is ample.cells c.in_ok-boot.field-0 ample.ample are
-    (c.in_ok-boot.ensures.boots ample.cells ample.empty)
+returns-clause-node g c cells facts holds are is =
+    node-boots g.S.FactStore.stands g.S.FactStore.room g.S.FactStore.cells_for cells c.args.cluster c.args.centre facts c.args.payloads.now is are c.in_ok-boot.field-0
+    (c.in_ok-boot.ensures.boots cells holds)

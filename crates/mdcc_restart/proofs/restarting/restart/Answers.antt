@@ -6,7 +6,7 @@ use Rattle.mdcc_disks.specs.Disks.{LeavesOnly}
 use Rattle.mdcc_log.proofs.Moments.{others_joined}
 use Rattle.mdcc_restart.proofs.Kept.{append-keeps, between-leaves, boot-leaves, each-fault, open-keeps, rest-keeps, same-leaves, shut-leaves, then-leaves, then-leaves-either, then-leaves-same}
 use Rattle.mdcc_restart.proofs.Named.{no-boot-memory, no-log-memory, of-disk, rose-later}
-use Rattle.mdcc_restart.proofs.Starts.{after-crash, boot-length, lies-within, refuses, same-payloads}
+use Rattle.mdcc_restart.proofs.Starts.{after-crash, boot-length, boot-refuses, lies-within, refuses, same-payloads}
 use Rattle.mdcc_restart.specs.declared.fault.RestartFault.{RestartFault}
 use Rattle.mdcc_log.specs.declared.fault.LogFault.{LogFault}
 use Rattle.mdcc_rules.specs.declared.node.BootFault.{BootFault}
@@ -20,52 +20,57 @@ pub returns-in_err-log-clause-restarts : goal.returns-in_err-log-clause-restarts
 returns-in_err-log-clause-restarts g c = search rules
 
 pub returns-in_err-log-clause-after_crash : goal.returns-in_err-log-clause-after_crash
-returns-in_err-log-clause-after_crash g c facts fact ample are told between =
-    after-crash (λ fs. Restarts g.S.FactStore.stands c.from_residual.result c.args.cluster c.args.centre fs (g.D.Disks.disk c.open.new.disks c.args.centre).bytes (g.D.Disks.may_leave c.open.new.disks c.args.centre))
-    c.args.cluster facts fact (g.D.Disks.disk c.args.disks.now c.args.centre) c.between_is_read.ensures (λ fs of_cluster log. returns-in_err-log-clause-restarts g c fs ample of_cluster log) are told between
+returns-in_err-log-clause-after_crash g c cells facts fact holds are told between =
+    after-crash (λ fs. Restarts g.S.FactStore.stands g.S.FactStore.room cells c.from_residual.result c.args.cluster c.args.centre fs (g.D.Disks.disk c.open.new.disks c.args.centre).bytes (g.D.Disks.may_leave c.open.new.disks c.args.centre))
+    c.args.cluster facts fact (g.D.Disks.disk c.args.disks.now c.args.centre) c.between_is_read.ensures (λ fs of_cluster log. returns-in_err-log-clause-restarts g c cells fs holds of_cluster log) are told between
 
 pub returns-in_err-node-clause-restarts : goal.returns-in_err-node-clause-restarts
-returns-in_err-node-clause-restarts g c = search rules
+returns-in_err-node-clause-restarts g c cells facts holds are log =
+    let p = err_from_is_err_and c.from_residual-in_err-node.result c.from_residual-in_err-node.ensures.1 in
+    let opened = rw c.number.ensures.value at c.in_ok-log.ensures.payloads in
+    let is = same-payloads (g.D.Disks.disk c.args.disks.now c.args.centre).bytes c.in_ok-log.payloads.items (logged facts) (opened log.told) log.read in
+    let refused = c.in_err-node.ensures.node cells facts holds are (c.as_slice.ensures.value ∙ is) in
+    rw (p.1, p.2) (boot-refuses g.S.FactStore.stands g.S.FactStore.room cells c.args.cluster c.args.centre facts c.in_err-node.field-0.0 refused)
 
 pub returns-in_err-node-clause-after_crash : goal.returns-in_err-node-clause-after_crash
-returns-in_err-node-clause-after_crash g c facts fact ample are told between =
-    after-crash (λ fs. Restarts g.S.FactStore.stands c.from_residual-in_err-node.result c.args.cluster c.args.centre fs (g.D.Disks.disk c.open.new.disks c.args.centre).bytes (g.D.Disks.may_leave c.open.new.disks c.args.centre))
-    c.args.cluster facts fact (g.D.Disks.disk c.args.disks.now c.args.centre) c.between_is_read.ensures (λ fs of_cluster log. returns-in_err-node-clause-restarts g c fs ample of_cluster log) are told between
+returns-in_err-node-clause-after_crash g c cells facts fact holds are told between =
+    after-crash (λ fs. Restarts g.S.FactStore.stands g.S.FactStore.room cells c.from_residual-in_err-node.result c.args.cluster c.args.centre fs (g.D.Disks.disk c.open.new.disks c.args.centre).bytes (g.D.Disks.may_leave c.open.new.disks c.args.centre))
+    c.args.cluster facts fact (g.D.Disks.disk c.args.disks.now c.args.centre) c.between_is_read.ensures (λ fs of_cluster log. returns-in_err-node-clause-restarts g c cells fs holds of_cluster log) are told between
 
 pub returns-in_err-payload-clause-restarts : goal.returns-in_err-payload-clause-restarts
-returns-in_err-payload-clause-restarts g c facts ample are log =
+returns-in_err-payload-clause-restarts g c cells facts holds are log =
     let p = err_from_is_err_and c.from_residual-in_err-payload.result c.from_residual-in_err-payload.ensures.1 in
     rw (p.1, p.2) tt
 
 pub returns-in_err-payload-clause-after_crash : goal.returns-in_err-payload-clause-after_crash
-returns-in_err-payload-clause-after_crash g c facts fact ample are told between =
-    after-crash (λ fs. Restarts g.S.FactStore.stands c.from_residual-in_err-payload.result c.args.cluster c.args.centre fs (g.D.Disks.disk c.open.new.disks c.args.centre).bytes (g.D.Disks.may_leave c.open.new.disks c.args.centre))
-    c.args.cluster facts fact (g.D.Disks.disk c.args.disks.now c.args.centre) c.between_is_read.ensures (λ fs of_cluster log. returns-in_err-payload-clause-restarts g c fs ample of_cluster log) are told between
+returns-in_err-payload-clause-after_crash g c cells facts fact holds are told between =
+    after-crash (λ fs. Restarts g.S.FactStore.stands g.S.FactStore.room cells c.from_residual-in_err-payload.result c.args.cluster c.args.centre fs (g.D.Disks.disk c.open.new.disks c.args.centre).bytes (g.D.Disks.may_leave c.open.new.disks c.args.centre))
+    c.args.cluster facts fact (g.D.Disks.disk c.args.disks.now c.args.centre) c.between_is_read.ensures (λ fs of_cluster log. returns-in_err-payload-clause-restarts g c cells fs holds of_cluster log) are told between
 
 pub returns-in_err-append-clause-restarts : goal.returns-in_err-append-clause-restarts
-returns-in_err-append-clause-restarts g c facts ample are log =
+returns-in_err-append-clause-restarts g c cells facts holds are log =
     let p = err_from_is_err_and c.from_residual-in_err-append.result c.from_residual-in_err-append.ensures.1 in
     rw (p.1, p.2)
     (let opened = rw c.number.ensures.value at c.in_ok-log.ensures.payloads in
     let rest = rw c.number.ensures.value at c.in_ok-log.ensures.at_rest in
     let is = same-payloads (g.D.Disks.disk c.args.disks.now c.args.centre).bytes c.in_ok-log.payloads.items (logged facts) (opened log.told) log.read in
-    let booted = c.in_ok-node.ensures.node facts ample are (c.as_slice.ensures.value ∙ is) in
+    let booted = c.in_ok-node.ensures.node cells facts holds are (c.as_slice.ensures.value ∙ is) in
     let stood = rest log.told in
     let sized = stood.counted ∙ ap (λ (bytes : List ℕ). length bytes) stood.file ∙ ap (λ (payloads : List (List ℕ)). length (log_bytes payloads)) is in
-    refuses facts c.in_err-append.field-0.0 c.in_ok-log.log.size c.deref.result.now booted.0 sized (boot-length c.in_ok-node.boot c.deref.result.now c.in_ok-node.ensures.fact (c.deref.ensures.value ∙ c.in_ok-payload.ensures))
+    refuses cells c.args.cluster facts c.in_err-append.field-0.0 c.in_ok-log.log.size c.deref.result.now booted.3 sized (boot-length c.in_ok-node.boot c.deref.result.now c.in_ok-node.ensures.fact (c.deref.ensures.value ∙ c.in_ok-payload.ensures))
     c.in_err-append.ensures.full.0 c.in_err-append.ensures.a_log)
 
 pub returns-in_err-append-clause-after_crash : goal.returns-in_err-append-clause-after_crash
-returns-in_err-append-clause-after_crash g c facts fact ample are told between =
-    after-crash (λ fs. Restarts g.S.FactStore.stands c.from_residual-in_err-append.result c.args.cluster c.args.centre fs (g.D.Disks.disk c.append.new.disks c.args.centre).bytes (g.D.Disks.may_leave c.append.new.disks c.args.centre))
-    c.args.cluster facts fact (g.D.Disks.disk c.args.disks.now c.args.centre) c.between_is_read.ensures (λ fs of_cluster log. returns-in_err-append-clause-restarts g c fs ample of_cluster log) are told between
+returns-in_err-append-clause-after_crash g c cells facts fact holds are told between =
+    after-crash (λ fs. Restarts g.S.FactStore.stands g.S.FactStore.room cells c.from_residual-in_err-append.result c.args.cluster c.args.centre fs (g.D.Disks.disk c.append.new.disks c.args.centre).bytes (g.D.Disks.may_leave c.append.new.disks c.args.centre))
+    c.args.cluster facts fact (g.D.Disks.disk c.args.disks.now c.args.centre) c.between_is_read.ensures (λ fs of_cluster log. returns-in_err-append-clause-restarts g c cells fs holds of_cluster log) are told between
 
 pub returns-clause-restarts : goal.returns-clause-restarts
-returns-clause-restarts g c facts ample are log =
+returns-clause-restarts g c cells facts holds are log =
     let opened = rw c.number.ensures.value at c.in_ok-log.ensures.payloads in
     let rest = rw c.number.ensures.value at c.in_ok-log.ensures.at_rest in
     let is = same-payloads (g.D.Disks.disk c.args.disks.now c.args.centre).bytes c.in_ok-log.payloads.items (logged facts) (opened log.told) log.read in
-    let booted = c.in_ok-node.ensures.node facts ample are (c.as_slice.ensures.value ∙ is) in
+    let booted = c.in_ok-node.ensures.node cells facts holds are (c.as_slice.ensures.value ∙ is) in
     let stood = rest log.told in
     let sized = stood.counted ∙ ap (λ (bytes : List ℕ). length bytes) stood.file ∙ ap (λ (payloads : List (List ℕ)). length (log_bytes payloads)) is in
     let others = rw c.number.ensures.value at c.open.ensures.others in
@@ -77,6 +82,7 @@ returns-clause-restarts g c facts ample are log =
       epoch = epoch;
       below = booted.0;
       node = booted.1;
+      spare = booted.4;
       place = c.append.ensures.place ∙ c.in_ok-log.ensures.place ∙ c.number.ensures.value;
       at_rest = subst (λ (payloads : List (List ℕ)). IsAtRest payloads c.append.new.self.size (g.D.Disks.disk c.append.new.disks c.args.centre).bytes (g.D.Disks.may_leave c.append.new.disks c.args.centre)) more
           (acknowledged c.in_ok-log.payloads.items (others.told ∙ log.told) stood);
@@ -84,9 +90,9 @@ returns-clause-restarts g c facts ample are log =
     }
 
 pub returns-clause-after_crash : goal.returns-clause-after_crash
-returns-clause-after_crash g c facts fact ample are told between =
-    after-crash (λ fs. Restarts g.S.FactStore.stands (Ok (record { node = c.in_ok-node.node; log = c.append.new.self; epoch = c.epoch-epoch.result })) c.args.cluster c.args.centre fs (g.D.Disks.disk c.append.new.disks c.args.centre).bytes (g.D.Disks.may_leave c.append.new.disks c.args.centre))
-    c.args.cluster facts fact (g.D.Disks.disk c.args.disks.now c.args.centre) c.between_is_read.ensures (λ fs of_cluster log. returns-clause-restarts g c fs ample of_cluster log) are told between
+returns-clause-after_crash g c cells facts fact holds are told between =
+    after-crash (λ fs. Restarts g.S.FactStore.stands g.S.FactStore.room cells (Ok (record { node = c.in_ok-node.node; log = c.append.new.self; epoch = c.epoch-epoch.result })) c.args.cluster c.args.centre fs (g.D.Disks.disk c.append.new.disks c.args.centre).bytes (g.D.Disks.may_leave c.append.new.disks c.args.centre))
+    c.args.cluster facts fact (g.D.Disks.disk c.args.disks.now c.args.centre) c.between_is_read.ensures (λ fs of_cluster log. returns-clause-restarts g c cells fs holds of_cluster log) are told between
 
 -- ---- after a refusal
 
@@ -134,44 +140,44 @@ returns-in_err-append-clause-refused g c payloads told read =
 -- ---- at any moment
 
 pub returns-in_err-log-clause-any_moment : goal.returns-in_err-log-clause-any_moment
-returns-in_err-log-clause-any_moment g c facts ample are told within =
+returns-in_err-log-clause-any_moment g c cells facts holds are told within =
     let opened = rw c.number.ensures.value at c.open.ensures.any_moment in
     shut-leaves facts (opened (logged facts) told within)
 
 pub returns-in_err-log-clause-any_moment_between : goal.returns-in_err-log-clause-any_moment_between
-returns-in_err-log-clause-any_moment_between g c facts fact ample are told within =
+returns-in_err-log-clause-any_moment_between g c cells facts fact holds are told within =
     let opened = rw c.number.ensures.value at c.open.ensures.any_moment_between in
     between-leaves facts fact (opened (logged facts) (fact_bytes fact) told within)
 
 pub returns-in_err-node-clause-any_moment : goal.returns-in_err-node-clause-any_moment
-returns-in_err-node-clause-any_moment g c facts ample are told within =
+returns-in_err-node-clause-any_moment g c cells facts holds are told within =
     let opened = rw c.number.ensures.value at c.open.ensures.any_moment in
     shut-leaves facts (opened (logged facts) told within)
 
 pub returns-in_err-node-clause-any_moment_between : goal.returns-in_err-node-clause-any_moment_between
-returns-in_err-node-clause-any_moment_between g c facts fact ample are told within =
+returns-in_err-node-clause-any_moment_between g c cells facts fact holds are told within =
     let opened = rw c.number.ensures.value at c.open.ensures.any_moment_between in
     between-leaves facts fact (opened (logged facts) (fact_bytes fact) told within)
 
 pub returns-in_err-payload-clause-any_moment : goal.returns-in_err-payload-clause-any_moment
-returns-in_err-payload-clause-any_moment g c facts ample are told within =
+returns-in_err-payload-clause-any_moment g c cells facts holds are told within =
     let opened = rw c.number.ensures.value at c.open.ensures.any_moment in
     shut-leaves facts (opened (logged facts) told within)
 
 pub returns-in_err-payload-clause-any_moment_between : goal.returns-in_err-payload-clause-any_moment_between
-returns-in_err-payload-clause-any_moment_between g c facts fact ample are told within =
+returns-in_err-payload-clause-any_moment_between g c cells facts fact holds are told within =
     let opened = rw c.number.ensures.value at c.open.ensures.any_moment_between in
     between-leaves facts fact (opened (logged facts) (fact_bytes fact) told within)
 
 pub returns-in_err-append-clause-any_moment : goal.returns-in_err-append-clause-any_moment
-returns-in_err-append-clause-any_moment g c facts ample are told within =
+returns-in_err-append-clause-any_moment g c cells facts holds are told within =
     let opened = rw c.number.ensures.value at c.in_ok-log.ensures.payloads in
     let rest = rw c.number.ensures.value at c.in_ok-log.ensures.at_rest in
     let others = rw c.number.ensures.value at c.open.ensures.others in
     let appending = rw (c.in_ok-log.ensures.place, c.number.ensures.value) at c.append.ensures.any_moment in
     let appended = λ (fs : List Fact) (of_cluster : AreLogged c.args.cluster fs) (log : IsLogOf fs (g.D.Disks.disk c.args.disks.now c.args.centre)).
     (let is = same-payloads (g.D.Disks.disk c.args.disks.now c.args.centre).bytes c.in_ok-log.payloads.items (logged fs) (opened log.told) log.read in
-    let booted = c.in_ok-node.ensures.node fs ample of_cluster (c.as_slice.ensures.value ∙ is) in
+    let booted = c.in_ok-node.ensures.node cells fs holds of_cluster (c.as_slice.ensures.value ∙ is) in
     let bytes = c.deref.ensures.value ∙ c.in_ok-payload.ensures ∙ ap fact_bytes booted.2 in
     boot-leaves fs c.in_ok-log.payloads.items c.deref.result.now is bytes (appending c.in_ok-log.payloads.items (others.told ∙ told) (rest told))) in
     let opens = rw c.number.ensures.value at c.open.ensures.any_moment in
@@ -179,14 +185,14 @@ returns-in_err-append-clause-any_moment g c facts ample are told within =
     then-leaves facts (opens (logged facts) told within) (appended facts are (record { told = told; read = read }))
 
 pub returns-in_err-append-clause-any_moment_between : goal.returns-in_err-append-clause-any_moment_between
-returns-in_err-append-clause-any_moment_between g c facts fact ample are told within =
+returns-in_err-append-clause-any_moment_between g c cells facts fact holds are told within =
     let opened = rw c.number.ensures.value at c.in_ok-log.ensures.payloads in
     let rest = rw c.number.ensures.value at c.in_ok-log.ensures.at_rest in
     let others = rw c.number.ensures.value at c.open.ensures.others in
     let appending = rw (c.in_ok-log.ensures.place, c.number.ensures.value) at c.append.ensures.any_moment in
     let appended = λ (fs : List Fact) (of_cluster : AreLogged c.args.cluster fs) (log : IsLogOf fs (g.D.Disks.disk c.args.disks.now c.args.centre)).
     (let is = same-payloads (g.D.Disks.disk c.args.disks.now c.args.centre).bytes c.in_ok-log.payloads.items (logged fs) (opened log.told) log.read in
-    let booted = c.in_ok-node.ensures.node fs ample of_cluster (c.as_slice.ensures.value ∙ is) in
+    let booted = c.in_ok-node.ensures.node cells fs holds of_cluster (c.as_slice.ensures.value ∙ is) in
     let bytes = c.deref.ensures.value ∙ c.in_ok-payload.ensures ∙ ap fact_bytes booted.2 in
     boot-leaves fs c.in_ok-log.payloads.items c.deref.result.now is bytes (appending c.in_ok-log.payloads.items (others.told ∙ told) (rest told))) in
     let opens = rw c.number.ensures.value at c.open.ensures.any_moment_between in
@@ -196,14 +202,14 @@ returns-in_err-append-clause-any_moment_between g c facts fact ample are told wi
     c.args.cluster facts fact (g.D.Disks.disk c.args.disks.now c.args.centre) c.between_is_read.ensures appended are told stood)
 
 pub returns-clause-any_moment : goal.returns-clause-any_moment
-returns-clause-any_moment g c facts ample are told within =
+returns-clause-any_moment g c cells facts holds are told within =
     let opened = rw c.number.ensures.value at c.in_ok-log.ensures.payloads in
     let rest = rw c.number.ensures.value at c.in_ok-log.ensures.at_rest in
     let others = rw c.number.ensures.value at c.open.ensures.others in
     let appending = rw (c.in_ok-log.ensures.place, c.number.ensures.value) at c.append.ensures.any_moment in
     let appended = λ (fs : List Fact) (of_cluster : AreLogged c.args.cluster fs) (log : IsLogOf fs (g.D.Disks.disk c.args.disks.now c.args.centre)).
     (let is = same-payloads (g.D.Disks.disk c.args.disks.now c.args.centre).bytes c.in_ok-log.payloads.items (logged fs) (opened log.told) log.read in
-    let booted = c.in_ok-node.ensures.node fs ample of_cluster (c.as_slice.ensures.value ∙ is) in
+    let booted = c.in_ok-node.ensures.node cells fs holds of_cluster (c.as_slice.ensures.value ∙ is) in
     let bytes = c.deref.ensures.value ∙ c.in_ok-payload.ensures ∙ ap fact_bytes booted.2 in
     boot-leaves fs c.in_ok-log.payloads.items c.deref.result.now is bytes (appending c.in_ok-log.payloads.items (others.told ∙ told) (rest told))) in
     let opens = rw c.number.ensures.value at c.open.ensures.any_moment in
@@ -211,14 +217,14 @@ returns-clause-any_moment g c facts ample are told within =
     then-leaves facts (opens (logged facts) told within) (appended facts are (record { told = told; read = read }))
 
 pub returns-clause-any_moment_between : goal.returns-clause-any_moment_between
-returns-clause-any_moment_between g c facts fact ample are told within =
+returns-clause-any_moment_between g c cells facts fact holds are told within =
     let opened = rw c.number.ensures.value at c.in_ok-log.ensures.payloads in
     let rest = rw c.number.ensures.value at c.in_ok-log.ensures.at_rest in
     let others = rw c.number.ensures.value at c.open.ensures.others in
     let appending = rw (c.in_ok-log.ensures.place, c.number.ensures.value) at c.append.ensures.any_moment in
     let appended = λ (fs : List Fact) (of_cluster : AreLogged c.args.cluster fs) (log : IsLogOf fs (g.D.Disks.disk c.args.disks.now c.args.centre)).
     (let is = same-payloads (g.D.Disks.disk c.args.disks.now c.args.centre).bytes c.in_ok-log.payloads.items (logged fs) (opened log.told) log.read in
-    let booted = c.in_ok-node.ensures.node fs ample of_cluster (c.as_slice.ensures.value ∙ is) in
+    let booted = c.in_ok-node.ensures.node cells fs holds of_cluster (c.as_slice.ensures.value ∙ is) in
     let bytes = c.deref.ensures.value ∙ c.in_ok-payload.ensures ∙ ap fact_bytes booted.2 in
     boot-leaves fs c.in_ok-log.payloads.items c.deref.result.now is bytes (appending c.in_ok-log.payloads.items (others.told ∙ told) (rest told))) in
     let opens = rw c.number.ensures.value at c.open.ensures.any_moment_between in
@@ -228,29 +234,29 @@ returns-clause-any_moment_between g c facts fact ample are told within =
     c.args.cluster facts fact (g.D.Disks.disk c.args.disks.now c.args.centre) c.between_is_read.ensures appended are told stood)
 
 pub returns-in_err-log-clause-any_moment_same : goal.returns-in_err-log-clause-any_moment_same
-returns-in_err-log-clause-any_moment_same g c facts ample are told no_one within =
+returns-in_err-log-clause-any_moment_same g c cells facts holds are told no_one within =
     let opened = rw c.number.ensures.value at c.open.ensures.any_moment_same in
     same-leaves facts (opened (logged facts) told no_one within)
 
 pub returns-in_err-node-clause-any_moment_same : goal.returns-in_err-node-clause-any_moment_same
-returns-in_err-node-clause-any_moment_same g c facts ample are told no_one within =
+returns-in_err-node-clause-any_moment_same g c cells facts holds are told no_one within =
     let opened = rw c.number.ensures.value at c.open.ensures.any_moment_same in
     same-leaves facts (opened (logged facts) told no_one within)
 
 pub returns-in_err-payload-clause-any_moment_same : goal.returns-in_err-payload-clause-any_moment_same
-returns-in_err-payload-clause-any_moment_same g c facts ample are told no_one within =
+returns-in_err-payload-clause-any_moment_same g c cells facts holds are told no_one within =
     let opened = rw c.number.ensures.value at c.open.ensures.any_moment_same in
     same-leaves facts (opened (logged facts) told no_one within)
 
 pub returns-in_err-append-clause-any_moment_same : goal.returns-in_err-append-clause-any_moment_same
-returns-in_err-append-clause-any_moment_same g c facts ample are told no_one within =
+returns-in_err-append-clause-any_moment_same g c cells facts holds are told no_one within =
     let opened = rw c.number.ensures.value at c.in_ok-log.ensures.payloads in
     let rest = rw c.number.ensures.value at c.in_ok-log.ensures.at_rest in
     let others = rw c.number.ensures.value at c.open.ensures.others in
     let appending = rw (c.in_ok-log.ensures.place, c.number.ensures.value) at c.append.ensures.any_moment in
     let appended = λ (fs : List Fact) (of_cluster : AreLogged c.args.cluster fs) (log : IsLogOf fs (g.D.Disks.disk c.args.disks.now c.args.centre)).
     (let is = same-payloads (g.D.Disks.disk c.args.disks.now c.args.centre).bytes c.in_ok-log.payloads.items (logged fs) (opened log.told) log.read in
-    let booted = c.in_ok-node.ensures.node fs ample of_cluster (c.as_slice.ensures.value ∙ is) in
+    let booted = c.in_ok-node.ensures.node cells fs holds of_cluster (c.as_slice.ensures.value ∙ is) in
     let bytes = c.deref.ensures.value ∙ c.in_ok-payload.ensures ∙ ap fact_bytes booted.2 in
     boot-leaves fs c.in_ok-log.payloads.items c.deref.result.now is bytes (appending c.in_ok-log.payloads.items (others.told ∙ told) (rest told))) in
     let opens = rw c.number.ensures.value at c.open.ensures.any_moment_same in
@@ -258,14 +264,14 @@ returns-in_err-append-clause-any_moment_same g c facts ample are told no_one wit
     then-leaves-same c.between_is_read.ensures facts (opens (logged facts) told no_one within) (appended facts are (record { told = told; read = read }))
 
 pub returns-clause-any_moment_same : goal.returns-clause-any_moment_same
-returns-clause-any_moment_same g c facts ample are told no_one within =
+returns-clause-any_moment_same g c cells facts holds are told no_one within =
     let opened = rw c.number.ensures.value at c.in_ok-log.ensures.payloads in
     let rest = rw c.number.ensures.value at c.in_ok-log.ensures.at_rest in
     let others = rw c.number.ensures.value at c.open.ensures.others in
     let appending = rw (c.in_ok-log.ensures.place, c.number.ensures.value) at c.append.ensures.any_moment in
     let appended = λ (fs : List Fact) (of_cluster : AreLogged c.args.cluster fs) (log : IsLogOf fs (g.D.Disks.disk c.args.disks.now c.args.centre)).
     (let is = same-payloads (g.D.Disks.disk c.args.disks.now c.args.centre).bytes c.in_ok-log.payloads.items (logged fs) (opened log.told) log.read in
-    let booted = c.in_ok-node.ensures.node fs ample of_cluster (c.as_slice.ensures.value ∙ is) in
+    let booted = c.in_ok-node.ensures.node cells fs holds of_cluster (c.as_slice.ensures.value ∙ is) in
     let bytes = c.deref.ensures.value ∙ c.in_ok-payload.ensures ∙ ap fact_bytes booted.2 in
     boot-leaves fs c.in_ok-log.payloads.items c.deref.result.now is bytes (appending c.in_ok-log.payloads.items (others.told ∙ told) (rest told))) in
     let opens = rw c.number.ensures.value at c.open.ensures.any_moment_same in
