@@ -1,5 +1,5 @@
 -- What a boot makes of facts that were allowed in turn: they are read again, and then the next boot is added, unless the cells lack.
-use Rattle.std.proofs.Common.{◌≡◌, ◌⊎◌, inl, inr, ℕ, ◌+◌, ◌-◌, ◌^◌, Bool, true, false, not, List, [], ◌∷◌, ◌++◌, Option, Some, None, min, Ok, Err, refl, ◌∙◌, ap, if◌then◌else◌}
+use Rattle.std.proofs.Common.{◌≡◌, ◌⊎◌, inl, inr, ℕ, ◌+◌, ◌-◌, ◌^◌, Bool, true, false, not, List, [], ◌∷◌, ◌++◌, Option, Some, None, min, Ok, Err, refl, ap, if◌then◌else◌}
 use Rattle.std.specs.Prelude.{IsTrue}
 use Rattle.std.proofs.lemmas.Bool.{and_parts, cases_Bool, not_from_true}
 use Rattle.mdcc_admission.specs.Loading.{Cells, boot_by, cells_with, is_past, loaded_by, next_by, past_fault}

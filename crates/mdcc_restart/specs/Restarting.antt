@@ -1,6 +1,6 @@
 -- What comes of a restart over a log of facts.
-use Rattle.std.specs.Prelude.{Err, IsTrue, List, Ok, Result, [], length, ℕ, ◌+◌, ◌-◌, ◌<◌, ◌^◌, ◌∷◌, ◌≡◌, ◌≤◌, ◌⊎◌, ⊤}
-use Rattle.mdcc_admission.specs.Loading.{Cells, Holds, boot_by}
+use Rattle.std.specs.Prelude.{Err, IsTrue, List, Ok, Result, length, ℕ, ◌+◌, ◌-◌, ◌<◌, ◌^◌, ◌∷◌, ◌≡◌, ◌≤◌, ◌⊎◌, ⊤}
+use Rattle.mdcc_admission.specs.Loading.{Cells, boot_by}
 use Rattle.mdcc_base.specs.Counts.{sum_over}
 use Rattle.mdcc_disks.specs.Disks.{Disk}
 use Rattle.mdcc_log.specs.Crash.{IsBetween}
