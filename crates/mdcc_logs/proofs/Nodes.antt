@@ -1,8 +1,7 @@
 -- One node more that is booted for the first time.
 use Rattle.std.proofs.Common.{◌≡◌, ◌+◌, ◌⊎◌, ◌∷◌, ◌++◌, [], List, Some, ap, arith, inl, inr, length, refl, suc, zero, ℕ, ◌∙◌}
 use Rattle.std.specs.Prelude.{slice_get}
-use Rattle.mdcc_facts.specs.declared.list_facts.ListFacts.{ListFacts}
-use Rattle.mdcc_logs.specs.Nodes.{AreStarted, IsNodeOf}
+use Rattle.mdcc_logs.specs.Nodes.{AreStarted, CentreStore, IsNodeOf}
 use Rattle.mdcc_node.specs.declared.node.Node.{Node}
 use Rattle.mdcc_option.specs.declared.cluster.Cluster.{Cluster}
 use Rattle.mdcc_protocol.specs.Volatile.{nothing_kept}
@@ -21,7 +20,7 @@ pub length-more : {X : Type 0} (xs : List X) (v : X) → length (xs ++ v ∷ [])
 length-more [] v = refl
 length-more (y ∷ ys) v = let ih = length-more ys v in omega (ih, arith)
 
-pub one-started : (nodes : List (Node ListFacts)) (cluster : Cluster) (count number : ℕ) (node : Node ListFacts)
+pub one-started : (nodes : List (Node CentreStore)) (cluster : Cluster) (count number : ℕ) (node : Node CentreStore)
     → AreStarted nodes cluster count → number ≡ count + 1 → IsNodeOf node cluster number (Fact.Booted 1 ∷ []) nothing_kept
     → AreStarted (nodes ++ node ∷ []) cluster number
 one-started nodes cluster count number node are next more = record {

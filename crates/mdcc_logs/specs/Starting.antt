@@ -1,56 +1,77 @@
 -- What comes of a start of a centre.
-use Rattle.std.specs.Prelude.{◌≡◌, ◌≤◌, ◌+◌, ◌<◌, ◌∷◌, [], Bool, Err, List, None, Ok, Option, Result, Some, nat_lt, true, false, ℕ, ⊤}
+use Rattle.std.specs.Prelude.{◌≡◌, ◌≤◌, ◌+◌, ◌<◌, ◌∷◌, [], Bool, Err, List, Ok, Result, nat_lt, true, false, ℕ, ⊤}
+use Rattle.mdcc_admission.specs.Loading.{Cells}
 use Rattle.mdcc_base.specs.declared.faults.Memory.{Memory}
 use Rattle.mdcc_disks.specs.Memory.{disk_of, is_there}
-use Rattle.mdcc_facts.specs.declared.list_facts.ListFacts.{ListFacts}
 use Rattle.mdcc_log.specs.Frames.{IsAtRest}
 use Rattle.mdcc_log.specs.Log.{log_limit}
-use Rattle.mdcc_logs.specs.Nodes.{IsNodeOf, are_stored}
+use Rattle.mdcc_log.specs.declared.fault.LogFault.{LogFault}
+use Rattle.mdcc_logs.specs.Nodes.{CentreStore, IsNodeOf, are_stored, spare_of}
 use Rattle.mdcc_logs.specs.Stands.{LogsStand, with_fact_at}
 use Rattle.mdcc_logs.specs.declared.logs.Logs.{Logs}
+use Rattle.mdcc_logs.specs.declared.starting.Attempt.{Attempt}
 use Rattle.mdcc_logs.specs.declared.starting.Started.{Started}
 use Rattle.mdcc_node.specs.declared.node.Node.{Node}
 use Rattle.mdcc_option.specs.declared.cluster.Cluster.{Cluster}
 use Rattle.mdcc_protocol.specs.Facts.{epoch_of}
-use Rattle.mdcc_messages.specs.Lengths.{log_length}
+use Rattle.mdcc_messages.specs.Lengths.{cells_needed, cells_used, log_length}
 use Rattle.mdcc_protocol.specs.Volatile.{nothing_kept}
 use Rattle.mdcc_messages.specs.declared.facts.Fact.{Fact}
-use Rattle.mdcc_restart.specs.Restarting.{Runs, size_with_boot}
-use Rattle.mdcc_restart.specs.declared.restarting.Restarted.{Restarted}
+use Rattle.mdcc_restart.specs.Restarting.{Runs, next_boot, size_with_boot}
+use Rattle.mdcc_restart.specs.declared.fault.RestartFault.{RestartFault}
+use Rattle.mdcc_rules.specs.declared.node.BootFault.{BootFault}
 
 -- ---- over the disk of a centre
 
--- a centre that runs; or none, where the new boot would pass the limit of its log; or there was no memory
-abbrev pub StartsOver : Result (Option (Restarted ListFacts)) Memory → Cluster → ℕ → List Fact → List ℕ → (List ℕ → Type 0) → Type 0
-StartsOver (Ok (Some centre)) cluster me facts bytes may_leave = Runs are_stored centre cluster me facts bytes may_leave
-StartsOver (Ok None) cluster me facts bytes may_leave = log_limit < size_with_boot facts
+-- the cells of an empty store of a centre, and those that a fact needs
+abbrev pub cells_of : Cluster → Cells
+cells_of cluster = record { total = cluster.cells; needed = cells_needed }
+
+-- how many cells the facts need with the next boot
+abbrev pub cells_with_boot : List Fact → ℕ
+cells_with_boot facts = cells_used facts + cells_needed (next_boot facts)
+
+-- what comes of a start that is refused
+abbrev pub lacking : RestartFault → Result Attempt Memory
+lacking (RestartFault.Log LogFault.LogFull) = Ok Attempt.Full
+lacking (RestartFault.Boot (BootFault.Room needed all)) = Ok (Attempt.NoRoom needed)
+lacking _ = Err (record {})
+
+-- a centre that runs; or none, where the new boot would pass the limit of its log or the cells of its node; or there was no memory
+abbrev pub StartsOver : Result Attempt Memory → Cluster → ℕ → List Fact → List ℕ → (List ℕ → Type 0) → Type 0
+StartsOver (Ok (Attempt.Runs centre)) cluster me facts bytes may_leave = Runs are_stored spare_of (cells_of cluster) centre cluster me facts bytes may_leave
+StartsOver (Ok Attempt.Full) cluster me facts bytes may_leave = (cells_with_boot facts ≤ cluster.cells) × (log_limit < size_with_boot facts)
+StartsOver (Ok (Attempt.NoRoom needed)) cluster me facts bytes may_leave = (cluster.cells < cells_with_boot facts) × (needed ≡ cells_with_boot facts)
 StartsOver (Err fault) cluster me facts bytes may_leave = ⊤
 
--- where none runs, since the log has no room, the disk has the log of these payloads, all of it durable
-abbrev pub OnNone : Result (Option (Restarted ListFacts)) Memory → List (List ℕ) → List ℕ → (List ℕ → Type 0) → Type 0
-OnNone (Ok None) payloads bytes may_leave = (size : ℕ) × IsAtRest payloads size bytes may_leave
-OnNone _ payloads bytes may_leave = ⊤
+-- where none runs, but for want of memory, the disk has the log of these payloads, all of it durable
+abbrev pub OnNone : Result Attempt Memory → List (List ℕ) → List ℕ → (List ℕ → Type 0) → Type 0
+OnNone (Ok (Attempt.Runs centre)) payloads bytes may_leave = ⊤
+OnNone (Ok _) payloads bytes may_leave = (size : ℕ) × IsAtRest payloads size bytes may_leave
+OnNone (Err fault) payloads bytes may_leave = ⊤
 
 -- ---- among the centres
 
 -- The node of a centre has its facts and the boot of the next epoch, and so has its log, which lies within the limit; then these centres are up.
-pub record HasStarted (node : Node ListFacts) (epoch : ℕ) (logs : Logs) (cluster : Cluster) (centres : ℕ) (up : ℕ → Bool) (a : ℕ) (facts : ℕ → List Fact) : Type 0 where
+pub record HasStarted (node : Node CentreStore) (epoch : ℕ) (logs : Logs) (cluster : Cluster) (centres : ℕ) (up : ℕ → Bool) (a : ℕ) (facts : ℕ → List Fact) : Type 0 where
   pub next : epoch ≡ epoch_of (facts a) + 1
   pub node_of : IsNodeOf node cluster a (Fact.Booted epoch ∷ facts a) nothing_kept
   pub stand : LogsStand logs centres up (with_fact_at facts a (Fact.Booted epoch))
   pub room : nat_lt log_limit (log_length (Fact.Booted epoch ∷ facts a)) ≡ false
 
--- it has started; or the new boot would pass the limit of the log; or there was no memory
+-- it has started; or the new boot would pass the limit of the log or the cells of the node; or there was no memory
 abbrev pub Starts : Result Started Memory → Logs → Cluster → ℕ → (ℕ → Bool) → ℕ → (ℕ → List Fact) → Type 0
 Starts (Ok (Started.Node node epoch)) logs cluster centres up a facts = HasStarted node epoch logs cluster centres up a facts
 Starts (Ok Started.Full) logs cluster centres up a facts =
-    nat_lt log_limit (log_length (Fact.Booted (epoch_of (facts a) + 1) ∷ facts a)) ≡ true
+    (cells_with_boot (facts a) ≤ cluster.cells) × (nat_lt log_limit (log_length (next_boot (facts a) ∷ facts a)) ≡ true)
+Starts (Ok (Started.NoRoom needed)) logs cluster centres up a facts = (cluster.cells < cells_with_boot (facts a)) × (needed ≡ cells_with_boot (facts a))
 Starts (Err fault) logs cluster centres up a facts = ⊤
 
--- where the log has no room
-abbrev pub OnFull : Result Started Memory → Type 0 → Type 0
-OnFull (Ok Started.Full) P = P
-OnFull _ P = ⊤
+-- where the log or the node has no room
+abbrev pub OnLack : Result Started Memory → Type 0 → Type 0
+OnLack (Ok (Started.Node node epoch)) P = ⊤
+OnLack (Ok _) P = P
+OnLack (Err fault) P = ⊤
 
 -- ---- all centres, one after another
 

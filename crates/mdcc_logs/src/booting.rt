@@ -7,23 +7,22 @@ ghost use Rattle.mdcc_protocol.specs.Belongs.{is_centre};
 ghost use Rattle.mdcc_protocol.specs.IsCluster.{IsCluster};
 ghost use Rattle.mdcc_protocol.specs.Volatile.{nothing_kept};
 
-use crate::Logs;
-use crate::starting::start;
+use crate::starting::{Attempt, start};
+use crate::{CentreFacts, Logs};
 use mdcc_base::{Centre, Memory};
 use mdcc_disks::MemoryDisks;
-use mdcc_facts::ListFacts;
 use mdcc_node::Node;
 use mdcc_option::Cluster;
 use mdcc_restart::Restarted;
 use std::alloc::Global;
 
-// The next centre boots for the first time. The log of no facts has room for its boot.
+// The next centre boots for the first time. Its log and its node have room for its boot.
 fn boot(
     alloc: Global,
     cluster: &Cluster,
     centre: Centre,
     logs: &mut Logs,
-) -> Result<Node<ListFacts>, Memory>
+) -> Result<Node<CentreFacts>, Memory>
     requires among { is_centre cluster.now centre ≡ true }
     requires begun { AreBegun logs.old cluster.now.quorums.centres (centre - 1) }
     ensures node { IfOk result (λ node. IsNodeOf node cluster.now centre (first_facts centre) nothing_kept) }
@@ -31,12 +30,12 @@ fn boot(
 {
     logs.disks.reserve(centre.number(), 16, 32)?;
     match start(alloc, cluster, centre, &mut logs.disks)? {
-        Some(started) => {
+        Attempt::Runs(started) => {
             let Restarted { node, log, .. } = started;
             logs.open.push(log)?;
             Ok(node)
         }
-        None => Err(Memory),
+        _ => Err(Memory),
     }
 }
 
@@ -52,7 +51,7 @@ fn none_begun(alloc: Global, cluster: &Cluster) -> Result<Logs, Memory>
 }
 
 /// All centres boot for the first time, from empty disks: their nodes in order, and their logs.
-pub fn boot_all(alloc: Global, cluster: &Cluster) -> Result<(Vec<Node<ListFacts>>, Logs), Memory>
+pub fn boot_all(alloc: Global, cluster: &Cluster) -> Result<(Vec<Node<CentreFacts>>, Logs), Memory>
     requires { IsCluster cluster.now }
     ensures nodes { IfOk result (λ r. AreStarted r.0.items cluster.now cluster.now.quorums.centres) }
     ensures logs { IfOk result (λ r. LogsStand r.1 cluster.now.quorums.centres (λ a. true) first_facts) }

@@ -8,4 +8,4 @@ pub mod stopping;
 
 pub use booting::boot_all;
 pub use logs::Logs;
-pub use starting::Started;
+pub use starting::{CentreFacts, Started};

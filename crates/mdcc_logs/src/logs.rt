@@ -6,17 +6,16 @@ ghost use Rattle.mdcc_log.specs.Crash.{IsBetween, IsShut};
 ghost use Rattle.mdcc_log.specs.Frames.{IsAtRest, IsSettled};
 ghost use Rattle.mdcc_log.specs.Log.{log_limit};
 ghost use Rattle.mdcc_logs.specs.Stands.{IsOpenAt, LogsStand, MayHave, MayRead, with_fact_at, with_up};
-ghost use Rattle.mdcc_logs.specs.Starting.{OnFull, Starts};
+ghost use Rattle.mdcc_logs.specs.Starting.{OnLack, Starts};
 ghost use Rattle.mdcc_protocol.specs.Belongs.{is_centre};
 ghost use Rattle.mdcc_protocol.specs.Facts.{epoch_of};
-ghost use Rattle.mdcc_protocol.specs.IsCluster.{IsCluster};
-ghost use Rattle.mdcc_messages.specs.Lengths.{fact_length, frame_length, log_length};
+ghost use Rattle.mdcc_messages.specs.Lengths.{cells_used, fact_length, frame_length, log_length};
 ghost use Rattle.mdcc_messages.specs.WellFormed.{IsWellFormedFact};
 ghost use Rattle.mdcc_messages.specs.declared.facts.Fact.{Fact as AFact};
 ghost use Rattle.mdcc_restart.specs.Logged.{AreLogged, logged};
 ghost use Rattle.mdcc_restart.specs.Restarting.{next_boot};
 
-use crate::starting::{Started, start};
+use crate::starting::{Attempt, Started, start};
 use mdcc_base::{Centre, Image, Memory};
 use mdcc_disks::{MemoryDisks, crash_leaves_the_image};
 use mdcc_journal::counts::well_formed_facts_have_counts;
@@ -121,7 +120,7 @@ impl Logs {
     }
 
     /// A centre starts again from its log, also where a stop left something behind it: it has the facts of its log and the new
-    /// boot. After `Full` the logs stand as before. After want of memory the log of the centre has the new boot or not, and has to
+    /// boot. After `Full` and `NoRoom` the logs stand as before. After want of memory the log of the centre has the new boot or not, and has to
     /// be opened again; where its last gate was torn it may be torn still.
     pub fn restart(
         &mut self,
@@ -133,10 +132,10 @@ impl Logs {
         requires within { centre ≤ length self.old.open.items }
         ensures as_many { length self.new.open.items ≡ length self.old.open.items }
         ensures started { (centres : ℕ) (up : ℕ → Bool) (facts : ℕ → List AFact) → LogsStand self.old centres up facts
-            → AreLogged cluster.now (facts centre) → IsCluster cluster.now → epoch_of (facts centre) < 2 ^ 32 - 1
+            → AreLogged cluster.now (facts centre) → cells_used (facts centre) ≤ cluster.now.cells → epoch_of (facts centre) < 2 ^ 32 - 1
             → Starts result self.new cluster.now centres (with_up up centre true) centre facts }
-        ensures full { (centres : ℕ) (up : ℕ → Bool) (facts : ℕ → List AFact) → LogsStand self.old centres up facts
-            → OnFull result (LogsStand self.new centres up facts) }
+        ensures lack { (centres : ℕ) (up : ℕ → Bool) (facts : ℕ → List AFact) → LogsStand self.old centres up facts
+            → OnLack result (LogsStand self.new centres up facts) }
         ensures refused { (centres : ℕ) (up : ℕ → Bool) (facts : ℕ → List AFact) → LogsStand self.old centres up facts
             → AreLogged cluster.now (facts centre) → Within (IsShut (logged (facts centre))) (may_leave_of self.old.disks centre)
             → OnErr result (MayHave self.new centres up centre facts (next_boot (facts centre))) }
@@ -146,12 +145,13 @@ impl Logs {
         let place = centre.number();
         self.disks.reserve(place, 16, 32)?;
         match start(alloc, cluster, centre, &mut self.disks)? {
-            Some(started) => {
+            Attempt::Runs(started) => {
                 let Restarted { node, log, epoch } = started;
                 self.open[usize::from(place) - 1] = log;
                 Ok(Started::Node(node, epoch))
             }
-            None => Ok(Started::Full),
+            Attempt::Full => Ok(Started::Full),
+            Attempt::NoRoom(needed) => Ok(Started::NoRoom(needed)),
         }
     }
 }

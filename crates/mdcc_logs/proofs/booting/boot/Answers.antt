@@ -1,18 +1,17 @@
-use Rattle.std.proofs.Common.{◌≡◌, ◌+◌, ◌-◌, ◌≤◌, [], Ok, Option, arith, subst}
+use Rattle.std.proofs.Common.{◌≡◌, ◌+◌, ◌-◌, ◌≤◌, [], Ok, arith, subst}
 use Rattle.std.specs.Prelude.{nat_le}
 use Rattle.std.proofs.lemmas.Bool.{and_parts, leb-true}
 use Rattle.mdcc_disks.specs.Memory.{disk_of, may_leave_of}
-use Rattle.mdcc_facts.specs.declared.list_facts.ListFacts.{ListFacts}
 use Rattle.mdcc_logs.proofs.Begun.{next-begun, none-logged, none-read}
 use Rattle.mdcc_logs.proofs.Standing.{reserved}
 use Rattle.mdcc_logs.proofs.booting.boot.Goals as goal
-use Rattle.mdcc_logs.specs.Nodes.{are_stored}
-use Rattle.mdcc_logs.specs.Starting.{StartsOver}
+use Rattle.mdcc_logs.specs.Nodes.{are_stored, spare_of}
+use Rattle.mdcc_logs.specs.Starting.{StartsOver, cells_of}
+use Rattle.mdcc_logs.specs.declared.starting.Attempt.{Attempt}
 use Rattle.mdcc_restart.specs.Restarting.{Runs}
-use Rattle.mdcc_restart.specs.declared.restarting.Restarted.{Restarted}
 
 -- the centre runs, with no facts but its boot
-runs : (c : goal.In_ok-push-in-Some) → Runs are_stored c.in-Some.started c.args.cluster.now c.args.centre [] (disk_of c.start.new.disks c.args.centre).bytes (may_leave_of c.start.new.disks c.args.centre)
+runs : (c : goal.In_ok-push-in-Runs) → Runs are_stored spare_of (cells_of c.args.cluster.now) c.in-Runs.started c.args.cluster.now c.args.centre [] (disk_of c.start.new.disks c.args.centre).bytes (may_leave_of c.start.new.disks c.args.centre)
 runs c =
     let a = c.args.centre in
     let cluster = c.args.cluster.now in
@@ -21,19 +20,19 @@ runs c =
     let few : a ≤ centres = leb-true a centres (and_parts (nat_le 1 a) (nat_le a centres) c.requires.among).1 in
     let same = reserved c.args.logs.now.disks c.reserve.new.self c.number.result c.reserve.ensures.others c.reserve.ensures.place in
     let read = none-read c.args.logs.now c.reserve.new.self centres (a - 1) a c.requires.begun (omega (some, arith)) few (same a) in
-    subst (λ (o : Option (Restarted ListFacts)). StartsOver (Ok o) cluster a [] (disk_of c.start.new.disks a).bytes (may_leave_of c.start.new.disks a)) c.in-Some.is
-    (c.in_ok-started.ensures.starts [] (none-logged cluster) read (omega arith))
+    subst (λ (s : Attempt). StartsOver (Ok s) cluster a [] (disk_of c.start.new.disks a).bytes (may_leave_of c.start.new.disks a)) c.in-Runs.is
+    (c.in_ok-started.ensures.starts [] (none-logged cluster) (omega arith) read (omega arith))
 
-pub returns-in_ok-push-in-Some-clause-node : goal.returns-in_ok-push-in-Some-clause-node
-returns-in_ok-push-in-Some-clause-node c = (runs c).node
+pub returns-in_ok-push-in-Runs-clause-node : goal.returns-in_ok-push-in-Runs-clause-node
+returns-in_ok-push-in-Runs-clause-node c = record { itself = (runs c).node; spare = (runs c).spare }
 
-pub returns-in_ok-push-in-Some-clause-begun : goal.returns-in_ok-push-in-Some-clause-begun
-returns-in_ok-push-in-Some-clause-begun c =
+pub returns-in_ok-push-in-Runs-clause-begun : goal.returns-in_ok-push-in-Runs-clause-begun
+returns-in_ok-push-in-Runs-clause-begun c =
     let a = c.args.centre in
     let centres = c.args.cluster.now.quorums.centres in
     let some : 1 ≤ a = omega arith in
     let next : a ≡ a - 1 + 1 = omega (some, arith) in
     let few : a ≤ centres = leb-true a centres (and_parts (nat_le 1 a) (nat_le a centres) c.requires.among).1 in
-    next-begun c.args.logs.now _ c.reserve.new.self centres (a - 1) a c.in-Some.started.log c.requires.begun next few
+    next-begun c.args.logs.now _ c.reserve.new.self centres (a - 1) a c.in-Runs.started.log c.requires.begun next few
     (reserved c.args.logs.now.disks c.reserve.new.self c.number.result c.reserve.ensures.others c.reserve.ensures.place)
-    c.start.ensures.others c.in_ok-push-in-Some.ensures.items (runs c).place (runs c).at_rest
+    c.start.ensures.others c.in_ok-push-in-Runs.ensures.items (runs c).place (runs c).at_rest
