@@ -4,7 +4,7 @@ use Rattle.std.proofs.lemmas.Bool.{and_parts}
 use Rattle.std.proofs.lemmas.List.{length-append, length-map, map-append}
 use Rattle.mdcc_base.specs.Key.{IsKey}
 use Rattle.mdcc_base.specs.declared.key.Key.{Key}
-use Rattle.mdcc_facts.specs.declared.list_facts.ListFacts.{ListFacts}
+use Rattle.mdcc_logs.specs.Nodes.{CentreStore}
 use Rattle.mdcc_node.specs.Stepping.{given}
 use Rattle.mdcc_node.specs.declared.node.Node.{Node}
 use Rattle.mdcc_option.specs.declared.items.Known.{Known}
@@ -33,13 +33,13 @@ pub up-centre : (w : World) (a : ℕ) → is_up_at w a ≡ true → is_centre w.
 up-centre w a up = (and_parts (is_centre w.cluster a) (centre_at w a).is_up up).0
 
 -- and has a node
-pub up-within : (nodes : List (Node ListFacts)) (w : World) (a : ℕ) → NodesStand nodes w → is_up_at w a ≡ true → a ≤ length nodes
+pub up-within : (nodes : List (Node CentreStore)) (w : World) (a : ℕ) → NodesStand nodes w → is_up_at w a ≡ true → a ≤ length nodes
 up-within nodes w a stand up =
     let few = (some-centre w.cluster a (up-centre w a up)).1 in
     let many = stand.as_many in
     omega (few, many, arith)
 
-pub counted-nodes : (nodes : List (Node ListFacts)) (w : World) → NodesStand nodes w → NodesStand nodes (counted_event w)
+pub counted-nodes : (nodes : List (Node CentreStore)) (w : World) → NodesStand nodes w → NodesStand nodes (counted_event w)
 counted-nodes nodes w standing = record { as_many = standing.as_many; each = standing.each }
 
 -- ---- reads

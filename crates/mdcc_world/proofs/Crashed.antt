@@ -1,19 +1,20 @@
 -- A centre crashes, or starts again.
 use Rattle.std.proofs.Common.{◌≡◌, ℕ, ◌+◌, ◌-◌, ◌≤◌, ◌<◌, ◌^◌, ◌==◌, ◌&&◌, Bool, true, false, List, [], ◌∷◌, ◌++◌, refl, sym, ap, ◌∙◌, subst, inl, inr, None, Option, Some, Ok, Err, arith, length, get_or, nat_lt}
 use Rattle.std.specs.Prelude.{set}
-use Rattle.std.proofs.lemmas.Bool.{cases_Bool, eqb-true, eq-eqb}
+use Rattle.std.proofs.lemmas.Bool.{cases_Bool, eqb-true, eq-eqb, le-ltb, lt-ltb}
 use Rattle.std.proofs.lemmas.List.{get_or-set_other, get_or-set_same, length-set}
 use Rattle.mdcc_base.specs.declared.outside.Image.{Image}
 use Rattle.mdcc_built.specs.Built.{built}
-use Rattle.mdcc_facts.specs.declared.list_facts.ListFacts.{ListFacts}
-use Rattle.mdcc_logs.specs.Nodes.{IsNodeOf}
+use Rattle.mdcc_logs.specs.Nodes.{CentreStore, IsNodeOf, spare_of}
 use Rattle.mdcc_logs.specs.Stands.{LogsStand, with_fact_at, with_up}
+use Rattle.mdcc_logs.specs.Starting.{cells_with_boot}
 use Rattle.mdcc_logs.specs.declared.logs.Logs.{Logs}
 use Rattle.mdcc_node.specs.declared.node.Node.{Node}
 use Rattle.mdcc_protocol.specs.Belongs.{is_centre}
 use Rattle.mdcc_protocol.specs.Facts.{epoch_of}
 use Rattle.mdcc_ledger.specs.Ledger.{Added, facts_of}
-use Rattle.mdcc_messages.specs.Lengths.{log_length}
+use Rattle.mdcc_messages.specs.Lengths.{cells_used, log_length}
+use Rattle.mdcc_option.specs.declared.cluster.Cluster.{Cluster}
 use Rattle.mdcc_protocol.specs.Volatile.{Volatile, nothing_kept}
 use Rattle.mdcc_simulation.specs.State.{Site, World, booted, centre_at, counted_event, down, is_up_at}
 use Rattle.mdcc_simulation.specs.Centres.{crash_happened, restart_happened, stop_happened}
@@ -107,7 +108,7 @@ other-place a j some other = elim (cases_Bool (a == (j + 1))) [
 
 -- ---- a crash
 
-crashed-nodes : (nodes : List (Node ListFacts)) (w : World) (a : ℕ) → IsWorld w → is_centre w.cluster a ≡ true → NodesStand nodes w
+crashed-nodes : (nodes : List (Node CentreStore)) (w : World) (a : ℕ) → IsWorld w → is_centre w.cluster a ≡ true → NodesStand nodes w
     → NodesStand nodes (crash_happened w a).world
 crashed-nodes nodes w a world centre stand = record {
   as_many = stand.as_many;
@@ -158,7 +159,7 @@ has-crashed world new w a before lines like up many nine rest armed logs told =
 
 -- ---- a stop is armed
 
-armed-nodes : (nodes : List (Node ListFacts)) (w : World) (a call : ℕ) (image : Image) → IsWorld w → is_centre w.cluster a ≡ true → NodesStand nodes w
+armed-nodes : (nodes : List (Node CentreStore)) (w : World) (a call : ℕ) (image : Image) → IsWorld w → is_centre w.cluster a ≡ true → NodesStand nodes w
     → NodesStand nodes (stop_happened w a call image).world
 armed-nodes nodes w a call image world centre stand = record {
   as_many = stand.as_many;
@@ -207,7 +208,7 @@ has-armed world new w a call image before lines like up many nine rest told =
 
 -- ---- a restart
 
-restarted-nodes : (nodes : List (Node ListFacts)) (node : Node ListFacts) (w : World) (a epoch : ℕ) → IsWorld w → is_centre w.cluster a ≡ true → NodesStand nodes w
+restarted-nodes : (nodes : List (Node CentreStore)) (node : Node CentreStore) (w : World) (a epoch : ℕ) → IsWorld w → is_centre w.cluster a ≡ true → NodesStand nodes w
     → IsNodeOf node w.cluster a (Fact.Booted epoch ∷ facts_of w.ledger a) nothing_kept
     → NodesStand (set nodes (a - 1) node) (restart_happened w a epoch).world
 restarted-nodes nodes node w a epoch world centre stand is = record {
@@ -226,19 +227,37 @@ restarted-nodes nodes node w a epoch world centre stand is = record {
   ];
 }
 
--- the limit of its log
-pub restart-limit : (w : World) (a : ℕ) → nat_lt most_log (log_length (Fact.Booted (next_epoch w a) ∷ facts_of w.ledger a)) ≡ true
+-- the limit of its log, where its cells suffice
+pub restart-limit : (w : World) (a : ℕ) → cells_with_boot (facts_of w.ledger a) ≤ w.cluster.cells → nat_lt most_log (log_length (Fact.Booted (next_epoch w a) ∷ facts_of w.ledger a)) ≡ true
     → restarted built w a ≡ Err (EventFault.Limit LimitName.Log most_log)
-restart-limit w a full = rw full refl
+restart-limit w a fits full =
+    let roomy : nat_lt w.cluster.cells (cells_with_boot (facts_of w.ledger a)) ≡ false = le-ltb w.cluster.cells (cells_with_boot (facts_of w.ledger a)) fits in
+    rw (roomy, full) refl
 
-pub restart-within : (w : World) (a : ℕ) → nat_lt most_log (log_length (Fact.Booted (next_epoch w a) ∷ facts_of w.ledger a)) ≡ false
+-- the limit of its cells, with the number that is needed
+pub restart-cells : (w : World) (a needed : ℕ) → w.cluster.cells < cells_with_boot (facts_of w.ledger a) → needed ≡ cells_with_boot (facts_of w.ledger a)
+    → restarted built w a ≡ Err (EventFault.Limit LimitName.Cells needed)
+restart-cells w a needed lacks is =
+    let past : nat_lt w.cluster.cells (cells_with_boot (facts_of w.ledger a)) ≡ true = lt-ltb w.cluster.cells (cells_with_boot (facts_of w.ledger a)) lacks in
+    rw (past, is) refl
+
+pub restart-within : (w : World) (a : ℕ) → cells_with_boot (facts_of w.ledger a) ≤ w.cluster.cells → nat_lt most_log (log_length (Fact.Booted (next_epoch w a) ∷ facts_of w.ledger a)) ≡ false
     → restarted built w a ≡ Ok (restart_happened (counted_event w) a (next_epoch w a))
-restart-within w a room = rw room refl
+restart-within w a fits room =
+    let roomy : nat_lt w.cluster.cells (cells_with_boot (facts_of w.ledger a)) ≡ false = le-ltb w.cluster.cells (cells_with_boot (facts_of w.ledger a)) fits in
+    rw (roomy, room) refl
+
+-- a node of these facts and the new boot has cells for them
+boot-fits : (node : Node CentreStore) (cluster : Cluster) (a epoch : ℕ) (facts : List Fact) → IsNodeOf node cluster a (Fact.Booted epoch ∷ facts) nothing_kept → cells_with_boot facts ≤ cluster.cells
+boot-fits node cluster a epoch facts is = let all = is.spare in least (spare_of node.store) (cells_used facts) cluster.cells all
+  where
+    least : (spare used all : ℕ) → spare + (1 + used) ≡ all → used + 1 ≤ all
+    least spare used all e = omega (e, arith)
 
 facts-restarted : (w : World) (a epoch b : ℕ) → with_fact_at (facts_of w.ledger) a (Fact.Booted epoch) b ≡ facts_of (Added a (Fact.Booted epoch) ∷ w.ledger) b
 facts-restarted w a epoch b = refl
 
-pub has-restarted : (world new : TheWorld) (kept : Logs) (w : World) (a epoch : ℕ) (node : Node ListFacts) (before lines : List Line) → IsLike world w → is_centre w.cluster a ≡ true
+pub has-restarted : (world new : TheWorld) (kept : Logs) (w : World) (a epoch : ℕ) (node : Node CentreStore) (before lines : List Line) → IsLike world w → is_centre w.cluster a ≡ true
     → w.events < 100000 → length world.up ≡ 9 → a ≤ 9
     → new ≡ record world { nodes = new.nodes; up = set world.up (a - 1) true; stops = set world.stops (a - 1) None; logs = kept; events = world.events + 1 }
     → length world.stops ≡ 9
@@ -254,10 +273,10 @@ has-restarted world new kept w a epoch node before lines like centre early many 
     let few = like.records.few_reads in
     let standing : NodesStand world.nodes.items (counted_event w) = record { as_many = like.nodes.as_many; each = like.nodes.each } in
     let within : restarted built w a ≡ Ok (restart_happened (counted_event w) a epoch) =
-    restart-within w a (subst (λ (n : ℕ). nat_lt most_log (log_length (Fact.Booted n ∷ facts_of w.ledger a)) ≡ false) same room)
+    restart-within w a (boot-fits node w.cluster a epoch (facts_of w.ledger a) is) (subst (λ (n : ℕ). nat_lt most_log (log_length (Fact.Booted n ∷ facts_of w.ledger a)) ≡ false) same room)
     ∙ ap (λ (n : ℕ). Ok (restart_happened (counted_event w) a n)) (sym same) in
     let itself : IsWorld (restart_happened (counted_event w) a epoch).world =
-    restarted-stays built w a (restart_happened (counted_event w) a epoch) refl like.records.itself centre early within in
+    restarted-stays built w a (restart_happened (counted_event w) a epoch) refl refl like.records.itself centre early within in
     let ups : UpsStand (set world.up (a - 1) true) (restart_happened (counted_event w) a epoch).world = ups-set (counted_event w) a booted counted centre world.up true many nine refl like.records.ups in
     let stops : StopsStand (set world.stops (a - 1) None) (restart_happened (counted_event w) a epoch).world =
     stops-set (counted_event w) a booted counted centre world.stops None (omega (armed, nine, arith)) refl like.records.stops in

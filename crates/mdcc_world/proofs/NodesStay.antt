@@ -5,7 +5,6 @@ use Rattle.std.specs.Prelude.{IfOk, OnOk, set, slice_get}
 use Rattle.std.proofs.lemmas.Bool.{and_from, and_parts, cases_Bool, eq-eqb, eqb-true, le-leb}
 use Rattle.std.proofs.lemmas.List.{length-set}
 use Rattle.std.proofs.lemmas.Option.{slice_get-get_or}
-use Rattle.mdcc_facts.specs.declared.list_facts.ListFacts.{ListFacts}
 use Rattle.mdcc_base.specs.Unless.{GivesUnless}
 use Rattle.mdcc_base.specs.declared.faults.Memory.{Memory}
 use Rattle.mdcc_base.specs.declared.key.Key.{Key}
@@ -30,7 +29,7 @@ use Rattle.mdcc_steps.specs.Inputs.{IsWellFormedInput}
 use Rattle.mdcc_worlds.proofs.Begins.{first-facts, first-site}
 use Rattle.mdcc_worlds.proofs.Stays.{by-none, by-some, each-put, facts-here, facts-there, facts-with, refused-same, site-here, site-other, site-same, site-there}
 use Rattle.mdcc_worlds.proofs.Within.{made-stays}
-use Rattle.mdcc_logs.specs.Nodes.{AreStarted, IsNodeOf, are_stored}
+use Rattle.mdcc_logs.specs.Nodes.{AreStarted, CentreStore, IsNodeOf, are_stored}
 use Rattle.mdcc_world.specs.Nodes.{NodesStand, RunsAt, is_memory_made}
 use Rattle.mdcc_worlds.specs.Sending.{StaysWithin}
 use Rattle.mdcc_worlds.specs.Standing.{IsWorld}
@@ -87,7 +86,7 @@ unless-weaker (Err fault) f h = on_false (is_memory fault) f h
 
 -- ---- a step
 
-module _ (nodes : List (Node ListFacts)) (w : World) (place : ℕ) (node : Node ListFacts)
+module _ (nodes : List (Node CentreStore)) (w : World) (place : ℕ) (node : Node CentreStore)
     (standing : NodesStand nodes w) (world : IsWorld w) (within : place < length nodes) where
   pub centre-here : is_centre w.cluster (place + 1) ≡ true
   centre-here = centre-there w.cluster place (omega (within, standing.as_many, arith))
@@ -163,7 +162,7 @@ module _ (nodes : List (Node ListFacts)) (w : World) (place : ℕ) (node : Node 
 
 -- ---- the first nodes
 
-pub first-nodes : (nodes : List (Node ListFacts)) (cluster : Cluster)
+pub first-nodes : (nodes : List (Node CentreStore)) (cluster : Cluster)
     → AreStarted nodes cluster cluster.quorums.centres → NodesStand nodes (first_world cluster)
 first-nodes nodes cluster are = record {
   as_many = are.as_many;
@@ -185,7 +184,7 @@ kept (Err fault) h some = rw some at h
 
 -- ---- the node of a centre
 
-pub node-at : (nodes : List (Node ListFacts)) (w : World) (a : ℕ) (node : Node ListFacts) → NodesStand nodes w → is_up_at w a ≡ true → 1 ≤ a → a ≤ length nodes
+pub node-at : (nodes : List (Node CentreStore)) (w : World) (a : ℕ) (node : Node CentreStore) → NodesStand nodes w → is_up_at w a ≡ true → 1 ≤ a → a ≤ length nodes
     → node ≡ get_or nodes (a - 1) node → IsNodeOf node w.cluster a (facts_of w.ledger a) (centre_at w a).volatile
 node-at nodes w a node standing up some few is =
     let back : a - 1 + 1 ≡ a = omega (some, arith) in
@@ -194,7 +193,7 @@ node-at nodes w a node standing up some few is =
     subst (λ (b : ℕ). (centre_at w b).is_up ≡ true → IsNodeOf node w.cluster b (facts_of w.ledger b) (centre_at w b).volatile) back
     (standing.each (a - 1) node (node-there nodes (a - 1) node within is)) there
 
-pub after-step : (nodes : List (Node ListFacts)) (w : World) (a : ℕ) (node : Node ListFacts) (input : Input) → NodesStand nodes w → IsWorld w
+pub after-step : (nodes : List (Node CentreStore)) (w : World) (a : ℕ) (node : Node CentreStore) (input : Input) → NodesStand nodes w → IsWorld w
     → 1 ≤ a → a ≤ length nodes → IsWellFormedInput input
     → IsNodeOf node w.cluster a (facts_left (facts_of w.ledger a) (step_at built w a input)) (volatile_left (centre_at w a).volatile (step_at built w a input))
     → NodesStand (set nodes (a - 1) node) (input_happened w a (step_at built w a input)).world
@@ -209,7 +208,7 @@ after-step nodes w a node input standing world some few formed =
 -- ---- what is made of an input
 
 -- a read leaves the nodes as they were
-pub read-left : (nodes : List (Node ListFacts)) (w : World) (a : ℕ) (key : Key) → IsWorld w → is_centre w.cluster a ≡ true
+pub read-left : (nodes : List (Node CentreStore)) (w : World) (a : ℕ) (key : Key) → IsWorld w → is_centre w.cluster a ≡ true
     → NodesStand nodes (input_happened w a (step_at built w a (Input.Read key))).world → NodesStand nodes w
 read-left nodes w a key world centre stand = record {
   as_many = stand.as_many;
@@ -230,7 +229,7 @@ made-kept (Ok x) step P some left = kept step left some
 made-kept (Err fault) step P some left = tt
 
 -- the nodes after a step that is as the definition's
-pub stepped : (nodes : List (Node ListFacts)) (w : World) (a place : ℕ) (node : Node ListFacts) (input : Input) → NodesStand nodes w → IsWorld w
+pub stepped : (nodes : List (Node CentreStore)) (w : World) (a place : ℕ) (node : Node CentreStore) (input : Input) → NodesStand nodes w → IsWorld w
     → 1 ≤ a → a ≤ length nodes → place ≡ a → IsWellFormedInput input → (expected : Result NodeStep StepFault) → expected ≡ step_at built w a input
     → {T : Type 0} (step : Result T StepFault)
     → UnlessMemory step (IsNodeOf node w.cluster a (facts_left (facts_of w.ledger a) expected) (volatile_left (centre_at w a).volatile expected))
@@ -242,30 +241,30 @@ stepped nodes w a place node input standing world some few there formed expected
     (subst (λ (r : Result NodeStep StepFault). IsNodeOf node w.cluster a (facts_left (facts_of w.ledger a) r) (volatile_left (centre_at w a).volatile r)) is after)))
     left
 
-pub node-in : (nodes : List (Node ListFacts)) (w : World) (a place : ℕ) (node : Node ListFacts) → NodesStand nodes w → is_up_at w a ≡ true → 1 ≤ a → a ≤ length nodes → place ≡ a
+pub node-in : (nodes : List (Node CentreStore)) (w : World) (a place : ℕ) (node : Node CentreStore) → NodesStand nodes w → is_up_at w a ≡ true → 1 ≤ a → a ≤ length nodes → place ≡ a
     → node ≡ get_or nodes (place - 1) node → IsNodeOf node w.cluster a (facts_of w.ledger a) (centre_at w a).volatile
 node-in nodes w a place node standing up some few there is =
     node-at nodes w a node standing up some few (subst (λ (n : ℕ). node ≡ get_or nodes (n - 1) node) there is)
 
 -- as it stands in the list
-pub node-under : (nodes : List (Node ListFacts)) (w : World) (a place : ℕ) (node : Node ListFacts) → NodesStand nodes w → is_up_at w a ≡ true → 1 ≤ a → a ≤ length nodes → place ≡ a
+pub node-under : (nodes : List (Node CentreStore)) (w : World) (a place : ℕ) (node : Node CentreStore) → NodesStand nodes w → is_up_at w a ≡ true → 1 ≤ a → a ≤ length nodes → place ≡ a
     → node ≡ get_or nodes (place - 1) node → IsNodeOf (get_or nodes (place - 1) node) w.cluster a (facts_of w.ledger a) (centre_at w a).volatile
 node-under nodes w a place node standing up some few there is =
-    subst (λ (n : Node ListFacts). IsNodeOf n w.cluster a (facts_of w.ledger a) (centre_at w a).volatile) is
+    subst (λ (n : Node CentreStore). IsNodeOf n w.cluster a (facts_of w.ledger a) (centre_at w a).volatile) is
     (node-in nodes w a place node standing up some few there is)
 
 -- a node of a centre that is up has facts and a state as steps bring them about
-pub runs-at : (nodes : List (Node ListFacts)) (a place : ℕ) (node : Node ListFacts) → RunsAt nodes a → 1 ≤ a → a ≤ length nodes → place ≡ a
+pub runs-at : (nodes : List (Node CentreStore)) (a place : ℕ) (node : Node CentreStore) → RunsAt nodes a → 1 ≤ a → a ≤ length nodes → place ≡ a
     → node ≡ get_or nodes (place - 1) node → IsRunning are_stored (get_or nodes (place - 1) node)
 runs-at nodes a place node runs some few there is = record {
   cluster = runs.world.cluster;
   me = a;
   facts = facts_of runs.world.ledger a;
   volatile = (centre_at runs.world a).volatile;
-  itself = node-under nodes runs.world a place node runs.standing runs.up some few there is;
+  itself = (node-under nodes runs.world a place node runs.standing runs.up some few there is).itself;
   kept = runs.itself.nodes a (and_parts (is_centre runs.world.cluster a) (centre_at runs.world a).is_up runs.up).0;
 }
 
 -- a centre that is up in a world has such a node
-pub runs-in : (nodes : List (Node ListFacts)) (w : World) (a : ℕ) → IsWorld w → NodesStand nodes w → is_up_at w a ≡ true → RunsAt nodes a
+pub runs-in : (nodes : List (Node CentreStore)) (w : World) (a : ℕ) → IsWorld w → NodesStand nodes w → is_up_at w a ≡ true → RunsAt nodes a
 runs-in nodes w a itself standing up = record { world = w; itself = itself; standing = standing; up = up }

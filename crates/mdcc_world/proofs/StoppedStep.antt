@@ -168,7 +168,7 @@ module _ (world : TheWorld) (w : World) (a : ℕ) (input : Input) (step : Step) 
           let is : input_limited built w a result ≡ Ok (step_stopped w a fact (call, image)) =
           comes ∙ ap (λ (o : Option EventFault). unless o (step_stopped w a fact (call, image))) within in
           let itself : IsWorld (step_stopped w a fact (call, image)).world =
-          limited-stays built w a input (step_stopped w a fact (call, image)) refl made.before.records.itself made.before.centre made.before.well_formed is in
+          limited-stays built w a input (step_stopped w a fact (call, image)) refl refl made.before.records.itself made.before.centre made.before.well_formed is in
           let nodes : NodesStand world.nodes.items (step_stopped w a fact (call, image)).world =
           subst (λ (h : Happened). NodesStand world.nodes.items h.world) happens made.nodes in
           let counted = ledger w.cluster.quorums w.ledger uncounted in

@@ -264,7 +264,7 @@ module _ (world : TheWorld) (w : World) (a : ℕ) (input : Input) (step : Step) 
       subst (λ (r : Result Happened EventFault). Happens {T = Unit {0}} new before lines (Ok tt) r) (sym is) (record {
         like = record {
           records = record {
-            itself = limited-stays built w a input (taken w a s) refl world-is made.before.centre made.before.well_formed is;
+            itself = limited-stays built w a input (taken w a s) refl refl world-is made.before.centre made.before.well_formed is;
             cluster = ap (λ (x : TheWorld). x.cluster) rest ∙ records.cluster;
             mail = mail ∙ ap (λ (xs : List Envelope). world.mail ++ map unsent xs) sends-are ∙ ap (λ (sent : List Sent). sent ++ map unsent s.sends) records.mail;
             bytes = bytes ∙ ap (λ (xs : List Envelope). world.bytes + messages_length xs) sends-are ∙ ap (λ (n : ℕ). n + messages_length s.sends) records.bytes;

@@ -1,8 +1,7 @@
 -- Which nodes stand for the centres of a world.
 use Rattle.std.specs.Prelude.{◌≡◌, ◌+◌, ◌-◌, ◌≤◌, Bool, Err, List, None, Ok, Option, Result, Some, false, get_or, length, slice_get, true, ℕ}
 use Rattle.mdcc_base.specs.declared.outside.Image.{Image}
-use Rattle.mdcc_facts.specs.declared.list_facts.ListFacts.{ListFacts}
-use Rattle.mdcc_logs.specs.Nodes.{IsNodeOf}
+use Rattle.mdcc_logs.specs.Nodes.{CentreStore, IsNodeOf}
 use Rattle.mdcc_node.specs.Stepping.{is_memory}
 use Rattle.mdcc_node.specs.declared.node.Node.{Node}
 use Rattle.mdcc_protocol.specs.Belongs.{is_centre}
@@ -12,15 +11,15 @@ use Rattle.mdcc_rules.specs.declared.node.Step.{Step}
 use Rattle.mdcc_rules.specs.declared.node.StepFault.{StepFault}
 use Rattle.mdcc_worlds.specs.Standing.{IsWorld}
 
--- a node for each centre; that of a centre that is up stands over a store of what the centre added, and that of another counts
--- for nothing
-pub record NodesStand (nodes : List (Node ListFacts)) (w : World) : Type 0 where
+-- a node for each centre; that of a centre that is up stands over a store of what the centre added, which has the cells of the
+-- cluster that these facts leave, and that of another counts for nothing
+pub record NodesStand (nodes : List (Node CentreStore)) (w : World) : Type 0 where
   pub as_many : length nodes ≡ w.cluster.quorums.centres
-  pub each : (place : ℕ) (node : Node ListFacts) → slice_get nodes place ≡ Some node → (centre_at w (place + 1)).is_up ≡ true
+  pub each : (place : ℕ) (node : Node CentreStore) → slice_get nodes place ≡ Some node → (centre_at w (place + 1)).is_up ≡ true
       → IsNodeOf node w.cluster (place + 1) (facts_of w.ledger (place + 1)) (centre_at w (place + 1)).volatile
 
 -- they stand for some world in which a centre is up
-pub record RunsAt (nodes : List (Node ListFacts)) (a : ℕ) : Type 0 where
+pub record RunsAt (nodes : List (Node CentreStore)) (a : ℕ) : Type 0 where
   pub world : World
   pub itself : IsWorld world
   pub standing : NodesStand nodes world

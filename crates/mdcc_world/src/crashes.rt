@@ -12,10 +12,9 @@ ghost use Rattle.mdcc_worlds.specs.Happening.{at_restart, restarted};
 
 use crate::world::World;
 use mdcc_base::{Centre, HeapList, Memory};
-use mdcc_facts::ListFacts;
 use mdcc_language::{EventFault, LimitName, Line};
 use mdcc_log::LOG_LIMIT;
-use mdcc_logs::Started;
+use mdcc_logs::{CentreFacts, Started};
 use mdcc_node::Node;
 
 impl World {
@@ -79,7 +78,7 @@ impl World {
     }
 
     // A centre is up again with the node of its log, which is an event.
-    fn rise(&mut self, centre: Centre, node: Node<ListFacts>)
+    fn rise(&mut self, centre: Centre, node: Node<CentreFacts>)
         requires few { self.old.events < 100000 }
         requires within { centre ≤ length self.old.nodes.items }
         ensures rest { self.new ≡ record self.old { nodes = self.new.nodes; up = self.new.up; stops = self.new.stops; events = self.old.events + 1 } }
@@ -111,6 +110,7 @@ impl World {
                 Ok(())
             }
             Started::Full => Err(EventFault::Limit(LimitName::Log, LOG_LIMIT)),
+            Started::NoRoom(needed) => Err(EventFault::Limit(LimitName::Cells, needed)),
         }
     }
 

@@ -12,7 +12,7 @@ ghost use Rattle.mdcc_world.specs.Nodes.{NodesStand, RunsAt, is_memory_made};
 ghost use Rattle.mdcc_worlds.specs.Standing.{IsWorld};
 
 use mdcc_base::{Centre, Key, Memory};
-use mdcc_facts::ListFacts;
+use mdcc_logs::CentreFacts;
 use mdcc_node::Node;
 use mdcc_protocol::Reading;
 use mdcc_rules::{Answer, Input, Step, StepFault};
@@ -30,7 +30,7 @@ fn made(step: Result<Step, StepFault>) -> Result<Result<Step, StepFault>, Memory
 
 /// An input comes to the node of a centre that is up: what it makes of it.
 pub(crate) fn step(
-    nodes: &mut [Node<ListFacts>],
+    nodes: &mut [Node<CentreFacts>],
     centre: Centre,
     input: &Input,
 ) -> Result<Result<Step, StepFault>, Memory>
@@ -48,7 +48,7 @@ pub(crate) fn step(
 
 /// What a key shows at the node of a centre that is up, which is left as it was.
 pub(crate) fn read(
-    nodes: &mut [Node<ListFacts>],
+    nodes: &mut [Node<CentreFacts>],
     centre: Centre,
     key: &Key,
 ) -> Result<Reading, Memory>

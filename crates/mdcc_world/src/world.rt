@@ -11,9 +11,8 @@ ghost use Rattle.mdcc_worlds.specs.Happening.{at_centre, at_limit};
 
 use mdcc_base::{Centre, HeapList, Image, Memory};
 use mdcc_disks::MemoryDisks;
-use mdcc_facts::ListFacts;
 use mdcc_language::{EventFault, LimitName, Line};
-use mdcc_logs::{Logs, boot_all};
+use mdcc_logs::{CentreFacts, Logs, boot_all};
 use mdcc_mail::Mail;
 use mdcc_node::Node;
 use mdcc_option::{Cluster, Known};
@@ -30,7 +29,7 @@ pub(crate) const MOST_EVENTS: u32 = 100_000;
 pub struct World {
     pub(crate) alloc: Global,
     pub(crate) cluster: Cluster,
-    pub(crate) nodes: Vec<Node<ListFacts>>,
+    pub(crate) nodes: Vec<Node<CentreFacts>>,
     pub(crate) up: [bool; 9],
     pub(crate) stops: [Option<(u8, Image)>; 9],
     pub(crate) logs: Logs,

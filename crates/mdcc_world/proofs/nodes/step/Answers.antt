@@ -1,12 +1,14 @@
 use Rattle.std.proofs.Common.{◌≡◌, ◌≤◌, Result, subst}
 use Rattle.mdcc_base.specs.Unless.{GivesUnless}
-use Rattle.mdcc_node.specs.Stepping.{given, is_memory}
+use Rattle.mdcc_logs.specs.Nodes.{needed_in, spare_of}
+use Rattle.mdcc_node.specs.Stepping.{given, is_memory, room_of, step_by}
+use Rattle.mdcc_built.specs.Built.{built}
 use Rattle.mdcc_ledger.specs.Ledger.{facts_of}
 use Rattle.mdcc_rules.specs.Steps.{NodeStep}
 use Rattle.mdcc_simulation.specs.State.{centre_at}
 use Rattle.mdcc_rules.specs.declared.node.StepFault.{StepFault}
 use Rattle.mdcc_world.proofs.NodesStay.{made-is, made-kept, node-under, runs-at, stepped}
-use Rattle.mdcc_world.proofs.Roomy.{step-roomy}
+use Rattle.mdcc_world.proofs.Roomy.{node-left, step-roomy}
 use Rattle.mdcc_world.proofs.nodes.step.Goals as goal
 
 pub step-requires-clause-input : goal.step-requires-clause-input
@@ -26,9 +28,9 @@ returns-clause-answer c w standing up =
     let some : 1 ≤ a = (let e : c.number.result ≡ a = c.number.ensures.value in subst (λ n. 1 ≤ n) e c.number.ensures.range.0) in
     let node = node-under c.args.nodes.now w a c.from.result c.index-nodes-from.result standing up some c.requires.within place c.index-nodes-from.is in
     let input = c.args.input.now in
-    let gives = c.step.ensures.answer w.cluster a (facts_of w.ledger a) (centre_at w a).volatile node in
+    let gives = c.step.ensures.follows.answer w.cluster a (facts_of w.ledger a) (centre_at w a).volatile node.itself in
     made-is c.made.result c.step.result _ c.made.ensures.same c.made.ensures.memory
-    (subst (λ (r : Result NodeStep StepFault). GivesUnless is_memory c.step.result (given r)) (step-roomy w.cluster a (facts_of w.ledger a) (centre_at w a).volatile input) gives)
+    (subst (λ (r : Result NodeStep StepFault). GivesUnless is_memory c.step.result (given r)) (step-roomy _ w.cluster a (facts_of w.ledger a) (centre_at w a).volatile node input) gives)
 
 pub returns-clause-left : goal.returns-clause-left
 returns-clause-left c w world standing up =
@@ -37,7 +39,10 @@ returns-clause-left c w world standing up =
     let some : 1 ≤ a = (let e : c.number.result ≡ a = c.number.ensures.value in subst (λ n. 1 ≤ n) e c.number.ensures.range.0) in
     let node = node-under c.args.nodes.now w a c.from.result c.index-nodes-from.result standing up some c.requires.within place c.index-nodes-from.is in
     let input = c.args.input.now in
-    let left = c.step.ensures.left w.cluster a (facts_of w.ledger a) (centre_at w a).volatile node in
+    let facts = facts_of w.ledger a in
+    let volatile = (centre_at w a).volatile in
+    let gives = c.step.ensures.follows.answer w.cluster a facts volatile node.itself in
+    let left = c.step.ensures.follows.left w.cluster a facts volatile node.itself in
     made-kept c.made.result c.step.result _ c.made.ensures.memory
     (stepped c.args.nodes.now w a c.from.result c.step.new.self input standing world some c.requires.within place c.requires.formed _
-    (step-roomy w.cluster a (facts_of w.ledger a) (centre_at w a).volatile input) c.step.result left)
+    (step-roomy _ w.cluster a facts volatile node input) c.step.result (node-left _ w.cluster a facts volatile node c.step.new.self c.step.result _ gives c.step.ensures.spent left))

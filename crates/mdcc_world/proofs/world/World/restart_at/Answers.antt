@@ -1,9 +1,10 @@
-use Rattle.std.proofs.Common.{◌<◌, ◌+◌, ◌-◌, ◌∷◌, Bool, List, Ok, Option, true, ℕ, arith, ap, ◌∙◌, subst}
+use Rattle.std.proofs.Common.{◌<◌, ◌≤◌, ◌+◌, ◌-◌, ◌∷◌, Bool, List, Ok, Option, true, ℕ, arith, ap, ◌∙◌, subst}
 use Rattle.mdcc_logs.specs.Nodes.{IsNodeOf}
 use Rattle.mdcc_logs.specs.Stands.{with_up}
 use Rattle.mdcc_logs.specs.Starting.{HasStarted, Starts}
 use Rattle.mdcc_logs.specs.declared.starting.Started.{Started}
-use Rattle.mdcc_protocol.specs.IsCluster.{IsCluster}
+use Rattle.mdcc_option.specs.declared.cluster.Cluster.{Cluster}
+use Rattle.mdcc_messages.specs.Lengths.{cells_used}
 use Rattle.mdcc_base.specs.declared.outside.Image.{Image}
 use Rattle.mdcc_ledger.specs.Ledger.{facts_of}
 use Rattle.mdcc_simulation.specs.State.{is_up_at}
@@ -11,7 +12,7 @@ use Rattle.std.specs.Prelude.{set}
 use Rattle.mdcc_protocol.specs.Volatile.{nothing_kept}
 use Rattle.mdcc_messages.specs.declared.facts.Fact.{Fact}
 use Rattle.mdcc_restart.specs.Logged.{AreLogged}
-use Rattle.mdcc_world.proofs.Crashed.{has-restarted, may-restart, more-epochs, restart-limit}
+use Rattle.mdcc_world.proofs.Crashed.{has-restarted, may-restart, more-epochs, restart-cells, restart-limit}
 use Rattle.mdcc_worlds.proofs.Stays.{some-centre}
 use Rattle.mdcc_world.proofs.world.World.restart_at.Goals as goal
 
@@ -37,10 +38,10 @@ returns-in_ok-push-in-Node-clause-happens c w like =
     let events = like.records.events in
     let early : w.events < 100000 = omega (events, c.requires.few, arith) in
     let logged : AreLogged world.cluster (facts_of w.ledger a) = rw like.records.cluster (may-restart w a like.records.itself centre) in
-    let cluster : IsCluster world.cluster = rw like.records.cluster like.records.itself.cluster_itself in
+    let fits : cells_used (facts_of w.ledger a) ≤ world.cluster.cells = rw like.records.cluster (like.records.itself.cells a centre) in
     let started : HasStarted c.in-Node.node c.in-Node.epoch c.restart.new.self world.cluster w.cluster.quorums.centres (with_up (is_up_at w) a true) a (facts_of w.ledger) =
     subst (λ (s : Started). Starts (Ok s) c.restart.new.self world.cluster w.cluster.quorums.centres (with_up (is_up_at w) a true) a (facts_of w.ledger)) c.in-Node.is
-    (c.in_ok-node.ensures.started w.cluster.quorums.centres (is_up_at w) (facts_of w.ledger) like.logs logged cluster (more-epochs w a like.records.itself centre early)) in
+    (c.in_ok-node.ensures.started w.cluster.quorums.centres (is_up_at w) (facts_of w.ledger) like.logs logged fits (more-epochs w a like.records.itself centre early)) in
     let node : IsNodeOf c.in-Node.node w.cluster a (Fact.Booted c.in-Node.epoch ∷ facts_of w.ledger a) nothing_kept = rw (← like.records.cluster) started.node_of in
     let rest = c.rise.ensures.rest
     ∙ ap (λ (ups : List Bool). record world { nodes = c.rise.new.self.nodes; up = ups; stops = c.rise.new.self.stops; logs = c.restart.new.self; events = world.events + 1 }) c.rise.ensures.up
@@ -56,7 +57,24 @@ returns-in-Full-clause-happens c w like =
     let events = like.records.events in
     let early : w.events < 100000 = omega (events, c.requires.few, arith) in
     let logged : AreLogged world.cluster (facts_of w.ledger a) = rw like.records.cluster (may-restart w a like.records.itself centre) in
-    let cluster : IsCluster world.cluster = rw like.records.cluster like.records.itself.cluster_itself in
-    restart-limit w a
+    let fits : cells_used (facts_of w.ledger a) ≤ world.cluster.cells = rw like.records.cluster (like.records.itself.cells a centre) in
+    let lacks : Starts (Ok Started.Full) c.restart.new.self w.cluster w.cluster.quorums.centres (with_up (is_up_at w) a true) a (facts_of w.ledger) =
+    subst (λ (of : Cluster). Starts (Ok Started.Full) c.restart.new.self of w.cluster.quorums.centres (with_up (is_up_at w) a true) a (facts_of w.ledger)) like.records.cluster
     (subst (λ (s : Started). Starts (Ok s) c.restart.new.self world.cluster w.cluster.quorums.centres (with_up (is_up_at w) a true) a (facts_of w.ledger)) c.in-Full.is
-    (c.in_ok-node.ensures.started w.cluster.quorums.centres (is_up_at w) (facts_of w.ledger) like.logs logged cluster (more-epochs w a like.records.itself centre early)))
+    (c.in_ok-node.ensures.started w.cluster.quorums.centres (is_up_at w) (facts_of w.ledger) like.logs logged fits (more-epochs w a like.records.itself centre early))) in
+    restart-limit w a lacks.0 lacks.1
+
+pub returns-in-NoRoom-clause-happens : goal.returns-in-NoRoom-clause-happens
+returns-in-NoRoom-clause-happens c w like =
+    let world = c.args.self.now in
+    let a = c.args.centre in
+    let centre = c.requires.among w like in
+    let events = like.records.events in
+    let early : w.events < 100000 = omega (events, c.requires.few, arith) in
+    let logged : AreLogged world.cluster (facts_of w.ledger a) = rw like.records.cluster (may-restart w a like.records.itself centre) in
+    let fits : cells_used (facts_of w.ledger a) ≤ world.cluster.cells = rw like.records.cluster (like.records.itself.cells a centre) in
+    let lacks : Starts (Ok (Started.NoRoom c.in-NoRoom.needed)) c.restart.new.self w.cluster w.cluster.quorums.centres (with_up (is_up_at w) a true) a (facts_of w.ledger) =
+    subst (λ (of : Cluster). Starts (Ok (Started.NoRoom c.in-NoRoom.needed)) c.restart.new.self of w.cluster.quorums.centres (with_up (is_up_at w) a true) a (facts_of w.ledger)) like.records.cluster
+    (subst (λ (s : Started). Starts (Ok s) c.restart.new.self world.cluster w.cluster.quorums.centres (with_up (is_up_at w) a true) a (facts_of w.ledger)) c.in-NoRoom.is
+    (c.in_ok-node.ensures.started w.cluster.quorums.centres (is_up_at w) (facts_of w.ledger) like.logs logged fits (more-epochs w a like.records.itself centre early))) in
+    restart-cells w a c.in-NoRoom.needed lacks.0 lacks.1
