@@ -1,15 +1,12 @@
-//! Facts added to cells, until none is spare, and what they say then.
+//! Facts added until no cell is spare.
 ghost use Rattle.std.specs.Prelude.{◌≤◌};
+ghost use Rattle.mdcc_messages.specs.WellFormed.{IsWellFormedFact};
 
-use mdcc_base::{Ballot, BoundedList, Centre, Key, TxId};
-use mdcc_facts::FactStore;
+use mdcc_base::{Centre, TxId};
 use mdcc_index::PoolFacts;
 use mdcc_messages::Fact;
-use mdcc_option::{Choice, Item, Mark, Outcome, Update};
+use mdcc_option::Outcome;
 use mdcc_protocol::StoreFault;
-use mdcc_struct::Options;
-use mdcc_tests::adding::put_into;
-use std::alloc::Global;
 use std::test::Fail;
 
 fn tx(seq: u32) -> TxId {
@@ -20,61 +17,39 @@ fn tx(seq: u32) -> TxId {
     }
 }
 
-fn key() -> Key {
-    Key::new(b"a").unwrap_or_default()
+// A start.
+fn booted(epoch: u32) -> Fact
+    requires { 1 ≤ epoch }
+    ensures { IsWellFormedFact result }
+{
+    Fact::Booted(epoch)
 }
 
 // A transaction of this number aborted.
-fn aborted(seq: u32) -> Fact {
+fn aborted(seq: u32) -> Fact
+    requires { 1 ≤ seq }
+    ensures { IsWellFormedFact result }
+{
     Fact::Heard {
-        tx: tx(seq),
+        tx: TxId {
+            centre: Centre::new(2).unwrap_or_default(),
+            epoch: 3,
+            seq,
+        },
         outcome: Outcome::Abort,
     }
 }
 
-// What the transaction of this number asks: the first version of a key.
-fn choice(seq: u32) -> Choice {
-    Choice {
-        tx: tx(seq),
-        key: key(),
-        version: 0,
-        update: Update::Write(
-            Item {
-                body: BoundedList::new(),
-                values: BoundedList::from_slice(&[7]).unwrap_or_default(),
-            },
-            BoundedList::new(),
-        ),
-        write_set: BoundedList::from_slice(&[(key(), 0)]).unwrap_or_default(),
+// Adds starts, for numbers above 100, and aborted transactions.
+fn add_each(store: &mut PoolFacts, numbers: &[u32]) -> Result<(), StoreFault> {
+    for number in numbers {
+        if *number > 100 {
+            store.add(&booted(*number))?;
+        } else if *number > 0 {
+            store.add(&aborted(*number))?;
+        }
     }
-}
-
-// It committed.
-fn committed(seq: u32) -> Fact {
-    Fact::Heard {
-        tx: tx(seq),
-        outcome: Outcome::Commit(BoundedList::from_slice(&[choice(seq)]).unwrap_or_default()),
-    }
-}
-
-// The choice of the transaction of this number is accepted at the fast ballot.
-fn accepted(alloc: Global, seq: u32) -> Result<Fact, Fail> {
-    let mut options = Options::new(alloc)?;
-    options.insert(tx(seq), Mark::Accept(choice(seq)))?;
-    Ok(Fact::Voted {
-        key: key(),
-        version: 0,
-        ballot: Ballot::FAST,
-        options,
-        offered: None,
-    })
-}
-
-// Adds a start.
-fn start(store: &mut PoolFacts, epoch: u32) -> Result<(), StoreFault>
-    requires { 1 ≤ epoch }
-{
-    store.add(&Fact::Booted(epoch))
+    Ok(())
 }
 
 fn is_aborted(store: &PoolFacts, seq: u32) -> bool {
@@ -83,43 +58,22 @@ fn is_aborted(store: &PoolFacts, seq: u32) -> bool {
 
 #[test]
 fn facts_fill_the_cells(rt: HostRuntime) -> Result<(), Fail> {
-    let alloc = rt.alloc();
-    let mut store = PoolFacts::new(alloc, 4)?;
-    assert!(rt; start(&mut store, 107).is_ok());
-    assert!(rt; put_into(&mut store, alloc, &aborted(5)));
-    assert!(rt; put_into(&mut store, alloc, &aborted(6)));
-    assert!(rt; !put_into(&mut store, alloc, &aborted(6)));
-    assert!(rt; start(&mut store, 108).is_ok());
+    let mut store = PoolFacts::new(rt.alloc(), 4)?;
+    add_each(&mut store, [107, 5, 6, 108].as_slice())?;
     let full = Err(StoreFault::NoRoom {
         needed: 1,
         spare: 0,
     });
-    assert_eq!(rt; start(&mut store, 109), full);
-    assert!(rt; !put_into(&mut store, alloc, &aborted(7)));
+    assert_eq!(rt; add_each(&mut store, [7].as_slice()), full);
+    assert_eq!(rt; add_each(&mut store, [109].as_slice()), full);
     assert_eq!(rt; (store.epoch(), store.spare()), (108, 0));
-    assert!(rt; is_aborted(&store, 5) && is_aborted(&store, 6));
-    assert!(rt; store.is_heard(tx(6)) && !store.is_heard(tx(7)));
-    Ok(())
-}
-
-// How many marks and how many unresolved transactions there are.
-fn counts(store: &PoolFacts, alloc: Global) -> Result<(usize, usize), Fail> {
-    let votes = store.votes(alloc, &key(), 0, Ballot::FAST)?;
-    let unresolved = store.unresolved_all(alloc)?;
-    Ok((votes.len(), unresolved.len()))
-}
-
-#[test]
-fn votes_are_found(rt: HostRuntime) -> Result<(), Fail> {
-    let alloc = rt.alloc();
-    let mut store = PoolFacts::new(alloc, 100)?;
-    assert!(rt; put_into(&mut store, alloc, &accepted(alloc, 1)?));
-    assert!(rt; counts(&store, alloc)? == (1, 1));
-    assert!(rt; store.vote_of(&key(), 0, tx(1)) == Some((Ballot::FAST, Mark::Accept(choice(1)))));
-    assert!(rt; store.entries(&key(), 0) == (1, 0) && store.load(&key(), 0, &[]).writes == 1);
-    assert!(rt; store.unresolved(0) == Some((tx(1), choice(1).write_set)));
-    assert!(rt; put_into(&mut store, alloc, &committed(1)));
-    assert!(rt; counts(&store, alloc)? == (1, 0));
-    assert!(rt; store.current(&key()) == 1 && store.base(&key()).is_some());
+    assert!(rt; is_aborted(&store, 5));
+    assert!(rt; is_aborted(&store, 6));
+    assert_eq!(rt;
+        (store.ended(tx(6)), store.ended(tx(7))),
+        (Some(false), None)
+    );
+    assert!(rt; store.is_heard(tx(6)));
+    assert!(rt; !store.is_heard(tx(7)));
     Ok(())
 }

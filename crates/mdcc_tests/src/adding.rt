@@ -33,14 +33,8 @@ fn is_lower(vote: &Option<(Ballot, Mark)>, ballot: &Ballot) -> bool
 }
 
 // Whether all votes on these transactions stand at lower ballots.
-fn are_lower<S: FactStore>(
-    store: &S,
-    key: &Key,
-    version: u64,
-    ballot: &Ballot,
-    options: &Options,
-) -> bool
-    ensures { (facts : List AFact) → S.stands store.now facts → IsTrue result
+fn are_lower(store: &ListFacts, key: &Key, version: u64, ballot: &Ballot, options: &Options) -> bool
+    ensures { (facts : List AFact) → ⟦<ListFacts as FactStore>⟧.stands store.now facts → IsTrue result
         → list_any (λ e. is_some (value_of (votes_of facts key.now version ballot.now) e.0)) options.now ≡ false }
 {
     for place in 0..options.len() {
@@ -105,10 +99,10 @@ fn reread(alloc: Global, fact: &Fact) -> Option<Fact>
 }
 
 // Whether the fact says nothing a second time.
-fn is_news<S: FactStore>(store: &S, fact: &Fact) -> bool
+fn is_news(store: &ListFacts, fact: &Fact) -> bool
     requires well_formed { IsWellFormedFact fact.now }
     requires short { fact_length fact.now ≤ 2097152 }
-    ensures { (facts : List AFact) → S.stands store.now facts → IsTrue result → MayBeAdded facts fact.now }
+    ensures { (facts : List AFact) → ⟦<ListFacts as FactStore>⟧.stands store.now facts → IsTrue result → MayBeAdded facts fact.now }
 {
     match fact {
         Fact::Booted(_) => true,
@@ -136,11 +130,11 @@ fn is_news<S: FactStore>(store: &S, fact: &Fact) -> bool
 }
 
 // Adds a fact that says nothing a second time, and answers whether it was added.
-fn put_news<S: FactStore>(store: &mut S, fact: &Fact) -> bool
+fn put_news(store: &mut ListFacts, fact: &Fact) -> bool
     requires well_formed { IsWellFormedFact fact.now }
     requires short { fact_length fact.now ≤ 2097152 }
-    ensures { (facts : List AFact) → S.stands store.old facts
-        → OnTrue result (S.stands store.new (fact.now ∷ facts)) }
+    ensures { (facts : List AFact) → ⟦<ListFacts as FactStore>⟧.stands store.old facts
+        → OnTrue result (⟦<ListFacts as FactStore>⟧.stands store.new (fact.now ∷ facts)) }
 {
     if !is_news(store, fact) {
         return false;
@@ -151,23 +145,14 @@ fn put_news<S: FactStore>(store: &mut S, fact: &Fact) -> bool
     }
 }
 
-/// Adds a well-formed fact that says nothing a second time to any store, as it is read from its bytes, and
-/// answers whether it was added.
-pub fn put_into<S: FactStore>(store: &mut S, alloc: Global, fact: &Fact) -> bool
-    ensures { (facts : List AFact) → S.stands store.old facts
-        → OnTrue result ((read : AFact) × (fact_bytes read ≡ fact_bytes fact.now) × S.stands store.new (read ∷ facts)) }
-{
-    match reread(alloc, fact) {
-        Some(read) => put_news(store, &read),
-        None => false,
-    }
-}
-
-/// The same, to a list.
+/// Adds a well-formed fact that says nothing a second time, as it is read from its bytes, and answers
+/// whether it was added.
 pub fn put(store: &mut ListFacts, fact: &Fact) -> bool
     ensures { (facts : List AFact) → ⟦<ListFacts as FactStore>⟧.stands store.old facts
         → OnTrue result ((read : AFact) × (fact_bytes read ≡ fact_bytes fact.now) × ⟦<ListFacts as FactStore>⟧.stands store.new (read ∷ facts)) }
 {
-    let alloc = store.alloc();
-    put_into(store, alloc, fact)
+    match reread(store.alloc(), fact) {
+        Some(read) => put_news(store, &read),
+        None => false,
+    }
 }

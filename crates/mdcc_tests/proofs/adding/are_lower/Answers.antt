@@ -9,7 +9,7 @@ use Rattle.mdcc_tests.proofs.Lower.{none-left, none-next, not_voted}
 use Rattle.mdcc_tests.proofs.adding.are_lower.Goals as goal
 
 pub loop-place-preserved : goal.loop-place-preserved
-loop-place-preserved g c = λ facts h.
+loop-place-preserved c = λ facts h.
     let key = c.args.key.now in
     let version = c.args.version in
     let ballot = c.args.ballot.now in
@@ -20,7 +20,7 @@ loop-place-preserved g c = λ facts h.
     ∙ c.loop-place.invariant facts h
 
 pub returns : goal.returns
-returns g c = λ facts h _.
+returns c = λ facts h _.
     let key = c.args.key.now in
     let version = c.args.version in
     let ballot = c.args.ballot.now in

@@ -2,7 +2,7 @@ use Rattle.std.proofs.Common.{refl}
 use Rattle.mdcc_tests.proofs.adding.is_news.Goals as goal
 
 pub returns-in-Voted : goal.returns-in-Voted
-returns-in-Voted g c = λ facts h lower.
+returns-in-Voted c = λ facts h lower.
     rw c.in-Voted.is (record {
       well_formed = rw c.in-Voted.is at c.requires.well_formed;
       short = rw c.in-Voted.is at c.requires.short;
