@@ -15,8 +15,8 @@ use mdcc_fact_cells::FactStep;
 use mdcc_option::{Choice, Mark};
 use mdcc_struct::Options;
 use mdcc_vote_steps::{
-    GatheredMarks, LeastAbove, OlderChoice, OlderMark, OlderVote, WithBallot, WithCount, WithEntries,
-    WithPromise,
+    GatheredMarks, LeastAbove, OlderChoice, OlderMark, OlderVote, WithBallot, WithCount,
+    WithEntries, WithPromise,
 };
 use std::alloc::Global;
 

@@ -103,11 +103,13 @@ fn uses_again(alloc: Global, len: usize, cells: u32) -> Result<bool, Memory> {
     let is_full = put_equal(alloc, &mut pool, 8, size + 1)?.is_none();
     let third = put_equal(alloc, &mut pool, 8, size)?.unwrap_or(Ticket { first: 4 });
     let is_used = pool.spare() == 0 && put_equal(alloc, &mut pool, 9, 0)?.is_none();
-    Ok(is_free
-        && is_full
-        && is_used
-        && are_equal(&pool, &second, 7, len)
-        && are_equal(&pool, &third, 8, size))
+    Ok(
+        is_free
+            && is_full
+            && is_used
+            && are_equal(&pool, &second, 7, len)
+            && are_equal(&pool, &third, 8, size),
+    )
 }
 
 #[test]
