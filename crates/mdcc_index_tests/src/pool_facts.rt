@@ -1,12 +1,11 @@
 //! Facts added until no cell is spare.
-ghost use Rattle.std.specs.Prelude.{◌≤◌};
-ghost use Rattle.mdcc_messages.specs.WellFormed.{IsWellFormedFact};
-
 use mdcc_base::{Centre, TxId};
+use mdcc_facts::{Fact, FactStore};
 use mdcc_index::PoolFacts;
-use mdcc_messages::Fact;
 use mdcc_option::Outcome;
 use mdcc_protocol::StoreFault;
+use mdcc_tests::adding::add_read;
+use std::alloc::Global;
 use std::test::Fail;
 
 fn tx(seq: u32) -> TxId {
@@ -17,63 +16,43 @@ fn tx(seq: u32) -> TxId {
     }
 }
 
-// A start.
-fn booted(epoch: u32) -> Fact
-    requires { 1 ≤ epoch }
-    ensures { IsWellFormedFact result }
-{
-    Fact::Booted(epoch)
-}
-
-// A transaction of this number aborted.
-fn aborted(seq: u32) -> Fact
-    requires { 1 ≤ seq }
-    ensures { IsWellFormedFact result }
-{
+// The transaction of this number aborted.
+fn aborted(seq: u32) -> Fact {
     Fact::Heard {
-        tx: TxId {
-            centre: Centre::new(2).unwrap_or_default(),
-            epoch: 3,
-            seq,
-        },
+        tx: tx(seq),
         outcome: Outcome::Abort,
     }
 }
 
-// Adds starts, for numbers above 100, and aborted transactions.
-fn add_each(store: &mut PoolFacts, numbers: &[u32]) -> Result<(), StoreFault> {
-    for number in numbers {
-        if *number > 100 {
-            store.add(&booted(*number))?;
-        } else if *number > 0 {
-            store.add(&aborted(*number))?;
-        }
-    }
-    Ok(())
+// Whether all of these are added.
+fn are_added(alloc: Global, store: &mut PoolFacts, facts: &[Fact]) -> bool {
+    facts
+        .iter()
+        .all(|fact| add_read(alloc, store, fact) == Some(Ok(())))
 }
 
 fn is_aborted(store: &PoolFacts, seq: u32) -> bool {
-    matches!(store.heard(tx(seq)), Some(Outcome::Abort))
+    store.is_heard(tx(seq))
+        && store.heard(tx(seq)) == Some(Outcome::Abort)
+        && store.ended(tx(seq)) == Some(false)
+}
+
+fn is_unheard(store: &PoolFacts, seq: u32) -> bool {
+    !store.is_heard(tx(seq)) && store.heard(tx(seq)).is_none() && store.ended(tx(seq)).is_none()
 }
 
 #[test]
 fn facts_fill_the_cells(rt: HostRuntime) -> Result<(), Fail> {
-    let mut store = PoolFacts::new(rt.alloc(), 4)?;
-    add_each(&mut store, [107, 5, 6, 108].as_slice())?;
-    let full = Err(StoreFault::NoRoom {
+    let alloc = rt.alloc();
+    let mut store = PoolFacts::new(alloc, 4)?;
+    let facts = [Fact::Booted(7), aborted(5), aborted(6), Fact::Booted(8)];
+    assert!(rt; are_added(alloc, &mut store, &facts));
+    let full = StoreFault::NoRoom {
         needed: 1,
         spare: 0,
-    });
-    assert_eq!(rt; add_each(&mut store, [7].as_slice()), full);
-    assert_eq!(rt; add_each(&mut store, [109].as_slice()), full);
-    assert_eq!(rt; (store.epoch(), store.spare()), (108, 0));
-    assert!(rt; is_aborted(&store, 5));
-    assert!(rt; is_aborted(&store, 6));
-    assert_eq!(rt;
-        (store.ended(tx(6)), store.ended(tx(7))),
-        (Some(false), None)
-    );
-    assert!(rt; store.is_heard(tx(6)));
-    assert!(rt; !store.is_heard(tx(7)));
+    };
+    assert!(rt; add_read(alloc, &mut store, &aborted(7)) == Some(Err(full)));
+    assert!(rt; store.epoch() == 8 && store.spare() == 0);
+    assert!(rt; is_aborted(&store, 5) && is_aborted(&store, 6) && is_unheard(&store, 7));
     Ok(())
 }

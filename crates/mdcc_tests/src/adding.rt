@@ -3,47 +3,35 @@ ghost use Rattle.mdcc_facts.specs.Adding.{MayBeAdded};
 ghost use Rattle.mdcc_protocol.specs.Facts.{votes_of};
 ghost use Rattle.mdcc_messages.specs.declared.facts.Fact.{Fact as AFact};
 ghost use Rattle.mdcc_struct.specs.Maps.{value_of};
-ghost use Rattle.mdcc_tests.specs.Lower.{is_lower};
 ghost use Rattle.std.specs.List.{list_any};
 ghost use Rattle.mdcc_journal.specs.Counts.{HasCounts};
 ghost use Rattle.mdcc_messages.specs.Lengths.{fact_length};
 ghost use Rattle.mdcc_messages.specs.Spelling.{fact_bytes};
 ghost use Rattle.mdcc_messages.specs.WellFormed.{IsWellFormedFact};
 ghost use Rattle.mdcc_spelling.specs.Laws.{AreBytes};
-ghost use Rattle.std.specs.Prelude.{◌≡◌, ◌≤◌, ◌∷◌, IfSome, IsTrue, List, false, is_some, length};
+ghost use Rattle.std.specs.Prelude.{◌≡◌, ◌≤◌, ◌∷◌, IfSome, IsTrue, List, OnOk, false, is_some};
 ghost use Rattle.std.specs.Bool.{OnTrue};
 
 use mdcc_base::{Ballot, Key};
-use mdcc_facts::{Fact, FactStore, ListFacts};
+use mdcc_facts::{Fact, FactStore, ListFacts, StoreFault};
 use mdcc_journal::{decode_fact, encode_fact};
-use mdcc_option::Mark;
 use mdcc_spelling::facts::{facts_have_one_spelling, facts_read_are_well_formed};
 use mdcc_spelling::sizes::lengths_are_exact;
 use mdcc_struct::Options;
 use std::alloc::Global;
 
-// Whether a vote stands at a lower ballot, or there is none.
-fn is_lower(vote: &Option<(Ballot, Mark)>, ballot: &Ballot) -> bool
-    ensures { result ≡ is_lower vote.now ballot.now }
+// Whether no mark of a structure was voted in an instance at a ballot.
+fn are_new<S: FactStore>(
+    store: &S,
+    key: &Key,
+    version: u64,
+    ballot: Ballot,
+    options: &Options,
+) -> bool
+    ensures { (facts : List AFact) → S.stands store.now facts → IsTrue result
+        → list_any (λ e. is_some (value_of (votes_of facts key.now version ballot) e.0)) options.now ≡ false }
 {
-    match vote {
-        Some((at, _)) => at.is_below(ballot),
-        None => true,
-    }
-}
-
-// Whether all votes on these transactions stand at lower ballots.
-fn are_lower(store: &ListFacts, key: &Key, version: u64, ballot: &Ballot, options: &Options) -> bool
-    ensures { (facts : List AFact) → ⟦<ListFacts as FactStore>⟧.stands store.now facts → IsTrue result
-        → list_any (λ e. is_some (value_of (votes_of facts key.now version ballot.now) e.0)) options.now ≡ false }
-{
-    for place in 0..options.len() {
-        let (tx, _) = options.at(place);
-        if !is_lower(&store.vote_of(key, version, tx), ballot) {
-            return false;
-        }
-    }
-    true
+    store.count_voted(key, version, ballot, options) == 0
 }
 
 // Whether the lists of the fact are no longer than their counts can say.
@@ -82,8 +70,8 @@ fn read_back(alloc: Global, bytes: &[u8]) -> Option<Fact>
     }
 }
 
-// What is read from the bytes of the fact.
-fn reread(alloc: Global, fact: &Fact) -> Option<Fact>
+/// What is read from the bytes of the fact, where it is well-formed.
+pub fn reread(alloc: Global, fact: &Fact) -> Option<Fact>
     ensures well_formed { IfSome result (λ read. IsWellFormedFact read) }
     ensures short { IfSome result (λ read. fact_length read ≤ 2097152) }
     ensures same { IfSome result (λ read. fact_bytes read ≡ fact_bytes fact.now) }
@@ -99,10 +87,10 @@ fn reread(alloc: Global, fact: &Fact) -> Option<Fact>
 }
 
 // Whether the fact says nothing a second time.
-fn is_news(store: &ListFacts, fact: &Fact) -> bool
+fn is_news<S: FactStore>(store: &S, fact: &Fact) -> bool
     requires well_formed { IsWellFormedFact fact.now }
     requires short { fact_length fact.now ≤ 2097152 }
-    ensures { (facts : List AFact) → ⟦<ListFacts as FactStore>⟧.stands store.now facts → IsTrue result → MayBeAdded facts fact.now }
+    ensures { (facts : List AFact) → S.stands store.now facts → IsTrue result → MayBeAdded facts fact.now }
 {
     match fact {
         Fact::Booted(_) => true,
@@ -118,7 +106,7 @@ fn is_news(store: &ListFacts, fact: &Fact) -> bool
             ballot,
             options,
             offered: _,
-        } => are_lower(store, key, *version, ballot, options),
+        } => are_new(store, key, *version, *ballot, options),
         Fact::Heard { tx, outcome: _ } => !store.is_heard(*tx),
         Fact::Adopted {
             key: _,
@@ -129,19 +117,32 @@ fn is_news(store: &ListFacts, fact: &Fact) -> bool
     }
 }
 
-// Adds a fact that says nothing a second time, and answers whether it was added.
-fn put_news(store: &mut ListFacts, fact: &Fact) -> bool
+/// Adds a fact, where it says nothing a second time, and gives the store's answer.
+pub fn add_news<S: FactStore>(store: &mut S, fact: &Fact) -> Option<Result<(), StoreFault>>
     requires well_formed { IsWellFormedFact fact.now }
     requires short { fact_length fact.now ≤ 2097152 }
-    ensures { (facts : List AFact) → ⟦<ListFacts as FactStore>⟧.stands store.old facts
-        → OnTrue result (⟦<ListFacts as FactStore>⟧.stands store.new (fact.now ∷ facts)) }
+    ensures ok { (facts : List AFact) → S.stands store.old facts → IfSome result (λ answer. OnOk answer (S.stands store.new (fact.now ∷ facts))) }
 {
-    if !is_news(store, fact) {
-        return false;
+    if is_news(store, fact) {
+        Some(store.add(fact))
+    } else {
+        None
     }
-    match store.add(fact) {
-        Ok(()) => true,
-        Err(_) => false,
+}
+
+/// Adds a well-formed fact that says nothing a second time, as it is read from its bytes, and gives
+/// the store's answer.
+pub fn add_read<S: FactStore>(
+    alloc: Global,
+    store: &mut S,
+    fact: &Fact,
+) -> Option<Result<(), StoreFault>>
+    ensures ok { (facts : List AFact) → S.stands store.old facts
+        → IfSome result (λ answer. OnOk answer ((read : AFact) × (fact_bytes read ≡ fact_bytes fact.now) × S.stands store.new (read ∷ facts))) }
+{
+    match reread(alloc, fact) {
+        Some(read) => add_news(store, &read),
+        None => None,
     }
 }
 
@@ -151,8 +152,9 @@ pub fn put(store: &mut ListFacts, fact: &Fact) -> bool
     ensures { (facts : List AFact) → ⟦<ListFacts as FactStore>⟧.stands store.old facts
         → OnTrue result ((read : AFact) × (fact_bytes read ≡ fact_bytes fact.now) × ⟦<ListFacts as FactStore>⟧.stands store.new (read ∷ facts)) }
 {
-    match reread(store.alloc(), fact) {
-        Some(read) => put_news(store, &read),
+    match add_read(store.alloc(), store, fact) {
+        Some(Ok(())) => true,
+        Some(Err(_)) => false,
         None => false,
     }
 }

@@ -1,0 +1,29 @@
+-- A structure of which no mark was voted.
+use Rattle.std.proofs.Common.{◌≡◌, ℕ, ◌+◌, Bool, true, false, List, [], ◌∷◌, is_some, refl, sym, ◌∙◌, arith, inl, inr}
+use Rattle.std.specs.List.{list_any}
+use Rattle.std.specs.Prelude.{◌==◌}
+use Rattle.std.proofs.lemmas.Bool.{cases_Bool}
+use Rattle.std.proofs.lemmas.Bool.Decides.{nat_tests}
+use Rattle.mdcc_base.specs.Counts.{number_of}
+use Rattle.mdcc_base.specs.declared.identifiers.Ballot.{Ballot}
+use Rattle.mdcc_base.specs.declared.key.Key.{Key}
+use Rattle.mdcc_protocol.specs.Facts.{votes_of}
+use Rattle.mdcc_protocol.specs.Stores.{count_voted}
+use Rattle.mdcc_messages.specs.declared.facts.Fact.{Fact}
+use Rattle.mdcc_struct.specs.Maps.{value_of}
+use Rattle.mdcc_struct.specs.declared.options.Options.{Options}
+
+none_pass : {X : Type 0} (p : X → Bool) (xs : List X) → number_of p xs ≡ 0 → list_any p xs ≡ false
+none_pass p [] h = refl
+none_pass p (x ∷ xs) h =
+    elim (cases_Bool (p x)) [
+      | inl passes ↦ absurd (let more : 1 + number_of p xs ≡ 0 = rw passes at h in omega (arith, more))
+      | inr fails ↦ rw fails (none_pass p xs (let rest : 0 + number_of p xs ≡ 0 = rw fails at h in omega (arith, rest)))
+    ]
+
+pub none_voted : (facts : List Fact) (key : Key) (version : ℕ) (ballot : Ballot) (options : Options) (count : ℕ)
+    → count ≡ count_voted facts key version ballot options → (count == 0) ≡ true
+    → list_any (λ e. is_some (value_of (votes_of facts key version ballot) e.0)) options ≡ false
+none_voted facts key version ballot options count is h =
+    let zero : count ≡ 0 = grind (arith, nat_tests) in
+    none_pass (λ e. is_some (value_of (votes_of facts key version ballot) e.0)) options (sym is ∙ zero)
