@@ -16,9 +16,9 @@ use Rattle.mdcc_switches.specs.Built.{Built}
 use Rattle.mdcc_round_trip.specs.Cells.{cells_of_votes}
 use Rattle.mdcc_round_trip.specs.Messages.{accepting_fact, each_with, proposal_of, vote_of_member}
 use Rattle.mdcc_round_trip.specs.RoundTrips.{is_dropped}
-use Rattle.mdcc_round_trip.proofs.Apart.{of_both}
+use Rattle.mdcc_round_trip.proofs.Apart.{each-pair, of_both}
 use Rattle.mdcc_round_trip.proofs.Delivering.{Delivers, Name, name-more}
-use Rattle.mdcc_round_trip.proofs.Lists.{each-append, each-both, each-weaker}
+use Rattle.mdcc_round_trip.proofs.Lists.{each-any, each-append, each-both, each-permuted, each-weaker}
 use Rattle.mdcc_round_trip.proofs.Proposing.{Accepts, AreOnce, NoneDropped, Proposed, first-apart, number-same, proposed, rest-once, room-fits, still}
 
 -- ---- the cells of the votes
@@ -144,3 +144,18 @@ pub shares-moved : (choices : List Choice) (members : List ℕ) (order : List (C
 shares-moved choices members order m moved once =
     let same = sum-permuted (cells_at m) (each_with choices members) order moved in
     subst (λ n. n ≤ cells_of_votes choices) (sym same) (shares choices members m once)
+
+-- where each member has cells for its votes on all choices, they fit in any order
+pub fitting : (w : World) (choices : List Choice) (members : List ℕ) (order : List (Choice × ℕ)) → IsPermutation (each_with choices members) order
+    → ((m : ℕ) → number_of (λ (member : ℕ). member == m) members ≤ 1)
+    → AllByRecursion (λ (member : ℕ). cells_used (facts_of w.ledger member) + cells_of_votes choices ≤ w.cluster.cells) members → AllByRecursion (Fits w order) order
+fitting w choices members order moved once have =
+    each-permuted (Fits w order) (each_with choices members) order moved
+    (each-pair (Fits w order) choices members
+    (each-any (λ (c : Choice). AllByRecursion (λ (m : ℕ). Fits w order (c, m)) members) choices (λ c.
+    each-weaker (λ (m : ℕ). cells_used (facts_of w.ledger m) + cells_of_votes choices ≤ w.cluster.cells) (λ (m : ℕ). Fits w order (c, m)) members
+    (λ m h. within (cells_used (facts_of w.ledger m)) (votes_at m order) (cells_of_votes choices) w.cluster.cells (shares-moved choices members order m moved (once m)) h)
+    have)))
+  where
+    within : (used own votes all : ℕ) → own ≤ votes → used + votes ≤ all → used + own ≤ all
+    within used own votes all h k = omega (arith, h, k)

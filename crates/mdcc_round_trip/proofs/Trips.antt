@@ -26,7 +26,7 @@ use Rattle.mdcc_round_trip.proofs.Deciding.{IsIn, in-each}
 use Rattle.mdcc_round_trip.proofs.Delivering.{Delivers, named, unrolled}
 use Rattle.mdcc_round_trip.proofs.Lists.{each-any, each-append, each-back, each-both, each-front, each-permuted, each-weaker}
 use Rattle.mdcc_round_trip.proofs.Proposing.{Accepts, After, NoneDropped, NoneHears, all-proposed}
-use Rattle.mdcc_round_trip.proofs.Roomy.{Fits, all-roomy, shares-moved, votes_at}
+use Rattle.mdcc_round_trip.proofs.Roomy.{all-roomy, fitting, shares-moved, votes_at}
 
 -- what holds for each member of each choice holds for each choice of each member
 turned : (Q : Choice → ℕ → Type 0) (choices : List Choice) (members : List ℕ) → AllByRecursion (λ (m : ℕ). AllByRecursion (λ (c : Choice). Q c m) choices) members
@@ -153,23 +153,12 @@ module _ (built : Built) (w : World) (a : ℕ) (t : Undecided) (members : List �
     member-once : (m : ℕ) → number_of (λ (member : ℕ). member == m) members ≤ 1
     member-once m = apart-once (λ (x y : ℕ). x == y) (λ x. x == m) members (one_member m) ready.quorum.apart
 
-    fitting : AllByRecursion (Fits w trip.asked) trip.asked
-    fitting =
-        each-permuted (Fits w trip.asked) (each_with t.choices members) trip.asked trip.asks_each
-        (each-pair (Fits w trip.asked) t.choices members
-        (each-any (λ (c : Choice). AllByRecursion (λ (m : ℕ). Fits w trip.asked (c, m)) members) t.choices (λ c.
-        each-weaker (λ (m : ℕ). cells_used (facts_of w.ledger m) + cells_of_votes t.choices ≤ w.cluster.cells) (λ (m : ℕ). Fits w trip.asked (c, m)) members
-        (λ m h. within (cells_used (facts_of w.ledger m)) (votes_at m trip.asked) (cells_of_votes t.choices) w.cluster.cells (shares-moved t.choices members trip.asked m trip.asks_each (member-once m)) h)
-        have.votes)))
-      where
-        within : (used own votes all : ℕ) → own ≤ votes → used + votes ≤ all → used + own ≤ all
-        within used own votes all h k = omega (arith, h, k)
-
     roomy : NoneDropped asking.0 × ((m : ℕ) → cells_used (facts_of first.world.ledger m) ≡ cells_used (facts_of w.ledger m) + votes_at m trip.asked)
     roomy =
         all-roomy built a t.tx ready.enabled trip.proposals trip.asked w first.world asking.0 ready.undecided.centre
         (named (proposal_of a) w trip.proposals trip.asked trip.proposals_are) accepting
-        (ordered-once t.choices members trip.asked trip.asks_each ready.choices.apart ready.quorum.apart) fitting asking.2
+        (ordered-once t.choices members trip.asked trip.asks_each ready.choices.apart ready.quorum.apart)
+        (fitting w t.choices members trip.asked trip.asks_each member-once have.votes) asking.2
 
     commit-fits : cells_used (facts_of first.world.ledger a) + cells_needed (Fact.Heard t.tx (Outcome.Commit t.choices)) ≤ w.cluster.cells
     commit-fits =
