@@ -1,5 +1,5 @@
 -- The fast path of every trace: what a round trip needs is known of each of its states.
-use Rattle.std.proofs.Common.{List, None, get_or, ◌&&◌, Some, [], ap, arith, false, inl, inr, map, refl, subst, sym, true, ℕ, ◌++◌, ◌-◌, ◌<◌, ◌∙◌, ◌∷◌, ◌≡◌, ◌≤◌, ◌^◌}
+use Rattle.std.proofs.Common.{◌==◌, List, None, get_or, ◌&&◌, Some, [], ap, arith, false, inl, inr, map, refl, subst, sym, true, ℕ, ◌++◌, ◌-◌, ◌<◌, ◌∙◌, ◌∷◌, ◌≡◌, ◌≤◌, ◌^◌}
 use Rattle.std.specs.List.{AllByRecursion}
 use Rattle.std.specs.List.Sorted.{IsPermutation}
 use Rattle.std.specs.Prelude.{length, option_map, slice_get, suc, zero}
@@ -43,14 +43,16 @@ use Rattle.mdcc_trace_limits.proofs.Short.{ledger-short}
 use Rattle.mdcc_trace_limits.proofs.Walks.{envelopes}
 use Rattle.mdcc_trace_answers.proofs.Crowding.{not-crowding}
 use Rattle.mdcc_round_trip.specs.Accepting.{IsAccepted}
+use Rattle.mdcc_round_trip.specs.Cells.{HaveCells}
 use Rattle.mdcc_round_trip.specs.Deciding.{AreApart, AreChoicesOf, IsFastQuorum, have_one_key}
 use Rattle.mdcc_round_trip.specs.Messages.{each_with, proposal_of, vote_of_member}
-use Rattle.mdcc_round_trip.specs.RoundTrips.{AcceptsEach, AreNumbersOf, EndsWithCommit, IsReady, IsRoundTrip, is_dropped, message_at, messages_of}
-use Rattle.mdcc_round_trip.proofs.Apart.{each-pair, ordered-once}
+use Rattle.mdcc_round_trip.specs.RoundTrips.{AcceptsEach, AreDelivered, AreNumbersOf, EndsWithCommit, IsReady, IsRoundTrip, is_dropped, message_at, messages_of}
+use Rattle.mdcc_round_trip.proofs.Apart.{apart-once, each-pair, one_member, ordered-once}
 use Rattle.mdcc_round_trip.proofs.Delivering.{Delivers, named, unrolled}
 use Rattle.mdcc_round_trip.proofs.Lists.{each-front, each-permuted, each-weaker}
 use Rattle.mdcc_round_trip.proofs.Proposing.{Accepts, After, NoneDropped, NoneHears, all-proposed}
-use Rattle.mdcc_round_trip.proofs.Trips.{ends-with-commit}
+use Rattle.mdcc_round_trip.proofs.Roomy.{all-roomy, fitting}
+use Rattle.mdcc_round_trip.proofs.Trips.{cells-suffice, ends-with-commit}
 use Rattle.mdcc_fast_path.specs.FastPaths.{AcceptsAll, IsAsked, IsUntaken}
 use Rattle.mdcc_fast_path.specs.Opened.{IsOpen, IsProposal}
 use Rattle.mdcc_fast_path.specs.States.{state_after}
@@ -120,7 +122,7 @@ ascending-apart (c ∷ cs) h = (from (λ (d : Choice). have_one_key c d ≡ fals
 
 module _ (built : Built) (enabled : built.proposals ≡ true) (cluster : Cluster) (is : IsCluster cluster) (events : List Event)
     (a : ℕ) (t : Undecided) (members : List ℕ) (first : Happened) (untaken : IsUntaken (state_after built cluster events) a t) (quorum : IsFastQuorum cluster.quorums members)
-    (accept : AllByRecursion (AcceptsAll (state_after built cluster events) t) members) (ask : IsAsked built (state_after built cluster events) a t members first) where
+    (accept : AllByRecursion (AcceptsAll (state_after built cluster events) t) members) where
   abbrev w : World
   w = state_after built cluster events
 
@@ -160,118 +162,129 @@ module _ (built : Built) (enabled : built.proposals ≡ true) (cluster : Cluster
 
   -- ---- the proposals are delivered
 
-  accepting : AllByRecursion (Accepts w) ask.asked
-  accepting =
-      each-permuted (Accepts w) (each_with t.choices members) ask.asked ask.asks_each
+  accepting : (asked : List (Choice × ℕ)) → IsPermutation (each_with t.choices members) asked → AllByRecursion (Accepts w) asked
+  accepting asked moved =
+      each-permuted (Accepts w) (each_with t.choices members) asked moved
       (each-pair (Accepts w) t.choices members
       (from (λ (c : Choice). AllByRecursion (λ (m : ℕ). Accepts w (c, m)) members) t.choices
       (λ c i. each-weaker (AcceptsAll w t) (λ (m : ℕ). Accepts w (c, m)) members
       (λ m h. record { belongs = at (λ (choice : Choice). choice_belongs w.cluster choice ≡ true) t.choices c belong i; unstopped = h.unstopped; accepted = at (IsAccepted w.cluster (facts_of w.ledger m)) t.choices c h.accepts i }) accept)))
 
-  asking : (lines : List Line) × (first.lines ≡ lines) × Delivers built w ask.proposals first.world lines
-  asking = unrolled built ask.proposals (record { world = w; lines = [] }) first ask.proposed
+  -- none of them is dropped where the members have cells
+  pub asked-kept : (second : Happened) → HaveCells w a t members → (trip : AreDelivered built w a t members first second) → NoneDropped first.lines
+  asked-kept second have trip =
+      let asking = unrolled built trip.proposals (record { world = w; lines = [] }) first trip.proposed in
+      let kept = all-roomy built a t.tx enabled trip.proposals trip.asked w first.world asking.0 up.centre
+      (named (proposal_of a) w trip.proposals trip.asked trip.proposals_are) (accepting trip.asked trip.asks_each)
+      (ordered-once t.choices members trip.asked trip.asks_each choices.apart quorum-here.apart)
+      (fitting w t.choices members trip.asked trip.asks_each (λ m. apart-once (λ (x y : ℕ). x == y) (λ x. x == m) members (one_member m) quorum-here.apart) have.votes) asking.2 in
+      subst NoneDropped (sym asking.1) kept.0
 
-  after-asking : After w first.world (map (vote_of_member a) ask.asked) × NoneHears a t.tx asking.0
-  after-asking =
-      all-proposed built a t.tx enabled ask.proposals ask.asked w first.world asking.0 up.centre
-      (named (proposal_of a) w ask.proposals ask.asked ask.proposals_are) accepting
-      (ordered-once t.choices members ask.asked ask.asks_each choices.apart quorum-here.apart) asking.2
-      (subst NoneDropped asking.1 ask.undropped)
+  module _ (ask : IsAsked built (state_after built cluster events) a t members first) where
+    asking : (lines : List Line) × (first.lines ≡ lines) × Delivers built w ask.proposals first.world lines
+    asking = unrolled built ask.proposals (record { world = w; lines = [] }) first ask.proposed
 
-  -- ---- then the votes have numbers, and the transaction is committed
+    after-asking : After w first.world (map (vote_of_member a) ask.asked) × NoneHears a t.tx asking.0
+    after-asking =
+        all-proposed built a t.tx enabled ask.proposals ask.asked w first.world asking.0 up.centre
+        (named (proposal_of a) w ask.proposals ask.asked ask.proposals_are) (accepting ask.asked ask.asks_each)
+        (ordered-once t.choices members ask.asked ask.asks_each choices.apart quorum-here.apart) asking.2
+        (subst NoneDropped asking.1 ask.undropped)
 
-  in-map : (pair : Choice × ℕ) (pairs : List (Choice × ℕ)) → In pair pairs → In (vote_of_member a pair) (map (vote_of_member a) pairs)
-  in-map pair [] i = absurd i
-  in-map pair (p ∷ ps) i = elim i [ inl e ↦ inl (ap (vote_of_member a) e) | inr r ↦ inr (in-map pair ps r) ]
+    -- ---- then the votes have numbers, and the transaction is committed
 
-  listed : (P : Envelope → Type 0) (ss : List Sent) (env : Envelope) → Each (λ (s : Sent). P s.envelope) ss → In env (envelopes ss) → P env
-  listed P [] env h i = absurd i
-  listed P (s ∷ ss) env h i = elim i [ inl e ↦ subst P (sym e) h.0 | inr r ↦ listed P ss env h.1 r ]
+    in-map : (pair : Choice × ℕ) (pairs : List (Choice × ℕ)) → In pair pairs → In (vote_of_member a pair) (map (vote_of_member a) pairs)
+    in-map pair [] i = absurd i
+    in-map pair (p ∷ ps) i = elim i [ inl e ↦ inl (ap (vote_of_member a) e) | inr r ↦ inr (in-map pair ps r) ]
 
-  pub votes-given : (order : List (Choice × ℕ)) → IsPermutation (each_with t.choices members) order → (votes : List ℕ) × AreNumbersOf first.world votes (map (vote_of_member a) order)
-  votes-given order moved =
-      numbers-of first.world (vote_of_member a) order
-      (each-permuted (λ pair. In (vote_of_member a pair) (envelopes first.world.sent)) (each_with t.choices members) order moved
-      (each-permuted (λ pair. In (vote_of_member a pair) (envelopes first.world.sent)) ask.asked (each_with t.choices members) (IsPermutation-sym (each_with t.choices members) ask.asked ask.asks_each)
-      (from (λ pair. In (vote_of_member a pair) (envelopes first.world.sent)) ask.asked
-      (λ pair i. subst (λ ms. In (vote_of_member a pair) ms) (sym after-asking.0.messages) (in-back (vote_of_member a pair) (messages_of w) (map (vote_of_member a) ask.asked) (in-map pair ask.asked i))))))
+    listed : (P : Envelope → Type 0) (ss : List Sent) (env : Envelope) → Each (λ (s : Sent). P s.envelope) ss → In env (envelopes ss) → P env
+    listed P [] env h i = absurd i
+    listed P (s ∷ ss) env h i = elim i [ inl e ↦ subst P (sym e) h.0 | inr r ↦ listed P ss env h.1 r ]
 
-  module _ (limited : built.limit_on_events ≡ true) (v : World) (more : List Event) (reached : state_after built cluster more ≡ v) (messages : messages_of v ≡ messages_of w ++ map (vote_of_member a) ask.asked)
-      (begun : choices_begun v.ledger t.tx ≡ t.choices) where
-    backed : Each (λ (s : Sent). IsBackedMessage cluster v.ledger s.envelope) v.sent
-    backed = subst (λ (z : World). Each (λ (s : Sent). IsBackedMessage cluster z.ledger s.envelope) z.sent) reached (all_sent built cluster is more)
+    pub votes-given : (order : List (Choice × ℕ)) → IsPermutation (each_with t.choices members) order → (votes : List ℕ) × AreNumbersOf first.world votes (map (vote_of_member a) order)
+    votes-given order moved =
+        numbers-of first.world (vote_of_member a) order
+        (each-permuted (λ pair. In (vote_of_member a pair) (envelopes first.world.sent)) (each_with t.choices members) order moved
+        (each-permuted (λ pair. In (vote_of_member a pair) (envelopes first.world.sent)) ask.asked (each_with t.choices members) (IsPermutation-sym (each_with t.choices members) ask.asked ask.asks_each)
+        (from (λ pair. In (vote_of_member a pair) (envelopes first.world.sent)) ask.asked
+        (λ pair i. subst (λ ms. In (vote_of_member a pair) ms) (sym after-asking.0.messages) (in-back (vote_of_member a pair) (messages_of w) (map (vote_of_member a) ask.asked) (in-map pair ask.asked i))))))
 
-    given : AllByRecursion (λ (pair : Choice × ℕ). Gives v.ledger t.tx pair.0 pair.1) (each_with t.choices members)
-    given =
-        each-permuted (λ (pair : Choice × ℕ). Gives v.ledger t.tx pair.0 pair.1) ask.asked (each_with t.choices members) (IsPermutation-sym (each_with t.choices members) ask.asked ask.asks_each)
-        (from (λ (pair : Choice × ℕ). Gives v.ledger t.tx pair.0 pair.1) ask.asked
-        (λ pair i. gives pair (own pair i) (listed (IsBackedMessage cluster v.ledger) v.sent (vote_of_member a pair) backed
-        (subst (λ ms. In (vote_of_member a pair) ms) (sym messages) (in-back (vote_of_member a pair) (messages_of w) (map (vote_of_member a) ask.asked) (in-map pair ask.asked i))))))
-      where
-        gives : (pair : Choice × ℕ) → pair.0.tx ≡ t.tx → IsBackedMessage cluster v.ledger (vote_of_member a pair) → Gives v.ledger t.tx pair.0 pair.1
-        gives pair e h = subst (λ z. Gives v.ledger z pair.0 pair.1) e (h.still tt)
+    module _ (limited : built.limit_on_events ≡ true) (v : World) (more : List Event) (reached : state_after built cluster more ≡ v) (messages : messages_of v ≡ messages_of w ++ map (vote_of_member a) ask.asked)
+        (begun : choices_begun v.ledger t.tx ≡ t.choices) where
+      backed : Each (λ (s : Sent). IsBackedMessage cluster v.ledger s.envelope) v.sent
+      backed = subst (λ (z : World). Each (λ (s : Sent). IsBackedMessage cluster z.ledger s.envelope) z.sent) reached (all_sent built cluster is more)
 
-        all-own : AllByRecursion (λ (pair : Choice × ℕ). pair.0.tx ≡ t.tx) ask.asked
-        all-own =
-            each-permuted (λ (pair : Choice × ℕ). pair.0.tx ≡ t.tx) (each_with t.choices members) ask.asked ask.asks_each
-            (each-pair (λ (pair : Choice × ℕ). pair.0.tx ≡ t.tx) t.choices members
-            (each-weaker (λ (c : Choice). c.tx ≡ t.tx) (λ (c : Choice). AllByRecursion (λ (m : ℕ). c.tx ≡ t.tx) members) t.choices (λ c e. from (λ (m : ℕ). c.tx ≡ t.tx) members (λ m j. e)) choices.own))
+      given : AllByRecursion (λ (pair : Choice × ℕ). Gives v.ledger t.tx pair.0 pair.1) (each_with t.choices members)
+      given =
+          each-permuted (λ (pair : Choice × ℕ). Gives v.ledger t.tx pair.0 pair.1) ask.asked (each_with t.choices members) (IsPermutation-sym (each_with t.choices members) ask.asked ask.asks_each)
+          (from (λ (pair : Choice × ℕ). Gives v.ledger t.tx pair.0 pair.1) ask.asked
+          (λ pair i. gives pair (own pair i) (listed (IsBackedMessage cluster v.ledger) v.sent (vote_of_member a pair) backed
+          (subst (λ ms. In (vote_of_member a pair) ms) (sym messages) (in-back (vote_of_member a pair) (messages_of w) (map (vote_of_member a) ask.asked) (in-map pair ask.asked i))))))
+        where
+          gives : (pair : Choice × ℕ) → pair.0.tx ≡ t.tx → IsBackedMessage cluster v.ledger (vote_of_member a pair) → Gives v.ledger t.tx pair.0 pair.1
+          gives pair e h = subst (λ z. Gives v.ledger z pair.0 pair.1) e (h.still tt)
 
-        own : (pair : Choice × ℕ) → In pair ask.asked → pair.0.tx ≡ t.tx
-        own pair i = at (λ (pair : Choice × ℕ). pair.0.tx ≡ t.tx) ask.asked pair all-own i
+          all-own : AllByRecursion (λ (pair : Choice × ℕ). pair.0.tx ≡ t.tx) ask.asked
+          all-own =
+              each-permuted (λ (pair : Choice × ℕ). pair.0.tx ≡ t.tx) (each_with t.choices members) ask.asked ask.asks_each
+              (each-pair (λ (pair : Choice × ℕ). pair.0.tx ≡ t.tx) t.choices members
+              (each-weaker (λ (c : Choice). c.tx ≡ t.tx) (λ (c : Choice). AllByRecursion (λ (m : ℕ). c.tx ≡ t.tx) members) t.choices (λ c e. from (λ (m : ℕ). c.tx ≡ t.tx) members (λ m j. e)) choices.own))
 
-    ledger-there : IsLedger cluster v.ledger
-    ledger-there =
-        record {
-          of_cluster = is;
-          allowed = subst (λ (z : World). IsAllowed cluster z.ledger) reached (allowed built cluster is more);
-          short = subst (λ (z : World). length z.ledger ≤ 2 ^ 64 - 1) reached (ledger-short built limited cluster is more);
-        }
+          own : (pair : Choice × ℕ) → In pair ask.asked → pair.0.tx ≡ t.tx
+          own pair i = at (λ (pair : Choice × ℕ). pair.0.tx ≡ t.tx) ask.asked pair all-own i
 
-    committed : outcome_of cluster.quorums v.ledger t.tx ≡ Some (Outcome.Commit t.choices)
-    committed =
-        let sound = subst (λ (z : World). IsSound z.ledger) reached (holds built cluster is more).more in
-        outcome-commits cluster.quorums v.ledger t.tx members is.quorums (law cluster v.ledger is.quorums ledger-there.allowed sound) quorum low t.choices begun opened.some_choice
-        (of-pairs (λ (pair : Choice × ℕ). Gives v.ledger t.tx pair.0 pair.1) t.choices members given)
+      ledger-there : IsLedger cluster v.ledger
+      ledger-there =
+          record {
+            of_cluster = is;
+            allowed = subst (λ (z : World). IsAllowed cluster z.ledger) reached (allowed built cluster is more);
+            short = subst (λ (z : World). length z.ledger ≤ 2 ^ 64 - 1) reached (ledger-short built limited cluster is more);
+          }
 
-    uncrowded-there : is_crowding (facts_of v.ledger a) commit ≡ false
-    uncrowded-there = not-crowding cluster v.ledger a commit ledger-there committed
+      committed : outcome_of cluster.quorums v.ledger t.tx ≡ Some (Outcome.Commit t.choices)
+      committed =
+          let sound = subst (λ (z : World). IsSound z.ledger) reached (holds built cluster is more).more in
+          outcome-commits cluster.quorums v.ledger t.tx members is.quorums (law cluster v.ledger is.quorums ledger-there.allowed sound) quorum low t.choices begun opened.some_choice
+          (of-pairs (λ (pair : Choice × ℕ). Gives v.ledger t.tx pair.0 pair.1) t.choices members given)
 
-  -- ---- all that a round trip needs
+      uncrowded-there : is_crowding (facts_of v.ledger a) commit ≡ false
+      uncrowded-there = not-crowding cluster v.ledger a commit ledger-there committed
 
-  up-there : is_up_at first.world a ≡ true
-  up-there =
-      let after = after-asking.0 in
-      subst (λ (c : Cluster). (is_centre c a && (centre_at first.world a).is_up) ≡ true) (sym after.cluster)
-      (subst (λ (cs : List Site). (is_centre w.cluster a && (get_or cs (a - 1) booted).is_up) ≡ true) (sym after.centres) untaken.up)
+    -- ---- all that a round trip needs
 
-  uncrowded : built.limit_on_events ≡ true → is_crowding (facts_of w.ledger a) commit ≡ false
-  uncrowded limited =
-      let after = after-asking.0 in
-      let there = next-state built cluster events (Event.Deliver ask.proposals) first ask.proposed in
-      let up-then = subst (λ (z : World). is_up_at z a ≡ true → IsUp IsSound z.cluster z.ledger a (centre_at z a).volatile) there.1 (is-up IsSound cluster (state_after built cluster there.0) a (holds built cluster is there.0)) up-there in
-      let among : In t (centre_at first.world a).volatile.manager.opened =
-      subst (λ (cs : List Site). In t (get_or cs (a - 1) booted).volatile.manager.opened) (sym after.centres) (open-in w a t untaken.uncounted.opened) in
-      let still = Each-at (IsOpened first.world.ledger) (centre_at first.world a).volatile.manager.opened t up-then.keeps.manager.opened among in
-      sym (after.crowding a commit) ∙ uncrowded-there limited first.world there.0 there.1 after.messages still.choices
+    up-there : is_up_at first.world a ≡ true
+    up-there =
+        let after = after-asking.0 in
+        subst (λ (c : Cluster). (is_centre c a && (centre_at first.world a).is_up) ≡ true) (sym after.cluster)
+        (subst (λ (cs : List Site). (is_centre w.cluster a && (get_or cs (a - 1) booted).is_up) ≡ true) (sym after.centres) untaken.up)
 
-  ready : built.limit_on_events ≡ true → IsReady built w a t members
-  ready limited = record {
-    enabled = enabled;
-    quorums = up.sizes;
-    sites = (holds built cluster is events).size;
-    undecided = record {
-      centre = up.centre;
-      unstopped = untaken.unstopped;
-      uncounted = untaken.uncounted;
-      unheard = unheard built cluster is events a t (record { centre = up.centre; opened = untaken.uncounted.opened });
-      uncrowded = uncrowded limited;
-    };
-    choices = choices;
-    belong = belong;
-    quorum = quorum-here;
-    accept = each-weaker (AcceptsAll w t) (AcceptsEach w t.choices) members (λ member h. record { centre = member-centre member h; unstopped = h.unstopped; accepts = h.accepts }) accept;
-  }
+    uncrowded : built.limit_on_events ≡ true → is_crowding (facts_of w.ledger a) commit ≡ false
+    uncrowded limited =
+        let after = after-asking.0 in
+        let there = next-state built cluster events (Event.Deliver ask.proposals) first ask.proposed in
+        let up-then = subst (λ (z : World). is_up_at z a ≡ true → IsUp IsSound z.cluster z.ledger a (centre_at z a).volatile) there.1 (is-up IsSound cluster (state_after built cluster there.0) a (holds built cluster is there.0)) up-there in
+        let among : In t (centre_at first.world a).volatile.manager.opened =
+        subst (λ (cs : List Site). In t (get_or cs (a - 1) booted).volatile.manager.opened) (sym after.centres) (open-in w a t untaken.uncounted.opened) in
+        let still = Each-at (IsOpened first.world.ledger) (centre_at first.world a).volatile.manager.opened t up-then.keeps.manager.opened among in
+        sym (after.crowding a commit) ∙ uncrowded-there limited first.world there.0 there.1 after.messages still.choices
+
+    ready : built.limit_on_events ≡ true → IsReady built w a t members
+    ready limited = record {
+      enabled = enabled;
+      quorums = up.sizes;
+      sites = (holds built cluster is events).size;
+      undecided = record {
+        centre = up.centre;
+        unstopped = untaken.unstopped;
+        uncounted = untaken.uncounted;
+        unheard = unheard built cluster is events a t (record { centre = up.centre; opened = untaken.uncounted.opened });
+        uncrowded = uncrowded limited;
+      };
+      choices = choices;
+      belong = belong;
+      quorum = quorum-here;
+      accept = each-weaker (AcceptsAll w t) (AcceptsEach w t.choices) members (λ member h. record { centre = member-centre member h; unstopped = h.unstopped; accepts = h.accepts }) accept;
+    }
 
 pub commits : (built : Built) → built.proposals ≡ true → built.limit_on_events ≡ true → (cluster : Cluster) → IsCluster cluster
     → (events : List Event) (a : ℕ) (t : Undecided) (members : List ℕ) (first second : Happened) → IsUntaken (state_after built cluster events) a t → IsFastQuorum cluster.quorums members
@@ -281,10 +294,33 @@ commits built enabled limited cluster is events a t members first second untaken
   where
     ask : IsAsked built (state_after built cluster events) a t members first
     ask = record {
+      asked = trip.deliveries.asked;
+      proposals = trip.deliveries.proposals;
+      asks_each = trip.deliveries.asks_each;
+      proposals_are = trip.deliveries.proposals_are;
+      proposed = trip.deliveries.proposed;
+      undropped = each-front (λ line. is_dropped line ≡ false) first.lines second.lines trip.undropped;
+    }
+
+-- the same where the centres have cells
+pub roomy-commits : (built : Built) → built.proposals ≡ true → built.limit_on_events ≡ true → (cluster : Cluster) → IsCluster cluster
+    → (events : List Event) (a : ℕ) (t : Undecided) (members : List ℕ) (first second : Happened) → IsUntaken (state_after built cluster events) a t → IsFastQuorum cluster.quorums members
+    → AllByRecursion (AcceptsAll (state_after built cluster events) t) members → HaveCells (state_after built cluster events) a t members
+    → AreDelivered built (state_after built cluster events) a t members first second → EndsWithCommit a t.tx first.lines second.lines
+roomy-commits built enabled limited cluster is events a t members first second untaken quorum accept have trip =
+    commits built enabled limited cluster is events a t members first second untaken quorum accept
+    (record {
+      deliveries = trip;
+      undropped = cells-suffice built (state_after built cluster events) a t members first second
+          (ready built enabled cluster is events a t members first untaken quorum accept ask limited) have trip;
+    })
+  where
+    ask : IsAsked built (state_after built cluster events) a t members first
+    ask = record {
       asked = trip.asked;
       proposals = trip.proposals;
       asks_each = trip.asks_each;
       proposals_are = trip.proposals_are;
       proposed = trip.proposed;
-      undropped = each-front (λ line. is_dropped line ≡ false) first.lines second.lines trip.undropped;
+      undropped = asked-kept built enabled cluster is events a t members first untaken quorum accept second have trip;
     }

@@ -13,9 +13,10 @@ use Rattle.mdcc_simulation.specs.Events.{event_of}
 use Rattle.mdcc_simulation.specs.Runs.{run_of}
 use Rattle.mdcc_simulation.specs.State.{Happened, World, centre_at, first_world, is_up_at}
 use Rattle.mdcc_round_trip.specs.Accepting.{IsAccepted}
+use Rattle.mdcc_round_trip.specs.Cells.{HaveCells}
 use Rattle.mdcc_round_trip.specs.Deciding.{IsFastQuorum, IsUncounted}
 use Rattle.mdcc_round_trip.specs.Messages.{each_with, proposal_of, vote_of_member}
-use Rattle.mdcc_round_trip.specs.RoundTrips.{AreNumbersOf, EndsWithCommit, IsRoundTrip, is_dropped}
+use Rattle.mdcc_round_trip.specs.RoundTrips.{AreDelivered, AreNumbersOf, EndsWithCommit, IsRoundTrip, is_dropped}
 use Rattle.mdcc_fast_path.specs.States.{state_after}
 
 -- the centre is up and has no armed stop; the transaction is open there, and no vote on it was taken
@@ -61,11 +62,21 @@ FastPathsCommit =
     → IsRoundTrip built (state_after built cluster events) a t members first second
     → EndsWithCommit a t.tx first.lines second.lines
 
+-- so they do where each member has cells spare for its votes, and the centre for as many and for the commit
+abbrev pub RoomyFastPathsCommit : Type 0
+RoomyFastPathsCommit =
+    (built : Built) → built.proposals ≡ true → built.limit_on_events ≡ true → (cluster : Cluster) → IsCluster cluster
+    → (events : List Event) (a : ℕ) (t : Undecided) (members : List ℕ) (first second : Happened)
+    → IsUntaken (state_after built cluster events) a t → IsFastQuorum cluster.quorums members
+    → AllByRecursion (AcceptsAll (state_after built cluster events) t) members → HaveCells (state_after built cluster events) a t members
+    → AreDelivered built (state_after built cluster events) a t members first second
+    → EndsWithCommit a t.tx first.lines second.lines
+
 -- the run of the schedule that has these two lines after the events, of which none is refused, prints what they report after the rest
 abbrev pub RunsReportThem : Type 0
 RunsReportThem =
     (built : Built) (cluster : Cluster) (events : List Event) (a : ℕ) (t : Undecided) (members : List ℕ) (first second : Happened)
     → (run_of built (first_world cluster) events).fault ≡ None
     → (trip : IsRoundTrip built (state_after built cluster events) a t members first second)
-    → (run_of built (first_world cluster) (events ++ Event.Deliver trip.proposals ∷ Event.Deliver trip.votes ∷ [])).lines
+    → (run_of built (first_world cluster) (events ++ Event.Deliver trip.deliveries.proposals ∷ Event.Deliver trip.deliveries.votes ∷ [])).lines
     ≡ (run_of built (first_world cluster) events).lines ++ (first.lines ++ second.lines)

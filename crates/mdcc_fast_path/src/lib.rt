@@ -12,7 +12,7 @@ ghost use Rattle.mdcc_round_trip.specs.RoundTrips.{IsRoundTrip};
 ghost use Rattle.mdcc_switches.specs.Built.{all_built};
 ghost use Rattle.mdcc_fast_path.specs.Broken.{LacksOne, ballot, decrease, first_write, older, older_lines, promised, promised_lines, second_write, taken, taken_lines, two_lines};
 ghost use Rattle.mdcc_fast_path.specs.Example.{schedule};
-ghost use Rattle.mdcc_fast_path.specs.FastPaths.{AcceptsAll, FastPathsCommit, IsUntaken, RunsReportThem, VotesAreGiven};
+ghost use Rattle.mdcc_fast_path.specs.FastPaths.{AcceptsAll, FastPathsCommit, IsUntaken, RoomyFastPathsCommit, RunsReportThem, VotesAreGiven};
 ghost use Rattle.mdcc_fast_path.specs.Opened.{OpenIsUnheard, OpenWereProposed};
 ghost use Rattle.mdcc_fast_path.specs.Splitting.{DeliverLinesSplit};
 ghost use Rattle.mdcc_fast_path.specs.States.{state_after};
@@ -41,11 +41,13 @@ pub fn acceptors_accept_where_they_may()
 /// centre, of which no vote was taken there, and as many members as a fast quorum has that would accept
 /// each of its choices, all of them up and without an armed stop. The deliveries of its proposals to
 /// these members in any order, and then of the votes that they gave in any order, make the centre hear
-/// the commit at the last of these votes and not before, as long as no limit is reached. The first
+/// the commit at the last of these votes and not before, as long as no limit is reached. So they do where
+/// no line is refused and these centres have cells enough spare. The first
 /// deliveries give these votes. The run of the schedule that goes on with the two lines reports it so.
 pub fn fast_paths_commit()
     ensures votes { VotesAreGiven }
     ensures commits { FastPathsCommit }
+    ensures roomy { RoomyFastPathsCommit }
     ensures report { RunsReportThem }
 {}
 

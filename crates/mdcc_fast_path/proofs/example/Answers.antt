@@ -12,15 +12,17 @@ pub returns-clause-trip : goal.returns-clause-trip
 returns-clause-trip c =
     let begun = state_after all_built three schedule in
     record {
-      asked = (choice_of key_b, 3) ∷ (choice_of key_a, 2) ∷ (choice_of key_a, 3) ∷ (choice_of key_b, 1) ∷ (choice_of key_b, 2) ∷ (choice_of key_a, 1) ∷ [];
-      proposals = 6 ∷ 2 ∷ 3 ∷ 4 ∷ 5 ∷ 1 ∷ [];
-      asks_each = record { moves = (0, 5) ∷ []; below = (omega arith, omega arith, tt); is = refl };
-      proposals_are = refl;
-      proposed = is-happened begun (event_of all_built begun (Event.Deliver (6 ∷ 2 ∷ 3 ∷ 4 ∷ 5 ∷ 1 ∷ []))) refl;
-      answered = (choice_of key_a, 1) ∷ (choice_of key_b, 2) ∷ (choice_of key_a, 3) ∷ (choice_of key_b, 1) ∷ (choice_of key_a, 2) ∷ (choice_of key_b, 3) ∷ [];
-      votes = 12 ∷ 11 ∷ 9 ∷ 10 ∷ 8 ∷ 7 ∷ [];
-      answers_each = record { moves = (1, 4) ∷ []; below = (omega arith, omega arith, tt); is = refl };
-      votes_are = refl;
-      voted = is-happened asked.world (event_of all_built asked.world (Event.Deliver (12 ∷ 11 ∷ 9 ∷ 10 ∷ 8 ∷ 7 ∷ []))) refl;
+      deliveries = record {
+        asked = (choice_of key_b, 3) ∷ (choice_of key_a, 2) ∷ (choice_of key_a, 3) ∷ (choice_of key_b, 1) ∷ (choice_of key_b, 2) ∷ (choice_of key_a, 1) ∷ [];
+        proposals = 6 ∷ 2 ∷ 3 ∷ 4 ∷ 5 ∷ 1 ∷ [];
+        asks_each = record { moves = (0, 5) ∷ []; below = (omega arith, omega arith, tt); is = refl };
+        proposals_are = refl;
+        proposed = is-happened begun (event_of all_built begun (Event.Deliver (6 ∷ 2 ∷ 3 ∷ 4 ∷ 5 ∷ 1 ∷ []))) refl;
+        answered = (choice_of key_a, 1) ∷ (choice_of key_b, 2) ∷ (choice_of key_a, 3) ∷ (choice_of key_b, 1) ∷ (choice_of key_a, 2) ∷ (choice_of key_b, 3) ∷ [];
+        votes = 12 ∷ 11 ∷ 9 ∷ 10 ∷ 8 ∷ 7 ∷ [];
+        answers_each = record { moves = (1, 4) ∷ []; below = (omega arith, omega arith, tt); is = refl };
+        votes_are = refl;
+        voted = is-happened asked.world (event_of all_built asked.world (Event.Deliver (12 ∷ 11 ∷ 9 ∷ 10 ∷ 8 ∷ 7 ∷ []))) refl;
+      };
       undropped = none-dropped (asked.lines ++ answered.lines) refl;
     }

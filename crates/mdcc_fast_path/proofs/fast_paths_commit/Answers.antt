@@ -1,7 +1,7 @@
 -- The laws are the lemmas.
 use Rattle.mdcc_simulation.specs.State.{first_world}
 use Rattle.mdcc_language.specs.declared.events.Event.{Event}
-use Rattle.mdcc_fast_path.proofs.FastPaths.{commits, votes-given}
+use Rattle.mdcc_fast_path.proofs.FastPaths.{commits, roomy-commits, votes-given}
 use Rattle.mdcc_fast_path.proofs.States.{two-more}
 use Rattle.mdcc_fast_path.proofs.fast_paths_commit.Goals as goal
 
@@ -12,6 +12,9 @@ returns-clause-votes c built enabled cluster is events a t members first order u
 pub returns-clause-commits : goal.returns-clause-commits
 returns-clause-commits c = commits
 
+pub returns-clause-roomy : goal.returns-clause-roomy
+returns-clause-roomy c = roomy-commits
+
 pub returns-clause-report : goal.returns-clause-report
 returns-clause-report c built cluster events a t members first second whole trip =
-    two-more built (first_world cluster) events (Event.Deliver trip.proposals) (Event.Deliver trip.votes) first second whole trip.proposed trip.voted
+    two-more built (first_world cluster) events (Event.Deliver trip.deliveries.proposals) (Event.Deliver trip.deliveries.votes) first second whole trip.deliveries.proposed trip.deliveries.voted
