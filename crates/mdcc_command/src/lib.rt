@@ -3,5 +3,6 @@
 
 mod command;
 mod simulation;
+mod words;
 
 pub use command::run;

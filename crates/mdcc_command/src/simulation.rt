@@ -29,4 +29,8 @@ impl Simulation for Replayed {
     fn last_line(&self) -> Line {
         self.world.end()
     }
+
+    fn reads(&self) -> usize {
+        self.world.reads()
+    }
 }

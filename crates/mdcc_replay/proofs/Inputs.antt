@@ -15,12 +15,12 @@ use Rattle.mdcc_protocol.specs.IsCluster.{IsCluster}
 use Rattle.mdcc_language.specs.Lines.{lines_in}
 use Rattle.mdcc_simulation.specs.Replay.{Replay, after_text, ended, lines_replayed, replay_behind, replay_of}
 use Rattle.mdcc_language.specs.Report.{header_text}
-use Rattle.mdcc_simulation.specs.State.{first_world}
+use Rattle.mdcc_simulation.specs.State.{World, first_world}
 use Rattle.mdcc_sched.specs.Headers.{numbered, numbered_header}
 use Rattle.mdcc_replay.proofs.Fronts.{front_of_first}
 use Rattle.mdcc_replay.proofs.Headers.{header_given}
 use Rattle.mdcc_replay.proofs.Taken.{finish}
-use Rattle.mdcc_replay.specs.Writing.{Ends, Front, Progress, Replayed}
+use Rattle.mdcc_replay.specs.Writing.{Ends, Front, Progress, Replayed, StandsLast}
 use Rattle.mdcc_replay.specs.declared.refusals.Refusal.{Refusal}
 use Rattle.mdcc_replay.specs.declared.writing.Failure.{Failure}
 
@@ -72,6 +72,12 @@ pub behind_written : (a b c : Option (List ℕ)) (input : List ℕ) (cluster : C
 behind_written a b c input cluster end first r h e wrote next =
     let progress : Progress a b (replay_of built input) (behind_header input cluster end first) = record { part = header_text end input; wrote = wrote; same = replay_given input cluster end first h e } in
     finish a b c (replay_of built input) (behind_header input cluster end first) r progress next
+
+-- the world that is left at the end
+pub behind_last : (is_now : World → Type 0) (input : List ℕ) (cluster : Cluster) (end first : ℕ) → length input ≤ 67108864 → numbered_header input ≡ Ok (cluster, end, first)
+    → StandsLast is_now (behind_header input cluster end first) → StandsLast is_now (replay_of built input)
+behind_last is_now input cluster end first h e p =
+    record { world = p.world; last = ap (λ (r : Replay). r.world) (replay_given input cluster end first h e) ∙ p.last; stands = p.stands }
 
 pub header_failed : (a b : Option (List ℕ)) (input : List ℕ) (cluster : Cluster) (end first : ℕ) → length input ≤ 67108864 → numbered_header input ≡ Ok (cluster, end, first)
     → Front a b (header_text end input) → Front a b (replay_of built input).text

@@ -1,12 +1,14 @@
 -- One line of a replay after another.
-use Rattle.std.proofs.Common.{◌≡◌, ◌+◌, ◌∷◌, [], List, ℕ, Option, Some, None, Result, Ok, Err, subst}
+use Rattle.std.proofs.Common.{◌≡◌, ◌+◌, ◌∷◌, [], List, ℕ, Option, Some, None, Result, Ok, Err, ap, subst}
 use Rattle.mdcc_option.specs.declared.cluster.Cluster.{Cluster}
 use Rattle.mdcc_built.specs.Built.{built}
 use Rattle.mdcc_simulation.specs.Replay.{Replay, lines_replayed}
 use Rattle.mdcc_simulation.specs.State.{World}
 use Rattle.mdcc_replay.proofs.Fronts.{ends_behind, front_behind, reached_on}
-use Rattle.mdcc_replay.specs.Writing.{Progress, Reached, Replayed, ReplayedTo}
+use Rattle.mdcc_replay.specs.Writing.{IsLeftBy, LeavesLast, Progress, Reached, Replayed, ReplayedTo, StandsLast, refusal_in}
 use Rattle.mdcc_replay.specs.declared.refusals.Refusal.{Refusal}
+use Rattle.mdcc_replay.specs.declared.reports.Ended.{Ended}
+use Rattle.mdcc_replay.specs.declared.reports.Ended.TheVariants.{Early, Whole}
 use Rattle.mdcc_replay.specs.declared.writing.Failure.{Failure}
 
 -- the lines that are left, in the world that is left
@@ -40,3 +42,24 @@ pub all_taken : (is_now : World → Type 0) (a b c : Option (List ℕ)) (cluster
 all_taken is_now a b c cluster number lines whole r e h last =
     let at_lines : List (List ℕ) → Type 0 = λ ls. Progress a b whole (left_lines cluster number ls h.world) in
     finish a b c whole (left_lines cluster number [] h.world) r (subst at_lines e h.progress) (last h.world cluster number h.stands)
+
+-- the world that is left at the end
+pub last_taken : (is_now : World → Type 0) (a b : Option (List ℕ)) (cluster : Cluster) (number : ℕ) (lines : List (List ℕ)) (whole : Replay) → lines ≡ []
+    → Reached is_now a b whole (left_lines cluster number lines) → StandsLast is_now whole
+last_taken is_now a b cluster number lines whole e h =
+    let at_lines : List (List ℕ) → Type 0 = λ ls. Progress a b whole (left_lines cluster number ls h.world) in
+    let end : Progress a b whole (left_lines cluster number [] h.world) = subst at_lines e h.progress in
+    record { world = h.world; last = ap (λ (r : Replay). r.world) end.same; stands = h.stands }
+
+-- what is left behind the lines
+pub left_written : {W : Type 0} (a b : Option (List ℕ)) (whole : Replay) (replayed : Result (Option Refusal) Failure) (world : W) (r : Result (Ended W) Failure) → IsLeftBy replayed world r
+    → Replayed a b whole replayed → Replayed a b whole (refusal_in r)
+left_written a b whole replayed world (Ok (Whole left)) e h = rw e.0 at h
+left_written a b whole replayed world (Ok (Early refusal)) e h = rw e at h
+left_written a b whole replayed world (Err failure) e h = rw e at h
+
+pub left_last : {W : Type 0} (stands : W → World → Type 0) (whole : Replay) (replayed : Result (Option Refusal) Failure) (world : W) (r : Result (Ended W) Failure) → IsLeftBy replayed world r
+    → (replayed ≡ Ok None → StandsLast (stands world) whole) → LeavesLast stands whole r
+left_last stands whole replayed world (Ok (Whole left)) e h = rw e.1 (h e.0)
+left_last stands whole replayed world (Ok (Early refusal)) e h = tt
+left_last stands whole replayed world (Err failure) e h = tt

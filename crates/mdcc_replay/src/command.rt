@@ -1,4 +1,4 @@
-//! The top call.
+//! What the program does with an input, and how it ends.
 ghost use Rattle.std.specs.Prelude.{◌≡◌, ◌≢◌, ◌↔◌, ◌≤◌, ◌∷◌, [], codes, map, true, IfSome, IsTrue};
 ghost use Rattle.std.specs.Bool.{OnFalse, OnTrue};
 ghost use Rattle.std.specs.Io.KnownBytes.{Appends, IsAtEnd};
@@ -14,16 +14,6 @@ use crate::writing::tell;
 use crate::{Failure, Refusal, Simulation, replay};
 use mdcc_base::{ReadAllFault, Sink, Source, read_all};
 use std::alloc::Global;
-
-// Whether the words are the one command.
-fn is_replay(words: &[String]) -> bool
-    ensures { (result ≡ true) ↔ (map string_bytes words.now ≡ codes "replay" ∷ []) }
-{
-    match words {
-        [only] => only.as_str() == "replay",
-        _ => false,
-    }
-}
 
 // The line of a status that no input has.
 fn own_line(status: u8) -> &'static str
@@ -44,6 +34,14 @@ fn end<E: Sink>(status: u8, err: &mut E) -> u8
 {
     tell(err, own_line(status).as_bytes());
     status
+}
+
+/// Ends where the words are those of no command.
+pub fn refuse_words<E: Sink>(err: &mut E) -> u8
+    ensures status { result ≡ 2 }
+    ensures told { Tells (E.held err.old) (E.held err.new) (E.faults err.old) (E.faults err.new) (own_line 2) }
+{
+    end(2, err)
 }
 
 // Ends where an input was refused.
@@ -67,8 +65,12 @@ fn end_refused<E: Sink>(alloc: Global, refusal: &Refusal, err: &mut E) -> u8
     }
 }
 
-// Ends behind a replay.
-fn finish<E: Sink>(alloc: Global, replayed: Result<Option<Refusal>, Failure>, err: &mut E) -> u8
+/// Ends behind a replay.
+pub(crate) fn finish<E: Sink>(
+    alloc: Global,
+    replayed: Result<Option<Refusal>, Failure>,
+    err: &mut E,
+) -> u8
     ensures status { IsStatus replayed result }
     ensures quiet { result ≡ 0 → Appends (E.held err.old) (E.held err.new) [] }
     ensures own { OnTrue (is_own result) (Tells (E.held err.old) (E.held err.new) (E.faults err.old) (E.faults err.new) (own_line result)) }
@@ -83,8 +85,8 @@ fn finish<E: Sink>(alloc: Global, replayed: Result<Option<Refusal>, Failure>, er
     }
 }
 
-// Replays what a source gives.
-fn run_replay<W: Simulation + Drop, S: Source, O: Sink, E: Sink>(
+/// Replays what a source gives: it reads the whole input, a schedule, and writes the report to `out`.
+pub fn run_replay<W: Simulation + Drop, S: Source, O: Sink, E: Sink>(
     alloc: Global,
     source: &mut S,
     out: &mut O,
@@ -112,48 +114,4 @@ fn run_replay<W: Simulation + Drop, S: Source, O: Sink, E: Sink>(
         Err(ReadAllFault::Failed) => end(5, err),
         Err(ReadAllFault::Memory) => end(10, err),
     }
-}
-
-/// All that the program does, with its words behind its own name: the status that it ends with.
-///
-/// The words are `replay` alone. It reads the whole input, a schedule, and writes the report to
-/// `out`; where it ends early it writes one line to `err`, that of the status. Status 3 is a header
-/// that is refused, 4 a line or its event, 11 a limit; 2 other words, 5 a read that failed, 6 a
-/// write to `out` that failed, 10 want of memory. A write to `err` that fails changes no status.
-pub fn run_on<W: Simulation + Drop, S: Source, O: Sink, E: Sink>(
-    alloc: Global,
-    words: &[String],
-    source: &mut S,
-    out: &mut O,
-    err: &mut E,
-) -> u8
-    // The status is one of 0, 2, 3, 4, 5, 6, 10 and 11. At 0, 3, 4 and 11 the definition of the
-    // input's replay gives the status and all that was written.
-    ensures status { IsTrue (is_status result) }
-    ensures whole { IfSome (S.left source.old) (λ input. let output = output_of (replay_of built input) in
-        OnFalse (is_own result) ((result ≡ output.status) × Appends (O.held out.old) (O.held out.new) output.text)) }
-    ensures end { result ≡ 0 → IsAtEnd (S.left source.new) }
-
-    // At each status a front of it was written, and nothing at 2, 3 and 5.
-    ensures front { IfSome (S.left source.old) (λ input.
-        Front (O.held out.old) (O.held out.new) (output_of (replay_of built input)).text) }
-    ensures silent { result ≡ 2 → Appends (O.held out.old) (O.held out.new) [] }
-    ensures refused { result ≡ 3 → Appends (O.held out.old) (O.held out.new) [] }
-    ensures nothing { result ≡ 5 → Appends (O.held out.old) (O.held out.new) [] }
-
-    // The other statuses have their causes; 10 may come at any time.
-    ensures words { (result ≡ 2) ↔ (map string_bytes words.now ≢ codes "replay" ∷ []) }
-    ensures read { result ≡ 5 → Rose (S.faults source.old) (S.faults source.new) }
-    ensures write { result ≡ 6 → Rose (O.faults out.old) (O.faults out.new) }
-
-    // The line on the error stream.
-    ensures quiet { result ≡ 0 → Appends (E.held err.old) (E.held err.new) [] }
-    ensures own { OnTrue (is_own result) (Tells (E.held err.old) (E.held err.new) (E.faults err.old) (E.faults err.new) (own_line result)) }
-    ensures line { IfSome (S.left source.old) (λ input. OnFalse (is_own result)
-        (Tells (E.held err.old) (E.held err.new) (E.faults err.old) (E.faults err.new) (output_of (replay_of built input)).error)) }
-{
-    if !is_replay(words) {
-        return end(2, err);
-    }
-    run_replay::<W, S, O, E>(alloc, source, out, err)
 }

@@ -7,11 +7,13 @@ mod error_lines;
 mod lines;
 mod refusals;
 mod reports;
+mod samples;
 pub mod simulation;
 mod writing;
 
-pub use command::run_on;
+pub use command::{refuse_words, run_replay};
 pub use refusals::Refusal;
 pub use reports::replay;
+pub use samples::run_sample;
 pub use simulation::Simulation;
 pub use writing::Failure;

@@ -1,5 +1,5 @@
 //! Replays an input, line by line.
-ghost use Rattle.std.specs.Prelude.{◌≡◌, ◌+◌, ◌<◌, ◌≤◌, ◌^◌, ◌∷◌, [], List, ℕ, length, IfErr, IfOk, IsErrOf, IsOkAnd, Ok};
+ghost use Rattle.std.specs.Prelude.{◌≡◌, ◌+◌, ◌<◌, ◌≤◌, ◌^◌, ◌∷◌, [], List, ℕ, length, IfErr, IfOk, IsErrOf, IsOkAnd, None, Ok, Some};
 ghost use Rattle.std.specs.Bool.{OnFalse};
 ghost use Rattle.mdcc_base.specs.AreQuorums.{AreQuorums};
 ghost use Rattle.mdcc_base.specs.Causes.{Rose};
@@ -14,7 +14,7 @@ ghost use Rattle.mdcc_simulation.specs.State.{World as AWorld};
 ghost use Rattle.mdcc_simulation.specs.Events.{event_of};
 ghost use Rattle.mdcc_replay.specs.Refusals.{is_memory};
 ghost use Rattle.mdcc_replay.specs.Runs.{event_told};
-ghost use Rattle.mdcc_replay.specs.Writing.{Replayed, ReplayedTo};
+ghost use Rattle.mdcc_replay.specs.Writing.{IsLeftBy, LeavesLast, Replayed, ReplayedTo, StandsLast, refusal_in};
 
 use crate::lines::{behind, header_text, is_memory, split_line};
 use crate::writing::{line_text, lines_text, write_text};
@@ -24,6 +24,15 @@ use mdcc_language::{Event, EventFault};
 use mdcc_option::Cluster;
 use mdcc_sched::{parse_line, parse_numbered_header};
 use std::alloc::Global;
+
+/// How a replay ended.
+#[derive(Drop)]
+pub enum Ended<W: Drop> {
+    /// The input was read to its end, and this is what it left.
+    Whole(W),
+    /// It ended before, and this is why.
+    Early(Refusal),
+}
 
 // Whether it is want of memory.
 fn is_event_memory(fault: &EventFault) -> bool
@@ -140,6 +149,8 @@ fn replay_lines<W: Simulation, O: Sink>(
     requires known { (w : AWorld) × W.stands world.old w }
     ensures written { (w : AWorld) → W.stands world.old w
         → Replayed (O.held out.old) (O.held out.new) (lines_replayed built cluster.now first w (lines_in text.now)) result }
+    ensures last { (w : AWorld) → W.stands world.old w → result ≡ Ok None
+        → StandsLast (λ next. W.stands world.new next) (lines_replayed built cluster.now first w (lines_in text.now)) }
     ensures later { O.faults out.old ≤ O.faults out.new }
     ensures failed { IsErrOf result Failure.Output → Rose (O.faults out.old) (O.faults out.new) }
 {
@@ -165,6 +176,19 @@ fn types_hold(cluster: &Cluster)
     let _ = cluster.schema.bounds();
 }
 
+// What a replay leaves, where it came to the end of the lines.
+fn left_by<W: Drop>(
+    replayed: Result<Option<Refusal>, Failure>,
+    world: W,
+) -> Result<Ended<W>, Failure>
+    ensures { IsLeftBy replayed world result }
+{
+    match replayed? {
+        Some(refusal) => Ok(Ended::Early(refusal)),
+        None => Ok(Ended::Whole(world)),
+    }
+}
+
 // Replays an input behind its header, which ends before this place. The line there has this number.
 fn replay_behind<W: Simulation + Drop, O: Sink>(
     alloc: Global,
@@ -173,11 +197,12 @@ fn replay_behind<W: Simulation + Drop, O: Sink>(
     first: u32,
     input: &[u8],
     out: &mut O,
-) -> Result<Option<Refusal>, Failure>
+) -> Result<Ended<W>, Failure>
     requires short { length input.now ≤ LIMIT }
     requires few { first ≤ 11 }
     requires header { numbered_header input.now ≡ Ok (cluster.now, end, first) }
-    ensures written { Replayed (O.held out.old) (O.held out.new) (replay_of built input.now) result }
+    ensures written { Replayed (O.held out.old) (O.held out.new) (replay_of built input.now) (refusal_in result) }
+    ensures last { LeavesLast W.stands (replay_of built input.now) result }
     ensures later { O.faults out.old ≤ O.faults out.new }
     ensures failed { IsErrOf result Failure.Output → Rose (O.faults out.old) (O.faults out.new) }
 {
@@ -185,12 +210,35 @@ fn replay_behind<W: Simulation + Drop, O: Sink>(
     types_hold(cluster);
     let mut world = W::start(alloc, cluster.copy())?;
     write_text(out, header.as_slice())?;
-    replay_lines(alloc, cluster, &mut world, first, behind(end, input), out)
+    let replayed = replay_lines(alloc, cluster, &mut world, first, behind(end, input), out);
+    left_by(replayed, world)
 }
 
-/// Replays an input: it writes the report and answers why it ended before the end of the input. At
-/// want of memory or a write that failed a front of the report was written; nothing is written of
-/// a line whose event is refused.
+/// Replays an input: it writes the report, and answers what is left at the end of the input or why it
+/// ended before. At want of memory or a write that failed a front of the report was written; nothing
+/// is written of a line whose event is refused.
+pub fn replay_to_end<W: Simulation + Drop, O: Sink>(
+    alloc: Global,
+    input: &[u8],
+    out: &mut O,
+) -> Result<Ended<W>, Failure>
+    ensures written { Replayed (O.held out.old) (O.held out.new) (replay_of built input.now) (refusal_in result) }
+    ensures last { LeavesLast W.stands (replay_of built input.now) result }
+    ensures later { O.faults out.old ≤ O.faults out.new }
+    ensures failed { IsErrOf result Failure.Output → Rose (O.faults out.old) (O.faults out.new) }
+{
+    if input.len() > LIMIT {
+        return Ok(Ended::Early(Refusal::TooLong));
+    }
+    match parse_numbered_header(input) {
+        Ok((cluster, end, first)) => {
+            replay_behind::<W, O>(alloc, &cluster, end, first, input, out)
+        }
+        Err(fault) => Ok(Ended::Early(Refusal::Header(fault))),
+    }
+}
+
+/// The same, without what is left.
 pub fn replay<W: Simulation + Drop, O: Sink>(
     alloc: Global,
     input: &[u8],
@@ -200,13 +248,11 @@ pub fn replay<W: Simulation + Drop, O: Sink>(
     ensures later { O.faults out.old ≤ O.faults out.new }
     ensures failed { IsErrOf result Failure.Output → Rose (O.faults out.old) (O.faults out.new) }
 {
-    if input.len() > LIMIT {
-        return Ok(Some(Refusal::TooLong));
-    }
-    match parse_numbered_header(input) {
-        Ok((cluster, end, first)) => {
-            replay_behind::<W, O>(alloc, &cluster, end, first, input, out)
+    match replay_to_end::<W, O>(alloc, input, out)? {
+        Ended::Whole(world) => {
+            drop(world);
+            Ok(None)
         }
-        Err(fault) => Ok(Some(Refusal::Header(fault))),
+        Ended::Early(refusal) => Ok(Some(refusal)),
     }
 }

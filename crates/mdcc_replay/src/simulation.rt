@@ -1,5 +1,5 @@
 //! What the events of a schedule happen to.
-ghost use Rattle.std.specs.Prelude.{◌≡◌, ◌++◌, IfErr, IfOk, IsOkAnd, OnOk};
+ghost use Rattle.std.specs.Prelude.{◌≡◌, ◌++◌, IfErr, IfOk, IsOkAnd, OnOk, length};
 ghost use Rattle.std.specs.Bool.{OnFalse};
 ghost use Rattle.mdcc_built.specs.Built.{built};
 ghost use Rattle.mdcc_protocol.specs.IsCluster.{IsCluster};
@@ -34,4 +34,8 @@ pub trait Simulation {
     /// The last line of a report.
     fn last_line(&self) -> Line
         ensures { (w : AWorld) → stands self.now w → result ≡ end_line w };
+
+    /// How many reads were made.
+    fn reads(&self) -> usize
+        ensures { (w : AWorld) → stands self.now w → result ≡ length w.reads };
 }

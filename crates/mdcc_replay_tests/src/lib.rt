@@ -7,3 +7,5 @@ mod replay_rows;
 mod replays;
 #[cfg(test)]
 mod restarts;
+#[cfg(test)]
+mod samples;

@@ -118,6 +118,7 @@ orders_short items orders generator (suc n) some h k =
 -- ---- all of it
 
 pub sample_is_short : (seed items orders : ℕ) → IsShop items orders → length (sample_text seed items orders) ≤ 2 ^ 17
+unfolding sample_text
 sample_is_short seed items orders shop =
     let a = items_short items items shop.few_items in
     let b = orders_short items orders (generator_of seed) orders shop.some_items shop.few_items shop.few_orders in

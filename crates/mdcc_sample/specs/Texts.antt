@@ -98,6 +98,6 @@ ticks_text = codes "tick 1\ntick 2\ntick 3\ntick 4\ntick 5\nsettle\n"
 abbrev pub end_text : List ℕ
 end_text = settle_text ++ ticks_text ++ ticks_text
 
-abbrev pub sample_text : ℕ → ℕ → ℕ → List ℕ
+unfoldable pub sample_text : ℕ → ℕ → ℕ → List ℕ
 sample_text seed items orders =
     header_text ++ items_text items items ++ (orders_from items orders (generator_of seed) orders).text ++ end_text

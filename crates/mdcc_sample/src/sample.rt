@@ -68,6 +68,7 @@ fn write_orders(
 }
 
 // The text of the schedule.
+#[tactic(auto, unfolding(crate::specs::Texts::sample_text))]
 fn written(alloc: Global, seed: u64, items: u32, orders: u32) -> Result<String, AllocError>
     requires { IsShop items orders }
     ensures { IfOk result (λ text. string_bytes text ≡ sample_text seed items orders) }

@@ -104,6 +104,13 @@ impl World {
         }
     }
 
+    /// How many reads were made.
+    pub fn reads(&self) -> usize
+        ensures { (w : AWorld) → Stands self.now w → result ≡ length w.reads }
+    {
+        self.reads.len()
+    }
+
     // The number of the next message.
     pub(crate) fn next_message(&self) -> u32
         ensures { result ≡ length self.now.mail + 1 }

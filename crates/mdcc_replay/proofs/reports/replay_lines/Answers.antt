@@ -5,7 +5,7 @@ use Rattle.mdcc_language.specs.Lines.{lines_in}
 use Rattle.mdcc_simulation.specs.Replay.{lines_replayed}
 use Rattle.mdcc_simulation.specs.State.{World}
 use Rattle.mdcc_replay.proofs.Splits.{none_left}
-use Rattle.mdcc_replay.proofs.Taken.{all_taken, line_taken}
+use Rattle.mdcc_replay.proofs.Taken.{all_taken, last_taken, line_taken}
 use Rattle.mdcc_replay.proofs.reports.replay_lines.Goals as goal
 
 pub returns-in_err-refusal-clause-written : goal.returns-in_err-refusal-clause-written
@@ -41,3 +41,8 @@ pub returns-clause-written : goal.returns-clause-written
 returns-clause-written g c = λ w s.
     all_taken (λ v. g.W.Simulation.stands c.loop-rest.world v) (g.O.Sink.held c.args.out.now) (g.O.Sink.held c.loop-rest.out) (g.O.Sink.held c.write_end.new.out) c.args.cluster.now c.loop-rest.number (lines_in c.loop-rest.rest.now)
     (lines_replayed built c.args.cluster.now c.args.first w (lines_in c.args.text.now)) c.write_end.result (none_left c.loop-rest.rest.now c.loop-rest-test.ensures) (c.loop-rest.invariant.reached w s) c.write_end.ensures.written
+
+pub returns-clause-last : goal.returns-clause-last
+returns-clause-last g c = λ w s e.
+    last_taken (λ v. g.W.Simulation.stands c.loop-rest.world v) (g.O.Sink.held c.args.out.now) (g.O.Sink.held c.loop-rest.out) c.args.cluster.now c.loop-rest.number (lines_in c.loop-rest.rest.now)
+    (lines_replayed built c.args.cluster.now c.args.first w (lines_in c.args.text.now)) (none_left c.loop-rest.rest.now c.loop-rest-test.ensures) (c.loop-rest.invariant.reached w s)

@@ -1,6 +1,6 @@
 use Rattle.std.proofs.Common.{◌≤◌, length, arith}
 use Rattle.mdcc_replay.proofs.Inputs.{header_refused}
-use Rattle.mdcc_replay.proofs.reports.replay.Goals as goal
+use Rattle.mdcc_replay.proofs.reports.replay_to_end.Goals as goal
 
 pub returns-in-Err-clause-written : goal.returns-in-Err-clause-written
 returns-in-Err-clause-written g c =
