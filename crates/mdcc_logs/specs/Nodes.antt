@@ -1,6 +1,6 @@
 -- Which nodes stand for the facts of their centres.
 use Rattle.std.specs.Prelude.{◌≡◌, ◌+◌, ◌∷◌, [], List, Some, length, slice_get, ℕ}
-use Rattle.mdcc_counted_facts.specs.Counted.{Counted, Represents}
+use Rattle.mdcc_index.specs.Stores.{Represents, Store}
 use Rattle.mdcc_messages.specs.Lengths.{cells_needed, cells_used}
 use Rattle.mdcc_node.specs.Stands.{Stands as NodeStands}
 use Rattle.mdcc_node.specs.declared.node.Node.{Node}
@@ -10,7 +10,7 @@ use Rattle.mdcc_messages.specs.declared.facts.Fact.{Fact}
 
 -- the store of a centre's facts
 abbrev pub CentreStore : Type 0
-CentreStore = Counted
+CentreStore = Store
 
 -- it represents the facts that it lists
 abbrev pub are_stored : CentreStore → List Fact → Type 0
@@ -18,7 +18,7 @@ are_stored store facts = Represents store facts
 
 -- its cells that no fact uses, and those that a fact needs
 abbrev pub spare_of : CentreStore → ℕ
-spare_of store = store.spare
+spare_of store = store.cells.spare
 
 abbrev pub needed_in : CentreStore → Fact → ℕ
 needed_in store fact = cells_needed fact

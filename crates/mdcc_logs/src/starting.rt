@@ -14,8 +14,8 @@ ghost use Rattle.mdcc_restart.specs.Logged.{AreLogged, logged};
 ghost use Rattle.mdcc_restart.specs.Restarting.{IsLogOf, MayHaveBoot, next_boot};
 
 use mdcc_base::{Centre, Memory, Plain};
-use mdcc_counted_facts::CountedFacts;
 use mdcc_disks::MemoryDisks;
+use mdcc_index::PoolFacts;
 use mdcc_log::LogFault;
 use mdcc_node::Node;
 use mdcc_option::Cluster;
@@ -23,7 +23,7 @@ use mdcc_restart::{BootFault, RestartFault, Restarted, restart};
 use std::alloc::Global;
 
 /// The store of a centre's facts.
-pub type CentreFacts = CountedFacts;
+pub type CentreFacts = PoolFacts;
 
 /// What comes of a restart.
 #[derive(Drop)]
