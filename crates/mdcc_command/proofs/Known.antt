@@ -1,5 +1,5 @@
 -- What is known of the output of a command.
-use Rattle.std.proofs.Common.{◌≡◌, IfSome, List, None, Option, Some, ℕ, sym, subst}
+use Rattle.std.proofs.Common.{◌≡◌, IfSome, List, None, Option, Some, ℕ, subst}
 use Rattle.mdcc_built.specs.Built.{built}
 use Rattle.mdcc_replay.specs.Samples.{sample_of}
 use Rattle.mdcc_simulation.specs.Replay.{Output, output_of, replay_of}

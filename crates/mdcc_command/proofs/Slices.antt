@@ -1,5 +1,5 @@
 -- What the words ask for, by how many there are.
-use Rattle.std.proofs.Common.{◌≡◌, ◌≢◌, List, [], ◌∷◌, None, length, map, get_or, ℕ, refl, sym, ap, ◌∙◌, arith}
+use Rattle.std.proofs.Common.{◌≡◌, ◌≢◌, List, [], ◌∷◌, None, length, map, get_or, ℕ, refl, sym, ap, arith}
 use Rattle.mdcc_command.specs.Commands.{command_of, replay_in, sample_in}
 
 pub one_word : {A : Type 0} (f : A → List ℕ) (xs : List A) (a : A) → length xs ≡ 1 → a ≡ get_or xs 0 a → command_of (map f xs) ≡ replay_in (f a)

@@ -1,5 +1,5 @@
 -- What is printed tells the truth, and what each command writes is known.
-use Rattle.std.proofs.Common.{◌≡◌, List, map, refl, sym, ℕ}
+use Rattle.std.proofs.Common.{◌≡◌, map, refl}
 use Rattle.std.specs.Bool.{OnFalse}
 use Rattle.std.specs.Io.KnownBytes.{Appends}
 use Rattle.std.specs.String.{string_bytes}
