@@ -1,9 +1,11 @@
+pub mod Among
 pub mod BasesRead
 pub mod ChoicesEntered
 pub mod Crowded
 pub mod FactsEntered
 pub mod Found
 pub mod Heads
+pub mod LiveFound
 pub mod MarksEntered
 pub mod Noted
 pub mod PartsThere

@@ -75,7 +75,7 @@ entries-go seen void key version older load next entries left rest e false whole
 -- ---- facts
 
 -- a write weighs nothing but that it is one
-alike : (seen : List TxId) (load : Load) (tx : TxId) (update : Update) → with_added seen load (tx, amounts_added update) ≡ with_live seen load (tx, update)
+pub alike : (seen : List TxId) (load : Load) (tx : TxId) (update : Update) → with_added seen load (tx, amounts_added update) ≡ with_live seen load (tx, update)
 alike seen load tx (Update.Write item of_seen) = refl
 alike seen load tx (Update.Add amounts) = refl
 

@@ -5,6 +5,7 @@ pub mod bases;
 pub mod chain;
 pub mod crowding;
 mod entries;
+mod live_walk;
 pub mod loads;
 mod parts;
 mod passing;

@@ -1,18 +1,22 @@
 //! What the live updates of an instance weigh.
 ghost use Rattle.std.specs.List.{list_any};
-ghost use Rattle.std.specs.Prelude.{◌≡◌, Bool, List};
+ghost use Rattle.std.specs.Prelude.{◌≡◌, ◌&&◌, Bool, IfSome, List, drop, not};
 ghost use Rattle.mdcc_base.specs.declared.identifiers.TxId.{TxId as ATxId};
 ghost use Rattle.mdcc_escrow.specs.Weights.{no_load};
 ghost use Rattle.mdcc_fact_folds.specs.Live.{load_steps};
 ghost use Rattle.mdcc_messages.specs.declared.facts.Fact.{Fact as AFact};
 ghost use Rattle.mdcc_delta_steps.specs.Chains.{AreOf};
 ghost use Rattle.mdcc_delta_steps.specs.Entries.{left_in};
+ghost use Rattle.mdcc_protocol.specs.Fit.{has_tx};
+ghost use Rattle.mdcc_struct.specs.Maps.{txs_of};
+ghost use Rattle.mdcc_delta_steps.specs.LiveWalks.{left_live, live_in, load_among};
 ghost use Rattle.mdcc_delta_steps.specs.Loads.{counts, load_over, no_item, with_added, with_entries};
 ghost use Rattle.mdcc_delta_steps.specs.Steps.{has_live};
 
 use crate::InstanceWalk;
 use crate::entries::{Entries, read_live};
-use crate::steps::has_live;
+use crate::live_walk::{LiveWalk, live_txs, live_walk};
+use crate::steps::{has_live, has_tx};
 use mdcc_base::{BoundedList, Key, TxId};
 use mdcc_escrow::{NO_LOAD, with_live};
 use mdcc_option::{Amounts, Item, Update};
@@ -111,7 +115,55 @@ fn load_over<'a, V: VoidTest>(
     load
 }
 
+// All transactions but the first.
+fn after_first(txs: &[TxId]) -> &[TxId]
+    ensures { result.now ≡ drop 1 txs.now }
+{
+    txs.split_at(txs.len().min(1)).1
+}
+
+// Whether a transaction counts, where these are those of later entries.
+fn counts_before<V: VoidTest>(later: &[TxId], void: &V, tx: TxId) -> bool
+    ensures { result ≡ (not (V.void void.now tx) && not (has_tx later.now tx)) }
+{
+    !void.is_void(tx) && !has_tx(later, &tx)
+}
+
+// What live entries weigh, whose transactions are known.
+fn load_among<'a, V: VoidTest>(live: LiveWalk<'a>, txs: &[TxId], seen: &[TxId], void: &V) -> Load
+    requires { txs.now ≡ txs_of (left_live live) }
+    ensures { result ≡ load_among seen.now (V.void void.now) no_load (left_live live.entry) }
+{
+    let mut live = live;
+    let mut load = NO_LOAD;
+    let mut later = txs;
+    while let Some(tx) = live.find() {
+        later = after_first(later);
+        if counts_before(later, void, tx) {
+            load = with_added(seen, &load, tx, live.added());
+        }
+        live.pass();
+    }
+    load
+}
+
+// What live entries weigh, where their transactions are few.
+fn load_of_few<'a, V: VoidTest>(
+    walk: &InstanceWalk<'a>,
+    instance: &(Key, u64),
+    seen: &[TxId],
+    void: &V,
+) -> Option<Load>
+    ensures { IfSome result (λ load. load ≡ load_among seen.now (V.void void.now) no_load (live_in instance.now.0 instance.now.1 walk.now)) }
+{
+    let live = live_walk(walk.fork(), instance)?;
+    let txs = live_txs(live)?;
+    let live = live_walk(walk.fork(), instance)?;
+    Some(load_among(live, txs.as_slice(), seen, void))
+}
+
 /// What the live updates of an instance weigh beside a seen set, where the walk comes by all its facts.
+/// Where they have at most 256 live entries it walks over them twice, and else once more for each entry.
 pub fn load<'a, V: VoidTest>(
     walk: InstanceWalk<'a>,
     instance: &(Key, u64),
@@ -120,5 +172,8 @@ pub fn load<'a, V: VoidTest>(
 ) -> Load
     ensures { (facts : List AFact) → AreOf walk.entry facts → result ≡ load_steps seen.now (V.void void.now) instance.now.0 instance.now.1 no_load facts }
 {
-    load_over(walk, instance, seen, void)
+    match load_of_few(&walk, instance, seen, void) {
+        Some(load) => load,
+        None => load_over(walk, instance, seen, void),
+    }
 }

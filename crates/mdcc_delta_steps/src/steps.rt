@@ -121,8 +121,8 @@ fn amounts_of<'a>(cursor: Cursor<'a>, key: &Key, version: u64, tx: &TxId) -> Opt
     }
 }
 
-// Whether the transaction is among these.
-fn has_tx(txs: &[TxId], tx: &TxId) -> bool
+/// Whether the transaction is among these.
+pub(crate) fn has_tx(txs: &[TxId], tx: &TxId) -> bool
     ensures { result ≡ has_tx txs.now tx.now }
 {
     for other in txs {
