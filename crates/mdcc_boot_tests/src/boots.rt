@@ -1,9 +1,12 @@
 //! Boots from a few payloads.
+ghost use Rattle.std.specs.Prelude.{[]};
+
 use crate::setup::{BOOTED, HEARD, PROMISED, five_centres};
 use mdcc_admission::loading::are_short;
 use mdcc_admission::parts_belong::is_centre;
 use mdcc_base::{Centre, HeapList};
-use mdcc_facts::ListFacts;
+use mdcc_counted_facts::CountedFacts;
+use mdcc_facts::{FactStore, ListFacts};
 use mdcc_messages::Fact;
 use mdcc_node::{BootFault, Node};
 use std::alloc::Global;
@@ -32,17 +35,19 @@ fn epoch_in(fact: &Fact) -> u32 {
     }
 }
 
-// The epoch of the node that is booted, where its fact is the boot of that epoch, or why there is none.
-fn booted(
+// The epoch of the node that is booted over an empty store, where its fact is the boot of that epoch, or why there is none.
+fn booted_over<S: FactStore + Drop>(
     rt: &impl Abort,
     alloc: Global,
+    store: S,
     payloads: &[&[u8]],
-) -> Result<Result<u32, BootFault>, Fail> {
+) -> Result<Result<u32, BootFault>, Fail>
+    requires { S.stands store [] }
+{
     let cluster = five_centres(rt);
     let centre = Centre::new(1).unwrap_or_default();
     let kept = logged(alloc, payloads)?;
     let log = kept.as_slice();
-    let store = ListFacts::new(alloc).ok().ok_or("a store")?;
     if !is_centre(&cluster, centre.number()) {
         return Ok(Ok(0));
     }
@@ -56,6 +61,26 @@ fn booted(
         }
         Err(fault) => Ok(Err(fault)),
     }
+}
+
+fn booted(
+    rt: &impl Abort,
+    alloc: Global,
+    payloads: &[&[u8]],
+) -> Result<Result<u32, BootFault>, Fail> {
+    let store = ListFacts::new(alloc).ok().ok_or("a store")?;
+    booted_over(rt, alloc, store, payloads)
+}
+
+// Over a store of so many cells.
+fn booted_within(
+    rt: &impl Abort,
+    alloc: Global,
+    cells: u32,
+    payloads: &[&[u8]],
+) -> Result<Result<u32, BootFault>, Fail> {
+    let store = CountedFacts::new(alloc, cells).ok().ok_or("a store")?;
+    booted_over(rt, alloc, store, payloads)
 }
 
 #[test]
@@ -80,6 +105,33 @@ fn no_run(rt: HostRuntime) -> Result<(), Fail> {
     assert_eq!(rt;
         booted(&rt, alloc, &[&PROMISED])?,
         Err(BootFault::NotARun(1))
+    );
+    Ok(())
+}
+
+// Each of these payloads needs one cell, and so does the new boot.
+#[test]
+fn within_cells(rt: HostRuntime) -> Result<(), Fail> {
+    let alloc = rt.alloc();
+    let log: [&[u8]; 3] = [&BOOTED, &PROMISED, &HEARD];
+    assert_eq!(rt; booted_within(&rt, alloc, 4, &log)?, Ok(2));
+    assert_eq!(rt;
+        booted_within(&rt, alloc, 3, &log)?,
+        Err(BootFault::Room {
+            needed: 4,
+            cells: 3
+        })
+    );
+    assert_eq!(rt;
+        booted_within(&rt, alloc, 1, &log)?,
+        Err(BootFault::Room {
+            needed: 2,
+            cells: 1
+        })
+    );
+    assert_eq!(rt;
+        booted_within(&rt, alloc, 1, &[&BOOTED, &NO_FACT])?,
+        Err(BootFault::NotARun(2))
     );
     Ok(())
 }

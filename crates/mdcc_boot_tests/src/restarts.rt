@@ -1,9 +1,12 @@
 //! Restarts over disks in memory, and after a crash in each call of an append.
+ghost use Rattle.std.specs.Prelude.{[]};
+
 use crate::setup::{BOOTED, HEARD, PROMISED, five_centres};
 use mdcc_admission::parts_belong::is_centre;
 use mdcc_base::{Centre, Image};
+use mdcc_counted_facts::CountedFacts;
 use mdcc_disks::MemoryDisks;
-use mdcc_facts::ListFacts;
+use mdcc_facts::{FactStore, ListFacts};
 use mdcc_log::{Frames, LogFault};
 use mdcc_restart::{BootFault, RestartFault, restart};
 use std::alloc::Global;
@@ -31,15 +34,17 @@ const STRUCK: [(u32, Image, bool); 12] = [
     (17, Image::Torn, false),
 ];
 
-// The epoch of the centre that starts over the disks, where its node is of that epoch, or why none starts.
-fn restarted(
+// The epoch of the centre that starts over the disks and an empty store, where its node is of that epoch, or why none starts.
+fn restarted_over<S: FactStore + Drop>(
     rt: &impl Abort,
     alloc: Global,
+    store: S,
     disks: &mut MemoryDisks,
-) -> Result<Result<u32, RestartFault>, Fail> {
+) -> Result<Result<u32, RestartFault>, Fail>
+    requires { S.stands store [] }
+{
     let cluster = five_centres(rt);
     let centre = Centre::new(1).unwrap_or_default();
-    let store = ListFacts::new(alloc).ok().ok_or("a store")?;
     if !is_centre(&cluster, centre.number()) {
         return Ok(Ok(0));
     }
@@ -54,6 +59,26 @@ fn restarted(
         }
         Err(fault) => Ok(Err(fault)),
     }
+}
+
+fn restarted(
+    rt: &impl Abort,
+    alloc: Global,
+    disks: &mut MemoryDisks,
+) -> Result<Result<u32, RestartFault>, Fail> {
+    let store = ListFacts::new(alloc).ok().ok_or("a store")?;
+    restarted_over(rt, alloc, store, disks)
+}
+
+// Over a store of so many cells.
+fn restarted_within(
+    rt: &impl Abort,
+    alloc: Global,
+    cells: u32,
+    disks: &mut MemoryDisks,
+) -> Result<Result<u32, RestartFault>, Fail> {
+    let store = CountedFacts::new(alloc, cells).ok().ok_or("a store")?;
+    restarted_over(rt, alloc, store, disks)
 }
 
 // Whether the log has these payloads.
@@ -133,5 +158,26 @@ fn no_start(rt: HostRuntime) -> Result<(), Fail> {
         restarted(&rt, alloc, &mut disks)?,
         Err(RestartFault::Boot(BootFault::NotARun(1)))
     );
+    Ok(())
+}
+
+// The two facts of the log need one cell each, and so does the new boot. After the refusal the log is as it was.
+#[test]
+fn within_cells(rt: HostRuntime) -> Result<(), Fail> {
+    let alloc = rt.alloc();
+    let mut disks = MemoryDisks::new(alloc, 1, &[])?;
+    let (mut log, _payloads) = Frames::open(alloc, &mut disks, 1)?;
+    log.append(&mut disks, &BOOTED)?;
+    log.append(&mut disks, &PROMISED)?;
+    assert_eq!(rt;
+        restarted_within(&rt, alloc, 2, &mut disks)?,
+        Err(RestartFault::Boot(BootFault::Room {
+            needed: 3,
+            cells: 2
+        }))
+    );
+    let before: [&[u8]; 2] = [&BOOTED, &PROMISED];
+    assert!(rt; has_payloads(alloc, &mut disks, &before)?);
+    assert_eq!(rt; restarted_within(&rt, alloc, 3, &mut disks)?, Ok(2));
     Ok(())
 }
