@@ -92,9 +92,10 @@ fn are_alike<A: FactStore, B: FactStore>(
     b: &B,
     random: &mut Random,
 ) -> Result<bool, Memory> {
+    let number = random.key_number();
     let place = random.below(60) as usize;
     Ok(
-        are_keys_alike(alloc, a, b, random)?
+        are_versions_alike(alloc, a, b, random, number)?
             && are_txs_alike(a, b, random)
             && are_unresolved_alike(alloc, a, b, place)?
             && are_ends_alike(a, b, &random.fact(alloc)?),
