@@ -1,0 +1,12 @@
+pub mod Append
+pub mod Area
+pub mod Both
+pub mod Checkpoint
+pub mod Copying
+pub mod Crash
+pub mod Frames
+pub mod Kept
+pub mod Opening
+pub mod Reading
+pub mod Repair
+pub mod Settling

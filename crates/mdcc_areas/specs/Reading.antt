@@ -1,0 +1,54 @@
+-- What was read of an area.
+use Rattle.std.specs.Prelude.{◌≡◌, ◌⊎◌, ℕ, ◌+◌, ◌^◌, ◌<◌, ◌≤◌, true, false, List, ◌++◌, length, take, drop, Ok}
+use Rattle.std.specs.Int.{w64, to_le_bytes}
+use Rattle.std.specs.List.{flat_map}
+use Rattle.mdcc_log.specs.Log.{frame_bytes, is_open}
+use Rattle.mdcc_log.specs.Crash.{AreShort}
+use Rattle.mdcc_areas.specs.Area.{AreaLog, generation_of, payloads_of, records_bytes, head_bytes, front_of, is_copy, copy_generation, fresh, read_area}
+use Rattle.mdcc_areas.specs.Crash.{IsLog}
+
+-- These records stand behind the first 25 bytes, and what stands behind them begins at this offset.
+pub record AreRecords (count : ℕ) (records : List (List ℕ)) (end : ℕ) (bytes : List ℕ) : Type 0 where
+  pub front : bytes ≡ take 25 bytes ++ records_bytes records ++ drop end bytes
+  pub ends : end ≡ 25 + length (records_bytes records)
+  pub within : end ≤ length bytes
+  pub counted : count ≡ length records
+  pub short : AreShort records
+
+-- So many frames stand from this offset on, and the last gate at the end of them; their payloads were added to those before.
+pub record AreFrames (start : ℕ) (before all : List (List ℕ)) (count gate : ℕ) (bytes : List ℕ) : Type 0 where
+  pub tail : List (List ℕ)
+  pub added : all ≡ before ++ tail
+  pub counted : count ≡ length tail
+  pub front : bytes ≡ take start bytes ++ flat_map frame_bytes tail ++ drop gate bytes
+  pub ends : gate ≡ start + length (flat_map frame_bytes tail)
+  pub within : gate < length bytes
+  pub shut : is_open (drop gate bytes) ≡ false
+  pub short : AreShort tail
+
+-- A whole area of version 2 has this generation, from 1 on.
+pub record IsNumbered (generation : ℕ) (bytes : List ℕ) : Type 0 where
+  pub is : copy_generation bytes ≡ Ok generation
+  pub some : 0 < generation
+  pub fits : generation < 2 ^ 64
+  pub long : 25 ≤ length bytes
+  pub spelled : take 8 (drop 9 bytes) ≡ to_le_bytes w64 generation
+
+-- This log stands in more than nine bytes, with its last gate here.
+pub record Stands (log : AreaLog) (gate : ℕ) (bytes : List ℕ) : Type 0 where
+  pub front : bytes ≡ front_of log ++ drop gate bytes
+  pub within : gate < length bytes
+  pub shut : is_open (drop gate bytes) ≡ false
+
+-- What was read of an area: a log with this generation, these payloads, frames from here on, so many, and the last gate here.
+pub record AreaIs (generation : ℕ) (all : List (List ℕ)) (start tail gate : ℕ) (bytes : List ℕ) : Type 0 where
+  pub log : AreaLog
+  pub read : read_area bytes ≡ Ok log
+  pub valid : (area : ℕ) → (is_copy bytes ≡ false → area ≡ 0) → IsLog area log
+  pub numbered : is_copy bytes ≡ true → copy_generation bytes ≡ Ok generation
+  pub generation_is : generation ≡ generation_of log.head
+  pub payloads_are : all ≡ payloads_of log
+  pub starts : start ≡ length (head_bytes log.head)
+  pub counted : tail ≡ length log.tail
+  pub gate_is : gate ≡ length (front_of log)
+  pub stands : ((length bytes ≤ 9) × (log ≡ fresh)) ⊎ ((9 < length bytes) × Stands log gate bytes)

@@ -1,0 +1,38 @@
+//! What opening reads and keeps of what a crash leaves.
+ghost use Rattle.mdcc_areas.specs.Crash.{CurrentIsRead, BetweenIsRead};
+ghost use Rattle.mdcc_areas.specs.Kept.{CurrentStays, BetweenStays, IdleStays, OtherIsSpare, CheckpointIsRead};
+
+/// The payloads of the area in use are read, whatever a crash left of the other.
+pub fn current_is_read()
+    ensures { CurrentIsRead }
+{}
+
+/// Of what a crash of an append leaves, the payloads from before it are read, or those and the new one.
+pub fn between_is_read()
+    ensures { BetweenIsRead }
+{}
+
+/// After a crash at any moment of a checkpoint all payloads are read.
+pub fn checkpoint_is_read()
+    ensures { CheckpointIsRead }
+{}
+
+/// A crash of an opening leaves the area in use with the same payloads.
+pub fn current_stays()
+    ensures { CurrentStays }
+{}
+
+/// It leaves what a crash of an append left as such.
+pub fn between_stays()
+    ensures { BetweenStays }
+{}
+
+/// It leaves the area that is not in use so.
+pub fn idle_stays()
+    ensures { IdleStays }
+{}
+
+/// The area that is not taken is of a smaller generation, or no whole one.
+pub fn other_is_spare()
+    ensures { OtherIsSpare }
+{}

@@ -1,0 +1,20 @@
+//! A log in two areas, of which one is in use, on disks that may crash at any moment.
+#![tactic(auto)]
+
+mod append;
+mod area;
+mod checkpoint;
+mod copying;
+pub mod fault;
+pub mod laws;
+mod opening;
+mod reading;
+mod repair;
+mod steps;
+
+pub use area::{PAYLOAD_LIMIT, Spare};
+pub use fault::LogFault;
+pub use laws::{
+    between_is_read, between_stays, checkpoint_is_read, current_is_read, current_stays, idle_stays,
+    other_is_spare,
+};
