@@ -2,7 +2,7 @@
 use Rattle.std.proofs.Common.{◌≡◌, ◌≢◌, ◌⊎◌, inl, inr, ℕ, ◌+◌, ◌-◌, ◌^◌, ◌<◌, ◌≤◌, ◌==◌, nat_eq, Bool, cond, true, false, List, [], ◌∷◌, ◌++◌, length, sym, ◌∙◌, ap, subst, arith, append_assoc, length-append}
 use Rattle.std.specs.Cmp.Lexicographic.{pointwise}
 use Rattle.std.specs.List.{flat_map}
-use Rattle.std.proofs.lemmas.Bool.{cases_lt}
+use Rattle.std.proofs.lemmas.Bool.{cases_eq, cases_lt}
 use Rattle.std.proofs.lemmas.Bool.Decides.{nat_tests}
 use Rattle.std.proofs.lemmas.List.{append-nil}
 use Rattle.mdcc_disks.specs.Disks.{Only}
@@ -15,7 +15,7 @@ use Rattle.mdcc_areas.specs.Area.Head.{Version1, Version2}
 use Rattle.mdcc_areas.specs.Checkpoint.{StandsAs, MayCopy, copy_of, left_area}
 use Rattle.mdcc_areas.specs.Copying.{MayShut}
 use Rattle.mdcc_areas.specs.Crash.{IsHead, IsLog, IsCurrent, IsBetween, IsDead, IsOlder, IsIdle}
-use Rattle.mdcc_areas.specs.Frames.{OpenAreas, IsInUse, appended, packed, spare_of}
+use Rattle.mdcc_areas.specs.Frames.{OpenAreas, IsInUse, IsSpare, appended, packed, place_of, other_of, spare_of}
 use Rattle.mdcc_areas.specs.Repair.{with_gate}
 use Rattle.mdcc_areas.proofs.AreaRead.{longer_test, shorter_test, short_test, long_test, copy_numbered, copy_long}
 use Rattle.mdcc_areas.proofs.Choice.{appended_front, appended_payloads}
@@ -156,3 +156,25 @@ copying_idle area g log bytes c valid is fits counted idle (inr (inr copy)) = in
   gate = copy.0;
   file = copy.1 ∙ ap (λ (n : ℕ). copy_of copy.0 n (payloads_of log)) is;
 }))
+
+-- the places of both areas
+pub apart_places : (centre area one two : ℕ) → area ≤ 1 → one ≡ place_of centre area → two ≡ place_of centre (other_of area) → one ≢ two
+apart_places centre area one two range first second same = elim (cases_eq area 0) [
+  | inl is ↦
+      let other : other_of area ≡ 1 = ap other_of is in
+      omega (arith, is, first, second ∙ ap (place_of centre) other, same)
+  | inr isnt ↦
+      let other : other_of area ≡ 0 = ap (λ (b : Bool). cond {A = ℕ} b 1 0) (not_zero area isnt) in
+      omega (arith, isnt, first, second ∙ ap (place_of centre) other, same)
+]
+  where
+    not_zero : (n : ℕ) → (n ≡ 0 → ⊥) → (n == 0) ≡ false
+    not_zero n apart = grind (arith, nat_tests)
+
+-- the other area is idle next to the one in use
+pub spare_idle : {frames : OpenAreas} {log : AreaLog} {bytes other : List ℕ} {may may_other : List ℕ → Type 0} → IsInUse frames log bytes may → IsSpare frames other may_other → IsIdle log other
+spare_idle {frames} {log} {bytes} {other} uses spare = of_both spare.idle
+  where
+    of_both : IsDead other ⊎ IsOlder frames.generation other → IsIdle log other
+    of_both (inl dead) = inl dead
+    of_both (inr older) = inr (inl (subst (λ (n : ℕ). IsOlder n other) uses.generation older))

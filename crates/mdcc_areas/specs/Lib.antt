@@ -4,7 +4,9 @@ pub mod Both
 pub mod Checkpoint
 pub mod Copying
 pub mod Crash
+pub mod Examples
 pub mod Frames
+pub mod Invariant
 pub mod Kept
 pub mod Opening
 pub mod Reading

@@ -1,5 +1,6 @@
 //! What opening reads and keeps of what a crash leaves.
 ghost use Rattle.mdcc_areas.specs.Crash.{CurrentIsRead, BetweenIsRead};
+ghost use Rattle.mdcc_areas.specs.Examples.{ExamplesAreRead};
 ghost use Rattle.mdcc_areas.specs.Kept.{CurrentStays, BetweenStays, IdleStays, OtherIsSpare, CheckpointIsRead};
 
 /// The payloads of the area in use are read, whatever a crash left of the other.
@@ -35,4 +36,9 @@ pub fn idle_stays()
 /// The area that is not taken is of a smaller generation, or no whole one.
 pub fn other_is_spare()
     ensures { OtherIsSpare }
+{}
+
+/// Areas that were computed byte by byte.
+pub fn examples_are_read()
+    ensures { ExamplesAreRead }
 {}

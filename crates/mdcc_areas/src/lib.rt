@@ -6,6 +6,7 @@ mod area;
 mod checkpoint;
 mod copying;
 pub mod fault;
+pub mod frames;
 pub mod laws;
 mod opening;
 mod reading;
@@ -14,7 +15,8 @@ mod steps;
 
 pub use area::{PAYLOAD_LIMIT, Spare};
 pub use fault::LogFault;
+pub use frames::{Frames, LOG_LIMIT};
 pub use laws::{
-    between_is_read, between_stays, checkpoint_is_read, current_is_read, current_stays, idle_stays,
-    other_is_spare,
+    between_is_read, between_stays, checkpoint_is_read, current_is_read, current_stays,
+    examples_are_read, idle_stays, other_is_spare,
 };

@@ -1,0 +1,273 @@
+//! Logs in two areas.
+ghost use Rattle.std.specs.Prelude.{◌≡◌, ◌≢◌, ◌≤◌, ◌<◌, ◌+◌, ◌-◌, ◌^◌, ◌∷◌, ◌++◌, [], ◌↔◌, ◌⊎◌, false, List, ℕ, length, vec_capacity, IsTrue, IfOk, OnOk, OnErr, IsErrOf, Ok, Err};
+ghost use Rattle.mdcc_base.specs.Causes.{Rose, HasCause};
+ghost use Rattle.mdcc_disks.specs.Disks.{Only, Within, KeepsOthers, LeavesOnly};
+ghost use Rattle.mdcc_log.specs.Log.{frame_body, log_limit, payload_limit};
+ghost use Rattle.mdcc_log.specs.Frames.{MadeSome, added, append_calls};
+ghost use Rattle.mdcc_areas.specs.Area.{AreaLog, payloads_of, payloads};
+ghost use Rattle.mdcc_areas.specs.Crash.{IsCurrent, IsBetween, IsIdle, ReadsAsEither, payloads_by};
+ghost use Rattle.mdcc_areas.specs.Frames.{OpenAreas, IsInUse, IsSpare, IsSettled, OnlyReads, appended, packed, place_of, other_of, checkpoint_calls};
+ghost use Rattle.mdcc_areas.specs.Both.{KeepsBut, IsOnlyRead, RoseAtOne};
+ghost use Rattle.mdcc_areas.specs.Checkpoint.{head_size, left_area};
+
+use crate::LogFault;
+use crate::append::{append_frame, lay_out};
+use crate::area::Spare;
+use crate::checkpoint::{Whole, copy_area};
+use mdcc_disks::Disks;
+use std::marker::Model;
+
+/// The most bytes of an area.
+pub const LOG_LIMIT: u64 = 1 << 30;
+
+/// The open log of a centre.
+#[derive(Drop)]
+pub struct Frames {
+    centre: u8,
+    area: u8,
+    every: u32,
+    generation: u64,
+    count: u64,
+    start: u64,
+    tail: u64,
+    body: u64,
+    size: u64,
+    spare: Spare,
+    buffer: Vec<u8>,
+}
+
+impl Model for Frames {
+    ghost use Rattle.std.specs.Prelude.{vec_capacity};
+    ghost use Rattle.mdcc_areas.specs.Frames.{OpenAreas};
+    ghost use Rattle.mdcc_areas.specs.Invariant.{AreOpen};
+
+    ghost Value = { OpenAreas };
+
+    ghost view = { λ log. record {
+      centre = log.centre;
+      area = log.area;
+      every = log.every;
+      generation = log.generation;
+      count = log.count;
+      start = log.start;
+      tail = log.tail;
+      body = log.body;
+      size = log.size;
+      spare = log.spare;
+    } };
+
+    ghost invariant = { AreOpen };
+}
+
+fn place_of(centre: u8, area: u8) -> u8
+    requires centre { centre ≤ 9 }
+    requires area { area ≤ 1 }
+    ensures { result ≡ place_of centre area }
+{
+    centre + 16 * area
+}
+
+impl Frames {
+    /// The current area, 0 or 1.
+    pub fn area(&self) -> u8
+        ensures value { result ≡ self.now.area }
+        ensures range { result ≤ 1 }
+    {
+        self.area
+    }
+
+    /// How many bytes the current area has.
+    pub fn size(&self) -> u64
+        ensures { result ≡ self.now.size }
+    {
+        self.size
+    }
+
+    /// Adds a payload behind the others. At `Ok` it is acknowledged: from then on each crash leaves a log that has it. After
+    /// a `DiskFault` the log has to be opened again. After `LogFull` all is as before.
+    pub fn append<D: Disks>(&mut self, disks: &mut D, payload: &[u8]) -> Result<(), LogFault>
+        requires short { length payload.now ≤ payload_limit }
+        requires settled { let place = place_of self.old.centre self.old.area in IsTrue (D.disk disks.old place).told
+            → IsSettled self.old (D.disk disks.old place).bytes (D.may_leave disks.old place) }
+
+        ensures acknowledged { let place = place_of self.old.centre self.old.area in (log : AreaLog) → IsTrue (D.disk disks.old place).told
+            → IsInUse self.old log (D.disk disks.old place).bytes (D.may_leave disks.old place)
+            → OnOk result (IsInUse self.new (appended log payload.now) (D.disk disks.new place).bytes (D.may_leave disks.new place)) }
+
+        // A crash at any moment of it leaves the payloads from before it, with the new one or without.
+        ensures any_moment { let place = place_of self.old.centre self.old.area in (log : AreaLog) → IsTrue (D.disk disks.old place).told
+            → IsInUse self.old log (D.disk disks.old place).bytes (D.may_leave disks.old place)
+            → LeavesOnly D.moment D.left_since disks.old disks.new place (IsBetween self.old.area log payload.now) }
+
+        // Opening then gives these or those, whatever a crash left of the other area.
+        ensures any_moment_reads { let place = place_of self.old.centre self.old.area in (log : AreaLog) (current other : List ℕ)
+            → IsTrue (D.disk disks.old place).told
+            → IsInUse self.old log (D.disk disks.old place).bytes (D.may_leave disks.old place)
+            → D.left_since disks.new place (D.moment disks.old) current → IsIdle log other
+            → ReadsAsEither (payloads_of log) payload.now (payloads_by self.old.area current other) }
+
+        ensures keeps { OnOk result (self.new ≡ record self.old {
+          count = self.old.count + 1;
+          tail = self.old.tail + 1;
+          body = self.old.body + (length payload.now + 4);
+          size = self.old.size + (length payload.now + 5);
+        }) }
+        ensures fails { OnErr result (self.new ≡ self.old) }
+        ensures others { KeepsOthers D.disk D.may_leave D.moment D.left_since disks.old disks.new (place_of self.old.centre self.old.area) }
+        ensures calls { let place = place_of self.old.centre self.old.area in MadeSome (append_calls self.old.size payload.now)
+            (D.disk disks.old place).calls (D.disk disks.new place).calls }
+        ensures all_calls { let place = place_of self.old.centre self.old.area in OnOk result ((D.disk disks.new place).calls
+            ≡ added (append_calls self.old.size payload.now) (D.disk disks.old place).calls) }
+
+        ensures disk_fault { let place = place_of self.old.centre self.old.area in IsErrOf result LogFault.DiskFault
+            → Rose (D.disk disks.old place).faults (D.disk disks.new place).faults }
+        ensures full { IsErrOf result LogFault.LogFull ↔ (log_limit < self.old.size + (length payload.now + 5)) }
+        ensures full_keeps { IsErrOf result LogFault.LogFull → disks.new ≡ disks.old }
+        ensures a_log { (n : ℕ) → IsErrOf result (LogFault.NotALog n) → ⊥ }
+        ensures memory { IsErrOf result LogFault.Memory → ⊥ }
+    {
+        let more = payload.len() as u64 + 5;
+        if self.size > LOG_LIMIT - more {
+            return Err(LogFault::LogFull);
+        }
+        lay_out(&mut self.buffer, payload);
+        let place = place_of(self.centre, self.area);
+        append_frame(disks, place, self.size, payload, &self.buffer)?;
+        self.count += 1;
+        self.tail += 1;
+        self.body += more - 1;
+        self.size += more;
+        Ok(())
+    }
+
+    /// Whether a checkpoint is due.
+    pub fn due(&self) -> bool
+        ensures { IsTrue result ↔ (self.now.every ≤ self.now.tail) }
+    {
+        self.tail >= self.every as u64
+    }
+
+    /// Copies all payloads to the other area, packed, which is then the current one.
+    pub fn checkpoint<D: Disks>(&mut self, disks: &mut D) -> Result<(), LogFault>
+        requires settled { let place = place_of self.old.centre self.old.area in IsTrue (D.disk disks.old place).told
+            → IsSettled self.old (D.disk disks.old place).bytes (D.may_leave disks.old place) }
+        requires spare { let place = place_of self.old.centre (other_of self.old.area) in IsTrue (D.disk disks.old place).told
+            → IsSpare self.old (D.disk disks.old place).bytes (D.may_leave disks.old place) }
+
+        // At Ok the other area is the current one and has all payloads packed, and the one that was is as it was.
+        ensures packed { let place = place_of self.old.centre self.old.area in let other = place_of self.old.centre (other_of self.old.area) in
+            (log : AreaLog) → IsTrue (D.disk disks.old place).told → IsTrue (D.disk disks.old other).told
+            → IsInUse self.old log (D.disk disks.old place).bytes (D.may_leave disks.old place)
+            → OnOk result (IsInUse self.new (packed log) (D.disk disks.new other).bytes (D.may_leave disks.new other)) }
+        ensures spare { let place = place_of self.old.centre self.old.area in
+            (log : AreaLog) → IsTrue (D.disk disks.old place).told
+            → IsInUse self.old log (D.disk disks.old place).bytes (D.may_leave disks.old place)
+            → OnOk result (IsSpare self.new (D.disk disks.new place).bytes (D.may_leave disks.new place)) }
+        ensures areas { (self.new.centre ≡ self.old.centre) × ((self.new.every ≡ self.old.every)
+            × OnOk result ((self.new.area ≡ other_of self.old.area) × (self.new.tail ≡ 0))) }
+        ensures fails { OnErr result (self.new ≡ self.old) }
+
+        // A crash at any moment of it leaves one area with all payloads, whatever stands in the other.
+        ensures any_moment { let place = place_of self.old.centre self.old.area in
+            (log : AreaLog) → IsTrue (D.disk disks.old place).told
+            → IsInUse self.old log (D.disk disks.old place).bytes (D.may_leave disks.old place)
+            → LeavesOnly D.moment D.left_since disks.old disks.new place (IsCurrent self.old.area log) }
+        ensures any_moment_other { let place = place_of self.old.centre self.old.area in let other = place_of self.old.centre (other_of self.old.area) in
+            (log : AreaLog) → IsTrue (D.disk disks.old place).told → IsTrue (D.disk disks.old other).told
+            → IsInUse self.old log (D.disk disks.old place).bytes (D.may_leave disks.old place)
+            → LeavesOnly D.moment D.left_since disks.old disks.new other (IsIdle log) }
+
+        // Opening then gives all payloads.
+        ensures any_moment_reads { let place = place_of self.old.centre self.old.area in let other = place_of self.old.centre (other_of self.old.area) in
+            (log : AreaLog) (current spare : List ℕ) → IsTrue (D.disk disks.old place).told → IsTrue (D.disk disks.old other).told
+            → IsInUse self.old log (D.disk disks.old place).bytes (D.may_leave disks.old place)
+            → D.left_since disks.new place (D.moment disks.old) current → D.left_since disks.new other (D.moment disks.old) spare
+            → payloads_by self.old.area current spare ≡ Ok (payloads_of log) }
+
+        ensures others { KeepsBut D.disk D.may_leave D.moment D.left_since disks.old disks.new
+            (place_of self.old.centre self.old.area) (place_of self.old.centre (other_of self.old.area)) }
+        ensures reads { let place = place_of self.old.centre self.old.area in
+            IsOnlyRead D.disk D.may_leave D.moment D.left_since disks.old disks.new place }
+        ensures calls { let place = place_of self.old.centre self.old.area in let other = place_of self.old.centre (other_of self.old.area) in
+            (log : AreaLog) → IsTrue (D.disk disks.old place).told
+            → IsInUse self.old log (D.disk disks.old place).bytes (D.may_leave disks.old place)
+            → MadeSome (checkpoint_calls self.old.spare (self.old.generation + 1) (payloads_of log)) (D.disk disks.old other).calls (D.disk disks.new other).calls }
+        ensures all_calls { let place = place_of self.old.centre self.old.area in let other = place_of self.old.centre (other_of self.old.area) in
+            (log : AreaLog) → IsTrue (D.disk disks.old place).told
+            → IsInUse self.old log (D.disk disks.old place).bytes (D.may_leave disks.old place)
+            → OnOk result ((D.disk disks.new other).calls
+            ≡ added (checkpoint_calls self.old.spare (self.old.generation + 1) (payloads_of log)) (D.disk disks.old other).calls) }
+
+        ensures disk_fault { let place = place_of self.old.centre self.old.area in let other = place_of self.old.centre (other_of self.old.area) in
+            IsErrOf result LogFault.DiskFault
+            → RoseAtOne (D.disk disks.old place) (D.disk disks.new place) (D.disk disks.old other) (D.disk disks.new other) }
+        // It is full where the other area would pass 2^30 bytes; and behind the last generation there is none.
+        ensures full { IsErrOf result LogFault.LogFull ↔ ((log_limit < self.old.body + 26) ⊎ (self.old.generation ≡ 2 ^ 64 - 1)) }
+        ensures full_keeps { IsErrOf result LogFault.LogFull → disks.new ≡ disks.old }
+        ensures a_log { (n : ℕ) → IsErrOf result (LogFault.NotALog n) → IsTrue (D.disk disks.old (place_of self.old.centre self.old.area)).told → ⊥ }
+        ensures memory { IsErrOf result LogFault.Memory → ⊥ }
+    {
+        if self.generation == u64::MAX || self.body > LOG_LIMIT - 26 {
+            return Err(LogFault::LogFull);
+        }
+        let place = place_of(self.centre, self.area);
+        let area = other_of(self.area);
+        let other = place_of(self.centre, area);
+        let head = head_size(self.generation);
+        let whole = Whole {
+            place,
+            head,
+            start: self.start,
+            end: self.size - 1,
+            count: self.count,
+            tail: self.tail,
+            body: self.body,
+        };
+        let generation = self.generation + 1;
+        let end = copy_area(
+            disks,
+            whole,
+            generation,
+            other,
+            self.spare,
+            &mut self.buffer,
+        )?;
+        self.spare = left_area(self.generation, self.size);
+        self.area = area;
+        self.generation = generation;
+        self.start = end;
+        self.tail = 0;
+        self.body = end - 25;
+        self.size = end + 1;
+        Ok(())
+    }
+}
+
+// The area that this one is not.
+fn other_of(area: u8) -> u8
+    ensures value { result ≡ other_of area }
+    ensures range { result ≤ 1 }
+{
+    if area == 0 { 1 } else { 0 }
+}
+
+// How many bytes stand before the records.
+fn head_size(generation: u64) -> u64
+    ensures { result ≡ head_size generation }
+{
+    if generation == 0 { 8 } else { 25 }
+}
+
+// What is known of the area that was in use before a checkpoint.
+fn left_area(generation: u64, size: u64) -> Spare
+    ensures { result ≡ left_area generation size }
+{
+    if size <= 9 {
+        Spare::Short
+    } else {
+        Spare::Long {
+            closed: false,
+            marked: generation != 0,
+        }
+    }
+}
