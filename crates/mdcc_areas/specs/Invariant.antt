@@ -1,5 +1,5 @@
 -- What each open log keeps.
-use Rattle.std.specs.Prelude.{ℕ, ◌+◌, ◌^◌, ◌<◌, ◌≤◌, vec_capacity}
+use Rattle.std.specs.Prelude.{◌^◌, ◌<◌, ◌≤◌, vec_capacity}
 use Rattle.mdcc_areas.specs.declared.frames.Frames.TheInside.{Inside}
 
 pub record AreOpen (f : Inside) : Type 0 where

@@ -1,4 +1,4 @@
-use Rattle.std.proofs.Common.{◌≡◌, inl, inr, ◌+◌, ◌-◌, ◌∷◌, ◌++◌, [], List, ℕ, length, IsTrue, sym, ◌∙◌, ap, subst, arith, rules}
+use Rattle.std.proofs.Common.{◌≡◌, inl, inr, ◌+◌, ◌-◌, ◌++◌, [], ℕ, length, IsTrue, sym, ◌∙◌, ap, subst, arith}
 use Rattle.mdcc_disks.specs.Disks.{LeavesOnly}
 use Rattle.mdcc_log.specs.Log.{frame_bytes}
 use Rattle.mdcc_log.proofs.Moments.{weakened}

@@ -1,12 +1,10 @@
-use Rattle.std.proofs.Common.{◌≡◌, ◌≢◌, ◌⊎◌, inl, inr, ◌+◌, ◌-◌, ◌^◌, ◌<◌, ◌≤◌, [], List, ℕ, length, IsTrue, sym, ◌∙◌, ap, refl, subst, arith, rules}
-use Rattle.mdcc_disks.specs.Disks.{DiskCall, LeavesOnly, Only}
-use Rattle.mdcc_log.specs.Frames.{MadeSome, added}
+use Rattle.std.proofs.Common.{◌≡◌, ◌⊎◌, ◌+◌, ◌-◌, ◌^◌, ◌<◌, List, ℕ, length, IsTrue, sym, ◌∙◌, ap, refl, subst, arith}
+use Rattle.mdcc_disks.specs.Disks.{LeavesOnly, Only}
 use Rattle.mdcc_log.proofs.Moments.{started, weakened}
 use Rattle.mdcc_areas.specs.Area.{generation_of, payloads_of}
-use Rattle.mdcc_areas.specs.Both.{KeepsBut, IsOnlyRead}
-use Rattle.mdcc_areas.specs.Checkpoint.{head_size, MayCopy, copy_of}
+use Rattle.mdcc_areas.specs.Checkpoint.{head_size, copy_of}
 use Rattle.mdcc_areas.specs.Crash.{IsCurrent, IsDead, IsIdle, IsOlder}
-use Rattle.mdcc_areas.specs.Frames.{OpenAreas, IsInUse, place_of, other_of, spare_of, checkpoint_calls}
+use Rattle.mdcc_areas.specs.Frames.{OpenAreas, IsInUse, place_of, other_of, spare_of}
 use Rattle.mdcc_areas.proofs.Choice.{current_is_read}
 use Rattle.mdcc_areas.proofs.Uses.{apart_places, is_current, stands_as, packed_in_use, left_idle, left_spare, copying_idle, spare_idle}
 use Rattle.mdcc_areas.proofs.frames.Frames.checkpoint.Goals as goal
