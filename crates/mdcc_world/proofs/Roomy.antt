@@ -1,5 +1,5 @@
 -- A node over a store that counts the cells of the cluster does the step of the definitions, and its store counts them after it.
-use Rattle.std.proofs.Common.{◌≡◌, ℕ, ◌+◌, ◌-◌, List, ◌∷◌, inl, inr, Option, Some, None, Result, Ok, Err, refl, subst, arith}
+use Rattle.std.proofs.Common.{◌≡◌, ℕ, ◌+◌, ◌-◌, List, inl, inr, Option, Some, None, Result, Ok, Err, refl, subst, arith}
 use Rattle.std.proofs.lemmas.Bool.{cases_Bool}
 use Rattle.mdcc_base.specs.Unless.{GivesUnless}
 use Rattle.mdcc_built.specs.Built.{built}

@@ -1,8 +1,6 @@
 use Rattle.std.proofs.Common.{◌≡◌, ◌≤◌, Result, subst}
 use Rattle.mdcc_base.specs.Unless.{GivesUnless}
-use Rattle.mdcc_logs.specs.Nodes.{needed_in, spare_of}
-use Rattle.mdcc_node.specs.Stepping.{given, is_memory, room_of, step_by}
-use Rattle.mdcc_built.specs.Built.{built}
+use Rattle.mdcc_node.specs.Stepping.{given, is_memory}
 use Rattle.mdcc_ledger.specs.Ledger.{facts_of}
 use Rattle.mdcc_rules.specs.Steps.{NodeStep}
 use Rattle.mdcc_simulation.specs.State.{centre_at}
