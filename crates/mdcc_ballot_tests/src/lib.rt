@@ -1,5 +1,5 @@
 //! Tests of whole replays over objects in memory: classic ballots, adds, dangling transactions,
-//! centres that catch up, and appends that stop.
+//! centres that catch up, appends that stop, and nodes with few cells.
 #![tactic(auto)]
 
 #[cfg(test)]
@@ -8,6 +8,8 @@ mod away;
 mod ballot_rows;
 #[cfg(test)]
 mod ballots;
+#[cfg(test)]
+mod cells;
 #[cfg(test)]
 mod moments;
 #[cfg(test)]

@@ -62,6 +62,16 @@ fn a_header_of_59_bytes(rt: HostRuntime) {
 }
 
 #[test]
+fn a_header_with_cells(rt: HostRuntime) {
+    let few = b"mdcc-schedule 1\nquorums 1 1 1\ngamma 100\ncells 1\nbound 0 1000\nstart\n";
+    assert!(rt; cluster_of(&rt, few, 67).cells == 1);
+    let many =
+        b"mdcc-schedule 1\nquorums 1 1 1\ngamma 100\ncells 4194304\nlimit paper\nbound 0 1000\nstart\n";
+    let cluster = cluster_of(&rt, many, 85);
+    assert!(rt; cluster.cells == 4_194_304 && cluster.limit == FastLimit::Paper);
+}
+
+#[test]
 fn a_header_with_four_bounds(rt: HostRuntime) {
     let text =
         b"mdcc-schedule 1\nquorums 1 1 1\ngamma 0\nbound 0 0\nbound -5 7\nbound -1000000000000000 1000000000000000\nbound 1 1\nstart\n";
@@ -170,9 +180,17 @@ fn gamma_and_cells(rt: HostRuntime) -> Result<(), Fail> {
         rt.alloc(),
         AFTER_GAMMA,
         &[
-            ("cells 5\n", 4, Sched(Order)),
             ("", 4, Sched(Order)),
             ("start\n", 4, Sched(Order)),
+            ("cells\n", 4, Sched(Word)),
+            ("cells 0\n", 4, Sched(Range)),
+            ("cells 4194305\n", 4, Sched(Range)),
+            ("cells -1\n", 4, Sched(Number)),
+            ("cells 5 5\n", 4, Sched(Word)),
+            ("cells 5", 4, Sched(Word)),
+            ("cells 5\n", 5, Sched(Order)),
+            ("cells 5\ncells 5\n", 5, Sched(Order)),
+            ("limit safe\ncells 5\n", 5, Sched(Order)),
         ],
     )
 }
