@@ -24,7 +24,7 @@ use Rattle.mdcc_round_trip.proofs.Answering.{IsVoted, all-kept, all-voted, nothi
 use Rattle.mdcc_round_trip.proofs.Apart.{apart-once, each-pair, one_member, ordered-once}
 use Rattle.mdcc_round_trip.proofs.Deciding.{IsIn, in-each}
 use Rattle.mdcc_round_trip.proofs.Delivering.{Delivers, named, unrolled}
-use Rattle.mdcc_round_trip.proofs.Lists.{each-any, each-append, each-back, each-both, each-front, each-permuted, each-weaker}
+use Rattle.mdcc_round_trip.proofs.Lists.{each-append, each-back, each-both, each-front, each-permuted, each-weaker}
 use Rattle.mdcc_round_trip.proofs.Proposing.{Accepts, After, NoneDropped, NoneHears, all-proposed}
 use Rattle.mdcc_round_trip.proofs.Roomy.{all-roomy, fitting, shares-moved, votes_at}
 
