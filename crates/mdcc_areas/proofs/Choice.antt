@@ -54,7 +54,7 @@ pub data Other (g : ℕ) (bytes : List ℕ) : Type 0 where
   None : is_copy bytes ≡ false → Other g bytes
   Less : (h : ℕ) → h < g → SeenCopy h bytes → Other g bytes
 
-first_taken : (first second : List ℕ) (g : ℕ) → Seen 0 g first → Other g second → taken first second ≡ Ok 0
+pub first_taken : (first second : List ℕ) (g : ℕ) → Seen 0 g first → Other g second → taken first second ≡ Ok 0
 first_taken first second g (Short at zero_is few) (None other) = decided first second false false false true _ _ other (short_no_log first few) (short_no_copy first few) (shorter_test first few) refl refl
 first_taken first second g (Short at zero_is few) (Less h less copy) = absurd (omega (arith, zero_is, less))
 first_taken first second g (First at zero_is log) (None other) = decided first second false true _ _ _ _ other log refl refl refl refl
@@ -62,7 +62,7 @@ first_taken first second g (First at zero_is log) (Less h less copy) = absurd (o
 first_taken first second g (Second some seen) (None other) = decided first second false false true _ _ _ other seen.not_log seen.copy refl seen.generation refl
 first_taken first second g (Second some seen) (Less h less copy) = decided first second true false true _ _ _ copy.copy seen.not_log seen.copy refl seen.generation copy.generation ∙ newer_first g h less
 
-second_taken : (first second : List ℕ) (area g : ℕ) → 0 < area → Seen area g second → Other g first → taken first second ≡ Ok 1
+pub second_taken : (first second : List ℕ) (area g : ℕ) → 0 < area → Seen area g second → Other g first → taken first second ≡ Ok 1
 second_taken first second area g other_area (Short at zero_is few) other = absurd (omega (arith, at, other_area))
 second_taken first second area g other_area (First at zero_is log) other = absurd (omega (arith, at, other_area))
 second_taken first second area g other_area (Second some seen) (None other) = elim (either (is_log first)) [
@@ -162,12 +162,12 @@ current_read area log bytes current = elim current.file [
 
 -- ---- the other area
 
-dead_other : (g : ℕ) (bytes : List ℕ) → IsDead bytes → Other g bytes
+pub dead_other : (g : ℕ) (bytes : List ℕ) → IsDead bytes → Other g bytes
 dead_other g bytes (inl few) = None (short_no_copy bytes few)
 dead_other g bytes (inr (inl unmarked)) = None (unmarked_no_copy bytes unmarked)
 dead_other g bytes (inr (inr shut)) = None (shut_no_copy bytes (omega (arith, shut)))
 
-older_other : (g : ℕ) (bytes : List ℕ) → IsOlder g bytes → Other g bytes
+pub older_other : (g : ℕ) (bytes : List ℕ) → IsOlder g bytes → Other g bytes
 older_other g bytes older = elim (cases_eq (area_gate bytes) 1) [
   | inl opened ↦ Less (generation_in bytes) older.older (record {
     copy = is_copy_from bytes (omega (arith, older.long)) older.marked opened;
@@ -205,10 +205,10 @@ idle_other log bytes (inl dead) = inl (dead_other (generation_of log.head) bytes
 idle_other log bytes (inr (inl older)) = inl (older_other (generation_of log.head) bytes older)
 idle_other log bytes (inr (inr copy)) = copy_other log bytes copy
 
-packed_payloads : (log : AreaLog) → payloads_of (packed log) ≡ payloads_of log
+pub packed_payloads : (log : AreaLog) → payloads_of (packed log) ≡ payloads_of log
 packed_payloads log = append-nil (payloads_of log)
 
-copy_is_taken : (area : ℕ) (log : AreaLog) (current other : List ℕ) → Seen area (generation_of log.head) current → TakenCopy log other → payloads_by area current other ≡ Ok (payloads_of log)
+pub copy_is_taken : (area : ℕ) (log : AreaLog) (current other : List ℕ) → Seen area (generation_of log.head) current → TakenCopy log other → payloads_by area current other ≡ Ok (payloads_of log)
 copy_is_taken area log current other seen copy =
     other_taken area (generation_of log.head) (generation_of log.head + 1) current other seen (omega arith) copy.seen
     ∙ ap payloads_in copy.read ∙ ap (λ (l : List (List ℕ)). Ok l) (packed_payloads log)
@@ -240,7 +240,7 @@ appended_front log p e =
 pub appended_payloads : (log : AreaLog) (p : List ℕ) → payloads_of (appended log p) ≡ payloads_of log ++ p ∷ []
 appended_payloads log p = sym (append_assoc (records_of log.head) log.tail (p ∷ []))
 
-undecided_read : (area : ℕ) (log : AreaLog) (p bytes : List ℕ) → IsUndecided area log p bytes → ReadsAsEither (payloads_of log) p (payloads_in (read_area bytes))
+pub undecided_read : (area : ℕ) (log : AreaLog) (p bytes : List ℕ) → IsUndecided area log p bytes → ReadsAsEither (payloads_of log) p (payloads_in (read_area bytes))
 undecided_read area log p bytes u = elim (cases_eq u.gate 1) [
   | inl opened ↦ inr (ap payloads_in (front_is_read area (appended log p) 0 [] bytes (record { head = u.valid.head; short = short_more log.tail p u.valid.short u.fits }) (omega arith)
       (u.file ∙ ap (λ (n : ℕ). front_of log ++ n ∷ (frame_body p ++ 0 ∷ [])) opened ∙ sym (appended_front log p (0 ∷ []))))

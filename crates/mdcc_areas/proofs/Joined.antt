@@ -154,3 +154,17 @@ module _ {D : Type 0} (disk : D → ℕ → Disk) (may_leave : D → ℕ → Lis
 pub fault_later : (old_one mid_one new_one old_two mid_two new_two : Disk) → old_one.faults ≤ mid_one.faults → old_two.faults ≤ mid_two.faults → RoseAtOne mid_one new_one mid_two new_two → RoseAtOne old_one new_one old_two new_two
 fault_later old_one mid_one new_one old_two mid_two new_two one two (inl rose) = inl (rose_later old_one.faults mid_one.faults new_one.faults one rose)
 fault_later old_one mid_one new_one old_two mid_two new_two one two (inr rose) = inr (rose_later old_two.faults mid_two.faults new_two.faults two rose)
+
+-- the two places named the other way round
+pub but_swapped : {D : Type 0} {disk : D → ℕ → Disk} {may_leave : D → ℕ → List ℕ → Type 0} {moment : D → ℕ} {left_since : D → ℕ → ℕ → List ℕ → Type 0} {old new : D} {one two : ℕ} → KeepsBut disk may_leave moment left_since old new one two → KeepsBut disk may_leave moment left_since old new two one
+but_swapped keeps = record {
+  told_one = keeps.told_two;
+  told_two = keeps.told_one;
+  others = λ p a b. keeps.others p b a;
+  crash = λ p a b. keeps.crash p b a;
+  crash_back = λ p a b. keeps.crash_back p b a;
+  later = keeps.later;
+  time = λ p t c a b. keeps.time p t c b a;
+  faults_one = keeps.faults_two;
+  faults_two = keeps.faults_one;
+}

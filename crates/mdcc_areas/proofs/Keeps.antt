@@ -16,7 +16,7 @@ use Rattle.mdcc_areas.specs.Opening.{MayTake}
 use Rattle.mdcc_areas.proofs.AreaRead.{short_test}
 use Rattle.mdcc_areas.proofs.Choice.{few_bytes, front_is_read, current_read, appended_front}
 
-same_log : (one two : AreaLog) (bytes : List ℕ) → read_area bytes ≡ Ok one → read_area bytes ≡ Ok two → one ≡ two
+pub same_log : (one two : AreaLog) (bytes : List ℕ) → read_area bytes ≡ Ok one → read_area bytes ≡ Ok two → one ≡ two
 same_log one two bytes first second = cc
 
 -- ---- where the last gate stands
@@ -134,7 +134,7 @@ front_not_torn area log e bytes stands = by_head log.head stands
 pub short_not_torn : (bytes : List ℕ) → length bytes ≤ 9 → is_torn bytes ≡ false
 short_not_torn bytes short = rw (short_test bytes short) refl
 
-nothing_closed : {tears : ℕ → Type 0} (bytes c : List ℕ) → is_torn bytes ≡ false → MayClose tears bytes c → c ≡ bytes
+pub nothing_closed : {tears : ℕ → Type 0} (bytes c : List ℕ) → is_torn bytes ≡ false → MayClose tears bytes c → c ≡ bytes
 nothing_closed bytes c whole (inl same) = same
 nothing_closed bytes c whole (inr change) = absurd (false≢true (sym whole ∙ change.torn))
 

@@ -8,7 +8,7 @@ use Rattle.mdcc_areas.specs.Opening.{LoadsOne}
 use Rattle.mdcc_areas.proofs.ReadCalls.{all_are_some, none_made}
 use Rattle.mdcc_areas.proofs.Joined.{moment_beside}
 
-abbrev load_calls : ℕ → List ℕ → List DiskCall
+abbrev pub load_calls : ℕ → List ℕ → List DiskCall
 load_calls size counts = Sync ∷ Length ∷ read_calls size 0 counts
 
 module _ {D : Type 0} (disk : D → ℕ → Disk) (may_leave : D → ℕ → List ℕ → Type 0) (moment : D → ℕ) (left_since : D → ℕ → ℕ → List ℕ → Type 0) (only_now : (disks : D) (p : ℕ) (c : List ℕ) → left_since disks p (moment disks) c → may_leave disks p c) where

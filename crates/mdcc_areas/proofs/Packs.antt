@@ -33,7 +33,7 @@ payloads_short area log valid = both_short (records_of log.head) log.tail (recor
 pub bodies_both : (xs ys : List (List ℕ)) → records_bytes (xs ++ ys) ≡ records_bytes xs ++ records_bytes ys
 bodies_both xs ys = flat_map-append frame_body xs ys
 
-sizes_both : (xs ys : List (List ℕ)) → length (records_bytes (xs ++ ys)) ≡ length (records_bytes xs) + length (records_bytes ys)
+pub sizes_both : (xs ys : List (List ℕ)) → length (records_bytes (xs ++ ys)) ≡ length (records_bytes xs) + length (records_bytes ys)
 sizes_both xs ys = ap (λ (l : List ℕ). length l) (bodies_both xs ys) ∙ length-append (records_bytes xs) (records_bytes ys)
 
 -- what stands behind the head's own numbers

@@ -6,9 +6,9 @@ use Rattle.mdcc_log.specs.Log.{log_bytes}
 use Rattle.mdcc_log.specs.Frames.{MadeSome, added, begin_calls, close_calls, cut_calls}
 use Rattle.mdcc_log.proofs.Moments.{started, both, weakened}
 use Rattle.mdcc_areas.specs.Area.{AreaLog, front_of, area_bytes, read_area}
-use Rattle.mdcc_areas.specs.Reading.{AreaIs}
+use Rattle.mdcc_areas.specs.Reading.{AreaIs, IsReadAs, Stands}
 use Rattle.mdcc_areas.specs.Repair.{settled, settle_at, MaySettle}
-use Rattle.mdcc_areas.specs.Opening.{MayTake, taken_bytes}
+use Rattle.mdcc_areas.specs.Opening.{MaySettleAs, taken_bytes}
 use Rattle.mdcc_areas.specs.Frames.{repair_calls, settle_calls}
 use Rattle.mdcc_areas.specs.Settling.{SettlesOne}
 use Rattle.mdcc_areas.proofs.AreaRead.{long_test, shorter_test}
@@ -33,8 +33,19 @@ module _ {g : ℕ} {all : List (List ℕ)} {start tail gate : ℕ} {bytes : List
       ap (λ (n : ℕ). cond (nat_le (length bytes) 9) begin_calls (close_calls n bytes ++ cut_calls n bytes)) is.gate_is
       ∙ ap (λ (r : Result AreaLog ℕ). cond (nat_le (length bytes) 9) begin_calls (repair_calls bytes r)) (sym is.read)
 
-  pub may_take : {tears : ℕ → Type 0} (c : List ℕ) → MaySettle tears gate bytes c → MayTake tears bytes c
-  may_take {tears} c may = inr (is.log, (is.read, subst (λ (n : ℕ). MaySettle tears n bytes c) is.gate_is may))
+  read_as : IsReadAs is.log bytes
+  read_as = record {
+    read = is.read;
+    valid = is.valid;
+    numbered = λ copy. is.numbered copy ∙ ap (λ (n : ℕ). let ok : Result ℕ ℕ = Ok n in ok) is.generation_is;
+    stands = elim is.stands [
+      | inl short ↦ inl short
+      | inr long ↦ inr (long.0, subst (λ (n : ℕ). Stands is.log n bytes) is.gate_is long.1)
+    ];
+  }
+
+  pub may_settle : {tears : ℕ → Type 0} (c : List ℕ) → MaySettle tears gate bytes c → MaySettleAs tears bytes c
+  may_settle {tears} c may = inr (is.log, (read_as, subst (λ (n : ℕ). MaySettle tears n bytes c) is.gate_is may))
 
   pub gate_within : 9 < length bytes → gate < length bytes
   gate_within long = elim is.stands [

@@ -12,7 +12,7 @@ use Rattle.mdcc_areas.proofs.Idles.{torn_is_long}
 use Rattle.mdcc_areas.proofs.Keeps.{not_torn}
 use Rattle.mdcc_areas.proofs.Stands.{copy_parts}
 
-unclosed : (bytes : List ℕ) → is_torn bytes ≡ false → with_closed_gate bytes ≡ bytes
+pub unclosed : (bytes : List ℕ) → is_torn bytes ≡ false → with_closed_gate bytes ≡ bytes
 unclosed bytes whole = ap (λ (b : Bool). cond b (with_gate 0 bytes) bytes) whole
 
 closed : (bytes : List ℕ) → is_torn bytes ≡ true → with_closed_gate bytes ≡ with_gate 0 bytes
@@ -50,13 +50,13 @@ ok n = Ok n
 abbrev err : ℕ → Result ℕ ℕ
 err n = Err n
 
-ok_is : (x y : ℕ) → ok x ≡ ok y → x ≡ y
+pub ok_is : (x y : ℕ) → ok x ≡ ok y → x ≡ y
 ok_is x y e = cc
 
-refused : (n m : ℕ) → err n ≡ ok m → ⊥
+pub refused : (n m : ℕ) → err n ≡ ok m → ⊥
 refused n m e = cc
 
-differs : (n m : ℕ) → n ≢ m → ok n ≡ ok m → ⊥
+pub differs : (n m : ℕ) → n ≢ m → ok n ≡ ok m → ⊥
 differs n m apart e = apart (ok_is n m e)
 
 cond_ok : (b : Bool) (n h : ℕ) (r : Result ℕ ℕ) → cond b (Err n) r ≡ Ok h → (b ≡ false) × (r ≡ Ok h)
@@ -92,10 +92,10 @@ copy_older bytes g h copy generation less =
 
 -- ---- what a choice says
 
-abbrev Order : ℕ → ℕ → ℕ → Type 0
+abbrev pub Order : ℕ → ℕ → ℕ → Type 0
 Order which g h = ((which ≡ 0) × (h < g)) ⊎ ((which ≡ 1) × (g < h))
 
-record Newer (r s : Result ℕ ℕ) (which : ℕ) : Type 0 where
+pub record Newer (r s : Result ℕ ℕ) (which : ℕ) : Type 0 where
   pub g : ℕ
   pub h : ℕ
   pub first : r ≡ Ok g
@@ -119,7 +119,7 @@ newer_by g h which is =
     strict : (g == h) ≡ false → h ≤ g → h < g
     strict test more = grind (arith, nat_tests)
 
-newer_is : (r s : Result ℕ ℕ) (which : ℕ) → newer r s ≡ Ok which → Newer r s which
+pub newer_is : (r s : Result ℕ ℕ) (which : ℕ) → newer r s ≡ Ok which → Newer r s which
 newer_is (Err n) s which is = absurd (refused n which is)
 newer_is (Ok g) (Err n) which is = absurd (refused n which is)
 newer_is (Ok g) (Ok h) which is = record { g = g; h = h; first = refl; second = refl; order = newer_by g h which is }

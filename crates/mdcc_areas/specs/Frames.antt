@@ -81,10 +81,14 @@ repair_calls bytes (Err offset) = []
 abbrev pub settle_calls : List ℕ → List DiskCall
 settle_calls bytes = if nat_le (length bytes) 9 then begin_calls else repair_calls bytes (read_area bytes)
 
--- what is changed of an area, by which one is taken and what is read in it; of what is no log nothing
+-- and of what is no log nothing is changed
+abbrev pub other_calls : Result AreaLog ℕ → List ℕ → List DiskCall
+other_calls (Ok log) bytes = spare_calls bytes
+other_calls (Err offset) bytes = []
+
+-- what is changed of an area, by which one is taken and what is read in it
 abbrev pub change_calls : ℕ → Result ℕ ℕ → Result AreaLog ℕ → List ℕ → List DiskCall
-change_calls area (Ok which) (Ok log) bytes = if area == which then settle_calls bytes else spare_calls bytes
-change_calls area (Ok which) (Err offset) bytes = []
+change_calls area (Ok which) read bytes = if area == which then settle_calls bytes else other_calls read bytes
 change_calls area (Err offset) read bytes = []
 
 -- both areas are made durable and read, and then what a crash left of them is settled

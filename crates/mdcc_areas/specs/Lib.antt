@@ -1,4 +1,5 @@
 pub mod Append
+pub mod AtRest
 pub mod Area
 pub mod Both
 pub mod Checkpoint

@@ -40,6 +40,13 @@ pub record Stands (log : AreaLog) (gate : ℕ) (bytes : List ℕ) : Type 0 where
   pub within : gate < length bytes
   pub shut : is_open (drop gate bytes) ≡ false
 
+-- This log was read of an area, where its last gate stands at the end of its front.
+pub record IsReadAs (log : AreaLog) (bytes : List ℕ) : Type 0 where
+  pub read : read_area bytes ≡ Ok log
+  pub valid : (area : ℕ) → (is_copy bytes ≡ false → area ≡ 0) → IsLog area log
+  pub numbered : is_copy bytes ≡ true → copy_generation bytes ≡ Ok (generation_of log.head)
+  pub stands : ((length bytes ≤ 9) × (log ≡ fresh)) ⊎ ((9 < length bytes) × Stands log (length (front_of log)) bytes)
+
 -- What was read of an area: a log with this generation, these payloads, frames from here on, so many, and the last gate here.
 pub record AreaIs (generation : ℕ) (all : List (List ℕ)) (start tail gate : ℕ) (bytes : List ℕ) : Type 0 where
   pub log : AreaLog

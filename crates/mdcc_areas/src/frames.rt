@@ -1,20 +1,26 @@
 //! Logs in two areas.
-ghost use Rattle.std.specs.Prelude.{◌≡◌, ◌≢◌, ◌≤◌, ◌<◌, ◌+◌, ◌-◌, ◌^◌, ◌∷◌, ◌++◌, [], ◌↔◌, ◌⊎◌, false, List, ℕ, length, vec_capacity, IsTrue, IfOk, OnOk, OnErr, IsErrOf, Ok, Err};
+ghost use Rattle.std.specs.Prelude.{◌≡◌, ◌≢◌, ◌≤◌, ◌<◌, ◌*◌, ◌+◌, ◌-◌, ◌^◌, ◌∷◌, ◌++◌, [], ◌↔◌, ◌⊎◌, false, List, ℕ, length, vec_capacity, IsTrue, IfOk, OnOk, OnErr, IsErrOf, Ok, Err};
 ghost use Rattle.mdcc_base.specs.Causes.{Rose, HasCause};
 ghost use Rattle.mdcc_disks.specs.Disks.{Only, Within, KeepsOthers, LeavesOnly};
 ghost use Rattle.mdcc_log.specs.Log.{frame_body, log_limit, payload_limit};
 ghost use Rattle.mdcc_log.specs.Frames.{MadeSome, added, append_calls};
-ghost use Rattle.mdcc_areas.specs.Area.{AreaLog, payloads_of, payloads};
+ghost use Rattle.mdcc_areas.specs.Area.{AreaLog, generation_of, payloads_of, payloads};
+ghost use Rattle.mdcc_areas.specs.AtRest.{IsAtRest, MayBeDue};
+ghost use Rattle.mdcc_log.specs.Crash.{AreShort};
 ghost use Rattle.mdcc_areas.specs.Crash.{IsCurrent, IsBetween, IsIdle, ReadsAsEither, payloads_by};
 ghost use Rattle.mdcc_areas.specs.Frames.{OpenAreas, IsInUse, IsSpare, IsSettled, OnlyReads, appended, packed, place_of, other_of, checkpoint_calls};
 ghost use Rattle.mdcc_areas.specs.Both.{KeepsBut, IsOnlyRead, RoseAtOne};
+ghost use Rattle.mdcc_areas.specs.Opening.{IsFound, IsOpened, IsTaken, OpensOne};
 ghost use Rattle.mdcc_areas.specs.Checkpoint.{head_size, left_area};
 
 use crate::LogFault;
 use crate::append::{append_frame, lay_out};
-use crate::area::Spare;
+use crate::area::{PAYLOAD_LIMIT, Spare};
 use crate::checkpoint::{Whole, copy_area};
+use crate::opening::{AreaRead, open_areas};
+use mdcc_base::{Centre, HeapList};
 use mdcc_disks::Disks;
+use std::alloc::Global;
 use std::marker::Model;
 
 /// The most bytes of an area.
@@ -83,6 +89,108 @@ impl Frames {
         self.size
     }
 
+    /// Opens the log of a centre, whatever a crash left in its two areas, and gives its payloads in order. A checkpoint is due
+    /// after so many frames. Where no area is whole, area 0 becomes a log without payloads.
+    pub fn open<D: Disks>(
+        alloc: Global,
+        disks: &mut D,
+        centre: Centre,
+        every: u32,
+    ) -> Result<(Frames, Vec<HeapList<u8>>), LogFault>
+        requires { 1 ≤ every }
+
+        ensures payloads { let first = D.disk disks.old centre in let second = D.disk disks.old (centre + 16) in
+            IsTrue first.told → IsTrue second.told → IfOk result (λ r. payloads first.bytes second.bytes ≡ Ok r.1.items) }
+        ensures short { IfOk result (λ r. AreShort r.1.items) }
+        ensures opened { let first = D.disk disks.old centre in let second = D.disk disks.old (centre + 16) in
+            IsTrue first.told → IsTrue second.told
+            → IfOk result (λ r. IsOpened D.disk D.may_leave D.moment D.left_since disks.new r.0 r.1.items first.bytes second.bytes) }
+        ensures settled { IfOk result (λ r. IsTrue (D.disk disks.old (place_of r.0.centre r.0.area)).told
+            → IsSettled r.0 (D.disk disks.new (place_of r.0.centre r.0.area)).bytes (D.may_leave disks.new (place_of r.0.centre r.0.area))) }
+        ensures spare { IfOk result (λ r. IsTrue (D.disk disks.old (place_of r.0.centre (other_of r.0.area))).told
+            → IsSpare r.0 (D.disk disks.new (place_of r.0.centre (other_of r.0.area))).bytes (D.may_leave disks.new (place_of r.0.centre (other_of r.0.area)))) }
+        ensures at_rest { IsTrue (D.disk disks.old centre).told → IsTrue (D.disk disks.old (centre + 16)).told
+            → IfOk result (λ r. IsAtRest D.disk D.may_leave disks.new r.0 r.1.items) }
+        ensures keeps { IfOk result (λ r. (r.0.centre ≡ centre) × (r.0.every ≡ every)) }
+
+        // What a crash at any moment of it leaves of each area: what was left before, or the bytes while they are settled. A front
+        // of the calls that the bytes call for is made, and all of them at `Ok`.
+        ensures first { let first = D.disk disks.old centre in let second = D.disk disks.old (centre + 16) in
+            IsTrue first.told → IsTrue second.told
+            → OpensOne D.disk D.may_leave D.moment D.left_since D.tears disks.old disks.new centre 0 first.bytes second.bytes result }
+        ensures second { let first = D.disk disks.old centre in let second = D.disk disks.old (centre + 16) in
+            IsTrue first.told → IsTrue second.told
+            → OpensOne D.disk D.may_leave D.moment D.left_since D.tears disks.old disks.new (centre + 16) 1 first.bytes second.bytes result }
+
+        // However often it crashes, the area in use stays one of its log, and what a crash of an append left stays a log of the
+        // payloads from before it, or of those and the new one; the other area stays what is not in use next to it.
+        ensures any_moment { (area : ℕ) (log : AreaLog) → area ≤ 1
+            → IsTrue (D.disk disks.old centre).told → IsTrue (D.disk disks.old (centre + 16)).told
+            → Within (IsCurrent area log) (D.may_leave disks.old (place_of centre area))
+            → LeavesOnly D.moment D.left_since disks.old disks.new (place_of centre area) (IsCurrent area log) }
+        ensures any_moment_between { (area : ℕ) (log : AreaLog) (payload : List ℕ) → area ≤ 1
+            → IsTrue (D.disk disks.old centre).told → IsTrue (D.disk disks.old (centre + 16)).told
+            → Within (IsBetween area log payload) (D.may_leave disks.old (place_of centre area))
+            → LeavesOnly D.moment D.left_since disks.old disks.new (place_of centre area) (IsBetween area log payload) }
+        ensures any_moment_due { (area : ℕ) (log : AreaLog) (payload : List ℕ) → area ≤ 1
+            → IsTrue (D.disk disks.old centre).told → IsTrue (D.disk disks.old (centre + 16)).told
+            → Within (MayBeDue area log payload) (D.may_leave disks.old (place_of centre area))
+            → LeavesOnly D.moment D.left_since disks.old disks.new (place_of centre area) (MayBeDue area log payload) }
+        ensures any_moment_idle { (area : ℕ) (log idle : AreaLog) (payload : List ℕ) → area ≤ 1 → generation_of log.head ≡ generation_of idle.head
+            → IsTrue (D.disk disks.old centre).told → IsTrue (D.disk disks.old (centre + 16)).told
+            → Within (MayBeDue area log payload) (D.may_leave disks.old (place_of centre area))
+            → Within (IsIdle idle) (D.may_leave disks.old (place_of centre (other_of area)))
+            → LeavesOnly D.moment D.left_since disks.old disks.new (place_of centre (other_of area)) (IsIdle idle) }
+
+        // Where no byte is torn to 1, opening gives the same payloads after a crash at any moment of it, whatever stood there.
+        ensures any_moment_same { (all : List (List ℕ)) (current other : List ℕ) → (D.tears 1 → ⊥)
+            → IsTrue (D.disk disks.old centre).told → IsTrue (D.disk disks.old (centre + 16)).told
+            → Only (D.disk disks.old centre).bytes (D.may_leave disks.old centre)
+            → Only (D.disk disks.old (centre + 16)).bytes (D.may_leave disks.old (centre + 16))
+            → payloads (D.disk disks.old centre).bytes (D.disk disks.old (centre + 16)).bytes ≡ Ok all
+            → D.left_since disks.new centre (D.moment disks.old) current → D.left_since disks.new (centre + 16) (D.moment disks.old) other
+            → payloads current other ≡ Ok all }
+        ensures others { KeepsBut D.disk D.may_leave D.moment D.left_since disks.old disks.new centre (centre + 16) }
+
+        ensures disk_fault { IsErrOf result LogFault.DiskFault
+            → RoseAtOne (D.disk disks.old centre) (D.disk disks.new centre) (D.disk disks.old (centre + 16)) (D.disk disks.new (centre + 16)) }
+        ensures not_a_log { (n : ℕ) → IsErrOf result (LogFault.NotALog n)
+            → IsTrue (D.disk disks.old centre).told → IsTrue (D.disk disks.old (centre + 16)).told
+            → payloads (D.disk disks.old centre).bytes (D.disk disks.old (centre + 16)).bytes ≡ Err n }
+        ensures not_a_log_keeps { (n : ℕ) → IsErrOf result (LogFault.NotALog n)
+            → ((D.disk disks.new centre).bytes ≡ (D.disk disks.old centre).bytes)
+            × ((D.disk disks.new (centre + 16)).bytes ≡ (D.disk disks.old (centre + 16)).bytes) }
+        ensures memory { IsErrOf result LogFault.Memory
+            → ((D.disk disks.new centre).bytes ≡ (D.disk disks.old centre).bytes)
+            × ((D.disk disks.new (centre + 16)).bytes ≡ (D.disk disks.old (centre + 16)).bytes) }
+        ensures not_full { IsErrOf result LogFault.LogFull → ⊥ }
+    {
+        let number = centre.number();
+        let buffer = Vec::with_capacity(alloc, PAYLOAD_LIMIT + 5)?;
+        let (area, read, spare) = open_areas(alloc, disks, number, number + 16)?;
+        let AreaRead {
+            generation,
+            payloads,
+            start,
+            tail,
+            gate,
+        } = read;
+        let frames = Frames {
+            centre: number,
+            area,
+            every,
+            generation,
+            count: payloads.len() as u64,
+            start: start as u64,
+            tail,
+            body: gate as u64 - head_size(generation) - tail,
+            size: gate as u64 + 1,
+            spare,
+            buffer,
+        };
+        Ok((frames, payloads))
+    }
+
     /// Adds a payload behind the others. At `Ok` it is acknowledged: from then on each crash leaves a log that has it. After
     /// a `DiskFault` the log has to be opened again. After `LogFull` all is as before.
     pub fn append<D: Disks>(&mut self, disks: &mut D, payload: &[u8]) -> Result<(), LogFault>
@@ -121,6 +229,7 @@ impl Frames {
 
         ensures disk_fault { let place = place_of self.old.centre self.old.area in IsErrOf result LogFault.DiskFault
             → Rose (D.disk disks.old place).faults (D.disk disks.new place).faults }
+        ensures later { let place = place_of self.old.centre self.old.area in (D.disk disks.old place).faults ≤ (D.disk disks.new place).faults }
         ensures full { IsErrOf result LogFault.LogFull ↔ (log_limit < self.old.size + (length payload.now + 5)) }
         ensures full_keeps { IsErrOf result LogFault.LogFull → disks.new ≡ disks.old }
         ensures a_log { (n : ℕ) → IsErrOf result (LogFault.NotALog n) → ⊥ }
@@ -142,7 +251,8 @@ impl Frames {
 
     /// Whether a checkpoint is due.
     pub fn due(&self) -> bool
-        ensures { IsTrue result ↔ (self.now.every ≤ self.now.tail) }
+        ensures due { IsTrue result ↔ (self.now.every ≤ self.now.tail) }
+        ensures some { 1 ≤ self.now.every }
     {
         self.tail >= self.every as u64
     }

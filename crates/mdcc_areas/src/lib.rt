@@ -5,6 +5,7 @@ mod append;
 mod area;
 mod checkpoint;
 mod copying;
+pub mod due;
 pub mod fault;
 pub mod frames;
 pub mod laws;

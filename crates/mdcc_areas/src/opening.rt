@@ -6,10 +6,10 @@ ghost use Rattle.mdcc_disks.specs.Disks.DiskCall.{Length, Sync};
 ghost use Rattle.mdcc_log.specs.Frames.{MadeSome, ReadsAll, ReadsSome, added, read_calls};
 ghost use Rattle.mdcc_areas.specs.Area.{is_copy, is_first, copy_generation, read_area, read_areas, taken};
 ghost use Rattle.mdcc_areas.specs.Reading.{AreaIs, IsNumbered};
-ghost use Rattle.mdcc_areas.specs.Frames.{spare_of, spare_calls, settle_calls};
+ghost use Rattle.mdcc_areas.specs.Frames.{change_calls, other_calls, spare_of, spare_calls, settle_calls};
 ghost use Rattle.mdcc_areas.specs.Repair.{settled, settle_at, MaySettle, MayClose, with_closed_gate};
 ghost use Rattle.mdcc_areas.specs.Settling.{SettlesOne};
-ghost use Rattle.mdcc_areas.specs.Opening.{IsOpened, LoadsOne, MayOpenAs, MayTake, taken_bytes};
+ghost use Rattle.mdcc_areas.specs.Opening.{IsFound, IsTaken, LoadsOne, MayOpenAs, MaySettleAs, OpensOne, opened_bytes, taken_bytes};
 ghost use Rattle.mdcc_areas.specs.Both.{KeepsBut, RoseAtOne};
 
 use crate::LogFault;
@@ -221,9 +221,9 @@ fn take_area<D: Disks>(
     ensures read { IfOk result (λ r. AreaIs r.0.generation r.0.payloads.items r.0.start r.0.tail r.0.gate bytes.now) }
     ensures spare { IfOk result (λ r. r.1 ≡ spare_of (with_closed_gate other.now)) }
     ensures current { SettlesOne D.disk D.may_leave D.moment D.left_since disks.old disks.new place
-        (taken_bytes (read_area bytes.now)) (MayTake D.tears bytes.now) (settle_calls bytes.now) result }
+        (taken_bytes (read_area bytes.now)) (MaySettleAs D.tears bytes.now) (settle_calls bytes.now) result }
     ensures other { SettlesOne D.disk D.may_leave D.moment D.left_since disks.old disks.new other_place
-        (with_closed_gate other.now) (MayClose D.tears other.now) (spare_calls other.now) result }
+        (with_closed_gate other.now) (MayClose D.tears other.now) (other_calls (read_area bytes.now) other.now) result }
     ensures others { KeepsBut D.disk D.may_leave D.moment D.left_since disks.old disks.new place other_place }
     ensures disk_fault { IsErrOf result LogFault.DiskFault
         → RoseAtOne (D.disk disks.old place) (D.disk disks.new place) (D.disk disks.old other_place) (D.disk disks.new other_place) }
@@ -234,4 +234,95 @@ fn take_area<D: Disks>(
     let read = read_area(alloc, bytes)?;
     let spare = settle_both(disks, place, other_place, bytes, read.gate, other)?;
     Ok((read, spare))
+}
+
+// Reads the one of two areas that is taken, and then settles both. Tells which it is.
+fn take_either<D: Disks>(
+    alloc: Global,
+    disks: &mut D,
+    first_place: u8,
+    second_place: u8,
+    first: &[u8],
+    second: &[u8],
+) -> Result<(u8, AreaRead, Spare), LogFault>
+    requires apart { first_place ≢ second_place }
+    requires first_file { IsTrue (D.disk disks.old first_place).told → first.now ≡ (D.disk disks.old first_place).bytes }
+    requires first_durable { IsTrue (D.disk disks.old first_place).told
+        → Only (D.disk disks.old first_place).bytes (D.may_leave disks.old first_place) }
+    requires second_file { IsTrue (D.disk disks.old second_place).told → second.now ≡ (D.disk disks.old second_place).bytes }
+    requires second_durable { IsTrue (D.disk disks.old second_place).told
+        → Only (D.disk disks.old second_place).bytes (D.may_leave disks.old second_place) }
+    ensures taken { IfOk result (λ r. IsTaken first.now second.now r.0 r.1.generation r.1.payloads.items r.1.start r.1.tail r.1.gate r.2) }
+    ensures first { SettlesOne D.disk D.may_leave D.moment D.left_since disks.old disks.new first_place
+        (opened_bytes 0 (taken first.now second.now) (read_areas first.now second.now) first.now)
+        (MayOpenAs D.tears 0 (taken first.now second.now) first.now)
+        (change_calls 0 (taken first.now second.now) (read_areas first.now second.now) first.now) result }
+    ensures second { SettlesOne D.disk D.may_leave D.moment D.left_since disks.old disks.new second_place
+        (opened_bytes 1 (taken first.now second.now) (read_areas first.now second.now) second.now)
+        (MayOpenAs D.tears 1 (taken first.now second.now) second.now)
+        (change_calls 1 (taken first.now second.now) (read_areas first.now second.now) second.now) result }
+    ensures others { KeepsBut D.disk D.may_leave D.moment D.left_since disks.old disks.new first_place second_place }
+    ensures disk_fault { IsErrOf result LogFault.DiskFault
+        → RoseAtOne (D.disk disks.old first_place) (D.disk disks.new first_place) (D.disk disks.old second_place) (D.disk disks.new second_place) }
+    ensures not_a_log { (n : ℕ) → IsErrOf result (LogFault.NotALog n) → (read_areas first.now second.now ≡ Err n) × (disks.new ≡ disks.old) }
+    ensures memory { IsErrOf result LogFault.Memory → disks.new ≡ disks.old }
+    ensures not_full { IsErrOf result LogFault.LogFull → ⊥ }
+{
+    match taken(first, second) {
+        Err(offset) => Err(LogFault::NotALog(offset)),
+        Ok(area) => {
+            if area == 0 {
+                let (read, spare) = take_area(
+                    alloc,
+                    disks,
+                    first_place,
+                    second_place,
+                    first,
+                    second,
+                )?;
+                Ok((0, read, spare))
+            } else {
+                let (read, spare) = take_area(
+                    alloc,
+                    disks,
+                    second_place,
+                    first_place,
+                    second,
+                    first,
+                )?;
+                Ok((1, read, spare))
+            }
+        }
+    }
+}
+
+/// Opens the log in the areas at two places, whatever a crash left there. Tells which area is in use, what was read of it, and
+/// what is known of the other.
+pub fn open_areas<D: Disks>(
+    alloc: Global,
+    disks: &mut D,
+    first_place: u8,
+    second_place: u8,
+) -> Result<(u8, AreaRead, Spare), LogFault>
+    requires { first_place ≢ second_place }
+    ensures found { IfOk result (λ r. IsFound D.disk D.may_leave D.moment D.left_since disks.old disks.new first_place second_place
+        r.0 r.1.generation r.1.payloads.items r.1.start r.1.tail r.1.gate r.2) }
+    ensures first { let first = D.disk disks.old first_place in let second = D.disk disks.old second_place in IsTrue first.told → IsTrue second.told
+        → OpensOne D.disk D.may_leave D.moment D.left_since D.tears disks.old disks.new first_place 0 first.bytes second.bytes result }
+    ensures second { let first = D.disk disks.old first_place in let second = D.disk disks.old second_place in IsTrue first.told → IsTrue second.told
+        → OpensOne D.disk D.may_leave D.moment D.left_since D.tears disks.old disks.new second_place 1 first.bytes second.bytes result }
+    ensures others { KeepsBut D.disk D.may_leave D.moment D.left_since disks.old disks.new first_place second_place }
+    ensures disk_fault { IsErrOf result LogFault.DiskFault
+        → RoseAtOne (D.disk disks.old first_place) (D.disk disks.new first_place) (D.disk disks.old second_place) (D.disk disks.new second_place) }
+    ensures not_a_log { (n : ℕ) → IsErrOf result (LogFault.NotALog n)
+        → IsTrue (D.disk disks.old first_place).told → IsTrue (D.disk disks.old second_place).told
+        → read_areas (D.disk disks.old first_place).bytes (D.disk disks.old second_place).bytes ≡ Err n }
+    ensures not_a_log_keeps { (n : ℕ) → IsErrOf result (LogFault.NotALog n)
+        → ((D.disk disks.new first_place).bytes ≡ (D.disk disks.old first_place).bytes) × ((D.disk disks.new second_place).bytes ≡ (D.disk disks.old second_place).bytes) }
+    ensures memory { IsErrOf result LogFault.Memory
+        → ((D.disk disks.new first_place).bytes ≡ (D.disk disks.old first_place).bytes) × ((D.disk disks.new second_place).bytes ≡ (D.disk disks.old second_place).bytes) }
+    ensures not_full { IsErrOf result LogFault.LogFull → ⊥ }
+{
+    let (first, second) = load_both(alloc, disks, first_place, second_place)?;
+    take_either(alloc, disks, first_place, second_place, &first, &second)
 }
