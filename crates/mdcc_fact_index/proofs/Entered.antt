@@ -1,7 +1,7 @@
 -- A walk over the entries of an instance takes its steps at the facts that are of it.
 use Rattle.std.proofs.Common.{◌≡◌, ◌<◌, ◌+◌, ℕ, Bool, true, false, List, [], ◌∷◌, ◌++◌, get_or, length, map, refl, sym, ap, ◌∙◌, arith, inl, inr}
 use Rattle.std.specs.List.{filter, fold, list_all}
-use Rattle.std.specs.Prelude.{◌==◌, ◌&&◌, unwrap_or}
+use Rattle.std.specs.Prelude.{◌==◌, ◌&&◌, if◌then◌else◌, unwrap_or}
 use Rattle.std.specs.Cmp.Lexicographic.{nat_list_eq_equiv}
 use Rattle.std.proofs.lemmas.Bool.{cases_Bool, eqb-true}
 use Rattle.std.proofs.lemmas.Bool.Decides.{nat_tests}
@@ -21,7 +21,7 @@ use Rattle.mdcc_fact_folds.specs.Entered.{entered, found_by, instances_in, is_in
 use Rattle.mdcc_fact_folds.specs.Live.{is_ordered}
 use Rattle.mdcc_fact_folds.proofs.Found.{found-chain, instance-found}
 use Rattle.mdcc_fact_folds.proofs.Sorted.{well_formed-ordered}
-use Rattle.mdcc_fact_index.specs.Entries.{AreBelow, entries_in, entries_of}
+use Rattle.mdcc_fact_index.specs.Entries.{AreBelow, entries_in, entries_kept}
 use Rattle.mdcc_fact_index.proofs.Beside.{below-append, below-more, below-one}
 
 -- ---- facts by their numbers
@@ -30,9 +30,10 @@ use Rattle.mdcc_fact_index.proofs.Beside.{below-append, below-more, below-one}
 abbrev pub fact_at : List Fact → ℕ → Fact
 fact_at facts number = unwrap_or (entry_at facts number) (Fact.Booted 0)
 
-abbrev indices_of : List Fact → List ℕ
-indices_of [] = []
-indices_of (fact ∷ facts) = length facts ∷ indices_of facts
+-- the numbers of the facts that pass a test
+abbrev indices_of : (Fact → Bool) → List Fact → List ℕ
+indices_of keep [] = []
+indices_of keep (fact ∷ facts) = if keep fact then length facts ∷ indices_of keep facts else indices_of keep facts
 
 -- the older facts of all have the numbers that they had
 abbrev AreOlder : List Fact → List Fact → Type 0
@@ -50,19 +51,25 @@ older-tail all fact facts older number within = older number (omega arith) ∙ a
 older-head : (all : List Fact) (fact : Fact) (facts : List Fact) → AreOlder all (fact ∷ facts) → fact_at all (length facts) ≡ fact
 older-head all fact facts older = older (length facts) (omega arith) ∙ at-newest fact facts
 
-facts-at : (all facts : List Fact) → AreOlder all facts → map (fact_at all) (indices_of facts) ≡ facts
-facts-at all [] older = refl
-facts-at all (fact ∷ facts) older =
+facts-at : (keep : Fact → Bool) (all facts : List Fact) → AreOlder all facts → map (fact_at all) (indices_of keep facts) ≡ filter keep facts
+facts-at keep all [] older = refl
+facts-at keep all (fact ∷ facts) older =
     let head = older-head all fact facts older in
-    let tail = facts-at all facts (older-tail all fact facts older) in
-    λ i. head i ∷ tail i
+    let tail = facts-at keep all facts (older-tail all fact facts older) in
+    elim (cases_Bool (keep fact)) [
+      | inl kept ↦ rw kept (λ i. head i ∷ tail i)
+      | inr left ↦ rw left tail
+    ]
 
-entries-entered : (all facts : List Fact) → AreOlder all facts → entries_of facts ≡ entered instances_in (fact_at all) (indices_of facts)
-entries-entered all [] older = refl
-entries-entered all (fact ∷ facts) older =
+entries-entered : (keep : Fact → Bool) (all facts : List Fact) → AreOlder all facts → entries_kept keep facts ≡ entered instances_in (fact_at all) (indices_of keep facts)
+entries-entered keep all [] older = refl
+entries-entered keep all (fact ∷ facts) older =
     let head = older-head all fact facts older in
-    let tail = entries-entered all facts (older-tail all fact facts older) in
-    λ i. entries_in (sym head i) (length facts) ++ tail i
+    let tail = entries-entered keep all facts (older-tail all fact facts older) in
+    elim (cases_Bool (keep fact)) [
+      | inl kept ↦ rw kept (λ i. entries_in (sym head i) (length facts) ++ tail i)
+      | inr left ↦ rw left tail
+    ]
 
 -- ---- what is stored under a number
 
@@ -128,7 +135,7 @@ and-swap false false = refl
 number-sym : (a b : ℕ) → (a == b) ≡ (b == a)
 number-sym a b = grind (arith, nat_tests)
 
-same-instance : (key : Key) (version : ℕ) (i : Key × ℕ) → instance_eq (key, version) i ≡ is_instance key version i
+pub same-instance : (key : Key) (version : ℕ) (i : Key × ℕ) → instance_eq (key, version) i ≡ is_instance key version i
 same-instance key version i =
     ap (λ b. b && version == i.1) (nat_list_eq_equiv.symm key i.0)
     ∙ ap (λ b. key_eq i.0 key && b) (number-sym version i.1)
@@ -138,19 +145,28 @@ all-ordered : (facts : List Fact) → AreWellFormed facts → list_all is_ordere
 all-ordered [] fits = refl
 all-ordered (fact ∷ facts) fits = rw (well_formed-ordered fact fits.0) (all-ordered facts fits.1)
 
-pub found-facts : (facts : List Fact) (key : Key) (version : ℕ) → AreWellFormed facts
-    → map (fact_at facts) (found_by (instance_eq (key, version)) (entries_of facts)) ≡ filter (is_of_instance key version) facts
-found-facts facts key version fits =
+pub fits-filtered : (keep : Fact → Bool) (facts : List Fact) → AreWellFormed facts → AreWellFormed (filter keep facts)
+fits-filtered keep [] fits = tt
+fits-filtered keep (fact ∷ facts) fits = elim (cases_Bool (keep fact)) [
+  | inl kept ↦ rw kept (fits.0, fits-filtered keep facts fits.1)
+  | inr left ↦ rw left (fits-filtered keep facts fits.1)
+]
+
+pub found-facts : (keep : Fact → Bool) (facts : List Fact) (key : Key) (version : ℕ) → AreWellFormed facts
+    → map (fact_at facts) (found_by (instance_eq (key, version)) (entries_kept keep facts)) ≡ filter (is_of_instance key version) (filter keep facts)
+found-facts keep facts key version fits =
     let whole : AreOlder facts facts = λ number within. refl in
-    let ordered : list_all (λ index. is_ordered (fact_at facts index)) (indices_of facts) ≡ true =
-    sym (list_all-map is_ordered (fact_at facts) (indices_of facts)) ∙ ap (list_all is_ordered) (facts-at facts facts whole) ∙ all-ordered facts fits in
+    let ordered : list_all (λ index. is_ordered (fact_at facts index)) (indices_of keep facts) ≡ true =
+    sym (list_all-map is_ordered (fact_at facts) (indices_of keep facts))
+    ∙ ap (list_all is_ordered) (facts-at keep facts facts whole)
+    ∙ all-ordered (filter keep facts) (fits-filtered keep facts fits) in
     ap (map (fact_at facts)) (
-    ap (found_by (instance_eq (key, version))) (entries-entered facts facts whole)
-    ∙ found-alike (instance_eq (key, version)) (is_instance key version) (entered instances_in (fact_at facts) (indices_of facts)) (same-instance key version)
-    ∙ instance-found (fact_at facts) (indices_of facts) key version ordered
+    ap (found_by (instance_eq (key, version))) (entries-entered keep facts facts whole)
+    ∙ found-alike (instance_eq (key, version)) (is_instance key version) (entered instances_in (fact_at facts) (indices_of keep facts)) (same-instance key version)
+    ∙ instance-found (fact_at facts) (indices_of keep facts) key version ordered
     )
-    ∙ found-chain (is_of_instance key version) (fact_at facts) (indices_of facts)
-    ∙ ap (filter (is_of_instance key version)) (facts-at facts facts whole)
+    ∙ found-chain (is_of_instance key version) (fact_at facts) (indices_of keep facts)
+    ∙ ap (filter (is_of_instance key version)) (facts-at keep facts facts whole)
 
 -- a step at the fact of an entry
 abbrev pub step_at : {A : Type 0} → (A → Fact → A) → List Fact → A → (Key × ℕ) × ℕ → A
@@ -159,18 +175,24 @@ step_at step facts state entry = step state (fact_at facts entry.1)
 abbrev pub is_entry_of : Key → ℕ → (Key × ℕ) × ℕ → Bool
 is_entry_of key version entry = instance_eq (key, version) entry.0
 
-pub walk-facts : {A : Type 0} (step : A → Fact → A) (start : A) (facts : List Fact) (key : Key) (version : ℕ) → AreWellFormed facts
-    → fold (step_at step facts) start (filter (is_entry_of key version) (entries_of facts)) ≡ fold step start (filter (is_of_instance key version) facts)
-walk-facts step start facts key version fits =
-    let passing = filter (is_entry_of key version) (entries_of facts) in
+pub walk-facts : {A : Type 0} (step : A → Fact → A) (start : A) (keep : Fact → Bool) (facts : List Fact) (key : Key) (version : ℕ) → AreWellFormed facts
+    → fold (step_at step facts) start (filter (is_entry_of key version) (entries_kept keep facts)) ≡ fold step start (filter (is_of_instance key version) (filter keep facts))
+walk-facts step start keep facts key version fits =
+    let passing = filter (is_entry_of key version) (entries_kept keep facts) in
     sym (fold-map (λ state number. step state (fact_at facts number)) (λ (e : (Key × ℕ) × ℕ). e.1) start passing)
-    ∙ sym (fold-map step (fact_at facts) start (found_by (instance_eq (key, version)) (entries_of facts)))
-    ∙ ap (fold step start) (found-facts facts key version fits)
+    ∙ sym (fold-map step (fact_at facts) start (found_by (instance_eq (key, version)) (entries_kept keep facts)))
+    ∙ ap (fold step start) (found-facts keep facts key version fits)
 
 -- the numbers of entries are those of facts
-pub entries-below : (facts : List Fact) → AreBelow (length facts) (entries_of facts)
-entries-below [] = tt
-entries-below (fact ∷ facts) =
-    below-append (length (fact ∷ facts)) (entries_in fact (length facts)) (entries_of facts)
-    (below-one (length (fact ∷ facts)) (length facts) (instances_in fact) (omega arith))
-    (below-more (length facts) (length (fact ∷ facts)) (entries_of facts) (omega arith) (entries-below facts))
+pub entries-below : (keep : Fact → Bool) (facts : List Fact) → AreBelow (length facts) (entries_kept keep facts)
+entries-below keep [] = tt
+entries-below keep (fact ∷ facts) =
+    let older = below-more (length facts) (length (fact ∷ facts)) (entries_kept keep facts) (omega arith) (entries-below keep facts) in
+    elim (cases_Bool (keep fact)) [
+      | inl kept ↦
+          rw kept (
+          below-append (length (fact ∷ facts)) (entries_in fact (length facts)) (entries_kept keep facts)
+          (below-one (length (fact ∷ facts)) (length facts) (instances_in fact) (omega arith)) older
+          )
+      | inr left ↦ rw left older
+    ]

@@ -6,3 +6,4 @@ pub mod InCells
 pub mod Promised
 pub mod Short
 pub mod Walking
+pub mod Tallying

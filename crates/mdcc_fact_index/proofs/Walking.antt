@@ -12,45 +12,45 @@ use Rattle.mdcc_chains.proofs.Filtered.{walk-map}
 use Rattle.mdcc_fact_cells.specs.Holding.{AreWellFormed, Holds}
 use Rattle.mdcc_fact_folds.specs.Chains.{is_of_instance}
 use Rattle.mdcc_delta_steps.specs.Chains.{AreOf, encoding_at, encodings_walked}
-use Rattle.mdcc_fact_index.specs.Entries.{AreBelow, beside, entries_of}
+use Rattle.mdcc_fact_index.specs.Entries.{AreBelow, beside, entries_kept}
 use Rattle.mdcc_fact_index.proofs.Beside.{beside-at, beside-keys, length-beside}
-use Rattle.mdcc_fact_index.proofs.Entered.{entries-below, fact_at, found-facts, is_entry_of, step_at, stored-at, walk-facts, held-length}
+use Rattle.mdcc_fact_index.proofs.Entered.{entries-below, fact_at, fits-filtered, found-facts, is_entry_of, step_at, stored-at, walk-facts, held-length}
 use Rattle.mdcc_fact_index.proofs.Folding.{folding-begins, folding-ends, folding-goes, IsFolding, Next}
 
 -- a walk over keys is one over the entries that have them
-walk-entries : (keys : List (Key × ℕ)) (numbers : List ℕ) (facts : List Fact) (instance : Key × ℕ) → beside keys numbers ≡ entries_of facts
-    → walk (instance_eq instance) keys ≡ walk (is_entry_of instance.0 instance.1) (entries_of facts)
-walk-entries keys numbers facts instance entries =
+walk-entries : (keys : List (Key × ℕ)) (numbers : List ℕ) (keep : Fact → Bool) (facts : List Fact) (instance : Key × ℕ) → beside keys numbers ≡ entries_kept keep facts
+    → walk (instance_eq instance) keys ≡ walk (is_entry_of instance.0 instance.1) (entries_kept keep facts)
+walk-entries keys numbers keep facts instance entries =
     ap (walk (instance_eq instance)) (sym (beside-keys keys numbers) ∙ ap (map (λ (e : (Key × ℕ) × ℕ). e.0)) entries)
-    ∙ walk-map (λ (e : (Key × ℕ) × ℕ). e.0) (instance_eq instance) (entries_of facts)
+    ∙ walk-map (λ (e : (Key × ℕ) × ℕ). e.0) (instance_eq instance) (entries_kept keep facts)
 
 -- ---- steps at the facts of an instance
 
 -- the steps that are left give the whole fold
-abbrev pub IsWalking : {A : Type 0} → (A → Fact → A) → A → List Fact → Key × ℕ → Option ℕ → A → Type 0
-IsWalking step start facts instance at state = IsFolding (step_at step facts) start (is_entry_of instance.0 instance.1) (entries_of facts) at state
+abbrev pub IsWalking : {A : Type 0} → (A → Fact → A) → A → (Fact → Bool) → List Fact → Key × ℕ → Option ℕ → A → Type 0
+IsWalking step start keep facts instance at state = IsFolding (step_at step facts) start (is_entry_of instance.0 instance.1) (entries_kept keep facts) at state
 
-module _ {A : Type 0} (step : A → Fact → A) (start : A) (facts : List Fact) (keys : List (Key × ℕ)) (numbers : List ℕ) (instance : Key × ℕ) (entries : beside keys numbers ≡ entries_of facts) where
-  pub walking-begins : (at : Option ℕ) → at ≡ first_in (walk (instance_eq instance) keys) → IsWalking step start facts instance at start
+module _ {A : Type 0} (step : A → Fact → A) (start : A) (keep : Fact → Bool) (facts : List Fact) (keys : List (Key × ℕ)) (numbers : List ℕ) (instance : Key × ℕ) (entries : beside keys numbers ≡ entries_kept keep facts) where
+  pub walking-begins : (at : Option ℕ) → at ≡ first_in (walk (instance_eq instance) keys) → IsWalking step start keep facts instance at start
   walking-begins at is =
-      folding-begins (step_at step facts) start (is_entry_of instance.0 instance.1) (entries_of facts) at (is ∙ ap first_in (walk-entries keys numbers facts instance entries))
+      folding-begins (step_at step facts) start (is_entry_of instance.0 instance.1) (entries_kept keep facts) at (is ∙ ap first_in (walk-entries keys numbers keep facts instance entries))
 
-  pub walking-ends : (state : A) → AreWellFormed facts → IsWalking step start facts instance None state → state ≡ fold step start (filter (is_of_instance instance.0 instance.1) facts)
+  pub walking-ends : (state : A) → AreWellFormed facts → IsWalking step start keep facts instance None state → state ≡ fold step start (filter (is_of_instance instance.0 instance.1) (filter keep facts))
   walking-ends state fits walking =
-      folding-ends (step_at step facts) start (is_entry_of instance.0 instance.1) (entries_of facts) state walking ∙ walk-facts step start facts instance.0 instance.1 fits
+      folding-ends (step_at step facts) start (is_entry_of instance.0 instance.1) (entries_kept keep facts) state walking ∙ walk-facts step start keep facts instance.0 instance.1 fits
 
   -- the fact of the next entry
   pub record AtEntry (encodings : List (List ℕ)) (entry : ℕ) (state : A) : Type 0 where
     pub fact : Fact
     pub well_formed : IsWellFormedFact fact
     pub bytes : get_or encodings (get_or numbers entry 0) [] ≡ fact_bytes fact
-    pub goes : (next : Option ℕ) → next ≡ first_below entry (walk (instance_eq instance) keys) → IsWalking step start facts instance next (step state fact)
+    pub goes : (next : Option ℕ) → next ≡ first_below entry (walk (instance_eq instance) keys) → IsWalking step start keep facts instance next (step state fact)
 
   pub walking-goes : (encodings : List (List ℕ)) (entry : ℕ) (state : A) → Holds encodings facts → get_or numbers entry 0 < length encodings
-      → IsWalking step start facts instance (Some entry) state → AtEntry encodings entry state
+      → IsWalking step start keep facts instance (Some entry) state → AtEntry encodings entry state
   walking-goes encodings entry state holds below walking =
       let passes = is_entry_of instance.0 instance.1 in
-      let next : Next (step_at step facts) start passes (entries_of facts) entry state = folding-goes (step_at step facts) start passes (entries_of facts) entry state walking in
+      let next : Next (step_at step facts) start passes (entries_kept keep facts) entry state = folding-goes (step_at step facts) start passes (entries_kept keep facts) entry state walking in
       let number-is : get_or numbers entry 0 ≡ next.entry.1 = beside-at keys numbers entry next.entry (ap (λ es. entry_at es entry) entries ∙ next.at) in
       let stored = stored-at encodings facts (get_or numbers entry 0) holds below in
       record {
@@ -58,8 +58,8 @@ module _ {A : Type 0} (step : A → Fact → A) (start : A) (facts : List Fact) 
         well_formed = stored.well_formed;
         bytes = stored.bytes;
         goes = λ after is.
-            subst (λ s. IsWalking step start facts instance after s) (ap (λ n. step state (fact_at facts n)) (sym number-is))
-            (next.goes after (is ∙ ap (first_below entry) (walk-entries keys numbers facts instance entries)));
+            subst (λ s. IsWalking step start keep facts instance after s) (ap (λ n. step state (fact_at facts n)) (sym number-is))
+            (next.goes after (is ∙ ap (first_below entry) (walk-entries keys numbers keep facts instance entries)));
       }
 
 -- ---- the encodings of these facts
@@ -87,26 +87,19 @@ bytes-found encodings facts holds test (entry ∷ entries) below =
       | inr fails ↦ rw fails rest
     ]
 
-fits-filtered : (keep : Fact → Bool) (facts : List Fact) → AreWellFormed facts → AreWellFormed (filter keep facts)
-fits-filtered keep [] fits = tt
-fits-filtered keep (fact ∷ facts) fits = elim (cases_Bool (keep fact)) [
-  | inl kept ↦ rw kept (fits.0, fits-filtered keep facts fits.1)
-  | inr left ↦ rw left (fits-filtered keep facts fits.1)
-]
-
-pub texts-are : (encodings : List (List ℕ)) (facts : List Fact) (keys : List (Key × ℕ)) (numbers : List ℕ) (instance : Key × ℕ) → Holds encodings facts → beside keys numbers ≡ entries_of facts
-    → AreOf (encodings_walked encodings keys numbers instance) (filter (is_of_instance instance.0 instance.1) facts)
-texts-are encodings facts keys numbers instance holds entries =
+pub texts-are : (encodings : List (List ℕ)) (keep : Fact → Bool) (facts : List Fact) (keys : List (Key × ℕ)) (numbers : List ℕ) (instance : Key × ℕ) → Holds encodings facts → beside keys numbers ≡ entries_kept keep facts
+    → AreOf (encodings_walked encodings keys numbers instance) (filter (is_of_instance instance.0 instance.1) (filter keep facts))
+texts-are encodings keep facts keys numbers instance holds entries =
     let test = is_entry_of instance.0 instance.1 in
     let below : AreBelow (length encodings) (beside keys numbers) =
-    subst (AreBelow (length encodings)) (sym entries) (subst (λ bound. AreBelow bound (entries_of facts)) (sym (held-length encodings facts holds)) (entries-below facts)) in
+    subst (AreBelow (length encodings)) (sym entries) (subst (λ bound. AreBelow bound (entries_kept keep facts)) (sym (held-length encodings facts holds)) (entries-below keep facts)) in
     let walked : walk (instance_eq instance) keys ≡ walk test (beside keys numbers) =
-    walk-entries keys numbers facts instance entries ∙ ap (walk test) (sym entries) in
+    walk-entries keys numbers keep facts instance entries ∙ ap (walk test) (sym entries) in
     record {
       encodings_are = ap (map (encoding_at encodings numbers)) walked
           ∙ texts-found encodings test keys numbers
           ∙ bytes-found encodings facts holds test (beside keys numbers) below
           ∙ ap (λ es. map fact_bytes (map (fact_at facts) (map (λ (e : (Key × ℕ) × ℕ). e.1) (filter test es)))) entries
-          ∙ ap (map fact_bytes) (found-facts facts instance.0 instance.1 holds.well_formed);
-      well_formed = fits-filtered (is_of_instance instance.0 instance.1) facts holds.well_formed;
+          ∙ ap (map fact_bytes) (found-facts keep facts instance.0 instance.1 holds.well_formed);
+      well_formed = fits-filtered (is_of_instance instance.0 instance.1) (filter keep facts) (fits-filtered keep facts holds.well_formed);
     }

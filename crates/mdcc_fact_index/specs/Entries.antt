@@ -1,5 +1,5 @@
 -- Facts under the instances that they are of, each with its number, the number of the older facts.
-use Rattle.std.specs.Prelude.{List, [], ◌∷◌, ◌++◌, ◌≡◌, ◌≤◌, ◌<◌, ⊤, ℕ, get_or, length, map}
+use Rattle.std.specs.Prelude.{Bool, List, [], ◌∷◌, ◌++◌, ◌≡◌, ◌≤◌, ◌<◌, ⊤, ℕ, get_or, if◌then◌else◌, length, map, true}
 use Rattle.mdcc_base.specs.declared.key.Key.{Key}
 use Rattle.mdcc_option.specs.declared.choices.Outcome.{Outcome}
 use Rattle.mdcc_messages.specs.declared.facts.Fact.{Fact}
@@ -40,7 +40,14 @@ instances_of Outcome.Abort = []
 abbrev pub entries_in : Fact → ℕ → List ((Key × ℕ) × ℕ)
 entries_in fact number = entries_at (instances_in fact) number
 
--- those of all facts, the newest first
+-- those of the facts that pass a test, the newest first, each with its number among all
+abbrev pub entries_kept : (Fact → Bool) → List Fact → List ((Key × ℕ) × ℕ)
+entries_kept keep [] = []
+entries_kept keep (fact ∷ facts) = if keep fact then entries_in fact (length facts) ++ entries_kept keep facts else entries_kept keep facts
+
+abbrev pub is_any : Fact → Bool
+is_any fact = true
+
+-- those of all facts
 abbrev pub entries_of : List Fact → List ((Key × ℕ) × ℕ)
-entries_of [] = []
-entries_of (fact ∷ facts) = entries_in fact (length facts) ++ entries_of facts
+entries_of facts = entries_kept is_any facts

@@ -1,7 +1,8 @@
 -- How transactions ended, found by their transactions.
-use Rattle.std.specs.Prelude.{List, Option, None, Some, Result, Ok, Err, [], ◌∷◌, ◌++◌, ◌≡◌, ◌<◌, ◌≤◌, Bool, ℕ, ◌==◌, get_or, length, option_map}
+use Rattle.std.specs.Prelude.{List, Option, None, Some, Result, Ok, Err, [], ◌∷◌, ◌++◌, ◌≡◌, ◌<◌, ◌≤◌, Bool, ℕ, ◌==◌, false, get_or, length, option_map, true}
 use Rattle.mdcc_base.specs.TxId.{tx_eq}
 use Rattle.mdcc_base.specs.declared.identifiers.TxId.{TxId}
+use Rattle.mdcc_option.specs.declared.choices.Choice.{Choice}
 use Rattle.mdcc_option.specs.declared.choices.Outcome.{Outcome}
 use Rattle.mdcc_messages.specs.Reading.{heard_at}
 use Rattle.mdcc_messages.specs.declared.facts.Fact.{Fact}
@@ -61,6 +62,16 @@ outcome_read (Err fault) = None
 -- how a transaction ended, by the bytes of a fact that says so
 abbrev pub outcome_spelled : List ℕ → Option Outcome
 outcome_spelled bytes = outcome_read (heard_at bytes 1)
+
+-- an outcome without the place after it
+abbrev pub outcome_alone : Result (Outcome × ℕ) WireFault → Option Outcome
+outcome_alone (Ok outcome) = Some outcome.0
+outcome_alone (Err fault) = None
+
+-- what a list has, where choices were read into it, and whether each could be read
+abbrev pub AreRead : Result (List Choice × ℕ) WireFault → Bool → List Choice → Type 0
+AreRead (Ok found) read choices = (read ≡ true) × (choices ≡ found.0)
+AreRead (Err fault) read choices = read ≡ false
 
 -- whether it committed: the byte after the kind and the transaction
 abbrev pub is_commit_spelled : List ℕ → Bool

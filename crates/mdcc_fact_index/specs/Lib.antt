@@ -1,4 +1,6 @@
+pub mod Active
 pub mod Entries
 pub mod Heard
 pub mod InCells
 pub mod Promises
+pub mod Tallies

@@ -1,14 +1,16 @@
-//! The facts of each instance, found by it.
+//! The facts of each instance, found by it: all of them, or those that pass a test.
 ghost use Rattle.std.specs.List.{filter, fold};
-ghost use Rattle.std.specs.Prelude.{◌≡◌, ◌+◌, ◌++◌, ◌∷◌, ◌<◌, ◌≤◌, [], IfOk, OnOk, List, length, map};
+ghost use Rattle.std.specs.Prelude.{◌≡◌, ◌+◌, ◌++◌, ◌∷◌, ◌<◌, ◌≤◌, [], Bool, IfOk, OnOk, List, length, map};
 ghost use Rattle.mdcc_messages.specs.declared.facts.Fact.{Fact as AFact};
 ghost use Rattle.mdcc_fact_cells.specs.Holding.{Holds};
 ghost use Rattle.mdcc_fact_folds.specs.Chains.{is_of_instance};
 ghost use Rattle.mdcc_fact_folds.specs.Entered.{instance_of, instances_in};
 ghost use Rattle.mdcc_delta_steps.specs.Chains.{AreOf};
 ghost use Rattle.mdcc_vote_steps.specs.Gathered.{with_gathered};
-ghost use Rattle.mdcc_fact_index.specs.Entries.{AreBelow, beside, entries_at, entries_in, entries_of, instances_of};
+ghost use Rattle.mdcc_fact_index.specs.Active.{is_active};
+ghost use Rattle.mdcc_fact_index.specs.Entries.{AreBelow, beside, entries_at, entries_in, entries_kept, instances_of};
 
+use crate::active::is_active;
 use mdcc_base::{Ballot, Key, Memory};
 use mdcc_chains::InstanceIndex;
 use mdcc_delta_steps::InstanceWalk;
@@ -47,7 +49,7 @@ fn walk<S: FactStep>(
 )
     requires alike { length numbers.now ≡ length index.now.keys }
     requires below { AreBelow (length cells.now.encodings) (beside index.now.keys numbers.now) }
-    ensures { (facts : List AFact) → Holds cells.now.encodings facts → beside index.now.keys numbers.now ≡ entries_of facts → state.new ≡ fold S.step state.old (filter (is_of_instance instance.now.0 instance.now.1) facts) }
+    ensures { (keep : AFact → Bool) (facts : List AFact) → Holds cells.now.encodings facts → beside index.now.keys numbers.now ≡ entries_kept keep facts → state.new ≡ fold S.step state.old (filter (is_of_instance instance.now.0 instance.now.1) (filter keep facts)) }
 {
     let mut at = index.first(instance);
     while let Some(entry) = at {
@@ -67,7 +69,7 @@ fn gather(
 ) -> Result<(), Memory>
     requires alike { length numbers.now ≡ length index.now.keys }
     requires below { AreBelow (length cells.now.encodings) (beside index.now.keys numbers.now) }
-    ensures { (facts : List AFact) → Holds cells.now.encodings facts → beside index.now.keys numbers.now ≡ entries_of facts → OnOk result (gathered.new ≡ fold (with_gathered instance.now.0 instance.now.1 ballot.now) gathered.old (filter (is_of_instance instance.now.0 instance.now.1) facts)) }
+    ensures { (keep : AFact → Bool) (facts : List AFact) → Holds cells.now.encodings facts → beside index.now.keys numbers.now ≡ entries_kept keep facts → OnOk result (gathered.new ≡ fold (with_gathered instance.now.0 instance.now.1 ballot.now) gathered.old (filter (is_of_instance instance.now.0 instance.now.1) (filter keep facts))) }
 {
     let mut at = index.first(instance);
     while let Some(entry) = at {
@@ -143,10 +145,22 @@ impl InstanceChains {
         }
     }
 
+    /// Enters a fact, if it is more than a rejection at the fast ballot.
+    pub fn add_active(&mut self, fact: &Fact, number: u32)
+        requires { length (instances_in fact.now) + length self.old.entries ≤ self.old.room }
+        ensures entries { (facts : List AFact) → self.old.entries ≡ entries_kept is_active facts → number ≡ length facts → self.new.entries ≡ entries_kept is_active (fact.now ∷ facts) }
+        ensures few { length self.new.entries ≤ length (instances_in fact.now) + length self.old.entries }
+        ensures room { self.new.room ≡ self.old.room }
+    {
+        if is_active(fact) {
+            self.add(fact, number);
+        }
+    }
+
     /// Takes a step at each fact of an instance, from the newest to the oldest.
     pub fn walk<S: FactStep>(&self, cells: &FactCells, key: &Key, version: u64, state: &mut S)
         requires { AreBelow (length cells.now.encodings) self.now.entries }
-        ensures { (facts : List AFact) → Holds cells.now.encodings facts → self.now.entries ≡ entries_of facts → state.new ≡ fold S.step state.old (filter (is_of_instance key.now version) facts) }
+        ensures { (keep : AFact → Bool) (facts : List AFact) → Holds cells.now.encodings facts → self.now.entries ≡ entries_kept keep facts → state.new ≡ fold S.step state.old (filter (is_of_instance key.now version) (filter keep facts)) }
     {
         walk(&self.index, &self.numbers, cells, &(*key, version), state);
     }
@@ -161,7 +175,7 @@ impl InstanceChains {
         gathered: &mut GatheredMarks,
     ) -> Result<(), Memory>
         requires { AreBelow (length cells.now.encodings) self.now.entries }
-        ensures { (facts : List AFact) → Holds cells.now.encodings facts → self.now.entries ≡ entries_of facts → OnOk result (gathered.new ≡ fold (with_gathered key.now version ballot.now) gathered.old (filter (is_of_instance key.now version) facts)) }
+        ensures { (keep : AFact → Bool) (facts : List AFact) → Holds cells.now.encodings facts → self.now.entries ≡ entries_kept keep facts → OnOk result (gathered.new ≡ fold (with_gathered key.now version ballot.now) gathered.old (filter (is_of_instance key.now version) (filter keep facts))) }
     {
         gather(
             &self.index,
@@ -180,7 +194,7 @@ impl InstanceChains {
         instance: &'a (Key, u64),
     ) -> InstanceWalk<'a>
         requires { AreBelow (length cells.now.encodings) self.now.entries }
-        ensures { (facts : List AFact) → Holds cells.now.encodings facts → self.now.entries ≡ entries_of facts → AreOf result (filter (is_of_instance instance.now.0 instance.now.1) facts) }
+        ensures { (keep : AFact → Bool) (facts : List AFact) → Holds cells.now.encodings facts → self.now.entries ≡ entries_kept keep facts → AreOf result (filter (is_of_instance instance.now.0 instance.now.1) (filter keep facts)) }
     {
         InstanceWalk::new(cells, &self.index, &self.numbers, instance)
     }

@@ -6,18 +6,21 @@ ghost use Rattle.mdcc_protocol.specs.Stores.{ended_of};
 ghost use Rattle.mdcc_fact_cells.specs.Holding.{Holds};
 ghost use Rattle.mdcc_fact_index.specs.Heard.{AreHeard, AreNumbersBelow, ended_told, heard_by, is_commit_spelled, number_found, numbers_by, outcome_spelled};
 
+use crate::commits::outcome_in;
 use mdcc_base::{Memory, TxId};
 use mdcc_chains::TransactionIndex;
 use mdcc_fact_cells::FactCells;
 use mdcc_fact_tables::HeardTest;
 use mdcc_messages::Fact;
 use mdcc_option::Outcome;
-use mdcc_parts::given::read_heard;
 use std::alloc::Global;
 use std::marker::Model;
 
 /// The longest encoding of a fact that says how a transaction ended.
 const LONGEST_HEARD: usize = 8964;
+
+/// One of a commit of one choice is shorter.
+const SHORT_HEARD: usize = 1152;
 
 /// The numbers of facts that say how a transaction ended, found by the transaction.
 #[derive(Drop)]
@@ -37,16 +40,6 @@ impl Model for OutcomeIndex {
     ghost invariant = { λ o. AreNumbered o.txs o.numbers.items (vec_capacity o.numbers) };
 }
 
-// How a transaction ended, by the bytes of a fact that says so.
-fn outcome_in(bytes: &[u8]) -> Option<Outcome>
-    ensures { result ≡ outcome_spelled bytes.now }
-{
-    match read_heard(bytes, 1) {
-        Ok(((_, outcome), _)) => Some(outcome),
-        Err(_) => None,
-    }
-}
-
 // How a transaction ended, by the fact of a number, which is copied to where there is room for it.
 fn outcome_at(cells: &FactCells, number: u32, window: &mut [u8]) -> Option<Outcome>
     requires { number < length cells.now.encodings }
@@ -54,6 +47,29 @@ fn outcome_at(cells: &FactCells, number: u32, window: &mut [u8]) -> Option<Outco
 {
     let count = cells.start(number).peek(window);
     outcome_in(&window[..count])
+}
+
+// The same, where it may be a long one.
+fn long_outcome_at(cells: &FactCells, number: u32) -> Option<Outcome>
+    requires { number < length cells.now.encodings }
+    ensures { length (get_or cells.now.encodings number []) ≤ 8964 → result ≡ outcome_spelled (get_or cells.now.encodings number []) }
+{
+    let mut window = [0u8; LONGEST_HEARD];
+    outcome_at(cells, number, &mut window)
+}
+
+// The same. Only for a long one it clears as many bytes as the longest has.
+fn any_outcome_at(cells: &FactCells, number: u32) -> Option<Outcome>
+    requires { number < length cells.now.encodings }
+    ensures { length (get_or cells.now.encodings number []) ≤ 8964 → result ≡ outcome_spelled (get_or cells.now.encodings number []) }
+{
+    let mut window = [0u8; SHORT_HEARD];
+    let count = cells.start(number).peek(&mut window);
+    if count < SHORT_HEARD {
+        outcome_in(&window[..count])
+    } else {
+        long_outcome_at(cells, number)
+    }
 }
 
 // Whether a transaction committed, by the fact of a number that says how it ended.
@@ -120,10 +136,7 @@ impl OutcomeIndex {
         ensures { (facts : List AFact) → Holds cells.now.encodings facts → AreHeard self.now facts → result ≡ heard_of facts tx }
     {
         match self.number_of(&tx) {
-            Some(number) => {
-                let mut window = [0u8; LONGEST_HEARD];
-                outcome_at(cells, number, &mut window)
-            }
+            Some(number) => any_outcome_at(cells, number),
             None => None,
         }
     }

@@ -10,9 +10,11 @@ use Rattle.mdcc_fact_folds.proofs.Walked.{epoch-updates}
 use Rattle.mdcc_fact_folds.proofs.Kept.{stay-added}
 use Rattle.mdcc_fact_tables.specs.HeldVersions.{HoldsVersions}
 use Rattle.mdcc_fact_tables.specs.UnresolvedNumbers.{ListsUnresolved, TellsHeard}
-use Rattle.mdcc_fact_index.specs.Entries.{entries_in, entries_of}
+use Rattle.mdcc_fact_index.specs.Active.{is_active}
+use Rattle.mdcc_fact_index.specs.Entries.{entries_in, entries_kept, entries_of}
 use Rattle.mdcc_fact_index.specs.Heard.{AreHeard, number_found}
 use Rattle.mdcc_fact_index.specs.Promises.{ArePromised}
+use Rattle.mdcc_fact_index.specs.Tallies.{HoldsTallies}
 use Rattle.mdcc_fact_index.proofs.Endings.{tells-heard}
 use Rattle.mdcc_fact_index.proofs.Entered.{held-length}
 use Rattle.mdcc_index.specs.Stores.{Represents, Store}
@@ -24,6 +26,8 @@ pub record AddsFact (old new : Store) (fact : Fact) (number : ℕ) : Type 0 wher
   pub outcomes : (facts : List Fact) → AreHeard old.outcomes facts → number ≡ length facts → AreHeard new.outcomes (fact ∷ facts)
   pub promises : (facts : List Fact) → ArePromised old.promises facts → ArePromised new.promises (fact ∷ facts)
   pub instances : new.instances.entries ≡ entries_in fact number ++ old.instances.entries
+  pub active : (facts : List Fact) → old.active.entries ≡ entries_kept is_active facts → number ≡ length facts → new.active.entries ≡ entries_kept is_active (fact ∷ facts)
+  pub tallies : (facts : List Fact) → HoldsTallies old.tallies facts → MayBeAdded facts fact → HoldsTallies new.tallies (fact ∷ facts)
   pub held : (facts : List Fact) → HoldsVersions old.held facts → number ≡ length facts → HoldsVersions new.held (fact ∷ facts)
   pub unresolved : (facts : List Fact) → ListsUnresolved old.unresolved.entries facts → TellsHeard (λ tx. is_some (number_found old.outcomes tx)) facts → number ≡ length facts
       → ListsUnresolved new.unresolved.entries (fact ∷ facts)
@@ -40,6 +44,8 @@ represents-more old new facts fact number adds may free kept =
       outcomes = adds.outcomes facts kept.outcomes long;
       promises = adds.promises facts kept.promises;
       instances = adds.instances ∙ ap (λ es. entries_in fact number ++ es) kept.instances ∙ ap (λ n. entries_in fact n ++ entries_of facts) long;
+      active = adds.active facts kept.active long;
+      tallies = adds.tallies facts kept.tallies may;
       held = adds.held facts kept.held long;
       unresolved = adds.unresolved facts kept.unresolved (tells-heard old.outcomes facts kept.cells.well_formed kept.outcomes) long;
       epoch = adds.epoch ∙ ap (next_epoch fact) kept.epoch ∙ sym (epoch-updates facts fact);

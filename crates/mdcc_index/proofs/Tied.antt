@@ -3,7 +3,8 @@ use Rattle.std.proofs.Common.{List, [], ◌∷◌, length, sym, arith, subst}
 use Rattle.mdcc_messages.specs.declared.facts.Fact.{Fact}
 use Rattle.mdcc_fact_tables.specs.HeldVersions.{AreGivenBelow}
 use Rattle.mdcc_fact_tables.specs.UnresolvedNumbers as unresolved
-use Rattle.mdcc_fact_index.specs.Entries.{AreBelow}
+use Rattle.mdcc_fact_index.specs.Active.{is_active}
+use Rattle.mdcc_fact_index.specs.Entries.{AreBelow, is_any}
 use Rattle.mdcc_fact_index.specs.Heard.{AreNumbersBelow, heard_numbers}
 use Rattle.mdcc_fact_index.proofs.Endings.{below-by}
 use Rattle.mdcc_fact_index.proofs.Entered.{entries-below, held-length}
@@ -23,7 +24,12 @@ module _ (store : Store) (facts : List Fact) (kept : Represents store facts) whe
   pub instances-below : AreBelow (length store.cells.encodings) store.instances.entries
   instances-below =
       subst (λ bound. AreBelow bound store.instances.entries) (sym (held-length store.cells.encodings facts kept.cells))
-      (subst (AreBelow (length facts)) (sym kept.instances) (entries-below facts))
+      (subst (AreBelow (length facts)) (sym kept.instances) (entries-below is_any facts))
+
+  pub active-below : AreBelow (length store.cells.encodings) store.active.entries
+  active-below =
+      subst (λ bound. AreBelow bound store.active.entries) (sym (held-length store.cells.encodings facts kept.cells))
+      (subst (AreBelow (length facts)) (sym kept.active) (entries-below is_active facts))
 
   pub given-below : AreGivenBelow (length store.cells.encodings) store.held
   given-below key some = omega (arith, (kept.held key).number some, held-length store.cells.encodings facts kept.cells)

@@ -10,9 +10,11 @@ use Rattle.mdcc_fact_cells.specs.Stored.{Stored}
 use Rattle.mdcc_fact_folds.specs.Added.{AreAdded}
 use Rattle.mdcc_fact_tables.specs.HeldVersions.{HoldsVersions, Versions}
 use Rattle.mdcc_fact_tables.specs.UnresolvedNumbers.{ListsUnresolved}
-use Rattle.mdcc_fact_index.specs.Entries.{Entries, entries_of}
+use Rattle.mdcc_fact_index.specs.Active.{is_active}
+use Rattle.mdcc_fact_index.specs.Entries.{Entries, entries_kept, entries_of}
 use Rattle.mdcc_fact_index.specs.Heard.{AreHeard, HeardTxs, ended_told}
 use Rattle.mdcc_fact_index.specs.Promises.{ArePromised, Kept}
+use Rattle.mdcc_fact_index.specs.Tallies.{HoldsTallies, Tallied}
 
 -- the facts in their cells, and what is found without reading them
 pub record Store : Type 0 where
@@ -20,13 +22,15 @@ pub record Store : Type 0 where
   pub outcomes : HeardTxs
   pub promises : Kept
   pub instances : Entries
+  pub active : Entries
+  pub tallies : Tallied
   pub held : Versions
   pub unresolved : Numbered
   pub epoch : ℕ
 
-abbrev pub store_of : Stored → HeardTxs → Kept → Entries → Versions → Numbered → ℕ → Store
-store_of cells outcomes promises instances held unresolved epoch =
-    record { cells = cells; outcomes = outcomes; promises = promises; instances = instances; held = held; unresolved = unresolved; epoch = epoch }
+abbrev pub store_of : Stored → HeardTxs → Kept → Entries → Entries → Tallied → Versions → Numbered → ℕ → Store
+store_of cells outcomes promises instances active tallies held unresolved epoch =
+    record { cells = cells; outcomes = outcomes; promises = promises; instances = instances; active = active; tallies = tallies; held = held; unresolved = unresolved; epoch = epoch }
 
 -- the store has these facts, the newest first
 pub record Represents (store : Store) (facts : List Fact) : Type 0 where
@@ -34,6 +38,8 @@ pub record Represents (store : Store) (facts : List Fact) : Type 0 where
   pub outcomes : AreHeard store.outcomes facts
   pub promises : ArePromised store.promises facts
   pub instances : store.instances.entries ≡ entries_of facts
+  pub active : store.active.entries ≡ entries_kept is_active facts
+  pub tallies : HoldsTallies store.tallies facts
   pub held : HoldsVersions store.held facts
   pub unresolved : ListsUnresolved store.unresolved.entries facts
   pub epoch : store.epoch ≡ epoch_of facts
@@ -45,6 +51,8 @@ pub record HasRoom (store : Store) : Type 0 where
   pub outcomes : length store.outcomes.txs.keys + store.cells.spare ≤ store.outcomes.txs.room
   pub promises : length store.promises.keys.keys + store.cells.spare ≤ store.promises.keys.room
   pub instances : length store.instances.entries + 2 * store.cells.spare ≤ store.instances.room
+  pub active : length store.active.entries + 2 * store.cells.spare ≤ store.active.room
+  pub tallies : length store.tallies.instances.keys + store.cells.spare ≤ store.tallies.instances.room
   pub held : length store.held.keys.keys + 2 * store.cells.spare ≤ store.held.keys.room
   pub unresolved : length store.unresolved.entries + 2 * store.cells.spare ≤ store.unresolved.room
 

@@ -51,7 +51,7 @@ impl PoolFacts {
     {
         let version = self.current(key);
         let mut state = WithDeltas::new(*key, version);
-        self.walk(key, version, &mut state);
+        self.walk_active(key, version, &mut state);
         state.seen
     }
 
@@ -66,7 +66,7 @@ impl PoolFacts {
             tx,
             found: None,
         };
-        self.walk(key, version, &mut state);
+        self.walk_active(key, version, &mut state);
         delta_by(tx, state.found)
     }
 
@@ -76,7 +76,7 @@ impl PoolFacts {
     {
         let version = self.current(key).max(version_from(fact, key));
         let instance = (*key, version);
-        let walk = self.instances.facts_of(&self.cells, &instance);
+        let walk = self.active.facts_of(&self.cells, &instance);
         is_crowded(walk, &instance, fact)
     }
 

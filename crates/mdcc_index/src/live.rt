@@ -16,7 +16,7 @@ impl PoolFacts {
         ensures { (facts : List AFact) → Represents self.now facts → result ≡ load_at facts key.now version seen.now }
     {
         let instance = (*key, version);
-        let walk = self.instances.facts_of(&self.cells, &instance);
+        let walk = self.active.facts_of(&self.cells, &instance);
         load(walk, &instance, seen, self)
     }
 }

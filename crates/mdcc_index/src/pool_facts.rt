@@ -1,17 +1,20 @@
 //! A store of facts in cells.
-ghost use Rattle.std.specs.Prelude.{◌≡◌, ◌∷◌, ◌+◌, [], OnOk, OnErr, IfOk, List};
+ghost use Rattle.std.specs.Prelude.{◌≡◌, ◌∷◌, ◌+◌, ◌*◌, [], OnOk, OnErr, IfOk, List};
 ghost use Rattle.mdcc_messages.specs.Lengths.{cells_needed};
 ghost use Rattle.mdcc_messages.specs.declared.facts.Fact.{Fact as AFact};
 ghost use Rattle.mdcc_protocol.specs.Facts.{epoch_of, heard_of, is_heard, promised_through};
 ghost use Rattle.mdcc_protocol.specs.Stores.{ended_of};
 ghost use Rattle.mdcc_facts.specs.Adding.{MayBeAdded, add_of};
 ghost use Rattle.mdcc_fact_folds.specs.Promises.{next_epoch};
+ghost use Rattle.mdcc_fact_tables.specs.HeldVersions.{HoldsVersions, no_versions};
+ghost use Rattle.mdcc_fact_tables.specs.UnresolvedNumbers.{ListsUnresolved};
 ghost use Rattle.mdcc_fact_index.specs.Heard.{ended_told};
+ghost use Rattle.mdcc_fact_index.specs.Tallies.{HoldsTallies};
 ghost use Rattle.mdcc_index.specs.Stores.{Represents};
 
 use mdcc_base::{Ballot, Key, Memory, TxId};
 use mdcc_fact_cells::FactCells;
-use mdcc_fact_index::{InstanceChains, OutcomeIndex, Promises};
+use mdcc_fact_index::{InstanceChains, OutcomeIndex, Promises, Tallies};
 use mdcc_fact_tables::{HeardTest, HeldTable, UnresolvedTable};
 use mdcc_messages::Fact;
 use mdcc_option::Outcome;
@@ -26,6 +29,8 @@ pub struct PoolFacts {
     pub(crate) outcomes: OutcomeIndex,
     pub(crate) promises: Promises,
     pub(crate) instances: InstanceChains,
+    pub(crate) active: InstanceChains,
+    pub(crate) tallies: Tallies,
     pub(crate) held: HeldTable,
     pub(crate) unresolved: UnresolvedTable,
     pub(crate) epoch: u32,
@@ -36,9 +41,9 @@ impl Model for PoolFacts {
 
     ghost Value = { Store };
 
-    ghost view = { λ s. store_of s.cells s.outcomes s.promises s.instances s.held s.unresolved s.epoch };
+    ghost view = { λ s. store_of s.cells s.outcomes s.promises s.instances s.active s.tallies s.held s.unresolved s.epoch };
 
-    ghost invariant = { λ s. IsStore (store_of s.cells s.outcomes s.promises s.instances s.held s.unresolved s.epoch) };
+    ghost invariant = { λ s. IsStore (store_of s.cells s.outcomes s.promises s.instances s.active s.tallies s.held s.unresolved s.epoch) };
 }
 
 // The last epoch with one more fact.
@@ -51,6 +56,85 @@ fn next_epoch(fact: &Fact, last: u32) -> u32
     }
 }
 
+// A store of parts that have no facts.
+fn empty_store(
+    room: (u32, u32),
+    facts: (FactCells, OutcomeIndex, Promises),
+    instances: (InstanceChains, InstanceChains, Tallies),
+    keys: (HeldTable, UnresolvedTable),
+) -> PoolFacts
+    requires twice { room.1 ≡ room.0 * 2 }
+    requires cells { facts.0 ≡ record { spare = room.0; encodings = [] } }
+    requires outcomes { facts.1 ≡ record { txs = record { room = room.0; keys = [] }; numbers = [] } }
+    requires promises { facts.2 ≡ record { keys = record { room = room.0; keys = [] }; ranges = [] } }
+    requires instances { instances.0 ≡ record { room = room.1; entries = [] } }
+    requires active { instances.1 ≡ record { room = room.1; entries = [] } }
+    requires tallies { instances.2 ≡ record { instances = record { room = room.0; keys = [] }; tallies = [] } }
+    requires held { keys.0 ≡ no_versions room.1 }
+    requires unresolved { keys.1 ≡ record { room = room.1; entries = [] } }
+    requires counted { HoldsTallies instances.2 [] }
+    requires versions { HoldsVersions keys.0 [] }
+    requires listed { ListsUnresolved keys.1.entries [] }
+    ensures empty { Represents result [] }
+    ensures spare { result.cells.spare ≡ room.0 }
+{
+    let (cells, outcomes, promises) = facts;
+    let (instances, active, tallies) = instances;
+    let (held, unresolved) = keys;
+    PoolFacts {
+        cells,
+        outcomes,
+        promises,
+        instances,
+        active,
+        tallies,
+        held,
+        unresolved,
+        epoch: 0,
+    }
+}
+
+// The parts that are found by number, transaction or key of a promise, without facts.
+fn no_facts(alloc: Global, cells: u32) -> Result<(FactCells, OutcomeIndex, Promises), Memory>
+    ensures cells { IfOk result (λ parts. parts.0 ≡ record { spare = cells; encodings = [] }) }
+    ensures outcomes { IfOk result (λ parts. parts.1 ≡ record { txs = record { room = cells; keys = [] }; numbers = [] }) }
+    ensures promises { IfOk result (λ parts. parts.2 ≡ record { keys = record { room = cells; keys = [] }; ranges = [] }) }
+{
+    let facts = FactCells::new(alloc, cells)?;
+    let outcomes = OutcomeIndex::new(alloc, cells)?;
+    let promises = Promises::new(alloc, cells)?;
+    Ok((facts, outcomes, promises))
+}
+
+// Those that are found by instance, without facts.
+fn no_instances(
+    alloc: Global,
+    entries: u32,
+    votes: u32,
+) -> Result<(InstanceChains, InstanceChains, Tallies), Memory>
+    ensures instances { IfOk result (λ parts. parts.0 ≡ record { room = entries; entries = [] }) }
+    ensures active { IfOk result (λ parts. parts.1 ≡ record { room = entries; entries = [] }) }
+    ensures tallies { IfOk result (λ parts. parts.2 ≡ record { instances = record { room = votes; keys = [] }; tallies = [] }) }
+    ensures counted { IfOk result (λ parts. HoldsTallies parts.2 []) }
+{
+    let instances = InstanceChains::new(alloc, entries)?;
+    let active = InstanceChains::new(alloc, entries)?;
+    let tallies = Tallies::new(alloc, votes)?;
+    Ok((instances, active, tallies))
+}
+
+// Those of keys and of unresolved transactions, without facts.
+fn no_keys(alloc: Global, entries: u32) -> Result<(HeldTable, UnresolvedTable), Memory>
+    ensures held { IfOk result (λ parts. parts.0 ≡ no_versions entries) }
+    ensures versions { IfOk result (λ parts. HoldsVersions parts.0 []) }
+    ensures unresolved { IfOk result (λ parts. parts.1 ≡ record { room = entries; entries = [] }) }
+    ensures listed { IfOk result (λ parts. ListsUnresolved parts.1.entries []) }
+{
+    let held = HeldTable::new(alloc, entries)?;
+    let unresolved = UnresolvedTable::new(alloc, entries)?;
+    Ok((held, unresolved))
+}
+
 impl PoolFacts {
     /// No facts, with room for so many cells of them.
     pub fn new(alloc: Global, cells: u32) -> Result<PoolFacts, Memory>
@@ -58,15 +142,10 @@ impl PoolFacts {
         ensures spare { IfOk result (λ store. store.cells.spare ≡ cells) }
     {
         let entries = cells.checked_mul(2).ok_or(Memory)?;
-        Ok(PoolFacts {
-            cells: FactCells::new(alloc, cells)?,
-            outcomes: OutcomeIndex::new(alloc, cells)?,
-            promises: Promises::new(alloc, cells)?,
-            instances: InstanceChains::new(alloc, entries)?,
-            held: HeldTable::new(alloc, entries)?,
-            unresolved: UnresolvedTable::new(alloc, entries)?,
-            epoch: 0,
-        })
+        let facts = no_facts(alloc, cells)?;
+        let instances = no_instances(alloc, entries, cells)?;
+        let keys = no_keys(alloc, entries)?;
+        Ok(empty_store((cells, entries), facts, instances, keys))
     }
 
     /// Adds a fact. It takes no memory.
@@ -87,6 +166,8 @@ impl PoolFacts {
         self.outcomes.add(fact, number);
         self.promises.add(fact);
         self.instances.add(fact, number);
+        self.active.add_active(fact, number);
+        self.tallies.add(fact);
         self.held.add(fact, number);
         self.epoch = next_epoch(fact, self.epoch);
         Ok(())

@@ -1,22 +1,25 @@
 //! The votes of an instance.
 ghost use Rattle.std.specs.List.{filter, fold};
-ghost use Rattle.std.specs.Prelude.{◌≡◌, ◌-◌, None, Some, IfOk, List, option_map};
+ghost use Rattle.std.specs.Prelude.{◌≡◌, ◌-◌, None, Some, IfOk, List, option_map, true};
 ghost use Rattle.mdcc_messages.specs.declared.facts.Fact.{Fact as AFact};
-ghost use Rattle.mdcc_protocol.specs.Facts.{choice_known, last_ballot, promise_of, vote_of, votes_of};
+ghost use Rattle.mdcc_protocol.specs.Facts.{choice_known, last_ballot, promise_of, vote_of, votes_of, write_sets_of};
+ghost use Rattle.mdcc_struct.specs.Maps.{value_of};
 ghost use Rattle.mdcc_protocol.specs.Stores.{count_voted, entries_at, mark_after, mark_below};
 ghost use Rattle.mdcc_fact_folds.specs.Chains.{is_of_instance};
 ghost use Rattle.mdcc_fact_folds.specs.Votes.{least_above, older_mark};
+ghost use Rattle.mdcc_fact_index.specs.Active.{is_active};
 ghost use Rattle.mdcc_index.specs.Marks.{next_marked};
 ghost use Rattle.mdcc_index.specs.Stores.{Represents};
 
 use crate::PoolFacts;
 use mdcc_base::{Ballot, Key, Memory, TxId};
 use mdcc_fact_cells::FactStep;
+use mdcc_fact_tables::HeardTest;
 use mdcc_option::{Choice, Mark};
 use mdcc_struct::Options;
 use mdcc_vote_steps::{
     GatheredMarks, LeastAbove, OlderChoice, OlderMark, OlderVote, WithBallot, WithCount,
-    WithEntries, WithPromise,
+    WithPromise,
 };
 use std::alloc::Global;
 
@@ -28,6 +31,13 @@ impl PoolFacts {
         self.instances.walk(&self.cells, key, version, state);
     }
 
+    // The same, where rejections at the fast ballot are passed by.
+    pub(crate) fn walk_active<S: FactStep>(&self, key: &Key, version: u64, state: &mut S)
+        ensures { (facts : List AFact) → Represents self.now facts → state.new ≡ fold S.step state.old (filter (is_of_instance key.now version) (filter is_active facts)) }
+    {
+        self.active.walk(&self.cells, key, version, state);
+    }
+
     /// The greatest ballot that was promised for the instance, or voted at in it.
     pub fn promise(&self, key: &Key, version: u64) -> Ballot
         ensures { (facts : List AFact) → Represents self.now facts → result ≡ promise_of facts key.now version }
@@ -37,14 +47,39 @@ impl PoolFacts {
             version,
             ballot: self.promises.greatest(key, version),
         };
-        self.walk(key, version, &mut state);
+        self.walk_active(key, version, &mut state);
         state.ballot
+    }
+
+    // Whether no fact has a choice of a transaction, as far as tables tell.
+    fn is_unknown(&self, tx: TxId) -> bool
+        ensures { (facts : List AFact) → Represents self.now facts → result ≡ true → value_of (write_sets_of facts) tx ≡ None }
+    {
+        match self.unresolved.find(tx) {
+            Some(_) => false,
+            None => !self.outcomes.is_heard(tx),
+        }
+    }
+
+    // Whether there is no vote on a transaction in an instance, as far as tables tell.
+    fn is_unvoted(&self, key: &Key, version: u64, tx: TxId) -> bool
+        ensures { (facts : List AFact) → Represents self.now facts → result ≡ true → vote_of facts key.now version tx ≡ None }
+    {
+        let tally = self.tallies.tally(&(*key, version));
+        if tally.bare {
+            false
+        } else {
+            self.is_unknown(tx)
+        }
     }
 
     /// The mark of a transaction in an instance at the greatest ballot at which it was voted.
     pub fn vote_of(&self, key: &Key, version: u64, tx: TxId) -> Option<(Ballot, Mark)>
         ensures { (facts : List AFact) → Represents self.now facts → result ≡ vote_of facts key.now version tx }
     {
+        if self.is_unvoted(key, version, tx) {
+            return None;
+        }
         let mut state = OlderVote {
             key: *key,
             version,
@@ -66,7 +101,7 @@ impl PoolFacts {
             below,
             ballot: Ballot::FAST,
         };
-        self.walk(key, version, &mut state);
+        self.walk_active(key, version, &mut state);
         state.ballot
     }
 
@@ -105,14 +140,8 @@ impl PoolFacts {
     pub fn entries(&self, key: &Key, version: u64) -> (u32, u32)
         ensures { (facts : List AFact) → Represents self.now facts → result ≡ entries_at facts key.now version }
     {
-        let mut state = WithEntries {
-            key: *key,
-            version,
-            accepts: 0,
-            rejects: 0,
-        };
-        self.walk(key, version, &mut state);
-        (state.accepts, state.rejects)
+        let tally = self.tallies.tally(&(*key, version));
+        (tally.accepts, tally.rejects)
     }
 
     // The least transaction above the last one that has a mark in an instance at a ballot.

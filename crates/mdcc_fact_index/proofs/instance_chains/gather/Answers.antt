@@ -9,7 +9,7 @@ use Rattle.mdcc_fact_index.proofs.instance_chains.gather.Goals as goal
 pub loop-at-init : goal.loop-at-init
 loop-at-init c = (
   c.first-at.ensures.within,
-  λ facts holds entries. walking-begins (with_gathered c.args.instance.now.0 c.args.instance.now.1 c.args.ballot.now) c.args.gathered.now facts c.args.index.now.keys c.args.numbers.now c.args.instance.now entries c.first-at.result c.first-at.ensures.value,
+  λ keep facts holds entries. walking-begins (with_gathered c.args.instance.now.0 c.args.instance.now.1 c.args.ballot.now) c.args.gathered.now keep facts c.args.index.now.keys c.args.numbers.now c.args.instance.now entries c.first-at.result c.first-at.ensures.value,
 )
 
 pub gather-requires : goal.gather-requires
@@ -23,14 +23,14 @@ loop-at-preserved c =
     let below : get_or c.args.numbers.now c.in-Some.entry 0 < length c.args.cells.now.encodings =
     number-below (length c.args.cells.now.encodings) c.args.index.now.keys c.args.numbers.now c.in-Some.entry c.requires.below within in (
       still-within (length c.args.index.now.keys) c.in-Some.entry c.next-at.result within c.next-at.ensures.lower,
-      λ facts holds entries.
-          let walking = subst (λ at. IsWalking (with_gathered c.args.instance.now.0 c.args.instance.now.1 c.args.ballot.now) c.args.gathered.now facts c.args.instance.now at c.loop-at.gathered) c.in-Some.is (c.loop-at.invariant.1 facts holds entries) in
-          let here = walking-goes (with_gathered c.args.instance.now.0 c.args.instance.now.1 c.args.ballot.now) c.args.gathered.now facts c.args.index.now.keys c.args.numbers.now c.args.instance.now entries c.args.cells.now.encodings c.in-Some.entry c.loop-at.gathered holds below walking in
-          subst (λ state. IsWalking (with_gathered c.args.instance.now.0 c.args.instance.now.1 c.args.ballot.now) c.args.gathered.now facts c.args.instance.now c.next-at.result state) (sym (subst (λ r. OnOk r (c.gather.new.self ≡ with_gathered c.args.instance.now.0 c.args.instance.now.1 c.args.ballot.now c.loop-at.gathered here.fact)) c.in_ok-gather.was (c.gather.ensures here.fact here.well_formed here.bytes)))
+      λ keep facts holds entries.
+          let walking = subst (λ at. IsWalking (with_gathered c.args.instance.now.0 c.args.instance.now.1 c.args.ballot.now) c.args.gathered.now keep facts c.args.instance.now at c.loop-at.gathered) c.in-Some.is (c.loop-at.invariant.1 keep facts holds entries) in
+          let here = walking-goes (with_gathered c.args.instance.now.0 c.args.instance.now.1 c.args.ballot.now) c.args.gathered.now keep facts c.args.index.now.keys c.args.numbers.now c.args.instance.now entries c.args.cells.now.encodings c.in-Some.entry c.loop-at.gathered holds below walking in
+          subst (λ state. IsWalking (with_gathered c.args.instance.now.0 c.args.instance.now.1 c.args.ballot.now) c.args.gathered.now keep facts c.args.instance.now c.next-at.result state) (sym (subst (λ r. OnOk r (c.gather.new.self ≡ with_gathered c.args.instance.now.0 c.args.instance.now.1 c.args.ballot.now c.loop-at.gathered here.fact)) c.in_ok-gather.was (c.gather.ensures here.fact here.well_formed here.bytes)))
           (here.goes c.next-at.result c.next-at.ensures.value),
     )
 
 pub returns : goal.returns
-returns c facts holds entries =
-    walking-ends (with_gathered c.args.instance.now.0 c.args.instance.now.1 c.args.ballot.now) c.args.gathered.now facts c.args.index.now.keys c.args.numbers.now c.args.instance.now entries c.loop-at.gathered holds.well_formed
-    (subst (λ at. IsWalking (with_gathered c.args.instance.now.0 c.args.instance.now.1 c.args.ballot.now) c.args.gathered.now facts c.args.instance.now at c.loop-at.gathered) c.in_default.is (c.loop-at.invariant.1 facts holds entries))
+returns c keep facts holds entries =
+    walking-ends (with_gathered c.args.instance.now.0 c.args.instance.now.1 c.args.ballot.now) c.args.gathered.now keep facts c.args.index.now.keys c.args.numbers.now c.args.instance.now entries c.loop-at.gathered holds.well_formed
+    (subst (λ at. IsWalking (with_gathered c.args.instance.now.0 c.args.instance.now.1 c.args.ballot.now) c.args.gathered.now keep facts c.args.instance.now at c.loop-at.gathered) c.in_default.is (c.loop-at.invariant.1 keep facts holds entries))

@@ -1,16 +1,16 @@
-use Rattle.std.proofs.Common.{◌≡◌, ◌<◌, List, length}
+use Rattle.std.proofs.Common.{◌≡◌, ◌<◌, Bool, List, length}
 use Rattle.std.specs.Prelude.{IfSome}
 use Rattle.mdcc_messages.specs.declared.facts.Fact.{Fact}
 use Rattle.mdcc_chains.proofs.Filtered.{rank}
 use Rattle.mdcc_fact_cells.specs.Holding.{Holds}
-use Rattle.mdcc_fact_index.specs.Entries.{beside, entries_of}
+use Rattle.mdcc_fact_index.specs.Entries.{beside, entries_kept}
 use Rattle.mdcc_fact_index.proofs.Walking.{IsWalking}
 use Rattle.mdcc_fact_index.proofs.instance_chains.walk.Given as goal
 
 abbrev pub invariant-loop-at : goal.invariant-loop-at
 invariant-loop-at g l =
     IfSome l.at (λ entry. entry < length l.index.keys)
-    × ((facts : List Fact) → Holds l.cells.encodings facts → beside l.index.keys l.numbers ≡ entries_of facts → IsWalking g.S.FactStep.step l.initial.state facts l.instance l.at l.state)
+    × ((keep : Fact → Bool) (facts : List Fact) → Holds l.cells.encodings facts → beside l.index.keys l.numbers ≡ entries_kept keep facts → IsWalking g.S.FactStep.step l.initial.state keep facts l.instance l.at l.state)
 
 abbrev pub decreases-loop-at : goal.decreases-loop-at
 decreases-loop-at g l = rank l.at

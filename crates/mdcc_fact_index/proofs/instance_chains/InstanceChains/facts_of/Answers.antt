@@ -20,8 +20,8 @@ new-requires c =
     subst (AreNumbered c.args.cells.now.encodings keys) (sym c.deref.ensures.value) numbered
 
 pub returns : goal.returns
-returns c facts holds entries =
+returns c keep facts holds entries =
     let keys = c.self.inside.index.keys in
     let are : beside keys c.deref.result.now ≡ beside keys c.self.inside.numbers.items = ap (beside keys) c.deref.ensures.value in
-    subst (λ texts. AreOf texts (filter (is_of_instance c.args.instance.now.0 c.args.instance.now.1) facts)) (sym c.new.ensures)
-    (texts-are c.args.cells.now.encodings facts keys c.deref.result.now c.args.instance.now holds (are ∙ ap (λ s. s.entries) c.self.view_is ∙ entries))
+    subst (λ texts. AreOf texts (filter (is_of_instance c.args.instance.now.0 c.args.instance.now.1) (filter keep facts))) (sym c.new.ensures)
+    (texts-are c.args.cells.now.encodings keep facts keys c.deref.result.now c.args.instance.now holds (are ∙ ap (λ s. s.entries) c.self.view_is ∙ entries))

@@ -20,22 +20,29 @@ add-requires-5 c =
     let may = c.requires c.self.invariant.facts (subst (λ s. Represents s c.self.invariant.facts) c.self.view_is c.self.invariant.represented) in
     omega (arith, instances-in_cells c.args.fact.now may.well_formed, c.self.invariant.room.instances, c.add.ensures.used)
 
-pub add-requires-6 : goal.add-requires-6
-add-requires-6 c =
+pub add_active-requires : goal.add_active-requires
+add_active-requires c =
+    let may = c.requires c.self.invariant.facts (subst (λ s. Represents s c.self.invariant.facts) c.self.view_is c.self.invariant.represented) in
+    omega (arith, instances-in_cells c.args.fact.now may.well_formed, c.self.invariant.room.active, c.add.ensures.used)
+
+pub add-requires-7 : goal.add-requires-7
+add-requires-7 c =
     let may = c.requires c.self.invariant.facts (subst (λ s. Represents s c.self.invariant.facts) c.self.view_is c.self.invariant.represented) in
     omega (arith, keys-in_cells c.args.fact.now may.well_formed, c.self.invariant.room.held, c.add.ensures.used)
 
 -- every part has the fact
 adds : (c : goal.After-self-1)
-    → AddsFact (store_of c.self.inside.cells c.self.inside.outcomes c.self.inside.promises c.self.inside.instances c.self.inside.held c.self.inside.unresolved c.self.inside.epoch)
-    (store_of c.add.new.self c.add-3.new.self c.add-4.new.self c.add-5.new.self c.add-6.new.self c.add-2.new.self c.next_epoch-self-inside.result) c.args.fact.now c.len-number.result
+    → AddsFact (store_of c.self.inside.cells c.self.inside.outcomes c.self.inside.promises c.self.inside.instances c.self.inside.active c.self.inside.tallies c.self.inside.held c.self.inside.unresolved c.self.inside.epoch)
+    (store_of c.add.new.self c.add-3.new.self c.add-4.new.self c.add-5.new.self c.add_active.new.self c.add-6.new.self c.add-7.new.self c.add-2.new.self c.next_epoch-self-inside.result) c.args.fact.now c.len-number.result
 adds c = record {
   number_is = c.len-number.ensures;
   cells = c.add.ensures.encodings;
   outcomes = c.add-3.ensures.heard;
   promises = c.add-4.ensures.promises;
   instances = c.add-5.ensures.entries;
-  held = c.add-6.ensures.holds;
+  active = c.add_active.ensures.entries;
+  tallies = c.add-6.ensures.tallies;
+  held = c.add-7.ensures.holds;
   unresolved = c.add-2.ensures.lists;
   epoch = c.next_epoch-self-inside.ensures;
 }
@@ -60,7 +67,9 @@ invariant_of-self c =
           c.add-5.ensures.room,
           instances-in_cells c.args.fact.now may.well_formed,
         );
-        held = omega (arith, c.self.invariant.room.held, c.add.ensures.used, c.add-6.ensures.keys, c.add-6.ensures.room, keys-in_cells c.args.fact.now may.well_formed);
+        active = omega (arith, c.self.invariant.room.active, c.add.ensures.used, c.add_active.ensures.few, c.add_active.ensures.room, instances-in_cells c.args.fact.now may.well_formed);
+        tallies = omega (arith, c.self.invariant.room.tallies, c.add.ensures.used, c.add-6.ensures.few, c.add-6.ensures.room, some-cells c.args.fact.now);
+        held = omega (arith, c.self.invariant.room.held, c.add.ensures.used, c.add-7.ensures.keys, c.add-7.ensures.room, keys-in_cells c.args.fact.now may.well_formed);
         unresolved = omega (arith, c.self.invariant.room.unresolved, c.add.ensures.used, c.add-2.ensures.more, c.add-2.ensures.room, transactions-in_cells c.args.fact.now may.well_formed);
       };
     }

@@ -1,0 +1,46 @@
+-- A store that has just been made.
+use Rattle.std.proofs.Common.{◌≡◌, ◌*◌, ℕ, [], length, refl, ap, arith}
+use Rattle.mdcc_fact_cells.specs.Stored.{Stored}
+use Rattle.mdcc_chains.specs.Unresolved.{Numbered}
+use Rattle.mdcc_fact_tables.specs.HeldVersions.{HoldsVersions, Versions, no_versions}
+use Rattle.mdcc_fact_tables.specs.UnresolvedNumbers.{ListsUnresolved}
+use Rattle.mdcc_fact_index.specs.Entries.{Entries}
+use Rattle.mdcc_fact_index.specs.Heard.{HeardTxs}
+use Rattle.mdcc_fact_index.specs.Promises.{Kept}
+use Rattle.mdcc_fact_index.specs.Tallies.{HoldsTallies, Tallied}
+use Rattle.mdcc_index.specs.Stores.{HasRoom, Represents, store_of}
+
+module _ (cells entries : ℕ) (stored : Stored) (outcomes : HeardTxs) (promises : Kept) (instances active : Entries) (tallies : Tallied) (held : Versions) (unresolved : Numbered)
+    (cells-are : stored ≡ record { spare = cells; encodings = [] })
+    (outcomes-are : outcomes ≡ record { txs = record { room = cells; keys = [] }; numbers = [] })
+    (promises-are : promises ≡ record { keys = record { room = cells; keys = [] }; ranges = [] })
+    (instances-are : instances ≡ record { room = entries; entries = [] })
+    (active-are : active ≡ record { room = entries; entries = [] })
+    (tallies-are : tallies ≡ record { instances = record { room = cells; keys = [] }; tallies = [] })
+    (held-are : held ≡ no_versions entries)
+    (unresolved-are : unresolved ≡ record { room = entries; entries = [] }) where
+  pub represents-none : HoldsTallies tallies [] → HoldsVersions held [] → ListsUnresolved unresolved.entries [] → Represents (store_of stored outcomes promises instances active tallies held unresolved 0) []
+  represents-none counted versions listed = record {
+    cells = record { encodings_are = ap (λ c. c.encodings) cells-are; well_formed = tt };
+    outcomes = record { txs_are = ap (λ o. o.txs.keys) outcomes-are; numbers_are = ap (λ o. o.numbers) outcomes-are };
+    promises = record { keys_of = ap (λ p. p.keys.keys) promises-are; ranges_of = ap (λ p. p.ranges) promises-are };
+    instances = ap (λ i. i.entries) instances-are;
+    active = ap (λ i. i.entries) active-are;
+    tallies = counted;
+    held = versions;
+    unresolved = listed;
+    epoch = refl;
+    added = record { voted = refl; heard = refl; ordered = refl };
+    few = λ key. omega arith;
+  }
+
+  pub room-for-all : entries ≡ cells * 2 → HasRoom (store_of stored outcomes promises instances active tallies held unresolved 0)
+  room-for-all twice = record {
+    outcomes = omega (arith, ap (λ o. length o.txs.keys) outcomes-are, ap (λ o. o.txs.room) outcomes-are, ap (λ c. c.spare) cells-are);
+    promises = omega (arith, ap (λ p. length p.keys.keys) promises-are, ap (λ p. p.keys.room) promises-are, ap (λ c. c.spare) cells-are);
+    instances = omega (arith, ap (λ i. length i.entries) instances-are, ap (λ i. i.room) instances-are, ap (λ c. c.spare) cells-are, twice);
+    active = omega (arith, ap (λ i. length i.entries) active-are, ap (λ i. i.room) active-are, ap (λ c. c.spare) cells-are, twice);
+    tallies = omega (arith, ap (λ t. length t.instances.keys) tallies-are, ap (λ t. t.instances.room) tallies-are, ap (λ c. c.spare) cells-are);
+    held = omega (arith, ap (λ h. length h.keys.keys) held-are, ap (λ h. h.keys.room) held-are, ap (λ c. c.spare) cells-are, twice);
+    unresolved = omega (arith, ap (λ u. length u.entries) unresolved-are, ap (λ u. u.room) unresolved-are, ap (λ c. c.spare) cells-are, twice);
+  }

@@ -1,0 +1,19 @@
+use Rattle.std.proofs.Common.{[]}
+use Rattle.mdcc_index.proofs.Empty.{represents-none, room-for-all}
+use Rattle.mdcc_index.proofs.pool_facts.empty_store.Goals as goal
+
+pub invariant_of-result : goal.invariant_of-result
+invariant_of-result c = record {
+  facts = [];
+  represented =
+      represents-none c.args.room.0 c.args.room.1 c.args.facts.0 c.args.facts.1 c.args.facts.2 c.args.instances.0 c.args.instances.1 c.args.instances.2 c.args.keys.0 c.args.keys.1
+      c.requires.cells c.requires.outcomes c.requires.promises c.requires.instances c.requires.active c.requires.tallies c.requires.held c.requires.unresolved c.requires.counted c.requires.versions c.requires.listed;
+  room =
+      room-for-all c.args.room.0 c.args.room.1 c.args.facts.0 c.args.facts.1 c.args.facts.2 c.args.instances.0 c.args.instances.1 c.args.instances.2 c.args.keys.0 c.args.keys.1
+      c.requires.cells c.requires.outcomes c.requires.promises c.requires.instances c.requires.active c.requires.tallies c.requires.held c.requires.unresolved c.requires.twice;
+}
+
+pub returns-clause-empty : goal.returns-clause-empty
+returns-clause-empty c =
+    represents-none c.args.room.0 c.args.room.1 c.args.facts.0 c.args.facts.1 c.args.facts.2 c.args.instances.0 c.args.instances.1 c.args.instances.2 c.args.keys.0 c.args.keys.1
+    c.requires.cells c.requires.outcomes c.requires.promises c.requires.instances c.requires.active c.requires.tallies c.requires.held c.requires.unresolved c.requires.counted c.requires.versions c.requires.listed
