@@ -10,4 +10,4 @@ pub mod propose;
 pub use accept::on_accept;
 pub use mdcc_protocol::{AcceptAnswer, PrepareAnswer, ProposeAnswer};
 pub use prepare::on_prepare;
-pub use propose::on_propose;
+pub use propose::{answer_proposal, on_propose};

@@ -1,9 +1,10 @@
 //! What an acceptor answers to a proposal at the fast ballot. (Fast Paxos; MDCC.)
-ghost use Rattle.std.specs.Prelude.{◌≡◌, List, None};
+ghost use Rattle.std.specs.Prelude.{◌≡◌, IfSome, List, None};
 ghost use Rattle.mdcc_messages.specs.declared.facts.Fact.{Fact as AFact};
 ghost use Rattle.mdcc_protocol.specs.Acceptor.{answer_after, answer_by_promise, answer_to_new, fit_of, on_propose, vote_by_fit, vote_on, vote_to_accept, vote_to_reject};
-ghost use Rattle.mdcc_protocol.specs.Facts.{vote_of};
+ghost use Rattle.mdcc_protocol.specs.Facts.{heard_of, vote_of};
 ghost use Rattle.mdcc_protocol.specs.Marks.{seen_in};
+ghost use Rattle.mdcc_protocol.specs.declared.acceptor.ProposeAnswer.{ProposeAnswer as AProposeAnswer};
 
 use crate::bounded::is_bounded;
 use mdcc_base::{Ballot, Plain, TxId};
@@ -39,49 +40,49 @@ fn fit_of<S: FactStore>(store: &S, cluster: &Cluster, choice: &Choice) -> Fit
 }
 
 // A vote that accepts, or Full where the instance has no room for one more such mark.
-fn vote_to_accept<S: FactStore>(store: &S, choice: &Choice) -> ProposeAnswer
-    ensures { (facts : List AFact) → S.stands store.now facts → result ≡ vote_to_accept facts choice.now }
+fn vote_to_accept<S: FactStore>(store: &S, choice: &Choice, answer: &mut ProposeAnswer)
+    ensures { (facts : List AFact) → S.stands store.now facts → answer.new ≡ vote_to_accept facts choice.now }
 {
     let (accepts, _) = store.entries(&choice.key, choice.version);
     if accepts < accept_room(&choice.update) {
-        ProposeAnswer::Vote(Mark::Accept(choice.copy()))
+        *answer = ProposeAnswer::Vote(Mark::Accept(choice.copy()));
     } else {
-        ProposeAnswer::Escalate(Cause::Full)
+        *answer = ProposeAnswer::Escalate(Cause::Full);
     }
 }
 
 // A vote that rejects, or Full where the instance has no room for one more such mark.
-fn vote_to_reject<S: FactStore>(store: &S, choice: &Choice) -> ProposeAnswer
-    ensures { (facts : List AFact) → S.stands store.now facts → result ≡ vote_to_reject facts choice.now }
+fn vote_to_reject<S: FactStore>(store: &S, choice: &Choice, answer: &mut ProposeAnswer)
+    ensures { (facts : List AFact) → S.stands store.now facts → answer.new ≡ vote_to_reject facts choice.now }
 {
     let (_, rejects) = store.entries(&choice.key, choice.version);
     if rejects < reject_room() {
-        ProposeAnswer::Vote(Mark::Reject)
+        *answer = ProposeAnswer::Vote(Mark::Reject);
     } else {
-        ProposeAnswer::Escalate(Cause::Full)
+        *answer = ProposeAnswer::Escalate(Cause::Full);
     }
 }
 
 // What a fit gives: past the share of one acceptor there is no vote.
-fn vote_by_fit<S: FactStore>(store: &S, choice: &Choice, fit: Fit) -> ProposeAnswer
-    ensures { (facts : List AFact) → S.stands store.now facts → result ≡ vote_by_fit facts choice.now fit }
+fn vote_by_fit<S: FactStore>(store: &S, choice: &Choice, fit: Fit, answer: &mut ProposeAnswer)
+    ensures { (facts : List AFact) → S.stands store.now facts → answer.new ≡ vote_by_fit facts choice.now fit }
 {
     match fit {
-        Fit::Fits => vote_to_accept(store, choice),
-        Fit::Conflict => vote_to_reject(store, choice),
-        Fit::Limit(quantity) => ProposeAnswer::Escalate(Cause::Limit(quantity)),
-        Fit::Breaks(_) => vote_to_reject(store, choice),
+        Fit::Fits => vote_to_accept(store, choice, answer),
+        Fit::Conflict => vote_to_reject(store, choice, answer),
+        Fit::Limit(quantity) => *answer = ProposeAnswer::Escalate(Cause::Limit(quantity)),
+        Fit::Breaks(_) => vote_to_reject(store, choice, answer),
     }
 }
 
 // The vote on a choice at or below the version held, in an instance without a classic promise.
-fn vote_on<S: FactStore>(store: &S, cluster: &Cluster, choice: &Choice) -> ProposeAnswer
-    ensures { (facts : List AFact) → S.stands store.now facts → result ≡ vote_on cluster.now facts choice.now }
+fn vote_on<S: FactStore>(store: &S, cluster: &Cluster, choice: &Choice, answer: &mut ProposeAnswer)
+    ensures { (facts : List AFact) → S.stands store.now facts → answer.new ≡ vote_on cluster.now facts choice.now }
 {
     if choice.version < store.current(&choice.key) {
-        vote_to_reject(store, choice)
+        vote_to_reject(store, choice, answer);
     } else {
-        vote_by_fit(store, choice, fit_of(store, cluster, choice))
+        vote_by_fit(store, choice, fit_of(store, cluster, choice), answer);
     }
 }
 
@@ -91,35 +92,58 @@ fn answer_by_promise<S: FactStore>(
     cluster: &Cluster,
     choice: &Choice,
     promise: Ballot,
-) -> ProposeAnswer
-    ensures { (facts : List AFact) → S.stands store.now facts → result ≡ answer_by_promise cluster.now facts choice.now promise }
+    answer: &mut ProposeAnswer,
+)
+    ensures { (facts : List AFact) → S.stands store.now facts → answer.new ≡ answer_by_promise cluster.now facts choice.now promise }
 {
     if promise.is(&Ballot::FAST) {
-        vote_on(store, cluster, choice)
+        vote_on(store, cluster, choice, answer);
     } else {
-        ProposeAnswer::Escalate(Cause::Classic(promise))
+        *answer = ProposeAnswer::Escalate(Cause::Classic(promise));
     }
 }
 
 // The answer to a proposal whose transaction was neither heard nor voted here.
-fn answer_to_new<S: FactStore>(store: &S, cluster: &Cluster, choice: &Choice) -> ProposeAnswer
-    ensures { (facts : List AFact) → S.stands store.now facts → result ≡ answer_to_new cluster.now facts choice.now }
+fn answer_to_new<S: FactStore>(
+    store: &S,
+    cluster: &Cluster,
+    choice: &Choice,
+    answer: &mut ProposeAnswer,
+)
+    ensures { (facts : List AFact) → S.stands store.now facts → answer.new ≡ answer_to_new cluster.now facts choice.now }
 {
     if store.current(&choice.key) < choice.version {
-        return ProposeAnswer::Escalate(Cause::Behind);
+        *answer = ProposeAnswer::Escalate(Cause::Behind);
+    } else {
+        let promise = store.promise(&choice.key, choice.version);
+        answer_by_promise(store, cluster, choice, promise, answer);
     }
-    let promise = store.promise(&choice.key, choice.version);
-    answer_by_promise(store, cluster, choice, promise)
 }
 
 // The answer where the transaction was not heard: by what was voted on it in the instance.
-fn answer_to_unheard<S: FactStore>(store: &S, cluster: &Cluster, choice: &Choice) -> ProposeAnswer
+fn answer_to_unheard<S: FactStore>(
+    store: &S,
+    cluster: &Cluster,
+    choice: &Choice,
+    answer: &mut ProposeAnswer,
+)
     ensures { (facts : List AFact) → S.stands store.now facts
-        → result ≡ answer_after cluster.now facts choice.now None (vote_of facts choice.now.key choice.now.version choice.now.tx) }
+        → answer.new ≡ answer_after cluster.now facts choice.now None (vote_of facts choice.now.key choice.now.version choice.now.tx) }
 {
     match store.vote_of(&choice.key, choice.version, choice.tx) {
-        Some((ballot, mark)) => ProposeAnswer::Again(ballot, mark),
-        None => answer_to_new(store, cluster, choice),
+        Some((ballot, mark)) => *answer = ProposeAnswer::Again(ballot, mark),
+        None => answer_to_new(store, cluster, choice, answer),
+    }
+}
+
+// The answer where the transaction was heard: how it ended.
+#[inline(never)]
+fn answer_to_heard<S: FactStore>(store: &S, tx: TxId, answer: &mut ProposeAnswer)
+    ensures { (facts : List AFact) → S.stands store.now facts
+        → IfSome (heard_of facts tx) (λ outcome. answer.new ≡ AProposeAnswer.Known outcome) }
+{
+    if let Some(outcome) = store.heard(tx) {
+        *answer = ProposeAnswer::Known(outcome);
     }
 }
 
@@ -127,11 +151,26 @@ fn answer_to_unheard<S: FactStore>(store: &S, cluster: &Cluster, choice: &Choice
 /// ended, its vote in the instance, that it holds an older version, that it promised a classic
 /// ballot, and else a vote or why it gives none. It adds no fact: whoever sends a vote adds it
 /// first.
+pub fn answer_proposal<S: FactStore>(
+    store: &S,
+    cluster: &Cluster,
+    choice: &Choice,
+    answer: &mut ProposeAnswer,
+)
+    ensures { (facts : List AFact) → S.stands store.now facts → answer.new ≡ on_propose cluster.now facts choice.now }
+{
+    if store.is_heard(choice.tx) {
+        answer_to_heard(store, choice.tx, answer);
+    } else {
+        answer_to_unheard(store, cluster, choice, answer);
+    }
+}
+
+/// The same, as a value.
 pub fn on_propose<S: FactStore>(store: &S, cluster: &Cluster, choice: &Choice) -> ProposeAnswer
     ensures { (facts : List AFact) → S.stands store.now facts → result ≡ on_propose cluster.now facts choice.now }
 {
-    match store.heard(choice.tx) {
-        Some(outcome) => ProposeAnswer::Known(outcome),
-        None => answer_to_unheard(store, cluster, choice),
-    }
+    let mut answer = ProposeAnswer::Vote(Mark::Reject);
+    answer_proposal(store, cluster, choice, &mut answer);
+    answer
 }

@@ -1,5 +1,5 @@
 -- Messages as they are kept: their bytes, whether they were delivered, and the cursors of the centres.
-use Rattle.std.specs.Prelude.{◌≡◌, ◌≤◌, Bool, Err, List, Ok, Result, [], get_or, length, map, true, ℕ, ◌-◌}
+use Rattle.std.specs.Prelude.{◌≡◌, ◌≤◌, Bool, Err, List, None, Ok, Option, Result, Some, [], false, get_or, length, map, true, ℕ, ◌-◌}
 use Rattle.mdcc_mail.specs.Waiting.{before_first, waits_for}
 use Rattle.mdcc_messages.specs.Lengths.{message_length, messages_length}
 use Rattle.mdcc_messages.specs.Reading.{view_of}
@@ -29,6 +29,11 @@ pub record IsLetter (bytes : List ℕ) (to : ℕ) : Type 0 where
 
 abbrev pub delivered : Sent → Sent
 delivered sent = record { envelope = sent.envelope; is_delivered = true }
+
+-- what was read into a place, where there is such a message
+abbrev pub read : Bool → Envelope → Option Envelope
+read true envelope = Some envelope
+read false envelope = None
 
 -- ---- messages in order
 

@@ -1,5 +1,5 @@
 //! Messages as their bytes, one after another.
-ghost use Rattle.std.specs.Prelude.{◌≡◌, ◌≤◌, length, IfOk};
+ghost use Rattle.std.specs.Prelude.{◌≡◌, ◌≤◌, length, IfOk, OnOk};
 ghost use Rattle.mdcc_mail.specs.Letters.{delivered};
 ghost use Rattle.mdcc_mail.specs.Waiting.{before_first, waits_for};
 ghost use Rattle.mdcc_messages.specs.Lengths.{message_length};
@@ -8,7 +8,7 @@ ghost use Rattle.mdcc_messages.specs.Mailbox.{unsent};
 
 use mdcc_base::Memory;
 use mdcc_messages::Envelope;
-use mdcc_wire::{view, write_message};
+use mdcc_wire::{view_written, write_message};
 use std::alloc::Global;
 use std::marker::Model;
 
@@ -61,14 +61,11 @@ impl Letter {
         self.to
     }
 
-    /// The message, decoded from its bytes.
-    pub fn envelope(&self, alloc: Global) -> Result<Envelope, Memory>
-        ensures { IfOk result (λ envelope. envelope ≡ self.now.envelope) }
+    /// Reads the message from its bytes into a place. Where there is no memory, what stands there is of no use.
+    pub fn read_into(&self, alloc: Global, into: &mut Envelope) -> Result<(), Memory>
+        ensures { OnOk result (into.new ≡ self.now.envelope) }
     {
-        match view(&self.bytes) {
-            Ok(viewed) => viewed.envelope(alloc),
-            Err(_) => Err(Memory),
-        }
+        view_written(&self.bytes).read_into(alloc, into)
     }
 
     /// It was delivered, maybe also before.

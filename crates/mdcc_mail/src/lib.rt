@@ -7,4 +7,5 @@ pub mod outgoing;
 
 pub use mail::Mail;
 pub use mdcc_messages::Envelope;
+pub use mdcc_wire::empty_envelope;
 pub use outgoing::Outgoing;

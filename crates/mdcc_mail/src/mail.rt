@@ -1,6 +1,7 @@
 //! All messages of a world, by number.
 ghost use Rattle.std.specs.Prelude.{◌≡◌, ◌≤◌, ◌<◌, ◌^◌, ◌-◌, ◌++◌, [], ◌↔◌, IsTrue, Ok, OnOk, OnErr, IfOk, length, map};
 ghost use Rattle.std.specs.Option.{option_copied, option_map};
+ghost use Rattle.mdcc_mail.specs.Letters.{read};
 ghost use Rattle.mdcc_mail.specs.Waiting.{before_first, first_to, waits_for};
 ghost use Rattle.mdcc_messages.specs.Mailbox.{numbered, unsent, with_delivered};
 
@@ -91,16 +92,17 @@ impl Mail {
         }
     }
 
-    /// The message of a number, decoded from its bytes.
-    pub fn envelope(&self, alloc: Global, number: u32) -> Result<Option<Envelope>, Memory>
-        ensures { IfOk result (λ envelope. envelope ≡ option_map (λ sent. sent.envelope) (numbered self.now number)) }
+    /// Reads the message of a number from its bytes into a place, and says whether there is one. Where there is no memory,
+    /// what stands in the place is of no use.
+    pub fn read_into(&self, alloc: Global, number: u32, into: &mut Envelope) -> Result<bool, Memory>
+        ensures { IfOk result (λ is_there. read is_there into.new ≡ option_map (λ sent. sent.envelope) (numbered self.now number)) }
     {
         match self.letter(number) {
             Some(letter) => {
-                let envelope = letter.envelope(alloc)?;
-                Ok(Some(envelope))
+                letter.read_into(alloc, into)?;
+                Ok(true)
             }
-            None => Ok(None),
+            None => Ok(false),
         }
     }
 

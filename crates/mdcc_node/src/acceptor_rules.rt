@@ -12,13 +12,13 @@ ghost use Rattle.mdcc_rules.specs.AcceptorRules.{accept_step, accepted_step, pre
 ghost use Rattle.mdcc_rules.specs.Messages.{to_one};
 
 use crate::node::Node;
-use crate::steps::{vote_fact, voted_message};
+use crate::steps::{voted_message, write_vote};
 use crate::votes::{new_marks, send_votes};
-use mdcc_acceptor::{on_accept, on_prepare, on_propose};
-use mdcc_base::{Ballot, HeapList, Key, Memory, Plain};
+use mdcc_acceptor::{answer_proposal, on_accept, on_prepare};
+use mdcc_base::{Ballot, HeapList, Key, Memory, Plain, TxId};
 use mdcc_facts::FactStore;
 use mdcc_messages::{Envelope, Fact, Message};
-use mdcc_option::{Choice, Mark};
+use mdcc_option::{Cause, Choice, Mark, Outcome};
 use mdcc_protocol::{AcceptAnswer, PrepareAnswer, ProposeAnswer};
 use mdcc_rules::Step;
 use mdcc_sends::send;
@@ -28,14 +28,68 @@ impl<S: FactStore + Drop> Node<S> {
     // ---- proposals
 
     // A vote at the fast ballot.
-    fn vote(&self, from: u8, choice: &Choice, mark: Mark, step: &mut Step) -> Result<(), Memory>
+    fn vote(&self, from: u8, choice: &Choice, mark: &Mark, step: &mut Step) -> Result<(), Memory>
         requires { step.old ≡ blank }
-        ensures { (volatile : AVolatile) → OnOk result (step.new ≡ planned (proposed_step self.now.centre volatile from choice.now (AProposeAnswer.Vote mark))) }
+        ensures { (volatile : AVolatile) → OnOk result (step.new ≡ planned (proposed_step self.now.centre volatile from choice.now (AProposeAnswer.Vote mark.now))) }
     {
-        let message = voted_message(choice, Ballot::FAST, mark.copy());
-        send(self.centre.number(), from, message, &mut step.sends)?;
-        step.fact = Some(vote_fact(self.alloc, choice, mark)?);
+        self.send_vote(from, choice, Ballot::FAST, mark, &mut step.sends)?;
+        write_vote(self.alloc, choice, mark, &mut step.fact)?;
         Ok(())
+    }
+
+    // A vote at a ballot is sent.
+    fn send_vote(
+        &self,
+        to: u8,
+        choice: &Choice,
+        ballot: Ballot,
+        mark: &Mark,
+        sends: &mut HeapList<Envelope>,
+    ) -> Result<(), Memory>
+        ensures { OnOk result (sends.new ≡ sends.old ++ to_one self.now.centre to
+            (AMessage.Voted choice.now.key choice.now.version ballot choice.now.tx mark.now)) }
+    {
+        let message = voted_message(choice, ballot, mark);
+        send(self.centre.number(), to, message, sends)
+    }
+
+    // It is told how a transaction ended.
+    fn send_outcome(
+        &self,
+        to: u8,
+        tx: TxId,
+        outcome: &Outcome,
+        sends: &mut HeapList<Envelope>,
+    ) -> Result<(), Memory>
+        ensures { OnOk result (sends.new ≡ sends.old ++ to_one self.now.centre to (AMessage.Outcome tx outcome.now)) }
+    {
+        let outcome = outcome.copy();
+        send(
+            self.centre.number(),
+            to,
+            Message::Outcome { tx, outcome },
+            sends,
+        )
+    }
+
+    // It is told why there is no vote.
+    fn send_cause(
+        &self,
+        to: u8,
+        choice: &Choice,
+        cause: Cause,
+        sends: &mut HeapList<Envelope>,
+    ) -> Result<(), Memory>
+        ensures { OnOk result (sends.new ≡ sends.old ++ to_one self.now.centre to
+            (AMessage.Escalate choice.now.key choice.now.version choice.now.tx cause)) }
+    {
+        let message = Message::Escalate {
+            key: choice.key,
+            version: choice.version,
+            tx: choice.tx,
+            cause,
+        };
+        send(self.centre.number(), to, message, sends)
     }
 
     // What the acceptor's answer to a choice adds and sends.
@@ -43,25 +97,24 @@ impl<S: FactStore + Drop> Node<S> {
         &self,
         from: u8,
         choice: &Choice,
-        acceptor: ProposeAnswer,
+        acceptor: &ProposeAnswer,
         step: &mut Step,
     ) -> Result<(), Memory>
         requires { step.old ≡ blank }
-        ensures { (volatile : AVolatile) → OnOk result (step.new ≡ planned (proposed_step self.now.centre volatile from choice.now acceptor)) }
+        ensures { (volatile : AVolatile) → OnOk result (step.new ≡ planned (proposed_step self.now.centre volatile from choice.now acceptor.now)) }
     {
-        let tx = choice.tx;
-        let message = match acceptor {
-            ProposeAnswer::Known(outcome) => Message::Outcome { tx, outcome },
-            ProposeAnswer::Again(ballot, mark) => voted_message(choice, ballot, mark),
-            ProposeAnswer::Escalate(cause) => Message::Escalate {
-                key: choice.key,
-                version: choice.version,
-                tx,
-                cause,
-            },
-            ProposeAnswer::Vote(mark) => return self.vote(from, choice, mark, step),
-        };
-        send(self.centre.number(), from, message, &mut step.sends)
+        match acceptor {
+            ProposeAnswer::Known(outcome) => {
+                self.send_outcome(from, choice.tx, outcome, &mut step.sends)
+            }
+            ProposeAnswer::Again(ballot, mark) => {
+                self.send_vote(from, choice, *ballot, mark, &mut step.sends)
+            }
+            ProposeAnswer::Escalate(cause) => {
+                self.send_cause(from, choice, *cause, &mut step.sends)
+            }
+            ProposeAnswer::Vote(mark) => self.vote(from, choice, mark, step),
+        }
     }
 
     // A choice was proposed.
@@ -71,8 +124,9 @@ impl<S: FactStore + Drop> Node<S> {
             → OnOk result (step.new ≡ planned (propose_step self.now.cluster self.now.centre facts volatile from choice.now)) }
         ensures fact { (facts : List AFact) → S.stands self.now.store facts → OnOk result (MayFollow facts step.new.fact) }
     {
-        let acceptor = on_propose(&self.store, &self.cluster, choice);
-        self.proposed(from, choice, acceptor, step)
+        let mut acceptor = ProposeAnswer::Vote(Mark::Reject);
+        answer_proposal(&self.store, &self.cluster, choice, &mut acceptor);
+        self.proposed(from, choice, &acceptor, step)
     }
 
     // ---- promises

@@ -15,3 +15,4 @@ mod votes;
 
 pub use mdcc_rules::{Answer, BootFault, Input, Step, StepFault};
 pub use node::Node;
+pub use steps::blank;

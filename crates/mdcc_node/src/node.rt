@@ -280,8 +280,9 @@ impl<S: FactStore + Drop> Node<S> {
         self.add_planned(step)
     }
 
-    // A message came. It is refused where it is for another centre or not of the cluster.
-    fn deliver(&mut self, envelope: &Envelope, step: &mut Step) -> Result<(), StepFault>
+    /// A message came: what the node does is written into a blank step, as that of `step`. It is refused where it is for
+    /// another centre or not of the cluster.
+    pub fn deliver(&mut self, envelope: &Envelope, step: &mut Step) -> Result<(), StepFault>
         requires message { IsWellFormedEnvelope envelope.now }
         requires short { accept_length envelope.now.message ≤ 2097152 }
         requires running { IsRunning S.stands self.old }
@@ -295,8 +296,8 @@ impl<S: FactStore + Drop> Node<S> {
         }
     }
 
-    // What an input does.
-    fn act_on(&mut self, input: &Input, step: &mut Step) -> Result<(), StepFault>
+    /// What an input does, written into a blank step.
+    pub fn act_on(&mut self, input: &Input, step: &mut Step) -> Result<(), StepFault>
         requires input { IsGiven input.now }
         requires running { IsRunning S.stands self.old }
         requires blank { step.old ≡ blank }

@@ -1,5 +1,5 @@
 //! What steps are made of.
-ghost use Rattle.std.specs.Prelude.{◌≡◌, IfOk, None, Some};
+ghost use Rattle.std.specs.Prelude.{◌≡◌, None, OnOk, Some};
 ghost use Rattle.mdcc_node.specs.Planning.{blank};
 ghost use Rattle.mdcc_node.specs.Telling.{offered, vote_fact};
 ghost use Rattle.mdcc_protocol.specs.Leader.{claim_of_choice};
@@ -13,8 +13,8 @@ use mdcc_rules::Step;
 use mdcc_struct::Options;
 use std::alloc::Global;
 
-/// A step that does nothing.
-pub(crate) fn blank(alloc: Global) -> Step
+/// A step that does nothing, into whose place an input's is written.
+pub fn blank(alloc: Global) -> Step
     ensures { result ≡ blank }
 {
     Step {
@@ -60,31 +60,36 @@ fn offered(choice: &Choice, mark: &Mark) -> Option<Choice>
     }
 }
 
-/// The vote of an acceptor on one choice at the fast ballot.
-pub(crate) fn vote_fact(alloc: Global, choice: &Choice, mark: Mark) -> Result<Fact, Memory>
-    ensures { IfOk result (λ fact. fact ≡ vote_fact choice.now mark) }
+/// Writes the vote of an acceptor on one choice at the fast ballot.
+pub(crate) fn write_vote(
+    alloc: Global,
+    choice: &Choice,
+    mark: &Mark,
+    fact: &mut Option<Fact>,
+) -> Result<(), Memory>
+    ensures { OnOk result (fact.new ≡ Some (vote_fact choice.now mark.now)) }
 {
-    let offered = offered(choice, &mark);
     let mut options = Options::new(alloc)?;
-    options.insert(choice.tx, mark)?;
-    Ok(Fact::Voted {
+    options.insert(choice.tx, mark.copy())?;
+    *fact = Some(Fact::Voted {
         key: choice.key,
         version: choice.version,
         ballot: Ballot::FAST,
         options,
-        offered,
-    })
+        offered: offered(choice, mark),
+    });
+    Ok(())
 }
 
 /// A vote on a choice, as it is sent.
-pub(crate) fn voted_message(choice: &Choice, ballot: Ballot, mark: Mark) -> Message
-    ensures { result ≡ AMessage.Voted choice.now.key choice.now.version ballot choice.now.tx mark }
+pub(crate) fn voted_message(choice: &Choice, ballot: Ballot, mark: &Mark) -> Message
+    ensures { result ≡ AMessage.Voted choice.now.key choice.now.version ballot choice.now.tx mark.now }
 {
     Message::Voted {
         key: choice.key,
         version: choice.version,
         ballot,
         tx: choice.tx,
-        mark,
+        mark: mark.copy(),
     }
 }

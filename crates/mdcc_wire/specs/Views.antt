@@ -30,6 +30,17 @@ passed bytes = do
   end ← end_of (body_at kind.0 bytes to.1)
   whole bytes (tt, end)
 
+-- ---- what is read into a place
+
+-- what stands in the place, with the place behind it, where it was read
+abbrev pub placed : {T : Type 0} → Result ℕ WireFault → T → Result (T × ℕ) WireFault
+placed (Ok after) x = Ok (x, after)
+placed (Err fault) x = Err fault
+
+abbrev pub placed_whole : {T : Type 0} → Result (Unit {0}) WireFault → T → Result T WireFault
+placed_whole (Ok done) x = Ok x
+placed_whole (Err fault) x = Err fault
+
 -- ---- what stands in a message
 
 -- the choice that is proposed, or for which a leader is asked

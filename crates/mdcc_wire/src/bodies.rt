@@ -3,7 +3,7 @@ ghost use Rattle.std.specs.Prelude.{◌≡◌, ◌≤◌, None, true};
 ghost use Rattle.mdcc_messages.specs.ReadingSteps.{elements_at, list_at};
 ghost use Rattle.mdcc_messages.specs.ReadingParts.{part_behind};
 ghost use Rattle.mdcc_messages.specs.Reading.{propose_at, voted_at, escalate_at, lead_at, prepare_at, refused_at, ended_at, ask_at, sync_ask_at, client_read_at, client_begin_at, client_answer_at, body_at};
-ghost use Rattle.mdcc_wire.specs.Views.{is_plain};
+ghost use Rattle.mdcc_wire.specs.Views.{is_plain, placed};
 
 use crate::answers::read_answer;
 use mdcc_base::{BoundedList, Key};
@@ -16,127 +16,130 @@ use mdcc_parts::items::read_part_behind;
 use mdcc_parts::marks::{read_cause, read_entry};
 use mdcc_parts::numbers::{u8_within, u32_at};
 
+/// A message into whose place another one is read.
+pub fn empty_message() -> Message {
+    Message::SyncAsk(Key::default())
+}
+
 // A proposed choice.
-fn propose_at(bytes: &[u8], at: usize) -> Result<(Message, usize), WireFault>
-    ensures { result ≡ propose_at bytes.now at }
+fn propose_into(bytes: &[u8], at: usize, into: &mut Message) -> Result<usize, WireFault>
+    ensures { placed result into.new ≡ propose_at bytes.now at }
 {
     let (choice, after) = read_choice(bytes, at)?;
-    Ok((Message::Propose(choice), after))
+    *into = Message::Propose(choice);
+    Ok(after)
 }
 
 // A vote.
-fn voted_at(bytes: &[u8], at: usize) -> Result<(Message, usize), WireFault>
-    ensures { result ≡ voted_at bytes.now at }
+fn voted_into(bytes: &[u8], at: usize, into: &mut Message) -> Result<usize, WireFault>
+    ensures { placed result into.new ≡ voted_at bytes.now at }
 {
     let ((key, version), after) = read_instance(bytes, at)?;
     let (ballot, after) = read_ballot(bytes, after)?;
     let ((tx, mark), after) = read_entry(bytes, after, &key, version)?;
-    Ok((
-        Message::Voted {
-            key,
-            version,
-            ballot,
-            tx,
-            mark,
-        },
-        after,
-    ))
+    *into = Message::Voted {
+        key,
+        version,
+        ballot,
+        tx,
+        mark,
+    };
+    Ok(after)
 }
 
 // A vote that is not given, and why.
-fn escalate_at(bytes: &[u8], at: usize) -> Result<(Message, usize), WireFault>
-    ensures { result ≡ escalate_at bytes.now at }
+fn escalate_into(bytes: &[u8], at: usize, into: &mut Message) -> Result<usize, WireFault>
+    ensures { placed result into.new ≡ escalate_at bytes.now at }
 {
     let ((key, version), after) = read_instance(bytes, at)?;
     let (tx, after) = read_tx(bytes, after)?;
     let (cause, after) = read_cause(bytes, after)?;
-    Ok((
-        Message::Escalate {
-            key,
-            version,
-            tx,
-            cause,
-        },
-        after,
-    ))
+    *into = Message::Escalate {
+        key,
+        version,
+        tx,
+        cause,
+    };
+    Ok(after)
 }
 
 // A choice for which a leader is asked.
-fn lead_at(bytes: &[u8], at: usize) -> Result<(Message, usize), WireFault>
-    ensures { result ≡ lead_at bytes.now at }
+fn lead_into(bytes: &[u8], at: usize, into: &mut Message) -> Result<usize, WireFault>
+    ensures { placed result into.new ≡ lead_at bytes.now at }
 {
     let (choice, after) = read_choice(bytes, at)?;
-    Ok((Message::Lead(choice), after))
+    *into = Message::Lead(choice);
+    Ok(after)
 }
 
 // Versions and a ballot, for which a promise is asked.
-fn prepare_at(bytes: &[u8], at: usize) -> Result<(Message, usize), WireFault>
-    ensures { result ≡ prepare_at bytes.now at }
+fn prepare_into(bytes: &[u8], at: usize, into: &mut Message) -> Result<usize, WireFault>
+    ensures { placed result into.new ≡ prepare_at bytes.now at }
 {
     let ((key, version), after) = read_instance(bytes, at)?;
     let (through, after) = read_at_least(version, bytes, after)?;
     let (ballot, after) = read_classic(bytes, after)?;
-    Ok((
-        Message::Prepare {
-            key,
-            version,
-            through,
-            ballot,
-        },
-        after,
-    ))
+    *into = Message::Prepare {
+        key,
+        version,
+        through,
+        ballot,
+    };
+    Ok(after)
 }
 
 // A ballot that is refused, and the one that was promised.
-fn refused_at(bytes: &[u8], at: usize) -> Result<(Message, usize), WireFault>
-    ensures { result ≡ refused_at bytes.now at }
+fn refused_into(bytes: &[u8], at: usize, into: &mut Message) -> Result<usize, WireFault>
+    ensures { placed result into.new ≡ refused_at bytes.now at }
 {
     let ((key, version), after) = read_instance(bytes, at)?;
     let (ballot, after) = read_classic(bytes, after)?;
     let (promised, after) = read_ballot(bytes, after)?;
-    Ok((
-        Message::Refused {
-            key,
-            version,
-            ballot,
-            promised,
-        },
-        after,
-    ))
+    *into = Message::Refused {
+        key,
+        version,
+        ballot,
+        promised,
+    };
+    Ok(after)
 }
 
 // A transaction and how it ended.
-fn ended_at(bytes: &[u8], at: usize) -> Result<(Message, usize), WireFault>
-    ensures { result ≡ ended_at bytes.now at }
+fn ended_into(bytes: &[u8], at: usize, into: &mut Message) -> Result<usize, WireFault>
+    ensures { placed result into.new ≡ ended_at bytes.now at }
 {
     let ((tx, outcome), after) = read_heard(bytes, at)?;
-    Ok((Message::Outcome { tx, outcome }, after))
+    *into = Message::Outcome { tx, outcome };
+    Ok(after)
 }
 
 // A transaction and an instance that are asked for.
-fn ask_at(bytes: &[u8], at: usize) -> Result<(Message, usize), WireFault>
-    ensures { result ≡ ask_at bytes.now at }
+fn ask_into(bytes: &[u8], at: usize, into: &mut Message) -> Result<usize, WireFault>
+    ensures { placed result into.new ≡ ask_at bytes.now at }
 {
     let (tx, after) = read_tx(bytes, at)?;
     let ((key, version), after) = read_instance(bytes, after)?;
-    Ok((Message::Ask { tx, key, version }, after))
+    *into = Message::Ask { tx, key, version };
+    Ok(after)
 }
 
 // A key whose state is asked for.
-fn sync_ask_at(bytes: &[u8], at: usize) -> Result<(Message, usize), WireFault>
-    ensures { result ≡ sync_ask_at bytes.now at }
+fn sync_ask_into(bytes: &[u8], at: usize, into: &mut Message) -> Result<usize, WireFault>
+    ensures { placed result into.new ≡ sync_ask_at bytes.now at }
 {
     let (key, after) = read_key(bytes, at)?;
-    Ok((Message::SyncAsk(key), after))
+    *into = Message::SyncAsk(key);
+    Ok(after)
 }
 
 // A key that a client reads.
-fn client_read_at(bytes: &[u8], at: usize) -> Result<(Message, usize), WireFault>
-    ensures { result ≡ client_read_at bytes.now at }
+fn client_read_into(bytes: &[u8], at: usize, into: &mut Message) -> Result<usize, WireFault>
+    ensures { placed result into.new ≡ client_read_at bytes.now at }
 {
     let (serial, after) = u32_at(bytes, at)?;
     let (key, after) = read_key(bytes, after)?;
-    Ok((Message::ClientRead { serial, key }, after))
+    *into = Message::ClientRead { serial, key };
+    Ok(after)
 }
 
 // So many parts at a place, of the list that begins at `part`.
@@ -162,41 +165,48 @@ fn parts_from(
 }
 
 // The parts of a transaction that a client begins.
-fn client_begin_at(bytes: &[u8], at: usize) -> Result<(Message, usize), WireFault>
-    ensures { result ≡ client_begin_at bytes.now at }
+fn client_begin_into(bytes: &[u8], at: usize, into: &mut Message) -> Result<usize, WireFault>
+    ensures { placed result into.new ≡ client_begin_at bytes.now at }
 {
     let (serial, first) = u32_at(bytes, at)?;
     let (count, after) = u8_within(first, 1, 8, bytes, first)?;
     let (parts, after) = parts_from(first, bytes, usize::from(count), after)?;
-    Ok((Message::ClientBegin { serial, parts }, after))
+    *into = Message::ClientBegin { serial, parts };
+    Ok(after)
 }
 
 // What a client is answered.
-fn client_answer_at(bytes: &[u8], at: usize) -> Result<(Message, usize), WireFault>
-    ensures { result ≡ client_answer_at bytes.now at }
+fn client_answer_into(bytes: &[u8], at: usize, into: &mut Message) -> Result<usize, WireFault>
+    ensures { placed result into.new ≡ client_answer_at bytes.now at }
 {
     let (serial, after) = u32_at(bytes, at)?;
     let (answer, after) = read_answer(bytes, after)?;
-    Ok((Message::ClientAnswer { serial, answer }, after))
+    *into = Message::ClientAnswer { serial, answer };
+    Ok(after)
 }
 
-/// The body of a message of this kind, which takes no memory.
-pub fn plain_body(kind: u8, bytes: &[u8], at: usize) -> Result<(Message, usize), WireFault>
+/// Reads the body of a message of this kind, which takes no memory, and gives its end.
+pub fn plain_body_into(
+    kind: u8,
+    bytes: &[u8],
+    at: usize,
+    into: &mut Message,
+) -> Result<usize, WireFault>
     requires { is_plain kind ≡ true }
-    ensures { result ≡ body_at kind bytes.now at }
+    ensures { placed result into.new ≡ body_at kind bytes.now at }
 {
     match kind {
-        1 => propose_at(bytes, at),
-        2 => voted_at(bytes, at),
-        3 => escalate_at(bytes, at),
-        4 => lead_at(bytes, at),
-        5 => prepare_at(bytes, at),
-        8 => refused_at(bytes, at),
-        9 => ended_at(bytes, at),
-        10 => ask_at(bytes, at),
-        11 => sync_ask_at(bytes, at),
-        13 => client_read_at(bytes, at),
-        14 => client_begin_at(bytes, at),
-        _ => client_answer_at(bytes, at),
+        1 => propose_into(bytes, at, into),
+        2 => voted_into(bytes, at, into),
+        3 => escalate_into(bytes, at, into),
+        4 => lead_into(bytes, at, into),
+        5 => prepare_into(bytes, at, into),
+        8 => refused_into(bytes, at, into),
+        9 => ended_into(bytes, at, into),
+        10 => ask_into(bytes, at, into),
+        11 => sync_ask_into(bytes, at, into),
+        13 => client_read_into(bytes, at, into),
+        14 => client_begin_into(bytes, at, into),
+        _ => client_answer_into(bytes, at, into),
     }
 }

@@ -2,9 +2,10 @@
 ghost use Rattle.std.specs.Prelude.{◌≡◌};
 ghost use Rattle.mdcc_base.specs.Unless.{GivesUnless};
 ghost use Rattle.mdcc_parts.specs.Reads.{end_of, is_memory};
+ghost use Rattle.mdcc_wire.specs.Views.{placed};
 ghost use Rattle.mdcc_messages.specs.Reading.{promise_at, accept_at, sync_give_at, body_at};
 
-use crate::bodies::plain_body;
+use crate::bodies::{empty_message, plain_body_into};
 use mdcc_messages::{Message, WireFault};
 use mdcc_parts::given::{check_given, read_at_least, read_given, read_instance};
 use mdcc_parts::identifiers::{read_ballot, read_classic};
@@ -12,25 +13,28 @@ use mdcc_parts::marks::{check_options, read_options};
 use std::alloc::Global;
 
 // A promise with the votes that it reports.
-fn promise_at(alloc: Global, bytes: &[u8], at: usize) -> Result<(Message, usize), WireFault>
-    ensures { GivesUnless is_memory result (promise_at bytes.now at) }
+fn promise_into(
+    alloc: Global,
+    bytes: &[u8],
+    at: usize,
+    into: &mut Message,
+) -> Result<usize, WireFault>
+    ensures { GivesUnless is_memory (placed result into.new) (promise_at bytes.now at) }
 {
     let ((key, version), after) = read_instance(bytes, at)?;
     let (through, after) = read_at_least(version, bytes, after)?;
     let (ballot, after) = read_classic(bytes, after)?;
     let (reported, after) = read_ballot(bytes, after)?;
     let (votes, after) = read_options(alloc, bytes, after, &key, version)?;
-    Ok((
-        Message::Promise {
-            key,
-            version,
-            through,
-            ballot,
-            reported,
-            votes,
-        },
-        after,
-    ))
+    *into = Message::Promise {
+        key,
+        version,
+        through,
+        ballot,
+        reported,
+        votes,
+    };
+    Ok(after)
 }
 
 // Where a promise ends.
@@ -46,21 +50,24 @@ fn check_promise(bytes: &[u8], at: usize) -> Result<usize, WireFault>
 }
 
 // A structure for which votes are asked.
-fn accept_at(alloc: Global, bytes: &[u8], at: usize) -> Result<(Message, usize), WireFault>
-    ensures { GivesUnless is_memory result (accept_at bytes.now at) }
+fn accept_into(
+    alloc: Global,
+    bytes: &[u8],
+    at: usize,
+    into: &mut Message,
+) -> Result<usize, WireFault>
+    ensures { GivesUnless is_memory (placed result into.new) (accept_at bytes.now at) }
 {
     let ((key, version), after) = read_instance(bytes, at)?;
     let (ballot, after) = read_classic(bytes, after)?;
     let (options, after) = read_options(alloc, bytes, after, &key, version)?;
-    Ok((
-        Message::Accept {
-            key,
-            version,
-            ballot,
-            options,
-        },
-        after,
-    ))
+    *into = Message::Accept {
+        key,
+        version,
+        ballot,
+        options,
+    };
+    Ok(after)
 }
 
 // Where a structure ends for which votes are asked.
@@ -74,19 +81,22 @@ fn check_accept(bytes: &[u8], at: usize) -> Result<usize, WireFault>
 }
 
 // What a centre holds of a key.
-fn sync_give_at(alloc: Global, bytes: &[u8], at: usize) -> Result<(Message, usize), WireFault>
-    ensures { GivesUnless is_memory result (sync_give_at bytes.now at) }
+fn sync_give_into(
+    alloc: Global,
+    bytes: &[u8],
+    at: usize,
+    into: &mut Message,
+) -> Result<usize, WireFault>
+    ensures { GivesUnless is_memory (placed result into.new) (sync_give_at bytes.now at) }
 {
     let ((key, version, item, adds), after) = read_given(alloc, bytes, at)?;
-    Ok((
-        Message::SyncGive {
-            key,
-            version,
-            item,
-            adds,
-        },
-        after,
-    ))
+    *into = Message::SyncGive {
+        key,
+        version,
+        item,
+        adds,
+    };
+    Ok(after)
 }
 
 // Where it ends.
@@ -97,22 +107,23 @@ fn check_sync_give(bytes: &[u8], at: usize) -> Result<usize, WireFault>
     Ok(end)
 }
 
-/// The body of a message of this kind.
+/// Reads the body of a message of this kind, and gives its end.
 pub fn read_body(
     alloc: Global,
     kind: u8,
     bytes: &[u8],
     at: usize,
-) -> Result<(Message, usize), WireFault>
-    ensures { GivesUnless is_memory result (body_at kind bytes.now at) }
+    into: &mut Message,
+) -> Result<usize, WireFault>
+    ensures { GivesUnless is_memory (placed result into.new) (body_at kind bytes.now at) }
 {
     match kind {
-        6 => promise_at(alloc, bytes, at),
-        7 => accept_at(alloc, bytes, at),
-        12 => sync_give_at(alloc, bytes, at),
+        6 => promise_into(alloc, bytes, at, into),
+        7 => accept_into(alloc, bytes, at, into),
+        12 => sync_give_into(alloc, bytes, at, into),
         _ => {
-            let (message, after) = plain_body(kind, bytes, at)?;
-            Ok((message, after))
+            let after = plain_body_into(kind, bytes, at, into)?;
+            Ok(after)
         }
     }
 }
@@ -126,7 +137,8 @@ pub fn check_body(kind: u8, bytes: &[u8], at: usize) -> Result<usize, WireFault>
         7 => check_accept(bytes, at),
         12 => check_sync_give(bytes, at),
         _ => {
-            let (_message, after) = plain_body(kind, bytes, at)?;
+            let mut message = empty_message();
+            let after = plain_body_into(kind, bytes, at, &mut message)?;
             Ok(after)
         }
     }

@@ -1,13 +1,14 @@
 //! Views of messages: bytes that were found to spell one.
-ghost use Rattle.std.specs.Prelude.{◌≡◌, Ok, IfOk};
+ghost use Rattle.std.specs.Prelude.{◌≡◌, Ok, IfOk, IsOk, OnOk};
 ghost use Rattle.mdcc_base.specs.Unless.{GivesUnless};
 ghost use Rattle.mdcc_parts.specs.Reads.{is_memory};
 ghost use Rattle.mdcc_messages.specs.ReadingSteps.{checked, u8_at};
 ghost use Rattle.mdcc_messages.specs.Reading.{known, endpoint, view_of};
 ghost use Rattle.mdcc_messages.specs.Spelling.{kind_of};
 ghost use Rattle.mdcc_messages.specs.ReadingParts.{choice_at};
-ghost use Rattle.mdcc_wire.specs.Views.{viewed, passed, choice_in, marks_in, kind_or_none, choice_or_none, choice_by};
+ghost use Rattle.mdcc_wire.specs.Views.{viewed, passed, placed_whole, choice_in, marks_in, kind_or_none, choice_or_none, choice_by};
 
+use crate::bodies::empty_message;
 use crate::marks::{MarkViews, marks_by};
 use crate::memory_bodies::{check_body, read_body};
 use mdcc_base::Memory;
@@ -75,6 +76,23 @@ fn check_message(bytes: &[u8]) -> Result<(), WireFault>
     }
 }
 
+/// A view of bytes that are known to spell a message, as those that were written by this crate.
+pub fn view_written(bytes: &[u8]) -> Viewed<'_>
+    requires { IsOk (view_of bytes.now) }
+    ensures { result ≡ bytes.now }
+{
+    Viewed { bytes }
+}
+
+/// An envelope into whose place another one is read.
+pub fn empty_envelope() -> Envelope {
+    Envelope {
+        from: 0,
+        to: 0,
+        message: empty_message(),
+    }
+}
+
 /// A view of the message that the bytes spell. Else the fault at the first byte in reading order that is
 /// not of the grammar. No memory is taken, and nothing is copied.
 pub fn view(bytes: &[u8]) -> Result<Viewed<'_>, WireFault>
@@ -86,17 +104,19 @@ pub fn view(bytes: &[u8]) -> Result<Viewed<'_>, WireFault>
     }
 }
 
-// The message that the bytes spell.
-fn envelope_of(alloc: Global, bytes: &[u8]) -> Result<Envelope, WireFault>
-    ensures { GivesUnless is_memory result (view_of bytes.now) }
+// Reads the message that the bytes spell into a place.
+fn read_envelope(alloc: Global, bytes: &[u8], into: &mut Envelope) -> Result<(), WireFault>
+    ensures { GivesUnless is_memory (placed_whole result into.new) (view_of bytes.now) }
 {
     let (_format, after) = known_at(1, bytes, 0)?;
     let (kind, after) = known_at(15, bytes, after)?;
     let (from, after) = endpoint_at(bytes, after)?;
     let (to, after) = endpoint_at(bytes, after)?;
-    let (message, end) = read_body(alloc, kind, bytes, after)?;
+    let end = read_body(alloc, kind, bytes, after, &mut into.message)?;
+    into.from = from;
+    into.to = to;
     if end == bytes.len() {
-        Ok(Envelope { from, to, message })
+        Ok(())
     } else {
         Err(WireFault::Trailing(end as u64))
     }
@@ -159,8 +179,17 @@ impl<'a> Viewed<'a> {
     pub fn envelope(&self, alloc: Global) -> Result<Envelope, Memory>
         ensures { IfOk result (λ envelope. view_of self.now ≡ Ok envelope) }
     {
-        match envelope_of(alloc, self.bytes) {
-            Ok(envelope) => Ok(envelope),
+        let mut envelope = empty_envelope();
+        self.read_into(alloc, &mut envelope)?;
+        Ok(envelope)
+    }
+
+    /// The message, read into a place. Where there is no memory, what stands there is of no use.
+    pub fn read_into(&self, alloc: Global, into: &mut Envelope) -> Result<(), Memory>
+        ensures { OnOk result (view_of self.now ≡ Ok into.new) }
+    {
+        match read_envelope(alloc, self.bytes, into) {
+            Ok(()) => Ok(()),
             Err(_) => Err(Memory),
         }
     }

@@ -1,7 +1,8 @@
 -- A message comes to its centre.
-use Rattle.std.proofs.Common.{◌≡◌, ℕ, zero, suc, ◌+◌, ◌-◌, ◌≤◌, true, List, refl, sym, ap, ◌∙◌, subst, inl, inr, Option, Some, None, Result, Ok, Err, arith, length}
+use Rattle.std.proofs.Common.{◌≡◌, ℕ, zero, suc, ◌+◌, ◌-◌, ◌≤◌, Bool, true, false, List, refl, sym, ap, ◌∙◌, subst, inl, inr, Option, Some, None, Result, Ok, Err, arith, length}
 use Rattle.std.specs.Option.{option_map}
 use Rattle.std.proofs.lemmas.Bool.{cases_Bool}
+use Rattle.mdcc_mail.specs.Letters.{read}
 use Rattle.mdcc_node.specs.Stepping.{given}
 use Rattle.mdcc_built.specs.Built.{built}
 use Rattle.mdcc_messages.specs.WellFormed.{IsWellFormedEnvelope}
@@ -48,6 +49,11 @@ up-addressee w number sent e clear = elim (cases_Bool (is_up_at w sent.envelope.
       let here : message_by built w number (Some sent) ≡ Ok tt = ap (λ (o : Option Sent). message_by built w number o) (sym e) ∙ clear in
       let bad : Err (EventFault.Down sent.envelope.to) ≡ Ok tt = rw down at here in absurd (cc)
 ]
+
+-- what was read, where it is there
+pub read-there : (is_there : Bool) (envelope : Envelope) (o : Option Envelope) → is_there ≡ true → read is_there envelope ≡ o → Some envelope ≡ o
+read-there true envelope o some is = is
+read-there false envelope o some is = absurd (cc)
 
 pub some-sent : (w : World) (number : ℕ) (envelope : Envelope) (mail : List Sent) → mail ≡ w.sent → at_message built w number ≡ Ok tt
     → Some envelope ≡ option_map (λ (sent : Sent). sent.envelope) (numbered mail number) → IsSentAs w number envelope

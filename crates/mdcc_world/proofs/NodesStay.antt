@@ -9,6 +9,7 @@ use Rattle.mdcc_base.specs.Unless.{GivesUnless}
 use Rattle.mdcc_base.specs.declared.faults.Memory.{Memory}
 use Rattle.mdcc_base.specs.declared.key.Key.{Key}
 use Rattle.mdcc_base.specs.declared.outside.Image.{Image}
+use Rattle.mdcc_node.specs.Planning.{written}
 use Rattle.mdcc_node.specs.Running.{IsRunning}
 use Rattle.mdcc_node.specs.Stepping.{UnlessMemory, facts_left, is_memory, volatile_left, with_new}
 use Rattle.mdcc_node.specs.declared.node.Node.{Node}
@@ -21,6 +22,8 @@ use Rattle.mdcc_rules.specs.Steps.{NodeStep}
 use Rattle.mdcc_simulation.specs.State.{Happened, Site, World, booted, centre_at, down, first_world, is_up_at, with_centre}
 use Rattle.mdcc_simulation.specs.Stepping.{input_happened, is_frame_kept, step_at, step_happened_by, step_stopped}
 use Rattle.mdcc_messages.specs.declared.facts.Fact.{Fact}
+use Rattle.mdcc_protocol.specs.declared.visible.Reading.{Reading}
+use Rattle.mdcc_rules.specs.declared.node.Answer.{Answer}
 use Rattle.mdcc_rules.specs.declared.node.Input.{Input}
 use Rattle.mdcc_rules.specs.declared.node.Step.{Step}
 use Rattle.mdcc_rules.specs.declared.node.StepFault.{StepFault}
@@ -218,15 +221,33 @@ read-left nodes w a key world centre stand = record {
       subst (λ (volatile : Volatile). IsNodeOf node w.cluster (place + 1) (facts_of w.ledger (place + 1)) volatile) same.1 (stand.each place node at (same.0 ∙ up));
 }
 
-pub made-is : (result : Result (Result Step StepFault) Memory) (step expected : Result Step StepFault) → IfOk result (λ made. made ≡ step)
-    → OnOk result (is_memory_made step ≡ false) → GivesUnless is_memory step expected → IfOk result (λ made. made ≡ expected)
-made-is (Ok x) step expected same some gives = same ∙ exact step expected gives some
-made-is (Err fault) step expected same some gives = tt
+-- what a read was answered
+abbrev pub done : Step → Result Step StepFault
+done step = Ok step
 
-pub made-kept : (result : Result (Result Step StepFault) Memory) (step : Result Step StepFault) (P : Type 0) → OnOk result (is_memory_made step ≡ false)
-    → UnlessMemory step P → OnOk result P
-made-kept (Ok x) step P some left = kept step left some
-made-kept (Err fault) step P some left = tt
+pub shown-as : (x y : Step) (answer : Answer) (reading other : Reading) → done x ≡ done y → x.answer ≡ Some answer → answer ≡ Answer.Read reading
+    → y.answer ≡ Some (Answer.Read other) → reading ≡ other
+shown-as x y answer reading other same here is there =
+    let steps : x ≡ y = cc in
+    let answers : Some (Answer.Read reading) ≡ Some (Answer.Read other) =
+    ap (λ (a : Answer). Some a) (sym is) ∙ sym here ∙ ap (λ (s : Step). s.answer) steps ∙ there in
+    cc
+
+some-written : (r : Result (Unit {0}) StepFault) (step : Step) → is_memory_made r ≡ false → is_memory_made (written r step) ≡ false
+some-written (Ok done) step some = refl
+some-written (Err fault) step some = some
+
+pub made-is : (result : Result (Result (Unit {0}) StepFault) Memory) (r : Result (Unit {0}) StepFault) (step : Step) (expected : Result Step StepFault)
+    → IfOk result (λ made. made ≡ r) → OnOk result (is_memory_made r ≡ false) → GivesUnless is_memory (written r step) expected
+    → IfOk result (λ made. written made step ≡ expected)
+made-is (Ok x) r step expected same some gives =
+    ap (λ (m : Result (Unit {0}) StepFault). written m step) same ∙ exact (written r step) expected gives (some-written r step some)
+made-is (Err fault) r step expected same some gives = tt
+
+pub made-kept : (result : Result (Result (Unit {0}) StepFault) Memory) (r : Result (Unit {0}) StepFault) (step : Step) (P : Type 0)
+    → OnOk result (is_memory_made r ≡ false) → UnlessMemory (written r step) P → OnOk result P
+made-kept (Ok x) r step P some left = kept (written r step) left (some-written r step some)
+made-kept (Err fault) r step P some left = tt
 
 -- the nodes after a step that is as the definition's
 pub stepped : (nodes : List (Node CentreStore)) (w : World) (a place : ℕ) (node : Node CentreStore) (input : Input) → NodesStand nodes w → IsWorld w

@@ -7,7 +7,6 @@ use Rattle.mdcc_node.specs.declared.node.Node.{Node}
 use Rattle.mdcc_protocol.specs.Belongs.{is_centre}
 use Rattle.mdcc_ledger.specs.Ledger.{facts_of}
 use Rattle.mdcc_simulation.specs.State.{World, centre_at, is_up_at}
-use Rattle.mdcc_rules.specs.declared.node.Step.{Step}
 use Rattle.mdcc_rules.specs.declared.node.StepFault.{StepFault}
 use Rattle.mdcc_worlds.specs.Standing.{IsWorld}
 
@@ -34,6 +33,6 @@ abbrev pub StopsStand : List (Option (ℕ × Image)) → World → Type 0
 StopsStand stops w = (a : ℕ) → is_centre w.cluster a ≡ true → get_or stops (a - 1) None ≡ (centre_at w a).stop
 
 -- whether there was no memory for an input
-abbrev pub is_memory_made : Result Step StepFault → Bool
-is_memory_made (Ok step) = false
+abbrev pub is_memory_made : {T : Type 0} → Result T StepFault → Bool
+is_memory_made (Ok made) = false
 is_memory_made (Err fault) = is_memory fault

@@ -21,6 +21,7 @@ use crate::telling::tell_begun;
 use crate::world::World;
 use mdcc_base::{Centre, HeapList, Key};
 use mdcc_language::{EventFault, Line, ResolveFault, UpdateWord};
+use mdcc_node::blank;
 use mdcc_option::{BeginFault, Part, Transaction};
 use mdcc_rules::Step;
 use mdcc_sched::resolve;
@@ -60,7 +61,8 @@ impl World {
         ensures kept { OnRefusal result ((self.new ≡ self.old) × (lines.new ≡ lines.old)) }
     {
         self.at_limit()?;
-        let step = self.begin_made(centre, transaction)?;
+        let mut step = blank(self.alloc);
+        self.begin_made(centre, transaction, &mut step)?;
         self.begin_taken(centre, &step, lines)
     }
 

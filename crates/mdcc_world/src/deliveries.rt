@@ -13,6 +13,7 @@ use crate::telling::tell;
 use crate::world::World;
 use mdcc_base::{Centre, HeapList};
 use mdcc_language::{EventFault, Line};
+use mdcc_node::blank;
 
 impl World {
     // The message of a number comes to its centre, which is an event.
@@ -29,8 +30,9 @@ impl World {
         ensures free { IfErr result (λ fault. is_free fault ≡ true) }
         ensures few { self.new.events ≤ self.old.events + 1 }
     {
-        let (centre, made) = self.message_made(number)?;
-        self.taken(centre, &made, lines)
+        let mut step = blank(self.alloc);
+        let (centre, made) = self.message_made(number, &mut step)?;
+        self.taken(centre, &made, &step, lines)
     }
 
     // Why no message is delivered to a centre.

@@ -8,14 +8,16 @@ ghost use Rattle.mdcc_ledger.specs.Ledger.{Entry};
 ghost use Rattle.mdcc_simulation.specs.State.{World as AWorld, counted_event, is_up_at};
 ghost use Rattle.mdcc_rules.specs.declared.node.Input.{Input as AInput};
 ghost use Rattle.mdcc_steps.specs.Inputs.{AreWellFormedParts};
+ghost use Rattle.mdcc_node.specs.Planning.{blank, written};
 ghost use Rattle.mdcc_world.specs.Making.{IsMade, IsMessageMade};
 ghost use Rattle.mdcc_world.specs.Stands.{IsLike, IsLikeSome};
 ghost use Rattle.mdcc_world.specs.Telling.{begun_entries, begun_tx};
 ghost use Rattle.mdcc_worlds.specs.Delivering.{at_message};
 
-use crate::nodes::step;
+use crate::nodes::{act_on, receive};
 use crate::world::World;
 use mdcc_base::{Centre, Memory, TxId};
+use mdcc_mail::empty_envelope;
 use mdcc_option::Transaction;
 use mdcc_outcomes::Outcomes;
 use mdcc_rules::{Answer, Input, Step, StepFault};
@@ -59,16 +61,21 @@ fn count(outcomes: &mut Outcomes, input: &Input, answer: &Option<Answer>) -> Res
 
 impl World {
     // Time passes at a centre, which is an event.
-    pub(crate) fn tick_made(&mut self, centre: Centre) -> Result<Result<Step, StepFault>, Memory>
+    pub(crate) fn tick_made(
+        &mut self,
+        centre: Centre,
+        step: &mut Step,
+    ) -> Result<Result<(), StepFault>, Memory>
+        requires blank { step.old ≡ blank }
         requires few { self.old.events < 100000 }
         requires like { IsLikeSome self.old }
         requires up { (w : AWorld) → IsLike self.old w → is_up_at w centre ≡ true }
         ensures made { (w : AWorld) → IsLike self.old w
-            → IfOk result (λ made. IsMade self.new (counted_event w) centre AInput.Tick made) }
+            → IfOk result (λ made. IsMade self.new (counted_event w) centre AInput.Tick (written made step.new)) }
         ensures few { self.new.events ≤ self.old.events + 1 }
     {
         self.events += 1;
-        let made = step(&mut self.nodes, centre, &Input::Tick)?;
+        let made = act_on(&mut self.nodes, centre, &Input::Tick, step)?;
         Ok(made)
     }
 
@@ -77,44 +84,49 @@ impl World {
         &mut self,
         centre: Centre,
         transaction: Transaction,
-    ) -> Result<Step, Memory>
+        step: &mut Step,
+    ) -> Result<(), Memory>
+        requires blank { step.old ≡ blank }
         requires few { self.old.events < 100000 }
         requires formed { AreWellFormedParts transaction }
         requires like { IsLikeSome self.old }
         requires up { (w : AWorld) → IsLike self.old w → is_up_at w centre ≡ true }
         ensures made { (w : AWorld) → IsLike self.old w
-            → IfOk result (λ step. IsMade self.new (counted_event w) centre (AInput.Begin transaction) (Ok step)) }
+            → OnOk result (IsMade self.new (counted_event w) centre (AInput.Begin transaction) (Ok step.new)) }
         ensures few { self.new.events ≤ self.old.events + 1 }
     {
         self.events += 1;
         let input = Input::Begin(transaction);
-        let Ok(step) = step(&mut self.nodes, centre, &input)? else {
+        let Ok(()) = act_on(&mut self.nodes, centre, &input, step)? else {
             return Err(Memory);
         };
         count(&mut self.outcomes, &input, &step.answer)?;
-        Ok(step)
+        Ok(())
     }
 
     // The message of a number comes to its centre, which is an event. Message and centre are there.
     pub(crate) fn message_made(
         &mut self,
         number: u32,
-    ) -> Result<(Centre, Result<Step, StepFault>), Memory>
+        step: &mut Step,
+    ) -> Result<(Centre, Result<(), StepFault>), Memory>
+        requires blank { step.old ≡ blank }
         requires few { self.old.events < 100000 }
         requires like { IsLikeSome self.old }
         requires clear { (w : AWorld) → IsLike self.old w → at_message built w number ≡ Ok tt }
         ensures made { (w : AWorld) → IsLike self.old w
-            → IfOk result (λ r. IsMessageMade self.new w number r.0 r.1) }
+            → IfOk result (λ r. IsMessageMade self.new w number r.0 (written r.1 step.new)) }
         ensures few { self.new.events ≤ self.old.events + 1 }
     {
-        let Some(envelope) = self.mail.envelope(self.alloc, number)? else {
+        let mut envelope = empty_envelope();
+        if !self.mail.read_into(self.alloc, number, &mut envelope)? {
             return Err(Memory);
-        };
+        }
         let Some(centre) = Centre::new(envelope.to) else {
             return Err(Memory);
         };
         self.events += 1;
-        let made = step(&mut self.nodes, centre, &Input::Message(envelope))?;
+        let made = receive(&mut self.nodes, centre, &envelope, step)?;
         self.mail.deliver(number);
         Ok((centre, made))
     }

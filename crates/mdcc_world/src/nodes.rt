@@ -1,6 +1,8 @@
 //! The nodes of a world.
 ghost use Rattle.std.specs.Prelude.{◌≡◌, ◌≤◌, IfOk, OnOk, false, length, true};
+ghost use Rattle.mdcc_node.specs.Planning.{blank, written};
 ghost use Rattle.mdcc_node.specs.Stepping.{given};
+ghost use Rattle.mdcc_rules.specs.declared.node.Input.{Input as AInput};
 ghost use Rattle.mdcc_built.specs.Built.{built};
 ghost use Rattle.mdcc_ledger.specs.Ledger.{facts_of};
 ghost use Rattle.mdcc_protocol.specs.Visible;
@@ -13,41 +15,66 @@ ghost use Rattle.mdcc_worlds.specs.Standing.{IsWorld};
 
 use mdcc_base::{Centre, Key, Memory};
 use mdcc_logs::CentreFacts;
-use mdcc_node::Node;
+use mdcc_messages::Envelope;
+use mdcc_node::{Node, blank};
 use mdcc_protocol::Reading;
 use mdcc_rules::{Answer, Input, Step, StepFault};
+use std::alloc::Global;
 
 // Tells want of memory from what a node makes of an input.
-fn made(step: Result<Step, StepFault>) -> Result<Result<Step, StepFault>, Memory>
-    ensures same { IfOk result (λ made. made ≡ step) }
-    ensures memory { OnOk result (is_memory_made step ≡ false) }
+fn made(acted: Result<(), StepFault>) -> Result<Result<(), StepFault>, Memory>
+    ensures same { IfOk result (λ made. made ≡ acted) }
+    ensures memory { OnOk result (is_memory_made acted ≡ false) }
 {
-    match step {
+    match acted {
         Err(StepFault::Memory) => Err(Memory),
-        step => Ok(step),
+        acted => Ok(acted),
     }
 }
 
-/// An input comes to the node of a centre that is up: what it makes of it.
-pub(crate) fn step(
+/// An input comes to the node of a centre that is up: what it makes of it is written into a blank step.
+pub(crate) fn act_on(
     nodes: &mut [Node<CentreFacts>],
     centre: Centre,
     input: &Input,
-) -> Result<Result<Step, StepFault>, Memory>
+    step: &mut Step,
+) -> Result<Result<(), StepFault>, Memory>
     requires within { centre ≤ length nodes.old }
     requires formed { IsWellFormedInput input.now }
     requires short { accept_length_in input.now ≤ 2097152 }
     requires running { RunsAt nodes.old centre }
+    requires blank { step.old ≡ blank }
     ensures answer { (w : AWorld) → NodesStand nodes.old w → is_up_at w centre ≡ true
-        → IfOk result (λ made. made ≡ given (step_at built w centre input.now)) }
+        → IfOk result (λ made. written made step.new ≡ given (step_at built w centre input.now)) }
     ensures left { (w : AWorld) → IsWorld w → NodesStand nodes.old w → is_up_at w centre ≡ true
         → OnOk result (NodesStand nodes.new (input_happened w centre (step_at built w centre input.now)).world) }
 {
-    made(nodes[usize::from(centre.number()) - 1].step(input))
+    made(nodes[usize::from(centre.number()) - 1].act_on(input, step))
+}
+
+/// The same for a message.
+pub(crate) fn receive(
+    nodes: &mut [Node<CentreFacts>],
+    centre: Centre,
+    envelope: &Envelope,
+    step: &mut Step,
+) -> Result<Result<(), StepFault>, Memory>
+    requires within { centre ≤ length nodes.old }
+    requires formed { IsWellFormedInput (AInput.Message envelope.now) }
+    requires short { accept_length_in (AInput.Message envelope.now) ≤ 2097152 }
+    requires running { RunsAt nodes.old centre }
+    requires blank { step.old ≡ blank }
+    ensures answer { (w : AWorld) → NodesStand nodes.old w → is_up_at w centre ≡ true
+        → IfOk result (λ made. written made step.new ≡ given (step_at built w centre (AInput.Message envelope.now))) }
+    ensures left { (w : AWorld) → IsWorld w → NodesStand nodes.old w → is_up_at w centre ≡ true
+        → OnOk result (NodesStand nodes.new (input_happened w centre (step_at built w centre (AInput.Message envelope.now))).world) }
+{
+    made(nodes[usize::from(centre.number()) - 1].deliver(envelope, step))
 }
 
 /// What a key shows at the node of a centre that is up, which is left as it was.
 pub(crate) fn read(
+    alloc: Global,
     nodes: &mut [Node<CentreFacts>],
     centre: Centre,
     key: &Key,
@@ -60,7 +87,8 @@ pub(crate) fn read(
         → OnOk result (NodesStand nodes.new w) }
 {
     let _key = key.bytes();
-    let Ok(step) = step(nodes, centre, &Input::Read(*key))? else {
+    let mut step = blank(alloc);
+    let Ok(()) = act_on(nodes, centre, &Input::Read(*key), &mut step)? else {
         return Err(Memory);
     };
     let Step { answer, .. } = step;

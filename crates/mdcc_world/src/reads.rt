@@ -44,7 +44,7 @@ impl World {
             → OnOk result (HasHappened self.new lines.old lines.new (read_happened (counted_event w) centre key.now)) }
         ensures few { OnOk result (self.new.events ≤ 100000) }
     {
-        let reading = read(&mut self.nodes, centre, key)?;
+        let reading = read(self.alloc, &mut self.nodes, centre, key)?;
         let known = known_of(key, reading);
         self.events += 1;
         self.reads.push(Some(known.copy()))?;

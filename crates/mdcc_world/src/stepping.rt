@@ -17,6 +17,7 @@ ghost use Rattle.mdcc_messages.specs.declared.facts.Fact.{Fact as AFact};
 ghost use Rattle.mdcc_rules.specs.declared.node.Input.{Input as AInput};
 ghost use Rattle.mdcc_world.specs.Faults.{is_free};
 ghost use Rattle.mdcc_world.specs.Letting.{Measures, IsFormed, IsFramed, MayAppend, facts_with};
+ghost use Rattle.mdcc_node.specs.Planning.{written};
 ghost use Rattle.mdcc_world.specs.Making.{IsMade, IsMadeSome};
 ghost use Rattle.mdcc_world.specs.Stands.{Happens};
 ghost use Rattle.mdcc_world.specs.Stopping.{IsWhole, kept_entries, kept_facts, kept_lines};
@@ -263,17 +264,18 @@ impl World {
     pub(crate) fn taken(
         &mut self,
         centre: Centre,
-        made: &Result<Step, StepFault>,
+        made: &Result<(), StepFault>,
+        step: &Step,
         lines: &mut HeapList<Line>,
     ) -> Result<(), EventFault>
-        requires some { IsMadeSome self.old centre made.now }
-        ensures happens { (w : AWorld) (input : AInput) → IsMade self.old w centre input made.now
+        requires some { IsMadeSome self.old centre (written made.now step.now) }
+        ensures happens { (w : AWorld) (input : AInput) → IsMade self.old w centre input (written made.now step.now)
             → Happens self.new lines.old lines.new result (input_limited built w centre (step_at built w centre input)) }
         ensures free { IfErr result (λ fault. is_free fault ≡ true) }
         ensures events { self.new.events ≡ self.old.events }
     {
         match made {
-            Ok(step) => self.take(centre, step, lines),
+            Ok(()) => self.take(centre, step, lines),
             Err(fault) => self.refuse_step(centre, fault, lines),
         }
     }

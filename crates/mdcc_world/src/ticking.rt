@@ -9,6 +9,7 @@ ghost use Rattle.mdcc_simulation.specs.Centres.{tick_line};
 ghost use Rattle.mdcc_language.specs.declared.events.Event.{Event as AEvent};
 ghost use Rattle.mdcc_rules.specs.declared.node.Input.{Input as AInput};
 ghost use Rattle.mdcc_world.specs.Faults.{OnRefusal, is_free};
+ghost use Rattle.mdcc_node.specs.Planning.{written};
 ghost use Rattle.mdcc_world.specs.Making.{IsMade, IsMadeSome};
 ghost use Rattle.mdcc_world.specs.Stands.{Happens, IsLike, IsLikeSome};
 
@@ -16,6 +17,7 @@ use crate::telling::tell;
 use crate::world::World;
 use mdcc_base::{Centre, HeapList};
 use mdcc_language::{EventFault, Line};
+use mdcc_node::blank;
 use mdcc_rules::{Step, StepFault};
 
 impl World {
@@ -23,17 +25,18 @@ impl World {
     fn tick_taken(
         &mut self,
         centre: Centre,
-        made: &Result<Step, StepFault>,
+        made: &Result<(), StepFault>,
+        step: &Step,
         lines: &mut HeapList<Line>,
     ) -> Result<(), EventFault>
-        requires some { IsMadeSome self.old centre made.now }
-        ensures happens { (w : AWorld) (input : AInput) → IsMade self.old w centre input made.now
+        requires some { IsMadeSome self.old centre (written made.now step.now) }
+        ensures happens { (w : AWorld) (input : AInput) → IsMade self.old w centre input (written made.now step.now)
             → Happens self.new lines.old lines.new result (with_lines (tick_line centre) (input_limited built w centre (step_at built w centre input))) }
         ensures free { IfErr result (λ fault. is_free fault ≡ true) }
         ensures events { self.new.events ≡ self.old.events }
     {
         let mut told = HeapList::new(self.alloc);
-        self.taken(centre, made, &mut told)?;
+        self.taken(centre, made, step, &mut told)?;
         tell(lines, Line::Tick(centre, self.next_message()), told)
     }
 
@@ -50,7 +53,8 @@ impl World {
         ensures kept { OnRefusal result ((self.new ≡ self.old) × (lines.new ≡ lines.old)) }
     {
         self.at_centre(centre)?;
-        let made = self.tick_made(centre)?;
-        self.tick_taken(centre, &made, lines)
+        let mut step = blank(self.alloc);
+        let made = self.tick_made(centre, &mut step)?;
+        self.tick_taken(centre, &made, &step, lines)
     }
 }

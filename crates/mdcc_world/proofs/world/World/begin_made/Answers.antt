@@ -12,8 +12,8 @@ use Rattle.mdcc_world.specs.Nodes.{NodesStand, RunsAt}
 use Rattle.mdcc_worlds.proofs.Stays.{counted-stays}
 use Rattle.mdcc_world.proofs.world.World.begin_made.Goals as goal
 
-pub step-requires-clause-running : goal.step-requires-clause-running
-step-requires-clause-running c =
+pub act_on-requires-clause-running : goal.act_on-requires-clause-running
+act_on-requires-clause-running c =
     let w = c.requires.like.0 in
     let like = c.requires.like.1 in
     let runs : RunsAt c.args.self.now.nodes.items c.args.centre = runs-in c.args.self.now.nodes.items w c.args.centre like.records.itself like.nodes (c.requires.up w like) in
@@ -25,11 +25,11 @@ returns-clause-made c w like =
     let parts = c.args.transaction in
     let up = c.requires.up w like in
     let here : NodesStand c.deref_mut.result.now (counted_event w) = rw c.deref_mut.ensures.value (counted-nodes c.args.self.now.nodes.items w like.nodes) in
-    let many : length c.step.new.nodes ≡ c.args.self.now.nodes.len = omega arith in
+    let many : length c.act_on.new.nodes ≡ c.args.self.now.nodes.len = omega arith in
     let h = input_happened (counted_event w) a (step_at built (counted_event w) a (Input.Begin parts)) in
-    let left = c.in_ok-step.ensures.left (counted_event w) (counted-stays w like.records.itself) here up in
-    let nodes : NodesStand (with_items c.args.self.now.nodes c.step.new.nodes).items h.world = rw (with_items_is c.args.self.now.nodes c.step.new.nodes many) left in
-    let itself = sym c.in-Ok.is ∙ c.in_ok-step.ensures.answer (counted_event w) here up in
+    let left = c.in_ok-act_on.ensures.left (counted_event w) (counted-stays w like.records.itself) here up in
+    let nodes : NodesStand (with_items c.args.self.now.nodes c.act_on.new.nodes).items h.world = rw (with_items_is c.args.self.now.nodes c.act_on.new.nodes many) left in
+    let itself = rw c.in-Ok.is at (c.in_ok-act_on.ensures.answer (counted_event w) here up) in
     let counted = c.in_ok-count.ensures w.cluster.quorums w.ledger a parts refl like.outcomes in
-    made-counted c.args.self.now _ w a (Input.Begin parts) (Ok c.in-Ok.step) like up c.requires.formed (omega arith) refl
-    (begun-counted _ w a parts c.in-Ok.step itself counted) itself nodes
+    made-counted c.args.self.now _ w a (Input.Begin parts) (Ok c.act_on.new.step) like up c.requires.formed (omega arith) refl
+    (begun-counted _ w a parts c.act_on.new.step itself counted) itself nodes

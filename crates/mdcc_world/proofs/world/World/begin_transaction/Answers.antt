@@ -17,13 +17,13 @@ returns-in_err-at_limit-clause-happens c w like =
 pub begin_taken-requires : goal.begin_taken-requires
 begin_taken-requires c =
     let w = c.requires.like.0 in
-    record { some = (counted_event w, Input.Begin c.args.transaction, c.in_ok-step.ensures.made w c.requires.like.1) }
+    record { some = (counted_event w, Input.Begin c.args.transaction, c.in_ok-begin_made.ensures.made w c.requires.like.1) }
 
 pub returns-clause-happens : goal.returns-clause-happens
 returns-clause-happens c w like =
     let r = begun built w c.args.centre c.args.transaction in
     opened c.begin_taken.result _ _ _ (if_open (at_limit built w) r) (at_limit built w) r refl (c.in_ok-at_limit.ensures.limit w like)
-    (c.begin_taken.ensures.happens (counted_event w) (Input.Begin c.args.transaction) (c.in_ok-step.ensures.made w like))
+    (c.begin_taken.ensures.happens (counted_event w) (Input.Begin c.args.transaction) (c.in_ok-begin_made.ensures.made w like))
 
 pub returns-clause-kept : goal.returns-clause-kept
 returns-clause-kept c = free-refusal c.begin_taken.result _ c.begin_taken.ensures.free

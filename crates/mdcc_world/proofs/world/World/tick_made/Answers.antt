@@ -2,6 +2,7 @@ use Rattle.std.proofs.Common.{◌≡◌, arith, length, refl}
 use Rattle.std.proofs.lemmas.List.{with_items_is}
 use Rattle.std.specs.Vec.{with_items}
 use Rattle.mdcc_built.specs.Built.{built}
+use Rattle.mdcc_node.specs.Planning.{written}
 use Rattle.mdcc_simulation.specs.State.{counted_event}
 use Rattle.mdcc_simulation.specs.Stepping.{input_happened, step_at}
 use Rattle.mdcc_rules.specs.declared.node.Input.{Input}
@@ -12,8 +13,8 @@ use Rattle.mdcc_world.specs.Nodes.{NodesStand, RunsAt}
 use Rattle.mdcc_worlds.proofs.Stays.{counted-stays}
 use Rattle.mdcc_world.proofs.world.World.tick_made.Goals as goal
 
-pub step-requires-clause-running : goal.step-requires-clause-running
-step-requires-clause-running c =
+pub act_on-requires-clause-running : goal.act_on-requires-clause-running
+act_on-requires-clause-running c =
     let w = c.requires.like.0 in
     let like = c.requires.like.1 in
     let runs : RunsAt c.args.self.now.nodes.items c.args.centre = runs-in c.args.self.now.nodes.items w c.args.centre like.records.itself like.nodes (c.requires.up w like) in
@@ -24,9 +25,9 @@ returns-clause-made c w like =
     let a = c.args.centre in
     let up = c.requires.up w like in
     let here : NodesStand c.deref_mut.result.now (counted_event w) = rw c.deref_mut.ensures.value (counted-nodes c.args.self.now.nodes.items w like.nodes) in
-    let many : length c.step.new.nodes ≡ c.args.self.now.nodes.len = omega arith in
+    let many : length c.act_on.new.nodes ≡ c.args.self.now.nodes.len = omega arith in
     let h = input_happened (counted_event w) a (step_at built (counted_event w) a Input.Tick) in
     let left = c.in_ok-made.ensures.left (counted_event w) (counted-stays w like.records.itself) here up in
-    let nodes : NodesStand (with_items c.args.self.now.nodes c.step.new.nodes).items h.world = rw (with_items_is c.args.self.now.nodes c.step.new.nodes many) left in
+    let nodes : NodesStand (with_items c.args.self.now.nodes c.act_on.new.nodes).items h.world = rw (with_items_is c.args.self.now.nodes c.act_on.new.nodes many) left in
     let outcomes = input-counted c.args.self.now.outcomes (counted_event w) a Input.Tick (counted-stays w like.records.itself) tt refl like.outcomes in
-    made-counted c.args.self.now _ w a Input.Tick c.in_ok-made.made like up tt (omega arith) refl outcomes (c.in_ok-made.ensures.answer (counted_event w) here up) nodes
+    made-counted c.args.self.now _ w a Input.Tick (written c.in_ok-made.made c.act_on.new.step) like up tt (omega arith) refl outcomes (c.in_ok-made.ensures.answer (counted_event w) here up) nodes

@@ -1,19 +1,24 @@
 use Rattle.std.proofs.Common.{◌≡◌, ◌≤◌, Result, subst}
 use Rattle.mdcc_base.specs.Unless.{GivesUnless}
+use Rattle.mdcc_node.specs.Planning.{written}
 use Rattle.mdcc_node.specs.Stepping.{given, is_memory}
 use Rattle.mdcc_ledger.specs.Ledger.{facts_of}
 use Rattle.mdcc_rules.specs.Steps.{NodeStep}
+use Rattle.mdcc_rules.specs.declared.node.Input.{Input}
 use Rattle.mdcc_simulation.specs.State.{centre_at}
 use Rattle.mdcc_rules.specs.declared.node.StepFault.{StepFault}
 use Rattle.mdcc_world.proofs.NodesStay.{made-is, made-kept, node-under, runs-at, stepped}
 use Rattle.mdcc_world.proofs.Roomy.{node-left, step-roomy}
-use Rattle.mdcc_world.proofs.nodes.step.Goals as goal
+use Rattle.mdcc_world.proofs.nodes.receive.Goals as goal
 
-pub step-requires-clause-input : goal.step-requires-clause-input
-step-requires-clause-input c = (c.requires.formed, c.requires.short)
+pub deliver-requires-clause-message : goal.deliver-requires-clause-message
+deliver-requires-clause-message c = c.requires.formed
 
-pub step-requires-clause-running : goal.step-requires-clause-running
-step-requires-clause-running c =
+pub deliver-requires-clause-short : goal.deliver-requires-clause-short
+deliver-requires-clause-short c = c.requires.short
+
+pub deliver-requires-clause-running : goal.deliver-requires-clause-running
+deliver-requires-clause-running c =
     let a = c.args.centre in
     let place : c.from.result ≡ a = cc in
     let some : 1 ≤ a = (let e : c.number.result ≡ a = c.number.ensures.value in subst (λ n. 1 ≤ n) e c.number.ensures.range.0) in
@@ -25,10 +30,10 @@ returns-clause-answer c w standing up =
     let place : c.from.result ≡ a = cc in
     let some : 1 ≤ a = (let e : c.number.result ≡ a = c.number.ensures.value in subst (λ n. 1 ≤ n) e c.number.ensures.range.0) in
     let node = node-under c.args.nodes.now w a c.from.result c.index-nodes-from.result standing up some c.requires.within place c.index-nodes-from.is in
-    let input = c.args.input.now in
-    let gives = c.step.ensures.follows.answer w.cluster a (facts_of w.ledger a) (centre_at w a).volatile node.itself in
-    made-is c.made.result c.step.result _ c.made.ensures.same c.made.ensures.memory
-    (subst (λ (r : Result NodeStep StepFault). GivesUnless is_memory c.step.result (given r)) (step-roomy _ w.cluster a (facts_of w.ledger a) (centre_at w a).volatile node input) gives)
+    let input = Input.Message c.args.envelope.now in
+    let gives = c.deliver.ensures.follows.answer w.cluster a (facts_of w.ledger a) (centre_at w a).volatile node.itself in
+    made-is c.made.result c.deliver.result c.deliver.new.step _ c.made.ensures.same c.made.ensures.memory
+    (subst (λ (r : Result NodeStep StepFault). GivesUnless is_memory (written c.deliver.result c.deliver.new.step) (given r)) (step-roomy _ w.cluster a (facts_of w.ledger a) (centre_at w a).volatile node input) gives)
 
 pub returns-clause-left : goal.returns-clause-left
 returns-clause-left c w world standing up =
@@ -36,11 +41,11 @@ returns-clause-left c w world standing up =
     let place : c.from.result ≡ a = cc in
     let some : 1 ≤ a = (let e : c.number.result ≡ a = c.number.ensures.value in subst (λ n. 1 ≤ n) e c.number.ensures.range.0) in
     let node = node-under c.args.nodes.now w a c.from.result c.index-nodes-from.result standing up some c.requires.within place c.index-nodes-from.is in
-    let input = c.args.input.now in
+    let input = Input.Message c.args.envelope.now in
     let facts = facts_of w.ledger a in
     let volatile = (centre_at w a).volatile in
-    let gives = c.step.ensures.follows.answer w.cluster a facts volatile node.itself in
-    let left = c.step.ensures.follows.left w.cluster a facts volatile node.itself in
-    made-kept c.made.result c.step.result _ c.made.ensures.memory
-    (stepped c.args.nodes.now w a c.from.result c.step.new.self input standing world some c.requires.within place c.requires.formed _
-    (step-roomy _ w.cluster a facts volatile node input) c.step.result (node-left _ w.cluster a facts volatile node c.step.new.self c.step.result _ gives c.step.ensures.spent left))
+    let gives = c.deliver.ensures.follows.answer w.cluster a facts volatile node.itself in
+    let left = c.deliver.ensures.follows.left w.cluster a facts volatile node.itself in
+    made-kept c.made.result c.deliver.result c.deliver.new.step _ c.made.ensures.memory
+    (stepped c.args.nodes.now w a c.from.result c.deliver.new.self input standing world some c.requires.within place c.requires.formed _
+    (step-roomy _ w.cluster a facts volatile node input) (written c.deliver.result c.deliver.new.step) (node-left _ w.cluster a facts volatile node c.deliver.new.self (written c.deliver.result c.deliver.new.step) _ gives c.deliver.ensures.spent left))
