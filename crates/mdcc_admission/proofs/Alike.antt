@@ -3,21 +3,20 @@ use Rattle.std.proofs.Common.{◌≡◌, ℕ, ◌+◌, ◌-◌, ◌^◌, ◌<◌
 use Rattle.std.specs.List.{AllByRecursion}
 use Rattle.std.proofs.lemmas.Bool.Decides.{nat_tests}
 use Rattle.mdcc_admission.specs.Boots.{AreAmple, BootsWithAmpleCells, BootsWithinCells}
-use Rattle.mdcc_admission.specs.Loading.{Cells, boot_by, is_past, loaded_by, next_by, past_fault}
+use Rattle.mdcc_admission.specs.Loading.{Cells, boot_by, is_past, list_cells, loaded_by, next_by, past_fault}
 use Rattle.mdcc_base.specs.Counts.{sum_over}
 use Rattle.mdcc_option.specs.declared.cluster.Cluster.{Cluster}
 use Rattle.mdcc_ledger.specs.BootTest.{is_allowed_fact}
 use Rattle.mdcc_rules.specs.Boot.{boot_of, booted_by, is_past_cells, loaded_from, room_fault}
-use Rattle.mdcc_switches.specs.Built.{Built}
 use Rattle.mdcc_protocol.specs.Facts.{epoch_of}
 use Rattle.mdcc_messages.specs.Lengths.{cells_needed, cells_used}
 use Rattle.mdcc_messages.specs.declared.facts.Fact.{Fact}
 use Rattle.mdcc_rules.specs.declared.node.BootFault.{BootFault}
 
 -- the same test, and the same fault where it is refused
-record SameRoom (cells : Cells) (built : Built) (cluster : Cluster) (facts : List Fact) (fact : Fact) : Type 0 where
-  pub test : is_past cells facts fact ≡ is_past_cells built cluster facts fact
-  pub fault : is_past_cells built cluster facts fact ≡ true → past_fault cells facts fact ≡ room_fault cluster facts fact
+record SameRoom (cells : Cells) (cluster : Cluster) (facts : List Fact) (fact : Fact) : Type 0 where
+  pub test : is_past cells facts fact ≡ is_past_cells cluster facts fact
+  pub fault : is_past_cells cluster facts fact ≡ true → past_fault cells facts fact ≡ room_fault cluster facts fact
 
 one-alike : (n : ℕ) (allowed past past' : Bool) (fault fault' : BootFault) (loaded loaded' : Result (List Fact) BootFault)
     → past ≡ past' → (past' ≡ true → fault ≡ fault') → (past' ≡ false → loaded ≡ loaded')
@@ -36,45 +35,47 @@ next-alike false past false fault fault' more e f = rw e refl
 
 -- ---- ample cells
 
-module _ (cells : Cells) (built : Built) (cluster : Cluster) (free : built.limit_on_cells ≡ false) (ample : AreAmple cells) where
-  room-ample : (facts : List Fact) (fact : Fact) → SameRoom cells built cluster facts fact
-  room-ample facts fact = record {
-    test = enough ∙ sym unlimited;
-    fault = λ past. absurd (let bad : false ≡ true = sym unlimited ∙ past in cc);
-  }
+none-needed : (facts : List Fact) → sum_over list_cells.needed facts ≡ 0
+none-needed [] = refl
+none-needed (fact ∷ facts) = rw (none-needed facts) refl
+
+never-past : (facts : List Fact) (fact : Fact) → is_past list_cells facts fact ≡ false
+never-past facts fact = rw (none-needed facts) refl
+
+module _ (cells : Cells) (cluster : Cluster) (ample : AreAmple cells) where
+  test-ample : (facts : List Fact) (fact : Fact) → is_past cells facts fact ≡ is_past list_cells facts fact
+  test-ample facts fact = enough ∙ sym (never-past facts fact)
     where
       enough : is_past cells facts fact ≡ false
       enough = let most = ample facts fact in grind (arith, nat_tests)
 
-      unlimited : is_past_cells built cluster facts fact ≡ false
-      unlimited = rw free refl
+  fault-ample : (facts : List Fact) (fact : Fact) → is_past list_cells facts fact ≡ true → past_fault cells facts fact ≡ past_fault list_cells facts fact
+  fault-ample facts fact past = absurd (let bad : false ≡ true = sym (never-past facts fact) ∙ past in cc)
 
-  loaded-ample : (facts : List Fact) (n : ℕ) (payloads : List (Option Fact)) → loaded_by cells cluster facts n payloads ≡ loaded_from built cluster facts n payloads
+  loaded-ample : (facts : List Fact) (n : ℕ) (payloads : List (Option Fact)) → loaded_by cells cluster facts n payloads ≡ loaded_by list_cells cluster facts n payloads
   loaded-ample facts n [] = refl
   loaded-ample facts n (None ∷ payloads) = refl
   loaded-ample facts n (Some fact ∷ payloads) =
-      let room = room-ample facts fact in
-      one-alike n (is_allowed_fact cluster facts fact) (is_past cells facts fact) (is_past_cells built cluster facts fact) (past_fault cells facts fact) (room_fault cluster facts fact)
-      (loaded_by cells cluster (fact ∷ facts) (n + 1) payloads) (loaded_from built cluster (fact ∷ facts) (n + 1) payloads)
-      room.test room.fault (λ fits. loaded-ample (fact ∷ facts) (n + 1) payloads)
+      one-alike n (is_allowed_fact cluster facts fact) (is_past cells facts fact) (is_past list_cells facts fact) (past_fault cells facts fact) (past_fault list_cells facts fact)
+      (loaded_by cells cluster (fact ∷ facts) (n + 1) payloads) (loaded_by list_cells cluster (fact ∷ facts) (n + 1) payloads)
+      (test-ample facts fact) (fault-ample facts fact) (λ fits. loaded-ample (fact ∷ facts) (n + 1) payloads)
 
-  next-ample : (loaded : Result (List Fact) BootFault) → next_by cells loaded ≡ booted_by built cluster loaded
+  next-ample : (loaded : Result (List Fact) BootFault) → next_by cells loaded ≡ next_by list_cells loaded
   next-ample (Err fault) = refl
   next-ample (Ok facts) =
       let fact = Fact.Booted (epoch_of facts + 1) in
-      let room = room-ample facts fact in
-      next-alike (nat_le (2 ^ 32 - 1) (epoch_of facts)) (is_past cells facts fact) (is_past_cells built cluster facts fact) (past_fault cells facts fact) (room_fault cluster facts fact) (fact ∷ facts)
-      room.test room.fault
+      next-alike (nat_le (2 ^ 32 - 1) (epoch_of facts)) (is_past cells facts fact) (is_past list_cells facts fact) (past_fault cells facts fact) (past_fault list_cells facts fact) (fact ∷ facts)
+      (test-ample facts fact) (fault-ample facts fact)
 
-  boot-ample : (payloads : List (Option Fact)) → boot_by cells cluster payloads ≡ boot_of built cluster payloads
-  boot-ample payloads = ap (next_by cells) (loaded-ample [] 0 payloads) ∙ next-ample (loaded_from built cluster [] 0 payloads)
+  boot-ample : (payloads : List (Option Fact)) → boot_by cells cluster payloads ≡ boot_by list_cells cluster payloads
+  boot-ample payloads = ap (next_by cells) (loaded-ample [] 0 payloads) ∙ next-ample (loaded_by list_cells cluster [] 0 payloads)
 
 pub ample_boots : BootsWithAmpleCells
-ample_boots cells built cluster payloads free ample = boot-ample cells built cluster free ample payloads
+ample_boots cells cluster payloads ample = boot-ample cells cluster ample payloads
 
 -- ---- counted cells
 
-module _ (cells : Cells) (built : Built) (cluster : Cluster) (limit : built.limit_on_cells ≡ true) (total : cells.total ≡ cluster.cells)
+module _ (cells : Cells) (cluster : Cluster) (total : cells.total ≡ cluster.cells)
     (needed : (fact : Fact) → cells.needed fact ≡ cells_needed fact) (few : cluster.cells < 2 ^ 63) where
   used : (facts : List Fact) → sum_over cells.needed facts ≡ cells_used facts
   used [] = refl
@@ -83,16 +84,15 @@ module _ (cells : Cells) (built : Built) (cluster : Cluster) (limit : built.limi
   stops : (a b : ℕ) → a ≤ b → min a b ≡ a
   stops a b h = omega arith
 
-  room-counted : (facts : List Fact) (fact : Fact) → cells_used facts ≤ cluster.cells → cells_needed fact < 2 ^ 63 → SameRoom cells built cluster facts fact
+  room-counted : (facts : List Fact) (fact : Fact) → cells_used facts ≤ cluster.cells → cells_needed fact < 2 ^ 63 → SameRoom cells cluster facts fact
   room-counted facts fact within small = record {
-    test = rw (limit, total, used facts, needed fact) refl;
+    test = rw (total, used facts, needed fact) refl;
     fault = λ past. rw (total, used facts, needed fact) (ap (λ k. BootFault.Room k cluster.cells) (stops (cells_used facts + cells_needed fact) (2 ^ 64 - 1) (omega arith)));
   }
 
-  stays : (facts : List Fact) (fact : Fact) → is_past_cells built cluster facts fact ≡ false → cells_used (fact ∷ facts) ≤ cluster.cells
+  stays : (facts : List Fact) (fact : Fact) → is_past_cells cluster facts fact ≡ false → cells_used (fact ∷ facts) ≤ cluster.cells
   stays facts fact fits =
-      let enough : nat_lt cluster.cells (cells_used facts + cells_needed fact) ≡ false = rw limit at fits in
-      over cluster.cells (cells_used facts) (cells_needed fact) enough
+      over cluster.cells (cells_used facts) (cells_needed fact) fits
     where
       over : (all used needs : ℕ) → nat_lt all (used + needs) ≡ false → needs + used ≤ all
       over all used needs h = grind (arith, nat_tests)
@@ -108,38 +108,38 @@ module _ (cells : Cells) (built : Built) (cluster : Cluster) (limit : built.limi
   within-one n true true fault loaded h = tt
   within-one n true false fault loaded h = h refl
 
-  loaded-within : (facts : List Fact) (n : ℕ) (payloads : List (Option Fact)) → cells_used facts ≤ cluster.cells → IsWithin (loaded_from built cluster facts n payloads)
+  loaded-within : (facts : List Fact) (n : ℕ) (payloads : List (Option Fact)) → cells_used facts ≤ cluster.cells → IsWithin (loaded_from cluster facts n payloads)
   loaded-within facts n [] h = h
   loaded-within facts n (None ∷ payloads) h = tt
   loaded-within facts n (Some fact ∷ payloads) h =
-      within-one n (is_allowed_fact cluster facts fact) (is_past_cells built cluster facts fact) (room_fault cluster facts fact)
-      (loaded_from built cluster (fact ∷ facts) (n + 1) payloads) (λ fits. loaded-within (fact ∷ facts) (n + 1) payloads (stays facts fact fits))
+      within-one n (is_allowed_fact cluster facts fact) (is_past_cells cluster facts fact) (room_fault cluster facts fact)
+      (loaded_from cluster (fact ∷ facts) (n + 1) payloads) (λ fits. loaded-within (fact ∷ facts) (n + 1) payloads (stays facts fact fits))
 
   loaded-counted : (facts : List Fact) (n : ℕ) (payloads : List (Option Fact)) → cells_used facts ≤ cluster.cells
       → AllByRecursion (λ payload. (fact : Fact) → payload ≡ Some fact → cells_needed fact < 2 ^ 63) payloads
-      → loaded_by cells cluster facts n payloads ≡ loaded_from built cluster facts n payloads
+      → loaded_by cells cluster facts n payloads ≡ loaded_from cluster facts n payloads
   loaded-counted facts n [] h small = refl
   loaded-counted facts n (None ∷ payloads) h small = refl
   loaded-counted facts n (Some fact ∷ payloads) h small =
       let room = room-counted facts fact h (small.0 fact refl) in
-      one-alike n (is_allowed_fact cluster facts fact) (is_past cells facts fact) (is_past_cells built cluster facts fact) (past_fault cells facts fact) (room_fault cluster facts fact)
-      (loaded_by cells cluster (fact ∷ facts) (n + 1) payloads) (loaded_from built cluster (fact ∷ facts) (n + 1) payloads)
+      one-alike n (is_allowed_fact cluster facts fact) (is_past cells facts fact) (is_past_cells cluster facts fact) (past_fault cells facts fact) (room_fault cluster facts fact)
+      (loaded_by cells cluster (fact ∷ facts) (n + 1) payloads) (loaded_from cluster (fact ∷ facts) (n + 1) payloads)
       room.test room.fault (λ fits. loaded-counted (fact ∷ facts) (n + 1) payloads (stays facts fact fits) small.1)
 
-  next-counted : (loaded : Result (List Fact) BootFault) → IsWithin loaded → next_by cells loaded ≡ booted_by built cluster loaded
+  next-counted : (loaded : Result (List Fact) BootFault) → IsWithin loaded → next_by cells loaded ≡ booted_by cluster loaded
   next-counted (Err fault) h = refl
   next-counted (Ok facts) h =
       let fact = Fact.Booted (epoch_of facts + 1) in
       let small : cells_needed fact < 2 ^ 63 = omega arith in
       let room = room-counted facts fact h small in
-      next-alike (nat_le (2 ^ 32 - 1) (epoch_of facts)) (is_past cells facts fact) (is_past_cells built cluster facts fact) (past_fault cells facts fact) (room_fault cluster facts fact) (fact ∷ facts)
+      next-alike (nat_le (2 ^ 32 - 1) (epoch_of facts)) (is_past cells facts fact) (is_past_cells cluster facts fact) (past_fault cells facts fact) (room_fault cluster facts fact) (fact ∷ facts)
       room.test room.fault
 
   boot-counted : (payloads : List (Option Fact)) → AllByRecursion (λ payload. (fact : Fact) → payload ≡ Some fact → cells_needed fact < 2 ^ 63) payloads
-      → boot_by cells cluster payloads ≡ boot_of built cluster payloads
+      → boot_by cells cluster payloads ≡ boot_of cluster payloads
   boot-counted payloads small =
       let none : cells_used [] ≤ cluster.cells = omega arith in
-      ap (next_by cells) (loaded-counted [] 0 payloads none small) ∙ next-counted (loaded_from built cluster [] 0 payloads) (loaded-within [] 0 payloads none)
+      ap (next_by cells) (loaded-counted [] 0 payloads none small) ∙ next-counted (loaded_from cluster [] 0 payloads) (loaded-within [] 0 payloads none)
 
 pub counted_boots : BootsWithinCells
-counted_boots cells built cluster payloads limit total needed few small = boot-counted cells built cluster limit total needed few payloads small
+counted_boots cells cluster payloads total needed few small = boot-counted cells cluster total needed few payloads small

@@ -1,5 +1,5 @@
 -- Facts of short payloads are short.
-use Rattle.std.proofs.Common.{◌≡◌, ℕ, Bool, true, nat_le, ◌<◌, ◌≤◌, ◌^◌, List, [], ◌∷◌, Ok, Some, ap, arith, get_or, length, suc, zero}
+use Rattle.std.proofs.Common.{◌≡◌, ℕ, true, nat_le, ◌<◌, ◌≤◌, ◌^◌, List, [], ◌∷◌, Ok, Some, ap, arith, get_or, length, suc, zero}
 use Rattle.std.specs.List.{list_all}
 use Rattle.std.specs.Prelude.{slice_get}
 use Rattle.std.proofs.lemmas.Bool.{and_parts}
@@ -8,7 +8,6 @@ use Rattle.mdcc_admission.specs.Loading.{AreShort}
 use Rattle.mdcc_messages.specs.Lengths.{fact_length}
 use Rattle.mdcc_messages.specs.Reading.{fact_of}
 use Rattle.mdcc_messages.specs.Spelling.{fact_bytes}
-use Rattle.mdcc_messages.specs.WellFormed.{IsWellFormedFact}
 use Rattle.mdcc_messages.specs.declared.facts.Fact.{Fact}
 use Rattle.mdcc_spelling.specs.Laws.{AreBytes, FactsHaveOneSpelling}
 

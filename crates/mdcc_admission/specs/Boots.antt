@@ -1,10 +1,9 @@
--- That a boot is the protocol's, where the store counts cells as the protocol does.
-use Rattle.std.specs.Prelude.{List, Option, Some, false, true, ◌<◌, ◌^◌, ◌≡◌, ◌≤◌}
+-- That a boot is the protocol's, where the store counts cells as the protocol does; and that cells are all it asks of a store.
+use Rattle.std.specs.Prelude.{List, Option, Some, ◌<◌, ◌^◌, ◌≡◌, ◌≤◌}
 use Rattle.std.specs.List.{AllByRecursion}
-use Rattle.mdcc_admission.specs.Loading.{Cells, boot_by, cells_with}
+use Rattle.mdcc_admission.specs.Loading.{Cells, boot_by, cells_with, list_cells}
 use Rattle.mdcc_option.specs.declared.cluster.Cluster.{Cluster}
 use Rattle.mdcc_rules.specs.Boot.{boot_of}
-use Rattle.mdcc_switches.specs.Built.{Built}
 use Rattle.mdcc_messages.specs.Lengths.{cells_needed}
 use Rattle.mdcc_messages.specs.declared.facts.Fact.{Fact}
 
@@ -12,17 +11,17 @@ use Rattle.mdcc_messages.specs.declared.facts.Fact.{Fact}
 abbrev pub AreAmple : Cells → Type 0
 AreAmple cells = (facts : List Fact) (fact : Fact) → cells_with cells facts fact ≤ cells.total
 
--- while cells have no limit, over a store in which they never lack
+-- over a store in which cells never lack a boot is that over a store with room for any number of facts
 abbrev pub BootsWithAmpleCells : Type 0
 BootsWithAmpleCells =
-    (cells : Cells) (built : Built) (cluster : Cluster) (payloads : List (Option Fact))
-    → built.limit_on_cells ≡ false → AreAmple cells
-    → boot_by cells cluster payloads ≡ boot_of built cluster payloads
+    (cells : Cells) (cluster : Cluster) (payloads : List (Option Fact))
+    → AreAmple cells
+    → boot_by cells cluster payloads ≡ boot_by list_cells cluster payloads
 
--- once they have one, over a store that has and counts the cells of the cluster
+-- over a store that has and counts the cells of the cluster it is the protocol's
 abbrev pub BootsWithinCells : Type 0
 BootsWithinCells =
-    (cells : Cells) (built : Built) (cluster : Cluster) (payloads : List (Option Fact))
-    → built.limit_on_cells ≡ true → cells.total ≡ cluster.cells → ((fact : Fact) → cells.needed fact ≡ cells_needed fact)
+    (cells : Cells) (cluster : Cluster) (payloads : List (Option Fact))
+    → cells.total ≡ cluster.cells → ((fact : Fact) → cells.needed fact ≡ cells_needed fact)
     → cluster.cells < 2 ^ 63 → AllByRecursion (λ payload. (fact : Fact) → payload ≡ Some fact → cells_needed fact < 2 ^ 63) payloads
-    → boot_by cells cluster payloads ≡ boot_of built cluster payloads
+    → boot_by cells cluster payloads ≡ boot_of cluster payloads

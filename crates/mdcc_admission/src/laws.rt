@@ -23,14 +23,13 @@ pub fn admitted_may_be_added()
     ensures { AdmittedMayBeAdded }
 {}
 
-/// While cells have no limit, a boot over a store in which they never lack is the protocol's.
+/// A boot over a store in which cells never lack is that over one with room for any number of facts.
 #[tactic(auto, using(crate::proofs::Alike::ample_boots))]
 pub fn boots_with_ample_cells()
     ensures { BootsWithAmpleCells }
 {}
 
-/// Once cells have a limit, a boot over a store that has and counts the cells of the cluster is the
-/// protocol's.
+/// A boot over a store that has and counts the cells of the cluster is the protocol's.
 #[tactic(auto, using(crate::proofs::Alike::counted_boots))]
 pub fn boots_within_cells()
     ensures { BootsWithinCells }

@@ -3,7 +3,6 @@ use Rattle.std.proofs.Common.{◌≡◌, ◌==◌, ◌||◌, Bool, IfSome, List,
 use Rattle.std.specs.Bool.{OnFalse}
 use Rattle.std.specs.Io.KnownBytes.{Appends}
 use Rattle.std.proofs.lemmas.Bool.{cases_Bool, eqb-true}
-use Rattle.mdcc_built.specs.Built.{built}
 use Rattle.mdcc_simulation.specs.Replay.{output_of, replay_of}
 use Rattle.mdcc_replay.specs.Runs.{is_own}
 use Rattle.mdcc_replay.specs.Writing.{Front}
@@ -44,9 +43,9 @@ second P Q false h = h.1
 
 -- for each input
 pub printed : (left : Option (List ℕ)) (status : ℕ) (before after : Option (List ℕ)) → (status ≡ 2 → Appends before after []) → (status ≡ 3 → Appends before after []) → (status ≡ 5 → Appends before after [])
-    → IfSome left (λ input. Front before after (output_of (replay_of built input)).text)
-    → IfSome left (λ input. let output = output_of (replay_of built input) in OnFalse (is_own status) ((status ≡ output.status) × Appends before after output.text))
-    → ((input : List ℕ) → ReplayTellsTruth built input) → IfSome left (λ input. PrintsTruth input status before after)
+    → IfSome left (λ input. Front before after (output_of (replay_of input)).text)
+    → IfSome left (λ input. let output = output_of (replay_of input) in OnFalse (is_own status) ((status ≡ output.status) × Appends before after output.text))
+    → ((input : List ℕ) → ReplayTellsTruth input) → IfSome left (λ input. PrintsTruth input status before after)
 printed None status before after two three five front whole truth = tt
 printed (Some input) status before after two three five front whole truth =
-    record { written = written_by status before after (replay_of built input).text two three five front (second _ _ (is_own status) whole); tells_truth = truth input }
+    record { written = written_by status before after (replay_of input).text two three five front (second _ _ (is_own status) whole); tells_truth = truth input }

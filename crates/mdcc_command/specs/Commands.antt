@@ -1,7 +1,6 @@
 -- What the words of the program ask for.
 use Rattle.std.specs.Result.{result_ok}
 use Rattle.std.specs.Prelude.{List, None, Option, Some, [], codes, if◌then◌else◌, option_map, ⊤, ℕ, ◌-◌, ◌^◌, ◌∷◌}
-use Rattle.mdcc_built.specs.Built.{built}
 use Rattle.mdcc_language.specs.Words.{natural_of, text_eq}
 use Rattle.mdcc_replay.specs.Samples.{sample_of}
 use Rattle.mdcc_sample.specs.Shop.{IsShop, is_shop}
@@ -40,5 +39,5 @@ IsCommand (Sample seed items orders) = IsShop items orders
 -- what is written and answered, where it is known: that of `replay` where its input is
 abbrev pub output_for : Option Command → Option (List ℕ) → Option Output
 output_for None input = None
-output_for (Some Replay) input = option_map (λ bytes. output_of (replay_of built bytes)) input
-output_for (Some (Sample seed items orders)) input = Some (output_of (sample_of built seed items orders))
+output_for (Some Replay) input = option_map (λ bytes. output_of (replay_of bytes)) input
+output_for (Some (Sample seed items orders)) input = Some (output_of (sample_of seed items orders))

@@ -1,7 +1,6 @@
 -- What the program prints.
 use Rattle.std.specs.Prelude.{List, MatchBool, Option, [], ℕ, ◌==◌, ◌||◌}
 use Rattle.std.specs.Io.KnownBytes.{Appends}
-use Rattle.mdcc_built.specs.Built.{built}
 use Rattle.mdcc_simulation.specs.Replay.{replay_of}
 use Rattle.mdcc_replay.specs.Writing.{Front}
 use Rattle.mdcc_headline.specs.Headline.{ReplayTellsTruth}
@@ -15,5 +14,5 @@ IsWritten status before after text =
 -- what was written is the report of this input, so far as the status says. The report of an input that is too long, or whose header is refused, is
 -- empty; of each other one it is the text of a run of events that tells the truth
 pub record PrintsTruth (input : List ℕ) (status : ℕ) (before after : Option (List ℕ)) : Type 0 where
-  pub written : IsWritten status before after (replay_of built input).text
-  pub tells_truth : ReplayTellsTruth built input
+  pub written : IsWritten status before after (replay_of input).text
+  pub tells_truth : ReplayTellsTruth input

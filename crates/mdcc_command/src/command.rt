@@ -7,7 +7,6 @@ ghost use Rattle.mdcc_base.specs.Causes.{Rose};
 ghost use Rattle.mdcc_command.specs.Commands.{command_of, output_for};
 ghost use Rattle.mdcc_command.specs.Prints.{PrintsTruth};
 ghost use Rattle.mdcc_headline.specs.Headline.{ReplayTellsTruth};
-ghost use Rattle.mdcc_built.specs.Built.{built};
 ghost use Rattle.mdcc_replay.specs.Runs.{is_own, is_status, own_line};
 ghost use Rattle.mdcc_replay.specs.Writing.{Front, Tells};
 
@@ -39,7 +38,7 @@ pub fn run<S: Source, O: Sink, E: Sink>(
     // what that store shows of an item version with some of its committed deltas.
     ensures prints { command_of (map string_bytes words.now) ≡ Some Command.Replay
         → IfSome (S.left source.old) (λ input. PrintsTruth input result (O.held out.old) (O.held out.new)) }
-    ensures headline { (input : List ℕ) → ReplayTellsTruth built input }
+    ensures headline { (input : List ℕ) → ReplayTellsTruth input }
 
     // The status is one of 0, 2, 3, 4, 5, 6, 10 and 11. At 0, 3, 4 and 11 the definition of the replay, that of the input or that
     // of the shop's schedule, gives the status and all that was written.

@@ -8,7 +8,6 @@ use Rattle.mdcc_option.specs.declared.cluster.FastLimit.{FastLimit}
 use Rattle.mdcc_struct.specs.declared.options.Options.{Options}
 use Rattle.mdcc_ledger.specs.AllowedStructures.{promisers_of, reports_at}
 use Rattle.mdcc_ledger_laws.specs.LedgerTest.{is_entry_allowed, is_ledger_allowed}
-use Rattle.mdcc_switches.specs.Built.{all_built}
 use Rattle.mdcc_language.specs.Errors.{ReplayFault}
 use Rattle.mdcc_protocol.specs.Facts.{promise_of}
 use Rattle.mdcc_ledger.specs.Ledger.{Entry, Valued, facts_of, outcome_of}
@@ -141,7 +140,7 @@ early_in (Some world) = Some (record {
 })
 
 abbrev pub early : List ℕ → Option Early
-early text = early_in (replay_of all_built text).world
+early text = early_in (replay_of text).world
 
 -- ---- a lead on a version that has passed
 
@@ -196,4 +195,4 @@ decision_in fault (Some world) = Some (record {
 })
 
 abbrev pub decision : List ℕ → Option Decision
-decision text = let replay = replay_of all_built text in decision_in replay.fault replay.world
+decision text = let replay = replay_of text in decision_in replay.fault replay.world

@@ -2,7 +2,6 @@
 use Rattle.std.specs.Prelude.{Bool, List, None, Option, Some, false, is_some, true, ℕ}
 use Rattle.mdcc_option.specs.OneCopy.{empty_store, store_run}
 use Rattle.mdcc_ledger_laws.specs.LedgerTest.{is_ledger_allowed}
-use Rattle.mdcc_switches.specs.Built.{all_built}
 use Rattle.mdcc_ledger.specs.Ledger.{committed_of}
 use Rattle.mdcc_simulation.specs.Replay.{Output, Replay, output_of, replay_of}
 use Rattle.mdcc_simulation.specs.State.{World}
@@ -24,9 +23,9 @@ pub record Checked : Type 0 where
 abbrev pub checked_by : Replay → Checked
 checked_by replay = record { output = output_of replay; is_run = is_run_in replay.world; is_allowed = is_allowed_in replay.world }
 
--- of these bytes, where all is built
+-- of these bytes
 abbrev pub checked : List ℕ → Checked
-checked text = checked_by (replay_of all_built text)
+checked text = checked_by (replay_of text)
 
 -- this is written, and both tests hold
 abbrev pub sound : Output → Checked

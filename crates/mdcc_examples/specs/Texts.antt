@@ -14,7 +14,6 @@ use Rattle.mdcc_language.specs.declared.schedule.HeaderCause.{HeaderCause}
 use Rattle.mdcc_language.specs.declared.schedule.HeaderFault.{HeaderFault}
 use Rattle.mdcc_language.specs.declared.schedule.SchedCause.{SchedCause}
 use Rattle.mdcc_language.specs.declared.schedule.SchedFault.{SchedFault}
-use Rattle.mdcc_switches.specs.Built.{all_built, nothing_built}
 use Rattle.mdcc_language.specs.Header.{header_of}
 use Rattle.mdcc_simulation.specs.Replay.{Output, output_of, replay_of}
 use Rattle.mdcc_language.specs.Schedule.{line_of}
@@ -32,10 +31,7 @@ five_centres = record {
 }
 
 abbrev pub line : List ℕ → Result (Option Event) SchedFault
-line text = line_of all_built five_centres text
-
-abbrev pub early_line : List ℕ → Result (Option Event) SchedFault
-early_line text = line_of nothing_built five_centres text
+line text = line_of five_centres text
 
 abbrev pub event : Event → Result (Option Event) SchedFault
 event e = Ok (Some e)
@@ -56,10 +52,7 @@ item body values = record { body = body; values = values }
 -- ---- headers
 
 abbrev pub header : List ℕ → Result (Cluster × ℕ) HeaderFault
-header text = header_of all_built text
-
-abbrev pub early_header : List ℕ → Result (Cluster × ℕ) HeaderFault
-early_header text = header_of nothing_built text
+header text = header_of text
 
 -- the cluster of a header that ends before this place
 abbrev pub accepted : Cluster → ℕ → Result (Cluster × ℕ) HeaderFault
@@ -90,9 +83,9 @@ part key version update = record { key = key; version = version; update = update
 
 -- ---- whole inputs
 
--- what a replay writes, where all is built
+-- what a replay writes
 abbrev pub replayed : List ℕ → Output
-replayed text = output_of (replay_of all_built text)
+replayed text = output_of (replay_of text)
 
 abbrev pub output : List ℕ → ℕ → List ℕ → Output
 output text status error = record { text = text; status = status; error = error }

@@ -5,7 +5,7 @@ ghost use Rattle.mdcc_option.specs.declared.cluster.FastLimit.{FastLimit};
 ghost use Rattle.mdcc_option.specs.declared.schema.SchemaFault.TheVariants.{Bound};
 ghost use Rattle.mdcc_language.specs.declared.schedule.HeaderCause.TheVariants.{Sched, Quorums, Schema};
 ghost use Rattle.mdcc_language.specs.declared.schedule.SchedCause.TheVariants.{Word, Number, Range, Order};
-ghost use Rattle.mdcc_examples.specs.Texts.{header, early_header, accepted, header_fault, five_centres};
+ghost use Rattle.mdcc_examples.specs.Texts.{header, accepted, header_fault, five_centres};
 
 // ---- Accepted headers
 
@@ -99,14 +99,6 @@ pub fn cells_twice()
     ensures { header (codes "mdcc-schedule 1\nquorums 5 3 4\ngamma 100\ncells 3\ncells 3\nbound 0 1000\nstart\n") ≡ header_fault 5 (Sched Order) }
 {}
 
-pub fn early_cells()
-    ensures { early_header (codes "mdcc-schedule 1\nquorums 5 3 4\ngamma 100\ncells 3\nbound 0 1000\nstart\n") ≡ header_fault 4 (Sched Order) }
-{}
-
-pub fn early_header_without_cells()
-    ensures { early_header (codes "mdcc-schedule 1\nquorums 5 3 4\ngamma 100\nbound 0 1000\nstart\n") ≡ accepted five_centres 59 }
-{}
-
 // ---- Words
 
 pub fn other_version()
@@ -159,10 +151,6 @@ pub fn limit_with_two_words()
 
 pub fn limit_before_cells()
     ensures { header (codes "mdcc-schedule 1\nquorums 5 3 4\ngamma 100\nlimit safe\ncells 3\nbound 0 1000\nstart\n") ≡ header_fault 5 (Sched Order) }
-{}
-
-pub fn limit_not_yet_built()
-    ensures { early_header (codes "mdcc-schedule 1\nquorums 5 3 4\ngamma 100\nlimit safe\nbound 0 1000\nstart\n") ≡ header_fault 4 (Sched Order) }
 {}
 
 pub fn gamma_above()

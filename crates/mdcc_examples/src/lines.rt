@@ -5,10 +5,9 @@ ghost use Rattle.mdcc_base.specs.declared.outside.Image.TheVariants.{Lost, Kept,
 ghost use Rattle.mdcc_language.specs.declared.events.Event.TheVariants.{Read, Begin, Deliver, Settle, Tick, Crash, Restart, Stop};
 ghost use Rattle.mdcc_language.specs.declared.events.UpdateWord.TheVariants.{New, Set, Add, Keep};
 ghost use Rattle.mdcc_language.specs.declared.schedule.SchedCause.TheVariants.{Word, Number, Key, Range, Order};
-ghost use Rattle.mdcc_switches.specs.Built.{all_built};
 ghost use Rattle.mdcc_language.specs.Updates.{update_of};
 ghost use Rattle.mdcc_language.specs.Words.{number_of};
-ghost use Rattle.mdcc_examples.specs.Texts.{line, early_line, event, begun, skipped, fault, item};
+ghost use Rattle.mdcc_examples.specs.Texts.{line, event, begun, skipped, fault, item};
 
 // ---- Each word
 
@@ -524,28 +523,6 @@ pub fn first_part()
     ensures { line (codes "begin 1 new:+:0:x\n") ≡ fault 13 Key }
 {}
 
-// ---- Words that aren't built
-
-pub fn early_crash()
-    ensures { early_line (codes "crash 1\n") ≡ fault 1 Word }
-{}
-
-pub fn early_restart()
-    ensures { early_line (codes "restart 1\n") ≡ fault 1 Word }
-{}
-
-pub fn early_stop()
-    ensures { early_line (codes "stop 1 1 kept\n") ≡ fault 1 Word }
-{}
-
-pub fn early_add()
-    ensures { early_line (codes "begin 1 keep:1 add:1:1=1\n") ≡ fault 16 Word }
-{}
-
-pub fn early_tick()
-    ensures { early_line (codes "tick 1\n") ≡ event (Tick 1) }
-{}
-
 // ---- Single words
 
 pub fn number_within()
@@ -573,13 +550,13 @@ pub fn empty_number()
 {}
 
 pub fn update_at_a_column()
-    ensures { update_of all_built (codes "keep:1") 40 ≡ Ok (Keep 1) }
+    ensures { update_of (codes "keep:1") 40 ≡ Ok (Keep 1) }
 {}
 
 pub fn update_fault_at_a_column()
-    ensures { update_of all_built (codes "keep:x") 40 ≡ fault 45 Number }
+    ensures { update_of (codes "keep:x") 40 ≡ fault 45 Number }
 {}
 
 pub fn empty_update()
-    ensures { update_of all_built [] 40 ≡ fault 40 Word }
+    ensures { update_of [] 40 ≡ fault 40 Word }
 {}

@@ -11,7 +11,6 @@ use Rattle.mdcc_option.specs.Parts.{are_ascending}
 use Rattle.mdcc_option.specs.declared.choices.Choice.{Choice}
 use Rattle.mdcc_option.specs.declared.choices.Outcome.{Outcome}
 use Rattle.mdcc_option.specs.declared.cluster.Cluster.{Cluster}
-use Rattle.mdcc_switches.specs.Built.{Built}
 use Rattle.mdcc_agreement.specs.Laws.{IsLedger}
 use Rattle.mdcc_language.specs.declared.events.Event.{Event}
 use Rattle.mdcc_language.specs.declared.lines.Line.{Line}
@@ -66,13 +65,13 @@ use Rattle.mdcc_fast_path.proofs.States.{next-state}
 open-in : (w : World) (a : ℕ) (t : Undecided) → opened_of (centre_at w a).volatile.manager t.tx ≡ Some t → In t (centre_at w a).volatile.manager.opened
 open-in w a t h = (find_some (λ (u : Undecided). tx_eq u.tx t.tx) (centre_at w a).volatile.manager.opened t h).0
 
-module _ (built : Built) (cluster : Cluster) (is : IsCluster cluster) (events : List Event) (a : ℕ) (t : Undecided) where
-  well : IsOpen (state_after built cluster events) a t → IsWell (state_after built cluster events).cluster (state_after built cluster events).ledger (envelopes (state_after built cluster events).sent) a t
+module _ (cluster : Cluster) (is : IsCluster cluster) (events : List Event) (a : ℕ) (t : Undecided) where
+  well : IsOpen (state_after cluster events) a t → IsWell (state_after cluster events).cluster (state_after cluster events).ledger (envelopes (state_after cluster events).sent) a t
   well h =
-      let w : World = state_after built cluster events in
-      Each-at (IsWell w.cluster w.ledger (envelopes w.sent) a) (centre_at w a).volatile.manager.opened t (open-well built cluster is events a h.centre) (open-in w a t h.opened)
+      let w : World = state_after cluster events in
+      Each-at (IsWell w.cluster w.ledger (envelopes w.sent) a) (centre_at w a).volatile.manager.opened t (open-well cluster is events a h.centre) (open-in w a t h.opened)
 
-  pub unheard : IsOpen (state_after built cluster events) a t → heard_of (facts_of (state_after built cluster events).ledger a) t.tx ≡ None
+  pub unheard : IsOpen (state_after cluster events) a t → heard_of (facts_of (state_after cluster events).ledger a) t.tx ≡ None
   unheard h = (well h).unheard
 
 -- ---- its proposals have numbers
@@ -96,15 +95,15 @@ numbers-of w message (pair ∷ order) h =
     let rest = numbers-of w message order h.1 in
     (first.0 ∷ rest.0, cc (first.1, rest.1))
 
-pub were-proposed : (built : Built) (cluster : Cluster) → IsCluster cluster → (events : List Event) (a : ℕ) (t : Undecided) (order : List (Choice × ℕ))
-    → IsOpen (state_after built cluster events) a t → AllByRecursion (IsProposal cluster t) order
-    → (numbers : List ℕ) × AreNumbersOf (state_after built cluster events) numbers (map (proposal_of a) order)
-were-proposed built cluster is events a t order h each =
-    let w : World = state_after built cluster events in
-    let same : cluster ≡ w.cluster = sym (holds built cluster is events).same in
+pub were-proposed : (cluster : Cluster) → IsCluster cluster → (events : List Event) (a : ℕ) (t : Undecided) (order : List (Choice × ℕ))
+    → IsOpen (state_after cluster events) a t → AllByRecursion (IsProposal cluster t) order
+    → (numbers : List ℕ) × AreNumbersOf (state_after cluster events) numbers (map (proposal_of a) order)
+were-proposed cluster is events a t order h each =
+    let w : World = state_after cluster events in
+    let same : cluster ≡ w.cluster = sym (holds cluster is events).same in
     numbers-of w (proposal_of a) order
     (each-weaker (IsProposal cluster t) (λ pair. In (proposal_of a pair) (envelopes w.sent)) order
-    (λ pair k. (well built cluster is events a t h).proposed pair.0 pair.1 k.own (subst (λ (c : Cluster). is_centre c pair.1 ≡ true) same k.centre)) each)
+    (λ pair k. (well cluster is events a t h).proposed pair.0 pair.1 k.own (subst (λ (c : Cluster). is_centre c pair.1 ≡ true) same k.centre)) each)
 
 -- ---- choices of different keys
 
@@ -120,17 +119,17 @@ ascending-apart (c ∷ cs) h = (from (λ (d : Choice). have_one_key c d ≡ fals
 
 -- ---- ready
 
-module _ (built : Built) (enabled : built.proposals ≡ true) (cluster : Cluster) (is : IsCluster cluster) (events : List Event)
-    (a : ℕ) (t : Undecided) (members : List ℕ) (first : Happened) (untaken : IsUntaken (state_after built cluster events) a t) (quorum : IsFastQuorum cluster.quorums members)
-    (accept : AllByRecursion (AcceptsAll (state_after built cluster events) t) members) where
+module _ (cluster : Cluster) (is : IsCluster cluster) (events : List Event)
+    (a : ℕ) (t : Undecided) (members : List ℕ) (first : Happened) (untaken : IsUntaken (state_after cluster events) a t) (quorum : IsFastQuorum cluster.quorums members)
+    (accept : AllByRecursion (AcceptsAll (state_after cluster events) t) members) where
   abbrev w : World
-  w = state_after built cluster events
+  w = state_after cluster events
 
   abbrev commit : Fact
   commit = Fact.Heard t.tx (Outcome.Commit t.choices)
 
   up : IsUp IsSound w.cluster w.ledger a (centre_at w a).volatile
-  up = is-up IsSound cluster w a (holds built cluster is events) untaken.up
+  up = is-up IsSound cluster w a (holds cluster is events) untaken.up
 
   opened : IsOpened w.ledger t
   opened = Each-at (IsOpened w.ledger) (centre_at w a).volatile.manager.opened t up.keeps.manager.opened (open-in w a t untaken.uncounted.opened)
@@ -149,13 +148,13 @@ module _ (built : Built) (enabled : built.proposals ≡ true) (cluster : Cluster
   belong = recursive (λ (choice : Choice). choice_belongs w.cluster choice ≡ true) t.choices (subst (λ cs. Each (λ (choice : Choice). choice_belongs w.cluster choice ≡ true) cs) opened.choices (begun-belong w.cluster w.ledger t.tx up.legal))
 
   same : w.cluster ≡ cluster
-  same = (holds built cluster is events).same
+  same = (holds cluster is events).same
 
   quorum-here : IsFastQuorum w.cluster.quorums members
   quorum-here = subst (λ (c : Cluster). IsFastQuorum c.quorums members) (sym same) quorum
 
   member-centre : (member : ℕ) → AcceptsAll w t member → is_centre w.cluster member ≡ true
-  member-centre member h = (is-up IsSound cluster w member (holds built cluster is events) h.up).centre
+  member-centre member h = (is-up IsSound cluster w member (holds cluster is events) h.up).centre
 
   low : AllByRecursion (λ member. 1 ≤ member) members
   low = each-weaker (AcceptsAll w t) (λ member. 1 ≤ member) members (λ member h. (bounds w.cluster member (member-centre member h)).0) accept
@@ -171,22 +170,22 @@ module _ (built : Built) (enabled : built.proposals ≡ true) (cluster : Cluster
       (λ m h. record { belongs = at (λ (choice : Choice). choice_belongs w.cluster choice ≡ true) t.choices c belong i; unstopped = h.unstopped; accepted = at (IsAccepted w.cluster (facts_of w.ledger m)) t.choices c h.accepts i }) accept)))
 
   -- none of them is dropped where the members have cells
-  pub asked-kept : (second : Happened) → HaveCells w a t members → (trip : AreDelivered built w a t members first second) → NoneDropped first.lines
+  pub asked-kept : (second : Happened) → HaveCells w a t members → (trip : AreDelivered w a t members first second) → NoneDropped first.lines
   asked-kept second have trip =
-      let asking = unrolled built trip.proposals (record { world = w; lines = [] }) first trip.proposed in
-      let kept = all-roomy built a t.tx enabled trip.proposals trip.asked w first.world asking.0 up.centre
+      let asking = unrolled trip.proposals (record { world = w; lines = [] }) first trip.proposed in
+      let kept = all-roomy a t.tx trip.proposals trip.asked w first.world asking.0 up.centre
       (named (proposal_of a) w trip.proposals trip.asked trip.proposals_are) (accepting trip.asked trip.asks_each)
       (ordered-once t.choices members trip.asked trip.asks_each choices.apart quorum-here.apart)
       (fitting w t.choices members trip.asked trip.asks_each (λ m. apart-once (λ (x y : ℕ). x == y) (λ x. x == m) members (one_member m) quorum-here.apart) have.votes) asking.2 in
       subst NoneDropped (sym asking.1) kept.0
 
-  module _ (ask : IsAsked built (state_after built cluster events) a t members first) where
-    asking : (lines : List Line) × (first.lines ≡ lines) × Delivers built w ask.proposals first.world lines
-    asking = unrolled built ask.proposals (record { world = w; lines = [] }) first ask.proposed
+  module _ (ask : IsAsked (state_after cluster events) a t members first) where
+    asking : (lines : List Line) × (first.lines ≡ lines) × Delivers w ask.proposals first.world lines
+    asking = unrolled ask.proposals (record { world = w; lines = [] }) first ask.proposed
 
     after-asking : After w first.world (map (vote_of_member a) ask.asked) × NoneHears a t.tx asking.0
     after-asking =
-        all-proposed built a t.tx enabled ask.proposals ask.asked w first.world asking.0 up.centre
+        all-proposed a t.tx ask.proposals ask.asked w first.world asking.0 up.centre
         (named (proposal_of a) w ask.proposals ask.asked ask.proposals_are) (accepting ask.asked ask.asks_each)
         (ordered-once t.choices members ask.asked ask.asks_each choices.apart quorum-here.apart) asking.2
         (subst NoneDropped asking.1 ask.undropped)
@@ -209,10 +208,10 @@ module _ (built : Built) (enabled : built.proposals ≡ true) (cluster : Cluster
         (from (λ pair. In (vote_of_member a pair) (envelopes first.world.sent)) ask.asked
         (λ pair i. subst (λ ms. In (vote_of_member a pair) ms) (sym after-asking.0.messages) (in-back (vote_of_member a pair) (messages_of w) (map (vote_of_member a) ask.asked) (in-map pair ask.asked i))))))
 
-    module _ (limited : built.limit_on_events ≡ true) (v : World) (more : List Event) (reached : state_after built cluster more ≡ v) (messages : messages_of v ≡ messages_of w ++ map (vote_of_member a) ask.asked)
+    module _ (v : World) (more : List Event) (reached : state_after cluster more ≡ v) (messages : messages_of v ≡ messages_of w ++ map (vote_of_member a) ask.asked)
         (begun : choices_begun v.ledger t.tx ≡ t.choices) where
       backed : Each (λ (s : Sent). IsBackedMessage cluster v.ledger s.envelope) v.sent
-      backed = subst (λ (z : World). Each (λ (s : Sent). IsBackedMessage cluster z.ledger s.envelope) z.sent) reached (all_sent built cluster is more)
+      backed = subst (λ (z : World). Each (λ (s : Sent). IsBackedMessage cluster z.ledger s.envelope) z.sent) reached (all_sent cluster is more)
 
       given : AllByRecursion (λ (pair : Choice × ℕ). Gives v.ledger t.tx pair.0 pair.1) (each_with t.choices members)
       given =
@@ -237,13 +236,13 @@ module _ (built : Built) (enabled : built.proposals ≡ true) (cluster : Cluster
       ledger-there =
           record {
             of_cluster = is;
-            allowed = subst (λ (z : World). IsAllowed cluster z.ledger) reached (allowed built cluster is more);
-            short = subst (λ (z : World). length z.ledger ≤ 2 ^ 64 - 1) reached (ledger-short built limited cluster is more);
+            allowed = subst (λ (z : World). IsAllowed cluster z.ledger) reached (allowed cluster is more);
+            short = subst (λ (z : World). length z.ledger ≤ 2 ^ 64 - 1) reached (ledger-short cluster is more);
           }
 
       committed : outcome_of cluster.quorums v.ledger t.tx ≡ Some (Outcome.Commit t.choices)
       committed =
-          let sound = subst (λ (z : World). IsSound z.ledger) reached (holds built cluster is more).more in
+          let sound = subst (λ (z : World). IsSound z.ledger) reached (holds cluster is more).more in
           outcome-commits cluster.quorums v.ledger t.tx members is.quorums (law cluster v.ledger is.quorums ledger-there.allowed sound) quorum low t.choices begun opened.some_choice
           (of-pairs (λ (pair : Choice × ℕ). Gives v.ledger t.tx pair.0 pair.1) t.choices members given)
 
@@ -258,27 +257,26 @@ module _ (built : Built) (enabled : built.proposals ≡ true) (cluster : Cluster
         subst (λ (c : Cluster). (is_centre c a && (centre_at first.world a).is_up) ≡ true) (sym after.cluster)
         (subst (λ (cs : List Site). (is_centre w.cluster a && (get_or cs (a - 1) booted).is_up) ≡ true) (sym after.centres) untaken.up)
 
-    uncrowded : built.limit_on_events ≡ true → is_crowding (facts_of w.ledger a) commit ≡ false
-    uncrowded limited =
+    uncrowded : is_crowding (facts_of w.ledger a) commit ≡ false
+    uncrowded =
         let after = after-asking.0 in
-        let there = next-state built cluster events (Event.Deliver ask.proposals) first ask.proposed in
-        let up-then = subst (λ (z : World). is_up_at z a ≡ true → IsUp IsSound z.cluster z.ledger a (centre_at z a).volatile) there.1 (is-up IsSound cluster (state_after built cluster there.0) a (holds built cluster is there.0)) up-there in
+        let there = next-state cluster events (Event.Deliver ask.proposals) first ask.proposed in
+        let up-then = subst (λ (z : World). is_up_at z a ≡ true → IsUp IsSound z.cluster z.ledger a (centre_at z a).volatile) there.1 (is-up IsSound cluster (state_after cluster there.0) a (holds cluster is there.0)) up-there in
         let among : In t (centre_at first.world a).volatile.manager.opened =
         subst (λ (cs : List Site). In t (get_or cs (a - 1) booted).volatile.manager.opened) (sym after.centres) (open-in w a t untaken.uncounted.opened) in
         let still = Each-at (IsOpened first.world.ledger) (centre_at first.world a).volatile.manager.opened t up-then.keeps.manager.opened among in
-        sym (after.crowding a commit) ∙ uncrowded-there limited first.world there.0 there.1 after.messages still.choices
+        sym (after.crowding a commit) ∙ uncrowded-there first.world there.0 there.1 after.messages still.choices
 
-    ready : built.limit_on_events ≡ true → IsReady built w a t members
-    ready limited = record {
-      enabled = enabled;
+    ready : IsReady w a t members
+    ready = record {
       quorums = up.sizes;
-      sites = (holds built cluster is events).size;
+      sites = (holds cluster is events).size;
       undecided = record {
         centre = up.centre;
         unstopped = untaken.unstopped;
         uncounted = untaken.uncounted;
-        unheard = unheard built cluster is events a t (record { centre = up.centre; opened = untaken.uncounted.opened });
-        uncrowded = uncrowded limited;
+        unheard = unheard cluster is events a t (record { centre = up.centre; opened = untaken.uncounted.opened });
+        uncrowded = uncrowded;
       };
       choices = choices;
       belong = belong;
@@ -286,13 +284,13 @@ module _ (built : Built) (enabled : built.proposals ≡ true) (cluster : Cluster
       accept = each-weaker (AcceptsAll w t) (AcceptsEach w t.choices) members (λ member h. record { centre = member-centre member h; unstopped = h.unstopped; accepts = h.accepts }) accept;
     }
 
-pub commits : (built : Built) → built.proposals ≡ true → built.limit_on_events ≡ true → (cluster : Cluster) → IsCluster cluster
-    → (events : List Event) (a : ℕ) (t : Undecided) (members : List ℕ) (first second : Happened) → IsUntaken (state_after built cluster events) a t → IsFastQuorum cluster.quorums members
-    → AllByRecursion (AcceptsAll (state_after built cluster events) t) members → IsRoundTrip built (state_after built cluster events) a t members first second → EndsWithCommit a t.tx first.lines second.lines
-commits built enabled limited cluster is events a t members first second untaken quorum accept trip =
-    ends-with-commit built (state_after built cluster events) a t members first second (ready built enabled cluster is events a t members first untaken quorum accept ask limited) trip
+pub commits : (cluster : Cluster) → IsCluster cluster
+    → (events : List Event) (a : ℕ) (t : Undecided) (members : List ℕ) (first second : Happened) → IsUntaken (state_after cluster events) a t → IsFastQuorum cluster.quorums members
+    → AllByRecursion (AcceptsAll (state_after cluster events) t) members → IsRoundTrip (state_after cluster events) a t members first second → EndsWithCommit a t.tx first.lines second.lines
+commits cluster is events a t members first second untaken quorum accept trip =
+    ends-with-commit (state_after cluster events) a t members first second (ready cluster is events a t members first untaken quorum accept ask) trip
   where
-    ask : IsAsked built (state_after built cluster events) a t members first
+    ask : IsAsked (state_after cluster events) a t members first
     ask = record {
       asked = trip.deliveries.asked;
       proposals = trip.deliveries.proposals;
@@ -303,24 +301,24 @@ commits built enabled limited cluster is events a t members first second untaken
     }
 
 -- the same where the centres have cells
-pub roomy-commits : (built : Built) → built.proposals ≡ true → built.limit_on_events ≡ true → (cluster : Cluster) → IsCluster cluster
-    → (events : List Event) (a : ℕ) (t : Undecided) (members : List ℕ) (first second : Happened) → IsUntaken (state_after built cluster events) a t → IsFastQuorum cluster.quorums members
-    → AllByRecursion (AcceptsAll (state_after built cluster events) t) members → HaveCells (state_after built cluster events) a t members
-    → AreDelivered built (state_after built cluster events) a t members first second → EndsWithCommit a t.tx first.lines second.lines
-roomy-commits built enabled limited cluster is events a t members first second untaken quorum accept have trip =
-    commits built enabled limited cluster is events a t members first second untaken quorum accept
+pub roomy-commits : (cluster : Cluster) → IsCluster cluster
+    → (events : List Event) (a : ℕ) (t : Undecided) (members : List ℕ) (first second : Happened) → IsUntaken (state_after cluster events) a t → IsFastQuorum cluster.quorums members
+    → AllByRecursion (AcceptsAll (state_after cluster events) t) members → HaveCells (state_after cluster events) a t members
+    → AreDelivered (state_after cluster events) a t members first second → EndsWithCommit a t.tx first.lines second.lines
+roomy-commits cluster is events a t members first second untaken quorum accept have trip =
+    commits cluster is events a t members first second untaken quorum accept
     (record {
       deliveries = trip;
-      undropped = cells-suffice built (state_after built cluster events) a t members first second
-          (ready built enabled cluster is events a t members first untaken quorum accept ask limited) have trip;
+      undropped = cells-suffice (state_after cluster events) a t members first second
+          (ready cluster is events a t members first untaken quorum accept ask) have trip;
     })
   where
-    ask : IsAsked built (state_after built cluster events) a t members first
+    ask : IsAsked (state_after cluster events) a t members first
     ask = record {
       asked = trip.asked;
       proposals = trip.proposals;
       asks_each = trip.asks_each;
       proposals_are = trip.proposals_are;
       proposed = trip.proposed;
-      undropped = asked-kept built enabled cluster is events a t members first untaken quorum accept second have trip;
+      undropped = asked-kept cluster is events a t members first untaken quorum accept second have trip;
     }

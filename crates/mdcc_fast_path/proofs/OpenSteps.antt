@@ -14,7 +14,6 @@ use Rattle.mdcc_option.specs.declared.choices.Mark.{Mark}
 use Rattle.mdcc_option.specs.declared.choices.Outcome.{Outcome}
 use Rattle.mdcc_option.specs.declared.cluster.Cluster.{Cluster}
 use Rattle.mdcc_struct.specs.declared.options.Options.{Options}
-use Rattle.mdcc_switches.specs.Built.{Built}
 use Rattle.mdcc_ledger.specs.Ledger.{Entry, facts_of}
 use Rattle.mdcc_messages.specs.declared.facts.Fact.{Fact}
 use Rattle.mdcc_messages.specs.declared.messages.Envelope.{Envelope}
@@ -42,7 +41,7 @@ use Rattle.mdcc_protocol.specs.declared.votes.Vote.{Vote}
 use Rattle.mdcc_rules.specs.AcceptorRules.{accepted_step, ask_step_by, prepared_step, proposed_step}
 use Rattle.mdcc_rules.specs.LeaderRules.{lead_step_after, led_by_answer, led_of, promised_by_answer, step_of_led}
 use Rattle.mdcc_rules.specs.ManagerRules.{acted_step, escalate_step, opened_step, undecided_step, voted_step, watched_step}
-use Rattle.mdcc_rules.specs.Node.{checked, is_without_room, message_step, rule, with_room}
+use Rattle.mdcc_rules.specs.Node.{checked, is_without_room, message_step, with_room}
 use Rattle.mdcc_rules.specs.Steps.{NodeStep, StepPart, adding, and_then, nothing_done, only_sending, sending}
 use Rattle.mdcc_rules.specs.SyncRules.{outcome_step_by, sync_give_step_by}
 use Rattle.mdcc_rules.specs.TickRules.{claim_led, led_or_left, manager_act, manager_ticked, recovery_act, recovery_ticked, tick_parts}
@@ -171,20 +170,17 @@ acted-old manager (Some (ManagerAct.LeadHere choice)) = old-same manager.opened
 acts : (me : ℕ) (facts : List Fact) (volatile : Volatile) (r : Option ManagerAct × Managing) → AreOld volatile.manager.opened r.1.opened → IsKeeping volatile (acted_step me facts volatile r)
 acts me facts volatile (act, manager) h = sent volatile (with_manager volatile manager) _ h
 
-undecided : (built : Built) (cluster : Cluster) (me : ℕ) (facts : List Fact) (volatile : Volatile) (vote : Vote) → IsKeeping volatile (undecided_step built cluster me facts volatile vote)
-undecided built cluster me facts volatile vote =
+undecided : (cluster : Cluster) (me : ℕ) (facts : List Fact) (volatile : Volatile) (vote : Vote) → IsKeeping volatile (undecided_step cluster me facts volatile vote)
+undecided cluster me facts volatile vote =
     let taken : Managing = vote_taken cluster.quorums volatile.manager vote in
     let act = act_on_vote cluster.quorums taken vote (decision cluster.quorums taken vote.tx) in
-    elim (cases_Bool built.escalations) [
-      | inl e ↦ rw e (acts me facts volatile (Manager.on_voted cluster.quorums volatile.manager vote) (old-trans volatile.manager.opened taken.opened (acted taken act).1.opened before (acted-old taken act)))
-      | inr e ↦ rw e (done volatile (with_manager volatile (vote_taken cluster.quorums volatile.manager vote)) before)
-    ]
+    acts me facts volatile (Manager.on_voted cluster.quorums volatile.manager vote) (old-trans volatile.manager.opened taken.opened (acted taken act).1.opened before (acted-old taken act))
   where
     before : AreOld volatile.manager.opened (vote_taken cluster.quorums volatile.manager vote).opened
     before = taken-old cluster.quorums volatile.manager vote
 
-voted : (built : Built) (cluster : Cluster) (me : ℕ) (facts : List Fact) (volatile : Volatile) (vote : Vote) → IsKeeping volatile (voted_step built cluster me facts volatile vote)
-voted built cluster me facts volatile vote =
+voted : (cluster : Cluster) (me : ℕ) (facts : List Fact) (volatile : Volatile) (vote : Vote) → IsKeeping volatile (voted_step cluster me facts volatile vote)
+voted cluster me facts volatile vote =
     elim (cases_Bool (is_heard facts vote.tx)) [
       | inl e ↦ rw e (done volatile volatile (same volatile))
       | inr e ↦ rw e (elim (cases_Bool (is_open volatile.manager vote.tx)) [
@@ -193,9 +189,9 @@ voted built cluster me facts volatile vote =
       ])
     ]
   where
-    opened : (o : Option Outcome) → IsKeeping volatile (opened_step built cluster me facts volatile vote o)
+    opened : (o : Option Outcome) → IsKeeping volatile (opened_step cluster me facts volatile vote o)
     opened (Some o) = heard volatile vote.tx o _
-    opened None = undecided built cluster me facts volatile vote
+    opened None = undecided cluster me facts volatile vote
 
     watched : (o : Option (TxId × Outcome)) → IsKeeping volatile (watched_step cluster me facts volatile vote o)
     watched (Some d) = heard volatile d.0 d.1 _
@@ -249,41 +245,36 @@ claimed cluster me facts volatile s choice None = apart-step volatile (led_of cl
 
 -- ---- messages
 
-ruled : (is_built : Bool) (volatile : Volatile) (r : Result NodeStep StepFault) → IsKeepingResult volatile r → IsKeepingResult volatile (rule is_built volatile r)
-ruled true volatile r h = h
-ruled false volatile r h = done volatile volatile (same volatile)
+message : (cluster : Cluster) (me : ℕ) (facts : List Fact) (volatile : Volatile) (s : ℕ) (m : Message) → IsKeepingResult volatile (message_step cluster me facts volatile s m)
+message cluster me facts volatile s (Message.Propose choice) = proposed me volatile s choice (on_propose cluster facts choice)
+message cluster me facts volatile s (Message.Voted k v b t m) = voted cluster me facts volatile _
+message cluster me facts volatile s (Message.Escalate k v t cause) = escalated cluster me facts volatile s k t cause
+message cluster me facts volatile s (Message.Lead choice) = claimed cluster me facts volatile s choice (heard_of facts choice.tx)
+message cluster me facts volatile s (Message.Prepare k v w b) = prepared me facts volatile s k v b (on_prepare facts k v w b)
+message cluster me facts volatile s (Message.Promise k v w b r os) =
+    apart-step volatile _ (promised cluster.quorums me volatile k (on_promise cluster facts volatile.leader s (record { key = k; version = v; through = w; ballot = b; reported = r; votes = os })))
+message cluster me facts volatile s (Message.Accept k v b os) = accepted me facts volatile s k v b os (on_accept facts k v b os)
+message cluster me facts volatile s (Message.Refused k v b p) = done volatile _ (same volatile)
+message cluster me facts volatile s (Message.Outcome t o) = told facts volatile t o
+message cluster me facts volatile s (Message.Ask t k v) = asked me volatile s t k v (heard_of facts t) (vote_of facts k v t)
+message cluster me facts volatile s (Message.SyncAsk k) = sent volatile volatile _ (same volatile)
+message cluster me facts volatile s (Message.SyncGive k v item adds) = given facts volatile (record { key = k; version = v; item = item; adds = adds })
+message cluster me facts volatile s (Message.ClientRead n k) = done volatile volatile (same volatile)
+message cluster me facts volatile s (Message.ClientBegin n ps) = done volatile volatile (same volatile)
+message cluster me facts volatile s (Message.ClientAnswer n x) = done volatile volatile (same volatile)
 
-message : (built : Built) (cluster : Cluster) (me : ℕ) (facts : List Fact) (volatile : Volatile) (s : ℕ) (m : Message) → IsKeepingResult volatile (message_step built cluster me facts volatile s m)
-message built cluster me facts volatile s (Message.Propose choice) = ruled built.proposals volatile _ (proposed me volatile s choice (on_propose cluster facts choice))
-message built cluster me facts volatile s (Message.Voted k v b t m) = ruled built.proposals volatile _ (voted built cluster me facts volatile _)
-message built cluster me facts volatile s (Message.Escalate k v t cause) = ruled built.escalations volatile _ (escalated cluster me facts volatile s k t cause)
-message built cluster me facts volatile s (Message.Lead choice) = ruled built.leading volatile _ (claimed cluster me facts volatile s choice (heard_of facts choice.tx))
-message built cluster me facts volatile s (Message.Prepare k v w b) = ruled built.leading volatile _ (prepared me facts volatile s k v b (on_prepare facts k v w b))
-message built cluster me facts volatile s (Message.Promise k v w b r os) =
-    ruled built.leading volatile _
-    (apart-step volatile _ (promised cluster.quorums me volatile k (on_promise cluster facts volatile.leader s (record { key = k; version = v; through = w; ballot = b; reported = r; votes = os }))))
-message built cluster me facts volatile s (Message.Accept k v b os) = ruled built.leading volatile _ (accepted me facts volatile s k v b os (on_accept facts k v b os))
-message built cluster me facts volatile s (Message.Refused k v b p) = ruled built.leading volatile _ (done volatile _ (same volatile))
-message built cluster me facts volatile s (Message.Outcome t o) = ruled built.proposals volatile _ (told facts volatile t o)
-message built cluster me facts volatile s (Message.Ask t k v) = ruled built.recovery volatile _ (asked me volatile s t k v (heard_of facts t) (vote_of facts k v t))
-message built cluster me facts volatile s (Message.SyncAsk k) = ruled built.catching_up volatile _ (sent volatile volatile _ (same volatile))
-message built cluster me facts volatile s (Message.SyncGive k v item adds) = ruled built.catching_up volatile _ (given facts volatile (record { key = k; version = v; item = item; adds = adds }))
-message built cluster me facts volatile s (Message.ClientRead n k) = done volatile volatile (same volatile)
-message built cluster me facts volatile s (Message.ClientBegin n ps) = done volatile volatile (same volatile)
-message built cluster me facts volatile s (Message.ClientAnswer n x) = done volatile volatile (same volatile)
-
-pub message-keeps : (built : Built) (cluster : Cluster) (me : ℕ) (facts : List Fact) (volatile : Volatile) (s : ℕ) (m : Message) → IsKeepingResult volatile (checked built cluster facts (message_step built cluster me facts volatile s m))
-message-keeps built cluster me facts volatile s m = by_result (message_step built cluster me facts volatile s m) (message built cluster me facts volatile s m)
+pub message-keeps : (cluster : Cluster) (me : ℕ) (facts : List Fact) (volatile : Volatile) (s : ℕ) (m : Message) → IsKeepingResult volatile (checked cluster facts (message_step cluster me facts volatile s m))
+message-keeps cluster me facts volatile s m = by_result (message_step cluster me facts volatile s m) (message cluster me facts volatile s m)
   where
-    roomy : (step : NodeStep) (o : Option Fact) → IsKeeping volatile step → IsKeepingResult volatile (with_room built cluster facts step o)
+    roomy : (step : NodeStep) (o : Option Fact) → IsKeeping volatile step → IsKeepingResult volatile (with_room cluster facts step o)
     roomy step None h = h
     roomy step (Some fact) h =
-        elim (cases_Bool (is_without_room built cluster facts fact)) [
+        elim (cases_Bool (is_without_room cluster facts fact)) [
           | inl e ↦ rw e tt
           | inr e ↦ rw e (elim (cases_Bool (is_crowding facts fact)) [ inl f ↦ rw f tt | inr f ↦ rw f h ])
         ]
 
-    by_result : (r : Result NodeStep StepFault) → IsKeepingResult volatile r → IsKeepingResult volatile (checked built cluster facts r)
+    by_result : (r : Result NodeStep StepFault) → IsKeepingResult volatile r → IsKeepingResult volatile (checked cluster facts r)
     by_result (Ok step) h = roomy step step.fact h
     by_result (Err fault) h = tt
 
@@ -314,47 +305,35 @@ fold-keeps before act (x ∷ xs) part one h =
 quiet-part : (volatile : Volatile) (sends : List Envelope) → IsApart volatile (only_sending volatile sends)
 quiet-part volatile sends = record { manager = refl; plain = λ es a. refl }
 
-claim-part : (built : Built) (cluster : Cluster) (me : ℕ) (facts : List Fact) (volatile : Volatile) (claim : Claim) → IsApart volatile (claim_led built cluster me facts volatile claim)
-claim-part built cluster me facts volatile claim = pick built.leading
+claim-part : (cluster : Cluster) (me : ℕ) (facts : List Fact) (volatile : Volatile) (claim : Claim) → IsApart volatile (claim_led cluster me facts volatile claim)
+claim-part cluster me facts volatile claim = by_result (led_of cluster me facts volatile claim) (led cluster me facts volatile claim)
   where
     by_result : (r : Result StepPart LeadFault) → IsApartResult volatile r → IsApart volatile (led_or_left volatile r)
     by_result (Ok part) h = h
     by_result (Err fault) h = quiet-part volatile []
 
-    pick : (b : Bool) → IsApart volatile (cond b (led_or_left volatile (led_of cluster me facts volatile claim)) (only_sending volatile []))
-    pick true = by_result (led_of cluster me facts volatile claim) (led cluster me facts volatile claim)
-    pick false = quiet-part volatile []
+manager-part : (cluster : Cluster) (me : ℕ) (facts : List Fact) (volatile : Volatile) (act : ManagerAct) → IsApart volatile (manager_act cluster me facts volatile act)
+manager-part cluster me facts volatile (ManagerAct.Propose choice) = quiet-part volatile _
+manager-part cluster me facts volatile (ManagerAct.LeadHere choice) = claim-part cluster me facts volatile (claim_of_choice choice)
+manager-part cluster me facts volatile (ManagerAct.Lead leader choice) = quiet-part volatile []
+manager-part cluster me facts volatile (ManagerAct.Give centre key) = quiet-part volatile []
+manager-part cluster me facts volatile (ManagerAct.Decide tx outcome) = quiet-part volatile []
 
-manager-part : (built : Built) (cluster : Cluster) (me : ℕ) (facts : List Fact) (volatile : Volatile) (act : ManagerAct) → IsApart volatile (manager_act built cluster me facts volatile act)
-manager-part built cluster me facts volatile (ManagerAct.Propose choice) = quiet-part volatile _
-manager-part built cluster me facts volatile (ManagerAct.LeadHere choice) = claim-part built cluster me facts volatile (claim_of_choice choice)
-manager-part built cluster me facts volatile (ManagerAct.Lead leader choice) = quiet-part volatile []
-manager-part built cluster me facts volatile (ManagerAct.Give centre key) = quiet-part volatile []
-manager-part built cluster me facts volatile (ManagerAct.Decide tx outcome) = quiet-part volatile []
+recovery-part : (cluster : Cluster) (me : ℕ) (facts : List Fact) (volatile : Volatile) (act : RecoverAct) → IsApart volatile (recovery_act cluster me facts volatile act)
+recovery-part cluster me facts volatile (RecoverAct.Ask t k v) = quiet-part volatile _
+recovery-part cluster me facts volatile (RecoverAct.LeadHere claim) = claim-part cluster me facts volatile claim
 
-recovery-part : (built : Built) (cluster : Cluster) (me : ℕ) (facts : List Fact) (volatile : Volatile) (act : RecoverAct) → IsApart volatile (recovery_act built cluster me facts volatile act)
-recovery-part built cluster me facts volatile (RecoverAct.Ask t k v) = quiet-part volatile _
-recovery-part built cluster me facts volatile (RecoverAct.LeadHere claim) = claim-part built cluster me facts volatile claim
-
-pub tick-keeps : (built : Built) (cluster : Cluster) (me : ℕ) (facts : List Fact) (volatile : Volatile) → IsKeepingPart volatile.manager.opened (tick_parts built cluster me facts volatile)
-tick-keeps built cluster me facts volatile = pick built.ticks built.recovery
+pub tick-keeps : (cluster : Cluster) (me : ℕ) (facts : List Fact) (volatile : Volatile) → IsKeepingPart volatile.manager.opened (tick_parts cluster me facts volatile)
+tick-keeps cluster me facts volatile = second (manager_ticked cluster me facts volatile) first
   where
-    first : IsKeepingPart volatile.manager.opened (manager_ticked built cluster me facts volatile)
+    first : IsKeepingPart volatile.manager.opened (manager_ticked cluster me facts volatile)
     first =
-        fold-keeps volatile.manager.opened (manager_act built cluster me facts) (Manager.tick cluster.quorums volatile.manager).0 (only_sending (with_manager volatile (Manager.tick cluster.quorums volatile.manager).1) [])
-        (λ v act. manager-part built cluster me facts v act)
+        fold-keeps volatile.manager.opened (manager_act cluster me facts) (Manager.tick cluster.quorums volatile.manager).0 (only_sending (with_manager volatile (Manager.tick cluster.quorums volatile.manager).1) [])
+        (λ v act. manager-part cluster me facts v act)
         (record { opened = old-map (ticked_transaction cluster.quorums volatile.manager.votes) volatile.manager.opened (λ u. (refl, refl)); plain = λ es a. refl })
 
-    second : (part : StepPart) → IsKeepingPart volatile.manager.opened part → IsKeepingPart volatile.manager.opened (recovery_ticked built cluster me facts part)
+    second : (part : StepPart) → IsKeepingPart volatile.manager.opened part → IsKeepingPart volatile.manager.opened (recovery_ticked cluster me facts part)
     second part h =
         let ticked = Recover.tick cluster.quorums facts part.after.recovery (txs_opened part.after.manager) in
-        fold-keeps volatile.manager.opened (recovery_act built cluster me facts) ticked.0 (record part { after = with_recovery part.after ticked.1 }) (λ v act. recovery-part built cluster me facts v act)
+        fold-keeps volatile.manager.opened (recovery_act cluster me facts) ticked.0 (record part { after = with_recovery part.after ticked.1 }) (λ v act. recovery-part cluster me facts v act)
         (record { opened = h.opened; plain = h.plain })
-
-    half : (y : Bool) (part : StepPart) → IsKeepingPart volatile.manager.opened part → IsKeepingPart volatile.manager.opened (cond y (recovery_ticked built cluster me facts part) part)
-    half true part h = second part h
-    half false part h = h
-
-    pick : (x y : Bool) → IsKeepingPart volatile.manager.opened (cond y (recovery_ticked built cluster me facts (cond x (manager_ticked built cluster me facts volatile) (only_sending volatile []))) (cond x (manager_ticked built cluster me facts volatile) (only_sending volatile [])))
-    pick true y = half y (manager_ticked built cluster me facts volatile) first
-    pick false y = half y (only_sending volatile []) (record { opened = same volatile; plain = λ es a. refl })

@@ -14,7 +14,6 @@ use Rattle.mdcc_option.specs.declared.choices.Outcome.{Outcome}
 use Rattle.mdcc_option.specs.declared.cluster.Cluster.{Cluster}
 use Rattle.mdcc_option.specs.declared.faults.BeginFault.{BeginFault}
 use Rattle.mdcc_option.specs.declared.items.Part.{Part}
-use Rattle.mdcc_switches.specs.Built.{Built}
 use Rattle.mdcc_language.specs.declared.events.Event.{Event}
 use Rattle.mdcc_ledger.specs.AllowedLedgers.{IsAllowed, seqs_begun}
 use Rattle.mdcc_ledger.specs.Ledger.{Added, Entry, choices_begun, facts_of}
@@ -220,7 +219,7 @@ input-well w a (Err StepFault.Memory) h here own all = all
 
 -- ---- inputs
 
-module _ (built : Built) (w : World) (a : ℕ) (up : IsUp IsSound w.cluster w.ledger a (centre_at w a).volatile) (all : IsWellWorld w) where
+module _ (w : World) (a : ℕ) (up : IsUp IsSound w.cluster w.ledger a (centre_at w a).volatile) (all : IsWellWorld w) where
   here-well : Each (IsWell w.cluster w.ledger (envelopes w.sent) a) (centre_at w a).volatile.manager.opened
   here-well = all a up.centre
 
@@ -228,22 +227,22 @@ module _ (built : Built) (w : World) (a : ℕ) (up : IsUp IsSound w.cluster w.le
   keeping-result (Ok step) h = (keeping-well w a step h here-well, h.plain)
   keeping-result (Err fault) h = tt
 
-  message-well : (env : Envelope) → IsWellResult w a (step_at built w a (Input.Message env))
+  message-well : (env : Envelope) → IsWellResult w a (step_at w a (Input.Message env))
   message-well env = pick _
     where
-      pick : (b : Bool) → IsWellResult w a (cond b (checked built w.cluster (facts_of w.ledger a) (message_step built w.cluster a (facts_of w.ledger a) (centre_at w a).volatile env.from env.message)) (Err StepFault.Foreign))
+      pick : (b : Bool) → IsWellResult w a (cond b (checked w.cluster (facts_of w.ledger a) (message_step w.cluster a (facts_of w.ledger a) (centre_at w a).volatile env.from env.message)) (Err StepFault.Foreign))
       pick true =
-          keeping-result (checked built w.cluster (facts_of w.ledger a) (message_step built w.cluster a (facts_of w.ledger a) (centre_at w a).volatile env.from env.message))
-          (message-keeps built w.cluster a (facts_of w.ledger a) (centre_at w a).volatile env.from env.message)
+          keeping-result (checked w.cluster (facts_of w.ledger a) (message_step w.cluster a (facts_of w.ledger a) (centre_at w a).volatile env.from env.message))
+          (message-keeps w.cluster a (facts_of w.ledger a) (centre_at w a).volatile env.from env.message)
       pick false = tt
 
-  tick-well : IsWellResult w a (step_at built w a Input.Tick)
+  tick-well : IsWellResult w a (step_at w a Input.Tick)
   tick-well =
-      let k = tick-keeps built w.cluster a (facts_of w.ledger a) (centre_at w a).volatile in
-      keeping-result (step_at built w a Input.Tick) (record { opened = k.opened; closes = λ tx o e. absurd (cc); plain = k.plain })
+      let k = tick-keeps w.cluster a (facts_of w.ledger a) (centre_at w a).volatile in
+      keeping-result (step_at w a Input.Tick) (record { opened = k.opened; closes = λ tx o e. absurd (cc); plain = k.plain })
 
-  read-well : (key : Key) → IsWellResult w a (step_at built w a (Input.Read key))
-  read-well key = keeping-result (step_at built w a (Input.Read key)) (record { opened = old-same (centre_at w a).volatile.manager.opened; closes = λ tx o e. absurd (cc); plain = λ es b. refl })
+  read-well : (key : Key) → IsWellResult w a (step_at w a (Input.Read key))
+  read-well key = keeping-result (step_at w a (Input.Read key)) (record { opened = old-same (centre_at w a).volatile.manager.opened; closes = λ tx o e. absurd (cc); plain = λ es b. refl })
 
   -- no outcome of a transaction was heard that was not begun
   fresh : (tx : TxId) (choices : List Choice) → IsAllowed w.cluster (Entry.Begun a tx choices ∷ w.ledger) → heard_of (facts_of w.ledger a) tx ≡ None
@@ -262,7 +261,7 @@ module _ (built : Built) (w : World) (a : ℕ) (up : IsUp IsSound w.cluster w.le
           let within = seq_within w.cluster w.ledger tx legal.0 begun in
           absurd (omega (arith, number, within))
 
-  begin-well : (parts : List Part) → IsGood w.cluster IsSound w.ledger a (step_at built w a (Input.Begin parts)) → IsWellResult w a (step_at built w a (Input.Begin parts))
+  begin-well : (parts : List Part) → IsGood w.cluster IsSound w.ledger a (step_at w a (Input.Begin parts)) → IsWellResult w a (step_at w a (Input.Begin parts))
   begin-well parts good = by_fault (begin_fault (facts_of w.ledger a) (centre_at w a).volatile.manager parts) good
     where
       by_fault : (o : Option (Key × BeginFault))
@@ -283,8 +282,8 @@ module _ (built : Built) (w : World) (a : ℕ) (up : IsUp IsSound w.cluster w.le
 
 -- ---- the walk
 
-well-walk : (built : Built) (cluster : Cluster) → IsWalk built cluster (λ t d w. IsWellWorld w)
-well-walk built cluster = record {
+well-walk : (cluster : Cluster) → IsWalk cluster (λ t d w. IsWellWorld w)
+well-walk cluster = record {
   first = λ b here. subst (λ (z : Site). Each (IsWell cluster (booted_to cluster.quorums.centres) [] b) z.volatile.manager.opened) (sym (replicated cluster.quorums.centres (b - 1))) tt;
   delivered_at = λ t d w n m p. subst (λ ms. AreWell w.cluster w.ledger ms w.centres) (sym (delivered-same w.sent n)) p;
   events = λ t d w m p. p;
@@ -299,13 +298,13 @@ well-walk built cluster = record {
     again w h = record { same = refl; sizes = h.sizes; legal = h.legal; placed = h.placed; more = h.more; sent = h.sent; size = h.size; centres = h.centres }
 
     by_input : (w : World) (a : ℕ) (input : Input) → Holds IsSound cluster w → IsUp IsSound w.cluster w.ledger a (centre_at w a).volatile → IsFair w.cluster w.ledger input → IsWellWorld w
-        → IsWellWorld (input_happened w a (step_at built w a input)).world
-    by_input w a (Input.Message env) h up fair p = input-well w a (step_at built w a (Input.Message env)) (again w h) up.centre (message-well built w a up p env) p
-    by_input w a Input.Tick h up fair p = input-well w a (step_at built w a Input.Tick) (again w h) up.centre (tick-well built w a up p) p
-    by_input w a (Input.Read key) h up fair p = input-well w a (step_at built w a (Input.Read key)) (again w h) up.centre (read-well built w a up p key) p
+        → IsWellWorld (input_happened w a (step_at w a input)).world
+    by_input w a (Input.Message env) h up fair p = input-well w a (step_at w a (Input.Message env)) (again w h) up.centre (message-well w a up p env) p
+    by_input w a Input.Tick h up fair p = input-well w a (step_at w a Input.Tick) (again w h) up.centre (tick-well w a up p) p
+    by_input w a (Input.Read key) h up fair p = input-well w a (step_at w a (Input.Read key)) (again w h) up.centre (read-well w a up p key) p
     by_input w a (Input.Begin parts) h up fair p =
-        input-well w a (step_at built w a (Input.Begin parts)) (again w h) up.centre
-        (begin-well built w a up p parts ((all-good built).step w.cluster w.ledger a (centre_at w a).volatile (Input.Begin parts) up fair)) p
+        input-well w a (step_at w a (Input.Begin parts)) (again w h) up.centre
+        (begin-well w a up p parts ((all-good).step w.cluster w.ledger a (centre_at w a).volatile (Input.Begin parts) up fair)) p
 
-pub open-well : (built : Built) (cluster : Cluster) → IsCluster cluster → (events : List Event) → IsWellWorld (run_of built (first_world cluster) events).world
-open-well built cluster is events = (trace-reached built cluster (λ t d w. IsWellWorld w) (well-walk built cluster) (all-good built) is.quorums events).is
+pub open-well : (cluster : Cluster) → IsCluster cluster → (events : List Event) → IsWellWorld (run_of (first_world cluster) events).world
+open-well cluster is events = (trace-reached cluster (λ t d w. IsWellWorld w) (well-walk cluster) (all-good) is.quorums events).is

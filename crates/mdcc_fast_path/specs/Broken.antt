@@ -9,7 +9,6 @@ use Rattle.mdcc_option.specs.declared.choices.Choice.{Choice}
 use Rattle.mdcc_option.specs.declared.cluster.Cluster.{Cluster}
 use Rattle.mdcc_option.specs.declared.cluster.FastLimit.{FastLimit}
 use Rattle.mdcc_option.specs.declared.items.Update.{Update}
-use Rattle.mdcc_switches.specs.Built.{all_built}
 use Rattle.mdcc_language.specs.declared.events.Event.{Event}
 use Rattle.mdcc_language.specs.declared.events.UpdateWord.{UpdateWord}
 use Rattle.mdcc_language.specs.declared.lines.Line.{Line}
@@ -43,7 +42,7 @@ open_with tx choice = record { tx = tx; choices = choice ∷ []; led = []; ticks
 
 -- the third centre has not heard that the first version was written
 abbrev pub older : World
-older = state_after all_built three (
+older = state_after three (
     Event.Begin 1 (UpdateWord.New key_a item ∷ []) ∷ Event.Deliver (1 ∷ 2 ∷ 3 ∷ 4 ∷ 5 ∷ 6 ∷ 7 ∷ [])
     ∷ Event.Read 1 key_a ∷ Event.Begin 1 (UpdateWord.Set 1 item ∷ []) ∷ []
     )
@@ -61,7 +60,7 @@ older_lines = Line.Deliver 9 13 ∷ Line.Deliver 10 14 ∷ Line.Deliver 11 15 �
 
 -- the third centre promised a ballot of the second one
 abbrev pub promised : World
-promised = state_after all_built three (
+promised = state_after three (
     Event.Begin 2 (UpdateWord.New key_a item ∷ []) ∷ Event.Tick 2 ∷ Event.Tick 2 ∷ Event.Deliver (9 ∷ [])
     ∷ Event.Begin 1 (UpdateWord.New key_a item ∷ []) ∷ []
     )
@@ -86,7 +85,7 @@ four = record { quorums = record { centres = 4; classic = 3; fast = 3 }; schema 
 
 -- the item has the room 10 for decreases, of which the third centre has accepted 4
 abbrev pub taken : World
-taken = state_after all_built four (
+taken = state_after four (
     Event.Begin 1 (UpdateWord.New key_a item ∷ []) ∷ Event.Deliver (1 ∷ 2 ∷ 3 ∷ 5 ∷ 6 ∷ 7 ∷ 8 ∷ 9 ∷ 10 ∷ [])
     ∷ Event.Read 1 key_a ∷ Event.Begin 1 (UpdateWord.Add 1 ((1, negsuc 3) ∷ []) ∷ []) ∷ Event.Deliver (13 ∷ [])
     ∷ Event.Read 2 key_a ∷ Event.Begin 2 (UpdateWord.Add 2 ((1, negsuc 3) ∷ []) ∷ []) ∷ []

@@ -4,7 +4,6 @@ use Rattle.std.specs.List.Sorted.{IsPermutation}
 use Rattle.std.specs.Prelude.{List, None, Ok, [], false, map, true, ℕ, ◌++◌, ◌∷◌, ◌≡◌}
 use Rattle.mdcc_option.specs.declared.choices.Choice.{Choice}
 use Rattle.mdcc_option.specs.declared.cluster.Cluster.{Cluster}
-use Rattle.mdcc_switches.specs.Built.{Built}
 use Rattle.mdcc_language.specs.declared.events.Event.{Event}
 use Rattle.mdcc_ledger.specs.Ledger.{facts_of}
 use Rattle.mdcc_protocol.specs.IsCluster.{IsCluster}
@@ -33,50 +32,50 @@ pub record AcceptsAll (w : World) (t : Undecided) (member : ℕ) : Type 0 where
 
 -- the proposals are delivered to all members in some order. No limit is reached: the line is not refused, and none of its deliveries is
 -- dropped
-pub record IsAsked (built : Built) (w : World) (a : ℕ) (t : Undecided) (members : List ℕ) (first : Happened) : Type 0 where
+pub record IsAsked (w : World) (a : ℕ) (t : Undecided) (members : List ℕ) (first : Happened) : Type 0 where
   pub asked : List (Choice × ℕ)
   pub proposals : List ℕ
   pub asks_each : IsPermutation (each_with t.choices members) asked
   pub proposals_are : AreNumbersOf w proposals (map (proposal_of a) asked)
-  pub proposed : event_of built w (Event.Deliver proposals) ≡ Ok first
+  pub proposed : event_of w (Event.Deliver proposals) ≡ Ok first
   pub undropped : AllByRecursion (λ line. is_dropped line ≡ false) first.lines
 
 -- then each member has given its vote on each choice, so that such votes have numbers, in whatever order they are wanted
 abbrev pub VotesAreGiven : Type 0
 VotesAreGiven =
-    (built : Built) → built.proposals ≡ true → (cluster : Cluster) → IsCluster cluster
+    (cluster : Cluster) → IsCluster cluster
     → (events : List Event) (a : ℕ) (t : Undecided) (members : List ℕ) (first : Happened) (order : List (Choice × ℕ))
-    → IsUntaken (state_after built cluster events) a t → IsFastQuorum cluster.quorums members
-    → AllByRecursion (AcceptsAll (state_after built cluster events) t) members
-    → IsAsked built (state_after built cluster events) a t members first → IsPermutation (each_with t.choices members) order
+    → IsUntaken (state_after cluster events) a t → IsFastQuorum cluster.quorums members
+    → AllByRecursion (AcceptsAll (state_after cluster events) t) members
+    → IsAsked (state_after cluster events) a t members first → IsPermutation (each_with t.choices members) order
     → (votes : List ℕ) × AreNumbersOf first.world votes (map (vote_of_member a) order)
 
 -- the deliveries of its proposals to these members in any order, and then of the votes that they gave in any order, report the commit
 -- at the last of these votes
 abbrev pub FastPathsCommit : Type 0
 FastPathsCommit =
-    (built : Built) → built.proposals ≡ true → built.limit_on_events ≡ true → (cluster : Cluster) → IsCluster cluster
+    (cluster : Cluster) → IsCluster cluster
     → (events : List Event) (a : ℕ) (t : Undecided) (members : List ℕ) (first second : Happened)
-    → IsUntaken (state_after built cluster events) a t → IsFastQuorum cluster.quorums members
-    → AllByRecursion (AcceptsAll (state_after built cluster events) t) members
-    → IsRoundTrip built (state_after built cluster events) a t members first second
+    → IsUntaken (state_after cluster events) a t → IsFastQuorum cluster.quorums members
+    → AllByRecursion (AcceptsAll (state_after cluster events) t) members
+    → IsRoundTrip (state_after cluster events) a t members first second
     → EndsWithCommit a t.tx first.lines second.lines
 
 -- so they do where each member has cells spare for its votes, and the centre for as many and for the commit
 abbrev pub RoomyFastPathsCommit : Type 0
 RoomyFastPathsCommit =
-    (built : Built) → built.proposals ≡ true → built.limit_on_events ≡ true → (cluster : Cluster) → IsCluster cluster
+    (cluster : Cluster) → IsCluster cluster
     → (events : List Event) (a : ℕ) (t : Undecided) (members : List ℕ) (first second : Happened)
-    → IsUntaken (state_after built cluster events) a t → IsFastQuorum cluster.quorums members
-    → AllByRecursion (AcceptsAll (state_after built cluster events) t) members → HaveCells (state_after built cluster events) a t members
-    → AreDelivered built (state_after built cluster events) a t members first second
+    → IsUntaken (state_after cluster events) a t → IsFastQuorum cluster.quorums members
+    → AllByRecursion (AcceptsAll (state_after cluster events) t) members → HaveCells (state_after cluster events) a t members
+    → AreDelivered (state_after cluster events) a t members first second
     → EndsWithCommit a t.tx first.lines second.lines
 
 -- the run of the schedule that has these two lines after the events, of which none is refused, prints what they report after the rest
 abbrev pub RunsReportThem : Type 0
 RunsReportThem =
-    (built : Built) (cluster : Cluster) (events : List Event) (a : ℕ) (t : Undecided) (members : List ℕ) (first second : Happened)
-    → (run_of built (first_world cluster) events).fault ≡ None
-    → (trip : IsRoundTrip built (state_after built cluster events) a t members first second)
-    → (run_of built (first_world cluster) (events ++ Event.Deliver trip.deliveries.proposals ∷ Event.Deliver trip.deliveries.votes ∷ [])).lines
-    ≡ (run_of built (first_world cluster) events).lines ++ (first.lines ++ second.lines)
+    (cluster : Cluster) (events : List Event) (a : ℕ) (t : Undecided) (members : List ℕ) (first second : Happened)
+    → (run_of (first_world cluster) events).fault ≡ None
+    → (trip : IsRoundTrip (state_after cluster events) a t members first second)
+    → (run_of (first_world cluster) (events ++ Event.Deliver trip.deliveries.proposals ∷ Event.Deliver trip.deliveries.votes ∷ [])).lines
+    ≡ (run_of (first_world cluster) events).lines ++ (first.lines ++ second.lines)

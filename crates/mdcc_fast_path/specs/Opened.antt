@@ -3,7 +3,6 @@ use Rattle.std.specs.List.{AllByRecursion}
 use Rattle.std.specs.Prelude.{List, None, Some, map, true, ℕ, ◌≡◌}
 use Rattle.mdcc_option.specs.declared.choices.Choice.{Choice}
 use Rattle.mdcc_option.specs.declared.cluster.Cluster.{Cluster}
-use Rattle.mdcc_switches.specs.Built.{Built}
 use Rattle.mdcc_language.specs.declared.events.Event.{Event}
 use Rattle.mdcc_ledger.specs.Ledger.{facts_of}
 use Rattle.mdcc_protocol.specs.Belongs.{is_centre}
@@ -24,8 +23,8 @@ pub record IsOpen (w : World) (a : ℕ) (t : Undecided) : Type 0 where
 -- the centre has not heard its outcome
 abbrev pub OpenIsUnheard : Type 0
 OpenIsUnheard =
-    (built : Built) (cluster : Cluster) → IsCluster cluster → (events : List Event) (a : ℕ) (t : Undecided) → IsOpen (state_after built cluster events) a t
-    → heard_of (facts_of (state_after built cluster events).ledger a) t.tx ≡ None
+    (cluster : Cluster) → IsCluster cluster → (events : List Event) (a : ℕ) (t : Undecided) → IsOpen (state_after cluster events) a t
+    → heard_of (facts_of (state_after cluster events).ledger a) t.tx ≡ None
 
 -- a choice of the transaction, and a centre of the cluster
 pub record IsProposal (cluster : Cluster) (t : Undecided) (pair : Choice × ℕ) : Type 0 where
@@ -35,6 +34,6 @@ pub record IsProposal (cluster : Cluster) (t : Undecided) (pair : Choice × ℕ)
 -- each of its choices was proposed to each centre, so that such proposals have numbers, in whatever order they are wanted
 abbrev pub OpenWereProposed : Type 0
 OpenWereProposed =
-    (built : Built) (cluster : Cluster) → IsCluster cluster → (events : List Event) (a : ℕ) (t : Undecided) (order : List (Choice × ℕ))
-    → IsOpen (state_after built cluster events) a t → AllByRecursion (IsProposal cluster t) order
-    → (numbers : List ℕ) × AreNumbersOf (state_after built cluster events) numbers (map (proposal_of a) order)
+    (cluster : Cluster) → IsCluster cluster → (events : List Event) (a : ℕ) (t : Undecided) (order : List (Choice × ℕ))
+    → IsOpen (state_after cluster events) a t → AllByRecursion (IsProposal cluster t) order
+    → (numbers : List ℕ) × AreNumbersOf (state_after cluster events) numbers (map (proposal_of a) order)

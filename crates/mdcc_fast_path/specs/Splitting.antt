@@ -1,6 +1,5 @@
 -- A line of deliveries is the same as two lines, one after the other.
 use Rattle.std.specs.Prelude.{Err, List, Ok, Result, ℕ, ◌++◌, ◌≡◌}
-use Rattle.mdcc_switches.specs.Built.{Built}
 use Rattle.mdcc_language.specs.declared.events.Event.{Event}
 use Rattle.mdcc_language.specs.declared.lines.Line.{Line}
 use Rattle.mdcc_language.specs.declared.world.EventFault.{EventFault}
@@ -14,5 +13,5 @@ reported_after lines (Ok h) = Ok (after_lines lines h)
 
 abbrev pub DeliverLinesSplit : Type 0
 DeliverLinesSplit =
-    (built : Built) (w : World) (first rest : List ℕ) (reached : Happened) → event_of built w (Event.Deliver first) ≡ Ok reached
-    → event_of built w (Event.Deliver (first ++ rest)) ≡ reported_after reached.lines (event_of built reached.world (Event.Deliver rest))
+    (w : World) (first rest : List ℕ) (reached : Happened) → event_of w (Event.Deliver first) ≡ Ok reached
+    → event_of w (Event.Deliver (first ++ rest)) ≡ reported_after reached.lines (event_of reached.world (Event.Deliver rest))

@@ -9,7 +9,6 @@ ghost use Rattle.mdcc_protocol.specs.IsCluster.{IsCluster};
 ghost use Rattle.mdcc_round_trip.specs.Deciding.{IsFastQuorum};
 ghost use Rattle.mdcc_round_trip.specs.Example.{answered, asked, members, three, transaction};
 ghost use Rattle.mdcc_round_trip.specs.RoundTrips.{IsRoundTrip};
-ghost use Rattle.mdcc_switches.specs.Built.{all_built};
 ghost use Rattle.mdcc_fast_path.specs.Broken.{LacksOne, ballot, decrease, first_write, older, older_lines, promised, promised_lines, second_write, taken, taken_lines, two_lines};
 ghost use Rattle.mdcc_fast_path.specs.Example.{schedule};
 ghost use Rattle.mdcc_fast_path.specs.FastPaths.{AcceptsAll, FastPathsCommit, IsUntaken, RoomyFastPathsCommit, RunsReportThem, VotesAreGiven};
@@ -37,13 +36,13 @@ pub fn acceptors_accept_where_they_may()
     ensures may { TheyMay }
 {}
 
-/// From every state of a trace whose number of events is limited: take a transaction that is open at a
-/// centre, of which no vote was taken there, and as many members as a fast quorum has that would accept
-/// each of its choices, all of them up and without an armed stop. The deliveries of its proposals to
-/// these members in any order, and then of the votes that they gave in any order, make the centre hear
-/// the commit at the last of these votes and not before, as long as no limit is reached. So they do where
-/// no line is refused and these centres have cells enough spare. The first
-/// deliveries give these votes. The run of the schedule that goes on with the two lines reports it so.
+/// From every state of a trace: take a transaction that is open at a centre, of which no vote was taken
+/// there, and as many members as a fast quorum has that would accept each of its choices, all of them up
+/// and without an armed stop. The deliveries of its proposals to these members in any order, and then of
+/// the votes that they gave in any order, make the centre hear the commit at the last of these votes and
+/// not before, as long as no limit is reached. So they do where no line is refused and these centres
+/// have cells enough spare. The first deliveries give these votes. The run of the schedule that goes on
+/// with the two lines reports it so.
 pub fn fast_paths_commit()
     ensures votes { VotesAreGiven }
     ensures commits { FastPathsCommit }
@@ -58,13 +57,13 @@ pub fn deliver_lines_split()
 {}
 
 /// There are such fast paths, so that the theorem does not speak of nothing: here three centres accept
-/// two choices, with everything enabled.
+/// two choices.
 pub fn example()
     ensures cluster { IsCluster three }
-    ensures untaken { IsUntaken (state_after all_built three schedule) 1 transaction }
+    ensures untaken { IsUntaken (state_after three schedule) 1 transaction }
     ensures quorum { IsFastQuorum three.quorums members }
-    ensures accept { AllByRecursion (AcceptsAll (state_after all_built three schedule) transaction) members }
-    ensures trip { IsRoundTrip all_built (state_after all_built three schedule) 1 transaction members asked answered }
+    ensures accept { AllByRecursion (AcceptsAll (state_after three schedule) transaction) members }
+    ensures trip { IsRoundTrip (state_after three schedule) 1 transaction members asked answered }
 {}
 
 /// Each premise on members is needed. A member that holds an older version gives no vote, and then the

@@ -1,9 +1,8 @@
 -- Every run tells the truth, and so does every replay.
-use Rattle.std.proofs.Common.{List, [], ap, sym, true, ℕ, ◌++◌, ◌∙◌, ◌≡◌}
+use Rattle.std.proofs.Common.{List, [], ap, sym, ℕ, ◌++◌, ◌∙◌, ◌≡◌}
 use Rattle.std.proofs.lemmas.List.{append-nil}
 use Rattle.std.specs.Prelude.{map}
 use Rattle.mdcc_option.specs.declared.cluster.Cluster.{Cluster}
-use Rattle.mdcc_switches.specs.Built.{Built}
 use Rattle.mdcc_language.specs.Header.{all_of}
 use Rattle.mdcc_protocol.specs.IsCluster.{IsCluster}
 use Rattle.mdcc_ledger.specs.Ledger.{Entry, choices_begun}
@@ -29,28 +28,28 @@ use Rattle.mdcc_headline.proofs.Lines.{lines-told, turn-true}
 use Rattle.mdcc_headline.proofs.Reported.{all-whole}
 
 -- the premise of all laws of ledgers
-run-ledger : (built : Built) → built.limit_on_events ≡ true → (cluster : Cluster) (events : List Event) → IsCluster cluster → IsLedger cluster (run_of built (first_world cluster) events).world.ledger
-run-ledger built limited cluster events is = record { of_cluster = is; allowed = trace.allowed built cluster is events; short = limits.ledger-short built limited cluster is events }
+run-ledger : (cluster : Cluster) (events : List Event) → IsCluster cluster → IsLedger cluster (run_of (first_world cluster) events).world.ledger
+run-ledger cluster events is = record { of_cluster = is; allowed = trace.allowed cluster is events; short = limits.ledger-short cluster is events }
 
 -- the chosen lines of a run are its outcomes
-run-order : (built : Built) (cluster : Cluster) (events : List Event) → (run_of built (first_world cluster) events).world.cluster ≡ cluster →
-    chosen_in (run_of built (first_world cluster) events).lines ≡ decided_in cluster.quorums (run_of built (first_world cluster) events).world.ledger
-run-order built cluster events same =
-    let run : Run = run_of built (first_world cluster) events in
+run-order : (cluster : Cluster) (events : List Event) → (run_of (first_world cluster) events).world.cluster ≡ cluster →
+    chosen_in (run_of (first_world cluster) events).lines ≡ decided_in cluster.quorums (run_of (first_world cluster) events).world.ledger
+run-order cluster events same =
+    let run : Run = run_of (first_world cluster) events in
     sym (
     ap (λ (c : Cluster). decided_in c.quorums run.world.ledger) (sym same)
-    ∙ outcomes-in-order built (first_world cluster) events
+    ∙ outcomes-in-order (first_world cluster) events
     ∙ ap (λ l. l ++ chosen_in run.lines) (none-first cluster.quorums cluster.quorums.centres)
     )
 
-pub run-true : (built : Built) → built.limit_on_events ≡ true → (cluster : Cluster) (events : List Event) → IsCluster cluster → RunTellsTruth cluster (run_of built (first_world cluster) events)
-run-true built limited cluster events is =
-    let h = run-ledger built limited cluster events is in
-    let told = runs-tell built (first_world cluster) events in
-    let ledger : List Entry = (run_of built (first_world cluster) events).world.ledger in
-    let lines : List Line = (run_of built (first_world cluster) events).lines in
-    let turns = runs-turn built (first_world cluster) events in
-    let order = run-order built cluster events told.0.same in
+pub run-true : (cluster : Cluster) (events : List Event) → IsCluster cluster → RunTellsTruth cluster (run_of (first_world cluster) events)
+run-true cluster events is =
+    let h = run-ledger cluster events is in
+    let told = runs-tell (first_world cluster) events in
+    let ledger : List Entry = (run_of (first_world cluster) events).world.ledger in
+    let lines : List Line = (run_of (first_world cluster) events).lines in
+    let turns = runs-turn (first_world cluster) events in
+    let order = run-order cluster events told.0.same in
     record {
       ledger_itself = h;
       committed_run = commits_run cluster ledger h;
@@ -59,11 +58,11 @@ run-true built limited cluster events is =
       in_turn = turn-true cluster [] ledger lines h (turn-from cluster.quorums [] (first_world cluster).ledger ledger lines ((first_world cluster).ledger, sym (append-nil (first_world cluster).ledger)) turns.1);
       outcomes_in_order = order;
       commits_in_order = ap (λ l. map (choices_begun ledger) (commits_in l)) order ∙ commits-listed cluster ledger h;
-      end_true = end-true cluster (run_of built (first_world cluster) events).world h told.0.same;
+      end_true = end-true cluster (run_of (first_world cluster) events).world h told.0.same;
     }
 
-pub replay-true : (built : Built) → built.limit_on_events ≡ true → (input : List ℕ) → ReplayTellsTruth built input
-replay-true built limited input header accepted =
-    let is = header-cluster built (all_of input) header accepted.header_itself in
-    let run = replayed built input header accepted in
-    (run.0, record { of_cluster = is; replayed = run.1; tells_truth = λ first rest e. run-true built limited header.0 first is })
+pub replay-true : (input : List ℕ) → ReplayTellsTruth input
+replay-true input header accepted =
+    let is = header-cluster (all_of input) header accepted.header_itself in
+    let run = replayed input header accepted in
+    (run.0, record { of_cluster = is; replayed = run.1; tells_truth = λ first rest e. run-true header.0 first is })

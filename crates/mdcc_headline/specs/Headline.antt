@@ -1,11 +1,10 @@
 -- What a replay promises.
 use Rattle.std.specs.List.{AllByRecursion}
-use Rattle.std.specs.Prelude.{Contains, List, [], map, true, ℕ, ◌++◌, ◌≡◌}
+use Rattle.std.specs.Prelude.{Contains, List, [], map, ℕ, ◌++◌, ◌≡◌}
 use Rattle.mdcc_option.specs.OneCopy.{IsRun}
 use Rattle.mdcc_base.specs.declared.identifiers.TxId.{TxId}
 use Rattle.mdcc_option.specs.declared.choices.Choice.{Choice}
 use Rattle.mdcc_option.specs.declared.cluster.Cluster.{Cluster}
-use Rattle.mdcc_switches.specs.Built.{Built}
 use Rattle.mdcc_language.specs.Header.{Left}
 use Rattle.mdcc_protocol.specs.IsCluster.{IsCluster}
 use Rattle.mdcc_ledger.specs.Ledger.{Entry, choices_begun, committed_of}
@@ -34,21 +33,21 @@ pub record TellsTruth (cluster : Cluster) (ledger : List Entry) (lines : List Li
 abbrev pub RunTellsTruth : Cluster → Run → Type 0
 RunTellsTruth cluster run = TellsTruth cluster run.world.ledger run.lines (end_line run.world)
 
--- so does every run of events from the first world on, whatever rules are built, where the number of events is limited
+-- so does every run of events from the first world on
 abbrev pub EveryRunTellsTruth : Type 0
 EveryRunTellsTruth =
-    (built : Built) → built.limit_on_events ≡ true → (cluster : Cluster) (events : List Event) → IsCluster cluster
-    → RunTellsTruth cluster (run_of built (first_world cluster) events)
+    (cluster : Cluster) (events : List Event) → IsCluster cluster
+    → RunTellsTruth cluster (run_of (first_world cluster) events)
 
 -- the text of a replay is that of the run of these events, which tells the truth at the end and at every moment, after each of the events
-pub record IsTextOfTruth (built : Built) (input : List ℕ) (header : Cluster × Left) (events : List Event) : Type 0 where
+pub record IsTextOfTruth (input : List ℕ) (header : Cluster × Left) (events : List Event) : Type 0 where
   pub of_cluster : IsCluster header.0
-  pub replayed : IsReplayed built input header events
-  pub tells_truth : (first rest : List Event) → events ≡ first ++ rest → RunTellsTruth header.0 (run_of built (first_world header.0) first)
+  pub replayed : IsReplayed input header events
+  pub tells_truth : (first rest : List Event) → events ≡ first ++ rest → RunTellsTruth header.0 (run_of (first_world header.0) first)
 
 -- where the input is not too long and its header is accepted, its replay is the text of such a run
-abbrev pub ReplayTellsTruth : Built → List ℕ → Type 0
-ReplayTellsTruth built input = (header : Cluster × Left) → IsAccepted built input header → (events : List Event) × IsTextOfTruth built input header events
+abbrev pub ReplayTellsTruth : List ℕ → Type 0
+ReplayTellsTruth input = (header : Cluster × Left) → IsAccepted input header → (events : List Event) × IsTextOfTruth input header events
 
 abbrev pub EveryReplayTellsTruth : Type 0
-EveryReplayTellsTruth = (built : Built) → built.limit_on_events ≡ true → (input : List ℕ) → ReplayTellsTruth built input
+EveryReplayTellsTruth = (input : List ℕ) → ReplayTellsTruth input

@@ -7,7 +7,7 @@ ghost use Rattle.mdcc_headline.specs.Headline.{EveryReplayTellsTruth, EveryRunTe
 /// In every run the committed transactions, in the order in which they were chosen, are a run of the one-copy store, and each is a
 /// whole one; every reported commit is in it, no reported abort is, and every reported read is what that store shows of an item
 /// version with some of its committed deltas. Each line tells so from the moment on at which it became true, and the `chosen` lines
-/// in that order. A replay prints such a run. So it is whatever rules are enabled, where the number of events is limited.
+/// in that order. A replay prints such a run.
 pub fn headline()
     ensures runs { EveryRunTellsTruth }
     ensures replays { EveryReplayTellsTruth }

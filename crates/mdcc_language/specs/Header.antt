@@ -1,5 +1,5 @@
 -- How the header of a schedule is read: the cluster, or the line and the cause of the first fault.
-use Rattle.std.specs.Prelude.{ℕ, zero, suc, ◌+◌, ℤ, Bool, ◌&&◌, if◌then◌else◌, List, [], ◌∷◌, length, drop, get_or, codes, Result, Ok, Err}
+use Rattle.std.specs.Prelude.{ℕ, zero, suc, ◌+◌, ℤ, Bool, if◌then◌else◌, List, [], ◌∷◌, length, drop, get_or, codes, Result, Ok, Err}
 use Rattle.mdcc_base.specs.Sizes.{Sizes}
 use Rattle.mdcc_base.specs.Quorums.{quorums_of}
 use Rattle.mdcc_base.specs.declared.quorums.QuorumFault.{QuorumFault}
@@ -12,7 +12,6 @@ use Rattle.mdcc_language.specs.declared.schedule.HeaderCause.{HeaderCause}
 use Rattle.mdcc_language.specs.declared.schedule.HeaderCause.TheVariants.{Sched, Quorums, Schema}
 use Rattle.mdcc_language.specs.declared.schedule.SchedFault.{SchedFault}
 use Rattle.mdcc_language.specs.declared.schedule.SchedCause.TheVariants.{Word, Order}
-use Rattle.mdcc_switches.specs.Built.{Built}
 use Rattle.mdcc_language.specs.Lines.{bounded, bytes_of_line, lines_in, line_end_of}
 use Rattle.mdcc_language.specs.Schedule.{begins_with}
 use Rattle.mdcc_language.specs.Words.{◌>>=◌, refused, text_eq, end_at, word_at, word_end, word_behind, natural_of, value_of}
@@ -125,9 +124,9 @@ abbrev pub default_cells : ℕ
 default_cells = 1048576
 
 -- `cells C`, which may be left out
-abbrev pub cells_line : Built → Left → Result (ℕ × Left) HeaderFault
-cells_line built left =
-    if built.cells_line && is_next (codes "cells") left
+abbrev pub cells_line : Left → Result (ℕ × Left) HeaderFault
+cells_line left =
+    if is_next (codes "cells") left
     then header_line (codes "cells") (last_number 1 4194304 5) left else Ok (default_cells, left)
 
 -- the word of the fast limit
@@ -145,9 +144,9 @@ fast_limit_of line = (do
   Ok limit)
 
 -- it may be left out, and the limit is then the safe one
-abbrev pub limit_line : Built → Left → Result (FastLimit × Left) HeaderFault
-limit_line built left =
-    if built.limit_line && is_next (codes "limit") left then header_line (codes "limit") fast_limit_of left else Ok (FastLimit.Safe, left)
+abbrev pub limit_line : Left → Result (FastLimit × Left) HeaderFault
+limit_line left =
+    if is_next (codes "limit") left then header_line (codes "limit") fast_limit_of left else Ok (FastLimit.Safe, left)
 
 -- the n-th bounds of a schema
 abbrev pub bounds_in : ℕ → Left → ℤ × ℤ → Result (ℤ × ℤ) HeaderFault
@@ -181,17 +180,17 @@ bounds_lines left = (do
   Ok (one.0 ∷ rest.0, rest.1))
 
 -- the lines of a header in their order, and what is left behind them
-abbrev pub header_lines : Built → Left → Result (Cluster × Left) HeaderFault
-header_lines built left = (do
+abbrev pub header_lines : Left → Result (Cluster × Left) HeaderFault
+header_lines left = (do
   version ← header_line (codes "mdcc-schedule") version_of left
   quorums ← quorums_line version.1
   gamma ← header_line (codes "gamma") (last_number 0 1000 5) quorums.1
-  cells ← cells_line built gamma.1
-  limit ← limit_line built cells.1
+  cells ← cells_line gamma.1
+  limit ← limit_line cells.1
   bounds ← bounds_lines limit.1
   start ← header_line (codes "start") (λ line. end_at 5 line 1) bounds.1
   Ok (record { quorums = quorums.0; schema = bounds.0; gamma = gamma.0; cells = cells.0; limit = limit.0 }, start.1))
 
 -- the cluster of a header, and the place behind it
-abbrev pub header_of : Built → List ℕ → Result (Cluster × ℕ) HeaderFault
-header_of built text = header_lines built (all_of text) >>= λ header. Ok (header.0, header.1.at)
+abbrev pub header_of : List ℕ → Result (Cluster × ℕ) HeaderFault
+header_of text = header_lines (all_of text) >>= λ header. Ok (header.0, header.1.at)

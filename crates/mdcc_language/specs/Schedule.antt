@@ -1,5 +1,5 @@
 -- How a line of a schedule is read: its event, or the first fault with its column.
-use Rattle.std.specs.Prelude.{ℕ, ◌+◌, nat_lt, ◌==◌, Bool, ◌&&◌, if◌then◌else◌, List, [], ◌∷◌, length, codes, Option, Some, None, Result, Ok}
+use Rattle.std.specs.Prelude.{ℕ, ◌+◌, nat_lt, ◌==◌, Bool, if◌then◌else◌, List, [], ◌∷◌, length, codes, Option, Some, None, Result, Ok}
 use Rattle.mdcc_option.specs.declared.cluster.Cluster.{Cluster}
 use Rattle.mdcc_base.specs.declared.outside.Image.{Image}
 use Rattle.mdcc_base.specs.declared.outside.Image.TheVariants.{Lost, Kept, Torn}
@@ -8,7 +8,6 @@ use Rattle.mdcc_language.specs.declared.events.Event.TheVariants.{Read, Begin, D
 use Rattle.mdcc_language.specs.declared.events.UpdateWord.{UpdateWord}
 use Rattle.mdcc_language.specs.declared.schedule.SchedFault.{SchedFault}
 use Rattle.mdcc_language.specs.declared.schedule.SchedCause.TheVariants.{Word, Order}
-use Rattle.mdcc_switches.specs.Built.{Built}
 use Rattle.mdcc_language.specs.Lines.{bounded, bytes_of_line, line_end_of}
 use Rattle.mdcc_language.specs.Updates.{update_of}
 use Rattle.mdcc_language.specs.Words.{◌>>=◌, refused, text_eq, parts_from, end_at, word_at, word_end, not_empty, word_behind, natural_of, count_of, key_of}
@@ -37,11 +36,11 @@ numbers_from column (word ∷ words) = (do
   numbers ← numbers_from (column + length word + 1) words
   Ok (number ∷ numbers))
 
-abbrev pub updates_from : Built → ℕ → List (List ℕ) → Result (List UpdateWord) SchedFault
-updates_from built column [] = Ok []
-updates_from built column (word ∷ words) = (do
-  update ← update_of built word column
-  updates ← updates_from built (column + length word + 1) words
+abbrev pub updates_from : ℕ → List (List ℕ) → Result (List UpdateWord) SchedFault
+updates_from column [] = Ok []
+updates_from column (word ∷ words) = (do
+  update ← update_of word column
+  updates ← updates_from (column + length word + 1) words
   Ok (update ∷ updates))
 
 -- a centre that is above the last one
@@ -91,12 +90,12 @@ read_of cluster line = (do
   Ok (Read centre key))
 
 -- `begin K UPDATE ..`
-abbrev pub begin_of : Built → Cluster → List ℕ → Result Event SchedFault
-begin_of built cluster line = (do
+abbrev pub begin_of : Cluster → List ℕ → Result Event SchedFault
+begin_of cluster line = (do
   start ← word_behind 5 line
   centre ← centre_of cluster (word_at start line) (start + 1)
   next ← word_behind (word_end start line) line
-  updates ← updates_from built (next + 1) (parts_from 32 next line)
+  updates ← updates_from (next + 1) (parts_from 32 next line)
   Ok (Begin centre updates))
 
 -- `deliver M ..`
@@ -129,31 +128,31 @@ abbrev pub begins_with : List ℕ → List ℕ → Bool
 begins_with word line = text_eq (word_at 0 line) word
 
 -- the event of a line that is not skipped
-abbrev pub event_of : Built → Cluster → List ℕ → Result Event SchedFault
-event_of built cluster line =
+abbrev pub event_of : Cluster → List ℕ → Result Event SchedFault
+event_of cluster line =
     if begins_with (codes "read") line then read_of cluster line
-    else (if begins_with (codes "begin") line then begin_of built cluster line
+    else (if begins_with (codes "begin") line then begin_of cluster line
     else (if begins_with (codes "deliver") line then deliver_of line
     else (if begins_with (codes "settle") line then settle_of cluster line
     else (if begins_with (codes "tick") line then tick_of cluster line
-    else (if built.restarts && begins_with (codes "crash") line then crash_of cluster line
-    else (if built.restarts && begins_with (codes "restart") line then restart_of cluster line
-    else (if built.stops && begins_with (codes "stop") line then stop_of cluster line
+    else (if begins_with (codes "crash") line then crash_of cluster line
+    else (if begins_with (codes "restart") line then restart_of cluster line
+    else (if begins_with (codes "stop") line then stop_of cluster line
     else refused 1 Word)))))))
 
 -- an empty line and one that begins with `#` are skipped
-abbrev pub event_or_none : Built → Cluster → List ℕ → Result (Option Event) SchedFault
-event_or_none built cluster [] = Ok None
-event_or_none built cluster (b ∷ bs) =
-    if b == 35 then Ok None else event_of built cluster (b ∷ bs) >>= λ event. Ok (Some event)
+abbrev pub event_or_none : Cluster → List ℕ → Result (Option Event) SchedFault
+event_or_none cluster [] = Ok None
+event_or_none cluster (b ∷ bs) =
+    if b == 35 then Ok None else event_of cluster (b ∷ bs) >>= λ event. Ok (Some event)
 
 -- the event of a line with its line end, which is asked last
-abbrev pub event_in : Built → Cluster → List ℕ → Result (Option Event) SchedFault
-event_in built cluster line = (do
-  event ← event_or_none built cluster (bytes_of_line line)
+abbrev pub event_in : Cluster → List ℕ → Result (Option Event) SchedFault
+event_in cluster line = (do
+  event ← event_or_none cluster (bytes_of_line line)
   _ ← line_end_of (bytes_of_line line) line
   Ok event)
 
 -- the same, where its bytes aren't too many
-abbrev pub line_of : Built → Cluster → List ℕ → Result (Option Event) SchedFault
-line_of built cluster line = bounded (bytes_of_line line) (event_in built cluster line)
+abbrev pub line_of : Cluster → List ℕ → Result (Option Event) SchedFault
+line_of cluster line = bounded (bytes_of_line line) (event_in cluster line)

@@ -1,11 +1,10 @@
 -- How an update word is read.
-use Rattle.std.specs.Prelude.{ℕ, zero, suc, ◌+◌, ℤ, Bool, ◌&&◌, if◌then◌else◌, List, [], ◌∷◌, length, codes, Result, Ok}
+use Rattle.std.specs.Prelude.{ℕ, zero, suc, ◌+◌, ℤ, Bool, if◌then◌else◌, List, [], ◌∷◌, length, codes, Result, Ok}
 use Rattle.mdcc_option.specs.declared.items.Item.{Item}
 use Rattle.mdcc_language.specs.declared.events.UpdateWord.{UpdateWord}
 use Rattle.mdcc_language.specs.declared.events.UpdateWord.TheVariants.{New, Set, Add, Keep}
 use Rattle.mdcc_language.specs.declared.schedule.SchedFault.{SchedFault}
 use Rattle.mdcc_language.specs.declared.schedule.SchedCause.TheVariants.{Word, Range}
-use Rattle.mdcc_switches.specs.Built.{Built}
 use Rattle.mdcc_language.specs.Words.{◌>>=◌, refused, text_eq, part_at, part_end, parts_from, behind, end_at, natural_of, count_of, value_of, key_of, body_of, values_of}
 
 -- ---- amounts
@@ -83,10 +82,10 @@ abbrev pub is_named : List ℕ → List ℕ → Bool
 is_named name word = text_eq (part_at 58 0 word) name
 
 -- an update word that begins at a column
-abbrev pub update_of : Built → List ℕ → ℕ → Result UpdateWord SchedFault
-update_of built word column =
+abbrev pub update_of : List ℕ → ℕ → Result UpdateWord SchedFault
+update_of word column =
     if is_named (codes "new") word then new_of word column
     else (if is_named (codes "set") word then set_of word column
-    else (if built.adds && is_named (codes "add") word then add_of word column
+    else (if is_named (codes "add") word then add_of word column
     else (if is_named (codes "keep") word then keep_of word column
     else refused column Word)))

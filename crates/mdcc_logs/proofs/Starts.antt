@@ -31,7 +31,6 @@ use Rattle.mdcc_rules.specs.declared.node.BootFault.{BootFault}
 use Rattle.mdcc_steps.proofs.Booting.{boot-reads}
 use Rattle.mdcc_steps.proofs.Each.{each-append}
 use Rattle.mdcc_steps.specs.Forming.{payloads_of}
-use Rattle.mdcc_switches.specs.Built.{all_built}
 
 -- ---- the cells of a centre
 
@@ -55,10 +54,10 @@ each-few (fact ∷ facts) all h few =
 
 module _ (cluster : Cluster) (facts : List Fact) (are : AreLogged cluster facts) (few : cluster.cells < 2 ^ 63) (fits : cells_used facts ≤ cluster.cells) (early : epoch_of facts < 2 ^ 32 - 1) where
   -- a boot over them is the definition's
-  over-cells : booted_over (cells_of cluster) cluster facts ≡ booted_by all_built cluster (Ok facts)
+  over-cells : booted_over (cells_of cluster) cluster facts ≡ booted_by cluster (Ok facts)
   over-cells =
-      counted_boots (cells_of cluster) all_built cluster (payloads_of facts) refl refl (λ fact. refl) few (each-few facts cluster.cells fits few)
-      ∙ boot-reads all_built cluster facts are.allowed (λ limited. fits)
+      counted_boots (cells_of cluster) cluster (payloads_of facts) refl (λ fact. refl) few (each-few facts cluster.cells fits few)
+      ∙ boot-reads cluster facts are.allowed fits
 
   boot-over : booted_over (cells_of cluster) cluster facts
       ≡ (if nat_lt cluster.cells (cells_with_boot facts) then Err (BootFault.Room (cells_with_boot facts) cluster.cells) else Ok (next_boot facts ∷ facts))

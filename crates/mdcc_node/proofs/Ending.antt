@@ -36,15 +36,13 @@ use Rattle.mdcc_protocol.specs.declared.votes.Vote.{Vote}
 use Rattle.mdcc_rules.specs.AcceptorRules.{accept_step, accepted_step, all_votes_sent, ask_step, ask_step_by, prepare_step, prepared_step, propose_step, proposed_step, votes_sent}
 use Rattle.mdcc_rules.specs.LeaderRules.{lead_step_after, led_of, promised_by_answer, step_of_led}
 use Rattle.mdcc_rules.specs.ManagerRules.{acted_step, opened_step, voted_step, watched_step}
-use Rattle.mdcc_rules.specs.Node.{message_step, rule}
+use Rattle.mdcc_rules.specs.Node.{message_step}
 use Rattle.mdcc_rules.specs.Steps.{NodeStep, StepPart, nothing_done}
 use Rattle.mdcc_rules.specs.SyncRules.{outcome_step, outcome_step_by, sync_give_step, sync_give_step_by}
 use Rattle.mdcc_rules.specs.declared.node.Step.{Step}
-use Rattle.mdcc_rules.specs.declared.node.StepFault.{StepFault}
 use Rattle.mdcc_struct.specs.Maps.{value_of}
 use Rattle.mdcc_struct.specs.declared.options.Options.{Options}
 use Rattle.mdcc_struct.proofs.Walks.{drop-get}
-use Rattle.mdcc_switches.specs.Built.{Built}
 use Rattle.mdcc_node.proofs.Planned.{Ends, EndsIn}
 use Rattle.mdcc_node.proofs.Unvoted.{new_vote}
 
@@ -159,10 +157,6 @@ module _ (facts : List Fact) (volatile : Volatile) (give : Give) where
 -- ---- all rules
 
 module _ (volatile : Volatile) where
-  ends-rule : (is_built : Bool) (step : Result NodeStep StepFault) → EndsIn volatile step → EndsIn volatile (rule is_built volatile step)
-  ends-rule true step h = h
-  ends-rule false step h = tt
-
   ends-led : (part : Result StepPart LeadFault) → EndsIn volatile (step_of_led part)
   ends-led (Ok part) = tt
   ends-led (Err fault) = tt
@@ -175,16 +169,10 @@ module _ (volatile : Volatile) where
   ends-act : (me : ℕ) (facts : List Fact) (acted : Option ManagerAct × Managing) → EndsIn volatile (Ok (acted_step me facts volatile acted))
   ends-act me facts (act, manager) = tt
 
-  ends-undecided : (escalates : Bool) (me : ℕ) (facts : List Fact) (acted : Option ManagerAct × Managing) (step : NodeStep) → EndsIn volatile (Ok step)
-      → EndsIn volatile (Ok (if escalates then acted_step me facts volatile acted else step))
-  ends-undecided true me facts acted step h = ends-act me facts acted
-  ends-undecided false me facts acted step h = h
-
-  ends-opened : (built : Built) (cluster : Cluster) (me : ℕ) (facts : List Fact) (vote : Vote) (decided : Option Outcome)
-      → EndsIn volatile (Ok (opened_step built cluster me facts volatile vote decided))
-  ends-opened built cluster me facts vote (Some outcome) = refl
-  ends-opened built cluster me facts vote None =
-      ends-undecided built.escalations me facts (Manager.on_voted cluster.quorums volatile.manager vote) _ tt
+  ends-opened : (cluster : Cluster) (me : ℕ) (facts : List Fact) (vote : Vote) (decided : Option Outcome)
+      → EndsIn volatile (Ok (opened_step cluster me facts volatile vote decided))
+  ends-opened cluster me facts vote (Some outcome) = refl
+  ends-opened cluster me facts vote None = ends-act me facts (Manager.on_voted cluster.quorums volatile.manager vote)
 
   ends-watched : (cluster : Cluster) (me : ℕ) (facts : List Fact) (vote : Vote) (decided : Option (TxId × Outcome))
       → EndsIn volatile (Ok (watched_step cluster me facts volatile vote decided))
@@ -197,11 +185,11 @@ module _ (volatile : Volatile) where
   ends-either false true a b c x y z = y
   ends-either false false a b c x y z = z
 
-  ends-voted : (built : Built) (cluster : Cluster) (me : ℕ) (facts : List Fact) (vote : Vote)
-      → EndsIn volatile (Ok (voted_step built cluster me facts volatile vote))
-  ends-voted built cluster me facts vote =
+  ends-voted : (cluster : Cluster) (me : ℕ) (facts : List Fact) (vote : Vote)
+      → EndsIn volatile (Ok (voted_step cluster me facts volatile vote))
+  ends-voted cluster me facts vote =
       ends-either (is_heard facts vote.tx) (is_open volatile.manager vote.tx) _ _ _ tt
-      (ends-opened built cluster me facts vote (Manager.would_decide cluster.quorums volatile.manager vote))
+      (ends-opened cluster me facts vote (Manager.would_decide cluster.quorums volatile.manager vote))
       (ends-watched cluster me facts vote (Recover.would_decide cluster.quorums facts volatile.recovery vote))
 
   ends-ask : (me s : ℕ) (tx : TxId) (key : Key) (version : ℕ) (heard : Option Outcome) (vote : Option (Ballot × Mark))
@@ -210,31 +198,28 @@ module _ (volatile : Volatile) where
   ends-ask me s tx key version None (Some vote) = tt
   ends-ask me s tx key version None None = tt
 
-  pub ends : (built : Built) (cluster : Cluster) (me : ℕ) (facts : List Fact) (s : ℕ) (message : Message)
-      → EndsIn volatile (message_step built cluster me facts volatile s message)
-  ends built cluster me facts s (Message.Propose choice) = ends-rule built.proposals _ (propose-adds me facts volatile s cluster choice).ends
-  ends built cluster me facts s (Message.Voted key version ballot tx mark) =
-      ends-rule built.proposals _ (ends-voted built cluster me facts (record { from = s; key = key; version = version; ballot = ballot; tx = tx; mark = mark }))
-  ends built cluster me facts s (Message.Escalate key version tx cause) =
-      ends-rule built.escalations _ (ends-act me facts (Manager.on_escalate cluster.quorums volatile.manager s tx key cause))
-  ends built cluster me facts s (Message.Lead choice) = ends-rule built.leading _ (ends-lead cluster me facts s choice (heard_of facts choice.tx))
-  ends built cluster me facts s (Message.Prepare key version through ballot) =
-      ends-rule built.leading _ (prepare-adds me facts volatile s key version through ballot).ends
-  ends built cluster me facts s (Message.Promise key version through ballot reported votes) =
+  pub ends : (cluster : Cluster) (me : ℕ) (facts : List Fact) (s : ℕ) (message : Message)
+      → EndsIn volatile (message_step cluster me facts volatile s message)
+  ends cluster me facts s (Message.Propose choice) = (propose-adds me facts volatile s cluster choice).ends
+  ends cluster me facts s (Message.Voted key version ballot tx mark) =
+      ends-voted cluster me facts (record { from = s; key = key; version = version; ballot = ballot; tx = tx; mark = mark })
+  ends cluster me facts s (Message.Escalate key version tx cause) =
+      ends-act me facts (Manager.on_escalate cluster.quorums volatile.manager s tx key cause)
+  ends cluster me facts s (Message.Lead choice) = ends-lead cluster me facts s choice (heard_of facts choice.tx)
+  ends cluster me facts s (Message.Prepare key version through ballot) = (prepare-adds me facts volatile s key version through ballot).ends
+  ends cluster me facts s (Message.Promise key version through ballot reported votes) =
       let promise : Promise = record { key = key; version = version; through = through; ballot = ballot; reported = reported; votes = votes } in
-      ends-rule built.leading _ (ends-led (promised_by_answer cluster.quorums me volatile key (on_promise cluster facts volatile.leader s promise)))
-  ends built cluster me facts s (Message.Accept key version ballot options) =
-      ends-rule built.leading _ (accept-adds me facts volatile s key version ballot options).ends
-  ends built cluster me facts s (Message.Refused key version ballot promised) = ends-rule built.leading _ tt
-  ends built cluster me facts s (Message.Outcome tx outcome) = ends-rule built.proposals _ (outcome-adds facts volatile tx outcome).ends
-  ends built cluster me facts s (Message.Ask tx key version) =
-      ends-rule built.recovery _ (ends-ask me s tx key version (heard_of facts tx) (vote_of facts key version tx))
-  ends built cluster me facts s (Message.SyncAsk key) = ends-rule built.catching_up _ tt
-  ends built cluster me facts s (Message.SyncGive key version item adds) =
-      ends-rule built.catching_up _ (adopted-adds facts volatile (record { key = key; version = version; item = item; adds = adds })).ends
-  ends built cluster me facts s (Message.ClientRead serial key) = tt
-  ends built cluster me facts s (Message.ClientBegin serial parts) = tt
-  ends built cluster me facts s (Message.ClientAnswer serial answer) = tt
+      ends-led (promised_by_answer cluster.quorums me volatile key (on_promise cluster facts volatile.leader s promise))
+  ends cluster me facts s (Message.Accept key version ballot options) = (accept-adds me facts volatile s key version ballot options).ends
+  ends cluster me facts s (Message.Refused key version ballot promised) = tt
+  ends cluster me facts s (Message.Outcome tx outcome) = (outcome-adds facts volatile tx outcome).ends
+  ends cluster me facts s (Message.Ask tx key version) = ends-ask me s tx key version (heard_of facts tx) (vote_of facts key version tx)
+  ends cluster me facts s (Message.SyncAsk key) = tt
+  ends cluster me facts s (Message.SyncGive key version item adds) =
+      (adopted-adds facts volatile (record { key = key; version = version; item = item; adds = adds })).ends
+  ends cluster me facts s (Message.ClientRead serial key) = tt
+  ends cluster me facts s (Message.ClientBegin serial parts) = tt
+  ends cluster me facts s (Message.ClientAnswer serial answer) = tt
 
 -- ---- votes on what is watched
 
@@ -255,9 +240,9 @@ module _ (quorums : Sizes) (facts : List Fact) (recovery : Recovering) (vote : V
 
 -- ---- votes on what was heard
 
-pub voted-heard : (built : Built) (cluster : Cluster) (me : ℕ) (facts : List Fact) (volatile : Volatile) (vote : Vote)
-    → is_heard facts vote.tx ≡ true → voted_step built cluster me facts volatile vote ≡ nothing_done volatile
-voted-heard built cluster me facts volatile vote heard = rw heard refl
+pub voted-heard : (cluster : Cluster) (me : ℕ) (facts : List Fact) (volatile : Volatile) (vote : Vote)
+    → is_heard facts vote.tx ≡ true → voted_step cluster me facts volatile vote ≡ nothing_done volatile
+voted-heard cluster me facts volatile vote heard = rw heard refl
 
 -- ---- what a plan adds
 

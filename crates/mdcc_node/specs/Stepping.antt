@@ -3,7 +3,6 @@ use Rattle.std.specs.Bool.{OnFalse, OnTrue}
 use Rattle.std.specs.Prelude.{Bool, Err, List, None, Ok, Option, Result, Some, false, if◌then◌else◌, true, ⊤, ℕ, ◌∷◌, ◌≤◌}
 use Rattle.mdcc_facts.specs.Adding.{add_of}
 use Rattle.mdcc_option.specs.declared.cluster.Cluster.{Cluster}
-use Rattle.mdcc_switches.specs.Built.{Built}
 use Rattle.mdcc_rules.specs.Node.{is_own_message, message_step, step_of}
 use Rattle.mdcc_rules.specs.Steps.{NodeStep, heard_by, step_fault, step_given}
 use Rattle.mdcc_protocol.specs.Volatile.{Volatile}
@@ -41,12 +40,12 @@ with_store room facts (Ok step) = with_fact room facts step step.fact
 -- ---- the step
 
 -- what an input does at a node over such a store
-abbrev pub step_by : Room → Built → Cluster → ℕ → List Fact → Volatile → Input → Result NodeStep StepFault
-step_by room built cluster me facts volatile (Input.Message envelope) =
+abbrev pub step_by : Room → Cluster → ℕ → List Fact → Volatile → Input → Result NodeStep StepFault
+step_by room cluster me facts volatile (Input.Message envelope) =
     if is_own_message cluster me envelope
-    then with_store room facts (message_step built cluster me facts volatile envelope.from envelope.message)
+    then with_store room facts (message_step cluster me facts volatile envelope.from envelope.message)
     else Err StepFault.Foreign
-step_by room built cluster me facts volatile input = step_of built cluster me facts volatile input
+step_by room cluster me facts volatile input = step_of cluster me facts volatile input
 
 -- what the caller is given
 abbrev pub given : Result NodeStep StepFault → Result Step StepFault

@@ -1,6 +1,5 @@
 //! The node's rules around its leader: claims, promises and refusals, and the open transactions at a tick.
 ghost use Rattle.std.specs.Prelude.{◌≡◌, ◌≤◌, List, Ok, ℕ};
-ghost use Rattle.mdcc_built.specs.Built.{built};
 ghost use Rattle.mdcc_messages.specs.declared.facts.Fact.{Fact as AFact};
 ghost use Rattle.mdcc_node.specs.Planning.{Acts, left_out, written};
 ghost use Rattle.mdcc_node.specs.Stands.{Stands};
@@ -87,7 +86,7 @@ impl<S: FactStore + Drop> Node<S> {
         claim: &Claim,
         sends: &mut HeapList<Envelope>,
     ) -> Result<(), StepFault>
-        ensures { Acts S.stands self.old sends.old (written result sends.new) self.new (λ cluster me facts volatile. Ok (step_of_part (claim_led built cluster me facts volatile claim.now))) }
+        ensures { Acts S.stands self.old sends.old (written result sends.new) self.new (λ cluster me facts volatile. Ok (step_of_part (claim_led cluster me facts volatile claim.now))) }
     {
         match self.leader.lead(&self.store, &self.cluster, claim) {
             Ok(answer) => {
@@ -101,7 +100,7 @@ impl<S: FactStore + Drop> Node<S> {
 
     // What the manager wants done at a tick.
     fn act(&mut self, act: &ManagerAct, sends: &mut HeapList<Envelope>) -> Result<(), StepFault>
-        ensures { Acts S.stands self.old sends.old (written result sends.new) self.new (λ cluster me facts volatile. Ok (step_of_part (manager_act built cluster me facts volatile act.now))) }
+        ensures { Acts S.stands self.old sends.old (written result sends.new) self.new (λ cluster me facts volatile. Ok (step_of_part (manager_act cluster me facts volatile act.now))) }
     {
         match act {
             ManagerAct::Propose(choice) => {
@@ -115,7 +114,7 @@ impl<S: FactStore + Drop> Node<S> {
 
     // Time has passed for the open transactions. Each act sees the leader that those before it left.
     pub(crate) fn tick_opened(&mut self, sends: &mut HeapList<Envelope>) -> Result<(), StepFault>
-        ensures { Acts S.stands self.old sends.old (written result sends.new) self.new (λ cluster me facts volatile. Ok (step_of_part (manager_ticked built cluster me facts volatile))) }
+        ensures { Acts S.stands self.old sends.old (written result sends.new) self.new (λ cluster me facts volatile. Ok (step_of_part (manager_ticked cluster me facts volatile))) }
     {
         let acts = self.manager.tick()?;
         for act in &acts {

@@ -1,7 +1,6 @@
 //! The node's rules around its manager: begins, votes, and acceptors that give no vote.
 ghost use Rattle.std.specs.Prelude.{◌≡◌, ◌++◌, List, None, Ok, OnOk, false};
 ghost use Rattle.mdcc_base.specs.Unless.{GivesUnless};
-ghost use Rattle.mdcc_built.specs.Built.{built};
 ghost use Rattle.mdcc_messages.specs.WellFormedParts.{IsWellFormedCause};
 ghost use Rattle.mdcc_messages.specs.declared.facts.Fact.{Fact as AFact};
 ghost use Rattle.mdcc_node.specs.Doing.{Follows};
@@ -119,7 +118,7 @@ impl<S: FactStore + Drop> Node<S> {
 
     // A vote on an open transaction that decides nothing.
     fn undecided(&mut self, vote: &Vote, sends: &mut HeapList<Envelope>) -> Result<(), StepFault>
-        ensures { Acts S.stands self.old sends.old (written result sends.new) self.new (λ cluster me facts volatile. Ok (undecided_step built cluster me facts volatile vote.now)) }
+        ensures { Acts S.stands self.old sends.old (written result sends.new) self.new (λ cluster me facts volatile. Ok (undecided_step cluster me facts volatile vote.now)) }
     {
         let act = self.manager.on_voted(&self.cluster, vote)?;
         self.send_act(&act, sends)?;
@@ -131,7 +130,7 @@ impl<S: FactStore + Drop> Node<S> {
     fn opened(&mut self, vote: &Vote, step: &mut Step) -> Result<(), StepFault>
         requires blank { step.old ≡ blank }
         requires unheard { (facts : List AFact) → S.stands self.old.store facts → is_heard facts vote.now.tx ≡ false }
-        ensures plan { Plans S.stands self.old (written result step.new) self.new (λ cluster me facts volatile. Ok (opened_step built cluster me facts volatile vote.now (would_decide cluster.quorums volatile.manager vote.now))) }
+        ensures plan { Plans S.stands self.old (written result step.new) self.new (λ cluster me facts volatile. Ok (opened_step cluster me facts volatile vote.now (would_decide cluster.quorums volatile.manager vote.now))) }
         ensures fact { (facts : List AFact) → S.stands self.old.store facts → OnOk result (MayFollow facts step.new.fact) }
     {
         match self.manager.would_decide(&self.cluster, vote) {
@@ -146,7 +145,7 @@ impl<S: FactStore + Drop> Node<S> {
     // A vote came. One on a transaction that is neither open nor watched here changes nothing.
     pub(crate) fn voted(&mut self, vote: &Vote, step: &mut Step) -> Result<(), StepFault>
         requires { step.old ≡ blank }
-        ensures plan { Plans S.stands self.old (written result step.new) self.new (λ cluster me facts volatile. Ok (voted_step built cluster me facts volatile vote.now)) }
+        ensures plan { Plans S.stands self.old (written result step.new) self.new (λ cluster me facts volatile. Ok (voted_step cluster me facts volatile vote.now)) }
         ensures fact { (facts : List AFact) → S.stands self.old.store facts → OnOk result (MayFollow facts step.new.fact) }
     {
         if self.store.is_heard(vote.tx) {

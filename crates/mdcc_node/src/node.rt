@@ -1,7 +1,6 @@
 //! One node.
 ghost use Rattle.std.specs.Prelude.{◌≡◌, ◌≤◌, ◌+◌, ◌∷◌, List, ℕ, OnErr, OnOk, Some, false, true};
 ghost use Rattle.mdcc_base.specs.Unless.{GivesUnless};
-ghost use Rattle.mdcc_built.specs.Built.{built};
 ghost use Rattle.mdcc_facts.specs.Adding.{add_of};
 ghost use Rattle.mdcc_messages.specs.WellFormed.{IsWellFormedEnvelope, IsWellFormedMessage};
 ghost use Rattle.mdcc_messages.specs.declared.facts.Fact.{Fact as AFact};
@@ -110,7 +109,7 @@ impl<S: FactStore + Drop> Node<S> {
         requires left { is_asked_by_leader message.now ≡ false }
         requires led { is_for_leader message.now ≡ false }
         requires blank { step.old ≡ blank }
-        ensures plan { Plans S.stands self.old (written result step.new) self.new (λ cluster me facts volatile. message_step built cluster me facts volatile from message.now) }
+        ensures plan { Plans S.stands self.old (written result step.new) self.new (λ cluster me facts volatile. message_step cluster me facts volatile from message.now) }
         ensures fact { (facts : List AFact) → S.stands self.old.store facts → OnOk result (MayFollow facts step.new.fact) }
     {
         match message {
@@ -152,7 +151,7 @@ impl<S: FactStore + Drop> Node<S> {
         requires left { is_asked_by_leader message.now ≡ false }
         requires member { from ≤ self.old.cluster.quorums.centres }
         requires blank { step.old ≡ blank }
-        ensures plan { Plans S.stands self.old (written result step.new) self.new (λ cluster me facts volatile. message_step built cluster me facts volatile from message.now) }
+        ensures plan { Plans S.stands self.old (written result step.new) self.new (λ cluster me facts volatile. message_step cluster me facts volatile from message.now) }
         ensures fact { (facts : List AFact) → S.stands self.old.store facts → OnOk result (MayFollow facts step.new.fact) }
     {
         match message {
@@ -198,7 +197,7 @@ impl<S: FactStore + Drop> Node<S> {
         requires other { is_of_fast_path message.now ≡ false }
         requires member { from ≤ self.old.cluster.quorums.centres }
         requires blank { step.old ≡ blank }
-        ensures plan { Plans S.stands self.old (written result step.new) self.new (λ cluster me facts volatile. message_step built cluster me facts volatile from message.now) }
+        ensures plan { Plans S.stands self.old (written result step.new) self.new (λ cluster me facts volatile. message_step cluster me facts volatile from message.now) }
         ensures fact { (facts : List AFact) → S.stands self.old.store facts → OnOk result (MayFollow facts step.new.fact) }
     {
         match message {
@@ -229,7 +228,7 @@ impl<S: FactStore + Drop> Node<S> {
         requires message { IsWellFormedMessage message.now }
         requires member { from ≤ self.old.cluster.quorums.centres }
         requires blank { step.old ≡ blank }
-        ensures plan { Plans S.stands self.old (written result step.new) self.new (λ cluster me facts volatile. message_step built cluster me facts volatile from message.now) }
+        ensures plan { Plans S.stands self.old (written result step.new) self.new (λ cluster me facts volatile. message_step cluster me facts volatile from message.now) }
         ensures fact { (facts : List AFact) → S.stands self.old.store facts → OnOk result (MayFollow facts step.new.fact) }
     {
         match message {
@@ -273,7 +272,7 @@ impl<S: FactStore + Drop> Node<S> {
         requires running { IsRunning S.stands self.old }
         requires member { from ≤ self.old.cluster.quorums.centres }
         requires blank { step.old ≡ blank }
-        ensures does { Does S.stands S.room S.cells_for self.old (written result step.new) self.new (λ cluster me facts volatile. message_step built cluster me facts volatile from message.now) }
+        ensures does { Does S.stands S.room S.cells_for self.old (written result step.new) self.new (λ cluster me facts volatile. message_step cluster me facts volatile from message.now) }
         ensures spent { Spends S.room S.cells_for self.old.store (written result step.new) self.new.store }
     {
         self.take(from, message, step)?;
@@ -287,7 +286,7 @@ impl<S: FactStore + Drop> Node<S> {
         requires short { accept_length envelope.now.message ≤ 2097152 }
         requires running { IsRunning S.stands self.old }
         requires blank { step.old ≡ blank }
-        ensures follows { Follows S.stands self.old (written result step.new) self.new (λ cluster me facts volatile. step_by (room_of S.room S.cells_for self.old.store) built cluster me facts volatile (AInput.Message envelope.now)) }
+        ensures follows { Follows S.stands self.old (written result step.new) self.new (λ cluster me facts volatile. step_by (room_of S.room S.cells_for self.old.store) cluster me facts volatile (AInput.Message envelope.now)) }
         ensures spent { Spends S.room S.cells_for self.old.store (written result step.new) self.new.store }
     {
         match sender_of(&self.cluster, self.centre.number(), envelope) {
@@ -301,7 +300,7 @@ impl<S: FactStore + Drop> Node<S> {
         requires input { IsGiven input.now }
         requires running { IsRunning S.stands self.old }
         requires blank { step.old ≡ blank }
-        ensures follows { Follows S.stands self.old (written result step.new) self.new (λ cluster me facts volatile. step_by (room_of S.room S.cells_for self.old.store) built cluster me facts volatile input.now) }
+        ensures follows { Follows S.stands self.old (written result step.new) self.new (λ cluster me facts volatile. step_by (room_of S.room S.cells_for self.old.store) cluster me facts volatile input.now) }
         ensures spent { Spends S.room S.cells_for self.old.store (written result step.new) self.new.store }
     {
         match input {
@@ -324,7 +323,7 @@ impl<S: FactStore + Drop> Node<S> {
     pub fn step(&mut self, input: &Input) -> Result<Step, StepFault>
         requires input { IsGiven input.now }
         requires running { IsRunning S.stands self.old }
-        ensures follows { Follows S.stands self.old result self.new (λ cluster me facts volatile. step_by (room_of S.room S.cells_for self.old.store) built cluster me facts volatile input.now) }
+        ensures follows { Follows S.stands self.old result self.new (λ cluster me facts volatile. step_by (room_of S.room S.cells_for self.old.store) cluster me facts volatile input.now) }
         ensures spent { Spends S.room S.cells_for self.old.store result self.new.store }
     {
         let mut step = blank(self.alloc);

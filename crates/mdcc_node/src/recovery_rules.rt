@@ -1,7 +1,6 @@
 //! The node's rules around its recovery: votes on watched transactions, questions about a transaction,
 //! and the dangling transactions at a tick.
 ghost use Rattle.std.specs.Prelude.{◌≡◌, ◌++◌, [], List, None, Ok, OnOk, false};
-ghost use Rattle.mdcc_built.specs.Built.{built};
 ghost use Rattle.mdcc_messages.specs.declared.facts.Fact.{Fact as AFact};
 ghost use Rattle.mdcc_node.specs.Planning.{Acts, MayFollow, Plans, blank, planned, written};
 ghost use Rattle.mdcc_protocol.specs.Facts.{is_heard};
@@ -103,7 +102,7 @@ impl<S: FactStore + Drop> Node<S> {
         act: &RecoverAct,
         sends: &mut HeapList<Envelope>,
     ) -> Result<(), StepFault>
-        ensures { Acts S.stands self.old sends.old (written result sends.new) self.new (λ cluster me facts volatile. Ok (step_of_part (recovery_act built cluster me facts volatile act.now))) }
+        ensures { Acts S.stands self.old sends.old (written result sends.new) self.new (λ cluster me facts volatile. Ok (step_of_part (recovery_act cluster me facts volatile act.now))) }
     {
         match act {
             RecoverAct::Ask(tx, key, version) => {
@@ -117,7 +116,7 @@ impl<S: FactStore + Drop> Node<S> {
 
     // Time has passed for the dangling transactions. Each act sees the leader that those before it left.
     fn tick_dangling(&mut self, sends: &mut HeapList<Envelope>) -> Result<(), StepFault>
-        ensures { Acts S.stands self.old sends.old (written result sends.new) self.new (λ cluster me facts volatile. Ok (step_of_part (recovery_ticked built cluster me facts (only_sending volatile [])))) }
+        ensures { Acts S.stands self.old sends.old (written result sends.new) self.new (λ cluster me facts volatile. Ok (step_of_part (recovery_ticked cluster me facts (only_sending volatile [])))) }
     {
         let acts = self.recover.tick(&self.store, self.manager.opened())?;
         for act in &acts {
@@ -128,7 +127,7 @@ impl<S: FactStore + Drop> Node<S> {
 
     // Time has passed. The recovery sees what the open transactions left.
     pub(crate) fn tick(&mut self, sends: &mut HeapList<Envelope>) -> Result<(), StepFault>
-        ensures { Acts S.stands self.old sends.old (written result sends.new) self.new (λ cluster me facts volatile. Ok (tick_step built cluster me facts volatile)) }
+        ensures { Acts S.stands self.old sends.old (written result sends.new) self.new (λ cluster me facts volatile. Ok (tick_step cluster me facts volatile)) }
     {
         self.tick_opened(sends)?;
         self.tick_dangling(sends)

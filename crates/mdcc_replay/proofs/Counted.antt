@@ -8,7 +8,6 @@ use Rattle.mdcc_option.specs.declared.choices.Outcome.{Outcome}
 use Rattle.mdcc_protocol.specs.Marks.{is_abort}
 use Rattle.mdcc_simulation.specs.Replay.{Replay}
 use Rattle.mdcc_simulation.specs.Runs.{end_line, is_commit_found, outcomes_of}
-use Rattle.mdcc_switches.specs.Built.{Built}
 use Rattle.mdcc_language.specs.Errors.{ReplayFault}
 use Rattle.mdcc_language.specs.declared.lines.Line.{Line}
 use Rattle.mdcc_replay.specs.Refusals.{fault_of}
@@ -69,6 +68,6 @@ sample_refused before after whole first (Ok (Some refusal)) status e h (inr s) i
 sample_refused before after whole first (Err Output) status e h s is = absurd (omega (arith, s, is))
 sample_refused before after whole first (Err Memory) status e h s is = absurd (omega (arith, s, is))
 
-pub sample_lines : (built : Built) (seed items orders : ℕ) → (sample_of built seed items orders).text ≡ lines_by (shop_text seed items orders) (sample_of built seed items orders).fault (sample_of built seed items orders).world
+pub sample_lines : (seed items orders : ℕ) → (sample_of seed items orders).text ≡ lines_by (shop_text seed items orders) (sample_of seed items orders).fault (sample_of seed items orders).world
 unfolding sample_of
-sample_lines built seed items orders = refl
+sample_lines seed items orders = refl

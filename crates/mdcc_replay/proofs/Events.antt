@@ -2,7 +2,6 @@
 use Rattle.std.proofs.Common.{◌≡◌, ◌+◌, ◌∷◌, List, ℕ, Option, Some, Result, Ok, Err, IsOkAnd, sym, ap, subst}
 use Rattle.std.specs.Io.KnownBytes.{Appends}
 use Rattle.mdcc_option.specs.declared.cluster.Cluster.{Cluster}
-use Rattle.mdcc_built.specs.Built.{built}
 use Rattle.mdcc_simulation.specs.Replay.{after_text, lines_replayed}
 use Rattle.mdcc_language.specs.Report.{lines_text}
 use Rattle.mdcc_language.specs.Schedule.{line_of}
@@ -24,28 +23,28 @@ Happens is_now text r = IsOkAnd r (λ h. (text ≡ lines_text h.lines) × is_now
 
 -- they were written
 pub event_written : (is_now : World → Type 0) (a b : Option (List ℕ)) (cluster : Cluster) (number : ℕ) (w : World) (lines : List (List ℕ)) (text : List ℕ) (r : Result Happened EventFault)
-    → Happens is_now text r → Appends a b text → Reached is_now a b (event_told built cluster number w lines r) (left_lines cluster (number + 1) lines)
+    → Happens is_now text r → Appends a b text → Reached is_now a b (event_told cluster number w lines r) (left_lines cluster (number + 1) lines)
 event_written is_now a b cluster number w lines text (Ok h) p wrote = record {
   world = h.world;
   stands = p.1;
   progress = record {
     part = text;
     wrote = wrote;
-    same = ap (λ (t : List ℕ). after_text t (lines_replayed built cluster (number + 1) h.world lines)) (sym p.0);
+    same = ap (λ (t : List ℕ). after_text t (lines_replayed cluster (number + 1) h.world lines)) (sym p.0);
   };
 }
 event_written is_now a b cluster number w lines text (Err fault) p wrote = absurd p
 
 -- a front of it was written
 pub event_failed : (is_now : World → Type 0) (a b : Option (List ℕ)) (cluster : Cluster) (number : ℕ) (w : World) (lines : List (List ℕ)) (text : List ℕ) (r : Result Happened EventFault)
-    → Happens is_now text r → Front a b text → Front a b (event_told built cluster number w lines r).text
+    → Happens is_now text r → Front a b text → Front a b (event_told cluster number w lines r).text
 event_failed is_now a b cluster number w lines text (Ok h) p front =
-    front_of_first a b (lines_text h.lines) (lines_replayed built cluster (number + 1) h.world lines).text (subst (λ (t : List ℕ). Front a b t) p.0 front)
+    front_of_first a b (lines_text h.lines) (lines_replayed cluster (number + 1) h.world lines).text (subst (λ (t : List ℕ). Front a b t) p.0 front)
 event_failed is_now a b cluster number w lines text (Err fault) p front = absurd p
 
 -- an event that a line says
 pub line_happened : (is_now : World → Type 0) (a b : Option (List ℕ)) (cluster : Cluster) (number : ℕ) (w : World) (line : List ℕ) (lines : List (List ℕ)) (event : Event) (r : Result (Option Refusal) Failure)
-    → Ok (Some event) ≡ line_of built cluster line → ReplayedTo is_now a b (event_told built cluster number w lines (event_of built w event)) (left_lines cluster (number + 1) lines) r
-    → ReplayedTo is_now a b (lines_replayed built cluster number w (line ∷ lines)) (left_lines cluster (number + 1) lines) r
+    → Ok (Some event) ≡ line_of cluster line → ReplayedTo is_now a b (event_told cluster number w lines (event_of w event)) (left_lines cluster (number + 1) lines) r
+    → ReplayedTo is_now a b (lines_replayed cluster number w (line ∷ lines)) (left_lines cluster (number + 1) lines) r
 line_happened is_now a b cluster number w line lines event r e h =
-    subst (λ (s : Result (Option Event) SchedFault). ReplayedTo is_now a b (line_told built cluster number w lines s) (left_lines cluster (number + 1) lines) r) e h
+    subst (λ (s : Result (Option Event) SchedFault). ReplayedTo is_now a b (line_told cluster number w lines s) (left_lines cluster (number + 1) lines) r) e h

@@ -7,7 +7,6 @@ use Rattle.std.proofs.lemmas.List.{drop-drop}
 use Rattle.mdcc_base.specs.Quorums.{quorums_of}
 use Rattle.mdcc_option.specs.declared.cluster.Cluster.{Cluster}
 use Rattle.mdcc_option.specs.declared.cluster.FastLimit.{FastLimit}
-use Rattle.mdcc_built.specs.Built.{built}
 use Rattle.mdcc_language.specs.Header.{Left, all_of, next_line, without_next, in_line, is_next, whole_line, in_order, header_line, version_of, last_number, sizes_of, bound_of, fast_limit_of, cells_line, limit_line, quorums_in, quorums_line, bounds_in, bound_line, Bounds, more_bounds, bounds_lines, header_lines, default_cells}
 use Rattle.mdcc_language.specs.Lines.{bounded, bytes_of_line, lines_in, line_end_of}
 use Rattle.mdcc_language.specs.Words.{◌>>=◌, are_plain_digits, is_negative, refused, within, number_of, natural_of, end_at, word_at, word_behind, word_end}
@@ -142,7 +141,7 @@ cells_by text left h true = number_read text (codes "cells") 1 4194304 5 left h
 cells_by text left h false = ((leb→le 1 default_cells tt, leb→le default_cells 4194304 tt), h)
 
 -- the line of the cells may be left out
-cells_read : (text : List ℕ) (left : Left) → IsLeft text left → IfOk (cells_line built left) (Read (IsBetween 1 4194304) text)
+cells_read : (text : List ℕ) (left : Left) → IsLeft text left → IfOk (cells_line left) (Read (IsBetween 1 4194304) text)
 cells_read text left h = cells_by text left h (is_next (codes "cells") left)
 
 abbrev safe_at : Left → Result (FastLimit × Left) HeaderFault
@@ -153,7 +152,7 @@ limit_by text left h true = any_read text (codes "limit") fast_limit_of left h
 limit_by text left h false = (tt, h)
 
 -- the line of the fast limit may be left out
-limit_read : (text : List ℕ) (left : Left) → IsLeft text left → IfOk (limit_line built left) (Read Any text)
+limit_read : (text : List ℕ) (left : Left) → IsLeft text left → IfOk (limit_line left) (Read Any text)
 limit_read text left h = limit_by text left h (is_next (codes "limit") left)
 
 bound_read : (text : List ℕ) (k : ℕ) (left : Left) → IsLeft text left → IfOk (bound_line k left) (Read Any text)
@@ -192,13 +191,13 @@ pub record IsRead (text : List ℕ) (header : Cluster × Left) : Type 0 where
   pub cells : IsBetween 1 4194304 header.0.cells
   pub left : IsLeft text header.1
 
-pub header_read : (text : List ℕ) → IfOk (header_lines built (all_of text)) (IsRead text)
+pub header_read : (text : List ℕ) → IfOk (header_lines (all_of text)) (IsRead text)
 header_read text =
     bind_ok (Read Any text) _ (header_line (codes "mdcc-schedule") version_of (all_of text)) _ (any_read text (codes "mdcc-schedule") version_of (all_of text) refl) (λ version a.
     bind_ok (Read Any text) _ (quorums_line version.1) _ (quorums_read text version.1 a.1) (λ quorums b.
     bind_ok (Read (IsBetween 0 1000) text) _ (header_line (codes "gamma") (last_number 0 1000 5) quorums.1) _ (number_read text (codes "gamma") 0 1000 5 quorums.1 b.1) (λ gamma c.
-    bind_ok (Read (IsBetween 1 4194304) text) _ (cells_line built gamma.1) _ (cells_read text gamma.1 c.1) (λ cells m.
-    bind_ok (Read Any text) _ (limit_line built cells.1) _ (limit_read text cells.1 m.1) (λ limit l.
+    bind_ok (Read (IsBetween 1 4194304) text) _ (cells_line gamma.1) _ (cells_read text gamma.1 c.1) (λ cells m.
+    bind_ok (Read Any text) _ (limit_line cells.1) _ (limit_read text cells.1 m.1) (λ limit l.
     bind_ok (Read Any text) _ (bounds_lines limit.1) _ (bounds_read text limit.1 l.1) (λ bounds d.
     bind_ok (Read Any text) _ (header_line (codes "start") (λ line. end_at 5 line 1) bounds.1) _ (any_read text (codes "start") (λ line. end_at 5 line 1) bounds.1 d.1) (λ start e.
     record { range = c.0.1; cells = m.0; left = e.1 })))))))
@@ -209,7 +208,7 @@ pub record IsHeader (text : List ℕ) (cluster : Cluster) (end first : ℕ) : Ty
   pub range : cluster.gamma ≤ 1000
   pub cells : IsBetween 1 4194304 cluster.cells
   pub left : Left
-  pub read : header_lines built (all_of text) ≡ Ok (cluster, left)
+  pub read : header_lines (all_of text) ≡ Ok (cluster, left)
   pub at : left.at ≡ end
   pub number : left.number ≡ first
   pub is_left : IsLeft text left
@@ -221,7 +220,7 @@ abbrev place_or : Cluster × ℕ × ℕ → Result (Cluster × ℕ × ℕ) Heade
 place_or other (Ok place) = place
 place_or other (Err fault) = other
 
-given_by : (text : List ℕ) (cluster : Cluster) (end first : ℕ) (r : Result (Cluster × Left) HeaderFault) → header_lines built (all_of text) ≡ r → IfOk r (IsRead text)
+given_by : (text : List ℕ) (cluster : Cluster) (end first : ℕ) (r : Result (Cluster × Left) HeaderFault) → header_lines (all_of text) ≡ r → IfOk r (IsRead text)
     → (r >>= numbered) ≡ Ok (cluster, end, first) → IsHeader text cluster end first
 given_by text cluster end first (Ok (found, left)) e h f =
     let all : place found left.at left.number ≡ place cluster end first = ap (place_or (place found left.at left.number)) f in
@@ -238,4 +237,4 @@ given_by text cluster end first (Ok (found, left)) e h f =
 given_by text cluster end first (Err fault) e h f = absurd (cc)
 
 pub header_given : (text : List ℕ) (cluster : Cluster) (end first : ℕ) → numbered_header text ≡ Ok (cluster, end, first) → IsHeader text cluster end first
-header_given text cluster end first e = given_by text cluster end first (header_lines built (all_of text)) refl (header_read text) e
+header_given text cluster end first e = given_by text cluster end first (header_lines (all_of text)) refl (header_read text) e

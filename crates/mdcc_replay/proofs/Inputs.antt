@@ -6,7 +6,6 @@ use Rattle.std.proofs.lemmas.Bool.Decides.{nat_tests}
 use Rattle.mdcc_base.specs.AreQuorums.{AreQuorums}
 use Rattle.mdcc_option.specs.Bounds.{IsSchema}
 use Rattle.mdcc_option.specs.declared.cluster.Cluster.{Cluster}
-use Rattle.mdcc_built.specs.Built.{built}
 use Rattle.mdcc_language.specs.Errors.{AtHeader, TooLong, most_input}
 use Rattle.mdcc_language.specs.Header.{Left, all_of, header_lines}
 use Rattle.mdcc_language.specs.Words.{◌>>=◌}
@@ -39,56 +38,56 @@ not_past a b h = grind (arith, nat_tests)
 past : (a b : ℕ) → a < b → nat_lt a b ≡ true
 past a b h = grind (arith, nat_tests)
 
-short_by : (input : List ℕ) → length input ≤ 67108864 → replay_of built input ≡ replay_behind built input (header_lines built (all_of input))
-short_by input h = ap (λ (t : Bool). cond t (ended None [] (Some TooLong)) (replay_behind built input (header_lines built (all_of input)))) (not_past most_input (length input) h)
+short_by : (input : List ℕ) → length input ≤ 67108864 → replay_of input ≡ replay_behind input (header_lines (all_of input))
+short_by input h = ap (λ (t : Bool). cond t (ended None [] (Some TooLong)) (replay_behind input (header_lines (all_of input)))) (not_past most_input (length input) h)
 
-pub long_ended : (a : Option (List ℕ)) (input : List ℕ) → 67108864 < length input → Ends a a (replay_of built input) (Some Refusal.TooLong)
+pub long_ended : (a : Option (List ℕ)) (input : List ℕ) → 67108864 < length input → Ends a a (replay_of input) (Some Refusal.TooLong)
 long_ended a input h =
-    subst (λ (t : Bool). Ends a a (cond t (ended None [] (Some TooLong)) (replay_behind built input (header_lines built (all_of input)))) (Some Refusal.TooLong)) (sym (past most_input (length input) h))
+    subst (λ (t : Bool). Ends a a (cond t (ended None [] (Some TooLong)) (replay_behind input (header_lines (all_of input)))) (Some Refusal.TooLong)) (sym (past most_input (length input) h))
     (record { wrote = Appends-nil a; fault = refl })
 
 -- ---- headers
 
 -- the lines behind a header
 abbrev pub behind_header : List ℕ → Cluster → ℕ → ℕ → Replay
-behind_header input cluster end first = lines_replayed built cluster first (first_world cluster) (lines_in (drop end input))
+behind_header input cluster end first = lines_replayed cluster first (first_world cluster) (lines_in (drop end input))
 
 abbrev from_number : Cluster → Left → ℕ → Replay
-from_number cluster left number = lines_replayed built cluster number (first_world cluster) left.lines
+from_number cluster left number = lines_replayed cluster number (first_world cluster) left.lines
 
 pub replay_given : (input : List ℕ) (cluster : Cluster) (end first : ℕ) → length input ≤ 67108864 → numbered_header input ≡ Ok (cluster, end, first)
-    → replay_of built input ≡ after_text (header_text end input) (behind_header input cluster end first)
+    → replay_of input ≡ after_text (header_text end input) (behind_header input cluster end first)
 replay_given input cluster end first h e =
     let header = header_given input cluster end first e in
     let left = header.left in
     short_by input h
-    ∙ ap (replay_behind built input) header.read
+    ∙ ap (replay_behind input) header.read
     ∙ ap (λ (n : ℕ). after_text (header_text left.at input) (from_number cluster left n)) header.number
-    ∙ ap (λ (lines : List (List ℕ)). after_text (header_text left.at input) (lines_replayed built cluster first (first_world cluster) lines)) header.is_left
+    ∙ ap (λ (lines : List (List ℕ)). after_text (header_text left.at input) (lines_replayed cluster first (first_world cluster) lines)) header.is_left
     ∙ ap (λ (at : ℕ). after_text (header_text at input) (behind_header input cluster at first)) header.at
 
 pub behind_written : (a b c : Option (List ℕ)) (input : List ℕ) (cluster : Cluster) (end first : ℕ) (r : Result (Option Refusal) Failure) → length input ≤ 67108864 → numbered_header input ≡ Ok (cluster, end, first)
-    → Appends a b (header_text end input) → Replayed b c (behind_header input cluster end first) r → Replayed a c (replay_of built input) r
+    → Appends a b (header_text end input) → Replayed b c (behind_header input cluster end first) r → Replayed a c (replay_of input) r
 behind_written a b c input cluster end first r h e wrote next =
-    let progress : Progress a b (replay_of built input) (behind_header input cluster end first) = record { part = header_text end input; wrote = wrote; same = replay_given input cluster end first h e } in
-    finish a b c (replay_of built input) (behind_header input cluster end first) r progress next
+    let progress : Progress a b (replay_of input) (behind_header input cluster end first) = record { part = header_text end input; wrote = wrote; same = replay_given input cluster end first h e } in
+    finish a b c (replay_of input) (behind_header input cluster end first) r progress next
 
 -- the world that is left at the end
 pub behind_last : (is_now : World → Type 0) (input : List ℕ) (cluster : Cluster) (end first : ℕ) → length input ≤ 67108864 → numbered_header input ≡ Ok (cluster, end, first)
-    → StandsLast is_now (behind_header input cluster end first) → StandsLast is_now (replay_of built input)
+    → StandsLast is_now (behind_header input cluster end first) → StandsLast is_now (replay_of input)
 behind_last is_now input cluster end first h e p =
     record { world = p.world; last = ap (λ (r : Replay). r.world) (replay_given input cluster end first h e) ∙ p.last; stands = p.stands }
 
 pub header_failed : (a b : Option (List ℕ)) (input : List ℕ) (cluster : Cluster) (end first : ℕ) → length input ≤ 67108864 → numbered_header input ≡ Ok (cluster, end, first)
-    → Front a b (header_text end input) → Front a b (replay_of built input).text
+    → Front a b (header_text end input) → Front a b (replay_of input).text
 header_failed a b input cluster end first h e front =
     subst (λ (r : Replay). Front a b r.text) (sym (replay_given input cluster end first h e)) (front_of_first a b (header_text end input) (behind_header input cluster end first).text front)
 
 pub header_refused : (a : Option (List ℕ)) (input : List ℕ) (fault : HeaderFault) → length input ≤ 67108864 → Err fault ≡ numbered_header input
-    → Ends a a (replay_of built input) (Some (Refusal.Header fault))
-header_refused a input fault h e = rw (short_by input h) (by (header_lines built (all_of input)) e)
+    → Ends a a (replay_of input) (Some (Refusal.Header fault))
+header_refused a input fault h e = rw (short_by input h) (by (header_lines (all_of input)) e)
   where
     by : (r : Result (Cluster × Left) HeaderFault) → Err fault ≡ (r >>= numbered)
-        → Ends a a (replay_behind built input r) (Some (Refusal.Header fault))
+        → Ends a a (replay_behind input r) (Some (Refusal.Header fault))
     by (Ok header) e = absurd (cc)
     by (Err found) e = let same : fault ≡ found = cc in record { wrote = Appends-nil a; fault = ap (λ (f : HeaderFault). Some (AtHeader f)) (sym same) }

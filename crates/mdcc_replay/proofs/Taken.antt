@@ -1,7 +1,6 @@
 -- One line of a replay after another.
 use Rattle.std.proofs.Common.{◌≡◌, ◌+◌, ◌∷◌, [], List, ℕ, Option, Some, None, Result, Ok, Err, ap, subst}
 use Rattle.mdcc_option.specs.declared.cluster.Cluster.{Cluster}
-use Rattle.mdcc_built.specs.Built.{built}
 use Rattle.mdcc_simulation.specs.Replay.{Replay, lines_replayed}
 use Rattle.mdcc_simulation.specs.State.{World}
 use Rattle.mdcc_replay.proofs.Fronts.{ends_behind, front_behind, reached_on}
@@ -13,7 +12,7 @@ use Rattle.mdcc_replay.specs.declared.writing.Failure.{Failure}
 
 -- the lines that are left, in the world that is left
 abbrev pub left_lines : Cluster → ℕ → List (List ℕ) → World → Replay
-left_lines cluster number lines w = lines_replayed built cluster number w lines
+left_lines cluster number lines w = lines_replayed cluster number w lines
 
 go_on : (is_now : World → Type 0) (a b c : Option (List ℕ)) (whole mid : Replay) (left : World → Replay) (r : Result (Option Refusal) Failure) → Progress a b whole mid
     → ReplayedTo is_now b c mid left r → ReplayedTo is_now a c whole left r
@@ -24,7 +23,7 @@ go_on is_now a b c whole mid left (Err failure) p h = front_behind a b c whole m
 -- a line behind those that were taken
 pub line_taken : (was is_now : World → Type 0) (a b c : Option (List ℕ)) (cluster : Cluster) (number : ℕ) (lines : List (List ℕ)) (line : List ℕ) (others : List (List ℕ)) (whole : Replay)
     (r : Result (Option Refusal) Failure) → lines ≡ line ∷ others → Reached was a b whole (left_lines cluster number lines)
-    → ((w : World) (behind : List (List ℕ)) → was w → ReplayedTo is_now b c (lines_replayed built cluster number w (line ∷ behind)) (left_lines cluster (number + 1) behind) r)
+    → ((w : World) (behind : List (List ℕ)) → was w → ReplayedTo is_now b c (lines_replayed cluster number w (line ∷ behind)) (left_lines cluster (number + 1) behind) r)
     → ReplayedTo is_now a c whole (left_lines cluster (number + 1) others) r
 line_taken was is_now a b c cluster number lines line others whole r e h next =
     let at_lines : List (List ℕ) → Type 0 = λ ls. Progress a b whole (left_lines cluster number ls h.world) in
@@ -37,7 +36,7 @@ finish a b c whole mid (Err failure) p h = front_behind a b c whole mid p h
 -- the end behind them
 pub all_taken : (is_now : World → Type 0) (a b c : Option (List ℕ)) (cluster : Cluster) (number : ℕ) (lines : List (List ℕ)) (whole : Replay) (r : Result (Option Refusal) Failure) → lines ≡ []
     → Reached is_now a b whole (left_lines cluster number lines)
-    → ((w : World) (cluster : Cluster) (number : ℕ) → is_now w → Replayed b c (lines_replayed built cluster number w []) r)
+    → ((w : World) (cluster : Cluster) (number : ℕ) → is_now w → Replayed b c (lines_replayed cluster number w []) r)
     → Replayed a c whole r
 all_taken is_now a b c cluster number lines whole r e h last =
     let at_lines : List (List ℕ) → Type 0 = λ ls. Progress a b whole (left_lines cluster number ls h.world) in

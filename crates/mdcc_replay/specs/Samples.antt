@@ -9,7 +9,6 @@ use Rattle.mdcc_sample.specs.Texts.{sample_text}
 use Rattle.mdcc_simulation.specs.Replay.{Replay, replay_of}
 use Rattle.mdcc_simulation.specs.Runs.{is_commit_found, outcomes_of}
 use Rattle.mdcc_simulation.specs.State.{World}
-use Rattle.mdcc_switches.specs.Built.{Built}
 use Rattle.mdcc_replay.specs.Refusals.{fault_of}
 use Rattle.mdcc_replay.specs.Writing.{StandsLast}
 use Rattle.mdcc_replay.specs.declared.reports.Ended.{Ended}
@@ -58,8 +57,8 @@ abbrev pub told_in : ℕ → ℕ → ℕ → Replay → Replay
 told_in seed items orders replay = record replay { text = lines_by (shop_text seed items orders) replay.fault replay.world }
 
 -- that of the schedule of this shop
-unfoldable pub sample_of : Built → ℕ → ℕ → ℕ → Replay
-sample_of built seed items orders = told_in seed items orders (replay_of built (sample_text seed items orders))
+unfoldable pub sample_of : ℕ → ℕ → ℕ → Replay
+sample_of seed items orders = told_in seed items orders (replay_of (sample_text seed items orders))
 
 -- how a replay of which nothing is kept ended
 abbrev pub EndsAs : {W : Type 0} → (W → World → Type 0) → Replay → Ended W → Type 0

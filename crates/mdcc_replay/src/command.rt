@@ -4,7 +4,6 @@ ghost use Rattle.std.specs.Bool.{OnFalse, OnTrue};
 ghost use Rattle.std.specs.Io.KnownBytes.{Appends, IsAtEnd};
 ghost use Rattle.std.specs.String.{string_bytes};
 ghost use Rattle.mdcc_base.specs.Causes.{Rose};
-ghost use Rattle.mdcc_built.specs.Built.{built};
 ghost use Rattle.mdcc_language.specs.Errors.{error_text};
 ghost use Rattle.mdcc_simulation.specs.Replay.{output_of, replay_of};
 ghost use Rattle.mdcc_replay.specs.Runs.{IsStatus, is_own, is_status, own_line, refusal_line};
@@ -94,10 +93,10 @@ pub fn run_replay<W: Simulation + Drop, S: Source, O: Sink, E: Sink>(
 ) -> u8
     ensures words { result ≢ 2 }
     ensures status { IsTrue (is_status result) }
-    ensures whole { IfSome (S.left source.old) (λ input. let output = output_of (replay_of built input) in
+    ensures whole { IfSome (S.left source.old) (λ input. let output = output_of (replay_of input) in
         OnFalse (is_own result) ((result ≡ output.status) × Appends (O.held out.old) (O.held out.new) output.text)) }
     ensures front { IfSome (S.left source.old) (λ input.
-        Front (O.held out.old) (O.held out.new) (output_of (replay_of built input)).text) }
+        Front (O.held out.old) (O.held out.new) (output_of (replay_of input)).text) }
     ensures refused { result ≡ 3 → Appends (O.held out.old) (O.held out.new) [] }
     ensures nothing { result ≡ 5 → Appends (O.held out.old) (O.held out.new) [] }
     ensures end { result ≡ 0 → IsAtEnd (S.left source.new) }
@@ -106,7 +105,7 @@ pub fn run_replay<W: Simulation + Drop, S: Source, O: Sink, E: Sink>(
     ensures quiet { result ≡ 0 → Appends (E.held err.old) (E.held err.new) [] }
     ensures own { OnTrue (is_own result) (Tells (E.held err.old) (E.held err.new) (E.faults err.old) (E.faults err.new) (own_line result)) }
     ensures line { IfSome (S.left source.old) (λ input. OnFalse (is_own result)
-        (Tells (E.held err.old) (E.held err.new) (E.faults err.old) (E.faults err.new) (output_of (replay_of built input)).error)) }
+        (Tells (E.held err.old) (E.held err.new) (E.faults err.old) (E.faults err.new) (output_of (replay_of input)).error)) }
 {
     match read_all(alloc, source) {
         Ok(input) => finish(alloc, replay::<W, O>(alloc, input.as_slice(), out), err),

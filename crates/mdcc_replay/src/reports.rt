@@ -5,7 +5,6 @@ ghost use Rattle.mdcc_base.specs.AreQuorums.{AreQuorums};
 ghost use Rattle.mdcc_base.specs.Causes.{Rose};
 ghost use Rattle.mdcc_option.specs.Bounds.{IsSchema};
 ghost use Rattle.mdcc_option.specs.declared.cluster.Cluster.{Cluster as ACluster};
-ghost use Rattle.mdcc_built.specs.Built.{built};
 ghost use Rattle.mdcc_sched.specs.Headers.{numbered_header};
 ghost use Rattle.mdcc_language.specs.Lines.{lines_in};
 ghost use Rattle.mdcc_simulation.specs.Replay.{lines_replayed, replay_of};
@@ -52,9 +51,9 @@ fn event_text<W: Simulation>(
 ) -> Result<Vec<u8>, EventFault>
     requires known { (w : AWorld) × W.stands world.old w }
     ensures ok { (w : AWorld) → W.stands world.old w → IfOk result (λ text.
-        IsOkAnd (event_of built w event.now) (λ h. (text.items ≡ lines_text h.lines) × W.stands world.new h.world)) }
+        IsOkAnd (event_of w event.now) (λ h. (text.items ≡ lines_text h.lines) × W.stands world.new h.world)) }
     ensures err { (w : AWorld) → W.stands world.old w → IfErr result (λ fault.
-        OnFalse (is_memory fault) (event_of built w event.now ≡ Err fault)) }
+        OnFalse (is_memory fault) (event_of w event.now ≡ Err fault)) }
 {
     let mut lines = HeapList::new(alloc);
     world.take(event, &mut lines)?;
@@ -72,8 +71,8 @@ fn replay_event<W: Simulation, O: Sink>(
 ) -> Result<Option<Refusal>, Failure>
     requires known { (w : AWorld) × W.stands world.old w }
     ensures written { (w : AWorld) (cluster : ACluster) (lines : List (List ℕ)) → W.stands world.old w
-        → ReplayedTo (λ next. W.stands world.new next) (O.held out.old) (O.held out.new) (event_told built cluster number w lines (event_of built w event.now))
-        (λ next. lines_replayed built cluster (number + 1) next lines) result }
+        → ReplayedTo (λ next. W.stands world.new next) (O.held out.old) (O.held out.new) (event_told cluster number w lines (event_of w event.now))
+        (λ next. lines_replayed cluster (number + 1) next lines) result }
     ensures later { O.faults out.old ≤ O.faults out.new }
     ensures failed { IsErrOf result Failure.Output → Rose (O.faults out.old) (O.faults out.new) }
 {
@@ -102,8 +101,8 @@ fn replay_line<W: Simulation, O: Sink>(
 ) -> Result<Option<Refusal>, Failure>
     requires { (w : AWorld) × W.stands world.old w }
     ensures written { (w : AWorld) (lines : List (List ℕ)) → W.stands world.old w
-        → ReplayedTo (λ next. W.stands world.new next) (O.held out.old) (O.held out.new) (lines_replayed built cluster.now number w (line.now ∷ lines))
-        (λ next. lines_replayed built cluster.now (number + 1) next lines) result }
+        → ReplayedTo (λ next. W.stands world.new next) (O.held out.old) (O.held out.new) (lines_replayed cluster.now number w (line.now ∷ lines))
+        (λ next. lines_replayed cluster.now (number + 1) next lines) result }
     ensures later { O.faults out.old ≤ O.faults out.new }
     ensures failed { IsErrOf result Failure.Output → Rose (O.faults out.old) (O.faults out.new) }
 {
@@ -126,7 +125,7 @@ fn write_end<W: Simulation, O: Sink>(
     out: &mut O,
 ) -> Result<Option<Refusal>, Failure>
     ensures written { (w : AWorld) (cluster : ACluster) (number : ℕ) → W.stands world.now w
-        → Replayed (O.held out.old) (O.held out.new) (lines_replayed built cluster number w []) result }
+        → Replayed (O.held out.old) (O.held out.new) (lines_replayed cluster number w []) result }
     ensures later { O.faults out.old ≤ O.faults out.new }
     ensures failed { IsErrOf result Failure.Output → Rose (O.faults out.old) (O.faults out.new) }
 {
@@ -148,9 +147,9 @@ fn replay_lines<W: Simulation, O: Sink>(
     requires few { first + length text.now < 2 ^ 32 }
     requires known { (w : AWorld) × W.stands world.old w }
     ensures written { (w : AWorld) → W.stands world.old w
-        → Replayed (O.held out.old) (O.held out.new) (lines_replayed built cluster.now first w (lines_in text.now)) result }
+        → Replayed (O.held out.old) (O.held out.new) (lines_replayed cluster.now first w (lines_in text.now)) result }
     ensures last { (w : AWorld) → W.stands world.old w → result ≡ Ok None
-        → StandsLast (λ next. W.stands world.new next) (lines_replayed built cluster.now first w (lines_in text.now)) }
+        → StandsLast (λ next. W.stands world.new next) (lines_replayed cluster.now first w (lines_in text.now)) }
     ensures later { O.faults out.old ≤ O.faults out.new }
     ensures failed { IsErrOf result Failure.Output → Rose (O.faults out.old) (O.faults out.new) }
 {
@@ -201,8 +200,8 @@ fn replay_behind<W: Simulation + Drop, O: Sink>(
     requires short { length input.now ≤ LIMIT }
     requires few { first ≤ 11 }
     requires header { numbered_header input.now ≡ Ok (cluster.now, end, first) }
-    ensures written { Replayed (O.held out.old) (O.held out.new) (replay_of built input.now) (refusal_in result) }
-    ensures last { LeavesLast W.stands (replay_of built input.now) result }
+    ensures written { Replayed (O.held out.old) (O.held out.new) (replay_of input.now) (refusal_in result) }
+    ensures last { LeavesLast W.stands (replay_of input.now) result }
     ensures later { O.faults out.old ≤ O.faults out.new }
     ensures failed { IsErrOf result Failure.Output → Rose (O.faults out.old) (O.faults out.new) }
 {
@@ -222,8 +221,8 @@ pub fn replay_to_end<W: Simulation + Drop, O: Sink>(
     input: &[u8],
     out: &mut O,
 ) -> Result<Ended<W>, Failure>
-    ensures written { Replayed (O.held out.old) (O.held out.new) (replay_of built input.now) (refusal_in result) }
-    ensures last { LeavesLast W.stands (replay_of built input.now) result }
+    ensures written { Replayed (O.held out.old) (O.held out.new) (replay_of input.now) (refusal_in result) }
+    ensures last { LeavesLast W.stands (replay_of input.now) result }
     ensures later { O.faults out.old ≤ O.faults out.new }
     ensures failed { IsErrOf result Failure.Output → Rose (O.faults out.old) (O.faults out.new) }
 {
@@ -244,7 +243,7 @@ pub fn replay<W: Simulation + Drop, O: Sink>(
     input: &[u8],
     out: &mut O,
 ) -> Result<Option<Refusal>, Failure>
-    ensures written { Replayed (O.held out.old) (O.held out.new) (replay_of built input.now) result }
+    ensures written { Replayed (O.held out.old) (O.held out.new) (replay_of input.now) result }
     ensures later { O.faults out.old ≤ O.faults out.new }
     ensures failed { IsErrOf result Failure.Output → Rose (O.faults out.old) (O.faults out.new) }
 {

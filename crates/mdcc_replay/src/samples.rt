@@ -4,7 +4,6 @@ ghost use Rattle.std.specs.Bool.{OnFalse, OnTrue};
 ghost use Rattle.std.specs.Io.KnownBytes.{Appends};
 ghost use Rattle.std.specs.String.{string_bytes};
 ghost use Rattle.mdcc_base.specs.Causes.{Rose};
-ghost use Rattle.mdcc_built.specs.Built.{built};
 ghost use Rattle.mdcc_sample.specs.Shop.{IsShop};
 ghost use Rattle.mdcc_sample.specs.Texts.{sample_text};
 ghost use Rattle.mdcc_simulation.specs.Replay.{Replay, output_of, replay_of};
@@ -150,7 +149,7 @@ fn replay_sample<W: Simulation + Drop>(
     orders: u32,
 ) -> Result<Ended<W>, Memory>
     requires { IsShop items orders }
-    ensures { IfOk result (λ end. EndsAs W.stands (replay_of built (sample_text seed items orders)) end) }
+    ensures { IfOk result (λ end. EndsAs W.stands (replay_of (sample_text seed items orders)) end) }
 {
     let text = sample_text(alloc, seed, items, orders)?;
     match replay_to_end::<W, Unkept>(alloc, text.as_slice(), &mut Unkept) {
@@ -187,7 +186,7 @@ fn told_of<W: Simulation + Drop>(
     orders: u32,
 ) -> Result<Told, Memory>
     requires { IsShop items orders }
-    ensures { IfOk result (IsTold (sample_of built seed items orders)) }
+    ensures { IfOk result (IsTold (sample_of seed items orders)) }
 {
     let end = replay_sample::<W>(alloc, seed, items, orders)?;
     told_by(alloc, seed, items, orders, end)
@@ -202,7 +201,7 @@ fn print_sample<W: Simulation + Drop, O: Sink>(
     out: &mut O,
 ) -> Result<Option<Refusal>, Failure>
     requires { IsShop items orders }
-    ensures written { Replayed (O.held out.old) (O.held out.new) (sample_of built seed items orders) result }
+    ensures written { Replayed (O.held out.old) (O.held out.new) (sample_of seed items orders) result }
     ensures failed { IsErrOf result Failure.Output → Rose (O.faults out.old) (O.faults out.new) }
 {
     match told_of::<W>(alloc, seed, items, orders) {
@@ -228,15 +227,15 @@ pub fn run_sample<W: Simulation + Drop, O: Sink, E: Sink>(
     ensures words { result ≢ 2 }
     ensures input { result ≢ 5 }
     ensures status { IsTrue (is_status result) }
-    ensures whole { let output = output_of (sample_of built seed items orders) in
+    ensures whole { let output = output_of (sample_of seed items orders) in
         OnFalse (is_own result) ((result ≡ output.status) × Appends (O.held out.old) (O.held out.new) output.text) }
-    ensures front { Front (O.held out.old) (O.held out.new) (sample_of built seed items orders).text }
+    ensures front { Front (O.held out.old) (O.held out.new) (sample_of seed items orders).text }
     ensures refused { result ≡ 3 → Appends (O.held out.old) (O.held out.new) [] }
     ensures write { result ≡ 6 → Rose (O.faults out.old) (O.faults out.new) }
     ensures quiet { result ≡ 0 → Appends (E.held err.old) (E.held err.new) [] }
     ensures own { OnTrue (is_own result) (Tells (E.held err.old) (E.held err.new) (E.faults err.old) (E.faults err.new) (own_line result)) }
     ensures line { OnFalse (is_own result)
-        (Tells (E.held err.old) (E.held err.new) (E.faults err.old) (E.faults err.new) (output_of (sample_of built seed items orders)).error) }
+        (Tells (E.held err.old) (E.held err.new) (E.faults err.old) (E.faults err.new) (output_of (sample_of seed items orders)).error) }
 {
     let printed = print_sample::<W, O>(alloc, seed, items, orders, out);
     finish(alloc, printed, err)

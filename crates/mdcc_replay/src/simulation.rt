@@ -1,7 +1,6 @@
 //! What the events of a schedule happen to.
 ghost use Rattle.std.specs.Prelude.{◌≡◌, ◌++◌, IfErr, IfOk, IsOkAnd, OnOk, length};
 ghost use Rattle.std.specs.Bool.{OnFalse};
-ghost use Rattle.mdcc_built.specs.Built.{built};
 ghost use Rattle.mdcc_protocol.specs.IsCluster.{IsCluster};
 ghost use Rattle.mdcc_simulation.specs.State.{World as AWorld, first_world};
 ghost use Rattle.mdcc_simulation.specs.Runs.{end_line};
@@ -26,10 +25,10 @@ pub trait Simulation {
     /// An event happens, and its lines are put behind the others.
     fn take(&mut self, event: &Event, lines: &mut HeapList<Line>) -> Result<(), EventFault>
         requires known { (w : AWorld) × stands self.old w }
-        ensures ok { (w : AWorld) → stands self.old w → OnOk result (IsOkAnd (event_of built w event.now)
+        ensures ok { (w : AWorld) → stands self.old w → OnOk result (IsOkAnd (event_of w event.now)
             (λ h. (lines.new ≡ lines.old ++ h.lines) × stands self.new h.world)) }
         ensures err { (w : AWorld) → stands self.old w → IfErr result (λ fault.
-            OnFalse (is_memory fault) (event_of built w event.now ≡ Err fault)) };
+            OnFalse (is_memory fault) (event_of w event.now ≡ Err fault)) };
 
     /// The last line of a report.
     fn last_line(&self) -> Line

@@ -14,7 +14,6 @@ use Rattle.mdcc_option.specs.declared.cluster.Cluster.{Cluster}
 use Rattle.mdcc_option.specs.declared.faults.BeginFault.{BeginFault}
 use Rattle.mdcc_option.specs.declared.items.Part.{Part}
 use Rattle.mdcc_struct.specs.declared.options.Options.{Options}
-use Rattle.mdcc_switches.specs.Built.{Built}
 use Rattle.mdcc_protocol.specs.Acceptor.{on_accept, on_prepare, on_propose}
 use Rattle.mdcc_protocol.specs.Facts.{epoch_of, heard_of, is_heard, vote_of}
 use Rattle.mdcc_protocol.specs.Leader.{lead}
@@ -39,7 +38,7 @@ use Rattle.mdcc_messages.specs.declared.messages.Message.{Message}
 use Rattle.mdcc_rules.specs.AcceptorRules.{accepted_step, ask_step_by, prepared_step, proposed_step}
 use Rattle.mdcc_rules.specs.LeaderRules.{lead_step_after, led_by_answer, led_of, promised_by_answer, step_of_led}
 use Rattle.mdcc_rules.specs.ManagerRules.{begin_step_by, opened_step, undecided_step, voted_step, watched_step}
-use Rattle.mdcc_rules.specs.Node.{checked, is_own_message, is_without_room, message_step, rule, step_of, with_room}
+use Rattle.mdcc_rules.specs.Node.{checked, is_own_message, is_without_room, message_step, step_of, with_room}
 use Rattle.mdcc_rules.specs.Steps.{NodeStep, StepPart, and_then, only_sending}
 use Rattle.mdcc_rules.specs.SyncRules.{outcome_step_by, sync_give_step_by}
 use Rattle.mdcc_rules.specs.TickRules.{claim_led, led_or_left, manager_act, manager_ticked, recovery_act, recovery_ticked, tick_parts}
@@ -97,22 +96,22 @@ given volatile (Some fact) = tt
 
 -- ---- manager
 
-undecided : (built : Built) (cluster : Cluster) (me : ℕ) (facts : List Fact) (volatile : Volatile) (vote : Vote) → NoFacts (undecided_step built cluster me facts volatile vote).entries
-undecided built cluster me facts volatile vote = elim (cases_Bool built.escalations) [ inl e ↦ rw e tt | inr e ↦ rw e tt ]
+undecided : (cluster : Cluster) (me : ℕ) (facts : List Fact) (volatile : Volatile) (vote : Vote) → NoFacts (undecided_step cluster me facts volatile vote).entries
+undecided cluster me facts volatile vote = tt
 
-opened : (built : Built) (cluster : Cluster) (me : ℕ) (facts : List Fact) (volatile : Volatile) (vote : Vote) (o : Option Outcome) → NoFacts (opened_step built cluster me facts volatile vote o).entries
-opened built cluster me facts volatile vote (Some outcome) = tt
-opened built cluster me facts volatile vote None = undecided built cluster me facts volatile vote
+opened : (cluster : Cluster) (me : ℕ) (facts : List Fact) (volatile : Volatile) (vote : Vote) (o : Option Outcome) → NoFacts (opened_step cluster me facts volatile vote o).entries
+opened cluster me facts volatile vote (Some outcome) = tt
+opened cluster me facts volatile vote None = undecided cluster me facts volatile vote
 
 watched : (cluster : Cluster) (me : ℕ) (facts : List Fact) (volatile : Volatile) (vote : Vote) (o : Option (TxId × Outcome)) → NoFacts (watched_step cluster me facts volatile vote o).entries
 watched cluster me facts volatile vote (Some decided) = tt
 watched cluster me facts volatile vote None = tt
 
-voted : (built : Built) (cluster : Cluster) (me : ℕ) (facts : List Fact) (volatile : Volatile) (vote : Vote) → NoFacts (voted_step built cluster me facts volatile vote).entries
-voted built cluster me facts volatile vote =
+voted : (cluster : Cluster) (me : ℕ) (facts : List Fact) (volatile : Volatile) (vote : Vote) → NoFacts (voted_step cluster me facts volatile vote).entries
+voted cluster me facts volatile vote =
     either (is_heard facts vote.tx) _ _ tt
     (either (is_open volatile.manager vote.tx) _ _
-    (opened built cluster me facts volatile vote (Manager.would_decide cluster.quorums volatile.manager vote))
+    (opened cluster me facts volatile vote (Manager.would_decide cluster.quorums volatile.manager vote))
     (watched cluster me facts volatile vote (Recover.would_decide cluster.quorums facts volatile.recovery vote)))
 
 begun : (cluster : Cluster) (me : ℕ) (facts : List Fact) (volatile : Volatile) (parts : List Part) (r : Result (TxId × Managing) BeginFault) → NoFacts (begin_step_by cluster me facts volatile parts r).entries
@@ -156,38 +155,34 @@ claimed cluster me facts volatile s choice None = step-led (led_of cluster me fa
 
 -- ---- messages
 
-ruled : (is_built : Bool) (volatile : Volatile) (r : Result NodeStep StepFault) → BringsNoFacts r → BringsNoFacts (rule is_built volatile r)
-ruled true volatile r h = h
-ruled false volatile r h = tt
+message : (cluster : Cluster) (me : ℕ) (facts : List Fact) (volatile : Volatile) (s : ℕ) (m : Message) → BringsNoFacts (message_step cluster me facts volatile s m)
+message cluster me facts volatile s (Message.Propose choice) = proposed me volatile s choice (on_propose cluster facts choice)
+message cluster me facts volatile s (Message.Voted key version ballot tx mark) = voted cluster me facts volatile _
+message cluster me facts volatile s (Message.Escalate key version tx cause) = tt
+message cluster me facts volatile s (Message.Lead choice) = claimed cluster me facts volatile s choice (heard_of facts choice.tx)
+message cluster me facts volatile s (Message.Prepare key version through ballot) = prepared me facts volatile s key version ballot (on_prepare facts key version through ballot)
+message cluster me facts volatile s (Message.Promise key version through ballot reported votes) = step-led _ (promised cluster.quorums me volatile key _)
+message cluster me facts volatile s (Message.Accept key version ballot options) = accepted me facts volatile s key version ballot options (on_accept facts key version ballot options)
+message cluster me facts volatile s (Message.Refused key version ballot promised) = tt
+message cluster me facts volatile s (Message.Outcome tx outcome) = heard volatile tx (on_outcome facts tx outcome)
+message cluster me facts volatile s (Message.Ask tx key version) = asked me volatile s tx key version (heard_of facts tx) (vote_of facts key version tx)
+message cluster me facts volatile s (Message.SyncAsk key) = tt
+message cluster me facts volatile s (Message.SyncGive key version item adds) = given volatile (on_sync_give facts (record { key = key; version = version; item = item; adds = adds }))
+message cluster me facts volatile s (Message.ClientRead number key) = tt
+message cluster me facts volatile s (Message.ClientBegin number parts) = tt
+message cluster me facts volatile s (Message.ClientAnswer number answer) = tt
 
-message : (built : Built) (cluster : Cluster) (me : ℕ) (facts : List Fact) (volatile : Volatile) (s : ℕ) (m : Message) → BringsNoFacts (message_step built cluster me facts volatile s m)
-message built cluster me facts volatile s (Message.Propose choice) = ruled built.proposals volatile _ (proposed me volatile s choice (on_propose cluster facts choice))
-message built cluster me facts volatile s (Message.Voted key version ballot tx mark) = ruled built.proposals volatile _ (voted built cluster me facts volatile _)
-message built cluster me facts volatile s (Message.Escalate key version tx cause) = ruled built.escalations volatile _ tt
-message built cluster me facts volatile s (Message.Lead choice) = ruled built.leading volatile _ (claimed cluster me facts volatile s choice (heard_of facts choice.tx))
-message built cluster me facts volatile s (Message.Prepare key version through ballot) = ruled built.leading volatile _ (prepared me facts volatile s key version ballot (on_prepare facts key version through ballot))
-message built cluster me facts volatile s (Message.Promise key version through ballot reported votes) = ruled built.leading volatile _ (step-led _ (promised cluster.quorums me volatile key _))
-message built cluster me facts volatile s (Message.Accept key version ballot options) = ruled built.leading volatile _ (accepted me facts volatile s key version ballot options (on_accept facts key version ballot options))
-message built cluster me facts volatile s (Message.Refused key version ballot promised) = ruled built.leading volatile _ tt
-message built cluster me facts volatile s (Message.Outcome tx outcome) = ruled built.proposals volatile _ (heard volatile tx (on_outcome facts tx outcome))
-message built cluster me facts volatile s (Message.Ask tx key version) = ruled built.recovery volatile _ (asked me volatile s tx key version (heard_of facts tx) (vote_of facts key version tx))
-message built cluster me facts volatile s (Message.SyncAsk key) = ruled built.catching_up volatile _ tt
-message built cluster me facts volatile s (Message.SyncGive key version item adds) = ruled built.catching_up volatile _ (given volatile (on_sync_give facts (record { key = key; version = version; item = item; adds = adds })))
-message built cluster me facts volatile s (Message.ClientRead number key) = tt
-message built cluster me facts volatile s (Message.ClientBegin number parts) = tt
-message built cluster me facts volatile s (Message.ClientAnswer number answer) = tt
-
-roomy : (built : Built) (cluster : Cluster) (facts : List Fact) (step : NodeStep) (o : Option Fact) → NoFacts step.entries → BringsNoFacts (with_room built cluster facts step o)
-roomy built cluster facts step None h = h
-roomy built cluster facts step (Some fact) h =
-    elim (cases_Bool (is_without_room built cluster facts fact)) [
+roomy : (cluster : Cluster) (facts : List Fact) (step : NodeStep) (o : Option Fact) → NoFacts step.entries → BringsNoFacts (with_room cluster facts step o)
+roomy cluster facts step None h = h
+roomy cluster facts step (Some fact) h =
+    elim (cases_Bool (is_without_room cluster facts fact)) [
       | inl e ↦ rw e tt
       | inr e ↦ rw e (elim (cases_Bool (is_crowding facts fact)) [ inl f ↦ rw f tt | inr f ↦ rw f h ])
     ]
 
-checked-message : (built : Built) (cluster : Cluster) (facts : List Fact) (r : Result NodeStep StepFault) → BringsNoFacts r → BringsNoFacts (checked built cluster facts r)
-checked-message built cluster facts (Ok step) h = roomy built cluster facts step step.fact h
-checked-message built cluster facts (Err fault) h = tt
+checked-message : (cluster : Cluster) (facts : List Fact) (r : Result NodeStep StepFault) → BringsNoFacts r → BringsNoFacts (checked cluster facts r)
+checked-message cluster facts (Ok step) h = roomy cluster facts step step.fact h
+checked-message cluster facts (Err fault) h = tt
 
 -- ---- ticks
 
@@ -195,54 +190,45 @@ folded : {X : Type 0} (act : Volatile → X → StepPart) → ((v : Volatile) (x
 folded act each [] before h = h
 folded act each (x ∷ xs) before h = folded act each xs (and_then act before x) (each-append IsNoFact (act before.after x).entries before.entries (each before.after x) h)
 
-module _ (built : Built) (cluster : Cluster) (me : ℕ) (facts : List Fact) where
-  claim : (volatile : Volatile) (c : Claim) → NoFacts (claim_led built cluster me facts volatile c).entries
-  claim volatile c = elim (cases_Bool built.leading) [ inl e ↦ rw e (by_led (led_of cluster me facts volatile c) (led-here cluster me facts volatile c)) | inr e ↦ rw e tt ]
+module _ (cluster : Cluster) (me : ℕ) (facts : List Fact) where
+  claim : (volatile : Volatile) (c : Claim) → NoFacts (claim_led cluster me facts volatile c).entries
+  claim volatile c = by_led (led_of cluster me facts volatile c) (led-here cluster me facts volatile c)
     where
       by_led : (r : Result StepPart LeadFault) → LedNoFacts r → NoFacts (led_or_left volatile r).entries
       by_led (Ok led) h = h
       by_led (Err fault) h = tt
 
-  manager : (volatile : Volatile) (act : ManagerAct) → NoFacts (manager_act built cluster me facts volatile act).entries
+  manager : (volatile : Volatile) (act : ManagerAct) → NoFacts (manager_act cluster me facts volatile act).entries
   manager volatile (ManagerAct.Propose choice) = tt
   manager volatile (ManagerAct.LeadHere choice) = claim volatile _
   manager volatile (ManagerAct.Lead leader choice) = tt
   manager volatile (ManagerAct.Give centre key) = tt
   manager volatile (ManagerAct.Decide tx outcome) = tt
 
-  recovered : (volatile : Volatile) (act : RecoverAct) → NoFacts (recovery_act built cluster me facts volatile act).entries
+  recovered : (volatile : Volatile) (act : RecoverAct) → NoFacts (recovery_act cluster me facts volatile act).entries
   recovered volatile (RecoverAct.Ask tx key version) = tt
   recovered volatile (RecoverAct.LeadHere c) = claim volatile c
 
-  first : (volatile : Volatile) → NoFacts (manager_ticked built cluster me facts volatile).entries
+  first : (volatile : Volatile) → NoFacts (manager_ticked cluster me facts volatile).entries
   first volatile =
       let next = Manager.tick cluster.quorums volatile.manager in
-      folded (manager_act built cluster me facts) manager next.0 (only_sending (with_manager volatile next.1) []) tt
+      folded (manager_act cluster me facts) manager next.0 (only_sending (with_manager volatile next.1) []) tt
 
-  second : (part : StepPart) → NoFacts part.entries → NoFacts (recovery_ticked built cluster me facts part).entries
+  second : (part : StepPart) → NoFacts part.entries → NoFacts (recovery_ticked cluster me facts part).entries
   second part h =
       let next = Recover.tick cluster.quorums facts part.after.recovery (txs_opened part.after.manager) in
-      folded (recovery_act built cluster me facts) recovered next.0 (record part { after = with_recovery part.after next.1 }) h
+      folded (recovery_act cluster me facts) recovered next.0 (record part { after = with_recovery part.after next.1 }) h
 
-  tick : (volatile : Volatile) → NoFacts (tick_parts built cluster me facts volatile).entries
-  tick volatile = pick built.ticks built.recovery
-    where
-      half : (recovery : Bool) (part : StepPart) → NoFacts part.entries → NoFacts (cond recovery (recovery_ticked built cluster me facts part) part).entries
-      half true part h = second part h
-      half false part h = h
-
-      pick : (ticks recovery : Bool) →
-          NoFacts (cond recovery (recovery_ticked built cluster me facts (cond ticks (manager_ticked built cluster me facts volatile) (only_sending volatile []))) (cond ticks (manager_ticked built cluster me facts volatile) (only_sending volatile []))).entries
-      pick true recovery = half recovery (manager_ticked built cluster me facts volatile) (first volatile)
-      pick false recovery = half recovery (only_sending volatile []) tt
+  tick : (volatile : Volatile) → NoFacts (tick_parts cluster me facts volatile).entries
+  tick volatile = second (manager_ticked cluster me facts volatile) (first volatile)
 
   -- ---- steps
 
   -- a step's own entries have no fact
-  pub step-entries : (volatile : Volatile) (input : Input) → BringsNoFacts (step_of built cluster me facts volatile input)
+  pub step-entries : (volatile : Volatile) (input : Input) → BringsNoFacts (step_of cluster me facts volatile input)
   step-entries volatile (Input.Message envelope) =
       elim (cases_Bool (is_own_message cluster me envelope)) [
-        | inl e ↦ rw e (checked-message built cluster facts (message_step built cluster me facts volatile envelope.from envelope.message) (message built cluster me facts volatile envelope.from envelope.message))
+        | inl e ↦ rw e (checked-message cluster facts (message_step cluster me facts volatile envelope.from envelope.message) (message cluster me facts volatile envelope.from envelope.message))
         | inr e ↦ rw e tt
       ]
   step-entries volatile Input.Tick = tick volatile

@@ -9,7 +9,6 @@ use Rattle.mdcc_base.specs.Sizes.{Sizes}
 use Rattle.mdcc_base.specs.declared.quorums.QuorumFault.{QuorumFault}
 use Rattle.mdcc_option.specs.Bounds.{IsSchema, is_bound}
 use Rattle.mdcc_option.specs.declared.cluster.Cluster.{Cluster}
-use Rattle.mdcc_switches.specs.Built.{Built}
 use Rattle.mdcc_language.specs.Header.{Bounds, Left, bound_line, bound_of, bounds_in, bounds_lines, cells_line, default_cells, header_line, header_lines, in_line, in_order, is_next, last_number, more_bounds, next_line, quorums_in, quorums_line, sizes_of, version_of, whole_line, limit_line}
 use Rattle.mdcc_protocol.specs.IsCluster.{IsCluster}
 use Rattle.mdcc_language.specs.Lines.{bounded, bytes_of_line, line_end_of, most_bytes, of_long}
@@ -87,8 +86,8 @@ last-range low high at line n h =
 number-line : (word : List ℕ) (low high at : ℕ) (left : Left) (y : ℕ × Left) → header_line word (last_number low high at) left ≡ Ok y → (low ≤ y.0) × (y.0 ≤ high)
 number-line word low high at left y h = let read = line-read word (last_number low high at) left y h in last-range low high at read.0 y.0 read.1
 
-cells-range : (built : Built) (left : Left) (y : ℕ × Left) → cells_line built left ≡ Ok y → (1 ≤ y.0) × (y.0 ≤ 4194304)
-cells-range built left y h = by_word (built.cells_line && is_next (codes "cells") left) h
+cells-range : (left : Left) (y : ℕ × Left) → cells_line left ≡ Ok y → (1 ≤ y.0) × (y.0 ≤ 4194304)
+cells-range left y h = by_word (is_next (codes "cells") left) h
   where
     by_word : (b : Bool) → (if b then header_line (codes "cells") (last_number 1 4194304 5) left else Ok (default_cells, left)) ≡ Ok y → (1 ≤ y.0) × (y.0 ≤ 4194304)
     by_word true g = number-line (codes "cells") 1 4194304 5 left y g
@@ -176,17 +175,17 @@ schema-read left y h =
 
 -- ---- all lines
 
-pub header-cluster : (built : Built) (left : Left) (y : Cluster × Left) → header_lines built left ≡ Ok y → IsCluster y.0
-header-cluster built left y h =
+pub header-cluster : (left : Left) (y : Cluster × Left) → header_lines left ≡ Ok y → IsCluster y.0
+header-cluster left y h =
     let version = bind-ok (header_line (codes "mdcc-schedule") version_of left) _ y h in
     let quorums = bind-ok (quorums_line version.0.1) _ y version.2 in
     let gamma = bind-ok (header_line (codes "gamma") (last_number 0 1000 5) quorums.0.1) _ y quorums.2 in
-    let cells = bind-ok (cells_line built gamma.0.1) _ y gamma.2 in
-    let limit = bind-ok (limit_line built cells.0.1) _ y cells.2 in
+    let cells = bind-ok (cells_line gamma.0.1) _ y gamma.2 in
+    let limit = bind-ok (limit_line cells.0.1) _ y cells.2 in
     let bounds = bind-ok (bounds_lines limit.0.1) _ y limit.2 in
     let start = bind-ok (header_line (codes "start") (λ line. end_at 5 line 1) bounds.0.1) _ y bounds.2 in
     let same : record { quorums = quorums.0.0; schema = bounds.0.0; gamma = gamma.0.0; cells = cells.0.0; limit = limit.0.0 } ≡ y.0 = ap (λ (z : Cluster × Left). z.0) (same-ok _ y _ start.2 refl) in
-    let few = cells-range built gamma.0.1 cells.0 cells.1 in
+    let few = cells-range gamma.0.1 cells.0 cells.1 in
     subst IsCluster same (record {
       quorums = quorums-read version.0.1 quorums.0 quorums.1;
       schema = schema-read limit.0.1 bounds.0 bounds.1;

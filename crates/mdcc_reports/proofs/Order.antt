@@ -6,7 +6,6 @@ use Rattle.mdcc_base.specs.Sizes.{Sizes}
 use Rattle.mdcc_base.specs.declared.identifiers.TxId.{TxId}
 use Rattle.mdcc_base.specs.declared.outside.Image.{Image}
 use Rattle.mdcc_option.specs.declared.choices.Outcome.{Outcome}
-use Rattle.mdcc_switches.specs.Built.{Built}
 use Rattle.mdcc_ledger.specs.Ledger.{Added, Entry, facts_of, new_outcomes}
 use Rattle.mdcc_protocol.specs.Marks.{is_commit}
 use Rattle.mdcc_rules.specs.Steps.{NodeStep}
@@ -107,17 +106,17 @@ order-input w a (Ok step) h = by_fact step.fact
     by_fact None = nothing-new w.cluster.quorums step.entries w.ledger h ∙ none-told w
     by_fact (Some fact) = by_stop fact (centre_at w a).stop
 
-order-kept : (built : Built) → IsKept built InOrder
-order-kept built = record {
+order-kept : IsKept InOrder
+order-kept = record {
   none = none-told;
   join = both-told;
   silent = λ w line s. none-told w ∙ ap (λ z. decided_in w.cluster.quorums w.ledger ++ z) (sym (silent-none line s));
   count = λ w free. none-told w;
-  input = λ w sent a input free up. order-input (counted_with w sent) a (step_at built (counted_with w sent) a input) (step-entries built w.cluster a (facts_of w.ledger a) (centre_at (counted_with w sent) a).volatile input);
+  input = λ w sent a input free up. order-input (counted_with w sent) a (step_at (counted_with w sent) a input) (step-entries w.cluster a (facts_of w.ledger a) (centre_at (counted_with w sent) a).volatile input);
   read = λ w a key free. none-told w;
   boot = λ w a epoch free. refl;
   site = λ w a site free. none-told w;
 }
 
-pub outcomes-in-order : (built : Built) (w : World) (events : List Event) → InOrder w (run_of built w events).world (run_of built w events).lines
-outcomes-in-order built w events = runs-keep built InOrder (order-kept built) w events
+pub outcomes-in-order : (w : World) (events : List Event) → InOrder w (run_of w events).world (run_of w events).lines
+outcomes-in-order w events = runs-keep InOrder (order-kept) w events

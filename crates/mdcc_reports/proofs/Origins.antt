@@ -7,7 +7,6 @@ use Rattle.mdcc_base.specs.Sizes.{Sizes}
 use Rattle.mdcc_base.specs.declared.identifiers.TxId.{TxId}
 use Rattle.mdcc_base.specs.declared.outside.Image.{Image}
 use Rattle.mdcc_option.specs.declared.choices.Outcome.{Outcome}
-use Rattle.mdcc_switches.specs.Built.{Built}
 use Rattle.mdcc_ledger.specs.Ledger.{Added, Entry, new_outcomes}
 use Rattle.mdcc_protocol.specs.Marks.{is_commit}
 use Rattle.mdcc_rules.specs.Steps.{NodeStep}
@@ -128,8 +127,8 @@ told-both v w x ls ks g h = (
       (subst (λ cluster. AllByRecursion (HasOrigin cluster.quorums x.ledger) ks) g.0.same h.1),
 )
 
-told-kept : (built : Built) → IsKept built Told
-told-kept built = record {
+told-kept : IsKept Told
+told-kept = record {
   none = λ w. (grows-none w, tt);
   join = told-both;
   silent = λ w line s. (grows-none w, (silent-origin w.cluster.quorums w.ledger line s, tt));
@@ -140,5 +139,5 @@ told-kept built = record {
   site = λ w a site free. (record { same = refl; later = []; parts = refl }, tt);
 }
 
-pub runs-tell : (built : Built) (w : World) (events : List Event) → Told w (run_of built w events).world (run_of built w events).lines
-runs-tell built w events = runs-keep built Told (told-kept built) w events
+pub runs-tell : (w : World) (events : List Event) → Told w (run_of w events).world (run_of w events).lines
+runs-tell w events = runs-keep Told (told-kept) w events

@@ -7,7 +7,6 @@ use Rattle.mdcc_base.specs.Sizes.{Sizes}
 use Rattle.mdcc_base.specs.declared.identifiers.TxId.{TxId}
 use Rattle.mdcc_base.specs.declared.outside.Image.{Image}
 use Rattle.mdcc_option.specs.declared.choices.Outcome.{Outcome}
-use Rattle.mdcc_switches.specs.Built.{Built}
 use Rattle.mdcc_ledger.specs.Ledger.{Added, Entry, new_outcomes}
 use Rattle.mdcc_protocol.specs.Marks.{is_commit}
 use Rattle.mdcc_rules.specs.Steps.{NodeStep}
@@ -128,17 +127,17 @@ turn-input w a (Ok step) = by_fact step.fact
     by_fact None = (refl, (step.entries, refl))
     by_fact (Some fact) = by_stop fact (centre_at w a).stop
 
-turn-kept : (built : Built) → IsKept built Turns
-turn-kept built = record {
+turn-kept : IsKept Turns
+turn-kept = record {
   none = none-turn;
   join = both-turn;
   silent = λ w line s. (refl, (w.ledger, later-none w.ledger, silent-turn w.cluster.quorums w.ledger line s, later-none w.ledger));
   count = λ w free. none-turn w;
-  input = λ w sent a input free up. turn-input (counted_with w sent) a (step_at built (counted_with w sent) a input);
+  input = λ w sent a input free up. turn-input (counted_with w sent) a (step_at (counted_with w sent) a input);
   read = λ w a key free. (refl, (w.ledger, later-none w.ledger, refl, later-none w.ledger));
   boot = λ w a epoch free. (refl, (Added a (Fact.Booted epoch) ∷ [], refl));
   site = λ w a site free. none-turn w;
 }
 
-pub runs-turn : (built : Built) (w : World) (events : List Event) → Turns w (run_of built w events).world (run_of built w events).lines
-runs-turn built w events = runs-keep built Turns (turn-kept built) w events
+pub runs-turn : (w : World) (events : List Event) → Turns w (run_of w events).world (run_of w events).lines
+runs-turn w events = runs-keep Turns (turn-kept) w events

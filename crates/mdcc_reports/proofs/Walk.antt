@@ -9,7 +9,6 @@ use Rattle.mdcc_base.specs.declared.key.Key.{Key}
 use Rattle.mdcc_option.specs.Transaction.{transaction_of}
 use Rattle.mdcc_option.specs.declared.faults.DraftFault.{DraftFault}
 use Rattle.mdcc_option.specs.declared.items.Part.{Part}
-use Rattle.mdcc_switches.specs.Built.{Built}
 use Rattle.mdcc_protocol.specs.Facts.{epoch_of}
 use Rattle.mdcc_ledger.specs.Ledger.{facts_of}
 use Rattle.mdcc_language.specs.Resolve.{resolve}
@@ -38,8 +37,8 @@ use Rattle.mdcc_language.specs.declared.world.EventFault.{EventFault}
 -- ---- single things
 
 -- one event more is within the limit
-abbrev pub IsOpen : Built → World → Type 0
-IsOpen built w = built.limit_on_events ≡ true → w.events < most_events
+abbrev pub IsOpen : World → Type 0
+IsOpen w = w.events < most_events
 
 -- an event is counted, and messages may count as delivered
 abbrev pub counted_with : World → List Sent → World
@@ -53,27 +52,27 @@ is_silent (Line.Read number a known) = false
 is_silent line = true
 
 -- what an input does, where an event is counted first
-abbrev pub taken_in : Built → World → List Sent → ℕ → Input → Happened
-taken_in built w sent a input = input_happened (counted_with w sent) a (step_at built (counted_with w sent) a input)
+abbrev pub taken_in : World → List Sent → ℕ → Input → Happened
+taken_in w sent a input = input_happened (counted_with w sent) a (step_at (counted_with w sent) a input)
 
 -- a relation between a world, a later one and the lines between them, which single things keep
-pub record IsKept (built : Built) (R : World → World → List Line → Type 0) : Type 0 where
+pub record IsKept (R : World → World → List Line → Type 0) : Type 0 where
   pub none : (w : World) → R w w []
   pub join : (v w x : World) (ls ks : List Line) → R v w ls → R w x ks → R v x (ls ++ ks)
   pub silent : (w : World) (line : Line) → IsTrue (is_silent line) → R w w (line ∷ [])
-  pub count : (w : World) → IsOpen built w → R w (counted_event w) []
-  pub input : (w : World) (sent : List Sent) (a : ℕ) (input : Input) → IsOpen built w → is_up_at w a ≡ true → R w (taken_in built w sent a input).world (taken_in built w sent a input).lines
-  pub read : (w : World) (a : ℕ) (key : Key) → IsOpen built w → R w (read_happened (counted_event w) a key).world (read_happened (counted_event w) a key).lines
-  pub boot : (w : World) (a epoch : ℕ) → IsOpen built w → R w (restart_happened (counted_event w) a epoch).world []
-  pub site : (w : World) (a : ℕ) (site : Site) → IsOpen built w → R w (with_centre (counted_event w) a site) []
+  pub count : (w : World) → IsOpen w → R w (counted_event w) []
+  pub input : (w : World) (sent : List Sent) (a : ℕ) (input : Input) → IsOpen w → is_up_at w a ≡ true → R w (taken_in w sent a input).world (taken_in w sent a input).lines
+  pub read : (w : World) (a : ℕ) (key : Key) → IsOpen w → R w (read_happened (counted_event w) a key).world (read_happened (counted_event w) a key).lines
+  pub boot : (w : World) (a epoch : ℕ) → IsOpen w → R w (restart_happened (counted_event w) a epoch).world []
+  pub site : (w : World) (a : ℕ) (site : Site) → IsOpen w → R w (with_centre (counted_event w) a site) []
 
 -- what holds of a world and what happened in it, unless nothing did
 abbrev pub OkKept : (World → World → List Line → Type 0) → World → Result Happened EventFault → Type 0
 OkKept R w (Ok h) = R w h.world h.lines
 OkKept R w (Err fault) = ⊤
 
-free-world : (limited : Bool) (most events : ℕ) → (limited && nat_le most events) ≡ false → limited ≡ true → events < most
-free-world limited most events h e = grind (arith)
+free-world : (most events : ℕ) → nat_le most events ≡ false → events < most
+free-world most events h = grind (arith)
 
 -- an input counts no event
 pub input-events : (w : World) (a : ℕ) (r : Result NodeStep StepFault) → (input_happened w a r).world.events ≡ w.events
@@ -97,16 +96,16 @@ input-events w a (Ok step) = by_fact step.fact
     by_fact (Some fact) = by_stop fact (centre_at w a).stop
 
 -- a delivery counts one
-delivered-events : (built : Built) (w : World) (number : ℕ) (envelope : Envelope) (after : Happened) → delivered built w number envelope ≡ Ok after → after.world.events ≡ w.events + 1
-delivered-events built w number envelope after e =
-    by_limit (step_limit built (counted_with w (with_delivered w.sent (number - 1))) envelope.to (step_at built (counted_with w (with_delivered w.sent (number - 1))) envelope.to (Input.Message envelope))) e
+delivered-events : (w : World) (number : ℕ) (envelope : Envelope) (after : Happened) → delivered w number envelope ≡ Ok after → after.world.events ≡ w.events + 1
+delivered-events w number envelope after e =
+    by_limit (step_limit (counted_with w (with_delivered w.sent (number - 1))) envelope.to (step_at (counted_with w (with_delivered w.sent (number - 1))) envelope.to (Input.Message envelope))) e
   where
-    by_limit : (o : Option EventFault) → unless o (taken_in built w (with_delivered w.sent (number - 1)) envelope.to (Input.Message envelope)) ≡ Ok after → after.world.events ≡ w.events + 1
+    by_limit : (o : Option EventFault) → unless o (taken_in w (with_delivered w.sent (number - 1)) envelope.to (Input.Message envelope)) ≡ Ok after → after.world.events ≡ w.events + 1
     by_limit (Some fault) g = absurd (cc)
     by_limit None g =
-        let same : taken_in built w (with_delivered w.sent (number - 1)) envelope.to (Input.Message envelope) ≡ after = cc in
+        let same : taken_in w (with_delivered w.sent (number - 1)) envelope.to (Input.Message envelope) ≡ after = cc in
         subst (λ (z : Happened). z.world.events ≡ w.events + 1) same
-        (input-events (counted_with w (with_delivered w.sent (number - 1))) envelope.to (step_at built (counted_with w (with_delivered w.sent (number - 1))) envelope.to (Input.Message envelope)))
+        (input-events (counted_with w (with_delivered w.sent (number - 1))) envelope.to (step_at (counted_with w (with_delivered w.sent (number - 1))) envelope.to (Input.Message envelope)))
 
 left-few : (most events : ℕ) → nat_le events most ≡ true → (most - events) + events ≤ most
 left-few most events h = grind (arith)
@@ -114,18 +113,18 @@ left-few most events h = grind (arith)
 no-left : (most events : ℕ) → nat_le events most ≡ false → most - events ≡ 0
 no-left most events h = grind (arith)
 
-module _ (built : Built) (R : World → World → List Line → Type 0) (kept : IsKept built R) where
+module _ (R : World → World → List Line → Type 0) (kept : IsKept R) where
   unless-kept : (w : World) (o : Option EventFault) (h : Happened) → R w h.world h.lines → OkKept R w (unless o h)
   unless-kept w None h g = g
   unless-kept w (Some fault) h g = tt
 
-  within-kept : (w : World) (r : Result Happened EventFault) → (IsOpen built w → OkKept R w r) → OkKept R w (within_events built w r)
+  within-kept : (w : World) (r : Result Happened EventFault) → (IsOpen w → OkKept R w r) → OkKept R w (within_events w r)
   within-kept w (Ok h) g =
-      elim (cases_Bool (is_past_events built w)) [
+      elim (cases_Bool (is_past_events w)) [
         | inl e ↦ rw e tt
-        | inr e ↦ rw e (g (free-world built.limit_on_events most_events w.events e))
+        | inr e ↦ rw e (g (free-world most_events w.events e))
       ]
-  within-kept w (Err fault) g = elim (cases_Bool (is_limit fault && is_past_events built w)) [ inl e ↦ rw e tt | inr e ↦ rw e tt ]
+  within-kept w (Err fault) g = elim (cases_Bool (is_limit fault && is_past_events w)) [ inl e ↦ rw e tt | inr e ↦ rw e tt ]
 
   up-kept : (w v : World) (a : ℕ) (r : Result Happened EventFault) → (is_up_at w a ≡ true → OkKept R v r) → OkKept R v (if_up w a r)
   up-kept w v a r h = elim (cases_Bool (is_up_at w a)) [ inl e ↦ rw e (h e) | inr e ↦ rw e tt ]
@@ -148,21 +147,21 @@ module _ (built : Built) (R : World → World → List Line → Type 0) (kept : 
 
   -- ---- inputs
 
-  taken-kept : (w : World) (sent : List Sent) (a : ℕ) (input : Input) → IsOpen built w → is_up_at w a ≡ true →
-      OkKept R w (unless (step_limit built (counted_with w sent) a (step_at built (counted_with w sent) a input)) (taken_in built w sent a input))
+  taken-kept : (w : World) (sent : List Sent) (a : ℕ) (input : Input) → IsOpen w → is_up_at w a ≡ true →
+      OkKept R w (unless (step_limit (counted_with w sent) a (step_at (counted_with w sent) a input)) (taken_in w sent a input))
   taken-kept w sent a input free up =
-      unless-kept w (step_limit built (counted_with w sent) a (step_at built (counted_with w sent) a input)) (taken_in built w sent a input) (kept.input w sent a input free up)
+      unless-kept w (step_limit (counted_with w sent) a (step_at (counted_with w sent) a input)) (taken_in w sent a input) (kept.input w sent a input free up)
 
-  begun-by-kept : (w : World) (a : ℕ) (r : Result (List Part) DraftFault) → IsOpen built w → is_up_at w a ≡ true → OkKept R w (begun_by built (counted_event w) a r)
+  begun-by-kept : (w : World) (a : ℕ) (r : Result (List Part) DraftFault) → IsOpen w → is_up_at w a ≡ true → OkKept R w (begun_by (counted_event w) a r)
   begun-by-kept w a (Err fault) free up = tt
   begun-by-kept w a (Ok parts) free up =
-      lines-kept w (begin_lines (answer_in (step_at built (counted_event w) a (Input.Begin parts)))) _ (begin-silent (answer_in (step_at built (counted_event w) a (Input.Begin parts))))
+      lines-kept w (begin_lines (answer_in (step_at (counted_event w) a (Input.Begin parts)))) _ (begin-silent (answer_in (step_at (counted_event w) a (Input.Begin parts))))
       (taken-kept w w.sent a (Input.Begin parts) free up)
 
   told : (w x : World) (line : Line) → IsTrue (is_silent line) → R w x [] → R w x (line ∷ [])
   told w x line s g = kept.join w w x (line ∷ []) [] (kept.silent w line s) g
 
-  parts-kept : (w : World) (a : ℕ) (r : Result (List Part) ResolveFault) → IsOpen built w → is_up_at w a ≡ true → OkKept R w (parts_begun built (counted_event w) a r)
+  parts-kept : (w : World) (a : ℕ) (r : Result (List Part) ResolveFault) → IsOpen w → is_up_at w a ≡ true → OkKept R w (parts_begun (counted_event w) a r)
   parts-kept w a (Err (ResolveFault.NoRead n)) free up = tt
   parts-kept w a (Err (ResolveFault.NoItem key)) free up = told w (counted_event w) _ refl (kept.count w free)
   parts-kept w a (Err ResolveFault.Memory) free up = tt
@@ -170,26 +169,26 @@ module _ (built : Built) (R : World → World → List Line → Type 0) (kept : 
 
   -- ---- deliveries
 
-  delivered-kept : (w : World) (number : ℕ) (envelope : Envelope) → IsOpen built w → is_up_at w envelope.to ≡ true → OkKept R w (delivered built w number envelope)
+  delivered-kept : (w : World) (number : ℕ) (envelope : Envelope) → IsOpen w → is_up_at w envelope.to ≡ true → OkKept R w (delivered w number envelope)
   delivered-kept w number envelope free up = taken-kept w (with_delivered w.sent (number - 1)) envelope.to (Input.Message envelope) free up
 
-  delivery-by-kept : (w : World) (number : ℕ) (o : Option Sent) → OkKept R w (delivery_by built w number o)
+  delivery-by-kept : (w : World) (number : ℕ) (o : Option Sent) → OkKept R w (delivery_by w number o)
   delivery-by-kept w number None = tt
   delivery-by-kept w number (Some s) =
       up-kept w w s.envelope.to _
-      (λ up. within-kept w (with_lines (deliver_line number) (delivered built w number s.envelope))
-      (λ free. lines-kept w (deliver_line number) (delivered built w number s.envelope) (λ x. (refl, tt)) (delivered-kept w number s.envelope free up)))
+      (λ up. within-kept w (with_lines (deliver_line number) (delivered w number s.envelope))
+      (λ free. lines-kept w (deliver_line number) (delivered w number s.envelope) (λ x. (refl, tt)) (delivered-kept w number s.envelope free up)))
 
   -- what was reached before, and this
   abbrev After : World → Happened → Result Happened EventFault → Type 0
   After v h r = R v h.world h.lines → OkKept R v r
 
-  deliveries-kept : (v : World) (numbers : List ℕ) (h : Happened) → R v h.world h.lines → OkKept R v (deliveries_of built numbers h)
+  deliveries-kept : (v : World) (numbers : List ℕ) (h : Happened) → R v h.world h.lines → OkKept R v (deliveries_of numbers h)
   deliveries-kept v [] h g = g
-  deliveries-kept v (number ∷ numbers) h g = by_case (λ next. deliveries-kept v numbers next) (delivery_of built h.world number) refl (delivery-by-kept h.world number (numbered h.world.sent number))
+  deliveries-kept v (number ∷ numbers) h g = by_case (λ next. deliveries-kept v numbers next) (delivery_of h.world number) refl (delivery-by-kept h.world number (numbered h.world.sent number))
     where
-      by_case : ((next : Happened) → R v next.world next.lines → OkKept R v (deliveries_of built numbers next)) → (r : Result Happened EventFault) → delivery_of built h.world number ≡ r → OkKept R h.world r →
-          OkKept R v (deliveries_of built (number ∷ numbers) h)
+      by_case : ((next : Happened) → R v next.world next.lines → OkKept R v (deliveries_of numbers next)) → (r : Result Happened EventFault) → delivery_of h.world number ≡ r → OkKept R h.world r →
+          OkKept R v (deliveries_of (number ∷ numbers) h)
       by_case rest (Err fault) e k = rw (e, deliveries_of, OkKept) tt
       by_case rest (Ok next) e k = rw (e, deliveries_of, OkKept) (rest (after_lines h.lines next) (kept.join v h.world next.world h.lines next.lines g k))
 
@@ -214,32 +213,32 @@ module _ (built : Built) (R : World → World → List Line → Type 0) (kept : 
   OkSettled v (Ok h) = R v h.0.world h.0.lines
   OkSettled v (Err fault) = ⊤
 
-  settled-kept : (v : World) (left : ℕ) (listed : List ℕ) (h : Happened) (d : ℕ) → left + h.world.events ≤ most_events → R v h.world h.lines → OkSettled v (settled_of left built listed h d)
+  settled-kept : (v : World) (left : ℕ) (listed : List ℕ) (h : Happened) (d : ℕ) → left + h.world.events ≤ most_events → R v h.world h.lines → OkSettled v (settled_of left listed h d)
   settled-kept v zero listed h d few g = by_case (first_waiting h.world listed 1 h.world.sent) refl
     where
-      by_case : (o : Option (ℕ × Envelope)) → first_waiting h.world listed 1 h.world.sent ≡ o → OkSettled v (settled_of zero built listed h d)
+      by_case : (o : Option (ℕ × Envelope)) → first_waiting h.world listed 1 h.world.sent ≡ o → OkSettled v (settled_of zero listed h d)
       by_case None e = rw (e, settled_of, OkSettled) g
       by_case (Some next) e = rw (e, settled_of, OkSettled) tt
   settled-kept v (suc left) listed h d few g = by_case (λ k n. settled-kept v left listed k n) (first_waiting h.world listed 1 h.world.sent) refl
     where
-      by_result : ((k : Happened) (n : ℕ) → left + k.world.events ≤ most_events → R v k.world k.lines → OkSettled v (settled_of left built listed k n)) → (next : ℕ × Envelope) → first_waiting h.world listed 1 h.world.sent ≡ Some next →
-          (r : Result Happened EventFault) → delivered built h.world next.0 next.1 ≡ r → OkKept R h.world r → OkSettled v (settled_of (suc left) built listed h d)
+      by_result : ((k : Happened) (n : ℕ) → left + k.world.events ≤ most_events → R v k.world k.lines → OkSettled v (settled_of left listed k n)) → (next : ℕ × Envelope) → first_waiting h.world listed 1 h.world.sent ≡ Some next →
+          (r : Result Happened EventFault) → delivered h.world next.0 next.1 ≡ r → OkKept R h.world r → OkSettled v (settled_of (suc left) listed h d)
       by_result rest next e (Err fault) f k = rw (e, settled_of) (rw (f, OkSettled) tt)
       by_result rest next e (Ok after) f k =
-          let events : after.world.events ≡ h.world.events + 1 = delivered-events built h.world next.0 next.1 after f in
+          let events : after.world.events ≡ h.world.events + 1 = delivered-events h.world next.0 next.1 after f in
           rw (e, settled_of) (rw (f, OkSettled) (rest (after_lines h.lines after) (d + 1) (omega arith) (kept.join v h.world after.world h.lines after.lines g k)))
 
-      by_case : ((k : Happened) (n : ℕ) → left + k.world.events ≤ most_events → R v k.world k.lines → OkSettled v (settled_of left built listed k n)) → (o : Option (ℕ × Envelope)) → first_waiting h.world listed 1 h.world.sent ≡ o →
-          OkSettled v (settled_of (suc left) built listed h d)
+      by_case : ((k : Happened) (n : ℕ) → left + k.world.events ≤ most_events → R v k.world k.lines → OkSettled v (settled_of left listed k n)) → (o : Option (ℕ × Envelope)) → first_waiting h.world listed 1 h.world.sent ≡ o →
+          OkSettled v (settled_of (suc left) listed h d)
       by_case rest None e = rw (e, settled_of, OkSettled) g
       by_case rest (Some next) e =
-          by_result rest next e (delivered built h.world next.0 next.1) refl
-          (delivered-kept h.world next.0 next.1 (λ limited. omega arith) (waiting-up h.world listed 1 h.world.sent next e))
+          by_result rest next e (delivered h.world next.0 next.1) refl
+          (delivered-kept h.world next.0 next.1 (omega arith) (waiting-up h.world listed 1 h.world.sent next e))
 
-  none-left : (v : World) (left : ℕ) (listed : List ℕ) (h : Happened) (d : ℕ) → left ≡ 0 → R v h.world h.lines → OkSettled v (settled_of left built listed h d)
+  none-left : (v : World) (left : ℕ) (listed : List ℕ) (h : Happened) (d : ℕ) → left ≡ 0 → R v h.world h.lines → OkSettled v (settled_of left listed h d)
   none-left v left listed h d zero_left g = rw zero_left (by_case (first_waiting h.world listed 1 h.world.sent) refl)
     where
-      by_case : (o : Option (ℕ × Envelope)) → first_waiting h.world listed 1 h.world.sent ≡ o → OkSettled v (settled_of 0 built listed h d)
+      by_case : (o : Option (ℕ × Envelope)) → first_waiting h.world listed 1 h.world.sent ≡ o → OkSettled v (settled_of 0 listed h d)
       by_case None e = rw (e, settled_of, OkSettled) g
       by_case (Some next) e = rw (e, settled_of, OkSettled) tt
 
@@ -247,11 +246,11 @@ module _ (built : Built) (R : World → World → List Line → Type 0) (kept : 
   settled-line v (Err fault) h = tt
   settled-line v (Ok (h, n)) g = kept.join v h.world h.world h.lines _ g (silents h.world (Line.Settled n (next_message h.world) ∷ []) (refl, tt))
 
-  settle-kept : (w : World) (listed : List ℕ) → IsOpen built w → OkKept R w (settle_of built (counted_event w) listed)
+  settle-kept : (w : World) (listed : List ℕ) → IsOpen w → OkKept R w (settle_of (counted_event w) listed)
   settle-kept w listed free =
       elim (cases_Bool (nat_le (w.events + 1) most_events)) [
-        | inl few ↦ settled-line w (settled_of (most_events - (w.events + 1)) built listed first 0) (settled-kept w (most_events - (w.events + 1)) listed first 0 (left-few most_events (w.events + 1) few) (told w (counted_event w) (Line.Settle listed) refl (kept.count w free)))
-        | inr many ↦ settled-line w (settled_of (most_events - (w.events + 1)) built listed first 0) (none-left w (most_events - (w.events + 1)) listed first 0 (no-left most_events (w.events + 1) many) (told w (counted_event w) (Line.Settle listed) refl (kept.count w free)))
+        | inl few ↦ settled-line w (settled_of (most_events - (w.events + 1)) listed first 0) (settled-kept w (most_events - (w.events + 1)) listed first 0 (left-few most_events (w.events + 1) few) (told w (counted_event w) (Line.Settle listed) refl (kept.count w free)))
+        | inr many ↦ settled-line w (settled_of (most_events - (w.events + 1)) listed first 0) (none-left w (most_events - (w.events + 1)) listed first 0 (no-left most_events (w.events + 1) many) (told w (counted_event w) (Line.Settle listed) refl (kept.count w free)))
       ]
     where
       first : Happened
@@ -259,19 +258,19 @@ module _ (built : Built) (R : World → World → List Line → Type 0) (kept : 
 
   -- ---- events
 
-  restart-kept : (w : World) (a : ℕ) → IsOpen built w → OkKept R w (restart_of built (counted_event w) a)
+  restart-kept : (w : World) (a : ℕ) → IsOpen w → OkKept R w (restart_of (counted_event w) a)
   restart-kept w a free =
-      unless-kept w (option_or (cells_limit built (counted_event w) a (Fact.Booted (epoch_of (facts_of w.ledger a) + 1))) (log_limit built (counted_event w) a (Fact.Booted (epoch_of (facts_of w.ledger a) + 1))))
+      unless-kept w (option_or (cells_limit (counted_event w) a (Fact.Booted (epoch_of (facts_of w.ledger a) + 1))) (log_limit (counted_event w) a (Fact.Booted (epoch_of (facts_of w.ledger a) + 1))))
       (restart_happened (counted_event w) a (epoch_of (facts_of w.ledger a) + 1))
       (told w (restart_happened (counted_event w) a (epoch_of (facts_of w.ledger a) + 1)).world _ refl (kept.boot w a (epoch_of (facts_of w.ledger a) + 1) free))
 
-  happened-kept : (w : World) (event : Event) → IsTrue (not (is_deliver event)) → IsOpen built w → OkKept R w (happened_of built (counted_event w) event)
+  happened-kept : (w : World) (event : Event) → IsTrue (not (is_deliver event)) → IsOpen w → OkKept R w (happened_of (counted_event w) event)
   happened-kept w (Event.Read a key) single free = up-kept (counted_event w) w a _ (λ up. kept.read w a key free)
-  happened-kept w (Event.Begin a words) single free = up-kept (counted_event w) w a (begin_of built (counted_event w) a words) (λ up. parts-kept w a (resolve words (map Some w.reads)) free up)
+  happened-kept w (Event.Begin a words) single free = up-kept (counted_event w) w a (begin_of (counted_event w) a words) (λ up. parts-kept w a (resolve words (map Some w.reads)) free up)
   happened-kept w (Event.Deliver numbers) single free = absurd (cc)
   happened-kept w (Event.Settle listed) single free = settle-kept w listed free
   happened-kept w (Event.Tick a) single free =
-      up-kept (counted_event w) w a (tick_of built (counted_event w) a)
+      up-kept (counted_event w) w a (tick_of (counted_event w) a)
       (λ up. lines-kept w (tick_line a) _ (λ x. (refl, tt)) (taken-kept w w.sent a Input.Tick free up))
   happened-kept w (Event.Crash a) single free = up-kept (counted_event w) w a _ (λ up. told w (with_centre (counted_event w) a down) _ refl (kept.site w a down free))
   happened-kept w (Event.Restart a) single free =
@@ -282,7 +281,7 @@ module _ (built : Built) (R : World → World → List Line → Type 0) (kept : 
   happened-kept w (Event.Stop a call image) single free =
       up-kept (counted_event w) w a _ (λ up. told w (with_centre (counted_event w) a (record (centre_at w a) { stop = Some (call, image) })) _ refl (kept.site w a (record (centre_at w a) { stop = Some (call, image) }) free))
 
-  pub event-kept : (w : World) (event : Event) → OkKept R w (event_of built w event)
+  pub event-kept : (w : World) (event : Event) → OkKept R w (event_of w event)
   event-kept w (Event.Deliver numbers) = deliveries-kept w numbers (record { world = w; lines = [] }) (kept.none w)
   event-kept w (Event.Read a key) = within-kept w _ (happened-kept w (Event.Read a key) refl)
   event-kept w (Event.Begin a words) = within-kept w _ (happened-kept w (Event.Begin a words) refl)
@@ -294,15 +293,15 @@ module _ (built : Built) (R : World → World → List Line → Type 0) (kept : 
 
   -- ---- runs
 
-  run-kept : (v : World) (events : List Event) (h : Happened) → R v h.world h.lines → R v (run_from built events h).world (run_from built events h).lines
+  run-kept : (v : World) (events : List Event) (h : Happened) → R v h.world h.lines → R v (run_from events h).world (run_from events h).lines
   run-kept v [] h g = g
-  run-kept v (event ∷ events) h g = by_case (λ next k. run-kept v events next k) (event_of built h.world event) refl (event-kept h.world event)
+  run-kept v (event ∷ events) h g = by_case (λ next k. run-kept v events next k) (event_of h.world event) refl (event-kept h.world event)
     where
-      by_case : ((next : Happened) → R v next.world next.lines → R v (run_from built events next).world (run_from built events next).lines) → (r : Result Happened EventFault) → event_of built h.world event ≡ r → OkKept R h.world r →
-          R v (run_from built (event ∷ events) h).world (run_from built (event ∷ events) h).lines
+      by_case : ((next : Happened) → R v next.world next.lines → R v (run_from events next).world (run_from events next).lines) → (r : Result Happened EventFault) → event_of h.world event ≡ r → OkKept R h.world r →
+          R v (run_from (event ∷ events) h).world (run_from (event ∷ events) h).lines
       by_case rest (Err fault) e k = rw (e, run_from) g
       by_case rest (Ok next) e k = rw (e, run_from) (rest (after_lines h.lines next) (kept.join v h.world next.world h.lines next.lines g k))
 
   -- a relation that single things keep holds of whole runs
-  pub runs-keep : (w : World) (events : List Event) → R w (run_of built w events).world (run_of built w events).lines
+  pub runs-keep : (w : World) (events : List Event) → R w (run_of w events).world (run_of w events).lines
   runs-keep w events = run-kept w events (record { world = w; lines = [] }) (kept.none w)

@@ -1,6 +1,5 @@
 -- How ledgers grow.
 use Rattle.std.specs.Prelude.{List, None, ◌++◌, ◌≡◌}
-use Rattle.mdcc_switches.specs.Built.{Built}
 use Rattle.mdcc_ledger.specs.Ledger.{Entry}
 use Rattle.mdcc_simulation.specs.Runs.{Run, run_of}
 use Rattle.mdcc_simulation.specs.State.{World}
@@ -15,7 +14,7 @@ pub record Grows (w w' : World) : Type 0 where
 
 -- a run takes nothing out of the ledger, and its cluster stays
 abbrev pub RunsGrow : Type 0
-RunsGrow = (built : Built) (w : World) (events : List Event) → Grows w (run_of built w events).world
+RunsGrow = (w : World) (events : List Event) → Grows w (run_of w events).world
 
 -- lines that were told before stand before those of a run
 abbrev pub told_before : List Line → Run → Run
@@ -24,9 +23,9 @@ told_before lines run = record run { lines = lines ++ run.lines }
 -- a run of more events goes on where the run of the first ones ended, unless that was refused
 abbrev pub RunsGoOn : Type 0
 RunsGoOn =
-    (built : Built) (w : World) (first rest : List Event) → (run_of built w first).fault ≡ None
-    → run_of built w (first ++ rest) ≡ told_before (run_of built w first).lines (run_of built (run_of built w first).world rest)
+    (w : World) (first rest : List Event) → (run_of w first).fault ≡ None
+    → run_of w (first ++ rest) ≡ told_before (run_of w first).lines (run_of (run_of w first).world rest)
 
 -- where no event of a run is refused, none of the first ones is
 abbrev pub FirstAreTaken : Type 0
-FirstAreTaken = (built : Built) (w : World) (first rest : List Event) → (run_of built w (first ++ rest)).fault ≡ None → (run_of built w first).fault ≡ None
+FirstAreTaken = (w : World) (first rest : List Event) → (run_of w (first ++ rest)).fault ≡ None → (run_of w first).fault ≡ None

@@ -2,7 +2,6 @@
 use Rattle.std.specs.Prelude.{Bool, List, [], flat_map, map, ◌++◌, ◌∷◌, ◌≡◌}
 use Rattle.mdcc_base.specs.Sizes.{Sizes}
 use Rattle.mdcc_base.specs.declared.identifiers.TxId.{TxId}
-use Rattle.mdcc_switches.specs.Built.{Built}
 use Rattle.mdcc_ledger.specs.Ledger.{Entry, new_outcomes}
 use Rattle.mdcc_protocol.specs.Marks.{is_commit}
 use Rattle.mdcc_simulation.specs.State.{World}
@@ -30,6 +29,6 @@ chosen_in lines = flat_map chosen_by lines
 -- a run prints each outcome that comes in it once, and in the order in which they come
 abbrev pub OutcomesInOrder : Type 0
 OutcomesInOrder =
-    (built : Built) (w : World) (events : List Event)
-    → decided_in (run_of built w events).world.cluster.quorums (run_of built w events).world.ledger
-    ≡ decided_in w.cluster.quorums w.ledger ++ chosen_in (run_of built w events).lines
+    (w : World) (events : List Event)
+    → decided_in (run_of w events).world.cluster.quorums (run_of w events).world.ledger
+    ≡ decided_in w.cluster.quorums w.ledger ++ chosen_in (run_of w events).lines

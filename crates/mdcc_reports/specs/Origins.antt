@@ -5,7 +5,6 @@ use Rattle.mdcc_base.specs.Sizes.{Sizes}
 use Rattle.mdcc_base.specs.declared.identifiers.TxId.{TxId}
 use Rattle.mdcc_option.specs.declared.choices.Outcome.{Outcome}
 use Rattle.mdcc_option.specs.declared.items.Known.{Known}
-use Rattle.mdcc_switches.specs.Built.{Built}
 use Rattle.mdcc_ledger.specs.Ledger.{Added, Entry, facts_of, new_outcomes}
 use Rattle.mdcc_protocol.specs.Marks.{is_commit}
 use Rattle.mdcc_protocol.specs.Visible
@@ -68,14 +67,14 @@ AreInTurn quorums first last (line ∷ lines) = (now : List Entry) × IsLater fi
 
 -- ---- runs
 
--- each line of a run has its origin in the run's ledger, whatever is built, in whatever world it begins
+-- each line of a run has its origin in the run's ledger, in whatever world it begins
 abbrev pub LinesHaveOrigins : Type 0
 LinesHaveOrigins =
-    (built : Built) (w : World) (events : List Event)
-    → AllByRecursion (HasOrigin w.cluster.quorums (run_of built w events).world.ledger) (run_of built w events).lines
+    (w : World) (events : List Event)
+    → AllByRecursion (HasOrigin w.cluster.quorums (run_of w events).world.ledger) (run_of w events).lines
 
 -- and it is told there, also within an event of several deliveries
 abbrev pub LinesInTurn : Type 0
 LinesInTurn =
-    (built : Built) (w : World) (events : List Event)
-    → AreInTurn w.cluster.quorums w.ledger (run_of built w events).world.ledger (run_of built w events).lines
+    (w : World) (events : List Event)
+    → AreInTurn w.cluster.quorums w.ledger (run_of w events).world.ledger (run_of w events).lines

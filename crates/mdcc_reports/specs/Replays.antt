@@ -1,7 +1,6 @@
 -- A replay is a run of events.
 use Rattle.std.specs.Prelude.{List, None, Ok, Option, Result, Some, [], length, ℕ, ◌++◌, ◌+◌, ◌∷◌, ◌≡◌, ◌≤◌}
 use Rattle.mdcc_option.specs.declared.cluster.Cluster.{Cluster}
-use Rattle.mdcc_switches.specs.Built.{Built}
 use Rattle.mdcc_language.specs.Errors.{AtEvent, AtLine, ReplayFault, most_input}
 use Rattle.mdcc_language.specs.Header.{Left, all_of, header_lines}
 use Rattle.mdcc_protocol.specs.IsCluster.{IsCluster}
@@ -23,9 +22,9 @@ event_listed None = []
 event_listed (Some event) = event ∷ []
 
 -- the events of lines in turn, where no line is refused
-abbrev pub events_read : Built → Cluster → List (List ℕ) → Result (List Event) SchedFault
-events_read built cluster [] = Ok []
-events_read built cluster (line ∷ lines) = line_of built cluster line >>= λ event. events_read built cluster lines >>= λ events. Ok (event_listed event ++ events)
+abbrev pub events_read : Cluster → List (List ℕ) → Result (List Event) SchedFault
+events_read cluster [] = Ok []
+events_read cluster (line ∷ lines) = line_of cluster line >>= λ event. events_read cluster lines >>= λ events. Ok (event_listed event ++ events)
 
 -- ---- runs that are printed
 
@@ -43,30 +42,30 @@ IsLeft number (Some _) rest = ⊥
 
 -- the replay of an input is the run of these events, which are those of the lines behind the header, up to the end or to the first line that is
 -- refused. Its text is the header, the lines of the run, and at the end of the input the last line; and its world is that of the run
-pub record IsReplayed (built : Built) (input : List ℕ) (header : Cluster × Left) (events : List Event) : Type 0 where
+pub record IsReplayed (input : List ℕ) (header : Cluster × Left) (events : List Event) : Type 0 where
   pub taken : List (List ℕ)
   pub rest : List (List ℕ)
   pub parts : header.1.lines ≡ taken ++ rest
-  pub left : IsLeft (header.1.number + length taken) (replay_of built input).fault rest
-  pub read : events_read built header.0 taken ≡ Ok events
-  pub whole : (run_of built (first_world header.0) events).fault ≡ None
-  pub text : (replay_of built input).text
+  pub left : IsLeft (header.1.number + length taken) (replay_of input).fault rest
+  pub read : events_read header.0 taken ≡ Ok events
+  pub whole : (run_of (first_world header.0) events).fault ≡ None
+  pub text : (replay_of input).text
       ≡ header_text header.1.at input
-      ++ lines_text ((run_of built (first_world header.0) events).lines ++ end_told (replay_of built input).fault (run_of built (first_world header.0) events).world)
-  pub world : (replay_of built input).world ≡ Some (run_of built (first_world header.0) events).world
+      ++ lines_text ((run_of (first_world header.0) events).lines ++ end_told (replay_of input).fault (run_of (first_world header.0) events).world)
+  pub world : (replay_of input).world ≡ Some (run_of (first_world header.0) events).world
 
 -- the input is not too long, and its header is accepted
-pub record IsAccepted (built : Built) (input : List ℕ) (header : Cluster × Left) : Type 0 where
+pub record IsAccepted (input : List ℕ) (header : Cluster × Left) : Type 0 where
   pub within : length input ≤ most_input
-  pub header_itself : header_lines built (all_of input) ≡ Ok header
+  pub header_itself : header_lines (all_of input) ≡ Ok header
 
 -- each such replay is a run
 abbrev pub ReplaysAreRuns : Type 0
 ReplaysAreRuns =
-    (built : Built) (input : List ℕ) (header : Cluster × Left) → IsAccepted built input header
-    → (events : List Event) × IsReplayed built input header events
+    (input : List ℕ) (header : Cluster × Left) → IsAccepted input header
+    → (events : List Event) × IsReplayed input header events
 
 -- a header that is accepted is of a cluster
 abbrev pub HeadersAreOfClusters : Type 0
 HeadersAreOfClusters =
-    (built : Built) (input : List ℕ) (header : Cluster × Left) → IsAccepted built input header → IsCluster header.0
+    (input : List ℕ) (header : Cluster × Left) → IsAccepted input header → IsCluster header.0

@@ -1,5 +1,5 @@
 -- The votes are delivered one after the other: the centre hears the commit at the last of them.
-use Rattle.std.proofs.Common.{◌≡◌, ℕ, ◌+◌, ◌-◌, ◌≤◌, ◌<◌, ◌==◌, ◌&&◌, Bool, true, false, cond, List, [], ◌∷◌, ◌++◌, refl, sym, ap, ◌∙◌, subst, inl, inr, arith, map, length, nat_le, append_assoc, append-nil, IsPermutation, Option, Some, None, Ok, Err}
+use Rattle.std.proofs.Common.{◌≡◌, ℕ, ◌+◌, ◌-◌, ◌≤◌, ◌<◌, ◌==◌, ◌&&◌, Bool, true, false, List, [], ◌∷◌, ◌++◌, refl, sym, ap, ◌∙◌, subst, inl, inr, arith, map, length, nat_le, append_assoc, append-nil, IsPermutation, Option, Some, None, Ok, Err}
 use Rattle.std.specs.List.{AllByRecursion, list_any}
 use Rattle.std.proofs.lemmas.Bool.{and_left, and_parts, and_right, cases_Bool, leb-true, true≢false}
 use Rattle.std.proofs.lemmas.List.{get_or-set_same, length-set, map-append}
@@ -13,7 +13,6 @@ use Rattle.mdcc_base.specs.declared.key.Key.{Key}
 use Rattle.mdcc_option.specs.declared.choices.Choice.{Choice}
 use Rattle.mdcc_option.specs.declared.choices.Outcome.{Outcome}
 use Rattle.mdcc_option.specs.declared.cluster.Cluster.{Cluster}
-use Rattle.mdcc_switches.specs.Built.{Built}
 use Rattle.mdcc_ledger.specs.Ledger.{Entry, facts_of}
 use Rattle.mdcc_language.specs.declared.lines.Line.{Line}
 use Rattle.mdcc_messages.specs.Lengths.{cells_needed, cells_used}
@@ -83,33 +82,29 @@ counted-next quorums manager pair before within others only differ =
 opened-first : (manager : Managing) (t : Undecided) (tx : TxId) → opened_of manager tx ≡ Some t → is_open manager tx ≡ true
 opened-first manager t tx h = rw h refl
 
-module _ (built : Built) (cluster : Cluster) (a : ℕ) (facts : List Fact) (volatile : Volatile) (t : Undecided) (pair : Choice × ℕ)
-    (enabled : built.proposals ≡ true) (centre : is_centre cluster pair.1 ≡ true) (belongs : choice_belongs cluster pair.0 ≡ true)
+module _ (cluster : Cluster) (a : ℕ) (facts : List Fact) (volatile : Volatile) (t : Undecided) (pair : Choice × ℕ)
+    (centre : is_centre cluster pair.1 ≡ true) (belongs : choice_belongs cluster pair.0 ≡ true)
     (unheard : heard_of facts pair.0.tx ≡ None) (open' : opened_of volatile.manager pair.0.tx ≡ Some t) where
   belonging : (tx_belongs cluster pair.0.tx ≡ true) × (update_belongs cluster pair.0.update ≡ true)
   belonging = and_parts (tx_belongs cluster pair.0.tx) (update_belongs cluster pair.0.update) belongs
 
-  pub vote-step : step_of built cluster a facts volatile (Input.Message (vote_of_member a pair))
-      ≡ checked built cluster facts (Ok (opened_step built cluster a facts volatile (vote_counted pair) (would_decide cluster.quorums volatile.manager (vote_counted pair))))
-  vote-step = rw (number-same a, centre, belonging.0, belonging.1, enabled, unheard, open') refl
+  pub vote-step : step_of cluster a facts volatile (Input.Message (vote_of_member a pair))
+      ≡ checked cluster facts (Ok (opened_step cluster a facts volatile (vote_counted pair) (would_decide cluster.quorums volatile.manager (vote_counted pair))))
+  vote-step = rw (number-same a, centre, belonging.0, belonging.1, unheard, open') refl
 
 -- where it decides nothing and nothing has collided, it is taken and nothing is sent
-undecided-taken : (built : Built) (cluster : Cluster) (a : ℕ) (facts : List Fact) (volatile : Volatile) (pair : Choice × ℕ)
+undecided-taken : (cluster : Cluster) (a : ℕ) (facts : List Fact) (volatile : Volatile) (pair : Choice × ℕ)
     → decision cluster.quorums (vote_taken cluster.quorums volatile.manager (vote_counted pair)) pair.0.tx ≡ None
     → collided cluster.quorums (vote_taken cluster.quorums volatile.manager (vote_counted pair)).votes pair.0.tx pair.0.key ≡ false
-    → undecided_step built cluster a facts volatile (vote_counted pair) ≡ nothing_done (with_manager volatile (vote_taken cluster.quorums volatile.manager (vote_counted pair)))
-undecided-taken built cluster a facts volatile pair none apart = by built.escalations
+    → undecided_step cluster a facts volatile (vote_counted pair) ≡ nothing_done (with_manager volatile (vote_taken cluster.quorums volatile.manager (vote_counted pair)))
+undecided-taken cluster a facts volatile pair none apart =
+    ap (λ act. acted_step a facts volatile (acted (vote_taken cluster.quorums volatile.manager (vote_counted pair)) act)) acting
   where
     taken : Managing
     taken = vote_taken cluster.quorums volatile.manager (vote_counted pair)
 
     acting : act_on_vote cluster.quorums (vote_taken cluster.quorums volatile.manager (vote_counted pair)) (vote_counted pair) (decision cluster.quorums (vote_taken cluster.quorums volatile.manager (vote_counted pair)) pair.0.tx) ≡ None
     acting = ap (act_on_vote cluster.quorums (vote_taken cluster.quorums volatile.manager (vote_counted pair)) (vote_counted pair)) none ∙ rw apart refl
-
-    by : (b : Bool) → cond b (acted_step a facts volatile (Manager.on_voted cluster.quorums volatile.manager (vote_counted pair))) (nothing_done (with_manager volatile (vote_taken cluster.quorums volatile.manager (vote_counted pair))))
-        ≡ nothing_done (with_manager volatile (vote_taken cluster.quorums volatile.manager (vote_counted pair)))
-    by true = ap (λ act. acted_step a facts volatile (acted (vote_taken cluster.quorums volatile.manager (vote_counted pair)) act)) acting
-    by false = refl
 
 -- ---- the whole line
 
@@ -120,7 +115,7 @@ pub record IsVoted (cluster : Cluster) (t : Undecided) (pair : Choice × ℕ) : 
   pub belongs : choice_belongs cluster pair.0 ≡ true
   pub centre : is_centre cluster pair.1 ≡ true
 
-module _ (built : Built) (w : World) (a : ℕ) (t : Undecided) (members : List ℕ) (order : List (Choice × ℕ)) (enabled : built.proposals ≡ true)
+module _ (w : World) (a : ℕ) (t : Undecided) (members : List ℕ) (order : List (Choice × ℕ))
     (are : AreQuorums w.cluster.quorums) (sites : length w.centres ≡ w.cluster.quorums.centres) (undecided : IsUndecidedAt w a t) (choices : AreChoicesOf t.tx t.choices)
     (quorum : IsFastQuorum w.cluster.quorums members) (moved : IsPermutation (each_with t.choices members) order)
     (voted : AllByRecursion (IsVoted w.cluster t) order) (once : (key : Key) (member : ℕ) → number_of (of_both key member) order ≤ 1) where
@@ -168,7 +163,7 @@ module _ (built : Built) (w : World) (a : ℕ) (t : Undecided) (members : List �
 
   -- a vote at a world that has counted those before it
   module _ (before : List (Choice × ℕ)) (pair : Choice × ℕ) (after : List (Choice × ℕ)) (is : order ≡ before ++ pair ∷ after) (u : World) (c : Counted before u)
-      (number : ℕ) (next : Happened) (named : message_at u number ≡ Some (vote_of_member a pair)) (answer : delivery_of built u number ≡ Ok next) where
+      (number : ℕ) (next : Happened) (named : message_at u number ≡ Some (vote_of_member a pair)) (answer : delivery_of u number ≡ Ok next) where
     abbrev here : Volatile
     here = (centre_at u a).volatile
 
@@ -193,19 +188,19 @@ module _ (built : Built) (w : World) (a : ℕ) (t : Undecided) (members : List �
         ∙ ap (λ (k : Cluster). decision k.quorums (counting (centre_at w a).volatile.manager (before ++ pair ∷ [])) pair.0.tx) c.cluster
         ∙ ap (decision w.cluster.quorums (counting (centre_at w a).volatile.manager (before ++ pair ∷ []))) pair-is.own
 
-    step-here : step_at built (counted u number) a (Input.Message (vote_of_member a pair))
-        ≡ checked built u.cluster (facts_of u.ledger a) (Ok (opened_step built u.cluster a (facts_of u.ledger a) (centre_at u a).volatile (vote_counted pair) (would_decide u.cluster.quorums (centre_at u a).volatile.manager (vote_counted pair))))
+    step-here : step_at (counted u number) a (Input.Message (vote_of_member a pair))
+        ≡ checked u.cluster (facts_of u.ledger a) (Ok (opened_step u.cluster a (facts_of u.ledger a) (centre_at u a).volatile (vote_counted pair) (would_decide u.cluster.quorums (centre_at u a).volatile.manager (vote_counted pair))))
     step-here =
-        vote-step built u.cluster a (facts_of u.ledger a) (centre_at u a).volatile t pair enabled
+        vote-step u.cluster a (facts_of u.ledger a) (centre_at u a).volatile t pair
         (subst (λ (k : Cluster). is_centre k pair.1 ≡ true) (sym c.cluster) pair-is.centre) (subst (λ (k : Cluster). choice_belongs k pair.0 ≡ true) (sym c.cluster) pair-is.belongs)
         unheard-here open-here
 
     told-by : (o : Option Outcome) → would_decide u.cluster.quorums (centre_at u a).volatile.manager (vote_counted pair) ≡ o
-        → next ≡ delivery_told number (input_happened (counted u number) a (checked built u.cluster (facts_of u.ledger a) (Ok (opened_step built u.cluster a (facts_of u.ledger a) (centre_at u a).volatile (vote_counted pair) o))))
+        → next ≡ delivery_told number (input_happened (counted u number) a (checked u.cluster (facts_of u.ledger a) (Ok (opened_step u.cluster a (facts_of u.ledger a) (centre_at u a).volatile (vote_counted pair) o))))
     told-by o e =
-        delivery-told built u number (vote_of_member a pair) next named answer
+        delivery-told u number (vote_of_member a pair) next named answer
         ∙ ap (λ r. delivery_told number (input_happened (counted u number) a r)) step-here
-        ∙ ap (λ d. delivery_told number (input_happened (counted u number) a (checked built u.cluster (facts_of u.ledger a) (Ok (opened_step built u.cluster a (facts_of u.ledger a) (centre_at u a).volatile (vote_counted pair) d))))) e
+        ∙ ap (λ d. delivery_told number (input_happened (counted u number) a (checked u.cluster (facts_of u.ledger a) (Ok (opened_step u.cluster a (facts_of u.ledger a) (centre_at u a).volatile (vote_counted pair) d))))) e
 
     -- ---- one that decides nothing
 
@@ -229,8 +224,8 @@ module _ (built : Built) (w : World) (a : ℕ) (t : Undecided) (members : List �
       quiet-told : next ≡ delivery_told number quiet_after
       quiet-told =
           told-by None (decides-here ∙ none)
-          ∙ ap (λ s. delivery_told number (input_happened (counted u number) a (checked built u.cluster (facts_of u.ledger a) (Ok s))))
-          (undecided-taken built u.cluster a (facts_of u.ledger a) (centre_at u a).volatile pair (decides-here ∙ none) collided-here)
+          ∙ ap (λ s. delivery_told number (input_happened (counted u number) a (checked u.cluster (facts_of u.ledger a) (Ok s))))
+          (undecided-taken u.cluster a (facts_of u.ledger a) (centre_at u a).volatile pair (decides-here ∙ none) collided-here)
 
       site-there : centre_at next.world a ≡ site_after
       site-there =
@@ -276,21 +271,21 @@ module _ (built : Built) (w : World) (a : ℕ) (t : Undecided) (members : List �
           ap (λ (es : List Entry). is_crowding (facts_of es a) (Fact.Heard pair.0.tx (Outcome.Commit t.choices))) c.ledger
           ∙ ap (λ tx. is_crowding (facts_of w.ledger a) (Fact.Heard tx (Outcome.Commit t.choices))) pair-is.own ∙ undecided.uncrowded
 
-      whole : next ≡ delivery_told number (input_happened (counted u number) a (checked built u.cluster (facts_of u.ledger a) (Ok (decided_step u.cluster a (centre_at u a).volatile pair.0.tx (Outcome.Commit t.choices)))))
+      whole : next ≡ delivery_told number (input_happened (counted u number) a (checked u.cluster (facts_of u.ledger a) (Ok (decided_step u.cluster a (centre_at u a).volatile pair.0.tx (Outcome.Commit t.choices)))))
       whole = told-by (Some (Outcome.Commit t.choices)) (decides-here ∙ all)
 
       -- it has room where it is not dropped
-      roomy-commit : NoneDropped next.lines → is_without_room built u.cluster (facts_of u.ledger a) (Fact.Heard pair.0.tx (Outcome.Commit t.choices)) ≡ false
-      roomy-commit roomy = by (is_without_room built u.cluster (facts_of u.ledger a) (Fact.Heard pair.0.tx (Outcome.Commit t.choices))) refl
+      roomy-commit : NoneDropped next.lines → is_without_room u.cluster (facts_of u.ledger a) (Fact.Heard pair.0.tx (Outcome.Commit t.choices)) ≡ false
+      roomy-commit roomy = by (is_without_room u.cluster (facts_of u.ledger a) (Fact.Heard pair.0.tx (Outcome.Commit t.choices))) refl
         where
-          by : (b : Bool) → is_without_room built u.cluster (facts_of u.ledger a) (Fact.Heard pair.0.tx (Outcome.Commit t.choices)) ≡ b → b ≡ false
+          by : (b : Bool) → is_without_room u.cluster (facts_of u.ledger a) (Fact.Heard pair.0.tx (Outcome.Commit t.choices)) ≡ b → b ≡ false
           by true e =
               let dropped : next.lines ≡ (delivery_told number (input_happened (counted u number) a (Err (StepFault.NoRoom (cells_needed (Fact.Heard pair.0.tx (Outcome.Commit t.choices))) (cells_spare u.cluster (facts_of u.ledger a)))))).lines =
               ap (λ (x : Happened). x.lines) whole ∙ rw e refl in
               let kept = subst NoneDropped dropped roomy in absurd (true≢false kept.1.0)
           by false e = refl
 
-      last-lines : is_without_room built u.cluster (facts_of u.ledger a) (Fact.Heard pair.0.tx (Outcome.Commit t.choices)) ≡ false
+      last-lines : is_without_room u.cluster (facts_of u.ledger a) (Fact.Heard pair.0.tx (Outcome.Commit t.choices)) ≡ false
           → next.lines ≡ Line.Deliver number (next_message (fact_taken (counted u number) a last_step fact).world) ∷ Line.Heard a pair.0.tx true ∷ []
       last-lines e =
           ap (λ (x : Happened). x.lines) whole
@@ -298,7 +293,7 @@ module _ (built : Built) (w : World) (a : ℕ) (t : Undecided) (members : List �
 
   -- the last line of all is the commit that the centre hears
   pub all-voted : (numbers : List ℕ) (before after : List (Choice × ℕ)) (u v : World) (lines : List Line) → order ≡ before ++ after → 1 ≤ length after → Counted before u
-      → Name (vote_of_member a) u numbers after → Delivers built u numbers v lines → NoneDropped lines
+      → Name (vote_of_member a) u numbers after → Delivers u numbers v lines → NoneDropped lines
       → (earlier : List Line) × (lines ≡ earlier ++ Line.Heard a t.tx true ∷ []) × NoneHears a t.tx earlier
   all-voted numbers before [] u v lines is some c name d roomy = absurd (omega (arith, some))
   all-voted [] before (pair ∷ after) u v lines is some c name d roomy = absurd name
@@ -336,7 +331,7 @@ module _ (built : Built) (w : World) (a : ℕ) (t : Undecided) (members : List �
 
   -- where the centre has cells for the commit, none of the deliveries is dropped
   pub all-kept : (numbers : List ℕ) (before after : List (Choice × ℕ)) (u v : World) (lines : List Line) → order ≡ before ++ after → Counted before u
-      → Name (vote_of_member a) u numbers after → Delivers built u numbers v lines
+      → Name (vote_of_member a) u numbers after → Delivers u numbers v lines
       → cells_used (facts_of w.ledger a) + cells_needed (Fact.Heard t.tx (Outcome.Commit t.choices)) ≤ w.cluster.cells → NoneDropped lines
   all-kept [] before [] u v lines is c name d room = subst NoneDropped (sym d.1) tt
   all-kept (number ∷ numbers) before [] u v lines is c name d room = absurd name
@@ -347,11 +342,11 @@ module _ (built : Built) (w : World) (a : ℕ) (t : Undecided) (members : List �
       subst (λ ps. decision w.cluster.quorums (counting (centre_at w a).volatile.manager ps) t.tx ≡ Some (Outcome.Commit t.choices)) is
       (committed-with w.cluster.quorums (centre_at w a).volatile.manager t members order are undecided.uncounted choices quorum moved) in
       let own = (at-split before pair [] is).own in
-      let fits : is_without_room built u.cluster (facts_of u.ledger a) (Fact.Heard pair.0.tx (Outcome.Commit t.choices)) ≡ false =
-      ap (λ (es : List Entry). is_without_room built u.cluster (facts_of es a) (Fact.Heard pair.0.tx (Outcome.Commit t.choices))) c.ledger
-      ∙ ap (λ (k : Cluster). is_without_room built k (facts_of w.ledger a) (Fact.Heard pair.0.tx (Outcome.Commit t.choices))) c.cluster
-      ∙ ap (λ tx. is_without_room built w.cluster (facts_of w.ledger a) (Fact.Heard tx (Outcome.Commit t.choices))) own
-      ∙ room-fits built w.cluster (facts_of w.ledger a) (Fact.Heard t.tx (Outcome.Commit t.choices)) room in
+      let fits : is_without_room u.cluster (facts_of u.ledger a) (Fact.Heard pair.0.tx (Outcome.Commit t.choices)) ≡ false =
+      ap (λ (es : List Entry). is_without_room u.cluster (facts_of es a) (Fact.Heard pair.0.tx (Outcome.Commit t.choices))) c.ledger
+      ∙ ap (λ (k : Cluster). is_without_room k (facts_of w.ledger a) (Fact.Heard pair.0.tx (Outcome.Commit t.choices))) c.cluster
+      ∙ ap (λ tx. is_without_room w.cluster (facts_of w.ledger a) (Fact.Heard tx (Outcome.Commit t.choices))) own
+      ∙ room-fits w.cluster (facts_of w.ledger a) (Fact.Heard t.tx (Outcome.Commit t.choices)) room in
       let told = last-lines before pair [] is u c number next name.0 d.1 all fits in
       subst NoneDropped (sym (d.2.1 ∙ ap (λ rest. next.lines ++ rest) d.2.2.1 ∙ append-nil next.lines ∙ told)) (refl, (refl, tt))
   all-kept (number ∷ m ∷ numbers) before (pair ∷ []) u v lines is c name d room = absurd name.1

@@ -2,7 +2,6 @@
 use Rattle.std.proofs.Common.{◌≡◌, ℕ, zero, suc, ◌+◌, ◌-◌, ◌&&◌, Bool, true, false, cond, List, [], ◌∷◌, ◌++◌, refl, sym, ap, ◌∙◌, subst, inl, inr, map, option_map, slice_get, append_assoc, append-nil, Option, Some, None, Result, Ok, Err}
 use Rattle.std.proofs.lemmas.Bool.{cases_Bool}
 use Rattle.std.proofs.lemmas.List.{map-append}
-use Rattle.mdcc_switches.specs.Built.{Built}
 use Rattle.mdcc_language.specs.declared.lines.Line.{Line}
 use Rattle.mdcc_language.specs.declared.world.EventFault.{EventFault}
 use Rattle.mdcc_messages.specs.Mailbox.{Sent, numbered, unsent, with_delivered}
@@ -27,9 +26,9 @@ peel-up w a r x h = elim (cases_Bool (is_up_at w a)) [
   | inr e ↦ let bad : Err (EventFault.Down a) ≡ Ok x = rw e at h in absurd (cc)
 ]
 
-peel-events : {X : Type 0} (built : Built) (w : World) (r : Result X EventFault) (x : X) → within_events built w r ≡ Ok x → r ≡ Ok x
-peel-events built w (Ok y) x h = ap Ok (peel-unless (limit_if (is_past_events built w) LimitName.Events most_events) y x h)
-peel-events {X = X} built w (Err fault) x h = by (is_limit fault) (is_past_events built w) h
+peel-events : {X : Type 0} (w : World) (r : Result X EventFault) (x : X) → within_events w r ≡ Ok x → r ≡ Ok x
+peel-events w (Ok y) x h = ap Ok (peel-unless (limit_if (is_past_events w) LimitName.Events most_events) y x h)
+peel-events {X = X} w (Err fault) x h = by (is_limit fault) (is_past_events w) h
   where
     by : (b c : Bool) → cond (b && c) (Err (EventFault.Limit LimitName.Events most_events)) (Err fault) ≡ Ok x → Err fault ≡ Ok x
     by true true g = absurd (cc)
@@ -48,40 +47,40 @@ counted w number = record w { sent = with_delivered w.sent (number - 1); events 
 abbrev pub delivery_told : ℕ → Happened → Happened
 delivery_told number h = after_lines (deliver_line number h.world) h
 
-module _ (built : Built) (w : World) (number : ℕ) (envelope : Envelope) (next : Happened) (named : message_at w number ≡ Some envelope) (answer : delivery_of built w number ≡ Ok next) where
-  by_sent : (o : Option Sent) → option_map (λ (s : Sent). s.envelope) o ≡ Some envelope → delivery_by built w number o ≡ Ok next
-      → next ≡ delivery_told number (input_happened (counted w number) envelope.to (step_at built (counted w number) envelope.to (Input.Message envelope)))
+module _ (w : World) (number : ℕ) (envelope : Envelope) (next : Happened) (named : message_at w number ≡ Some envelope) (answer : delivery_of w number ≡ Ok next) where
+  by_sent : (o : Option Sent) → option_map (λ (s : Sent). s.envelope) o ≡ Some envelope → delivery_by w number o ≡ Ok next
+      → next ≡ delivery_told number (input_happened (counted w number) envelope.to (step_at (counted w number) envelope.to (Input.Message envelope)))
   by_sent None e g = absurd (cc)
   by_sent (Some sent) e g =
       let is : sent.envelope ≡ envelope = cc in
-      let h = subst (λ m. delivery_by built w number (Some (record { envelope = m; is_delivered = sent.is_delivered })) ≡ Ok next) is g in
+      let h = subst (λ m. delivery_by w number (Some (record { envelope = m; is_delivered = sent.is_delivered })) ≡ Ok next) is g in
       let after = counted w number in
-      let result = step_at built after envelope.to (Input.Message envelope) in
-      let parts = peel-lines (deliver_line number) (unless (step_limit built after envelope.to result) (input_happened after envelope.to result)) next
-      (peel-events built w _ next (peel-up w envelope.to _ next h)) in
-      parts.2 ∙ ap (delivery_told number) (sym (peel-unless (step_limit built after envelope.to result) (input_happened after envelope.to result) parts.0 parts.1))
+      let result = step_at after envelope.to (Input.Message envelope) in
+      let parts = peel-lines (deliver_line number) (unless (step_limit after envelope.to result) (input_happened after envelope.to result)) next
+      (peel-events w _ next (peel-up w envelope.to _ next h)) in
+      parts.2 ∙ ap (delivery_told number) (sym (peel-unless (step_limit after envelope.to result) (input_happened after envelope.to result) parts.0 parts.1))
 
   -- a delivery that is not refused is the step of the message's centre
-  pub delivery-told : next ≡ delivery_told number (input_happened (counted w number) envelope.to (step_at built (counted w number) envelope.to (Input.Message envelope)))
+  pub delivery-told : next ≡ delivery_told number (input_happened (counted w number) envelope.to (step_at (counted w number) envelope.to (Input.Message envelope)))
   delivery-told = by_sent (numbered w.sent number) named answer
 
 -- ---- a line of deliveries, unrolled
 
-abbrev pub Delivers : Built → World → List ℕ → World → List Line → Type 0
-Delivers built w [] after lines = (w ≡ after) × (lines ≡ [])
-Delivers built w (number ∷ numbers) after lines =
-    (next : Happened) × (delivery_of built w number ≡ Ok next) × ((rest : List Line) × (lines ≡ next.lines ++ rest) × Delivers built next.world numbers after rest)
+abbrev pub Delivers : World → List ℕ → World → List Line → Type 0
+Delivers w [] after lines = (w ≡ after) × (lines ≡ [])
+Delivers w (number ∷ numbers) after lines =
+    (next : Happened) × (delivery_of w number ≡ Ok next) × ((rest : List Line) × (lines ≡ next.lines ++ rest) × Delivers next.world numbers after rest)
 
-pub unrolled : (built : Built) (numbers : List ℕ) (h after : Happened) → deliveries_of built numbers h ≡ Ok after
-    → (lines : List Line) × (after.lines ≡ h.lines ++ lines) × Delivers built h.world numbers after.world lines
-unrolled built [] h after e = let same : h ≡ after = cc in ([], ap (λ (x : Happened). x.lines) (sym same) ∙ sym (append-nil h.lines), (ap (λ (x : Happened). x.world) same, refl))
-unrolled built (number ∷ numbers) h after e = by (λ next g. unrolled built numbers (after_lines h.lines next) after g) (delivery_of built h.world number) refl
+pub unrolled : (numbers : List ℕ) (h after : Happened) → deliveries_of numbers h ≡ Ok after
+    → (lines : List Line) × (after.lines ≡ h.lines ++ lines) × Delivers h.world numbers after.world lines
+unrolled [] h after e = let same : h ≡ after = cc in ([], ap (λ (x : Happened). x.lines) (sym same) ∙ sym (append-nil h.lines), (ap (λ (x : Happened). x.world) same, refl))
+unrolled (number ∷ numbers) h after e = by (λ next g. unrolled numbers (after_lines h.lines next) after g) (delivery_of h.world number) refl
   where
-    by : ((next : Happened) → deliveries_of built numbers (after_lines h.lines next) ≡ Ok after → (lines : List Line) × (after.lines ≡ (h.lines ++ next.lines) ++ lines) × Delivers built next.world numbers after.world lines)
-        → (r : Result Happened EventFault) → delivery_of built h.world number ≡ r → (lines : List Line) × (after.lines ≡ h.lines ++ lines) × Delivers built h.world (number ∷ numbers) after.world lines
+    by : ((next : Happened) → deliveries_of numbers (after_lines h.lines next) ≡ Ok after → (lines : List Line) × (after.lines ≡ (h.lines ++ next.lines) ++ lines) × Delivers next.world numbers after.world lines)
+        → (r : Result Happened EventFault) → delivery_of h.world number ≡ r → (lines : List Line) × (after.lines ≡ h.lines ++ lines) × Delivers h.world (number ∷ numbers) after.world lines
     by later (Err fault) g = let bad : Err fault ≡ Ok after = rw (g, deliveries_of) at e in absurd (cc)
     by later (Ok next) g =
-        let rest : deliveries_of built numbers (after_lines h.lines next) ≡ Ok after = rw (g, deliveries_of) at e in
+        let rest : deliveries_of numbers (after_lines h.lines next) ≡ Ok after = rw (g, deliveries_of) at e in
         let ih = later next rest in
         (next.lines ++ ih.0, ih.1 ∙ append_assoc h.lines next.lines ih.0, (next, g, (ih.0, refl, ih.2)))
 

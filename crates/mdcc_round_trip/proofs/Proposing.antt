@@ -1,5 +1,5 @@
 -- The proposals are delivered one after the other: each gives a vote, whatever their order.
-use Rattle.std.proofs.Common.{◌≡◌, ℕ, ◌+◌, ◌-◌, ◌≤◌, ◌==◌, ◌&&◌, Bool, true, false, cond, List, [], ◌∷◌, ◌++◌, refl, sym, ap, ◌∙◌, subst, inl, inr, arith, map, length, max, nat_lt, append_assoc, append-nil, get_or, Some, None, Ok, Err}
+use Rattle.std.proofs.Common.{◌≡◌, ℕ, ◌+◌, ◌-◌, ◌≤◌, ◌==◌, Bool, true, false, cond, List, [], ◌∷◌, ◌++◌, refl, sym, ap, ◌∙◌, subst, inl, inr, arith, map, length, max, nat_lt, append_assoc, append-nil, get_or, Some, None, Ok, Err}
 use Rattle.std.specs.List.{AllByRecursion, list_any}
 use Rattle.std.proofs.Math.Nat.{max-zero}
 use Rattle.std.proofs.lemmas.Bool.{cases_Bool, eq-eqb, eqb-true, le-ltb, true≢false}
@@ -11,7 +11,6 @@ use Rattle.mdcc_base.specs.declared.key.Key.{Key}
 use Rattle.mdcc_option.specs.declared.choices.Choice.{Choice}
 use Rattle.mdcc_option.specs.declared.choices.Mark.{Mark}
 use Rattle.mdcc_option.specs.declared.cluster.Cluster.{Cluster}
-use Rattle.mdcc_switches.specs.Built.{Built}
 use Rattle.mdcc_ledger.specs.Ledger.{Added, Entry, facts_of}
 use Rattle.mdcc_language.specs.declared.lines.Line.{Line}
 use Rattle.mdcc_messages.specs.declared.facts.Fact.{Fact}
@@ -40,10 +39,10 @@ use Rattle.mdcc_round_trip.proofs.Lists.{each-any, each-append, each-back, each-
 pub number-same : (n : ℕ) → (n == n) ≡ true
 number-same n = eq-eqb n n refl
 
-proposal-step : (built : Built) (cluster : Cluster) (a : ℕ) (facts : List Fact) (volatile : Volatile) (pair : Choice × ℕ)
-    → built.proposals ≡ true → is_centre cluster a ≡ true → choice_belongs cluster pair.0 ≡ true → IsAccepted cluster facts pair.0
-    → step_of built cluster pair.1 facts volatile (Input.Message (proposal_of a pair)) ≡ vote_if_roomy built cluster facts volatile a pair
-proposal-step built cluster a facts volatile pair enabled centre belongs accepted = rw (number-same pair.1, centre, belongs, enabled, accepted) refl
+proposal-step : (cluster : Cluster) (a : ℕ) (facts : List Fact) (volatile : Volatile) (pair : Choice × ℕ)
+    → is_centre cluster a ≡ true → choice_belongs cluster pair.0 ≡ true → IsAccepted cluster facts pair.0
+    → step_of cluster pair.1 facts volatile (Input.Message (proposal_of a pair)) ≡ vote_if_roomy cluster facts volatile a pair
+proposal-step cluster a facts volatile pair centre belongs accepted = rw (number-same pair.1, centre, belongs, accepted) refl
 
 any-alike : {X : Type 0} (p q : X → Bool) (xs : List X) → ((x : X) → p x ≡ q x) → list_any p xs ≡ list_any q xs
 any-alike p q [] h = refl
@@ -56,16 +55,12 @@ voted-crowding facts choice fact =
     (λ key. ap (λ n. nat_lt 64 (length (deltas_at (fact ∷ facts) key (max n (version_from key fact))))) (max-zero (current_of facts key)))
 
 -- a fact that lies in the cells with the others has room
-pub room-fits : (built : Built) (cluster : Cluster) (facts : List Fact) (fact : Fact) → cells_used facts + cells_needed fact ≤ cluster.cells → is_without_room built cluster facts fact ≡ false
-room-fits built cluster facts fact h =
-    by built.limit_on_cells (nat_lt (cells_spare cluster facts) (cells_needed fact)) (le-ltb (cells_spare cluster facts) (cells_needed fact) (spare (cells_used facts) (cells_needed fact) cluster.cells h))
+pub room-fits : (cluster : Cluster) (facts : List Fact) (fact : Fact) → cells_used facts + cells_needed fact ≤ cluster.cells → is_without_room cluster facts fact ≡ false
+room-fits cluster facts fact h =
+    le-ltb (cells_spare cluster facts) (cells_needed fact) (spare (cells_used facts) (cells_needed fact) cluster.cells h)
   where
     spare : (used needed all : ℕ) → used + needed ≤ all → needed ≤ all - used
     spare used needed all h = omega (arith, h)
-
-    by : (limited lacks : Bool) → lacks ≡ false → (limited && lacks) ≡ false
-    by true lacks e = e
-    by false lacks e = refl
 
 -- ---- the world after some proposals
 
@@ -88,7 +83,7 @@ NoneDropped lines = AllByRecursion (λ line. is_dropped line ≡ false) lines
 abbrev pub NoneHears : ℕ → TxId → List Line → Type 0
 NoneHears a tx lines = AllByRecursion (λ line. is_hearing a tx line ≡ false) lines
 
-module _ (built : Built) (a : ℕ) (tx : TxId) (enabled : built.proposals ≡ true) where
+module _ (a : ℕ) (tx : TxId) where
   -- one proposal that was delivered
   pub record Proposed (w : World) (pair : Choice × ℕ) (next : Happened) : Type 0 where
     pub cluster : next.world.cluster ≡ w.cluster
@@ -100,20 +95,20 @@ module _ (built : Built) (a : ℕ) (tx : TxId) (enabled : built.proposals ≡ tr
 
   -- the member has cells for the vote
   abbrev pub HasRoom : World → Choice × ℕ → Type 0
-  HasRoom w pair = is_without_room built w.cluster (facts_of w.ledger pair.1) (accepting_fact pair.0) ≡ false
+  HasRoom w pair = is_without_room w.cluster (facts_of w.ledger pair.1) (accepting_fact pair.0) ≡ false
 
   module _ (w : World) (number : ℕ) (pair : Choice × ℕ) (next : Happened) (centre : is_centre w.cluster a ≡ true) (h : Accepts w pair)
-      (named : message_at w number ≡ Some (proposal_of a pair)) (answer : delivery_of built w number ≡ Ok next) where
-    told : next ≡ delivery_told number (input_happened (counted w number) pair.1 (vote_if_roomy built w.cluster (facts_of w.ledger pair.1) (centre_at w pair.1).volatile a pair))
+      (named : message_at w number ≡ Some (proposal_of a pair)) (answer : delivery_of w number ≡ Ok next) where
+    told : next ≡ delivery_told number (input_happened (counted w number) pair.1 (vote_if_roomy w.cluster (facts_of w.ledger pair.1) (centre_at w pair.1).volatile a pair))
     told =
-        delivery-told built w number (proposal_of a pair) next named answer
-        ∙ ap (λ r. delivery_told number (input_happened (counted w number) pair.1 r)) (proposal-step built w.cluster a (facts_of w.ledger pair.1) (centre_at w pair.1).volatile pair enabled centre h.belongs h.accepted)
+        delivery-told w number (proposal_of a pair) next named answer
+        ∙ ap (λ r. delivery_told number (input_happened (counted w number) pair.1 r)) (proposal-step w.cluster a (facts_of w.ledger pair.1) (centre_at w pair.1).volatile pair centre h.belongs h.accepted)
 
     -- so it is where nothing is dropped
     pub roomy-undropped : NoneDropped next.lines → HasRoom w pair
-    roomy-undropped roomy = by (is_without_room built w.cluster (facts_of w.ledger pair.1) (accepting_fact pair.0)) refl
+    roomy-undropped roomy = by (is_without_room w.cluster (facts_of w.ledger pair.1) (accepting_fact pair.0)) refl
       where
-        by : (b : Bool) → is_without_room built w.cluster (facts_of w.ledger pair.1) (accepting_fact pair.0) ≡ b → b ≡ false
+        by : (b : Bool) → is_without_room w.cluster (facts_of w.ledger pair.1) (accepting_fact pair.0) ≡ b → b ≡ false
         by true e =
             let is : next.lines ≡ (delivery_told number (input_happened (counted w number) pair.1 (Err (StepFault.NoRoom (cells_needed (accepting_fact pair.0)) (cells_spare w.cluster (facts_of w.ledger pair.1)))))).lines = ap (λ (x : Happened). x.lines) told ∙ rw e refl in
             let kept = subst NoneDropped is roomy in absurd (true≢false kept.1.0)
@@ -198,7 +193,7 @@ module _ (built : Built) (a : ℕ) (tx : TxId) (enabled : built.proposals ≡ tr
   rest-once pair order once key member = let all = once key member in omega (arith, all)
 
   pub all-proposed : (numbers : List ℕ) (order : List (Choice × ℕ)) (w v : World) (lines : List Line) → is_centre w.cluster a ≡ true → Name (proposal_of a) w numbers order
-      → AllByRecursion (Accepts w) order → AreOnce order → Delivers built w numbers v lines → NoneDropped lines
+      → AllByRecursion (Accepts w) order → AreOnce order → Delivers w numbers v lines → NoneDropped lines
       → After w v (map (vote_of_member a) order) × NoneHears a tx lines
   all-proposed [] [] w v lines centre name accept once d roomy = (
     record {

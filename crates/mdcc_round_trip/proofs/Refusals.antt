@@ -5,7 +5,6 @@ use Rattle.std.specs.Option.{option_or}
 use Rattle.std.proofs.Math.Seq.{map-set_same}
 use Rattle.mdcc_base.specs.declared.outside.Image.{Image}
 use Rattle.mdcc_option.specs.declared.cluster.Cluster.{Cluster}
-use Rattle.mdcc_switches.specs.Built.{Built}
 use Rattle.mdcc_language.specs.declared.lines.Line.{Line}
 use Rattle.mdcc_language.specs.declared.world.EventFault.{EventFault}
 use Rattle.mdcc_language.specs.declared.world.LimitName.{LimitName}
@@ -45,15 +44,15 @@ limit-unless_some : (b : Bool) (o : Option EventFault) → AreLimits o → AreLi
 limit-unless_some true o h fault e = absurd (cc)
 limit-unless_some false o h fault e = h fault e
 
-limit-step : (built : Built) (w : World) (a : ℕ) (r : Result NodeStep StepFault) → AreLimits (step_limit built w a r)
-limit-step built w a (Err f) = λ fault e. absurd (cc)
-limit-step built w a (Ok step) = by step.fact
+limit-step : (w : World) (a : ℕ) (r : Result NodeStep StepFault) → AreLimits (step_limit w a r)
+limit-step w a (Err f) = λ fault e. absurd (cc)
+limit-step w a (Ok step) = by step.fact
   where
-    by : (o : Option Fact) → AreLimits (step_limit_by built w a step o)
+    by : (o : Option Fact) → AreLimits (step_limit_by w a step o)
     by None = limit-if _ _ _
     by (Some fact) =
-        limit-or (log_limit built w a fact) (cond (is_some (centre_at w a).stop) None (bytes_limit built w step.sends)) (limit-if _ _ _)
-        (limit-unless_some (is_some (centre_at w a).stop) (bytes_limit built w step.sends) (limit-if _ _ _))
+        limit-or (log_limit w a fact) (cond (is_some (centre_at w a).stop) None (bytes_limit w step.sends)) (limit-if _ _ _)
+        (limit-unless_some (is_some (centre_at w a).stop) (bytes_limit w step.sends) (limit-if _ _ _))
 
 limit-unless : {X : Type 0} (o : Option EventFault) (x : X) (fault : EventFault) → AreLimits o → unless o x ≡ Err fault → is_limit fault ≡ true
 limit-unless None x fault h e = absurd (cc)
@@ -63,26 +62,26 @@ limit-lines : (lines : World → List Line) (r : Result Happened EventFault) (fa
 limit-lines lines (Ok h) fault g e = absurd (cc)
 limit-lines lines (Err f) fault g e = let is : f ≡ fault = cc in subst (λ k. is_limit k ≡ true) is (g f refl)
 
-limit-events : {X : Type 0} (built : Built) (w : World) (r : Result X EventFault) (fault : EventFault) → ((f : EventFault) → r ≡ Err f → is_limit f ≡ true) → within_events built w r ≡ Err fault → is_limit fault ≡ true
-limit-events built w (Ok x) fault g e = limit-unless (limit_if (is_past_events built w) LimitName.Events most_events) x fault (limit-if (is_past_events built w) LimitName.Events most_events) e
-limit-events {X = X} built w (Err f) fault g e = by (is_limit f && is_past_events built w) e
+limit-events : {X : Type 0} (w : World) (r : Result X EventFault) (fault : EventFault) → ((f : EventFault) → r ≡ Err f → is_limit f ≡ true) → within_events w r ≡ Err fault → is_limit fault ≡ true
+limit-events w (Ok x) fault g e = limit-unless (limit_if (is_past_events w) LimitName.Events most_events) x fault (limit-if (is_past_events w) LimitName.Events most_events) e
+limit-events {X = X} w (Err f) fault g e = by (is_limit f && is_past_events w) e
   where
     by : (b : Bool) → cond b (refused {X = X} (EventFault.Limit LimitName.Events most_events)) (refused f) ≡ Err fault → is_limit fault ≡ true
     by true k = let is : EventFault.Limit LimitName.Events most_events ≡ fault = cc in subst (λ h. is_limit h ≡ true) is refl
     by false k = let is : f ≡ fault = cc in subst (λ h. is_limit h ≡ true) is (g f refl)
 
-delivery-limit : (built : Built) (w : World) (number : ℕ) (envelope : Envelope) (fault : EventFault) → message_at w number ≡ Some envelope → is_up_at w envelope.to ≡ true
-    → delivery_of built w number ≡ Err fault → is_limit fault ≡ true
-delivery-limit built w number envelope fault at up answer = by (numbered w.sent number) at answer
+delivery-limit : (w : World) (number : ℕ) (envelope : Envelope) (fault : EventFault) → message_at w number ≡ Some envelope → is_up_at w envelope.to ≡ true
+    → delivery_of w number ≡ Err fault → is_limit fault ≡ true
+delivery-limit w number envelope fault at up answer = by (numbered w.sent number) at answer
   where
-    by : (o : Option Sent) → option_map (λ (s : Sent). s.envelope) o ≡ Some envelope → delivery_by built w number o ≡ Err fault → is_limit fault ≡ true
+    by : (o : Option Sent) → option_map (λ (s : Sent). s.envelope) o ≡ Some envelope → delivery_by w number o ≡ Err fault → is_limit fault ≡ true
     by None e g = absurd (cc)
     by (Some sent) e g =
         let is : sent.envelope ≡ envelope = cc in
-        let h = subst (λ m. delivery_by built w number (Some (record { envelope = m; is_delivered = sent.is_delivered })) ≡ Err fault) is g in
-        let result = step_at built (counted w number) envelope.to (Input.Message envelope) in
-        let told : within_events built w (with_lines (deliver_line number) (unless (step_limit built (counted w number) envelope.to result) (input_happened (counted w number) envelope.to result))) ≡ Err fault = rw up at h in
-        limit-events built w _ fault (λ f k. limit-lines (deliver_line number) _ f (λ m j. limit-unless _ _ m (limit-step built (counted w number) envelope.to result) j) k) told
+        let h = subst (λ m. delivery_by w number (Some (record { envelope = m; is_delivered = sent.is_delivered })) ≡ Err fault) is g in
+        let result = step_at (counted w number) envelope.to (Input.Message envelope) in
+        let told : within_events w (with_lines (deliver_line number) (unless (step_limit (counted w number) envelope.to result) (input_happened (counted w number) envelope.to result))) ≡ Err fault = rw up at h in
+        limit-events w _ fault (λ f k. limit-lines (deliver_line number) _ f (λ m j. limit-unless _ _ m (limit-step (counted w number) envelope.to result) j) k) told
 
 -- ---- what deliveries leave
 
@@ -135,23 +134,23 @@ still-up w v message l h =
       unstopped = ap (λ (p : Bool × Option (ℕ × Image)). p.1) same ∙ h.unstopped;
     }
 
-deliveries-limit : (built : Built) (numbers : List ℕ) (messages : List Envelope) (h : Happened) (fault : EventFault) → Name (λ (m : Envelope). m) h.world numbers messages → AllByRecursion (GoesUp h.world) messages
-    → deliveries_of built numbers h ≡ Err fault → is_limit fault ≡ true
-deliveries-limit built [] messages h fault name ups e = absurd (cc)
-deliveries-limit built (number ∷ numbers) [] h fault name ups e = absurd name
-deliveries-limit built (number ∷ numbers) (m ∷ messages) h fault name ups e =
-    by (λ next n u k. deliveries-limit built numbers messages (after_lines h.lines next) fault n u k) (delivery_of built h.world number) refl
+deliveries-limit : (numbers : List ℕ) (messages : List Envelope) (h : Happened) (fault : EventFault) → Name (λ (m : Envelope). m) h.world numbers messages → AllByRecursion (GoesUp h.world) messages
+    → deliveries_of numbers h ≡ Err fault → is_limit fault ≡ true
+deliveries-limit [] messages h fault name ups e = absurd (cc)
+deliveries-limit (number ∷ numbers) [] h fault name ups e = absurd name
+deliveries-limit (number ∷ numbers) (m ∷ messages) h fault name ups e =
+    by (λ next n u k. deliveries-limit numbers messages (after_lines h.lines next) fault n u k) (delivery_of h.world number) refl
   where
-    by : ((next : Happened) → Name (λ (x : Envelope). x) next.world numbers messages → AllByRecursion (GoesUp next.world) messages → deliveries_of built numbers (after_lines h.lines next) ≡ Err fault → is_limit fault ≡ true)
-        → (r : Result Happened EventFault) → delivery_of built h.world number ≡ r → is_limit fault ≡ true
+    by : ((next : Happened) → Name (λ (x : Envelope). x) next.world numbers messages → AllByRecursion (GoesUp next.world) messages → deliveries_of numbers (after_lines h.lines next) ≡ Err fault → is_limit fault ≡ true)
+        → (r : Result Happened EventFault) → delivery_of h.world number ≡ r → is_limit fault ≡ true
     by later (Err f) g =
         let same : Err f ≡ Err fault = rw (g, deliveries_of) at e in
         let is : f ≡ fault = cc in
-        subst (λ k. is_limit k ≡ true) is (delivery-limit built h.world number m f name.0 ups.0.up g)
+        subst (λ k. is_limit k ≡ true) is (delivery-limit h.world number m f name.0 ups.0.up g)
     by later (Ok next) g =
-        let rest : deliveries_of built numbers (after_lines h.lines next) ≡ Err fault = rw (g, deliveries_of) at e in
-        let told = delivery-told built h.world number m next name.0 g in
-        let left = subst (λ (x : Happened). Leaves h.world x.world) (sym told) (left-by h.world number m.to (step_at built (counted h.world number) m.to (Input.Message m)) ups.0.unstopped) in
+        let rest : deliveries_of numbers (after_lines h.lines next) ≡ Err fault = rw (g, deliveries_of) at e in
+        let told = delivery-told h.world number m next name.0 g in
+        let left = subst (λ (x : Happened). Leaves h.world x.world) (sym told) (left-by h.world number m.to (step_at (counted h.world number) m.to (Input.Message m)) ups.0.unstopped) in
         later next (name-more (λ (x : Envelope). x) h.world next.world left.sends numbers messages left.messages name.1)
         (each-weaker (GoesUp h.world) (GoesUp next.world) messages (λ x up. still-up h.world next.world x left up) ups.1) rest
 
@@ -159,8 +158,8 @@ map-same : (ms : List Envelope) → map (λ (m : Envelope). m) ms ≡ ms
 map-same [] = refl
 map-same (m ∷ ms) = ap (λ xs. m ∷ xs) (map-same ms)
 
-pub only-limits : (built : Built) (w : World) (numbers : List ℕ) (messages : List Envelope) (fault : EventFault) → map (message_at w) numbers ≡ map Some messages → AllByRecursion (GoesUp w) messages
-    → deliveries_of built numbers (record { world = w; lines = [] }) ≡ Err fault → is_limit fault ≡ true
-only-limits built w numbers messages fault are ups e =
-    deliveries-limit built numbers messages (record { world = w; lines = [] }) fault
+pub only-limits : (w : World) (numbers : List ℕ) (messages : List Envelope) (fault : EventFault) → map (message_at w) numbers ≡ map Some messages → AllByRecursion (GoesUp w) messages
+    → deliveries_of numbers (record { world = w; lines = [] }) ≡ Err fault → is_limit fault ≡ true
+only-limits w numbers messages fault are ups e =
+    deliveries-limit numbers messages (record { world = w; lines = [] }) fault
     (named (λ (m : Envelope). m) w numbers messages (are ∙ ap (map Some) (sym (map-same messages)))) ups e

@@ -12,7 +12,6 @@ use Rattle.mdcc_option.specs.declared.cluster.Cluster.{Cluster}
 use Rattle.mdcc_base.specs.declared.identifiers.TxId.{TxId}
 use Rattle.mdcc_protocol.specs.Belongs.{is_centre}
 use Rattle.mdcc_simulation.specs.State.{Happened, World}
-use Rattle.mdcc_switches.specs.Built.{Built}
 use Rattle.mdcc_round_trip.specs.Cells.{cells_of_votes}
 use Rattle.mdcc_round_trip.specs.Messages.{accepting_fact, each_with, proposal_of, vote_of_member}
 use Rattle.mdcc_round_trip.specs.RoundTrips.{is_dropped}
@@ -34,9 +33,9 @@ votes_at m order = sum_over (cells_at m) order
 abbrev pub Fits : World → List (Choice × ℕ) → Choice × ℕ → Type 0
 Fits w order pair = cells_used (facts_of w.ledger pair.1) + votes_at pair.1 order ≤ w.cluster.cells
 
-module _ (built : Built) (a : ℕ) (tx : TxId) (enabled : built.proposals ≡ true) where
+module _ (a : ℕ) (tx : TxId) where
   -- what is used and what is still needed stays the same
-  total-same : (w : World) (pair : Choice × ℕ) (next : Happened) (order : List (Choice × ℕ)) → Proposed built a tx enabled w pair next → (m : ℕ)
+  total-same : (w : World) (pair : Choice × ℕ) (next : Happened) (order : List (Choice × ℕ)) → Proposed a tx w pair next → (m : ℕ)
       → cells_used (facts_of next.world.ledger m) + votes_at m order ≡ cells_used (facts_of w.ledger m) + votes_at m (pair ∷ order)
   total-same w pair next order d m = ap (λ (es : List Entry). cells_used (facts_of es m) + votes_at m order) d.ledger ∙ by (pair.1 == m)
     where
@@ -52,7 +51,7 @@ module _ (built : Built) (a : ℕ) (tx : TxId) (enabled : built.proposals ≡ tr
       by false = none (cells_used (facts_of w.ledger m)) (votes_at m order)
 
   pub all-roomy : (numbers : List ℕ) (order : List (Choice × ℕ)) (w v : World) (lines : List Line) → is_centre w.cluster a ≡ true → Name (proposal_of a) w numbers order
-      → AllByRecursion (Accepts w) order → AreOnce built a tx enabled order → AllByRecursion (Fits w order) order → Delivers built w numbers v lines
+      → AllByRecursion (Accepts w) order → AreOnce a tx order → AllByRecursion (Fits w order) order → Delivers w numbers v lines
       → NoneDropped lines × ((m : ℕ) → cells_used (facts_of v.ledger m) ≡ cells_used (facts_of w.ledger m) + votes_at m order)
   all-roomy [] [] w v lines centre name accept once fits d = (
     subst NoneDropped (sym d.1) tt,
@@ -67,14 +66,14 @@ module _ (built : Built) (a : ℕ) (tx : TxId) (enabled : built.proposals ≡ tr
       let next = d.0 in
       let own : votes_at pair.1 (pair ∷ order) ≡ cells_needed (accepting_fact pair.0) + votes_at pair.1 order =
       ap (λ c. cond c (cells_needed (accepting_fact pair.0)) 0 + votes_at pair.1 order) (number-same pair.1) in
-      let room = room-fits built w.cluster (facts_of w.ledger pair.1) (accepting_fact pair.0)
+      let room = room-fits w.cluster (facts_of w.ledger pair.1) (accepting_fact pair.0)
       (first (cells_used (facts_of w.ledger pair.1)) (cells_needed (accepting_fact pair.0)) (votes_at pair.1 order) (votes_at pair.1 (pair ∷ order)) w.cluster.cells own fits.0) in
-      let one = proposed built a tx enabled w number pair next centre accept.0 name.0 d.1 room in
+      let one = proposed a tx w number pair next centre accept.0 name.0 d.1 room in
       let ih = all-roomy numbers order next.world v d.2.0 (subst (λ (c : Cluster). is_centre c a ≡ true) (sym one.cluster) centre)
       (name-more (proposal_of a) w next.world (vote_of_member a pair ∷ []) numbers order one.messages name.1)
-      (each-weaker (λ other. Accepts w other × (of_both pair.0.key pair.1 other ≡ false)) (Accepts next.world) order (λ other h. still built a tx enabled w pair next one other h.0 h.1)
-      (each-both (Accepts w) (λ other. of_both pair.0.key pair.1 other ≡ false) order accept.1 (first-apart built a tx enabled pair order once)))
-      (rest-once built a tx enabled pair order once)
+      (each-weaker (λ other. Accepts w other × (of_both pair.0.key pair.1 other ≡ false)) (Accepts next.world) order (λ other h. still a tx w pair next one other h.0 h.1)
+      (each-both (Accepts w) (λ other. of_both pair.0.key pair.1 other ≡ false) order accept.1 (first-apart a tx pair order once)))
+      (rest-once a tx pair order once)
       (each-weaker (Fits w (pair ∷ order)) (Fits next.world order) order (λ other h. fits-next one other h) fits.1) d.2.2 in (
         subst NoneDropped (sym d.2.1) (each-append (λ line. is_dropped line ≡ false) next.lines d.2.0 one.undropped ih.0),
         λ m. ih.1 m ∙ total-same w pair next order one m,
@@ -83,7 +82,7 @@ module _ (built : Built) (a : ℕ) (tx : TxId) (enabled : built.proposals ≡ tr
       first : (used needed rest all cells : ℕ) → all ≡ needed + rest → used + all ≤ cells → used + needed ≤ cells
       first used needed rest all cells e h = omega (arith, e, h)
 
-      fits-next : Proposed built a tx enabled w pair d.0 → (other : Choice × ℕ) → Fits w (pair ∷ order) other → Fits d.0.world order other
+      fits-next : Proposed a tx w pair d.0 → (other : Choice × ℕ) → Fits w (pair ∷ order) other → Fits d.0.world order other
       fits-next one other h =
           subst (λ (c : Cluster). cells_used (facts_of d.0.world.ledger other.1) + votes_at other.1 order ≤ c.cells) (sym one.cluster)
           (subst (λ n. n ≤ w.cluster.cells) (sym (total-same w pair d.0 order one other.1)) h)

@@ -8,7 +8,6 @@ use Rattle.mdcc_messages.specs.Lengths.{cells_needed, cells_used}
 use Rattle.mdcc_option.specs.declared.choices.Choice.{Choice}
 use Rattle.mdcc_option.specs.declared.cluster.Cluster.{Cluster}
 use Rattle.mdcc_option.specs.declared.choices.Outcome.{Outcome}
-use Rattle.mdcc_switches.specs.Built.{Built}
 use Rattle.mdcc_ledger.specs.Ledger.{facts_of}
 use Rattle.mdcc_language.specs.declared.lines.Line.{Line}
 use Rattle.mdcc_messages.specs.declared.facts.Fact.{Fact}
@@ -42,7 +41,7 @@ some-pair [] members some any = absurd (omega (arith, some))
 some-pair (c ∷ cs) [] some any = absurd (omega (arith, any))
 some-pair (c ∷ cs) (m ∷ ms) some any = omega arith
 
-module _ (built : Built) (w : World) (a : ℕ) (t : Undecided) (members : List ℕ) (first second : Happened) (ready : IsReady built w a t members) (trip : AreDelivered built w a t members first second) where
+module _ (w : World) (a : ℕ) (t : Undecided) (members : List ℕ) (first second : Happened) (ready : IsReady w a t members) (trip : AreDelivered w a t members first second) where
   accepting : AllByRecursion (Accepts w) trip.asked
   accepting =
       each-permuted (Accepts w) (each_with t.choices members) trip.asked trip.asks_each
@@ -64,18 +63,18 @@ module _ (built : Built) (w : World) (a : ℕ) (t : Undecided) (members : List �
       (each-both (λ (c : Choice). (c.tx ≡ t.tx) × IsIn c t.choices) (λ (c : Choice). choice_belongs w.cluster c ≡ true) t.choices
       (each-both (λ (c : Choice). c.tx ≡ t.tx) (λ c. IsIn c t.choices) t.choices ready.choices.own (in-each t.choices)) ready.belong)) ready.accept)))
 
-  asking : (lines : List Line) × (first.lines ≡ lines) × Delivers built w trip.proposals first.world lines
-  asking = unrolled built trip.proposals (record { world = w; lines = [] }) first trip.proposed
+  asking : (lines : List Line) × (first.lines ≡ lines) × Delivers w trip.proposals first.world lines
+  asking = unrolled trip.proposals (record { world = w; lines = [] }) first trip.proposed
 
-  answering : (lines : List Line) × (second.lines ≡ lines) × Delivers built first.world trip.votes second.world lines
-  answering = unrolled built trip.votes (record { world = first.world; lines = [] }) second trip.voted
+  answering : (lines : List Line) × (second.lines ≡ lines) × Delivers first.world trip.votes second.world lines
+  answering = unrolled trip.votes (record { world = first.world; lines = [] }) second trip.voted
 
   -- ---- where no proposal is dropped
 
   module _ (kept : NoneDropped asking.0) where
     after-asking : After w first.world (map (vote_of_member a) trip.asked) × NoneHears a t.tx asking.0
     after-asking =
-        all-proposed built a t.tx ready.enabled trip.proposals trip.asked w first.world asking.0 ready.undecided.centre
+        all-proposed a t.tx trip.proposals trip.asked w first.world asking.0 ready.undecided.centre
         (named (proposal_of a) w trip.proposals trip.asked trip.proposals_are) accepting
         (ordered-once t.choices members trip.asked trip.asks_each ready.choices.apart ready.quorum.apart) asking.2
         kept
@@ -117,9 +116,9 @@ module _ (built : Built) (w : World) (a : ℕ) (t : Undecided) (members : List �
           let quorum = subst (λ (c : Cluster). IsFastQuorum c.quorums members) (sym after.cluster) ready.quorum in
           let voted = subst (λ (c : Cluster). AllByRecursion (IsVoted c t) trip.answered) (sym after.cluster) voting in
           let once = ordered-once t.choices members trip.answered trip.answers_each ready.choices.apart ready.quorum.apart in
-          all-voted built first.world a t members trip.answered ready.enabled are sites undecided-then ready.choices quorum trip.answers_each voted once
+          all-voted first.world a t members trip.answered are sites undecided-then ready.choices quorum trip.answers_each voted once
           trip.votes [] trip.answered first.world second.world answering.0 refl some-answered
-          (nothing-counted built first.world a t members trip.answered ready.enabled are sites undecided-then ready.choices quorum trip.answers_each voted once)
+          (nothing-counted first.world a t members trip.answered are sites undecided-then ready.choices quorum trip.answers_each voted once)
           (named (vote_of_member a) first.world trip.votes trip.answered trip.votes_are) answering.2
           kept-answers
 
@@ -142,9 +141,9 @@ module _ (built : Built) (w : World) (a : ℕ) (t : Undecided) (members : List �
         let voted = subst (λ (c : Cluster). AllByRecursion (IsVoted c t) trip.answered) (sym after.cluster) voting in
         let once = ordered-once t.choices members trip.answered trip.answers_each ready.choices.apart ready.quorum.apart in
         let here = subst (λ (c : Cluster). cells_used (facts_of first.world.ledger a) + cells_needed (Fact.Heard t.tx (Outcome.Commit t.choices)) ≤ c.cells) (sym after.cluster) room in
-        all-kept built first.world a t members trip.answered ready.enabled are sites undecided-then ready.choices quorum trip.answers_each voted once
+        all-kept first.world a t members trip.answered are sites undecided-then ready.choices quorum trip.answers_each voted once
         trip.votes [] trip.answered first.world second.world answering.0 refl
-        (nothing-counted built first.world a t members trip.answered ready.enabled are sites undecided-then ready.choices quorum trip.answers_each voted once)
+        (nothing-counted first.world a t members trip.answered are sites undecided-then ready.choices quorum trip.answers_each voted once)
         (named (vote_of_member a) first.world trip.votes trip.answered trip.votes_are) answering.2 here
 
   -- ---- where there are cells
@@ -155,7 +154,7 @@ module _ (built : Built) (w : World) (a : ℕ) (t : Undecided) (members : List �
 
     roomy : NoneDropped asking.0 × ((m : ℕ) → cells_used (facts_of first.world.ledger m) ≡ cells_used (facts_of w.ledger m) + votes_at m trip.asked)
     roomy =
-        all-roomy built a t.tx ready.enabled trip.proposals trip.asked w first.world asking.0 ready.undecided.centre
+        all-roomy a t.tx trip.proposals trip.asked w first.world asking.0 ready.undecided.centre
         (named (proposal_of a) w trip.proposals trip.asked trip.proposals_are) accepting
         (ordered-once t.choices members trip.asked trip.asks_each ready.choices.apart ready.quorum.apart)
         (fitting w t.choices members trip.asked trip.asks_each member-once have.votes) asking.2
@@ -176,21 +175,21 @@ module _ (built : Built) (w : World) (a : ℕ) (t : Undecided) (members : List �
 
 -- ---- as the laws say it
 
-module _ (built : Built) (w : World) (a : ℕ) (t : Undecided) (members : List ℕ) (first second : Happened) (ready : IsReady built w a t members) where
-  asking-kept : (trip : IsRoundTrip built w a t members first second) → NoneDropped (asking built w a t members first second ready trip.deliveries).0
-  asking-kept trip = subst NoneDropped (asking built w a t members first second ready trip.deliveries).1 (each-front (λ line. is_dropped line ≡ false) first.lines second.lines trip.undropped)
+module _ (w : World) (a : ℕ) (t : Undecided) (members : List ℕ) (first second : Happened) (ready : IsReady w a t members) where
+  asking-kept : (trip : IsRoundTrip w a t members first second) → NoneDropped (asking w a t members first second ready trip.deliveries).0
+  asking-kept trip = subst NoneDropped (asking w a t members first second ready trip.deliveries).1 (each-front (λ line. is_dropped line ≡ false) first.lines second.lines trip.undropped)
 
-  answering-kept : (trip : IsRoundTrip built w a t members first second) → NoneDropped (answering built w a t members first second ready trip.deliveries).0
-  answering-kept trip = subst NoneDropped (answering built w a t members first second ready trip.deliveries).1 (each-back (λ line. is_dropped line ≡ false) first.lines second.lines trip.undropped)
+  answering-kept : (trip : IsRoundTrip w a t members first second) → NoneDropped (answering w a t members first second ready trip.deliveries).0
+  answering-kept trip = subst NoneDropped (answering w a t members first second ready trip.deliveries).1 (each-back (λ line. is_dropped line ≡ false) first.lines second.lines trip.undropped)
 
-  pub votes-sent : (trip : IsRoundTrip built w a t members first second) → messages_of first.world ≡ messages_of w ++ map (vote_of_member a) trip.deliveries.asked
-  votes-sent trip = sent built w a t members first second ready trip.deliveries (asking-kept trip)
+  pub votes-sent : (trip : IsRoundTrip w a t members first second) → messages_of first.world ≡ messages_of w ++ map (vote_of_member a) trip.deliveries.asked
+  votes-sent trip = sent w a t members first second ready trip.deliveries (asking-kept trip)
 
-  pub ends-with-commit : IsRoundTrip built w a t members first second → EndsWithCommit a t.tx first.lines second.lines
-  ends-with-commit trip = ends built w a t members first second ready trip.deliveries (asking-kept trip) (answering-kept trip)
+  pub ends-with-commit : IsRoundTrip w a t members first second → EndsWithCommit a t.tx first.lines second.lines
+  ends-with-commit trip = ends w a t members first second ready trip.deliveries (asking-kept trip) (answering-kept trip)
 
-  pub cells-suffice : HaveCells w a t members → AreDelivered built w a t members first second → NoneDropped (first.lines ++ second.lines)
-  cells-suffice have trip = none-dropped built w a t members first second ready trip have
+  pub cells-suffice : HaveCells w a t members → AreDelivered w a t members first second → NoneDropped (first.lines ++ second.lines)
+  cells-suffice have trip = none-dropped w a t members first second ready trip have
 
-  pub roomy-commits : HaveCells w a t members → AreDelivered built w a t members first second → EndsWithCommit a t.tx first.lines second.lines
+  pub roomy-commits : HaveCells w a t members → AreDelivered w a t members first second → EndsWithCommit a t.tx first.lines second.lines
   roomy-commits have trip = ends-with-commit (record { deliveries = trip; undropped = cells-suffice have trip })

@@ -7,7 +7,6 @@ use Rattle.mdcc_base.specs.Key.{key_eq, key_lt}
 use Rattle.mdcc_base.specs.TxId.{tx_eq}
 use Rattle.mdcc_base.specs.declared.identifiers.TxId.{TxId}
 use Rattle.mdcc_option.specs.declared.choices.Choice.{Choice}
-use Rattle.mdcc_switches.specs.Built.{Built}
 use Rattle.mdcc_messages.specs.WellFormedParts.{IsWellFormedCommit, IsWellFormedOf, choice_lt, is_ascending_by}
 use Rattle.mdcc_protocol.specs.Volatile.{Undecided}
 use Rattle.mdcc_simulation.specs.State.{World, centre_at}
@@ -65,14 +64,13 @@ choices-of tx choices h = record {
   apart = ascending-apart choices h.ascending;
 }
 
-pub worlds-ready : (built : Built) (w : World) (a : ℕ) (t : Undecided) (members : List ℕ) → built.proposals ≡ true → IsWorld w
+pub worlds-ready : (w : World) (a : ℕ) (t : Undecided) (members : List ℕ) → IsWorld w
     → MayCommit w a t → IsFastQuorum w.cluster.quorums members → AllByRecursion (AcceptsEach w t.choices) members
-    → IsReady built w a t members
-worlds-ready built w a t members enabled world may quorum accept =
+    → IsReady w a t members
+worlds-ready w a t members world may quorum accept =
     let node = world.nodes a may.centre in
     let found = each-found IsWellFormedOpen (λ (u : Undecided). tx_eq u.tx t.tx) (centre_at w a).volatile.manager.opened t node.volatile_itself.opened may.uncounted.opened in
     record {
-      enabled = enabled;
       quorums = world.cluster_itself.quorums;
       sites = world.sites;
       undecided = record { centre = may.centre; unstopped = may.unstopped; uncounted = may.uncounted; unheard = may.unheard; uncrowded = may.uncrowded };

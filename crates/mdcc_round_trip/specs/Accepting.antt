@@ -5,7 +5,6 @@ use Rattle.mdcc_base.specs.Key.{key_eq}
 use Rattle.mdcc_option.specs.declared.choices.Choice.{Choice}
 use Rattle.mdcc_option.specs.declared.choices.Mark.{Mark}
 use Rattle.mdcc_option.specs.declared.cluster.Cluster.{Cluster}
-use Rattle.mdcc_switches.specs.Built.{Built}
 use Rattle.mdcc_messages.specs.Lengths.{cells_needed}
 use Rattle.mdcc_messages.specs.declared.facts.Fact.{Fact}
 use Rattle.mdcc_protocol.specs.Acceptor.{on_propose}
@@ -35,16 +34,16 @@ abbrev pub vote_step : Volatile → ℕ → Choice × ℕ → NodeStep
 vote_step volatile a pair = adding volatile (accepting_fact pair.0) (vote_of_member a pair ∷ [])
 
 -- unless its fact needs more cells than are spare
-abbrev pub vote_if_roomy : Built → Cluster → List Fact → Volatile → ℕ → Choice × ℕ → Result NodeStep StepFault
-vote_if_roomy built cluster facts volatile a pair =
+abbrev pub vote_if_roomy : Cluster → List Fact → Volatile → ℕ → Choice × ℕ → Result NodeStep StepFault
+vote_if_roomy cluster facts volatile a pair =
     let fact = accepting_fact pair.0 in
-    if is_without_room built cluster facts fact then Err (StepFault.NoRoom (cells_needed fact) (cells_spare cluster facts))
+    if is_without_room cluster facts fact then Err (StepFault.NoRoom (cells_needed fact) (cells_spare cluster facts))
     else Ok (vote_step volatile a pair)
 
 -- the member's step on the proposal
 abbrev pub ProposalsGiveVotes : Type 0
 ProposalsGiveVotes =
-    (built : Built) (cluster : Cluster) (a : ℕ) (facts : List Fact) (volatile : Volatile) (pair : Choice × ℕ)
-    → built.proposals ≡ true → is_centre cluster a ≡ true → choice_belongs cluster pair.0 ≡ true
+    (cluster : Cluster) (a : ℕ) (facts : List Fact) (volatile : Volatile) (pair : Choice × ℕ)
+    → is_centre cluster a ≡ true → choice_belongs cluster pair.0 ≡ true
     → IsAccepted cluster facts pair.0
-    → step_of built cluster pair.1 facts volatile (Input.Message (proposal_of a pair)) ≡ vote_if_roomy built cluster facts volatile a pair
+    → step_of cluster pair.1 facts volatile (Input.Message (proposal_of a pair)) ≡ vote_if_roomy cluster facts volatile a pair

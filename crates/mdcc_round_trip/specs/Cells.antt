@@ -9,7 +9,6 @@ use Rattle.mdcc_option.specs.declared.choices.Choice.{Choice}
 use Rattle.mdcc_option.specs.declared.choices.Outcome.{Outcome}
 use Rattle.mdcc_protocol.specs.Volatile.{Undecided}
 use Rattle.mdcc_simulation.specs.State.{Happened, World}
-use Rattle.mdcc_switches.specs.Built.{Built}
 use Rattle.mdcc_round_trip.specs.Messages.{accepting_fact}
 use Rattle.mdcc_round_trip.specs.RoundTrips.{AreDelivered, AreUndropped, EndsWithCommit, IsReady}
 
@@ -25,13 +24,13 @@ pub record HaveCells (w : World) (a : ℕ) (t : Undecided) (members : List ℕ) 
 -- then no delivery is dropped
 abbrev pub CellsSuffice : Type 0
 CellsSuffice =
-    (built : Built) (w : World) (a : ℕ) (t : Undecided) (members : List ℕ) (first second : Happened)
-    → IsReady built w a t members → HaveCells w a t members → AreDelivered built w a t members first second
+    (w : World) (a : ℕ) (t : Undecided) (members : List ℕ) (first second : Happened)
+    → IsReady w a t members → HaveCells w a t members → AreDelivered w a t members first second
     → AreUndropped (first.lines ++ second.lines)
 
 -- and the transaction commits
 abbrev pub RoomyRoundTripCommits : Type 0
 RoomyRoundTripCommits =
-    (built : Built) (w : World) (a : ℕ) (t : Undecided) (members : List ℕ) (first second : Happened)
-    → IsReady built w a t members → HaveCells w a t members → AreDelivered built w a t members first second
+    (w : World) (a : ℕ) (t : Undecided) (members : List ℕ) (first second : Happened)
+    → IsReady w a t members → HaveCells w a t members → AreDelivered w a t members first second
     → EndsWithCommit a t.tx first.lines second.lines

@@ -7,7 +7,6 @@ use Rattle.mdcc_option.specs.declared.cluster.Cluster.{Cluster}
 use Rattle.mdcc_option.specs.declared.cluster.FastLimit.{FastLimit}
 use Rattle.mdcc_option.specs.declared.items.Item.{Item}
 use Rattle.mdcc_option.specs.declared.items.Update.{Update}
-use Rattle.mdcc_switches.specs.Built.{all_built}
 use Rattle.mdcc_protocol.specs.Volatile.{Undecided}
 use Rattle.mdcc_language.specs.declared.events.Event.{Event}
 use Rattle.mdcc_language.specs.declared.events.UpdateWord.{UpdateWord}
@@ -48,7 +47,7 @@ happened w (Ok h) = h
 happened w (Err fault) = record { world = w; lines = [] }
 
 abbrev pub after : World → Event → Happened
-after w event = happened w (event_of all_built w event)
+after w event = happened w (event_of w event)
 
 -- it was begun
 abbrev pub begun : World

@@ -1,7 +1,6 @@
 -- Why a line of deliveries to centres that are up is refused.
 use Rattle.std.specs.List.{AllByRecursion}
 use Rattle.std.specs.Prelude.{Err, List, None, true, ℕ, ◌≡◌}
-use Rattle.mdcc_switches.specs.Built.{Built}
 use Rattle.mdcc_messages.specs.declared.messages.Envelope.{Envelope}
 use Rattle.mdcc_language.specs.declared.events.Event.{Event}
 use Rattle.mdcc_language.specs.declared.world.EventFault.{EventFault}
@@ -18,6 +17,6 @@ pub record GoesUp (w : World) (message : Envelope) : Type 0 where
 -- then only a limit refuses the line
 abbrev pub OnlyLimitsRefuse : Type 0
 OnlyLimitsRefuse =
-    (built : Built) (w : World) (numbers : List ℕ) (messages : List Envelope) (fault : EventFault)
+    (w : World) (numbers : List ℕ) (messages : List Envelope) (fault : EventFault)
     → AreNumbersOf w numbers messages → AllByRecursion (GoesUp w) messages
-    → event_of built w (Event.Deliver numbers) ≡ Err fault → is_limit fault ≡ true
+    → event_of w (Event.Deliver numbers) ≡ Err fault → is_limit fault ≡ true

@@ -7,7 +7,6 @@ use Rattle.mdcc_base.specs.TxId.{tx_eq}
 use Rattle.mdcc_base.specs.declared.identifiers.TxId.{TxId}
 use Rattle.mdcc_option.specs.declared.choices.Choice.{Choice}
 use Rattle.mdcc_option.specs.declared.choices.Outcome.{Outcome}
-use Rattle.mdcc_switches.specs.Built.{Built}
 use Rattle.mdcc_ledger.specs.Ledger.{facts_of}
 use Rattle.mdcc_messages.specs.Mailbox.{Sent, numbered}
 use Rattle.mdcc_messages.specs.declared.facts.Fact.{Fact}
@@ -48,8 +47,7 @@ pub record AcceptsEach (w : World) (choices : List Choice) (member : ℕ) : Type
   pub accepts : AllByRecursion (IsAccepted w.cluster (facts_of w.ledger member)) choices
 
 -- a transaction that may commit in one round trip from a centre over the members of a fast quorum
-pub record IsReady (built : Built) (w : World) (a : ℕ) (t : Undecided) (members : List ℕ) : Type 0 where
-  pub enabled : built.proposals ≡ true
+pub record IsReady (w : World) (a : ℕ) (t : Undecided) (members : List ℕ) : Type 0 where
   pub quorums : AreQuorums w.cluster.quorums
   pub sites : length w.centres ≡ w.cluster.quorums.centres
   pub undecided : IsUndecidedAt w a t
@@ -70,25 +68,25 @@ is_hearing a tx line = false
 
 -- the proposals are delivered to all members in some order, and then the votes that they gave to the centre, in some other order; neither
 -- line is refused
-pub record AreDelivered (built : Built) (w : World) (a : ℕ) (t : Undecided) (members : List ℕ) (first second : Happened) : Type 0 where
+pub record AreDelivered (w : World) (a : ℕ) (t : Undecided) (members : List ℕ) (first second : Happened) : Type 0 where
   pub asked : List (Choice × ℕ)
   pub proposals : List ℕ
   pub asks_each : IsPermutation (each_with t.choices members) asked
   pub proposals_are : AreNumbersOf w proposals (map (proposal_of a) asked)
-  pub proposed : event_of built w (Event.Deliver proposals) ≡ Ok first
+  pub proposed : event_of w (Event.Deliver proposals) ≡ Ok first
   pub answered : List (Choice × ℕ)
   pub votes : List ℕ
   pub answers_each : IsPermutation (each_with t.choices members) answered
   pub votes_are : AreNumbersOf first.world votes (map (vote_of_member a) answered)
-  pub voted : event_of built first.world (Event.Deliver votes) ≡ Ok second
+  pub voted : event_of first.world (Event.Deliver votes) ≡ Ok second
 
 -- no delivery is dropped
 abbrev pub AreUndropped : List Line → Type 0
 AreUndropped lines = AllByRecursion (λ line. is_dropped line ≡ false) lines
 
 -- no limit is reached: neither line is refused, and none of their deliveries is dropped
-pub record IsRoundTrip (built : Built) (w : World) (a : ℕ) (t : Undecided) (members : List ℕ) (first second : Happened) : Type 0 where
-  pub deliveries : AreDelivered built w a t members first second
+pub record IsRoundTrip (w : World) (a : ℕ) (t : Undecided) (members : List ℕ) (first second : Happened) : Type 0 where
+  pub deliveries : AreDelivered w a t members first second
   pub undropped : AreUndropped (first.lines ++ second.lines)
 
 -- the last line of all is that the centre hears the commit, and no earlier one says that it hears of an outcome
@@ -99,8 +97,8 @@ pub record EndsWithCommit (a : ℕ) (tx : TxId) (first second : List Line) : Typ
 
 abbrev pub OneRoundTripCommits : Type 0
 OneRoundTripCommits =
-    (built : Built) (w : World) (a : ℕ) (t : Undecided) (members : List ℕ) (first second : Happened)
-    → IsReady built w a t members → IsRoundTrip built w a t members first second
+    (w : World) (a : ℕ) (t : Undecided) (members : List ℕ) (first second : Happened)
+    → IsReady w a t members → IsRoundTrip w a t members first second
     → EndsWithCommit a t.tx first.lines second.lines
 
 -- the messages that were sent
@@ -110,6 +108,6 @@ messages_of w = map (λ (s : Sent). s.envelope) w.sent
 -- the deliveries of the proposals send just the votes, in their order
 abbrev pub ProposalsSendVotes : Type 0
 ProposalsSendVotes =
-    (built : Built) (w : World) (a : ℕ) (t : Undecided) (members : List ℕ) (first second : Happened)
-    → IsReady built w a t members → (trip : IsRoundTrip built w a t members first second)
+    (w : World) (a : ℕ) (t : Undecided) (members : List ℕ) (first second : Happened)
+    → IsReady w a t members → (trip : IsRoundTrip w a t members first second)
     → messages_of first.world ≡ messages_of w ++ map (vote_of_member a) trip.deliveries.asked

@@ -3,7 +3,6 @@ use Rattle.std.specs.List.{AllByRecursion}
 use Rattle.std.specs.Prelude.{List, None, false, true, ℕ, ◌≡◌}
 use Rattle.mdcc_option.specs.declared.choices.Choice.{Choice}
 use Rattle.mdcc_option.specs.declared.choices.Outcome.{Outcome}
-use Rattle.mdcc_switches.specs.Built.{Built}
 use Rattle.mdcc_ledger.specs.Ledger.{facts_of}
 use Rattle.mdcc_messages.specs.declared.facts.Fact.{Fact}
 use Rattle.mdcc_protocol.specs.Belongs.{choice_belongs, is_centre}
@@ -28,6 +27,6 @@ pub record MayCommit (w : World) (a : ℕ) (t : Undecided) : Type 0 where
 -- then it may commit in one round trip: the choices are of different keys
 abbrev pub WorldsAreReady : Type 0
 WorldsAreReady =
-    (built : Built) (w : World) (a : ℕ) (t : Undecided) (members : List ℕ) → built.proposals ≡ true → IsWorld w
+    (w : World) (a : ℕ) (t : Undecided) (members : List ℕ) → IsWorld w
     → MayCommit w a t → IsFastQuorum w.cluster.quorums members → AllByRecursion (AcceptsEach w t.choices) members
-    → IsReady built w a t members
+    → IsReady w a t members

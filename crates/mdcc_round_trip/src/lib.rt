@@ -8,7 +8,6 @@ ghost use Rattle.mdcc_round_trip.specs.Example.{answered, asked, begun, members,
 ghost use Rattle.mdcc_round_trip.specs.Refusals.{OnlyLimitsRefuse};
 ghost use Rattle.mdcc_round_trip.specs.RoundTrips.{IsReady, IsRoundTrip, OneRoundTripCommits, ProposalsSendVotes};
 ghost use Rattle.mdcc_round_trip.specs.Worlds.{WorldsAreReady};
-ghost use Rattle.mdcc_switches.specs.Built.{all_built};
 
 /// An acceptor that would accept each of several choices of different keys accepts them in any order: a
 /// vote on another key changes nothing that it asks. Each proposal gives a vote, which goes back to the
@@ -54,9 +53,9 @@ pub fn worlds_are_ready()
 {}
 
 /// There are such round trips, so that the theorem does not speak of nothing: here three centres accept
-/// two choices, with everything enabled.
+/// two choices.
 pub fn example()
-    ensures ready { IsReady all_built begun 1 transaction members }
+    ensures ready { IsReady begun 1 transaction members }
     ensures cells { HaveCells begun 1 transaction members }
-    ensures trip { IsRoundTrip all_built begun 1 transaction members asked answered }
+    ensures trip { IsRoundTrip begun 1 transaction members asked answered }
 {}

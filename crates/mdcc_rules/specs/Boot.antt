@@ -1,37 +1,36 @@
 -- The boot of a node from what its log holds.
-use Rattle.std.specs.Prelude.{Bool, Err, List, None, Ok, Option, Result, Some, [], if◌then◌else◌, nat_le, nat_lt, not, ℕ, ◌&&◌, ◌+◌, ◌-◌, ◌^◌, ◌∷◌}
+use Rattle.std.specs.Prelude.{Bool, Err, List, None, Ok, Option, Result, Some, [], if◌then◌else◌, nat_le, nat_lt, not, ℕ, ◌+◌, ◌-◌, ◌^◌, ◌∷◌}
 use Rattle.mdcc_option.specs.declared.cluster.Cluster.{Cluster}
 use Rattle.mdcc_ledger.specs.BootTest.{is_allowed_fact}
-use Rattle.mdcc_switches.specs.Built.{Built}
 use Rattle.mdcc_protocol.specs.Facts.{epoch_of}
 use Rattle.mdcc_messages.specs.Lengths.{cells_needed, cells_used}
 use Rattle.mdcc_messages.specs.declared.facts.Fact.{Fact}
 use Rattle.mdcc_rules.specs.declared.node.BootFault.{BootFault}
 
 -- whether the fact passes the room of a node that has these
-abbrev pub is_past_cells : Built → Cluster → List Fact → Fact → Bool
-is_past_cells built cluster facts fact = built.limit_on_cells && nat_lt cluster.cells (cells_used facts + cells_needed fact)
+abbrev pub is_past_cells : Cluster → List Fact → Fact → Bool
+is_past_cells cluster facts fact = nat_lt cluster.cells (cells_used facts + cells_needed fact)
 
 abbrev pub room_fault : Cluster → List Fact → Fact → BootFault
 room_fault cluster facts fact = BootFault.Room (cells_used facts + cells_needed fact) cluster.cells
 
 -- the payloads in turn, each as its fact where it is one, onto the facts so far, which are as many as the number says
-abbrev pub loaded_from : Built → Cluster → List Fact → ℕ → List (Option Fact) → Result (List Fact) BootFault
-loaded_from built cluster facts n [] = Ok facts
-loaded_from built cluster facts n (None ∷ payloads) = Err (BootFault.NotARun (n + 1))
-loaded_from built cluster facts n (Some fact ∷ payloads) =
+abbrev pub loaded_from : Cluster → List Fact → ℕ → List (Option Fact) → Result (List Fact) BootFault
+loaded_from cluster facts n [] = Ok facts
+loaded_from cluster facts n (None ∷ payloads) = Err (BootFault.NotARun (n + 1))
+loaded_from cluster facts n (Some fact ∷ payloads) =
     if not (is_allowed_fact cluster facts fact) then Err (BootFault.NotARun (n + 1))
-    else (if is_past_cells built cluster facts fact then Err (room_fault cluster facts fact)
-    else loaded_from built cluster (fact ∷ facts) (n + 1) payloads)
+    else (if is_past_cells cluster facts fact then Err (room_fault cluster facts fact)
+    else loaded_from cluster (fact ∷ facts) (n + 1) payloads)
 
 -- the next epoch begins
-abbrev pub booted_by : Built → Cluster → Result (List Fact) BootFault → Result (List Fact) BootFault
-booted_by built cluster (Err fault) = Err fault
-booted_by built cluster (Ok facts) =
+abbrev pub booted_by : Cluster → Result (List Fact) BootFault → Result (List Fact) BootFault
+booted_by cluster (Err fault) = Err fault
+booted_by cluster (Ok facts) =
     let fact = Fact.Booted (epoch_of facts + 1) in
     if nat_le (2 ^ 32 - 1) (epoch_of facts) then Err BootFault.Epochs
-    else (if is_past_cells built cluster facts fact then Err (room_fault cluster facts fact) else Ok (fact ∷ facts))
+    else (if is_past_cells cluster facts fact then Err (room_fault cluster facts fact) else Ok (fact ∷ facts))
 
 -- the facts of a node that is booted from these payloads, the newest first, or why there is none
-abbrev pub boot_of : Built → Cluster → List (Option Fact) → Result (List Fact) BootFault
-boot_of built cluster payloads = booted_by built cluster (loaded_from built cluster [] 0 payloads)
+abbrev pub boot_of : Cluster → List (Option Fact) → Result (List Fact) BootFault
+boot_of cluster payloads = booted_by cluster (loaded_from cluster [] 0 payloads)

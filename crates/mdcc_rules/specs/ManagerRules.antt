@@ -10,11 +10,10 @@ use Rattle.mdcc_option.specs.declared.choices.Outcome.{Outcome}
 use Rattle.mdcc_option.specs.declared.cluster.Cluster.{Cluster}
 use Rattle.mdcc_option.specs.declared.faults.BeginFault.{BeginFault}
 use Rattle.mdcc_option.specs.declared.items.Part.{Part}
-use Rattle.mdcc_switches.specs.Built.{Built}
 use Rattle.mdcc_protocol.specs.Facts.{epoch_of, is_heard}
 use Rattle.mdcc_ledger.specs.Ledger.{Entry}
 use Rattle.mdcc_protocol.specs.Manager
-use Rattle.mdcc_protocol.specs.Manager.{key_refused, vote_taken}
+use Rattle.mdcc_protocol.specs.Manager.{key_refused}
 use Rattle.mdcc_rules.specs.Messages.{to_all, to_one, to_others}
 use Rattle.mdcc_protocol.specs.Recover
 use Rattle.mdcc_rules.specs.Steps.{NodeStep, adding, answering, nothing_done, sending}
@@ -73,15 +72,14 @@ decided_step cluster me volatile tx outcome =
     adding (closed volatile tx) (Fact.Heard tx outcome) (to_others cluster.quorums me (Message.Outcome tx outcome))
 
 -- a vote on an open transaction that decides nothing
-abbrev pub undecided_step : Built → Cluster → ℕ → List Fact → Volatile → Vote → NodeStep
-undecided_step built cluster me facts volatile vote =
-    if built.escalations then acted_step me facts volatile (Manager.on_voted cluster.quorums volatile.manager vote)
-    else nothing_done (with_manager volatile (vote_taken cluster.quorums volatile.manager vote))
+abbrev pub undecided_step : Cluster → ℕ → List Fact → Volatile → Vote → NodeStep
+undecided_step cluster me facts volatile vote =
+    acted_step me facts volatile (Manager.on_voted cluster.quorums volatile.manager vote)
 
 -- a vote that decides is not taken, since its transaction is closed
-abbrev pub opened_step : Built → Cluster → ℕ → List Fact → Volatile → Vote → Option Outcome → NodeStep
-opened_step built cluster me facts volatile vote (Some outcome) = decided_step cluster me volatile vote.tx outcome
-opened_step built cluster me facts volatile vote None = undecided_step built cluster me facts volatile vote
+abbrev pub opened_step : Cluster → ℕ → List Fact → Volatile → Vote → Option Outcome → NodeStep
+opened_step cluster me facts volatile vote (Some outcome) = decided_step cluster me volatile vote.tx outcome
+opened_step cluster me facts volatile vote None = undecided_step cluster me facts volatile vote
 
 -- the same for a transaction that is watched, or neither open nor watched
 abbrev pub watched_step : Cluster → ℕ → List Fact → Volatile → Vote → Option (TxId × Outcome) → NodeStep
@@ -90,11 +88,11 @@ watched_step cluster me facts volatile vote None =
     nothing_done (with_recovery volatile (Recover.on_voted cluster.quorums facts volatile.recovery vote).1)
 
 -- a vote came
-abbrev pub voted_step : Built → Cluster → ℕ → List Fact → Volatile → Vote → NodeStep
-voted_step built cluster me facts volatile vote =
+abbrev pub voted_step : Cluster → ℕ → List Fact → Volatile → Vote → NodeStep
+voted_step cluster me facts volatile vote =
     if is_heard facts vote.tx then nothing_done volatile
     else (if is_open volatile.manager vote.tx
-    then opened_step built cluster me facts volatile vote (Manager.would_decide cluster.quorums volatile.manager vote)
+    then opened_step cluster me facts volatile vote (Manager.would_decide cluster.quorums volatile.manager vote)
     else watched_step cluster me facts volatile vote (Recover.would_decide cluster.quorums facts volatile.recovery vote))
 
 -- a centre a gives no vote

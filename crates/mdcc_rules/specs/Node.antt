@@ -3,7 +3,6 @@ use Rattle.std.specs.Prelude.{Bool, Err, List, None, Ok, Option, Result, Some, i
 use Rattle.mdcc_option.specs.declared.cluster.Cluster.{Cluster}
 use Rattle.mdcc_rules.specs.AcceptorRules.{accept_step, ask_step, prepare_step, propose_step}
 use Rattle.mdcc_protocol.specs.Belongs.{is_centre, message_belongs}
-use Rattle.mdcc_switches.specs.Built.{Built}
 use Rattle.mdcc_rules.specs.LeaderRules.{lead_step, promise_step, refused_step}
 use Rattle.mdcc_messages.specs.Lengths.{cells_needed, cells_used}
 use Rattle.mdcc_rules.specs.ManagerRules.{begin_step, escalate_step, voted_step}
@@ -20,34 +19,24 @@ use Rattle.mdcc_rules.specs.declared.node.Answer.{Answer}
 use Rattle.mdcc_rules.specs.declared.node.Input.{Input}
 use Rattle.mdcc_rules.specs.declared.node.StepFault.{StepFault}
 
--- a rule that is not built does nothing
-abbrev pub rule : Bool → Volatile → Result NodeStep StepFault → Result NodeStep StepFault
-rule is_built volatile step = if is_built then step else Ok (nothing_done volatile)
-
 -- a message from s
-abbrev pub message_step : Built → Cluster → ℕ → List Fact → Volatile → ℕ → Message → Result NodeStep StepFault
-message_step built cluster me facts volatile s (Message.Propose choice) = rule built.proposals volatile (Ok (propose_step cluster me facts volatile s choice))
-message_step built cluster me facts volatile s (Message.Voted key version ballot tx mark) =
-    rule built.proposals volatile
-    (Ok (voted_step built cluster me facts volatile (record { from = s; key = key; version = version; ballot = ballot; tx = tx; mark = mark })))
-message_step built cluster me facts volatile s (Message.Escalate key version tx cause) =
-    rule built.escalations volatile (Ok (escalate_step cluster me facts volatile s key tx cause))
-message_step built cluster me facts volatile s (Message.Lead choice) = rule built.leading volatile (lead_step cluster me facts volatile s choice)
-message_step built cluster me facts volatile s (Message.Prepare key version through ballot) =
-    rule built.leading volatile (Ok (prepare_step me facts volatile s key version through ballot))
-message_step built cluster me facts volatile s (Message.Promise key version through ballot reported votes) =
-    rule built.leading volatile
-    (promise_step cluster me facts volatile s (record { key = key; version = version; through = through; ballot = ballot; reported = reported; votes = votes }))
-message_step built cluster me facts volatile s (Message.Accept key version ballot options) =
-    rule built.leading volatile (Ok (accept_step me facts volatile s key version ballot options))
-message_step built cluster me facts volatile s (Message.Refused key version ballot promised) =
-    rule built.leading volatile (Ok (refused_step volatile key ballot promised))
-message_step built cluster me facts volatile s (Message.Outcome tx outcome) = rule built.proposals volatile (Ok (outcome_step facts volatile tx outcome))
-message_step built cluster me facts volatile s (Message.Ask tx key version) = rule built.recovery volatile (Ok (ask_step me facts volatile s tx key version))
-message_step built cluster me facts volatile s (Message.SyncAsk key) = rule built.catching_up volatile (Ok (sync_ask_step me facts volatile s key))
-message_step built cluster me facts volatile s (Message.SyncGive key version item adds) =
-    rule built.catching_up volatile (Ok (sync_give_step facts volatile (record { key = key; version = version; item = item; adds = adds })))
-message_step built cluster me facts volatile s _ = Ok (nothing_done volatile)
+abbrev pub message_step : Cluster → ℕ → List Fact → Volatile → ℕ → Message → Result NodeStep StepFault
+message_step cluster me facts volatile s (Message.Propose choice) = Ok (propose_step cluster me facts volatile s choice)
+message_step cluster me facts volatile s (Message.Voted key version ballot tx mark) =
+    Ok (voted_step cluster me facts volatile (record { from = s; key = key; version = version; ballot = ballot; tx = tx; mark = mark }))
+message_step cluster me facts volatile s (Message.Escalate key version tx cause) = Ok (escalate_step cluster me facts volatile s key tx cause)
+message_step cluster me facts volatile s (Message.Lead choice) = lead_step cluster me facts volatile s choice
+message_step cluster me facts volatile s (Message.Prepare key version through ballot) = Ok (prepare_step me facts volatile s key version through ballot)
+message_step cluster me facts volatile s (Message.Promise key version through ballot reported votes) =
+    promise_step cluster me facts volatile s (record { key = key; version = version; through = through; ballot = ballot; reported = reported; votes = votes })
+message_step cluster me facts volatile s (Message.Accept key version ballot options) = Ok (accept_step me facts volatile s key version ballot options)
+message_step cluster me facts volatile s (Message.Refused key version ballot promised) = Ok (refused_step volatile key ballot promised)
+message_step cluster me facts volatile s (Message.Outcome tx outcome) = Ok (outcome_step facts volatile tx outcome)
+message_step cluster me facts volatile s (Message.Ask tx key version) = Ok (ask_step me facts volatile s tx key version)
+message_step cluster me facts volatile s (Message.SyncAsk key) = Ok (sync_ask_step me facts volatile s key)
+message_step cluster me facts volatile s (Message.SyncGive key version item adds) =
+    Ok (sync_give_step facts volatile (record { key = key; version = version; item = item; adds = adds }))
+message_step cluster me facts volatile s _ = Ok (nothing_done volatile)
 
 -- ---- room
 
@@ -56,19 +45,19 @@ abbrev pub cells_spare : Cluster → List Fact → ℕ
 cells_spare cluster facts = cluster.cells - cells_used facts
 
 -- whether a fact needs more cells than are spare
-abbrev pub is_without_room : Built → Cluster → List Fact → Fact → Bool
-is_without_room built cluster facts fact = built.limit_on_cells && nat_lt (cells_spare cluster facts) (cells_needed fact)
+abbrev pub is_without_room : Cluster → List Fact → Fact → Bool
+is_without_room cluster facts fact = nat_lt (cells_spare cluster facts) (cells_needed fact)
 
 -- a new fact needs room, and crowds no version
-abbrev pub with_room : Built → Cluster → List Fact → NodeStep → Option Fact → Result NodeStep StepFault
-with_room built cluster facts step None = Ok step
-with_room built cluster facts step (Some fact) =
-    if is_without_room built cluster facts fact then Err (StepFault.NoRoom (cells_needed fact) (cells_spare cluster facts))
+abbrev pub with_room : Cluster → List Fact → NodeStep → Option Fact → Result NodeStep StepFault
+with_room cluster facts step None = Ok step
+with_room cluster facts step (Some fact) =
+    if is_without_room cluster facts fact then Err (StepFault.NoRoom (cells_needed fact) (cells_spare cluster facts))
     else (if is_crowding facts fact then Err StepFault.Crowded else Ok step)
 
-abbrev pub checked : Built → Cluster → List Fact → Result NodeStep StepFault → Result NodeStep StepFault
-checked built cluster facts (Err fault) = Err fault
-checked built cluster facts (Ok step) = with_room built cluster facts step step.fact
+abbrev pub checked : Cluster → List Fact → Result NodeStep StepFault → Result NodeStep StepFault
+checked cluster facts (Err fault) = Err fault
+checked cluster facts (Ok step) = with_room cluster facts step step.fact
 
 -- ---- the step
 
@@ -78,11 +67,11 @@ is_own_message cluster me envelope =
     envelope.to == me && is_centre cluster envelope.from && message_belongs cluster envelope.message
 
 -- what an input does at a node
-abbrev pub step_of : Built → Cluster → ℕ → List Fact → Volatile → Input → Result NodeStep StepFault
-step_of built cluster me facts volatile (Input.Message envelope) =
+abbrev pub step_of : Cluster → ℕ → List Fact → Volatile → Input → Result NodeStep StepFault
+step_of cluster me facts volatile (Input.Message envelope) =
     if is_own_message cluster me envelope
-    then checked built cluster facts (message_step built cluster me facts volatile envelope.from envelope.message)
+    then checked cluster facts (message_step cluster me facts volatile envelope.from envelope.message)
     else Err StepFault.Foreign
-step_of built cluster me facts volatile Input.Tick = Ok (tick_step built cluster me facts volatile)
-step_of built cluster me facts volatile (Input.Read key) = Ok (answering volatile (Answer.Read (Visible.read facts key)))
-step_of built cluster me facts volatile (Input.Begin parts) = Ok (begin_step cluster me facts volatile parts)
+step_of cluster me facts volatile Input.Tick = Ok (tick_step cluster me facts volatile)
+step_of cluster me facts volatile (Input.Read key) = Ok (answering volatile (Answer.Read (Visible.read facts key)))
+step_of cluster me facts volatile (Input.Begin parts) = Ok (begin_step cluster me facts volatile parts)

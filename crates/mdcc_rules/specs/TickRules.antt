@@ -1,8 +1,7 @@
 -- The node's rule at a tick: first the manager's open transactions, then the dangling ones.
-use Rattle.std.specs.Prelude.{Err, List, Ok, Result, [], fold, if◌then◌else◌, ℕ}
+use Rattle.std.specs.Prelude.{Err, List, Ok, Result, [], fold, ℕ}
 use Rattle.mdcc_option.specs.declared.choices.Claim.{Claim}
 use Rattle.mdcc_option.specs.declared.cluster.Cluster.{Cluster}
-use Rattle.mdcc_switches.specs.Built.{Built}
 use Rattle.mdcc_protocol.specs.Leader.{claim_of_choice}
 use Rattle.mdcc_rules.specs.LeaderRules.{led_of}
 use Rattle.mdcc_protocol.specs.Manager
@@ -21,52 +20,49 @@ abbrev pub led_or_left : Volatile → Result StepPart LeadFault → StepPart
 led_or_left volatile (Ok part) = part
 led_or_left volatile (Err fault) = only_sending volatile []
 
--- a claim is led here, where leading is built
-abbrev pub claim_led : Built → Cluster → ℕ → List Fact → Volatile → Claim → StepPart
-claim_led built cluster me facts volatile claim =
-    if built.leading then led_or_left volatile (led_of cluster me facts volatile claim) else only_sending volatile []
+-- a claim is led here
+abbrev pub claim_led : Cluster → ℕ → List Fact → Volatile → Claim → StepPart
+claim_led cluster me facts volatile claim = led_or_left volatile (led_of cluster me facts volatile claim)
 
 -- ---- open transactions
 
 -- an act of the manager at a tick
-abbrev pub manager_act : Built → Cluster → ℕ → List Fact → Volatile → ManagerAct → StepPart
-manager_act built cluster me facts volatile (ManagerAct.Propose choice) = only_sending volatile (to_all cluster.quorums me (Message.Propose choice))
-manager_act built cluster me facts volatile (ManagerAct.LeadHere choice) = claim_led built cluster me facts volatile (claim_of_choice choice)
-manager_act built cluster me facts volatile act = only_sending volatile []
+abbrev pub manager_act : Cluster → ℕ → List Fact → Volatile → ManagerAct → StepPart
+manager_act cluster me facts volatile (ManagerAct.Propose choice) = only_sending volatile (to_all cluster.quorums me (Message.Propose choice))
+manager_act cluster me facts volatile (ManagerAct.LeadHere choice) = claim_led cluster me facts volatile (claim_of_choice choice)
+manager_act cluster me facts volatile act = only_sending volatile []
 
-abbrev pub manager_ticked_by : Built → Cluster → ℕ → List Fact → Volatile → List ManagerAct × Managing → StepPart
-manager_ticked_by built cluster me facts volatile (acts, manager) =
-    fold (and_then (manager_act built cluster me facts)) (only_sending (with_manager volatile manager) []) acts
+abbrev pub manager_ticked_by : Cluster → ℕ → List Fact → Volatile → List ManagerAct × Managing → StepPart
+manager_ticked_by cluster me facts volatile (acts, manager) =
+    fold (and_then (manager_act cluster me facts)) (only_sending (with_manager volatile manager) []) acts
 
 -- the first half
-abbrev pub manager_ticked : Built → Cluster → ℕ → List Fact → Volatile → StepPart
-manager_ticked built cluster me facts volatile =
-    manager_ticked_by built cluster me facts volatile (Manager.tick cluster.quorums volatile.manager)
+abbrev pub manager_ticked : Cluster → ℕ → List Fact → Volatile → StepPart
+manager_ticked cluster me facts volatile =
+    manager_ticked_by cluster me facts volatile (Manager.tick cluster.quorums volatile.manager)
 
 -- ---- dangling transactions
 
 -- an act of the recovery
-abbrev pub recovery_act : Built → Cluster → ℕ → List Fact → Volatile → RecoverAct → StepPart
-recovery_act built cluster me facts volatile (RecoverAct.Ask tx key version) = only_sending volatile (to_all cluster.quorums me (Message.Ask tx key version))
-recovery_act built cluster me facts volatile (RecoverAct.LeadHere claim) = claim_led built cluster me facts volatile claim
+abbrev pub recovery_act : Cluster → ℕ → List Fact → Volatile → RecoverAct → StepPart
+recovery_act cluster me facts volatile (RecoverAct.Ask tx key version) = only_sending volatile (to_all cluster.quorums me (Message.Ask tx key version))
+recovery_act cluster me facts volatile (RecoverAct.LeadHere claim) = claim_led cluster me facts volatile claim
 
-abbrev pub recovery_ticked_by : Built → Cluster → ℕ → List Fact → StepPart → List RecoverAct × Recovering → StepPart
-recovery_ticked_by built cluster me facts first (acts, recovery) =
-    fold (and_then (recovery_act built cluster me facts)) (record first { after = with_recovery first.after recovery }) acts
+abbrev pub recovery_ticked_by : Cluster → ℕ → List Fact → StepPart → List RecoverAct × Recovering → StepPart
+recovery_ticked_by cluster me facts first (acts, recovery) =
+    fold (and_then (recovery_act cluster me facts)) (record first { after = with_recovery first.after recovery }) acts
 
 -- the second half
-abbrev pub recovery_ticked : Built → Cluster → ℕ → List Fact → StepPart → StepPart
-recovery_ticked built cluster me facts first =
-    recovery_ticked_by built cluster me facts first
+abbrev pub recovery_ticked : Cluster → ℕ → List Fact → StepPart → StepPart
+recovery_ticked cluster me facts first =
+    recovery_ticked_by cluster me facts first
     (Recover.tick cluster.quorums facts first.after.recovery (txs_opened first.after.manager))
 
 -- ---- both
 
-abbrev pub tick_parts : Built → Cluster → ℕ → List Fact → Volatile → StepPart
-tick_parts built cluster me facts volatile =
-    let first = if built.ticks then manager_ticked built cluster me facts volatile else only_sending volatile [] in
-    if built.recovery then recovery_ticked built cluster me facts first else first
+abbrev pub tick_parts : Cluster → ℕ → List Fact → Volatile → StepPart
+tick_parts cluster me facts volatile = recovery_ticked cluster me facts (manager_ticked cluster me facts volatile)
 
 -- time has passed
-abbrev pub tick_step : Built → Cluster → ℕ → List Fact → Volatile → NodeStep
-tick_step built cluster me facts volatile = step_of_part (tick_parts built cluster me facts volatile)
+abbrev pub tick_step : Cluster → ℕ → List Fact → Volatile → NodeStep
+tick_step cluster me facts volatile = step_of_part (tick_parts cluster me facts volatile)

@@ -19,7 +19,6 @@ use Rattle.mdcc_language.specs.Schedule.{centre_of, image_of, stop_of, above, nu
 use Rattle.mdcc_language.specs.Updates.{update_of}
 use Rattle.mdcc_language.specs.Words.{◌>>=◌, refused, part_at, parts_from, behind, end_at, word_at, word_end, not_empty, word_behind, count_of, key_of, natural_of, text_eq}
 use Rattle.mdcc_words.specs.Spelled.{update_text}
-use Rattle.mdcc_built.specs.Built.{built}
 use Rattle.mdcc_words.proofs.Parts.{part_len_is, place_within}
 use Rattle.mdcc_words.proofs.Seams.{bind_ok, part_seam, front_seam, behind_ok, end_ok, drop_all}
 use Rattle.mdcc_words.proofs.Spelled.{natural_spelled, count_spelled, key_spelled, update_spelled}
@@ -72,12 +71,12 @@ each_number column (word ∷ words) numbers e =
     let all : one.0 ∷ rest.0 ≡ numbers = cc (rest.2) in
     (λ i. count_spelled word column one.0 one.1 i ∷ each_number (column + length word + 1) words rest.0 rest.1 i) ∙ ap (map decimal) all
 
-each_update : (column : ℕ) (words : List (List ℕ)) (updates : List UpdateWord) → updates_from built column words ≡ Ok updates → words ≡ map update_text updates
+each_update : (column : ℕ) (words : List (List ℕ)) (updates : List UpdateWord) → updates_from column words ≡ Ok updates → words ≡ map update_text updates
 each_update column [] [] e = refl
 each_update column [] (update ∷ updates) e = absurd (cc)
 each_update column (word ∷ words) updates e =
-    let one = bind_ok (update_of built word column) _ updates e in
-    let rest = bind_ok (updates_from built (column + length word + 1) words) _ updates one.2 in
+    let one = bind_ok (update_of word column) _ updates e in
+    let rest = bind_ok (updates_from (column + length word + 1) words) _ updates one.2 in
     let all : one.0 ∷ rest.0 ≡ updates = cc (rest.2) in
     (λ i. update_spelled word column one.0 one.1 i ∷ each_update (column + length word + 1) words rest.0 rest.1 i) ∙ ap (map update_text) all
 
@@ -129,12 +128,12 @@ read_spelled cluster line event h b e =
     ∙ ap (λ rest. decimal centre.0 ++ (32 ∷ rest)) last)
     ∙ ap event_text same
 
-begin_spelled : (cluster : Cluster) (line : List ℕ) (event : Event) → AreQuorums cluster.quorums → begins_with (codes "begin") line ≡ true → begin_of built cluster line ≡ Ok event → line ≡ event_text event
+begin_spelled : (cluster : Cluster) (line : List ℕ) (event : Event) → AreQuorums cluster.quorums → begins_with (codes "begin") line ≡ true → begin_of cluster line ≡ Ok event → line ≡ event_text event
 begin_spelled cluster line event h b e =
     let start = bind_ok (word_behind 5 line) _ event e in
     let centre = bind_ok (centre_of cluster (word_at start.0 line) (start.0 + 1)) _ event start.2 in
     let next = bind_ok (word_behind (word_end start.0 line) line) _ event centre.2 in
-    let updates = bind_ok (updates_from built (next.0 + 1) (parts_from 32 next.0 line)) _ event next.2 in
+    let updates = bind_ok (updates_from (next.0 + 1) (parts_from 32 next.0 line)) _ event next.2 in
     let same : Begin centre.0 updates.0 ≡ event = cc (updates.2) in
     let last = joined next.0 line (map update_text updates.0) (each_update (next.0 + 1) (parts_from 32 next.0 line) updates.0 updates.1) in
     begun (codes "begin") line b
@@ -263,7 +262,7 @@ last_words_spelled cluster line event h false i false j true k s l e = restart_s
 last_words_spelled cluster line event h false i false j false k true l e = stop_spelled cluster line event h l e
 last_words_spelled cluster line event h false i false j false k false l e = absurd (cc)
 
-event_spelled : (cluster : Cluster) (line : List ℕ) (event : Event) → AreQuorums cluster.quorums → event_of built cluster line ≡ Ok event → line ≡ event_text event
+event_spelled : (cluster : Cluster) (line : List ℕ) (event : Event) → AreQuorums cluster.quorums → event_of cluster line ≡ Ok event → line ≡ event_text event
 event_spelled cluster line event h e =
     by (begins_with (codes "read") line) refl (begins_with (codes "begin") line) refl (begins_with (codes "deliver") line) refl (begins_with (codes "settle") line) refl e
   where
@@ -272,7 +271,7 @@ event_spelled cluster line event h e =
 
     by : (r : Bool) → begins_with (codes "read") line ≡ r → (b : Bool) → begins_with (codes "begin") line ≡ b → (d : Bool) → begins_with (codes "deliver") line ≡ d
         → (s : Bool) → begins_with (codes "settle") line ≡ s
-        → cond r (read_of cluster line) (cond b (begin_of built cluster line) (cond d (deliver_of line) (cond s (settle_of cluster line) last))) ≡ Ok event
+        → cond r (read_of cluster line) (cond b (begin_of cluster line) (cond d (deliver_of line) (cond s (settle_of cluster line) last))) ≡ Ok event
         → line ≡ event_text event
     by true i b j d k s l e = read_spelled cluster line event h i e
     by false i true j d k s l e = begin_spelled cluster line event h j e
@@ -282,14 +281,14 @@ event_spelled cluster line event h e =
 
 -- ---- lines
 
-some_event : (cluster : Cluster) (text : List ℕ) (event : Event) → event_or_none built cluster text ≡ Ok (Some event) → event_of built cluster text ≡ Ok event
+some_event : (cluster : Cluster) (text : List ℕ) (event : Event) → event_or_none cluster text ≡ Ok (Some event) → event_of cluster text ≡ Ok event
 some_event cluster [] event e = absurd (cc)
 some_event cluster (b ∷ bs) event e = by (b == 35) e
   where
-    by : (comment : Bool) → cond comment (Ok None) (event_of built cluster (b ∷ bs) >>= λ event. Ok (Some event)) ≡ Ok (Some event) → event_of built cluster (b ∷ bs) ≡ Ok event
+    by : (comment : Bool) → cond comment (Ok None) (event_of cluster (b ∷ bs) >>= λ event. Ok (Some event)) ≡ Ok (Some event) → event_of cluster (b ∷ bs) ≡ Ok event
     by true e = absurd (cc)
     by false e =
-        let found = bind_ok (event_of built cluster (b ∷ bs)) _ (Some event) e in
+        let found = bind_ok (event_of cluster (b ∷ bs)) _ (Some event) e in
         let same : found.0 ≡ event = cc (found.2) in
         found.1 ∙ ap (λ x. let r : Result Event SchedFault = Ok x in r) same
 
@@ -311,10 +310,10 @@ read_short text read x e = by (nat_le (length text) most_bytes) read e
         long true e = e
         long false e = absurd (cc)
 
-pub line_spelled : (cluster : Cluster) (line : List ℕ) (event : Event) → AreQuorums cluster.quorums → line_of built cluster line ≡ Ok (Some event) → line ≡ event_text event ++ codes "\n"
+pub line_spelled : (cluster : Cluster) (line : List ℕ) (event : Event) → AreQuorums cluster.quorums → line_of cluster line ≡ Ok (Some event) → line ≡ event_text event ++ codes "\n"
 line_spelled cluster line event h e =
     let bytes : List ℕ = bytes_of_line line in
-    let found = bind_ok (event_or_none built cluster bytes) _ (Some event) (read_short bytes (event_in built cluster line) (Some event) e) in
+    let found = bind_ok (event_or_none cluster bytes) _ (Some event) (read_short bytes (event_in cluster line) (Some event) e) in
     let end = bind_ok (line_end_of bytes line) _ (Some event) found.2 in
     let same : found.0 ≡ Some event = cc (end.2) in
     let some = some_event cluster bytes event (found.1 ∙ ap (λ x. let r : Result (Option Event) SchedFault = Ok x in r) same) in

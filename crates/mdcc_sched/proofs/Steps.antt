@@ -8,7 +8,6 @@ use Rattle.mdcc_language.specs.Updates.{update_of}
 use Rattle.mdcc_language.specs.Words.{◌>>=◌, part_at, not_empty, count_of}
 use Rattle.mdcc_sched.specs.Centres.{centre_above}
 use Rattle.mdcc_sched.specs.Numbers.{number_of_word}
-use Rattle.mdcc_built.specs.Built.{built}
 use Rattle.mdcc_words.proofs.Onto.{onto, onto_more}
 use Rattle.mdcc_words.proofs.Parts.{parts_left, parts_first}
 
@@ -60,7 +59,7 @@ number_law s column word words =
     bind_assoc (not_empty word column) (λ _. count_of word column) (λ number. numbers_from (column + length word + 1) words >>= λ numbers. Ok (number ∷ numbers))
 
 pub update_law : (s : Unit {0}) (column : ℕ) (word : List ℕ) (words : List (List ℕ))
-    → updates_from built column (word ∷ words) ≡ (update_of built word column >>= λ update. updates_from built (column + length word + 1) words >>= λ updates. Ok (update ∷ updates))
+    → updates_from column (word ∷ words) ≡ (update_of word column >>= λ update. updates_from (column + length word + 1) words >>= λ updates. Ok (update ∷ updates))
 update_law s column word words = refl
 
 kept : {A B C : Type 0} (x : A) (c : Result B SchedFault) (g : A → Result C SchedFault) → (c >>= λ _. g x) ≡ ((c >>= λ _. Ok x) >>= g)

@@ -1,7 +1,6 @@
 -- A header with the number of the line behind it.
 use Rattle.std.specs.Prelude.{List, Ok, Result, ℕ}
 use Rattle.mdcc_option.specs.declared.cluster.Cluster.{Cluster}
-use Rattle.mdcc_built.specs.Built.{built}
 use Rattle.mdcc_language.specs.Header.{Left, all_of, header_lines}
 use Rattle.mdcc_language.specs.Words.{◌>>=◌}
 use Rattle.mdcc_language.specs.declared.schedule.HeaderFault.{HeaderFault}
@@ -11,4 +10,4 @@ numbered header = Ok (header.0, header.1.at, header.1.number)
 
 -- the cluster of a header, the place behind it, and the number of the line there
 abbrev pub numbered_header : List ℕ → Result (Cluster × ℕ × ℕ) HeaderFault
-numbered_header text = header_lines built (all_of text) >>= numbered
+numbered_header text = header_lines (all_of text) >>= numbered

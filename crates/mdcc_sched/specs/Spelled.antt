@@ -8,7 +8,6 @@ use Rattle.mdcc_language.specs.Schedule.{line_of}
 use Rattle.mdcc_language.specs.declared.events.Event.{Event}
 use Rattle.mdcc_language.specs.declared.events.Event.TheVariants.{Read, Begin, Deliver, Settle, Tick, Crash, Restart, Stop}
 use Rattle.mdcc_words.specs.Spelled.{update_text}
-use Rattle.mdcc_built.specs.Built.{built}
 
 -- numbers with spaces between them
 abbrev pub numbers_text : List ℕ → List ℕ
@@ -27,4 +26,4 @@ event_text (Stop centre call image) = codes "stop " ++ (decimal centre ++ (32 �
 
 -- a line that is read as an event is the text of that event, and a line end
 abbrev pub EventsAreSpelled : Type 0
-EventsAreSpelled = (cluster : Cluster) (line : List ℕ) (event : Event) → AreQuorums cluster.quorums → line_of built cluster line ≡ Ok (Some event) → line ≡ event_text event ++ codes "\n"
+EventsAreSpelled = (cluster : Cluster) (line : List ℕ) (event : Event) → AreQuorums cluster.quorums → line_of cluster line ≡ Ok (Some event) → line ≡ event_text event ++ codes "\n"

@@ -3,7 +3,6 @@ ghost use Rattle.std.specs.Prelude.{◌≡◌, ◌++◌, ◌∷◌, [], ◌+◌,
 ghost use Rattle.mdcc_option.specs.Bounds.{IsSchema, is_bound};
 ghost use Rattle.mdcc_language.specs.Header.{header_line, version_of, quorums_line, last_number, cells_line, limit_line, bound_line, bounds_lines, header_lines, header_of};
 ghost use Rattle.mdcc_language.specs.Words.{end_at};
-ghost use Rattle.mdcc_built.specs.Built.{built};
 ghost use Rattle.mdcc_sched.specs.Headers.{numbered_header};
 
 use crate::header_lines;
@@ -54,7 +53,7 @@ fn gamma_line<'a>(left: &Left<'a>) -> Result<(u64, Left<'a>), HeaderFault>
 // `cells C`, which may be left out.
 fn cells_line<'a>(left: Left<'a>) -> Result<(u32, Left<'a>), HeaderFault>
     requires { left.number ≤ 50 }
-    ensures value { result ≡ cells_line built left.entry }
+    ensures value { result ≡ cells_line left.entry }
     ensures next { IfOk result (λ line. line.1.number ≤ left.entry.number + 1) }
 {
     if !left.is_next(b"cells") {
@@ -67,7 +66,7 @@ fn cells_line<'a>(left: Left<'a>) -> Result<(u32, Left<'a>), HeaderFault>
 // `limit safe` or `limit paper`, which may be left out.
 fn limit_line<'a>(left: Left<'a>) -> Result<(FastLimit, Left<'a>), HeaderFault>
     requires { left.number ≤ 50 }
-    ensures value { result ≡ limit_line built left.entry }
+    ensures value { result ≡ limit_line left.entry }
     ensures next { IfOk result (λ line. line.1.number ≤ left.entry.number + 1) }
 {
     if !left.is_next(b"limit") {
@@ -145,7 +144,7 @@ fn schema_of(bounds: &Bounds) -> Schema
 // The lines of a header in their order, and what is left behind them.
 fn read_lines<'a>(left: &Left<'a>) -> Result<(Cluster, Left<'a>), HeaderFault>
     requires { left.now.number ≤ 1 }
-    ensures value { result ≡ header_lines built left.now }
+    ensures value { result ≡ header_lines left.now }
     ensures few { IfOk result (λ header. header.1.number ≤ 11) }
 {
     let (_, left) = version_line(left)?;
@@ -169,7 +168,7 @@ fn read_lines<'a>(left: &Left<'a>) -> Result<(Cluster, Left<'a>), HeaderFault>
 /// refusal names the first line that is refused, from 1; where a line is missing it is the one
 /// behind the last.
 pub fn parse_header(text: &[u8]) -> Result<(Cluster, usize), HeaderFault>
-    ensures { result ≡ header_of built text.now }
+    ensures { result ≡ header_of text.now }
 {
     let (cluster, left) = read_lines(&Left::new(text))?;
     Ok((cluster, left.place()))

@@ -6,7 +6,6 @@ ghost use Rattle.mdcc_language.specs.Words.{parts_from};
 ghost use Rattle.mdcc_sched.specs.Centres.{centre_above};
 ghost use Rattle.mdcc_sched.specs.Free.{is_memory};
 ghost use Rattle.mdcc_sched.specs.Numbers.{number_of_word};
-ghost use Rattle.mdcc_built.specs.Built.{built};
 
 use crate::words::{not_empty, word_at};
 use mdcc_base::{Centre, HeapList};
@@ -51,7 +50,7 @@ pub fn updates_from(
     line: &[u8],
 ) -> Result<HeapList<UpdateWord>, TextFault>
     requires { at ≤ length line.now }
-    ensures value { GivesUnless is_memory result (updates_from built (at + 1) (parts_from 32 at line.now)) }
+    ensures value { GivesUnless is_memory result (updates_from (at + 1) (parts_from 32 at line.now)) }
     ensures column { IfErr result (λ fault. fault.column ≤ length line.now + 1) }
 {
     let mut updates = HeapList::new(alloc);

@@ -4,7 +4,6 @@ ghost use Rattle.mdcc_base.specs.Unless.{GivesUnless};
 ghost use Rattle.mdcc_language.specs.Schedule.{last_centre, tick_of, crash_of, restart_of, read_of, begin_of, deliver_of, settle_of, image_of, stop_of, event_of, event_or_none, event_in, line_of};
 ghost use Rattle.mdcc_language.specs.Lines.{bytes_of_line};
 ghost use Rattle.mdcc_sched.specs.Free.{is_memory};
-ghost use Rattle.mdcc_built.specs.Built.{built};
 
 use crate::lines::{bounded, bytes_of_line, line_end_of};
 use crate::lists::{centre_of, centres_from, numbers_from, updates_from};
@@ -78,7 +77,7 @@ fn read_of(cluster: &Cluster, line: &[u8]) -> Result<Event, TextFault>
 // `begin K UPDATE ..`
 fn begin_of(alloc: Global, cluster: &Cluster, line: &[u8]) -> Result<Event, TextFault>
     requires { 5 ≤ length line.now }
-    ensures value { GivesUnless is_memory result (begin_of built cluster.now line.now) }
+    ensures value { GivesUnless is_memory result (begin_of cluster.now line.now) }
     ensures column { IfErr result (λ fault. fault.column ≤ length line.now + 1) }
 {
     let start = word_behind(5, line)?;
@@ -146,7 +145,7 @@ fn stop_of(cluster: &Cluster, line: &[u8]) -> Result<Event, TextFault>
 
 // The event of a line that is not skipped.
 fn event_of(alloc: Global, cluster: &Cluster, line: &[u8]) -> Result<Event, TextFault>
-    ensures value { GivesUnless is_memory result (event_of built cluster.now line.now) }
+    ensures value { GivesUnless is_memory result (event_of cluster.now line.now) }
     ensures column { IfErr result (λ fault. fault.column ≤ length line.now + 1) }
 {
     if begins_with(b"read", line) {
@@ -172,7 +171,7 @@ fn event_of(alloc: Global, cluster: &Cluster, line: &[u8]) -> Result<Event, Text
 
 // The event of a line; an empty one and one that begins with `#` are skipped.
 fn event_or_none(alloc: Global, cluster: &Cluster, line: &[u8]) -> Result<Option<Event>, TextFault>
-    ensures value { GivesUnless is_memory result (event_or_none built cluster.now line.now) }
+    ensures value { GivesUnless is_memory result (event_or_none cluster.now line.now) }
     ensures column { IfErr result (λ fault. fault.column ≤ length line.now + 1) }
 {
     match line {
@@ -187,7 +186,7 @@ fn event_or_none(alloc: Global, cluster: &Cluster, line: &[u8]) -> Result<Option
 
 // The event of a line with its line end, which is asked last.
 fn event_in(alloc: Global, cluster: &Cluster, line: &[u8]) -> Result<Option<Event>, TextFault>
-    ensures value { GivesUnless is_memory result (event_in built cluster.now line.now) }
+    ensures value { GivesUnless is_memory result (event_in cluster.now line.now) }
     ensures column { IfErr result (λ fault. fault.column ≤ length (bytes_of_line line.now) + 2) }
 {
     let text = bytes_of_line(line);
@@ -204,7 +203,7 @@ pub fn parse_line(
     line: &[u8],
     cluster: &Cluster,
 ) -> Result<Option<Event>, SchedFault>
-    ensures { GivesUnless is_memory result (line_of built cluster.now line.now) }
+    ensures { GivesUnless is_memory result (line_of cluster.now line.now) }
 {
     let event = event_in(alloc, cluster, line);
     narrowed(bounded(bytes_of_line(line), event))

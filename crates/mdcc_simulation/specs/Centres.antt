@@ -1,7 +1,6 @@
 -- What happens to a centre: ticks, crashes, restarts and stops.
 use Rattle.std.specs.Option.{option_or}
 use Rattle.std.specs.Prelude.{List, Result, Some, [], ℕ, ◌+◌, ◌∷◌}
-use Rattle.mdcc_switches.specs.Built.{Built}
 use Rattle.mdcc_protocol.specs.Facts.{epoch_of}
 use Rattle.mdcc_ledger.specs.Ledger.{Added, facts_of}
 use Rattle.mdcc_messages.specs.declared.facts.Fact.{Fact}
@@ -16,8 +15,8 @@ abbrev pub tick_line : ℕ → World → List Line
 tick_line a w = Line.Tick a (next_message w) ∷ []
 
 -- a tick line
-abbrev pub tick_of : Built → World → ℕ → Result Happened EventFault
-tick_of built w a = with_lines (tick_line a) (input_taken built w a Input.Tick)
+abbrev pub tick_of : World → ℕ → Result Happened EventFault
+tick_of w a = with_lines (tick_line a) (input_taken w a Input.Tick)
 
 -- a crash line: all but the log is lost
 abbrev pub crash_happened : World → ℕ → Happened
@@ -30,10 +29,10 @@ restart_happened w a epoch = record {
 }
 
 -- a restart line, at a centre that is down: the next epoch begins
-abbrev pub restart_of : Built → World → ℕ → Result Happened EventFault
-restart_of built w a =
+abbrev pub restart_of : World → ℕ → Result Happened EventFault
+restart_of w a =
     let epoch = epoch_of (facts_of w.ledger a) + 1 in
-    unless (option_or (cells_limit built w a (Fact.Booted epoch)) (log_limit built w a (Fact.Booted epoch))) (restart_happened w a epoch)
+    unless (option_or (cells_limit w a (Fact.Booted epoch)) (log_limit w a (Fact.Booted epoch))) (restart_happened w a epoch)
 
 -- a stop line: the next append will stop
 abbrev pub stop_happened : World → ℕ → ℕ → Image → Happened

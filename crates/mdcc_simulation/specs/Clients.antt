@@ -6,7 +6,6 @@ use Rattle.mdcc_option.specs.declared.faults.BeginFault.{BeginFault}
 use Rattle.mdcc_option.specs.declared.faults.DraftFault.{DraftFault}
 use Rattle.mdcc_option.specs.declared.items.Known.{Known}
 use Rattle.mdcc_option.specs.declared.items.Part.{Part}
-use Rattle.mdcc_switches.specs.Built.{Built}
 use Rattle.mdcc_language.specs.Resolve.{resolve}
 use Rattle.mdcc_ledger.specs.Ledger.{facts_of}
 use Rattle.mdcc_rules.specs.Steps.{NodeStep}
@@ -45,24 +44,24 @@ abbrev pub answer_in : Result NodeStep StepFault → Option Answer
 answer_in (Ok step) = step.answer
 answer_in (Err fault) = None
 
-abbrev pub begin_taken : Built → World → ℕ → Result NodeStep StepFault → Result Happened EventFault
-begin_taken built w a result = with_lines (begin_lines (answer_in result)) (input_limited built w a result)
+abbrev pub begin_taken : World → ℕ → Result NodeStep StepFault → Result Happened EventFault
+begin_taken w a result = with_lines (begin_lines (answer_in result)) (input_limited w a result)
 
 -- by the parts in key order, or why they make no transaction
-abbrev pub begun_by : Built → World → ℕ → Result (List Part) DraftFault → Result Happened EventFault
-begun_by built w a (Err fault) = Err (EventFault.Begin fault)
-begun_by built w a (Ok parts) = begin_taken built w a (step_at built w a (Input.Begin parts))
+abbrev pub begun_by : World → ℕ → Result (List Part) DraftFault → Result Happened EventFault
+begun_by w a (Err fault) = Err (EventFault.Begin fault)
+begun_by w a (Ok parts) = begin_taken w a (step_at w a (Input.Begin parts))
 
 -- a read without an item is told in a line of its own
 abbrev pub no_item : World → Key → Happened
 no_item w key = record { world = w; lines = Line.Refused key BeginFault.NoItem ∷ [] }
 
-abbrev pub parts_begun : Built → World → ℕ → Result (List Part) ResolveFault → Result Happened EventFault
-parts_begun built w a (Err (ResolveFault.NoRead n)) = Err (EventFault.NoRead n)
-parts_begun built w a (Err (ResolveFault.NoItem key)) = Ok (no_item w key)
-parts_begun built w a (Err ResolveFault.Memory) = Err EventFault.Memory
-parts_begun built w a (Ok parts) = begun_by built w a (transaction_of w.cluster.schema parts)
+abbrev pub parts_begun : World → ℕ → Result (List Part) ResolveFault → Result Happened EventFault
+parts_begun w a (Err (ResolveFault.NoRead n)) = Err (EventFault.NoRead n)
+parts_begun w a (Err (ResolveFault.NoItem key)) = Ok (no_item w key)
+parts_begun w a (Err ResolveFault.Memory) = Err EventFault.Memory
+parts_begun w a (Ok parts) = begun_by w a (transaction_of w.cluster.schema parts)
 
 -- a begin line
-abbrev pub begin_of : Built → World → ℕ → List UpdateWord → Result Happened EventFault
-begin_of built w a words = parts_begun built w a (resolve words (map Some w.reads))
+abbrev pub begin_of : World → ℕ → List UpdateWord → Result Happened EventFault
+begin_of w a words = parts_begun w a (resolve words (map Some w.reads))

@@ -1,7 +1,6 @@
 -- Messages that are delivered: by their numbers, or until none waits.
 use Rattle.std.specs.List.{list_any}
 use Rattle.std.specs.Prelude.{Bool, Err, List, None, Ok, Option, Result, Some, [], false, if◌then◌else◌, length, suc, true, zero, ℕ, ◌&&◌, ◌++◌, ◌+◌, ◌-◌, ◌==◌, ◌||◌, ◌∷◌}
-use Rattle.mdcc_switches.specs.Built.{Built}
 use Rattle.mdcc_language.specs.declared.lines.Line.{Line}
 use Rattle.mdcc_messages.specs.declared.messages.Envelope.{Envelope}
 use Rattle.mdcc_rules.specs.declared.node.Input.{Input}
@@ -12,29 +11,29 @@ use Rattle.mdcc_simulation.specs.State.{World, is_up_at, next_message, Happened,
 use Rattle.mdcc_simulation.specs.Limits.{most_events, within_events, if_up, input_taken, with_lines}
 
 -- the message of a number is delivered, which is an event; it counts as delivered whatever its step does
-abbrev pub delivered : Built → World → ℕ → Envelope → Result Happened EventFault
-delivered built w number envelope =
-    input_taken built (record w { sent = with_delivered w.sent (number - 1); events = w.events + 1 }) envelope.to (Input.Message envelope)
+abbrev pub delivered : World → ℕ → Envelope → Result Happened EventFault
+delivered w number envelope =
+    input_taken (record w { sent = with_delivered w.sent (number - 1); events = w.events + 1 }) envelope.to (Input.Message envelope)
 
 abbrev pub deliver_line : ℕ → World → List Line
 deliver_line number w = Line.Deliver number (next_message w) ∷ []
 
 -- one number of a deliver line
-abbrev pub delivery_by : Built → World → ℕ → Option Sent → Result Happened EventFault
-delivery_by built w number None = Err (EventFault.NoMessage number)
-delivery_by built w number (Some sent) =
-    if_up w sent.envelope.to (within_events built w (with_lines (deliver_line number) (delivered built w number sent.envelope)))
+abbrev pub delivery_by : World → ℕ → Option Sent → Result Happened EventFault
+delivery_by w number None = Err (EventFault.NoMessage number)
+delivery_by w number (Some sent) =
+    if_up w sent.envelope.to (within_events w (with_lines (deliver_line number) (delivered w number sent.envelope)))
 
-abbrev pub delivery_of : Built → World → ℕ → Result Happened EventFault
-delivery_of built w number = delivery_by built w number (numbered w.sent number)
+abbrev pub delivery_of : World → ℕ → Result Happened EventFault
+delivery_of w number = delivery_by w number (numbered w.sent number)
 
 -- the numbers of a deliver line, in turn; the first that is refused refuses the line
-abbrev pub deliveries_of : Built → List ℕ → Happened → Result Happened EventFault
-deliveries_of built [] h = Ok h
-deliveries_of built (number ∷ numbers) h =
-    elim (delivery_of built h.world number) [
+abbrev pub deliveries_of : List ℕ → Happened → Result Happened EventFault
+deliveries_of [] h = Ok h
+deliveries_of (number ∷ numbers) h =
+    elim (delivery_of h.world number) [
       | Err fault ↦ Err fault
-      | Ok next ↦ deliveries_of built numbers (after_lines h.lines next)
+      | Ok next ↦ deliveries_of numbers (after_lines h.lines next)
     ]
 
 -- whether a message waits for a centre that is up and, where centres are listed, among them
@@ -53,18 +52,18 @@ first_waiting w listed number (sent ∷ rest) =
     ]
 
 -- deliver again and again, until none waits; as many events are left as the first number says
-abbrev pub settled_of : ℕ → Built → List ℕ → Happened → ℕ → Result (Happened × ℕ) EventFault
-settled_of zero built listed h deliveries =
+abbrev pub settled_of : ℕ → List ℕ → Happened → ℕ → Result (Happened × ℕ) EventFault
+settled_of zero listed h deliveries =
     elim (first_waiting h.world listed 1 h.world.sent) [
       | None ↦ Ok (h, deliveries)
       | Some next ↦ Err (EventFault.Limit LimitName.Events most_events)
     ]
-settled_of (suc left) built listed h deliveries =
+settled_of (suc left) listed h deliveries =
     elim (first_waiting h.world listed 1 h.world.sent) [
       | None ↦ Ok (h, deliveries)
-      | Some next ↦ elim (delivered built h.world next.0 next.1) [
+      | Some next ↦ elim (delivered h.world next.0 next.1) [
         | Err fault ↦ Err fault
-        | Ok after ↦ settled_of left built listed (after_lines h.lines after) (deliveries + 1)
+        | Ok after ↦ settled_of left listed (after_lines h.lines after) (deliveries + 1)
       ]
     ]
 
@@ -74,6 +73,6 @@ settled_line (Ok (h, deliveries)) =
     Ok (record { world = h.world; lines = h.lines ++ Line.Settled deliveries (next_message h.world) ∷ [] })
 
 -- a settle line
-abbrev pub settle_of : Built → World → List ℕ → Result Happened EventFault
-settle_of built w listed =
-    settled_line (settled_of (most_events - w.events) built listed (record { world = w; lines = Line.Settle listed ∷ [] }) 0)
+abbrev pub settle_of : World → List ℕ → Result Happened EventFault
+settle_of w listed =
+    settled_line (settled_of (most_events - w.events) listed (record { world = w; lines = Line.Settle listed ∷ [] }) 0)

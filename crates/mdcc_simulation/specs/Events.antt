@@ -1,7 +1,6 @@
 -- What each of the eight events of a schedule does to the world.
 use Rattle.std.specs.Prelude.{Bool, Err, Ok, Result, [], false, if◌then◌else◌, true}
 use Rattle.mdcc_protocol.specs.Belongs.{is_centre}
-use Rattle.mdcc_switches.specs.Built.{Built}
 use Rattle.mdcc_language.specs.declared.events.Event.{Event}
 use Rattle.mdcc_language.specs.declared.world.EventFault.{EventFault}
 use Rattle.mdcc_simulation.specs.State.{World, is_up_at, Happened, counted_event}
@@ -11,23 +10,23 @@ use Rattle.mdcc_simulation.specs.Clients.{read_happened, begin_of}
 use Rattle.mdcc_simulation.specs.Centres.{tick_of, crash_happened, restart_of, stop_happened}
 
 -- what an event does, its own count apart
-abbrev pub happened_of : Built → World → Event → Result Happened EventFault
-happened_of built w (Event.Read a key) = if_up w a (Ok (read_happened w a key))
-happened_of built w (Event.Begin a words) = if_up w a (begin_of built w a words)
-happened_of built w (Event.Deliver numbers) = deliveries_of built numbers (record { world = w; lines = [] })
-happened_of built w (Event.Settle listed) = settle_of built w listed
-happened_of built w (Event.Tick a) = if_up w a (tick_of built w a)
-happened_of built w (Event.Crash a) = if_up w a (Ok (crash_happened w a))
-happened_of built w (Event.Restart a) =
-    if is_up_at w a then Err (EventFault.Up a) else (if is_centre w.cluster a then restart_of built w a else Err (EventFault.Down a))
-happened_of built w (Event.Stop a call image) = if_up w a (Ok (stop_happened w a call image))
+abbrev pub happened_of : World → Event → Result Happened EventFault
+happened_of w (Event.Read a key) = if_up w a (Ok (read_happened w a key))
+happened_of w (Event.Begin a words) = if_up w a (begin_of w a words)
+happened_of w (Event.Deliver numbers) = deliveries_of numbers (record { world = w; lines = [] })
+happened_of w (Event.Settle listed) = settle_of w listed
+happened_of w (Event.Tick a) = if_up w a (tick_of w a)
+happened_of w (Event.Crash a) = if_up w a (Ok (crash_happened w a))
+happened_of w (Event.Restart a) =
+    if is_up_at w a then Err (EventFault.Up a) else (if is_centre w.cluster a then restart_of w a else Err (EventFault.Down a))
+happened_of w (Event.Stop a call image) = if_up w a (Ok (stop_happened w a call image))
 
 abbrev pub is_deliver : Event → Bool
 is_deliver (Event.Deliver numbers) = true
 is_deliver _ = false
 
 -- each line counts one event, but of a deliver line each number does
-abbrev pub event_of : Built → World → Event → Result Happened EventFault
-event_of built w event =
-    if is_deliver event then happened_of built w event
-    else within_events built w (happened_of built (counted_event w) event)
+abbrev pub event_of : World → Event → Result Happened EventFault
+event_of w event =
+    if is_deliver event then happened_of w event
+    else within_events w (happened_of (counted_event w) event)

@@ -1,6 +1,5 @@
 -- What stands of an event that is refused: the deliveries that came before the one that was refused.
 use Rattle.std.specs.Prelude.{Err, List, None, Ok, Some, [], suc, zero, ℕ, ◌-◌, ◌∷◌}
-use Rattle.mdcc_switches.specs.Built.{Built}
 use Rattle.mdcc_language.specs.declared.events.Event.{Event}
 use Rattle.mdcc_language.specs.declared.lines.Line.{Line}
 use Rattle.mdcc_simulation.specs.State.{World, Happened, after_lines, counted_event}
@@ -8,30 +7,30 @@ use Rattle.mdcc_simulation.specs.Limits.{most_events}
 use Rattle.mdcc_simulation.specs.Deliveries.{delivered, delivery_of, first_waiting}
 
 -- the deliveries of a line before the first that is refused
-abbrev pub deliveries_before : Built → List ℕ → Happened → Happened
-deliveries_before built [] h = h
-deliveries_before built (number ∷ numbers) h =
-    elim (delivery_of built h.world number) [
+abbrev pub deliveries_before : List ℕ → Happened → Happened
+deliveries_before [] h = h
+deliveries_before (number ∷ numbers) h =
+    elim (delivery_of h.world number) [
       | Err fault ↦ h
-      | Ok next ↦ deliveries_before built numbers (after_lines h.lines next)
+      | Ok next ↦ deliveries_before numbers (after_lines h.lines next)
     ]
 
 -- the deliveries of a settle before the first that is refused
-abbrev pub settled_before : ℕ → Built → List ℕ → Happened → Happened
-settled_before zero built listed h = h
-settled_before (suc left) built listed h =
+abbrev pub settled_before : ℕ → List ℕ → Happened → Happened
+settled_before zero listed h = h
+settled_before (suc left) listed h =
     elim (first_waiting h.world listed 1 h.world.sent) [
       | None ↦ h
-      | Some next ↦ elim (delivered built h.world next.0 next.1) [
+      | Some next ↦ elim (delivered h.world next.0 next.1) [
         | Err fault ↦ h
-        | Ok after ↦ settled_before left built listed (after_lines h.lines after)
+        | Ok after ↦ settled_before left listed (after_lines h.lines after)
       ]
     ]
 
 -- nothing, but for the deliveries that came before the one that was refused, and their lines. A report has none of
 -- them, since it tells nothing of a line that is refused
-abbrev pub left_of : Built → World → Event → Happened
-left_of built w (Event.Deliver numbers) = deliveries_before built numbers (record { world = w; lines = [] })
-left_of built w (Event.Settle listed) =
-    settled_before (most_events - (counted_event w).events) built listed (record { world = counted_event w; lines = Line.Settle listed ∷ [] })
-left_of built w event = record { world = w; lines = [] }
+abbrev pub left_of : World → Event → Happened
+left_of w (Event.Deliver numbers) = deliveries_before numbers (record { world = w; lines = [] })
+left_of w (Event.Settle listed) =
+    settled_before (most_events - (counted_event w).events) listed (record { world = counted_event w; lines = Line.Settle listed ∷ [] })
+left_of w event = record { world = w; lines = [] }

@@ -2,7 +2,6 @@
 use Rattle.std.specs.Option.{option_or}
 use Rattle.std.specs.Prelude.{Bool, Err, List, None, Ok, Option, Result, Some, false, if◌then◌else◌, is_some, nat_le, nat_lt, true, ℕ, ◌&&◌, ◌+◌, ◌^◌, ◌∷◌}
 use Rattle.mdcc_rules.specs.Boot.{is_past_cells}
-use Rattle.mdcc_switches.specs.Built.{Built}
 use Rattle.mdcc_ledger.specs.Ledger.{facts_of}
 use Rattle.mdcc_messages.specs.Lengths.{cells_needed, cells_used, log_length, messages_length}
 use Rattle.mdcc_rules.specs.Steps.{NodeStep}
@@ -30,30 +29,30 @@ abbrev pub limit_if : Bool → LimitName → ℕ → Option EventFault
 limit_if is_passed name number = if is_passed then Some (EventFault.Limit name number) else None
 
 -- one fact more in the log of a centre would pass its limit
-abbrev pub log_limit : Built → World → ℕ → Fact → Option EventFault
-log_limit built w a fact =
-    limit_if (built.limit_on_log && nat_lt most_log (log_length (fact ∷ facts_of w.ledger a))) LimitName.Log most_log
+abbrev pub log_limit : World → ℕ → Fact → Option EventFault
+log_limit w a fact =
+    limit_if (nat_lt most_log (log_length (fact ∷ facts_of w.ledger a))) LimitName.Log most_log
 
 -- these messages would pass the limit of bytes
-abbrev pub bytes_limit : Built → World → List Envelope → Option EventFault
-bytes_limit built w sends =
-    limit_if (built.limit_on_bytes && nat_lt most_bytes (w.bytes + messages_length sends)) LimitName.Bytes most_bytes
+abbrev pub bytes_limit : World → List Envelope → Option EventFault
+bytes_limit w sends =
+    limit_if (nat_lt most_bytes (w.bytes + messages_length sends)) LimitName.Bytes most_bytes
 
 -- the limit that a step would pass; one whose append stops sends nothing
-abbrev pub step_limit_by : Built → World → ℕ → NodeStep → Option Fact → Option EventFault
-step_limit_by built w a step None = bytes_limit built w step.sends
-step_limit_by built w a step (Some fact) =
-    option_or (log_limit built w a fact) (if is_some (centre_at w a).stop then None else bytes_limit built w step.sends)
+abbrev pub step_limit_by : World → ℕ → NodeStep → Option Fact → Option EventFault
+step_limit_by w a step None = bytes_limit w step.sends
+step_limit_by w a step (Some fact) =
+    option_or (log_limit w a fact) (if is_some (centre_at w a).stop then None else bytes_limit w step.sends)
 
-abbrev pub step_limit : Built → World → ℕ → Result NodeStep StepFault → Option EventFault
-step_limit built w a (Ok step) = step_limit_by built w a step step.fact
-step_limit built w a (Err fault) = None
+abbrev pub step_limit : World → ℕ → Result NodeStep StepFault → Option EventFault
+step_limit w a (Ok step) = step_limit_by w a step step.fact
+step_limit w a (Err fault) = None
 
 -- one boot more at a centre would pass the cells of its node: the number that is needed
-abbrev pub cells_limit : Built → World → ℕ → Fact → Option EventFault
-cells_limit built w a fact =
+abbrev pub cells_limit : World → ℕ → Fact → Option EventFault
+cells_limit w a fact =
     let facts = facts_of w.ledger a in
-    limit_if (is_past_cells built w.cluster facts fact) LimitName.Cells (cells_used facts + cells_needed fact)
+    limit_if (is_past_cells w.cluster facts fact) LimitName.Cells (cells_used facts + cells_needed fact)
 
 -- what happens where no limit is passed
 abbrev pub unless : {X : Type 0} → Option EventFault → X → Result X EventFault
@@ -65,25 +64,25 @@ is_limit (EventFault.Limit name number) = true
 is_limit _ = false
 
 -- one event more would pass the limit of events
-abbrev pub is_past_events : Built → World → Bool
-is_past_events built w = built.limit_on_events && nat_le most_events w.events
+abbrev pub is_past_events : World → Bool
+is_past_events w = nat_le most_events w.events
 
 -- the limit of events is asked behind all other refusals, and before the other limits
-abbrev pub within_events : {X : Type 0} → Built → World → Result X EventFault → Result X EventFault
-within_events built w (Ok x) = unless (limit_if (is_past_events built w) LimitName.Events most_events) x
-within_events built w (Err fault) =
-    if is_limit fault && is_past_events built w then Err (EventFault.Limit LimitName.Events most_events) else Err fault
+abbrev pub within_events : {X : Type 0} → World → Result X EventFault → Result X EventFault
+within_events w (Ok x) = unless (limit_if (is_past_events w) LimitName.Events most_events) x
+within_events w (Err fault) =
+    if is_limit fault && is_past_events w then Err (EventFault.Limit LimitName.Events most_events) else Err fault
 
 -- only at a centre that is up
 abbrev pub if_up : {X : Type 0} → World → ℕ → Result X EventFault → Result X EventFault
 if_up w a result = if is_up_at w a then result else Err (EventFault.Down a)
 
 -- an input of a centre, within the limits
-abbrev pub input_limited : Built → World → ℕ → Result NodeStep StepFault → Result Happened EventFault
-input_limited built w a result = unless (step_limit built w a result) (input_happened w a result)
+abbrev pub input_limited : World → ℕ → Result NodeStep StepFault → Result Happened EventFault
+input_limited w a result = unless (step_limit w a result) (input_happened w a result)
 
-abbrev pub input_taken : Built → World → ℕ → Input → Result Happened EventFault
-input_taken built w a input = input_limited built w a (step_at built w a input)
+abbrev pub input_taken : World → ℕ → Input → Result Happened EventFault
+input_taken w a input = input_limited w a (step_at w a input)
 
 -- the lines of what happened stand behind others that it determines
 abbrev pub with_lines : (World → List Line) → Result Happened EventFault → Result Happened EventFault

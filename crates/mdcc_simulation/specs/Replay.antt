@@ -2,7 +2,6 @@
 use Rattle.std.specs.Prelude.{ℕ, ◌+◌, nat_lt, if◌then◌else◌, List, [], ◌∷◌, ◌++◌, length, Option, Some, None, Result, Ok, Err}
 use Rattle.mdcc_option.specs.declared.cluster.Cluster.{Cluster}
 use Rattle.mdcc_language.specs.declared.schedule.HeaderFault.{HeaderFault}
-use Rattle.mdcc_switches.specs.Built.{Built}
 use Rattle.mdcc_language.specs.Errors.{ReplayFault, TooLong, AtHeader, AtLine, AtEvent, most_input, status_of, error_text}
 use Rattle.mdcc_language.specs.Header.{Left, all_of, header_lines}
 use Rattle.mdcc_language.specs.Report.{line_text, lines_text, header_text}
@@ -27,29 +26,29 @@ abbrev pub after_text : List ℕ → Replay → Replay
 after_text text replay = record replay { text = text ++ replay.text }
 
 -- the lines behind the header, with the number of the first, up to the first that is refused
-abbrev pub lines_replayed : Built → Cluster → ℕ → World → List (List ℕ) → Replay
-lines_replayed built cluster number world [] = ended (Some world) (line_text (end_line world)) None
-lines_replayed built cluster number world (line ∷ lines) =
-    elim (line_of built cluster line) [
+abbrev pub lines_replayed : Cluster → ℕ → World → List (List ℕ) → Replay
+lines_replayed cluster number world [] = ended (Some world) (line_text (end_line world)) None
+lines_replayed cluster number world (line ∷ lines) =
+    elim (line_of cluster line) [
       | Err fault ↦ ended (Some world) [] (Some (AtLine number fault))
-      | Ok None ↦ lines_replayed built cluster (number + 1) world lines
-      | Ok (Some event) ↦ (elim (event_of built world event) [
+      | Ok None ↦ lines_replayed cluster (number + 1) world lines
+      | Ok (Some event) ↦ (elim (event_of world event) [
         | Err fault ↦ ended (Some world) [] (Some (AtEvent number fault))
-        | Ok happened ↦ after_text (lines_text happened.lines) (lines_replayed built cluster (number + 1) happened.world lines)
+        | Ok happened ↦ after_text (lines_text happened.lines) (lines_replayed cluster (number + 1) happened.world lines)
       ])
     ]
 
 -- ---- whole inputs
 
-abbrev pub replay_behind : Built → List ℕ → Result (Cluster × Left) HeaderFault → Replay
-replay_behind built input (Err fault) = ended None [] (Some (AtHeader fault))
-replay_behind built input (Ok header) =
-    after_text (header_text header.1.at input) (lines_replayed built header.0 header.1.number (first_world header.0) header.1.lines)
+abbrev pub replay_behind : List ℕ → Result (Cluster × Left) HeaderFault → Replay
+replay_behind input (Err fault) = ended None [] (Some (AtHeader fault))
+replay_behind input (Ok header) =
+    after_text (header_text header.1.at input) (lines_replayed header.0 header.1.number (first_world header.0) header.1.lines)
 
-abbrev pub replay_of : Built → List ℕ → Replay
-replay_of built input =
+abbrev pub replay_of : List ℕ → Replay
+replay_of input =
     if nat_lt most_input (length input) then ended None [] (Some TooLong)
-    else replay_behind built input (header_lines built (all_of input))
+    else replay_behind input (header_lines (all_of input))
 
 -- what the program writes and answers
 pub record Output : Type 0 where

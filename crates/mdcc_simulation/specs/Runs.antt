@@ -2,7 +2,6 @@
 use Rattle.std.specs.Prelude.{Bool, Err, List, None, Ok, Option, Some, [], false, is_some, length, map, not, ◌∷◌}
 use Rattle.mdcc_base.specs.Counts.{number_of}
 use Rattle.mdcc_option.specs.declared.choices.Outcome.{Outcome}
-use Rattle.mdcc_switches.specs.Built.{Built}
 use Rattle.mdcc_ledger.specs.Ledger.{outcome_of, txs_begun}
 use Rattle.mdcc_protocol.specs.Marks.{is_abort, is_commit}
 use Rattle.mdcc_language.specs.declared.events.Event.{Event}
@@ -31,13 +30,13 @@ pub record Run : Type 0 where
   pub lines : List Line
   pub fault : Option EventFault
 
-abbrev pub run_from : Built → List Event → Happened → Run
-run_from built [] h = record { world = h.world; lines = h.lines; fault = None }
-run_from built (event ∷ events) h =
-    elim (event_of built h.world event) [
+abbrev pub run_from : List Event → Happened → Run
+run_from [] h = record { world = h.world; lines = h.lines; fault = None }
+run_from (event ∷ events) h =
+    elim (event_of h.world event) [
       | Err fault ↦ record { world = h.world; lines = h.lines; fault = Some fault }
-      | Ok next ↦ run_from built events (after_lines h.lines next)
+      | Ok next ↦ run_from events (after_lines h.lines next)
     ]
 
-abbrev pub run_of : Built → World → List Event → Run
-run_of built w events = run_from built events (record { world = w; lines = [] })
+abbrev pub run_of : World → List Event → Run
+run_of w events = run_from events (record { world = w; lines = [] })

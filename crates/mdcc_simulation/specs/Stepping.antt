@@ -1,7 +1,6 @@
 -- What becomes of a step of one node: it counts whole, or its append stops and nothing of it but its fact may count.
 use Rattle.std.specs.Prelude.{Bool, Err, List, None, Ok, Option, Result, Some, [], false, if◌then◌else◌, map, nat_le, ℕ, ◌++◌, ◌+◌, ◌∷◌}
 use Rattle.mdcc_base.specs.Sizes.{Sizes}
-use Rattle.mdcc_switches.specs.Built.{Built}
 use Rattle.mdcc_ledger.specs.Ledger.{Added, Entry, facts_of, new_outcomes}
 use Rattle.mdcc_messages.specs.Lengths.{messages_length}
 use Rattle.mdcc_protocol.specs.Marks.{is_commit}
@@ -75,5 +74,5 @@ input_happened w a (Err (StepFault.NoRoom needed spare)) = record { world = w; l
 input_happened w a (Err fault) = record { world = w; lines = [] }
 
 -- the step of a centre on an input
-abbrev pub step_at : Built → World → ℕ → Input → Result NodeStep StepFault
-step_at built w a input = step_of built w.cluster a (facts_of w.ledger a) (centre_at w a).volatile input
+abbrev pub step_at : World → ℕ → Input → Result NodeStep StepFault
+step_at w a input = step_of w.cluster a (facts_of w.ledger a) (centre_at w a).volatile input

@@ -1,13 +1,11 @@
 -- Which steps add an allowed fact, told apart from the room of a version.
-use Rattle.std.proofs.Common.{◌≡◌, Bool, true, false, List, refl, inl, inr, Option, Some, None, Result, Ok, Err}
+use Rattle.std.proofs.Common.{◌≡◌, true, false, List, refl, inl, inr, Option, Some, None, Result, Ok, Err}
 use Rattle.std.proofs.lemmas.Bool.{cases_Bool}
 use Rattle.mdcc_option.specs.declared.cluster.Cluster.{Cluster}
 use Rattle.mdcc_ledger.specs.BootTest.{is_allowed_fact}
-use Rattle.mdcc_switches.specs.Built.{Built}
 use Rattle.mdcc_protocol.specs.News.{is_crowding}
-use Rattle.mdcc_rules.specs.Node.{checked, is_without_room, rule, with_room}
-use Rattle.mdcc_rules.specs.Steps.{NodeStep, nothing_done}
-use Rattle.mdcc_protocol.specs.Volatile.{Volatile}
+use Rattle.mdcc_rules.specs.Node.{checked, is_without_room, with_room}
+use Rattle.mdcc_rules.specs.Steps.{NodeStep}
 use Rattle.mdcc_messages.specs.declared.facts.Fact.{Fact}
 use Rattle.mdcc_rules.specs.declared.node.StepFault.{StepFault}
 
@@ -21,22 +19,17 @@ abbrev pub OnStep : (NodeStep → Type 0) → Result NodeStep StepFault → Type
 OnStep P (Ok step) = P step
 OnStep P (Err fault) = Unit {0}
 
-pub on_rule : (P : NodeStep → Type 0) (is_built : Bool) (volatile : Volatile) (r : Result NodeStep StepFault)
-    → P (nothing_done volatile) → OnStep P r → OnStep P (rule is_built volatile r)
-on_rule P true volatile r h k = k
-on_rule P false volatile r h k = h
-
 -- a step that is checked was made, and its fact crowds nothing
-pub on_checked : (P Q : NodeStep → Type 0) (built : Built) (cluster : Cluster) (facts : List Fact) (r : Result NodeStep StepFault)
+pub on_checked : (P Q : NodeStep → Type 0) (cluster : Cluster) (facts : List Fact) (r : Result NodeStep StepFault)
     → ((step : NodeStep) → P step → ((fact : Fact) → step.fact ≡ Some fact → is_crowding facts fact ≡ false) → Q step)
-    → OnStep P r → OnStep Q (checked built cluster facts r)
-on_checked P Q built cluster facts (Err fault) f h = tt
-on_checked P Q built cluster facts (Ok step) f h = by_fact step.fact refl
+    → OnStep P r → OnStep Q (checked cluster facts r)
+on_checked P Q cluster facts (Err fault) f h = tt
+on_checked P Q cluster facts (Ok step) f h = by_fact step.fact refl
   where
-    by_fact : (o : Option Fact) → step.fact ≡ o → OnStep Q (with_room built cluster facts step o)
+    by_fact : (o : Option Fact) → step.fact ≡ o → OnStep Q (with_room cluster facts step o)
     by_fact None e = f step h (λ fact g. absurd (cc))
     by_fact (Some fact) e =
-        elim (cases_Bool (is_without_room built cluster facts fact)) [
+        elim (cases_Bool (is_without_room cluster facts fact)) [
           | inl a ↦ rw a tt
           | inr a ↦ elim (cases_Bool (is_crowding facts fact)) [
             | inl b ↦ rw (a, b) tt

@@ -17,7 +17,6 @@ use Rattle.mdcc_option.specs.declared.items.Part.{Part}
 use Rattle.mdcc_option.specs.declared.items.Token.{Token}
 use Rattle.mdcc_option.specs.declared.items.Update.{Update}
 use Rattle.mdcc_struct.specs.Maps.{TxMap, are_ascending, txs_of}
-use Rattle.mdcc_switches.specs.Built.{Built}
 use Rattle.mdcc_protocol.specs.Facts.{base_of, current_of, epoch_of, executed_of, token_of}
 use Rattle.mdcc_protocol.specs.Manager.{add_fault, begin_by, begin_fault, first_key, part_begin_fault, parts_begin_fault, update_begin_fault}
 use Rattle.mdcc_rules.specs.ManagerRules.{begin_step_by}
@@ -148,27 +147,27 @@ begin-answered cluster me facts volatile parts (Some fault) of_me known w e h =
     (key-refused (parts_begin_fault facts parts) (first_key parts) (first-key parts w.count.0 w.each) (parts-refusal cluster facts parts known w.each), h.1)
 begin-answered cluster me facts volatile parts None of_me known w e h = begun-tx cluster me facts volatile of_me known parts e
 
-answered-step : (built : Built) (cluster : Cluster) (me : ℕ) (facts : List Fact) (volatile : Volatile) (input : Input) → IsInRange 1 9 me → AreNodeFacts cluster facts → IsWellFormedInput input
-    → OnStep IsAnswered (step_of built cluster me facts volatile input)
-answered-step built cluster me facts volatile (Input.Message envelope) of_me known w =
-    cond_both (is_own_message cluster me envelope) (checked built cluster facts (message_step built cluster me facts volatile envelope.from envelope.message)) (Err StepFault.Foreign) (OnStep IsAnswered)
-    (λ e. on_checked IsQuiet IsAnswered built cluster facts (message_step built cluster me facts volatile envelope.from envelope.message) (λ step h room. quiet-answered step.answer h)
-    (quiet-message built cluster me facts volatile envelope.from envelope.message)) (λ e. tt)
-answered-step built cluster me facts volatile Input.Tick of_me known w = tt
-answered-step built cluster me facts volatile (Input.Read key) of_me known w =
+answered-step : (cluster : Cluster) (me : ℕ) (facts : List Fact) (volatile : Volatile) (input : Input) → IsInRange 1 9 me → AreNodeFacts cluster facts → IsWellFormedInput input
+    → OnStep IsAnswered (step_of cluster me facts volatile input)
+answered-step cluster me facts volatile (Input.Message envelope) of_me known w =
+    cond_both (is_own_message cluster me envelope) (checked cluster facts (message_step cluster me facts volatile envelope.from envelope.message)) (Err StepFault.Foreign) (OnStep IsAnswered)
+    (λ e. on_checked IsQuiet IsAnswered cluster facts (message_step cluster me facts volatile envelope.from envelope.message) (λ step h room. quiet-answered step.answer h)
+    (quiet-message cluster me facts volatile envelope.from envelope.message)) (λ e. tt)
+answered-step cluster me facts volatile Input.Tick of_me known w = tt
+answered-step cluster me facts volatile (Input.Read key) of_me known w =
     (token-formed cluster facts key known, shown-formed (executed_of facts key) (base_of facts key) (base-formed (base_of facts key) (base-told facts key known.well_formed)))
   where
     base-formed : (o : Option Item) → HoldsIn (λ item. IsWellFormedItem item × (1 ≤ current_of facts key)) o → HoldsIn IsWellFormedItem o
     base-formed None h = tt
     base-formed (Some item) h = h.0
-answered-step built cluster me facts volatile (Input.Begin parts) of_me known w =
+answered-step cluster me facts volatile (Input.Begin parts) of_me known w =
     begin-answered cluster me facts volatile parts (begin_fault facts volatile.manager parts) of_me known w refl (begin-refusal cluster facts volatile.manager parts known w)
 
 answer-at : (o : Option Answer) (answer : Answer) → HoldsIn IsWellFormedGivenAnswer o → o ≡ Some answer → IsWellFormedGivenAnswer answer
 answer-at o answer h e = rw e at h
 
-pub answer-formed : (built : Built) (cluster : Cluster) (me : ℕ) (facts : List Fact) (volatile : Volatile) (input : Input) (step : NodeStep) (answer : Answer)
-    → IsNode cluster me facts volatile → IsWellFormedInput input → step_of built cluster me facts volatile input ≡ Ok step → step.answer ≡ Some answer → IsWellFormedGivenAnswer answer
-answer-formed built cluster me facts volatile input step answer node w made is =
+pub answer-formed : (cluster : Cluster) (me : ℕ) (facts : List Fact) (volatile : Volatile) (input : Input) (step : NodeStep) (answer : Answer)
+    → IsNode cluster me facts volatile → IsWellFormedInput input → step_of cluster me facts volatile input ≡ Ok step → step.answer ≡ Some answer → IsWellFormedGivenAnswer answer
+answer-formed cluster me facts volatile input step answer node w made is =
     answer-at step.answer answer
-    (on_made IsAnswered _ step (answered-step built cluster me facts volatile input (centre-range cluster me node.cluster_itself.quorums node.centre) node.facts_themselves w) made) is
+    (on_made IsAnswered _ step (answered-step cluster me facts volatile input (centre-range cluster me node.cluster_itself.quorums node.centre) node.facts_themselves w) made) is

@@ -1,14 +1,13 @@
 -- A boot gives a node, and reads facts that are allowed in turn.
-use Rattle.std.proofs.Common.{◌≡◌, ℕ, ◌+◌, ◌-◌, ◌^◌, ◌&&◌, ◌==◌, ◌<◌, ◌≤◌, ◌++◌, Bool, true, false, cond, List, [], ◌∷◌, refl, ap, sym, ◌∙◌, inl, inr, subst, Option, Some, None, Result, Ok, Err, not, nat_le, nat_lt, arith}
+use Rattle.std.proofs.Common.{◌≡◌, ℕ, ◌+◌, ◌-◌, ◌^◌, ◌&&◌, ◌==◌, ◌<◌, ◌≤◌, ◌++◌, Bool, true, false, cond, List, [], ◌∷◌, refl, ap, inl, inr, subst, Option, Some, None, Result, Ok, Err, not, nat_le, arith}
 use Rattle.std.specs.List.{AllByRecursion}
-use Rattle.std.proofs.lemmas.Bool.{and_cases, and_from, and_left, and_parts, and_right, cases_Bool, eq-eqb, eqb-true, le-ltb, leb-false, lt-ltb, ltb-false, not-false, not_from_true, true≢false}
+use Rattle.std.proofs.lemmas.Bool.{and_from, and_parts, cases_Bool, eq-eqb, eqb-true, le-ltb, leb-false, lt-ltb, ltb-false, not-false, not_from_true}
 use Rattle.mdcc_base.specs.Counts.{number_of}
 use Rattle.mdcc_option.specs.declared.cluster.Cluster.{Cluster}
 use Rattle.mdcc_ledger.specs.BootTest.{are_allowed_facts, is_allowed_fact}
 use Rattle.mdcc_ledger.specs.AllowedFacts.{is_booted}
 use Rattle.mdcc_protocol.specs.Belongs.{fact_belongs, is_centre}
 use Rattle.mdcc_rules.specs.Boot.{boot_of, booted_by, is_past_cells, loaded_from, room_fault}
-use Rattle.mdcc_switches.specs.Built.{Built}
 use Rattle.mdcc_protocol.specs.Facts.{epoch_of}
 use Rattle.mdcc_protocol.specs.IsCluster.{IsCluster}
 use Rattle.mdcc_messages.specs.Lengths.{cells_needed, cells_used}
@@ -34,13 +33,13 @@ IsPayload payload = (fact : Fact) → payload ≡ Some fact → IsWellFormedFact
 abbrev AreLoaded : Cluster → List Fact → Type 0
 AreLoaded cluster facts = (are_allowed_facts cluster facts ≡ true) × AllByRecursion IsWellFormedFact facts
 
-loaded-facts : (built : Built) (cluster : Cluster) (facts : List Fact) (n : ℕ) (payloads : List (Option Fact)) (result : List Fact) → AreLoaded cluster facts → AllByRecursion IsPayload payloads
-    → loaded_from built cluster facts n payloads ≡ Ok result → AreLoaded cluster result
-loaded-facts built cluster facts n [] result h w e = let same : facts ≡ result = cc in rw (← same) h
-loaded-facts built cluster facts n (None ∷ payloads) result h w e = absurd (cc)
-loaded-facts built cluster facts n (Some fact ∷ payloads) result h w e =
-    let passed = two_tests (not (is_allowed_fact cluster facts fact)) (is_past_cells built cluster facts fact) _ _ (loaded_from built cluster (fact ∷ facts) (n + 1) payloads) result e in
-    loaded-facts built cluster (fact ∷ facts) (n + 1) payloads result
+loaded-facts : (cluster : Cluster) (facts : List Fact) (n : ℕ) (payloads : List (Option Fact)) (result : List Fact) → AreLoaded cluster facts → AllByRecursion IsPayload payloads
+    → loaded_from cluster facts n payloads ≡ Ok result → AreLoaded cluster result
+loaded-facts cluster facts n [] result h w e = let same : facts ≡ result = cc in rw (← same) h
+loaded-facts cluster facts n (None ∷ payloads) result h w e = absurd (cc)
+loaded-facts cluster facts n (Some fact ∷ payloads) result h w e =
+    let passed = two_tests (not (is_allowed_fact cluster facts fact)) (is_past_cells cluster facts fact) _ _ (loaded_from cluster (fact ∷ facts) (n + 1) payloads) result e in
+    loaded-facts cluster (fact ∷ facts) (n + 1) payloads result
     (and_from _ _ h.0 (not-false (is_allowed_fact cluster facts fact) passed.0), (w.0 fact refl, h.1)) w.1 passed.2
 
 -- ---- epochs are counted
@@ -64,10 +63,10 @@ epochs-counted cluster (fact ∷ facts) h =
 
 -- ---- a boot
 
-booted-facts : (built : Built) (cluster : Cluster) (facts result : List Fact) → AreLoaded cluster facts → booted_by built cluster (Ok facts) ≡ Ok result → AreNodeFacts cluster result
-booted-facts built cluster facts result h e =
+booted-facts : (cluster : Cluster) (facts result : List Fact) → AreLoaded cluster facts → booted_by cluster (Ok facts) ≡ Ok result → AreNodeFacts cluster result
+booted-facts cluster facts result h e =
     let fact : Fact = Fact.Booted (epoch_of facts + 1) in
-    let passed = two_tests (nat_le (2 ^ 32 - 1) (epoch_of facts)) (is_past_cells built cluster facts fact) BootFault.Epochs (room_fault cluster facts fact) (Ok (fact ∷ facts)) result e in
+    let passed = two_tests (nat_le (2 ^ 32 - 1) (epoch_of facts)) (is_past_cells cluster facts fact) BootFault.Epochs (room_fault cluster facts fact) (Ok (fact ∷ facts)) result e in
     let same : fact ∷ facts ≡ result = ok-same {Y = BootFault} (Ok (fact ∷ facts)) (fact ∷ facts) result refl passed.2 in
     let below : epoch_of facts < 2 ^ 32 - 1 = leb-false (2 ^ 32 - 1) (epoch_of facts) passed.0 in
     subst (AreNodeFacts cluster) same (record {
@@ -76,81 +75,75 @@ booted-facts built cluster facts result h e =
       well_formed = ((omega arith, omega arith), h.1);
     })
 
-pub boot-node : (built : Built) (cluster : Cluster) (me : ℕ) (payloads : List (Option Fact)) (facts : List Fact) → IsCluster cluster → is_centre cluster me ≡ true
-    → AllByRecursion IsPayload payloads → boot_of built cluster payloads ≡ Ok facts → IsNode cluster me facts nothing_kept
-boot-node built cluster me payloads facts w of_me payloads_formed e = record {
+pub boot-node : (cluster : Cluster) (me : ℕ) (payloads : List (Option Fact)) (facts : List Fact) → IsCluster cluster → is_centre cluster me ≡ true
+    → AllByRecursion IsPayload payloads → boot_of cluster payloads ≡ Ok facts → IsNode cluster me facts nothing_kept
+boot-node cluster me payloads facts w of_me payloads_formed e = record {
   cluster_itself = w;
   centre = of_me;
-  facts_themselves = by_loaded (loaded_from built cluster [] 0 payloads) refl e;
+  facts_themselves = by_loaded (loaded_from cluster [] 0 payloads) refl e;
   votes = record { manager = tt; recovery = tt };
   volatile_itself = record { opened = tt; votes = tt; watched = tt; leads = tt };
 }
   where
-    by_loaded : (r : Result (List Fact) BootFault) → loaded_from built cluster [] 0 payloads ≡ r → booted_by built cluster r ≡ Ok facts → AreNodeFacts cluster facts
+    by_loaded : (r : Result (List Fact) BootFault) → loaded_from cluster [] 0 payloads ≡ r → booted_by cluster r ≡ Ok facts → AreNodeFacts cluster facts
     by_loaded (Err fault) f g = absurd (cc)
-    by_loaded (Ok loaded) f g = booted-facts built cluster loaded facts (loaded-facts built cluster [] 0 payloads loaded (refl, tt) payloads_formed f) g
+    by_loaded (Ok loaded) f g = booted-facts cluster loaded facts (loaded-facts cluster [] 0 payloads loaded (refl, tt) payloads_formed f) g
 
 -- ---- what was allowed is read again
 
 -- one payload more
-loaded-more : (built : Built) (cluster : Cluster) (start mid : List Fact) (n : ℕ) (payloads : List (Option Fact)) (fact : Fact) → loaded_from built cluster start n payloads ≡ Ok mid
-    → is_allowed_fact cluster mid fact ≡ true → is_past_cells built cluster mid fact ≡ false
-    → loaded_from built cluster start n (payloads ++ Some fact ∷ []) ≡ Ok (fact ∷ mid)
-loaded-more built cluster start mid n [] fact e allowed room =
+loaded-more : (cluster : Cluster) (start mid : List Fact) (n : ℕ) (payloads : List (Option Fact)) (fact : Fact) → loaded_from cluster start n payloads ≡ Ok mid
+    → is_allowed_fact cluster mid fact ≡ true → is_past_cells cluster mid fact ≡ false
+    → loaded_from cluster start n (payloads ++ Some fact ∷ []) ≡ Ok (fact ∷ mid)
+loaded-more cluster start mid n [] fact e allowed room =
     let same : start ≡ mid = cc in rw (same, not_from_true (is_allowed_fact cluster mid fact) allowed, room) refl
-loaded-more built cluster start mid n (None ∷ payloads) fact e allowed room = absurd (cc)
-loaded-more built cluster start mid n (Some first ∷ payloads) fact e allowed room =
+loaded-more cluster start mid n (None ∷ payloads) fact e allowed room = absurd (cc)
+loaded-more cluster start mid n (Some first ∷ payloads) fact e allowed room =
     elim (cases_Bool (not (is_allowed_fact cluster start first))) [
       | inl a ↦ let bad : Err (BootFault.NotARun (n + 1)) ≡ Ok mid = rw a at e in absurd (cc)
-      | inr a ↦ elim (cases_Bool (is_past_cells built cluster start first)) [
+      | inr a ↦ elim (cases_Bool (is_past_cells cluster start first)) [
         | inl b ↦ let bad : Err (room_fault cluster start first) ≡ Ok mid = rw (a, b) at e in absurd (cc)
-        | inr b ↦ let rest : loaded_from built cluster (first ∷ start) (n + 1) payloads ≡ Ok mid = rw (a, b) at e in
-            rw (a, b) (loaded-more built cluster (first ∷ start) mid (n + 1) payloads fact rest allowed room)
+        | inr b ↦ let rest : loaded_from cluster (first ∷ start) (n + 1) payloads ≡ Ok mid = rw (a, b) at e in
+            rw (a, b) (loaded-more cluster (first ∷ start) mid (n + 1) payloads fact rest allowed room)
       ]
     ]
 
-fits-cells : (built : Built) (cluster : Cluster) (facts : List Fact) (fact : Fact) → (built.limit_on_cells ≡ true → cells_used (fact ∷ facts) ≤ cluster.cells) → is_past_cells built cluster facts fact ≡ false
-fits-cells built cluster facts fact room =
-    elim (cases_Bool built.limit_on_cells) [
-      | inl e ↦ and_right built.limit_on_cells (nat_lt cluster.cells (cells_used facts + cells_needed fact)) (le-ltb cluster.cells (cells_used facts + cells_needed fact) (omega (arith, room e)))
-      | inr e ↦ and_left built.limit_on_cells (nat_lt cluster.cells (cells_used facts + cells_needed fact)) e
-    ]
+pub fits-cells : (cluster : Cluster) (facts : List Fact) (fact : Fact) → cells_used (fact ∷ facts) ≤ cluster.cells → is_past_cells cluster facts fact ≡ false
+fits-cells cluster facts fact room =
+    le-ltb cluster.cells (cells_used facts + cells_needed fact) (omega (arith, room))
 
-loaded-again : (built : Built) (cluster : Cluster) (facts : List Fact) → are_allowed_facts cluster facts ≡ true → (built.limit_on_cells ≡ true → cells_used facts ≤ cluster.cells)
-    → loaded_from built cluster [] 0 (payloads_of facts) ≡ Ok facts
-loaded-again built cluster [] h room = refl
-loaded-again built cluster (fact ∷ facts) h room =
+loaded-again : (cluster : Cluster) (facts : List Fact) → are_allowed_facts cluster facts ≡ true → cells_used facts ≤ cluster.cells
+    → loaded_from cluster [] 0 (payloads_of facts) ≡ Ok facts
+loaded-again cluster [] h room = refl
+loaded-again cluster (fact ∷ facts) h room =
     let both = and_parts (are_allowed_facts cluster facts) (is_allowed_fact cluster facts fact) h in
-    loaded-more built cluster [] facts 0 (payloads_of facts) fact (loaded-again built cluster facts both.0 (λ e. less (cells_needed fact) (cells_used facts) cluster.cells (room e))) both.1
-    (fits-cells built cluster facts fact room)
+    loaded-more cluster [] facts 0 (payloads_of facts) fact (loaded-again cluster facts both.0 (less (cells_needed fact) (cells_used facts) cluster.cells room)) both.1
+    (fits-cells cluster facts fact room)
   where
     less : (a b c : ℕ) → a + b ≤ c → b ≤ c
     less a b c h = omega arith
 
-pub boot-reads : (built : Built) (cluster : Cluster) (facts : List Fact) → are_allowed_facts cluster facts ≡ true → (built.limit_on_cells ≡ true → cells_used facts ≤ cluster.cells)
-    → boot_of built cluster (payloads_of facts) ≡ booted_by built cluster (Ok facts)
-boot-reads built cluster facts h room = ap (booted_by built cluster) (loaded-again built cluster facts h room)
+pub boot-reads : (cluster : Cluster) (facts : List Fact) → are_allowed_facts cluster facts ≡ true → cells_used facts ≤ cluster.cells
+    → boot_of cluster (payloads_of facts) ≡ booted_by cluster (Ok facts)
+boot-reads cluster facts h room = ap (booted_by cluster) (loaded-again cluster facts h room)
 
 -- ---- a boot keeps within the cells
 
-within-cells : (built : Built) (cluster : Cluster) (facts : List Fact) (fact : Fact) → built.limit_on_cells ≡ true → is_past_cells built cluster facts fact ≡ false → cells_used (fact ∷ facts) ≤ cluster.cells
-within-cells built cluster facts fact limited h =
-    elim (and_cases built.limit_on_cells (nat_lt cluster.cells (cells_used facts + cells_needed fact)) h) [
-      | inl e ↦ absurd (true≢false (sym limited ∙ e))
-      | inr e ↦ let within = ltb-false cluster.cells (cells_used facts + cells_needed fact) e in turned (cells_needed fact) (cells_used facts) cluster.cells within
-    ]
+within-cells : (cluster : Cluster) (facts : List Fact) (fact : Fact) → is_past_cells cluster facts fact ≡ false → cells_used (fact ∷ facts) ≤ cluster.cells
+within-cells cluster facts fact h =
+    let within = ltb-false cluster.cells (cells_used facts + cells_needed fact) h in turned (cells_needed fact) (cells_used facts) cluster.cells within
   where
     turned : (a b c : ℕ) → b + a ≤ c → a + b ≤ c
     turned a b c h = omega arith
 
-pub boot-room : (built : Built) (cluster : Cluster) (payloads : List (Option Fact)) (facts : List Fact) → built.limit_on_cells ≡ true → boot_of built cluster payloads ≡ Ok facts
+pub boot-room : (cluster : Cluster) (payloads : List (Option Fact)) (facts : List Fact) → boot_of cluster payloads ≡ Ok facts
     → cells_used facts ≤ cluster.cells
-boot-room built cluster payloads facts limited e = by_loaded (loaded_from built cluster [] 0 payloads) e
+boot-room cluster payloads facts e = by_loaded (loaded_from cluster [] 0 payloads) e
   where
-    by_loaded : (r : Result (List Fact) BootFault) → booted_by built cluster r ≡ Ok facts → cells_used facts ≤ cluster.cells
+    by_loaded : (r : Result (List Fact) BootFault) → booted_by cluster r ≡ Ok facts → cells_used facts ≤ cluster.cells
     by_loaded (Err fault) g = absurd (cc)
     by_loaded (Ok loaded) g =
         let fact : Fact = Fact.Booted (epoch_of loaded + 1) in
-        let passed = two_tests (nat_le (2 ^ 32 - 1) (epoch_of loaded)) (is_past_cells built cluster loaded fact) BootFault.Epochs (room_fault cluster loaded fact) (Ok (fact ∷ loaded)) facts g in
+        let passed = two_tests (nat_le (2 ^ 32 - 1) (epoch_of loaded)) (is_past_cells cluster loaded fact) BootFault.Epochs (room_fault cluster loaded fact) (Ok (fact ∷ loaded)) facts g in
         let same : fact ∷ loaded ≡ facts = ok-same {Y = BootFault} (Ok (fact ∷ loaded)) (fact ∷ loaded) facts refl passed.2 in
-        subst (λ (fs : List Fact). cells_used fs ≤ cluster.cells) same (within-cells built cluster loaded fact limited passed.1)
+        subst (λ (fs : List Fact). cells_used fs ≤ cluster.cells) same (within-cells cluster loaded fact passed.1)

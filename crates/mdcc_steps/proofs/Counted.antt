@@ -1,5 +1,5 @@
 -- What holds of each counted vote holds after each step.
-use Rattle.std.proofs.Common.{◌≡◌, ℕ, ◌&&◌, true, cond, List, [], ◌∷◌, Option, Some, None, Result, Ok, Err, fold, not}
+use Rattle.std.proofs.Common.{◌≡◌, ℕ, ◌&&◌, true, List, [], ◌∷◌, Option, Some, None, Result, Ok, Err, fold, not}
 use Rattle.std.specs.List.{AllByRecursion}
 use Rattle.std.proofs.lemmas.Bool.{and_parts, cond_both}
 use Rattle.mdcc_base.specs.Sizes.{Sizes}
@@ -19,10 +19,9 @@ use Rattle.mdcc_struct.specs.declared.options.Options.{Options}
 use Rattle.mdcc_protocol.specs.Acceptor.{on_accept, on_prepare, on_propose}
 use Rattle.mdcc_rules.specs.AcceptorRules.{accepted_step, ask_step_by, prepared_step, proposed_step}
 use Rattle.mdcc_protocol.specs.Belongs.{message_belongs}
-use Rattle.mdcc_switches.specs.Built.{Built}
 use Rattle.mdcc_protocol.specs.Facts.{epoch_of, heard_of, is_heard, vote_of}
 use Rattle.mdcc_protocol.specs.Leader.{claim_of_choice, lead, on_promise}
-use Rattle.mdcc_rules.specs.LeaderRules.{lead_step_after, led_by_answer, led_of, promise_step, promised_by_answer, step_of_led}
+use Rattle.mdcc_rules.specs.LeaderRules.{lead_step_after, led_by_answer, promised_by_answer, step_of_led}
 use Rattle.mdcc_protocol.specs.Learner.{is_learned, with_vote}
 use Rattle.mdcc_protocol.specs.Manager
 use Rattle.mdcc_protocol.specs.Manager.{act_on_cause, act_on_vote, acted, after_act, begin_by, begin_fault, vote_taken}
@@ -48,7 +47,7 @@ use Rattle.mdcc_rules.specs.declared.node.Input.{Input}
 use Rattle.mdcc_rules.specs.declared.node.StepFault.{StepFault}
 use Rattle.mdcc_protocol.specs.declared.recover.RecoverAct.{RecoverAct}
 use Rattle.mdcc_protocol.specs.declared.votes.Vote.{Vote}
-use Rattle.mdcc_steps.proofs.Allowing.{OnStep, on_checked, on_rule}
+use Rattle.mdcc_steps.proofs.Allowing.{OnStep, on_checked}
 use Rattle.mdcc_steps.proofs.Decided.{each-with_vote}
 use Rattle.mdcc_steps.proofs.Each.{each-kept}
 
@@ -87,21 +86,20 @@ module _ (P : Vote → Type 0) where
   votes-acted manager (Some (ManagerAct.Propose choice)) h = h
   votes-acted manager (Some (ManagerAct.LeadHere choice)) h = h
 
-  module _ (built : Built) (cluster : Cluster) (me : ℕ) (facts : List Fact) (volatile : Volatile) (all : AreAll volatile) where
+  module _ (cluster : Cluster) (me : ℕ) (facts : List Fact) (volatile : Volatile) (all : AreAll volatile) where
     votes-proposed : (s : ℕ) (choice : Choice) (answer : ProposeAnswer) → AreAllAfter (proposed_step me volatile s choice answer)
     votes-proposed s choice (ProposeAnswer.Known outcome) = all
     votes-proposed s choice (ProposeAnswer.Again ballot mark) = all
     votes-proposed s choice (ProposeAnswer.Vote mark) = all
     votes-proposed s choice (ProposeAnswer.Escalate cause) = all
 
-    votes-undecided : (vote : Vote) → P vote → AreAllAfter (undecided_step built cluster me facts volatile vote)
+    votes-undecided : (vote : Vote) → P vote → AreAllAfter (undecided_step cluster me facts volatile vote)
     votes-undecided vote k =
         let taken = vote_taken cluster.quorums volatile.manager vote in
         let h = votes-taken cluster.quorums volatile.manager vote all.0 k in
-        cond_both built.escalations (acted_step me facts volatile (Manager.on_voted cluster.quorums volatile.manager vote)) (nothing_done (with_manager volatile taken)) AreAllAfter
-        (λ e. (votes-acted taken (act_on_vote cluster.quorums taken vote (Manager.decision cluster.quorums taken vote.tx)) h, all.1)) (λ e. (h, all.1))
+        (votes-acted taken (act_on_vote cluster.quorums taken vote (Manager.decision cluster.quorums taken vote.tx)) h, all.1)
 
-    votes-opened : (vote : Vote) → P vote → (o : Option Outcome) → AreAllAfter (opened_step built cluster me facts volatile vote o)
+    votes-opened : (vote : Vote) → P vote → (o : Option Outcome) → AreAllAfter (opened_step cluster me facts volatile vote o)
     votes-opened vote k (Some outcome) = votes-closed volatile vote.tx all
     votes-opened vote k None = votes-undecided vote k
 
@@ -113,11 +111,11 @@ module _ (P : Vote → Type 0) where
     votes-watched vote k (Some decided) = votes-closed volatile decided.0 all
     votes-watched vote k None = (all.0, votes-recovered vote k (keys_watched facts volatile.recovery vote.tx))
 
-    votes-voted : (vote : Vote) → P vote → AreAllAfter (voted_step built cluster me facts volatile vote)
+    votes-voted : (vote : Vote) → P vote → AreAllAfter (voted_step cluster me facts volatile vote)
     votes-voted vote k =
         cond_both (is_heard facts vote.tx) (nothing_done volatile) _ AreAllAfter (λ e. all) (λ e.
         cond_both (is_open volatile.manager vote.tx)
-        (opened_step built cluster me facts volatile vote (Manager.would_decide cluster.quorums volatile.manager vote))
+        (opened_step cluster me facts volatile vote (Manager.would_decide cluster.quorums volatile.manager vote))
         (watched_step cluster me facts volatile vote (Recover.would_decide cluster.quorums facts volatile.recovery vote))
         AreAllAfter
         (λ f. votes-opened vote k (Manager.would_decide cluster.quorums volatile.manager vote))
@@ -167,25 +165,22 @@ module _ (P : Vote → Type 0) where
     votes-given None = all
     votes-given (Some fact) = all
 
-    pub votes-message : (s : ℕ) (message : Message) → HoldsOfVote s message → OnStep AreAllAfter (message_step built cluster me facts volatile s message)
-    votes-message s (Message.Propose choice) k = on_rule AreAllAfter built.proposals volatile _ all (votes-proposed s choice (on_propose cluster facts choice))
+    pub votes-message : (s : ℕ) (message : Message) → HoldsOfVote s message → OnStep AreAllAfter (message_step cluster me facts volatile s message)
+    votes-message s (Message.Propose choice) k = votes-proposed s choice (on_propose cluster facts choice)
     votes-message s (Message.Voted key version ballot tx mark) k =
-        on_rule AreAllAfter built.proposals volatile _ all (votes-voted (record { from = s; key = key; version = version; ballot = ballot; tx = tx; mark = mark }) k)
-    votes-message s (Message.Escalate key version tx cause) k = on_rule AreAllAfter built.escalations volatile _ all (votes-escalate s key tx cause)
-    votes-message s (Message.Lead choice) k = on_rule AreAllAfter built.leading volatile _ all (votes-lead s choice (heard_of facts choice.tx))
-    votes-message s (Message.Prepare key version through ballot) k =
-        on_rule AreAllAfter built.leading volatile _ all (votes-prepared s key version ballot (on_prepare facts key version through ballot))
+        votes-voted (record { from = s; key = key; version = version; ballot = ballot; tx = tx; mark = mark }) k
+    votes-message s (Message.Escalate key version tx cause) k = votes-escalate s key tx cause
+    votes-message s (Message.Lead choice) k = votes-lead s choice (heard_of facts choice.tx)
+    votes-message s (Message.Prepare key version through ballot) k = votes-prepared s key version ballot (on_prepare facts key version through ballot)
     votes-message s (Message.Promise key version through ballot reported votes) k =
-        on_rule AreAllAfter built.leading volatile (promise_step cluster me facts volatile s (record { key = key; version = version; through = through; ballot = ballot; reported = reported; votes = votes })) all
-        (votes-promised key (on_promise cluster facts volatile.leader s (record { key = key; version = version; through = through; ballot = ballot; reported = reported; votes = votes })))
-    votes-message s (Message.Accept key version ballot options) k =
-        on_rule AreAllAfter built.leading volatile _ all (votes-accepted s key version ballot options (on_accept facts key version ballot options))
-    votes-message s (Message.Refused key version ballot promised) k = on_rule AreAllAfter built.leading volatile _ all all
-    votes-message s (Message.Outcome tx outcome) k = on_rule AreAllAfter built.proposals volatile _ all (votes-outcome tx (on_outcome facts tx outcome))
-    votes-message s (Message.Ask tx key version) k = on_rule AreAllAfter built.recovery volatile _ all (votes-asked s tx key version (heard_of facts tx) (vote_of facts key version tx))
-    votes-message s (Message.SyncAsk key) k = on_rule AreAllAfter built.catching_up volatile _ all all
+        votes-promised key (on_promise cluster facts volatile.leader s (record { key = key; version = version; through = through; ballot = ballot; reported = reported; votes = votes }))
+    votes-message s (Message.Accept key version ballot options) k = votes-accepted s key version ballot options (on_accept facts key version ballot options)
+    votes-message s (Message.Refused key version ballot promised) k = all
+    votes-message s (Message.Outcome tx outcome) k = votes-outcome tx (on_outcome facts tx outcome)
+    votes-message s (Message.Ask tx key version) k = votes-asked s tx key version (heard_of facts tx) (vote_of facts key version tx)
+    votes-message s (Message.SyncAsk key) k = all
     votes-message s (Message.SyncGive key version item adds) k =
-        on_rule AreAllAfter built.catching_up volatile _ all (votes-given (on_sync_give facts (record { key = key; version = version; item = item; adds = adds })))
+        votes-given (on_sync_give facts (record { key = key; version = version; item = item; adds = adds }))
     votes-message s (Message.ClientRead serial key) k = all
     votes-message s (Message.ClientBegin serial parts) k = all
     votes-message s (Message.ClientAnswer serial answer) k = all
@@ -195,45 +190,41 @@ module _ (P : Vote → Type 0) where
     votes-begin parts (Some fault) = all
     votes-begin parts None = all
 
-  module _ (built : Built) (cluster : Cluster) (me : ℕ) (facts : List Fact) where
+  module _ (cluster : Cluster) (me : ℕ) (facts : List Fact) where
     votes-led_or_left : (volatile : Volatile) (claim : Claim) (r : Result (LeadAnswer × Leading) LeadFault) → AreAll volatile
         → AreAll (led_or_left volatile (led_by_answer cluster.quorums me volatile claim r)).after
     votes-led_or_left volatile claim (Ok answer) h = h
     votes-led_or_left volatile claim (Err fault) h = h
 
-    votes-claim_led : (volatile : Volatile) (claim : Claim) → AreAll volatile → AreAll (claim_led built cluster me facts volatile claim).after
-    votes-claim_led volatile claim h =
-        cond_both built.leading (led_or_left volatile (led_of cluster me facts volatile claim)) (only_sending volatile []) (λ (t : StepPart). AreAll t.after)
-        (λ e. votes-led_or_left volatile claim (lead cluster me (epoch_of facts) facts volatile.leader claim) h) (λ e. h)
+    votes-claim_led : (volatile : Volatile) (claim : Claim) → AreAll volatile → AreAll (claim_led cluster me facts volatile claim).after
+    votes-claim_led volatile claim h = votes-led_or_left volatile claim (lead cluster me (epoch_of facts) facts volatile.leader claim) h
 
-    votes-manager_act : (volatile : Volatile) (act : ManagerAct) → AreAll volatile → AreAll (manager_act built cluster me facts volatile act).after
+    votes-manager_act : (volatile : Volatile) (act : ManagerAct) → AreAll volatile → AreAll (manager_act cluster me facts volatile act).after
     votes-manager_act volatile (ManagerAct.Propose choice) h = h
     votes-manager_act volatile (ManagerAct.LeadHere choice) h = votes-claim_led volatile (claim_of_choice choice) h
     votes-manager_act volatile (ManagerAct.Lead leader choice) h = h
     votes-manager_act volatile (ManagerAct.Decide tx outcome) h = h
     votes-manager_act volatile (ManagerAct.Give centre key) h = h
 
-    votes-recovery_act : (volatile : Volatile) (act : RecoverAct) → AreAll volatile → AreAll (recovery_act built cluster me facts volatile act).after
+    votes-recovery_act : (volatile : Volatile) (act : RecoverAct) → AreAll volatile → AreAll (recovery_act cluster me facts volatile act).after
     votes-recovery_act volatile (RecoverAct.Ask tx key version) h = h
     votes-recovery_act volatile (RecoverAct.LeadHere claim) h = votes-claim_led volatile claim h
 
-    votes-manager_ticked : (volatile : Volatile) → AreAll volatile → AreAll (manager_ticked built cluster me facts volatile).after
+    votes-manager_ticked : (volatile : Volatile) → AreAll volatile → AreAll (manager_ticked cluster me facts volatile).after
     votes-manager_ticked volatile h =
         let next = Manager.tick cluster.quorums volatile.manager in
-        after-fold AreAll (manager_act built cluster me facts) votes-manager_act next.0 (only_sending (with_manager volatile next.1) []) h
+        after-fold AreAll (manager_act cluster me facts) votes-manager_act next.0 (only_sending (with_manager volatile next.1) []) h
 
-    votes-recovery_ticked : (first : StepPart) → AreAll first.after → AreAll (recovery_ticked built cluster me facts first).after
+    votes-recovery_ticked : (first : StepPart) → AreAll first.after → AreAll (recovery_ticked cluster me facts first).after
     votes-recovery_ticked first h =
         let next = Recover.tick cluster.quorums facts first.after.recovery (txs_opened first.after.manager) in
-        after-fold AreAll (recovery_act built cluster me facts) votes-recovery_act next.0 (record first { after = with_recovery first.after next.1 }) h
+        after-fold AreAll (recovery_act cluster me facts) votes-recovery_act next.0 (record first { after = with_recovery first.after next.1 }) h
 
-    pub votes-tick : (volatile : Volatile) → AreAll volatile → AreAllAfter (tick_step built cluster me facts volatile)
+    pub votes-tick : (volatile : Volatile) → AreAll volatile → AreAllAfter (tick_step cluster me facts volatile)
     votes-tick volatile h =
-        let first = cond built.ticks (manager_ticked built cluster me facts volatile) (only_sending volatile []) in
-        let k : AreAll first.after = cond_both built.ticks (manager_ticked built cluster me facts volatile) (only_sending volatile []) (λ (t : StepPart). AreAll t.after)
-        (λ e. votes-manager_ticked volatile h) (λ e. h) in
-        cond_both built.recovery (recovery_ticked built cluster me facts first) first (λ (t : StepPart). AreAll t.after)
-        (λ e. votes-recovery_ticked first k) (λ e. k)
+        let first = manager_ticked cluster me facts volatile in
+        let k : AreAll first.after = votes-manager_ticked volatile h in
+        votes-recovery_ticked first k
 
     -- what is known of the vote that an input tells, where it is of the cluster
     abbrev pub HoldsOfInput : Input → Type 0
@@ -241,12 +232,12 @@ module _ (P : Vote → Type 0) where
     HoldsOfInput _ = Unit {0}
 
     -- after any step
-    pub votes-step : (volatile : Volatile) → AreAll volatile → (input : Input) → HoldsOfInput input → OnStep AreAllAfter (step_of built cluster me facts volatile input)
+    pub votes-step : (volatile : Volatile) → AreAll volatile → (input : Input) → HoldsOfInput input → OnStep AreAllAfter (step_of cluster me facts volatile input)
     votes-step volatile h (Input.Message envelope) own =
-        cond_both (is_own_message cluster me envelope) (checked built cluster facts (message_step built cluster me facts volatile envelope.from envelope.message)) (Err StepFault.Foreign) (OnStep AreAllAfter)
-        (λ e. on_checked AreAllAfter AreAllAfter built cluster facts (message_step built cluster me facts volatile envelope.from envelope.message) (λ step g k. g)
-        (votes-message built cluster me facts volatile h envelope.from envelope.message (own (and_parts _ _ e).1)))
+        cond_both (is_own_message cluster me envelope) (checked cluster facts (message_step cluster me facts volatile envelope.from envelope.message)) (Err StepFault.Foreign) (OnStep AreAllAfter)
+        (λ e. on_checked AreAllAfter AreAllAfter cluster facts (message_step cluster me facts volatile envelope.from envelope.message) (λ step g k. g)
+        (votes-message cluster me facts volatile h envelope.from envelope.message (own (and_parts _ _ e).1)))
         (λ e. tt)
     votes-step volatile h Input.Tick own = votes-tick volatile h
     votes-step volatile h (Input.Read key) own = h
-    votes-step volatile h (Input.Begin parts) own = votes-begin built cluster me facts volatile h parts (begin_fault facts volatile.manager parts)
+    votes-step volatile h (Input.Begin parts) own = votes-begin cluster me facts volatile h parts (begin_fault facts volatile.manager parts)

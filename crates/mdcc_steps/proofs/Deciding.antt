@@ -12,7 +12,7 @@ use Rattle.mdcc_option.specs.declared.cluster.Cluster.{Cluster}
 use Rattle.mdcc_protocol.specs.Belongs.{choice_belongs, outcome_belongs}
 use Rattle.mdcc_protocol.specs.Learner.{decision_of, with_vote}
 use Rattle.mdcc_protocol.specs.Manager
-use Rattle.mdcc_protocol.specs.Manager.{keys_of_choices, vote_taken}
+use Rattle.mdcc_protocol.specs.Manager.{keys_of_choices}
 use Rattle.mdcc_protocol.specs.Recover
 use Rattle.mdcc_protocol.specs.Recover.{keys_watched, on_voted_by}
 use Rattle.mdcc_protocol.specs.Volatile.{Managing, Recovering, Undecided, is_open, opened_of}

@@ -1,5 +1,5 @@
 -- Each step of a node is well-formed.
-use Rattle.std.proofs.Common.{◌≡◌, ℕ, ◌==◌, ◌&&◌, ◌<◌, ◌^◌, Bool, true, false, List, refl, Option, Some, None, Result, Ok, Err, not}
+use Rattle.std.proofs.Common.{◌≡◌, ℕ, ◌==◌, ◌&&◌, ◌<◌, ◌^◌, true, List, refl, Option, Some, None, Result, Ok, Err, not}
 use Rattle.std.specs.Int.{IsInRange}
 use Rattle.std.specs.List.{AllByRecursion}
 use Rattle.std.proofs.lemmas.Bool.{and_from, and_parts, cond_both}
@@ -17,17 +17,15 @@ use Rattle.mdcc_protocol.specs.Acceptor.{on_propose}
 use Rattle.mdcc_rules.specs.AcceptorRules.{ask_step, ask_step_by, proposed_step}
 use Rattle.mdcc_ledger.specs.BootTest.{are_allowed_facts, is_allowed_fact}
 use Rattle.mdcc_protocol.specs.Belongs.{is_centre, message_belongs}
-use Rattle.mdcc_switches.specs.Built.{Built}
 use Rattle.mdcc_protocol.specs.Facts.{heard_of, is_heard, vote_of}
-use Rattle.mdcc_rules.specs.LeaderRules.{promise_step}
 use Rattle.mdcc_base.specs.Counts.{sum_over}
 use Rattle.mdcc_messages.specs.Lengths.{fact_length}
 use Rattle.mdcc_protocol.specs.Manager.{begin_fault}
 use Rattle.mdcc_rules.specs.ManagerRules.{begin_step}
 use Rattle.mdcc_protocol.specs.News.{is_news}
-use Rattle.mdcc_rules.specs.Node.{checked, is_own_message, message_step, rule, step_of}
+use Rattle.mdcc_rules.specs.Node.{checked, is_own_message, message_step, step_of}
 use Rattle.mdcc_rules.specs.Steps.{NodeStep, nothing_done}
-use Rattle.mdcc_rules.specs.SyncRules.{outcome_step, outcome_step_by, sync_ask_step, sync_give_step, sync_give_step_by}
+use Rattle.mdcc_rules.specs.SyncRules.{outcome_step, outcome_step_by, sync_give_step, sync_give_step_by}
 use Rattle.mdcc_rules.specs.TickRules.{tick_step}
 use Rattle.mdcc_protocol.specs.Volatile.{Volatile}
 use Rattle.mdcc_messages.specs.WellFormed.{IsWellFormedEnvelope, IsWellFormedFact, IsWellFormedMessage}
@@ -43,7 +41,7 @@ use Rattle.mdcc_protocol.specs.declared.visible.Give.{Give}
 use Rattle.mdcc_steps.specs.Forming.{IsNode, with_new}
 use Rattle.mdcc_steps.specs.Inputs.{AreWellFormedParts, IsWellFormedInput}
 use Rattle.mdcc_steps.specs.Keeping.{AreNodeFacts, IsWellFormedLead, IsWellFormedOpen, IsWellFormedVolatile, IsWellFormedVoteKept}
-use Rattle.mdcc_steps.proofs.Allowing.{OnStep, on_checked, on_rule}
+use Rattle.mdcc_steps.proofs.Allowing.{OnStep, on_checked}
 use Rattle.mdcc_steps.proofs.Counted.{HoldsOfInput, HoldsOfVote, votes-step}
 use Rattle.mdcc_steps.proofs.Each.{each-kept, each-weaker}
 use Rattle.mdcc_steps.proofs.Formed.{IsFormed, IsFormedKept, begin-formed, escalate-formed, nothing-formed, voted-formed}
@@ -66,24 +64,18 @@ proposed-kept P me volatile s choice (ProposeAnswer.Again ballot mark) h = h
 proposed-kept P me volatile s choice (ProposeAnswer.Escalate cause) h = h
 proposed-kept P me volatile s choice (ProposeAnswer.Vote mark) h = h
 
--- a rule that is built
-on_rule_if : (P : NodeStep → Type 0) (is_built : Bool) (volatile : Volatile) (r : Result NodeStep StepFault) → P (nothing_done volatile) → (is_built ≡ true → OnStep P r)
-    → OnStep P (rule is_built volatile r)
-on_rule_if P true volatile r h k = k refl
-on_rule_if P false volatile r h k = h
-
 kept-part : (r : Result NodeStep StepFault) → OnStep IsFormed r → OnStep IsFormedKept r
 kept-part (Ok step) h = (h.0, h.2, h.3)
 kept-part (Err fault) h = tt
 
-module _ (built : Built) (cluster : Cluster) (me : ℕ) (facts : List Fact) (volatile : Volatile) (sizes : AreQuorums cluster.quorums) (of_me : IsInRange 1 9 me)
+module _ (cluster : Cluster) (me : ℕ) (facts : List Fact) (volatile : Volatile) (sizes : AreQuorums cluster.quorums) (of_me : IsInRange 1 9 me)
     (known : AreNodeFacts cluster facts) (kept : IsWellFormedVolatile volatile) where
   nothing : IsFormed (nothing_done volatile)
   nothing = nothing-formed cluster me facts volatile sizes of_me known kept
 
-  -- where promises are built, a report has fewer than 2^32 marks, since the facts lie in the cells that a node may have
+  -- a report has fewer than 2^32 marks, since the facts lie in the cells that a node may have
   abbrev HasRoom : Type 0
-  HasRoom = built.leading ≡ true → sum_over fact_length facts < 2 ^ 32
+  HasRoom = sum_over fact_length facts < 2 ^ 32
 
   abbrev HasRoomFor : Message → Type 0
   HasRoomFor (Message.Prepare key version through ballot) = HasRoom
@@ -118,32 +110,27 @@ module _ (built : Built) (cluster : Cluster) (me : ℕ) (facts : List Fact) (vol
           (tt, sent-one me s (Message.Voted key version vote.0 tx vote.1) tt of_me h (record { instance = w; ballot_itself = b.0; entry = b.1 }), kept.opened, kept.leads)
       by_answer None a None b = nothing
 
-  formed-message : (s : ℕ) (message : Message) → IsInRange 1 9 s → IsWellFormedMessage message → HasRoomFor message → OnStep IsFormed (message_step built cluster me facts volatile s message)
+  formed-message : (s : ℕ) (message : Message) → IsInRange 1 9 s → IsWellFormedMessage message → HasRoomFor message → OnStep IsFormed (message_step cluster me facts volatile s message)
   formed-message s (Message.Propose choice) h w room =
-      on_rule IsFormed built.proposals volatile _ nothing (formed-proposed s choice (on_propose cluster facts choice) h (w, formed-answer cluster facts choice w known.well_formed))
+      formed-proposed s choice (on_propose cluster facts choice) h (w, formed-answer cluster facts choice w known.well_formed)
   formed-message s (Message.Voted key version ballot tx mark) h w room =
-      on_rule IsFormed built.proposals volatile _ nothing
-      (voted-formed cluster me facts volatile sizes of_me known kept built (record { from = s; key = key; version = version; ballot = ballot; tx = tx; mark = mark }) w)
+      voted-formed cluster me facts volatile sizes of_me known kept (record { from = s; key = key; version = version; ballot = ballot; tx = tx; mark = mark }) w
   formed-message s (Message.Escalate key version tx cause) h w room =
-      on_rule IsFormed built.escalations volatile _ nothing (escalate-formed cluster me facts volatile sizes of_me known kept s key tx cause h w.instance.key_itself w.cause_itself)
-  formed-message s (Message.Lead choice) h w room =
-      on_rule IsFormed built.leading volatile _ nothing (lead-step-formed cluster me facts sizes of_me known volatile kept s choice h w)
+      escalate-formed cluster me facts volatile sizes of_me known kept s key tx cause h w.instance.key_itself w.cause_itself
+  formed-message s (Message.Lead choice) h w room = lead-step-formed cluster me facts sizes of_me known volatile kept s choice h w
   formed-message s (Message.Prepare key version through ballot) h w room =
-      on_rule_if IsFormed built.leading volatile _ nothing
-      (λ e. prepare-formed cluster me facts volatile of_me known (room e) kept s key version through ballot h w.instance (w.not_below, w.through_fits) w.classic)
+      prepare-formed cluster me facts volatile of_me known room kept s key version through ballot h w.instance (w.not_below, w.through_fits) w.classic
   formed-message s (Message.Promise key version through ballot reported votes) h w room =
       let promise : Promise = record { key = key; version = version; through = through; ballot = ballot; reported = reported; votes = votes } in
-      on_rule IsFormed built.leading volatile (promise_step cluster me facts volatile s promise) nothing (promise-step-formed cluster me facts sizes of_me known volatile kept s promise w)
+      promise-step-formed cluster me facts sizes of_me known volatile kept s promise w
   formed-message s (Message.Accept key version ballot options) h w room =
-      on_rule IsFormed built.leading volatile _ nothing (accept-formed cluster me facts volatile of_me known kept s key version ballot options h w.instance w.classic w.options_itself)
+      accept-formed cluster me facts volatile of_me known kept s key version ballot options h w.instance w.classic w.options_itself
   formed-message s (Message.Refused key version ballot promised) h w room =
-      on_rule IsFormed built.leading volatile _ nothing (refused-step-formed cluster me facts sizes of_me known volatile kept key ballot promised)
-  formed-message s (Message.Outcome tx outcome) h w room = on_rule IsFormed built.proposals volatile _ nothing (formed-outcome tx outcome w)
-  formed-message s (Message.Ask tx key version) h w room = on_rule IsFormed built.recovery volatile _ nothing (formed-ask s tx key version h w.1)
-  formed-message s (Message.SyncAsk key) h w room =
-      on_rule IsFormed built.catching_up volatile (Ok (sync_ask_step me facts volatile s key)) nothing (tt, sent-give cluster me facts s key known of_me h w, kept.opened, kept.leads)
-  formed-message s (Message.SyncGive key version item adds) h w room =
-      on_rule IsFormed built.catching_up volatile _ nothing (formed-give (record { key = key; version = version; item = item; adds = adds }) w)
+      refused-step-formed cluster me facts sizes of_me known volatile kept key ballot promised
+  formed-message s (Message.Outcome tx outcome) h w room = formed-outcome tx outcome w
+  formed-message s (Message.Ask tx key version) h w room = formed-ask s tx key version h w.1
+  formed-message s (Message.SyncAsk key) h w room = (tt, sent-give cluster me facts s key known of_me h w, kept.opened, kept.leads)
+  formed-message s (Message.SyncGive key version item adds) h w room = formed-give (record { key = key; version = version; item = item; adds = adds }) w
   formed-message s (Message.ClientRead serial key) h w room = nothing
   formed-message s (Message.ClientBegin serial parts) h w room = nothing
   formed-message s (Message.ClientAnswer serial answer) h w room = nothing
@@ -166,28 +153,27 @@ module _ (built : Built) (cluster : Cluster) (me : ℕ) (facts : List Fact) (vol
   room-for room (Message.ClientAnswer serial answer) = tt
 
   -- what is added and kept needs no room
-  pub kept-message : (s : ℕ) (message : Message) → IsInRange 1 9 s → IsWellFormedMessage message → OnStep IsFormedKept (message_step built cluster me facts volatile s message)
-  kept-message s (Message.Propose choice) h w = kept-part (message_step built cluster me facts volatile s (Message.Propose choice)) (formed-message s (Message.Propose choice) h w tt)
-  kept-message s (Message.Voted key version ballot tx mark) h w = kept-part (message_step built cluster me facts volatile s (Message.Voted key version ballot tx mark)) (formed-message s (Message.Voted key version ballot tx mark) h w tt)
-  kept-message s (Message.Escalate key version tx cause) h w = kept-part (message_step built cluster me facts volatile s (Message.Escalate key version tx cause)) (formed-message s (Message.Escalate key version tx cause) h w tt)
-  kept-message s (Message.Lead choice) h w = kept-part (message_step built cluster me facts volatile s (Message.Lead choice)) (formed-message s (Message.Lead choice) h w tt)
+  pub kept-message : (s : ℕ) (message : Message) → IsInRange 1 9 s → IsWellFormedMessage message → OnStep IsFormedKept (message_step cluster me facts volatile s message)
+  kept-message s (Message.Propose choice) h w = kept-part (message_step cluster me facts volatile s (Message.Propose choice)) (formed-message s (Message.Propose choice) h w tt)
+  kept-message s (Message.Voted key version ballot tx mark) h w = kept-part (message_step cluster me facts volatile s (Message.Voted key version ballot tx mark)) (formed-message s (Message.Voted key version ballot tx mark) h w tt)
+  kept-message s (Message.Escalate key version tx cause) h w = kept-part (message_step cluster me facts volatile s (Message.Escalate key version tx cause)) (formed-message s (Message.Escalate key version tx cause) h w tt)
+  kept-message s (Message.Lead choice) h w = kept-part (message_step cluster me facts volatile s (Message.Lead choice)) (formed-message s (Message.Lead choice) h w tt)
   kept-message s (Message.Prepare key version through ballot) h w =
-      on_rule IsFormedKept built.leading volatile _ (tt, kept.opened, kept.leads)
-      (prepare-kept cluster me facts volatile of_me known kept s key version through ballot w.instance (w.not_below, w.through_fits) w.classic)
-  kept-message s (Message.Promise key version through ballot reported votes) h w = kept-part (message_step built cluster me facts volatile s (Message.Promise key version through ballot reported votes)) (formed-message s (Message.Promise key version through ballot reported votes) h w tt)
-  kept-message s (Message.Accept key version ballot options) h w = kept-part (message_step built cluster me facts volatile s (Message.Accept key version ballot options)) (formed-message s (Message.Accept key version ballot options) h w tt)
-  kept-message s (Message.Refused key version ballot promised) h w = kept-part (message_step built cluster me facts volatile s (Message.Refused key version ballot promised)) (formed-message s (Message.Refused key version ballot promised) h w tt)
-  kept-message s (Message.Outcome tx outcome) h w = kept-part (message_step built cluster me facts volatile s (Message.Outcome tx outcome)) (formed-message s (Message.Outcome tx outcome) h w tt)
-  kept-message s (Message.Ask tx key version) h w = kept-part (message_step built cluster me facts volatile s (Message.Ask tx key version)) (formed-message s (Message.Ask tx key version) h w tt)
-  kept-message s (Message.SyncAsk key) h w = kept-part (message_step built cluster me facts volatile s (Message.SyncAsk key)) (formed-message s (Message.SyncAsk key) h w tt)
-  kept-message s (Message.SyncGive key version item adds) h w = kept-part (message_step built cluster me facts volatile s (Message.SyncGive key version item adds)) (formed-message s (Message.SyncGive key version item adds) h w tt)
-  kept-message s (Message.ClientRead serial key) h w = kept-part (message_step built cluster me facts volatile s (Message.ClientRead serial key)) (formed-message s (Message.ClientRead serial key) h w tt)
-  kept-message s (Message.ClientBegin serial parts) h w = kept-part (message_step built cluster me facts volatile s (Message.ClientBegin serial parts)) (formed-message s (Message.ClientBegin serial parts) h w tt)
-  kept-message s (Message.ClientAnswer serial answer) h w = kept-part (message_step built cluster me facts volatile s (Message.ClientAnswer serial answer)) (formed-message s (Message.ClientAnswer serial answer) h w tt)
+      prepare-kept cluster me facts volatile of_me known kept s key version through ballot w.instance (w.not_below, w.through_fits) w.classic
+  kept-message s (Message.Promise key version through ballot reported votes) h w = kept-part (message_step cluster me facts volatile s (Message.Promise key version through ballot reported votes)) (formed-message s (Message.Promise key version through ballot reported votes) h w tt)
+  kept-message s (Message.Accept key version ballot options) h w = kept-part (message_step cluster me facts volatile s (Message.Accept key version ballot options)) (formed-message s (Message.Accept key version ballot options) h w tt)
+  kept-message s (Message.Refused key version ballot promised) h w = kept-part (message_step cluster me facts volatile s (Message.Refused key version ballot promised)) (formed-message s (Message.Refused key version ballot promised) h w tt)
+  kept-message s (Message.Outcome tx outcome) h w = kept-part (message_step cluster me facts volatile s (Message.Outcome tx outcome)) (formed-message s (Message.Outcome tx outcome) h w tt)
+  kept-message s (Message.Ask tx key version) h w = kept-part (message_step cluster me facts volatile s (Message.Ask tx key version)) (formed-message s (Message.Ask tx key version) h w tt)
+  kept-message s (Message.SyncAsk key) h w = kept-part (message_step cluster me facts volatile s (Message.SyncAsk key)) (formed-message s (Message.SyncAsk key) h w tt)
+  kept-message s (Message.SyncGive key version item adds) h w = kept-part (message_step cluster me facts volatile s (Message.SyncGive key version item adds)) (formed-message s (Message.SyncGive key version item adds) h w tt)
+  kept-message s (Message.ClientRead serial key) h w = kept-part (message_step cluster me facts volatile s (Message.ClientRead serial key)) (formed-message s (Message.ClientRead serial key) h w tt)
+  kept-message s (Message.ClientBegin serial parts) h w = kept-part (message_step cluster me facts volatile s (Message.ClientBegin serial parts)) (formed-message s (Message.ClientBegin serial parts) h w tt)
+  kept-message s (Message.ClientAnswer serial answer) h w = kept-part (message_step cluster me facts volatile s (Message.ClientAnswer serial answer)) (formed-message s (Message.ClientAnswer serial answer) h w tt)
 
-  formed-tick-step : IsFormed (tick_step built cluster me facts volatile)
+  formed-tick-step : IsFormed (tick_step cluster me facts volatile)
   formed-tick-step =
-      let t = formed-tick built cluster me facts sizes of_me known.well_formed (led-here cluster me facts sizes of_me known built) volatile kept in (tt, t.1, t.0.opened, t.0.leads)
+      let t = formed-tick cluster me facts sizes of_me known.well_formed (led-here cluster me facts sizes of_me known) volatile kept in (tt, t.1, t.0.opened, t.0.leads)
 
   formed-begin : (parts : List Part) → AreWellFormedParts parts → IsFormed (begin_step cluster me facts volatile parts)
   formed-begin parts w = begin-formed cluster me facts volatile sizes of_me known kept parts (begin_fault facts volatile.manager parts) refl w
@@ -198,23 +184,23 @@ module _ (built : Built) (cluster : Cluster) (me : ℕ) (facts : List Fact) (vol
       let own = and_parts (envelope.to == me && is_centre cluster envelope.from) (message_belongs cluster envelope.message) e in
       centre-range cluster envelope.from sizes (and_parts (envelope.to == me) (is_centre cluster envelope.from) own.0).1
 
-  pub formed-step : (input : Input) → IsWellFormedInput input → HasRoom → OnStep IsFormed (step_of built cluster me facts volatile input)
+  pub formed-step : (input : Input) → IsWellFormedInput input → HasRoom → OnStep IsFormed (step_of cluster me facts volatile input)
   formed-step (Input.Message envelope) w room =
-      cond_both (is_own_message cluster me envelope) (checked built cluster facts (message_step built cluster me facts volatile envelope.from envelope.message)) (Err StepFault.Foreign) (OnStep IsFormed)
-      (λ e. on_checked IsFormed IsFormed built cluster facts (message_step built cluster me facts volatile envelope.from envelope.message) (λ step h room. h)
+      cond_both (is_own_message cluster me envelope) (checked cluster facts (message_step cluster me facts volatile envelope.from envelope.message)) (Err StepFault.Foreign) (OnStep IsFormed)
+      (λ e. on_checked IsFormed IsFormed cluster facts (message_step cluster me facts volatile envelope.from envelope.message) (λ step h room. h)
       (formed-message envelope.from envelope.message (own-from envelope e) w.message (room-for room envelope.message)))
       (λ e. tt)
   formed-step Input.Tick w room = formed-tick-step
   formed-step (Input.Read key) w room = (tt, tt, kept.opened, kept.leads)
   formed-step (Input.Begin parts) w room = formed-begin parts w
 
-  pub kept-step : (input : Input) → IsWellFormedInput input → OnStep IsFormedKept (step_of built cluster me facts volatile input)
+  pub kept-step : (input : Input) → IsWellFormedInput input → OnStep IsFormedKept (step_of cluster me facts volatile input)
   kept-step (Input.Message envelope) w =
-      cond_both (is_own_message cluster me envelope) (checked built cluster facts (message_step built cluster me facts volatile envelope.from envelope.message)) (Err StepFault.Foreign) (OnStep IsFormedKept)
-      (λ e. on_checked IsFormedKept IsFormedKept built cluster facts (message_step built cluster me facts volatile envelope.from envelope.message) (λ step h room. h)
+      cond_both (is_own_message cluster me envelope) (checked cluster facts (message_step cluster me facts volatile envelope.from envelope.message)) (Err StepFault.Foreign) (OnStep IsFormedKept)
+      (λ e. on_checked IsFormedKept IsFormedKept cluster facts (message_step cluster me facts volatile envelope.from envelope.message) (λ step h room. h)
       (kept-message envelope.from envelope.message (own-from envelope e) w.message))
       (λ e. tt)
-  kept-step Input.Tick w = kept-part (Ok (tick_step built cluster me facts volatile)) formed-tick-step
+  kept-step Input.Tick w = kept-part (Ok (tick_step cluster me facts volatile)) formed-tick-step
   kept-step (Input.Read key) w = (tt, kept.opened, kept.leads)
   kept-step (Input.Begin parts) w = kept-part (Ok (begin_step cluster me facts volatile parts)) (formed-begin parts w)
 
@@ -237,38 +223,38 @@ vote-formed cluster s (Message.ClientRead serial key) w = tt
 vote-formed cluster s (Message.ClientBegin serial parts) w = tt
 vote-formed cluster s (Message.ClientAnswer serial answer) w = tt
 
-input-formed : (built : Built) (cluster : Cluster) (me : ℕ) (facts : List Fact) (input : Input) → IsWellFormedInput input → HoldsOfInput IsWellFormedVoteKept built cluster me facts input
-input-formed built cluster me facts (Input.Message envelope) w = λ belongs. vote-formed cluster envelope.from envelope.message w.message
-input-formed built cluster me facts Input.Tick w = tt
-input-formed built cluster me facts (Input.Read key) w = tt
-input-formed built cluster me facts (Input.Begin parts) w = tt
+input-formed : (cluster : Cluster) (me : ℕ) (facts : List Fact) (input : Input) → IsWellFormedInput input → HoldsOfInput IsWellFormedVoteKept cluster me facts input
+input-formed cluster me facts (Input.Message envelope) w = λ belongs. vote-formed cluster envelope.from envelope.message w.message
+input-formed cluster me facts Input.Tick w = tt
+input-formed cluster me facts (Input.Read key) w = tt
+input-formed cluster me facts (Input.Begin parts) w = tt
 
-module _ (built : Built) (cluster : Cluster) (me : ℕ) (facts : List Fact) (volatile : Volatile) (input : Input) (step : NodeStep)
-    (node : IsNode cluster me facts volatile) (w : IsWellFormedInput input) (made : step_of built cluster me facts volatile input ≡ Ok step) where
+module _ (cluster : Cluster) (me : ℕ) (facts : List Fact) (volatile : Volatile) (input : Input) (step : NodeStep)
+    (node : IsNode cluster me facts volatile) (w : IsWellFormedInput input) (made : step_of cluster me facts volatile input ≡ Ok step) where
   of_me : IsInRange 1 9 me
   of_me = centre-range cluster me node.cluster_itself.quorums node.centre
 
   kept : IsFormedKept step
-  kept = on_made IsFormedKept _ step (kept-step built cluster me facts volatile node.cluster_itself.quorums of_me node.facts_themselves node.volatile_itself input w) made
+  kept = on_made IsFormedKept _ step (kept-step cluster me facts volatile node.cluster_itself.quorums of_me node.facts_themselves node.volatile_itself input w) made
 
   pub fact-formed : (fact : Fact) → step.fact ≡ Some fact → IsWellFormedFact fact
   fact-formed fact is = holds-at IsWellFormedFact step.fact fact kept.0 is
 
-  pub sends-good : (built.leading ≡ true → sum_over fact_length facts < 2 ^ 32) → AllByRecursion IsGoodSent step.sends
+  pub sends-good : sum_over fact_length facts < 2 ^ 32 → AllByRecursion IsGoodSent step.sends
   sends-good room =
-      (on_made IsFormed _ step (formed-step built cluster me facts volatile node.cluster_itself.quorums of_me node.facts_themselves node.volatile_itself input w room) made).1
+      (on_made IsFormed _ step (formed-step cluster me facts volatile node.cluster_itself.quorums of_me node.facts_themselves node.volatile_itself input w room) made).1
 
-  pub sends-formed : (built.leading ≡ true → sum_over fact_length facts < 2 ^ 32) → AllByRecursion IsWellFormedEnvelope step.sends
+  pub sends-formed : sum_over fact_length facts < 2 ^ 32 → AllByRecursion IsWellFormedEnvelope step.sends
   sends-formed room = each-weaker IsGoodSent IsWellFormedEnvelope step.sends (λ e h. h.0) (sends-good room)
 
-  pub sends-roomy : (built.leading ≡ true → sum_over fact_length facts < 2 ^ 32) → AllByRecursion (λ e. HasRoomIn e.message) step.sends
+  pub sends-roomy : sum_over fact_length facts < 2 ^ 32 → AllByRecursion (λ e. HasRoomIn e.message) step.sends
   sends-roomy room = each-weaker IsGoodSent (λ e. HasRoomIn e.message) step.sends (λ e h. h.1) (sends-good room)
 
   facts-stay : (o : Option Fact) → step.fact ≡ o → AreNodeFacts cluster (with_new facts o)
   facts-stay None e = node.facts_themselves
   facts-stay (Some fact) e =
       let known = node.facts_themselves in
-      let allowed : is_allowed_fact cluster facts fact ≡ true = made-allowed built cluster me facts volatile input step fact known.booted node.votes w made e in
+      let allowed : is_allowed_fact cluster facts fact ≡ true = made-allowed cluster me facts volatile input step fact known.booted node.votes w made e in
       record {
         booted = booted-more facts fact known.booted (some_epoch cluster facts fact allowed);
         allowed = and_from (are_allowed_facts cluster facts) (is_allowed_fact cluster facts fact) known.allowed allowed;
@@ -278,20 +264,20 @@ module _ (built : Built) (cluster : Cluster) (me : ℕ) (facts : List Fact) (vol
   pub node-stays : IsNode cluster me (with_new facts step.fact) step.after
   node-stays =
       let before = node.volatile_itself in
-      let counted = on_made _ _ step (votes-step IsWellFormedVoteKept built cluster me facts volatile (before.votes, before.watched) input (input-formed built cluster me facts input w)) made in
+      let counted = on_made _ _ step (votes-step IsWellFormedVoteKept cluster me facts volatile (before.votes, before.watched) input (input-formed cluster me facts input w)) made in
       record {
         cluster_itself = node.cluster_itself;
         centre = node.centre;
         facts_themselves = facts-stay step.fact refl;
-        votes = votes-stay built cluster me facts volatile input step node.votes made;
+        votes = votes-stay cluster me facts volatile input step node.votes made;
         volatile_itself = record { opened = kept.1; votes = counted.0; watched = counted.1; leads = kept.2 };
       }
 
 -- what a message brings is well-formed, also where the store has no room for it
-pub brought-formed : (built : Built) (cluster : Cluster) (me : ℕ) (facts : List Fact) (volatile : Volatile) (s : ℕ) (message : Message) (step : NodeStep) (fact : Fact)
+pub brought-formed : (cluster : Cluster) (me : ℕ) (facts : List Fact) (volatile : Volatile) (s : ℕ) (message : Message) (step : NodeStep) (fact : Fact)
     → IsNode cluster me facts volatile → is_centre cluster s ≡ true → IsWellFormedMessage message
-    → message_step built cluster me facts volatile s message ≡ Ok step → step.fact ≡ Some fact → IsWellFormedFact fact
-brought-formed built cluster me facts volatile s message step fact node from w made is =
+    → message_step cluster me facts volatile s message ≡ Ok step → step.fact ≡ Some fact → IsWellFormedFact fact
+brought-formed cluster me facts volatile s message step fact node from w made is =
     let sizes = node.cluster_itself.quorums in
-    let kept = kept-message built cluster me facts volatile sizes (centre-range cluster me sizes node.centre) node.facts_themselves node.volatile_itself s message (centre-range cluster s sizes from) w in
+    let kept = kept-message cluster me facts volatile sizes (centre-range cluster me sizes node.centre) node.facts_themselves node.volatile_itself s message (centre-range cluster s sizes from) w in
     holds-at IsWellFormedFact step.fact fact (on_made IsFormedKept _ step kept made).0 is

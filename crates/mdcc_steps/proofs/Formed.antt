@@ -17,16 +17,15 @@ use Rattle.mdcc_option.specs.declared.choices.Outcome.{Outcome}
 use Rattle.mdcc_option.specs.declared.cluster.Cluster.{Cluster}
 use Rattle.mdcc_option.specs.declared.faults.BeginFault.{BeginFault}
 use Rattle.mdcc_option.specs.declared.items.Part.{Part}
-use Rattle.mdcc_switches.specs.Built.{Built}
 use Rattle.mdcc_protocol.specs.Facts.{epoch_of, is_heard}
 use Rattle.mdcc_protocol.specs.Learner.{collided, is_learned, with_vote}
 use Rattle.mdcc_protocol.specs.Manager
-use Rattle.mdcc_protocol.specs.Manager.{act_on_cause, act_on_vote, acted, after_act, begin_by, begin_fault, choice_at, choice_unled, first_key, lead_act, parts_begin_fault, vote_taken}
+use Rattle.mdcc_protocol.specs.Manager.{act_on_cause, act_on_vote, acted, begin_by, begin_fault, choice_at, choice_unled, lead_act, parts_begin_fault, vote_taken}
 use Rattle.mdcc_rules.specs.ManagerRules.{acted_step, begin_step_by, decided_step, escalate_step, opened_step, undecided_step, voted_step, watched_step}
 use Rattle.mdcc_rules.specs.Messages.{to_all}
 use Rattle.mdcc_protocol.specs.Recover
 use Rattle.mdcc_rules.specs.Steps.{NodeStep, nothing_done}
-use Rattle.mdcc_protocol.specs.Volatile.{Managing, Undecided, Volatile, has_key, is_open, opened_of, with_manager}
+use Rattle.mdcc_protocol.specs.Volatile.{Managing, Undecided, Volatile, has_key, is_open, opened_of}
 use Rattle.mdcc_messages.specs.WellFormed.{IsWellFormedFact}
 use Rattle.mdcc_messages.specs.WellFormedParts.{IsWellFormedCause, IsWellFormedChoice, IsWellFormedHeard, IsWellFormedOf, IsWellFormedTx}
 use Rattle.mdcc_messages.specs.declared.facts.Fact.{Fact}
@@ -138,17 +137,16 @@ module _ (cluster : Cluster) (me : ℕ) (facts : List Fact) (volatile : Volatile
       cond_both (collided cluster.quorums manager.votes vote.tx vote.key) (lead_act (home_of cluster.quorums vote.key) (choice_unled manager vote.tx vote.key)) None IsFormedAct
       (λ e. lead-formed (home_of cluster.quorums vote.key) (choice_unled manager vote.tx vote.key) (home-range cluster.quorums vote.key sizes) (unled-formed manager vote.tx vote.key h)) (λ e. tt)
 
-  undecided-formed : (built : Built) (vote : Vote) → IsFormed (undecided_step built cluster me facts volatile vote)
-  undecided-formed built vote =
+  undecided-formed : (vote : Vote) → IsFormed (undecided_step cluster me facts volatile vote)
+  undecided-formed vote =
       let taken = vote_taken cluster.quorums volatile.manager vote in
       let o = Manager.decision cluster.quorums taken vote.tx in
-      cond_both built.escalations (acted_step me facts volatile (Manager.on_voted cluster.quorums volatile.manager vote)) (nothing_done (with_manager volatile taken)) IsFormed
-      (λ e. acted-formed taken (act_on_vote cluster.quorums taken vote o) (taken-opened vote) (vote-act taken vote o (taken-opened vote))) (λ e. (tt, tt, taken-opened vote, kept.leads))
+      acted-formed taken (act_on_vote cluster.quorums taken vote o) (taken-opened vote) (vote-act taken vote o (taken-opened vote))
 
-  opened-formed : (built : Built) (vote : Vote) (o : Option Outcome) → IsWellFormedVoteKept vote → Manager.would_decide cluster.quorums volatile.manager vote ≡ o → is_open volatile.manager vote.tx ≡ true
-      → IsFormed (opened_step built cluster me facts volatile vote o)
-  opened-formed built vote None w e open_here = undecided-formed built vote
-  opened-formed built vote (Some outcome) w e open_here =
+  opened-formed : (vote : Vote) (o : Option Outcome) → IsWellFormedVoteKept vote → Manager.would_decide cluster.quorums volatile.manager vote ≡ o → is_open volatile.manager vote.tx ≡ true
+      → IsFormed (opened_step cluster me facts volatile vote o)
+  opened-formed vote None w e open_here = undecided-formed vote
+  opened-formed vote (Some outcome) w e open_here =
       decided-formed vote.tx outcome (formed-open cluster.quorums volatile.manager vote.tx outcome (entry-tx vote.key vote.version vote.tx vote.mark w.entry) kept.opened
       (open-decided IsWellFormedVoteKept cluster.quorums volatile.manager vote outcome kept.votes w open_here e))
 
@@ -159,14 +157,14 @@ module _ (cluster : Cluster) (me : ℕ) (facts : List Fact) (volatile : Volatile
       decided-formed decided.0 decided.1 (formed-watched cluster.quorums facts volatile.recovery vote.tx decided (entry-tx vote.key vote.version vote.tx vote.mark w.entry) known.well_formed
       (watched-decided IsWellFormedVoteKept cluster.quorums facts volatile.recovery vote decided kept.watched w e))
 
-  pub voted-formed : (built : Built) (vote : Vote) → IsWellFormedVoteKept vote → IsFormed (voted_step built cluster me facts volatile vote)
-  voted-formed built vote w =
+  pub voted-formed : (vote : Vote) → IsWellFormedVoteKept vote → IsFormed (voted_step cluster me facts volatile vote)
+  voted-formed vote w =
       cond_both (is_heard facts vote.tx) (nothing_done volatile) _ IsFormed (λ e. nothing-formed) (λ e.
       cond_both (is_open volatile.manager vote.tx)
-      (opened_step built cluster me facts volatile vote (Manager.would_decide cluster.quorums volatile.manager vote))
+      (opened_step cluster me facts volatile vote (Manager.would_decide cluster.quorums volatile.manager vote))
       (watched_step cluster me facts volatile vote (Recover.would_decide cluster.quorums facts volatile.recovery vote))
       IsFormed
-      (λ f. opened-formed built vote (Manager.would_decide cluster.quorums volatile.manager vote) w refl f)
+      (λ f. opened-formed vote (Manager.would_decide cluster.quorums volatile.manager vote) w refl f)
       (λ f. watched-formed vote (Recover.would_decide cluster.quorums facts volatile.recovery vote) w refl))
 
   -- ---- begins

@@ -1,8 +1,8 @@
 -- The leader's steps are well-formed.
-use Rattle.std.proofs.Common.{ℕ, ◌-◌, ◌^◌, List, [], Option, Some, None, Result, Ok, Err}
+use Rattle.std.proofs.Common.{ℕ, ◌-◌, ◌^◌, List, Option, Some, None, Result, Ok, Err}
 use Rattle.std.specs.Int.{IsInRange}
 use Rattle.std.specs.List.{AllByRecursion}
-use Rattle.std.proofs.lemmas.Bool.{cond_both, ltb-true}
+use Rattle.std.proofs.lemmas.Bool.{ltb-true}
 use Rattle.mdcc_base.specs.AreQuorums.{AreQuorums}
 use Rattle.mdcc_base.specs.declared.identifiers.Ballot.{Ballot}
 use Rattle.mdcc_base.specs.declared.key.Key.{Key}
@@ -10,12 +10,11 @@ use Rattle.mdcc_option.specs.declared.choices.Choice.{Choice}
 use Rattle.mdcc_option.specs.declared.choices.Claim.{Claim}
 use Rattle.mdcc_option.specs.declared.choices.Outcome.{Outcome}
 use Rattle.mdcc_option.specs.declared.cluster.Cluster.{Cluster}
-use Rattle.mdcc_switches.specs.Built.{Built}
 use Rattle.mdcc_protocol.specs.Facts.{epoch_of, heard_of}
 use Rattle.mdcc_protocol.specs.Leader.{claim_of_choice, lead, on_promise}
 use Rattle.mdcc_rules.specs.LeaderRules.{lead_sent, lead_step, lead_step_after, led_by_answer, led_of, promise_sent, promise_step, promised_by_answer, refused_step, step_of_led}
 use Rattle.mdcc_rules.specs.TickRules.{claim_led, led_or_left}
-use Rattle.mdcc_rules.specs.Steps.{StepPart, only_sending}
+use Rattle.mdcc_rules.specs.Steps.{StepPart}
 use Rattle.mdcc_protocol.specs.Volatile.{Leading, Volatile, with_leader}
 use Rattle.mdcc_messages.specs.WellFormedParts.{IsWellFormedChoice, IsWellFormedHeard}
 use Rattle.mdcc_messages.specs.declared.facts.Fact.{Fact}
@@ -65,10 +64,8 @@ module _ (cluster : Cluster) (me : ℕ) (facts : List Fact) (sizes : AreQuorums 
   left-formed volatile (Err fault) kept h = (kept, tt)
   left-formed volatile (Ok part) kept h = h
 
-  pub led-here : (built : Built) (volatile : Volatile) (claim : Claim) → IsWellFormedVolatile volatile → IsFormedClaim claim → IsFormedTicked (claim_led built cluster me facts volatile claim)
-  led-here built volatile claim kept w =
-      cond_both built.leading (led_or_left volatile (led_of cluster me facts volatile claim)) (only_sending volatile []) IsFormedTicked
-      (λ e. left-formed volatile (led_of cluster me facts volatile claim) kept (claim-part volatile claim kept w)) (λ e. (kept, tt))
+  pub led-here : (volatile : Volatile) (claim : Claim) → IsWellFormedVolatile volatile → IsFormedClaim claim → IsFormedTicked (claim_led cluster me facts volatile claim)
+  led-here volatile claim kept w = left-formed volatile (led_of cluster me facts volatile claim) kept (claim-part volatile claim kept w)
 
   -- ---- messages
 

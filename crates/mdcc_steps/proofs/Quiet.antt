@@ -12,20 +12,19 @@ use Rattle.mdcc_option.specs.declared.cluster.Cluster.{Cluster}
 use Rattle.mdcc_struct.specs.declared.options.Options.{Options}
 use Rattle.mdcc_protocol.specs.Acceptor.{on_accept, on_prepare, on_propose}
 use Rattle.mdcc_rules.specs.AcceptorRules.{accepted_step, ask_step_by, prepared_step, proposed_step}
-use Rattle.mdcc_switches.specs.Built.{Built}
 use Rattle.mdcc_protocol.specs.Facts.{heard_of, is_heard, vote_of}
 use Rattle.mdcc_protocol.specs.Leader.{claim_of_choice}
-use Rattle.mdcc_rules.specs.LeaderRules.{lead_step_after, led_of, promise_step, step_of_led}
+use Rattle.mdcc_rules.specs.LeaderRules.{lead_step_after, led_of, step_of_led}
 use Rattle.mdcc_protocol.specs.Learner.{is_learned}
 use Rattle.mdcc_protocol.specs.Manager
-use Rattle.mdcc_protocol.specs.Manager.{act_on_cause, acted, vote_taken}
+use Rattle.mdcc_protocol.specs.Manager.{act_on_cause, acted}
 use Rattle.mdcc_rules.specs.ManagerRules.{acted_step, escalate_step, opened_step, undecided_step, voted_step, watched_step}
 use Rattle.mdcc_rules.specs.Node.{message_step}
 use Rattle.mdcc_protocol.specs.Recover
 use Rattle.mdcc_rules.specs.Steps.{NodeStep, StepPart, nothing_done}
 use Rattle.mdcc_rules.specs.SyncRules.{outcome_step_by, sync_give_step_by}
 use Rattle.mdcc_protocol.specs.Visible.{on_outcome, on_sync_give}
-use Rattle.mdcc_protocol.specs.Volatile.{Managing, Volatile, is_open, with_manager}
+use Rattle.mdcc_protocol.specs.Volatile.{Managing, Volatile, is_open}
 use Rattle.mdcc_protocol.specs.declared.acceptor.AcceptAnswer.{AcceptAnswer}
 use Rattle.mdcc_protocol.specs.declared.acceptor.PrepareAnswer.{PrepareAnswer}
 use Rattle.mdcc_protocol.specs.declared.acceptor.ProposeAnswer.{ProposeAnswer}
@@ -34,24 +33,22 @@ use Rattle.mdcc_protocol.specs.declared.leader.LeadFault.{LeadFault}
 use Rattle.mdcc_protocol.specs.declared.manager.ManagerAct.{ManagerAct}
 use Rattle.mdcc_messages.specs.declared.messages.Message.{Message}
 use Rattle.mdcc_protocol.specs.declared.votes.Vote.{Vote}
-use Rattle.mdcc_steps.proofs.Allowing.{OnStep, on_rule}
+use Rattle.mdcc_steps.proofs.Allowing.{OnStep}
 
 abbrev pub IsQuiet : NodeStep → Type 0
 IsQuiet step = step.answer ≡ None
 
-module _ (built : Built) (cluster : Cluster) (me : ℕ) (facts : List Fact) (volatile : Volatile) where
+module _ (cluster : Cluster) (me : ℕ) (facts : List Fact) (volatile : Volatile) where
   quiet-proposed : (s : ℕ) (choice : Choice) (answer : ProposeAnswer) → IsQuiet (proposed_step me volatile s choice answer)
   quiet-proposed s choice (ProposeAnswer.Known outcome) = refl
   quiet-proposed s choice (ProposeAnswer.Again ballot mark) = refl
   quiet-proposed s choice (ProposeAnswer.Vote mark) = refl
   quiet-proposed s choice (ProposeAnswer.Escalate cause) = refl
 
-  quiet-undecided : (vote : Vote) → IsQuiet (undecided_step built cluster me facts volatile vote)
-  quiet-undecided vote =
-      cond_both built.escalations (acted_step me facts volatile (Manager.on_voted cluster.quorums volatile.manager vote))
-      (nothing_done (with_manager volatile (vote_taken cluster.quorums volatile.manager vote))) IsQuiet (λ e. refl) (λ e. refl)
+  quiet-undecided : (vote : Vote) → IsQuiet (undecided_step cluster me facts volatile vote)
+  quiet-undecided vote = refl
 
-  quiet-opened : (vote : Vote) (o : Option Outcome) → IsQuiet (opened_step built cluster me facts volatile vote o)
+  quiet-opened : (vote : Vote) (o : Option Outcome) → IsQuiet (opened_step cluster me facts volatile vote o)
   quiet-opened vote (Some outcome) = refl
   quiet-opened vote None = quiet-undecided vote
 
@@ -59,11 +56,11 @@ module _ (built : Built) (cluster : Cluster) (me : ℕ) (facts : List Fact) (vol
   quiet-watched vote (Some decided) = refl
   quiet-watched vote None = refl
 
-  quiet-voted : (vote : Vote) → IsQuiet (voted_step built cluster me facts volatile vote)
+  quiet-voted : (vote : Vote) → IsQuiet (voted_step cluster me facts volatile vote)
   quiet-voted vote =
       cond_both (is_heard facts vote.tx) (nothing_done volatile) _ IsQuiet (λ e. refl) (λ e.
       cond_both (is_open volatile.manager vote.tx)
-      (opened_step built cluster me facts volatile vote (Manager.would_decide cluster.quorums volatile.manager vote))
+      (opened_step cluster me facts volatile vote (Manager.would_decide cluster.quorums volatile.manager vote))
       (watched_step cluster me facts volatile vote (Recover.would_decide cluster.quorums facts volatile.recovery vote))
       IsQuiet
       (λ f. quiet-opened vote (Manager.would_decide cluster.quorums volatile.manager vote))
@@ -107,24 +104,21 @@ module _ (built : Built) (cluster : Cluster) (me : ℕ) (facts : List Fact) (vol
   quiet-given None = refl
   quiet-given (Some fact) = refl
 
-  pub quiet-message : (s : ℕ) (message : Message) → OnStep IsQuiet (message_step built cluster me facts volatile s message)
-  quiet-message s (Message.Propose choice) = on_rule IsQuiet built.proposals volatile _ refl (quiet-proposed s choice (on_propose cluster facts choice))
+  pub quiet-message : (s : ℕ) (message : Message) → OnStep IsQuiet (message_step cluster me facts volatile s message)
+  quiet-message s (Message.Propose choice) = quiet-proposed s choice (on_propose cluster facts choice)
   quiet-message s (Message.Voted key version ballot tx mark) =
-      on_rule IsQuiet built.proposals volatile _ refl (quiet-voted (record { from = s; key = key; version = version; ballot = ballot; tx = tx; mark = mark }))
-  quiet-message s (Message.Escalate key version tx cause) = on_rule IsQuiet built.escalations volatile _ refl (quiet-escalate s key tx cause)
-  quiet-message s (Message.Lead choice) = on_rule IsQuiet built.leading volatile _ refl (quiet-lead s choice (heard_of facts choice.tx))
-  quiet-message s (Message.Prepare key version through ballot) =
-      on_rule IsQuiet built.leading volatile _ refl (quiet-prepared s key version ballot (on_prepare facts key version through ballot))
-  quiet-message s (Message.Promise key version through ballot reported votes) =
-      on_rule IsQuiet built.leading volatile (promise_step cluster me facts volatile s (record { key = key; version = version; through = through; ballot = ballot; reported = reported; votes = votes })) refl (quiet-led _)
-  quiet-message s (Message.Accept key version ballot options) =
-      on_rule IsQuiet built.leading volatile _ refl (quiet-accepted s key version ballot options (on_accept facts key version ballot options))
-  quiet-message s (Message.Refused key version ballot promised) = on_rule IsQuiet built.leading volatile _ refl refl
-  quiet-message s (Message.Outcome tx outcome) = on_rule IsQuiet built.proposals volatile _ refl (quiet-outcome tx (on_outcome facts tx outcome))
-  quiet-message s (Message.Ask tx key version) = on_rule IsQuiet built.recovery volatile _ refl (quiet-asked s tx key version (heard_of facts tx) (vote_of facts key version tx))
-  quiet-message s (Message.SyncAsk key) = on_rule IsQuiet built.catching_up volatile _ refl refl
+      quiet-voted (record { from = s; key = key; version = version; ballot = ballot; tx = tx; mark = mark })
+  quiet-message s (Message.Escalate key version tx cause) = quiet-escalate s key tx cause
+  quiet-message s (Message.Lead choice) = quiet-lead s choice (heard_of facts choice.tx)
+  quiet-message s (Message.Prepare key version through ballot) = quiet-prepared s key version ballot (on_prepare facts key version through ballot)
+  quiet-message s (Message.Promise key version through ballot reported votes) = quiet-led _
+  quiet-message s (Message.Accept key version ballot options) = quiet-accepted s key version ballot options (on_accept facts key version ballot options)
+  quiet-message s (Message.Refused key version ballot promised) = refl
+  quiet-message s (Message.Outcome tx outcome) = quiet-outcome tx (on_outcome facts tx outcome)
+  quiet-message s (Message.Ask tx key version) = quiet-asked s tx key version (heard_of facts tx) (vote_of facts key version tx)
+  quiet-message s (Message.SyncAsk key) = refl
   quiet-message s (Message.SyncGive key version item adds) =
-      on_rule IsQuiet built.catching_up volatile _ refl (quiet-given (on_sync_give facts (record { key = key; version = version; item = item; adds = adds })))
+      quiet-given (on_sync_give facts (record { key = key; version = version; item = item; adds = adds }))
   quiet-message s (Message.ClientRead serial key) = refl
   quiet-message s (Message.ClientBegin serial parts) = refl
   quiet-message s (Message.ClientAnswer serial answer) = refl

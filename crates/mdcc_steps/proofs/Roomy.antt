@@ -1,11 +1,10 @@
 -- Facts stay within the cells of a node.
-use Rattle.std.proofs.Common.{◌≡◌, ℕ, ◌+◌, ◌-◌, ◌≤◌, true, false, List, ◌∷◌, refl, sym, ◌∙◌, inl, inr, Option, Some, None, Result, Ok, Err, nat_lt, arith}
-use Rattle.std.proofs.lemmas.Bool.{and_cases, cond_both, ltb-false, true≢false}
+use Rattle.std.proofs.Common.{◌≡◌, ℕ, ◌+◌, ◌-◌, ◌≤◌, false, List, ◌∷◌, refl, Option, Some, None, Result, Ok, Err, arith}
+use Rattle.std.proofs.lemmas.Bool.{cond_both, ltb-false}
 use Rattle.mdcc_base.specs.declared.key.Key.{Key}
 use Rattle.mdcc_option.specs.declared.cluster.Cluster.{Cluster}
 use Rattle.mdcc_option.specs.declared.faults.BeginFault.{BeginFault}
 use Rattle.mdcc_option.specs.declared.items.Part.{Part}
-use Rattle.mdcc_switches.specs.Built.{Built}
 use Rattle.mdcc_protocol.specs.Facts.{epoch_of}
 use Rattle.mdcc_messages.specs.Lengths.{cells_needed, cells_used}
 use Rattle.mdcc_protocol.specs.Manager.{begin_by, begin_fault}
@@ -21,27 +20,24 @@ use Rattle.mdcc_steps.specs.Forming.{with_new}
 use Rattle.mdcc_steps.proofs.Allowing.{OnStep}
 use Rattle.mdcc_steps.proofs.Stepping.{on_made}
 
-module _ (built : Built) (cluster : Cluster) (me : ℕ) (facts : List Fact) (volatile : Volatile) (limited : built.limit_on_cells ≡ true) (before : cells_used facts ≤ cluster.cells) where
+module _ (cluster : Cluster) (me : ℕ) (facts : List Fact) (volatile : Volatile) (before : cells_used facts ≤ cluster.cells) where
   abbrev pub IsWithin : NodeStep → Type 0
   IsWithin step = cells_used (with_new facts step.fact) ≤ cluster.cells
 
-  fits : (fact : Fact) → is_without_room built cluster facts fact ≡ false → cells_used (fact ∷ facts) ≤ cluster.cells
+  fits : (fact : Fact) → is_without_room cluster facts fact ≡ false → cells_used (fact ∷ facts) ≤ cluster.cells
   fits fact h =
-      elim (and_cases built.limit_on_cells (nat_lt (cells_spare cluster facts) (cells_needed fact)) h) [
-        | inl e ↦ absurd (true≢false (sym limited ∙ e))
-        | inr e ↦ let spare = ltb-false (cluster.cells - cells_used facts) (cells_needed fact) e in sum (cells_needed fact) (cells_used facts) cluster.cells before spare
-      ]
+      let spare = ltb-false (cluster.cells - cells_used facts) (cells_needed fact) h in sum (cells_needed fact) (cells_used facts) cluster.cells before spare
     where
       sum : (a b c : ℕ) → b ≤ c → a ≤ c - b → a + b ≤ c
       sum a b c h k = omega arith
 
-  within-room : (step : NodeStep) (o : Option Fact) → step.fact ≡ o → OnStep IsWithin (with_room built cluster facts step o)
+  within-room : (step : NodeStep) (o : Option Fact) → step.fact ≡ o → OnStep IsWithin (with_room cluster facts step o)
   within-room step None e = rw e before
   within-room step (Some fact) e =
-      cond_both (is_without_room built cluster facts fact) (Err (StepFault.NoRoom (cells_needed fact) (cells_spare cluster facts))) _ (OnStep IsWithin) (λ a. tt)
+      cond_both (is_without_room cluster facts fact) (Err (StepFault.NoRoom (cells_needed fact) (cells_spare cluster facts))) _ (OnStep IsWithin) (λ a. tt)
       (λ a. cond_both (is_crowding facts fact) (Err StepFault.Crowded) (Ok step) (OnStep IsWithin) (λ b. tt) (λ b. rw e (fits fact a)))
 
-  within-checked : (r : Result NodeStep StepFault) → OnStep IsWithin (checked built cluster facts r)
+  within-checked : (r : Result NodeStep StepFault) → OnStep IsWithin (checked cluster facts r)
   within-checked (Err fault) = tt
   within-checked (Ok step) = within-room step step.fact refl
 
@@ -49,15 +45,15 @@ module _ (built : Built) (cluster : Cluster) (me : ℕ) (facts : List Fact) (vol
   within-begun parts (Some fault) = before
   within-begun parts None = before
 
-  within : (input : Input) → OnStep IsWithin (step_of built cluster me facts volatile input)
+  within : (input : Input) → OnStep IsWithin (step_of cluster me facts volatile input)
   within (Input.Message envelope) =
-      cond_both (is_own_message cluster me envelope) (checked built cluster facts (message_step built cluster me facts volatile envelope.from envelope.message)) (Err StepFault.Foreign) (OnStep IsWithin)
-      (λ e. within-checked (message_step built cluster me facts volatile envelope.from envelope.message)) (λ e. tt)
+      cond_both (is_own_message cluster me envelope) (checked cluster facts (message_step cluster me facts volatile envelope.from envelope.message)) (Err StepFault.Foreign) (OnStep IsWithin)
+      (λ e. within-checked (message_step cluster me facts volatile envelope.from envelope.message)) (λ e. tt)
   within Input.Tick = before
   within (Input.Read key) = before
   within (Input.Begin parts) = within-begun parts (begin_fault facts volatile.manager parts)
 
-pub room-stays : (built : Built) (cluster : Cluster) (me : ℕ) (facts : List Fact) (volatile : Volatile) (input : Input) (step : NodeStep) → built.limit_on_cells ≡ true → cells_used facts ≤ cluster.cells
-    → step_of built cluster me facts volatile input ≡ Ok step → cells_used (with_new facts step.fact) ≤ cluster.cells
-room-stays built cluster me facts volatile input step limited before made =
-    on_made (IsWithin built cluster me facts volatile limited before) _ step (within built cluster me facts volatile limited before input) made
+pub room-stays : (cluster : Cluster) (me : ℕ) (facts : List Fact) (volatile : Volatile) (input : Input) (step : NodeStep) → cells_used facts ≤ cluster.cells
+    → step_of cluster me facts volatile input ≡ Ok step → cells_used (with_new facts step.fact) ≤ cluster.cells
+room-stays cluster me facts volatile input step before made =
+    on_made (IsWithin cluster me facts volatile before) _ step (within cluster me facts volatile before input) made

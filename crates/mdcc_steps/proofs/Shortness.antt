@@ -17,9 +17,8 @@ use Rattle.mdcc_struct.specs.declared.options.Options.{Options}
 use Rattle.mdcc_protocol.specs.Acceptor.{on_accept, on_prepare, on_propose}
 use Rattle.mdcc_protocol.specs.Belongs.{is_centre}
 use Rattle.mdcc_rules.specs.AcceptorRules.{accepted_step, ask_step_by, prepared_step, proposed_step}
-use Rattle.mdcc_switches.specs.Built.{Built}
 use Rattle.mdcc_protocol.specs.Facts.{epoch_of, heard_of, is_heard, vote_of, votes_of}
-use Rattle.mdcc_rules.specs.LeaderRules.{lead_step_after, led_of, promise_step, step_of_led}
+use Rattle.mdcc_rules.specs.LeaderRules.{lead_step_after, led_of, step_of_led}
 use Rattle.mdcc_protocol.specs.Leader.{claim_of_choice}
 use Rattle.mdcc_struct.specs.Maps.{value_of}
 use Rattle.std.specs.Prelude.{filter, is_some, not}
@@ -27,16 +26,16 @@ use Rattle.mdcc_protocol.specs.declared.acceptor.AcceptAnswer.{AcceptAnswer}
 use Rattle.mdcc_protocol.specs.declared.acceptor.PrepareAnswer.{PrepareAnswer}
 use Rattle.mdcc_protocol.specs.declared.leader.LeadFault.{LeadFault}
 use Rattle.mdcc_messages.specs.declared.messages.Envelope.{Envelope}
-use Rattle.mdcc_messages.specs.Lengths.{body_length, choice_length, delta_length, entry_length, fact_length, message_length, offered_length}
+use Rattle.mdcc_messages.specs.Lengths.{choice_length, delta_length, entry_length, fact_length, message_length, offered_length}
 use Rattle.mdcc_protocol.specs.Manager
-use Rattle.mdcc_protocol.specs.Manager.{act_on_cause, acted, begin_by, begin_fault, vote_taken}
-use Rattle.mdcc_rules.specs.ManagerRules.{acted_step, begin_step_by, opened_step, undecided_step, voted_step, watched_step}
+use Rattle.mdcc_protocol.specs.Manager.{begin_by, begin_fault}
+use Rattle.mdcc_rules.specs.ManagerRules.{begin_step_by, opened_step, undecided_step, voted_step, watched_step}
 use Rattle.mdcc_protocol.specs.News.{is_news}
 use Rattle.mdcc_rules.specs.Node.{checked, is_own_message, message_step, step_of}
 use Rattle.mdcc_protocol.specs.Recover
 use Rattle.mdcc_rules.specs.Steps.{NodeStep, StepPart, nothing_done}
 use Rattle.mdcc_rules.specs.SyncRules.{outcome_step, outcome_step_by, sync_give_step, sync_give_step_by}
-use Rattle.mdcc_protocol.specs.Volatile.{Volatile, is_open, with_manager}
+use Rattle.mdcc_protocol.specs.Volatile.{Volatile, is_open}
 use Rattle.mdcc_messages.specs.WellFormed.{IsWellFormedFact, IsWellFormedMessage, IsWellFormedOffered}
 use Rattle.mdcc_messages.specs.WellFormedParts.{IsWellFormedDelta, IsWellFormedEntry, IsWellFormedOf}
 use Rattle.mdcc_protocol.specs.declared.acceptor.ProposeAnswer.{ProposeAnswer}
@@ -50,7 +49,7 @@ use Rattle.mdcc_spelling.proofs.Longest.{longest_choice}
 use Rattle.mdcc_steps.specs.Forming.{HasRoom, IsNode, accept_length_in, accept_length}
 use Rattle.mdcc_steps.proofs.Sending.{HasRoomIn, IsGoodSent}
 use Rattle.mdcc_steps.specs.Inputs.{IsWellFormedInput}
-use Rattle.mdcc_steps.proofs.Allowing.{OnStep, on_checked, on_rule}
+use Rattle.mdcc_steps.proofs.Allowing.{OnStep, on_checked}
 use Rattle.mdcc_steps.proofs.Dispatched.{brought-formed, fact-formed, sends-good}
 use Rattle.mdcc_steps.proofs.Each.{each-weaker}
 use Rattle.mdcc_steps.proofs.Structuring.{crowded-few}
@@ -124,7 +123,7 @@ kept-short test (e ∷ es) =
     let ih = kept-short test es in
     cond_both (test e) (e ∷ filter test es) (filter test es) (λ (m : Options). sum_over (λ e. entry_length e.1) m ≤ entry_length e.1 + sum_over (λ e. entry_length e.1) es) (λ f. omega arith) (λ f. omega arith)
 
-module _ (built : Built) (cluster : Cluster) (me : ℕ) (facts : List Fact) (volatile : Volatile) where
+module _ (cluster : Cluster) (me : ℕ) (facts : List Fact) (volatile : Volatile) where
   single-led : (r : Result StepPart LeadFault) → OnStep IsSingle (step_of_led r)
   single-led (Ok part) = tt
   single-led (Err fault) = tt
@@ -157,12 +156,10 @@ module _ (built : Built) (cluster : Cluster) (me : ℕ) (facts : List Fact) (vol
   single-proposed s choice (ProposeAnswer.Vote mark) = omega arith
   single-proposed s choice (ProposeAnswer.Escalate cause) = tt
 
-  single-undecided : (vote : Vote) → IsSingle (undecided_step built cluster me facts volatile vote)
-  single-undecided vote =
-      cond_both built.escalations (acted_step me facts volatile (Manager.on_voted cluster.quorums volatile.manager vote))
-      (nothing_done (with_manager volatile (vote_taken cluster.quorums volatile.manager vote))) IsSingle (λ e. tt) (λ e. tt)
+  single-undecided : (vote : Vote) → IsSingle (undecided_step cluster me facts volatile vote)
+  single-undecided vote = tt
 
-  single-opened : (vote : Vote) (o : Option Outcome) → IsSingle (opened_step built cluster me facts volatile vote o)
+  single-opened : (vote : Vote) (o : Option Outcome) → IsSingle (opened_step cluster me facts volatile vote o)
   single-opened vote (Some outcome) = tt
   single-opened vote None = single-undecided vote
 
@@ -170,11 +167,11 @@ module _ (built : Built) (cluster : Cluster) (me : ℕ) (facts : List Fact) (vol
   single-watched vote (Some decided) = tt
   single-watched vote None = tt
 
-  single-voted : (vote : Vote) → IsSingle (voted_step built cluster me facts volatile vote)
+  single-voted : (vote : Vote) → IsSingle (voted_step cluster me facts volatile vote)
   single-voted vote =
       cond_both (is_heard facts vote.tx) (nothing_done volatile) _ IsSingle (λ e. tt) (λ e.
       cond_both (is_open volatile.manager vote.tx)
-      (opened_step built cluster me facts volatile vote (Manager.would_decide cluster.quorums volatile.manager vote))
+      (opened_step cluster me facts volatile vote (Manager.would_decide cluster.quorums volatile.manager vote))
       (watched_step cluster me facts volatile vote (Recover.would_decide cluster.quorums facts volatile.recovery vote))
       IsSingle
       (λ f. single-opened vote (Manager.would_decide cluster.quorums volatile.manager vote))
@@ -198,36 +195,33 @@ module _ (built : Built) (cluster : Cluster) (me : ℕ) (facts : List Fact) (vol
   single-begin parts (Some fault) = tt
   single-begin parts None = tt
 
-  single-message : (s : ℕ) (message : Message) → (is_accept_message message ≡ false) → OnStep IsSingle (message_step built cluster me facts volatile s message)
-  single-message s (Message.Propose choice) e = on_rule IsSingle built.proposals volatile _ tt (single-proposed s choice (on_propose cluster facts choice))
+  single-message : (s : ℕ) (message : Message) → (is_accept_message message ≡ false) → OnStep IsSingle (message_step cluster me facts volatile s message)
+  single-message s (Message.Propose choice) e = single-proposed s choice (on_propose cluster facts choice)
   single-message s (Message.Voted key version ballot tx mark) e =
-      on_rule IsSingle built.proposals volatile _ tt (single-voted (record { from = s; key = key; version = version; ballot = ballot; tx = tx; mark = mark }))
-  single-message s (Message.Escalate key version tx cause) e = on_rule IsSingle built.escalations volatile _ tt tt
-  single-message s (Message.Lead choice) e = on_rule IsSingle built.leading volatile _ tt (single-lead s choice (heard_of facts choice.tx))
-  single-message s (Message.Prepare key version through ballot) e =
-      on_rule IsSingle built.leading volatile _ tt (single-prepared s key version ballot (on_prepare facts key version through ballot))
-  single-message s (Message.Promise key version through ballot reported votes) e =
-      on_rule IsSingle built.leading volatile (promise_step cluster me facts volatile s (record { key = key; version = version; through = through; ballot = ballot; reported = reported; votes = votes })) tt (single-led _)
+      single-voted (record { from = s; key = key; version = version; ballot = ballot; tx = tx; mark = mark })
+  single-message s (Message.Escalate key version tx cause) e = tt
+  single-message s (Message.Lead choice) e = single-lead s choice (heard_of facts choice.tx)
+  single-message s (Message.Prepare key version through ballot) e = single-prepared s key version ballot (on_prepare facts key version through ballot)
+  single-message s (Message.Promise key version through ballot reported votes) e = single-led _
   single-message s (Message.Accept key version ballot options) e = absurd (cc)
-  single-message s (Message.Refused key version ballot promised) e = on_rule IsSingle built.leading volatile _ tt tt
-  single-message s (Message.Outcome tx outcome) e = on_rule IsSingle built.proposals volatile _ tt (single-outcome tx outcome)
-  single-message s (Message.Ask tx key version) e = on_rule IsSingle built.recovery volatile _ tt (single-asked s tx key version (heard_of facts tx) (vote_of facts key version tx))
-  single-message s (Message.SyncAsk key) e = on_rule IsSingle built.catching_up volatile _ tt tt
-  single-message s (Message.SyncGive key version item adds) e =
-      on_rule IsSingle built.catching_up volatile _ tt (single-give (record { key = key; version = version; item = item; adds = adds }))
+  single-message s (Message.Refused key version ballot promised) e = tt
+  single-message s (Message.Outcome tx outcome) e = single-outcome tx outcome
+  single-message s (Message.Ask tx key version) e = single-asked s tx key version (heard_of facts tx) (vote_of facts key version tx)
+  single-message s (Message.SyncAsk key) e = tt
+  single-message s (Message.SyncGive key version item adds) e = single-give (record { key = key; version = version; item = item; adds = adds })
   single-message s (Message.ClientRead serial key) e = tt
   single-message s (Message.ClientBegin serial parts) e = tt
   single-message s (Message.ClientAnswer serial answer) e = tt
 
-  pub brief-message : (s : ℕ) (envelope : Envelope) → OnStep (IsBriefStep (accept_length envelope.message)) (message_step built cluster me facts volatile s envelope.message)
+  pub brief-message : (s : ℕ) (envelope : Envelope) → OnStep (IsBriefStep (accept_length envelope.message)) (message_step cluster me facts volatile s envelope.message)
   brief-message s envelope = by_message envelope.message refl
     where
-      other : (message : Message) → is_accept_message message ≡ false → OnStep (IsBriefStep (accept_length envelope.message)) (message_step built cluster me facts volatile s message)
-      other message e = on-brief (accept_length envelope.message) (message_step built cluster me facts volatile s message) (single-message s message e)
+      other : (message : Message) → is_accept_message message ≡ false → OnStep (IsBriefStep (accept_length envelope.message)) (message_step cluster me facts volatile s message)
+      other message e = on-brief (accept_length envelope.message) (message_step cluster me facts volatile s message) (single-message s message e)
 
-      by_message : (message : Message) → envelope.message ≡ message → OnStep (IsBriefStep (accept_length envelope.message)) (message_step built cluster me facts volatile s message)
+      by_message : (message : Message) → envelope.message ≡ message → OnStep (IsBriefStep (accept_length envelope.message)) (message_step cluster me facts volatile s message)
       by_message (Message.Accept key version ballot options) e =
-          rw e (on_rule (IsBriefStep (4 + body_length (Message.Accept key version ballot options))) built.leading volatile (Ok (accepted_step me facts volatile s key version ballot options (on_accept facts key version ballot options))) tt (brief-accepted s envelope.from envelope.to key version ballot options (on_accept facts key version ballot options)))
+          rw e (brief-accepted s envelope.from envelope.to key version ballot options (on_accept facts key version ballot options))
       by_message (Message.Propose choice) e = other (Message.Propose choice) refl
       by_message (Message.Voted key version ballot tx mark) e = other (Message.Voted key version ballot tx mark) refl
       by_message (Message.Escalate key version tx cause) e = other (Message.Escalate key version tx cause) refl
@@ -243,10 +237,10 @@ module _ (built : Built) (cluster : Cluster) (me : ℕ) (facts : List Fact) (vol
       by_message (Message.ClientBegin serial parts) e = other (Message.ClientBegin serial parts) refl
       by_message (Message.ClientAnswer serial answer) e = other (Message.ClientAnswer serial answer) refl
 
-  brief-step : (input : Input) → OnStep (IsBriefStep (accept_length_in input)) (step_of built cluster me facts volatile input)
+  brief-step : (input : Input) → OnStep (IsBriefStep (accept_length_in input)) (step_of cluster me facts volatile input)
   brief-step (Input.Message envelope) =
-      cond_both (is_own_message cluster me envelope) (checked built cluster facts (message_step built cluster me facts volatile envelope.from envelope.message)) (Err StepFault.Foreign) (OnStep (IsBriefStep (accept_length envelope.message)))
-      (λ e. on_checked (IsBriefStep (accept_length envelope.message)) (IsBriefStep (accept_length envelope.message)) built cluster facts (message_step built cluster me facts volatile envelope.from envelope.message) (λ step h room. h)
+      cond_both (is_own_message cluster me envelope) (checked cluster facts (message_step cluster me facts volatile envelope.from envelope.message)) (Err StepFault.Foreign) (OnStep (IsBriefStep (accept_length envelope.message)))
+      (λ e. on_checked (IsBriefStep (accept_length envelope.message)) (IsBriefStep (accept_length envelope.message)) cluster facts (message_step cluster me facts volatile envelope.from envelope.message) (λ step h room. h)
       (brief-message envelope.from envelope))
       (λ e. tt)
   brief-step Input.Tick = tt
@@ -261,28 +255,28 @@ in-frame n h = omega arith
 within : (n m : ℕ) → n ≤ m → m ≤ 2097152 → n ≤ 2097152
 within n m h k = omega arith
 
-pub fact-short : (built : Built) (cluster : Cluster) (me : ℕ) (facts : List Fact) (volatile : Volatile) (input : Input) (step : NodeStep) (fact : Fact)
+pub fact-short : (cluster : Cluster) (me : ℕ) (facts : List Fact) (volatile : Volatile) (input : Input) (step : NodeStep) (fact : Fact)
     → accept_length_in input ≤ 2097152
     → IsNode cluster me facts volatile → IsWellFormedInput input
-    → step_of built cluster me facts volatile input ≡ Ok step → step.fact ≡ Some fact
+    → step_of cluster me facts volatile input ≡ Ok step → step.fact ≡ Some fact
     → fact_length fact ≤ 2097152
-fact-short built cluster me facts volatile input step fact few node w made is =
-    let formed = fact-formed built cluster me facts volatile input step node w made fact is in
-    let short = holds-at (IsBrief (accept_length_in input)) step.fact fact (on_made (IsBriefStep (accept_length_in input)) _ step (brief-step built cluster me facts volatile input) made) is in
+fact-short cluster me facts volatile input step fact few node w made is =
+    let formed = fact-formed cluster me facts volatile input step node w made fact is in
+    let short = holds-at (IsBrief (accept_length_in input)) step.fact fact (on_made (IsBriefStep (accept_length_in input)) _ step (brief-step cluster me facts volatile input) made) is in
     elim short [
       | inl one ↦ in-frame (fact_length fact) (longest-fact fact formed one)
       | inr same ↦ within (fact_length fact) (accept_length_in input) same few
     ]
 
-pub brought-fits : (built : Built) (cluster : Cluster) (me : ℕ) (facts : List Fact) (volatile : Volatile) (s : ℕ) (message : Message) (step : NodeStep) (fact : Fact)
+pub brought-fits : (cluster : Cluster) (me : ℕ) (facts : List Fact) (volatile : Volatile) (s : ℕ) (message : Message) (step : NodeStep) (fact : Fact)
     → accept_length message ≤ 2097152
     → IsNode cluster me facts volatile → is_centre cluster s ≡ true → IsWellFormedMessage message
-    → message_step built cluster me facts volatile s message ≡ Ok step → step.fact ≡ Some fact
+    → message_step cluster me facts volatile s message ≡ Ok step → step.fact ≡ Some fact
     → IsWellFormedFact fact × (fact_length fact ≤ 2097152)
-brought-fits built cluster me facts volatile s message step fact few node from w made is =
-    let formed = brought-formed built cluster me facts volatile s message step fact node from w made is in
+brought-fits cluster me facts volatile s message step fact few node from w made is =
+    let formed = brought-formed cluster me facts volatile s message step fact node from w made is in
     let envelope : Envelope = record { from = s; to = s; message = message } in
-    let short = holds-at (IsBrief (accept_length message)) step.fact fact (on_made (IsBriefStep (accept_length message)) _ step (brief-message built cluster me facts volatile s envelope) made) is in (
+    let short = holds-at (IsBrief (accept_length message)) step.fact fact (on_made (IsBriefStep (accept_length message)) _ step (brief-message cluster me facts volatile s envelope) made) is in (
       formed,
       elim short [
         | inl one ↦ in-frame (fact_length fact) (longest-fact fact formed one)
@@ -321,8 +315,8 @@ sent-short e h = by_message e.message h.0.message h.1
     by_message (Message.ClientBegin serial parts) w r = omega arith
     by_message (Message.ClientAnswer serial answer) w r = omega arith
 
-pub sends-short : (built : Built) (cluster : Cluster) (me : ℕ) (facts : List Fact) (volatile : Volatile) (input : Input) (step : NodeStep)
-    → HasRoom built facts → IsNode cluster me facts volatile → IsWellFormedInput input
-    → step_of built cluster me facts volatile input ≡ Ok step → AllByRecursion (λ e. accept_length e.message ≤ 1474618) step.sends
-sends-short built cluster me facts volatile input step room node w made =
-    each-weaker IsGoodSent (λ e. accept_length e.message ≤ 1474618) step.sends sent-short (sends-good built cluster me facts volatile input step node w made room)
+pub sends-short : (cluster : Cluster) (me : ℕ) (facts : List Fact) (volatile : Volatile) (input : Input) (step : NodeStep)
+    → HasRoom facts → IsNode cluster me facts volatile → IsWellFormedInput input
+    → step_of cluster me facts volatile input ≡ Ok step → AllByRecursion (λ e. accept_length e.message ≤ 1474618) step.sends
+sends-short cluster me facts volatile input step room node w made =
+    each-weaker IsGoodSent (λ e. accept_length e.message ≤ 1474618) step.sends sent-short (sends-good cluster me facts volatile input step node w made room)

@@ -15,10 +15,9 @@ use Rattle.mdcc_rules.specs.AcceptorRules.{ask_step_by}
 use Rattle.mdcc_ledger.specs.BootTest.{is_allowed_fact}
 use Rattle.mdcc_ledger.specs.AllowedFacts.{is_booted}
 use Rattle.mdcc_protocol.specs.Belongs.{adds_belong, ballot_belongs, fact_belongs, item_belongs, mark_belongs, message_belongs, options_belong, outcome_belongs, tx_belongs}
-use Rattle.mdcc_switches.specs.Built.{Built}
 use Rattle.mdcc_protocol.specs.Facts.{epoch_of, heard_of, vote_of}
 use Rattle.mdcc_protocol.specs.Leader.{claim_of_choice}
-use Rattle.mdcc_rules.specs.LeaderRules.{lead_step_after, led_of, promise_step, step_of_led}
+use Rattle.mdcc_rules.specs.LeaderRules.{lead_step_after, led_of, step_of_led}
 use Rattle.mdcc_protocol.specs.Manager.{begin_by, begin_fault}
 use Rattle.mdcc_rules.specs.ManagerRules.{begin_step_by}
 use Rattle.mdcc_protocol.specs.News.{is_crowding}
@@ -34,12 +33,12 @@ use Rattle.mdcc_rules.specs.declared.node.StepFault.{StepFault}
 use Rattle.mdcc_steps.specs.Adding.{AreVotesOf, IsVoteOf}
 use Rattle.mdcc_steps.specs.Inputs.{IsWellFormedInput}
 use Rattle.mdcc_steps.proofs.Adding.{accept-allowed, classic-not_fast, give-allowed, outcome-allowed, prepare-allowed}
-use Rattle.mdcc_steps.proofs.Allowing.{IsAllowedIf, OnStep, on_checked, on_rule}
+use Rattle.mdcc_steps.proofs.Allowing.{IsAllowedIf, OnStep, on_checked}
 use Rattle.mdcc_steps.proofs.Counted.{HoldsOfInput, HoldsOfVote, votes-step}
 use Rattle.mdcc_steps.proofs.Proposing.{propose-allowed}
 use Rattle.mdcc_steps.proofs.Voting.{voted-allowed}
 
-module _ (built : Built) (cluster : Cluster) (me : ℕ) (facts : List Fact) (volatile : Volatile) (booted : nat_lt 0 (epoch_of facts) ≡ true) (votes : AreVotesOf cluster volatile) where
+module _ (cluster : Cluster) (me : ℕ) (facts : List Fact) (volatile : Volatile) (booted : nat_lt 0 (epoch_of facts) ≡ true) (votes : AreVotesOf cluster volatile) where
   abbrev pub IsFair : NodeStep → Type 0
   IsFair step = IsAllowedIf cluster facts step.fact
 
@@ -62,33 +61,29 @@ module _ (built : Built) (cluster : Cluster) (me : ℕ) (facts : List Fact) (vol
   fair-begin parts None = tt
 
   fair-message : (s : ℕ) (message : Message) → message_belongs cluster message ≡ true → IsWellFormedMessage message
-      → OnStep IsFair (message_step built cluster me facts volatile s message)
-  fair-message s (Message.Propose choice) h w = on_rule IsFair built.proposals volatile _ tt (propose-allowed cluster me facts volatile s choice booted h)
+      → OnStep IsFair (message_step cluster me facts volatile s message)
+  fair-message s (Message.Propose choice) h w = propose-allowed cluster me facts volatile s choice booted h
   fair-message s (Message.Voted key version ballot tx mark) h w =
       let parts = and_parts (ballot_belongs cluster ballot && tx_belongs cluster tx) (mark_belongs cluster mark) h in
-      on_rule IsFair built.proposals volatile _ tt
-      (voted-allowed built cluster me facts volatile (record { from = s; key = key; version = version; ballot = ballot; tx = tx; mark = mark }) booted votes
-      (and_parts (ballot_belongs cluster ballot) (tx_belongs cluster tx) parts.0).1 parts.1)
-  fair-message s (Message.Escalate key version tx cause) h w = on_rule IsFair built.escalations volatile _ tt tt
-  fair-message s (Message.Lead choice) h w = on_rule IsFair built.leading volatile _ tt (fair-lead s choice (heard_of facts choice.tx))
+      voted-allowed cluster me facts volatile (record { from = s; key = key; version = version; ballot = ballot; tx = tx; mark = mark }) booted votes
+      (and_parts (ballot_belongs cluster ballot) (tx_belongs cluster tx) parts.0).1 parts.1
+  fair-message s (Message.Escalate key version tx cause) h w = tt
+  fair-message s (Message.Lead choice) h w = fair-lead s choice (heard_of facts choice.tx)
   fair-message s (Message.Prepare key version through ballot) h w =
-      on_rule IsFair built.leading volatile _ tt (prepare-allowed cluster me facts volatile s key version through ballot booted h w.classic w.not_below)
-  fair-message s (Message.Promise key version through ballot reported votes) h w =
-      on_rule IsFair built.leading volatile (promise_step cluster me facts volatile s (record { key = key; version = version; through = through; ballot = ballot; reported = reported; votes = votes })) tt (fair-led _)
+      prepare-allowed cluster me facts volatile s key version through ballot booted h w.classic w.not_below
+  fair-message s (Message.Promise key version through ballot reported votes) h w = fair-led _
   fair-message s (Message.Accept key version ballot options) h w =
       let parts = and_parts (ballot_belongs cluster ballot) (options_belong cluster options) h in
-      on_rule IsFair built.leading volatile _ tt
-      (accept-allowed cluster me facts volatile s key version ballot options booted (classic-not_fast ballot w.classic) parts.0 parts.1 w.options_itself.ascending)
-  fair-message s (Message.Refused key version ballot promised) h w = on_rule IsFair built.leading volatile _ tt tt
+      accept-allowed cluster me facts volatile s key version ballot options booted (classic-not_fast ballot w.classic) parts.0 parts.1 w.options_itself.ascending
+  fair-message s (Message.Refused key version ballot promised) h w = tt
   fair-message s (Message.Outcome tx outcome) h w =
       let parts = and_parts (tx_belongs cluster tx) (outcome_belongs cluster outcome) h in
-      on_rule IsFair built.proposals volatile _ tt (outcome-allowed cluster facts volatile tx outcome booted parts.0 parts.1)
-  fair-message s (Message.Ask tx key version) h w = on_rule IsFair built.recovery volatile _ tt (fair-asked s tx key version (heard_of facts tx) (vote_of facts key version tx))
-  fair-message s (Message.SyncAsk key) h w = on_rule IsFair built.catching_up volatile _ tt tt
+      outcome-allowed cluster facts volatile tx outcome booted parts.0 parts.1
+  fair-message s (Message.Ask tx key version) h w = fair-asked s tx key version (heard_of facts tx) (vote_of facts key version tx)
+  fair-message s (Message.SyncAsk key) h w = tt
   fair-message s (Message.SyncGive key version item adds) h w =
       let parts = and_parts (item_belongs cluster item) (adds_belong cluster adds) h in
-      on_rule IsFair built.catching_up volatile _ tt
-      (give-allowed cluster facts volatile (record { key = key; version = version; item = item; adds = adds }) booted parts.0 parts.1)
+      give-allowed cluster facts volatile (record { key = key; version = version; item = item; adds = adds }) booted parts.0 parts.1
   fair-message s (Message.ClientRead serial key) h w = tt
   fair-message s (Message.ClientBegin serial parts) h w = tt
   fair-message s (Message.ClientAnswer serial answer) h w = tt
@@ -102,10 +97,10 @@ module _ (built : Built) (cluster : Cluster) (me : ℕ) (facts : List Fact) (vol
   allowed-room None h room fact e = absurd (cc)
   allowed-room (Some new) h room fact e = let same : new ≡ fact = cc in rw (← same) (h (room new refl))
 
-  pub step-allowed : (input : Input) → IsWellFormedInput input → OnStep IsAllowedAfter (step_of built cluster me facts volatile input)
+  pub step-allowed : (input : Input) → IsWellFormedInput input → OnStep IsAllowedAfter (step_of cluster me facts volatile input)
   step-allowed (Input.Message envelope) w =
-      cond_both (is_own_message cluster me envelope) (checked built cluster facts (message_step built cluster me facts volatile envelope.from envelope.message)) (Err StepFault.Foreign) (OnStep IsAllowedAfter)
-      (λ e. on_checked IsFair IsAllowedAfter built cluster facts (message_step built cluster me facts volatile envelope.from envelope.message) (λ step h room. allowed-room step.fact h room)
+      cond_both (is_own_message cluster me envelope) (checked cluster facts (message_step cluster me facts volatile envelope.from envelope.message)) (Err StepFault.Foreign) (OnStep IsAllowedAfter)
+      (λ e. on_checked IsFair IsAllowedAfter cluster facts (message_step cluster me facts volatile envelope.from envelope.message) (λ step h room. allowed-room step.fact h room)
       (fair-message envelope.from envelope.message (and_parts _ _ e).1 w.message))
       (λ e. tt)
   step-allowed Input.Tick w = λ fact e. absurd (cc)
@@ -138,17 +133,17 @@ vote-of cluster s (Message.ClientRead serial key) h = tt
 vote-of cluster s (Message.ClientBegin serial parts) h = tt
 vote-of cluster s (Message.ClientAnswer serial answer) h = tt
 
-vote-told : (built : Built) (cluster : Cluster) (me : ℕ) (facts : List Fact) (input : Input) → HoldsOfInput (IsVoteOf cluster) built cluster me facts input
-vote-told built cluster me facts (Input.Message envelope) = vote-of cluster envelope.from envelope.message
-vote-told built cluster me facts Input.Tick = tt
-vote-told built cluster me facts (Input.Read key) = tt
-vote-told built cluster me facts (Input.Begin parts) = tt
+vote-told : (cluster : Cluster) (me : ℕ) (facts : List Fact) (input : Input) → HoldsOfInput (IsVoteOf cluster) cluster me facts input
+vote-told cluster me facts (Input.Message envelope) = vote-of cluster envelope.from envelope.message
+vote-told cluster me facts Input.Tick = tt
+vote-told cluster me facts (Input.Read key) = tt
+vote-told cluster me facts (Input.Begin parts) = tt
 
 -- the counted votes stay of the cluster
-pub votes-stay : (built : Built) (cluster : Cluster) (me : ℕ) (facts : List Fact) (volatile : Volatile) (input : Input) (step : NodeStep) → AreVotesOf cluster volatile
-    → step_of built cluster me facts volatile input ≡ Ok step → AreVotesOf cluster step.after
-votes-stay built cluster me facts volatile input step votes e =
-    let h = on_made _ _ step (votes-step (IsVoteOf cluster) built cluster me facts volatile (votes.manager, votes.recovery) input (vote-told built cluster me facts input)) e in
+pub votes-stay : (cluster : Cluster) (me : ℕ) (facts : List Fact) (volatile : Volatile) (input : Input) (step : NodeStep) → AreVotesOf cluster volatile
+    → step_of cluster me facts volatile input ≡ Ok step → AreVotesOf cluster step.after
+votes-stay cluster me facts volatile input step votes e =
+    let h = on_made _ _ step (votes-step (IsVoteOf cluster) cluster me facts volatile (votes.manager, votes.recovery) input (vote-told cluster me facts input)) e in
     record { manager = h.0; recovery = h.1 }
 
 -- a fact that is allowed leaves a booted node booted
@@ -160,11 +155,11 @@ booted-more facts (Fact.Voted key version ballot options offered) h some = h
 booted-more facts (Fact.Heard tx outcome) h some = h
 booted-more facts (Fact.Adopted key version item adds) h some = h
 
-pub made-allowed : (built : Built) (cluster : Cluster) (me : ℕ) (facts : List Fact) (volatile : Volatile) (input : Input) (step : NodeStep) (fact : Fact)
+pub made-allowed : (cluster : Cluster) (me : ℕ) (facts : List Fact) (volatile : Volatile) (input : Input) (step : NodeStep) (fact : Fact)
     → nat_lt 0 (epoch_of facts) ≡ true → AreVotesOf cluster volatile → IsWellFormedInput input
-    → step_of built cluster me facts volatile input ≡ Ok step → step.fact ≡ Some fact → is_allowed_fact cluster facts fact ≡ true
-made-allowed built cluster me facts volatile input step fact booted votes w made is =
-    on_made (IsAllowedAfter built cluster me facts volatile booted votes) _ step (step-allowed built cluster me facts volatile booted votes input w) made fact is
+    → step_of cluster me facts volatile input ≡ Ok step → step.fact ≡ Some fact → is_allowed_fact cluster facts fact ≡ true
+made-allowed cluster me facts volatile input step fact booted votes w made is =
+    on_made (IsAllowedAfter cluster me facts volatile booted votes) _ step (step-allowed cluster me facts volatile booted votes input w) made fact is
 
 -- an epoch that is allowed is not 0
 pub some_epoch : (cluster : Cluster) (facts : List Fact) (fact : Fact) → is_allowed_fact cluster facts fact ≡ true → (epoch : ℕ) → fact ≡ Fact.Booted epoch → 0 < epoch

@@ -1,11 +1,10 @@
 -- A vote: the outcome that it decides may be heard.
-use Rattle.std.proofs.Common.{◌≡◌, ℕ, true, false, List, refl, inl, inr, Option, Some, None, nat_lt}
-use Rattle.std.proofs.lemmas.Bool.{cases_Bool, cond_both}
+use Rattle.std.proofs.Common.{◌≡◌, ℕ, true, false, List, refl, Option, Some, None, nat_lt}
+use Rattle.std.proofs.lemmas.Bool.{cond_both}
 use Rattle.mdcc_base.specs.declared.identifiers.TxId.{TxId}
 use Rattle.mdcc_option.specs.declared.choices.Outcome.{Outcome}
 use Rattle.mdcc_option.specs.declared.cluster.Cluster.{Cluster}
 use Rattle.mdcc_protocol.specs.Belongs.{tx_belongs}
-use Rattle.mdcc_switches.specs.Built.{Built}
 use Rattle.mdcc_protocol.specs.Facts.{epoch_of, is_heard}
 use Rattle.mdcc_protocol.specs.Manager
 use Rattle.mdcc_rules.specs.ManagerRules.{opened_step, undecided_step, voted_step, watched_step}
@@ -19,13 +18,13 @@ use Rattle.mdcc_steps.proofs.Adding.{heard-allowed}
 use Rattle.mdcc_steps.proofs.Allowing.{IsAllowedIf}
 use Rattle.mdcc_steps.proofs.Deciding.{decided-belongs, open-decided, watched-decided}
 
-module _ (built : Built) (cluster : Cluster) (me : ℕ) (facts : List Fact) (volatile : Volatile) (vote : Vote)
+module _ (cluster : Cluster) (me : ℕ) (facts : List Fact) (volatile : Volatile) (vote : Vote)
     (booted : nat_lt 0 (epoch_of facts) ≡ true) (votes : AreVotesOf cluster volatile) (of_tx : tx_belongs cluster vote.tx ≡ true) (of_mark : IsVoteOf cluster vote) where
-  undecided-allowed : IsAllowedIf cluster facts (undecided_step built cluster me facts volatile vote).fact
-  undecided-allowed = elim (cases_Bool built.escalations) [ inl e ↦ rw e tt | inr e ↦ rw e tt ]
+  undecided-allowed : IsAllowedIf cluster facts (undecided_step cluster me facts volatile vote).fact
+  undecided-allowed = tt
 
   open-allowed : (o : Option Outcome) → Manager.would_decide cluster.quorums volatile.manager vote ≡ o → is_heard facts vote.tx ≡ false → is_open volatile.manager vote.tx ≡ true
-      → IsAllowedIf cluster facts (opened_step built cluster me facts volatile vote o).fact
+      → IsAllowedIf cluster facts (opened_step cluster me facts volatile vote o).fact
   open-allowed None e unheard open_here = undecided-allowed
   open-allowed (Some outcome) e unheard open_here =
       let d = open-decided (IsVoteOf cluster) cluster.quorums volatile.manager vote outcome votes.manager of_mark open_here e in
@@ -38,11 +37,11 @@ module _ (built : Built) (cluster : Cluster) (me : ℕ) (facts : List Fact) (vol
       let d = watched-decided (IsVoteOf cluster) cluster.quorums facts volatile.recovery vote decided votes.recovery of_mark e in
       rw d.same (heard-allowed cluster facts vote.tx decided.1 booted of_tx (decided-belongs cluster cluster.quorums vote.tx _ decided.1 d.by) unheard)
 
-  pub voted-allowed : IsAllowedIf cluster facts (voted_step built cluster me facts volatile vote).fact
+  pub voted-allowed : IsAllowedIf cluster facts (voted_step cluster me facts volatile vote).fact
   voted-allowed =
       cond_both (is_heard facts vote.tx) (nothing_done volatile) _ (λ (step : NodeStep). IsAllowedIf cluster facts step.fact) (λ e. tt) (λ e.
       cond_both (is_open volatile.manager vote.tx)
-      (opened_step built cluster me facts volatile vote (Manager.would_decide cluster.quorums volatile.manager vote))
+      (opened_step cluster me facts volatile vote (Manager.would_decide cluster.quorums volatile.manager vote))
       (watched_step cluster me facts volatile vote (Recover.would_decide cluster.quorums facts volatile.recovery vote))
       (λ (step : NodeStep). IsAllowedIf cluster facts step.fact)
       (λ f. open-allowed (Manager.would_decide cluster.quorums volatile.manager vote) refl e f)

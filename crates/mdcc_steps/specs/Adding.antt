@@ -4,7 +4,6 @@ use Rattle.std.specs.Prelude.{IsTrue, List, Ok, Some, nat_lt, ℕ, ◌∷◌, �
 use Rattle.mdcc_option.specs.declared.cluster.Cluster.{Cluster}
 use Rattle.mdcc_ledger.specs.BootTest.{are_allowed_facts, is_allowed_fact}
 use Rattle.mdcc_protocol.specs.Belongs.{mark_belongs}
-use Rattle.mdcc_switches.specs.Built.{Built}
 use Rattle.mdcc_protocol.specs.Facts.{epoch_of}
 use Rattle.mdcc_rules.specs.Node.{step_of}
 use Rattle.mdcc_rules.specs.Steps.{NodeStep}
@@ -30,26 +29,26 @@ IsBooted facts = IsTrue (nat_lt 0 (epoch_of facts))
 -- what a step of a booted node adds is allowed after its facts
 abbrev pub AddedFactIsAllowed : Type 0
 AddedFactIsAllowed =
-    (built : Built) (cluster : Cluster) (me : ℕ) (facts : List Fact) (volatile : Volatile) (input : Input) (step : NodeStep) (fact : Fact)
+    (cluster : Cluster) (me : ℕ) (facts : List Fact) (volatile : Volatile) (input : Input) (step : NodeStep) (fact : Fact)
     → IsBooted facts → AreVotesOf cluster volatile → IsWellFormedInput input
-    → step_of built cluster me facts volatile input ≡ Ok step → step.fact ≡ Some fact
+    → step_of cluster me facts volatile input ≡ Ok step → step.fact ≡ Some fact
     → IsTrue (is_allowed_fact cluster facts fact)
 
 -- so facts that are allowed in turn stay so
 abbrev pub FactsStayAllowed : Type 0
 FactsStayAllowed =
-    (built : Built) (cluster : Cluster) (me : ℕ) (facts : List Fact) (volatile : Volatile) (input : Input) (step : NodeStep) (fact : Fact)
+    (cluster : Cluster) (me : ℕ) (facts : List Fact) (volatile : Volatile) (input : Input) (step : NodeStep) (fact : Fact)
     → IsTrue (are_allowed_facts cluster facts)
     → IsBooted facts → AreVotesOf cluster volatile → IsWellFormedInput input
-    → step_of built cluster me facts volatile input ≡ Ok step → step.fact ≡ Some fact
+    → step_of cluster me facts volatile input ≡ Ok step → step.fact ≡ Some fact
     → IsTrue (are_allowed_facts cluster (fact ∷ facts))
 
 -- and the node stays booted
 abbrev pub NodeStaysBooted : Type 0
 NodeStaysBooted =
-    (built : Built) (cluster : Cluster) (me : ℕ) (facts : List Fact) (volatile : Volatile) (input : Input) (step : NodeStep) (fact : Fact)
+    (cluster : Cluster) (me : ℕ) (facts : List Fact) (volatile : Volatile) (input : Input) (step : NodeStep) (fact : Fact)
     → IsBooted facts → AreVotesOf cluster volatile → IsWellFormedInput input
-    → step_of built cluster me facts volatile input ≡ Ok step → step.fact ≡ Some fact
+    → step_of cluster me facts volatile input ≡ Ok step → step.fact ≡ Some fact
     → IsBooted (fact ∷ facts)
 
 -- no vote is counted after a boot
@@ -59,7 +58,7 @@ NoVotesAtBoot = (cluster : Cluster) → AreVotesOf cluster nothing_kept
 -- the counted votes stay of the cluster
 abbrev pub VotesStayOf : Type 0
 VotesStayOf =
-    (built : Built) (cluster : Cluster) (me : ℕ) (facts : List Fact) (volatile : Volatile) (input : Input) (step : NodeStep)
+    (cluster : Cluster) (me : ℕ) (facts : List Fact) (volatile : Volatile) (input : Input) (step : NodeStep)
     → AreVotesOf cluster volatile
-    → step_of built cluster me facts volatile input ≡ Ok step
+    → step_of cluster me facts volatile input ≡ Ok step
     → AreVotesOf cluster step.after

@@ -2,7 +2,6 @@
 use Rattle.std.specs.Prelude.{List, Ok, Some, ℕ, ◌≡◌}
 use Rattle.mdcc_base.specs.Key.{IsKey}
 use Rattle.mdcc_option.specs.declared.cluster.Cluster.{Cluster}
-use Rattle.mdcc_switches.specs.Built.{Built}
 use Rattle.mdcc_rules.specs.Node.{step_of}
 use Rattle.mdcc_rules.specs.Steps.{NodeStep}
 use Rattle.mdcc_protocol.specs.Volatile.{Volatile}
@@ -23,7 +22,7 @@ IsWellFormedGivenAnswer (Answer.Refused key fault) = IsKey key × IsWellFormedRe
 -- the answer of a step is well-formed
 abbrev pub AnswerIsWellFormed : Type 0
 AnswerIsWellFormed =
-    (built : Built) (cluster : Cluster) (me : ℕ) (facts : List Fact) (volatile : Volatile) (input : Input) (step : NodeStep) (answer : Answer)
+    (cluster : Cluster) (me : ℕ) (facts : List Fact) (volatile : Volatile) (input : Input) (step : NodeStep) (answer : Answer)
     → IsNode cluster me facts volatile → IsWellFormedInput input
-    → step_of built cluster me facts volatile input ≡ Ok step → step.answer ≡ Some answer
+    → step_of cluster me facts volatile input ≡ Ok step → step.answer ≡ Some answer
     → IsWellFormedGivenAnswer answer

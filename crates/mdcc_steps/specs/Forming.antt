@@ -5,7 +5,6 @@ use Rattle.mdcc_option.specs.declared.cluster.Cluster.{Cluster}
 use Rattle.mdcc_ledger.specs.BootTest.{are_allowed_facts}
 use Rattle.mdcc_protocol.specs.Belongs.{is_centre}
 use Rattle.mdcc_rules.specs.Boot.{boot_of, booted_by}
-use Rattle.mdcc_switches.specs.Built.{Built}
 use Rattle.mdcc_protocol.specs.IsCluster.{IsCluster}
 use Rattle.mdcc_base.specs.Counts.{sum_over}
 use Rattle.mdcc_messages.specs.Lengths.{body_length, cells_used, fact_length, log_length}
@@ -31,29 +30,29 @@ pub record IsNode (cluster : Cluster) (me : ℕ) (facts : List Fact) (volatile :
 -- the fact that a step adds is well-formed
 abbrev pub AddedFactIsWellFormed : Type 0
 AddedFactIsWellFormed =
-    (built : Built) (cluster : Cluster) (me : ℕ) (facts : List Fact) (volatile : Volatile) (input : Input) (step : NodeStep) (fact : Fact)
+    (cluster : Cluster) (me : ℕ) (facts : List Fact) (volatile : Volatile) (input : Input) (step : NodeStep) (fact : Fact)
     → IsNode cluster me facts volatile → IsWellFormedInput input
-    → step_of built cluster me facts volatile input ≡ Ok step → step.fact ≡ Some fact
+    → step_of cluster me facts volatile input ≡ Ok step → step.fact ≡ Some fact
     → IsWellFormedFact fact
 
--- where leading is built, the facts have fewer than 2^32 bytes, so the votes that a promise reports are fewer than 2^32
-abbrev pub HasRoom : Built → List Fact → Type 0
-HasRoom built facts = IsTrue built.leading → sum_over fact_length facts < 2 ^ 32
+-- the facts have fewer than 2^32 bytes, so the votes that a promise reports are fewer than 2^32
+abbrev pub HasRoom : List Fact → Type 0
+HasRoom facts = sum_over fact_length facts < 2 ^ 32
 
 -- it is so of facts in as many cells as a node may have, and of those of a log of at most 2^30 bytes
 abbrev pub CellsGiveRoom : Type 0
-CellsGiveRoom = (built : Built) (facts : List Fact) → cells_used facts ≤ 4194304 → HasRoom built facts
+CellsGiveRoom = (facts : List Fact) → cells_used facts ≤ 4194304 → HasRoom facts
 
 abbrev pub LogsGiveRoom : Type 0
-LogsGiveRoom = (built : Built) (facts : List Fact) → log_length facts ≤ 2 ^ 30 → HasRoom built facts
+LogsGiveRoom = (facts : List Fact) → log_length facts ≤ 2 ^ 30 → HasRoom facts
 
 -- each message that it sends is well-formed
 abbrev pub SendsAreWellFormed : Type 0
 SendsAreWellFormed =
-    (built : Built) (cluster : Cluster) (me : ℕ) (facts : List Fact) (volatile : Volatile) (input : Input) (step : NodeStep)
-    → HasRoom built facts
+    (cluster : Cluster) (me : ℕ) (facts : List Fact) (volatile : Volatile) (input : Input) (step : NodeStep)
+    → HasRoom facts
     → IsNode cluster me facts volatile → IsWellFormedInput input
-    → step_of built cluster me facts volatile input ≡ Ok step
+    → step_of cluster me facts volatile input ≡ Ok step
     → AllByRecursion IsWellFormedEnvelope step.sends
 
 -- a node's facts with a new one
@@ -64,33 +63,33 @@ with_new facts (Some fact) = fact ∷ facts
 -- and a node stays one
 abbrev pub NodeStays : Type 0
 NodeStays =
-    (built : Built) (cluster : Cluster) (me : ℕ) (facts : List Fact) (volatile : Volatile) (input : Input) (step : NodeStep)
+    (cluster : Cluster) (me : ℕ) (facts : List Fact) (volatile : Volatile) (input : Input) (step : NodeStep)
     → IsNode cluster me facts volatile → IsWellFormedInput input
-    → step_of built cluster me facts volatile input ≡ Ok step
+    → step_of cluster me facts volatile input ≡ Ok step
     → IsNode cluster me (with_new facts step.fact) step.after
 
--- where cells are limited, the facts stay within them
+-- the facts stay within the cells of the cluster
 abbrev pub RoomStays : Type 0
 RoomStays =
-    (built : Built) (cluster : Cluster) (me : ℕ) (facts : List Fact) (volatile : Volatile) (input : Input) (step : NodeStep)
-    → IsTrue built.limit_on_cells → cells_used facts ≤ cluster.cells
-    → step_of built cluster me facts volatile input ≡ Ok step
+    (cluster : Cluster) (me : ℕ) (facts : List Fact) (volatile : Volatile) (input : Input) (step : NodeStep)
+    → cells_used facts ≤ cluster.cells
+    → step_of cluster me facts volatile input ≡ Ok step
     → cells_used (with_new facts step.fact) ≤ cluster.cells
 
 -- a node is one after a boot from well-formed facts
 abbrev pub BootGivesNode : Type 0
 BootGivesNode =
-    (built : Built) (cluster : Cluster) (me : ℕ) (payloads : List (Option Fact)) (facts : List Fact)
+    (cluster : Cluster) (me : ℕ) (payloads : List (Option Fact)) (facts : List Fact)
     → IsCluster cluster → IsTrue (is_centre cluster me)
     → AllByRecursion (λ payload. (fact : Fact) → payload ≡ Some fact → IsWellFormedFact fact) payloads
-    → boot_of built cluster payloads ≡ Ok facts
+    → boot_of cluster payloads ≡ Ok facts
     → IsNode cluster me facts nothing_kept
 
--- and its facts lie within the cells, where those are limited
+-- and its facts lie within the cells
 abbrev pub BootKeepsRoom : Type 0
 BootKeepsRoom =
-    (built : Built) (cluster : Cluster) (payloads : List (Option Fact)) (facts : List Fact)
-    → IsTrue built.limit_on_cells → boot_of built cluster payloads ≡ Ok facts
+    (cluster : Cluster) (payloads : List (Option Fact)) (facts : List Fact)
+    → boot_of cluster payloads ≡ Ok facts
     → cells_used facts ≤ cluster.cells
 
 -- facts as payloads of a log, the oldest first
@@ -98,13 +97,13 @@ abbrev pub payloads_of : List Fact → List (Option Fact)
 payloads_of [] = []
 payloads_of (fact ∷ facts) = payloads_of facts ++ Some fact ∷ []
 
--- facts that are allowed in turn, and lie in the cells where those are limited, are what a boot reads from their payloads
+-- facts that are allowed in turn, and lie in the cells, are what a boot reads from their payloads
 abbrev pub BootReadsFacts : Type 0
 BootReadsFacts =
-    (built : Built) (cluster : Cluster) (facts : List Fact)
+    (cluster : Cluster) (facts : List Fact)
     → IsTrue (are_allowed_facts cluster facts)
-    → (IsTrue built.limit_on_cells → cells_used facts ≤ cluster.cells)
-    → boot_of built cluster (payloads_of facts) ≡ booted_by built cluster (Ok facts)
+    → cells_used facts ≤ cluster.cells
+    → boot_of cluster (payloads_of facts) ≡ booted_by cluster (Ok facts)
 
 -- the bytes of an Accept, and 0 of any other message
 abbrev pub accept_length : Message → ℕ
@@ -118,26 +117,26 @@ accept_length_in input = 0
 -- where an Accept in the input has at most 2,097,152 bytes, the fact that a step adds is short enough for a frame of a log
 abbrev pub AddedFactIsShort : Type 0
 AddedFactIsShort =
-    (built : Built) (cluster : Cluster) (me : ℕ) (facts : List Fact) (volatile : Volatile) (input : Input) (step : NodeStep) (fact : Fact)
+    (cluster : Cluster) (me : ℕ) (facts : List Fact) (volatile : Volatile) (input : Input) (step : NodeStep) (fact : Fact)
     → accept_length_in input ≤ 2097152
     → IsNode cluster me facts volatile → IsWellFormedInput input
-    → step_of built cluster me facts volatile input ≡ Ok step → step.fact ≡ Some fact
+    → step_of cluster me facts volatile input ≡ Ok step → step.fact ≡ Some fact
     → fact_length fact ≤ 2097152
 
 -- so it is of the fact that a message brings, also where the store has no room for it
 abbrev pub BroughtFactFits : Type 0
 BroughtFactFits =
-    (built : Built) (cluster : Cluster) (me : ℕ) (facts : List Fact) (volatile : Volatile) (s : ℕ) (message : Message) (step : NodeStep) (fact : Fact)
+    (cluster : Cluster) (me : ℕ) (facts : List Fact) (volatile : Volatile) (s : ℕ) (message : Message) (step : NodeStep) (fact : Fact)
     → accept_length message ≤ 2097152
     → IsNode cluster me facts volatile → IsTrue (is_centre cluster s) → IsWellFormedMessage message
-    → message_step built cluster me facts volatile s message ≡ Ok step → step.fact ≡ Some fact
+    → message_step cluster me facts volatile s message ≡ Ok step → step.fact ≡ Some fact
     → IsWellFormedFact fact × (fact_length fact ≤ 2097152)
 
 -- each Accept that a step sends has at most 1,474,618 bytes: it has at most 1,024 accepted and 32,768 rejected marks
 abbrev pub StructuresHaveRoom : Type 0
 StructuresHaveRoom =
-    (built : Built) (cluster : Cluster) (me : ℕ) (facts : List Fact) (volatile : Volatile) (input : Input) (step : NodeStep)
-    → HasRoom built facts
+    (cluster : Cluster) (me : ℕ) (facts : List Fact) (volatile : Volatile) (input : Input) (step : NodeStep)
+    → HasRoom facts
     → IsNode cluster me facts volatile → IsWellFormedInput input
-    → step_of built cluster me facts volatile input ≡ Ok step
+    → step_of cluster me facts volatile input ≡ Ok step
     → AllByRecursion (λ e. accept_length e.message ≤ 1474618) step.sends

@@ -18,7 +18,7 @@ use Rattle.mdcc_protocol.specs.Structures.{with_choice, with_claim}
 use Rattle.mdcc_rules.specs.LeaderRules.{led_by_answer, led_of}
 use Rattle.mdcc_protocol.specs.Leader.{has_proposed, is_covered, is_marked, is_marked_by, is_waiting, lead_begun, led_again, led_anew, led_by, led_on, next_round, refused_by, with_refused}
 use Rattle.mdcc_protocol.specs.Volatile.{Counted, Lead, Leading, Volatile, lead_of, number_at, structure_at, structure_found, with_lead, with_leader, with_number, with_structure}
-use Rattle.mdcc_ledger.specs.Ledger.{Entry, Valued, facts_of, structure_valued}
+use Rattle.mdcc_ledger.specs.Ledger.{Entry, Valued, facts_of}
 use Rattle.mdcc_ledger.specs.AllowedLedgers.{is_valued}
 use Rattle.mdcc_ledger.specs.AllowedStructures.{are_distinct, promisers_of, reports_at}
 use Rattle.mdcc_messages.specs.declared.messages.Message.{Message}

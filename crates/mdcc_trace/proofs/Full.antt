@@ -23,11 +23,10 @@ use Rattle.mdcc_protocol.specs.Volatile.{Recovering, Volatile, counter_of, lead_
 use Rattle.mdcc_messages.specs.declared.messages.Envelope.{Envelope}
 use Rattle.mdcc_rules.specs.declared.node.Input.{Input}
 use Rattle.mdcc_messages.specs.declared.messages.Message.{Message}
-use Rattle.mdcc_rules.specs.Node.{message_step, rule, step_of}
+use Rattle.mdcc_rules.specs.Node.{message_step, step_of}
 use Rattle.mdcc_rules.specs.TickRules.{claim_led, manager_ticked, recovery_act, recovery_ticked, tick_parts}
 use Rattle.mdcc_protocol.specs.Recover.{acts_on, ask_of, choice_received, claim_of_key, counted_tick, dangling, keys_led}
-use Rattle.mdcc_switches.specs.Built.{Built}
-use Rattle.mdcc_rules.specs.Steps.{NodeStep, StepPart, nothing_done, only_sending}
+use Rattle.mdcc_rules.specs.Steps.{NodeStep, StepPart, nothing_done}
 use Rattle.mdcc_rules.specs.declared.node.StepFault.{StepFault}
 use Rattle.mdcc_trace_states.specs.Words.{Each, In, IsTail}
 use Rattle.mdcc_trace_states.specs.Keeping.{AreVotes, IsClaim, IsGiven, IsOwn}
@@ -113,18 +112,18 @@ key-claim cluster es a facts recovery t ws (k, n) legal sound same votes set i =
     by_case None e c g = let h : choice_known facts k n t ≡ Some c = rw e at g in own-choice cluster es a k n t c legal sound (subst (λ z. choice_known z k n t ≡ Some c) (sym same) h)
     by_case (Some d) e c g = let h : Some d ≡ Some c = rw e at g in received-choice cluster es recovery.votes k n t c legal sound votes (e ∙ h)
 
-recover-part : (law : OneMarkLaw) (built : Built) (cluster : Cluster) (es : List Entry) (a : ℕ) (facts : List Fact) (recovery : Recovering) (v : Volatile) (e : TxId × List (Key × ℕ)) (act : RecoverAct) → IsUp IsSound cluster es a v → facts_of es a ≡ facts → AreVotes cluster es recovery.votes →
-    value_of (write_sets_of facts) e.0 ≡ Some e.1 → IsRecoverAct facts recovery e act → IsGoodPart IsSound cluster es a (recovery_act built cluster a facts v act)
-recover-part law built cluster es a facts recovery v e (RecoverAct.Ask t k n) up same votes found is =
+recover-part : (law : OneMarkLaw) (cluster : Cluster) (es : List Entry) (a : ℕ) (facts : List Fact) (recovery : Recovering) (v : Volatile) (e : TxId × List (Key × ℕ)) (act : RecoverAct) → IsUp IsSound cluster es a v → facts_of es a ≡ facts → AreVotes cluster es recovery.votes →
+    value_of (write_sets_of facts) e.0 ≡ Some e.1 → IsRecoverAct facts recovery e act → IsGoodPart IsSound cluster es a (recovery_act cluster a facts v act)
+recover-part law cluster es a facts recovery v e (RecoverAct.Ask t k n) up same votes found is =
     let here : value_of (write_sets_of (facts_of es a)) e.0 ≡ Some e.1 = subst (λ z. value_of (write_sets_of z) e.0 ≡ Some e.1) (sym same) found in
     let set = (sound-well law).shut.sets cluster es a e.0 e.1 up.legal up.more here in
     let own : tx_belongs cluster e.0 ≡ true = begun-in cluster es e.0 set.choice up.legal set.begun in
     sent-part IsSound cluster es a v v (to_all cluster.quorums a (Message.Ask t k n)) up up.keeps (stands-each cluster es a (Message.Ask t k n) (all_centres cluster.quorums) up.centre (subst (λ z. tx_belongs cluster z ≡ true) (sym is) own))
-recover-part law built cluster es a facts recovery v e (RecoverAct.LeadHere claim) up same votes found is =
+recover-part law cluster es a facts recovery v e (RecoverAct.LeadHere claim) up same votes found is =
     let here : value_of (write_sets_of (facts_of es a)) e.0 ≡ Some e.1 = subst (λ z. value_of (write_sets_of z) e.0 ≡ Some e.1) (sym same) found in
     let set = (sound-well law).shut.sets cluster es a e.0 e.1 up.legal up.more here in
-    subst (λ z. IsGoodPart IsSound cluster es a (claim_led built cluster a facts v z)) (sym is.2)
-    (claim-part IsSound (sound-well law) built cluster es a facts v (claim_of_key facts recovery e.0 is.0) up same (key-claim cluster es a facts recovery e.0 e.1 is.0 up.legal up.more same votes set is.1))
+    subst (λ z. IsGoodPart IsSound cluster es a (claim_led cluster a facts v z)) (sym is.2)
+    (claim-part IsSound (sound-well law) cluster es a facts v (claim_of_key facts recovery e.0 is.0) up same (key-claim cluster es a facts recovery e.0 e.1 is.0 up.legal up.more same votes set is.1))
 
 -- an act for a transaction whose write set the node knows
 abbrev pub IsKnownAct : List Fact → Recovering → RecoverAct → Type 0
@@ -141,14 +140,14 @@ known-acts cluster facts recovery opened =
         let k = In-filter (λ (e : TxId × List (Key × ℕ)). not (is_heard facts e.0)) (write_sets_of facts) e j.0 in
         once-value (write_sets_of facts) e (once-sets facts) k.0
 
-second-part : (law : OneMarkLaw) (built : Built) (cluster : Cluster) (es : List Entry) (a : ℕ) (v : Volatile) (first : StepPart) → IsUp IsSound cluster es a v → IsGoodPart IsSound cluster es a first →
-    IsGoodPart IsSound cluster es a (recovery_ticked built cluster a (facts_of es a) first)
-second-part law built cluster es a v first up h =
-    fold-good IsSound cluster (first.entries ++ es) es a (recovery_act built cluster a (facts_of es a)) (flat_map (acts_on cluster.quorums (facts_of es a) recovery) txs)
+second-part : (law : OneMarkLaw) (cluster : Cluster) (es : List Entry) (a : ℕ) (v : Volatile) (first : StepPart) → IsUp IsSound cluster es a v → IsGoodPart IsSound cluster es a first →
+    IsGoodPart IsSound cluster es a (recovery_ticked cluster a (facts_of es a) first)
+second-part law cluster es a v first up h =
+    fold-good IsSound cluster (first.entries ++ es) es a (recovery_act cluster a (facts_of es a)) (flat_map (acts_on cluster.quorums (facts_of es a) recovery) txs)
     (record first { after = with_recovery first.after after }) v up start (IsTail-same (first.entries ++ es))
     (λ act i new w u s tail.
     let k = Each-at (IsKnownAct (facts_of es a) recovery) (flat_map (acts_on cluster.quorums (facts_of es a) recovery) txs) act (known-acts cluster (facts_of es a) recovery (txs_opened first.after.manager)) i in
-    recover-part law built cluster (new ++ es) a (facts_of es a) recovery w k.0 act u s (AreVotes-tail cluster (first.entries ++ es) (new ++ es) recovery.votes tail h.good.keeps.recovery) k.1 k.2)
+    recover-part law cluster (new ++ es) a (facts_of es a) recovery w k.0 act u s (AreVotes-tail cluster (first.entries ++ es) (new ++ es) recovery.votes tail h.good.keeps.recovery) k.1 k.2)
   where
     recovery : Recovering
     recovery = first.after.recovery
@@ -172,18 +171,9 @@ second-part law built cluster es a v first up h =
       still = h.still;
     }
 
-tick-part : (law : OneMarkLaw) (built : Built) (cluster : Cluster) (es : List Entry) (a : ℕ) (v : Volatile) → IsUp IsSound cluster es a v → IsGoodPart IsSound cluster es a (tick_parts built cluster a (facts_of es a) v)
-tick-part law built cluster es a v up =
-    pick built.ticks built.recovery (manager_ticked built cluster a (facts_of es a) v) (manager-part IsSound (sound-well law) built cluster es a v up)
-  where
-    half : (y : Bool) (p : StepPart) → IsGoodPart IsSound cluster es a p → IsGoodPart IsSound cluster es a (cond y (recovery_ticked built cluster a (facts_of es a) p) p)
-    half true p h = second-part law built cluster es a v p up h
-    half false p h = h
-
-    pick : (x y : Bool) (p : StepPart) → IsGoodPart IsSound cluster es a p →
-        IsGoodPart IsSound cluster es a (cond y (recovery_ticked built cluster a (facts_of es a) (cond x p (only_sending v []))) (cond x p (only_sending v [])))
-    pick true y p h = half y p h
-    pick false y p h = half y (only_sending v []) (sent-part IsSound cluster es a v v [] up up.keeps tt)
+tick-part : (law : OneMarkLaw) (cluster : Cluster) (es : List Entry) (a : ℕ) (v : Volatile) → IsUp IsSound cluster es a v → IsGoodPart IsSound cluster es a (tick_parts cluster a (facts_of es a) v)
+tick-part law cluster es a v up =
+    second-part law cluster es a v (manager_ticked cluster a (facts_of es a) v) up (manager-part IsSound (sound-well law) cluster es a v up)
 
 -- ---- messages
 
@@ -193,10 +183,6 @@ module _ (law : OneMarkLaw) (cluster : Cluster) (es : List Entry) (a : ℕ) (vol
 
   nothing : Roomy (Ok (nothing_done volatile))
   nothing room = nothing-good IsSound cluster es a volatile volatile up up.keeps
-
-  rule-good : (is_built : Bool) (r : Result NodeStep StepFault) → Roomy r → Roomy (rule is_built volatile r)
-  rule-good true r h = h
-  rule-good false r h = nothing
 
   led-step : (r : Result StepPart LeadFault) → GoodLed IsSound (sound-well law) cluster es a volatile up r → Roomy (step_of_led r)
   led-step (Ok part) g = λ room. g.0
@@ -208,71 +194,71 @@ module _ (law : OneMarkLaw) (cluster : Cluster) (es : List Entry) (a : ℕ) (vol
       sends-good IsSound cluster es a volatile volatile _ up up.keeps (record { from = up.centre; old = w.old; tail = w.tail; says = w.outcome }, tt)
   lead-good s choice None e claim = led-step (led_of cluster a (facts_of es a) volatile (claim_of_choice choice)) (led-good IsSound (sound-well law) cluster es a volatile up (claim_of_choice choice) claim)
 
-  pub message-good : (built : Built) (env : Envelope) (message : Message) → env.message ≡ message → Stands cluster es env → is_centre cluster env.from ≡ true → message_belongs cluster message ≡ true →
-      Roomy (message_step built cluster a (facts_of es a) volatile env.from message)
-  message-good built env (Message.Propose choice) e h from belongs =
+  pub message-good : (env : Envelope) (message : Message) → env.message ≡ message → Stands cluster es env → is_centre cluster env.from ≡ true → message_belongs cluster message ≡ true →
+      Roomy (message_step cluster a (facts_of es a) volatile env.from message)
+  message-good env (Message.Propose choice) e h from belongs =
       let said = subst (λ z. Says cluster h.old env.from z) e h.says in
-      rule-good built.proposals _ (λ room. propose-good IsSound (sound-well law).shut cluster es a volatile up env.from choice (is_begun-tail cluster h.old es choice up.legal h.tail said) belongs)
-  message-good built env (Message.Voted k v b t m) e h from belongs =
+      λ room. propose-good IsSound (sound-well law).shut cluster es a volatile up env.from choice (is_begun-tail cluster h.old es choice up.legal h.tail said) belongs
+  message-good env (Message.Voted k v b t m) e h from belongs =
       let said : mark_given h.old k v b t env.from ≡ Some m = subst (λ z. Says cluster h.old env.from z) e h.says in
       let p = and_parts (ballot_belongs cluster b && tx_belongs cluster t) (mark_belongs cluster m) belongs in
-      rule-good built.proposals _ (λ room. voted-good IsSound (sound-well law).shut cluster es a volatile up built (record { from = env.from; key = k; version = v; ballot = b; tx = t; mark = m })
-      (record { given = mark-tail h.old es k v b t env.from m h.tail said; centre = from; tx = (and_parts (ballot_belongs cluster b) (tx_belongs cluster t) p.0).1; mark = p.1 }) room)
-  message-good built env (Message.Escalate k v t cause) e h from belongs = rule-good built.escalations _ (λ room. escalate-good IsSound (sound-well law).shut cluster es a volatile up env.from k t cause)
-  message-good built env (Message.Lead choice) e h from belongs =
+      λ room. voted-good IsSound (sound-well law).shut cluster es a volatile up (record { from = env.from; key = k; version = v; ballot = b; tx = t; mark = m })
+      (record { given = mark-tail h.old es k v b t env.from m h.tail said; centre = from; tx = (and_parts (ballot_belongs cluster b) (tx_belongs cluster t) p.0).1; mark = p.1 }) room
+  message-good env (Message.Escalate k v t cause) e h from belongs = λ room. escalate-good IsSound (sound-well law).shut cluster es a volatile up env.from k t cause
+  message-good env (Message.Lead choice) e h from belongs =
       let said = subst (λ z. Says cluster h.old env.from z) e h.says in
-      rule-good built.leading _ (lead-good env.from choice (heard_of (facts_of es a) choice.tx) refl (choice-claim es choice (is_begun-tail cluster h.old es choice up.legal h.tail said)))
-  message-good built env (Message.Prepare k v w b) e h from belongs =
+      lead-good env.from choice (heard_of (facts_of es a) choice.tx) refl (choice-claim es choice (is_begun-tail cluster h.old es choice up.legal h.tail said))
+  message-good env (Message.Prepare k v w b) e h from belongs =
       let said = subst (λ z. Says cluster h.old env.from z) e h.says in
-      rule-good built.leading _ (λ room. prepare-good IsSound (sound-well law).shut cluster es a volatile up env.from k v w b said.0 said.1 belongs)
-  message-good built env (Message.Promise k v w b r os) e h from belongs =
+      λ room. prepare-good IsSound (sound-well law).shut cluster es a volatile up env.from k v w b said.0 said.1 belongs
+  message-good env (Message.Promise k v w b r os) e h from belongs =
       let said = subst (λ z. Says cluster h.old env.from z) e h.says in
-      rule-good built.leading _ (led-step (promised_by_answer cluster.quorums a volatile k (on_promise cluster (facts_of es a) volatile.leader env.from (record { key = k; version = v; through = w; ballot = b; reported = r; votes = os })))
+      led-step (promised_by_answer cluster.quorums a volatile k (on_promise cluster (facts_of es a) volatile.leader env.from (record { key = k; version = v; through = w; ballot = b; reported = r; votes = os })))
       (promise-good IsSound (sound-well law) cluster es a volatile up env.from (record { key = k; version = v; through = w; ballot = b; reported = r; votes = os })
-      (record { centre = from; old = h.old; tail = h.tail; promised = said.0; reach = said.1; report = said.2 })))
-  message-good built env (Message.Accept k v b os) e h from belongs =
+      (record { centre = from; old = h.old; tail = h.tail; promised = said.0; reach = said.1; report = said.2 }))
+  message-good env (Message.Accept k v b os) e h from belongs =
       let said : (is_fast b ≡ false) × (is_valued h.old k v b os ≡ true) = subst (λ z. Says cluster h.old env.from z) e h.says in
       let was = valued-tail h.old es k v b os h.tail said.1 in
       let p = and_parts (ballot_belongs cluster b) (options_belong cluster os) belongs in
-      rule-good built.leading _ (λ room. accept-good IsSound (sound-well law).shut cluster es a volatile up env.from k v b os said.0 was p.0 p.1 (up.more.structures k v b os was)
-      (λ legal. classic-sound cluster a k v b os es legal (structure-once cluster es k v b os up.legal was) (up.more.structures k v b os was) up.more))
-  message-good built env (Message.Refused k v b p) e h from belongs =
-      rule-good built.leading _ (λ room. nothing-good IsSound cluster es a volatile (with_leader volatile (refused_by volatile.leader k b p (lead_of volatile.leader k))) up
-      (record { manager = up.keeps.manager; recovery = up.keeps.recovery; leader = refused-good IsSound cluster es a volatile up k b p }))
-  message-good built env (Message.Outcome t o) e h from belongs =
+      λ room. accept-good IsSound (sound-well law).shut cluster es a volatile up env.from k v b os said.0 was p.0 p.1 (up.more.structures k v b os was)
+      (λ legal. classic-sound cluster a k v b os es legal (structure-once cluster es k v b os up.legal was) (up.more.structures k v b os was) up.more)
+  message-good env (Message.Refused k v b p) e h from belongs =
+      λ room. nothing-good IsSound cluster es a volatile (with_leader volatile (refused_by volatile.leader k b p (lead_of volatile.leader k))) up
+      (record { manager = up.keeps.manager; recovery = up.keeps.recovery; leader = refused-good IsSound cluster es a volatile up k b p })
+  message-good env (Message.Outcome t o) e h from belongs =
       let said = subst (λ z. Says cluster h.old env.from z) e h.says in
       let p = and_parts (tx_belongs cluster t) (outcome_belongs cluster o) belongs in
-      rule-good built.proposals _ (λ room. heard-good IsSound (sound-well law).shut cluster es a volatile up h.old t o h.tail said p.0 p.1 room)
-  message-good built env (Message.Ask t k v) e h from belongs = rule-good built.recovery _ (λ room. ask-good IsSound (sound-well law).shut cluster es a volatile up env.from t k v)
-  message-good built env (Message.SyncAsk k) e h from belongs = rule-good built.catching_up _ (λ room. sync-ask-good IsSound (sound-well law).shut cluster es a volatile up env.from k)
-  message-good built env (Message.SyncGive k v item adds) e h from belongs =
+      λ room. heard-good IsSound (sound-well law).shut cluster es a volatile up h.old t o h.tail said p.0 p.1 room
+  message-good env (Message.Ask t k v) e h from belongs = λ room. ask-good IsSound (sound-well law).shut cluster es a volatile up env.from t k v
+  message-good env (Message.SyncAsk k) e h from belongs = λ room. sync-ask-good IsSound (sound-well law).shut cluster es a volatile up env.from k
+  message-good env (Message.SyncGive k v item adds) e h from belongs =
       let said = subst (λ z. Says cluster h.old env.from z) e h.says in
       let p = and_parts (item_belongs cluster item) (adds_belong cluster adds) belongs in
-      rule-good built.catching_up _ (λ room. sync-give-good IsSound (sound-well law).shut cluster es a volatile up h.old env.from k v item adds h.tail said.0 said.1 said.2 p.0 p.1 room)
-  message-good built env (Message.ClientRead n k) e h from belongs = nothing
-  message-good built env (Message.ClientBegin n ps) e h from belongs = nothing
-  message-good built env (Message.ClientAnswer n x) e h from belongs = nothing
+      λ room. sync-give-good IsSound (sound-well law).shut cluster es a volatile up h.old env.from k v item adds h.tail said.0 said.1 said.2 p.0 p.1 room
+  message-good env (Message.ClientRead n k) e h from belongs = nothing
+  message-good env (Message.ClientBegin n ps) e h from belongs = nothing
+  message-good env (Message.ClientAnswer n x) e h from belongs = nothing
 
-  received-good : (built : Built) (env : Envelope) → Stands cluster es env → IsGood cluster IsSound es a (step_of built cluster a (facts_of es a) volatile (Input.Message env))
-  received-good built env h =
+  received-good : (env : Envelope) → Stands cluster es env → IsGood cluster IsSound es a (step_of cluster a (facts_of es a) volatile (Input.Message env))
+  received-good env h =
       elim (cases_Bool (env.to == a && is_centre cluster env.from && message_belongs cluster env.message)) [
         | inl e ↦
             let p = and_parts (env.to == a && is_centre cluster env.from) (message_belongs cluster env.message) e in
-            rw e (checked-good built IsSound cluster es a (message_step built cluster a (facts_of es a) volatile env.from env.message)
-            (message-good built env env.message refl h (and_parts (env.to == a) (is_centre cluster env.from) p.0).1 p.1))
+            rw e (checked-good IsSound cluster es a (message_step cluster a (facts_of es a) volatile env.from env.message)
+            (message-good env env.message refl h (and_parts (env.to == a) (is_centre cluster env.from) p.0).1 p.1))
         | inr e ↦ rw e tt
       ]
 
 -- all steps are good
-pub full-good : OneMarkLaw → (built : Built) → AreGood built IsSound
-full-good law built = record {
+pub full-good : OneMarkLaw → AreGood IsSound
+full-good law = record {
   step = λ cluster es a volatile input up fair. by_input cluster es a volatile up input fair;
   none = (sound-well law).shut.none;
   boot = λ cluster es a n legal h. (sound-well law).shut.more cluster (Added a (Fact.Booted n)) es legal tt h;
 }
   where
-    by_input : (cluster : Cluster) (es : List Entry) (a : ℕ) (volatile : Volatile) → IsUp IsSound cluster es a volatile → (input : Input) → IsFair cluster es input → IsGood cluster IsSound es a (step_of built cluster a (facts_of es a) volatile input)
-    by_input cluster es a volatile up (Input.Message env) fair = received-good law cluster es a volatile up built env fair
-    by_input cluster es a volatile up Input.Tick fair = (tick-part law built cluster es a volatile up).good
+    by_input : (cluster : Cluster) (es : List Entry) (a : ℕ) (volatile : Volatile) → IsUp IsSound cluster es a volatile → (input : Input) → IsFair cluster es input → IsGood cluster IsSound es a (step_of cluster a (facts_of es a) volatile input)
+    by_input cluster es a volatile up (Input.Message env) fair = received-good law cluster es a volatile up env fair
+    by_input cluster es a volatile up Input.Tick fair = (tick-part law cluster es a volatile up).good
     by_input cluster es a volatile up (Input.Read key) fair = nothing-good IsSound cluster es a volatile volatile up up.keeps
     by_input cluster es a volatile up (Input.Begin parts) fair = begin-good IsSound (sound-well law).shut cluster es a volatile parts up fair

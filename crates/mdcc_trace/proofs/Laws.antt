@@ -2,7 +2,6 @@
 use Rattle.std.proofs.Common.{List, subst}
 use Rattle.mdcc_option.specs.declared.cluster.Cluster.{Cluster}
 use Rattle.mdcc_ledger.specs.AllowedLedgers.{IsAllowed}
-use Rattle.mdcc_switches.specs.Built.{Built}
 use Rattle.mdcc_protocol.specs.IsCluster.{IsCluster}
 use Rattle.mdcc_messages.specs.Mailbox.{Sent}
 use Rattle.mdcc_simulation.specs.State.{first_world}
@@ -23,21 +22,21 @@ pub law : OneMarkLaw
 law cluster es sizes legal sound = one-mark cluster es sizes legal
 
 -- every step of a node is good
-pub all-good : (built : Built) → AreGood built IsSound
-all-good built = full-good law built
+pub all-good : AreGood IsSound
+all-good = full-good law
 
-pub holds : (built : Built) (cluster : Cluster) → IsCluster cluster → (events : List Event) → Holds IsSound cluster (run_of built (first_world cluster) events).world
-holds built cluster is events = trace-holds built IsSound cluster (all-good built) is.quorums events
+pub holds : (cluster : Cluster) → IsCluster cluster → (events : List Event) → Holds IsSound cluster (run_of (first_world cluster) events).world
+holds cluster is events = trace-holds IsSound cluster (all-good) is.quorums events
 
-pub allowed : (built : Built) (cluster : Cluster) → IsCluster cluster → (events : List Event) → IsAllowed cluster (run_of built (first_world cluster) events).world.ledger
-allowed built cluster is events =
-    let h = holds built cluster is events in subst (λ z. IsAllowed z (run_of built (first_world cluster) events).world.ledger) h.same h.legal
+pub allowed : (cluster : Cluster) → IsCluster cluster → (events : List Event) → IsAllowed cluster (run_of (first_world cluster) events).world.ledger
+allowed cluster is events =
+    let h = holds cluster is events in subst (λ z. IsAllowed z (run_of (first_world cluster) events).world.ledger) h.same h.legal
 
-pub all_sent : (built : Built) (cluster : Cluster) → IsCluster cluster → (events : List Event) →
-    Each (λ (s : Sent). IsBackedMessage cluster (run_of built (first_world cluster) events).world.ledger s.envelope) (run_of built (first_world cluster) events).world.sent
-all_sent built cluster is events =
-    let h = holds built cluster is events in
-    Each-like (λ (s : Sent). Stands cluster (run_of built (first_world cluster) events).world.ledger s.envelope) (λ (s : Sent). IsBackedMessage cluster (run_of built (first_world cluster) events).world.ledger s.envelope)
-    (run_of built (first_world cluster) events).world.sent
-    (λ s g. backed-message cluster is.quorums (run_of built (first_world cluster) events).world.ledger (allowed built cluster is events) s.envelope g)
-    (subst (λ z. Each (λ (s : Sent). Stands z (run_of built (first_world cluster) events).world.ledger s.envelope) (run_of built (first_world cluster) events).world.sent) h.same h.sent)
+pub all_sent : (cluster : Cluster) → IsCluster cluster → (events : List Event) →
+    Each (λ (s : Sent). IsBackedMessage cluster (run_of (first_world cluster) events).world.ledger s.envelope) (run_of (first_world cluster) events).world.sent
+all_sent cluster is events =
+    let h = holds cluster is events in
+    Each-like (λ (s : Sent). Stands cluster (run_of (first_world cluster) events).world.ledger s.envelope) (λ (s : Sent). IsBackedMessage cluster (run_of (first_world cluster) events).world.ledger s.envelope)
+    (run_of (first_world cluster) events).world.sent
+    (λ s g. backed-message cluster is.quorums (run_of (first_world cluster) events).world.ledger (allowed cluster is events) s.envelope g)
+    (subst (λ z. Each (λ (s : Sent). Stands z (run_of (first_world cluster) events).world.ledger s.envelope) (run_of (first_world cluster) events).world.sent) h.same h.sent)

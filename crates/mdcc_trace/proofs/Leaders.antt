@@ -26,7 +26,6 @@ use Rattle.mdcc_trace_rules.proofs.Rules.{begun-choice, each-map-same}
 use Rattle.mdcc_trace.proofs.Structuring.{GoodLed, IsWell}
 use Rattle.mdcc_trace.proofs.Claiming.{led-good}
 use Rattle.mdcc_trace_rules.proofs.Ticks.{IsGoodPart, fold-good, sent-part}
-use Rattle.mdcc_switches.specs.Built.{Built}
 use Rattle.mdcc_protocol.specs.declared.manager.ManagerAct.{ManagerAct}
 use Rattle.mdcc_protocol.specs.declared.leader.LeadFault.{LeadFault}
 use Rattle.mdcc_protocol.specs.Manager.{act_at, acts_at, choices_unlearned, is_odd, ticked_transaction}
@@ -42,18 +41,14 @@ choice-claim es c h =
     }
 
 -- a claim that is led here
-pub claim-part : (also : List Entry → Type 0) (well : IsWell also) (built : Built) (cluster : Cluster) (es : List Entry) (a : ℕ) (facts : List Fact) (v : Volatile) (claim : Claim) → IsUp also cluster es a v → facts_of es a ≡ facts → IsClaim es claim.key claim.version (claim.tx, claim.choice) →
-    IsGoodPart also cluster es a (claim_led built cluster a facts v claim)
-claim-part also well built cluster es a facts v claim up same said =
-    subst (λ z. IsGoodPart also cluster es a (claim_led built cluster a z v claim)) same (by_switch built.leading)
+pub claim-part : (also : List Entry → Type 0) (well : IsWell also) (cluster : Cluster) (es : List Entry) (a : ℕ) (facts : List Fact) (v : Volatile) (claim : Claim) → IsUp also cluster es a v → facts_of es a ≡ facts → IsClaim es claim.key claim.version (claim.tx, claim.choice) →
+    IsGoodPart also cluster es a (claim_led cluster a facts v claim)
+claim-part also well cluster es a facts v claim up same said =
+    subst (λ z. IsGoodPart also cluster es a (claim_led cluster a z v claim)) same (part (led_of cluster a (facts_of es a) v claim) (led-good also well cluster es a v up claim said))
   where
     part : (r : Result StepPart LeadFault) → GoodLed also well cluster es a v up r → IsGoodPart also cluster es a (led_or_left v r)
     part (Ok step) g = record { good = g.0; still = g.1 }
     part (Err fault) g = sent-part also cluster es a v v [] up up.keeps tt
-
-    by_switch : (b : Bool) → IsGoodPart also cluster es a (cond b (led_or_left v (led_of cluster a (facts_of es a) v claim)) (only_sending v []))
-    by_switch true = part (led_of cluster a (facts_of es a) v claim) (led-good also well cluster es a v up claim said)
-    by_switch false = sent-part also cluster es a v v [] up up.keeps tt
 
 -- what a manager does at a tick is on a begun choice
 abbrev pub IsManagerAct : List Entry → ManagerAct → Type 0
@@ -68,14 +63,14 @@ act-more cluster new es (ManagerAct.Decide t o) legal h = tt
 act-more cluster new es (ManagerAct.Lead l c) legal h = tt
 act-more cluster new es (ManagerAct.Give b k) legal h = tt
 
-act-part : (also : List Entry → Type 0) (well : IsWell also) (built : Built) (cluster : Cluster) (es : List Entry) (a : ℕ) (facts : List Fact) (v : Volatile) (act : ManagerAct) → IsUp also cluster es a v → facts_of es a ≡ facts → IsManagerAct es act →
-    IsGoodPart also cluster es a (manager_act built cluster a facts v act)
-act-part also well built cluster es a facts v (ManagerAct.Propose c) up same begun =
+act-part : (also : List Entry → Type 0) (well : IsWell also) (cluster : Cluster) (es : List Entry) (a : ℕ) (facts : List Fact) (v : Volatile) (act : ManagerAct) → IsUp also cluster es a v → facts_of es a ≡ facts → IsManagerAct es act →
+    IsGoodPart also cluster es a (manager_act cluster a facts v act)
+act-part also well cluster es a facts v (ManagerAct.Propose c) up same begun =
     sent-part also cluster es a v v (to_all cluster.quorums a (Message.Propose c)) up up.keeps (stands-each cluster es a (Message.Propose c) (all_centres cluster.quorums) up.centre begun)
-act-part also well built cluster es a facts v (ManagerAct.LeadHere c) up same begun = claim-part also well built cluster es a facts v (claim_of_choice c) up same (choice-claim es c begun)
-act-part also well built cluster es a facts v (ManagerAct.Decide t o) up same begun = sent-part also cluster es a v v [] up up.keeps tt
-act-part also well built cluster es a facts v (ManagerAct.Lead l c) up same begun = sent-part also cluster es a v v [] up up.keeps tt
-act-part also well built cluster es a facts v (ManagerAct.Give b k) up same begun = sent-part also cluster es a v v [] up up.keeps tt
+act-part also well cluster es a facts v (ManagerAct.LeadHere c) up same begun = claim-part also well cluster es a facts v (claim_of_choice c) up same (choice-claim es c begun)
+act-part also well cluster es a facts v (ManagerAct.Decide t o) up same begun = sent-part also cluster es a v v [] up up.keeps tt
+act-part also well cluster es a facts v (ManagerAct.Lead l c) up same begun = sent-part also cluster es a v v [] up up.keeps tt
+act-part also well cluster es a facts v (ManagerAct.Give b k) up same begun = sent-part also cluster es a v v [] up up.keeps tt
 
 act-begun : (es : List Entry) (n : ℕ) (c : Choice) → is_begun es c ≡ true → IsManagerAct es (act_at n c)
 act-begun es n c h = by_parity (is_odd n)
@@ -91,11 +86,11 @@ acts-begun also well cluster es a v up t h =
     (λ c i. act-begun es (next_count t.ticks) c (begun-choice also well.shut cluster es a v up t c h (In-filter (λ (c : Choice). not (is_learned cluster.quorums v.manager.votes t.tx c.key)) t.choices c i).0)))
 
 -- the first half of a tick
-pub manager-part : (also : List Entry → Type 0) (well : IsWell also) (built : Built) (cluster : Cluster) (es : List Entry) (a : ℕ) (v : Volatile) → IsUp also cluster es a v → IsGoodPart also cluster es a (manager_ticked built cluster a (facts_of es a) v)
-manager-part also well built cluster es a v up =
-    fold-good also cluster es es a (manager_act built cluster a (facts_of es a)) (flat_map (acts_at cluster.quorums v.manager.votes) v.manager.opened) (only_sending (with_manager v after) []) v up
+pub manager-part : (also : List Entry → Type 0) (well : IsWell also) (cluster : Cluster) (es : List Entry) (a : ℕ) (v : Volatile) → IsUp also cluster es a v → IsGoodPart also cluster es a (manager_ticked cluster a (facts_of es a) v)
+manager-part also well cluster es a v up =
+    fold-good also cluster es es a (manager_act cluster a (facts_of es a)) (flat_map (acts_at cluster.quorums v.manager.votes) v.manager.opened) (only_sending (with_manager v after) []) v up
     (sent-part also cluster es a v (with_manager v after) [] up keeps tt) (IsTail-same es)
-    (λ act i new w u s tail. act-part also well built cluster (new ++ es) a (facts_of es a) w act u s
+    (λ act i new w u s tail. act-part also well cluster (new ++ es) a (facts_of es a) w act u s
     (act-more cluster new es act u.legal (Each-at (IsManagerAct es) (flat_map (acts_at cluster.quorums v.manager.votes) v.manager.opened) act begun i)))
   where
     after : Managing

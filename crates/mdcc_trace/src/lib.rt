@@ -4,7 +4,6 @@
 ghost use Rattle.std.specs.Prelude.{◌≡◌, List, ℕ};
 ghost use Rattle.mdcc_option.specs.declared.cluster.Cluster.{Cluster};
 ghost use Rattle.mdcc_ledger.specs.AllowedLedgers.{IsAllowed};
-ghost use Rattle.mdcc_switches.specs.Built.{Built};
 ghost use Rattle.mdcc_protocol.specs.IsCluster.{IsCluster};
 ghost use Rattle.mdcc_messages.specs.Mailbox.{Sent};
 ghost use Rattle.mdcc_simulation.specs.State.{first_world};
@@ -15,16 +14,16 @@ ghost use Rattle.mdcc_trace_states.specs.Sound.{IsSound};
 ghost use Rattle.mdcc_trace_states.specs.Standing.{IsBackedMessage};
 ghost use Rattle.mdcc_trace_states.specs.Words.{Each};
 
-/// For every set of switches, every cluster and every list of events, also of such as name centres,
-/// messages or reads that do not exist: the ledger of the trace is allowed; each message that was sent
-/// told the truth of the ledger, and still does where that lasts; and the world at the end is sound,
-/// with all that its centres keep.
+/// For every cluster and every list of events, also of such as name centres, messages or reads that do
+/// not exist: the ledger of the trace is allowed; each message that was sent told the truth of the
+/// ledger, and still does where that lasts; and the world at the end is sound, with all that its centres
+/// keep.
 pub fn every_trace()
-    ensures allowed { (built : Built) (cluster : Cluster) → IsCluster cluster → (events : List Event) →
-        IsAllowed cluster (run_of built (first_world cluster) events).world.ledger }
-    ensures sent { (built : Built) (cluster : Cluster) → IsCluster cluster → (events : List Event) →
-        Each (λ (s : Sent). IsBackedMessage cluster (run_of built (first_world cluster) events).world.ledger s.envelope)
-        (run_of built (first_world cluster) events).world.sent }
-    ensures world { (built : Built) (cluster : Cluster) → IsCluster cluster → (events : List Event) →
-        Holds IsSound cluster (run_of built (first_world cluster) events).world }
+    ensures allowed { (cluster : Cluster) → IsCluster cluster → (events : List Event) →
+        IsAllowed cluster (run_of (first_world cluster) events).world.ledger }
+    ensures sent { (cluster : Cluster) → IsCluster cluster → (events : List Event) →
+        Each (λ (s : Sent). IsBackedMessage cluster (run_of (first_world cluster) events).world.ledger s.envelope)
+        (run_of (first_world cluster) events).world.sent }
+    ensures world { (cluster : Cluster) → IsCluster cluster → (events : List Event) →
+        Holds IsSound cluster (run_of (first_world cluster) events).world }
 {}

@@ -13,7 +13,6 @@ use Rattle.mdcc_option.specs.declared.cluster.Cluster.{Cluster}
 use Rattle.mdcc_struct.specs.declared.options.Options.{Options}
 use Rattle.mdcc_ledger.specs.AllowedLedgers.{IsAllowed, IsBacked, is_valued, is_valued_as}
 use Rattle.mdcc_protocol.specs.Belongs.{is_centre, message_belongs}
-use Rattle.mdcc_switches.specs.Built.{Built}
 use Rattle.mdcc_protocol.specs.Facts.{current_of, epoch_of, heard_of}
 use Rattle.mdcc_protocol.specs.IsCluster.{IsCluster}
 use Rattle.mdcc_protocol.specs.Leader.{claim_of_choice, counted_promise, has_proposed, is_covered, is_promise_counted, is_waiting, lead, led_anew, led_by, next_round, on_promise, promise_taken, with_promise}
@@ -21,7 +20,7 @@ use Rattle.mdcc_rules.specs.LeaderRules.{lead_step_after, led_by_answer, promise
 use Rattle.mdcc_ledger.specs.Ledger.{Entry, Valued, facts_of}
 use Rattle.mdcc_protocol.specs.Marks.{accepts_in, options_eq, rejects_in}
 use Rattle.mdcc_protocol.specs.News.{is_crowding}
-use Rattle.mdcc_rules.specs.Node.{checked, is_without_room, message_step, rule, step_of, with_room}
+use Rattle.mdcc_rules.specs.Node.{checked, is_without_room, message_step, step_of, with_room}
 use Rattle.mdcc_rules.specs.Steps.{NodeStep}
 use Rattle.mdcc_protocol.specs.Structures.{first_structure, is_crowded, is_enough}
 use Rattle.mdcc_protocol.specs.Leader.{reports_of}
@@ -120,10 +119,6 @@ promise-fault cluster facts leader from promise fault h = by_lead (lead_of leade
 
 -- ---- messages
 
-rule-answered : (is_built : Bool) (volatile : Volatile) (r : Result NodeStep StepFault) → IsAnswered r → IsAnswered (rule is_built volatile r)
-rule-answered true volatile r h = h
-rule-answered false volatile r h = tt
-
 module _ (cluster : Cluster) (es : List Entry) (a : ℕ) (volatile : Volatile) (up : IsUp IsSound cluster es a volatile) (is : IsCluster cluster) (short : length es + 1 ≤ 2 ^ 64 - 1)
     (low : (key : Key) (version : ℕ) → next_round (facts_of es a) volatile.leader key version < 2 ^ 32) where
   ledger : IsLedger cluster es
@@ -145,15 +140,14 @@ module _ (cluster : Cluster) (es : List Entry) (a : ℕ) (volatile : Volatile) (
   promised-answered k (Err LeadFault.Crowded) f g = absurd (g refl)
   promised-answered k (Err LeadFault.Memory) f g = let bad = f LeadFault.Memory refl in absurd (cc)
 
-  message-answered : (built : Built) (env : Envelope) (message : Message) → env.message ≡ message → Stands cluster es env → IsAnswered (message_step built cluster a (facts_of es a) volatile env.from message)
-  message-answered built env (Message.Propose choice) e h = rule-answered built.proposals volatile _ tt
-  message-answered built env (Message.Voted k v b t m) e h = rule-answered built.proposals volatile _ tt
-  message-answered built env (Message.Escalate k v t cause) e h = rule-answered built.escalations volatile _ tt
-  message-answered built env (Message.Lead choice) e h = rule-answered built.leading volatile _ (claimed-answered env.from choice (heard_of (facts_of es a) choice.tx))
-  message-answered built env (Message.Prepare k v w b) e h = rule-answered built.leading volatile _ tt
-  message-answered built env (Message.Promise k v w b r os) e h =
-      rule-answered built.leading volatile _
-      (promised-answered k (on_promise cluster (facts_of es a) volatile.leader env.from promise) (λ fault f. promise-fault cluster (facts_of es a) volatile.leader env.from promise fault f) crowded)
+  message-answered : (env : Envelope) (message : Message) → env.message ≡ message → Stands cluster es env → IsAnswered (message_step cluster a (facts_of es a) volatile env.from message)
+  message-answered env (Message.Propose choice) e h = tt
+  message-answered env (Message.Voted k v b t m) e h = tt
+  message-answered env (Message.Escalate k v t cause) e h = tt
+  message-answered env (Message.Lead choice) e h = claimed-answered env.from choice (heard_of (facts_of es a) choice.tx)
+  message-answered env (Message.Prepare k v w b) e h = tt
+  message-answered env (Message.Promise k v w b r os) e h =
+      promised-answered k (on_promise cluster (facts_of es a) volatile.leader env.from promise) (λ fault f. promise-fault cluster (facts_of es a) volatile.leader env.from promise fault f) crowded
     where
       promise : Promise
       promise = record { key = k; version = v; through = w; ballot = b; reported = r; votes = os }
@@ -167,39 +161,39 @@ module _ (cluster : Cluster) (es : List Entry) (a : ℕ) (volatile : Volatile) (
         where
           longer : (n : ℕ) → n + 1 ≤ 2 ^ 64 - 1 → suc n ≤ 2 ^ 64 - 1
           longer n h = omega (arith, h)
-  message-answered built env (Message.Accept k v b os) e h = rule-answered built.leading volatile _ tt
-  message-answered built env (Message.Refused k v b p) e h = rule-answered built.leading volatile _ tt
-  message-answered built env (Message.Outcome t o) e h = rule-answered built.proposals volatile _ tt
-  message-answered built env (Message.Ask t k v) e h = rule-answered built.recovery volatile _ tt
-  message-answered built env (Message.SyncAsk k) e h = rule-answered built.catching_up volatile _ tt
-  message-answered built env (Message.SyncGive k v item adds) e h = rule-answered built.catching_up volatile _ tt
-  message-answered built env (Message.ClientRead n k) e h = tt
-  message-answered built env (Message.ClientBegin n ps) e h = tt
-  message-answered built env (Message.ClientAnswer n x) e h = tt
+  message-answered env (Message.Accept k v b os) e h = tt
+  message-answered env (Message.Refused k v b p) e h = tt
+  message-answered env (Message.Outcome t o) e h = tt
+  message-answered env (Message.Ask t k v) e h = tt
+  message-answered env (Message.SyncAsk k) e h = tt
+  message-answered env (Message.SyncGive k v item adds) e h = tt
+  message-answered env (Message.ClientRead n k) e h = tt
+  message-answered env (Message.ClientBegin n ps) e h = tt
+  message-answered env (Message.ClientAnswer n x) e h = tt
 
   -- a fact has room, but for that in the cells
-  room-answered : (built : Built) (step : NodeStep) (o : Option Fact) → IsGoodBy cluster IsSound es a step o → IsAnswered (with_room built cluster (facts_of es a) step o)
-  room-answered built step None g = tt
-  room-answered built step (Some fact) g =
-      elim (cases_Bool (is_without_room built cluster (facts_of es a) fact)) [
+  room-answered : (step : NodeStep) (o : Option Fact) → IsGoodBy cluster IsSound es a step o → IsAnswered (with_room cluster (facts_of es a) step o)
+  room-answered step None g = tt
+  room-answered step (Some fact) g =
+      elim (cases_Bool (is_without_room cluster (facts_of es a) fact)) [
         | inl e ↦ rw e tt
         | inr e ↦ rw e (let few : is_crowding (facts_of es a) fact ≡ false = not-crowding cluster es a fact ledger g.1.legal.1.2 in rw few tt)
       ]
 
-  pub envelope-answered : (built : Built) (env : Envelope) → env.to ≡ a → IsBackedMessage cluster es env → IsAnswered (step_of built cluster a (facts_of es a) volatile (Input.Message env))
-  envelope-answered built env to h =
-      rw own (by_result (message_step built cluster a (facts_of es a) volatile env.from env.message) refl)
+  pub envelope-answered : (env : Envelope) → env.to ≡ a → IsBackedMessage cluster es env → IsAnswered (step_of cluster a (facts_of es a) volatile (Input.Message env))
+  envelope-answered env to h =
+      rw own (by_result (message_step cluster a (facts_of es a) volatile env.from env.message) refl)
     where
       own : (env.to == a && is_centre cluster env.from && message_belongs cluster env.message) ≡ true
       own = and_from (env.to == a && is_centre cluster env.from) (message_belongs cluster env.message) (and_from (env.to == a) (is_centre cluster env.from) (eq-eqb env.to a to) h.sent.from) h.belongs
 
-      answered : IsAnswered (message_step built cluster a (facts_of es a) volatile env.from env.message)
-      answered = message-answered built env env.message refl h.sent
+      answered : IsAnswered (message_step cluster a (facts_of es a) volatile env.from env.message)
+      answered = message-answered env env.message refl h.sent
 
-      by_result : (r : Result NodeStep StepFault) → message_step built cluster a (facts_of es a) volatile env.from env.message ≡ r → IsAnswered (checked built cluster (facts_of es a) r)
+      by_result : (r : Result NodeStep StepFault) → message_step cluster a (facts_of es a) volatile env.from env.message ≡ r → IsAnswered (checked cluster (facts_of es a) r)
       by_result (Err fault) e = let g : IsRefusedForRoom fault = subst IsAnswered e answered in g
       by_result (Ok step) e =
-          room-answered built step step.fact
-          (let good = message-good law cluster es a volatile up built env env.message refl h.sent h.sent.from h.belongs in
+          room-answered step step.fact
+          (let good = message-good law cluster es a volatile up env env.message refl h.sent h.sent.from h.belongs in
           let roomy : ((fact : Fact) → step.fact ≡ Some fact → IsBacked cluster es a fact → is_crowding (facts_of es a) fact ≡ false) → IsGoodBy cluster IsSound es a step step.fact = subst (λ z. IsGoodRoomy cluster IsSound es a z) e good in
           roomy (λ fact f b. not-crowding cluster es a fact ledger b))

@@ -1,5 +1,5 @@
 -- No message of a trace is too long.
-use Rattle.std.proofs.Common.{Err, List, Ok, Result, [], ap, arith, refl, subst, sym, true, ℕ, ◌∙◌, ◌∷◌, ◌≡◌, ◌≤◌}
+use Rattle.std.proofs.Common.{Err, List, Ok, Result, [], ap, arith, refl, subst, sym, ℕ, ◌∙◌, ◌∷◌, ◌≡◌, ◌≤◌}
 use Rattle.std.specs.List.{AllByRecursion}
 use Rattle.mdcc_base.specs.declared.identifiers.Ballot.{Ballot}
 use Rattle.mdcc_base.specs.declared.identifiers.TxId.{TxId}
@@ -9,7 +9,6 @@ use Rattle.mdcc_option.specs.declared.choices.Outcome.{Outcome}
 use Rattle.mdcc_option.specs.declared.cluster.Cluster.{Cluster}
 use Rattle.mdcc_struct.specs.declared.options.Options.{Options}
 use Rattle.mdcc_struct.specs.declared.report.Report.{Report}
-use Rattle.mdcc_switches.specs.Built.{Built}
 use Rattle.mdcc_messages.specs.Lengths.{body_length, cause_length, heard_length, message_length, options_length}
 use Rattle.mdcc_messages.specs.Mailbox.{Sent}
 use Rattle.mdcc_messages.specs.WellFormed.{IsWellFormedMessage}
@@ -36,7 +35,7 @@ use Rattle.mdcc_trace_limits.proofs.Short.{ledger-short}
 use Rattle.mdcc_worlds.proofs.Begins.{first-stands}
 use Rattle.mdcc_worlds.proofs.Staying.{event-between}
 use Rattle.mdcc_worlds.specs.Words.{IsGivenEvent}
-use Rattle.mdcc_worlds.specs.Events.{AreBounded, IsBetween}
+use Rattle.mdcc_worlds.specs.Events.{IsBetween}
 use Rattle.mdcc_worlds.specs.Standing.{IsSent}
 use Rattle.mdcc_trace_answers.proofs.VotesAreFew.{AreFew, votes-few}
 
@@ -90,45 +89,45 @@ module _ (cluster : Cluster) (es : List Entry) (ledger : IsLedger cluster es) (f
 
 -- ---- all messages of a trace
 
-abbrev trace : Built → Cluster → List Event → World
-trace built cluster events = (run_of built (first_world cluster) events).world
+abbrev trace : Cluster → List Event → World
+trace cluster events = (run_of (first_world cluster) events).world
 
-trace-ledger : (built : Built) → built.limit_on_events ≡ true → (cluster : Cluster) → IsCluster cluster → (events : List Event) → IsLedger cluster (trace built cluster events).ledger
-trace-ledger built limited cluster is events =
-    record { of_cluster = is; allowed = allowed built cluster is events; short = ledger-short built limited cluster is events }
+trace-ledger : (cluster : Cluster) → IsCluster cluster → (events : List Event) → IsLedger cluster (trace cluster events).ledger
+trace-ledger cluster is events =
+    record { of_cluster = is; allowed = allowed cluster is events; short = ledger-short cluster is events }
 
-pub well_formed-short : (built : Built) → built.limit_on_events ≡ true → (cluster : Cluster) → IsCluster cluster → (events : List Event)
-    → Each (λ (s : Sent). IsWellFormedMessage s.envelope.message → message_length s.envelope ≤ 1473505) (trace built cluster events).sent
-well_formed-short built limited cluster is events =
-    Each-like (λ (s : Sent). IsBackedMessage cluster es s.envelope) (λ (s : Sent). IsWellFormedMessage s.envelope.message → message_length s.envelope ≤ 1473505) (trace built cluster events).sent
-    (λ s h w. let short = body-short cluster es (trace-ledger built limited cluster is events) s.envelope.from s.envelope.message w h.still in omega (arith, short)) (all_sent built cluster is events)
+pub well_formed-short : (cluster : Cluster) → IsCluster cluster → (events : List Event)
+    → Each (λ (s : Sent). IsWellFormedMessage s.envelope.message → message_length s.envelope ≤ 1473505) (trace cluster events).sent
+well_formed-short cluster is events =
+    Each-like (λ (s : Sent). IsBackedMessage cluster es s.envelope) (λ (s : Sent). IsWellFormedMessage s.envelope.message → message_length s.envelope ≤ 1473505) (trace cluster events).sent
+    (λ s h w. let short = body-short cluster es (trace-ledger cluster is events) s.envelope.from s.envelope.message w h.still in omega (arith, short)) (all_sent cluster is events)
   where
     es : List Entry
-    es = (trace built cluster events).ledger
+    es = (trace cluster events).ledger
 
 -- ---- which are well-formed
 
-next-between : (built : Built) (event : Event) (events : List Event) (h : Happened) → ((next : Happened) → event_of built h.world event ≡ Ok next → IsBetween (run_from built events (after_lines h.lines next)).world)
-    → IsBetween h.world → IsBetween (run_from built (event ∷ events) h).world
-next-between built event events h go between = by_answer (event_of built h.world event) refl
+next-between : (event : Event) (events : List Event) (h : Happened) → ((next : Happened) → event_of h.world event ≡ Ok next → IsBetween (run_from events (after_lines h.lines next)).world)
+    → IsBetween h.world → IsBetween (run_from (event ∷ events) h).world
+next-between event events h go between = by_answer (event_of h.world event) refl
   where
-    by_answer : (r : Result Happened EventFault) → event_of built h.world event ≡ r → IsBetween (run_from built (event ∷ events) h).world
+    by_answer : (r : Result Happened EventFault) → event_of h.world event ≡ r → IsBetween (run_from (event ∷ events) h).world
     by_answer (Err fault) e = rw (e, run_from) between
     by_answer (Ok next) e = rw (e, run_from) (go next e)
 
-run-between : (built : Built) → AreBounded built → (events : List Event) (h : Happened) → AllByRecursion IsGivenEvent events → IsBetween h.world → IsBetween (run_from built events h).world
-run-between built bounded [] h may between = between
-run-between built bounded (event ∷ events) h may between =
-    next-between built event events h
-    (λ next e. run-between built bounded events (after_lines h.lines next) may.1 (let stays = event-between built bounded h.world event next between may.0 e in record { itself = stays.itself; few = stays.few })) between
+run-between : (events : List Event) (h : Happened) → AllByRecursion IsGivenEvent events → IsBetween h.world → IsBetween (run_from events h).world
+run-between [] h may between = between
+run-between (event ∷ events) h may between =
+    next-between event events h
+    (λ next e. run-between events (after_lines h.lines next) may.1 (let stays = event-between h.world event next between may.0 e in record { itself = stays.itself; few = stays.few })) between
 
 both-each : (cluster : Cluster) (sent : List Sent) → Each (λ (s : Sent). IsWellFormedMessage s.envelope.message → message_length s.envelope ≤ 1473505) sent → AllByRecursion (IsSent cluster) sent
     → Each (λ (s : Sent). message_length s.envelope ≤ 1473505) sent
 both-each cluster [] h w = tt
 both-each cluster (s ∷ ss) h w = (h.0 w.0.envelope_itself.message, both-each cluster ss h.1 w.1)
 
-pub messages-short : (built : Built) → AreBounded built → (cluster : Cluster) → IsCluster cluster → (events : List Event) → AllByRecursion IsGivenEvent events
-    → Each (λ (s : Sent). message_length s.envelope ≤ 1473505) (trace built cluster events).sent
-messages-short built bounded cluster is events may =
-    let between = run-between built bounded events (record { world = first_world cluster; lines = [] }) may (record { itself = first-stands cluster is; few = omega arith }) in
-    both-each (trace built cluster events).cluster (trace built cluster events).sent (well_formed-short built bounded.events_limited cluster is events) between.itself.sent
+pub messages-short : (cluster : Cluster) → IsCluster cluster → (events : List Event) → AllByRecursion IsGivenEvent events
+    → Each (λ (s : Sent). message_length s.envelope ≤ 1473505) (trace cluster events).sent
+messages-short cluster is events may =
+    let between = run-between events (record { world = first_world cluster; lines = [] }) may (record { itself = first-stands cluster is; few = omega arith }) in
+    both-each (trace cluster events).cluster (trace cluster events).sent (well_formed-short cluster is events) between.itself.sent

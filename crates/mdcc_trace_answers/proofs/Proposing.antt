@@ -7,7 +7,6 @@ use Rattle.mdcc_option.specs.declared.cluster.Cluster.{Cluster}
 use Rattle.mdcc_option.specs.declared.cluster.FastLimit.{FastLimit}
 use Rattle.mdcc_struct.specs.Forced.{forced_of}
 use Rattle.mdcc_struct.specs.declared.report.Report.{Report}
-use Rattle.mdcc_switches.specs.Built.{Built}
 use Rattle.mdcc_language.specs.declared.events.Event.{Event}
 use Rattle.mdcc_messages.specs.declared.facts.Fact.{Fact}
 use Rattle.mdcc_protocol.specs.Fit.{parts_of}
@@ -71,12 +70,12 @@ enough-safe cluster facts key version reports h =
 
 -- ---- in a trace
 
-pub not-waiting : (built : Built) (cluster : Cluster) → IsCluster cluster → (events : List Event) (a : ℕ) → DoNotWait (run_of built (first_world cluster) events).world a
-not-waiting built cluster is events a up =
-    let u = is-up IsSound cluster w a (holds built cluster is events) up in
+pub not-waiting : (cluster : Cluster) → IsCluster cluster → (events : List Event) (a : ℕ) → DoNotWait (run_of (first_world cluster) events).world a
+not-waiting cluster is events a up =
+    let u = is-up IsSound cluster w a (holds cluster is events) up in
     Each-like (IsLead w.cluster w.ledger a (centre_at w a).volatile.leader.last_rounds)
     (λ (x : Lead). has_proposed x ≡ false → length x.promises < parts_of w.cluster.limit w.cluster.quorums)
     (centre_at w a).volatile.leader.leads (λ x led. led.waits) u.keeps.leader.leads
   where
     w : World
-    w = (run_of built (first_world cluster) events).world
+    w = (run_of (first_world cluster) events).world

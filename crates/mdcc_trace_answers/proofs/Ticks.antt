@@ -1,5 +1,5 @@
 -- No claim of a tick is refused in a trace: each raises the rounds by one at most, and there are not so many that they reach the last one.
-use Rattle.std.proofs.Common.{Bool, Err, List, Ok, Result, [], arith, cond, false, inl, inr, length, max, refl, subst, sym, true, ℕ, ◌+◌, ◌<◌, ◌^◌, ◌∷◌, ◌≡◌, ◌≤◌}
+use Rattle.std.proofs.Common.{Err, List, Ok, Result, [], arith, inl, inr, length, max, refl, subst, sym, true, ℕ, ◌+◌, ◌<◌, ◌^◌, ◌∷◌, ◌≡◌, ◌≤◌}
 use Rattle.std.specs.Prelude.{flat_map, fold}
 use Rattle.std.proofs.lemmas.Bool.{cases_Bool}
 use Rattle.mdcc_base.specs.Counts.{number_of}
@@ -8,14 +8,13 @@ use Rattle.mdcc_base.specs.declared.identifiers.TxId.{TxId}
 use Rattle.mdcc_base.specs.declared.key.Key.{Key}
 use Rattle.mdcc_option.specs.declared.choices.Claim.{Claim}
 use Rattle.mdcc_option.specs.declared.cluster.Cluster.{Cluster}
-use Rattle.mdcc_switches.specs.Built.{Built}
 use Rattle.mdcc_language.specs.declared.events.Event.{Event}
 use Rattle.mdcc_ledger.specs.Ledger.{facts_of}
 use Rattle.mdcc_messages.specs.declared.facts.Fact.{Fact}
 use Rattle.mdcc_protocol.specs.Facts.{epoch_of, promise_of}
 use Rattle.mdcc_protocol.specs.IsCluster.{IsCluster}
 use Rattle.mdcc_protocol.specs.Leader.{claim_of_choice, lead, next_round}
-use Rattle.mdcc_protocol.specs.Manager.{acts_at, ticked_transaction}
+use Rattle.mdcc_protocol.specs.Manager.{acts_at}
 use Rattle.mdcc_protocol.specs.Recover.{acts_on, dangling}
 use Rattle.mdcc_protocol.specs.Manager
 use Rattle.mdcc_protocol.specs.Recover
@@ -39,7 +38,7 @@ use Rattle.mdcc_trace_limits.proofs.Begun.{begun-few, dangling-few, dangling-key
 use Rattle.mdcc_trace_limits.proofs.RoundSteps.{AreRoundFacts, IsRoundLeader, IsRoundLed, leader-more, led-round, raised}
 use Rattle.mdcc_trace_limits.proofs.Rounds.{calm-reached, rounds-within}
 use Rattle.mdcc_trace_limits.proofs.Small.{acts-few, flat-few, is_begin, opened_in, recover-few}
-use Rattle.mdcc_trace_answers.specs.Ticks.{AreClaimsLed, AreDanglingLed, AreOpenLed, InTurn, IsDanglingLed, IsLed, IsOpenLed, first_half}
+use Rattle.mdcc_trace_answers.specs.Ticks.{AreClaimsLed, AreDanglingLed, AreOpenLed, InTurn, IsDanglingLed, IsLed, IsOpenLed}
 use Rattle.mdcc_trace_answers.proofs.Answers.{lead-fault}
 
 -- the rounds of all keys are within a number: in facts, and at a leader
@@ -49,11 +48,11 @@ AreFacts r facts = (key : Key) → AreRoundFacts key r facts
 abbrev IsLeader : ℕ → Leading → Type 0
 IsLeader r leader = (key : Key) → IsRoundLeader key r leader
 
-module _ (built : Built) (cluster : Cluster) (me : ℕ) (facts : List Fact) where
+module _ (cluster : Cluster) (me : ℕ) (facts : List Fact) where
   -- ---- one claim
 
-  claim-led : (volatile : Volatile) (claim : Claim) (r : ℕ) → r + 1 < 2 ^ 32 → AreFacts r facts → IsLeader r volatile.leader → IsLed built cluster me facts volatile claim
-  claim-led volatile claim r few f l on = by_answer (lead cluster me (epoch_of facts) facts volatile.leader claim) refl
+  claim-led : (volatile : Volatile) (claim : Claim) (r : ℕ) → r + 1 < 2 ^ 32 → AreFacts r facts → IsLeader r volatile.leader → IsLed cluster me facts volatile claim
+  claim-led volatile claim r few f l = by_answer (lead cluster me (epoch_of facts) facts volatile.leader claim) refl
     where
       next : (x y z : ℕ) → x ≤ r → y ≤ r → z ≤ r → 1 + max x (max y z) < 2 ^ 32
       next x y z a b c = omega (arith, a, b, c, few)
@@ -68,8 +67,8 @@ module _ (built : Built) (cluster : Cluster) (me : ℕ) (facts : List Fact) wher
       by_answer (Ok (answer, leader)) e = (record { after = with_leader volatile leader; entries = lead_entries me volatile.leader claim answer; sends = lead_sent cluster.quorums me claim answer }, refl)
       by_answer (Err fault) e = absurd (lead-fault cluster me (epoch_of facts) facts volatile.leader claim fault low e)
 
-  claim-rounds : (volatile : Volatile) (claim : Claim) (r : ℕ) → AreFacts r facts → IsLeader r volatile.leader → IsLeader (r + 1) (claim_led built cluster me facts volatile claim).after.leader
-  claim-rounds volatile claim r f l key = pick built.leading
+  claim-rounds : (volatile : Volatile) (claim : Claim) (r : ℕ) → AreFacts r facts → IsLeader r volatile.leader → IsLeader (r + 1) (claim_led cluster me facts volatile claim).after.leader
+  claim-rounds volatile claim r f l key = by_case (led_of cluster me facts volatile claim) (led-round key r cluster me facts volatile claim (f key) (l key))
     where
       more : raised key claim.key r ≤ r + 1
       more = elim (cases_Bool (key_eq claim.key key)) [ inl e ↦ rw e (omega arith) | inr e ↦ rw e (omega arith) ]
@@ -81,10 +80,6 @@ module _ (built : Built) (cluster : Cluster) (me : ℕ) (facts : List Fact) wher
       by_case (Ok part) h = leader-more key (raised key claim.key r) (r + 1) part.after.leader more h.0
       by_case (Err fault) h = kept
 
-      pick : (b : Bool) → IsRoundLeader key (r + 1) (cond b (led_or_left volatile (led_of cluster me facts volatile claim)) (only_sending volatile [])).after.leader
-      pick true = by_case (led_of cluster me facts volatile claim) (led-round key r cluster me facts volatile claim (f key) (l key))
-      pick false = kept
-
   -- ---- acts
 
   -- an act is led, and raises the rounds by one at most
@@ -95,14 +90,14 @@ module _ (built : Built) (cluster : Cluster) (me : ℕ) (facts : List Fact) wher
   higher : (volatile : Volatile) (r : ℕ) → IsLeader r volatile.leader → IsLeader (r + 1) volatile.leader
   higher volatile r l = λ key. leader-more key r (r + 1) volatile.leader (omega arith) (l key)
 
-  open-taken : IsTaken (IsOpenLed built cluster me facts) (manager_act built cluster me facts)
+  open-taken : IsTaken (IsOpenLed cluster me facts) (manager_act cluster me facts)
   open-taken volatile (ManagerAct.LeadHere choice) r few f l = (claim-led volatile (claim_of_choice choice) r few f l, claim-rounds volatile (claim_of_choice choice) r f l)
   open-taken volatile (ManagerAct.Propose choice) r few f l = (tt, higher volatile r l)
   open-taken volatile (ManagerAct.Lead leader choice) r few f l = (tt, higher volatile r l)
   open-taken volatile (ManagerAct.Give centre key) r few f l = (tt, higher volatile r l)
   open-taken volatile (ManagerAct.Decide tx outcome) r few f l = (tt, higher volatile r l)
 
-  dangling-taken : IsTaken (IsDanglingLed built cluster me facts) (recovery_act built cluster me facts)
+  dangling-taken : IsTaken (IsDanglingLed cluster me facts) (recovery_act cluster me facts)
   dangling-taken volatile (RecoverAct.LeadHere claim) r few f l = (claim-led volatile claim r few f l, claim-rounds volatile claim r f l)
   dangling-taken volatile (RecoverAct.Ask tx key version) r few f l = (tt, higher volatile r l)
 
@@ -116,7 +111,7 @@ module _ (built : Built) (cluster : Cluster) (me : ℕ) (facts : List Fact) wher
 
 -- ---- a tick
 
-module _ (built : Built) (w : World) (a : ℕ) (up : IsUp IsSound w.cluster w.ledger a (centre_at w a).volatile) (begun : number_of is_begin w.ledger ≤ 100000)
+module _ (w : World) (a : ℕ) (up : IsUp IsSound w.cluster w.ledger a (centre_at w a).volatile) (begun : number_of is_begin w.ledger ≤ 100000)
     (few : opened_in (centre_at w a).volatile ≤ 256) (f : AreFacts 3770100000 (facts_of w.ledger a)) (l : IsLeader 3770100000 (centre_at w a).volatile.leader) where
   abbrev v : Volatile
   v = (centre_at w a).volatile
@@ -139,24 +134,17 @@ module _ (built : Built) (w : World) (a : ℕ) (up : IsUp IsSound w.cluster w.le
           let m = acts-few w.cluster.quorums v.manager.votes t in
           omega (arith, n, m)
 
-  opened-led : AreOpenLed built w.cluster a facts v (Manager.tick w.cluster.quorums v.manager) × IsLeader 3770102048 (manager_ticked built w.cluster a facts v).after.leader
+  opened-led : AreOpenLed w.cluster a facts v (Manager.tick w.cluster.quorums v.manager) × IsLeader 3770102048 (manager_ticked w.cluster a facts v).after.leader
   opened-led =
       let start : StepPart = only_sending (with_manager v (Manager.tick w.cluster.quorums v.manager).1) [] in
-      let all = in-turn built w.cluster a facts (IsOpenLed built w.cluster a facts) (manager_act built w.cluster a facts) acts 3770100000 start (open-taken built w.cluster a facts) (small (length acts) acts-within) f l in
-      (all.0, λ key. leader-more key (3770100000 + length acts) 3770102048 (manager_ticked built w.cluster a facts v).after.leader (within (length acts) acts-within) (all.1 key))
+      let all = in-turn w.cluster a facts (IsOpenLed w.cluster a facts) (manager_act w.cluster a facts) acts 3770100000 start (open-taken w.cluster a facts) (small (length acts) acts-within) f l in
+      (all.0, λ key. leader-more key (3770100000 + length acts) 3770102048 (manager_ticked w.cluster a facts v).after.leader (within (length acts) acts-within) (all.1 key))
     where
       small : (n : ℕ) → n ≤ 2048 → 3770100000 + n < 2 ^ 32
       small n h = omega (arith, h)
 
       within : (n : ℕ) → n ≤ 2048 → 3770100000 + n ≤ 3770102048
       within n h = omega (arith, h)
-
-  first-rounds : IsLeader 3770102048 (first_half built w.cluster a facts v).after.leader
-  first-rounds key = pick built.ticks
-    where
-      pick : (b : Bool) → IsRoundLeader key 3770102048 (cond b (manager_ticked built w.cluster a facts v) (only_sending v [])).after.leader
-      pick true = opened-led.1 key
-      pick false = leader-more key 3770100000 3770102048 v.leader (omega arith) (l key)
 
   dangling-within : (recovery : Recovering) (opened : List TxId) → length (flat_map (acts_on w.cluster.quorums facts recovery) (dangling facts opened)) ≤ 800000
   dangling-within recovery opened =
@@ -167,31 +155,31 @@ module _ (built : Built) (w : World) (a : ℕ) (up : IsUp IsSound w.cluster w.le
       omega (arith, all, n, begun)
 
   dangling-led : (first : StepPart) → IsLeader 3770102048 first.after.leader
-      → AreDanglingLed built w.cluster a facts first (Recover.tick w.cluster.quorums facts first.after.recovery (txs_opened first.after.manager))
+      → AreDanglingLed w.cluster a facts first (Recover.tick w.cluster.quorums facts first.after.recovery (txs_opened first.after.manager))
   dangling-led first k =
       let recovery : Recovering = (Recover.tick w.cluster.quorums facts first.after.recovery (txs_opened first.after.manager)).1 in
       let all = flat_map (acts_on w.cluster.quorums facts first.after.recovery) (dangling facts (txs_opened first.after.manager)) in
-      (in-turn built w.cluster a facts (IsDanglingLed built w.cluster a facts) (recovery_act built w.cluster a facts) all 3770102048 (record first { after = with_recovery first.after recovery }) (dangling-taken built w.cluster a facts)
+      (in-turn w.cluster a facts (IsDanglingLed w.cluster a facts) (recovery_act w.cluster a facts) all 3770102048 (record first { after = with_recovery first.after recovery }) (dangling-taken w.cluster a facts)
       (small (length all) (dangling-within first.after.recovery (txs_opened first.after.manager))) (λ key version. let g = f key version in omega (arith, g)) k).0
     where
       small : (n : ℕ) → n ≤ 800000 → 3770102048 + n < 2 ^ 32
       small n h = omega (arith, h)
 
-  all-led : AreClaimsLed built w.cluster a facts v
-  all-led = record { opened = opened-led.0; dangling = λ first e. dangling-led first (subst (λ (z : StepPart). IsLeader 3770102048 z.after.leader) (sym e) first-rounds) }
+  all-led : AreClaimsLed w.cluster a facts v
+  all-led = record { opened = opened-led.0; dangling = λ first e. dangling-led first (subst (λ (z : StepPart). IsLeader 3770102048 z.after.leader) (sym e) opened-led.1) }
 
 -- ---- in a trace
 
-pub none-refused : (built : Built) → built.limit_on_events ≡ true → (cluster : Cluster) → IsCluster cluster → (events : List Event) (a : ℕ) → is_up_at (run_of built (first_world cluster) events).world a ≡ true
-    → AreClaimsLed built (run_of built (first_world cluster) events).world.cluster a (facts_of (run_of built (first_world cluster) events).world.ledger a) (centre_at (run_of built (first_world cluster) events).world a).volatile
-none-refused built limited cluster is events a here =
-    let u = is-up IsSound cluster w a (holds built cluster is events) here in
-    let c = calm-reached built cluster is events in
-    let rounds = rounds-within built limited cluster is events in
-    all-led built w a u (begins c.ticks c.others _ _ c.within (c.few limited) c.is.short.begun) (c.is.short.few a u.centre) (λ key. (rounds key).facts a) (λ key. (rounds key).leaders a u.centre)
+pub none-refused : (cluster : Cluster) → IsCluster cluster → (events : List Event) (a : ℕ) → is_up_at (run_of (first_world cluster) events).world a ≡ true
+    → AreClaimsLed (run_of (first_world cluster) events).world.cluster a (facts_of (run_of (first_world cluster) events).world.ledger a) (centre_at (run_of (first_world cluster) events).world a).volatile
+none-refused cluster is events a here =
+    let u = is-up IsSound cluster w a (holds cluster is events) here in
+    let c = calm-reached cluster is events in
+    let rounds = rounds-within cluster is events in
+    all-led w a u (begins c.ticks c.others _ _ c.within c.few c.is.short.begun) (c.is.short.few a u.centre) (λ key. (rounds key).facts a) (λ key. (rounds key).leaders a u.centre)
   where
     w : World
-    w = (run_of built (first_world cluster) events).world
+    w = (run_of (first_world cluster) events).world
 
     begins : (t d n m : ℕ) → t + d + 0 ≤ n → n ≤ 100000 → m ≤ d → m ≤ 100000
     begins t d n m h g k = omega (arith, h, g, k)

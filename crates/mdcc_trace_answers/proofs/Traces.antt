@@ -1,7 +1,6 @@
 -- The answers to all messages of a trace.
 use Rattle.std.proofs.Common.{List, refl, subst, sym, true, ◌≡◌}
 use Rattle.mdcc_option.specs.declared.cluster.Cluster.{Cluster}
-use Rattle.mdcc_switches.specs.Built.{Built}
 use Rattle.mdcc_protocol.specs.IsCluster.{IsCluster}
 use Rattle.mdcc_messages.specs.Mailbox.{Sent}
 use Rattle.mdcc_simulation.specs.State.{World, centre_at, first_world, is_up_at}
@@ -20,19 +19,19 @@ use Rattle.mdcc_trace_limits.proofs.Short.{ledger-shorter}
 use Rattle.mdcc_trace_answers.specs.Answered.{AreAnswered, IsAnswered}
 use Rattle.mdcc_trace_answers.proofs.Answers.{envelope-answered}
 
-pub all-answered : (built : Built) → built.limit_on_events ≡ true → (cluster : Cluster) → IsCluster cluster → (events : List Event) → AreAnswered built (run_of built (first_world cluster) events).world
-all-answered built limited cluster is events =
-    Each-like (λ (s : Sent). IsBackedMessage cluster w.ledger s.envelope) (λ (s : Sent). is_up_at w s.envelope.to ≡ true → IsAnswered (step_at built w s.envelope.to (Input.Message s.envelope))) w.sent
-    (λ s h up. one s.envelope (subst (λ z. IsBackedMessage z w.ledger s.envelope) (sym same) h) up) (all_sent built cluster is events)
+pub all-answered : (cluster : Cluster) → IsCluster cluster → (events : List Event) → AreAnswered (run_of (first_world cluster) events).world
+all-answered cluster is events =
+    Each-like (λ (s : Sent). IsBackedMessage cluster w.ledger s.envelope) (λ (s : Sent). is_up_at w s.envelope.to ≡ true → IsAnswered (step_at w s.envelope.to (Input.Message s.envelope))) w.sent
+    (λ s h up. one s.envelope (subst (λ z. IsBackedMessage z w.ledger s.envelope) (sym same) h) up) (all_sent cluster is events)
   where
     w : World
-    w = (run_of built (first_world cluster) events).world
+    w = (run_of (first_world cluster) events).world
 
     same : w.cluster ≡ cluster
-    same = (holds built cluster is events).same
+    same = (holds cluster is events).same
 
-    one : (env : Envelope) → IsBackedMessage w.cluster w.ledger env → is_up_at w env.to ≡ true → IsAnswered (step_at built w env.to (Input.Message env))
+    one : (env : Envelope) → IsBackedMessage w.cluster w.ledger env → is_up_at w env.to ≡ true → IsAnswered (step_at w env.to (Input.Message env))
     one env h up =
-        let u = is-up IsSound cluster w env.to (holds built cluster is events) up in
-        envelope-answered w.cluster w.ledger env.to (centre_at w env.to).volatile u (subst IsCluster (sym same) is) (ledger-shorter built limited cluster is events)
-        (λ key version. rounds-low built limited cluster is events env.to u.centre key version) built env refl h
+        let u = is-up IsSound cluster w env.to (holds cluster is events) up in
+        envelope-answered w.cluster w.ledger env.to (centre_at w env.to).volatile u (subst IsCluster (sym same) is) (ledger-shorter cluster is events)
+        (λ key version. rounds-low cluster is events env.to u.centre key version) env refl h

@@ -1,6 +1,5 @@
 -- Why a node may refuse a message in a trace.
 use Rattle.std.specs.Prelude.{Err, Ok, Result, ⊤}
-use Rattle.mdcc_switches.specs.Built.{Built}
 use Rattle.mdcc_rules.specs.Steps.{NodeStep}
 use Rattle.mdcc_messages.specs.Mailbox.{Sent}
 use Rattle.mdcc_simulation.specs.State.{World, is_up_at}
@@ -21,5 +20,5 @@ IsAnswered (Ok step) = ⊤
 IsAnswered (Err fault) = IsRefusedForRoom fault
 
 -- so it is with each message that was sent, where the centre that it goes to is up
-abbrev pub AreAnswered : Built → World → Type 0
-AreAnswered built w = Each (λ (s : Sent). is_up_at w s.envelope.to ≡ true → IsAnswered (step_at built w s.envelope.to (Input.Message s.envelope))) w.sent
+abbrev pub AreAnswered : World → Type 0
+AreAnswered w = Each (λ (s : Sent). is_up_at w s.envelope.to ≡ true → IsAnswered (step_at w s.envelope.to (Input.Message s.envelope))) w.sent

@@ -1,8 +1,7 @@
 -- A tick leads each of its claims.
-use Rattle.std.specs.Prelude.{List, Ok, [], if◌then◌else◌, true, ℕ, ⊤, ◌∷◌, ◌≡◌}
+use Rattle.std.specs.Prelude.{List, Ok, [], ℕ, ⊤, ◌∷◌, ◌≡◌}
 use Rattle.mdcc_option.specs.declared.choices.Claim.{Claim}
 use Rattle.mdcc_option.specs.declared.cluster.Cluster.{Cluster}
-use Rattle.mdcc_switches.specs.Built.{Built}
 use Rattle.mdcc_messages.specs.declared.facts.Fact.{Fact}
 use Rattle.mdcc_protocol.specs.Leader.{claim_of_choice}
 use Rattle.mdcc_protocol.specs.Manager
@@ -14,39 +13,35 @@ use Rattle.mdcc_rules.specs.LeaderRules.{led_of}
 use Rattle.mdcc_rules.specs.Steps.{StepPart, and_then, only_sending}
 use Rattle.mdcc_rules.specs.TickRules.{manager_act, manager_ticked, recovery_act}
 
--- where leading is enabled, the leader does not refuse the claim
-abbrev pub IsLed : Built → Cluster → ℕ → List Fact → Volatile → Claim → Type 0
-IsLed built cluster me facts volatile claim = built.leading ≡ true → (part : StepPart) × (led_of cluster me facts volatile claim ≡ Ok part)
+-- the leader does not refuse the claim
+abbrev pub IsLed : Cluster → ℕ → List Fact → Volatile → Claim → Type 0
+IsLed cluster me facts volatile claim = (part : StepPart) × (led_of cluster me facts volatile claim ≡ Ok part)
 
 -- so it is with the claim of an act for an open transaction
-abbrev pub IsOpenLed : Built → Cluster → ℕ → List Fact → Volatile → ManagerAct → Type 0
-IsOpenLed built cluster me facts volatile (ManagerAct.LeadHere choice) = IsLed built cluster me facts volatile (claim_of_choice choice)
-IsOpenLed built cluster me facts volatile act = ⊤
+abbrev pub IsOpenLed : Cluster → ℕ → List Fact → Volatile → ManagerAct → Type 0
+IsOpenLed cluster me facts volatile (ManagerAct.LeadHere choice) = IsLed cluster me facts volatile (claim_of_choice choice)
+IsOpenLed cluster me facts volatile act = ⊤
 
 -- and with that of an act for a dangling one
-abbrev pub IsDanglingLed : Built → Cluster → ℕ → List Fact → Volatile → RecoverAct → Type 0
-IsDanglingLed built cluster me facts volatile (RecoverAct.LeadHere claim) = IsLed built cluster me facts volatile claim
-IsDanglingLed built cluster me facts volatile (RecoverAct.Ask tx key version) = ⊤
+abbrev pub IsDanglingLed : Cluster → ℕ → List Fact → Volatile → RecoverAct → Type 0
+IsDanglingLed cluster me facts volatile (RecoverAct.LeadHere claim) = IsLed cluster me facts volatile claim
+IsDanglingLed cluster me facts volatile (RecoverAct.Ask tx key version) = ⊤
 
 -- it holds of each act, over what the earlier ones leave
 abbrev pub InTurn : {X : Type 0} → (Volatile → X → Type 0) → (Volatile → X → StepPart) → StepPart → List X → Type 0
 InTurn P act before [] = ⊤
 InTurn P act before (x ∷ xs) = P before.after x × InTurn P act (and_then act before x) xs
 
-abbrev pub AreOpenLed : Built → Cluster → ℕ → List Fact → Volatile → List ManagerAct × Managing → Type 0
-AreOpenLed built cluster me facts volatile (acts, manager) =
-    InTurn (IsOpenLed built cluster me facts) (manager_act built cluster me facts) (only_sending (with_manager volatile manager) []) acts
+abbrev pub AreOpenLed : Cluster → ℕ → List Fact → Volatile → List ManagerAct × Managing → Type 0
+AreOpenLed cluster me facts volatile (acts, manager) =
+    InTurn (IsOpenLed cluster me facts) (manager_act cluster me facts) (only_sending (with_manager volatile manager) []) acts
 
-abbrev pub AreDanglingLed : Built → Cluster → ℕ → List Fact → StepPart → List RecoverAct × Recovering → Type 0
-AreDanglingLed built cluster me facts first (acts, recovery) =
-    InTurn (IsDanglingLed built cluster me facts) (recovery_act built cluster me facts) (record first { after = with_recovery first.after recovery }) acts
+abbrev pub AreDanglingLed : Cluster → ℕ → List Fact → StepPart → List RecoverAct × Recovering → Type 0
+AreDanglingLed cluster me facts first (acts, recovery) =
+    InTurn (IsDanglingLed cluster me facts) (recovery_act cluster me facts) (record first { after = with_recovery first.after recovery }) acts
 
--- what the first half of a tick leaves
-abbrev pub first_half : Built → Cluster → ℕ → List Fact → Volatile → StepPart
-first_half built cluster me facts volatile = if built.ticks then manager_ticked built cluster me facts volatile else only_sending volatile []
-
--- a tick leads all claims of its two halves
-pub record AreClaimsLed (built : Built) (cluster : Cluster) (me : ℕ) (facts : List Fact) (volatile : Volatile) : Type 0 where
-  pub opened : AreOpenLed built cluster me facts volatile (Manager.tick cluster.quorums volatile.manager)
-  pub dangling : (first : StepPart) → first ≡ first_half built cluster me facts volatile
-      → AreDanglingLed built cluster me facts first (Recover.tick cluster.quorums facts first.after.recovery (txs_opened first.after.manager))
+-- a tick leads all claims of its two halves: those of the second over what the first one leaves
+pub record AreClaimsLed (cluster : Cluster) (me : ℕ) (facts : List Fact) (volatile : Volatile) : Type 0 where
+  pub opened : AreOpenLed cluster me facts volatile (Manager.tick cluster.quorums volatile.manager)
+  pub dangling : (first : StepPart) → first ≡ manager_ticked cluster me facts volatile
+      → AreDanglingLed cluster me facts first (Recover.tick cluster.quorums facts first.after.recovery (txs_opened first.after.manager))

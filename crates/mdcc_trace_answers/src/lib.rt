@@ -13,7 +13,6 @@ ghost use Rattle.mdcc_protocol.specs.Structures.{first_structure, is_crowded, is
 ghost use Rattle.mdcc_protocol.specs.Volatile.{Lead, Leading};
 ghost use Rattle.mdcc_protocol.specs.declared.leader.Promise.{Promise};
 ghost use Rattle.mdcc_protocol.specs.declared.leader.PromiseAnswer.{PromiseAnswer};
-ghost use Rattle.mdcc_switches.specs.Built.{Built};
 ghost use Rattle.mdcc_protocol.specs.IsCluster.{IsCluster};
 ghost use Rattle.mdcc_ledger.specs.Ledger.{facts_of};
 ghost use Rattle.mdcc_simulation.specs.State.{centre_at, first_world, is_up_at};
@@ -24,13 +23,13 @@ ghost use Rattle.mdcc_trace_answers.specs.Lengths.{MessagesAreShort, WellFormedA
 ghost use Rattle.mdcc_trace_answers.specs.Ticks.{AreClaimsLed};
 ghost use Rattle.mdcc_trace_answers.specs.Proposing.{DoNotWait, IsCountedBefore, reports_with};
 
-/// In a trace whose number of events is limited a node refuses a message that was sent only for want of
-/// cells. No message is foreign where it arrives; no fact puts more than 64 deltas on a version; no
-/// structure gets too many marks; and no leader runs out of rounds. A tick, a begin and a read are never
-/// refused by the definition of a step; of a tick's claims `no_claim_is_refused_at_a_tick` speaks.
+/// In a trace a node refuses a message that was sent only for want of cells. No message is foreign
+/// where it arrives; no fact puts more than 64 deltas on a version; no structure gets too many marks;
+/// and no leader runs out of rounds. A tick, a begin and a read are never refused by the definition of
+/// a step; of a tick's claims `no_claim_is_refused_at_a_tick` speaks.
 pub fn only_room_is_wanting()
-    ensures { (built : Built) → built.limit_on_events ≡ true → (cluster : Cluster) → IsCluster cluster → (events : List Event) →
-        AreAnswered built (run_of built (first_world cluster) events).world }
+    ensures { (cluster : Cluster) → IsCluster cluster → (events : List Event) →
+        AreAnswered (run_of (first_world cluster) events).world }
 {}
 
 /// A leader that has not proposed proposes at the first counted promise with which they are enough: it
@@ -54,23 +53,22 @@ pub fn leaders_propose_at_once()
 /// In a trace no leader waits with the promises of as many centres as an acceptor's room has parts: of a
 /// classic quorum under the safe limit, of all centres under the wider one.
 pub fn no_leader_waits_with_enough()
-    ensures { (built : Built) (cluster : Cluster) → IsCluster cluster → (events : List Event) → (a : ℕ) → DoNotWait (run_of built (first_world cluster) events).world a }
+    ensures { (cluster : Cluster) → IsCluster cluster → (events : List Event) → (a : ℕ) → DoNotWait (run_of (first_world cluster) events).world a }
 {}
 
-/// In a trace whose number of events is limited a message whose parts are well-formed has at most
-/// 1,473,505 bytes. Where logs are limited too and events have keys and bodies that are such, each
-/// message has.
+/// In a trace a message whose parts are well-formed has at most 1,473,505 bytes. Where events have keys
+/// and bodies that are such, each message has.
 pub fn messages_are_short()
     ensures well_formed { WellFormedAreShort }
     ensures all { MessagesAreShort }
 {}
 
-/// In a trace whose number of events is limited the leader refuses no claim of a tick, neither of an
-/// open transaction nor of a dangling one. So nothing is left out there, though a step would leave it
+/// In a trace the leader refuses no claim of a tick, neither of an open transaction nor of a dangling
+/// one. So nothing is left out there, though a step would leave it
 /// out.
 pub fn no_claim_is_refused_at_a_tick()
-    ensures { (built : Built) → built.limit_on_events ≡ true → (cluster : Cluster) → IsCluster cluster → (events : List Event) → (a : ℕ) →
-        is_up_at (run_of built (first_world cluster) events).world a ≡ true →
-        AreClaimsLed built (run_of built (first_world cluster) events).world.cluster a (facts_of (run_of built (first_world cluster) events).world.ledger a)
-        (centre_at (run_of built (first_world cluster) events).world a).volatile }
+    ensures { (cluster : Cluster) → IsCluster cluster → (events : List Event) → (a : ℕ) →
+        is_up_at (run_of (first_world cluster) events).world a ≡ true →
+        AreClaimsLed (run_of (first_world cluster) events).world.cluster a (facts_of (run_of (first_world cluster) events).world.ledger a)
+        (centre_at (run_of (first_world cluster) events).world a).volatile }
 {}

@@ -16,19 +16,17 @@ use Rattle.mdcc_option.specs.declared.cluster.Cluster.{Cluster}
 use Rattle.mdcc_struct.specs.declared.options.Options.{Options}
 use Rattle.mdcc_protocol.specs.Acceptor.{answer_to_marks, new_marks, on_accept, on_prepare, on_propose, promise_answer, range_end}
 use Rattle.mdcc_rules.specs.AcceptorRules.{accepted_step, all_votes_sent, ask_step_by, prepared_step, proposed_step, votes_sent}
-use Rattle.mdcc_switches.specs.Built.{Built}
 use Rattle.mdcc_protocol.specs.Facts.{current_of, epoch_of, heard_of, is_heard, promise_of, promised_through, vote_of}
 use Rattle.mdcc_protocol.specs.Leader.{claim_of_choice, is_marked, lead, on_promise}
 use Rattle.mdcc_rules.specs.LeaderRules.{lead_entries, lead_sent, lead_step_after, led_by_answer, led_of, promise_entries, promise_sent, promised_by_answer, step_of_led}
 use Rattle.mdcc_ledger.specs.Ledger.{Entry, Valued, facts_of}
 use Rattle.mdcc_protocol.specs.Manager
-use Rattle.mdcc_protocol.specs.Manager.{act_at, act_on_cause, acted, acts_at, begin_by, begin_fault, choices_unlearned, is_odd, keys_of_choices, ticked_transaction, vote_taken}
+use Rattle.mdcc_protocol.specs.Manager.{acted}
 use Rattle.mdcc_rules.specs.ManagerRules.{act_sent, acted_step, decided_step, opened_step, undecided_step, voted_step, watched_step}
 use Rattle.mdcc_protocol.specs.Marks.{is_accept}
 use Rattle.mdcc_protocol.specs.News.{is_crowding, is_news}
-use Rattle.mdcc_rules.specs.Node.{checked, is_without_room, message_step, rule, with_room}
+use Rattle.mdcc_rules.specs.Node.{checked, is_without_room, message_step, with_room}
 use Rattle.mdcc_protocol.specs.Recover
-use Rattle.mdcc_protocol.specs.Recover.{acts_on, ask_of, claim_of_key, counted_tick, dangling, keys_led}
 use Rattle.mdcc_rules.specs.Steps.{NodeStep, StepPart, adding, nothing_done, sending}
 use Rattle.mdcc_rules.specs.SyncRules.{give_sent_by, outcome_step_by, sync_give_step_by}
 use Rattle.mdcc_protocol.specs.Visible.{on_outcome, on_sync_ask}
@@ -151,21 +149,18 @@ acted-fine key r me facts volatile (act, manager) l = sending-round key r (with_
 decided-fine : (key : Key) (r : ℕ) (cluster : Cluster) (me : ℕ) (volatile : Volatile) (t : TxId) (o : Outcome) → IsRoundLeader key r volatile.leader → IsRoundStep key r (decided_step cluster me volatile t o)
 decided-fine key r cluster me volatile t o l = adding-round key r (closed volatile t) _ _ (heard-round key r t o) l (each-round key r me (Message.Outcome t o) _ tt)
 
-voted-fine : (key : Key) (r : ℕ) (built : Built) (cluster : Cluster) (me : ℕ) (facts : List Fact) (volatile : Volatile) (vote : Vote) → IsRoundLeader key r volatile.leader → IsRoundStep key r (voted_step built cluster me facts volatile vote)
-voted-fine key r built cluster me facts volatile vote l =
+voted-fine : (key : Key) (r : ℕ) (cluster : Cluster) (me : ℕ) (facts : List Fact) (volatile : Volatile) (vote : Vote) → IsRoundLeader key r volatile.leader → IsRoundStep key r (voted_step cluster me facts volatile vote)
+voted-fine key r cluster me facts volatile vote l =
     elim (cases_Bool (is_heard facts vote.tx)) [
       | inl e ↦ rw e (done-round key r volatile l)
       | inr e ↦ rw e (elim (cases_Bool (is_open volatile.manager vote.tx)) [ inl f ↦ rw f (opened _) | inr f ↦ rw f (watched _) ])
     ]
   where
-    undecided : IsRoundStep key r (undecided_step built cluster me facts volatile vote)
+    undecided : IsRoundStep key r (undecided_step cluster me facts volatile vote)
     undecided =
-        elim (cases_Bool built.escalations) [
-          | inl e ↦ rw e (acted-fine key r me facts volatile (Manager.on_voted cluster.quorums volatile.manager vote) l)
-          | inr e ↦ rw e (done-round key r (with_manager volatile (vote_taken cluster.quorums volatile.manager vote)) l)
-        ]
+        acted-fine key r me facts volatile (Manager.on_voted cluster.quorums volatile.manager vote) l
 
-    opened : (o : Option Outcome) → IsRoundStep key r (opened_step built cluster me facts volatile vote o)
+    opened : (o : Option Outcome) → IsRoundStep key r (opened_step cluster me facts volatile vote o)
     opened (Some o) = decided-fine key r cluster me volatile vote.tx o l
     opened None = undecided
 
@@ -227,51 +222,46 @@ lead-fine key r cluster me facts volatile s choice None f l =
 
 -- ---- messages
 
-rule-fine : (key : Key) (r : ℕ) (is_built : Bool) (volatile : Volatile) (x : Result NodeStep StepFault) → IsRoundLeader key r volatile.leader → IsRoundResult key (r + 1) x → IsRoundResult key (r + 1) (rule is_built volatile x)
-rule-fine key r true volatile x l h = h
-rule-fine key r false volatile x l h = done-round key (r + 1) volatile (leader-more key r (r + 1) volatile.leader (omega arith) l)
-
-message-fine : (key : Key) (r : ℕ) (built : Built) (cluster : Cluster) (me : ℕ) (facts : List Fact) (volatile : Volatile) (s : ℕ) (m : Message) → AreRoundFacts key r facts → IsRoundLeader key r volatile.leader → IsRound key r m →
-    IsRoundResult key (r + 1) (message_step built cluster me facts volatile s m)
-message-fine key r built cluster me facts volatile s m f l h = by_message m h
+message-fine : (key : Key) (r : ℕ) (cluster : Cluster) (me : ℕ) (facts : List Fact) (volatile : Volatile) (s : ℕ) (m : Message) → AreRoundFacts key r facts → IsRoundLeader key r volatile.leader → IsRound key r m →
+    IsRoundResult key (r + 1) (message_step cluster me facts volatile s m)
+message-fine key r cluster me facts volatile s m f l h = by_message m h
   where
     more : (step : NodeStep) → IsRoundStep key r step → IsRoundStep key (r + 1) step
     more step g = step-more key r (r + 1) step (omega arith) g
 
-    by_message : (m : Message) → IsRound key r m → IsRoundResult key (r + 1) (message_step built cluster me facts volatile s m)
-    by_message (Message.Propose choice) h = rule-fine key r built.proposals volatile _ l (more _ (proposed-fine key r me volatile s choice (on_propose cluster facts choice) l))
-    by_message (Message.Voted k v b t x) h = rule-fine key r built.proposals volatile _ l (more _ (voted-fine key r built cluster me facts volatile _ l))
-    by_message (Message.Escalate k v t cause) h = rule-fine key r built.escalations volatile _ l (more _ (acted-fine key r me facts volatile (Manager.on_escalate cluster.quorums volatile.manager s t k cause) l))
-    by_message (Message.Lead choice) h = rule-fine key r built.leading volatile _ l (lead-fine key r cluster me facts volatile s choice (heard_of facts choice.tx) f l)
-    by_message (Message.Prepare k v w b) h = rule-fine key r built.leading volatile _ l (more _ (prepared-fine key r me facts volatile s k v w b f l h))
+    by_message : (m : Message) → IsRound key r m → IsRoundResult key (r + 1) (message_step cluster me facts volatile s m)
+    by_message (Message.Propose choice) h = more _ (proposed-fine key r me volatile s choice (on_propose cluster facts choice) l)
+    by_message (Message.Voted k v b t x) h = more _ (voted-fine key r cluster me facts volatile _ l)
+    by_message (Message.Escalate k v t cause) h = more _ (acted-fine key r me facts volatile (Manager.on_escalate cluster.quorums volatile.manager s t k cause) l)
+    by_message (Message.Lead choice) h = lead-fine key r cluster me facts volatile s choice (heard_of facts choice.tx) f l
+    by_message (Message.Prepare k v w b) h = more _ (prepared-fine key r me facts volatile s k v w b f l h)
     by_message (Message.Promise k v w b q os) h =
-        rule-fine key r built.leading volatile _ l
-        (result-more key r (r + 1) (step_of_led (promised_by_answer cluster.quorums me volatile k (on_promise cluster facts volatile.leader s (record { key = k; version = v; through = w; ballot = b; reported = q; votes = os })))) (omega arith)
+        result-more key r (r + 1) (step_of_led (promised_by_answer cluster.quorums me volatile k (on_promise cluster facts volatile.leader s (record { key = k; version = v; through = w; ballot = b; reported = q; votes = os })))) (omega arith)
         (led-fine key r volatile (promised_by_answer cluster.quorums me volatile k (on_promise cluster facts volatile.leader s (record { key = k; version = v; through = w; ballot = b; reported = q; votes = os })))
         (λ es a led e. promised-plain cluster.quorums me volatile k (on_promise cluster facts volatile.leader s (record { key = k; version = v; through = w; ballot = b; reported = q; votes = os })) es a led e)
-        (promise-round key r cluster me facts volatile volatile.leader s (record { key = k; version = v; through = w; ballot = b; reported = q; votes = os }) l)))
-    by_message (Message.Accept k v b os) h = rule-fine key r built.leading volatile _ l (more _ (accepted-fine key r me facts volatile s k v b os f l h))
-    by_message (Message.Refused k v b p) h = rule-fine key r built.leading volatile _ l (more _ (done-round key r _ (refused-round key r volatile.leader k b p (lead_of volatile.leader k) refl h l)))
-    by_message (Message.Outcome t o) h = rule-fine key r built.proposals volatile _ l (more _ (outcome-fine key r volatile facts t o l))
-    by_message (Message.Ask t k v) h = rule-fine key r built.recovery volatile _ l (more _ (asked-fine key r me volatile s t k v (heard_of facts t) (vote_of facts k v t) l))
-    by_message (Message.SyncAsk k) h = rule-fine key r built.catching_up volatile _ l (more _ (sending-round key r volatile _ l (give-sends key r me s (on_sync_ask facts k))))
-    by_message (Message.SyncGive k v item adds) h = rule-fine key r built.catching_up volatile _ l (more _ (given-fine key r volatile (is_news facts k v adds) (record { key = k; version = v; item = item; adds = adds }) l))
+        (promise-round key r cluster me facts volatile volatile.leader s (record { key = k; version = v; through = w; ballot = b; reported = q; votes = os }) l))
+    by_message (Message.Accept k v b os) h = more _ (accepted-fine key r me facts volatile s k v b os f l h)
+    by_message (Message.Refused k v b p) h = more _ (done-round key r _ (refused-round key r volatile.leader k b p (lead_of volatile.leader k) refl h l))
+    by_message (Message.Outcome t o) h = more _ (outcome-fine key r volatile facts t o l)
+    by_message (Message.Ask t k v) h = more _ (asked-fine key r me volatile s t k v (heard_of facts t) (vote_of facts k v t) l)
+    by_message (Message.SyncAsk k) h = more _ (sending-round key r volatile _ l (give-sends key r me s (on_sync_ask facts k)))
+    by_message (Message.SyncGive k v item adds) h = more _ (given-fine key r volatile (is_news facts k v adds) (record { key = k; version = v; item = item; adds = adds }) l)
     by_message (Message.ClientRead n k) h = more _ (done-round key r volatile l)
     by_message (Message.ClientBegin n ps) h = more _ (done-round key r volatile l)
     by_message (Message.ClientAnswer n x) h = more _ (done-round key r volatile l)
 
-pub checked-fine : (key : Key) (r : ℕ) (built : Built) (cluster : Cluster) (me : ℕ) (facts : List Fact) (volatile : Volatile) (s : ℕ) (m : Message) → AreRoundFacts key r facts → IsRoundLeader key r volatile.leader → IsRound key r m →
-    IsRoundResult key (r + 1) (checked built cluster facts (message_step built cluster me facts volatile s m))
-checked-fine key r built cluster me facts volatile s m f l h = by_case (message_step built cluster me facts volatile s m) (message-fine key r built cluster me facts volatile s m f l h)
+pub checked-fine : (key : Key) (r : ℕ) (cluster : Cluster) (me : ℕ) (facts : List Fact) (volatile : Volatile) (s : ℕ) (m : Message) → AreRoundFacts key r facts → IsRoundLeader key r volatile.leader → IsRound key r m →
+    IsRoundResult key (r + 1) (checked cluster facts (message_step cluster me facts volatile s m))
+checked-fine key r cluster me facts volatile s m f l h = by_case (message_step cluster me facts volatile s m) (message-fine key r cluster me facts volatile s m f l h)
   where
-    room : (step : NodeStep) (o : Option Fact) → IsRoundStep key (r + 1) step → IsRoundResult key (r + 1) (with_room built cluster facts step o)
+    room : (step : NodeStep) (o : Option Fact) → IsRoundStep key (r + 1) step → IsRoundResult key (r + 1) (with_room cluster facts step o)
     room step None g = g
     room step (Some fact) g =
-        elim (cases_Bool (is_without_room built cluster facts fact)) [
+        elim (cases_Bool (is_without_room cluster facts fact)) [
           | inl e ↦ rw e tt
           | inr e ↦ rw e (elim (cases_Bool (is_crowding facts fact)) [ inl i ↦ rw i tt | inr i ↦ rw i g ])
         ]
 
-    by_case : (x : Result NodeStep StepFault) → IsRoundResult key (r + 1) x → IsRoundResult key (r + 1) (checked built cluster facts x)
+    by_case : (x : Result NodeStep StepFault) → IsRoundResult key (r + 1) x → IsRoundResult key (r + 1) (checked cluster facts x)
     by_case (Ok step) g = room step step.fact g
     by_case (Err fault) g = tt

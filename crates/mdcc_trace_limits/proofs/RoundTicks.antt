@@ -13,7 +13,6 @@ use Rattle.mdcc_option.specs.declared.choices.Choice.{Choice}
 use Rattle.mdcc_option.specs.declared.choices.Claim.{Claim}
 use Rattle.mdcc_option.specs.declared.cluster.Cluster.{Cluster}
 use Rattle.mdcc_ledger.specs.AllowedLedgers.{IsAllowed, part_in}
-use Rattle.mdcc_switches.specs.Built.{Built}
 use Rattle.mdcc_protocol.specs.Leader.{claim_of_choice}
 use Rattle.mdcc_rules.specs.LeaderRules.{led_of}
 use Rattle.mdcc_protocol.specs.Learner.{is_learned}
@@ -177,8 +176,8 @@ fold-round {X = X} key facts act on (x ∷ xs) r before f g h = raise (fold-roun
 ticked-round : (key : Key) (r : ℕ) (volatile : Volatile) (sends : List Envelope) → IsRoundLeader key r volatile.leader → AreRoundSends key r sends → IsRoundTick key r (only_sending volatile sends)
 ticked-round key r volatile sends l s = record { leader = l; sends = s; plain = λ es a. refl }
 
-claim-round : (key : Key) (r : ℕ) (built : Built) (cluster : Cluster) (me : ℕ) (facts : List Fact) (volatile : Volatile) (claim : Claim) → AreRoundFacts key r facts → IsRoundLeader key r volatile.leader → IsRoundTick key (raised key claim.key r) (claim_led built cluster me facts volatile claim)
-claim-round key r built cluster me facts volatile claim f l = pick built.leading
+claim-round : (key : Key) (r : ℕ) (cluster : Cluster) (me : ℕ) (facts : List Fact) (volatile : Volatile) (claim : Claim) → AreRoundFacts key r facts → IsRoundLeader key r volatile.leader → IsRoundTick key (raised key claim.key r) (claim_led cluster me facts volatile claim)
+claim-round key r cluster me facts volatile claim f l = by_case (led_of cluster me facts volatile claim) refl (led-round key r cluster me facts volatile claim f l)
   where
     least : r ≤ raised key claim.key r
     least = elim (cases_Bool (key_eq claim.key key)) [ inl e ↦ rw e (omega arith) | inr e ↦ rw e (omega arith) ]
@@ -190,28 +189,26 @@ claim-round key r built cluster me facts volatile claim f l = pick built.leading
     by_case (Ok led) e h = record { leader = h.0; sends = h.1; plain = λ es a. led-of-plain cluster me facts volatile claim es a led e }
     by_case (Err fault) e h = left
 
-    pick : (b : Bool) → IsRoundTick key (raised key claim.key r) (cond b (led_or_left volatile (led_of cluster me facts volatile claim)) (only_sending volatile []))
-    pick true = by_case (led_of cluster me facts volatile claim) refl (led-round key r cluster me facts volatile claim f l)
-    pick false = left
+manager-act-round : (key : Key) (cluster : Cluster) (me : ℕ) (facts : List Fact) (volatile : Volatile) (act : ManagerAct) (r : ℕ) → AreRoundFacts key r facts → IsRoundLeader key r volatile.leader →
+    IsRoundTick key (risen (manages_key key act) r) (manager_act cluster me facts volatile act)
+manager-act-round key cluster me facts volatile (ManagerAct.Propose choice) r f l = ticked-round key r volatile _ l (each-round key r me (Message.Propose choice) (all_centres cluster.quorums) tt)
+manager-act-round key cluster me facts volatile (ManagerAct.LeadHere choice) r f l = claim-round key r cluster me facts volatile (claim_of_choice choice) f l
+manager-act-round key cluster me facts volatile (ManagerAct.Lead leader choice) r f l = ticked-round key r volatile [] l tt
+manager-act-round key cluster me facts volatile (ManagerAct.Give centre k) r f l = ticked-round key r volatile [] l tt
+manager-act-round key cluster me facts volatile (ManagerAct.Decide tx outcome) r f l = ticked-round key r volatile [] l tt
 
-manager-act-round : (key : Key) (built : Built) (cluster : Cluster) (me : ℕ) (facts : List Fact) (volatile : Volatile) (act : ManagerAct) (r : ℕ) → AreRoundFacts key r facts → IsRoundLeader key r volatile.leader →
-    IsRoundTick key (risen (manages_key key act) r) (manager_act built cluster me facts volatile act)
-manager-act-round key built cluster me facts volatile (ManagerAct.Propose choice) r f l = ticked-round key r volatile _ l (each-round key r me (Message.Propose choice) (all_centres cluster.quorums) tt)
-manager-act-round key built cluster me facts volatile (ManagerAct.LeadHere choice) r f l = claim-round key r built cluster me facts volatile (claim_of_choice choice) f l
-manager-act-round key built cluster me facts volatile (ManagerAct.Lead leader choice) r f l = ticked-round key r volatile [] l tt
-manager-act-round key built cluster me facts volatile (ManagerAct.Give centre k) r f l = ticked-round key r volatile [] l tt
-manager-act-round key built cluster me facts volatile (ManagerAct.Decide tx outcome) r f l = ticked-round key r volatile [] l tt
-
-recovery-act-round : (key : Key) (built : Built) (cluster : Cluster) (me : ℕ) (facts : List Fact) (volatile : Volatile) (act : RecoverAct) (r : ℕ) → AreRoundFacts key r facts → IsRoundLeader key r volatile.leader →
-    IsRoundTick key (risen (recovers_key key act) r) (recovery_act built cluster me facts volatile act)
-recovery-act-round key built cluster me facts volatile (RecoverAct.Ask t k v) r f l = ticked-round key r volatile _ l (each-round key r me (Message.Ask t k v) (all_centres cluster.quorums) tt)
-recovery-act-round key built cluster me facts volatile (RecoverAct.LeadHere claim) r f l = claim-round key r built cluster me facts volatile claim f l
+recovery-act-round : (key : Key) (cluster : Cluster) (me : ℕ) (facts : List Fact) (volatile : Volatile) (act : RecoverAct) (r : ℕ) → AreRoundFacts key r facts → IsRoundLeader key r volatile.leader →
+    IsRoundTick key (risen (recovers_key key act) r) (recovery_act cluster me facts volatile act)
+recovery-act-round key cluster me facts volatile (RecoverAct.Ask t k v) r f l = ticked-round key r volatile _ l (each-round key r me (Message.Ask t k v) (all_centres cluster.quorums) tt)
+recovery-act-round key cluster me facts volatile (RecoverAct.LeadHere claim) r f l = claim-round key r cluster me facts volatile claim f l
 
 -- ---- the tick
 
-pub tick-round : (key : Key) (r : ℕ) (built : Built) (w : World) (a : ℕ) → IsUp IsSound w.cluster w.ledger a (centre_at w a).volatile → AreRoundFacts key r (facts_of w.ledger a) → IsRoundLeader key r (centre_at w a).volatile.leader →
-    IsRoundTick key (r + (opened_in (centre_at w a).volatile + number_of is_begin w.ledger)) (tick_parts built w.cluster a (facts_of w.ledger a) (centre_at w a).volatile)
-tick-round key r built w a up f l = pick built.ticks built.recovery
+pub tick-round : (key : Key) (r : ℕ) (w : World) (a : ℕ) → IsUp IsSound w.cluster w.ledger a (centre_at w a).volatile → AreRoundFacts key r (facts_of w.ledger a) → IsRoundLeader key r (centre_at w a).volatile.leader →
+    IsRoundTick key (r + (opened_in (centre_at w a).volatile + number_of is_begin w.ledger)) (tick_parts w.cluster a (facts_of w.ledger a) (centre_at w a).volatile)
+tick-round key r w a up f l =
+    raise ((r + opened_in v) + number_of is_begin w.ledger) (r + (opened_in v + number_of is_begin w.ledger)) (tick_parts cluster a facts v) (omega arith)
+    (second (r + opened_in v) (manager_ticked cluster a facts v) (omega arith) first)
   where
     v : Volatile
     v = (centre_at w a).volatile
@@ -234,20 +231,20 @@ tick-round key r built w a up f l = pick built.ticks built.recovery
         (Each-like (IsOpened w.ledger) (λ (t : Undecided). number_of (manages_key key) (acts_at cluster.quorums v.manager.votes t) ≤ 1) v.manager.opened
         (λ t o. acts-key key cluster.quorums v.manager.votes t (subst (λ z. number_of (λ (c : Choice). key_eq c.key key) z ≤ 1) o.choices (begun-key cluster w.ledger t.tx key up.legal))) up.keeps.manager.opened)
 
-    first : IsRoundTick key (r + opened_in v) (manager_ticked built cluster a facts v)
+    first : IsRoundTick key (r + opened_in v) (manager_ticked cluster a facts v)
     first =
-        raise (r + number_of (manages_key key) acts) (r + opened_in v) (manager_ticked built cluster a facts v) (few (number_of (manages_key key) acts) acts-few)
-        (fold-round key facts (manager_act built cluster a facts) (manages_key key) acts r (only_sending (with_manager v (Manager.tick cluster.quorums v.manager).1) [])
-        (λ u x s g k. manager-act-round key built cluster a facts u x s g k) f (ticked-round key r (with_manager v (Manager.tick cluster.quorums v.manager).1) [] l tt))
+        raise (r + number_of (manages_key key) acts) (r + opened_in v) (manager_ticked cluster a facts v) (few (number_of (manages_key key) acts) acts-few)
+        (fold-round key facts (manager_act cluster a facts) (manages_key key) acts r (only_sending (with_manager v (Manager.tick cluster.quorums v.manager).1) [])
+        (λ u x s g k. manager-act-round key cluster a facts u x s g k) f (ticked-round key r (with_manager v (Manager.tick cluster.quorums v.manager).1) [] l tt))
       where
         few : (n : ℕ) → n ≤ opened_in v → r + n ≤ r + opened_in v
         few n h = omega (arith, h)
 
-    second : (s : ℕ) (p : StepPart) → r ≤ s → IsRoundTick key s p → IsRoundTick key (s + number_of is_begin w.ledger) (recovery_ticked built cluster a facts p)
+    second : (s : ℕ) (p : StepPart) → r ≤ s → IsRoundTick key s p → IsRoundTick key (s + number_of is_begin w.ledger) (recovery_ticked cluster a facts p)
     second s p h k =
-        raise (s + number_of (recovers_key key) after) (s + number_of is_begin w.ledger) (recovery_ticked built cluster a facts p) (few (number_of (recovers_key key) after) after-few)
-        (fold-round key facts (recovery_act built cluster a facts) (recovers_key key) after s (record p { after = with_recovery p.after (record recovery { counters = fold counted_tick recovery.counters (dangling facts (txs_opened p.after.manager)) }) })
-        (λ u x n g j. recovery-act-round key built cluster a facts u x n g j) (facts-more key r s facts h f) (record { leader = k.leader; sends = k.sends; plain = k.plain }))
+        raise (s + number_of (recovers_key key) after) (s + number_of is_begin w.ledger) (recovery_ticked cluster a facts p) (few (number_of (recovers_key key) after) after-few)
+        (fold-round key facts (recovery_act cluster a facts) (recovers_key key) after s (record p { after = with_recovery p.after (record recovery { counters = fold counted_tick recovery.counters (dangling facts (txs_opened p.after.manager)) }) })
+        (λ u x n g j. recovery-act-round key cluster a facts u x n g j) (facts-more key r s facts h f) (record { leader = k.leader; sends = k.sends; plain = k.plain }))
       where
         recovery : Recovering
         recovery = p.after.recovery
@@ -264,15 +261,3 @@ tick-round key r built w a up f l = pick built.ticks built.recovery
 
         few : (n : ℕ) → n ≤ number_of is_begin w.ledger → s + n ≤ s + number_of is_begin w.ledger
         few n h = omega (arith, h)
-
-    none : IsRoundTick key (r + opened_in v) (only_sending v [])
-    none = ticked-round key (r + opened_in v) v [] (leader-more key r (r + opened_in v) v.leader (omega arith) l) tt
-
-    half : (y : Bool) (p : StepPart) → IsRoundTick key (r + opened_in v) p → IsRoundTick key (r + (opened_in v + number_of is_begin w.ledger)) (cond y (recovery_ticked built cluster a facts p) p)
-    half true p h = raise ((r + opened_in v) + number_of is_begin w.ledger) (r + (opened_in v + number_of is_begin w.ledger)) (recovery_ticked built cluster a facts p) (omega arith) (second (r + opened_in v) p (omega arith) h)
-    half false p h = raise (r + opened_in v) (r + (opened_in v + number_of is_begin w.ledger)) p (omega arith) h
-
-    pick : (x y : Bool) →
-        IsRoundTick key (r + (opened_in v + number_of is_begin w.ledger)) (cond y (recovery_ticked built cluster a facts (cond x (manager_ticked built cluster a facts v) (only_sending v []))) (cond x (manager_ticked built cluster a facts v) (only_sending v [])))
-    pick true y = half y (manager_ticked built cluster a facts v) first
-    pick false y = half y (only_sending v []) none

@@ -12,7 +12,6 @@ use Rattle.mdcc_option.specs.declared.cluster.Cluster.{Cluster}
 use Rattle.mdcc_option.specs.declared.faults.BeginFault.{BeginFault}
 use Rattle.mdcc_option.specs.declared.items.Part.{Part}
 use Rattle.mdcc_protocol.specs.Belongs.{is_centre}
-use Rattle.mdcc_switches.specs.Built.{Built}
 use Rattle.mdcc_protocol.specs.Facts.{epoch_of, promise_of}
 use Rattle.mdcc_protocol.specs.IsCluster.{IsCluster}
 use Rattle.mdcc_protocol.specs.Leader.{next_round}
@@ -129,12 +128,12 @@ input-round key r w a (Err StepFault.Crowded) h here g s = g
 input-round key r w a (Err StepFault.Exhausted) h here g s = g
 input-round key r w a (Err StepFault.Memory) h here g s = g
 
-message-round : (key : Key) (r : ℕ) (built : Built) (w : World) (a : ℕ) (envelope : Envelope) → AreRoundFacts key r (facts_of w.ledger a) → IsRoundLeader key r (centre_at w a).volatile.leader → IsRound key r envelope.message →
-    IsRoundResult key (r + 1) (step_at built w a (Input.Message envelope))
-message-round key r built w a envelope f l m = pick _
+message-round : (key : Key) (r : ℕ) (w : World) (a : ℕ) (envelope : Envelope) → AreRoundFacts key r (facts_of w.ledger a) → IsRoundLeader key r (centre_at w a).volatile.leader → IsRound key r envelope.message →
+    IsRoundResult key (r + 1) (step_at w a (Input.Message envelope))
+message-round key r w a envelope f l m = pick _
   where
-    pick : (b : Bool) → IsRoundResult key (r + 1) (cond b (checked built w.cluster (facts_of w.ledger a) (message_step built w.cluster a (facts_of w.ledger a) (centre_at w a).volatile envelope.from envelope.message)) (Err StepFault.Foreign))
-    pick true = checked-fine key r built w.cluster a (facts_of w.ledger a) (centre_at w a).volatile envelope.from envelope.message f l m
+    pick : (b : Bool) → IsRoundResult key (r + 1) (cond b (checked w.cluster (facts_of w.ledger a) (message_step w.cluster a (facts_of w.ledger a) (centre_at w a).volatile envelope.from envelope.message)) (Err StepFault.Foreign))
+    pick true = checked-fine key r w.cluster a (facts_of w.ledger a) (centre_at w a).volatile envelope.from envelope.message f l m
     pick false = tt
 
 begin-round : (key : Key) (r : ℕ) (cluster : Cluster) (me : ℕ) (facts : List Fact) (volatile : Volatile) (parts : List Part) → IsRoundLeader key r volatile.leader →
@@ -171,8 +170,8 @@ calm-less h = omega (arith, h)
 calm-restart : (t d : ℕ) → most_rounds t d ≤ most_rounds t (d + 1)
 calm-restart t d = let m = mul-le t (256 + d) t (256 + (d + 1)) (omega arith) (omega arith) in omega (arith, m)
 
-calm-walk : (built : Built) (cluster : Cluster) → AreQuorums cluster.quorums → IsWalk built cluster AreCalm
-calm-walk built cluster sizes = record {
+calm-walk : (cluster : Cluster) → AreQuorums cluster.quorums → IsWalk cluster AreCalm
+calm-walk cluster sizes = record {
   first = record {
     short = short.first;
     rounds = λ key. record {
@@ -206,8 +205,8 @@ calm-walk built cluster sizes = record {
   };
 }
   where
-    short : IsWalk built cluster IsShort
-    short = short-walk built cluster sizes
+    short : IsWalk cluster IsShort
+    short = short-walk cluster sizes
 
     again : (w : World) → Holds IsSound cluster w → Holds IsSound w.cluster w
     again w h = record { same = refl; sizes = h.sizes; legal = h.legal; placed = h.placed; more = h.more; sent = h.sent; size = h.size; centres = h.centres }
@@ -227,27 +226,27 @@ calm-walk built cluster sizes = record {
     sent-round t d w (Input.Begin parts) p key i = tt
 
     input-calm : (t d : ℕ) (w : World) (a : ℕ) (input : Input) → Holds IsSound w.cluster w → IsUp IsSound w.cluster w.ledger a (centre_at w a).volatile → AreCalm t d w → (key : Key) → IsRoundInput key (most_rounds t d) input →
-        IsRoundWorld key (most_rounds (t + ticks_in input) (d + others_in input)) (input_happened w a (step_at built w a input)).world
+        IsRoundWorld key (most_rounds (t + ticks_in input) (d + others_in input)) (input_happened w a (step_at w a input)).world
     input-calm t d w a (Input.Message env) h up p key m =
         world-more key (most_rounds t d + 1) (most_rounds (t + 0) (d + 1)) _ (calm-other t d)
-        (input-round key (most_rounds t d + 1) w a (step_at built w a (Input.Message env)) h up.centre (world-more key (most_rounds t d) (most_rounds t d + 1) w (omega arith) (p.rounds key))
-        (message-round key (most_rounds t d) built w a env ((p.rounds key).facts a) ((p.rounds key).leaders a up.centre) m))
+        (input-round key (most_rounds t d + 1) w a (step_at w a (Input.Message env)) h up.centre (world-more key (most_rounds t d) (most_rounds t d + 1) w (omega arith) (p.rounds key))
+        (message-round key (most_rounds t d) w a env ((p.rounds key).facts a) ((p.rounds key).leaders a up.centre) m))
     input-calm t d w a (Input.Read k) h up p key m =
         world-more key (most_rounds t d) (most_rounds (t + 0) (d + 1)) _ (calm-less (calm-other t d))
-        (input-round key (most_rounds t d) w a (step_at built w a (Input.Read k)) h up.centre (p.rounds key) (record { fact = λ f e. absurd (cc); leader = (p.rounds key).leaders a up.centre; sends = tt; plain = λ es b. refl }))
+        (input-round key (most_rounds t d) w a (step_at w a (Input.Read k)) h up.centre (p.rounds key) (record { fact = λ f e. absurd (cc); leader = (p.rounds key).leaders a up.centre; sends = tt; plain = λ es b. refl }))
     input-calm t d w a (Input.Begin parts) h up p key m =
         world-more key (most_rounds t d) (most_rounds (t + 0) (d + 1)) _ (calm-less (calm-other t d))
-        (input-round key (most_rounds t d) w a (step_at built w a (Input.Begin parts)) h up.centre (p.rounds key) (begin-round key (most_rounds t d) w.cluster a (facts_of w.ledger a) (centre_at w a).volatile parts ((p.rounds key).leaders a up.centre)))
+        (input-round key (most_rounds t d) w a (step_at w a (Input.Begin parts)) h up.centre (p.rounds key) (begin-round key (most_rounds t d) w.cluster a (facts_of w.ledger a) (centre_at w a).volatile parts ((p.rounds key).leaders a up.centre)))
     input-calm t d w a Input.Tick h up p key m =
-        let s = tick-round key (most_rounds t d) built w a up ((p.rounds key).facts a) ((p.rounds key).leaders a up.centre) in
+        let s = tick-round key (most_rounds t d) w a up ((p.rounds key).facts a) ((p.rounds key).leaders a up.centre) in
         let n : ℕ = most_rounds t d + (opened_in (centre_at w a).volatile + number_of is_begin w.ledger) in
         world-more key (most_rounds t d + (opened_in (centre_at w a).volatile + number_of is_begin w.ledger)) (most_rounds (t + 1) (d + 0)) _ (calm-tick t d (opened_in (centre_at w a).volatile) (number_of is_begin w.ledger) (p.short.few a up.centre) p.short.begun)
-        (input-round key (most_rounds t d + (opened_in (centre_at w a).volatile + number_of is_begin w.ledger)) w a (step_at built w a Input.Tick) h up.centre
+        (input-round key (most_rounds t d + (opened_in (centre_at w a).volatile + number_of is_begin w.ledger)) w a (step_at w a Input.Tick) h up.centre
         (world-more key (most_rounds t d) (most_rounds t d + (opened_in (centre_at w a).volatile + number_of is_begin w.ledger)) w (omega arith) (p.rounds key))
         (record { fact = λ f e. absurd (cc); leader = s.leader; sends = s.sends; plain = s.plain }))
 
-pub calm-reached : (built : Built) (cluster : Cluster) → IsCluster cluster → (events : List Event) → IsReached built AreCalm 0 (run_of built (first_world cluster) events).world
-calm-reached built cluster is events = trace-reached built cluster AreCalm (calm-walk built cluster is.quorums) (all-good built) is.quorums events
+pub calm-reached : (cluster : Cluster) → IsCluster cluster → (events : List Event) → IsReached AreCalm 0 (run_of (first_world cluster) events).world
+calm-reached cluster is events = trace-reached cluster AreCalm (calm-walk cluster is.quorums) (all-good) is.quorums events
 
 -- ---- the bound
 
@@ -264,12 +263,12 @@ product t d h = by_half (cases_Bool (nat_le t 25000)) (cases_Bool (nat_le t 5000
     by_half (inr e) (inr f) (inr g) = let b = leb-false t 75000 g in room 100000 25256 (omega (arith, h)) (omega (arith, b, h)) (omega arith)
 
 -- so all rounds of a trace are within a number that leaves room for those of one more tick
-pub rounds-within : (built : Built) → built.limit_on_events ≡ true → (cluster : Cluster) → IsCluster cluster → (events : List Event) → (key : Key) →
-    IsRoundWorld key 3770100000 (run_of built (first_world cluster) events).world
-rounds-within built limited cluster is events key =
-    let c = calm-reached built cluster is events in
-    let p = product c.ticks c.others (few c.ticks c.others _ c.within (c.few limited)) in
-    world-more key (most_rounds c.ticks c.others) 3770100000 (run_of built (first_world cluster) events).world (bound c.ticks c.others p (few c.ticks c.others _ c.within (c.few limited))) (c.is.rounds key)
+pub rounds-within : (cluster : Cluster) → IsCluster cluster → (events : List Event) → (key : Key) →
+    IsRoundWorld key 3770100000 (run_of (first_world cluster) events).world
+rounds-within cluster is events key =
+    let c = calm-reached cluster is events in
+    let p = product c.ticks c.others (few c.ticks c.others _ c.within c.few) in
+    world-more key (most_rounds c.ticks c.others) 3770100000 (run_of (first_world cluster) events).world (bound c.ticks c.others p (few c.ticks c.others _ c.within c.few)) (c.is.rounds key)
   where
     few : (t d n : ℕ) → t + d + 0 ≤ n → n ≤ 100000 → t + d ≤ 100000
     few t d n h g = omega (arith, h, g)
@@ -278,11 +277,11 @@ rounds-within built limited cluster is events key =
     bound t d h g = omega (arith, h, g)
 
 -- no leader would begin a ballot with a round of 2^32 or more
-pub rounds-low : (built : Built) → built.limit_on_events ≡ true → (cluster : Cluster) → IsCluster cluster → (events : List Event) → (a : ℕ) → is_centre (run_of built (first_world cluster) events).world.cluster a ≡ true → (key : Key) (version : ℕ) →
-    next_round (facts_of (run_of built (first_world cluster) events).world.ledger a) (centre_at (run_of built (first_world cluster) events).world a).volatile.leader key version < 2 ^ 32
-rounds-low built limited cluster is events a here key version =
-    let w : World = (run_of built (first_world cluster) events).world in
-    let r = rounds-within built limited cluster is events key in
+pub rounds-low : (cluster : Cluster) → IsCluster cluster → (events : List Event) → (a : ℕ) → is_centre (run_of (first_world cluster) events).world.cluster a ≡ true → (key : Key) (version : ℕ) →
+    next_round (facts_of (run_of (first_world cluster) events).world.ledger a) (centre_at (run_of (first_world cluster) events).world a).volatile.leader key version < 2 ^ 32
+rounds-low cluster is events a here key version =
+    let w : World = (run_of (first_world cluster) events).world in
+    let r = rounds-within cluster is events key in
     let l = r.leaders a here in
     next (promise_of (facts_of w.ledger a) key version).round (number_at (centre_at w a).volatile.leader.refused_rounds key) (number_at (centre_at w a).volatile.leader.last_rounds key) 3770100000
     (r.facts a version) l.refused l.last (omega arith)

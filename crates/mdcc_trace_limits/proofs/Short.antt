@@ -14,7 +14,6 @@ use Rattle.mdcc_option.specs.declared.faults.BeginFault.{BeginFault}
 use Rattle.mdcc_option.specs.declared.items.Part.{Part}
 use Rattle.mdcc_struct.specs.Maps.{TxMap}
 use Rattle.mdcc_protocol.specs.Belongs.{is_centre}
-use Rattle.mdcc_switches.specs.Built.{Built}
 use Rattle.mdcc_protocol.specs.Facts.{epoch_of}
 use Rattle.mdcc_protocol.specs.IsCluster.{IsCluster}
 use Rattle.mdcc_ledger.specs.Ledger.{choices_begun, facts_of}
@@ -124,11 +123,11 @@ small-taken : (volatile : Volatile) (r : Result NodeStep StepFault) → opened_i
 small-taken volatile (Ok step) few h = record { weight = h.weight; begun = omega (arith, h.begun); few = omega (arith, h.opened, few) }
 small-taken volatile (Err fault) few h = tt
 
-message-taken : (built : Built) (cluster : Cluster) (me : ℕ) (facts : List Fact) (volatile : Volatile) (envelope : Envelope) → opened_in volatile ≤ 256 → IsTakenResult 1 0 (step_of built cluster me facts volatile (Input.Message envelope))
-message-taken built cluster me facts volatile envelope few = pick _
+message-taken : (cluster : Cluster) (me : ℕ) (facts : List Fact) (volatile : Volatile) (envelope : Envelope) → opened_in volatile ≤ 256 → IsTakenResult 1 0 (step_of cluster me facts volatile (Input.Message envelope))
+message-taken cluster me facts volatile envelope few = pick _
   where
-    pick : (b : Bool) → IsTakenResult 1 0 (cond b (checked built cluster facts (message_step built cluster me facts volatile envelope.from envelope.message)) (Err StepFault.Foreign))
-    pick true = small-taken volatile (checked built cluster facts (message_step built cluster me facts volatile envelope.from envelope.message)) few (checked-small built cluster me facts volatile envelope.from envelope.message)
+    pick : (b : Bool) → IsTakenResult 1 0 (cond b (checked cluster facts (message_step cluster me facts volatile envelope.from envelope.message)) (Err StepFault.Foreign))
+    pick true = small-taken volatile (checked cluster facts (message_step cluster me facts volatile envelope.from envelope.message)) few (checked-small cluster me facts volatile envelope.from envelope.message)
     pick false = tt
 
 one-more : (ts : List Undecided) (t : Undecided) → length ts < 256 → length (ts ++ t ∷ []) ≤ 256
@@ -151,9 +150,9 @@ begin-taken cluster me facts volatile parts few = by_parts (parts_begin_fault fa
 
 -- ---- ticks
 
-tick-small : (built : Built) (w : World) (a : ℕ) → IsUp IsSound w.cluster w.ledger a (centre_at w a).volatile →
-    IsTickSmall (8 * opened_in (centre_at w a).volatile + 8 * number_of is_begin w.ledger) (opened_in (centre_at w a).volatile) (tick_parts built w.cluster a (facts_of w.ledger a) (centre_at w a).volatile)
-tick-small built w a up = pick built.ticks built.recovery
+tick-small : (w : World) (a : ℕ) → IsUp IsSound w.cluster w.ledger a (centre_at w a).volatile →
+    IsTickSmall (8 * opened_in (centre_at w a).volatile + 8 * number_of is_begin w.ledger) (opened_in (centre_at w a).volatile) (tick_parts w.cluster a (facts_of w.ledger a) (centre_at w a).volatile)
+tick-small w a up = second (8 * opened_in v) (manager_ticked cluster a facts v) first
   where
     v : Volatile
     v = (centre_at w a).volatile
@@ -172,16 +171,16 @@ tick-small built w a up = pick built.ticks built.recovery
         few : (t : Undecided) (o : IsOpened w.ledger t) → length (choices_begun w.ledger t.tx) ≤ 8 → length (acts_at cluster.quorums v.manager.votes t) ≤ length t.choices → length (acts_at cluster.quorums v.manager.votes t) ≤ 8
         few t o x y = let e : length (choices_begun w.ledger t.tx) ≡ length t.choices = ap (λ z. length z) o.choices in omega (arith, x, y, e)
 
-    first : IsTickSmall (8 * opened_in v) (opened_in v) (manager_ticked built cluster a facts v)
+    first : IsTickSmall (8 * opened_in v) (opened_in v) (manager_ticked cluster a facts v)
     first =
         let acts = flat-few (acts_at cluster.quorums v.manager.votes) 8 v.manager.opened choices in
         let after : Managing = (Manager.tick cluster.quorums v.manager).1 in
         let same : opened_in (with_manager v after) ≡ opened_in v = map-length (ticked_transaction cluster.quorums v.manager.votes) v.manager.opened in
-        let all = fold-small (manager_act built cluster a facts) (flat_map (acts_at cluster.quorums v.manager.votes) v.manager.opened) 0 (opened_in v) (only_sending (with_manager v after) [])
-        (λ u x h. manager-act-small built cluster a facts (opened_in v) u x h) (ticked-small (with_manager v after) [] 0 (opened_in v) (omega (arith, same))) in
+        let all = fold-small (manager_act cluster a facts) (flat_map (acts_at cluster.quorums v.manager.votes) v.manager.opened) 0 (opened_in v) (only_sending (with_manager v after) [])
+        (λ u x h. manager-act-small cluster a facts (opened_in v) u x h) (ticked-small (with_manager v after) [] 0 (opened_in v) (omega (arith, same))) in
         record { weight = omega (arith, all.weight, acts); begun = all.begun; few = all.few }
 
-    second : (n : ℕ) (p : StepPart) → IsTickSmall n (opened_in v) p → IsTickSmall (n + 8 * number_of is_begin w.ledger) (opened_in v) (recovery_ticked built cluster a facts p)
+    second : (n : ℕ) (p : StepPart) → IsTickSmall n (opened_in v) p → IsTickSmall (n + 8 * number_of is_begin w.ledger) (opened_in v) (recovery_ticked cluster a facts p)
     second n p h =
         let txs : TxMap (List (Key × ℕ)) = dangling facts (txs_opened p.after.manager) in
         let recovery : Recovering = p.after.recovery in
@@ -189,25 +188,10 @@ tick-small built w a up = pick built.ticks built.recovery
         (λ e g. let r = recover-few cluster.quorums facts recovery e in omega (arith, g, r)) (dangling-keys cluster w.ledger a (txs_opened p.after.manager) up.legal up.more) in
         let acts = flat-few (acts_on cluster.quorums facts recovery) 8 (dangling facts (txs_opened p.after.manager)) keys in
         let few = dangling-few cluster w.ledger a (txs_opened p.after.manager) up.legal up.more in
-        let all = fold-small (recovery_act built cluster a facts) (flat_map (acts_on cluster.quorums facts recovery) (dangling facts (txs_opened p.after.manager))) n (opened_in v)
+        let all = fold-small (recovery_act cluster a facts) (flat_map (acts_on cluster.quorums facts recovery) (dangling facts (txs_opened p.after.manager))) n (opened_in v)
         (record p { after = with_recovery p.after (record recovery { counters = fold counted_tick recovery.counters txs }) })
-        (λ u x k. recovery-act-small built cluster a facts (opened_in v) u x k) (record { weight = h.weight; begun = h.begun; few = h.few }) in
+        (λ u x k. recovery-act-small cluster a facts (opened_in v) u x k) (record { weight = h.weight; begun = h.begun; few = h.few }) in
         record { weight = omega (arith, all.weight, acts, few); begun = all.begun; few = all.few }
-
-    none : IsTickSmall (8 * opened_in v) (opened_in v) (only_sending v [])
-    none = ticked-small v [] (8 * opened_in v) (opened_in v) (omega arith)
-
-    more : (p : StepPart) → IsTickSmall (8 * opened_in v) (opened_in v) p → IsTickSmall (8 * opened_in v + 8 * number_of is_begin w.ledger) (opened_in v) p
-    more p h = record { weight = omega (arith, h.weight); begun = h.begun; few = h.few }
-
-    half : (y : Bool) (p : StepPart) → IsTickSmall (8 * opened_in v) (opened_in v) p → IsTickSmall (8 * opened_in v + 8 * number_of is_begin w.ledger) (opened_in v) (cond y (recovery_ticked built cluster a facts p) p)
-    half true p h = second (8 * opened_in v) p h
-    half false p h = more p h
-
-    pick : (x y : Bool) →
-        IsTickSmall (8 * opened_in v + 8 * number_of is_begin w.ledger) (opened_in v) (cond y (recovery_ticked built cluster a facts (cond x (manager_ticked built cluster a facts v) (only_sending v []))) (cond x (manager_ticked built cluster a facts v) (only_sending v [])))
-    pick true y = half y (manager_ticked built cluster a facts v) first
-    pick false y = half y (only_sending v []) none
 
 -- ---- the walk
 
@@ -233,8 +217,8 @@ other-room t d l n short grown =
 boot-more : (n d : ℕ) → n ≤ d → 0 + n ≤ d + 1
 boot-more n d h = omega (arith, h)
 
-pub short-walk : (built : Built) (cluster : Cluster) → AreQuorums cluster.quorums → IsWalk built cluster IsShort
-short-walk built cluster sizes = record {
+pub short-walk : (cluster : Cluster) → AreQuorums cluster.quorums → IsWalk cluster IsShort
+short-walk cluster sizes = record {
   first = record {
     begun = start-begun cluster.quorums.centres;
     few = λ b here. subst (λ (z : Site). opened_in z.volatile ≤ 256) (sym (replicated cluster.quorums.centres (b - 1))) (omega arith);
@@ -274,39 +258,39 @@ short-walk built cluster sizes = record {
     other t d w v m one p g = record { begun = omega (arith, g.begun, p.begun, one); few = g.few; short = other-room t d (length w.ledger) (length v.ledger) p.short g.short }
 
     input-short : (t d : ℕ) (w : World) (a : ℕ) (input : Input) → Holds IsSound w.cluster w → IsUp IsSound w.cluster w.ledger a (centre_at w a).volatile → IsFair w.cluster w.ledger input → IsShort t d w →
-        IsShort (t + ticks_in input) (d + others_in input) (input_happened w a (step_at built w a input)).world
+        IsShort (t + ticks_in input) (d + others_in input) (input_happened w a (step_at w a input)).world
     input-short t d w a (Input.Message envelope) h up fair p =
-        other t d w _ 0 (omega arith) p (input-grown 1 0 w a (step_at built w a (Input.Message envelope)) h up.centre p.few (message-taken built w.cluster a (facts_of w.ledger a) (centre_at w a).volatile envelope (p.few a up.centre)))
+        other t d w _ 0 (omega arith) p (input-grown 1 0 w a (step_at w a (Input.Message envelope)) h up.centre p.few (message-taken w.cluster a (facts_of w.ledger a) (centre_at w a).volatile envelope (p.few a up.centre)))
     input-short t d w a (Input.Read key) h up fair p =
-        other t d w _ 0 (omega arith) p (input-grown 1 0 w a (step_at built w a (Input.Read key)) h up.centre p.few (record { weight = omega arith; begun = omega arith; few = p.few a up.centre }))
+        other t d w _ 0 (omega arith) p (input-grown 1 0 w a (step_at w a (Input.Read key)) h up.centre p.few (record { weight = omega arith; begun = omega arith; few = p.few a up.centre }))
     input-short t d w a (Input.Begin parts) h up fair p =
-        other t d w _ 1 (omega arith) p (input-grown 1 1 w a (step_at built w a (Input.Begin parts)) h up.centre p.few (begin-taken w.cluster a (facts_of w.ledger a) (centre_at w a).volatile parts (p.few a up.centre)))
+        other t d w _ 1 (omega arith) p (input-grown 1 1 w a (step_at w a (Input.Begin parts)) h up.centre p.few (begin-taken w.cluster a (facts_of w.ledger a) (centre_at w a).volatile parts (p.few a up.centre)))
     input-short t d w a Input.Tick h up fair p =
-        let s = tick-small built w a up in
+        let s = tick-small w a up in
         let o = p.few a up.centre in
-        let g = input-grown (8 * opened_in (centre_at w a).volatile + 8 * number_of is_begin w.ledger) 0 w a (step_at built w a Input.Tick) h up.centre p.few (record { weight = omega (arith, s.weight); begun = omega (arith, s.begun); few = omega (arith, s.few, o) }) in
+        let g = input-grown (8 * opened_in (centre_at w a).volatile + 8 * number_of is_begin w.ledger) 0 w a (step_at w a Input.Tick) h up.centre p.few (record { weight = omega (arith, s.weight); begun = omega (arith, s.begun); few = omega (arith, s.few, o) }) in
         record {
           begun = omega (arith, g.begun, p.begun);
           few = g.few;
           short = tick-room t d (opened_in (centre_at w a).volatile) (number_of is_begin w.ledger) (length w.ledger) _ o p.begun p.short g.short;
         }
 
-pub short-reached : (built : Built) (cluster : Cluster) → IsCluster cluster → (events : List Event) → IsReached built IsShort 0 (run_of built (first_world cluster) events).world
-short-reached built cluster is events = trace-reached built cluster IsShort (short-walk built cluster is.quorums) (all-good built) is.quorums events
+pub short-reached : (cluster : Cluster) → IsCluster cluster → (events : List Event) → IsReached IsShort 0 (run_of (first_world cluster) events).world
+short-reached cluster is events = trace-reached cluster IsShort (short-walk cluster is.quorums) (all-good) is.quorums events
 
 -- ---- the length of the ledger
 
 room-left : (t d n : ℕ) → t + d + 0 ≤ 100000 → n ≤ most_entries t d → n ≤ 2 ^ 64 - 1
 room-left t d n few short = let m = mul-le t (2048 + 8 * d) 100000 802048 (omega (arith, few)) (omega (arith, few)) in omega (arith, short, m, few)
 
-pub ledger-short : (built : Built) → built.limit_on_events ≡ true → (cluster : Cluster) → IsCluster cluster → (events : List Event) → length (run_of built (first_world cluster) events).world.ledger ≤ 2 ^ 64 - 1
-ledger-short built limited cluster is events =
-    let r = short-reached built cluster is events in room-left r.ticks r.others (length (run_of built (first_world cluster) events).world.ledger) (omega (arith, r.within, r.few limited)) r.is.short
+pub ledger-short : (cluster : Cluster) → IsCluster cluster → (events : List Event) → length (run_of (first_world cluster) events).world.ledger ≤ 2 ^ 64 - 1
+ledger-short cluster is events =
+    let r = short-reached cluster is events in room-left r.ticks r.others (length (run_of (first_world cluster) events).world.ledger) (omega (arith, r.within, r.few)) r.is.short
 
 -- there is room for one entry more
 one-left : (t d n : ℕ) → t + d + 0 ≤ 100000 → n ≤ most_entries t d → n + 1 ≤ 2 ^ 64 - 1
 one-left t d n few short = let m = mul-le t (2048 + 8 * d) 100000 802048 (omega (arith, few)) (omega (arith, few)) in omega (arith, short, m, few)
 
-pub ledger-shorter : (built : Built) → built.limit_on_events ≡ true → (cluster : Cluster) → IsCluster cluster → (events : List Event) → length (run_of built (first_world cluster) events).world.ledger + 1 ≤ 2 ^ 64 - 1
-ledger-shorter built limited cluster is events =
-    let r = short-reached built cluster is events in one-left r.ticks r.others (length (run_of built (first_world cluster) events).world.ledger) (omega (arith, r.within, r.few limited)) r.is.short
+pub ledger-shorter : (cluster : Cluster) → IsCluster cluster → (events : List Event) → length (run_of (first_world cluster) events).world.ledger + 1 ≤ 2 ^ 64 - 1
+ledger-shorter cluster is events =
+    let r = short-reached cluster is events in one-left r.ticks r.others (length (run_of (first_world cluster) events).world.ledger) (omega (arith, r.within, r.few)) r.is.short

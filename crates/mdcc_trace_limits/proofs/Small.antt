@@ -18,16 +18,15 @@ use Rattle.mdcc_option.specs.declared.cluster.Cluster.{Cluster}
 use Rattle.mdcc_struct.specs.declared.options.Options.{Options}
 use Rattle.mdcc_protocol.specs.Acceptor.{on_accept, on_prepare, on_propose}
 use Rattle.mdcc_rules.specs.AcceptorRules.{accepted_step, ask_step_by, prepared_step, proposed_step}
-use Rattle.mdcc_switches.specs.Built.{Built}
 use Rattle.mdcc_protocol.specs.Facts.{epoch_of, heard_of, is_heard, vote_of}
 use Rattle.mdcc_protocol.specs.Leader.{claim_of_choice, is_marked, lead}
 use Rattle.mdcc_rules.specs.LeaderRules.{lead_step_after, led_by_answer, led_of, promised_by_answer, step_of_led}
 use Rattle.mdcc_protocol.specs.Learner.{is_learned}
 use Rattle.mdcc_ledger.specs.Ledger.{Entry, Valued}
 use Rattle.mdcc_protocol.specs.Manager
-use Rattle.mdcc_protocol.specs.Manager.{act_on_cause, act_on_vote, acted, acts_at, begin_by, begin_fault, choices_unlearned, parts_begin_fault, vote_taken}
+use Rattle.mdcc_protocol.specs.Manager.{act_on_cause, act_on_vote, acted, acts_at, choices_unlearned, vote_taken}
 use Rattle.mdcc_rules.specs.ManagerRules.{acted_step, decided_step, escalate_step, opened_step, undecided_step, voted_step, watched_step}
-use Rattle.mdcc_rules.specs.Node.{checked, is_without_room, message_step, rule, with_room}
+use Rattle.mdcc_rules.specs.Node.{checked, is_without_room, message_step, with_room}
 use Rattle.mdcc_protocol.specs.News.{is_crowding}
 use Rattle.mdcc_protocol.specs.Recover
 use Rattle.mdcc_protocol.specs.Recover.{acts_on, ask_of, claim_of_key, keys_led}
@@ -147,12 +146,9 @@ acted-small me facts volatile (act, manager) h = sending-small volatile (with_ma
 decided-small : (cluster : Cluster) (me : ℕ) (volatile : Volatile) (t : TxId) (o : Outcome) → IsSmall volatile (decided_step cluster me volatile t o)
 decided-small cluster me volatile t o = adding-small volatile (closed volatile t) _ _ (closed-few volatile t)
 
-undecided-small : (built : Built) (cluster : Cluster) (me : ℕ) (facts : List Fact) (volatile : Volatile) (vote : Vote) → IsSmall volatile (undecided_step built cluster me facts volatile vote)
-undecided-small built cluster me facts volatile vote =
-    elim (cases_Bool built.escalations) [
-      | inl e ↦ rw e (acted-small me facts volatile (Manager.on_voted cluster.quorums volatile.manager vote) (few (acted-few (vote_taken cluster.quorums volatile.manager vote) act) taken))
-      | inr e ↦ rw e (done-small volatile (with_manager volatile (vote_taken cluster.quorums volatile.manager vote)) (omega (arith, taken)))
-    ]
+undecided-small : (cluster : Cluster) (me : ℕ) (facts : List Fact) (volatile : Volatile) (vote : Vote) → IsSmall volatile (undecided_step cluster me facts volatile vote)
+undecided-small cluster me facts volatile vote =
+    acted-small me facts volatile (Manager.on_voted cluster.quorums volatile.manager vote) (few (acted-few (vote_taken cluster.quorums volatile.manager vote) act) taken)
   where
     taken : length (vote_taken cluster.quorums volatile.manager vote).opened ≡ opened_in volatile
     taken = taken-few cluster.quorums volatile.manager vote
@@ -163,20 +159,20 @@ undecided-small built cluster me facts volatile vote =
     few : {x y z : ℕ} → x ≡ y → y ≡ z → x ≤ z
     few e f = omega (arith, e, f)
 
-opened-small : (built : Built) (cluster : Cluster) (me : ℕ) (facts : List Fact) (volatile : Volatile) (vote : Vote) (o : Option Outcome) → IsSmall volatile (opened_step built cluster me facts volatile vote o)
-opened-small built cluster me facts volatile vote (Some o) = decided-small cluster me volatile vote.tx o
-opened-small built cluster me facts volatile vote None = undecided-small built cluster me facts volatile vote
+opened-small : (cluster : Cluster) (me : ℕ) (facts : List Fact) (volatile : Volatile) (vote : Vote) (o : Option Outcome) → IsSmall volatile (opened_step cluster me facts volatile vote o)
+opened-small cluster me facts volatile vote (Some o) = decided-small cluster me volatile vote.tx o
+opened-small cluster me facts volatile vote None = undecided-small cluster me facts volatile vote
 
 watched-small : (cluster : Cluster) (me : ℕ) (facts : List Fact) (volatile : Volatile) (vote : Vote) (o : Option (TxId × Outcome)) → IsSmall volatile (watched_step cluster me facts volatile vote o)
 watched-small cluster me facts volatile vote (Some d) = decided-small cluster me volatile d.0 d.1
 watched-small cluster me facts volatile vote None = done-small volatile (with_recovery volatile (Recover.on_voted cluster.quorums facts volatile.recovery vote).1) (same volatile)
 
-voted-small : (built : Built) (cluster : Cluster) (me : ℕ) (facts : List Fact) (volatile : Volatile) (vote : Vote) → IsSmall volatile (voted_step built cluster me facts volatile vote)
-voted-small built cluster me facts volatile vote =
+voted-small : (cluster : Cluster) (me : ℕ) (facts : List Fact) (volatile : Volatile) (vote : Vote) → IsSmall volatile (voted_step cluster me facts volatile vote)
+voted-small cluster me facts volatile vote =
     elim (cases_Bool (is_heard facts vote.tx)) [
       | inl e ↦ rw e (done-small volatile volatile (same volatile))
       | inr e ↦ rw e (elim (cases_Bool (is_open volatile.manager vote.tx)) [
-        | inl f ↦ rw f (opened-small built cluster me facts volatile vote _)
+        | inl f ↦ rw f (opened-small cluster me facts volatile vote _)
         | inr f ↦ rw f (watched-small cluster me facts volatile vote _)
       ])
     ]
@@ -227,40 +223,36 @@ lead-small cluster me facts volatile s choice None = step-small volatile (led_of
 
 -- ---- messages
 
-rule-small : (is_built : Bool) (volatile : Volatile) (r : Result NodeStep StepFault) → IsSmallResult volatile r → IsSmallResult volatile (rule is_built volatile r)
-rule-small true volatile r h = h
-rule-small false volatile r h = done-small volatile volatile (same volatile)
+message-small : (cluster : Cluster) (me : ℕ) (facts : List Fact) (volatile : Volatile) (s : ℕ) (m : Message) → IsSmallResult volatile (message_step cluster me facts volatile s m)
+message-small cluster me facts volatile s (Message.Propose choice) = proposed-small me volatile s choice (on_propose cluster facts choice)
+message-small cluster me facts volatile s (Message.Voted k v b t m) = voted-small cluster me facts volatile _
+message-small cluster me facts volatile s (Message.Escalate k v t cause) = escalate-small cluster me facts volatile s k t cause
+message-small cluster me facts volatile s (Message.Lead choice) = lead-small cluster me facts volatile s choice (heard_of facts choice.tx)
+message-small cluster me facts volatile s (Message.Prepare k v w b) = prepared-small me facts volatile s k v b (on_prepare facts k v w b)
+message-small cluster me facts volatile s (Message.Promise k v w b r os) = step-small volatile _ (promised-small cluster.quorums me volatile k _)
+message-small cluster me facts volatile s (Message.Accept k v b os) = accepted-small me facts volatile s k v b os (on_accept facts k v b os)
+message-small cluster me facts volatile s (Message.Refused k v b p) = done-small volatile _ (same volatile)
+message-small cluster me facts volatile s (Message.Outcome t o) = outcome-small volatile t (on_outcome facts t o)
+message-small cluster me facts volatile s (Message.Ask t k v) = asked-small me volatile s t k v (heard_of facts t) (vote_of facts k v t)
+message-small cluster me facts volatile s (Message.SyncAsk k) = sending-small volatile volatile _ (same volatile)
+message-small cluster me facts volatile s (Message.SyncGive k v item adds) = given-small volatile (on_sync_give facts (record { key = k; version = v; item = item; adds = adds }))
+message-small cluster me facts volatile s (Message.ClientRead n k) = done-small volatile volatile (same volatile)
+message-small cluster me facts volatile s (Message.ClientBegin n ps) = done-small volatile volatile (same volatile)
+message-small cluster me facts volatile s (Message.ClientAnswer n x) = done-small volatile volatile (same volatile)
 
-message-small : (built : Built) (cluster : Cluster) (me : ℕ) (facts : List Fact) (volatile : Volatile) (s : ℕ) (m : Message) → IsSmallResult volatile (message_step built cluster me facts volatile s m)
-message-small built cluster me facts volatile s (Message.Propose choice) = rule-small built.proposals volatile _ (proposed-small me volatile s choice (on_propose cluster facts choice))
-message-small built cluster me facts volatile s (Message.Voted k v b t m) = rule-small built.proposals volatile _ (voted-small built cluster me facts volatile _)
-message-small built cluster me facts volatile s (Message.Escalate k v t cause) = rule-small built.escalations volatile _ (escalate-small cluster me facts volatile s k t cause)
-message-small built cluster me facts volatile s (Message.Lead choice) = rule-small built.leading volatile _ (lead-small cluster me facts volatile s choice (heard_of facts choice.tx))
-message-small built cluster me facts volatile s (Message.Prepare k v w b) = rule-small built.leading volatile _ (prepared-small me facts volatile s k v b (on_prepare facts k v w b))
-message-small built cluster me facts volatile s (Message.Promise k v w b r os) = rule-small built.leading volatile _ (step-small volatile _ (promised-small cluster.quorums me volatile k _))
-message-small built cluster me facts volatile s (Message.Accept k v b os) = rule-small built.leading volatile _ (accepted-small me facts volatile s k v b os (on_accept facts k v b os))
-message-small built cluster me facts volatile s (Message.Refused k v b p) = rule-small built.leading volatile _ (done-small volatile _ (same volatile))
-message-small built cluster me facts volatile s (Message.Outcome t o) = rule-small built.proposals volatile _ (outcome-small volatile t (on_outcome facts t o))
-message-small built cluster me facts volatile s (Message.Ask t k v) = rule-small built.recovery volatile _ (asked-small me volatile s t k v (heard_of facts t) (vote_of facts k v t))
-message-small built cluster me facts volatile s (Message.SyncAsk k) = rule-small built.catching_up volatile _ (sending-small volatile volatile _ (same volatile))
-message-small built cluster me facts volatile s (Message.SyncGive k v item adds) = rule-small built.catching_up volatile _ (given-small volatile (on_sync_give facts (record { key = k; version = v; item = item; adds = adds })))
-message-small built cluster me facts volatile s (Message.ClientRead n k) = done-small volatile volatile (same volatile)
-message-small built cluster me facts volatile s (Message.ClientBegin n ps) = done-small volatile volatile (same volatile)
-message-small built cluster me facts volatile s (Message.ClientAnswer n x) = done-small volatile volatile (same volatile)
-
-room-small : (built : Built) (cluster : Cluster) (facts : List Fact) (volatile : Volatile) (step : NodeStep) (o : Option Fact) → IsSmall volatile step → IsSmallResult volatile (with_room built cluster facts step o)
-room-small built cluster facts volatile step None h = h
-room-small built cluster facts volatile step (Some fact) h =
-    elim (cases_Bool (is_without_room built cluster facts fact)) [
+room-small : (cluster : Cluster) (facts : List Fact) (volatile : Volatile) (step : NodeStep) (o : Option Fact) → IsSmall volatile step → IsSmallResult volatile (with_room cluster facts step o)
+room-small cluster facts volatile step None h = h
+room-small cluster facts volatile step (Some fact) h =
+    elim (cases_Bool (is_without_room cluster facts fact)) [
       | inl e ↦ rw e tt
       | inr e ↦ rw e (elim (cases_Bool (is_crowding facts fact)) [ inl f ↦ rw f tt | inr f ↦ rw f h ])
     ]
 
-pub checked-small : (built : Built) (cluster : Cluster) (me : ℕ) (facts : List Fact) (volatile : Volatile) (s : ℕ) (m : Message) → IsSmallResult volatile (checked built cluster facts (message_step built cluster me facts volatile s m))
-checked-small built cluster me facts volatile s m = by_case (message_step built cluster me facts volatile s m) (message-small built cluster me facts volatile s m)
+pub checked-small : (cluster : Cluster) (me : ℕ) (facts : List Fact) (volatile : Volatile) (s : ℕ) (m : Message) → IsSmallResult volatile (checked cluster facts (message_step cluster me facts volatile s m))
+checked-small cluster me facts volatile s m = by_case (message_step cluster me facts volatile s m) (message-small cluster me facts volatile s m)
   where
-    by_case : (r : Result NodeStep StepFault) → IsSmallResult volatile r → IsSmallResult volatile (checked built cluster facts r)
-    by_case (Ok step) h = room-small built cluster facts volatile step step.fact h
+    by_case : (r : Result NodeStep StepFault) → IsSmallResult volatile r → IsSmallResult volatile (checked cluster facts r)
+    by_case (Ok step) h = room-small cluster facts volatile step step.fact h
     by_case (Err fault) h = tt
 
 -- ---- ticks
@@ -300,27 +292,24 @@ fold-small {X = X} act (x ∷ xs) n opened before f h = more (fold-small act xs 
 pub ticked-small : (volatile : Volatile) (sends : List Envelope) (n opened : ℕ) → opened_in volatile ≤ opened → IsTickSmall n opened (only_sending volatile sends)
 ticked-small volatile sends n opened h = record { weight = omega arith; begun = refl; few = h }
 
-claim-small : (built : Built) (cluster : Cluster) (me : ℕ) (facts : List Fact) (volatile : Volatile) (claim : Claim) (opened : ℕ) → opened_in volatile ≤ opened → IsTickSmall 1 opened (claim_led built cluster me facts volatile claim)
-claim-small built cluster me facts volatile claim opened h =
-    elim (cases_Bool built.leading) [
-      | inl e ↦ rw e (by_case (led_of cluster me facts volatile claim) (led-small cluster me facts volatile claim))
-      | inr e ↦ rw e (ticked-small volatile [] 1 opened h)
-    ]
+claim-small : (cluster : Cluster) (me : ℕ) (facts : List Fact) (volatile : Volatile) (claim : Claim) (opened : ℕ) → opened_in volatile ≤ opened → IsTickSmall 1 opened (claim_led cluster me facts volatile claim)
+claim-small cluster me facts volatile claim opened h =
+    by_case (led_of cluster me facts volatile claim) (led-small cluster me facts volatile claim)
   where
     by_case : (r : Result StepPart LeadFault) → IsSmallLed volatile r → IsTickSmall 1 opened (led_or_left volatile r)
     by_case (Ok part) g = record { weight = g.0; begun = g.1; few = omega (arith, h, g.2) }
     by_case (Err fault) g = ticked-small volatile [] 1 opened h
 
-pub manager-act-small : (built : Built) (cluster : Cluster) (me : ℕ) (facts : List Fact) (opened : ℕ) (volatile : Volatile) (act : ManagerAct) → opened_in volatile ≤ opened → IsTickSmall 1 opened (manager_act built cluster me facts volatile act)
-manager-act-small built cluster me facts opened volatile (ManagerAct.Propose choice) h = ticked-small volatile _ 1 opened h
-manager-act-small built cluster me facts opened volatile (ManagerAct.LeadHere choice) h = claim-small built cluster me facts volatile (claim_of_choice choice) opened h
-manager-act-small built cluster me facts opened volatile (ManagerAct.Lead leader choice) h = ticked-small volatile [] 1 opened h
-manager-act-small built cluster me facts opened volatile (ManagerAct.Give centre key) h = ticked-small volatile [] 1 opened h
-manager-act-small built cluster me facts opened volatile (ManagerAct.Decide tx outcome) h = ticked-small volatile [] 1 opened h
+pub manager-act-small : (cluster : Cluster) (me : ℕ) (facts : List Fact) (opened : ℕ) (volatile : Volatile) (act : ManagerAct) → opened_in volatile ≤ opened → IsTickSmall 1 opened (manager_act cluster me facts volatile act)
+manager-act-small cluster me facts opened volatile (ManagerAct.Propose choice) h = ticked-small volatile _ 1 opened h
+manager-act-small cluster me facts opened volatile (ManagerAct.LeadHere choice) h = claim-small cluster me facts volatile (claim_of_choice choice) opened h
+manager-act-small cluster me facts opened volatile (ManagerAct.Lead leader choice) h = ticked-small volatile [] 1 opened h
+manager-act-small cluster me facts opened volatile (ManagerAct.Give centre key) h = ticked-small volatile [] 1 opened h
+manager-act-small cluster me facts opened volatile (ManagerAct.Decide tx outcome) h = ticked-small volatile [] 1 opened h
 
-pub recovery-act-small : (built : Built) (cluster : Cluster) (me : ℕ) (facts : List Fact) (opened : ℕ) (volatile : Volatile) (act : RecoverAct) → opened_in volatile ≤ opened → IsTickSmall 1 opened (recovery_act built cluster me facts volatile act)
-recovery-act-small built cluster me facts opened volatile (RecoverAct.Ask t k v) h = ticked-small volatile _ 1 opened h
-recovery-act-small built cluster me facts opened volatile (RecoverAct.LeadHere claim) h = claim-small built cluster me facts volatile claim opened h
+pub recovery-act-small : (cluster : Cluster) (me : ℕ) (facts : List Fact) (opened : ℕ) (volatile : Volatile) (act : RecoverAct) → opened_in volatile ≤ opened → IsTickSmall 1 opened (recovery_act cluster me facts volatile act)
+recovery-act-small cluster me facts opened volatile (RecoverAct.Ask t k v) h = ticked-small volatile _ 1 opened h
+recovery-act-small cluster me facts opened volatile (RecoverAct.LeadHere claim) h = claim-small cluster me facts volatile claim opened h
 
 -- ---- how many acts a tick has
 

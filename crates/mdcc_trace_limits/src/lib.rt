@@ -5,7 +5,6 @@ ghost use Rattle.std.specs.Prelude.{◌≡◌, ◌<◌, ◌≤◌, ◌-◌, ◌^
 ghost use Rattle.mdcc_base.specs.declared.key.Key.{Key};
 ghost use Rattle.mdcc_option.specs.declared.cluster.Cluster.{Cluster};
 ghost use Rattle.mdcc_protocol.specs.Belongs.{is_centre};
-ghost use Rattle.mdcc_switches.specs.Built.{Built};
 ghost use Rattle.mdcc_protocol.specs.IsCluster.{IsCluster};
 ghost use Rattle.mdcc_protocol.specs.Leader.{next_round};
 ghost use Rattle.mdcc_ledger.specs.Ledger.{facts_of};
@@ -13,17 +12,17 @@ ghost use Rattle.mdcc_simulation.specs.State.{centre_at, first_world};
 ghost use Rattle.mdcc_simulation.specs.Runs.{run_of};
 ghost use Rattle.mdcc_language.specs.declared.events.Event.{Event};
 
-/// Where the number of events is limited, the ledger of a trace is shorter than 2^64, as the laws of allowed ledgers ask.
+/// The ledger of a trace is shorter than 2^64, as the laws of allowed ledgers ask.
 pub fn ledgers_stay_short()
-    ensures { (built : Built) → built.limit_on_events ≡ true → (cluster : Cluster) → IsCluster cluster → (events : List Event) →
-        length (run_of built (first_world cluster) events).world.ledger ≤ 2 ^ 64 - 1 }
+    ensures { (cluster : Cluster) → IsCluster cluster → (events : List Event) →
+        length (run_of (first_world cluster) events).world.ledger ≤ 2 ^ 64 - 1 }
 {}
 
-/// There no leader comes to a round of 2^32, which would be past the last one: the next ballot of a key
-/// has a lower one at each centre.
+/// No leader of a trace comes to a round of 2^32, which would be past the last one: the next ballot of
+/// a key has a lower one at each centre.
 pub fn rounds_stay_low()
-    ensures { (built : Built) → built.limit_on_events ≡ true → (cluster : Cluster) → IsCluster cluster → (events : List Event) →
-        (a : ℕ) → is_centre (run_of built (first_world cluster) events).world.cluster a ≡ true → (key : Key) (version : ℕ) →
-        next_round (facts_of (run_of built (first_world cluster) events).world.ledger a)
-        (centre_at (run_of built (first_world cluster) events).world a).volatile.leader key version < 2 ^ 32 }
+    ensures { (cluster : Cluster) → IsCluster cluster → (events : List Event) →
+        (a : ℕ) → is_centre (run_of (first_world cluster) events).world.cluster a ≡ true → (key : Key) (version : ℕ) →
+        next_round (facts_of (run_of (first_world cluster) events).world.ledger a)
+        (centre_at (run_of (first_world cluster) events).world a).volatile.leader key version < 2 ^ 32 }
 {}

@@ -2,7 +2,6 @@
 use Rattle.std.proofs.Common.{◌≡◌, ℕ, false, List, sym, ◌∙◌, subst, inl, inr, refl, Option, None, Some, Result, Ok, Err}
 use Rattle.std.proofs.lemmas.Bool.{cases_Bool}
 use Rattle.mdcc_option.specs.declared.cluster.Cluster.{Cluster}
-use Rattle.mdcc_switches.specs.Built.{Built}
 use Rattle.mdcc_ledger.specs.Ledger.{Entry, facts_of}
 use Rattle.mdcc_protocol.specs.News.{is_crowding}
 use Rattle.mdcc_rules.specs.Node.{checked, is_without_room, with_room}
@@ -11,14 +10,14 @@ use Rattle.mdcc_messages.specs.declared.facts.Fact.{Fact}
 use Rattle.mdcc_rules.specs.declared.node.StepFault.{StepFault}
 use Rattle.mdcc_trace_states.specs.Invariant.{IsGood, IsGoodRoomy}
 
-pub checked-good : (built : Built) (also : List Entry → Type 0) (cluster : Cluster) (es : List Entry) (a : ℕ) (r : Result NodeStep StepFault) → IsGoodRoomy cluster also es a r → IsGood cluster also es a (checked built cluster (facts_of es a) r)
-checked-good built also cluster es a (Err fault) h = tt
-checked-good built also cluster es a (Ok step) h = by_case step.fact refl
+pub checked-good : (also : List Entry → Type 0) (cluster : Cluster) (es : List Entry) (a : ℕ) (r : Result NodeStep StepFault) → IsGoodRoomy cluster also es a r → IsGood cluster also es a (checked cluster (facts_of es a) r)
+checked-good also cluster es a (Err fault) h = tt
+checked-good also cluster es a (Ok step) h = by_case step.fact refl
   where
-    by_case : (o : Option Fact) → step.fact ≡ o → IsGood cluster also es a (with_room built cluster (facts_of es a) step o)
+    by_case : (o : Option Fact) → step.fact ≡ o → IsGood cluster also es a (with_room cluster (facts_of es a) step o)
     by_case None e = h (λ fact g b. let bad : None ≡ Some fact = sym e ∙ g in absurd (cc))
     by_case (Some f) e =
-        elim (cases_Bool (is_without_room built cluster (facts_of es a) f)) [
+        elim (cases_Bool (is_without_room cluster (facts_of es a) f)) [
           | inl n ↦ rw n tt
           | inr n ↦ rw n (elim (cases_Bool (is_crowding (facts_of es a) f)) [
             | inl k ↦ rw k tt

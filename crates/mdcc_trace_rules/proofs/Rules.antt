@@ -31,7 +31,6 @@ use Rattle.mdcc_messages.specs.declared.messages.Message.{Message}
 use Rattle.mdcc_rules.specs.Messages.{to_one, to_others}
 use Rattle.mdcc_protocol.specs.News.{is_crowding}
 use Rattle.mdcc_rules.specs.SyncRules.{give_sent, give_sent_by, outcome_step}
-use Rattle.mdcc_switches.specs.Built.{Built}
 use Rattle.mdcc_rules.specs.Steps.{NodeStep, nothing_done}
 use Rattle.mdcc_protocol.specs.Volatile.{Managing, Recovering, Undecided, Volatile, closed, has_key, is_open, is_watched, opened_of, with_led, with_manager, with_recovery}
 use Rattle.mdcc_protocol.specs.declared.votes.Vote.{Vote}
@@ -228,12 +227,9 @@ module _ (also : List Entry → Type 0) (shut : IsClosed also) (cluster : Cluste
       by_test true = lead-good m (home_of cluster.quorums vote.key) vote.tx vote.key manages
       by_test false = nothing-good also cluster es a volatile (with_manager volatile m) up (managed m manages)
 
-  undecided-good : (built : Built) (vote : Vote) → IsGiven cluster es vote → decision cluster.quorums (vote_taken cluster.quorums volatile.manager vote) vote.tx ≡ None → Good (undecided_step built cluster a (facts_of es a) volatile vote)
-  undecided-good built vote given e =
-      elim (cases_Bool built.escalations) [
-        | inl f ↦ subst Good (sym (escalated f)) (subst (λ z. Good (acted_step a (facts_of es a) volatile (acted taken (act_on_vote cluster.quorums taken vote z)))) (sym e) (collided-good taken vote manages))
-        | inr f ↦ rw f (nothing-good also cluster es a volatile (with_manager volatile taken) up (managed taken manages))
-      ]
+  undecided-good : (vote : Vote) → IsGiven cluster es vote → decision cluster.quorums (vote_taken cluster.quorums volatile.manager vote) vote.tx ≡ None → Good (undecided_step cluster a (facts_of es a) volatile vote)
+  undecided-good vote given e =
+      subst (λ z. Good (acted_step a (facts_of es a) volatile (acted taken (act_on_vote cluster.quorums taken vote z)))) (sym e) (collided-good taken vote manages)
     where
       taken : Managing
       taken = vote_taken cluster.quorums volatile.manager vote
@@ -241,16 +237,12 @@ module _ (also : List Entry → Type 0) (shut : IsClosed also) (cluster : Cluste
       manages : Manages cluster es a taken
       manages = taken-manages vote given
 
-      escalated : built.escalations ≡ true → undecided_step built cluster a (facts_of es a) volatile vote ≡
-          acted_step a (facts_of es a) volatile (acted taken (act_on_vote cluster.quorums taken vote (decision cluster.quorums taken vote.tx)))
-      escalated f = rw f refl
-
-  opened-good : (built : Built) (vote : Vote) (o : Option Outcome) → would_decide cluster.quorums volatile.manager vote ≡ o → IsGiven cluster es vote → is_heard (facts_of es a) vote.tx ≡ false → HasRoom (opened_step built cluster a (facts_of es a) volatile vote o) →
-      Good (opened_step built cluster a (facts_of es a) volatile vote o)
-  opened-good built vote (Some o) e given unheard room =
+  opened-good : (vote : Vote) (o : Option Outcome) → would_decide cluster.quorums volatile.manager vote ≡ o → IsGiven cluster es vote → is_heard (facts_of es a) vote.tx ≡ false → HasRoom (opened_step cluster a (facts_of es a) volatile vote o) →
+      Good (opened_step cluster a (facts_of es a) volatile vote o)
+  opened-good vote (Some o) e given unheard room =
       let d = decision-is (vote_taken cluster.quorums volatile.manager vote) vote.tx o (taken-manages vote given) e in
       decided-good vote.tx o d.0 unheard given.tx d.1 (room (Fact.Heard vote.tx o) refl d.0)
-  opened-good built vote None e given unheard room = undecided-good built vote given e
+  opened-good vote None e given unheard room = undecided-good vote given e
 
   watched-set : (t : TxId) (keys : List Key) → keys_watched (facts_of es a) volatile.recovery t ≡ Some keys → (0 < length (choices_begun es t)) × (keys ≡ keys_of_choices (choices_begun es t))
   watched-set t keys h =
@@ -301,18 +293,18 @@ module _ (also : List Entry → Type 0) (shut : IsClosed also) (cluster : Cluste
           decided-good vote.tx o is unheard given.tx (decision-belongs cluster es after.votes vote.tx keys o votes d) (r (Fact.Heard vote.tx o) refl is)
       by_case None d r = nothing-good also cluster es a volatile (with_recovery volatile after) up (record { manager = up.keeps.manager; recovery = votes; leader = up.keeps.leader })
 
-  pub voted-good : (built : Built) (vote : Vote) → IsGiven cluster es vote → HasRoom (voted_step built cluster a (facts_of es a) volatile vote) → Good (voted_step built cluster a (facts_of es a) volatile vote)
-  voted-good built vote given room =
+  pub voted-good : (vote : Vote) → IsGiven cluster es vote → HasRoom (voted_step cluster a (facts_of es a) volatile vote) → Good (voted_step cluster a (facts_of es a) volatile vote)
+  voted-good vote given room =
       elim (cases_Bool (is_heard (facts_of es a) vote.tx)) [
         | inl e ↦ rw e (nothing-good also cluster es a volatile volatile up up.keeps)
         | inr e ↦ elim (cases_Bool (is_open volatile.manager vote.tx)) [
-          | inl f ↦ subst Good (sym (opened e f)) (opened-good built vote (would_decide cluster.quorums volatile.manager vote) refl given e (subst HasRoom (opened e f) room))
+          | inl f ↦ subst Good (sym (opened e f)) (opened-good vote (would_decide cluster.quorums volatile.manager vote) refl given e (subst HasRoom (opened e f) room))
           | inr f ↦ subst Good (sym (watched e f)) (watched-good vote (keys_watched (facts_of es a) volatile.recovery vote.tx) refl given e (subst HasRoom (watched e f) room))
         ]
       ]
     where
-      opened : is_heard (facts_of es a) vote.tx ≡ false → is_open volatile.manager vote.tx ≡ true → voted_step built cluster a (facts_of es a) volatile vote ≡
-          opened_step built cluster a (facts_of es a) volatile vote (would_decide cluster.quorums volatile.manager vote)
+      opened : is_heard (facts_of es a) vote.tx ≡ false → is_open volatile.manager vote.tx ≡ true → voted_step cluster a (facts_of es a) volatile vote ≡
+          opened_step cluster a (facts_of es a) volatile vote (would_decide cluster.quorums volatile.manager vote)
       opened e f = pick2 (is_heard (facts_of es a) vote.tx) (is_open volatile.manager vote.tx) e f _ _ _
         where
           pick2 : (x y : Bool) → x ≡ false → y ≡ true → (p q r : NodeStep) → cond x p (cond y q r) ≡ q
@@ -320,7 +312,7 @@ module _ (also : List Entry → Type 0) (shut : IsClosed also) (cluster : Cluste
           pick2 false true e f p q r = refl
           pick2 false false e f p q r = absurd (cc)
 
-      watched : is_heard (facts_of es a) vote.tx ≡ false → is_open volatile.manager vote.tx ≡ false → voted_step built cluster a (facts_of es a) volatile vote ≡
+      watched : is_heard (facts_of es a) vote.tx ≡ false → is_open volatile.manager vote.tx ≡ false → voted_step cluster a (facts_of es a) volatile vote ≡
           watched_told (on_voted_by cluster.quorums volatile.recovery vote (keys_watched (facts_of es a) volatile.recovery vote.tx))
       watched e f = pick3 (is_heard (facts_of es a) vote.tx) (is_open volatile.manager vote.tx) e f _ _ _ ∙ watched-is vote
         where

@@ -14,7 +14,6 @@ use Rattle.mdcc_ledger.specs.AllowedLedgers.{IsAllowed, seqs_begun}
 use Rattle.mdcc_ledger.specs.BootTest.{is_allowed_kind}
 use Rattle.mdcc_ledger.specs.AllowedFacts.{is_booted}
 use Rattle.mdcc_protocol.specs.Belongs.{fact_belongs, is_centre}
-use Rattle.mdcc_switches.specs.Built.{Built}
 use Rattle.mdcc_protocol.specs.Volatile.{nothing_kept}
 use Rattle.mdcc_simulation.specs.State.{World, booted, booted_to, first_world}
 use Rattle.mdcc_simulation.specs.Centres.{restart_happened}
@@ -93,8 +92,8 @@ keeps-nothing cluster es a new h = record {
   leader = record { fresh = λ k v r g. new k v r; leads = tt };
 }
 
-pub restart-holds : (built : Built) (also : List Entry → Type 0) (cluster : Cluster) → AreGood built also → (w : World) (a : ℕ) → Holds also cluster w → is_centre w.cluster a ≡ true → Holds also cluster (restart_happened w a (epoch_of (facts_of w.ledger a) + 1)).world
-restart-holds built also cluster good w a h here =
+pub restart-holds : (also : List Entry → Type 0) (cluster : Cluster) → AreGood also → (w : World) (a : ℕ) → Holds also cluster w → is_centre w.cluster a ≡ true → Holds also cluster (restart_happened w a (epoch_of (facts_of w.ledger a) + 1)).world
+restart-holds also cluster good w a h here =
     let n : ℕ = epoch_of (facts_of w.ledger a) + 1 in
     let legal = boot-legal w.cluster w.ledger a h.legal here in
     moved-holds also cluster w a booted (Added a (Fact.Booted (epoch_of (facts_of w.ledger a) + 1)) ∷ []) w.sent w.bytes h here (refl, tt) legal
@@ -133,9 +132,9 @@ start-placed : (cluster : Cluster) (n : ℕ) → n ≤ cluster.quorums.centres �
 start-placed cluster zero h = λ k v b t a x g. absurd (cc)
 start-placed cluster (suc n) h = boot-placed cluster (booted_to n) (suc n) 1 (start-legal cluster (suc n) h) (start-placed cluster n (omega (arith, h)))
 
-start-also : (built : Built) (also : List Entry → Type 0) → AreGood built also → (cluster : Cluster) (n : ℕ) → n ≤ cluster.quorums.centres → also (booted_to n)
-start-also built also good cluster zero h = good.none
-start-also built also good cluster (suc n) h = good.boot cluster (booted_to n) (suc n) 1 (start-legal cluster (suc n) h) (start-also built also good cluster n (omega (arith, h)))
+start-also : (also : List Entry → Type 0) → AreGood also → (cluster : Cluster) (n : ℕ) → n ≤ cluster.quorums.centres → also (booted_to n)
+start-also also good cluster zero h = good.none
+start-also also good cluster (suc n) h = good.boot cluster (booted_to n) (suc n) 1 (start-legal cluster (suc n) h) (start-also also good cluster n (omega (arith, h)))
 
 start-seqs : (n a e : ℕ) → seqs_begun (booted_to n) a e ≡ 0
 start-seqs zero a e = refl
@@ -165,13 +164,13 @@ length-replicated : (n : ℕ) → length (replicate n booted) ≡ n
 length-replicated zero = refl
 length-replicated (suc n) = omega (arith, length-replicated n)
 
-pub first-holds : (built : Built) (also : List Entry → Type 0) (cluster : Cluster) → AreQuorums cluster.quorums → AreGood built also → Holds also cluster (first_world cluster)
-first-holds built also cluster sizes good = record {
+pub first-holds : (also : List Entry → Type 0) (cluster : Cluster) → AreQuorums cluster.quorums → AreGood also → Holds also cluster (first_world cluster)
+first-holds also cluster sizes good = record {
   same = refl;
   sizes = sizes;
   legal = start-legal cluster cluster.quorums.centres (omega arith);
   placed = start-placed cluster cluster.quorums.centres (omega arith);
-  more = start-also built also good cluster cluster.quorums.centres (omega arith);
+  more = start-also also good cluster cluster.quorums.centres (omega arith);
   sent = tt;
   size = length-replicated cluster.quorums.centres;
   centres = λ a here. let b = bounds cluster a here in

@@ -10,7 +10,6 @@ use Rattle.mdcc_protocol.specs.Belongs.{is_centre}
 use Rattle.mdcc_messages.specs.declared.messages.Envelope.{Envelope}
 use Rattle.mdcc_rules.specs.declared.node.Input.{Input}
 use Rattle.mdcc_language.specs.declared.world.EventFault.{EventFault}
-use Rattle.mdcc_switches.specs.Built.{Built}
 use Rattle.mdcc_simulation.specs.State.{Happened, World, after_lines, centre_at, counted_event, is_up_at}
 use Rattle.mdcc_messages.specs.Mailbox.{Sent, numbered, with_delivered}
 use Rattle.mdcc_simulation.specs.Deliveries.{deliver_line, delivered, deliveries_of, delivery_by, delivery_of, first_waiting, is_waiting_for, settled_line, settled_of}
@@ -36,9 +35,9 @@ pub unless-holds : (also : List Entry → Type 0) (cluster : Cluster) (o : Optio
 unless-holds also cluster None h g = g
 unless-holds also cluster (Some fault) h g = tt
 
-pub within-holds : (built : Built) (also : List Entry → Type 0) (cluster : Cluster) (w : World) (r : Result Happened EventFault) → OkHolds also cluster r → OkHolds also cluster (within_events built w r)
-within-holds built also cluster w (Ok h) g = unless-holds also cluster (limit_if (is_past_events built w) LimitName.Events most_events) h g
-within-holds built also cluster w (Err fault) g = elim (cases_Bool (is_limit fault && is_past_events built w)) [ inl e ↦ rw e tt | inr e ↦ rw e tt ]
+pub within-holds : (also : List Entry → Type 0) (cluster : Cluster) (w : World) (r : Result Happened EventFault) → OkHolds also cluster r → OkHolds also cluster (within_events w r)
+within-holds also cluster w (Ok h) g = unless-holds also cluster (limit_if (is_past_events w) LimitName.Events most_events) h g
+within-holds also cluster w (Err fault) g = elim (cases_Bool (is_limit fault && is_past_events w)) [ inl e ↦ rw e tt | inr e ↦ rw e tt ]
 
 pub lines-hold : (also : List Entry → Type 0) (cluster : Cluster) (lines : World → List Line) (r : Result Happened EventFault) → OkHolds also cluster r → OkHolds also cluster (with_lines lines r)
 lines-hold also cluster lines (Ok h) g = g
@@ -77,21 +76,21 @@ event-holds also cluster w h = record { same = h.same; sizes = h.sizes; legal = 
 pub reads-hold : (also : List Entry → Type 0) (cluster : Cluster) (w : World) (reads : List Known) → Holds also cluster w → Holds also cluster (record w { reads = reads })
 reads-hold also cluster w reads h = record { same = h.same; sizes = h.sizes; legal = h.legal; placed = h.placed; more = h.more; sent = h.sent; size = h.size; centres = h.centres }
 
-pub delivered-holds : (built : Built) (also : List Entry → Type 0) (cluster : Cluster) → AreGood built also → (w : World) (n : ℕ) (env : Envelope) → Holds also cluster w → Stands w.cluster w.ledger env → is_up_at w env.to ≡ true →
-    OkHolds also cluster (delivered built w n env)
-delivered-holds built also cluster good w n env h stands up =
+pub delivered-holds : (also : List Entry → Type 0) (cluster : Cluster) → AreGood also → (w : World) (n : ℕ) (env : Envelope) → Holds also cluster w → Stands w.cluster w.ledger env → is_up_at w env.to ≡ true →
+    OkHolds also cluster (delivered w n env)
+delivered-holds also cluster good w n env h stands up =
     let u = is-up also cluster w env.to h up in
     unless-holds also cluster
-    (step_limit built (record w { sent = with_delivered w.sent (n - 1); events = w.events + 1 }) env.to (step_at built (record w { sent = with_delivered w.sent (n - 1); events = w.events + 1 }) env.to (Input.Message env)))
-    (input_happened (record w { sent = with_delivered w.sent (n - 1); events = w.events + 1 }) env.to (step_at built (record w { sent = with_delivered w.sent (n - 1); events = w.events + 1 }) env.to (Input.Message env)))
-    (input-holds also cluster (record w { sent = with_delivered w.sent (n - 1); events = w.events + 1 }) env.to (step_at built (record w { sent = with_delivered w.sent (n - 1); events = w.events + 1 }) env.to (Input.Message env))
+    (step_limit (record w { sent = with_delivered w.sent (n - 1); events = w.events + 1 }) env.to (step_at (record w { sent = with_delivered w.sent (n - 1); events = w.events + 1 }) env.to (Input.Message env)))
+    (input_happened (record w { sent = with_delivered w.sent (n - 1); events = w.events + 1 }) env.to (step_at (record w { sent = with_delivered w.sent (n - 1); events = w.events + 1 }) env.to (Input.Message env)))
+    (input-holds also cluster (record w { sent = with_delivered w.sent (n - 1); events = w.events + 1 }) env.to (step_at (record w { sent = with_delivered w.sent (n - 1); events = w.events + 1 }) env.to (Input.Message env))
     (counted-holds also cluster w (n - 1) (w.events + 1) h) u.centre (good.step w.cluster w.ledger env.to (centre_at w env.to).volatile (Input.Message env) u stands))
 
-pub delivery-by-holds : (built : Built) (also : List Entry → Type 0) (cluster : Cluster) → AreGood built also → (w : World) (n : ℕ) (o : Option Sent) → Holds also cluster w → ((s : Sent) → o ≡ Some s → Stands w.cluster w.ledger s.envelope) →
-    OkHolds also cluster (delivery_by built w n o)
-delivery-by-holds built also cluster good w n None h f = tt
-delivery-by-holds built also cluster good w n (Some s) h f =
-    up-holds also cluster w s.envelope.to _ (λ up. within-holds built also cluster w (with_lines (deliver_line n) (delivered built w n s.envelope)) (lines-hold also cluster (deliver_line n) (delivered built w n s.envelope) (delivered-holds built also cluster good w n s.envelope h (f s refl) up)))
+pub delivery-by-holds : (also : List Entry → Type 0) (cluster : Cluster) → AreGood also → (w : World) (n : ℕ) (o : Option Sent) → Holds also cluster w → ((s : Sent) → o ≡ Some s → Stands w.cluster w.ledger s.envelope) →
+    OkHolds also cluster (delivery_by w n o)
+delivery-by-holds also cluster good w n None h f = tt
+delivery-by-holds also cluster good w n (Some s) h f =
+    up-holds also cluster w s.envelope.to _ (λ up. within-holds also cluster w (with_lines (deliver_line n) (delivered w n s.envelope)) (lines-hold also cluster (deliver_line n) (delivered w n s.envelope) (delivered-holds also cluster good w n s.envelope h (f s refl) up)))
 
 get-each : {A : Type 0} (P : A → Type 0) (xs : List A) (n : ℕ) (x : A) → Each P xs → slice_get xs n ≡ Some x → P x
 get-each P [] n x h e = absurd (cc)
@@ -102,16 +101,16 @@ pub numbered-each : {A : Type 0} (P : A → Type 0) (xs : List A) (n : ℕ) (x :
 numbered-each P xs zero x h e = absurd (cc)
 numbered-each P xs (suc n) x h e = get-each P xs n x h e
 
-delivery-holds : (built : Built) (also : List Entry → Type 0) (cluster : Cluster) → AreGood built also → (w : World) (n : ℕ) → Holds also cluster w → OkHolds also cluster (delivery_of built w n)
-delivery-holds built also cluster good w n h =
-    delivery-by-holds built also cluster good w n (numbered w.sent n) h (λ s e. numbered-each (λ (s : Sent). Stands w.cluster w.ledger s.envelope) w.sent n s h.sent e)
+delivery-holds : (also : List Entry → Type 0) (cluster : Cluster) → AreGood also → (w : World) (n : ℕ) → Holds also cluster w → OkHolds also cluster (delivery_of w n)
+delivery-holds also cluster good w n h =
+    delivery-by-holds also cluster good w n (numbered w.sent n) h (λ s e. numbered-each (λ (s : Sent). Stands w.cluster w.ledger s.envelope) w.sent n s h.sent e)
 
-pub deliveries-hold : (built : Built) (also : List Entry → Type 0) (cluster : Cluster) → AreGood built also → (ns : List ℕ) (h : Happened) → Holds also cluster h.world → OkHolds also cluster (deliveries_of built ns h)
-deliveries-hold built also cluster good [] h g = g
-deliveries-hold built also cluster good (n ∷ ns) h g = by_case (λ next k. deliveries-hold built also cluster good ns next k) (delivery_of built h.world n) refl (delivery-holds built also cluster good h.world n g)
+pub deliveries-hold : (also : List Entry → Type 0) (cluster : Cluster) → AreGood also → (ns : List ℕ) (h : Happened) → Holds also cluster h.world → OkHolds also cluster (deliveries_of ns h)
+deliveries-hold also cluster good [] h g = g
+deliveries-hold also cluster good (n ∷ ns) h g = by_case (λ next k. deliveries-hold also cluster good ns next k) (delivery_of h.world n) refl (delivery-holds also cluster good h.world n g)
   where
-    by_case : ((next : Happened) → Holds also cluster next.world → OkHolds also cluster (deliveries_of built ns next)) → (r : Result Happened EventFault) → delivery_of built h.world n ≡ r → OkHolds also cluster r →
-        OkHolds also cluster (deliveries_of built (n ∷ ns) h)
+    by_case : ((next : Happened) → Holds also cluster next.world → OkHolds also cluster (deliveries_of ns next)) → (r : Result Happened EventFault) → delivery_of h.world n ≡ r → OkHolds also cluster r →
+        OkHolds also cluster (deliveries_of (n ∷ ns) h)
     by_case rest (Err fault) e k = rw (e, deliveries_of, OkHolds) tt
     by_case rest (Ok next) e k = rw (e, deliveries_of, OkHolds) (rest (after_lines h.lines next) k)
 
@@ -133,25 +132,25 @@ waiting w P listed n (s ∷ ss) next h e = by_case (λ k. waiting w P listed (n 
         (subst P t h.0, subst (λ (z : Envelope). is_up_at w z.to ≡ true) t (up s.is_delivered k))
     by_case rest false k = let g : first_waiting w listed (n + 1) ss ≡ Some next = rw (k, first_waiting) at e in rest g
 
-pub settled-holds : (built : Built) (also : List Entry → Type 0) (cluster : Cluster) → AreGood built also → (left : ℕ) (listed : List ℕ) (h : Happened) (d : ℕ) → Holds also cluster h.world → OkSettled also cluster (settled_of left built listed h d)
-settled-holds built also cluster good zero listed h d g = by_case (first_waiting h.world listed 1 h.world.sent) refl
+pub settled-holds : (also : List Entry → Type 0) (cluster : Cluster) → AreGood also → (left : ℕ) (listed : List ℕ) (h : Happened) (d : ℕ) → Holds also cluster h.world → OkSettled also cluster (settled_of left listed h d)
+settled-holds also cluster good zero listed h d g = by_case (first_waiting h.world listed 1 h.world.sent) refl
   where
-    by_case : (o : Option (ℕ × Envelope)) → first_waiting h.world listed 1 h.world.sent ≡ o → OkSettled also cluster (settled_of zero built listed h d)
+    by_case : (o : Option (ℕ × Envelope)) → first_waiting h.world listed 1 h.world.sent ≡ o → OkSettled also cluster (settled_of zero listed h d)
     by_case None e = rw (e, settled_of, OkSettled) g
     by_case (Some next) e = rw (e, settled_of, OkSettled) tt
-settled-holds built also cluster good (suc left) listed h d g = by_case (λ k n. settled-holds built also cluster good left listed k n) (first_waiting h.world listed 1 h.world.sent) refl
+settled-holds also cluster good (suc left) listed h d g = by_case (λ k n. settled-holds also cluster good left listed k n) (first_waiting h.world listed 1 h.world.sent) refl
   where
-    by_result : ((k : Happened) (n : ℕ) → Holds also cluster k.world → OkSettled also cluster (settled_of left built listed k n)) → (next : ℕ × Envelope) → first_waiting h.world listed 1 h.world.sent ≡ Some next →
-        (r : Result Happened EventFault) → delivered built h.world next.0 next.1 ≡ r → OkHolds also cluster r → OkSettled also cluster (settled_of (suc left) built listed h d)
+    by_result : ((k : Happened) (n : ℕ) → Holds also cluster k.world → OkSettled also cluster (settled_of left listed k n)) → (next : ℕ × Envelope) → first_waiting h.world listed 1 h.world.sent ≡ Some next →
+        (r : Result Happened EventFault) → delivered h.world next.0 next.1 ≡ r → OkHolds also cluster r → OkSettled also cluster (settled_of (suc left) listed h d)
     by_result rest next e (Err fault) f k = rw (e, settled_of) (rw (f, OkSettled) tt)
     by_result rest next e (Ok after) f k = rw (e, settled_of) (rw (f, OkSettled) (rest (after_lines h.lines after) (d + 1) k))
 
-    by_case : ((k : Happened) (n : ℕ) → Holds also cluster k.world → OkSettled also cluster (settled_of left built listed k n)) → (o : Option (ℕ × Envelope)) → first_waiting h.world listed 1 h.world.sent ≡ o →
-        OkSettled also cluster (settled_of (suc left) built listed h d)
+    by_case : ((k : Happened) (n : ℕ) → Holds also cluster k.world → OkSettled also cluster (settled_of left listed k n)) → (o : Option (ℕ × Envelope)) → first_waiting h.world listed 1 h.world.sent ≡ o →
+        OkSettled also cluster (settled_of (suc left) listed h d)
     by_case rest None e = rw (e, settled_of, OkSettled) g
     by_case rest (Some next) e =
         let m = waiting h.world (Stands h.world.cluster h.world.ledger) listed 1 h.world.sent next g.sent e in
-        by_result rest next e (delivered built h.world next.0 next.1) refl (delivered-holds built also cluster good h.world next.0 next.1 g m.0 m.1)
+        by_result rest next e (delivered h.world next.0 next.1) refl (delivered-holds also cluster good h.world next.0 next.1 g m.0 m.1)
 
 pub settled-line : (also : List Entry → Type 0) (cluster : Cluster) (r : Result (Happened × ℕ) EventFault) → OkSettled also cluster r → OkHolds also cluster (settled_line r)
 settled-line also cluster (Err fault) h = tt

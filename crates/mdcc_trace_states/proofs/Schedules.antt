@@ -11,7 +11,6 @@ use Rattle.mdcc_rules.specs.declared.node.Input.{Input}
 use Rattle.mdcc_language.specs.declared.events.Event.{Event}
 use Rattle.mdcc_language.specs.declared.world.EventFault.{EventFault}
 use Rattle.mdcc_language.specs.declared.lines.Line.{Line}
-use Rattle.mdcc_switches.specs.Built.{Built}
 use Rattle.mdcc_simulation.specs.State.{Happened, World, after_lines, centre_at, counted_event, first_world, is_up_at}
 use Rattle.mdcc_simulation.specs.Clients.{answer_in, begin_lines, begin_of, begun_by, parts_begun}
 use Rattle.mdcc_simulation.specs.Limits.{cells_limit, input_taken, log_limit, most_events, step_limit}
@@ -34,40 +33,40 @@ use Rattle.mdcc_messages.specs.declared.facts.Fact.{Fact}
 use Rattle.std.specs.Option.{option_or}
 use Rattle.mdcc_trace_states.specs.Steps.{AreGood, IsFair}
 
-module _ (built : Built) (also : List Entry → Type 0) (cluster : Cluster) (good : AreGood built also) where
+module _ (also : List Entry → Type 0) (cluster : Cluster) (good : AreGood also) where
   -- an input that is fair, within the limits
-  limited-holds : (w : World) (a : ℕ) (input : Input) → Holds also cluster w → is_up_at w a ≡ true → IsFair w.cluster w.ledger input → OkHolds also cluster (input_taken built w a input)
+  limited-holds : (w : World) (a : ℕ) (input : Input) → Holds also cluster w → is_up_at w a ≡ true → IsFair w.cluster w.ledger input → OkHolds also cluster (input_taken w a input)
   limited-holds w a input h up fair =
       let u = is-up also cluster w a h up in
-      unless-holds also cluster (step_limit built w a (step_at built w a input)) (input_happened w a (step_at built w a input))
-      (input-holds also cluster w a (step_at built w a input) h u.centre (good.step w.cluster w.ledger a (centre_at w a).volatile input u fair))
+      unless-holds also cluster (step_limit w a (step_at w a input)) (input_happened w a (step_at w a input))
+      (input-holds also cluster w a (step_at w a input) h u.centre (good.step w.cluster w.ledger a (centre_at w a).volatile input u fair))
 
-  begun-by-holds : (w : World) (a : ℕ) (qs : List Part) (r : Result (List Part) DraftFault) → Holds also cluster w → is_up_at w a ≡ true → transaction_of w.cluster.schema qs ≡ r → OkHolds also cluster (begun_by built w a r)
+  begun-by-holds : (w : World) (a : ℕ) (qs : List Part) (r : Result (List Part) DraftFault) → Holds also cluster w → is_up_at w a ≡ true → transaction_of w.cluster.schema qs ≡ r → OkHolds also cluster (begun_by w a r)
   begun-by-holds w a qs (Err fault) h up e = tt
   begun-by-holds w a qs (Ok parts) h up e =
-      lines-hold also cluster (begin_lines (answer_in (step_at built w a (Input.Begin parts)))) (input_taken built w a (Input.Begin parts))
+      lines-hold also cluster (begin_lines (answer_in (step_at w a (Input.Begin parts)))) (input_taken w a (Input.Begin parts))
       (limited-holds w a (Input.Begin parts) h up (made-transaction w.cluster.schema qs parts e))
 
-  parts-hold : (w : World) (a : ℕ) (r : Result (List Part) ResolveFault) → Holds also cluster w → is_up_at w a ≡ true → OkHolds also cluster (parts_begun built w a r)
+  parts-hold : (w : World) (a : ℕ) (r : Result (List Part) ResolveFault) → Holds also cluster w → is_up_at w a ≡ true → OkHolds also cluster (parts_begun w a r)
   parts-hold w a (Err (ResolveFault.NoRead n)) h up = tt
   parts-hold w a (Err (ResolveFault.NoItem key)) h up = h
   parts-hold w a (Err ResolveFault.Memory) h up = tt
   parts-hold w a (Ok parts) h up = begun-by-holds w a parts (transaction_of w.cluster.schema parts) h up refl
 
-  restart-of-holds : (w : World) (a : ℕ) → Holds also cluster w → is_centre w.cluster a ≡ true → OkHolds also cluster (restart_of built w a)
+  restart-of-holds : (w : World) (a : ℕ) → Holds also cluster w → is_centre w.cluster a ≡ true → OkHolds also cluster (restart_of w a)
   restart-of-holds w a h here =
       unless-holds also cluster
-      (option_or (cells_limit built w a (Fact.Booted (epoch_of (facts_of w.ledger a) + 1))) (log_limit built w a (Fact.Booted (epoch_of (facts_of w.ledger a) + 1))))
-      (restart_happened w a (epoch_of (facts_of w.ledger a) + 1)) (restart-holds built also cluster good w a h here)
+      (option_or (cells_limit w a (Fact.Booted (epoch_of (facts_of w.ledger a) + 1))) (log_limit w a (Fact.Booted (epoch_of (facts_of w.ledger a) + 1))))
+      (restart_happened w a (epoch_of (facts_of w.ledger a) + 1)) (restart-holds also cluster good w a h here)
 
-  happened-holds : (w : World) (event : Event) → Holds also cluster w → OkHolds also cluster (happened_of built w event)
+  happened-holds : (w : World) (event : Event) → Holds also cluster w → OkHolds also cluster (happened_of w event)
   happened-holds w (Event.Read a key) h = up-holds also cluster w a _ (λ up. reads-hold also cluster w _ h)
-  happened-holds w (Event.Begin a words) h = up-holds also cluster w a (begin_of built w a words) (λ up. parts-hold w a (resolve words (map Some w.reads)) h up)
-  happened-holds w (Event.Deliver numbers) h = deliveries-hold built also cluster good numbers (record { world = w; lines = [] }) h
+  happened-holds w (Event.Begin a words) h = up-holds also cluster w a (begin_of w a words) (λ up. parts-hold w a (resolve words (map Some w.reads)) h up)
+  happened-holds w (Event.Deliver numbers) h = deliveries-hold also cluster good numbers (record { world = w; lines = [] }) h
   happened-holds w (Event.Settle listed) h =
-      settled-line also cluster (settled_of (most_events - w.events) built listed (record { world = w; lines = Line.Settle listed ∷ [] }) 0)
-      (settled-holds built also cluster good (most_events - w.events) listed (record { world = w; lines = Line.Settle listed ∷ [] }) 0 h)
-  happened-holds w (Event.Tick a) h = up-holds also cluster w a (tick_of built w a) (λ up. lines-hold also cluster (tick_line a) (input_taken built w a Input.Tick) (limited-holds w a Input.Tick h up tt))
+      settled-line also cluster (settled_of (most_events - w.events) listed (record { world = w; lines = Line.Settle listed ∷ [] }) 0)
+      (settled-holds also cluster good (most_events - w.events) listed (record { world = w; lines = Line.Settle listed ∷ [] }) 0 h)
+  happened-holds w (Event.Tick a) h = up-holds also cluster w a (tick_of w a) (λ up. lines-hold also cluster (tick_line a) (input_taken w a Input.Tick) (limited-holds w a Input.Tick h up tt))
   happened-holds w (Event.Crash a) h = up-holds also cluster w a _ (λ up. down-holds also cluster w a [] h (is-up also cluster w a h up).centre tt h.legal h.placed h.more)
   happened-holds w (Event.Restart a) h =
       elim (cases_Bool (is_up_at w a)) [
@@ -79,22 +78,22 @@ module _ (built : Built) (also : List Entry → Type 0) (cluster : Cluster) (goo
       moved-holds also cluster w a (record { is_up = (centre_at w a).is_up; stop = Some (call, image); volatile = (centre_at w a).volatile }) [] w.sent w.bytes h here tt h.legal h.placed h.more h.sent
       (record { booted = (h.centres a here).booted; keeps = (h.centres a here).keeps }))
 
-  pub event-good : (w : World) (event : Event) → Holds also cluster w → OkHolds also cluster (event_of built w event)
+  pub event-good : (w : World) (event : Event) → Holds also cluster w → OkHolds also cluster (event_of w event)
   event-good w event h =
       elim (cases_Bool (is_deliver event)) [
         | inl e ↦ rw e (happened-holds w event h)
-        | inr e ↦ rw e (within-holds built also cluster w _ (happened-holds (counted_event w) event (event-holds also cluster w h)))
+        | inr e ↦ rw e (within-holds also cluster w _ (happened-holds (counted_event w) event (event-holds also cluster w h)))
       ]
 
-  run-holds : (events : List Event) (h : Happened) → Holds also cluster h.world → Holds also cluster (run_from built events h).world
+  run-holds : (events : List Event) (h : Happened) → Holds also cluster h.world → Holds also cluster (run_from events h).world
   run-holds [] h g = g
-  run-holds (event ∷ events) h g = by_case (λ next k. run-holds events next k) (event_of built h.world event) refl (event-good h.world event g)
+  run-holds (event ∷ events) h g = by_case (λ next k. run-holds events next k) (event_of h.world event) refl (event-good h.world event g)
     where
-      by_case : ((next : Happened) → Holds also cluster next.world → Holds also cluster (run_from built events next).world) → (r : Result Happened EventFault) → event_of built h.world event ≡ r → OkHolds also cluster r →
-          Holds also cluster (run_from built (event ∷ events) h).world
+      by_case : ((next : Happened) → Holds also cluster next.world → Holds also cluster (run_from events next).world) → (r : Result Happened EventFault) → event_of h.world event ≡ r → OkHolds also cluster r →
+          Holds also cluster (run_from (event ∷ events) h).world
       by_case rest (Err fault) e k = rw (e, run_from) g
       by_case rest (Ok next) e k = rw (e, run_from) (rest (after_lines h.lines next) k)
 
   -- the invariant holds at the end of every schedule
-  pub trace-holds : AreQuorums cluster.quorums → (events : List Event) → Holds also cluster (run_of built (first_world cluster) events).world
-  trace-holds sizes events = run-holds events (record { world = first_world cluster; lines = [] }) (first-holds built also cluster sizes good)
+  pub trace-holds : AreQuorums cluster.quorums → (events : List Event) → Holds also cluster (run_of (first_world cluster) events).world
+  trace-holds sizes events = run-holds events (record { world = first_world cluster; lines = [] }) (first-holds also cluster sizes good)

@@ -8,7 +8,6 @@ use Rattle.mdcc_option.specs.declared.items.Part.{Part}
 use Rattle.mdcc_option.specs.declared.schema.Schema.{Schema}
 use Rattle.mdcc_ledger.specs.AllowedLedgers.{IsAllowed}
 use Rattle.mdcc_protocol.specs.Belongs.{is_centre}
-use Rattle.mdcc_switches.specs.Built.{Built}
 use Rattle.mdcc_protocol.specs.Facts.{epoch_of}
 use Rattle.mdcc_ledger.specs.Ledger.{Added, Entry, facts_of}
 use Rattle.mdcc_rules.specs.Node.{step_of}
@@ -43,8 +42,8 @@ pub record IsUp (also : List Entry → Type 0) (cluster : Cluster) (es : List En
   pub keeps : Keeps cluster es a volatile
 
 -- what has to be shown of the nodes: each step on a fair input is good; and what else is known holds of the empty ledger and stays at a boot
-pub record AreGood (built : Built) (also : List Entry → Type 0) : Type 0 where
+pub record AreGood (also : List Entry → Type 0) : Type 0 where
   pub step : (cluster : Cluster) (es : List Entry) (a : ℕ) (volatile : Volatile) (input : Input) → IsUp also cluster es a volatile → IsFair cluster es input →
-      IsGood cluster also es a (step_of built cluster a (facts_of es a) volatile input)
+      IsGood cluster also es a (step_of cluster a (facts_of es a) volatile input)
   pub none : also []
   pub boot : (cluster : Cluster) (es : List Entry) (a n : ℕ) → IsAllowed cluster (Added a (Fact.Booted n) ∷ es) → also es → also (Added a (Fact.Booted n) ∷ es)

@@ -3,7 +3,6 @@
 
 ghost use Rattle.std.specs.Prelude.{List};
 ghost use Rattle.mdcc_option.specs.declared.cluster.Cluster.{Cluster};
-ghost use Rattle.mdcc_switches.specs.Built.{Built};
 ghost use Rattle.mdcc_protocol.specs.IsCluster.{IsCluster};
 ghost use Rattle.mdcc_simulation.specs.State.{first_world};
 ghost use Rattle.mdcc_simulation.specs.Runs.{run_of};
@@ -15,6 +14,6 @@ ghost use Rattle.mdcc_trace_states.specs.Steps.{AreGood};
 /// Where each step of a node is good, every world of a trace is sound, whatever the events are: they may
 /// also name centres, messages or reads that do not exist.
 pub fn good_steps_suffice()
-    ensures world { (built : Built) → AreGood built IsSound → (cluster : Cluster) → IsCluster cluster →
-        (events : List Event) → Holds IsSound cluster (run_of built (first_world cluster) events).world }
+    ensures world { AreGood IsSound → (cluster : Cluster) → IsCluster cluster →
+        (events : List Event) → Holds IsSound cluster (run_of (first_world cluster) events).world }
 {}

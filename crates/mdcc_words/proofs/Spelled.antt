@@ -19,7 +19,6 @@ use Rattle.mdcc_language.specs.Report.{byte_text, body_text, values_text}
 use Rattle.mdcc_language.specs.Updates.{amount_of, amounts_from, amounts_of, add_of, item_of, new_of, set_of, keep_of, is_named, update_of}
 use Rattle.mdcc_language.specs.Words.{refused, text_eq, part_at, part_end, parts_from, behind, end_at, are_plain_digits, is_negative, within, number_of, natural_of, count_of, value_of, is_key, key_of, hex_digit_of, hex_byte_by, onto_bytes, hex_bytes_of, body_by, body_of, values_from, values_of}
 use Rattle.mdcc_words.specs.Spelled.{amount_text, item_text, update_text}
-use Rattle.mdcc_built.specs.Built.{built}
 use Rattle.mdcc_words.proofs.Numerals.{model, plain_digits, plain_numeral, no_sign}
 use Rattle.mdcc_words.proofs.Seams.{bind_ok, guard_ok, part_seam, front_seam, behind_ok, end_ok}
 
@@ -334,7 +333,7 @@ keep_spelled word column update h e =
     ∙ append-nil (decimal read.0))
     ∙ ap update_text same
 
-pub update_spelled : (word : List ℕ) (column : ℕ) (update : UpdateWord) → update_of built word column ≡ Ok update → word ≡ update_text update
+pub update_spelled : (word : List ℕ) (column : ℕ) (update : UpdateWord) → update_of word column ≡ Ok update → word ≡ update_text update
 update_spelled word column update e = by (is_named (codes "new") word) refl (is_named (codes "set") word) refl (is_named (codes "add") word) refl (is_named (codes "keep") word) refl e
   where
     by : (new : Bool) → is_named (codes "new") word ≡ new → (set : Bool) → is_named (codes "set") word ≡ set

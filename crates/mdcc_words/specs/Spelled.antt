@@ -7,7 +7,6 @@ use Rattle.mdcc_language.specs.declared.events.UpdateWord.{UpdateWord}
 use Rattle.mdcc_language.specs.declared.events.UpdateWord.TheVariants.{New, Set, Keep}
 use Rattle.mdcc_language.specs.Report.{body_text, values_text}
 use Rattle.mdcc_language.specs.Updates.{update_of}
-use Rattle.mdcc_built.specs.Built.{built}
 
 -- a body and values, each behind a colon
 abbrev pub item_text : Item → List ℕ
@@ -25,4 +24,4 @@ update_text (Keep number) = codes "keep:" ++ decimal number
 
 -- a word that is read is the text of what is read
 abbrev pub UpdatesAreSpelled : Type 0
-UpdatesAreSpelled = (word : List ℕ) (column : ℕ) (update : UpdateWord) → update_of built word column ≡ Ok update → word ≡ update_text update
+UpdatesAreSpelled = (word : List ℕ) (column : ℕ) (update : UpdateWord) → update_of word column ≡ Ok update → word ≡ update_text update

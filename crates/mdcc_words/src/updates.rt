@@ -1,7 +1,6 @@
 //! Update words.
 ghost use Rattle.std.specs.Prelude.{◌≡◌, ◌+◌, ◌<◌, ◌≤◌, ◌^◌, IfErr, IsTrue, length};
 ghost use Rattle.mdcc_language.specs.Updates.{add_of, item_of, new_of, set_of, keep_of, is_named, update_of};
-ghost use Rattle.mdcc_built.specs.Built.{built};
 ghost use Rattle.mdcc_words.specs.Columns.{with_column_within};
 
 use crate::amounts::amounts_of;
@@ -94,7 +93,7 @@ fn is_named(name: &[u8], word: &[u8]) -> bool
 /// An update word that begins at a column.
 pub fn update_of(word: &[u8], column: usize) -> Result<UpdateWord, TextFault>
     requires { column + length word.now < 2 ^ 64 }
-    ensures value { result ≡ update_of built word.now column }
+    ensures value { result ≡ update_of word.now column }
     ensures column { IfErr result (λ fault. fault.column ≤ column + length word.now) }
 {
     if is_named(b"new", word) {
@@ -112,8 +111,8 @@ pub fn update_of(word: &[u8], column: usize) -> Result<UpdateWord, TextFault>
 
 /// Reads an update word that begins at a column. The column of a fault past 32 bits is told as the last one of 32 bits.
 pub fn parse_update(word: &[u8], column: u32) -> Result<UpdateWord, SchedFault>
-    ensures value { result ≡ with_column_within (update_of built word.now column) }
-    ensures narrow { column + length word.now < 2 ^ 32 → result ≡ update_of built word.now column }
+    ensures value { result ≡ with_column_within (update_of word.now column) }
+    ensures narrow { column + length word.now < 2 ^ 32 → result ≡ update_of word.now column }
 {
     capped(update_of(word, column as usize))
 }

@@ -6,7 +6,6 @@ use Rattle.mdcc_option.specs.Transaction.{transaction_of}
 use Rattle.mdcc_option.specs.declared.cluster.Cluster.{Cluster}
 use Rattle.mdcc_option.specs.declared.items.Known.{Known}
 use Rattle.mdcc_option.specs.declared.items.Part.{Part}
-use Rattle.mdcc_built.specs.Built.{built}
 use Rattle.mdcc_language.specs.Resolve.{resolve}
 use Rattle.mdcc_simulation.specs.State.{World, is_up_at}
 use Rattle.mdcc_simulation.specs.Events.{event_of}
@@ -26,15 +25,15 @@ use Rattle.mdcc_worlds.specs.Beginning.{begin_by, begin_told}
 use Rattle.mdcc_worlds.specs.Words.{IsGivenWord}
 
 module _ (world : TheWorld) (w : World) (a : ℕ) (words : List UpdateWord) (like : IsLike world w) (up : is_up_at w a ≡ true) where
-  told : begin_told built w a words ≡ begin_by built w a (resolve words (map (λ (k : Known). Some k) w.reads))
+  told : begin_told w a words ≡ begin_by w a (resolve words (map (λ (k : Known). Some k) w.reads))
   told = rw up refl
 
   -- it is what its words stand for by the reads that are kept
-  pub begin-as : (r : Result (List Part) ResolveFault) → r ≡ resolve words world.reads → event_of built w (Event.Begin a words) ≡ begin_by built w a r
+  pub begin-as : (r : Result (List Part) ResolveFault) → r ≡ resolve words world.reads → event_of w (Event.Begin a words) ≡ begin_by w a r
   begin-as r is =
-      begin-is built w a words ∙ told
-      ∙ ap (λ (reads : List (Option Known)). begin_by built w a (resolve words reads)) (sym like.records.reads)
-      ∙ ap (λ (r : Result (List Part) ResolveFault). begin_by built w a r) (sym is)
+      begin-is w a words ∙ told
+      ∙ ap (λ (reads : List (Option Known)). begin_by w a (resolve words reads)) (sym like.records.reads)
+      ∙ ap (λ (r : Result (List Part) ResolveFault). begin_by w a r) (sym is)
 
 -- the parts of a transaction are well-formed
 pub formed-parts : (world : TheWorld) (w : World) (words : List UpdateWord) (resolved made : List Part) → IsLike world w → AllByRecursion IsGivenWord words
@@ -50,9 +49,9 @@ pub gives-ok : (r expected : Result (List Part) ResolveFault) (parts : List Part
 gives-ok r expected parts gives is = subst (λ (r : Result (List Part) ResolveFault). GivesUnless is_resolve_memory r expected) is gives
 
 pub unresolved-as : {T : Type 0} (r : Result T EventFault) (new : TheWorld) (before after : List Line) (w : World) (a : ℕ) (fault : ResolveFault) (resolved : Result (List Part) ResolveFault)
-    → GivesUnless is_resolve_memory (Err fault) resolved → Happens new before after r (begin_by built w a (Err fault)) → Happens new before after r (begin_by built w a resolved)
+    → GivesUnless is_resolve_memory (Err fault) resolved → Happens new before after r (begin_by w a (Err fault)) → Happens new before after r (begin_by w a resolved)
 unresolved-as r new before after w a (ResolveFault.NoRead number) resolved gives happens =
-    subst (λ (x : Result (List Part) ResolveFault). Happens new before after r (begin_by built w a x)) gives happens
+    subst (λ (x : Result (List Part) ResolveFault). Happens new before after r (begin_by w a x)) gives happens
 unresolved-as r new before after w a (ResolveFault.NoItem key) resolved gives happens =
-    subst (λ (x : Result (List Part) ResolveFault). Happens new before after r (begin_by built w a x)) gives happens
-unresolved-as r new before after w a ResolveFault.Memory resolved gives happens = memory-happens r new before after (begin_by built w a resolved) happens
+    subst (λ (x : Result (List Part) ResolveFault). Happens new before after r (begin_by w a x)) gives happens
+unresolved-as r new before after w a ResolveFault.Memory resolved gives happens = memory-happens r new before after (begin_by w a resolved) happens

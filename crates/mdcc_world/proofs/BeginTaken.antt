@@ -7,7 +7,6 @@ use Rattle.mdcc_option.specs.declared.faults.BeginFault.{BeginFault}
 use Rattle.mdcc_option.specs.declared.items.Part.{Part}
 use Rattle.mdcc_outcomes.specs.Stands.{Stands as OutcomesStand}
 use Rattle.mdcc_outcomes.specs.declared.outcomes.Outcomes.{Outcomes}
-use Rattle.mdcc_built.specs.Built.{built}
 use Rattle.mdcc_protocol.specs.Facts.{epoch_of}
 use Rattle.mdcc_ledger.specs.Ledger.{facts_of}
 use Rattle.mdcc_protocol.specs.Manager
@@ -38,9 +37,9 @@ entries-are cluster me facts volatile parts = entries-by cluster me facts volati
 
 -- so what is counted by the answer is what the step tells
 pub begun-counted : (outcomes : Outcomes) (w : World) (a : ℕ) (parts : List Part) (step : Step)
-    → Ok step ≡ given (step_at built (counted_event w) a (Input.Begin parts))
+    → Ok step ≡ given (step_at (counted_event w) a (Input.Begin parts))
     → OutcomesStand outcomes w.cluster.quorums (begun_entries a parts (begun_tx step.answer) ++ w.ledger)
-    → OutcomesStand outcomes w.cluster.quorums (entries_of (step_at built (counted_event w) a (Input.Begin parts)) ++ w.ledger)
+    → OutcomesStand outcomes w.cluster.quorums (entries_of (step_at (counted_event w) a (Input.Begin parts)) ++ w.ledger)
 begun-counted outcomes w a parts step itself counted =
     let s = begin_step w.cluster a (facts_of w.ledger a) (centre_at w a).volatile parts in
     let same : step ≡ step_given s = cc in

@@ -10,7 +10,6 @@ use Rattle.mdcc_node.specs.declared.node.Node.{Node}
 use Rattle.mdcc_option.specs.declared.items.Known.{Known}
 use Rattle.mdcc_outcomes.specs.Stands.{Stands as OutcomesStand}
 use Rattle.mdcc_protocol.specs.Belongs.{is_centre}
-use Rattle.mdcc_built.specs.Built.{built}
 use Rattle.mdcc_ledger.specs.Ledger.{facts_of}
 use Rattle.mdcc_protocol.specs.Visible
 use Rattle.mdcc_simulation.specs.State.{World, centre_at, counted_event, is_up_at}
@@ -84,9 +83,9 @@ has-read world new w a key known before lines like up key_itself shown nodes res
 -- its node has taken an input, which is an event
 pub made-counted : (world new : TheWorld) (w : World) (a : ℕ) (input : Input) (made : Result Step StepFault) → IsLike world w → is_up_at w a ≡ true → IsWellFormedInput input → accept_length_in input ≤ 2097152
     → new ≡ record world { nodes = new.nodes; outcomes = new.outcomes; events = world.events + 1 }
-    → OutcomesStand new.outcomes w.cluster.quorums (entries_of (step_at built (counted_event w) a input) ++ w.ledger)
-    → made ≡ given (step_at built (counted_event w) a input)
-    → NodesStand new.nodes.items (input_happened (counted_event w) a (step_at built (counted_event w) a input)).world
+    → OutcomesStand new.outcomes w.cluster.quorums (entries_of (step_at (counted_event w) a input) ++ w.ledger)
+    → made ≡ given (step_at (counted_event w) a input)
+    → NodesStand new.nodes.items (input_happened (counted_event w) a (step_at (counted_event w) a input)).world
     → IsMade new (counted_event w) a input made
 made-counted world new w a input made like up formed short rest outcomes itself nodes = record {
   before = record {

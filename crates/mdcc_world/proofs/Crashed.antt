@@ -4,7 +4,6 @@ use Rattle.std.specs.Prelude.{set}
 use Rattle.std.proofs.lemmas.Bool.{cases_Bool, eqb-true, eq-eqb, le-ltb, lt-ltb}
 use Rattle.std.proofs.lemmas.List.{get_or-set_other, get_or-set_same, length-set}
 use Rattle.mdcc_base.specs.declared.outside.Image.{Image}
-use Rattle.mdcc_built.specs.Built.{built}
 use Rattle.mdcc_logs.specs.Nodes.{CentreStore, IsNodeOf, spare_of}
 use Rattle.mdcc_logs.specs.Stands.{LogsStand, with_fact_at, with_up}
 use Rattle.mdcc_logs.specs.Starting.{cells_with_boot}
@@ -229,20 +228,20 @@ restarted-nodes nodes node w a epoch world centre stand is = record {
 
 -- the limit of its log, where its cells suffice
 pub restart-limit : (w : World) (a : ℕ) → cells_with_boot (facts_of w.ledger a) ≤ w.cluster.cells → nat_lt most_log (log_length (Fact.Booted (next_epoch w a) ∷ facts_of w.ledger a)) ≡ true
-    → restarted built w a ≡ Err (EventFault.Limit LimitName.Log most_log)
+    → restarted w a ≡ Err (EventFault.Limit LimitName.Log most_log)
 restart-limit w a fits full =
     let roomy : nat_lt w.cluster.cells (cells_with_boot (facts_of w.ledger a)) ≡ false = le-ltb w.cluster.cells (cells_with_boot (facts_of w.ledger a)) fits in
     rw (roomy, full) refl
 
 -- the limit of its cells, with the number that is needed
 pub restart-cells : (w : World) (a needed : ℕ) → w.cluster.cells < cells_with_boot (facts_of w.ledger a) → needed ≡ cells_with_boot (facts_of w.ledger a)
-    → restarted built w a ≡ Err (EventFault.Limit LimitName.Cells needed)
+    → restarted w a ≡ Err (EventFault.Limit LimitName.Cells needed)
 restart-cells w a needed lacks is =
     let past : nat_lt w.cluster.cells (cells_with_boot (facts_of w.ledger a)) ≡ true = lt-ltb w.cluster.cells (cells_with_boot (facts_of w.ledger a)) lacks in
     rw (past, is) refl
 
 pub restart-within : (w : World) (a : ℕ) → cells_with_boot (facts_of w.ledger a) ≤ w.cluster.cells → nat_lt most_log (log_length (Fact.Booted (next_epoch w a) ∷ facts_of w.ledger a)) ≡ false
-    → restarted built w a ≡ Ok (restart_happened (counted_event w) a (next_epoch w a))
+    → restarted w a ≡ Ok (restart_happened (counted_event w) a (next_epoch w a))
 restart-within w a fits room =
     let roomy : nat_lt w.cluster.cells (cells_with_boot (facts_of w.ledger a)) ≡ false = le-ltb w.cluster.cells (cells_with_boot (facts_of w.ledger a)) fits in
     rw (roomy, room) refl
@@ -267,16 +266,16 @@ pub has-restarted : (world new : TheWorld) (kept : Logs) (w : World) (a epoch : 
     → LogsStand kept w.cluster.quorums.centres (with_up (is_up_at w) a true) (with_fact_at (facts_of w.ledger) a (Fact.Booted epoch))
     → nat_lt most_log (log_length (Fact.Booted epoch ∷ facts_of w.ledger a)) ≡ false
     → lines ≡ before ++ Line.Restart a epoch ∷ []
-    → Happens {T = Unit {0}} new before lines (Ok tt) (restarted built w a)
+    → Happens {T = Unit {0}} new before lines (Ok tt) (restarted w a)
 has-restarted world new kept w a epoch node before lines like centre early many nine rest armed nodes same is logs room told =
     let counted = counted-stays w like.records.itself in
     let few = like.records.few_reads in
     let standing : NodesStand world.nodes.items (counted_event w) = record { as_many = like.nodes.as_many; each = like.nodes.each } in
-    let within : restarted built w a ≡ Ok (restart_happened (counted_event w) a epoch) =
+    let within : restarted w a ≡ Ok (restart_happened (counted_event w) a epoch) =
     restart-within w a (boot-fits node w.cluster a epoch (facts_of w.ledger a) is) (subst (λ (n : ℕ). nat_lt most_log (log_length (Fact.Booted n ∷ facts_of w.ledger a)) ≡ false) same room)
     ∙ ap (λ (n : ℕ). Ok (restart_happened (counted_event w) a n)) (sym same) in
     let itself : IsWorld (restart_happened (counted_event w) a epoch).world =
-    restarted-stays built w a (restart_happened (counted_event w) a epoch) refl refl like.records.itself centre early within in
+    restarted-stays w a (restart_happened (counted_event w) a epoch) like.records.itself centre early within in
     let ups : UpsStand (set world.up (a - 1) true) (restart_happened (counted_event w) a epoch).world = ups-set (counted_event w) a booted counted centre world.up true many nine refl like.records.ups in
     let stops : StopsStand (set world.stops (a - 1) None) (restart_happened (counted_event w) a epoch).world =
     stops-set (counted_event w) a booted counted centre world.stops None (omega (armed, nine, arith)) refl like.records.stops in

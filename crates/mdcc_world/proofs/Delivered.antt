@@ -4,7 +4,6 @@ use Rattle.std.specs.Option.{option_map}
 use Rattle.std.proofs.lemmas.Bool.{cases_Bool}
 use Rattle.mdcc_mail.specs.Letters.{read}
 use Rattle.mdcc_node.specs.Stepping.{given}
-use Rattle.mdcc_built.specs.Built.{built}
 use Rattle.mdcc_messages.specs.WellFormed.{IsWellFormedEnvelope}
 use Rattle.mdcc_messages.specs.Mailbox.{Sent, numbered, with_delivered}
 use Rattle.mdcc_simulation.specs.State.{World, is_up_at}
@@ -42,11 +41,11 @@ numbered-some xs (suc n) x e = omega arith
 pub some-number : (w : World) (number : ℕ) (envelope : Envelope) → IsSentAs w number envelope → 1 ≤ number
 some-number w number envelope is = numbered-some w.sent number is.sent is.there
 
-up-addressee : (w : World) (number : ℕ) (sent : Sent) → numbered w.sent number ≡ Some sent → at_message built w number ≡ Ok tt → is_up_at w sent.envelope.to ≡ true
+up-addressee : (w : World) (number : ℕ) (sent : Sent) → numbered w.sent number ≡ Some sent → at_message w number ≡ Ok tt → is_up_at w sent.envelope.to ≡ true
 up-addressee w number sent e clear = elim (cases_Bool (is_up_at w sent.envelope.to)) [
   | inl up ↦ up
   | inr down ↦
-      let here : message_by built w number (Some sent) ≡ Ok tt = ap (λ (o : Option Sent). message_by built w number o) (sym e) ∙ clear in
+      let here : message_by w number (Some sent) ≡ Ok tt = ap (λ (o : Option Sent). message_by w number o) (sym e) ∙ clear in
       let bad : Err (EventFault.Down sent.envelope.to) ≡ Ok tt = rw down at here in absurd (cc)
 ]
 
@@ -55,7 +54,7 @@ pub read-there : (is_there : Bool) (envelope : Envelope) (o : Option Envelope) �
 read-there true envelope o some is = is
 read-there false envelope o some is = absurd (cc)
 
-pub some-sent : (w : World) (number : ℕ) (envelope : Envelope) (mail : List Sent) → mail ≡ w.sent → at_message built w number ≡ Ok tt
+pub some-sent : (w : World) (number : ℕ) (envelope : Envelope) (mail : List Sent) → mail ≡ w.sent → at_message w number ≡ Ok tt
     → Some envelope ≡ option_map (λ (sent : Sent). sent.envelope) (numbered mail number) → IsSentAs w number envelope
 some-sent w number envelope mail are clear some = by_sent (numbered w.sent number) refl
   where
@@ -97,8 +96,8 @@ module _ (world : TheWorld) (w : World) (number : ℕ) (envelope : Envelope) (li
   made-there : (new : TheWorld) (made : Result Step StepFault)
       → new ≡ record world { nodes = new.nodes; mail = new.mail; events = world.events + 1 }
       → new.mail ≡ with_delivered world.mail (number - 1)
-      → made ≡ given (step_at built (message_counted w number) envelope.to (Input.Message envelope))
-      → NodesStand new.nodes.items (input_happened (message_counted w number) envelope.to (step_at built (message_counted w number) envelope.to (Input.Message envelope))).world
+      → made ≡ given (step_at (message_counted w number) envelope.to (Input.Message envelope))
+      → NodesStand new.nodes.items (input_happened (message_counted w number) envelope.to (step_at (message_counted w number) envelope.to (Input.Message envelope))).world
       → IsMade new (message_counted w number) envelope.to (Input.Message envelope) made
   made-there new made rest mail itself nodes =
       let after = message_counted w number in
@@ -131,18 +130,18 @@ module _ (world : TheWorld) (w : World) (number : ℕ) (envelope : Envelope) (li
   pub message-made : (new : TheWorld) (a : ℕ) (made : Result Step StepFault) → a ≡ envelope.to
       → new ≡ record world { nodes = new.nodes; mail = new.mail; events = world.events + 1 }
       → new.mail ≡ with_delivered world.mail (number - 1)
-      → made ≡ given (step_at built (message_counted w number) a (Input.Message envelope))
-      → NodesStand new.nodes.items (input_happened (message_counted w number) a (step_at built (message_counted w number) a (Input.Message envelope))).world
+      → made ≡ given (step_at (message_counted w number) a (Input.Message envelope))
+      → NodesStand new.nodes.items (input_happened (message_counted w number) a (step_at (message_counted w number) a (Input.Message envelope))).world
       → IsMessageMade new w number a made
   message-made new a made same rest mail =
       subst (λ (x : ℕ).
-      made ≡ given (step_at built (message_counted w number) x (Input.Message envelope))
-      → NodesStand new.nodes.items (input_happened (message_counted w number) x (step_at built (message_counted w number) x (Input.Message envelope))).world
+      made ≡ given (step_at (message_counted w number) x (Input.Message envelope))
+      → NodesStand new.nodes.items (input_happened (message_counted w number) x (step_at (message_counted w number) x (Input.Message envelope))).world
       → IsMessageMade new w number x made) (sym same)
       (λ itself nodes. record {
         envelope = envelope;
         itself = made-there new made rest mail itself nodes;
-        comes = ap (λ (o : Option Sent). delivery_by built w number o) is.there ∙ subst (λ (e : Envelope). delivery_by built w number (Some is.sent) ≡ delivery_by built w number (Some (record is.sent { envelope = e }))) is.same refl;
+        comes = ap (λ (o : Option Sent). delivery_by w number o) is.there ∙ subst (λ (e : Envelope). delivery_by w number (Some is.sent) ≡ delivery_by w number (Some (record is.sent { envelope = e }))) is.same refl;
       })
 
 -- to whom a message goes
@@ -167,16 +166,16 @@ addressee-within w number a mail world are some = by_sent (numbered w.sent numbe
 
 -- why nothing is delivered to it
 pub addressee-at : (w : World) (number a : ℕ) (mail : List Sent) → mail ≡ w.sent
-    → Some a ≡ option_map (λ (sent : Sent). sent.envelope.to) (numbered mail number) → at_centre built w a ≡ at_message built w number
+    → Some a ≡ option_map (λ (sent : Sent). sent.envelope.to) (numbered mail number) → at_centre w a ≡ at_message w number
 addressee-at w number a mail are some = by_sent (numbered w.sent number) refl
   where
     here : Some a ≡ option_map (λ (sent : Sent). sent.envelope.to) (numbered w.sent number)
     here = some ∙ ap (λ (xs : List Sent). option_map (λ (sent : Sent). sent.envelope.to) (numbered xs number)) are
 
-    by_sent : (o : Option Sent) → numbered w.sent number ≡ o → at_centre built w a ≡ at_message built w number
+    by_sent : (o : Option Sent) → numbered w.sent number ≡ o → at_centre w a ≡ at_message w number
     by_sent None e =
         let none : Some a ≡ None = here ∙ ap (λ (o : Option Sent). option_map (λ (sent : Sent). sent.envelope.to) o) e in absurd (cc)
     by_sent (Some sent) e =
         let is : Some a ≡ Some sent.envelope.to = here ∙ ap (λ (o : Option Sent). option_map (λ (sent : Sent). sent.envelope.to) o) e in
         let same : a ≡ sent.envelope.to = cc in
-        ap (λ (n : ℕ). at_centre built w n) same ∙ sym (ap (λ (o : Option Sent). message_by built w number o) e)
+        ap (λ (n : ℕ). at_centre w n) same ∙ sym (ap (λ (o : Option Sent). message_by w number o) e)

@@ -1,7 +1,6 @@
 -- A deliver line, number by number.
 use Rattle.std.proofs.Common.{◌≡◌, ℕ, ◌∷◌, ◌||◌, Bool, true, false, List, Ok, Err, sym, subst, append-nil}
 use Rattle.std.specs.Bool.{OnFalse}
-use Rattle.mdcc_built.specs.Built.{built}
 use Rattle.mdcc_simulation.specs.State.{Happened, World, after_lines}
 use Rattle.mdcc_simulation.specs.Left.{deliveries_before}
 use Rattle.mdcc_simulation.specs.Deliveries.{deliveries_of, delivery_of}
@@ -19,13 +18,13 @@ use Rattle.mdcc_worlds.specs.Delivering.{IsDelivering, unmoved}
 pub record HasDelivered (world : TheWorld) (before after : List Line) (w : World) (whole left : List ℕ) : Type 0 where
   pub reached : Happened
   pub happened : HasHappened world before after reached
-  pub so_far : IsDelivering built w whole left reached
+  pub so_far : IsDelivering w whole left reached
 
 pub delivers-begin : (world : TheWorld) (lines : List Line) (w : World) (whole : List ℕ) → IsLike world w → HasDelivered world lines lines w whole whole
 delivers-begin world lines w whole like = record {
   reached = unmoved w;
   happened = record { like = like; lines = sym (append-nil lines) };
-  so_far = delivering-begins built w whole;
+  so_far = delivering-begins w whole;
 }
 
 -- a refusal that is neither for want of memory nor for a limit
@@ -39,30 +38,30 @@ refusal-and fault f p q = both (is_memory fault) (is_limit fault) f p q
 
 module _ (world : TheWorld) (before lines : List Line) (w : World) (whole left : List ℕ) (has : HasDelivered world before lines w whole left) where
   pub delivers-go_on : (new : TheWorld) (after : List Line) (number : ℕ) (rest : List ℕ) → left ≡ number ∷ rest
-      → ((v : World) → IsLike world v → Happens {T = Unit {0}} new lines after (Ok tt) (delivery_of built v number))
+      → ((v : World) → IsLike world v → Happens {T = Unit {0}} new lines after (Ok tt) (delivery_of v number))
       → HasDelivered new before after w whole rest
   delivers-go_on new after number rest first happens =
-      let come = has-come {T = Unit {0}} tt new lines after (delivery_of built has.reached.world number) (happens has.reached.world has.happened.like) in
+      let come = has-come {T = Unit {0}} tt new lines after (delivery_of has.reached.world number) (happens has.reached.world has.happened.like) in
       record {
         reached = after_lines has.reached.lines come.h;
         happened = happened-then world new before lines after has.reached come.h has.happened come.happened;
-        so_far = delivering-goes_on built w whole left rest number has.reached come.h first has.so_far come.is;
+        so_far = delivering-goes_on w whole left rest number has.reached come.h first has.so_far come.is;
       }
 
   pub delivers-refused : (number : ℕ) (rest : List ℕ) (fault : EventFault) → left ≡ number ∷ rest
-      → ((v : World) → IsLike world v → OnFalse (is_memory fault) (delivery_of built v number ≡ Err fault))
-      → OnFalse (is_memory fault) (deliveries_of built whole (unmoved w) ≡ Err fault)
+      → ((v : World) → IsLike world v → OnFalse (is_memory fault) (delivery_of v number ≡ Err fault))
+      → OnFalse (is_memory fault) (deliveries_of whole (unmoved w) ≡ Err fault)
   delivers-refused number rest fault first closed =
-      fault-then (is_memory fault) (λ (e : delivery_of built has.reached.world number ≡ Err fault).
-      (delivering-refused built w whole left rest number has.reached fault first has.so_far e).0)
+      fault-then (is_memory fault) (λ (e : delivery_of has.reached.world number ≡ Err fault).
+      (delivering-refused w whole left rest number has.reached fault first has.so_far e).0)
       (closed has.reached.world has.happened.like)
 
   pub delivers-left : (new : TheWorld) (after : List Line) (number : ℕ) (rest : List ℕ) (fault : EventFault) → left ≡ number ∷ rest
-      → ((v : World) → IsLike world v → OnFalse (is_memory fault) (delivery_of built v number ≡ Err fault))
+      → ((v : World) → IsLike world v → OnFalse (is_memory fault) (delivery_of v number ≡ Err fault))
       → OnRefusal {T = Unit {0}} (Err fault) ((new ≡ world) × (after ≡ lines))
-      → OnRefusal {T = Unit {0}} (Err fault) (HasHappened new before after (deliveries_before built whole (unmoved w)))
+      → OnRefusal {T = Unit {0}} (Err fault) (HasHappened new before after (deliveries_before whole (unmoved w)))
   delivers-left new after number rest fault first closed kept =
-      refusal-and fault (λ (same : (new ≡ world) × (after ≡ lines)) (e : delivery_of built has.reached.world number ≡ Err fault).
-      let reached = (delivering-refused built w whole left rest number has.reached fault first has.so_far e).1 in
+      refusal-and fault (λ (same : (new ≡ world) × (after ≡ lines)) (e : delivery_of has.reached.world number ≡ Err fault).
+      let reached = (delivering-refused w whole left rest number has.reached fault first has.so_far e).1 in
       rw (same.0, same.1) (subst (λ (h : Happened). HasHappened world before lines h) (sym reached) has.happened))
       kept (closed has.reached.world has.happened.like)

@@ -3,7 +3,6 @@ use Rattle.std.proofs.Common.{◌≡◌, ℕ, ◌≤◌, Bool, true, false, List
 use Rattle.std.specs.Option.{option_or}
 use Rattle.mdcc_logs.specs.Stands.{LogsStand}
 use Rattle.mdcc_protocol.specs.Belongs.{is_centre}
-use Rattle.mdcc_built.specs.Built.{built}
 use Rattle.mdcc_ledger.specs.Ledger.{facts_of}
 use Rattle.mdcc_messages.specs.Lengths.{fact_length, log_length}
 use Rattle.mdcc_messages.specs.WellFormed.{IsWellFormedEnvelope, IsWellFormedFact}
@@ -32,10 +31,10 @@ use Rattle.mdcc_worlds.proofs.Stays.{log-few, some-centre}
 abbrev full : EventFault
 full = EventFault.Limit LimitName.Log most_log
 
-pub log-full : (w : World) (a : ℕ) (fact : Fact) (b : Bool) → b ≡ nat_lt most_log (log_length (fact ∷ facts_of w.ledger a)) → b ≡ true → Err full ≡ may_be (log_limit built w a fact)
+pub log-full : (w : World) (a : ℕ) (fact : Fact) (b : Bool) → b ≡ nat_lt most_log (log_length (fact ∷ facts_of w.ledger a)) → b ≡ true → Err full ≡ may_be (log_limit w a fact)
 log-full w a fact b is e = let passed : nat_lt most_log (log_length (fact ∷ facts_of w.ledger a)) ≡ true = sym is ∙ e in rw passed refl
 
-pub log-room : (w : World) (a : ℕ) (fact : Fact) (b : Bool) → b ≡ nat_lt most_log (log_length (fact ∷ facts_of w.ledger a)) → b ≡ false → clear ≡ may_be (log_limit built w a fact)
+pub log-room : (w : World) (a : ℕ) (fact : Fact) (b : Bool) → b ≡ nat_lt most_log (log_length (fact ∷ facts_of w.ledger a)) → b ≡ false → clear ≡ may_be (log_limit w a fact)
 log-room w a fact b is e = let within : nat_lt most_log (log_length (fact ∷ facts_of w.ledger a)) ≡ false = sym is ∙ e in rw within refl
 
 -- a centre has a log
@@ -49,8 +48,8 @@ log-there world w a centre stand =
 -- ---- what a step lets out
 
 module _ (world : TheWorld) (w : World) (a : ℕ) (input : Input) (step : Step) (made : IsMade world w a input (Ok step)) where
-  abbrev gave : (s : NodeStep) × (step_at built w a input ≡ Ok s) × (step ≡ step_given s)
-  gave = ok-given step (step_at built w a input) made.before.step_itself
+  abbrev gave : (s : NodeStep) × (step_at w a input ≡ Ok s) × (step ≡ step_given s)
+  gave = ok-given step (step_at w a input) made.before.step_itself
 
   pub step-measures : Measures world w a
   step-measures = record { up = made.before.up; bytes = made.before.records.bytes; logs = made.before.logs }
@@ -58,7 +57,7 @@ module _ (world : TheWorld) (w : World) (a : ℕ) (input : Input) (step : Step) 
   pub step-sends : AllByRecursion IsWellFormedEnvelope step.sends
   step-sends =
       let node = made.before.records.itself.nodes a made.before.centre in
-      let formed = sends-formed built w.cluster a (facts_of w.ledger a) (centre_at w a).volatile input gave.0 node made.before.well_formed gave.1 (log-few built w a made.before.records.itself made.before.centre) in
+      let formed = sends-formed w.cluster a (facts_of w.ledger a) (centre_at w a).volatile input gave.0 node made.before.well_formed gave.1 (log-few w a made.before.records.itself made.before.centre) in
       subst (λ (xs : List Envelope). AllByRecursion IsWellFormedEnvelope xs) (sym (ap (λ (x : Step). x.sends) gave.2)) formed
 
   fact-given : (fact : Fact) → step.fact ≡ Some fact → gave.0.fact ≡ Some fact
@@ -67,12 +66,12 @@ module _ (world : TheWorld) (w : World) (a : ℕ) (input : Input) (step : Step) 
   pub step-formed : (fact : Fact) → step.fact ≡ Some fact → IsWellFormedFact fact
   step-formed fact e =
       let node = made.before.records.itself.nodes a made.before.centre in
-      fact-formed built w.cluster a (facts_of w.ledger a) (centre_at w a).volatile input gave.0 node made.before.well_formed gave.1 fact (fact-given fact e)
+      fact-formed w.cluster a (facts_of w.ledger a) (centre_at w a).volatile input gave.0 node made.before.well_formed gave.1 fact (fact-given fact e)
 
   pub step-short : (fact : Fact) → step.fact ≡ Some fact → fact_length fact ≤ 2097152
   step-short fact e =
       let node = made.before.records.itself.nodes a made.before.centre in
-      fact-short built w.cluster a (facts_of w.ledger a) (centre_at w a).volatile input gave.0 fact made.before.short node made.before.well_formed gave.1 (fact-given fact e)
+      fact-short w.cluster a (facts_of w.ledger a) (centre_at w a).volatile input gave.0 fact made.before.short node made.before.well_formed gave.1 (fact-given fact e)
 
   formed-by : (o : Option Fact) → step.fact ≡ o → IsFormed o
   formed-by None e = tt

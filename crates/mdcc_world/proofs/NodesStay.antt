@@ -15,7 +15,6 @@ use Rattle.mdcc_node.specs.Stepping.{UnlessMemory, facts_left, is_memory, volati
 use Rattle.mdcc_node.specs.declared.node.Node.{Node}
 use Rattle.mdcc_option.specs.declared.cluster.Cluster.{Cluster}
 use Rattle.mdcc_protocol.specs.Belongs.{is_centre}
-use Rattle.mdcc_built.specs.Built.{built}
 use Rattle.mdcc_protocol.specs.Volatile.{Volatile}
 use Rattle.mdcc_ledger.specs.Ledger.{facts_of}
 use Rattle.mdcc_rules.specs.Steps.{NodeStep}
@@ -148,13 +147,13 @@ module _ (nodes : List (Node CentreStore)) (w : World) (place : ℕ) (node : Nod
     | inr e ↦ rw e (gone None)
   ]
 
-  pub nodes-stay : (input : Input) → IsWellFormedInput input → (r : Result NodeStep StepFault) → step_at built w (place + 1) input ≡ r
+  pub nodes-stay : (input : Input) → IsWellFormedInput input → (r : Result NodeStep StepFault) → step_at w (place + 1) input ≡ r
       → IsNodeOf node w.cluster (place + 1) (facts_left (facts_of w.ledger (place + 1)) r) (volatile_left (centre_at w (place + 1)).volatile r)
       → NodesStand (set nodes place node) (input_happened w (place + 1) r).world
   nodes-stay input formed (Err fault) e after = rw (refused-same w (place + 1) fault) (refused after)
   nodes-stay input formed (Ok step) e after =
       by_fact step
-      (made step (made-stays built w.cluster (place + 1) (facts_of w.ledger (place + 1)) (centre_at w (place + 1)).volatile input step world.cluster_itself.quorums formed e) after)
+      (made step (made-stays w.cluster (place + 1) (facts_of w.ledger (place + 1)) (centre_at w (place + 1)).volatile input step world.cluster_itself.quorums formed e) after)
       step.fact refl (centre_at w (place + 1)).stop refl
     where
       by_fact : (step : NodeStep) → NodesStand (set nodes place node) (world_taken w (place + 1) step) → (o : Option Fact) → step.fact ≡ o
@@ -198,21 +197,21 @@ node-at nodes w a node standing up some few is =
 
 pub after-step : (nodes : List (Node CentreStore)) (w : World) (a : ℕ) (node : Node CentreStore) (input : Input) → NodesStand nodes w → IsWorld w
     → 1 ≤ a → a ≤ length nodes → IsWellFormedInput input
-    → IsNodeOf node w.cluster a (facts_left (facts_of w.ledger a) (step_at built w a input)) (volatile_left (centre_at w a).volatile (step_at built w a input))
-    → NodesStand (set nodes (a - 1) node) (input_happened w a (step_at built w a input)).world
+    → IsNodeOf node w.cluster a (facts_left (facts_of w.ledger a) (step_at w a input)) (volatile_left (centre_at w a).volatile (step_at w a input))
+    → NodesStand (set nodes (a - 1) node) (input_happened w a (step_at w a input)).world
 after-step nodes w a node input standing world some few formed =
     let back : a - 1 + 1 ≡ a = omega (some, arith) in
     let within : a - 1 < length nodes = omega (some, few, arith) in
     subst (λ (b : ℕ).
-    IsNodeOf node w.cluster b (facts_left (facts_of w.ledger b) (step_at built w b input)) (volatile_left (centre_at w b).volatile (step_at built w b input))
-    → NodesStand (set nodes (a - 1) node) (input_happened w b (step_at built w b input)).world) back
-    (λ after. nodes-stay nodes w (a - 1) node standing world within input formed (step_at built w (a - 1 + 1) input) refl after)
+    IsNodeOf node w.cluster b (facts_left (facts_of w.ledger b) (step_at w b input)) (volatile_left (centre_at w b).volatile (step_at w b input))
+    → NodesStand (set nodes (a - 1) node) (input_happened w b (step_at w b input)).world) back
+    (λ after. nodes-stay nodes w (a - 1) node standing world within input formed (step_at w (a - 1 + 1) input) refl after)
 
 -- ---- what is made of an input
 
 -- a read leaves the nodes as they were
 pub read-left : (nodes : List (Node CentreStore)) (w : World) (a : ℕ) (key : Key) → IsWorld w → is_centre w.cluster a ≡ true
-    → NodesStand nodes (input_happened w a (step_at built w a (Input.Read key))).world → NodesStand nodes w
+    → NodesStand nodes (input_happened w a (step_at w a (Input.Read key))).world → NodesStand nodes w
 read-left nodes w a key world centre stand = record {
   as_many = stand.as_many;
   each = λ place node at up.
@@ -251,13 +250,13 @@ made-kept (Err fault) r step P some left = tt
 
 -- the nodes after a step that is as the definition's
 pub stepped : (nodes : List (Node CentreStore)) (w : World) (a place : ℕ) (node : Node CentreStore) (input : Input) → NodesStand nodes w → IsWorld w
-    → 1 ≤ a → a ≤ length nodes → place ≡ a → IsWellFormedInput input → (expected : Result NodeStep StepFault) → expected ≡ step_at built w a input
+    → 1 ≤ a → a ≤ length nodes → place ≡ a → IsWellFormedInput input → (expected : Result NodeStep StepFault) → expected ≡ step_at w a input
     → {T : Type 0} (step : Result T StepFault)
     → UnlessMemory step (IsNodeOf node w.cluster a (facts_left (facts_of w.ledger a) expected) (volatile_left (centre_at w a).volatile expected))
-    → UnlessMemory step (NodesStand (set nodes (place - 1) node) (input_happened w a (step_at built w a input)).world)
+    → UnlessMemory step (NodesStand (set nodes (place - 1) node) (input_happened w a (step_at w a input)).world)
 stepped nodes w a place node input standing world some few there formed expected is step left =
     unless-weaker step (λ after.
-    subst (λ (n : ℕ). NodesStand (set nodes (n - 1) node) (input_happened w a (step_at built w a input)).world) (sym there)
+    subst (λ (n : ℕ). NodesStand (set nodes (n - 1) node) (input_happened w a (step_at w a input)).world) (sym there)
     (after-step nodes w a node input standing world some few formed
     (subst (λ (r : Result NodeStep StepFault). IsNodeOf node w.cluster a (facts_left (facts_of w.ledger a) r) (volatile_left (centre_at w a).volatile r)) is after)))
     left

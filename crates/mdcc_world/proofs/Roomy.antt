@@ -2,7 +2,6 @@
 use Rattle.std.proofs.Common.{◌≡◌, ℕ, ◌+◌, ◌-◌, List, inl, inr, Option, Some, None, Result, Ok, Err, refl, subst, arith}
 use Rattle.std.proofs.lemmas.Bool.{cases_Bool}
 use Rattle.mdcc_base.specs.Unless.{GivesUnless}
-use Rattle.mdcc_built.specs.Built.{built}
 use Rattle.mdcc_logs.specs.Nodes.{CentreStore, IsNodeOf, are_stored, needed_in, spare_of}
 use Rattle.mdcc_messages.specs.Lengths.{cells_needed, cells_used}
 use Rattle.mdcc_messages.specs.declared.facts.Fact.{Fact}
@@ -25,9 +24,9 @@ left-over spare used all e = omega (e, arith)
 
 module _ (node : Node CentreStore) (cluster : Cluster) (me : ℕ) (facts : List Fact) (volatile : Volatile) (is : IsNodeOf node cluster me facts volatile) where
   -- its step is the one of the definitions
-  pub step-roomy : (input : Input) → step_by (room_of spare_of needed_in node.store) built cluster me facts volatile input ≡ step_of built cluster me facts volatile input
+  pub step-roomy : (input : Input) → step_by (room_of spare_of needed_in node.store) cluster me facts volatile input ≡ step_of cluster me facts volatile input
   step-roomy input =
-      counted_steps (room_of spare_of needed_in node.store) built cluster me facts volatile input refl (left-over (spare_of node.store) (cells_used facts) cluster.cells is.spare) (λ fact. refl)
+      counted_steps (room_of spare_of needed_in node.store) cluster me facts volatile input (left-over (spare_of node.store) (cells_used facts) cluster.cells is.spare) (λ fact. refl)
 
   module _ (after : Node CentreStore) where
     spent : (o : Option Fact) → spare_of after.store + cells_taken (needed_in node.store) o ≡ spare_of node.store → spare_of after.store + cells_used (with_new facts o) ≡ cluster.cells

@@ -6,7 +6,6 @@ use Rattle.std.specs.Option.{option_map}
 use Rattle.std.specs.Prelude.{IfSome, slice_get, not}
 use Rattle.std.proofs.lemmas.Bool.{and_parts, cases_Bool, leb-true, ltb-true}
 use Rattle.mdcc_mail.specs.Waiting.{before_first, first_to, waits_among}
-use Rattle.mdcc_built.specs.Built.{built}
 use Rattle.mdcc_messages.specs.Mailbox.{Sent, numbered}
 use Rattle.mdcc_simulation.specs.State.{World, after_lines, is_up_at, next_message}
 use Rattle.mdcc_simulation.specs.Events.{event_of}
@@ -97,62 +96,62 @@ none-waits w listed next = by_first (first_waiting w listed 1 w.sent) next
     by_first (Some next) k = absurd (cc)
 
 -- nothing keeps it back, where there may be one more event
-open-limit : (w : World) → w.events < most_events → at_limit built w ≡ Ok tt
+open-limit : (w : World) → w.events < most_events → at_limit w ≡ Ok tt
 open-limit w few = elim (cases_Bool (nat_le most_events w.events)) [
   | inl e ↦ let full = leb-true most_events w.events e in absurd (omega (few, full, arith))
   | inr e ↦ rw e refl
 ]
 
 pub clear-next : (w : World) (listed centres : List ℕ) (number : Option ℕ) → AreAsked w listed centres → number ≡ first_to centres w.sent → w.events < 100000
-    → IfSome number (λ n. at_message built w n ≡ Ok tt)
+    → IfSome number (λ n. at_message w n ≡ Ok tt)
 clear-next w listed centres None are first few = tt
 clear-next w listed centres (Some number) are first few =
     let there = first-there centres w.sent number first in
     let to = there.message.envelope.to in
     let up = and_parts (is_up_at w to) (is_named listed to) (sym (are to) ∙ there.among) in
-    let clear : message_by built w number (Some there.message) ≡ Ok tt = rw up.0 (open-limit w few) in
-    ap (λ (o : Option Sent). message_by built w number o) there.there ∙ clear
+    let clear : message_by w number (Some there.message) ≡ Ok tt = rw up.0 (open-limit w few) in
+    ap (λ (o : Option Sent). message_by w number o) there.there ∙ clear
 
 -- ---- the settle
 
 module _ (world : TheWorld) (before lines : List Line) (w : World) (listed : List ℕ) (deliveries : ℕ) (has : HasSettled world before lines w listed deliveries) where
   pub settle-goes_on : (new : TheWorld) (after : List Line) (number : ℕ) → IsNext has.reached.world listed (Some number) → world.events < 100000
-      → Happens {T = Unit {0}} new lines after (Ok tt) (delivery built has.reached.world number)
+      → Happens {T = Unit {0}} new lines after (Ok tt) (delivery has.reached.world number)
       → HasSettled new before after w listed (deliveries + 1)
   settle-goes_on new after number next few happens =
       let waits = some-waits has.reached.world listed number next in
-      let come = has-come {T = Unit {0}} tt new lines after (delivery built has.reached.world number) happens in
+      let come = has-come {T = Unit {0}} tt new lines after (delivery has.reached.world number) happens in
       let events = has.happened.like.records.events in
-      let is : delivery built has.reached.world waits.next.0 ≡ Ok come.h = ap (λ (n : ℕ). delivery built has.reached.world n) waits.numbers ∙ come.is in
+      let is : delivery has.reached.world waits.next.0 ≡ Ok come.h = ap (λ (n : ℕ). delivery has.reached.world n) waits.numbers ∙ come.is in
       record {
         reached = after_lines has.reached.lines come.h;
         happened = happened-then world new before lines after has.reached come.h has.happened come.happened;
-        so_far = settling-goes_on built w listed has.reached come.h deliveries waits.next has.so_far waits.waits (omega (events, few, arith)) is;
+        so_far = settling-goes_on w listed has.reached come.h deliveries waits.next has.so_far waits.waits (omega (events, few, arith)) is;
       }
 
   pub settle-breaks : (number : ℕ) (fault : EventFault) → IsNext has.reached.world listed (Some number) → world.events < 100000 → w.events < 100000
-      → OnFalse (is_memory fault) (delivery built has.reached.world number ≡ Err fault)
-      → OnFalse (is_memory fault) (event_of built w (Event.Settle listed) ≡ Err fault)
+      → OnFalse (is_memory fault) (delivery has.reached.world number ≡ Err fault)
+      → OnFalse (is_memory fault) (event_of w (Event.Settle listed) ≡ Err fault)
   settle-breaks number fault next few begun refused =
       let waits = some-waits has.reached.world listed number next in
       let events = has.happened.like.records.events in
-      fault-then (is_memory fault) (λ (e : delivery built has.reached.world number ≡ Err fault).
-      settling-breaks built w listed has.reached deliveries waits.next fault has.so_far waits.waits (omega (events, few, arith)) begun
-      (ap (λ (n : ℕ). delivery built has.reached.world n) waits.numbers ∙ e)) refused
+      fault-then (is_memory fault) (λ (e : delivery has.reached.world number ≡ Err fault).
+      settling-breaks w listed has.reached deliveries waits.next fault has.so_far waits.waits (omega (events, few, arith)) begun
+      (ap (λ (n : ℕ). delivery has.reached.world n) waits.numbers ∙ e)) refused
 
   pub settle-ends : (new : TheWorld) → new ≡ world → IsNext has.reached.world listed None → w.events < 100000 → EndsAfter new before lines w listed deliveries
   settle-ends new same next few = record {
     reached = has.reached;
     happened = record { like = subst (λ (x : TheWorld). IsLike x has.reached.world) (sym same) has.happened.like; lines = has.happened.lines };
-    answer = settling-ends built w listed has.reached deliveries has.so_far (none-waits has.reached.world listed next) few;
+    answer = settling-ends w listed has.reached deliveries has.so_far (none-waits has.reached.world listed next) few;
   }
 
   pub settle-stops : (number : ℕ) → IsNext has.reached.world listed (Some number) → 100000 ≤ world.events
-      → event_of built w (Event.Settle listed) ≡ Err (EventFault.Limit LimitName.Events most_events)
+      → event_of w (Event.Settle listed) ≡ Err (EventFault.Limit LimitName.Events most_events)
   settle-stops number next full =
       let waits = some-waits has.reached.world listed number next in
       let events = has.happened.like.records.events in
-      settling-stops built w listed has.reached deliveries waits.next has.so_far waits.waits (omega (events, full, arith))
+      settling-stops w listed has.reached deliveries waits.next has.so_far waits.waits (omega (events, full, arith))
 
 -- a settle begins with no delivery
 pub settle-begins : (world : TheWorld) (before lines : List Line) (w : World) (listed : List ℕ) → HasHappened world before lines (settle_told w listed)
@@ -160,13 +159,13 @@ pub settle-begins : (world : TheWorld) (before lines : List Line) (w : World) (l
 settle-begins world before lines w listed happened = record {
   reached = settle_told w listed;
   happened = happened;
-  so_far = settling-begins built w listed;
+  so_far = settling-begins w listed;
 }
 
 -- the line of the end
 pub settle-told : (world : TheWorld) (before lines after : List Line) (w : World) (listed : List ℕ) (deliveries next : ℕ) → EndsAfter world before lines w listed deliveries
     → next ≡ length world.mail + 1 → after ≡ lines ++ Line.Settled deliveries next ∷ []
-    → Happens {T = Unit {0}} world before after (Ok tt) (event_of built w (Event.Settle listed))
+    → Happens {T = Unit {0}} world before after (Ok tt) (event_of w (Event.Settle listed))
 settle-told world before lines after w listed deliveries next ends number told =
     let same : next ≡ next_message ends.reached.world = number ∙ ap (λ (sent : List Sent). length sent + 1) ends.happened.like.records.mail in
     rw ends.answer (record {
@@ -177,12 +176,12 @@ settle-told world before lines after w listed deliveries next ends number told =
     })
 
 -- where there were as many events as there may be before the line
-pub settle-at_limit : (w : World) (listed : List ℕ) (fault : EventFault) → Err fault ≡ at_limit built w → event_of built w (Event.Settle listed) ≡ Err fault
+pub settle-at_limit : (w : World) (listed : List ℕ) (fault : EventFault) → Err fault ≡ at_limit w → event_of w (Event.Settle listed) ≡ Err fault
 settle-at_limit w listed fault closed = elim (cases_Bool (nat_le most_events w.events)) [
   | inl e ↦
       let is : Err fault ≡ Err (EventFault.Limit LimitName.Events most_events) = rw e at closed in
       let same : EventFault.Limit LimitName.Events most_events ≡ fault = cc in
-      settle-closed built w listed refl (leb-true most_events w.events e) ∙ ap (λ (f : EventFault). Err f) same
+      settle-closed w listed (leb-true most_events w.events e) ∙ ap (λ (f : EventFault). Err f) same
   | inr e ↦ let is : Err fault ≡ Ok tt = rw e at closed in absurd (cc)
 ]
 

@@ -5,7 +5,6 @@ use Rattle.std.specs.Prelude.{set}
 use Rattle.std.proofs.lemmas.Bool.{cases_Bool}
 use Rattle.mdcc_base.specs.Sizes.{Sizes}
 use Rattle.mdcc_base.specs.declared.outside.Image.{Image}
-use Rattle.mdcc_built.specs.Built.{built}
 use Rattle.mdcc_ledger.specs.Ledger.{Added, Entry, facts_of}
 use Rattle.mdcc_logs.specs.Stands.{LogsStand, with_fact_at, with_up}
 use Rattle.mdcc_logs.specs.Stopping as logs
@@ -70,7 +69,7 @@ begin-adds_none cluster me facts volatile parts = no-fact cluster me facts volat
 
 module _ (world : TheWorld) (w : World) (a : ℕ) (input : Input) (step : Step) (made : IsMade world w a input (Ok step)) (fact : Fact) (has : step.fact ≡ Some fact) where
   abbrev result : Result NodeStep StepFault
-  result = step_at built w a input
+  result = step_at w a input
 
   abbrev gave : (s : NodeStep) × (result ≡ Ok s) × (step ≡ step_given s)
   gave = ok-given step result made.before.step_itself
@@ -85,7 +84,7 @@ module _ (world : TheWorld) (w : World) (a : ℕ) (input : Input) (step : Step) 
   other : is_begin input ≡ false
   other = by_input input refl gave.1
     where
-      by_input : (i : Input) → input ≡ i → step_at built w a i ≡ Ok s → is_begin i ≡ false
+      by_input : (i : Input) → input ≡ i → step_at w a i ≡ Ok s → is_begin i ≡ false
       by_input Input.Tick e k = refl
       by_input (Input.Message envelope) e k = refl
       by_input (Input.Read key) e k = refl
@@ -101,7 +100,7 @@ module _ (world : TheWorld) (w : World) (a : ℕ) (input : Input) (step : Step) 
       let here : OutcomesStand world.outcomes w.cluster.quorums (s.entries ++ w.ledger) =
       subst (λ (r : Result NodeStep StepFault). OutcomesStand world.outcomes w.cluster.quorums (entries_of r ++ w.ledger)) gave.1 made.before.outcomes in
       valued-uncounted world.outcomes w.cluster.quorums a s.entries w.ledger
-      (made-quiet built w.cluster a (facts_of w.ledger a) (centre_at w a).volatile input s made.before.records.itself.cluster_itself.quorums made.before.well_formed other gave.1) here
+      (made-quiet w.cluster a (facts_of w.ledger a) (centre_at w a).volatile input s made.before.records.itself.cluster_itself.quorums made.before.well_formed other gave.1) here
 
   module _ (call : ℕ) (image : Image) (armed : get_or world.stops (a - 1) None ≡ Some (call, image)) where
     stop-here : (centre_at w a).stop ≡ Some (call, image)
@@ -111,17 +110,17 @@ module _ (world : TheWorld) (w : World) (a : ℕ) (input : Input) (step : Step) 
     happens =
         ap (input_happened w a) gave.1 ∙ ap (step_happened_by w a s) fact-is ∙ ap (fact_happened w a s fact) stop-here
 
-    comes : input_limited built w a result ≡ told_stopped built w a fact (call, image)
+    comes : input_limited w a result ≡ told_stopped w a fact (call, image)
     comes =
-        input-is built w a result ∙ ap (step_told built w a) gave.1 ∙ ap (λ (o : Option Fact). told_by built w a s o (centre_at w a).stop) fact-is
-        ∙ ap (told_by built w a s (Some fact)) stop-here
+        input-is w a result ∙ ap (step_told w a) gave.1 ∙ ap (λ (o : Option Fact). told_by w a s o (centre_at w a).stop) fact-is
+        ∙ ap (told_by w a s (Some fact)) stop-here
 
     -- the limit of the log refuses it
-    pub stop-refused : (fault : EventFault) → Err fault ≡ may_be (log_limit built w a fact)
-        → OnFalse (is_memory fault) (input_limited built w a (step_at built w a input) ≡ Err fault)
+    pub stop-refused : (fault : EventFault) → Err fault ≡ may_be (log_limit w a fact)
+        → OnFalse (is_memory fault) (input_limited w a (step_at w a input) ≡ Err fault)
     stop-refused fault closed =
         any-fault (is_memory fault)
-        (comes ∙ ap (λ (o : Option EventFault). unless o (step_stopped w a fact (call, image))) (limited (log_limit built w a fact) fault closed))
+        (comes ∙ ap (λ (o : Option EventFault). unless o (step_stopped w a fact (call, image))) (limited (log_limit w a fact) fault closed))
 
     module _ (new : TheWorld)
         (rest : new ≡ record world { up = set world.up (a - 1) false; stops = set world.stops (a - 1) None; logs = new.logs; outcomes = new.outcomes })
@@ -158,17 +157,17 @@ module _ (world : TheWorld) (w : World) (a : ℕ) (input : Input) (step : Step) 
           facts-down None b = refl
           facts-down (Some new) b = refl
 
-      pub step-stops : (before lines : List Line) → log_limit built w a fact ≡ None
+      pub step-stops : (before lines : List Line) → log_limit w a fact ≡ None
           → LogsStand new.logs w.cluster.quorums.centres (with_up (is_up_at w) a false) (kept_facts (facts_of w.ledger) a fact call image)
           → ((quorums : Sizes) (entries : List Entry) → OutcomesStand world.outcomes quorums entries → OutcomesStand new.outcomes quorums (kept_entries a fact call image entries))
           → ((quorums : Sizes) (entries : List Entry) → OutcomesStand world.outcomes quorums entries
           → lines ≡ (before ++ Line.Stopped a ∷ []) ++ kept_lines quorums a fact call image entries)
-          → Happens {T = Unit {0}} new before lines (Ok tt) (input_limited built w a (step_at built w a input))
+          → Happens {T = Unit {0}} new before lines (Ok tt) (input_limited w a (step_at w a input))
       step-stops before lines within logs ledger told =
-          let is : input_limited built w a result ≡ Ok (step_stopped w a fact (call, image)) =
+          let is : input_limited w a result ≡ Ok (step_stopped w a fact (call, image)) =
           comes ∙ ap (λ (o : Option EventFault). unless o (step_stopped w a fact (call, image))) within in
           let itself : IsWorld (step_stopped w a fact (call, image)).world =
-          limited-stays built w a input (step_stopped w a fact (call, image)) refl refl made.before.records.itself made.before.centre made.before.well_formed is in
+          limited-stays w a input (step_stopped w a fact (call, image)) made.before.records.itself made.before.centre made.before.well_formed is in
           let nodes : NodesStand world.nodes.items (step_stopped w a fact (call, image)).world =
           subst (λ (h : Happened). NodesStand world.nodes.items h.world) happens made.nodes in
           let counted = ledger w.cluster.quorums w.ledger uncounted in

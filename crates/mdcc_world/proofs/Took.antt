@@ -14,7 +14,6 @@ use Rattle.mdcc_outcomes.specs.Stands.{Stands as OutcomesStand}
 use Rattle.mdcc_outcomes.specs.declared.outcomes.Outcomes.{Outcomes}
 use Rattle.mdcc_option.specs.declared.choices.Outcome.{Outcome}
 use Rattle.mdcc_protocol.specs.Belongs.{is_centre}
-use Rattle.mdcc_built.specs.Built.{built}
 use Rattle.mdcc_ledger.specs.Ledger.{Added, Begun, Entry, Valued, facts_of, new_outcomes}
 use Rattle.mdcc_messages.specs.Lengths.{messages_length}
 use Rattle.mdcc_protocol.specs.Marks.{is_commit}
@@ -98,14 +97,14 @@ valued-uncounted outcomes quorums me (Valued centre key version ballot options �
 
 -- what an input tells beside its fact, but a begin
 pub input-counted : (outcomes : Outcomes) (w : World) (a : ℕ) (input : Input) → IsWorld w → IsWellFormedInput input → is_begin input ≡ false
-    → OutcomesStand outcomes w.cluster.quorums w.ledger → OutcomesStand outcomes w.cluster.quorums (entries_of (step_at built w a input) ++ w.ledger)
-input-counted outcomes w a input stands formed other counted = by_result (step_at built w a input) refl
+    → OutcomesStand outcomes w.cluster.quorums w.ledger → OutcomesStand outcomes w.cluster.quorums (entries_of (step_at w a input) ++ w.ledger)
+input-counted outcomes w a input stands formed other counted = by_result (step_at w a input) refl
   where
-    by_result : (r : Result NodeStep StepFault) → step_at built w a input ≡ r → OutcomesStand outcomes w.cluster.quorums (entries_of r ++ w.ledger)
+    by_result : (r : Result NodeStep StepFault) → step_at w a input ≡ r → OutcomesStand outcomes w.cluster.quorums (entries_of r ++ w.ledger)
     by_result (Err fault) e = counted
     by_result (Ok step) e =
         valued-counted outcomes w.cluster.quorums a step.entries w.ledger
-        (made-quiet built w.cluster a (facts_of w.ledger a) (centre_at w a).volatile input step stands.cluster_itself.quorums formed other e) counted
+        (made-quiet w.cluster a (facts_of w.ledger a) (centre_at w a).volatile input step stands.cluster_itself.quorums formed other e) counted
 
 pub booted-counted : (outcomes : Outcomes) (quorums : Sizes) (entries : List Entry) (a epoch : ℕ) → OutcomesStand outcomes quorums entries
     → OutcomesStand outcomes quorums (Added a (Fact.Booted epoch) ∷ entries)
@@ -194,17 +193,17 @@ whole-happened w a step (inr unstopped) = by_fact step.fact refl
     by_fact None e = by-none w a step e
     by_fact (Some fact) e = by-some w a step fact e unstopped
 
-pub whole-told : (w : World) (a : ℕ) (step : NodeStep) → IsWhole w a step.fact → told_by built w a step step.fact (centre_at w a).stop ≡ told_whole built w a step
-whole-told w a step (inl none) = ap (λ (o : Option Fact). told_by built w a step o (centre_at w a).stop) none
-whole-told w a step (inr unstopped) = ap (told_by built w a step step.fact) unstopped ∙ by_fact step.fact
+pub whole-told : (w : World) (a : ℕ) (step : NodeStep) → IsWhole w a step.fact → told_by w a step step.fact (centre_at w a).stop ≡ told_whole w a step
+whole-told w a step (inl none) = ap (λ (o : Option Fact). told_by w a step o (centre_at w a).stop) none
+whole-told w a step (inr unstopped) = ap (told_by w a step step.fact) unstopped ∙ by_fact step.fact
   where
-    by_fact : (o : Option Fact) → told_by built w a step o None ≡ told_whole built w a step
+    by_fact : (o : Option Fact) → told_by w a step o None ≡ told_whole w a step
     by_fact None = refl
     by_fact (Some fact) = refl
 
 module _ (world : TheWorld) (w : World) (a : ℕ) (input : Input) (step : Step) (made : IsMade world w a input (Ok step)) (whole : IsWhole w a step.fact) where
   abbrev result : Result NodeStep StepFault
-  result = step_at built w a input
+  result = step_at w a input
 
   abbrev gave : (s : NodeStep) × (result ≡ Ok s) × (step ≡ step_given s)
   gave = ok-given step result made.before.step_itself
@@ -222,7 +221,7 @@ module _ (world : TheWorld) (w : World) (a : ℕ) (input : Input) (step : Step) 
   world-is = made.before.records.itself
 
   pub step-stays : StaysWithin w.cluster s
-  step-stays = made-stays built w.cluster a (facts_of w.ledger a) (centre_at w a).volatile input s world-is.cluster_itself.quorums made.before.well_formed gave.1
+  step-stays = made-stays w.cluster a (facts_of w.ledger a) (centre_at w a).volatile input s world-is.cluster_itself.quorums made.before.well_formed gave.1
 
   whole-is : IsWhole w a s.fact
   whole-is = subst (IsWhole w a) fact-is whole
@@ -230,31 +229,31 @@ module _ (world : TheWorld) (w : World) (a : ℕ) (input : Input) (step : Step) 
   happens : input_happened w a result ≡ taken w a s
   happens = ap (input_happened w a) gave.1 ∙ whole-happened w a s whole-is
 
-  comes : input_limited built w a result ≡ unless (limit_of built w a s.fact s.sends) (taken w a s)
-  comes = input-is built w a result ∙ ap (step_told built w a) gave.1 ∙ whole-told w a s whole-is
+  comes : input_limited w a result ≡ unless (limit_of w a s.fact s.sends) (taken w a s)
+  comes = input-is w a result ∙ ap (step_told w a) gave.1 ∙ whole-told w a s whole-is
 
-  limit-is : limit_of built w a step.fact step.sends ≡ limit_of built w a s.fact s.sends
-  limit-is = ap (λ (o : Option Fact). limit_of built w a o step.sends) fact-is ∙ ap (λ (xs : List Envelope). limit_of built w a s.fact xs) sends-are
+  limit-is : limit_of w a step.fact step.sends ≡ limit_of w a s.fact s.sends
+  limit-is = ap (λ (o : Option Fact). limit_of w a o step.sends) fact-is ∙ ap (λ (xs : List Envelope). limit_of w a s.fact xs) sends-are
 
   -- a limit that would be passed refuses it
-  pub step-refused : (fault : EventFault) → Err fault ≡ may_be (limit_of built w a step.fact step.sends)
-      → OnFalse (is_memory fault) (input_limited built w a (step_at built w a input) ≡ Err fault)
+  pub step-refused : (fault : EventFault) → Err fault ≡ may_be (limit_of w a step.fact step.sends)
+      → OnFalse (is_memory fault) (input_limited w a (step_at w a input) ≡ Err fault)
   step-refused fault stopped =
-      let passed : limit_of built w a s.fact s.sends ≡ Some fault = sym limit-is ∙ limited (limit_of built w a step.fact step.sends) fault stopped in
+      let passed : limit_of w a s.fact s.sends ≡ Some fault = sym limit-is ∙ limited (limit_of w a step.fact step.sends) fault stopped in
       any-fault (is_memory fault) (comes ∙ ap (λ (o : Option EventFault). unless o (taken w a s)) passed)
 
   pub step-taken : (new : TheWorld) (before lines : List Line)
       → new ≡ record world { logs = new.logs; mail = new.mail; bytes = new.bytes; outcomes = new.outcomes }
-      → limit_of built w a step.fact step.sends ≡ None
+      → limit_of w a step.fact step.sends ≡ None
       → new.mail ≡ world.mail ++ map unsent step.sends → new.bytes ≡ world.bytes + messages_length step.sends
       → LogsStand new.logs w.cluster.quorums.centres (is_up_at w) (facts_with (facts_of w.ledger) a step.fact)
       → ((quorums : Sizes) (entries : List Entry) → OutcomesStand world.outcomes quorums entries → OutcomesStand new.outcomes quorums (with_fact a step.fact entries))
       → ((quorums : Sizes) (entries : List Entry) → OutcomesStand world.outcomes quorums entries → lines ≡ before ++ step_lines quorums a step.fact entries)
-      → Happens {T = Unit {0}} new before lines (Ok tt) (input_limited built w a (step_at built w a input))
+      → Happens {T = Unit {0}} new before lines (Ok tt) (input_limited w a (step_at w a input))
   step-taken new before lines rest within mail bytes logs ledger told =
       let records = made.before.records in
-      let clear : limit_of built w a s.fact s.sends ≡ None = sym limit-is ∙ within in
-      let is : input_limited built w a result ≡ Ok (taken w a s) = comes ∙ ap (λ (o : Option EventFault). unless o (taken w a s)) clear in
+      let clear : limit_of w a s.fact s.sends ≡ None = sym limit-is ∙ within in
+      let is : input_limited w a result ≡ Ok (taken w a s) = comes ∙ ap (λ (o : Option EventFault). unless o (taken w a s)) clear in
       let here : OutcomesStand world.outcomes w.cluster.quorums (s.entries ++ w.ledger) =
       subst (λ (r : Result NodeStep StepFault). OutcomesStand world.outcomes w.cluster.quorums (entries_of r ++ w.ledger)) gave.1 made.before.outcomes in
       let kept : LogsStand new.logs w.cluster.quorums.centres (is_up_at w) (facts_with (facts_of w.ledger) a s.fact) =
@@ -264,7 +263,7 @@ module _ (world : TheWorld) (w : World) (a : ℕ) (input : Input) (step : Step) 
       subst (λ (r : Result Happened EventFault). Happens {T = Unit {0}} new before lines (Ok tt) r) (sym is) (record {
         like = record {
           records = record {
-            itself = limited-stays built w a input (taken w a s) refl refl world-is made.before.centre made.before.well_formed is;
+            itself = limited-stays w a input (taken w a s) world-is made.before.centre made.before.well_formed is;
             cluster = ap (λ (x : TheWorld). x.cluster) rest ∙ records.cluster;
             mail = mail ∙ ap (λ (xs : List Envelope). world.mail ++ map unsent xs) sends-are ∙ ap (λ (sent : List Sent). sent ++ map unsent s.sends) records.mail;
             bytes = bytes ∙ ap (λ (xs : List Envelope). world.bytes + messages_length xs) sends-are ∙ ap (λ (n : ℕ). n + messages_length s.sends) records.bytes;
@@ -285,13 +284,13 @@ module _ (world : TheWorld) (w : World) (a : ℕ) (input : Input) (step : Step) 
 -- a step that its node refuses changes nothing
 pub step-left : (world : TheWorld) (w : World) (a : ℕ) (input : Input) (fault : StepFault) (made : IsMade world w a input (Err fault)) (before lines : List Line)
     → lines ≡ before ++ dropped_lines a fault
-    → Happens {T = Unit {0}} world before lines (Ok tt) (input_limited built w a (step_at built w a input))
+    → Happens {T = Unit {0}} world before lines (Ok tt) (input_limited w a (step_at w a input))
 step-left world w a input fault made before lines told =
     let records = made.before.records in
-    let result = step_at built w a input in
+    let result = step_at w a input in
     let e : result ≡ Err fault = err-given fault result made.before.step_itself in
     let same : (input_happened w a result).world ≡ w = ap (λ (r : Result NodeStep StepFault). (input_happened w a r).world) e ∙ refused-same w a fault in
-    let is : input_limited built w a result ≡ Ok (input_happened w a (Err fault)) = input-is built w a result ∙ ap (step_told built w a) e in
+    let is : input_limited w a result ≡ Ok (input_happened w a (Err fault)) = input-is w a result ∙ ap (step_told w a) e in
     let here : OutcomesStand world.outcomes w.cluster.quorums w.ledger =
     subst (λ (r : Result NodeStep StepFault). OutcomesStand world.outcomes w.cluster.quorums (entries_of r ++ w.ledger)) e made.before.outcomes in
     subst (λ (r : Result Happened EventFault). Happens {T = Unit {0}} world before lines (Ok tt) r) (sym is) (record {

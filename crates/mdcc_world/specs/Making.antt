@@ -1,6 +1,5 @@
 -- What a centre made of an input, before it is let out.
 use Rattle.std.specs.Prelude.{◌≡◌, Result, ℕ}
-use Rattle.mdcc_built.specs.Built.{built}
 use Rattle.mdcc_simulation.specs.State.{World}
 use Rattle.mdcc_simulation.specs.Stepping.{input_happened, step_at}
 use Rattle.mdcc_simulation.specs.Limits.{input_taken}
@@ -16,7 +15,7 @@ use Rattle.mdcc_worlds.specs.Delivering.{delivery, message_counted}
 -- its node has taken the input, and all else is as before
 pub record IsMade (world : TheWorld) (w : World) (a : ℕ) (input : Input) (made : Result Step StepFault) : Type 0 where
   pub before : IsBeforeTaking world w a input made
-  pub nodes : NodesStand world.nodes.items (input_happened w a (step_at built w a input)).world
+  pub nodes : NodesStand world.nodes.items (input_happened w a (step_at w a input)).world
 
 -- it is so of some world and input
 abbrev pub IsMadeSome : TheWorld → ℕ → Result Step StepFault → Type 0
@@ -26,4 +25,4 @@ IsMadeSome world a made = (w : World) × (input : Input) × IsMade world w a inp
 pub record IsMessageMade (world : TheWorld) (w : World) (number a : ℕ) (made : Result Step StepFault) : Type 0 where
   pub envelope : Envelope
   pub itself : IsMade world (message_counted w number) a (Input.Message envelope) made
-  pub comes : delivery built w number ≡ input_taken built (message_counted w number) a (Input.Message envelope)
+  pub comes : delivery w number ≡ input_taken (message_counted w number) a (Input.Message envelope)

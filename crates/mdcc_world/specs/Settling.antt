@@ -3,7 +3,6 @@ use Rattle.std.specs.Bool.{OnFalse}
 use Rattle.std.specs.List.{list_any}
 use Rattle.std.specs.Option.{option_map}
 use Rattle.std.specs.Prelude.{◌≡◌, ◌==◌, ◌&&◌, ◌||◌, Bool, Err, List, Ok, Option, Result, length, ℕ}
-use Rattle.mdcc_built.specs.Built.{built}
 use Rattle.mdcc_simulation.specs.State.{Happened, World, is_up_at}
 use Rattle.mdcc_simulation.specs.Deliveries.{first_waiting}
 use Rattle.mdcc_simulation.specs.Events.{event_of}
@@ -28,7 +27,7 @@ AreAsked w listed centres =
 pub record HasSettled (world : TheWorld) (before after : List Line) (w : World) (listed : List ℕ) (deliveries : ℕ) : Type 0 where
   pub reached : Happened
   pub happened : HasHappened world before after reached
-  pub so_far : IsSettling built w listed reached deliveries
+  pub so_far : IsSettling w listed reached deliveries
 
 -- the number is that of the message that a settle delivers next, where one waits
 abbrev pub IsNext : World → List ℕ → Option ℕ → Type 0
@@ -38,9 +37,9 @@ IsNext w listed number = option_map (λ next. next.0) (first_waiting w listed 1 
 pub record EndsAfter (world : TheWorld) (before after : List Line) (w : World) (listed : List ℕ) (deliveries : ℕ) : Type 0 where
   pub reached : Happened
   pub happened : HasHappened world before after reached
-  pub answer : event_of built w (Event.Settle listed) ≡ Ok (settled reached deliveries)
+  pub answer : event_of w (Event.Settle listed) ≡ Ok (settled reached deliveries)
 
 -- so a settle ends, by how many messages it delivered, or it is refused as the line is to be
 abbrev pub SettlesTo : TheWorld → List Line → List Line → World → List ℕ → Result ℕ EventFault → Type 0
 SettlesTo world before after w listed (Ok deliveries) = EndsAfter world before after w listed deliveries
-SettlesTo world before after w listed (Err fault) = OnFalse (is_memory fault) (event_of built w (Event.Settle listed) ≡ Err fault)
+SettlesTo world before after w listed (Err fault) = OnFalse (is_memory fault) (event_of w (Event.Settle listed) ≡ Err fault)

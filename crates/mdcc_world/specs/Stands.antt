@@ -5,7 +5,6 @@ use Rattle.mdcc_logs.specs.Stands.{LogsStand}
 use Rattle.mdcc_node.specs.Stepping.{given}
 use Rattle.mdcc_outcomes.specs.Stands.{Stands as OutcomesStand}
 use Rattle.mdcc_protocol.specs.Belongs.{is_centre}
-use Rattle.mdcc_built.specs.Built.{built}
 use Rattle.mdcc_ledger.specs.Ledger.{Entry, facts_of}
 use Rattle.mdcc_rules.specs.Steps.{NodeStep}
 use Rattle.mdcc_simulation.specs.State.{Happened, World, is_up_at}
@@ -59,9 +58,9 @@ pub record IsBeforeTaking (world : TheWorld) (w : World) (a : ℕ) (input : Inpu
   pub up : is_up_at w a ≡ true
   pub well_formed : IsWellFormedInput input
   pub short : accept_length_in input ≤ 2097152
-  pub outcomes : OutcomesStand world.outcomes w.cluster.quorums (entries_of (step_at built w a input) ++ w.ledger)
+  pub outcomes : OutcomesStand world.outcomes w.cluster.quorums (entries_of (step_at w a input) ++ w.ledger)
   pub logs : LogsStand world.logs w.cluster.quorums.centres (is_up_at w) (facts_of w.ledger)
-  pub step_itself : made ≡ given (step_at built w a input)
+  pub step_itself : made ≡ given (step_at w a input)
 
 -- and after it
 pub record IsTaken (world : TheWorld) (before after : List Line) (h : Happened) : Type 0 where

@@ -2,7 +2,6 @@
 ghost use Rattle.std.specs.Prelude.{◌≡◌, ◌≤◌, ◌<◌, Err, IfErr, List, Ok, OnOk, true, ℕ};
 ghost use Rattle.mdcc_option.specs.Transaction.{transaction_of};
 ghost use Rattle.mdcc_option.specs.declared.items.Part.{Part as APart};
-ghost use Rattle.mdcc_built.specs.Built.{built};
 ghost use Rattle.mdcc_simulation.specs.State.{World as AWorld, counted_event, is_up_at};
 ghost use Rattle.mdcc_simulation.specs.Clients.{begin_taken, no_item};
 ghost use Rattle.mdcc_simulation.specs.Events.{event_of};
@@ -36,7 +35,7 @@ impl World {
     ) -> Result<(), EventFault>
         requires some { IsMadeSome self.old centre (Ok step.now) }
         ensures happens { (w : AWorld) (input : AInput) → IsMade self.old w centre input (Ok step.now)
-            → Happens self.new lines.old lines.new result (begin_taken built w centre (step_at built w centre input)) }
+            → Happens self.new lines.old lines.new result (begin_taken w centre (step_at w centre input)) }
         ensures free { IfErr result (λ fault. is_free fault ≡ true) }
         ensures events { self.new.events ≡ self.old.events }
     {
@@ -56,7 +55,7 @@ impl World {
         requires like { IsLikeSome self.old }
         requires up { (w : AWorld) → IsLike self.old w → is_up_at w centre ≡ true }
         ensures happens { (w : AWorld) → IsLike self.old w
-            → Happens self.new lines.old lines.new result (if_open (at_limit built w) (begun built w centre transaction)) }
+            → Happens self.new lines.old lines.new result (if_open (at_limit w) (begun w centre transaction)) }
         ensures few { OnOk result (self.new.events ≤ 100000) }
         ensures kept { OnRefusal result ((self.new ≡ self.old) × (lines.new ≡ lines.old)) }
     {
@@ -77,7 +76,7 @@ impl World {
         requires like { IsLikeSome self.old }
         requires up { (w : AWorld) → IsLike self.old w → is_up_at w centre ≡ true }
         ensures happens { (w : AWorld) → IsLike self.old w
-            → Happens self.new lines.old lines.new result (begun_if built w centre (transaction_of w.cluster.schema parts.now)) }
+            → Happens self.new lines.old lines.new result (begun_if w centre (transaction_of w.cluster.schema parts.now)) }
         ensures few { OnOk result (self.new.events ≤ 100000) }
         ensures kept { OnRefusal result ((self.new ≡ self.old) × (lines.new ≡ lines.old)) }
     {
@@ -91,7 +90,7 @@ impl World {
     fn refuse(&mut self, key: &Key, lines: &mut HeapList<Line>) -> Result<(), EventFault>
         requires { IsLikeSome self.old }
         ensures happens { (w : AWorld) → IsLike self.old w
-            → Happens self.new lines.old lines.new result (if_open (at_limit built w) (Ok (no_item (counted_event w) key.now))) }
+            → Happens self.new lines.old lines.new result (if_open (at_limit w) (Ok (no_item (counted_event w) key.now))) }
         ensures few { OnOk result (self.new.events ≤ 100000) }
         ensures kept { OnRefusal result ((self.new ≡ self.old) × (lines.new ≡ lines.old)) }
     {
@@ -109,7 +108,7 @@ impl World {
     ) -> Result<(), EventFault>
         requires { IsLikeSome self.old }
         ensures happens { (w : AWorld) (a : ℕ) → IsLike self.old w
-            → Happens self.new lines.old lines.new result (begin_by built w a (Err fault.now)) }
+            → Happens self.new lines.old lines.new result (begin_by w a (Err fault.now)) }
         ensures few { OnOk result (self.new.events ≤ 100000) }
         ensures kept { OnRefusal result ((self.new ≡ self.old) × (lines.new ≡ lines.old)) }
     {
@@ -130,7 +129,7 @@ impl World {
     ) -> Result<(), EventFault>
         requires { IsLikeSome self.old }
         ensures happens { (w : AWorld) → IsLike self.old w
-            → Happens self.new lines.old lines.new result (event_of built w (AEvent.Begin centre words.now)) }
+            → Happens self.new lines.old lines.new result (event_of w (AEvent.Begin centre words.now)) }
         ensures few { OnOk result (self.new.events ≤ 100000) }
         ensures kept { OnRefusal result ((self.new ≡ self.old) × (lines.new ≡ lines.old)) }
     {

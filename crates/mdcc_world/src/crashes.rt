@@ -1,7 +1,6 @@
 //! Crashes and restarts.
 ghost use Rattle.std.specs.Prelude.{◌≡◌, ◌≤◌, ◌<◌, ◌+◌, ◌-◌, IfErr, None, OnOk, length, set, false, true};
 ghost use Rattle.mdcc_protocol.specs.Belongs.{is_centre};
-ghost use Rattle.mdcc_built.specs.Built.{built};
 ghost use Rattle.mdcc_simulation.specs.State.{World as AWorld, counted_event, is_up_at};
 ghost use Rattle.mdcc_simulation.specs.Centres.{crash_happened};
 ghost use Rattle.mdcc_simulation.specs.Events.{event_of};
@@ -53,7 +52,7 @@ impl World {
     ) -> Result<(), EventFault>
         requires { IsLikeSome self.old }
         ensures happens { (w : AWorld) → IsLike self.old w
-            → Happens self.new lines.old lines.new result (event_of built w (AEvent.Crash centre)) }
+            → Happens self.new lines.old lines.new result (event_of w (AEvent.Crash centre)) }
         ensures few { OnOk result (self.new.events ≤ 100000) }
         ensures kept { OnRefusal result ((self.new ≡ self.old) × (lines.new ≡ lines.old)) }
     {
@@ -64,7 +63,7 @@ impl World {
 
     // Why a centre is not restarted.
     fn at_restart(&self, centre: Centre) -> Result<(), EventFault>
-        ensures centre { (w : AWorld) → IsLike self.now w → result ≡ at_restart built w centre }
+        ensures centre { (w : AWorld) → IsLike self.now w → result ≡ at_restart w centre }
         ensures among { (w : AWorld) → IsLike self.now w → OnOk result (is_centre w.cluster centre ≡ true) }
         ensures few { OnOk result (self.now.events < 100000) }
     {
@@ -99,7 +98,7 @@ impl World {
         requires like { IsLikeSome self.old }
         requires among { (w : AWorld) → IsLike self.old w → is_centre w.cluster centre ≡ true }
         ensures happens { (w : AWorld) → IsLike self.old w
-            → Happens self.new lines.old lines.new result (restarted built w centre) }
+            → Happens self.new lines.old lines.new result (restarted w centre) }
         ensures free { IfErr result (λ fault. is_free fault ≡ true) }
         ensures few { OnOk result (self.new.events ≤ 100000) }
     {
@@ -122,7 +121,7 @@ impl World {
     ) -> Result<(), EventFault>
         requires { IsLikeSome self.old }
         ensures happens { (w : AWorld) → IsLike self.old w
-            → Happens self.new lines.old lines.new result (event_of built w (AEvent.Restart centre)) }
+            → Happens self.new lines.old lines.new result (event_of w (AEvent.Restart centre)) }
         ensures few { OnOk result (self.new.events ≤ 100000) }
         ensures kept { OnRefusal result ((self.new ≡ self.old) × (lines.new ≡ lines.old)) }
     {

@@ -1,6 +1,5 @@
 //! Messages come to their centres.
 ghost use Rattle.std.specs.Prelude.{◌≡◌, ◌≤◌, ◌<◌, ◌+◌, IfErr, Ok, OnOk, true};
-ghost use Rattle.mdcc_built.specs.Built.{built};
 ghost use Rattle.mdcc_simulation.specs.State.{World as AWorld};
 ghost use Rattle.mdcc_simulation.specs.Left.{deliveries_before};
 ghost use Rattle.mdcc_simulation.specs.Deliveries.{deliveries_of, delivery_of};
@@ -24,9 +23,9 @@ impl World {
     ) -> Result<(), EventFault>
         requires few { self.old.events < 100000 }
         requires like { IsLikeSome self.old }
-        requires clear { (w : AWorld) → IsLike self.old w → at_message built w number ≡ Ok tt }
+        requires clear { (w : AWorld) → IsLike self.old w → at_message w number ≡ Ok tt }
         ensures happens { (w : AWorld) → IsLike self.old w
-            → Happens self.new lines.old lines.new result (delivery built w number) }
+            → Happens self.new lines.old lines.new result (delivery w number) }
         ensures free { IfErr result (λ fault. is_free fault ≡ true) }
         ensures few { self.new.events ≤ self.old.events + 1 }
     {
@@ -39,7 +38,7 @@ impl World {
     fn at_addressee(&self, centre: u8) -> Result<(), EventFault>
         requires some { 1 ≤ centre }
         requires few { centre ≤ 9 }
-        ensures centre { (w : AWorld) → IsLike self.now w → result ≡ at_centre built w centre }
+        ensures centre { (w : AWorld) → IsLike self.now w → result ≡ at_centre w centre }
         ensures few { OnOk result (self.now.events < 100000) }
     {
         match Centre::new(centre) {
@@ -51,7 +50,7 @@ impl World {
     // Why the message of a number is not delivered.
     fn at_message(&self, number: u32) -> Result<(), EventFault>
         requires { IsLikeSome self.now }
-        ensures message { (w : AWorld) → IsLike self.now w → result ≡ at_message built w number }
+        ensures message { (w : AWorld) → IsLike self.now w → result ≡ at_message w number }
         ensures few { OnOk result (self.now.events < 100000) }
     {
         match self.mail.addressee(number) {
@@ -64,9 +63,9 @@ impl World {
     fn deliver_told(&mut self, number: u32, lines: &mut HeapList<Line>) -> Result<(), EventFault>
         requires few { self.old.events < 100000 }
         requires like { IsLikeSome self.old }
-        requires clear { (w : AWorld) → IsLike self.old w → at_message built w number ≡ Ok tt }
+        requires clear { (w : AWorld) → IsLike self.old w → at_message w number ≡ Ok tt }
         ensures happens { (w : AWorld) → IsLike self.old w
-            → Happens self.new lines.old lines.new result (delivery_told built w number) }
+            → Happens self.new lines.old lines.new result (delivery_told w number) }
         ensures free { IfErr result (λ fault. is_free fault ≡ true) }
         ensures few { OnOk result (self.new.events ≤ 100000) }
     {
@@ -80,7 +79,7 @@ impl World {
         requires few { self.old.events ≤ 100000 }
         requires like { IsLikeSome self.old }
         ensures happens { (w : AWorld) → IsLike self.old w
-            → Happens self.new lines.old lines.new result (delivery_of built w number) }
+            → Happens self.new lines.old lines.new result (delivery_of w number) }
         ensures kept { OnRefusal result ((self.new ≡ self.old) × (lines.new ≡ lines.old)) }
         ensures few { OnOk result (self.new.events ≤ 100000) }
     {
@@ -97,10 +96,10 @@ impl World {
         requires few { self.old.events ≤ 100000 }
         requires like { IsLikeSome self.old }
         ensures happens { (w : AWorld) → IsLike self.old w
-            → Happens self.new lines.old lines.new result (deliveries_of built numbers.now (unmoved w)) }
+            → Happens self.new lines.old lines.new result (deliveries_of numbers.now (unmoved w)) }
         ensures few { OnOk result (self.new.events ≤ 100000) }
         ensures left { (w : AWorld) → IsLike self.old w
-            → OnRefusal result (HasHappened self.new lines.old lines.new (deliveries_before built numbers.now (unmoved w))) }
+            → OnRefusal result (HasHappened self.new lines.old lines.new (deliveries_before numbers.now (unmoved w))) }
         ensures few_left { OnRefusal result (self.new.events ≤ 100000) }
     {
         for number in numbers {

@@ -1,7 +1,6 @@
 //! One event of each kind.
 ghost use Rattle.std.specs.Bool.{OnFalse};
 ghost use Rattle.std.specs.Prelude.{◌≡◌, ◌≤◌, ◌++◌, Err, IfErr, IsOkAnd, List, OnOk};
-ghost use Rattle.mdcc_built.specs.Built.{built};
 ghost use Rattle.mdcc_simulation.specs.State.{World as AWorld};
 ghost use Rattle.mdcc_simulation.specs.Events.{event_of};
 ghost use Rattle.mdcc_simulation.specs.Left.{left_of};
@@ -20,10 +19,10 @@ impl World {
         requires few { self.old.events ≤ 100000 }
         requires like { IsLikeSome self.old }
         ensures happens { (w : AWorld) → IsLike self.old w
-            → Happens self.new lines.old lines.new result (event_of built w event.now) }
+            → Happens self.new lines.old lines.new result (event_of w event.now) }
         ensures few { OnOk result (self.new.events ≤ 100000) }
         ensures left { (w : AWorld) → IsLike self.old w
-            → OnRefusal result (HasHappened self.new lines.old lines.new (left_of built w event.now)) }
+            → OnRefusal result (HasHappened self.new lines.old lines.new (left_of w event.now)) }
         ensures few_left { OnRefusal result (self.new.events ≤ 100000) }
     {
         match event {
@@ -45,13 +44,13 @@ impl World {
     pub fn event(&mut self, event: &Event, lines: &mut HeapList<Line>) -> Result<(), EventFault>
         requires known { (w : AWorld) × Stands self.old w }
         ensures ok { (w : AWorld) → Stands self.old w
-            → OnOk result (IsOkAnd (event_of built w event.now) (λ h. (lines.new ≡ lines.old ++ h.lines) × Stands self.new h.world)) }
+            → OnOk result (IsOkAnd (event_of w event.now) (λ h. (lines.new ≡ lines.old ++ h.lines) × Stands self.new h.world)) }
         ensures err { (w : AWorld) → Stands self.old w
-            → IfErr result (λ fault. OnFalse (is_memory fault) (event_of built w event.now ≡ Err fault)) }
+            → IfErr result (λ fault. OnFalse (is_memory fault) (event_of w event.now ≡ Err fault)) }
         ensures left { (w : AWorld) → Stands self.old w
-            → OnRefusal result (HasHappened self.new lines.old lines.new (left_of built w event.now)) }
+            → OnRefusal result (HasHappened self.new lines.old lines.new (left_of w event.now)) }
         ensures stands { (w : AWorld) → Stands self.old w
-            → OnRefusal result (Stands self.new (left_of built w event.now).world) }
+            → OnRefusal result (Stands self.new (left_of w event.now).world) }
         ensures earlier { (more : List ALine) × (lines.new ≡ lines.old ++ more) }
     {
         let mut told = HeapList::new(self.alloc);

@@ -1,6 +1,5 @@
 //! What the nodes of centres make of inputs, before it is let out.
 ghost use Rattle.std.specs.Prelude.{◌≡◌, ◌≤◌, ◌<◌, ◌+◌, ◌++◌, IfOk, List, Ok, OnOk, true, ℕ};
-ghost use Rattle.mdcc_built.specs.Built.{built};
 ghost use Rattle.mdcc_base.specs.Sizes.{Sizes};
 ghost use Rattle.mdcc_option.specs.declared.items.Part.{Part as APart};
 ghost use Rattle.mdcc_outcomes.specs.Stands.{Stands as OutcomesStand};
@@ -113,7 +112,7 @@ impl World {
         requires blank { step.old ≡ blank }
         requires few { self.old.events < 100000 }
         requires like { IsLikeSome self.old }
-        requires clear { (w : AWorld) → IsLike self.old w → at_message built w number ≡ Ok tt }
+        requires clear { (w : AWorld) → IsLike self.old w → at_message w number ≡ Ok tt }
         ensures made { (w : AWorld) → IsLike self.old w
             → IfOk result (λ r. IsMessageMade self.new w number r.0 (written r.1 step.new)) }
         ensures few { self.new.events ≤ self.old.events + 1 }

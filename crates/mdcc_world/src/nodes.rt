@@ -3,7 +3,6 @@ ghost use Rattle.std.specs.Prelude.{◌≡◌, ◌≤◌, IfOk, OnOk, false, len
 ghost use Rattle.mdcc_node.specs.Planning.{blank, written};
 ghost use Rattle.mdcc_node.specs.Stepping.{given};
 ghost use Rattle.mdcc_rules.specs.declared.node.Input.{Input as AInput};
-ghost use Rattle.mdcc_built.specs.Built.{built};
 ghost use Rattle.mdcc_ledger.specs.Ledger.{facts_of};
 ghost use Rattle.mdcc_protocol.specs.Visible;
 ghost use Rattle.mdcc_simulation.specs.State.{World as AWorld, is_up_at};
@@ -45,9 +44,9 @@ pub(crate) fn act_on(
     requires running { RunsAt nodes.old centre }
     requires blank { step.old ≡ blank }
     ensures answer { (w : AWorld) → NodesStand nodes.old w → is_up_at w centre ≡ true
-        → IfOk result (λ made. written made step.new ≡ given (step_at built w centre input.now)) }
+        → IfOk result (λ made. written made step.new ≡ given (step_at w centre input.now)) }
     ensures left { (w : AWorld) → IsWorld w → NodesStand nodes.old w → is_up_at w centre ≡ true
-        → OnOk result (NodesStand nodes.new (input_happened w centre (step_at built w centre input.now)).world) }
+        → OnOk result (NodesStand nodes.new (input_happened w centre (step_at w centre input.now)).world) }
 {
     made(nodes[usize::from(centre.number()) - 1].act_on(input, step))
 }
@@ -65,9 +64,9 @@ pub(crate) fn receive(
     requires running { RunsAt nodes.old centre }
     requires blank { step.old ≡ blank }
     ensures answer { (w : AWorld) → NodesStand nodes.old w → is_up_at w centre ≡ true
-        → IfOk result (λ made. written made step.new ≡ given (step_at built w centre (AInput.Message envelope.now))) }
+        → IfOk result (λ made. written made step.new ≡ given (step_at w centre (AInput.Message envelope.now))) }
     ensures left { (w : AWorld) → IsWorld w → NodesStand nodes.old w → is_up_at w centre ≡ true
-        → OnOk result (NodesStand nodes.new (input_happened w centre (step_at built w centre (AInput.Message envelope.now))).world) }
+        → OnOk result (NodesStand nodes.new (input_happened w centre (step_at w centre (AInput.Message envelope.now))).world) }
 {
     made(nodes[usize::from(centre.number()) - 1].deliver(envelope, step))
 }

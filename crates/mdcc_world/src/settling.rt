@@ -1,7 +1,6 @@
 //! Settle lines: messages are delivered until none waits.
 ghost use Rattle.std.specs.List.{list_any};
 ghost use Rattle.std.specs.Prelude.{◌≡◌, ◌≤◌, ◌<◌, ◌==◌, ◌&&◌, ◌-◌, IfErr, IfOk, IfSome, List, Ok, OnOk, false, get_or, true};
-ghost use Rattle.mdcc_built.specs.Built.{built};
 ghost use Rattle.mdcc_simulation.specs.State.{World as AWorld};
 ghost use Rattle.mdcc_simulation.specs.Events.{event_of};
 ghost use Rattle.mdcc_language.specs.declared.events.Event.{Event as AEvent};
@@ -57,7 +56,7 @@ impl World {
     fn next_asked(&mut self, listed: &[Centre]) -> Result<Option<u32>, Memory>
         ensures next { (w : AWorld) → IsLike self.old w → IfOk result (IsNext w listed.now) }
         ensures clear { (w : AWorld) → IsLike self.old w → self.old.events < 100000
-            → IfOk result (λ next. IfSome next (λ number. at_message built w number ≡ Ok tt)) }
+            → IfOk result (λ next. IfSome next (λ number. at_message w number ≡ Ok tt)) }
         ensures kept { self.new ≡ self.old }
     {
         let centres = self.asked(listed)?;
@@ -115,7 +114,7 @@ impl World {
         requires like { IsLikeSome self.old }
         ensures settled { (w : AWorld) (before : List ALine)
             → w.events < 100000 → HasHappened self.old before lines.old (settle_told w listed.now)
-            → Happens self.new before lines.new result (event_of built w (AEvent.Settle listed.now)) }
+            → Happens self.new before lines.new result (event_of w (AEvent.Settle listed.now)) }
         ensures free { IfErr result (λ fault. is_free fault ≡ true) }
         ensures few { OnOk result (self.new.events ≤ 100000) }
     {
@@ -132,7 +131,7 @@ impl World {
     ) -> Result<(), EventFault>
         requires { IsLikeSome self.old }
         ensures happens { (w : AWorld) → IsLike self.old w
-            → Happens self.new lines.old lines.new result (event_of built w (AEvent.Settle listed.now)) }
+            → Happens self.new lines.old lines.new result (event_of w (AEvent.Settle listed.now)) }
         ensures few { OnOk result (self.new.events ≤ 100000) }
         ensures free { IfErr result (λ fault. is_free fault ≡ true) }
     {

@@ -5,7 +5,6 @@ ghost use Rattle.mdcc_base.specs.declared.outside.Image.{Image as AnImage};
 ghost use Rattle.mdcc_language.specs.declared.lines.Line.{Line as ALine};
 ghost use Rattle.mdcc_logs.specs.Stands.{LogsStand, with_up};
 ghost use Rattle.mdcc_outcomes.specs.Stands.{Stands as OutcomesStand};
-ghost use Rattle.mdcc_built.specs.Built.{built};
 ghost use Rattle.mdcc_ledger.specs.Ledger.{Entry};
 ghost use Rattle.mdcc_messages.specs.Lengths.{messages_length};
 ghost use Rattle.mdcc_messages.specs.WellFormed.{IsWellFormedFact};
@@ -48,7 +47,7 @@ impl World {
     fn at_log_limit(&self, centre: Centre, fact: &Fact) -> Result<(), EventFault>
         requires within { centre ≤ length self.now.logs.open.items }
         requires formed { IsWellFormedFact fact.now }
-        ensures limit { (w : AWorld) → Measures self.now w centre → result ≡ unless (log_limit built w centre fact.now) tt }
+        ensures limit { (w : AWorld) → Measures self.now w centre → result ≡ unless (log_limit w centre fact.now) tt }
         ensures free { IfErr result (λ fault. is_free fault ≡ true) }
     {
         if self.logs.is_full(centre, fact) {
@@ -59,7 +58,7 @@ impl World {
 
     // Why messages are not sent.
     fn at_bytes_limit(&self, outgoing: &Outgoing) -> Result<(), EventFault>
-        ensures limit { (w : AWorld) (a : ℕ) → Measures self.now w a → result ≡ unless (bytes_limit built w outgoing.now) tt }
+        ensures limit { (w : AWorld) (a : ℕ) → Measures self.now w a → result ≡ unless (bytes_limit w outgoing.now) tt }
         ensures free { IfErr result (λ fault. is_free fault ≡ true) }
         ensures few { OnOk result (self.now.bytes + messages_length outgoing.now < 2 ^ 64) }
     {
@@ -78,7 +77,7 @@ impl World {
     ) -> Result<(), EventFault>
         requires within { centre ≤ length self.now.logs.open.items }
         requires formed { IsFormed fact.now }
-        ensures limit { (w : AWorld) → Measures self.now w centre → result ≡ unless (limit_of built w centre fact.now outgoing.now) tt }
+        ensures limit { (w : AWorld) → Measures self.now w centre → result ≡ unless (limit_of w centre fact.now outgoing.now) tt }
         ensures free { IfErr result (λ fault. is_free fault ≡ true) }
         ensures few { OnOk result (self.now.bytes + messages_length outgoing.now < 2 ^ 64) }
     {
@@ -128,7 +127,7 @@ impl World {
         requires some { IsMadeSome self.old centre (Ok step.now) }
         requires written { outgoing ≡ step.now.sends }
         ensures happens { (w : AWorld) (input : AInput) → IsMade self.old w centre input (Ok step.now) → IsWhole w centre step.now.fact
-            → Happens self.new lines.old lines.new result (input_limited built w centre (step_at built w centre input)) }
+            → Happens self.new lines.old lines.new result (input_limited w centre (step_at w centre input)) }
         ensures free { IfErr result (λ fault. is_free fault ≡ true) }
         ensures events { self.new.events ≡ self.old.events }
     {
@@ -146,7 +145,7 @@ impl World {
     ) -> Result<(), EventFault>
         requires some { IsMadeSome self.old centre (Ok step.now) }
         ensures happens { (w : AWorld) (input : AInput) → IsMade self.old w centre input (Ok step.now) → IsWhole w centre step.now.fact
-            → Happens self.new lines.old lines.new result (input_limited built w centre (step_at built w centre input)) }
+            → Happens self.new lines.old lines.new result (input_limited w centre (step_at w centre input)) }
         ensures free { IfErr result (λ fault. is_free fault ≡ true) }
         ensures events { self.new.events ≡ self.old.events }
     {
@@ -195,7 +194,7 @@ impl World {
         requires fact { step.now.fact ≡ Some fact.now }
         requires armed { get_or self.old.stops (centre - 1) None ≡ Some stop }
         ensures happens { (w : AWorld) (input : AInput) → IsMade self.old w centre input (Ok step.now)
-            → Happens self.new lines.old lines.new result (input_limited built w centre (step_at built w centre input)) }
+            → Happens self.new lines.old lines.new result (input_limited w centre (step_at w centre input)) }
         ensures free { IfErr result (λ fault. is_free fault ≡ true) }
         ensures events { self.new.events ≡ self.old.events }
     {
@@ -215,7 +214,7 @@ impl World {
         requires some { IsMadeSome self.old centre (Ok step.now) }
         requires fact { step.now.fact ≡ Some fact.now }
         ensures happens { (w : AWorld) (input : AInput) → IsMade self.old w centre input (Ok step.now)
-            → Happens self.new lines.old lines.new result (input_limited built w centre (step_at built w centre input)) }
+            → Happens self.new lines.old lines.new result (input_limited w centre (step_at w centre input)) }
         ensures free { IfErr result (λ fault. is_free fault ≡ true) }
         ensures events { self.new.events ≡ self.old.events }
     {
@@ -234,7 +233,7 @@ impl World {
     ) -> Result<(), EventFault>
         requires some { IsMadeSome self.old centre (Ok step.now) }
         ensures happens { (w : AWorld) (input : AInput) → IsMade self.old w centre input (Ok step.now)
-            → Happens self.new lines.old lines.new result (input_limited built w centre (step_at built w centre input)) }
+            → Happens self.new lines.old lines.new result (input_limited w centre (step_at w centre input)) }
         ensures free { IfErr result (λ fault. is_free fault ≡ true) }
         ensures events { self.new.events ≡ self.old.events }
     {
@@ -252,7 +251,7 @@ impl World {
         lines: &mut HeapList<Line>,
     ) -> Result<(), EventFault>
         ensures happens { (w : AWorld) (input : AInput) → IsMade self.old w centre input (Err fault.now)
-            → Happens self.new lines.old lines.new result (input_limited built w centre (step_at built w centre input)) }
+            → Happens self.new lines.old lines.new result (input_limited w centre (step_at w centre input)) }
         ensures free { IfErr result (λ fault. is_free fault ≡ true) }
         ensures events { self.new.events ≡ self.old.events }
     {
@@ -270,7 +269,7 @@ impl World {
     ) -> Result<(), EventFault>
         requires some { IsMadeSome self.old centre (written made.now step.now) }
         ensures happens { (w : AWorld) (input : AInput) → IsMade self.old w centre input (written made.now step.now)
-            → Happens self.new lines.old lines.new result (input_limited built w centre (step_at built w centre input)) }
+            → Happens self.new lines.old lines.new result (input_limited w centre (step_at w centre input)) }
         ensures free { IfErr result (λ fault. is_free fault ≡ true) }
         ensures events { self.new.events ≡ self.old.events }
     {

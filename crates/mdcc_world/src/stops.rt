@@ -1,6 +1,5 @@
 //! Appends that stop: the stop is armed, and the next step that brings a fact takes its centre down.
 ghost use Rattle.std.specs.Prelude.{◌≡◌, ◌≤◌, ◌<◌, ◌+◌, ◌-◌, IfErr, None, OnOk, Some, get_or, length, true};
-ghost use Rattle.mdcc_built.specs.Built.{built};
 ghost use Rattle.mdcc_language.specs.declared.events.Event.{Event as AEvent};
 ghost use Rattle.mdcc_simulation.specs.Centres.{stop_happened};
 ghost use Rattle.mdcc_simulation.specs.Events.{event_of};
@@ -51,7 +50,7 @@ impl World {
     ) -> Result<(), EventFault>
         requires { IsLikeSome self.old }
         ensures happens { (w : AWorld) → IsLike self.old w
-            → Happens self.new lines.old lines.new result (event_of built w (AEvent.Stop centre call image)) }
+            → Happens self.new lines.old lines.new result (event_of w (AEvent.Stop centre call image)) }
         ensures few { OnOk result (self.new.events ≤ 100000) }
         ensures kept { OnRefusal result ((self.new ≡ self.old) × (lines.new ≡ lines.old)) }
     {

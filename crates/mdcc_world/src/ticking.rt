@@ -1,6 +1,5 @@
 //! Ticks.
 ghost use Rattle.std.specs.Prelude.{◌≡◌, ◌≤◌, ◌<◌, IfErr, OnOk, true};
-ghost use Rattle.mdcc_built.specs.Built.{built};
 ghost use Rattle.mdcc_simulation.specs.State.{World as AWorld};
 ghost use Rattle.mdcc_simulation.specs.Events.{event_of};
 ghost use Rattle.mdcc_simulation.specs.Limits.{input_limited, with_lines};
@@ -31,7 +30,7 @@ impl World {
     ) -> Result<(), EventFault>
         requires some { IsMadeSome self.old centre (written made.now step.now) }
         ensures happens { (w : AWorld) (input : AInput) → IsMade self.old w centre input (written made.now step.now)
-            → Happens self.new lines.old lines.new result (with_lines (tick_line centre) (input_limited built w centre (step_at built w centre input))) }
+            → Happens self.new lines.old lines.new result (with_lines (tick_line centre) (input_limited w centre (step_at w centre input))) }
         ensures free { IfErr result (λ fault. is_free fault ≡ true) }
         ensures events { self.new.events ≡ self.old.events }
     {
@@ -48,7 +47,7 @@ impl World {
     ) -> Result<(), EventFault>
         requires { IsLikeSome self.old }
         ensures happens { (w : AWorld) → IsLike self.old w
-            → Happens self.new lines.old lines.new result (event_of built w (AEvent.Tick centre)) }
+            → Happens self.new lines.old lines.new result (event_of w (AEvent.Tick centre)) }
         ensures few { OnOk result (self.new.events ≤ 100000) }
         ensures kept { OnRefusal result ((self.new ≡ self.old) × (lines.new ≡ lines.old)) }
     {

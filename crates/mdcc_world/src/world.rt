@@ -1,6 +1,5 @@
 //! A world: the nodes of a cluster, their logs on disks in memory, the messages between them, and what happens to them.
 ghost use Rattle.std.specs.Prelude.{◌≡◌, ◌≤◌, ◌<◌, ◌+◌, ◌-◌, IfErr, IfOk, OnOk, get_or, length, nat_le, true, false, ℕ};
-ghost use Rattle.mdcc_built.specs.Built.{built};
 ghost use Rattle.mdcc_protocol.specs.IsCluster.{IsCluster};
 ghost use Rattle.mdcc_simulation.specs.State.{World as AWorld, first_world, is_up_at};
 ghost use Rattle.mdcc_simulation.specs.Runs.{end_line};
@@ -128,7 +127,7 @@ impl World {
 
     // Why nothing happens any more.
     pub(crate) fn at_limit(&self) -> Result<(), EventFault>
-        ensures limit { (w : AWorld) → IsLike self.now w → result ≡ at_limit built w }
+        ensures limit { (w : AWorld) → IsLike self.now w → result ≡ at_limit w }
         ensures free { IfErr result (λ fault. is_free fault ≡ true) }
         ensures few { OnOk result (self.now.events < 100000) }
     {
@@ -140,7 +139,7 @@ impl World {
 
     // Why nothing happens at a centre.
     pub(crate) fn at_centre(&self, centre: Centre) -> Result<(), EventFault>
-        ensures centre { (w : AWorld) → IsLike self.now w → result ≡ at_centre built w centre }
+        ensures centre { (w : AWorld) → IsLike self.now w → result ≡ at_centre w centre }
         ensures up { (w : AWorld) → IsLike self.now w → OnOk result (is_up_at w centre ≡ true) }
         ensures few { OnOk result (self.now.events < 100000) }
     {

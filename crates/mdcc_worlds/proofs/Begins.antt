@@ -1,15 +1,15 @@
 -- The first world.
-use Rattle.std.proofs.Common.{◌≡◌, ℕ, zero, suc, ◌-◌, ◌≤◌, ◌<◌, ◌==◌, true, false, [], ◌∷◌, refl, sym, ◌∙◌, inl, inr, arith, nat_le}
-use Rattle.std.proofs.lemmas.Bool.{cases_Bool, eq-eqb, eqb-true, leb-false, leb-true}
+use Rattle.std.proofs.Common.{◌≡◌, ℕ, zero, suc, ◌-◌, ◌≤◌, ◌<◌, ◌==◌, Bool, true, false, [], ◌∷◌, Ok, Err, if◌then◌else◌, refl, sym, ◌∙◌, inl, inr, arith, nat_le}
+use Rattle.std.proofs.lemmas.Bool.{cases_Bool, eq-eqb, eqb-true, le-ltb, leb-false, leb-true}
 use Rattle.std.proofs.lemmas.List.{get_or-replicate, length-replicate}
 use Rattle.mdcc_option.specs.declared.cluster.Cluster.{Cluster}
 use Rattle.mdcc_protocol.specs.Belongs.{is_centre}
-use Rattle.mdcc_switches.specs.Built.{nothing_built}
 use Rattle.mdcc_protocol.specs.IsCluster.{IsCluster}
 use Rattle.mdcc_ledger.specs.Ledger.{facts_of}
 use Rattle.mdcc_protocol.specs.Volatile.{nothing_kept}
 use Rattle.mdcc_simulation.specs.State.{booted, booted_to, centre_at, first_world}
 use Rattle.mdcc_messages.specs.declared.facts.Fact.{Fact}
+use Rattle.mdcc_rules.specs.Boot.{is_past_cells, room_fault}
 use Rattle.mdcc_steps.proofs.Booting.{boot-node}
 use Rattle.mdcc_steps.specs.Forming.{IsNode}
 use Rattle.mdcc_worlds.proofs.Stays.{some-centre}
@@ -45,7 +45,10 @@ first-site cluster a h =
     get_or-replicate cluster.quorums.centres (a - 1) booted booted (omega (both.0, both.1, arith))
 
 pub first-node : (cluster : Cluster) (a : ℕ) → IsCluster cluster → is_centre cluster a ≡ true → IsNode cluster a (Fact.Booted 1 ∷ []) nothing_kept
-first-node cluster a itself h = boot-node nothing_built cluster a [] (Fact.Booted 1 ∷ []) itself h tt refl
+first-node cluster a itself h = boot-node cluster a [] (Fact.Booted 1 ∷ []) itself h tt (by_room (is_past_cells cluster [] (Fact.Booted 1)) (le-ltb cluster.cells 1 itself.some_cells))
+  where
+    by_room : (b : Bool) → b ≡ false → (if b then Err (room_fault cluster [] (Fact.Booted 1)) else Ok (Fact.Booted 1 ∷ [])) ≡ Ok (Fact.Booted 1 ∷ [])
+    by_room b e = rw e refl
 
 pub first-stands : (cluster : Cluster) → IsCluster cluster → IsWorld (first_world cluster)
 first-stands cluster itself = record {

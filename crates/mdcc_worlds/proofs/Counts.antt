@@ -1,8 +1,7 @@
 -- How many events there were.
 use Rattle.std.proofs.Common.{◌≡◌, ℕ, ◌+◌, ◌≤◌, ◌<◌, Bool, true, refl, sym, ap, ◌∙◌, inl, inr, Option, Some, None, Result, Ok, Err, nat_le, arith}
-use Rattle.std.proofs.lemmas.Bool.{and_from, and_parts, cases_Bool, le-leb, leb-false, leb-true}
+use Rattle.std.proofs.lemmas.Bool.{cases_Bool, le-leb, leb-false, leb-true}
 use Rattle.mdcc_base.specs.declared.outside.Image.{Image}
-use Rattle.mdcc_switches.specs.Built.{Built}
 use Rattle.mdcc_rules.specs.Steps.{NodeStep}
 use Rattle.mdcc_simulation.specs.State.{Happened, World, centre_at}
 use Rattle.mdcc_messages.specs.Mailbox.{Sent, numbered}
@@ -21,22 +20,22 @@ use Rattle.mdcc_worlds.specs.Happening.{at_limit}
 abbrev by_limit : Bool → Result (Unit {0}) EventFault
 by_limit b = unless (limit_if b LimitName.Events most_events) tt
 
-pub limit-open : (built : Built) (w : World) → w.events < most_events → at_limit built w ≡ Ok tt
-limit-open built w few = elim (cases_Bool (is_past_events built w)) [
-  | inl e ↦ absurd (omega (few, leb-true most_events w.events (and_parts built.limit_on_events (nat_le most_events w.events) e).1, arith))
+pub limit-open : (w : World) → w.events < most_events → at_limit w ≡ Ok tt
+limit-open w few = elim (cases_Bool (is_past_events w)) [
+  | inl e ↦ absurd (omega (few, leb-true most_events w.events e, arith))
   | inr e ↦ ap by_limit e
 ]
 
--- there were as many events as there may be, where they are limited
-pub past-events : (built : Built) (w : World) → built.limit_on_events ≡ true → most_events ≤ w.events → is_past_events built w ≡ true
-past-events built w limited full = and_from built.limit_on_events (nat_le most_events w.events) limited (le-leb most_events w.events full)
+-- there were as many events as there may be
+pub past-events : (w : World) → most_events ≤ w.events → is_past_events w ≡ true
+past-events w full = le-leb most_events w.events full
 
-pub limit-closed : (built : Built) (w : World) → built.limit_on_events ≡ true → most_events ≤ w.events → at_limit built w ≡ Err (EventFault.Limit LimitName.Events most_events)
-limit-closed built w limited full = ap by_limit (past-events built w limited full)
+pub limit-closed : (w : World) → most_events ≤ w.events → at_limit w ≡ Err (EventFault.Limit LimitName.Events most_events)
+limit-closed w full = ap by_limit (past-events w full)
 
-pub open-few : (built : Built) (w : World) → built.limit_on_events ≡ true → at_limit built w ≡ Ok tt → w.events < most_events
-open-few built w limited clear = elim (cases_Bool (nat_le most_events w.events)) [
-  | inl e ↦ let bad = sym (limit-closed built w limited (leb-true most_events w.events e)) ∙ clear in absurd (cc)
+pub open-few : (w : World) → at_limit w ≡ Ok tt → w.events < most_events
+open-few w clear = elim (cases_Bool (nat_le most_events w.events)) [
+  | inl e ↦ let bad = sym (limit-closed w (leb-true most_events w.events e)) ∙ clear in absurd (cc)
   | inr e ↦ leb-false most_events w.events e
 ]
 
@@ -63,17 +62,17 @@ pub unless-happened : (o : Option EventFault) (h after : Happened) → unless o 
 unless-happened None h after e = cc
 unless-happened (Some fault) h after e = absurd (cc)
 
-pub limited-events : (built : Built) (w : World) (a : ℕ) (r : Result NodeStep StepFault) (h : Happened) → input_limited built w a r ≡ Ok h → h.world.events ≡ w.events
-limited-events built w a r h e =
-    let same = unless-happened (step_limit built w a r) (input_happened w a r) h e in
+pub limited-events : (w : World) (a : ℕ) (r : Result NodeStep StepFault) (h : Happened) → input_limited w a r ≡ Ok h → h.world.events ≡ w.events
+limited-events w a r h e =
+    let same = unless-happened (step_limit w a r) (input_happened w a r) h e in
     rw (← same) (happened-events w a r)
 
 -- ---- and a delivery is one event
 
-pub delivery-events : (built : Built) (w : World) (number : ℕ) (sent : Sent) (h : Happened) → numbered w.sent number ≡ Some sent → delivery built w number ≡ Ok h → h.world.events ≡ w.events + 1
-delivery-events built w number sent h at e = by_sent (numbered w.sent number) e
+pub delivery-events : (w : World) (number : ℕ) (sent : Sent) (h : Happened) → numbered w.sent number ≡ Some sent → delivery w number ≡ Ok h → h.world.events ≡ w.events + 1
+delivery-events w number sent h at e = by_sent (numbered w.sent number) e
   where
-    by_sent : (o : Option Sent) → delivery_by built w number o ≡ Ok h → h.world.events ≡ w.events + 1
+    by_sent : (o : Option Sent) → delivery_by w number o ≡ Ok h → h.world.events ≡ w.events + 1
     by_sent None k = absurd (cc)
     by_sent (Some other) k =
-        limited-events built (message_counted w number) other.envelope.to (step_at built (message_counted w number) other.envelope.to (Input.Message other.envelope)) h k
+        limited-events (message_counted w number) other.envelope.to (step_at (message_counted w number) other.envelope.to (Input.Message other.envelope)) h k

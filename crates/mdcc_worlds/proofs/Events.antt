@@ -9,7 +9,6 @@ use Rattle.mdcc_option.specs.Transaction.{transaction_of}
 use Rattle.mdcc_option.specs.declared.faults.DraftFault.{DraftFault}
 use Rattle.mdcc_option.specs.declared.items.Part.{Part}
 use Rattle.mdcc_protocol.specs.Belongs.{is_centre}
-use Rattle.mdcc_switches.specs.Built.{Built}
 use Rattle.mdcc_language.specs.Resolve.{resolve}
 use Rattle.mdcc_rules.specs.Steps.{NodeStep}
 use Rattle.mdcc_simulation.specs.State.{Happened, World, centre_at, counted_event, is_up_at}
@@ -66,133 +65,133 @@ lines-limited : (lines : World → List Line) (r : Result Happened EventFault) �
 lines-limited lines (Ok h) k = tt
 lines-limited lines (Err fault) k = k
 
-log-limited : (built : Built) (w : World) (a : ℕ) (fact : Fact) → IsLimit (log_limit built w a fact)
-log-limited built w a fact = limit-if _ LimitName.Log _
+log-limited : (w : World) (a : ℕ) (fact : Fact) → IsLimit (log_limit w a fact)
+log-limited w a fact = limit-if _ LimitName.Log _
 
-step-limited : (built : Built) (w : World) (a : ℕ) (r : Result NodeStep StepFault) → IsLimit (step_limit built w a r)
-step-limited built w a (Err fault) = tt
-step-limited built w a (Ok step) = by_fact step.fact
+step-limited : (w : World) (a : ℕ) (r : Result NodeStep StepFault) → IsLimit (step_limit w a r)
+step-limited w a (Err fault) = tt
+step-limited w a (Ok step) = by_fact step.fact
   where
-    by_fact : (o : Option Fact) → IsLimit (step_limit_by built w a step o)
+    by_fact : (o : Option Fact) → IsLimit (step_limit_by w a step o)
     by_fact None = limit-if _ LimitName.Bytes _
     by_fact (Some fact) =
-        limit-or (log_limit built w a fact) (if is_some (centre_at w a).stop then None else bytes_limit built w step.sends) (log-limited built w a fact)
-        (cond_both (is_some (centre_at w a).stop) None (bytes_limit built w step.sends) IsLimit (λ e. tt) (λ e. limit-if _ LimitName.Bytes _))
+        limit-or (log_limit w a fact) (if is_some (centre_at w a).stop then None else bytes_limit w step.sends) (log-limited w a fact)
+        (cond_both (is_some (centre_at w a).stop) None (bytes_limit w step.sends) IsLimit (λ e. tt) (λ e. limit-if _ LimitName.Bytes _))
 
 -- an input is refused by a limit only
-pub input-limits : (built : Built) (w : World) (a : ℕ) (r : Result NodeStep StepFault) → OnlyLimits (input_limited built w a r)
-input-limits built w a r = unless-limited (step_limit built w a r) (stepping.input_happened w a r) (step-limited built w a r)
+pub input-limits : (w : World) (a : ℕ) (r : Result NodeStep StepFault) → OnlyLimits (input_limited w a r)
+input-limits w a r = unless-limited (step_limit w a r) (stepping.input_happened w a r) (step-limited w a r)
 
 -- what only limits stand against does so within the limit of events
-pub open-is : (built : Built) (w : World) (r : Result Happened EventFault) → OnlyLimits r → within_events built w r ≡ if_open (at_limit built w) r
-open-is built w (Ok h) only = elim (cases_Bool (is_past_events built w)) [ inl e ↦ rw e refl | inr e ↦ rw e refl ]
-open-is built w (Err fault) only = elim (cases_Bool (is_past_events built w)) [ inl e ↦ rw (only, e) refl | inr e ↦ rw (only, e) refl ]
+pub open-is : (w : World) (r : Result Happened EventFault) → OnlyLimits r → within_events w r ≡ if_open (at_limit w) r
+open-is w (Ok h) only = elim (cases_Bool (is_past_events w)) [ inl e ↦ rw e refl | inr e ↦ rw e refl ]
+open-is w (Err fault) only = elim (cases_Bool (is_past_events w)) [ inl e ↦ rw (only, e) refl | inr e ↦ rw (only, e) refl ]
 
 -- ---- inputs
 
 -- an input comes to its step, where no limit is passed
-pub input-is : (built : Built) (w : World) (a : ℕ) (result : Result NodeStep StepFault) → input_limited built w a result ≡ step_told built w a result
-input-is built w a (Err fault) = refl
-input-is built w a (Ok step) = by_fact step.fact refl (centre_at w a).stop refl
+pub input-is : (w : World) (a : ℕ) (result : Result NodeStep StepFault) → input_limited w a result ≡ step_told w a result
+input-is w a (Err fault) = refl
+input-is w a (Ok step) = by_fact step.fact refl (centre_at w a).stop refl
   where
     or-none : (o : Option EventFault) → option_or o None ≡ o
     or-none None = refl
     or-none (Some fault) = refl
 
     by_fact : (o : Option Fact) → step.fact ≡ o → (stop : Option (ℕ × Image)) → (centre_at w a).stop ≡ stop
-        → unless (step_limit_by built w a step o) (step_happened_by w a step o) ≡ told_by built w a step o stop
-    by_fact None e stop k = rw (by-none w a step e) (ap (λ (o : Option Fact). unless (limit_of built w a o step.sends) (taken w a step)) (sym e))
+        → unless (step_limit_by w a step o) (step_happened_by w a step o) ≡ told_by w a step o stop
+    by_fact None e stop k = rw (by-none w a step e) (ap (λ (o : Option Fact). unless (limit_of w a o step.sends) (taken w a step)) (sym e))
     by_fact (Some fact) e None k =
-        ap (λ (o : Option (ℕ × Image)). unless (option_or (log_limit built w a fact) (if is_some o then None else bytes_limit built w step.sends)) (step_happened_by w a step (Some fact))) k
-        ∙ ap (λ (h : Happened). unless (option_or (log_limit built w a fact) (bytes_limit built w step.sends)) h) (by-some w a step fact e k)
-        ∙ ap (λ (o : Option Fact). unless (limit_of built w a o step.sends) (taken w a step)) (sym e)
-    by_fact (Some fact) e (Some stop) k = rw k (ap (λ (o : Option EventFault). unless o (step_stopped w a fact stop)) (or-none (log_limit built w a fact)))
+        ap (λ (o : Option (ℕ × Image)). unless (option_or (log_limit w a fact) (if is_some o then None else bytes_limit w step.sends)) (step_happened_by w a step (Some fact))) k
+        ∙ ap (λ (h : Happened). unless (option_or (log_limit w a fact) (bytes_limit w step.sends)) h) (by-some w a step fact e k)
+        ∙ ap (λ (o : Option Fact). unless (limit_of w a o step.sends) (taken w a step)) (sym e)
+    by_fact (Some fact) e (Some stop) k = rw k (ap (λ (o : Option EventFault). unless o (step_stopped w a fact stop)) (or-none (log_limit w a fact)))
 
 -- ---- events at a centre
 
 -- what is refused or happens at a centre
-pub at-centre-is : (built : Built) (w : World) (a : ℕ) (r : Result Happened EventFault) → OnlyLimits r → within_events built w (limits.if_up w a r) ≡ if_open (at_centre built w a) r
-at-centre-is built w a r only = by_up (is_up_at w a)
+pub at-centre-is : (w : World) (a : ℕ) (r : Result Happened EventFault) → OnlyLimits r → within_events w (limits.if_up w a r) ≡ if_open (at_centre w a) r
+at-centre-is w a r only = by_up (is_up_at w a)
   where
-    by_up : (b : Bool) → within_events built w (if b then r else Err (EventFault.Down a)) ≡ if_open (if b then at_limit built w else Err (EventFault.Down a)) r
-    by_up true = open-is built w r only
+    by_up : (b : Bool) → within_events w (if b then r else Err (EventFault.Down a)) ≡ if_open (if b then at_limit w else Err (EventFault.Down a)) r
+    by_up true = open-is w r only
     by_up false = refl
 
-pub read-is : (built : Built) (w : World) (a : ℕ) (key : Key) → event_of built w (Event.Read a key) ≡ if_open (at_centre built w a) (Ok (read_happened (counted_event w) a key))
-read-is built w a key = at-centre-is built w a (Ok (read_happened (counted_event w) a key)) tt
+pub read-is : (w : World) (a : ℕ) (key : Key) → event_of w (Event.Read a key) ≡ if_open (at_centre w a) (Ok (read_happened (counted_event w) a key))
+read-is w a key = at-centre-is w a (Ok (read_happened (counted_event w) a key)) tt
 
-pub tick-is : (built : Built) (w : World) (a : ℕ) → event_of built w (Event.Tick a) ≡ if_open (at_centre built w a) (ticked built w a)
-tick-is built w a =
-    at-centre-is built w a (ticked built w a)
-    (lines-limited (tick_line a) (input_taken built (counted_event w) a Input.Tick) (input-limits built (counted_event w) a (step_at built (counted_event w) a Input.Tick)))
+pub tick-is : (w : World) (a : ℕ) → event_of w (Event.Tick a) ≡ if_open (at_centre w a) (ticked w a)
+tick-is w a =
+    at-centre-is w a (ticked w a)
+    (lines-limited (tick_line a) (input_taken (counted_event w) a Input.Tick) (input-limits (counted_event w) a (step_at (counted_event w) a Input.Tick)))
 
-pub crash-is : (built : Built) (w : World) (a : ℕ) → event_of built w (Event.Crash a) ≡ if_open (at_centre built w a) (Ok (crash_happened (counted_event w) a))
-crash-is built w a = at-centre-is built w a (Ok (crash_happened (counted_event w) a)) tt
+pub crash-is : (w : World) (a : ℕ) → event_of w (Event.Crash a) ≡ if_open (at_centre w a) (Ok (crash_happened (counted_event w) a))
+crash-is w a = at-centre-is w a (Ok (crash_happened (counted_event w) a)) tt
 
-pub stop-is : (built : Built) (w : World) (a call : ℕ) (image : Image)
-    → event_of built w (Event.Stop a call image) ≡ if_open (at_centre built w a) (Ok (stop_happened (counted_event w) a call image))
-stop-is built w a call image = at-centre-is built w a (Ok (stop_happened (counted_event w) a call image)) tt
+pub stop-is : (w : World) (a call : ℕ) (image : Image)
+    → event_of w (Event.Stop a call image) ≡ if_open (at_centre w a) (Ok (stop_happened (counted_event w) a call image))
+stop-is w a call image = at-centre-is w a (Ok (stop_happened (counted_event w) a call image)) tt
 
 -- ---- restarts
 
-pub restart-is : (built : Built) (w : World) (a : ℕ) → event_of built w (Event.Restart a) ≡ if_open (at_restart built w a) (restarted built w a)
-restart-is built w a = by_up (is_up_at w a) (is_centre w.cluster a)
+pub restart-is : (w : World) (a : ℕ) → event_of w (Event.Restart a) ≡ if_open (at_restart w a) (restarted w a)
+restart-is w a = by_up (is_up_at w a) (is_centre w.cluster a)
   where
     boot : Fact
     boot = Fact.Booted (next_epoch w a)
 
-    only : OnlyLimits (restarted built w a)
+    only : OnlyLimits (restarted w a)
     only =
-        unless-limited (option_or (cells_limit built w a boot) (log_limit built w a boot)) (restart_happened (counted_event w) a (next_epoch w a))
-        (limit-or (cells_limit built w a boot) (log_limit built w a boot) (limit-if _ LimitName.Cells _) (log-limited built w a boot))
+        unless-limited (option_or (cells_limit w a boot) (log_limit w a boot)) (restart_happened (counted_event w) a (next_epoch w a))
+        (limit-or (cells_limit w a boot) (log_limit w a boot) (limit-if _ LimitName.Cells _) (log-limited w a boot))
 
-    by_up : (b c : Bool) → within_events built w (if b then Err (EventFault.Up a) else (if c then restart_of built (counted_event w) a else Err (EventFault.Down a)))
-        ≡ if_open (if b then Err (EventFault.Up a) else (if c then at_limit built w else Err (EventFault.Down a))) (restarted built w a)
+    by_up : (b c : Bool) → within_events w (if b then Err (EventFault.Up a) else (if c then restart_of (counted_event w) a else Err (EventFault.Down a)))
+        ≡ if_open (if b then Err (EventFault.Up a) else (if c then at_limit w else Err (EventFault.Down a))) (restarted w a)
     by_up true c = refl
-    by_up false true = open-is built w (restarted built w a) only
+    by_up false true = open-is w (restarted w a) only
     by_up false false = refl
 
 -- ---- deliveries
 
 -- the message of a number is delivered
-pub delivered-is : (built : Built) (w : World) (number : ℕ) (sent : Sent) → numbered w.sent number ≡ Some sent → delivered built w number sent.envelope ≡ delivery built w number
-delivered-is built w number sent at = ap (delivery_by built w number) (sym at)
+pub delivered-is : (w : World) (number : ℕ) (sent : Sent) → numbered w.sent number ≡ Some sent → delivered w number sent.envelope ≡ delivery w number
+delivered-is w number sent at = ap (delivery_by w number) (sym at)
 
-pub delivery-is : (built : Built) (w : World) (number : ℕ) → delivery_of built w number ≡ if_open (at_message built w number) (delivery_told built w number)
-delivery-is built w number = by_sent (numbered w.sent number) refl
+pub delivery-is : (w : World) (number : ℕ) → delivery_of w number ≡ if_open (at_message w number) (delivery_told w number)
+delivery-is w number = by_sent (numbered w.sent number) refl
   where
     by_up : (b : Bool) (a : ℕ) (r : Result Happened EventFault) → OnlyLimits r
-        → (if b then within_events built w r else Err (EventFault.Down a)) ≡ if_open (if b then at_limit built w else Err (EventFault.Down a)) r
-    by_up true a r only = open-is built w r only
+        → (if b then within_events w r else Err (EventFault.Down a)) ≡ if_open (if b then at_limit w else Err (EventFault.Down a)) r
+    by_up true a r only = open-is w r only
     by_up false a r only = refl
 
-    by_sent : (o : Option Sent) → numbered w.sent number ≡ o → deliveries.delivery_by built w number o ≡ if_open (message_by built w number o) (delivery_told built w number)
+    by_sent : (o : Option Sent) → numbered w.sent number ≡ o → deliveries.delivery_by w number o ≡ if_open (message_by w number o) (delivery_told w number)
     by_sent None e = refl
     by_sent (Some sent) e =
         let after = message_counted w number in
-        let result = delivered built w number sent.envelope in
-        let only : OnlyLimits result = input-limits built after sent.envelope.to (step_at built after sent.envelope.to (Input.Message sent.envelope)) in
+        let result = delivered w number sent.envelope in
+        let only : OnlyLimits result = input-limits after sent.envelope.to (step_at after sent.envelope.to (Input.Message sent.envelope)) in
         by_up (is_up_at w sent.envelope.to) sent.envelope.to (with_lines (deliver_line number) result) (lines-limited (deliver_line number) result only)
-        ∙ ap (λ (r : Result Happened EventFault). if_open (message_by built w number (Some sent)) (with_lines (deliver_line number) r)) (delivered-is built w number sent e)
+        ∙ ap (λ (r : Result Happened EventFault). if_open (message_by w number (Some sent)) (with_lines (deliver_line number) r)) (delivered-is w number sent e)
 
 -- ---- begins
 
-drafted-is : (built : Built) (w : World) (a : ℕ) (r : Result (List Part) DraftFault) → within_events built w (begun_by built (counted_event w) a r) ≡ begun_if built w a r
-drafted-is built w a (Err fault) = refl
-drafted-is built w a (Ok parts) =
-    let result = step_at built (counted_event w) a (Input.Begin parts) in
-    open-is built w (begun built w a parts) (lines-limited (begin_lines (answer_in result)) (input_limited built (counted_event w) a result) (input-limits built (counted_event w) a result))
+drafted-is : (w : World) (a : ℕ) (r : Result (List Part) DraftFault) → within_events w (begun_by (counted_event w) a r) ≡ begun_if w a r
+drafted-is w a (Err fault) = refl
+drafted-is w a (Ok parts) =
+    let result = step_at (counted_event w) a (Input.Begin parts) in
+    open-is w (begun w a parts) (lines-limited (begin_lines (answer_in result)) (input_limited (counted_event w) a result) (input-limits (counted_event w) a result))
 
-resolved-is : (built : Built) (w : World) (a : ℕ) (r : Result (List Part) ResolveFault) → within_events built w (parts_begun built (counted_event w) a r) ≡ begin_by built w a r
-resolved-is built w a (Err (ResolveFault.NoRead number)) = refl
-resolved-is built w a (Err (ResolveFault.NoItem key)) = open-is built w (Ok (no_item (counted_event w) key)) tt
-resolved-is built w a (Err ResolveFault.Memory) = refl
-resolved-is built w a (Ok parts) = drafted-is built w a (transaction_of w.cluster.schema parts)
+resolved-is : (w : World) (a : ℕ) (r : Result (List Part) ResolveFault) → within_events w (parts_begun (counted_event w) a r) ≡ begin_by w a r
+resolved-is w a (Err (ResolveFault.NoRead number)) = refl
+resolved-is w a (Err (ResolveFault.NoItem key)) = open-is w (Ok (no_item (counted_event w) key)) tt
+resolved-is w a (Err ResolveFault.Memory) = refl
+resolved-is w a (Ok parts) = drafted-is w a (transaction_of w.cluster.schema parts)
 
-pub begin-is : (built : Built) (w : World) (a : ℕ) (words : List UpdateWord) → event_of built w (Event.Begin a words) ≡ begin_told built w a words
-begin-is built w a words = by_up (is_up_at w a)
+pub begin-is : (w : World) (a : ℕ) (words : List UpdateWord) → event_of w (Event.Begin a words) ≡ begin_told w a words
+begin-is w a words = by_up (is_up_at w a)
   where
-    by_up : (b : Bool) → within_events built w (if b then begin_of built (counted_event w) a words else Err (EventFault.Down a))
-        ≡ (if b then begin_by built w a (resolve words (map Some w.reads)) else Err (EventFault.Down a))
-    by_up true = resolved-is built w a (resolve words (map Some w.reads))
+    by_up : (b : Bool) → within_events w (if b then begin_of (counted_event w) a words else Err (EventFault.Down a))
+        ≡ (if b then begin_by w a (resolve words (map Some w.reads)) else Err (EventFault.Down a))
+    by_up true = resolved-is w a (resolve words (map Some w.reads))
     by_up false = refl

@@ -2,7 +2,7 @@
 use Rattle.std.proofs.Common.{◌≡◌, ℕ, zero, suc, ◌+◌, ◌-◌, ◌≤◌, ◌<◌, ◌⊎◌, ◌&&◌, Bool, true, false, List, [], ◌∷◌, refl, sym, ap, ◌∙◌, subst, inl, inr, Option, Some, None, Result, Ok, Err, if◌then◌else◌, nat_le, nat_lt, map, arith}
 use Rattle.std.specs.List.{AllByRecursion}
 use Rattle.std.specs.Option.{option_or}
-use Rattle.std.specs.Prelude.{IsTrue, is_some}
+use Rattle.std.specs.Prelude.{is_some}
 use Rattle.std.proofs.lemmas.Bool.{and_parts, cases_Bool, leb-false, leb-true, ltb-false}
 use Rattle.mdcc_base.specs.Key.{IsKey}
 use Rattle.mdcc_base.specs.declared.key.Key.{Key}
@@ -15,7 +15,6 @@ use Rattle.mdcc_ledger.specs.Ledger.{facts_of}
 use Rattle.mdcc_messages.specs.Lengths.{cells_needed, cells_used, log_length}
 use Rattle.mdcc_rules.specs.Steps.{NodeStep}
 use Rattle.mdcc_rules.specs.declared.node.StepFault.{StepFault}
-use Rattle.mdcc_switches.specs.Built.{Built}
 use Rattle.mdcc_language.specs.Resolve.{resolve}
 use Rattle.mdcc_simulation.specs.State.{Happened, World, after_lines, centre_at, counted_event, is_up_at}
 use Rattle.mdcc_messages.specs.Mailbox.{Sent, numbered}
@@ -45,7 +44,7 @@ use Rattle.mdcc_worlds.proofs.Settles.{settle-closed, settled-limit, settled-nex
 use Rattle.mdcc_worlds.proofs.Stays.{KeepsLog, counted-stays, crash-stays, delivered-stays, input-stays, read-stays, restart-stays, stop-stays}
 use Rattle.mdcc_worlds.specs.Beginning.{begin_by, begun, begun_if}
 use Rattle.mdcc_worlds.specs.Delivering.{at_message, delivery, delivery_by, delivery_told, message_by, message_counted, unmoved}
-use Rattle.mdcc_worlds.specs.Events.{AreBounded, IsBetween}
+use Rattle.mdcc_worlds.specs.Events.{IsBetween}
 use Rattle.mdcc_worlds.specs.Happening.{at_centre, at_limit, at_restart, if_open, next_epoch, restarted, ticked}
 use Rattle.mdcc_worlds.specs.Settling.{settle_told, settled}
 use Rattle.mdcc_worlds.specs.Standing.{IsSent, IsWorld}
@@ -66,52 +65,50 @@ limit-open true name number e = absurd (cc)
 limit-open false name number e = refl
 
 -- a log that its limit does not refuse is within it
-log-open : (built : Built) (w : World) (a : ℕ) (fact : Fact) → IsTrue built.limit_on_log → log_limit built w a fact ≡ None → log_length (fact ∷ facts_of w.ledger a) ≤ most_log
-log-open built w a fact limited e =
-    let clear = limit-open (built.limit_on_log && nat_lt most_log (log_length (fact ∷ facts_of w.ledger a))) LimitName.Log most_log e in
-    let past : nat_lt most_log (log_length (fact ∷ facts_of w.ledger a)) ≡ false = rw limited at clear in
-    ltb-false most_log (log_length (fact ∷ facts_of w.ledger a)) past
+log-open : (w : World) (a : ℕ) (fact : Fact) → log_limit w a fact ≡ None → log_length (fact ∷ facts_of w.ledger a) ≤ most_log
+log-open w a fact e =
+    let clear = limit-open (nat_lt most_log (log_length (fact ∷ facts_of w.ledger a))) LimitName.Log most_log e in
+    ltb-false most_log (log_length (fact ∷ facts_of w.ledger a)) clear
 
 -- nor does a boot that the cells do not refuse pass them
-cells-open : (built : Built) (w : World) (a : ℕ) (fact : Fact) → IsTrue built.limit_on_cells → cells_limit built w a fact ≡ None → cells_used (fact ∷ facts_of w.ledger a) ≤ w.cluster.cells
-cells-open built w a fact limited e =
+cells-open : (w : World) (a : ℕ) (fact : Fact) → cells_limit w a fact ≡ None → cells_used (fact ∷ facts_of w.ledger a) ≤ w.cluster.cells
+cells-open w a fact e =
     let facts = facts_of w.ledger a in
-    let clear = limit-open (built.limit_on_cells && nat_lt w.cluster.cells (cells_used facts + cells_needed fact)) LimitName.Cells (cells_used facts + cells_needed fact) e in
-    let past : nat_lt w.cluster.cells (cells_used facts + cells_needed fact) ≡ false = rw limited at clear in
-    turned (cells_needed fact) (cells_used facts) w.cluster.cells (ltb-false w.cluster.cells (cells_used facts + cells_needed fact) past)
+    let clear = limit-open (nat_lt w.cluster.cells (cells_used facts + cells_needed fact)) LimitName.Cells (cells_used facts + cells_needed fact) e in
+    turned (cells_needed fact) (cells_used facts) w.cluster.cells (ltb-false w.cluster.cells (cells_used facts + cells_needed fact) clear)
   where
     turned : (a b c : ℕ) → b + a ≤ c → a + b ≤ c
     turned a b c h = omega (h, arith)
 
-log-kept : (built : Built) (w : World) (a : ℕ) (r : Result NodeStep StepFault) → IsTrue built.limit_on_log → IsWorld w → is_centre w.cluster a ≡ true
-    → step_limit built w a r ≡ None → KeepsLog w a r
-log-kept built w a r limited stands centre e step is = by_fact step.fact (subst (λ (x : Result NodeStep StepFault). step_limit built w a x ≡ None) is e)
+log-kept : (w : World) (a : ℕ) (r : Result NodeStep StepFault) → IsWorld w → is_centre w.cluster a ≡ true
+    → step_limit w a r ≡ None → KeepsLog w a r
+log-kept w a r stands centre e step is = by_fact step.fact (subst (λ (x : Result NodeStep StepFault). step_limit w a x ≡ None) is e)
   where
-    by_fact : (o : Option Fact) → step_limit_by built w a step o ≡ None → log_length (with_new (facts_of w.ledger a) o) ≤ most_log
+    by_fact : (o : Option Fact) → step_limit_by w a step o ≡ None → log_length (with_new (facts_of w.ledger a) o) ≤ most_log
     by_fact None k = stands.logs a centre
-    by_fact (Some fact) k = log-open built w a fact limited (either-open (log_limit built w a fact) (if is_some (centre_at w a).stop then None else bytes_limit built w step.sends) k)
+    by_fact (Some fact) k = log-open w a fact (either-open (log_limit w a fact) (if is_some (centre_at w a).stop then None else bytes_limit w step.sends) k)
 
 -- an input that no limit refuses
-pub limited-stays : (built : Built) (w : World) (a : ℕ) (input : Input) (h : Happened) → IsTrue built.limit_on_log → IsTrue built.limit_on_cells → IsWorld w → is_centre w.cluster a ≡ true → IsWellFormedInput input
-    → input_taken built w a input ≡ Ok h → IsWorld h.world
-limited-stays built w a input h limited celled stands centre formed e =
-    let result = step_at built w a input in
-    let clear = unless-open (step_limit built w a result) (input_happened w a result) h e in
-    let same = unless-happened (step_limit built w a result) (input_happened w a result) h e in
-    subst (λ (x : Happened). IsWorld x.world) same (input-stays built w a input celled (log-kept built w a result limited stands centre clear) stands centre formed)
+pub limited-stays : (w : World) (a : ℕ) (input : Input) (h : Happened) → IsWorld w → is_centre w.cluster a ≡ true → IsWellFormedInput input
+    → input_taken w a input ≡ Ok h → IsWorld h.world
+limited-stays w a input h stands centre formed e =
+    let result = step_at w a input in
+    let clear = unless-open (step_limit w a result) (input_happened w a result) h e in
+    let same = unless-happened (step_limit w a result) (input_happened w a result) h e in
+    subst (λ (x : Happened). IsWorld x.world) same (input-stays w a input (log-kept w a result stands centre clear) stands centre formed)
 
 -- and such a restart
-pub restarted-stays : (built : Built) (w : World) (a : ℕ) (h : Happened) → IsTrue built.limit_on_log → IsTrue built.limit_on_cells → IsWorld w → is_centre w.cluster a ≡ true → w.events < most_events
-    → restarted built w a ≡ Ok h → IsWorld h.world
-restarted-stays built w a h limited celled stands centre few e =
+pub restarted-stays : (w : World) (a : ℕ) (h : Happened) → IsWorld w → is_centre w.cluster a ≡ true → w.events < most_events
+    → restarted w a ≡ Ok h → IsWorld h.world
+restarted-stays w a h stands centre few e =
     let boot = Fact.Booted (next_epoch w a) in
     let after = restart_happened (counted_event w) a (next_epoch w a) in
-    let limit = option_or (cells_limit built w a boot) (log_limit built w a boot) in
+    let limit = option_or (cells_limit w a boot) (log_limit w a boot) in
     let same = unless-happened limit after h e in
     let none = unless-open limit after h e in
-    let clear = other-open (cells_limit built w a boot) (log_limit built w a boot) none in
-    let roomy = either-open (cells_limit built w a boot) (log_limit built w a boot) none in
-    subst (λ (x : Happened). IsWorld x.world) same (restart-stays w a stands centre few (log-open built w a boot limited clear) (cells-open built w a boot celled roomy))
+    let clear = other-open (cells_limit w a boot) (log_limit w a boot) none in
+    let roomy = either-open (cells_limit w a boot) (log_limit w a boot) none in
+    subst (λ (x : Happened). IsWorld x.world) same (restart-stays w a stands centre few (log-open w a boot clear) (cells-open w a boot roomy))
   where
     other-open : (o p : Option EventFault) → option_or o p ≡ None → p ≡ None
     other-open None p e = e
@@ -119,14 +116,14 @@ restarted-stays built w a h limited celled stands centre few e =
 
 -- ---- a delivery
 
-pub delivery-stays : (built : Built) (bounded : AreBounded built) (w : World) (number : ℕ) (h : Happened) → IsWorld w → delivery built w number ≡ Ok h → IsWorld h.world
-delivery-stays built bounded w number h stands e = by_sent (numbered w.sent number) refl e
+pub delivery-stays : (w : World) (number : ℕ) (h : Happened) → IsWorld w → delivery w number ≡ Ok h → IsWorld h.world
+delivery-stays w number h stands e = by_sent (numbered w.sent number) refl e
   where
-    by_sent : (o : Option Sent) → numbered w.sent number ≡ o → delivery_by built w number o ≡ Ok h → IsWorld h.world
+    by_sent : (o : Option Sent) → numbered w.sent number ≡ o → delivery_by w number o ≡ Ok h → IsWorld h.world
     by_sent None f k = absurd (cc)
     by_sent (Some sent) f k =
         let is = each-numbered (IsSent w.cluster) w.sent number sent stands.sent f in
-        limited-stays built (message_counted w number) sent.envelope.to (Input.Message sent.envelope) h bounded.logs_limited bounded.cells_limited
+        limited-stays (message_counted w number) sent.envelope.to (Input.Message sent.envelope) h
         (delivered-stays w (number - 1) (w.events + 1) (omega arith) stands) is.within is.envelope_itself k
 
 -- ---- what is not refused
@@ -145,51 +142,51 @@ told lines (Err fault) after e = absurd (cc)
 up-centre : (w : World) (a : ℕ) → is_up_at w a ≡ true → is_centre w.cluster a ≡ true
 up-centre w a up = (and_parts (is_centre w.cluster a) (centre_at w a).is_up up).0
 
-open-centre : (built : Built) (bounded : AreBounded built) (w : World) (a : ℕ) → at_centre built w a ≡ Ok tt → (is_centre w.cluster a ≡ true) × (w.events < most_events)
-open-centre built bounded w a clear = by_up (is_up_at w a) refl clear
+open-centre : (w : World) (a : ℕ) → at_centre w a ≡ Ok tt → (is_centre w.cluster a ≡ true) × (w.events < most_events)
+open-centre w a clear = by_up (is_up_at w a) refl clear
   where
-    by_up : (b : Bool) → is_up_at w a ≡ b → (if b then at_limit built w else Err (EventFault.Down a)) ≡ Ok tt → (is_centre w.cluster a ≡ true) × (w.events < most_events)
-    by_up true e k = (up-centre w a e, open-few built w bounded.events_limited k)
+    by_up : (b : Bool) → is_up_at w a ≡ b → (if b then at_limit w else Err (EventFault.Down a)) ≡ Ok tt → (is_centre w.cluster a ≡ true) × (w.events < most_events)
+    by_up true e k = (up-centre w a e, open-few w k)
     by_up false e k = absurd (cc)
 
-open-restart : (built : Built) (bounded : AreBounded built) (w : World) (a : ℕ) → at_restart built w a ≡ Ok tt → (is_centre w.cluster a ≡ true) × (w.events < most_events)
-open-restart built bounded w a clear = by_up (is_up_at w a) (is_centre w.cluster a) refl clear
+open-restart : (w : World) (a : ℕ) → at_restart w a ≡ Ok tt → (is_centre w.cluster a ≡ true) × (w.events < most_events)
+open-restart w a clear = by_up (is_up_at w a) (is_centre w.cluster a) refl clear
   where
-    by_up : (b c : Bool) → is_centre w.cluster a ≡ c → (if b then Err (EventFault.Up a) else (if c then at_limit built w else Err (EventFault.Down a))) ≡ Ok tt
+    by_up : (b c : Bool) → is_centre w.cluster a ≡ c → (if b then Err (EventFault.Up a) else (if c then at_limit w else Err (EventFault.Down a))) ≡ Ok tt
         → (is_centre w.cluster a ≡ true) × (w.events < most_events)
     by_up true c e k = absurd (cc)
-    by_up false true e k = (e, open-few built w bounded.events_limited k)
+    by_up false true e k = (e, open-few w k)
     by_up false false e k = absurd (cc)
 
-open-message : (built : Built) (bounded : AreBounded built) (w : World) (number : ℕ) → at_message built w number ≡ Ok tt → (sent : Sent) × (numbered w.sent number ≡ Some sent) × (w.events < most_events)
-open-message built bounded w number clear = by_sent (numbered w.sent number) refl clear
+open-message : (w : World) (number : ℕ) → at_message w number ≡ Ok tt → (sent : Sent) × (numbered w.sent number ≡ Some sent) × (w.events < most_events)
+open-message w number clear = by_sent (numbered w.sent number) refl clear
   where
-    by_up : (b : Bool) (a : ℕ) → (if b then at_limit built w else Err (EventFault.Down a)) ≡ Ok tt → w.events < most_events
-    by_up true a k = open-few built w bounded.events_limited k
+    by_up : (b : Bool) (a : ℕ) → (if b then at_limit w else Err (EventFault.Down a)) ≡ Ok tt → w.events < most_events
+    by_up true a k = open-few w k
     by_up false a k = absurd (cc)
 
-    by_sent : (o : Option Sent) → numbered w.sent number ≡ o → message_by built w number o ≡ Ok tt → (sent : Sent) × (numbered w.sent number ≡ Some sent) × (w.events < most_events)
+    by_sent : (o : Option Sent) → numbered w.sent number ≡ o → message_by w number o ≡ Ok tt → (sent : Sent) × (numbered w.sent number ≡ Some sent) × (w.events < most_events)
     by_sent None e k = absurd (cc)
     by_sent (Some sent) e k = (sent, e, by_up (is_up_at w sent.envelope.to) sent.envelope.to k)
 
 -- ---- an event at a centre
 
 -- one event more, and what an input did
-input-between : (built : Built) (bounded : AreBounded built) (w : World) (a : ℕ) (input : Input) (h : Happened) → IsBetween w → is_centre w.cluster a ≡ true → w.events < most_events → IsWellFormedInput input
-    → input_taken built (counted_event w) a input ≡ Ok h → IsBetween h.world
-input-between built bounded w a input h between centre few formed e = record {
-  itself = limited-stays built (counted_event w) a input h bounded.logs_limited bounded.cells_limited (counted-stays w between.itself) centre formed e;
+input-between : (w : World) (a : ℕ) (input : Input) (h : Happened) → IsBetween w → is_centre w.cluster a ≡ true → w.events < most_events → IsWellFormedInput input
+    → input_taken (counted_event w) a input ≡ Ok h → IsBetween h.world
+input-between w a input h between centre few formed e = record {
+  itself = limited-stays (counted_event w) a input h (counted-stays w between.itself) centre formed e;
   few =
-      let same = limited-events built (counted_event w) a (step_at built (counted_event w) a input) h e in
+      let same = limited-events (counted_event w) a (step_at (counted_event w) a input) h e in
       omega (same, few, arith);
 }
 
 -- the same behind its lines
-lines-between : (built : Built) (bounded : AreBounded built) (w : World) (a : ℕ) (input : Input) (lines : World → List Line) (h : Happened) → IsBetween w → is_centre w.cluster a ≡ true → w.events < most_events → IsWellFormedInput input
-    → with_lines lines (input_taken built (counted_event w) a input) ≡ Ok h → IsBetween h.world
-lines-between built bounded w a input lines h between centre few formed e =
-    let there = told lines (input_taken built (counted_event w) a input) h e in
-    subst IsBetween there.2 (input-between built bounded w a input there.0 between centre few formed there.1)
+lines-between : (w : World) (a : ℕ) (input : Input) (lines : World → List Line) (h : Happened) → IsBetween w → is_centre w.cluster a ≡ true → w.events < most_events → IsWellFormedInput input
+    → with_lines lines (input_taken (counted_event w) a input) ≡ Ok h → IsBetween h.world
+lines-between w a input lines h between centre few formed e =
+    let there = told lines (input_taken (counted_event w) a input) h e in
+    subst IsBetween there.2 (input-between w a input there.0 between centre few formed there.1)
 
 counted-between : (w : World) → IsBetween w → w.events < most_events → IsBetween (counted_event w)
 counted-between w between few = record { itself = counted-stays w between.itself; few = omega (few, arith) }
@@ -201,170 +198,170 @@ happens h = Ok h
 happened-between : (h after : Happened) → happens h ≡ Ok after → IsBetween h.world → IsBetween after.world
 happened-between h after e between = let same : h ≡ after = cc in subst (λ (x : Happened). IsBetween x.world) same between
 
-read-between : (built : Built) (bounded : AreBounded built) (w : World) (a : ℕ) (key : Key) (h : Happened) → IsBetween w → IsKey key → event_of built w (Event.Read a key) ≡ Ok h → IsBetween h.world
-read-between built bounded w a key h between is e =
-    let both = opened (at_centre built w a) (Ok (read_happened (counted_event w) a key)) h (sym (read-is built w a key) ∙ e) in
-    let there = open-centre built bounded w a both.0 in
+read-between : (w : World) (a : ℕ) (key : Key) (h : Happened) → IsBetween w → IsKey key → event_of w (Event.Read a key) ≡ Ok h → IsBetween h.world
+read-between w a key h between is e =
+    let both = opened (at_centre w a) (Ok (read_happened (counted_event w) a key)) h (sym (read-is w a key) ∙ e) in
+    let there = open-centre w a both.0 in
     let few = there.1 in
     happened-between (read_happened (counted_event w) a key) h both.1
     (record { itself = read-stays (counted_event w) a key (counted-stays w between.itself) there.0 is; few = omega (few, arith) })
 
-tick-between : (built : Built) (bounded : AreBounded built) (w : World) (a : ℕ) (h : Happened) → IsBetween w → event_of built w (Event.Tick a) ≡ Ok h → IsBetween h.world
-tick-between built bounded w a h between e =
-    let both = opened (at_centre built w a) (ticked built w a) h (sym (tick-is built w a) ∙ e) in
-    let there = open-centre built bounded w a both.0 in
-    lines-between built bounded w a Input.Tick (tick_line a) h between there.0 there.1 tt both.1
+tick-between : (w : World) (a : ℕ) (h : Happened) → IsBetween w → event_of w (Event.Tick a) ≡ Ok h → IsBetween h.world
+tick-between w a h between e =
+    let both = opened (at_centre w a) (ticked w a) h (sym (tick-is w a) ∙ e) in
+    let there = open-centre w a both.0 in
+    lines-between w a Input.Tick (tick_line a) h between there.0 there.1 tt both.1
 
-crash-between : (built : Built) (bounded : AreBounded built) (w : World) (a : ℕ) (h : Happened) → IsBetween w → event_of built w (Event.Crash a) ≡ Ok h → IsBetween h.world
-crash-between built bounded w a h between e =
-    let both = opened (at_centre built w a) (Ok (crash_happened (counted_event w) a)) h (sym (crash-is built w a) ∙ e) in
-    let there = open-centre built bounded w a both.0 in
+crash-between : (w : World) (a : ℕ) (h : Happened) → IsBetween w → event_of w (Event.Crash a) ≡ Ok h → IsBetween h.world
+crash-between w a h between e =
+    let both = opened (at_centre w a) (Ok (crash_happened (counted_event w) a)) h (sym (crash-is w a) ∙ e) in
+    let there = open-centre w a both.0 in
     let few = there.1 in
     happened-between (crash_happened (counted_event w) a) h both.1
     (record { itself = crash-stays (counted_event w) a (counted-stays w between.itself) there.0; few = omega (few, arith) })
 
-stop-between : (built : Built) (bounded : AreBounded built) (w : World) (a call : ℕ) (image : Image) (h : Happened) → IsBetween w → event_of built w (Event.Stop a call image) ≡ Ok h → IsBetween h.world
-stop-between built bounded w a call image h between e =
-    let both = opened (at_centre built w a) (Ok (stop_happened (counted_event w) a call image)) h (sym (stop-is built w a call image) ∙ e) in
-    let there = open-centre built bounded w a both.0 in
+stop-between : (w : World) (a call : ℕ) (image : Image) (h : Happened) → IsBetween w → event_of w (Event.Stop a call image) ≡ Ok h → IsBetween h.world
+stop-between w a call image h between e =
+    let both = opened (at_centre w a) (Ok (stop_happened (counted_event w) a call image)) h (sym (stop-is w a call image) ∙ e) in
+    let there = open-centre w a both.0 in
     let few = there.1 in
     happened-between (stop_happened (counted_event w) a call image) h both.1
     (record { itself = stop-stays (counted_event w) a call image (counted-stays w between.itself) there.0; few = omega (few, arith) })
 
-restart-between : (built : Built) (bounded : AreBounded built) (w : World) (a : ℕ) (h : Happened) → IsBetween w → event_of built w (Event.Restart a) ≡ Ok h → IsBetween h.world
-restart-between built bounded w a h between e =
-    let both = opened (at_restart built w a) (restarted built w a) h (sym (restart-is built w a) ∙ e) in
-    let there = open-restart built bounded w a both.0 in
+restart-between : (w : World) (a : ℕ) (h : Happened) → IsBetween w → event_of w (Event.Restart a) ≡ Ok h → IsBetween h.world
+restart-between w a h between e =
+    let both = opened (at_restart w a) (restarted w a) h (sym (restart-is w a) ∙ e) in
+    let there = open-restart w a both.0 in
     let few = there.1 in
     let boot = Fact.Booted (next_epoch w a) in
     let after = restart_happened (counted_event w) a (next_epoch w a) in
-    let same = unless-happened (option_or (cells_limit built w a boot) (log_limit built w a boot)) after h both.1 in
+    let same = unless-happened (option_or (cells_limit w a boot) (log_limit w a boot)) after h both.1 in
     let itself : IsWorld after.world =
-    subst (λ (x : Happened). IsWorld x.world) (sym same) (restarted-stays built w a h bounded.logs_limited bounded.cells_limited between.itself there.0 few both.1) in
+    subst (λ (x : Happened). IsWorld x.world) (sym same) (restarted-stays w a h between.itself there.0 few both.1) in
     subst (λ (x : Happened). IsBetween x.world) same
     (record { itself = itself; few = omega (few, arith) })
 
-begin-between : (built : Built) (bounded : AreBounded built) (w : World) (a : ℕ) (words : List UpdateWord) (h : Happened) → IsBetween w → AllByRecursion IsGivenWord words → event_of built w (Event.Begin a words) ≡ Ok h → IsBetween h.world
-begin-between built bounded w a words h between given e = by_up (is_up_at w a) refl (sym (begin-is built w a words) ∙ e)
+begin-between : (w : World) (a : ℕ) (words : List UpdateWord) (h : Happened) → IsBetween w → AllByRecursion IsGivenWord words → event_of w (Event.Begin a words) ≡ Ok h → IsBetween h.world
+begin-between w a words h between given e = by_up (is_up_at w a) refl (sym (begin-is w a words) ∙ e)
   where
     drafted : (resolved : List Part) → resolve words (map Some w.reads) ≡ Ok resolved → is_centre w.cluster a ≡ true
-        → (r : Result (List Part) DraftFault) → transaction_of w.cluster.schema resolved ≡ r → begun_if built w a r ≡ Ok h → IsBetween h.world
+        → (r : Result (List Part) DraftFault) → transaction_of w.cluster.schema resolved ≡ r → begun_if w a r ≡ Ok h → IsBetween h.world
     drafted resolved found centre (Err fault) made k = absurd (cc)
     drafted resolved found centre (Ok parts) made k =
-        let both = opened (at_limit built w) (begun built w a parts) h k in
+        let both = opened (at_limit w) (begun w a parts) h k in
         let formed = parts-formed w.cluster.schema w.reads words resolved parts between.itself.cluster_itself.schema between.itself.reads given found made in
-        lines-between built bounded w a (Input.Begin parts) (begin_lines (answer_in (step_at built (counted_event w) a (Input.Begin parts)))) h between centre (open-few built w bounded.events_limited both.0) formed both.1
+        lines-between w a (Input.Begin parts) (begin_lines (answer_in (step_at (counted_event w) a (Input.Begin parts)))) h between centre (open-few w both.0) formed both.1
 
-    resolved-by : (r : Result (List Part) ResolveFault) → resolve words (map Some w.reads) ≡ r → is_centre w.cluster a ≡ true → begin_by built w a r ≡ Ok h → IsBetween h.world
+    resolved-by : (r : Result (List Part) ResolveFault) → resolve words (map Some w.reads) ≡ r → is_centre w.cluster a ≡ true → begin_by w a r ≡ Ok h → IsBetween h.world
     resolved-by (Err (ResolveFault.NoRead number)) found centre k = absurd (cc)
     resolved-by (Err (ResolveFault.NoItem key)) found centre k =
-        let both = opened (at_limit built w) (Ok (no_item (counted_event w) key)) h k in
-        happened-between (no_item (counted_event w) key) h both.1 (counted-between w between (open-few built w bounded.events_limited both.0))
+        let both = opened (at_limit w) (Ok (no_item (counted_event w) key)) h k in
+        happened-between (no_item (counted_event w) key) h both.1 (counted-between w between (open-few w both.0))
     resolved-by (Err ResolveFault.Memory) found centre k = absurd (cc)
     resolved-by (Ok resolved) found centre k = drafted resolved found centre (transaction_of w.cluster.schema resolved) refl k
 
-    by_up : (b : Bool) → is_up_at w a ≡ b → (if b then begin_by built w a (resolve words (map Some w.reads)) else Err (EventFault.Down a)) ≡ Ok h → IsBetween h.world
+    by_up : (b : Bool) → is_up_at w a ≡ b → (if b then begin_by w a (resolve words (map Some w.reads)) else Err (EventFault.Down a)) ≡ Ok h → IsBetween h.world
     by_up true up k = resolved-by (resolve words (map Some w.reads)) refl (up-centre w a up) k
     by_up false up k = absurd (cc)
 
 -- ---- deliveries
 
-told-between : (built : Built) (bounded : AreBounded built) (w : World) (number : ℕ) (h : Happened) → IsBetween w → delivery_of built w number ≡ Ok h → IsBetween h.world
-told-between built bounded w number h between e =
-    let both = opened (at_message built w number) (delivery_told built w number) h (sym (delivery-is built w number) ∙ e) in
-    let sent = open-message built bounded w number both.0 in
-    let there = told (deliver_line number) (delivery built w number) h both.1 in
-    let counted = delivery-events built w number sent.0 there.0 sent.1 there.1 in
+told-between : (w : World) (number : ℕ) (h : Happened) → IsBetween w → delivery_of w number ≡ Ok h → IsBetween h.world
+told-between w number h between e =
+    let both = opened (at_message w number) (delivery_told w number) h (sym (delivery-is w number) ∙ e) in
+    let sent = open-message w number both.0 in
+    let there = told (deliver_line number) (delivery w number) h both.1 in
+    let counted = delivery-events w number sent.0 there.0 sent.1 there.1 in
     let few = sent.2 in
-    subst IsBetween there.2 (record { itself = delivery-stays built bounded w number there.0 between.itself there.1; few = omega (counted, few, arith) })
+    subst IsBetween there.2 (record { itself = delivery-stays w number there.0 between.itself there.1; few = omega (counted, few, arith) })
 
-delivery-between : (built : Built) (bounded : AreBounded built) (number : ℕ) (numbers : List ℕ) (h after : Happened) → IsBetween h.world → deliveries_of built (number ∷ numbers) h ≡ Ok after
-    → ((next : Happened) → IsBetween next.world → deliveries_of built numbers next ≡ Ok after → IsBetween after.world)
+delivery-between : (number : ℕ) (numbers : List ℕ) (h after : Happened) → IsBetween h.world → deliveries_of (number ∷ numbers) h ≡ Ok after
+    → ((next : Happened) → IsBetween next.world → deliveries_of numbers next ≡ Ok after → IsBetween after.world)
     → IsBetween after.world
-delivery-between built bounded number numbers h after between e go = by_answer (delivery_of built h.world number) refl
+delivery-between number numbers h after between e go = by_answer (delivery_of h.world number) refl
   where
-    by_answer : (r : Result Happened EventFault) → delivery_of built h.world number ≡ r → IsBetween after.world
+    by_answer : (r : Result Happened EventFault) → delivery_of h.world number ≡ r → IsBetween after.world
     by_answer (Err fault) f =
-        let bad : Err fault ≡ Ok after = sym (refused-of built number numbers h fault f) ∙ e in
+        let bad : Err fault ≡ Ok after = sym (refused-of number numbers h fault f) ∙ e in
         absurd (cc)
     by_answer (Ok next) f =
-        let stays = told-between built bounded h.world number next between f in
-        go (after_lines h.lines next) (record { itself = stays.itself; few = stays.few }) (sym (next-of built number numbers h next f) ∙ e)
+        let stays = told-between h.world number next between f in
+        go (after_lines h.lines next) (record { itself = stays.itself; few = stays.few }) (sym (next-of number numbers h next f) ∙ e)
 
-deliveries-between : (built : Built) (bounded : AreBounded built) (numbers : List ℕ) (h after : Happened) → IsBetween h.world → deliveries_of built numbers h ≡ Ok after → IsBetween after.world
-deliveries-between built bounded [] h after between e = happened-between h after e between
-deliveries-between built bounded (number ∷ numbers) h after between e =
-    delivery-between built bounded number numbers h after between e (λ next stands k. deliveries-between built bounded numbers next after stands k)
+deliveries-between : (numbers : List ℕ) (h after : Happened) → IsBetween h.world → deliveries_of numbers h ≡ Ok after → IsBetween after.world
+deliveries-between [] h after between e = happened-between h after e between
+deliveries-between (number ∷ numbers) h after between e =
+    delivery-between number numbers h after between e (λ next stands k. deliveries-between numbers next after stands k)
 
 -- ---- settles
 
-settled-done : (built : Built) (bounded : AreBounded built) (left : ℕ) (listed : List ℕ) (h : Happened) (deliveries : ℕ) (after : Happened × ℕ) → IsWorld h.world → left + h.world.events ≤ most_events
-    → settled_of left built listed h deliveries ≡ Ok after → first_waiting h.world listed 1 h.world.sent ≡ None → IsBetween after.0.world
-settled-done built bounded left listed h deliveries after stands few e none =
-    let reached : Ok (h, deliveries) ≡ Ok after = sym (settled-none built left listed h deliveries none) ∙ e in
+settled-done : (left : ℕ) (listed : List ℕ) (h : Happened) (deliveries : ℕ) (after : Happened × ℕ) → IsWorld h.world → left + h.world.events ≤ most_events
+    → settled_of left listed h deliveries ≡ Ok after → first_waiting h.world listed 1 h.world.sent ≡ None → IsBetween after.0.world
+settled-done left listed h deliveries after stands few e none =
+    let reached : Ok (h, deliveries) ≡ Ok after = sym (settled-none left listed h deliveries none) ∙ e in
     let same : (h, deliveries) ≡ after = cc in
     subst (λ (x : Happened × ℕ). IsBetween x.0.world) same (record { itself = stands; few = omega (few, arith) })
 
-settled-stop : (built : Built) (bounded : AreBounded built) (listed : List ℕ) (h : Happened) (deliveries : ℕ) (after : Happened × ℕ) (next : ℕ × Envelope) → first_waiting h.world listed 1 h.world.sent ≡ Some next
-    → settled_of 0 built listed h deliveries ≡ Ok after → IsBetween after.0.world
-settled-stop built bounded listed h deliveries after next f e =
-    let bad : Err (EventFault.Limit LimitName.Events most_events) ≡ Ok after = sym (settled-limit built listed h deliveries next f) ∙ e in
+settled-stop : (listed : List ℕ) (h : Happened) (deliveries : ℕ) (after : Happened × ℕ) (next : ℕ × Envelope) → first_waiting h.world listed 1 h.world.sent ≡ Some next
+    → settled_of 0 listed h deliveries ≡ Ok after → IsBetween after.0.world
+settled-stop listed h deliveries after next f e =
+    let bad : Err (EventFault.Limit LimitName.Events most_events) ≡ Ok after = sym (settled-limit listed h deliveries next f) ∙ e in
     absurd (cc)
 
-settled-between : (built : Built) (bounded : AreBounded built) (left : ℕ) (listed : List ℕ) (h : Happened) (deliveries : ℕ) (after : Happened × ℕ) → IsWorld h.world → left + h.world.events ≤ most_events
-    → settled_of left built listed h deliveries ≡ Ok after → IsBetween after.0.world
-settled-between built bounded zero listed h deliveries after stands few e = by_waiting (first_waiting h.world listed 1 h.world.sent) refl
+settled-between : (left : ℕ) (listed : List ℕ) (h : Happened) (deliveries : ℕ) (after : Happened × ℕ) → IsWorld h.world → left + h.world.events ≤ most_events
+    → settled_of left listed h deliveries ≡ Ok after → IsBetween after.0.world
+settled-between zero listed h deliveries after stands few e = by_waiting (first_waiting h.world listed 1 h.world.sent) refl
   where
     by_waiting : (o : Option (ℕ × Envelope)) → first_waiting h.world listed 1 h.world.sent ≡ o → IsBetween after.0.world
-    by_waiting None f = settled-done built bounded zero listed h deliveries after stands few e f
-    by_waiting (Some next) f = settled-stop built bounded listed h deliveries after next f e
-settled-between built bounded (suc left) listed h deliveries after stands few e =
-    by_waiting (λ h deliveries stands few e. settled-between built bounded left listed h deliveries after stands few e) (first_waiting h.world listed 1 h.world.sent) refl
+    by_waiting None f = settled-done zero listed h deliveries after stands few e f
+    by_waiting (Some next) f = settled-stop listed h deliveries after next f e
+settled-between (suc left) listed h deliveries after stands few e =
+    by_waiting (λ h deliveries stands few e. settled-between left listed h deliveries after stands few e) (first_waiting h.world listed 1 h.world.sent) refl
   where
-    by_waiting : ((h : Happened) (deliveries : ℕ) → IsWorld h.world → left + h.world.events ≤ most_events → settled_of left built listed h deliveries ≡ Ok after → IsBetween after.0.world)
+    by_waiting : ((h : Happened) (deliveries : ℕ) → IsWorld h.world → left + h.world.events ≤ most_events → settled_of left listed h deliveries ≡ Ok after → IsBetween after.0.world)
         → (o : Option (ℕ × Envelope)) → first_waiting h.world listed 1 h.world.sent ≡ o → IsBetween after.0.world
-    by_waiting go None f = settled-done built bounded (suc left) listed h deliveries after stands few e f
-    by_waiting go (Some next) f = by_delivery (delivery built h.world next.0) refl
+    by_waiting go None f = settled-done (suc left) listed h deliveries after stands few e f
+    by_waiting go (Some next) f = by_delivery (delivery h.world next.0) refl
       where
-        by_delivery : (r : Result Happened EventFault) → delivery built h.world next.0 ≡ r → IsBetween after.0.world
+        by_delivery : (r : Result Happened EventFault) → delivery h.world next.0 ≡ r → IsBetween after.0.world
         by_delivery (Err fault) g =
-            let bad : Err fault ≡ Ok after = sym (settled-refused built left listed h deliveries next fault f g) ∙ e in
+            let bad : Err fault ≡ Ok after = sym (settled-refused left listed h deliveries next fault f g) ∙ e in
             absurd (cc)
         by_delivery (Ok reached) g =
-            let counted = waiting-events built h.world listed next reached f g in
-            go (after_lines h.lines reached) (deliveries + 1) (delivery-stays built bounded h.world next.0 reached stands g) (omega (counted, few, arith))
-            (sym (settled-next built left listed h reached deliveries next f g) ∙ e)
+            let counted = waiting-events h.world listed next reached f g in
+            go (after_lines h.lines reached) (deliveries + 1) (delivery-stays h.world next.0 reached stands g) (omega (counted, few, arith))
+            (sym (settled-next left listed h reached deliveries next f g) ∙ e)
 
-settle-between : (built : Built) (bounded : AreBounded built) (w : World) (listed : List ℕ) (h : Happened) → IsBetween w → event_of built w (Event.Settle listed) ≡ Ok h → IsBetween h.world
-settle-between built bounded w listed h between e = by_limit (cases_Bool (nat_le most_events w.events))
+settle-between : (w : World) (listed : List ℕ) (h : Happened) → IsBetween w → event_of w (Event.Settle listed) ≡ Ok h → IsBetween h.world
+settle-between w listed h between e = by_limit (cases_Bool (nat_le most_events w.events))
   where
-    by_result : (r : Result (Happened × ℕ) EventFault) → settled_of (most_events - (w.events + 1)) built listed (settle_told w listed) 0 ≡ r
-        → w.events < most_events → within_events built w (settled_line r) ≡ Ok h → IsBetween h.world
+    by_result : (r : Result (Happened × ℕ) EventFault) → settled_of (most_events - (w.events + 1)) listed (settle_told w listed) 0 ≡ r
+        → w.events < most_events → within_events w (settled_line r) ≡ Ok h → IsBetween h.world
     by_result (Err fault) f few k = absurd (refused fault k)
       where
-        refused : (fault : EventFault) → within_events built w (Err fault) ≡ Ok h → ⊥
-        refused fault k = elim (cases_Bool (is_limit fault && is_past_events built w)) [
+        refused : (fault : EventFault) → within_events w (Err fault) ≡ Ok h → ⊥
+        refused fault k = elim (cases_Bool (is_limit fault && is_past_events w)) [
           | inl g ↦ let bad : Err (EventFault.Limit LimitName.Events most_events) ≡ Ok h = rw g at k in cc
           | inr g ↦ let bad : Err fault ≡ Ok h = rw g at k in cc
         ]
     by_result (Ok after) f few k =
-        let both = opened (at_limit built w) (Ok (settled after.0 after.1)) h (sym (open-is built w (Ok (settled after.0 after.1)) tt) ∙ k) in
-        let ends = settled-between built bounded (most_events - (w.events + 1)) listed (settle_told w listed) 0 after (counted-stays w between.itself) (omega (few, arith)) f in
+        let both = opened (at_limit w) (Ok (settled after.0 after.1)) h (sym (open-is w (Ok (settled after.0 after.1)) tt) ∙ k) in
+        let ends = settled-between (most_events - (w.events + 1)) listed (settle_told w listed) 0 after (counted-stays w between.itself) (omega (few, arith)) f in
         happened-between (settled after.0 after.1) h both.1 (record { itself = ends.itself; few = ends.few })
 
     by_limit : (nat_le most_events w.events ≡ true) ⊎ (nat_le most_events w.events ≡ false) → IsBetween h.world
     by_limit (inl full) =
-        let bad : Err (EventFault.Limit LimitName.Events most_events) ≡ Ok h = sym (settle-closed built w listed bounded.events_limited (leb-true most_events w.events full)) ∙ e in absurd (cc)
-    by_limit (inr few) = by_result (settled_of (most_events - (w.events + 1)) built listed (settle_told w listed) 0) refl (leb-false most_events w.events few) e
+        let bad : Err (EventFault.Limit LimitName.Events most_events) ≡ Ok h = sym (settle-closed w listed (leb-true most_events w.events full)) ∙ e in absurd (cc)
+    by_limit (inr few) = by_result (settled_of (most_events - (w.events + 1)) listed (settle_told w listed) 0) refl (leb-false most_events w.events few) e
 
 -- ---- every event
 
-pub event-between : (built : Built) (bounded : AreBounded built) (w : World) (event : Event) (h : Happened) → IsBetween w → IsGivenEvent event → event_of built w event ≡ Ok h → IsBetween h.world
-event-between built bounded w (Event.Read a key) h between given e = read-between built bounded w a key h between given e
-event-between built bounded w (Event.Begin a words) h between given e = begin-between built bounded w a words h between given e
-event-between built bounded w (Event.Deliver numbers) h between given e = deliveries-between built bounded numbers (unmoved w) h between e
-event-between built bounded w (Event.Settle listed) h between given e = settle-between built bounded w listed h between e
-event-between built bounded w (Event.Tick a) h between given e = tick-between built bounded w a h between e
-event-between built bounded w (Event.Crash a) h between given e = crash-between built bounded w a h between e
-event-between built bounded w (Event.Restart a) h between given e = restart-between built bounded w a h between e
-event-between built bounded w (Event.Stop a call image) h between given e = stop-between built bounded w a call image h between e
+pub event-between : (w : World) (event : Event) (h : Happened) → IsBetween w → IsGivenEvent event → event_of w event ≡ Ok h → IsBetween h.world
+event-between w (Event.Read a key) h between given e = read-between w a key h between given e
+event-between w (Event.Begin a words) h between given e = begin-between w a words h between given e
+event-between w (Event.Deliver numbers) h between given e = deliveries-between numbers (unmoved w) h between e
+event-between w (Event.Settle listed) h between given e = settle-between w listed h between e
+event-between w (Event.Tick a) h between given e = tick-between w a h between e
+event-between w (Event.Crash a) h between given e = crash-between w a h between e
+event-between w (Event.Restart a) h between given e = restart-between w a h between e
+event-between w (Event.Stop a call image) h between given e = stop-between w a call image h between e

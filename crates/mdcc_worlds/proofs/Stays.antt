@@ -1,7 +1,7 @@
 -- What holds of a world holds after a step, a delivery, a read, a crash and a restart.
 use Rattle.std.proofs.Common.{◌≡◌, ℕ, zero, suc, ◌-◌, ◌≤◌, ◌<◌, ◌+◌, ◌^◌, ◌==◌, true, false, List, [], ◌∷◌, ◌++◌, refl, sym, ap, ◌∙◌, subst, inl, inr, Option, Some, None, Result, Ok, Err, arith, length, map, get_or, nat_le, if◌then◌else◌}
 use Rattle.std.specs.List.{AllByRecursion}
-use Rattle.std.specs.Prelude.{IsTrue, set}
+use Rattle.std.specs.Prelude.{set}
 use Rattle.std.proofs.lemmas.Bool.{and_parts, cases_Bool, eq-eqb, eqb-true, leb-true, lt-leb}
 use Rattle.std.proofs.lemmas.List.{get_or-set_other, get_or-set_same, length-set}
 use Rattle.mdcc_base.specs.Key.{IsKey}
@@ -9,14 +9,13 @@ use Rattle.mdcc_base.specs.declared.key.Key.{Key}
 use Rattle.mdcc_base.specs.declared.outside.Image.{Image}
 use Rattle.mdcc_option.specs.declared.cluster.Cluster.{Cluster}
 use Rattle.mdcc_protocol.specs.Belongs.{is_centre}
-use Rattle.mdcc_rules.specs.Boot.{booted_by}
-use Rattle.mdcc_switches.specs.Built.{Built, nothing_built}
+use Rattle.mdcc_rules.specs.Boot.{booted_by, is_past_cells}
 use Rattle.mdcc_protocol.specs.Facts.{epoch_of}
 use Rattle.mdcc_ledger.specs.Ledger.{Entry, facts_of}
 use Rattle.mdcc_rules.specs.Steps.{NodeStep, answering}
 use Rattle.mdcc_protocol.specs.Visible
 use Rattle.mdcc_protocol.specs.Volatile.{Volatile, nothing_kept}
-use Rattle.mdcc_messages.specs.Lengths.{cells_used, log_length}
+use Rattle.mdcc_messages.specs.Lengths.{cells_needed, cells_used, log_length}
 use Rattle.mdcc_messages.specs.WellFormed.{IsWellFormedEnvelope, IsWellFormedFact}
 use Rattle.mdcc_messages.specs.Mailbox.{Sent, unsent, with_delivered}
 use Rattle.mdcc_simulation.specs.State.{Happened, Site, World, booted, centre_at, counted_event, down, with_centre}
@@ -31,7 +30,7 @@ use Rattle.mdcc_rules.specs.declared.node.Input.{Input}
 use Rattle.mdcc_rules.specs.declared.node.StepFault.{StepFault}
 use Rattle.mdcc_steps.proofs.Roomy.{room-stays}
 use Rattle.mdcc_steps.proofs.Answered.{answer-formed}
-use Rattle.mdcc_steps.proofs.Booting.{boot-node, boot-reads}
+use Rattle.mdcc_steps.proofs.Booting.{boot-node, boot-reads, fits-cells}
 use Rattle.mdcc_steps.proofs.Cells.{few-logged}
 use Rattle.mdcc_steps.proofs.Dispatched.{node-stays, sends-formed}
 use Rattle.mdcc_steps.proofs.Each.{each-append}
@@ -210,16 +209,16 @@ stopped-stays w a fact stop stands centre after node epoch log cells = elim (cas
 -- ---- an input
 
 -- the votes that its promises report are few enough
-pub log-few : (built : Built) (w : World) (a : ℕ) → IsWorld w → is_centre w.cluster a ≡ true → HasRoom built (facts_of w.ledger a)
-log-few built w a stands centre leading = few-logged (facts_of w.ledger a) (stands.logs a centre)
+pub log-few : (w : World) (a : ℕ) → IsWorld w → is_centre w.cluster a ≡ true → HasRoom (facts_of w.ledger a)
+log-few w a stands centre = few-logged (facts_of w.ledger a) (stands.logs a centre)
 
 -- the log of a centre stays within its limit after a step
 abbrev pub KeepsLog : World → ℕ → Result NodeStep StepFault → Type 0
 KeepsLog w a r = (step : NodeStep) → r ≡ Ok step → log_length (with_new (facts_of w.ledger a) step.fact) ≤ most_log
 
-pub input-stays : (built : Built) (w : World) (a : ℕ) (input : Input) → IsTrue built.limit_on_cells → KeepsLog w a (step_at built w a input) → IsWorld w → is_centre w.cluster a ≡ true → IsWellFormedInput input
-    → IsWorld (input_happened w a (step_at built w a input)).world
-input-stays built w a input limited keeps stands centre formed = by_result (step_at built w a input) refl
+pub input-stays : (w : World) (a : ℕ) (input : Input) → KeepsLog w a (step_at w a input) → IsWorld w → is_centre w.cluster a ≡ true → IsWellFormedInput input
+    → IsWorld (input_happened w a (step_at w a input)).world
+input-stays w a input keeps stands centre formed = by_result (step_at w a input) refl
   where
     by_fact : (step : NodeStep) → IsNode w.cluster a (with_new (facts_of w.ledger a) step.fact) step.after → LeavesEpoch step.fact
         → log_length (with_new (facts_of w.ledger a) step.fact) ≤ most_log → cells_used (with_new (facts_of w.ledger a) step.fact) ≤ w.cluster.cells → IsWorld (world_taken w a step)
@@ -232,17 +231,17 @@ input-stays built w a input limited keeps stands centre formed = by_result (step
         (subst LeavesEpoch e epoch) (subst (λ (o : Option Fact). log_length (with_new (facts_of w.ledger a) o) ≤ most_log) e log)
         (subst (λ (o : Option Fact). cells_used (with_new (facts_of w.ledger a) o) ≤ w.cluster.cells) e cells))
 
-    by_result : (r : Result NodeStep StepFault) → step_at built w a input ≡ r → IsWorld (input_happened w a r).world
+    by_result : (r : Result NodeStep StepFault) → step_at w a input ≡ r → IsWorld (input_happened w a r).world
     by_result (Err fault) e = rw (refused-same w a fault) stands
     by_result (Ok step) e =
         let node = stands.nodes a centre in
-        let within = made-stays built w.cluster a (facts_of w.ledger a) (centre_at w a).volatile input step stands.cluster_itself.quorums formed e in
-        let room = log-few built w a stands centre in
-        let sends = sends-formed built w.cluster a (facts_of w.ledger a) (centre_at w a).volatile input step node formed e room in
-        let short = sends-short built w.cluster a (facts_of w.ledger a) (centre_at w a).volatile input step room node formed e in
-        let stays = node-stays built w.cluster a (facts_of w.ledger a) (centre_at w a).volatile input step node formed e in
-        let epoch = made-epoch built w.cluster a (facts_of w.ledger a) (centre_at w a).volatile input step stands.cluster_itself.quorums formed e in
-        let cells = room-stays built w.cluster a (facts_of w.ledger a) (centre_at w a).volatile input step limited (stands.cells a centre) e in
+        let within = made-stays w.cluster a (facts_of w.ledger a) (centre_at w a).volatile input step stands.cluster_itself.quorums formed e in
+        let room = log-few w a stands centre in
+        let sends = sends-formed w.cluster a (facts_of w.ledger a) (centre_at w a).volatile input step node formed e room in
+        let short = sends-short w.cluster a (facts_of w.ledger a) (centre_at w a).volatile input step room node formed e in
+        let stays = node-stays w.cluster a (facts_of w.ledger a) (centre_at w a).volatile input step node formed e in
+        let epoch = made-epoch w.cluster a (facts_of w.ledger a) (centre_at w a).volatile input step stands.cluster_itself.quorums formed e in
+        let cells = room-stays w.cluster a (facts_of w.ledger a) (centre_at w a).volatile input step (stands.cells a centre) e in
         by_fact step stays epoch (keeps step e) cells (world-stays w a step stands centre within stays epoch sends short (keeps step e) cells) step.fact refl (centre_at w a).stop refl
 
 -- ---- a delivery
@@ -288,7 +287,7 @@ counted-stays w stands = record {
 
 pub read-stays : (w : World) (a : ℕ) (key : Key) → IsWorld w → is_centre w.cluster a ≡ true → IsKey key → IsWorld (read_happened w a key).world
 read-stays w a key stands centre is =
-    let shown = answer-formed nothing_built w.cluster a (facts_of w.ledger a) (centre_at w a).volatile (Input.Read key)
+    let shown = answer-formed w.cluster a (facts_of w.ledger a) (centre_at w a).volatile (Input.Read key)
     (answering (centre_at w a).volatile (Answer.Read (Visible.read (facts_of w.ledger a) key)))
     (Answer.Read (Visible.read (facts_of w.ledger a) key)) (stands.nodes a centre) is refl refl in
     record {
@@ -345,15 +344,20 @@ payloads-formed (fact ∷ facts) h =
     each-append (λ (payload : Option Fact). (fact : Fact) → payload ≡ Some fact → IsWellFormedFact fact) (payloads_of facts) (Some fact ∷ []) (payloads-formed facts h.1)
     (λ other e. let same : fact ≡ other = cc in subst IsWellFormedFact same h.0, tt)
 
--- a boot where epochs are left
-booted-next : (cluster : Cluster) (facts : List Fact) → nat_le (2 ^ 32 - 1) (epoch_of facts) ≡ false → booted_by nothing_built cluster (Ok facts) ≡ Ok (Fact.Booted (epoch_of facts + 1) ∷ facts)
-booted-next cluster facts e = rw e refl
+-- a boot where epochs and cells are left
+booted-next : (cluster : Cluster) (facts : List Fact) → nat_le (2 ^ 32 - 1) (epoch_of facts) ≡ false → is_past_cells cluster facts (Fact.Booted (epoch_of facts + 1)) ≡ false
+    → booted_by cluster (Ok facts) ≡ Ok (Fact.Booted (epoch_of facts + 1) ∷ facts)
+booted-next cluster facts e fits = rw (e, fits) refl
 
 restarted-node : (cluster : Cluster) (a : ℕ) (facts : List Fact) (volatile : Volatile) → IsNode cluster a facts volatile → epoch_of facts < 2 ^ 32 - 1
-    → IsNode cluster a (Fact.Booted (epoch_of facts + 1) ∷ facts) nothing_kept
-restarted-node cluster a facts volatile node below =
-    boot-node nothing_built cluster a (payloads_of facts) (Fact.Booted (epoch_of facts + 1) ∷ facts) node.cluster_itself node.centre (payloads-formed facts node.facts_themselves.well_formed)
-    (boot-reads nothing_built cluster facts node.facts_themselves.allowed (λ e. absurd (cc)) ∙ booted-next cluster facts (lt-leb (2 ^ 32 - 1) (epoch_of facts) below))
+    → cells_used (Fact.Booted (epoch_of facts + 1) ∷ facts) ≤ cluster.cells → IsNode cluster a (Fact.Booted (epoch_of facts + 1) ∷ facts) nothing_kept
+restarted-node cluster a facts volatile node below cells =
+    boot-node cluster a (payloads_of facts) (Fact.Booted (epoch_of facts + 1) ∷ facts) node.cluster_itself node.centre (payloads-formed facts node.facts_themselves.well_formed)
+    (boot-reads cluster facts node.facts_themselves.allowed (less (cells_needed (Fact.Booted (epoch_of facts + 1))) (cells_used facts) cluster.cells cells)
+    ∙ booted-next cluster facts (lt-leb (2 ^ 32 - 1) (epoch_of facts) below) (fits-cells cluster facts (Fact.Booted (epoch_of facts + 1)) cells))
+  where
+    less : (a b c : ℕ) → a + b ≤ c → b ≤ c
+    less a b c h = omega (h, arith)
 
 pub restart-stays : (w : World) (a : ℕ) → IsWorld w → is_centre w.cluster a ≡ true → w.events < most_events
     → log_length (Fact.Booted (epoch_of (facts_of w.ledger a) + 1) ∷ facts_of w.ledger a) ≤ most_log
@@ -363,7 +367,7 @@ restart-stays w a stands centre few log cells = record {
   cluster_itself = stands.cluster_itself;
   sites = length-set w.centres (a - 1) booted ∙ stands.sites;
   nodes = λ b h. each-put w a booted (Some fact) (λ b facts s. is_centre w.cluster b ≡ true → IsNode w.cluster b facts s.volatile) stands centre stands.nodes
-      (λ h. restarted-node w.cluster a (facts_of w.ledger a) (centre_at w a).volatile (stands.nodes a h) (below-last (epoch_of (facts_of w.ledger a)) w.events (stands.epochs a h) few))
+      (λ h. restarted-node w.cluster a (facts_of w.ledger a) (centre_at w a).volatile (stands.nodes a h) (below-last (epoch_of (facts_of w.ledger a)) w.events (stands.epochs a h) few) cells)
       b (some-centre w.cluster b h).0 h;
   logs = λ b h. each-put w a booted (Some fact) (λ b facts s. is_centre w.cluster b ≡ true → log_length facts ≤ most_log) stands centre stands.logs (λ h. log) b (some-centre w.cluster b h).0 h;
   cells = λ b h. each-put w a booted (Some fact) (λ b facts s. is_centre w.cluster b ≡ true → cells_used facts ≤ w.cluster.cells) stands centre stands.cells (λ h. cells) b (some-centre w.cluster b h).0 h;

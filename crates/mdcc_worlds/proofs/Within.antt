@@ -21,7 +21,6 @@ use Rattle.mdcc_struct.specs.declared.options.Options.{Options}
 use Rattle.mdcc_protocol.specs.Acceptor.{new_marks, on_accept, on_prepare, on_propose}
 use Rattle.mdcc_rules.specs.AcceptorRules.{accepted_step, all_votes_sent, ask_step_by, prepared_step, proposed_step, votes_sent}
 use Rattle.mdcc_protocol.specs.Belongs.{ballot_belongs, cause_belongs, is_centre, mark_belongs, message_belongs, options_belong, tx_belongs}
-use Rattle.mdcc_switches.specs.Built.{Built}
 use Rattle.mdcc_protocol.specs.Facts.{epoch_of, heard_of, is_heard, vote_of}
 use Rattle.mdcc_protocol.specs.Leader.{claim_of_choice, is_marked, lead, on_promise}
 use Rattle.mdcc_protocol.specs.Learner.{collided, is_learned}
@@ -35,7 +34,7 @@ use Rattle.mdcc_ledger.specs.Ledger.{Added, Begun, Entry, Valued}
 use Rattle.mdcc_protocol.specs.News.{is_news}
 use Rattle.mdcc_protocol.specs.Recover
 use Rattle.mdcc_rules.specs.Steps.{NodeStep, StepPart, and_then, nothing_done, only_sending}
-use Rattle.mdcc_rules.specs.SyncRules.{give_sent_by, outcome_step_by, sync_ask_step, sync_give_step_by}
+use Rattle.mdcc_rules.specs.SyncRules.{give_sent_by, outcome_step_by, sync_give_step_by}
 use Rattle.mdcc_rules.specs.TickRules.{claim_led, led_or_left, manager_act, manager_ticked, recovery_act, recovery_ticked, tick_parts, tick_step}
 use Rattle.mdcc_protocol.specs.Visible.{on_outcome, on_sync_ask, on_sync_give}
 use Rattle.mdcc_protocol.specs.Volatile.{Leading, Managing, Volatile, is_open, txs_opened, with_manager, with_recovery}
@@ -59,7 +58,7 @@ use Rattle.mdcc_protocol.specs.declared.visible.Give.{Give}
 use Rattle.mdcc_protocol.specs.declared.votes.Vote.{Vote}
 use Rattle.mdcc_steps.specs.Forming.{with_new}
 use Rattle.mdcc_steps.specs.Inputs.{IsWellFormedInput}
-use Rattle.mdcc_steps.proofs.Allowing.{OnStep, on_checked, on_rule}
+use Rattle.mdcc_steps.proofs.Allowing.{OnStep, on_checked}
 use Rattle.mdcc_steps.proofs.Each.{all-each, each-append, each-kept}
 use Rattle.mdcc_steps.proofs.Sending.{each-flat_map}
 use Rattle.mdcc_steps.proofs.Stepping.{on_made}
@@ -107,7 +106,7 @@ parts-quiet cluster me act each (x ∷ xs) before h =
       each-append (GoesWithin cluster) before.sends (act before.after x).sends h.1 next.1,
     )
 
-module _ (built : Built) (cluster : Cluster) (me : ℕ) (facts : List Fact) (volatile : Volatile) (sizes : AreQuorums cluster.quorums) where
+module _ (cluster : Cluster) (me : ℕ) (facts : List Fact) (volatile : Volatile) (sizes : AreQuorums cluster.quorums) where
   centre-within : (a : ℕ) → 1 ≤ a → a ≤ cluster.quorums.centres → is_centre cluster a ≡ true
   centre-within a h k = and_from (nat_le 1 a) (nat_le a cluster.quorums.centres) (le-leb 1 a h) (le-leb a cluster.quorums.centres k)
 
@@ -171,14 +170,13 @@ module _ (built : Built) (cluster : Cluster) (me : ℕ) (facts : List Fact) (vol
       cond_both (collided cluster.quorums manager.votes vote.tx vote.key) (lead_act (home_of cluster.quorums vote.key) (choice_unled manager vote.tx vote.key)) None ActsWithin
       (λ e. lead-within (home_of cluster.quorums vote.key) (home-within vote.key) (choice_unled manager vote.tx vote.key)) (λ e. tt)
 
-  undecided : (vote : Vote) → IsQuiet cluster me (undecided_step built cluster me facts volatile vote)
+  undecided : (vote : Vote) → IsQuiet cluster me (undecided_step cluster me facts volatile vote)
   undecided vote =
       let taken = vote_taken cluster.quorums volatile.manager vote in
       let act = act_on_vote cluster.quorums taken vote (Manager.decision cluster.quorums taken vote.tx) in
-      cond_both built.escalations (acted_step me facts volatile (Manager.on_voted cluster.quorums volatile.manager vote)) (nothing_done (with_manager volatile taken)) (IsQuiet cluster me)
-      (λ e. (tt, act-within act (vote-act taken vote (Manager.decision cluster.quorums taken vote.tx)), λ facts. refl)) (λ e. (tt, tt, λ facts. refl))
+      (tt, act-within act (vote-act taken vote (Manager.decision cluster.quorums taken vote.tx)), λ facts. refl)
 
-  opened : (vote : Vote) (o : Option Outcome) → IsQuiet cluster me (opened_step built cluster me facts volatile vote o)
+  opened : (vote : Vote) (o : Option Outcome) → IsQuiet cluster me (opened_step cluster me facts volatile vote o)
   opened vote (Some outcome) = decided vote.tx outcome
   opened vote None = undecided vote
 
@@ -186,11 +184,11 @@ module _ (built : Built) (cluster : Cluster) (me : ℕ) (facts : List Fact) (vol
   watched vote (Some d) = decided d.0 d.1
   watched vote None = (tt, tt, λ facts. refl)
 
-  voted : (vote : Vote) → IsQuiet cluster me (voted_step built cluster me facts volatile vote)
+  voted : (vote : Vote) → IsQuiet cluster me (voted_step cluster me facts volatile vote)
   voted vote =
       cond_both (is_heard facts vote.tx) (nothing_done volatile) _ (IsQuiet cluster me) (λ e. nothing) (λ e.
       cond_both (is_open volatile.manager vote.tx)
-      (opened_step built cluster me facts volatile vote (Manager.would_decide cluster.quorums volatile.manager vote))
+      (opened_step cluster me facts volatile vote (Manager.would_decide cluster.quorums volatile.manager vote))
       (watched_step cluster me facts volatile vote (Recover.would_decide cluster.quorums facts volatile.recovery vote))
       (IsQuiet cluster me)
       (λ f. opened vote (Manager.would_decide cluster.quorums volatile.manager vote))
@@ -320,45 +318,37 @@ module _ (built : Built) (cluster : Cluster) (me : ℕ) (facts : List Fact) (vol
   -- ---- each message
 
   message-quiet : (s : ℕ) (message : Message) → is_centre cluster s ≡ true → message_belongs cluster message ≡ true → IsWellFormedMessage message
-      → OnStep (IsQuiet cluster me) (message_step built cluster me facts volatile s message)
-  message-quiet s (Message.Propose choice) h b w =
-      on_rule (IsQuiet cluster me) built.proposals volatile _ nothing (proposed s choice (on_propose cluster facts choice) h)
+      → OnStep (IsQuiet cluster me) (message_step cluster me facts volatile s message)
+  message-quiet s (Message.Propose choice) h b w = proposed s choice (on_propose cluster facts choice) h
   message-quiet s (Message.Voted key version ballot tx mark) h b w =
-      on_rule (IsQuiet cluster me) built.proposals volatile _ nothing (voted (record { from = s; key = key; version = version; ballot = ballot; tx = tx; mark = mark }))
+      voted (record { from = s; key = key; version = version; ballot = ballot; tx = tx; mark = mark })
   message-quiet s (Message.Escalate key version tx cause) h b w =
-      on_rule (IsQuiet cluster me) built.escalations volatile _ nothing
-      (escalated s tx key cause h w.cause_itself (and_parts (tx_belongs cluster tx) (cause_belongs cluster cause) b).1)
-  message-quiet s (Message.Lead choice) h b w =
-      on_rule (IsQuiet cluster me) built.leading volatile _ nothing (claimed s choice h (heard_of facts choice.tx))
-  message-quiet s (Message.Prepare key version through ballot) h b w =
-      on_rule (IsQuiet cluster me) built.leading volatile _ nothing (prepared s key version ballot (on_prepare facts key version through ballot) h)
+      escalated s tx key cause h w.cause_itself (and_parts (tx_belongs cluster tx) (cause_belongs cluster cause) b).1
+  message-quiet s (Message.Lead choice) h b w = claimed s choice h (heard_of facts choice.tx)
+  message-quiet s (Message.Prepare key version through ballot) h b w = prepared s key version ballot (on_prepare facts key version through ballot) h
   message-quiet s (Message.Promise key version through ballot reported votes) h b w =
       let promise : Promise = record { key = key; version = version; through = through; ballot = ballot; reported = reported; votes = votes } in
       let r = promised_by_answer cluster.quorums me volatile key (on_promise cluster facts volatile.leader s promise) in
-      on_rule (IsQuiet cluster me) built.leading volatile (step_of_led r) nothing (step-led r (promised key (on_promise cluster facts volatile.leader s promise)))
+      step-led r (promised key (on_promise cluster facts volatile.leader s promise))
   message-quiet s (Message.Accept key version ballot options) h b w =
       let both = and_parts (ballot_belongs cluster ballot) (options_belong cluster options) b in
-      on_rule (IsQuiet cluster me) built.leading volatile _ nothing
-      (accepted s key version ballot options (on_accept facts key version ballot options) h (ballot-within ballot w.classic (not-fast ballot) both.0)
-      (all-each (λ (e : TxId × Mark). tx_belongs cluster e.0 && mark_belongs cluster e.1) options both.1))
-  message-quiet s (Message.Refused key version ballot promised) h b w = on_rule (IsQuiet cluster me) built.leading volatile _ nothing (tt, tt, λ facts. refl)
-  message-quiet s (Message.Outcome tx outcome) h b w = on_rule (IsQuiet cluster me) built.proposals volatile _ nothing (heard tx outcome)
-  message-quiet s (Message.Ask tx key version) h b w =
-      on_rule (IsQuiet cluster me) built.recovery volatile _ nothing (asked s tx key version (heard_of facts tx) (vote_of facts key version tx) h)
-  message-quiet s (Message.SyncAsk key) h b w =
-      on_rule (IsQuiet cluster me) built.catching_up volatile (Ok (sync_ask_step me facts volatile s key)) nothing (tt, give-within s h (on_sync_ask facts key), λ facts. refl)
-  message-quiet s (Message.SyncGive key version item adds) h b w =
-      on_rule (IsQuiet cluster me) built.catching_up volatile _ nothing (given (record { key = key; version = version; item = item; adds = adds }))
+      accepted s key version ballot options (on_accept facts key version ballot options) h (ballot-within ballot w.classic (not-fast ballot) both.0)
+      (all-each (λ (e : TxId × Mark). tx_belongs cluster e.0 && mark_belongs cluster e.1) options both.1)
+  message-quiet s (Message.Refused key version ballot promised) h b w = (tt, tt, λ facts. refl)
+  message-quiet s (Message.Outcome tx outcome) h b w = heard tx outcome
+  message-quiet s (Message.Ask tx key version) h b w = asked s tx key version (heard_of facts tx) (vote_of facts key version tx) h
+  message-quiet s (Message.SyncAsk key) h b w = (tt, give-within s h (on_sync_ask facts key), λ facts. refl)
+  message-quiet s (Message.SyncGive key version item adds) h b w = given (record { key = key; version = version; item = item; adds = adds })
   message-quiet s (Message.ClientRead serial key) h b w = nothing
   message-quiet s (Message.ClientBegin serial parts) h b w = nothing
   message-quiet s (Message.ClientAnswer serial answer) h b w = nothing
 
-  pub envelope-quiet : (envelope : Envelope) → IsWellFormedMessage envelope.message → OnStep (IsQuiet cluster me) (step_of built cluster me facts volatile (Input.Message envelope))
+  pub envelope-quiet : (envelope : Envelope) → IsWellFormedMessage envelope.message → OnStep (IsQuiet cluster me) (step_of cluster me facts volatile (Input.Message envelope))
   envelope-quiet envelope w =
-      cond_both (is_own_message cluster me envelope) (checked built cluster facts (message_step built cluster me facts volatile envelope.from envelope.message)) (Err StepFault.Foreign) (OnStep (IsQuiet cluster me))
+      cond_both (is_own_message cluster me envelope) (checked cluster facts (message_step cluster me facts volatile envelope.from envelope.message)) (Err StepFault.Foreign) (OnStep (IsQuiet cluster me))
       (λ e.
       let own = and_parts (envelope.to == me && is_centre cluster envelope.from) (message_belongs cluster envelope.message) e in
-      on_checked (IsQuiet cluster me) (IsQuiet cluster me) built cluster facts (message_step built cluster me facts volatile envelope.from envelope.message) (λ step h room. h)
+      on_checked (IsQuiet cluster me) (IsQuiet cluster me) cluster facts (message_step cluster me facts volatile envelope.from envelope.message) (λ step h room. h)
       (message-quiet envelope.from envelope.message (and_parts (envelope.to == me) (is_centre cluster envelope.from) own.0).1 own.1 w))
       (λ e. tt)
 
@@ -368,46 +358,38 @@ module _ (built : Built) (cluster : Cluster) (me : ℕ) (facts : List Fact) (vol
   claim-part v (Ok part) h = h
   claim-part v (Err fault) h = (tt, tt)
 
-  claim-quiet : (v : Volatile) (claim : Claim) → IsQuietPart cluster me (claim_led built cluster me facts v claim)
-  claim-quiet v claim =
-      cond_both built.leading (led_or_left v (led_of cluster me facts v claim)) (only_sending v []) (IsQuietPart cluster me)
-      (λ e. claim-part v (led_of cluster me facts v claim) (led-here v claim)) (λ e. (tt, tt))
+  claim-quiet : (v : Volatile) (claim : Claim) → IsQuietPart cluster me (claim_led cluster me facts v claim)
+  claim-quiet v claim = claim-part v (led_of cluster me facts v claim) (led-here v claim)
 
-  manager-quiet : (v : Volatile) (act : ManagerAct) → IsQuietPart cluster me (manager_act built cluster me facts v act)
+  manager-quiet : (v : Volatile) (act : ManagerAct) → IsQuietPart cluster me (manager_act cluster me facts v act)
   manager-quiet v (ManagerAct.Propose choice) = (tt, each-within (all_centres cluster.quorums) (Message.Propose choice) all-within)
   manager-quiet v (ManagerAct.LeadHere choice) = claim-quiet v (claim_of_choice choice)
   manager-quiet v (ManagerAct.Lead leader choice) = (tt, tt)
   manager-quiet v (ManagerAct.Decide tx outcome) = (tt, tt)
   manager-quiet v (ManagerAct.Give centre key) = (tt, tt)
 
-  recovery-quiet : (v : Volatile) (act : RecoverAct) → IsQuietPart cluster me (recovery_act built cluster me facts v act)
+  recovery-quiet : (v : Volatile) (act : RecoverAct) → IsQuietPart cluster me (recovery_act cluster me facts v act)
   recovery-quiet v (RecoverAct.Ask tx key version) = (tt, each-within (all_centres cluster.quorums) (Message.Ask tx key version) all-within)
   recovery-quiet v (RecoverAct.LeadHere claim) = claim-quiet v claim
 
-  managed-quiet : IsQuietPart cluster me (manager_ticked built cluster me facts volatile)
+  managed-quiet : IsQuietPart cluster me (manager_ticked cluster me facts volatile)
   managed-quiet =
       let next = Manager.tick cluster.quorums volatile.manager in
-      parts-quiet cluster me (manager_act built cluster me facts) manager-quiet next.0 (only_sending (with_manager volatile next.1) []) (tt, tt)
+      parts-quiet cluster me (manager_act cluster me facts) manager-quiet next.0 (only_sending (with_manager volatile next.1) []) (tt, tt)
 
-  recovered-quiet : (first : StepPart) → IsQuietPart cluster me first → IsQuietPart cluster me (recovery_ticked built cluster me facts first)
+  recovered-quiet : (first : StepPart) → IsQuietPart cluster me first → IsQuietPart cluster me (recovery_ticked cluster me facts first)
   recovered-quiet first h =
       let next = Recover.tick cluster.quorums facts first.after.recovery (txs_opened first.after.manager) in
-      parts-quiet cluster me (recovery_act built cluster me facts) recovery-quiet next.0 (record first { after = with_recovery first.after next.1 }) h
+      parts-quiet cluster me (recovery_act cluster me facts) recovery-quiet next.0 (record first { after = with_recovery first.after next.1 }) h
 
-  tick-quiet : IsQuiet cluster me (tick_step built cluster me facts volatile)
+  tick-quiet : IsQuiet cluster me (tick_step cluster me facts volatile)
   tick-quiet = (all.0, all.1, λ facts. refl)
     where
-      first : StepPart
-      first = cond built.ticks (manager_ticked built cluster me facts volatile) (only_sending volatile [])
-
-      first-quiet : IsQuietPart cluster me first
-      first-quiet = cond_both built.ticks (manager_ticked built cluster me facts volatile) (only_sending volatile []) (IsQuietPart cluster me) (λ e. managed-quiet) (λ e. (tt, tt))
-
-      all : IsQuietPart cluster me (tick_parts built cluster me facts volatile)
-      all = cond_both built.recovery (recovery_ticked built cluster me facts first) first (IsQuietPart cluster me) (λ e. recovered-quiet first first-quiet) (λ e. first-quiet)
+      all : IsQuietPart cluster me (tick_parts cluster me facts volatile)
+      all = recovered-quiet (manager_ticked cluster me facts volatile) managed-quiet
 
   -- what is no begin
-  pub step-quiet : (input : Input) → IsWellFormedInput input → is_begin input ≡ false → OnStep (IsQuiet cluster me) (step_of built cluster me facts volatile input)
+  pub step-quiet : (input : Input) → IsWellFormedInput input → is_begin input ≡ false → OnStep (IsQuiet cluster me) (step_of cluster me facts volatile input)
   step-quiet (Input.Message envelope) w other = envelope-quiet envelope w.message
   step-quiet Input.Tick w other = tick-quiet
   step-quiet (Input.Read key) w other = (tt, tt, λ facts. refl)
@@ -434,24 +416,24 @@ module _ (built : Built) (cluster : Cluster) (me : ℕ) (facts : List Fact) (vol
   on_stays (Ok step) h = quiet-stays cluster me step h
   on_stays (Err fault) h = tt
 
-  pub step-stays : (input : Input) → IsWellFormedInput input → OnStep (IsStaying cluster) (step_of built cluster me facts volatile input)
-  step-stays (Input.Message envelope) w = on_stays (step_of built cluster me facts volatile (Input.Message envelope)) (envelope-quiet envelope w.message)
-  step-stays Input.Tick w = quiet-stays cluster me (tick_step built cluster me facts volatile) tick-quiet
+  pub step-stays : (input : Input) → IsWellFormedInput input → OnStep (IsStaying cluster) (step_of cluster me facts volatile input)
+  step-stays (Input.Message envelope) w = on_stays (step_of cluster me facts volatile (Input.Message envelope)) (envelope-quiet envelope w.message)
+  step-stays Input.Tick w = quiet-stays cluster me (tick_step cluster me facts volatile) tick-quiet
   step-stays (Input.Read key) w = (record { entries = λ ledger a. refl; sends = tt }, λ facts. refl)
   step-stays (Input.Begin parts) w = begun-within parts (Manager.begin me (epoch_of facts) facts volatile.manager parts)
 
-pub made-stays : (built : Built) (cluster : Cluster) (me : ℕ) (facts : List Fact) (volatile : Volatile) (input : Input) (step : NodeStep)
-    → AreQuorums cluster.quorums → IsWellFormedInput input → step_of built cluster me facts volatile input ≡ Ok step → StaysWithin cluster step
-made-stays built cluster me facts volatile input step sizes w made =
-    (on_made (IsStaying cluster) _ step (step-stays built cluster me facts volatile sizes input w) made).0
+pub made-stays : (cluster : Cluster) (me : ℕ) (facts : List Fact) (volatile : Volatile) (input : Input) (step : NodeStep)
+    → AreQuorums cluster.quorums → IsWellFormedInput input → step_of cluster me facts volatile input ≡ Ok step → StaysWithin cluster step
+made-stays cluster me facts volatile input step sizes w made =
+    (on_made (IsStaying cluster) _ step (step-stays cluster me facts volatile sizes input w) made).0
 
 -- the fact of a step begins no epoch
-pub made-epoch : (built : Built) (cluster : Cluster) (me : ℕ) (facts : List Fact) (volatile : Volatile) (input : Input) (step : NodeStep)
-    → AreQuorums cluster.quorums → IsWellFormedInput input → step_of built cluster me facts volatile input ≡ Ok step → LeavesEpoch step.fact
-made-epoch built cluster me facts volatile input step sizes w made =
-    (on_made (IsStaying cluster) _ step (step-stays built cluster me facts volatile sizes input w) made).1
+pub made-epoch : (cluster : Cluster) (me : ℕ) (facts : List Fact) (volatile : Volatile) (input : Input) (step : NodeStep)
+    → AreQuorums cluster.quorums → IsWellFormedInput input → step_of cluster me facts volatile input ≡ Ok step → LeavesEpoch step.fact
+made-epoch cluster me facts volatile input step sizes w made =
+    (on_made (IsStaying cluster) _ step (step-stays cluster me facts volatile sizes input w) made).1
 
-pub made-quiet : (built : Built) (cluster : Cluster) (me : ℕ) (facts : List Fact) (volatile : Volatile) (input : Input) (step : NodeStep)
-    → AreQuorums cluster.quorums → IsWellFormedInput input → is_begin input ≡ false → step_of built cluster me facts volatile input ≡ Ok step → AllByRecursion (IsValuedBy me) step.entries
-made-quiet built cluster me facts volatile input step sizes w other made =
-    (on_made (IsQuiet cluster me) _ step (step-quiet built cluster me facts volatile sizes input w other) made).0
+pub made-quiet : (cluster : Cluster) (me : ℕ) (facts : List Fact) (volatile : Volatile) (input : Input) (step : NodeStep)
+    → AreQuorums cluster.quorums → IsWellFormedInput input → is_begin input ≡ false → step_of cluster me facts volatile input ≡ Ok step → AllByRecursion (IsValuedBy me) step.entries
+made-quiet cluster me facts volatile input step sizes w other made =
+    (on_made (IsQuiet cluster me) _ step (step-quiet cluster me facts volatile sizes input w other) made).0

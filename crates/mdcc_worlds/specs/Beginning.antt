@@ -6,7 +6,6 @@ use Rattle.mdcc_option.specs.Transaction.{transaction_of}
 use Rattle.mdcc_option.specs.declared.faults.DraftFault.{DraftFault}
 use Rattle.mdcc_option.specs.declared.items.Known.{Known}
 use Rattle.mdcc_option.specs.declared.items.Part.{Part}
-use Rattle.mdcc_switches.specs.Built.{Built}
 use Rattle.mdcc_language.specs.Resolve.{resolve}
 use Rattle.mdcc_simulation.specs.State.{Happened, World, counted_event, is_up_at}
 use Rattle.mdcc_simulation.specs.Clients.{begin_taken, no_item}
@@ -23,28 +22,28 @@ use Rattle.mdcc_worlds.specs.Standing.{IsRead}
 use Rattle.mdcc_worlds.specs.Words.{IsGivenWord}
 
 -- a transaction of these parts is begun, or is refused by the centre
-abbrev pub begun : Built → World → ℕ → List Part → Result Happened EventFault
-begun built w a parts = begin_taken built (counted_event w) a (step_at built (counted_event w) a (Input.Begin parts))
+abbrev pub begun : World → ℕ → List Part → Result Happened EventFault
+begun w a parts = begin_taken (counted_event w) a (step_at (counted_event w) a (Input.Begin parts))
 
 -- the parts in key order come before the limit of events
-abbrev pub begun_if : Built → World → ℕ → Result (List Part) DraftFault → Result Happened EventFault
-begun_if built w a (Err fault) = Err (EventFault.Begin fault)
-begun_if built w a (Ok parts) = if_open (at_limit built w) (begun built w a parts)
+abbrev pub begun_if : World → ℕ → Result (List Part) DraftFault → Result Happened EventFault
+begun_if w a (Err fault) = Err (EventFault.Begin fault)
+begun_if w a (Ok parts) = if_open (at_limit w) (begun w a parts)
 
 -- and the parts that the words stand for before these
-abbrev pub begin_by : Built → World → ℕ → Result (List Part) ResolveFault → Result Happened EventFault
-begin_by built w a (Err (ResolveFault.NoRead number)) = Err (EventFault.NoRead number)
-begin_by built w a (Err (ResolveFault.NoItem key)) = if_open (at_limit built w) (Ok (no_item (counted_event w) key))
-begin_by built w a (Err ResolveFault.Memory) = Err EventFault.Memory
-begin_by built w a (Ok parts) = begun_if built w a (transaction_of w.cluster.schema parts)
+abbrev pub begin_by : World → ℕ → Result (List Part) ResolveFault → Result Happened EventFault
+begin_by w a (Err (ResolveFault.NoRead number)) = Err (EventFault.NoRead number)
+begin_by w a (Err (ResolveFault.NoItem key)) = if_open (at_limit w) (Ok (no_item (counted_event w) key))
+begin_by w a (Err ResolveFault.Memory) = Err EventFault.Memory
+begin_by w a (Ok parts) = begun_if w a (transaction_of w.cluster.schema parts)
 
 -- and the centre before all
-abbrev pub begin_told : Built → World → ℕ → List UpdateWord → Result Happened EventFault
-begin_told built w a words = if is_up_at w a then begin_by built w a (resolve words (map Some w.reads)) else Err (EventFault.Down a)
+abbrev pub begin_told : World → ℕ → List UpdateWord → Result Happened EventFault
+begin_told w a words = if is_up_at w a then begin_by w a (resolve words (map Some w.reads)) else Err (EventFault.Down a)
 
 -- a begin line is this
 abbrev pub BeginsHappen : Type 0
-BeginsHappen = (built : Built) (w : World) (a : ℕ) (words : List UpdateWord) → event_of built w (Event.Begin a words) ≡ begin_told built w a words
+BeginsHappen = (w : World) (a : ℕ) (words : List UpdateWord) → event_of w (Event.Begin a words) ≡ begin_told w a words
 
 -- the parts of a transaction of words are well-formed
 abbrev pub PartsAreWellFormed : Type 0

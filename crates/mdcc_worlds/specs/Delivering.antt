@@ -1,6 +1,5 @@
 -- What a delivery does, why a message is not delivered, and how far a deliver line has come.
 use Rattle.std.specs.Prelude.{◌≡◌, Err, List, None, Ok, Option, Result, Some, [], if◌then◌else◌, ℕ, ◌+◌, ◌-◌, ◌∷◌}
-use Rattle.mdcc_switches.specs.Built.{Built}
 use Rattle.mdcc_simulation.specs.State.{Happened, World, after_lines, is_up_at}
 use Rattle.mdcc_messages.specs.Mailbox.{Sent, numbered, with_delivered}
 use Rattle.mdcc_simulation.specs.Deliveries.{deliver_line, delivered, deliveries_of, delivery_of}
@@ -15,59 +14,59 @@ use Rattle.mdcc_worlds.specs.Happening.{at_limit, if_open}
 abbrev pub message_counted : World → ℕ → World
 message_counted w number = record w { sent = with_delivered w.sent (number - 1); events = w.events + 1 }
 
-abbrev pub delivery_by : Built → World → ℕ → Option Sent → Result Happened EventFault
-delivery_by built w number None = Err (EventFault.NoMessage number)
-delivery_by built w number (Some sent) = delivered built w number sent.envelope
+abbrev pub delivery_by : World → ℕ → Option Sent → Result Happened EventFault
+delivery_by w number None = Err (EventFault.NoMessage number)
+delivery_by w number (Some sent) = delivered w number sent.envelope
 
 -- what comes of it where the message of a number comes to its centre
-abbrev pub delivery : Built → World → ℕ → Result Happened EventFault
-delivery built w number = delivery_by built w number (numbered w.sent number)
+abbrev pub delivery : World → ℕ → Result Happened EventFault
+delivery w number = delivery_by w number (numbered w.sent number)
 
 -- the same behind its line
-abbrev pub delivery_told : Built → World → ℕ → Result Happened EventFault
-delivery_told built w number = with_lines (deliver_line number) (delivery built w number)
+abbrev pub delivery_told : World → ℕ → Result Happened EventFault
+delivery_told w number = with_lines (deliver_line number) (delivery w number)
 
 -- why the message of a number is not delivered
-abbrev pub message_by : Built → World → ℕ → Option Sent → Result (Unit {0}) EventFault
-message_by built w number None = Err (EventFault.NoMessage number)
-message_by built w number (Some sent) = if is_up_at w sent.envelope.to then at_limit built w else Err (EventFault.Down sent.envelope.to)
+abbrev pub message_by : World → ℕ → Option Sent → Result (Unit {0}) EventFault
+message_by w number None = Err (EventFault.NoMessage number)
+message_by w number (Some sent) = if is_up_at w sent.envelope.to then at_limit w else Err (EventFault.Down sent.envelope.to)
 
-abbrev pub at_message : Built → World → ℕ → Result (Unit {0}) EventFault
-at_message built w number = message_by built w number (numbered w.sent number)
+abbrev pub at_message : World → ℕ → Result (Unit {0}) EventFault
+at_message w number = message_by w number (numbered w.sent number)
 
 -- one number of a deliver line is this
 abbrev pub DeliveriesHappen : Type 0
-DeliveriesHappen = (built : Built) (w : World) (number : ℕ) → delivery_of built w number ≡ if_open (at_message built w number) (delivery_told built w number)
+DeliveriesHappen = (w : World) (number : ℕ) → delivery_of w number ≡ if_open (at_message w number) (delivery_told w number)
 
 -- nothing has happened yet
 abbrev pub unmoved : World → Happened
 unmoved w = record { world = w; lines = [] }
 
 -- so much of a deliver line has happened that these numbers are left
-pub record IsDelivering (built : Built) (w : World) (whole left : List ℕ) (reached : Happened) : Type 0 where
-  pub answer : deliveries_of built whole (unmoved w) ≡ deliveries_of built left reached
-  pub rest : deliveries_before built whole (unmoved w) ≡ deliveries_before built left reached
+pub record IsDelivering (w : World) (whole left : List ℕ) (reached : Happened) : Type 0 where
+  pub answer : deliveries_of whole (unmoved w) ≡ deliveries_of left reached
+  pub rest : deliveries_before whole (unmoved w) ≡ deliveries_before left reached
 
 -- a deliver line begins so
 abbrev pub DeliversBegin : Type 0
-DeliversBegin = (built : Built) (w : World) (whole : List ℕ) → IsDelivering built w whole whole (unmoved w)
+DeliversBegin = (w : World) (whole : List ℕ) → IsDelivering w whole whole (unmoved w)
 
 -- the message of the next number is delivered
 abbrev pub DeliversGoOn : Type 0
 DeliversGoOn =
-    (built : Built) (w : World) (whole left rest : List ℕ) (number : ℕ) (reached next : Happened) → left ≡ number ∷ rest
-    → IsDelivering built w whole left reached → delivery_of built reached.world number ≡ Ok next
-    → IsDelivering built w whole rest (after_lines reached.lines next)
+    (w : World) (whole left rest : List ℕ) (number : ℕ) (reached next : Happened) → left ≡ number ∷ rest
+    → IsDelivering w whole left reached → delivery_of reached.world number ≡ Ok next
+    → IsDelivering w whole rest (after_lines reached.lines next)
 
 -- where no number is left, that is the line
 abbrev pub DeliversEnd : Type 0
 DeliversEnd =
-    (built : Built) (w : World) (whole left : List ℕ) (reached : Happened) → left ≡ [] → IsDelivering built w whole left reached
-    → (event_of built w (Event.Deliver whole) ≡ Ok reached) × (deliveries_before built whole (unmoved w) ≡ reached)
+    (w : World) (whole left : List ℕ) (reached : Happened) → left ≡ [] → IsDelivering w whole left reached
+    → (event_of w (Event.Deliver whole) ≡ Ok reached) × (deliveries_before whole (unmoved w) ≡ reached)
 
 -- and a number that is refused refuses the line
 abbrev pub DeliversStop : Type 0
 DeliversStop =
-    (built : Built) (w : World) (whole left rest : List ℕ) (number : ℕ) (reached : Happened) (fault : EventFault) → left ≡ number ∷ rest
-    → IsDelivering built w whole left reached → delivery_of built reached.world number ≡ Err fault
-    → (event_of built w (Event.Deliver whole) ≡ Err fault) × (deliveries_before built whole (unmoved w) ≡ reached)
+    (w : World) (whole left rest : List ℕ) (number : ℕ) (reached : Happened) (fault : EventFault) → left ≡ number ∷ rest
+    → IsDelivering w whole left reached → delivery_of reached.world number ≡ Err fault
+    → (event_of w (Event.Deliver whole) ≡ Err fault) × (deliveries_before whole (unmoved w) ≡ reached)

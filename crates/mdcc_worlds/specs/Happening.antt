@@ -4,7 +4,6 @@ use Rattle.std.specs.Prelude.{◌≡◌, ◌+◌, Err, Ok, Result, if◌then◌e
 use Rattle.mdcc_base.specs.declared.key.Key.{Key}
 use Rattle.mdcc_base.specs.declared.outside.Image.{Image}
 use Rattle.mdcc_protocol.specs.Belongs.{is_centre}
-use Rattle.mdcc_switches.specs.Built.{Built}
 use Rattle.mdcc_protocol.specs.Facts.{epoch_of}
 use Rattle.mdcc_ledger.specs.Ledger.{facts_of}
 use Rattle.mdcc_simulation.specs.State.{Happened, World, counted_event, is_up_at}
@@ -19,16 +18,16 @@ use Rattle.mdcc_language.specs.declared.world.EventFault.{EventFault}
 use Rattle.mdcc_language.specs.declared.world.LimitName.{LimitName}
 
 -- nothing happens where there were as many events as there may be
-abbrev pub at_limit : Built → World → Result (Unit {0}) EventFault
-at_limit built w = unless (limit_if (is_past_events built w) LimitName.Events most_events) tt
+abbrev pub at_limit : World → Result (Unit {0}) EventFault
+at_limit w = unless (limit_if (is_past_events w) LimitName.Events most_events) tt
 
 -- nor at a centre that is down
-abbrev pub at_centre : Built → World → ℕ → Result (Unit {0}) EventFault
-at_centre built w a = if is_up_at w a then at_limit built w else Err (EventFault.Down a)
+abbrev pub at_centre : World → ℕ → Result (Unit {0}) EventFault
+at_centre w a = if is_up_at w a then at_limit w else Err (EventFault.Down a)
 
 -- nor is a centre restarted that is up
-abbrev pub at_restart : Built → World → ℕ → Result (Unit {0}) EventFault
-at_restart built w a = if is_up_at w a then Err (EventFault.Up a) else (if is_centre w.cluster a then at_limit built w else Err (EventFault.Down a))
+abbrev pub at_restart : World → ℕ → Result (Unit {0}) EventFault
+at_restart w a = if is_up_at w a then Err (EventFault.Up a) else (if is_centre w.cluster a then at_limit w else Err (EventFault.Down a))
 
 -- what comes of it, where nothing stands against it
 abbrev pub if_open : Result (Unit {0}) EventFault → Result Happened EventFault → Result Happened EventFault
@@ -36,39 +35,39 @@ if_open (Ok _) r = r
 if_open (Err fault) r = Err fault
 
 -- what comes of a tick
-abbrev pub ticked : Built → World → ℕ → Result Happened EventFault
-ticked built w a = with_lines (tick_line a) (input_taken built (counted_event w) a Input.Tick)
+abbrev pub ticked : World → ℕ → Result Happened EventFault
+ticked w a = with_lines (tick_line a) (input_taken (counted_event w) a Input.Tick)
 
 -- the epoch that a restart begins
 abbrev pub next_epoch : World → ℕ → ℕ
 next_epoch w a = epoch_of (facts_of w.ledger a) + 1
 
 -- what comes of a restart
-abbrev pub restarted : Built → World → ℕ → Result Happened EventFault
-restarted built w a =
+abbrev pub restarted : World → ℕ → Result Happened EventFault
+restarted w a =
     let boot = Fact.Booted (next_epoch w a) in
-    unless (option_or (cells_limit built w a boot) (log_limit built w a boot)) (restart_happened (counted_event w) a (next_epoch w a))
+    unless (option_or (cells_limit w a boot) (log_limit w a boot)) (restart_happened (counted_event w) a (next_epoch w a))
 
 -- a read line is this
 abbrev pub ReadsHappen : Type 0
 ReadsHappen =
-    (built : Built) (w : World) (a : ℕ) (key : Key)
-    → event_of built w (Event.Read a key) ≡ if_open (at_centre built w a) (Ok (read_happened (counted_event w) a key))
+    (w : World) (a : ℕ) (key : Key)
+    → event_of w (Event.Read a key) ≡ if_open (at_centre w a) (Ok (read_happened (counted_event w) a key))
 
 -- and a tick line is this
 abbrev pub TicksHappen : Type 0
-TicksHappen = (built : Built) (w : World) (a : ℕ) → event_of built w (Event.Tick a) ≡ if_open (at_centre built w a) (ticked built w a)
+TicksHappen = (w : World) (a : ℕ) → event_of w (Event.Tick a) ≡ if_open (at_centre w a) (ticked w a)
 
 -- and so is a crash line
 abbrev pub CrashesHappen : Type 0
-CrashesHappen = (built : Built) (w : World) (a : ℕ) → event_of built w (Event.Crash a) ≡ if_open (at_centre built w a) (Ok (crash_happened (counted_event w) a))
+CrashesHappen = (w : World) (a : ℕ) → event_of w (Event.Crash a) ≡ if_open (at_centre w a) (Ok (crash_happened (counted_event w) a))
 
 -- and a restart line
 abbrev pub RestartsHappen : Type 0
-RestartsHappen = (built : Built) (w : World) (a : ℕ) → event_of built w (Event.Restart a) ≡ if_open (at_restart built w a) (restarted built w a)
+RestartsHappen = (w : World) (a : ℕ) → event_of w (Event.Restart a) ≡ if_open (at_restart w a) (restarted w a)
 
 -- and a stop line
 abbrev pub StopsHappen : Type 0
 StopsHappen =
-    (built : Built) (w : World) (a call : ℕ) (image : Image)
-    → event_of built w (Event.Stop a call image) ≡ if_open (at_centre built w a) (Ok (stop_happened (counted_event w) a call image))
+    (w : World) (a call : ℕ) (image : Image)
+    → event_of w (Event.Stop a call image) ≡ if_open (at_centre w a) (Ok (stop_happened (counted_event w) a call image))

@@ -4,7 +4,6 @@ use Rattle.std.specs.Prelude.{◌≡◌, Bool, List, Ok, false, true, ℕ, ◌++
 use Rattle.mdcc_base.specs.AreQuorums.{AreQuorums}
 use Rattle.mdcc_option.specs.declared.cluster.Cluster.{Cluster}
 use Rattle.mdcc_protocol.specs.Belongs.{is_centre}
-use Rattle.mdcc_switches.specs.Built.{Built}
 use Rattle.mdcc_ledger.specs.Ledger.{Entry, Valued, facts_of}
 use Rattle.mdcc_rules.specs.Node.{step_of}
 use Rattle.mdcc_rules.specs.Steps.{NodeStep}
@@ -30,9 +29,9 @@ pub record StaysWithin (cluster : Cluster) (step : NodeStep) : Type 0 where
 -- so do those of each step
 abbrev pub StepsStayWithin : Type 0
 StepsStayWithin =
-    (built : Built) (cluster : Cluster) (me : ℕ) (facts : List Fact) (volatile : Volatile) (input : Input) (step : NodeStep)
+    (cluster : Cluster) (me : ℕ) (facts : List Fact) (volatile : Volatile) (input : Input) (step : NodeStep)
     → AreQuorums cluster.quorums → IsWellFormedInput input
-    → step_of built cluster me facts volatile input ≡ Ok step
+    → step_of cluster me facts volatile input ≡ Ok step
     → StaysWithin cluster step
 
 -- a structure that a centre sent
@@ -48,7 +47,7 @@ is_begin input = false
 -- no other input begins a transaction: beside its fact it brings structures of this centre alone
 abbrev pub OthersBeginNothing : Type 0
 OthersBeginNothing =
-    (built : Built) (cluster : Cluster) (me : ℕ) (facts : List Fact) (volatile : Volatile) (input : Input) (step : NodeStep)
+    (cluster : Cluster) (me : ℕ) (facts : List Fact) (volatile : Volatile) (input : Input) (step : NodeStep)
     → AreQuorums cluster.quorums → IsWellFormedInput input → is_begin input ≡ false
-    → step_of built cluster me facts volatile input ≡ Ok step
+    → step_of cluster me facts volatile input ≡ Ok step
     → AllByRecursion (IsValuedBy me) step.entries

@@ -1,6 +1,5 @@
 -- How far a settle has come.
-use Rattle.std.specs.Prelude.{◌≡◌, ◌<◌, ◌≤◌, Err, List, None, Ok, Result, Some, [], ℕ, ◌+◌, ◌++◌, ◌-◌, ◌∷◌, true}
-use Rattle.mdcc_switches.specs.Built.{Built}
+use Rattle.std.specs.Prelude.{◌≡◌, ◌<◌, ◌≤◌, Err, List, None, Ok, Result, Some, [], ℕ, ◌+◌, ◌++◌, ◌-◌, ◌∷◌}
 use Rattle.mdcc_simulation.specs.State.{Happened, World, after_lines, counted_event, next_message}
 use Rattle.mdcc_simulation.specs.Events.{event_of}
 use Rattle.mdcc_simulation.specs.Deliveries.{first_waiting, settled_of}
@@ -17,54 +16,54 @@ abbrev pub settle_told : World → List ℕ → Happened
 settle_told w listed = record { world = counted_event w; lines = Line.Settle listed ∷ [] }
 
 -- what comes of a settle that has come so far, with so many deliveries
-abbrev pub settling : Built → List ℕ → Happened → ℕ → Result (Happened × ℕ) EventFault
-settling built listed h deliveries = settled_of (most_events - h.world.events) built listed h deliveries
+abbrev pub settling : List ℕ → Happened → ℕ → Result (Happened × ℕ) EventFault
+settling listed h deliveries = settled_of (most_events - h.world.events) listed h deliveries
 
 -- it is told behind the others how many messages were delivered
 abbrev pub settled : Happened → ℕ → Happened
 settled h deliveries = record { world = h.world; lines = h.lines ++ Line.Settled deliveries (next_message h.world) ∷ [] }
 
 -- so much of a settle line has happened, with so many deliveries
-pub record IsSettling (built : Built) (w : World) (listed : List ℕ) (reached : Happened) (deliveries : ℕ) : Type 0 where
-  pub answer : settling built listed (settle_told w listed) 0 ≡ settling built listed reached deliveries
+pub record IsSettling (w : World) (listed : List ℕ) (reached : Happened) (deliveries : ℕ) : Type 0 where
+  pub answer : settling listed (settle_told w listed) 0 ≡ settling listed reached deliveries
   pub count : reached.world.events ≡ w.events + 1 + deliveries
 
 -- a settle begins so
 abbrev pub SettlesBegin : Type 0
-SettlesBegin = (built : Built) (w : World) (listed : List ℕ) → IsSettling built w listed (settle_told w listed) 0
+SettlesBegin = (w : World) (listed : List ℕ) → IsSettling w listed (settle_told w listed) 0
 
 -- while a message waits, the first that does is delivered
 abbrev pub SettlesGoOn : Type 0
 SettlesGoOn =
-    (built : Built) (w : World) (listed : List ℕ) (reached after : Happened) (deliveries : ℕ) (next : ℕ × Envelope) → IsSettling built w listed reached deliveries
+    (w : World) (listed : List ℕ) (reached after : Happened) (deliveries : ℕ) (next : ℕ × Envelope) → IsSettling w listed reached deliveries
     → first_waiting reached.world listed 1 reached.world.sent ≡ Some next → reached.world.events < most_events
-    → delivery built reached.world next.0 ≡ Ok after
-    → IsSettling built w listed (after_lines reached.lines after) (deliveries + 1)
+    → delivery reached.world next.0 ≡ Ok after
+    → IsSettling w listed (after_lines reached.lines after) (deliveries + 1)
 
 -- a delivery that is refused refuses the line
 abbrev pub SettlesBreak : Type 0
 SettlesBreak =
-    (built : Built) (w : World) (listed : List ℕ) (reached : Happened) (deliveries : ℕ) (next : ℕ × Envelope) (fault : EventFault) → IsSettling built w listed reached deliveries
+    (w : World) (listed : List ℕ) (reached : Happened) (deliveries : ℕ) (next : ℕ × Envelope) (fault : EventFault) → IsSettling w listed reached deliveries
     → first_waiting reached.world listed 1 reached.world.sent ≡ Some next → reached.world.events < most_events → w.events < most_events
-    → delivery built reached.world next.0 ≡ Err fault
-    → event_of built w (Event.Settle listed) ≡ Err fault
+    → delivery reached.world next.0 ≡ Err fault
+    → event_of w (Event.Settle listed) ≡ Err fault
 
 -- where none waits, that is told
 abbrev pub SettlesEnd : Type 0
 SettlesEnd =
-    (built : Built) (w : World) (listed : List ℕ) (reached : Happened) (deliveries : ℕ) → IsSettling built w listed reached deliveries
+    (w : World) (listed : List ℕ) (reached : Happened) (deliveries : ℕ) → IsSettling w listed reached deliveries
     → first_waiting reached.world listed 1 reached.world.sent ≡ None → w.events < most_events
-    → event_of built w (Event.Settle listed) ≡ Ok (settled reached deliveries)
+    → event_of w (Event.Settle listed) ≡ Ok (settled reached deliveries)
 
 -- where one waits after as many events as there may be, the line is refused
 abbrev pub SettlesStop : Type 0
 SettlesStop =
-    (built : Built) (w : World) (listed : List ℕ) (reached : Happened) (deliveries : ℕ) (next : ℕ × Envelope) → IsSettling built w listed reached deliveries
+    (w : World) (listed : List ℕ) (reached : Happened) (deliveries : ℕ) (next : ℕ × Envelope) → IsSettling w listed reached deliveries
     → first_waiting reached.world listed 1 reached.world.sent ≡ Some next → most_events ≤ reached.world.events
-    → event_of built w (Event.Settle listed) ≡ Err (EventFault.Limit LimitName.Events most_events)
+    → event_of w (Event.Settle listed) ≡ Err (EventFault.Limit LimitName.Events most_events)
 
--- and so it is where there were as many before it, where events are limited
+-- and so it is where there were as many before it
 abbrev pub SettlesFail : Type 0
 SettlesFail =
-    (built : Built) (w : World) (listed : List ℕ) → built.limit_on_events ≡ true → most_events ≤ w.events
-    → event_of built w (Event.Settle listed) ≡ Err (EventFault.Limit LimitName.Events most_events)
+    (w : World) (listed : List ℕ) → most_events ≤ w.events
+    → event_of w (Event.Settle listed) ≡ Err (EventFault.Limit LimitName.Events most_events)

@@ -1,13 +1,12 @@
 -- What holds of a world at every moment.
 use Rattle.std.specs.List.{AllByRecursion}
-use Rattle.std.specs.Prelude.{◌≡◌, ◌<◌, ◌≤◌, ◌+◌, IsTrue, Ok, length, true, ℕ}
+use Rattle.std.specs.Prelude.{◌≡◌, ◌<◌, ◌≤◌, ◌+◌, Ok, length, true, ℕ}
 use Rattle.mdcc_base.specs.Key.{IsKey}
 use Rattle.mdcc_base.specs.declared.key.Key.{Key}
 use Rattle.mdcc_base.specs.declared.outside.Image.{Image}
 use Rattle.mdcc_option.specs.declared.cluster.Cluster.{Cluster}
 use Rattle.mdcc_option.specs.declared.items.Known.{Known}
 use Rattle.mdcc_protocol.specs.Belongs.{is_centre}
-use Rattle.mdcc_switches.specs.Built.{Built}
 use Rattle.mdcc_protocol.specs.Facts.{epoch_of}
 use Rattle.mdcc_protocol.specs.IsCluster.{IsCluster}
 use Rattle.mdcc_ledger.specs.Ledger.{facts_of}
@@ -50,12 +49,12 @@ pub record IsWorld (w : World) : Type 0 where
 abbrev pub FirstStands : Type 0
 FirstStands = (cluster : Cluster) → IsCluster cluster → IsWorld (first_world cluster)
 
--- and after each input of a centre that passes no limit, where logs and cells have one
+-- and after each input of a centre that passes no limit
 abbrev pub WorldStays : Type 0
 WorldStays =
-    (built : Built) (w : World) (a : ℕ) (input : Input) (h : Happened) → IsTrue built.limit_on_log → IsTrue built.limit_on_cells
+    (w : World) (a : ℕ) (input : Input) (h : Happened)
     → IsWorld w → is_centre w.cluster a ≡ true → IsWellFormedInput input
-    → input_taken built w a input ≡ Ok h → IsWorld h.world
+    → input_taken w a input ≡ Ok h → IsWorld h.world
 
 -- and where a message counts as delivered
 abbrev pub DeliveredStays : Type 0
@@ -83,6 +82,6 @@ StopStays = (w : World) (a call : ℕ) (image : Image) → IsWorld w → is_cent
 -- and after a restart that passes no limit
 abbrev pub RestartStays : Type 0
 RestartStays =
-    (built : Built) (w : World) (a : ℕ) (h : Happened) → IsTrue built.limit_on_log → IsTrue built.limit_on_cells
+    (w : World) (a : ℕ) (h : Happened)
     → IsWorld w → is_centre w.cluster a ≡ true → w.events < most_events
-    → restarted built w a ≡ Ok h → IsWorld h.world
+    → restarted w a ≡ Ok h → IsWorld h.world

@@ -4,7 +4,6 @@ use Rattle.std.specs.Prelude.{◌≡◌, Bool, Err, List, None, Ok, Option, Resu
 use Rattle.mdcc_base.specs.Sizes.{Sizes}
 use Rattle.mdcc_base.specs.declared.identifiers.TxId.{TxId}
 use Rattle.mdcc_base.specs.declared.outside.Image.{Image}
-use Rattle.mdcc_switches.specs.Built.{Built}
 use Rattle.mdcc_ledger.specs.Ledger.{Added, Entry}
 use Rattle.mdcc_rules.specs.Steps.{NodeStep}
 use Rattle.mdcc_simulation.specs.State.{Happened, World, centre_at}
@@ -45,31 +44,31 @@ taken w a step = record {
 }
 
 -- the limit that a step would pass whose append does not stop
-abbrev pub limit_of : Built → World → ℕ → Option Fact → List Envelope → Option EventFault
-limit_of built w a None sends = bytes_limit built w sends
-limit_of built w a (Some fact) sends = option_or (log_limit built w a fact) (bytes_limit built w sends)
+abbrev pub limit_of : World → ℕ → Option Fact → List Envelope → Option EventFault
+limit_of w a None sends = bytes_limit w sends
+limit_of w a (Some fact) sends = option_or (log_limit w a fact) (bytes_limit w sends)
 
 -- what comes of it
-abbrev pub told_whole : Built → World → ℕ → NodeStep → Result Happened EventFault
-told_whole built w a step = unless (limit_of built w a step.fact step.sends) (taken w a step)
+abbrev pub told_whole : World → ℕ → NodeStep → Result Happened EventFault
+told_whole w a step = unless (limit_of w a step.fact step.sends) (taken w a step)
 
 -- what comes of a step whose append stops: it sends nothing, so that the limit of the log alone is asked
-abbrev pub told_stopped : Built → World → ℕ → Fact → ℕ × Image → Result Happened EventFault
-told_stopped built w a fact stop = unless (log_limit built w a fact) (step_stopped w a fact stop)
+abbrev pub told_stopped : World → ℕ → Fact → ℕ × Image → Result Happened EventFault
+told_stopped w a fact stop = unless (log_limit w a fact) (step_stopped w a fact stop)
 
 -- what comes of a step with this fact, where one is, at a centre where a stop is armed or none
-abbrev pub told_by : Built → World → ℕ → NodeStep → Option Fact → Option (ℕ × Image) → Result Happened EventFault
-told_by built w a step None stop = told_whole built w a step
-told_by built w a step (Some fact) None = told_whole built w a step
-told_by built w a step (Some fact) (Some stop) = told_stopped built w a fact stop
+abbrev pub told_by : World → ℕ → NodeStep → Option Fact → Option (ℕ × Image) → Result Happened EventFault
+told_by w a step None stop = told_whole w a step
+told_by w a step (Some fact) None = told_whole w a step
+told_by w a step (Some fact) (Some stop) = told_stopped w a fact stop
 
 -- what comes of a step
-abbrev pub step_told : Built → World → ℕ → Result NodeStep StepFault → Result Happened EventFault
-step_told built w a (Ok step) = told_by built w a step step.fact (centre_at w a).stop
-step_told built w a (Err fault) = Ok (input_happened w a (Err fault))
+abbrev pub step_told : World → ℕ → Result NodeStep StepFault → Result Happened EventFault
+step_told w a (Ok step) = told_by w a step step.fact (centre_at w a).stop
+step_told w a (Err fault) = Ok (input_happened w a (Err fault))
 
 -- an input comes to this
 abbrev pub InputsHappen : Type 0
 InputsHappen =
-    (built : Built) (w : World) (a : ℕ) (result : Result NodeStep StepFault)
-    → input_limited built w a result ≡ step_told built w a result
+    (w : World) (a : ℕ) (result : Result NodeStep StepFault)
+    → input_limited w a result ≡ step_told w a result

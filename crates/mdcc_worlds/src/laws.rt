@@ -1,5 +1,4 @@
-//! What holds of a world at every moment, and what its events do, for any set of switches. A law that
-//! holds only while a rule or a limit is switched so has that as a premise.
+//! What holds of a world at every moment, and what its events do.
 ghost use Rattle.mdcc_worlds.specs.Beginning.{BeginsHappen, PartsAreWellFormed};
 ghost use Rattle.mdcc_worlds.specs.Delivering.{DeliveriesHappen, DeliversBegin, DeliversEnd, DeliversGoOn, DeliversStop};
 ghost use Rattle.mdcc_worlds.specs.Events.{EventsStay};
@@ -31,8 +30,7 @@ pub fn worlds_stay()
     ensures stop { StopStays }
 {}
 
-/// It is so after each event that happens, and there are no more events than there may be, where
-/// events, logs and cells are limited.
+/// It is so after each event that happens, and there are no more events than there may be.
 pub fn events_stay()
     ensures { EventsStay }
 {}

@@ -6,8 +6,8 @@ use Rattle.mdcc_fast_path.proofs.States.{two-more}
 use Rattle.mdcc_fast_path.proofs.fast_paths_commit.Goals as goal
 
 pub returns-clause-votes : goal.returns-clause-votes
-returns-clause-votes c built enabled cluster is events a t members first order untaken quorum accept ask moved =
-    votes-given built enabled cluster is events a t members first untaken quorum accept ask order moved
+returns-clause-votes c cluster is events a t members first order untaken quorum accept ask moved =
+    votes-given cluster is events a t members first untaken quorum accept ask order moved
 
 pub returns-clause-commits : goal.returns-clause-commits
 returns-clause-commits c = commits
@@ -16,5 +16,5 @@ pub returns-clause-roomy : goal.returns-clause-roomy
 returns-clause-roomy c = roomy-commits
 
 pub returns-clause-report : goal.returns-clause-report
-returns-clause-report c built cluster events a t members first second whole trip =
-    two-more built (first_world cluster) events (Event.Deliver trip.deliveries.proposals) (Event.Deliver trip.deliveries.votes) first second whole trip.deliveries.proposed trip.deliveries.voted
+returns-clause-report c cluster events a t members first second whole trip =
+    two-more (first_world cluster) events (Event.Deliver trip.deliveries.proposals) (Event.Deliver trip.deliveries.votes) first second whole trip.deliveries.proposed trip.deliveries.voted

@@ -8,4 +8,4 @@ pub returns-clause-runs : goal.returns-clause-runs
 returns-clause-runs c = replayed
 
 pub returns-clause-cluster : goal.returns-clause-cluster
-returns-clause-cluster c = λ built input header accepted. header-cluster built (all_of input) header accepted.header_itself
+returns-clause-cluster c = λ input header accepted. header-cluster (all_of input) header accepted.header_itself

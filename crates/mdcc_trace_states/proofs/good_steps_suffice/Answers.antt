@@ -4,4 +4,4 @@ use Rattle.mdcc_trace_states.proofs.Schedules.{trace-holds}
 use Rattle.mdcc_trace_states.proofs.good_steps_suffice.Goals as goal
 
 pub returns : goal.returns
-returns c = record { world = λ built good cluster is events. trace-holds built IsSound cluster good is.quorums events }
+returns c = record { world = λ good cluster is events. trace-holds IsSound cluster good is.quorums events }

@@ -1,9 +1,8 @@
 -- What is printed tells the truth, and what each command writes is known.
-use Rattle.std.proofs.Common.{◌≡◌, map, refl}
+use Rattle.std.proofs.Common.{◌≡◌, map}
 use Rattle.std.specs.Bool.{OnFalse}
 use Rattle.std.specs.Io.KnownBytes.{Appends}
 use Rattle.std.specs.String.{string_bytes}
-use Rattle.mdcc_built.specs.Built.{built}
 use Rattle.mdcc_replay.specs.Runs.{is_own}
 use Rattle.mdcc_replay.specs.Writing.{Front, Tells}
 use Rattle.mdcc_simulation.specs.Replay.{Output}
@@ -31,10 +30,10 @@ pub returns-in-Some-Replay-clause-prints : goal.returns-in-Some-Replay-clause-pr
 returns-in-Some-Replay-clause-prints g c = λ _.
     printed (g.S.Source.left c.args.source.now) c.run_replay.result (g.O.Sink.held c.args.out.now) (g.O.Sink.held c.run_replay.new.out)
     (λ h. absurd (c.run_replay.ensures.words h)) c.run_replay.ensures.refused c.run_replay.ensures.nothing c.run_replay.ensures.front c.run_replay.ensures.whole
-    (λ input. c.headline.ensures.replays built refl input)
+    (λ input. c.headline.ensures.replays input)
 
 pub returns-in-Some-Replay-clause-headline : goal.returns-in-Some-Replay-clause-headline
-returns-in-Some-Replay-clause-headline g c = λ input. c.headline.ensures.replays built refl input
+returns-in-Some-Replay-clause-headline g c = λ input. c.headline.ensures.replays input
 
 pub returns-in-Some-Sample-clause-whole : goal.returns-in-Some-Sample-clause-whole
 returns-in-Some-Sample-clause-whole g c =
@@ -52,7 +51,7 @@ returns-in-Some-Sample-clause-line g c =
     c.in-Some-Sample.seed c.in-Some-Sample.items c.in-Some-Sample.orders (rw c.in-Some-Sample.field-0-is at c.in-Some-Sample.ensures.value) c.run_sample.ensures.line
 
 pub returns-in-Some-Sample-clause-headline : goal.returns-in-Some-Sample-clause-headline
-returns-in-Some-Sample-clause-headline g c = λ input. c.headline.ensures.replays built refl input
+returns-in-Some-Sample-clause-headline g c = λ input. c.headline.ensures.replays input
 
 pub returns-in-None-clause-whole : goal.returns-in-None-clause-whole
 returns-in-None-clause-whole g c =
@@ -70,4 +69,4 @@ returns-in-None-clause-line g c =
     c.in-None.ensures.value
 
 pub returns-in-None-clause-headline : goal.returns-in-None-clause-headline
-returns-in-None-clause-headline g c = λ input. c.headline.ensures.replays built refl input
+returns-in-None-clause-headline g c = λ input. c.headline.ensures.replays input

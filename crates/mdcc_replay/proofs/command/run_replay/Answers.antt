@@ -2,7 +2,6 @@ use Rattle.std.proofs.Common.{◌≡◌, ◌<◌, List, ℕ, length, Some, Ok}
 use Rattle.std.specs.Bool.{OnFalse}
 use Rattle.std.specs.Io.KnownBytes.{Appends}
 use Rattle.std.proofs.KnownBytes.{Consumes-whole}
-use Rattle.mdcc_built.specs.Built.{built}
 use Rattle.mdcc_language.specs.Errors.{error_text, status_of}
 use Rattle.mdcc_simulation.specs.Replay.{replay_of}
 use Rattle.mdcc_replay.proofs.Fronts.{nothing_written}
@@ -18,45 +17,45 @@ pub returns-in-Ok-clause-whole : goal.returns-in-Ok-clause-whole
 returns-in-Ok-clause-whole g c =
     let written = rw c.as_slice.ensures.value at c.replay.ensures.written in
     Consumes-whole (g.S.Source.left c.args.source.now) (g.S.Source.left c.read_all.new.source) _
-    (λ input. OnFalse (is_own c.finish.result) ((c.finish.result ≡ status_of (replay_of built input).fault) × Appends (g.O.Sink.held c.args.out.now) (g.O.Sink.held c.replay.new.out) (replay_of built input).text))
+    (λ input. OnFalse (is_own c.finish.result) ((c.finish.result ≡ status_of (replay_of input).fault) × Appends (g.O.Sink.held c.args.out.now) (g.O.Sink.held c.replay.new.out) (replay_of input).text))
     c.in-Ok.ensures.bytes c.in-Ok.ensures.end.0
-    (whole_written (g.O.Sink.held c.args.out.now) (g.O.Sink.held c.replay.new.out) (replay_of built c.in-Ok.input.items) c.replay.result c.finish.result written c.finish.ensures.status)
+    (whole_written (g.O.Sink.held c.args.out.now) (g.O.Sink.held c.replay.new.out) (replay_of c.in-Ok.input.items) c.replay.result c.finish.result written c.finish.ensures.status)
 
 pub returns-in-Ok-clause-front : goal.returns-in-Ok-clause-front
 returns-in-Ok-clause-front g c =
     let written = rw c.as_slice.ensures.value at c.replay.ensures.written in
     Consumes-whole (g.S.Source.left c.args.source.now) (g.S.Source.left c.read_all.new.source) _
-    (λ input. Front (g.O.Sink.held c.args.out.now) (g.O.Sink.held c.replay.new.out) (replay_of built input).text)
+    (λ input. Front (g.O.Sink.held c.args.out.now) (g.O.Sink.held c.replay.new.out) (replay_of input).text)
     c.in-Ok.ensures.bytes c.in-Ok.ensures.end.0
-    (front_written (g.O.Sink.held c.args.out.now) (g.O.Sink.held c.replay.new.out) (replay_of built c.in-Ok.input.items) c.replay.result written)
+    (front_written (g.O.Sink.held c.args.out.now) (g.O.Sink.held c.replay.new.out) (replay_of c.in-Ok.input.items) c.replay.result written)
 
 pub returns-in-Ok-clause-line : goal.returns-in-Ok-clause-line
 returns-in-Ok-clause-line g c =
     let written = rw c.as_slice.ensures.value at c.replay.ensures.written in
     let told : List ℕ → Type 0 = λ text. Tells (g.E.Sink.held c.args.err.now) (g.E.Sink.held c.finish.new.err) (g.E.Sink.faults c.args.err.now) (g.E.Sink.faults c.finish.new.err) text in
     Consumes-whole (g.S.Source.left c.args.source.now) (g.S.Source.left c.read_all.new.source) _
-    (λ input. OnFalse (is_own c.finish.result) (told (error_text (replay_of built input).fault)))
+    (λ input. OnFalse (is_own c.finish.result) (told (error_text (replay_of input).fault)))
     c.in-Ok.ensures.bytes c.in-Ok.ensures.end.0
-    (line_told (g.O.Sink.held c.args.out.now) (g.O.Sink.held c.replay.new.out) (replay_of built c.in-Ok.input.items) c.replay.result c.finish.result told written c.finish.ensures.status c.finish.ensures.line)
+    (line_told (g.O.Sink.held c.args.out.now) (g.O.Sink.held c.replay.new.out) (replay_of c.in-Ok.input.items) c.replay.result c.finish.result told written c.finish.ensures.status c.finish.ensures.line)
 
 pub returns-in-Err-TooLong-clause-front : goal.returns-in-Err-TooLong-clause-front
 returns-in-Err-TooLong-clause-front g c =
-    for_any (g.S.Source.left c.args.source.now) (λ input. Front (g.O.Sink.held c.args.out.now) (g.O.Sink.held c.args.out.now) (replay_of built input).text) (λ input. nothing_written _ _)
+    for_any (g.S.Source.left c.args.source.now) (λ input. Front (g.O.Sink.held c.args.out.now) (g.O.Sink.held c.args.out.now) (replay_of input).text) (λ input. nothing_written _ _)
 
 pub returns-in-Err-TooLong-clause-line : goal.returns-in-Err-TooLong-clause-line
 returns-in-Err-TooLong-clause-line g c =
     let told : List ℕ → Type 0 = λ text. Tells (g.E.Sink.held c.args.err.now) (g.E.Sink.held c.end_refused.new.err) (g.E.Sink.faults c.args.err.now) (g.E.Sink.faults c.end_refused.new.err) text in
-    for_such (g.S.Source.left c.args.source.now) (λ input. 67108864 < length input) (λ input. OnFalse (is_own c.end_refused.result) (told (error_text (replay_of built input).fault)))
-    (λ input long. line_told (g.O.Sink.held c.args.out.now) (g.O.Sink.held c.args.out.now) (replay_of built input) (Ok (Some Refusal.TooLong)) c.end_refused.result told (long_ended (g.O.Sink.held c.args.out.now) input long) c.end_refused.ensures.status c.end_refused.ensures.line)
+    for_such (g.S.Source.left c.args.source.now) (λ input. 67108864 < length input) (λ input. OnFalse (is_own c.end_refused.result) (told (error_text (replay_of input).fault)))
+    (λ input long. line_told (g.O.Sink.held c.args.out.now) (g.O.Sink.held c.args.out.now) (replay_of input) (Ok (Some Refusal.TooLong)) c.end_refused.result told (long_ended (g.O.Sink.held c.args.out.now) input long) c.end_refused.ensures.status c.end_refused.ensures.line)
     (c.in-Err-TooLong.ensures.too_long (cc))
 
 pub returns-in-Err-Failed-clause-front : goal.returns-in-Err-Failed-clause-front
 returns-in-Err-Failed-clause-front g c =
-    for_any (g.S.Source.left c.args.source.now) (λ input. Front (g.O.Sink.held c.args.out.now) (g.O.Sink.held c.args.out.now) (replay_of built input).text) (λ input. nothing_written _ _)
+    for_any (g.S.Source.left c.args.source.now) (λ input. Front (g.O.Sink.held c.args.out.now) (g.O.Sink.held c.args.out.now) (replay_of input).text) (λ input. nothing_written _ _)
 
 pub returns-in-Err-Memory-clause-front : goal.returns-in-Err-Memory-clause-front
 returns-in-Err-Memory-clause-front g c =
-    for_any (g.S.Source.left c.args.source.now) (λ input. Front (g.O.Sink.held c.args.out.now) (g.O.Sink.held c.args.out.now) (replay_of built input).text) (λ input. nothing_written _ _)
+    for_any (g.S.Source.left c.args.source.now) (λ input. Front (g.O.Sink.held c.args.out.now) (g.O.Sink.held c.args.out.now) (replay_of input).text) (λ input. nothing_written _ _)
 
 pub returns-in-Ok-clause-status : goal.returns-in-Ok-clause-status
 returns-in-Ok-clause-status g c = known_status c.replay.result c.finish.result c.finish.ensures.status

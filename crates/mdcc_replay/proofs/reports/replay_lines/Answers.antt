@@ -1,6 +1,5 @@
 use Rattle.std.proofs.Common.{arith}
 use Rattle.std.proofs.lemmas.Result.{err_from_is_err_and}
-use Rattle.mdcc_built.specs.Built.{built}
 use Rattle.mdcc_language.specs.Lines.{lines_in}
 use Rattle.mdcc_simulation.specs.Replay.{lines_replayed}
 use Rattle.mdcc_simulation.specs.State.{World}
@@ -11,7 +10,7 @@ use Rattle.mdcc_replay.proofs.reports.replay_lines.Goals as goal
 pub returns-in_err-refusal-clause-written : goal.returns-in_err-refusal-clause-written
 returns-in_err-refusal-clause-written g c = λ w s.
     let taken = line_taken (λ v. g.W.Simulation.stands c.loop-rest.world v) (λ v. g.W.Simulation.stands c.replay_line.new.world v) (g.O.Sink.held c.args.out.now) (g.O.Sink.held c.loop-rest.out) (g.O.Sink.held c.replay_line.new.out) c.args.cluster.now c.loop-rest.number
-    (lines_in c.loop-rest.rest.now) c.split_line.result.0.now (lines_in c.split_line.result.1.now) (lines_replayed built c.args.cluster.now c.args.first w (lines_in c.args.text.now)) c.replay_line.result
+    (lines_in c.loop-rest.rest.now) c.split_line.result.0.now (lines_in c.split_line.result.1.now) (lines_replayed c.args.cluster.now c.args.first w (lines_in c.args.text.now)) c.replay_line.result
     c.split_line.ensures.lines (c.loop-rest.invariant.reached w s) c.replay_line.ensures.written in
     let p = err_from_is_err_and c.from_residual.result c.from_residual.ensures.1 in
     rw p.1 (rw c.in_err-refusal.was at taken)
@@ -19,7 +18,7 @@ returns-in_err-refusal-clause-written g c = λ w s.
 pub returns-in-Some-clause-written : goal.returns-in-Some-clause-written
 returns-in-Some-clause-written g c = λ w s.
     let taken = line_taken (λ v. g.W.Simulation.stands c.loop-rest.world v) (λ v. g.W.Simulation.stands c.replay_line.new.world v) (g.O.Sink.held c.args.out.now) (g.O.Sink.held c.loop-rest.out) (g.O.Sink.held c.replay_line.new.out) c.args.cluster.now c.loop-rest.number
-    (lines_in c.loop-rest.rest.now) c.split_line.result.0.now (lines_in c.split_line.result.1.now) (lines_replayed built c.args.cluster.now c.args.first w (lines_in c.args.text.now)) c.replay_line.result
+    (lines_in c.loop-rest.rest.now) c.split_line.result.0.now (lines_in c.split_line.result.1.now) (lines_replayed c.args.cluster.now c.args.first w (lines_in c.args.text.now)) c.replay_line.result
     c.split_line.ensures.lines (c.loop-rest.invariant.reached w s) c.replay_line.ensures.written in
     rw (c.in_ok-refusal.was, c.in-Some.is) at taken
 
@@ -27,7 +26,7 @@ pub loop-rest-preserved : goal.loop-rest-preserved
 loop-rest-preserved g c =
     let taken = λ (w : World) (s : g.W.Simulation.stands c.args.world.now w).
     line_taken (λ v. g.W.Simulation.stands c.loop-rest.world v) (λ v. g.W.Simulation.stands c.replay_line.new.world v) (g.O.Sink.held c.args.out.now) (g.O.Sink.held c.loop-rest.out) (g.O.Sink.held c.replay_line.new.out) c.args.cluster.now c.loop-rest.number
-    (lines_in c.loop-rest.rest.now) c.split_line.result.0.now (lines_in c.split_line.result.1.now) (lines_replayed built c.args.cluster.now c.args.first w (lines_in c.args.text.now)) c.replay_line.result
+    (lines_in c.loop-rest.rest.now) c.split_line.result.0.now (lines_in c.split_line.result.1.now) (lines_replayed c.args.cluster.now c.args.first w (lines_in c.args.text.now)) c.replay_line.result
     c.split_line.ensures.lines (c.loop-rest.invariant.reached w s) c.replay_line.ensures.written in
     let here = rw (c.in_ok-refusal.was, c.in_default.is) at (taken c.requires.known.0 c.requires.known.1) in
     record {
@@ -40,9 +39,9 @@ loop-rest-preserved g c =
 pub returns-clause-written : goal.returns-clause-written
 returns-clause-written g c = λ w s.
     all_taken (λ v. g.W.Simulation.stands c.loop-rest.world v) (g.O.Sink.held c.args.out.now) (g.O.Sink.held c.loop-rest.out) (g.O.Sink.held c.write_end.new.out) c.args.cluster.now c.loop-rest.number (lines_in c.loop-rest.rest.now)
-    (lines_replayed built c.args.cluster.now c.args.first w (lines_in c.args.text.now)) c.write_end.result (none_left c.loop-rest.rest.now c.loop-rest-test.ensures) (c.loop-rest.invariant.reached w s) c.write_end.ensures.written
+    (lines_replayed c.args.cluster.now c.args.first w (lines_in c.args.text.now)) c.write_end.result (none_left c.loop-rest.rest.now c.loop-rest-test.ensures) (c.loop-rest.invariant.reached w s) c.write_end.ensures.written
 
 pub returns-clause-last : goal.returns-clause-last
 returns-clause-last g c = λ w s e.
     last_taken (λ v. g.W.Simulation.stands c.loop-rest.world v) (g.O.Sink.held c.args.out.now) (g.O.Sink.held c.loop-rest.out) c.args.cluster.now c.loop-rest.number (lines_in c.loop-rest.rest.now)
-    (lines_replayed built c.args.cluster.now c.args.first w (lines_in c.args.text.now)) (none_left c.loop-rest.rest.now c.loop-rest-test.ensures) (c.loop-rest.invariant.reached w s)
+    (lines_replayed c.args.cluster.now c.args.first w (lines_in c.args.text.now)) (none_left c.loop-rest.rest.now c.loop-rest-test.ensures) (c.loop-rest.invariant.reached w s)

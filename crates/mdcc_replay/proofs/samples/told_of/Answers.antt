@@ -1,4 +1,3 @@
-use Rattle.mdcc_built.specs.Built.{built}
 use Rattle.mdcc_sample.specs.Texts.{sample_text}
 use Rattle.mdcc_simulation.specs.Replay.{replay_of}
 use Rattle.mdcc_replay.specs.Samples.{sample_of}
@@ -6,4 +5,4 @@ use Rattle.mdcc_replay.proofs.samples.told_of.Goals as goal
 
 pub returns : goal.returns
 unfolding sample_of
-returns g c = c.told_by.ensures (replay_of built (sample_text c.args.seed c.args.items c.args.orders)) c.in_ok-end.ensures
+returns g c = c.told_by.ensures (replay_of (sample_text c.args.seed c.args.items c.args.orders)) c.in_ok-end.ensures

@@ -1,14 +1,13 @@
 use Rattle.std.proofs.Common.{◌≡◌, ◌+◌, ◌-◌, ◌≤◌, length}
 use Rattle.mdcc_language.specs.Schedule.{updates_from}
 use Rattle.mdcc_language.specs.Words.{parts_from}
-use Rattle.mdcc_built.specs.Built.{built}
 use Rattle.mdcc_words.proofs.Onto.{onto}
 use Rattle.mdcc_words.proofs.Parts.{parts_left}
 use Rattle.mdcc_sched.proofs.lists.updates_from.Given as goal
 
 abbrev pub invariant-loop-place : goal.invariant-loop-place
 invariant-loop-place l = record {
-  same : onto l.updates (updates_from built (l.place + 1) (parts_left 32 l.place l.line)) ≡ updates_from built (l.at + 1) (parts_from 32 l.at l.line);
+  same : onto l.updates (updates_from (l.place + 1) (parts_left 32 l.place l.line)) ≡ updates_from (l.at + 1) (parts_from 32 l.at l.line);
   within : l.place ≤ length l.line + 1;
 }
 

@@ -1,6 +1,5 @@
 use Rattle.std.proofs.Common.{◌≡◌, Ok, refl}
 use Rattle.std.proofs.lemmas.Bool.{and_parts}
-use Rattle.mdcc_built.specs.Built.{built}
 use Rattle.mdcc_node.specs.Planning.{written}
 use Rattle.mdcc_node.specs.Stepping.{given}
 use Rattle.mdcc_rules.specs.declared.node.Input.{Input}
@@ -12,7 +11,7 @@ use Rattle.mdcc_world.proofs.nodes.read.Goals as goal
 
 pub returns-in-Some-Read-clause-shown : goal.returns-in-Some-Read-clause-shown
 returns-in-Some-Read-clause-shown c w standing up =
-    let made : Ok c.act_on.new.step ≡ given (step_at built w c.args.centre (Input.Read c.args.key.now)) =
+    let made : Ok c.act_on.new.step ≡ given (step_at w c.args.centre (Input.Read c.args.key.now)) =
     rw c.in-Ok.is at (c.in_ok-act_on.ensures.answer w standing up) in
     shown-as c.act_on.new.step _ c.in-Some-Read.field-0 c.in-Some-Read.reading _ made c.in-Some-Read.is c.in-Some-Read.field-0-is refl
 

@@ -1,5 +1,4 @@
 use Rattle.std.proofs.Common.{refl}
-use Rattle.mdcc_built.specs.Built.{built}
 use Rattle.mdcc_node.proofs.Planned.{acts-plan, unless-any}
 use Rattle.mdcc_node.proofs.Standing.{memory_always}
 use Rattle.mdcc_node.specs.Planning.{written}
@@ -10,7 +9,7 @@ pub returns-in-Tick-clause-follows : goal.returns-in-Tick-clause-follows
 returns-in-Tick-clause-follows g c = record {
   answer = λ cluster me facts volatile known.
       rw (c.in-Tick.is, c.requires.blank)
-      (acts-plan (tick_step built cluster me facts volatile) c.tick.new.sends c.tick.result refl refl
+      (acts-plan (tick_step cluster me facts volatile) c.tick.new.sends c.tick.result refl refl
       (rw c.requires.blank at (c.tick.ensures.answer cluster me facts volatile known)));
   left = λ cluster me facts volatile known.
       rw c.in-Tick.is (unless-any c.tick.result c.tick.new.sends _ _ (c.tick.ensures.left cluster me facts volatile known));

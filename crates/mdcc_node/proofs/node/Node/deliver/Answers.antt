@@ -1,5 +1,4 @@
 use Rattle.std.proofs.Common.{◌≡◌, None, Some, if◌then◌else◌, refl}
-use Rattle.mdcc_built.specs.Built.{built}
 use Rattle.mdcc_node.proofs.Standing.{foreign_step, own_step}
 use Rattle.mdcc_node.specs.Stepping.{room_of}
 use Rattle.mdcc_rules.specs.Node.{is_own_message}
@@ -13,10 +12,10 @@ returns-in-Some-clause-follows g c =
     record {
       answer = λ cluster me facts volatile stands.
           let here = rw (c.number.ensures.value, stands.of, stands.at) at found in
-          rw (own_step room built cluster me facts volatile envelope c.in-Some.from here) (c.receive.ensures.does.answer cluster me facts volatile stands);
+          rw (own_step room cluster me facts volatile envelope c.in-Some.from here) (c.receive.ensures.does.answer cluster me facts volatile stands);
       left = λ cluster me facts volatile stands.
           let here = rw (c.number.ensures.value, stands.of, stands.at) at found in
-          rw (own_step room built cluster me facts volatile envelope c.in-Some.from here) (c.receive.ensures.does.left cluster me facts volatile stands);
+          rw (own_step room cluster me facts volatile envelope c.in-Some.from here) (c.receive.ensures.does.left cluster me facts volatile stands);
       memory = c.receive.ensures.does.memory;
     }
 
@@ -28,9 +27,9 @@ returns-in-None-clause-follows g c =
     record {
       answer = λ cluster me facts volatile stands.
           let here = rw (c.number.ensures.value, stands.of, stands.at) at none in
-          rw (foreign_step room built cluster me facts volatile envelope here) refl;
+          rw (foreign_step room cluster me facts volatile envelope here) refl;
       left = λ cluster me facts volatile stands.
           let here = rw (c.number.ensures.value, stands.of, stands.at) at none in
-          rw (foreign_step room built cluster me facts volatile envelope here) stands;
+          rw (foreign_step room cluster me facts volatile envelope here) stands;
       memory = λ facts store. tt;
     }

@@ -1,6 +1,5 @@
 use Rattle.std.proofs.Common.{◌≡◌, List, subst, true}
 use Rattle.mdcc_base.specs.Unless.{GivesUnless}
-use Rattle.mdcc_built.specs.Built.{built}
 use Rattle.mdcc_messages.specs.declared.facts.Fact.{Fact}
 use Rattle.mdcc_node.proofs.Ending.{ends}
 use Rattle.mdcc_node.proofs.Planned.{memory-left, plan-fits, plan-given, plan-left}
@@ -19,9 +18,9 @@ add_planned-requires-clause-fits g c =
     let from = c.args.from in
     let message = c.args.message.now in
     let centre : is_centre runs.cluster from ≡ true = subst (λ (cluster : Cluster). is_centre cluster from ≡ true) runs.itself.of c.requires.centre in
-    plan-fits c.take.new.step (message_step built runs.cluster runs.me runs.facts runs.volatile from message)
+    plan-fits c.take.new.step (message_step runs.cluster runs.me runs.facts runs.volatile from message)
     (c.in_ok-take.ensures.plan.answer runs.cluster runs.me runs.facts runs.volatile runs.itself)
-    (λ step fact made is. brought-fits built runs.cluster runs.me runs.facts runs.volatile from message step fact c.requires.short runs.kept centre c.requires.message made is)
+    (λ step fact made is. brought-fits runs.cluster runs.me runs.facts runs.volatile from message step fact c.requires.short runs.kept centre c.requires.message made is)
 
 pub returns-clause-does : goal.returns-clause-does
 returns-clause-does g c =
@@ -36,14 +35,14 @@ returns-clause-does g c =
     (c.add_planned.ensures.answer facts (rw same store)) in
     record {
       answer = λ cluster me facts volatile known.
-          rw (plan-given room facts plan (message_step built cluster me facts volatile c.args.from c.args.message.now) (c.in_ok-take.ensures.plan.answer cluster me facts volatile known))
+          rw (plan-given room facts plan (message_step cluster me facts volatile c.args.from c.args.message.now) (c.in_ok-take.ensures.plan.answer cluster me facts volatile known))
           (given facts known.store);
       left = λ cluster me facts volatile known.
-          let expected = message_step built cluster me facts volatile c.args.from c.args.message.now in
+          let expected = message_step cluster me facts volatile c.args.from c.args.message.now in
           let now = c.in_ok-take.ensures.plan.left cluster me facts volatile known in
           plan-left stands c.add_planned.new.self cluster me facts volatile room plan expected c.add_planned.result c.add_planned.new.step
           (c.in_ok-take.ensures.plan.answer cluster me facts volatile known)
-          (ends volatile built cluster me facts c.args.from c.args.message.now)
+          (ends volatile cluster me facts c.args.from c.args.message.now)
           (given facts known.store)
           (c.add_planned.ensures.ok cluster me facts (kept volatile expected) now)
           (c.add_planned.ensures.err cluster me facts (kept volatile expected) now);

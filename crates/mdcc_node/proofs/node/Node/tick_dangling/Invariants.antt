@@ -1,5 +1,4 @@
 use Rattle.std.proofs.Common.{◌≡◌, ◌++◌, [], List, ℕ, drop, fold}
-use Rattle.mdcc_built.specs.Built.{built}
 use Rattle.mdcc_messages.specs.declared.facts.Fact.{Fact}
 use Rattle.mdcc_node.specs.Stands.{Stands}
 use Rattle.mdcc_option.specs.declared.cluster.Cluster.{Cluster}
@@ -15,5 +14,5 @@ invariant-loop-act g l = record {
       → (part : StepPart)
       × (l.sends ≡ l.fn.sends ++ part.sends)
       × Stands g.S.FactStore.stands l.self cluster me facts part.after
-      × (fold (and_then (recovery_act built cluster me facts)) part (drop l.act-index l.act-items) ≡ recovery_ticked built cluster me facts (only_sending volatile []));
+      × (fold (and_then (recovery_act cluster me facts)) part (drop l.act-index l.act-items) ≡ recovery_ticked cluster me facts (only_sending volatile []));
 }

@@ -1,7 +1,6 @@
 use Rattle.std.proofs.Common.{◌≡◌, ◌∙◌, Ok, arith, length, refl, sym}
 use Rattle.std.proofs.lemmas.List.{with_items_is}
 use Rattle.std.specs.Vec.{with_items}
-use Rattle.mdcc_built.specs.Built.{built}
 use Rattle.mdcc_simulation.specs.State.{counted_event}
 use Rattle.mdcc_simulation.specs.Stepping.{input_happened, step_at}
 use Rattle.mdcc_rules.specs.declared.node.Input.{Input}
@@ -26,7 +25,7 @@ returns-clause-made c w like =
     let up = c.requires.up w like in
     let here : NodesStand c.deref_mut.result.now (counted_event w) = rw c.deref_mut.ensures.value (counted-nodes c.args.self.now.nodes.items w like.nodes) in
     let many : length c.act_on.new.nodes ≡ c.args.self.now.nodes.len = omega arith in
-    let h = input_happened (counted_event w) a (step_at built (counted_event w) a (Input.Begin parts)) in
+    let h = input_happened (counted_event w) a (step_at (counted_event w) a (Input.Begin parts)) in
     let left = c.in_ok-act_on.ensures.left (counted_event w) (counted-stays w like.records.itself) here up in
     let nodes : NodesStand (with_items c.args.self.now.nodes c.act_on.new.nodes).items h.world = rw (with_items_is c.args.self.now.nodes c.act_on.new.nodes many) left in
     let itself = rw c.in-Ok.is at (c.in_ok-act_on.ensures.answer (counted_event w) here up) in

@@ -1,5 +1,4 @@
 use Rattle.std.proofs.Common.{◌∷◌, [], Ok, List, refl, subst}
-use Rattle.mdcc_built.specs.Built.{built}
 use Rattle.mdcc_simulation.specs.Deliveries.{deliver_line}
 use Rattle.mdcc_simulation.specs.Limits.{with_lines}
 use Rattle.mdcc_language.specs.declared.lines.Line.{Line}
@@ -11,7 +10,7 @@ use Rattle.mdcc_world.proofs.world.World.deliver_told.Goals as goal
 pub returns-clause-happens : goal.returns-clause-happens
 returns-clause-happens c w like =
     let number = c.args.number in
-    let expected = delivery built w number in
+    let expected = delivery w number in
     let one : Happens {T = Unit {0}} c.delivered.new.self [] c.delivered.new.lines (Ok tt) expected =
     subst (λ (ls : List Line). Happens {T = Unit {0}} c.delivered.new.self ls c.delivered.new.lines (Ok tt) expected) c.new-told.ensures (c.in_ok-delivered.ensures.happens w like) in
     told-result c.tell.result c.delivered.new.self c.args.lines.now c.tell.new.lines (with_lines (deliver_line number) expected) c.tell.ensures.ok c.tell.ensures.memory

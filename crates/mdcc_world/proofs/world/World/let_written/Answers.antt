@@ -1,5 +1,4 @@
 use Rattle.std.proofs.Common.{◌+◌, ◌++◌, List, ap, ◌∙◌, map}
-use Rattle.mdcc_built.specs.Built.{built}
 use Rattle.mdcc_ledger.specs.Ledger.{facts_of}
 use Rattle.mdcc_messages.specs.Lengths.{messages_length}
 use Rattle.mdcc_messages.specs.Mailbox.{unsent}
@@ -26,7 +25,7 @@ returns-in_err-at_limits-clause-happens c w input made whole =
     let step = c.args.step.now in
     let fault = c.in_err-at_limits.field-0.0 in
     let limit = c.in_err-at_limits.ensures.limit w (step-measures world w a input step made) in
-    let here = limit ∙ ap (λ (xs : List Envelope). may_be (limit_of built w a step.fact xs)) c.requires.written in
+    let here = limit ∙ ap (λ (xs : List Envelope). may_be (limit_of w a step.fact xs)) c.requires.written in
     rw (residual c.from_residual.result fault c.from_residual.ensures.1) (step-refused world w a input step made whole fault here)
 
 pub let_out-requires-clause-within : goal.let_out-requires-clause-within
@@ -44,7 +43,7 @@ returns-clause-happens c w input made whole =
     let step = c.args.step.now in
     let written = c.requires.written in
     let limit = c.in_ok-at_limits.ensures.limit w (step-measures world w a input step made) in
-    let open' = unlimited (limit_of built w a step.fact step.sends) (limit ∙ ap (λ (xs : List Envelope). may_be (limit_of built w a step.fact xs)) written) in
+    let open' = unlimited (limit_of w a step.fact step.sends) (limit ∙ ap (λ (xs : List Envelope). may_be (limit_of w a step.fact xs)) written) in
     step-taken world w a input step made whole c.let_out.new.self c.args.lines.now c.let_out.new.lines c.let_out.ensures.rest open'
     (c.in_ok-let_out.ensures.sent ∙ ap (λ (xs : List Envelope). world.mail ++ map unsent xs) written)
     (c.in_ok-let_out.ensures.bytes ∙ ap (λ (xs : List Envelope). world.bytes + messages_length xs) written)

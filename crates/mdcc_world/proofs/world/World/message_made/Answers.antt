@@ -1,7 +1,6 @@
 use Rattle.std.proofs.Common.{◌≡◌, ◌∙◌, arith, length, refl, sym, true}
 use Rattle.std.proofs.lemmas.List.{with_items_is}
 use Rattle.std.specs.Vec.{with_items}
-use Rattle.mdcc_built.specs.Built.{built}
 use Rattle.mdcc_node.specs.Planning.{written}
 use Rattle.mdcc_simulation.specs.Stepping.{input_happened, step_at}
 use Rattle.mdcc_simulation.specs.State.{is_up_at}
@@ -59,7 +58,7 @@ returns-clause-made c w like =
     let up : is_up_at after a ≡ true = rw same is.up in
     let here : NodesStand c.deref_mut.result.now after = rw c.deref_mut.ensures.value (counted-nodes c.args.self.now w number envelope like is) in
     let many : length c.receive.new.nodes ≡ c.args.self.now.nodes.len = omega arith in
-    let h = input_happened after a (step_at built after a (Input.Message envelope)) in
+    let h = input_happened after a (step_at after a (Input.Message envelope)) in
     let left = c.in_ok-made.ensures.left after (counted-world c.args.self.now w number envelope like is) here up in
     let nodes : NodesStand (with_items c.args.self.now.nodes c.receive.new.nodes).items h.world = rw (with_items_is c.args.self.now.nodes c.receive.new.nodes many) left in
     message-made c.args.self.now w number envelope like is _ a (written c.in_ok-made.made c.receive.new.step) same refl c.deliver.ensures (c.in_ok-made.ensures.answer after here up) nodes

@@ -1,5 +1,4 @@
 use Rattle.std.proofs.Common.{◌≡◌, ◌+◌, ◌-◌, ◌<◌, ◌≤◌, Option, arith, subst, sym, ℕ}
-use Rattle.mdcc_built.specs.Built.{built}
 use Rattle.mdcc_simulation.specs.State.{World}
 use Rattle.mdcc_world.proofs.Happened.{has-come, residual}
 use Rattle.mdcc_world.proofs.Settled.{ends-after, settle-breaks, settle-ends, settle-goes_on, settle-stops}
@@ -37,7 +36,7 @@ loop-deliveries-preserved c =
     let some = at.invariant.some in
     let number = c.in-Some.number in
     let here : (w : World) → IsLike at.self w → IsLike c.next_asked.new.self w = λ w like. subst (λ (x : TheWorld). IsLike x w) (sym c.in_ok-number.ensures.kept) like in
-    let come = has-come {T = Unit {0}} tt c.delivered.new.self at.lines c.delivered.new.lines (delivery built some.0 number) (c.in_ok-delivered-in-Some.ensures.happens some.0 (here some.0 some.1)) in
+    let come = has-come {T = Unit {0}} tt c.delivered.new.self at.lines c.delivered.new.lines (delivery some.0 number) (c.in_ok-delivered-in-Some.ensures.happens some.0 (here some.0 some.1)) in
     record {
       events = (let more = c.in_ok-delivered-in-Some.ensures.few in let events = at.invariant.events in let kept = c.in_ok-number.ensures.kept in
           subst (λ (x : TheWorld). c.delivered.new.self.events ≤ x.events + 1 → c.delivered.new.self.events ≤ c.args.self.now.events + (at.deliveries + 1)) (sym kept)

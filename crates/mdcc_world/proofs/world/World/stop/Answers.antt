@@ -1,5 +1,4 @@
 use Rattle.std.proofs.Common.{Ok}
-use Rattle.mdcc_built.specs.Built.{built}
 use Rattle.mdcc_simulation.specs.State.{counted_event}
 use Rattle.mdcc_simulation.specs.Centres.{stop_happened}
 use Rattle.mdcc_world.proofs.Happened.{opened, refused-is, residual}
@@ -12,10 +11,10 @@ returns-in_err-at_centre-clause-happens c w like =
     let a = c.args.centre in
     let fault = c.in_err-at_centre.field-0.0 in
     rw (residual c.from_residual.result fault c.from_residual.ensures.1)
-    (refused-is _ (at_centre built w a) (Ok (stop_happened (counted_event w) a c.args.call c.args.image)) fault (stop-is built w a c.args.call c.args.image) (c.in_err-at_centre.ensures.centre w like))
+    (refused-is _ (at_centre w a) (Ok (stop_happened (counted_event w) a c.args.call c.args.image)) fault (stop-is w a c.args.call c.args.image) (c.in_err-at_centre.ensures.centre w like))
 
 pub returns-clause-happens : goal.returns-clause-happens
 returns-clause-happens c w like =
     let a = c.args.centre in
-    opened {T = Unit {0}} (Ok tt) _ _ _ _ (at_centre built w a) (Ok (stop_happened (counted_event w) a c.args.call c.args.image)) (stop-is built w a c.args.call c.args.image)
+    opened {T = Unit {0}} (Ok tt) _ _ _ _ (at_centre w a) (Ok (stop_happened (counted_event w) a c.args.call c.args.image)) (stop-is w a c.args.call c.args.image)
     (c.in_ok-at_centre.ensures.centre w like) (c.in_ok-arm.ensures.happened w like)

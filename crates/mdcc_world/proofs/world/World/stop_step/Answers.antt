@@ -1,7 +1,6 @@
 use Rattle.std.proofs.Common.{◌-◌, ◌∙◌, Bool, List, Option, ap, arith, false, ℕ}
 use Rattle.std.specs.Prelude.{set}
 use Rattle.mdcc_base.specs.declared.outside.Image.{Image}
-use Rattle.mdcc_built.specs.Built.{built}
 use Rattle.mdcc_ledger.specs.Ledger.{facts_of}
 use Rattle.mdcc_simulation.specs.Limits.{log_limit}
 use Rattle.mdcc_simulation.specs.State.{is_up_at}
@@ -46,7 +45,7 @@ returns-clause-happens c w input made =
     let fact = c.args.fact.now in
     let new = c.stop_append.new.self in
     let stopped = c.in_ok-stop_append.ensures in
-    let within = unlimited (log_limit built w a fact) (c.in_ok-at_log_limit.ensures.limit w (step-measures world w a input step made)) in
+    let within = unlimited (log_limit w a fact) (c.in_ok-at_log_limit.ensures.limit w (step-measures world w a input step made)) in
     let rest = c.stop_append.ensures.rest
     ∙ ap (λ (ups : List Bool). record world { up = ups; stops = new.stops; logs = new.logs; outcomes = new.outcomes }) c.stop_append.ensures.down
     ∙ ap (λ (stops : List (Option (ℕ × Image))). record world { up = set world.up (a - 1) false; stops = stops; logs = new.logs; outcomes = new.outcomes }) c.stop_append.ensures.stops in

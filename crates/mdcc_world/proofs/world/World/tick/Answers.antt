@@ -1,5 +1,4 @@
 use Rattle.std.proofs.Common.{arith}
-use Rattle.mdcc_built.specs.Built.{built}
 use Rattle.mdcc_simulation.specs.State.{counted_event}
 use Rattle.mdcc_rules.specs.declared.node.Input.{Input}
 use Rattle.mdcc_world.proofs.Happened.{free-refusal, on-ok, opened, refused-is, residual}
@@ -12,7 +11,7 @@ returns-in_err-at_centre-clause-happens c w like =
     let a = c.args.centre in
     let fault = c.in_err-at_centre.field-0.0 in
     rw (residual c.from_residual.result fault c.from_residual.ensures.1)
-    (refused-is _ (at_centre built w a) (ticked built w a) fault (tick-is built w a) (c.in_err-at_centre.ensures.centre w like))
+    (refused-is _ (at_centre w a) (ticked w a) fault (tick-is w a) (c.in_err-at_centre.ensures.centre w like))
 
 pub tick_taken-requires : goal.tick_taken-requires
 tick_taken-requires c =
@@ -22,7 +21,7 @@ tick_taken-requires c =
 pub returns-clause-happens : goal.returns-clause-happens
 returns-clause-happens c w like =
     let a = c.args.centre in
-    opened c.tick_taken.result _ _ _ _ (at_centre built w a) (ticked built w a) (tick-is built w a)
+    opened c.tick_taken.result _ _ _ _ (at_centre w a) (ticked w a) (tick-is w a)
     (c.in_ok-at_centre.ensures.centre w like) (c.tick_taken.ensures.happens (counted_event w) Input.Tick (c.in_ok-made.ensures.made w like))
 
 pub returns-clause-few : goal.returns-clause-few
