@@ -1,6 +1,6 @@
 -- A deliver line, number by number.
-use Rattle.std.proofs.Common.{◌≡◌, ℕ, ◌∷◌, ◌||◌, Bool, true, false, List, Ok, Err, sym, subst, append-nil}
-use Rattle.std.specs.Bool.{OnFalse}
+use Rattle.std.proofs.Common.{◌≡◌, ℕ, ◌∷◌, ◌||◌, ◌++◌, ◌∙◌, Bool, true, false, List, Ok, Err, ap, sym, subst, append-nil}
+use Rattle.std.specs.Bool.{OnFalse, OnTrue}
 use Rattle.mdcc_simulation.specs.State.{Happened, World, after_lines}
 use Rattle.mdcc_simulation.specs.Left.{deliveries_before}
 use Rattle.mdcc_simulation.specs.Deliveries.{deliveries_of, delivery_of}
@@ -8,6 +8,7 @@ use Rattle.mdcc_simulation.specs.Limits.{is_limit}
 use Rattle.mdcc_language.specs.declared.lines.Line.{Line}
 use Rattle.mdcc_language.specs.declared.world.EventFault.{EventFault}
 use Rattle.mdcc_world.proofs.Happened.{fault-then, happened-then, has-come}
+use Rattle.mdcc_world.proofs.Limited.{limit-with}
 use Rattle.mdcc_world.specs.Faults.{OnRefusal, is_memory}
 use Rattle.mdcc_world.specs.Stands.{HasHappened, Happens, IsLike}
 use Rattle.mdcc_world.specs.declared.world.World.{World as TheWorld}
@@ -64,4 +65,14 @@ module _ (world : TheWorld) (before lines : List Line) (w : World) (whole left :
       refusal-and fault (λ (same : (new ≡ world) × (after ≡ lines)) (e : delivery_of has.reached.world number ≡ Err fault).
       let reached = (delivering-refused w whole left rest number has.reached fault first has.so_far e).1 in
       rw (same.0, same.1) (subst (λ (h : Happened). HasHappened world before lines h) (sym reached) has.happened))
+      kept (closed has.reached.world has.happened.like)
+
+  pub delivers-limited : (after : List Line) (number : ℕ) (rest : List ℕ) (fault : EventFault) → left ≡ number ∷ rest
+      → ((v : World) → IsLike world v → OnFalse (is_memory fault) (delivery_of v number ≡ Err fault))
+      → OnTrue (is_limit fault) (after ≡ lines)
+      → OnTrue (is_limit fault) (after ≡ before ++ (deliveries_before whole (unmoved w)).lines)
+  delivers-limited after number rest fault first closed kept =
+      limit-with fault (λ (same : after ≡ lines) (e : delivery_of has.reached.world number ≡ Err fault).
+      let reached = (delivering-refused w whole left rest number has.reached fault first has.so_far e).1 in
+      same ∙ has.happened.lines ∙ ap (λ (h : Happened). before ++ h.lines) (sym reached))
       kept (closed has.reached.world has.happened.like)

@@ -10,6 +10,7 @@ mod Firsts
 mod Gathered
 mod Happened
 mod Left
+mod Limited
 mod Limits
 mod Named
 mod Next

@@ -1,28 +1,33 @@
 -- A settle line, delivery by delivery.
-use Rattle.std.proofs.Common.{◌≡◌, ℕ, suc, ◌+◌, ◌≤◌, ◌<◌, ◌==◌, true, List, [], ◌∷◌, ◌++◌, refl, sym, ap, ◌∙◌, subst, inl, inr, Option, Some, None, Ok, Err, arith, length, nat_lt, append_assoc, nat_le}
-use Rattle.std.specs.Bool.{OnFalse}
+use Rattle.std.proofs.Common.{◌≡◌, ℕ, suc, ◌+◌, ◌≤◌, ◌<◌, ◌==◌, true, List, [], ◌∷◌, ◌++◌, refl, sym, ap, ◌∙◌, subst, inl, inr, Option, Some, None, Result, Ok, Err, append-nil, arith, length, nat_lt, append_assoc, nat_le, ◌-◌}
+use Rattle.std.specs.Bool.{OnFalse, OnTrue}
 use Rattle.std.specs.List.{list_any}
 use Rattle.std.specs.Option.{option_map}
 use Rattle.std.specs.Prelude.{IfSome, slice_get, not}
 use Rattle.std.proofs.lemmas.Bool.{and_parts, cases_Bool, leb-true, ltb-true}
 use Rattle.mdcc_mail.specs.Waiting.{before_first, first_to, waits_among}
 use Rattle.mdcc_messages.specs.Mailbox.{Sent, numbered}
-use Rattle.mdcc_simulation.specs.State.{World, after_lines, is_up_at, next_message}
+use Rattle.mdcc_simulation.specs.State.{Happened, World, after_lines, is_up_at, next_message}
 use Rattle.mdcc_simulation.specs.Events.{event_of}
-use Rattle.mdcc_simulation.specs.Deliveries.{first_waiting}
-use Rattle.mdcc_simulation.specs.Limits.{most_events}
+use Rattle.mdcc_simulation.specs.Deliveries.{delivered, first_waiting}
+use Rattle.mdcc_simulation.specs.Left.{left_of, settled_before}
+use Rattle.mdcc_simulation.specs.Limits.{is_limit, most_events}
 use Rattle.mdcc_language.specs.declared.events.Event.{Event}
 use Rattle.mdcc_language.specs.declared.lines.Line.{Line}
 use Rattle.mdcc_messages.specs.declared.messages.Envelope.{Envelope}
 use Rattle.mdcc_language.specs.declared.world.EventFault.{EventFault}
 use Rattle.mdcc_language.specs.declared.world.LimitName.{LimitName}
 use Rattle.mdcc_world.proofs.Happened.{fault-then, happened-then, has-come}
+use Rattle.mdcc_world.proofs.Limited.{limit-with}
 use Rattle.mdcc_world.proofs.Next.{message_of, next-is, with_number}
 use Rattle.mdcc_world.specs.Faults.{is_memory}
+use Rattle.mdcc_world.specs.Limited.{lines_told, unless_full}
 use Rattle.mdcc_world.specs.Settling.{AreAsked, EndsAfter, HasSettled, IsNext, is_named}
 use Rattle.mdcc_world.specs.Stands.{HasHappened, Happens, IsLike}
 use Rattle.mdcc_world.specs.declared.world.World.{World as TheWorld}
-use Rattle.mdcc_worlds.proofs.Settles.{settle-closed, settling-begins, settling-breaks, settling-ends, settling-goes_on, settling-stops}
+use Rattle.mdcc_worlds.proofs.Events.{delivered-is}
+use Rattle.mdcc_worlds.proofs.Numbers.{waiting-numbered}
+use Rattle.mdcc_worlds.proofs.Settles.{settle-closed, settling-begins, settling-breaks, settling-ends, settling-goes_on, settling-stops, waiting-events}
 use Rattle.mdcc_worlds.specs.Delivering.{at_message, delivery, message_by}
 use Rattle.mdcc_worlds.specs.Happening.{at_limit}
 use Rattle.mdcc_worlds.specs.Settling.{settle_told}
@@ -112,6 +117,22 @@ clear-next w listed centres (Some number) are first few =
     let clear : message_by w number (Some there.message) ≡ Ok tt = rw up.0 (open-limit w few) in
     ap (λ (o : Option Sent). message_by w number o) there.there ∙ clear
 
+-- ---- the deliveries before one that is refused
+
+-- what comes of the message that waits first is what comes of its number
+waiting-is : (w : World) (listed : List ℕ) (next : ℕ × Envelope) → first_waiting w listed 1 w.sent ≡ Some next → delivered w next.0 next.1 ≡ delivery w next.0
+waiting-is w listed next e =
+    let is = waiting-numbered w listed w.sent next e in
+    ap (λ (envelope : Envelope). delivered w next.0 envelope) (sym is.envelope) ∙ delivered-is w next.0 is.sent is.there
+
+before-by : (left : ℕ) (listed : List ℕ) (h after : Happened) (next : ℕ × Envelope) → first_waiting h.world listed 1 h.world.sent ≡ Some next
+    → delivered h.world next.0 next.1 ≡ Ok after → settled_before (suc left) listed h ≡ settled_before left listed (after_lines h.lines after)
+before-by left listed h after next e f = rw (e, f, settled_before) refl
+
+before-refused : (left : ℕ) (listed : List ℕ) (h : Happened) (next : ℕ × Envelope) (fault : EventFault) → first_waiting h.world listed 1 h.world.sent ≡ Some next
+    → delivered h.world next.0 next.1 ≡ Err fault → settled_before (suc left) listed h ≡ h
+before-refused left listed h next fault e f = rw (e, f, settled_before) refl
+
 -- ---- the settle
 
 module _ (world : TheWorld) (before lines : List Line) (w : World) (listed : List ℕ) (deliveries : ℕ) (has : HasSettled world before lines w listed deliveries) where
@@ -127,6 +148,12 @@ module _ (world : TheWorld) (before lines : List Line) (w : World) (listed : Lis
         reached = after_lines has.reached.lines come.h;
         happened = happened-then world new before lines after has.reached come.h has.happened come.happened;
         so_far = settling-goes_on w listed has.reached come.h deliveries waits.next has.so_far waits.waits (omega (events, few, arith)) is;
+        earlier =
+            let counted = waiting-events has.reached.world listed waits.next come.h waits.waits is in
+            let more : most_events - has.reached.world.events ≡ suc (most_events - come.h.world.events) = omega (counted, events, few, arith) in
+            has.earlier
+            ∙ ap (λ (n : ℕ). settled_before n listed has.reached) more
+            ∙ before-by (most_events - come.h.world.events) listed has.reached come.h waits.next waits.waits (waiting-is has.reached.world listed waits.next waits.waits ∙ is);
       }
 
   pub settle-breaks : (number : ℕ) (fault : EventFault) → IsNext has.reached.world listed (Some number) → world.events < 100000 → w.events < 100000
@@ -138,6 +165,30 @@ module _ (world : TheWorld) (before lines : List Line) (w : World) (listed : Lis
       fault-then (is_memory fault) (λ (e : delivery has.reached.world number ≡ Err fault).
       settling-breaks w listed has.reached deliveries waits.next fault has.so_far waits.waits (omega (events, few, arith)) begun
       (ap (λ (n : ℕ). delivery has.reached.world n) waits.numbers ∙ e)) refused
+
+  -- the lines where the next delivery would pass a limit
+  pub settle-limited : (after : List Line) (number : ℕ) (fault : EventFault) → IsNext has.reached.world listed (Some number) → world.events < 100000
+      → OnFalse (is_memory fault) (delivery has.reached.world number ≡ Err fault) → OnTrue (is_limit fault) (after ≡ lines)
+      → OnTrue (is_limit fault) (after ≡ before ++ (left_of w (Event.Settle listed)).lines)
+  settle-limited after number fault next few refused kept =
+      let waits = some-waits has.reached.world listed number next in
+      let events = has.happened.like.records.events in
+      let left = most_events - (has.reached.world.events + 1) in
+      let more : most_events - has.reached.world.events ≡ suc left = omega (events, few, arith) in
+      limit-with fault (λ (same : after ≡ lines) (e : delivery has.reached.world number ≡ Err fault).
+      let is : delivery has.reached.world waits.next.0 ≡ Err fault = ap (λ (n : ℕ). delivery has.reached.world n) waits.numbers ∙ e in
+      let reached = has.earlier
+      ∙ ap (λ (n : ℕ). settled_before n listed has.reached) more
+      ∙ before-refused left listed has.reached waits.next fault waits.waits (waiting-is has.reached.world listed waits.next waits.waits ∙ is) in
+      same ∙ has.happened.lines ∙ ap (λ (h : Happened). before ++ h.lines) (sym reached))
+      kept refused
+
+  -- and where there were as many events as there may be
+  pub settle-full : 100000 ≤ world.events → lines ≡ before ++ (left_of w (Event.Settle listed)).lines
+  settle-full full =
+      let events = has.happened.like.records.events in
+      let none : most_events - has.reached.world.events ≡ 0 = omega (events, full, arith) in
+      has.happened.lines ∙ ap (λ (h : Happened). before ++ h.lines) (sym (has.earlier ∙ ap (λ (n : ℕ). settled_before n listed has.reached) none))
 
   pub settle-ends : (new : TheWorld) → new ≡ world → IsNext has.reached.world listed None → w.events < 100000 → EndsAfter new before lines w listed deliveries
   settle-ends new same next few = record {
@@ -160,6 +211,7 @@ settle-begins world before lines w listed happened = record {
   reached = settle_told w listed;
   happened = happened;
   so_far = settling-begins w listed;
+  earlier = refl;
 }
 
 -- the line of the end
@@ -188,3 +240,13 @@ settle-at_limit w listed fault closed = elim (cases_Bool (nat_le most_events w.e
 pub ends-after : (world : TheWorld) (before lines : List Line) (w : World) (listed : List ℕ) (deliveries all : ℕ) → deliveries ≡ all
     → EndsAfter world before lines w listed deliveries → EndsAfter world before lines w listed all
 ends-after world before lines w listed deliveries all same ends = subst (λ (n : ℕ). EndsAfter world before lines w listed n) same ends
+
+-- the lines of a settle line that would pass the limit of events by itself
+pub told-none : (w : World) (listed : List ℕ) (fault : EventFault) (lines after : List Line) → Err fault ≡ at_limit w → after ≡ lines
+    → after ≡ lines ++ lines_told w (Event.Settle listed)
+told-none w listed fault lines after closed same =
+    same ∙ sym (append-nil lines) ∙ ap (λ (r : Result (Unit {0}) EventFault). lines ++ unless_full r (left_of w (Event.Settle listed)).lines) closed
+
+-- and of another one
+pub told-some : (w : World) (listed : List ℕ) → Ok tt ≡ at_limit w → (left_of w (Event.Settle listed)).lines ≡ lines_told w (Event.Settle listed)
+told-some w listed may = ap (λ (r : Result (Unit {0}) EventFault). unless_full r (left_of w (Event.Settle listed)).lines) may

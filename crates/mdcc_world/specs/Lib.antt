@@ -1,6 +1,7 @@
 pub mod Disks
 pub mod Faults
 pub mod Letting
+pub mod Limited
 pub mod Making
 pub mod Nodes
 pub mod Settling

@@ -2,17 +2,19 @@
 use Rattle.std.specs.Bool.{OnFalse}
 use Rattle.std.specs.List.{list_any}
 use Rattle.std.specs.Option.{option_map}
-use Rattle.std.specs.Prelude.{◌≡◌, ◌==◌, ◌&&◌, ◌||◌, Bool, Err, List, Ok, Option, Result, length, ℕ}
-use Rattle.mdcc_simulation.specs.State.{Happened, World, is_up_at}
+use Rattle.std.specs.Prelude.{◌≡◌, ◌-◌, ◌==◌, ◌&&◌, ◌||◌, Bool, Err, List, Ok, Option, Result, length, ℕ}
+use Rattle.mdcc_simulation.specs.State.{Happened, World, counted_event, is_up_at}
 use Rattle.mdcc_simulation.specs.Deliveries.{first_waiting}
 use Rattle.mdcc_simulation.specs.Events.{event_of}
+use Rattle.mdcc_simulation.specs.Left.{settled_before}
+use Rattle.mdcc_simulation.specs.Limits.{most_events}
 use Rattle.mdcc_language.specs.declared.events.Event.{Event}
 use Rattle.mdcc_language.specs.declared.lines.Line.{Line}
 use Rattle.mdcc_language.specs.declared.world.EventFault.{EventFault}
 use Rattle.mdcc_world.specs.Faults.{is_memory}
 use Rattle.mdcc_world.specs.Stands.{HasHappened}
 use Rattle.mdcc_world.specs.declared.world.World.{World as TheWorld}
-use Rattle.mdcc_worlds.specs.Settling.{IsSettling, settled}
+use Rattle.mdcc_worlds.specs.Settling.{IsSettling, settle_told, settled}
 
 -- whether a centre is listed, where some are
 abbrev pub is_named : List ℕ → ℕ → Bool
@@ -28,6 +30,7 @@ pub record HasSettled (world : TheWorld) (before after : List Line) (w : World) 
   pub reached : Happened
   pub happened : HasHappened world before after reached
   pub so_far : IsSettling w listed reached deliveries
+  pub earlier : settled_before (most_events - (counted_event w).events) listed (settle_told w listed) ≡ settled_before (most_events - reached.world.events) listed reached
 
 -- the number is that of the message that a settle delivers next, where one waits
 abbrev pub IsNext : World → List ℕ → Option ℕ → Type 0

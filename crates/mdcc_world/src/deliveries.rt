@@ -1,8 +1,9 @@
 //! Messages come to their centres.
-ghost use Rattle.std.specs.Prelude.{◌≡◌, ◌≤◌, ◌<◌, ◌+◌, IfErr, Ok, OnOk, true};
+ghost use Rattle.std.specs.Prelude.{◌≡◌, ◌≤◌, ◌<◌, ◌+◌, ◌++◌, IfErr, Ok, OnOk, true};
 ghost use Rattle.mdcc_simulation.specs.State.{World as AWorld};
 ghost use Rattle.mdcc_simulation.specs.Left.{deliveries_before};
 ghost use Rattle.mdcc_simulation.specs.Deliveries.{deliveries_of, delivery_of};
+ghost use Rattle.mdcc_world.specs.Limited.{OnLimit};
 ghost use Rattle.mdcc_world.specs.Faults.{OnRefusal, is_free};
 ghost use Rattle.mdcc_world.specs.Stands.{Happens, HasHappened, IsLike, IsLikeSome};
 ghost use Rattle.mdcc_worlds.specs.Delivering.{at_message, delivery, delivery_told, unmoved};
@@ -28,6 +29,7 @@ impl World {
             → Happens self.new lines.old lines.new result (delivery w number) }
         ensures free { IfErr result (λ fault. is_free fault ≡ true) }
         ensures few { self.new.events ≤ self.old.events + 1 }
+        ensures limited { OnLimit result (lines.new ≡ lines.old) }
     {
         let mut step = blank(self.alloc);
         let (centre, made) = self.message_made(number, &mut step)?;
@@ -68,6 +70,7 @@ impl World {
             → Happens self.new lines.old lines.new result (delivery_told w number) }
         ensures free { IfErr result (λ fault. is_free fault ≡ true) }
         ensures few { OnOk result (self.new.events ≤ 100000) }
+        ensures limited { OnLimit result (lines.new ≡ lines.old) }
     {
         let mut told = HeapList::new(self.alloc);
         self.delivered(number, &mut told)?;
@@ -82,6 +85,7 @@ impl World {
             → Happens self.new lines.old lines.new result (delivery_of w number) }
         ensures kept { OnRefusal result ((self.new ≡ self.old) × (lines.new ≡ lines.old)) }
         ensures few { OnOk result (self.new.events ≤ 100000) }
+        ensures limited { OnLimit result (lines.new ≡ lines.old) }
     {
         self.at_message(number)?;
         self.deliver_told(number, lines)
@@ -101,6 +105,8 @@ impl World {
         ensures left { (w : AWorld) → IsLike self.old w
             → OnRefusal result (HasHappened self.new lines.old lines.new (deliveries_before numbers.now (unmoved w))) }
         ensures few_left { OnRefusal result (self.new.events ≤ 100000) }
+        ensures limited { (w : AWorld) → IsLike self.old w
+            → OnLimit result (lines.new ≡ lines.old ++ (deliveries_before numbers.now (unmoved w)).lines) }
     {
         for number in numbers {
             self.deliver_at(*number, lines)?;

@@ -4,6 +4,7 @@ ghost use Rattle.std.specs.Prelude.{◌≡◌, ◌≤◌, ◌++◌, Err, IfErr, 
 ghost use Rattle.mdcc_simulation.specs.State.{World as AWorld};
 ghost use Rattle.mdcc_simulation.specs.Events.{event_of};
 ghost use Rattle.mdcc_simulation.specs.Left.{left_of};
+ghost use Rattle.mdcc_world.specs.Limited.{OnLimit, lines_told};
 ghost use Rattle.mdcc_world.specs.Faults.{OnRefusal, is_memory};
 ghost use Rattle.mdcc_world.specs.Stands.{Happens, HasHappened, IsLike, IsLikeSome, Stands};
 ghost use Rattle.mdcc_language.specs.declared.lines.Line.{Line as ALine};
@@ -24,6 +25,8 @@ impl World {
         ensures left { (w : AWorld) → IsLike self.old w
             → OnRefusal result (HasHappened self.new lines.old lines.new (left_of w event.now)) }
         ensures few_left { OnRefusal result (self.new.events ≤ 100000) }
+        ensures limited { (w : AWorld) → IsLike self.old w
+            → OnLimit result (lines.new ≡ lines.old ++ lines_told w event.now) }
     {
         match event {
             Event::Read(centre, key) => self.read(*centre, key, lines),
@@ -40,7 +43,7 @@ impl World {
     /// One event: its lines stand after the others. Where it is refused nothing has changed, but of
     /// a deliver line the deliveries before the refused one stand, and so do their lines. Where
     /// there was no memory, or a limit was reached, the world must be dropped; the lines of earlier
-    /// events stand.
+    /// events stand, and at a limit those of the earlier deliveries of this one.
     pub fn event(&mut self, event: &Event, lines: &mut HeapList<Line>) -> Result<(), EventFault>
         requires known { (w : AWorld) × Stands self.old w }
         ensures ok { (w : AWorld) → Stands self.old w
@@ -51,6 +54,8 @@ impl World {
             → OnRefusal result (HasHappened self.new lines.old lines.new (left_of w event.now)) }
         ensures stands { (w : AWorld) → Stands self.old w
             → OnRefusal result (Stands self.new (left_of w event.now).world) }
+        ensures limited { (w : AWorld) → Stands self.old w
+            → OnLimit result (lines.new ≡ lines.old ++ lines_told w event.now) }
         ensures earlier { (more : List ALine) × (lines.new ≡ lines.old ++ more) }
     {
         let mut told = HeapList::new(self.alloc);

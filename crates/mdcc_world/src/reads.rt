@@ -5,6 +5,7 @@ ghost use Rattle.mdcc_simulation.specs.State.{World as AWorld, counted_event, is
 ghost use Rattle.mdcc_simulation.specs.Events.{event_of};
 ghost use Rattle.mdcc_simulation.specs.Clients.{known_of, read_happened};
 ghost use Rattle.mdcc_language.specs.declared.events.Event.{Event as AEvent};
+ghost use Rattle.mdcc_world.specs.Limited.{OnLimit};
 ghost use Rattle.mdcc_world.specs.Faults.{OnRefusal};
 ghost use Rattle.mdcc_world.specs.Stands.{Happens, HasHappened, IsLike, IsLikeSome};
 
@@ -63,6 +64,7 @@ impl World {
             → Happens self.new lines.old lines.new result (event_of w (AEvent.Read centre key.now)) }
         ensures few { OnOk result (self.new.events ≤ 100000) }
         ensures kept { OnRefusal result ((self.new ≡ self.old) × (lines.new ≡ lines.old)) }
+        ensures limited { OnLimit result (lines.new ≡ lines.old) }
     {
         self.at_centre(centre)?;
         self.read_at(centre, key, lines)?;

@@ -1,10 +1,12 @@
 //! Settle lines: messages are delivered until none waits.
 ghost use Rattle.std.specs.List.{list_any};
-ghost use Rattle.std.specs.Prelude.{◌≡◌, ◌≤◌, ◌<◌, ◌==◌, ◌&&◌, ◌-◌, IfErr, IfOk, IfSome, List, Ok, OnOk, false, get_or, true};
+ghost use Rattle.std.specs.Prelude.{◌≡◌, ◌≤◌, ◌<◌, ◌==◌, ◌&&◌, ◌-◌, ◌++◌, IfErr, IfOk, IfSome, List, Ok, OnOk, false, get_or, true};
 ghost use Rattle.mdcc_simulation.specs.State.{World as AWorld};
 ghost use Rattle.mdcc_simulation.specs.Events.{event_of};
 ghost use Rattle.mdcc_language.specs.declared.events.Event.{Event as AEvent};
 ghost use Rattle.mdcc_language.specs.declared.lines.Line.{Line as ALine};
+ghost use Rattle.mdcc_simulation.specs.Left.{left_of};
+ghost use Rattle.mdcc_world.specs.Limited.{OnLimit, lines_told};
 ghost use Rattle.mdcc_world.specs.Faults.{is_free};
 ghost use Rattle.mdcc_world.specs.Settling.{AreAsked, IsNext, SettlesTo, is_named};
 ghost use Rattle.mdcc_world.specs.Stands.{Happens, HasHappened, IsLike, IsLikeSome};
@@ -77,6 +79,9 @@ impl World {
             → SettlesTo self.new before lines.new w listed.now result }
         ensures free { IfErr result (λ fault. is_free fault ≡ true) }
         ensures few { OnOk result (self.new.events ≤ 100000) }
+        ensures limited { (w : AWorld) (before : List ALine)
+            → w.events < 100000 → HasHappened self.old before lines.old (settle_told w listed.now)
+            → OnLimit result (lines.new ≡ before ++ (left_of w (AEvent.Settle listed.now)).lines) }
     {
         let left = MOST_EVENTS - self.events;
         for deliveries in 0..left {
@@ -117,6 +122,9 @@ impl World {
             → Happens self.new before lines.new result (event_of w (AEvent.Settle listed.now)) }
         ensures free { IfErr result (λ fault. is_free fault ≡ true) }
         ensures few { OnOk result (self.new.events ≤ 100000) }
+        ensures limited { (w : AWorld) (before : List ALine)
+            → w.events < 100000 → HasHappened self.old before lines.old (settle_told w listed.now)
+            → OnLimit result (lines.new ≡ before ++ (left_of w (AEvent.Settle listed.now)).lines) }
     {
         let deliveries = self.settle_for(listed, lines)?;
         lines.push(Line::Settled(deliveries, self.next_message()))?;
@@ -134,6 +142,8 @@ impl World {
             → Happens self.new lines.old lines.new result (event_of w (AEvent.Settle listed.now)) }
         ensures few { OnOk result (self.new.events ≤ 100000) }
         ensures free { IfErr result (λ fault. is_free fault ≡ true) }
+        ensures limited { (w : AWorld) → IsLike self.old w
+            → OnLimit result (lines.new ≡ lines.old ++ lines_told w (AEvent.Settle listed.now)) }
     {
         self.at_limit()?;
         self.settle_begun(listed, lines)?;

@@ -14,6 +14,7 @@ ghost use Rattle.mdcc_simulation.specs.Stepping.{is_frame_kept, step_at};
 ghost use Rattle.mdcc_messages.specs.Mailbox.{unsent};
 ghost use Rattle.mdcc_messages.specs.declared.facts.Fact.{Fact as AFact};
 ghost use Rattle.mdcc_rules.specs.declared.node.Input.{Input as AInput};
+ghost use Rattle.mdcc_world.specs.Limited.{OnLimit};
 ghost use Rattle.mdcc_world.specs.Faults.{is_free};
 ghost use Rattle.mdcc_world.specs.Letting.{Measures, IsFormed, IsFramed, MayAppend, facts_with};
 ghost use Rattle.mdcc_node.specs.Planning.{written};
@@ -130,6 +131,7 @@ impl World {
             → Happens self.new lines.old lines.new result (input_limited w centre (step_at w centre input)) }
         ensures free { IfErr result (λ fault. is_free fault ≡ true) }
         ensures events { self.new.events ≡ self.old.events }
+        ensures limited { OnLimit result (lines.new ≡ lines.old) }
     {
         self.at_limits(centre, &step.fact, &outgoing)?;
         self.let_out(centre, &step.fact, outgoing, lines)?;
@@ -148,6 +150,7 @@ impl World {
             → Happens self.new lines.old lines.new result (input_limited w centre (step_at w centre input)) }
         ensures free { IfErr result (λ fault. is_free fault ≡ true) }
         ensures events { self.new.events ≡ self.old.events }
+        ensures limited { OnLimit result (lines.new ≡ lines.old) }
     {
         let outgoing = Outgoing::write(self.alloc, step.sends.as_slice())?;
         self.let_written(centre, step, outgoing, lines)
@@ -197,6 +200,7 @@ impl World {
             → Happens self.new lines.old lines.new result (input_limited w centre (step_at w centre input)) }
         ensures free { IfErr result (λ fault. is_free fault ≡ true) }
         ensures events { self.new.events ≡ self.old.events }
+        ensures limited { OnLimit result (lines.new ≡ lines.old) }
     {
         self.at_log_limit(centre, fact)?;
         self.stop_append(centre, fact, stop.0, stop.1, lines)?;
@@ -217,6 +221,7 @@ impl World {
             → Happens self.new lines.old lines.new result (input_limited w centre (step_at w centre input)) }
         ensures free { IfErr result (λ fault. is_free fault ≡ true) }
         ensures events { self.new.events ≡ self.old.events }
+        ensures limited { OnLimit result (lines.new ≡ lines.old) }
     {
         match self.stop_at(centre) {
             Some(stop) => self.stop_step(centre, step, fact, stop, lines),
@@ -236,6 +241,7 @@ impl World {
             → Happens self.new lines.old lines.new result (input_limited w centre (step_at w centre input)) }
         ensures free { IfErr result (λ fault. is_free fault ≡ true) }
         ensures events { self.new.events ≡ self.old.events }
+        ensures limited { OnLimit result (lines.new ≡ lines.old) }
     {
         match &step.fact {
             Some(fact) => self.take_fact(centre, step, fact, lines),
@@ -254,6 +260,7 @@ impl World {
             → Happens self.new lines.old lines.new result (input_limited w centre (step_at w centre input)) }
         ensures free { IfErr result (λ fault. is_free fault ≡ true) }
         ensures events { self.new.events ≡ self.old.events }
+        ensures limited { OnLimit result (lines.new ≡ lines.old) }
     {
         push_dropped(lines, centre, fault)?;
         Ok(())
@@ -272,6 +279,7 @@ impl World {
             → Happens self.new lines.old lines.new result (input_limited w centre (step_at w centre input)) }
         ensures free { IfErr result (λ fault. is_free fault ≡ true) }
         ensures events { self.new.events ≡ self.old.events }
+        ensures limited { OnLimit result (lines.new ≡ lines.old) }
     {
         match made {
             Ok(()) => self.take(centre, step, lines),

@@ -4,6 +4,7 @@ ghost use Rattle.mdcc_language.specs.declared.events.Event.{Event as AEvent};
 ghost use Rattle.mdcc_simulation.specs.Centres.{stop_happened};
 ghost use Rattle.mdcc_simulation.specs.Events.{event_of};
 ghost use Rattle.mdcc_simulation.specs.State.{World as AWorld, counted_event, is_up_at};
+ghost use Rattle.mdcc_world.specs.Limited.{OnLimit};
 ghost use Rattle.mdcc_world.specs.Faults.{OnRefusal};
 ghost use Rattle.mdcc_world.specs.Stands.{Happens, HasHappened, IsLike, IsLikeSome};
 
@@ -53,6 +54,7 @@ impl World {
             → Happens self.new lines.old lines.new result (event_of w (AEvent.Stop centre call image)) }
         ensures few { OnOk result (self.new.events ≤ 100000) }
         ensures kept { OnRefusal result ((self.new ≡ self.old) × (lines.new ≡ lines.old)) }
+        ensures limited { OnLimit result (lines.new ≡ lines.old) }
     {
         self.at_centre(centre)?;
         self.arm(centre, call, image, lines)?;

@@ -1,7 +1,7 @@
 use Rattle.std.proofs.Common.{◌≡◌, ◌+◌, ◌∷◌, ◌<◌, Err, arith, drop, get_or, length}
 use Rattle.std.proofs.lemmas.List.{drop_more}
 use Rattle.mdcc_simulation.specs.Deliveries.{delivery_of}
-use Rattle.mdcc_world.proofs.Delivering.{delivers-begin, delivers-go_on, delivers-left, delivers-refused}
+use Rattle.mdcc_world.proofs.Delivering.{delivers-begin, delivers-go_on, delivers-left, delivers-limited, delivers-refused}
 use Rattle.mdcc_world.proofs.Happened.{has-come, residual}
 use Rattle.mdcc_world.proofs.Left.{left-few}
 use Rattle.mdcc_world.proofs.world.World.deliver.Goals as goal
@@ -36,6 +36,18 @@ returns-in_err-deliver_at-clause-left c w like =
     rw (residual c.from_residual.result fault c.from_residual.ensures.1)
     (delivers-left at.self c.args.lines.now at.lines w numbers (drop i numbers) (at.invariant.has w like) c.deliver_at.new.self c.deliver_at.new.lines (get_or numbers i 0)
     (drop (i + 1) numbers) fault first c.in_err-deliver_at.ensures.happens c.in_err-deliver_at.ensures.kept)
+
+pub returns-in_err-deliver_at-clause-limited : goal.returns-in_err-deliver_at-clause-limited
+returns-in_err-deliver_at-clause-limited c w like =
+    let at = c.loop-number in
+    let numbers = c.args.numbers.now in
+    let i = at.number-index in
+    let within : i < length numbers = omega arith in
+    let first : drop i numbers ≡ get_or numbers i 0 ∷ drop (i + 1) numbers = drop_more numbers i 0 within in
+    let fault = c.in_err-deliver_at.field-0.0 in
+    rw (residual c.from_residual.result fault c.from_residual.ensures.1)
+    (delivers-limited at.self c.args.lines.now at.lines w numbers (drop i numbers) (at.invariant.has w like) c.deliver_at.new.lines (get_or numbers i 0)
+    (drop (i + 1) numbers) fault first c.in_err-deliver_at.ensures.happens c.in_err-deliver_at.ensures.limited)
 
 pub returns-in_err-deliver_at-clause-few_left : goal.returns-in_err-deliver_at-clause-few_left
 returns-in_err-deliver_at-clause-few_left c =

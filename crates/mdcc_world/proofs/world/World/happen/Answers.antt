@@ -1,4 +1,5 @@
 use Rattle.mdcc_world.proofs.Left.{left-few, left-unmoved}
+use Rattle.mdcc_world.proofs.Limited.{limited-none}
 use Rattle.mdcc_world.proofs.world.World.happen.Goals as goal
 
 pub returns-in-Read-clause-happens : goal.returns-in-Read-clause-happens
@@ -60,3 +61,21 @@ returns-in-Stop-clause-left c w like =
 
 pub returns-in-Stop-clause-few_left : goal.returns-in-Stop-clause-few_left
 returns-in-Stop-clause-few_left c = left-few c.stop.result c.args.self.now c.stop.new.self c.args.lines.now c.stop.new.lines c.requires.few c.stop.ensures.kept
+
+pub returns-in-Read-clause-limited : goal.returns-in-Read-clause-limited
+returns-in-Read-clause-limited c w like = rw c.in-Read.is (limited-none c.read.result c.args.lines.now c.read.new.lines c.read.ensures.limited)
+
+pub returns-in-Begin-clause-limited : goal.returns-in-Begin-clause-limited
+returns-in-Begin-clause-limited c w like = rw c.in-Begin.is (limited-none c.begin.result c.args.lines.now c.begin.new.lines c.begin.ensures.limited)
+
+pub returns-in-Tick-clause-limited : goal.returns-in-Tick-clause-limited
+returns-in-Tick-clause-limited c w like = rw c.in-Tick.is (limited-none c.tick.result c.args.lines.now c.tick.new.lines c.tick.ensures.limited)
+
+pub returns-in-Crash-clause-limited : goal.returns-in-Crash-clause-limited
+returns-in-Crash-clause-limited c w like = rw c.in-Crash.is (limited-none c.crash.result c.args.lines.now c.crash.new.lines c.crash.ensures.limited)
+
+pub returns-in-Restart-clause-limited : goal.returns-in-Restart-clause-limited
+returns-in-Restart-clause-limited c w like = rw c.in-Restart.is (limited-none c.restart.result c.args.lines.now c.restart.new.lines c.restart.ensures.limited)
+
+pub returns-in-Stop-clause-limited : goal.returns-in-Stop-clause-limited
+returns-in-Stop-clause-limited c w like = rw c.in-Stop.is (limited-none c.stop.result c.args.lines.now c.stop.new.lines c.stop.ensures.limited)

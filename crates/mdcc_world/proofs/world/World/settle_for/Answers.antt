@@ -1,7 +1,7 @@
 use Rattle.std.proofs.Common.{◌≡◌, ◌+◌, ◌-◌, ◌<◌, ◌≤◌, Option, arith, subst, sym, ℕ}
 use Rattle.mdcc_simulation.specs.State.{World}
 use Rattle.mdcc_world.proofs.Happened.{has-come, residual}
-use Rattle.mdcc_world.proofs.Settled.{ends-after, settle-breaks, settle-ends, settle-goes_on, settle-stops}
+use Rattle.mdcc_world.proofs.Settled.{ends-after, settle-breaks, settle-ends, settle-full, settle-goes_on, settle-limited, settle-stops}
 use Rattle.mdcc_world.specs.Settling.{IsNext}
 use Rattle.mdcc_world.specs.Stands.{IsLike}
 use Rattle.mdcc_world.specs.declared.world.World.{World as TheWorld}
@@ -71,3 +71,26 @@ returns-in-None-2-clause-ends c w before few happened =
     let next = subst (λ (o : Option ℕ). IsNext has.reached.world listed o) c.in-None-2.is (c.in_ok-next_asked.ensures.next has.reached.world has.happened.like) in
     ends-after _ before at.lines w listed at.deliveries _ all
     (settle-ends at.self before at.lines w listed at.deliveries has _ c.in_ok-next_asked.ensures.kept next few)
+
+pub returns-in_err-delivered-in-Some-clause-limited : goal.returns-in_err-delivered-in-Some-clause-limited
+returns-in_err-delivered-in-Some-clause-limited c w before few happened =
+    let at = c.loop-deliveries in
+    let listed = c.args.listed.now in
+    let has = at.invariant.has w before few happened in
+    let below : at.self.events < 100000 = (let events = at.invariant.events in omega (events, arith)) in
+    let fault = c.in_err-delivered-in-Some.field-0.0 in
+    let next = subst (λ (o : Option ℕ). IsNext has.reached.world listed o) c.in-Some.is (c.in_ok-number.ensures.next has.reached.world has.happened.like) in
+    let here = subst (λ (x : TheWorld). IsLike x has.reached.world) (sym c.in_ok-number.ensures.kept) has.happened.like in
+    rw (residual c.from_residual-in_err-delivered-in-Some.result fault c.from_residual-in_err-delivered-in-Some.ensures.1)
+    (settle-limited at.self before at.lines w listed at.deliveries has c.delivered.new.lines c.in-Some.number fault next below
+    (c.in_err-delivered-in-Some.ensures.happens has.reached.world here) c.in_err-delivered-in-Some.ensures.limited)
+
+pub returns-in-Some-2-clause-limited : goal.returns-in-Some-2-clause-limited
+returns-in-Some-2-clause-limited c w before few happened =
+    let at = c.loop-deliveries in
+    let listed = c.args.listed.now in
+    let has = at.invariant.has w before few happened in
+    let reached = has.happened.like.records.events in
+    let count = has.so_far.count in
+    let first = happened.like.records.events in
+    settle-full at.self before at.lines w listed at.deliveries has (omega (reached, count, first, arith))
