@@ -1,0 +1,4 @@
+pub mod Handed
+pub mod Messages
+pub mod Recorded
+pub mod Sent

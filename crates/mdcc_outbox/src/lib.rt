@@ -1,0 +1,12 @@
+//! What a server sends and prints, and what it keeps of its client.
+#![tactic(auto)]
+
+pub mod clients;
+pub mod fault;
+pub mod lines;
+pub mod sending;
+
+pub use clients::Clients;
+pub use fault::{PrintFault, SendFault};
+pub use lines::print;
+pub use sending::{Sender, answer_to};

@@ -1,0 +1,11 @@
+pub mod Acts
+pub mod Arrivals
+pub mod Clients
+pub mod Laws
+pub mod Lines
+pub mod Runs
+pub mod Sending
+pub mod Servers
+pub mod Sites
+pub mod Steps
+pub mod Turns

@@ -1,0 +1,72 @@
+-- One turn of a centre that is served.
+use Rattle.std.specs.Prelude.{Bool, List, None, Option, Some, [], if◌then◌else◌, is_none, ℕ, ◌&&◌, ◌+◌, ◌∷◌}
+use Rattle.mdcc_config.specs.declared.config.Config.{Config}
+use Rattle.mdcc_frag.specs.Joining.{Step, join}
+use Rattle.mdcc_messages.specs.declared.messages.Envelope.{Envelope}
+use Rattle.mdcc_messages.specs.declared.messages.Message.{Message}
+use Rattle.mdcc_rules.specs.declared.node.Input.{Input}
+use Rattle.mdcc_runs.specs.Acts.{Act}
+use Rattle.mdcc_runs.specs.Arrivals.{Arrival, arrival_of, is_for_client}
+use Rattle.mdcc_runs.specs.Sites.{Doing, Site, after_acts, and_then, idle}
+use Rattle.mdcc_runs.specs.Steps.{begin_taken, dropped, input_taken, read_taken}
+
+-- what its two receives gave: at its own endpoint, and at its client's
+pub record Given : Type 0 where
+  pub own : Option (List ℕ)
+  pub asked : Option (List ℕ)
+
+-- ---- at its own endpoint
+
+abbrev pub own_message : Config → Site → Envelope → Doing
+own_message config site envelope = if is_for_client envelope.message then dropped site else input_taken config site (Input.Message envelope)
+
+abbrev pub own_arrived : Config → Site → Arrival → Doing
+own_arrived config site Arrival.Piece = idle site
+own_arrived config site Arrival.Refused = dropped site
+own_arrived config site (Arrival.Whole envelope) = own_message config site envelope
+
+abbrev pub own_joined : Config → Site → Step → Doing
+own_joined config site joined = own_arrived config (record site { own = joined.entries }) (arrival_of joined.answer)
+
+abbrev pub own_taken : Config → Site → Option (List ℕ) → Doing
+own_taken config site None = idle site
+own_taken config site (Some bytes) = own_joined config site (join bytes site.own)
+
+abbrev pub own_received : Config → Site → Option (List ℕ) → Doing
+own_received config site gave = after_acts (Act.Receive site.centre gave ∷ []) (own_taken config site gave)
+
+-- ---- at its client's
+
+-- whatever endpoints the message names
+abbrev pub asked_message : Config → Site → Message → Doing
+asked_message config site (Message.ClientRead serial key) = read_taken config site serial key
+asked_message config site (Message.ClientBegin serial parts) = begin_taken config site serial parts
+asked_message config site _ = dropped site
+
+abbrev pub asked_arrived : Config → Site → Arrival → Doing
+asked_arrived config site Arrival.Piece = idle site
+asked_arrived config site Arrival.Refused = dropped site
+asked_arrived config site (Arrival.Whole envelope) = asked_message config site envelope.message
+
+abbrev pub asked_joined : Config → Site → Step → Doing
+asked_joined config site joined = asked_arrived config (record site { asked = joined.entries }) (arrival_of joined.answer)
+
+abbrev pub asked_taken : Config → Site → Option (List ℕ) → Doing
+asked_taken config site None = idle site
+asked_taken config site (Some bytes) = asked_joined config site (join bytes site.asked)
+
+abbrev pub asked_received : Config → Site → Option (List ℕ) → Doing
+asked_received config site gave = after_acts (Act.Receive (site.centre + 16) gave ∷ []) (asked_taken config site gave)
+
+-- ---- both, and a tick where neither gave anything
+
+abbrev pub is_silent : Given → Bool
+is_silent given = is_none given.own && is_none given.asked
+
+abbrev pub ticked : Config → Given → Site → Doing
+ticked config given site = if is_silent given then input_taken config site Input.Tick else idle site
+
+-- What came at its own endpoint is taken, and what it sends is sent, before it receives at its client's.
+abbrev pub turn_of : Config → Site → Given → Doing
+turn_of config site given =
+    and_then (and_then (own_received config site given.own) (λ next. asked_received config next given.asked)) (ticked config given)
