@@ -97,7 +97,7 @@ module _ (tears : ℕ → Type 0) (never : tears 1 → ⊥) where
   closed_no_log bytes c torn (inr change) =
       second_no_log c (ap is_second change.is ∙ ap (λ (l : List ℕ). pointwise nat_eq l area_mark) (gate_mark change.becomes bytes (omega (arith, torn_is_long bytes torn))) ∙ (torn_parts bytes torn).0)
 
-  closed_other : (g : ℕ) (bytes c : List ℕ) → MayClose tears bytes c → IsDead (with_closed_gate bytes) ⊎ IsOlder g (with_closed_gate bytes) → Other g c
+  pub closed_other : (g : ℕ) (bytes c : List ℕ) → MayClose tears bytes c → IsDead (with_closed_gate bytes) ⊎ IsOlder g (with_closed_gate bytes) → Other g c
   closed_other g bytes c may idle = elim (either (is_torn bytes)) [
     | inl torn ↦ None (closed_no_copy bytes c torn may)
     | inr whole ↦ subst (Other g) (sym (nothing_closed {tears = tears} bytes c whole may)) (of_both (subst (λ (l : List ℕ). IsDead l ⊎ IsOlder g l) (unclosed bytes whole) idle))
@@ -126,12 +126,12 @@ module _ (tears : ℕ → Type 0) (never : tears 1 → ⊥) where
 
   -- ---- both
 
-  second_may : (first second d : List ℕ) → taken first second ≡ Ok 0 → MayOpenAs tears 1 (taken first second) second d → MayClose tears second d
+  pub second_may : (first second d : List ℕ) → taken first second ≡ Ok 0 → MayOpenAs tears 1 (taken first second) second d → MayClose tears second d
   second_may first second d is (inl same) = inl same
   second_may first second d is (inr (inl take')) = absurd (differs 0 1 (λ same. omega (arith, same)) (sym is ∙ take'.0))
   second_may first second d is (inr (inr close)) = close.1.1.1
 
-  first_may : (first second c : List ℕ) → taken first second ≡ Ok 1 → MayOpenAs tears 0 (taken first second) first c → MayClose tears first c
+  pub first_may : (first second c : List ℕ) → taken first second ≡ Ok 1 → MayOpenAs tears 0 (taken first second) first c → MayClose tears first c
   first_may first second c is (inl same) = inl same
   first_may first second c is (inr (inl take')) = absurd (differs 1 0 (λ same. omega (arith, same)) (sym is ∙ take'.0))
   first_may first second c is (inr (inr close)) = close.1.1.1

@@ -27,7 +27,7 @@ apart_areas centre area same = elim (cases_eq area 0) [
 
 -- ---- what is read
 
-between_read : (area : ℕ) (log : AreaLog) (p current : List ℕ) → IsBetween area log p current → ReadsAsEither (payloads_of log) p (payloads_in (read_area current))
+pub between_read : (area : ℕ) (log : AreaLog) (p current : List ℕ) → IsBetween area log p current → ReadsAsEither (payloads_of log) p (payloads_in (read_area current))
 between_read area log p current (inl is) = inl (ap payloads_in (current_read area log current is))
 between_read area log p current (inr u) = undecided_read area log p current u
 

@@ -6,6 +6,7 @@ mod Calls
 mod Choice
 mod Copies
 mod Dues
+pub mod Followed
 mod Gates
 mod Idles
 mod Joined
@@ -19,6 +20,7 @@ mod Packs
 mod ReadCalls
 mod Records
 mod Repairs
+pub mod Rooms
 mod Settles
 mod Stands
 mod Takes

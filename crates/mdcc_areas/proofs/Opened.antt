@@ -18,7 +18,7 @@ use Rattle.mdcc_areas.proofs.Packs.{sizes_both}
 
 -- ---- how many bytes stand where
 
-frame_sizes : (ps : List (List ℕ)) → length (flat_map frame_bytes ps) ≡ length (records_bytes ps) + length ps
+pub frame_sizes : (ps : List (List ℕ)) → length (flat_map frame_bytes ps) ≡ length (records_bytes ps) + length ps
 frame_sizes [] = refl
 frame_sizes (p ∷ ps) = omega (arith, frame_sizes ps, length-append (frame_body p) (flat_map frame_bytes ps), length-append (frame_body p) (flat_map frame_body ps))
 
@@ -35,7 +35,7 @@ pub record Sizes (g start tail gate : ℕ) (all : List (List ℕ)) : Type 0 wher
   pub tail_few : tail ≤ length all
   pub count : length all ≤ length (records_bytes all)
 
-sizes_by : (area : ℕ) (head : Head) (tail : List (List ℕ)) → IsHead area head → Sizes (generation_of head) (length (head_bytes head)) (length tail) (length (head_bytes head ++ flat_map frame_bytes tail)) (records_of head ++ tail)
+pub sizes_by : (area : ℕ) (head : Head) (tail : List (List ℕ)) → IsHead area head → Sizes (generation_of head) (length (head_bytes head)) (length tail) (length (head_bytes head ++ flat_map frame_bytes tail)) (records_of head ++ tail)
 sizes_by area Version1 tail ok = record {
   whole = omega (arith, frame_sizes tail);
   head = omega arith;
@@ -169,6 +169,26 @@ module _ {D : Type 0} (disk : D → ℕ → Disk) (may_leave : D → ℕ → Lis
       first_spare told =
           let other : (disk new one).bytes ≡ with_closed_gate found.first = found.first_bytes told ∙ sym (first_bytes_then found.first found.second (chosen 1 one_more)) in
           subst (λ (p : ℕ). IsSpare frames (disk new p).bytes (may_leave new p)) first_there (spare_at one found.first other (sym (ap (λ (n : ℕ). pick n found.second found.first) one_more)) (found.first_durable told))
+
+    -- the places tell their bytes as they did before
+    module _ (one_told : (disk new one).told ≡ (disk old one).told) (two_told : (disk new two).told ≡ (disk old two).told) where
+      told_first : IsTrue (disk new one).told → IsTrue (disk old one).told
+      told_first told = subst IsTrue one_told told
+
+      told_second : IsTrue (disk new two).told → IsTrue (disk old two).told
+      told_second told = subst IsTrue two_told told
+
+      pub used_told : IsTrue (disk new (place_of frames.centre frames.area)).told → IsTrue (disk old (place_of frames.centre frames.area)).told
+      used_told = elim (cases_eq area 0) [
+        | inl zero_is ↦ subst (λ (p : ℕ). IsTrue (disk new p).told → IsTrue (disk old p).told) (first_here zero_is) told_first
+        | inr more ↦ let is : area ≡ 1 = omega (arith, more, taking.range) in subst (λ (p : ℕ). IsTrue (disk new p).told → IsTrue (disk old p).told) (second_here is) told_second
+      ]
+
+      pub spare_told : IsTrue (disk new (place_of frames.centre (other_of frames.area))).told → IsTrue (disk old (place_of frames.centre (other_of frames.area))).told
+      spare_told = elim (cases_eq area 0) [
+        | inl zero_is ↦ subst (λ (p : ℕ). IsTrue (disk new p).told → IsTrue (disk old p).told) (second_there zero_is) told_second
+        | inr more ↦ let is : area ≡ 1 = omega (arith, more, taking.range) in subst (λ (p : ℕ). IsTrue (disk new p).told → IsTrue (disk old p).told) (first_there is) told_first
+      ]
 
     pub found_used : IsTrue (disk old (place_of frames.centre frames.area)).told → IsInUse frames taking.log (disk new (place_of frames.centre frames.area)).bytes (may_leave new (place_of frames.centre frames.area))
     found_used told = elim (cases_eq area 0) [

@@ -1,9 +1,11 @@
 -- What opening keeps of what a crash left, and what a checkpoint may leave.
-use Rattle.std.specs.Prelude.{◌≡◌, ◌⊎◌, ℕ, ◌+◌, ◌^◌, ◌<◌, List, length, true, Ok}
-use Rattle.mdcc_areas.specs.Area.{AreaLog, copy_generation, generation_of, is_copy, payloads_of, taken}
+use Rattle.std.specs.Prelude.{◌≡◌, ◌⊎◌, ℕ, ◌+◌, ◌^◌, ◌<◌, ◌≤◌, List, length, true, Ok}
+use Rattle.mdcc_areas.specs.Area.{AreaLog, copy_generation, generation_of, is_copy, payloads_of, read_areas, taken}
+use Rattle.mdcc_areas.specs.AtRest.{MayBeDue}
 use Rattle.mdcc_areas.specs.Checkpoint.{MayCopy}
-use Rattle.mdcc_areas.specs.Crash.{IsCurrent, IsBetween, IsDead, IsOlder, IsIdle, payloads_by}
-use Rattle.mdcc_areas.specs.Opening.{MayTake}
+use Rattle.mdcc_areas.specs.Crash.{IsCurrent, IsBetween, IsDead, IsLog, IsOlder, IsIdle, ReadsAsEither, payloads_by}
+use Rattle.mdcc_areas.specs.Frames.{appended, other_of}
+use Rattle.mdcc_areas.specs.Opening.{MayOpenAs, MayTake, pick}
 use Rattle.mdcc_areas.specs.Repair.{MayClose, with_closed_gate}
 
 -- a written byte may be torn to any byte
@@ -31,3 +33,12 @@ OtherIsSpare =
 abbrev pub CheckpointIsRead : Type 0
 CheckpointIsRead = (area : ℕ) (log : AreaLog) (current other c : List ℕ) → IsCurrent area log current → generation_of log.head + 1 < 2 ^ 64 → length (payloads_of log) < 2 ^ 64
     → IsDead other ⊎ IsOlder (generation_of log.head) other → MayCopy other (generation_of log.head + 1) (payloads_of log) c → IsIdle log c × (payloads_by area current c ≡ Ok (payloads_of log))
+
+-- After a crash of an opening, or of an append that follows it, the payloads are read that opening gave, or those and the new one,
+-- where no byte is torn to 1: for any outcome of one area beside any of the other.
+abbrev pub ThenIsRead : Type 1
+ThenIsRead = (tears : ℕ → Type 0) → (tears 1 → ⊥) → (first second : List ℕ) (area : ℕ) (log : AreaLog) (payload current other : List ℕ) → area ≤ 1
+    → taken first second ≡ Ok area → read_areas first second ≡ Ok log → IsLog area log
+    → MayOpenAs tears area (taken first second) (pick area first second) current ⊎ MayBeDue area log payload current
+    → MayOpenAs tears (other_of area) (taken first second) (pick area second first) other ⊎ IsIdle (appended log payload) other
+    → ReadsAsEither (payloads_of log) payload (payloads_by area current other)

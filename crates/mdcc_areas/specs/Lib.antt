@@ -12,4 +12,5 @@ pub mod Kept
 pub mod Opening
 pub mod Reading
 pub mod Repair
+pub mod Room
 pub mod Settling

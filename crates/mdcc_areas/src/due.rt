@@ -1,5 +1,5 @@
 //! A payload is appended, and what is due then is copied at once.
-ghost use Rattle.std.specs.Prelude.{◌≡◌, ◌≤◌, ◌<◌, ◌+◌, ◌∷◌, ◌++◌, [], ◌⊎◌, ◌-◌, ◌^◌, List, ℕ, length, IsTrue, OnOk, IsErrOf};
+ghost use Rattle.std.specs.Prelude.{◌≡◌, ◌≤◌, ◌<◌, ◌+◌, ◌∷◌, ◌++◌, ◌⊎◌, [], List, ℕ, length, IsTrue, OnOk, IsErrOf};
 ghost use Rattle.mdcc_base.specs.Causes.{Rose};
 ghost use Rattle.mdcc_disks.specs.Disks.{KeepsOthers, LeavesOnly};
 ghost use Rattle.mdcc_log.specs.Log.{log_limit, payload_limit};
@@ -7,6 +7,7 @@ ghost use Rattle.mdcc_areas.specs.Area.{AreaLog, payloads_of, payloads};
 ghost use Rattle.mdcc_areas.specs.AtRest.{IsAtRest, MayBeDue};
 ghost use Rattle.mdcc_areas.specs.Both.{KeepsBut, IsOnlyRead, RoseAtOne};
 ghost use Rattle.mdcc_areas.specs.Crash.{IsBetween, IsCurrent, IsIdle, ReadsAsEither, payloads_by};
+ghost use Rattle.mdcc_areas.specs.Room.{HasGrown, IsCopyFull};
 ghost use Rattle.mdcc_areas.specs.Frames.{IsInUse, IsSpare, IsSettled, appended, packed, place_of, other_of};
 
 use crate::{Frames, LogFault};
@@ -27,6 +28,7 @@ impl Frames {
             → IsAtRest D.disk D.may_leave disks.old self.old all
             → OnOk result (IsAtRest D.disk D.may_leave disks.new self.new (all ++ payload.now ∷ [])) }
         ensures few { OnOk result (self.new.tail < self.new.every) }
+        ensures grown { OnOk result (HasGrown self.old self.new) }
         ensures keeps { (self.new.centre ≡ self.old.centre) × (self.new.every ≡ self.old.every) }
 
         // What a crash at any moment of it leaves of each area.
@@ -52,8 +54,8 @@ impl Frames {
         ensures disk_fault { let place = place_of self.old.centre self.old.area in let other = place_of self.old.centre (other_of self.old.area) in
             IsErrOf result LogFault.DiskFault
             → RoseAtOne (D.disk disks.old place) (D.disk disks.new place) (D.disk disks.old other) (D.disk disks.new other) }
-        ensures full { IsErrOf result LogFault.LogFull → (log_limit < self.old.size + (length payload.now + 5))
-            ⊎ ((log_limit < self.old.body + (length payload.now + 4) + 26) ⊎ (self.old.generation ≡ 2 ^ 64 - 1)) }
+        ensures full { IsErrOf result LogFault.LogFull
+            → (log_limit < self.old.size + (length payload.now + 5)) ⊎ IsCopyFull self.old (length payload.now) }
         ensures a_log { (n : ℕ) → IsErrOf result (LogFault.NotALog n) → IsTrue (D.disk disks.old (place_of self.old.centre self.old.area)).told → ⊥ }
         ensures memory { IsErrOf result LogFault.Memory → ⊥ }
     {

@@ -10,6 +10,7 @@ ghost use Rattle.mdcc_log.specs.Crash.{AreShort};
 ghost use Rattle.mdcc_areas.specs.Crash.{IsCurrent, IsBetween, IsIdle, ReadsAsEither, payloads_by};
 ghost use Rattle.mdcc_areas.specs.Frames.{OpenAreas, IsInUse, IsSpare, IsSettled, OnlyReads, appended, packed, place_of, other_of, checkpoint_calls};
 ghost use Rattle.mdcc_areas.specs.Both.{KeepsBut, IsOnlyRead, RoseAtOne};
+ghost use Rattle.mdcc_areas.specs.Room.{IsFull};
 ghost use Rattle.mdcc_areas.specs.Opening.{IsFound, IsOpened, IsTaken, OpensOne};
 ghost use Rattle.mdcc_areas.specs.Checkpoint.{head_size, left_area};
 
@@ -89,6 +90,22 @@ impl Frames {
         self.size
     }
 
+    /// Whether the log has no room for one more payload of this length: all payloads with it would pass 2^30 bytes in an area of
+    /// version 1, or `append_due` would answer LogFull.
+    pub fn is_full(&self, length: u64) -> bool
+        requires { length ≤ payload_limit }
+        ensures { IsTrue result ↔ IsFull self.now length }
+    {
+        if self.body.saturating_add(self.count) > LOG_LIMIT - (length + 14) {
+            return true;
+        }
+        if self.size > LOG_LIMIT - (length + 5) {
+            return true;
+        }
+        let due = self.tail + 1 >= self.every as u64;
+        due && (self.generation == u64::MAX || self.body > LOG_LIMIT - (length + 30))
+    }
+
     /// Opens the log of a centre, whatever a crash left in its two areas, and gives its payloads in order. A checkpoint is due
     /// after so many frames. Where no area is whole, area 0 becomes a log without payloads.
     pub fn open<D: Disks>(
@@ -105,9 +122,9 @@ impl Frames {
         ensures opened { let first = D.disk disks.old centre in let second = D.disk disks.old (centre + 16) in
             IsTrue first.told → IsTrue second.told
             → IfOk result (λ r. IsOpened D.disk D.may_leave D.moment D.left_since disks.new r.0 r.1.items first.bytes second.bytes) }
-        ensures settled { IfOk result (λ r. IsTrue (D.disk disks.old (place_of r.0.centre r.0.area)).told
+        ensures settled { IfOk result (λ r. IsTrue (D.disk disks.new (place_of r.0.centre r.0.area)).told
             → IsSettled r.0 (D.disk disks.new (place_of r.0.centre r.0.area)).bytes (D.may_leave disks.new (place_of r.0.centre r.0.area))) }
-        ensures spare { IfOk result (λ r. IsTrue (D.disk disks.old (place_of r.0.centre (other_of r.0.area))).told
+        ensures spare { IfOk result (λ r. IsTrue (D.disk disks.new (place_of r.0.centre (other_of r.0.area))).told
             → IsSpare r.0 (D.disk disks.new (place_of r.0.centre (other_of r.0.area))).bytes (D.may_leave disks.new (place_of r.0.centre (other_of r.0.area)))) }
         ensures at_rest { IsTrue (D.disk disks.old centre).told → IsTrue (D.disk disks.old (centre + 16)).told
             → IfOk result (λ r. IsAtRest D.disk D.may_leave disks.new r.0 r.1.items) }
@@ -275,6 +292,7 @@ impl Frames {
             → OnOk result (IsSpare self.new (D.disk disks.new place).bytes (D.may_leave disks.new place)) }
         ensures areas { (self.new.centre ≡ self.old.centre) × ((self.new.every ≡ self.old.every)
             × OnOk result ((self.new.area ≡ other_of self.old.area) × (self.new.tail ≡ 0))) }
+        ensures counts { OnOk result ((self.new.generation ≡ self.old.generation + 1) × (self.new.count ≡ self.old.count)) }
         ensures fails { OnErr result (self.new ≡ self.old) }
 
         // A crash at any moment of it leaves one area with all payloads, whatever stands in the other.

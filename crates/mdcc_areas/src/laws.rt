@@ -1,6 +1,7 @@
 //! What opening reads and keeps of what a crash leaves.
 ghost use Rattle.mdcc_areas.specs.Crash.{CurrentIsRead, BetweenIsRead};
 ghost use Rattle.mdcc_areas.specs.Examples.{ExamplesAreRead};
+ghost use Rattle.mdcc_areas.specs.Room.{RoomyGrows};
 ghost use Rattle.mdcc_areas.specs.Kept.{CurrentStays, BetweenStays, IdleStays, OtherIsSpare, CheckpointIsRead};
 
 /// The payloads of the area in use are read, whatever a crash left of the other.
@@ -41,4 +42,9 @@ pub fn other_is_spare()
 /// Areas that were computed byte by byte.
 pub fn examples_are_read()
     ensures { ExamplesAreRead }
+{}
+
+/// A log that takes no more than one of version 1, with generations left, stays so with each payload.
+pub fn roomy_grows()
+    ensures { RoomyGrows }
 {}

@@ -6,7 +6,7 @@ use Rattle.mdcc_areas.specs.Area.{payloads_in}
 use Rattle.mdcc_areas.specs.Crash.{IsIdle}
 use Rattle.mdcc_areas.specs.Frames.{OpenAreas, other_of, place_of}
 use Rattle.mdcc_areas.specs.Opening.{IsOpened, OpensOne}
-use Rattle.mdcc_areas.proofs.Opened.{count_below, found_opened, found_spare, found_used, head_fits, sizes, tail_fits}
+use Rattle.mdcc_areas.proofs.Opened.{count_below, found_opened, found_spare, found_used, head_fits, sizes, tail_fits, spare_told, used_told}
 use Rattle.mdcc_areas.proofs.OpenStays.{opens_as, opens_none, current_moment, between_moment, due_moment, idle_moment, same_moment}
 use Rattle.mdcc_areas.proofs.Packs.{payloads_short}
 use Rattle.mdcc_areas.proofs.frames.Frames.open.Goals as goal
@@ -151,7 +151,9 @@ returns-clause-settled g c told =
     } in (
       c.in_ok-area.ensures.found.is.log,
       found_used g.D.Disks.disk g.D.Disks.may_leave g.D.Disks.moment g.D.Disks.left_since c.args.disks.now c.open_areas.new.disks frames c.in_ok-area.ensures.found
-          refl refl refl refl counted refl refl (ap (λ (n : ℕ). c.in_ok-area.read.gate - n - c.in_ok-area.read.tail) c.head_size.ensures) refl refl told,
+          refl refl refl refl counted refl refl (ap (λ (n : ℕ). c.in_ok-area.read.gate - n - c.in_ok-area.read.tail) c.head_size.ensures) refl refl
+          (used_told g.D.Disks.disk g.D.Disks.may_leave g.D.Disks.moment g.D.Disks.left_since c.args.disks.now c.open_areas.new.disks frames c.in_ok-area.ensures.found
+          refl refl refl refl counted refl refl (ap (λ (n : ℕ). c.in_ok-area.read.gate - n - c.in_ok-area.read.tail) c.head_size.ensures) refl refl c.open_areas.ensures.others.told_one c.open_areas.ensures.others.told_two told),
     )
 
 pub returns-clause-spare : goal.returns-clause-spare
@@ -170,7 +172,9 @@ returns-clause-spare g c told =
       spare = c.in_ok-area.spare;
     } in
     found_spare g.D.Disks.disk g.D.Disks.may_leave g.D.Disks.moment g.D.Disks.left_since c.args.disks.now c.open_areas.new.disks frames c.in_ok-area.ensures.found
-    refl refl refl refl counted refl refl (ap (λ (n : ℕ). c.in_ok-area.read.gate - n - c.in_ok-area.read.tail) c.head_size.ensures) refl refl told
+    refl refl refl refl counted refl refl (ap (λ (n : ℕ). c.in_ok-area.read.gate - n - c.in_ok-area.read.tail) c.head_size.ensures) refl refl
+    (spare_told g.D.Disks.disk g.D.Disks.may_leave g.D.Disks.moment g.D.Disks.left_since c.args.disks.now c.open_areas.new.disks frames c.in_ok-area.ensures.found
+    refl refl refl refl counted refl refl (ap (λ (n : ℕ). c.in_ok-area.read.gate - n - c.in_ok-area.read.tail) c.head_size.ensures) refl refl c.open_areas.ensures.others.told_one c.open_areas.ensures.others.told_two told)
 
 pub returns-clause-payloads : goal.returns-clause-payloads
 returns-clause-payloads g c told_first told_second =
