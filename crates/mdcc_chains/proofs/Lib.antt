@@ -1,4 +1,5 @@
 mod Ascending
+mod Blocks
 pub mod Filtered
 mod Indexed
 mod Linked

@@ -24,7 +24,7 @@ pub under-none : (bound n i : ℕ) → IsUnder bound (get_or (replicate n None) 
 under-none bound n i = subst (IsUnder bound) (sym (none-get n i)) tt
 
 pub links-push : (heads links : List (Option ℕ)) (room capacity more chain : ℕ) (head : Option ℕ) → AreLinks heads links room capacity → chain < length heads → length links < room
-    → head ≡ get_or heads chain head → capacity ≤ more → AreLinks (set heads chain (Some (length links))) (links ++ head ∷ []) room more
+    → head ≡ get_or heads chain None → capacity ≤ more → AreLinks (set heads chain (Some (length links))) (links ++ head ∷ []) room more
 links-push heads links room capacity more chain head are within free head-is reserved = record {
   within = omega (arith, length_push links head, free);
   small = are.small;
@@ -40,7 +40,7 @@ links-push heads links room capacity more chain head are within free head-is res
   lower = λ index. elim (cases_order index (length links)) [
     | inl same ↦
         let here : get_or (links ++ head ∷ []) index None ≡ head = ap (λ k. get_or (links ++ head ∷ []) k None) same ∙ get_or_at links head [] None (length links) refl in
-        let used : IsUnder (length links) head = under-read (length links) heads chain head within head-is (are.heads_used chain) in
+        let used : IsUnder (length links) head = subst (IsUnder (length links)) (sym head-is) (are.heads_used chain) in
         subst (IsUnder index) (sym here) (under-more (length links) index head (omega (arith, same)) used)
     | inr (inl below) ↦ subst (IsUnder index) (sym (get_or_append_left links (head ∷ []) None index below)) (are.lower index)
     | inr (inr above) ↦

@@ -1,4 +1,5 @@
 pub mod Hashes
+pub mod Heads
 pub mod Keyed
 pub mod KeyTables
 pub mod Keys

@@ -1,6 +1,7 @@
 //! Chains of indices, the newest first.
 ghost use Rattle.std.specs.Prelude.{◌≡◌, ◌<◌, ◌≤◌, ◌++◌, ◌∷◌, [], ◌↔◌, None, Some, IfSome, IfOk, IsTrue, get_or, length, set, replicate};
 
+use crate::heads::Heads;
 use mdcc_base::Memory;
 use std::alloc::Global;
 use std::marker::Model;
@@ -9,7 +10,7 @@ use std::marker::Model;
 /// a lower one of the same chain or to none.
 #[derive(Drop)]
 pub struct Chains {
-    heads: Vec<Option<u32>>,
+    heads: Heads,
     links: Vec<Option<u32>>,
     room: u32,
 }
@@ -20,20 +21,9 @@ impl Model for Chains {
 
     ghost Value = { Links };
 
-    ghost view = { λ c. record { heads = c.heads.items; links = c.links.items; room = c.room } };
+    ghost view = { λ c. record { heads = c.heads; links = c.links.items; room = c.room } };
 
-    ghost invariant = { λ c. AreLinks c.heads.items c.links.items c.room (vec_capacity c.links) };
-}
-
-// So many entries, each of them none.
-fn empty_heads(alloc: Global, count: u32) -> Result<Vec<Option<u32>>, Memory>
-    ensures { IfOk result (λ heads. heads.items ≡ replicate count None) }
-{
-    let mut heads = Vec::with_capacity(alloc, count as usize)?;
-    for _i in 0..count {
-        heads.push(None)?;
-    }
-    Ok(heads)
+    ghost invariant = { λ c. AreLinks c.heads c.links.items c.room (vec_capacity c.links) };
 }
 
 impl Chains {
@@ -42,7 +32,7 @@ impl Chains {
         ensures { IfOk result (λ chains. chains ≡ record { heads = replicate count None; links = []; room = room }) }
     {
         Ok(Chains {
-            heads: empty_heads(alloc, count)?,
+            heads: Heads::new(alloc, count)?,
             links: Vec::with_capacity(alloc, room as usize)?,
             room,
         })
@@ -52,7 +42,7 @@ impl Chains {
     pub fn count(&self) -> usize
         ensures { result ≡ length self.now.heads }
     {
-        self.heads.len()
+        self.heads.count() as usize
     }
 
     /// How many indices there are in all chains.
@@ -76,7 +66,7 @@ impl Chains {
         ensures value { result ≡ get_or self.now.heads chain None }
         ensures within { IfSome result (λ index. index < length self.now.links) }
     {
-        self.heads[chain]
+        self.heads.get(chain)
     }
 
     /// The index before one of a chain.
@@ -97,7 +87,7 @@ impl Chains {
         ensures room { self.new.room ≡ self.old.room }
     {
         let index = self.links.len() as u32;
-        self.links.push(self.heads[chain]).unwrap();
-        self.heads[chain] = Some(index);
+        self.links.push_reserved(self.heads.get(chain));
+        self.heads.set(chain, index);
     }
 }

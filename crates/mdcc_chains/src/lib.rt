@@ -2,6 +2,7 @@
 #![tactic(auto)]
 
 pub mod chains;
+mod heads;
 pub mod index;
 pub mod index_key;
 pub mod key_table;

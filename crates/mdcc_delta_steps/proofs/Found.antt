@@ -21,11 +21,10 @@ use Rattle.mdcc_protocol.specs.Facts.{amounts_added, delta_given, deltas_from, l
 use Rattle.mdcc_protocol.specs.Marks.{Amounts}
 use Rattle.mdcc_spelling.proofs.Places.{IsAt, apart-2}
 use Rattle.mdcc_spelling.proofs.Whole.{at_front}
-use Rattle.mdcc_fact_folds.specs.Held.{is_delta_by}
 use Rattle.mdcc_fact_folds.specs.Live.{is_live_by}
 use Rattle.mdcc_delta_steps.specs.Passing.{head_of}
 use Rattle.mdcc_delta_steps.specs.Entries.{deltas_read, live_read, tx_in}
-use Rattle.mdcc_delta_steps.specs.Steps.{amounts_of, has_delta, is_of_other, joined, has_live, value_in}
+use Rattle.mdcc_delta_steps.specs.Steps.{amounts_of, has_live, is_of_other, joined, value_in}
 use Rattle.mdcc_delta_steps.proofs.PartsThere.{tx-there}
 use Rattle.mdcc_delta_steps.proofs.ChoicesEntered.{delta_entry}
 use Rattle.mdcc_delta_steps.proofs.MarksEntered.{weighed}
@@ -39,14 +38,6 @@ value-of-deltas (d ∷ ds) tx =
     elim (cases_Bool (tx_eq d.0 tx)) [
       | inl same ↦ rw same refl
       | inr other ↦ rw other (value-of-deltas ds tx)
-    ]
-
-pub has-deltas : (ds : TxMap Amounts) (tx : TxId) → is_some (value_of (map delta_entry ds) tx) ≡ is_some (value_of ds tx)
-has-deltas [] tx = refl
-has-deltas (d ∷ ds) tx =
-    elim (cases_Bool (tx_eq d.0 tx)) [
-      | inl same ↦ rw same refl
-      | inr other ↦ rw other (has-deltas ds tx)
     ]
 
 pub has-weighed : (es : TxMap Update) (tx : TxId) → is_some (value_of (map weighed es) tx) ≡ is_some (value_of es tx)
@@ -100,7 +91,7 @@ not-true : (b : Bool) → not b ≡ true → b ≡ false
 not-true true is = absurd (cc)
 not-true false is = refl
 
-none-heard : (key : Key) (version : ℕ) (tx t : TxId) (outcome : Outcome) → IsWellFormedFact (Fact.Heard t outcome) → tx_eq t tx ≡ false
+pub none-heard : (key : Key) (version : ℕ) (tx t : TxId) (outcome : Outcome) → IsWellFormedFact (Fact.Heard t outcome) → tx_eq t tx ≡ false
     → value_of (deltas_from key version (Fact.Heard t outcome)) tx ≡ None
 none-heard key version tx t Outcome.Abort fits other = refl
 none-heard key version tx t (Outcome.Commit choices) fits other = none-given key version tx t choices fits.outcome_itself.each other
@@ -130,12 +121,6 @@ not-live-of-other key version tx (Fact.Adopted of_key at item adds) fits other =
 found-unless : (other found says : Bool) → found ≡ says → (other ≡ true → says ≡ false) → (not other && found) ≡ says
 found-unless true found says is none = sym (none refl)
 found-unless false found says is none = is
-
-pub delta-is-found : (key : Key) (version : ℕ) (tx : TxId) (fact : Fact) → IsWellFormedFact fact → has_delta key version tx (fact_bytes fact) ≡ is_delta_by key version tx fact
-delta-is-found key version tx fact fits =
-    found-unless (is_of_other tx (fact_bytes fact)) (is_some (value_of (deltas_read key version (fact_bytes fact)) tx)) (is_delta_by key version tx fact)
-    (ap (λ es. is_some (value_of es tx)) (deltas-are-read key version fact fits) ∙ has-deltas (deltas_from key version fact) tx)
-    (λ other. ap is_some (none-of-other key version tx fact fits other))
 
 pub live-is-found : (key : Key) (version : ℕ) (tx : TxId) (fact : Fact) → IsWellFormedFact fact → has_live key version tx (fact_bytes fact) ≡ is_live_by key version tx fact
 live-is-found key version tx fact fits =

@@ -1,7 +1,7 @@
 -- What walks by steps know at their end.
 use Rattle.std.proofs.Common.{◌≡◌, ◌≤◌, ◌∷◌, ℕ, Bool, true, false, List, [], None, length, ap, sym, ◌∙◌, arith, refl, inl, inr}
-use Rattle.std.specs.List.{fold, list_any}
-use Rattle.std.specs.Prelude.{◌||◌, filter, nat_lt}
+use Rattle.std.specs.List.{fold}
+use Rattle.std.specs.Prelude.{filter, nat_lt}
 use Rattle.std.proofs.lemmas.Bool.{le-ltb, lt-ltb}
 use Rattle.std.proofs.lemmas.List.{length-map}
 use Rattle.mdcc_base.specs.declared.key.Key.{Key}
@@ -9,47 +9,16 @@ use Rattle.mdcc_struct.specs.Maps.{TxMap, txs_of}
 use Rattle.mdcc_messages.specs.declared.facts.Fact.{Fact}
 use Rattle.mdcc_protocol.specs.Facts.{current_of, deltas_at, executed_of}
 use Rattle.mdcc_protocol.specs.Marks.{Amounts}
-use Rattle.mdcc_fact_folds.specs.Held.{is_delta_by, older_amounts, with_deltas}
-use Rattle.mdcc_fact_folds.specs.Live.{is_live_by}
+use Rattle.mdcc_fact_folds.specs.Held.{older_amounts, with_deltas}
 use Rattle.mdcc_fact_folds.proofs.Present.{executed-join}
-use Rattle.mdcc_delta_steps.specs.Steps.{AmountsAreFolded, CrowdedByDeltas, DeltaIsAny, ExecutedAreNoted, LiveIsAny, amounts_step, delta_step, deltas_step, live_step, no_deltas}
-use Rattle.mdcc_delta_steps.specs.declared.steps.IsDelta.{IsDelta}
-use Rattle.mdcc_delta_steps.specs.declared.steps.IsLive.{IsLive}
+use Rattle.mdcc_delta_steps.specs.Steps.{AmountsAreFolded, CrowdedByDeltas, ExecutedAreNoted, amounts_step, deltas_step, no_deltas}
 use Rattle.mdcc_delta_steps.specs.declared.steps.OlderAmounts.{OlderAmounts}
 use Rattle.mdcc_delta_steps.specs.declared.steps.WithDeltas.{WithDeltas}
 use Rattle.mdcc_delta_steps.proofs.Noted.{IsNoted, noted-facts}
 
-or-assoc : (a b c : Bool) → (a || b) || c ≡ a || (b || c)
-or-assoc true b c = refl
-or-assoc false b c = refl
-
-delta-any : (s : IsDelta) (facts : List Fact) → (fold delta_step s facts).found ≡ s.found || list_any (is_delta_by s.key s.version s.tx) facts
-delta-any s [] = or-none s.found
-  where
-    or-none : (a : Bool) → a ≡ a || false
-    or-none true = refl
-    or-none false = refl
-delta-any s (fact ∷ facts) =
-    delta-any (delta_step s fact) facts ∙ or-assoc s.found (is_delta_by s.key s.version s.tx fact) (list_any (is_delta_by s.key s.version s.tx) facts)
-
-live-any : (s : IsLive) (facts : List Fact) → (fold live_step s facts).found ≡ s.found || list_any (is_live_by s.key s.version s.tx) facts
-live-any s [] = or-none s.found
-  where
-    or-none : (a : Bool) → a ≡ a || false
-    or-none true = refl
-    or-none false = refl
-live-any s (fact ∷ facts) =
-    live-any (live_step s fact) facts ∙ or-assoc s.found (is_live_by s.key s.version s.tx fact) (list_any (is_live_by s.key s.version s.tx) facts)
-
 amounts-folded : (s : OlderAmounts) (facts : List Fact) → (fold amounts_step s facts).found ≡ fold (older_amounts s.key s.version s.tx) s.found facts
 amounts-folded s [] = refl
 amounts-folded s (fact ∷ facts) = amounts-folded (amounts_step s fact) facts
-
-pub delta-is-any : DeltaIsAny
-delta-is-any key version tx facts = delta-any (record { key = key; version = version; tx = tx; found = false }) facts
-
-pub live-is-any : LiveIsAny
-live-is-any key version tx facts = live-any (record { key = key; version = version; tx = tx; found = false }) facts
 
 pub amounts-are-folded : AmountsAreFolded
 amounts-are-folded key version tx facts = amounts-folded (record { key = key; version = version; tx = tx; found = None }) facts

@@ -1,5 +1,5 @@
 -- What steps over facts know, with one more fact.
-use Rattle.std.specs.List.{fold, list_any, prefix_len}
+use Rattle.std.specs.List.{fold, prefix_len}
 use Rattle.std.specs.Prelude.{◌≡◌, ◌≤◌, Bool, List, None, Option, Some, [], false, filter, if◌then◌else◌, insert, is_some, length, nat_lt, not, true, ℕ, ◌&&◌, ◌==◌, ◌||◌}
 use Rattle.mdcc_base.specs.TxId.{tx_eq, tx_lt}
 use Rattle.mdcc_base.specs.declared.identifiers.TxId.{TxId}
@@ -9,20 +9,11 @@ use Rattle.mdcc_protocol.specs.Facts.{current_of, deltas_at, deltas_from, execut
 use Rattle.mdcc_protocol.specs.Fit.{has_tx}
 use Rattle.mdcc_struct.specs.Maps.{txs_of, value_of}
 use Rattle.mdcc_fact_folds.specs.Chains.{Covers, is_delta_in}
-use Rattle.mdcc_fact_folds.specs.Held.{is_delta_by, older_amounts}
-use Rattle.mdcc_fact_folds.specs.Live.{is_live_by}
+use Rattle.mdcc_fact_folds.specs.Held.{older_amounts}
 use Rattle.mdcc_delta_steps.specs.Entries.{Amounts, Entry, deltas_read, live_read, tx_in}
 use Rattle.mdcc_delta_steps.specs.Passing.{byte_at, head_of}
-use Rattle.mdcc_delta_steps.specs.declared.steps.IsDelta.{IsDelta}
-use Rattle.mdcc_delta_steps.specs.declared.steps.IsLive.{IsLive}
 use Rattle.mdcc_delta_steps.specs.declared.steps.OlderAmounts.{OlderAmounts}
 use Rattle.mdcc_delta_steps.specs.declared.steps.WithDeltas.{WithDeltas}
-
-abbrev pub delta_step : IsDelta → Fact → IsDelta
-delta_step s fact = record s { found = s.found || is_delta_by s.key s.version s.tx fact }
-
-abbrev pub live_step : IsLive → Fact → IsLive
-live_step s fact = record s { found = s.found || is_live_by s.key s.version s.tx fact }
 
 abbrev pub amounts_step : OlderAmounts → Fact → OlderAmounts
 amounts_step s fact = record s { found = older_amounts s.key s.version s.tx s.found fact }
@@ -57,10 +48,7 @@ joined (Some added) = added
 abbrev pub value_in : TxId → List Entry → Option Amounts
 value_in tx entries = joined (value_of entries tx)
 
--- whether a fact brings a delta of a transaction, by its encoding
-abbrev pub has_delta : Key → ℕ → TxId → List ℕ → Bool
-has_delta key version tx bytes = not (is_of_other tx bytes) && is_some (value_of (deltas_read key version bytes) tx)
-
+-- whether a fact makes a transaction live, by its encoding
 abbrev pub has_live : Key → ℕ → TxId → List ℕ → Bool
 has_live key version tx bytes = not (is_of_other tx bytes) && is_some (value_of (live_read key version bytes) tx)
 
@@ -89,19 +77,3 @@ abbrev pub AmountsAreFolded : Type 0
 AmountsAreFolded =
     (key : Key) (version : ℕ) (tx : TxId) (facts : List Fact)
     → (fold amounts_step (amounts_sought key version tx) facts).found ≡ fold (older_amounts key version tx) None facts
-
-abbrev pub delta_sought : Key → ℕ → TxId → IsDelta
-delta_sought key version tx = record { key = key; version = version; tx = tx; found = false }
-
-abbrev pub DeltaIsAny : Type 0
-DeltaIsAny =
-    (key : Key) (version : ℕ) (tx : TxId) (facts : List Fact)
-    → (fold delta_step (delta_sought key version tx) facts).found ≡ list_any (is_delta_by key version tx) facts
-
-abbrev pub live_sought : Key → ℕ → TxId → IsLive
-live_sought key version tx = record { key = key; version = version; tx = tx; found = false }
-
-abbrev pub LiveIsAny : Type 0
-LiveIsAny =
-    (key : Key) (version : ℕ) (tx : TxId) (facts : List Fact)
-    → (fold live_step (live_sought key version tx) facts).found ≡ list_any (is_live_by key version tx) facts

@@ -16,4 +16,4 @@ pub use bases::item_at;
 pub use chain::InstanceWalk;
 pub use crowding::is_crowded;
 pub use loads::{VoidTest, load};
-pub use steps::{IsDelta, IsLive, OlderAmounts, WithDeltas};
+pub use steps::{OlderAmounts, WithDeltas, amounts_at};

@@ -1,13 +1,17 @@
 //! What a walk takes of each fact: deltas and live updates of transactions.
 ghost use Rattle.std.specs.List.{fold, prefix_len};
 ghost use Rattle.std.specs.Option.{option_or};
-ghost use Rattle.std.specs.Prelude.{◌≡◌, ◌==◌, ◌&&◌, is_some, not};
+ghost use Rattle.std.specs.Prelude.{◌≡◌, ◌<◌, ◌==◌, ◌&&◌, [], get_or, is_some, length, not};
 ghost use Rattle.mdcc_base.specs.TxId.{tx_eq, tx_lt};
+ghost use Rattle.mdcc_messages.specs.Spelling.{fact_bytes};
+ghost use Rattle.mdcc_messages.specs.WellFormed.{IsWellFormedFact};
+ghost use Rattle.mdcc_messages.specs.declared.facts.Fact.{Fact as AFact};
+ghost use Rattle.mdcc_protocol.specs.Facts.{deltas_from};
 ghost use Rattle.mdcc_protocol.specs.Fit.{has_tx};
 ghost use Rattle.mdcc_struct.specs.Maps.{txs_of, value_of};
 ghost use Rattle.mdcc_delta_steps.specs.Entries.{left_in, tx_in};
 ghost use Rattle.mdcc_delta_steps.specs.Passing.{byte_at};
-ghost use Rattle.mdcc_delta_steps.specs.Steps.{amounts_step, amounts_of, delta_step, has_delta, deltas_step, live_step, has_live, no_deltas, noted, value_in};
+ghost use Rattle.mdcc_delta_steps.specs.Steps.{amounts_of, amounts_step, deltas_step, has_live, no_deltas, noted, value_in};
 
 use crate::entries::{Entries, delta_entries, live_entries, read_deltas};
 use crate::parts::tx_in;
@@ -16,24 +20,6 @@ use mdcc_base::{BoundedList, Key, TxId};
 use mdcc_fact_cells::{FactCells, FactStep};
 use mdcc_option::{Amounts, Seen};
 use mdcc_pool::Cursor;
-
-/// Whether a fact brought a delta of a transaction into a version of a key.
-#[derive(Drop)]
-pub struct IsDelta {
-    pub key: Key,
-    pub version: u64,
-    pub tx: TxId,
-    pub found: bool,
-}
-
-/// Whether a fact made a transaction live in a version of a key.
-#[derive(Drop)]
-pub struct IsLive {
-    pub key: Key,
-    pub version: u64,
-    pub tx: TxId,
-    pub found: bool,
-}
 
 /// The amounts that a transaction added to a version of a key, by the oldest fact.
 #[derive(Drop)]
@@ -89,17 +75,7 @@ fn value_in<'a>(entries: Entries<'a>, tx: &TxId) -> Option<Amounts>
     None
 }
 
-/// Whether the fact at whose beginning a cursor stands brings a delta of the transaction into a version
-/// of a key.
-pub(crate) fn has_delta<'a>(cursor: Cursor<'a>, key: &Key, version: u64, tx: &TxId) -> bool
-    ensures { result ≡ has_delta key.now version tx.now cursor.entry }
-{
-    let mut window = [0u8; HEAD];
-    let head = peeked(&cursor, window.as_mut_slice());
-    !is_of_other(head, tx) && has_entry(delta_entries(cursor, head, key, version), tx)
-}
-
-/// Whether it makes the transaction live there.
+/// Whether the fact at whose beginning a cursor stands makes the transaction live in a version of a key.
 pub(crate) fn has_live<'a>(cursor: Cursor<'a>, key: &Key, version: u64, tx: &TxId) -> bool
     ensures { result ≡ has_live key.now version tx.now cursor.entry }
 {
@@ -119,6 +95,20 @@ fn amounts_of<'a>(cursor: Cursor<'a>, key: &Key, version: u64, tx: &TxId) -> Opt
     } else {
         value_in(delta_entries(cursor, head, key, version), tx)
     }
+}
+
+/// What the delta of a transaction adds that the fact of a number brings into a version of a key.
+pub fn amounts_at(
+    cells: &FactCells,
+    number: u32,
+    key: &Key,
+    version: u64,
+    tx: &TxId,
+) -> Option<Amounts>
+    requires { number < length cells.now.encodings }
+    ensures { (fact : AFact) → IsWellFormedFact fact → get_or cells.now.encodings number [] ≡ fact_bytes fact → result ≡ value_of (deltas_from key.now version fact) tx.now }
+{
+    amounts_of(cells.start(number), key, version, tx)
 }
 
 /// Whether the transaction is among these.
@@ -145,28 +135,6 @@ fn place_of(txs: &[TxId], tx: &TxId) -> usize
         place += 1;
     }
     place
-}
-
-impl FactStep for IsDelta {
-    ghost step = { delta_step };
-
-    fn take(&mut self, cells: &FactCells, number: u32) {
-        if !self.found {
-            let cursor = cells.start(number);
-            self.found = has_delta(cursor, &self.key, self.version, &self.tx);
-        }
-    }
-}
-
-impl FactStep for IsLive {
-    ghost step = { live_step };
-
-    fn take(&mut self, cells: &FactCells, number: u32) {
-        if !self.found {
-            let cursor = cells.start(number);
-            self.found = has_live(cursor, &self.key, self.version, &self.tx);
-        }
-    }
 }
 
 impl FactStep for OlderAmounts {

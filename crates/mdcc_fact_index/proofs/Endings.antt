@@ -6,21 +6,23 @@ use Rattle.std.proofs.lemmas.Bool.{cases_Bool, cases_lt}
 use Rattle.std.proofs.lemmas.List.{get_or_append_left, get_or_at}
 use Rattle.mdcc_base.specs.TxId.{tx_eq}
 use Rattle.mdcc_base.specs.declared.identifiers.TxId.{TxId}
+use Rattle.mdcc_base.specs.declared.key.Key.{Key}
 use Rattle.mdcc_option.specs.declared.choices.Outcome.{Outcome}
 use Rattle.mdcc_struct.proofs.Order.{tx_eq-sym}
+use Rattle.mdcc_struct.specs.Maps.{value_of}
 use Rattle.mdcc_messages.specs.Lengths.{fact_length}
 use Rattle.mdcc_messages.specs.SpelledParts.{heard_bytes}
 use Rattle.mdcc_messages.specs.Spelling.{fact_bytes}
 use Rattle.mdcc_messages.specs.WellFormed.{IsWellFormedFact}
 use Rattle.mdcc_messages.specs.declared.facts.Fact.{Fact}
-use Rattle.mdcc_protocol.specs.Facts.{heard_of, is_heard, outcome_in}
-use Rattle.mdcc_protocol.specs.Marks.{is_commit}
+use Rattle.mdcc_protocol.specs.Facts.{deltas_from, heard_of, is_heard, outcome_in}
+use Rattle.mdcc_protocol.specs.Marks.{Amounts, is_commit}
 use Rattle.mdcc_protocol.specs.Stores.{ended_of}
 use Rattle.mdcc_spelling.proofs.Common.{heard_again}
 use Rattle.mdcc_spelling.proofs.Lengths.{length-fact}
 use Rattle.mdcc_chains.specs.Walks.{last_in, walk}
 use Rattle.mdcc_fact_cells.specs.Holding.{AreWellFormed, encodings_of, Holds}
-use Rattle.mdcc_fact_index.specs.Heard.{heard_by, heard_numbers, heard_txs, is_commit_spelled, number_found, number_in, numbers_by, outcome_read, outcome_spelled, AreHeard, AreNumbersBelow, HeardTxs}
+use Rattle.mdcc_fact_index.specs.Heard.{given_by, heard_by, heard_numbers, heard_txs, is_commit_spelled, number_found, number_in, numbers_by, outcome_read, outcome_spelled, AreHeard, AreNumbersBelow, HeardTxs}
 use Rattle.mdcc_fact_tables.specs.UnresolvedNumbers.{TellsHeard}
 use Rattle.mdcc_fact_index.proofs.Entered.{encodings-length}
 use Rattle.mdcc_fact_index.proofs.Short.{heard-short}
@@ -242,6 +244,19 @@ heard-known index facts tx fits kept = by_found (number_found index tx) refl
     by_found None is = ap is_some is ∙ sym (ap is_some (answer-none index facts tx kept is))
     by_found (Some number) is =
         ap is_some is ∙ sym (ap is_some (answered (encodings_of facts) index facts tx number (record { encodings_are = refl; well_formed = fits }) kept is).heard)
+
+-- what an outcome gives is what its fact brings
+pub given-is : (key : Key) (version : ℕ) (tx t : TxId) (outcome : Outcome) → value_of (deltas_from key version (Fact.Heard t outcome)) tx ≡ value_of (given_by key version (Some outcome)) tx
+given-is key version tx t Outcome.Abort = refl
+given-is key version tx t (Outcome.Commit choices) = refl
+
+pub answer-added : (encodings : List (List ℕ)) (index : HeardTxs) (facts : List Fact) (key : Key) (version : ℕ) (tx : TxId) (number : ℕ) (result : Option Amounts)
+    → Holds encodings facts → AreHeard index facts → number_found index tx ≡ Some number
+    → ((fact : Fact) → IsWellFormedFact fact → get_or encodings number [] ≡ fact_bytes fact → result ≡ value_of (deltas_from key version fact) tx)
+    → result ≡ value_of (given_by key version (heard_of facts tx)) tx
+answer-added encodings index facts key version tx number result holds kept is read =
+    let a : Answer encodings facts tx number = answered encodings index facts tx number holds kept is in
+    read (Fact.Heard a.other a.outcome) a.fits a.bytes ∙ given-is key version tx a.other a.outcome ∙ ap (λ heard. value_of (given_by key version heard) tx) (sym a.heard)
 
 -- ---- one more fact
 

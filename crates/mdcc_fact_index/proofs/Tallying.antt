@@ -1,11 +1,11 @@
--- What one more vote makes of the tallies.
+-- What one more fact makes of the tallies.
 use Rattle.std.proofs.Common.{◌≡◌, ◌≤◌, ◌+◌, ◌++◌, ◌∷◌, ◌<◌, ℕ, Bool, true, false, List, [], Option, Some, None, is_some, length, min, suc, refl, sym, ap, ◌∙◌, arith, subst, inl, inr}
 use Rattle.std.specs.List.{fold}
 use Rattle.std.specs.Option.{option_map, option_or}
 use Rattle.std.specs.Prelude.{◌-◌, ◌^◌, ◌==◌, ◌&&◌, ◌||◌, filter_map, if◌then◌else◌, nat_lt, not}
 use Rattle.std.proofs.lemmas.Bool.{cases_Bool, eqb-true, ltb-false}
 use Rattle.std.proofs.lemmas.List.{get_or_append_left, get_or_at}
-use Rattle.mdcc_base.specs.Ballot.{ballot_eq, fast_ballot}
+use Rattle.mdcc_base.specs.Ballot.{ballot_eq, ballot_max, fast_ballot}
 use Rattle.mdcc_base.specs.Key.{key_eq}
 use Rattle.mdcc_base.specs.TxId.{tx_eq}
 use Rattle.mdcc_base.specs.declared.identifiers.Ballot.{Ballot}
@@ -13,22 +13,30 @@ use Rattle.mdcc_base.specs.declared.identifiers.TxId.{TxId}
 use Rattle.mdcc_base.specs.declared.key.Key.{Key}
 use Rattle.mdcc_option.specs.declared.choices.Choice.{Choice}
 use Rattle.mdcc_option.specs.declared.choices.Mark.{Mark}
+use Rattle.mdcc_option.specs.declared.choices.Outcome.{Outcome}
+use Rattle.mdcc_option.specs.declared.items.Delta.{Delta}
+use Rattle.mdcc_option.specs.declared.items.Item.{Item}
 use Rattle.mdcc_struct.specs.Maps.{TxMap, value_of}
 use Rattle.mdcc_struct.specs.Options.{accepts_in, rejects_in}
 use Rattle.mdcc_struct.specs.declared.options.Options.{Options}
 use Rattle.mdcc_struct.proofs.Order.{tx_eq-same}
+use Rattle.mdcc_struct.proofs.Values.{value_of-union}
 use Rattle.mdcc_messages.specs.declared.facts.Fact.{Fact}
-use Rattle.mdcc_protocol.specs.Facts.{later_vote, mark_voted, marks_voted, write_set_in, write_sets_from, write_sets_of}
+use Rattle.mdcc_protocol.specs.Facts.{deltas_at, deltas_from, heard_of, is_heard, later_vote, mark_voted, marks_voted, outcome_in, write_set_in, write_sets_from, write_sets_of}
 use Rattle.mdcc_protocol.specs.Stores.{entries_at}
 use Rattle.mdcc_facts.specs.Adding.{MayBeAdded}
 use Rattle.mdcc_facts.specs.Weights.{with_mark}
 use Rattle.mdcc_chains.specs.Keys.{instance_eq, instance_eq-one}
 use Rattle.mdcc_chains.specs.Walks.{first_in, walk}
 use Rattle.mdcc_chains.proofs.Filtered.{walk-found}
+use Rattle.mdcc_fact_folds.proofs.Chosen.{max_right, or_right}
 use Rattle.mdcc_fact_folds.proofs.Once.{entries-update}
 use Rattle.mdcc_fact_folds.proofs.Unheard.{write_set-updates}
-use Rattle.mdcc_fact_index.specs.Tallies.{HoldsTallies, IsTally, Tallied, counted_at, is_bare, limited, no_tally, tally_at, tally_in, with_vote}
+use Rattle.mdcc_delta_steps.proofs.Found.{none-heard}
+use Rattle.mdcc_fact_index.specs.Heard.{given_by}
+use Rattle.mdcc_fact_index.specs.Tallies.{AreGivenByOutcomes, HoldsTallies, ballot_of_vote, greatest_voted, IsTally, Tallied, counted_at, is_bare, limited, no_tally, tally_at, tally_in, with_adopted, with_vote}
 use Rattle.mdcc_fact_index.specs.declared.tallies.Tally.{Tally}
+use Rattle.mdcc_fact_index.proofs.Endings.{given-is}
 use Rattle.mdcc_fact_index.proofs.Entered.{same-instance}
 
 -- ---- the tally of an instance
@@ -133,6 +141,55 @@ marks-known k v b options (Some choice) tx known h =
       | inr none ↦ accepted-known options tx none parts.0
     ]
 
+-- ---- deltas, where nothing was adopted
+
+-- the fact adopts the instance
+abbrev pub adopts : Key → ℕ → Fact → Bool
+adopts key version (Fact.Adopted k v item adds) = v == version && key_eq k key
+adopts key version _ = false
+
+is-none : {X : Type 0} (a : Option X) → is_some a ≡ false → a ≡ None
+is-none None h = refl
+is-none (Some x) h = absurd (cc)
+
+-- the fact says nothing of the transaction
+given-still : (facts : List Fact) (fact : Fact) (key : Key) (version : ℕ) (tx : TxId) → value_of (deltas_at facts key version) tx ≡ value_of (given_by key version (heard_of facts tx)) tx
+    → value_of (deltas_from key version fact) tx ≡ None → outcome_in tx fact ≡ None
+    → value_of (deltas_at (fact ∷ facts) key version) tx ≡ value_of (given_by key version (heard_of (fact ∷ facts) tx)) tx
+given-still facts fact key version tx before none same =
+    value_of-union (deltas_at facts key version) (deltas_from key version fact) tx
+    ∙ ap (option_or (value_of (deltas_at facts key version) tx)) none
+    ∙ or_right (value_of (deltas_at facts key version) tx)
+    ∙ before
+    ∙ ap (λ heard. value_of (given_by key version heard) tx) (sym (ap (option_or (heard_of facts tx)) same ∙ or_right (heard_of facts tx)))
+
+-- it says how the transaction ended, which was not heard before
+given-heard : (facts : List Fact) (t : TxId) (outcome : Outcome) (key : Key) (version : ℕ) (tx : TxId) → value_of (deltas_at facts key version) tx ≡ value_of (given_by key version (heard_of facts tx)) tx
+    → tx_eq t tx ≡ true → heard_of facts tx ≡ None
+    → value_of (deltas_at (Fact.Heard t outcome ∷ facts) key version) tx ≡ value_of (given_by key version (heard_of (Fact.Heard t outcome ∷ facts) tx)) tx
+given-heard facts t outcome key version tx before same none =
+    let fact = Fact.Heard t outcome in
+    let nothing : value_of (deltas_at facts key version) tx ≡ None = before ∙ ap (λ heard. value_of (given_by key version heard) tx) none in
+    let heard : heard_of (Fact.Heard t outcome ∷ facts) tx ≡ Some outcome =
+    ap (λ h. option_or h (if tx_eq t tx then Some outcome else None)) none ∙ ap (λ b. if b then Some outcome else None) same in
+    value_of-union (deltas_at facts key version) (deltas_from key version (Fact.Heard t outcome)) tx
+    ∙ ap (λ d. option_or d (value_of (deltas_from key version (Fact.Heard t outcome)) tx)) nothing
+    ∙ given-is key version tx t outcome
+    ∙ ap (λ h. value_of (given_by key version h) tx) (sym heard)
+
+given-more : (facts : List Fact) (fact : Fact) (key : Key) (version : ℕ) → MayBeAdded facts fact → adopts key version fact ≡ false → AreGivenByOutcomes facts key version → AreGivenByOutcomes (fact ∷ facts) key version
+given-more facts (Fact.Booted epoch) key version may other before tx = given-still facts (Fact.Booted epoch) key version tx (before tx) refl refl
+given-more facts (Fact.Promised k low high b) key version may other before tx = given-still facts (Fact.Promised k low high b) key version tx (before tx) refl refl
+given-more facts (Fact.Voted k v b options offered) key version may other before tx = given-still facts (Fact.Voted k v b options offered) key version tx (before tx) refl refl
+given-more facts (Fact.Heard t outcome) key version may other before tx = elim (cases_Bool (tx_eq t tx)) [
+  | inl same ↦
+      let none : heard_of facts tx ≡ None = is-none (heard_of facts tx) (ap (is_heard facts) (sym (tx_eq-same t tx same)) ∙ may.heard) in
+      given-heard facts t outcome key version tx (before tx) same none
+  | inr apart ↦ given-still facts (Fact.Heard t outcome) key version tx (before tx) (none-heard key version tx t outcome may.well_formed apart) (rw apart refl)
+]
+given-more facts (Fact.Adopted k v item adds) key version may other before tx =
+    given-still facts (Fact.Adopted k v item adds) key version tx (before tx) (rw other refl) refl
+
 -- ---- one more fact
 
 -- a vote in the instance
@@ -143,12 +200,23 @@ module _ (tally : Tally) (facts : List Fact) (key : Key) (version : ℕ) (is : I
   unknown-before : (fact : Fact) (tx : TxId) → value_of (write_sets_of (fact ∷ facts)) tx ≡ None → (value_of (write_sets_of facts) tx ≡ None) × (value_of (write_sets_from fact) tx ≡ None)
   unknown-before fact tx h = or-none (value_of (write_sets_of facts) tx) (value_of (write_sets_from fact) tx) (sym (write_set-updates facts fact tx) ∙ h)
 
-  -- a fact that votes nothing in the instance
-  pub tally-same : (fact : Fact) → ((ballot : Ballot) → marks_voted key version ballot fact ≡ []) → ((tx : TxId) → mark_voted key version tx fact ≡ None) → MayBeAdded facts fact
-      → IsTally tally (fact ∷ facts) key version
-  tally-same fact marks votes may = record {
+  -- a fact that votes nothing in the instance, and does not adopt it
+  pub tally-same : (fact : Fact) → ((ballot : Ballot) → marks_voted key version ballot fact ≡ []) → ((tx : TxId) → mark_voted key version tx fact ≡ None) → adopts key version fact ≡ false
+      → ballot_of_vote key version fact ≡ fast_ballot → MayBeAdded facts fact → IsTally tally (fact ∷ facts) key version
+  tally-same fact marks votes other fast may = record {
+    ballot = is.ballot ∙ sym (ap (ballot_max (greatest_voted facts key version)) fast ∙ max_right (greatest_voted facts key version));
+    given = λ free. given-more facts fact key version may other (is.given free);
     entries = is.entries ∙ sym (entries-update facts fact key version may ∙ ap (fold with_mark (entries_at facts key version)) (marks fast_ballot));
     known = λ free tx h. ap (λ v. later_vote v (mark_voted key version tx fact)) (is.known free tx (unknown-before fact tx h).0) ∙ votes tx;
+  }
+
+  -- an adoption of the instance
+  pub tally-adopted : (k : Key) (v : ℕ) (item : Item) (adds : List Delta) → MayBeAdded facts (Fact.Adopted k v item adds) → IsTally (with_adopted tally) (Fact.Adopted k v item adds ∷ facts) key version
+  tally-adopted k v item adds may = record {
+    entries = is.entries ∙ sym (entries-update facts (Fact.Adopted k v item adds) key version may);
+    ballot = is.ballot ∙ sym (max_right (greatest_voted facts key version));
+    given = λ never. absurd (cc);
+    known = λ free tx h. ap (λ v. later_vote v None) (is.known free tx (unknown-before (Fact.Adopted k v item adds) tx h).0);
   }
 
   fast-marks : Ballot → Options → Options
@@ -173,6 +241,8 @@ module _ (tally : Tally) (facts : List Fact) (key : Key) (version : ℕ) (is : I
         entries = sym (counted-marks ballot options)
             ∙ ap (λ counts. fold with_mark counts (if ballot_eq ballot fast_ballot then options else [])) is.entries
             ∙ sym (entries-update facts fact key version may ∙ ap (fold with_mark (entries_at facts key version)) marks);
+        ballot = rw (same-version, same-key) (ap (λ b. ballot_max b ballot) is.ballot);
+        given = λ free. given-more facts (Fact.Voted k v ballot options offered) key version may refl (is.given free);
         known = λ free tx h.
             let parts = or-both tally.bare (is_bare options offered) free in
             let before = unknown-before fact tx h in
@@ -203,17 +273,52 @@ tallies-more old new facts k v ballot options offered gives holds may key versio
           let now : tally_in new (key, version) ≡ tally_in old (key, version) = gives (key, version) ∙ rw apart refl in
           subst (λ tally. IsTally tally (Fact.Voted k v ballot options offered ∷ facts) key version) (sym now)
           (tally-same (tally_in old (key, version)) facts key version (holds key version) (Fact.Voted k v ballot options offered)
-          (λ b. no-marks b elsewhere) (λ tx. rw elsewhere refl) may)
+          (λ b. no-marks b elsewhere) (λ tx. rw elsewhere refl) refl (rw elsewhere refl) may)
     ]
   where
     no-marks : (b : Ballot) → (v == version && key_eq k key) ≡ false → marks_voted key version b (Fact.Voted k v ballot options offered) ≡ []
     no-marks b h = grind (arith, h)
 
--- a fact that is no vote changes none
+-- all tallies, with one more adoption
+pub tallies-adopted : (old new : Tallied) (facts : List Fact) (k : Key) (v : ℕ) (item : Item) (adds : List Delta)
+    → ((other : Key × ℕ) → tally_in new other ≡ (if instance_eq other (k, v) then with_adopted (tally_in old (k, v)) else tally_in old other))
+    → HoldsTallies old facts → MayBeAdded facts (Fact.Adopted k v item adds) → HoldsTallies new (Fact.Adopted k v item adds ∷ facts)
+tallies-adopted old new facts k v item adds gives holds may key version =
+    let turned : instance_eq (key, version) (k, v) ≡ (v == version && key_eq k key) = same-instance key version (k, v) in
+    elim (cases_Bool (instance_eq (key, version) (k, v))) [
+      | inl same ↦
+          let one : (key, version) ≡ (k, v) = instance_eq-one (key, version) (k, v) same in
+          let now : tally_in new (key, version) ≡ with_adopted (tally_in old (key, version)) =
+          gives (key, version) ∙ rw same (ap (λ i. with_adopted (tally_in old i)) (sym one)) in
+          subst (λ tally. IsTally tally (Fact.Adopted k v item adds ∷ facts) key version) (sym now)
+          (tally-adopted (tally_in old (key, version)) facts key version (holds key version) k v item adds may)
+      | inr apart ↦
+          let elsewhere : (v == version && key_eq k key) ≡ false = sym turned ∙ apart in
+          let now : tally_in new (key, version) ≡ tally_in old (key, version) = gives (key, version) ∙ rw apart refl in
+          subst (λ tally. IsTally tally (Fact.Adopted k v item adds ∷ facts) key version) (sym now)
+          (tally-same (tally_in old (key, version)) facts key version (holds key version) (Fact.Adopted k v item adds) (λ b. refl) (λ tx. refl) elsewhere refl may)
+    ]
+
+-- a fact that is no vote and no adoption changes none
 pub tallies-same : (old : Tallied) (facts : List Fact) (fact : Fact) → ((key : Key) (version : ℕ) (ballot : Ballot) → marks_voted key version ballot fact ≡ [])
-    → ((key : Key) (version : ℕ) (tx : TxId) → mark_voted key version tx fact ≡ None) → HoldsTallies old facts → MayBeAdded facts fact → HoldsTallies old (fact ∷ facts)
-tallies-same old facts fact marks votes holds may key version = tally-same (tally_in old (key, version)) facts key version (holds key version) fact (marks key version) (votes key version) may
+    → ((key : Key) (version : ℕ) (tx : TxId) → mark_voted key version tx fact ≡ None) → ((key : Key) (version : ℕ) → adopts key version fact ≡ false)
+    → ((key : Key) (version : ℕ) → ballot_of_vote key version fact ≡ fast_ballot)
+    → HoldsTallies old facts → MayBeAdded facts fact → HoldsTallies old (fact ∷ facts)
+tallies-same old facts fact marks votes others fast holds may key version =
+    tally-same (tally_in old (key, version)) facts key version (holds key version) fact (marks key version) (votes key version) (others key version) (fast key version) may
+
+pub tallies-kept : (old : Tallied) (facts : List Fact) (fact : Fact)
+    → ((k : Key) (v : ℕ) (ballot : Ballot) (options : Options) (offered : Option Choice) → fact ≡ Fact.Voted k v ballot options offered → ⊥)
+    → ((k : Key) (v : ℕ) (item : Item) (adds : List Delta) → fact ≡ Fact.Adopted k v item adds → ⊥) → HoldsTallies old facts → MayBeAdded facts fact → HoldsTallies old (fact ∷ facts)
+tallies-kept old facts (Fact.Voted k v ballot options offered) no_vote no_adoption holds may = absurd (no_vote k v ballot options offered refl)
+tallies-kept old facts (Fact.Adopted k v item adds) no_vote no_adoption holds may = absurd (no_adoption k v item adds refl)
+tallies-kept old facts (Fact.Booted epoch) no_vote no_adoption holds may =
+    tallies-same old facts (Fact.Booted epoch) (λ k v b. refl) (λ k v tx. refl) (λ k v. refl) (λ k v. refl) holds may
+tallies-kept old facts (Fact.Promised k low high b) no_vote no_adoption holds may =
+    tallies-same old facts (Fact.Promised k low high b) (λ k v b. refl) (λ k v tx. refl) (λ k v. refl) (λ k v. refl) holds may
+tallies-kept old facts (Fact.Heard t outcome) no_vote no_adoption holds may =
+    tallies-same old facts (Fact.Heard t outcome) (λ k v b. refl) (λ k v tx. refl) (λ k v. refl) (λ k v. refl) holds may
 
 -- before any vote
 pub tallies_none : (room : ℕ) → HoldsTallies (record { instances = record { room = room; keys = [] }; tallies = [] }) []
-tallies_none room key version = record { entries = refl; known = λ free tx h. refl }
+tallies_none room key version = record { entries = refl; ballot = refl; given = λ free tx. refl; known = λ free tx h. refl }

@@ -1,5 +1,5 @@
 -- How transactions ended, found by their transactions.
-use Rattle.std.specs.Prelude.{List, Option, None, Some, Result, Ok, Err, [], ◌∷◌, ◌++◌, ◌≡◌, ◌<◌, ◌≤◌, Bool, ℕ, ◌==◌, false, get_or, length, option_map, true}
+use Rattle.std.specs.Prelude.{List, Option, None, Some, Result, Ok, Err, [], filter_map, ◌∷◌, ◌++◌, ◌≡◌, ◌<◌, ◌≤◌, Bool, ℕ, ◌==◌, false, get_or, length, option_map, true}
 use Rattle.mdcc_base.specs.TxId.{tx_eq}
 use Rattle.mdcc_base.specs.declared.identifiers.TxId.{TxId}
 use Rattle.mdcc_option.specs.declared.choices.Choice.{Choice}
@@ -7,6 +7,10 @@ use Rattle.mdcc_option.specs.declared.choices.Outcome.{Outcome}
 use Rattle.mdcc_messages.specs.Reading.{heard_at}
 use Rattle.mdcc_messages.specs.declared.facts.Fact.{Fact}
 use Rattle.mdcc_messages.specs.declared.wire.WireFault.{WireFault}
+use Rattle.mdcc_protocol.specs.Facts.{delta_given}
+use Rattle.mdcc_protocol.specs.Marks.{Amounts}
+use Rattle.mdcc_struct.specs.Maps.{TxMap}
+use Rattle.mdcc_base.specs.declared.key.Key.{Key}
 use Rattle.mdcc_chains.specs.Keyed.{Keyed}
 use Rattle.mdcc_chains.specs.Walks.{last_in, walk}
 
@@ -31,6 +35,11 @@ numbers_by _ number = []
 abbrev pub heard_numbers : List Fact → List ℕ
 heard_numbers [] = []
 heard_numbers (fact ∷ facts) = heard_numbers facts ++ numbers_by fact (length facts)
+
+-- the deltas that an outcome gives a version of a key
+abbrev pub given_by : Key → ℕ → Option Outcome → TxMap Amounts
+given_by key version (Some (Outcome.Commit choices)) = filter_map (delta_given key version) choices
+given_by key version _ = []
 
 -- ---- what is stored
 

@@ -12,6 +12,6 @@ pub mod tallies;
 pub use active::is_active;
 pub use instance_chains::InstanceChains;
 pub use outcomes::OutcomeIndex;
-pub use promises::{Promise, Promises};
+pub use promises::{Promise, Promises, ballot_max};
 pub use rooms::instances_in_cells;
 pub use tallies::{Tallies, Tally};

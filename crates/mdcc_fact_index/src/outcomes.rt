@@ -1,18 +1,20 @@
 //! How transactions ended, found by transaction.
 ghost use Rattle.std.specs.Prelude.{◌≡◌, ◌∷◌, ◌++◌, ◌<◌, ◌≤◌, ◌+◌, [], IfOk, IfSome, List, ℕ, get_or, length, vec_capacity, vec_len};
+ghost use Rattle.mdcc_struct.specs.Maps.{value_of};
 ghost use Rattle.mdcc_messages.specs.declared.facts.Fact.{Fact as AFact};
 ghost use Rattle.mdcc_protocol.specs.Facts.{heard_of};
 ghost use Rattle.mdcc_protocol.specs.Stores.{ended_of};
 ghost use Rattle.mdcc_fact_cells.specs.Holding.{Holds};
-ghost use Rattle.mdcc_fact_index.specs.Heard.{AreHeard, AreNumbersBelow, ended_told, heard_by, is_commit_spelled, number_found, numbers_by, outcome_spelled};
+ghost use Rattle.mdcc_fact_index.specs.Heard.{AreHeard, AreNumbersBelow, ended_told, given_by, heard_by, is_commit_spelled, number_found, numbers_by, outcome_spelled};
 
 use crate::commits::outcome_in;
-use mdcc_base::{Memory, TxId};
+use mdcc_base::{Key, Memory, TxId};
 use mdcc_chains::TransactionIndex;
+use mdcc_delta_steps::amounts_at;
 use mdcc_fact_cells::FactCells;
 use mdcc_fact_tables::HeardTest;
 use mdcc_messages::Fact;
-use mdcc_option::Outcome;
+use mdcc_option::{Amounts, Outcome};
 use std::alloc::Global;
 use std::marker::Model;
 
@@ -149,6 +151,17 @@ impl OutcomeIndex {
     {
         match self.number_of(&tx) {
             Some(number) => Some(is_commit_at(cells, number)),
+            None => None,
+        }
+    }
+
+    /// What the outcome that was heard of a transaction adds to a version of a key.
+    pub fn added(&self, cells: &FactCells, key: &Key, version: u64, tx: TxId) -> Option<Amounts>
+        requires { AreNumbersBelow (length cells.now.encodings) self.now.numbers }
+        ensures { (facts : List AFact) → Holds cells.now.encodings facts → AreHeard self.now facts → result ≡ value_of (given_by key.now version (heard_of facts tx)) tx }
+    {
+        match self.number_of(&tx) {
+            Some(number) => amounts_at(cells, number, key, version, &tx),
             None => None,
         }
     }

@@ -73,8 +73,8 @@ fn oldest_end(
     found
 }
 
-// The greater of two ballots.
-fn ballot_max(a: Ballot, b: Ballot) -> Ballot
+/// The greater of two ballots.
+pub fn ballot_max(a: Ballot, b: Ballot) -> Ballot
     ensures { result ≡ ballot_max a b }
 {
     if a.is_below(&b) { b } else { a }

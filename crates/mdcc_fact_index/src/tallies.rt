@@ -1,11 +1,12 @@
-//! What the votes of each instance come to, found by it.
+//! What the votes and adoptions of each instance come to, found by it.
 ghost use Rattle.std.specs.Prelude.{◌≡◌, ◌+◌, ◌<◌, ◌≤◌, [], ◌∷◌, IfOk, List, if◌then◌else◌, length, ℕ};
 ghost use Rattle.mdcc_base.specs.declared.key.Key.{Key as AKey};
 ghost use Rattle.mdcc_messages.specs.declared.facts.Fact.{Fact as AFact};
 ghost use Rattle.mdcc_facts.specs.Adding.{MayBeAdded};
 ghost use Rattle.mdcc_chains.specs.Keys.{instance_eq};
-ghost use Rattle.mdcc_fact_index.specs.Tallies.{HoldsTallies, counted_at, is_bare, limited, tally_in, with_vote};
+ghost use Rattle.mdcc_fact_index.specs.Tallies.{HoldsTallies, counted_at, is_bare, limited, tally_in, with_adopted, with_vote};
 
+use crate::promises::ballot_max;
 use mdcc_base::{Ballot, Key, Memory};
 use mdcc_chains::InstanceIndex;
 use mdcc_messages::Fact;
@@ -15,15 +16,19 @@ use std::alloc::Global;
 use std::marker::Model;
 
 /// How many marks accept and how many reject in an instance at the fast ballot, each at most
-/// 2^32 - 1, and whether a vote rejects there a transaction of which it has no choice.
+/// 2^32 - 1, whether a vote rejects there a transaction of which it has no choice, whether the
+/// instance was adopted, and the greatest ballot of its votes, the fast one where there is none.
 #[derive(Clone, Copy)]
 pub struct Tally {
     pub accepts: u32,
     pub rejects: u32,
     pub bare: bool,
+    pub adopted: bool,
+    pub ballot: Ballot,
 }
 
-/// The tallies of instances. A vote enters one for its instance, which counts from then on.
+/// The tallies of instances. A vote or an adoption enters one for its instance, which counts from then
+/// on.
 #[derive(Drop)]
 pub struct Tallies {
     instances: InstanceIndex,
@@ -75,6 +80,21 @@ fn with_vote(tally: Tally, ballot: &Ballot, options: &Options, offered: &Option<
         accepts: limited(tally.accepts, counted_at(ballot, options.accepted())),
         rejects: limited(tally.rejects, counted_at(ballot, options.rejected())),
         bare: tally.bare || is_bare(options, offered),
+        adopted: tally.adopted,
+        ballot: ballot_max(tally.ballot, *ballot),
+    }
+}
+
+// A tally with one more adoption.
+fn with_adopted(tally: Tally) -> Tally
+    ensures { result ≡ with_adopted tally }
+{
+    Tally {
+        accepts: tally.accepts,
+        rejects: tally.rejects,
+        bare: tally.bare,
+        adopted: true,
+        ballot: tally.ballot,
     }
 }
 
@@ -101,6 +121,8 @@ impl Tallies {
                 accepts: 0,
                 rejects: 0,
                 bare: false,
+                adopted: false,
+                ballot: Ballot::FAST,
             },
         }
     }
@@ -114,6 +136,17 @@ impl Tallies {
     {
         self.instances.push(instance);
         self.tallies.push_reserved(tally);
+    }
+
+    // Notes that an instance was adopted.
+    fn push_adopted(&mut self, instance: (Key, u64))
+        requires { length self.old.instances.keys < self.old.instances.room }
+        ensures tallies { (other : AKey × ℕ) → tally_in self.new other ≡ (if instance_eq other instance then with_adopted (tally_in self.old instance) else tally_in self.old other) }
+        ensures few { length self.new.instances.keys ≡ length self.old.instances.keys + 1 }
+        ensures room { self.new.instances.room ≡ self.old.instances.room }
+    {
+        let tally = with_adopted(self.tally(&instance));
+        self.push(instance, tally);
     }
 
     /// Adds a fact.
@@ -134,6 +167,14 @@ impl Tallies {
             let instance = (*key, *version);
             let tally = with_vote(self.tally(&instance), ballot, options, offered);
             self.push(instance, tally);
+        } else if let Fact::Adopted {
+            key,
+            version,
+            item: _,
+            adds: _,
+        } = fact
+        {
+            self.push_adopted((*key, *version));
         }
     }
 }

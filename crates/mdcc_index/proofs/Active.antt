@@ -19,7 +19,6 @@ use Rattle.mdcc_protocol.specs.declared.fit.Load.{Load}
 use Rattle.mdcc_escrow.specs.Weights.{with_live}
 use Rattle.mdcc_fact_folds.specs.Chains.{Covers, is_delta_in, is_of_instance}
 use Rattle.mdcc_fact_folds.specs.Live.{is_counted, is_live_by, load_steps}
-use Rattle.mdcc_fact_folds.specs.Promises.{with_promise}
 use Rattle.mdcc_fact_folds.specs.Votes.{with_ballot}
 use Rattle.mdcc_fact_folds.proofs.Chosen.{max_left}
 use Rattle.mdcc_fact_index.specs.Active.{is_active}
@@ -53,15 +52,6 @@ no-live key version (Fact.Voted k v b options offered) h =
     pick-none _ (filter_map live_mark options) [] (no-mark-live options (parts-false (ballot_eq b fast_ballot) (nat_lt 0 (length (accepts_in options))) h).1)
 no-live key version (Fact.Heard tx outcome) h = absurd (cc)
 no-live key version (Fact.Adopted k v item adds) h = absurd (cc)
-
-pub same-promise : (key : Key) (version : ℕ) (ballot : Ballot) (fact : Fact) → is_active fact ≡ false → with_promise key version ballot fact ≡ ballot
-same-promise key version ballot (Fact.Booted epoch) h = absurd (cc)
-same-promise key version ballot (Fact.Promised k low high b) h = absurd (cc)
-same-promise key version ballot (Fact.Voted k v b options offered) h =
-    let fast = ballot_eq-same b fast_ballot (parts-false (ballot_eq b fast_ballot) (nat_lt 0 (length (accepts_in options))) h).0 in
-    ap (λ a. ballot_max a ballot) (pick-none _ b fast_ballot fast) ∙ max_left ballot
-same-promise key version ballot (Fact.Heard tx outcome) h = absurd (cc)
-same-promise key version ballot (Fact.Adopted k v item adds) h = absurd (cc)
 
 pub same-ballot : (key : Key) (version : ℕ) (below ballot : Ballot) (fact : Fact) → is_active fact ≡ false → with_ballot key version below ballot fact ≡ ballot
 same-ballot key version below ballot (Fact.Booted epoch) h = absurd (cc)

@@ -1,5 +1,7 @@
 pub mod Active
 pub mod Adding
+pub mod Amounts
+pub mod Barred
 pub mod Marked
 pub mod Reading
 pub mod Stepped

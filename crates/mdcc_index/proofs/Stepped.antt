@@ -10,18 +10,15 @@ use Rattle.mdcc_option.specs.declared.choices.Mark.{Mark}
 use Rattle.mdcc_messages.specs.declared.facts.Fact.{Fact}
 use Rattle.mdcc_struct.specs.declared.options.Options.{Options}
 use Rattle.mdcc_fact_folds.specs.Chains.{Covers, is_of_instance, is_delta_in, is_vote_in}
-use Rattle.mdcc_fact_folds.specs.Live.{with_count, with_entries}
-use Rattle.mdcc_fact_folds.specs.Promises.{with_promise}
+use Rattle.mdcc_fact_folds.specs.Live.{with_count}
 use Rattle.mdcc_fact_folds.specs.Votes.{least_above, older_choice, older_mark, older_vote, with_ballot}
 use Rattle.mdcc_fact_folds.proofs.Covered.{covers-deltas, covers-votes}
 use Rattle.mdcc_vote_steps.specs.declared.ballots.WithBallot.{WithBallot}
-use Rattle.mdcc_vote_steps.specs.declared.ballots.WithPromise.{WithPromise}
 use Rattle.mdcc_vote_steps.specs.declared.older.OlderChoice.{OlderChoice}
 use Rattle.mdcc_vote_steps.specs.declared.older.OlderMark.{OlderMark}
 use Rattle.mdcc_vote_steps.specs.declared.older.OlderVote.{OlderVote}
 use Rattle.mdcc_vote_steps.specs.declared.tallies.LeastAbove.{LeastAbove}
 use Rattle.mdcc_vote_steps.specs.declared.tallies.WithCount.{WithCount}
-use Rattle.mdcc_vote_steps.specs.declared.tallies.WithEntries.{WithEntries}
 
 -- the facts of an instance are its votes, and those that bring deltas there
 pub votes-covered : (key : Key) (version : ℕ) → Covers (is_of_instance key version) (is_vote_in key version)
@@ -31,12 +28,6 @@ pub deltas-covered : (key : Key) (version : ℕ) → Covers (is_of_instance key 
 deltas-covered key version = covers-deltas (is_of_instance key version) key version (λ fact is. is)
 
 module _ (key : Key) (version : ℕ) where
-  pub promise-stepped : (ballot : Ballot) (facts : List Fact)
-      → (fold (λ (s : WithPromise) fact. record s { ballot = with_promise s.key s.version s.ballot fact }) (record { key = key; version = version; ballot = ballot }) facts).ballot
-      ≡ fold (with_promise key version) ballot facts
-  promise-stepped ballot [] = refl
-  promise-stepped ballot (fact ∷ facts) = promise-stepped (with_promise key version ballot fact) facts
-
   pub vote-stepped : (tx : TxId) (found : Option (Ballot × Mark)) (facts : List Fact)
       → (fold (λ (s : OlderVote) fact. record s { found = older_vote s.key s.version s.tx s.found fact }) (record { key = key; version = version; tx = tx; found = found }) facts).found
       ≡ fold (older_vote key version tx) found facts
@@ -66,17 +57,6 @@ module _ (key : Key) (version : ℕ) where
       ≡ fold (least_above key version ballot last) found facts
   least-stepped ballot last found [] = refl
   least-stepped ballot last found (fact ∷ facts) = least-stepped ballot last (least_above key version ballot last found fact) facts
-
-  abbrev entries_step : WithEntries → Fact → WithEntries
-  entries_step s fact = let counts = with_entries s.key s.version (s.accepts, s.rejects) fact in record s { accepts = counts.0; rejects = counts.1 }
-
-  abbrev counts_in : WithEntries → ℕ × ℕ
-  counts_in s = (s.accepts, s.rejects)
-
-  pub entries-stepped : (counts : ℕ × ℕ) (facts : List Fact)
-      → counts_in (fold entries_step (record { key = key; version = version; accepts = counts.0; rejects = counts.1 }) facts) ≡ fold (with_entries key version) counts facts
-  entries-stepped counts [] = refl
-  entries-stepped counts (fact ∷ facts) = entries-stepped (with_entries key version counts fact) facts
 
 -- a count that stops at a limit
 module _ (key : Key) (version : ℕ) (ballot : Ballot) (options : Options) where

@@ -3,10 +3,10 @@ ghost use Rattle.std.specs.List.{list_any};
 ghost use Rattle.std.specs.Prelude.{◌≡◌, List, map, option_map};
 ghost use Rattle.mdcc_fact_folds.specs.Held.{delta_by};
 ghost use Rattle.mdcc_messages.specs.declared.facts.Fact.{Fact as AFact};
-ghost use Rattle.mdcc_protocol.specs.Facts.{base_of, current_of, executed_of};
+ghost use Rattle.mdcc_protocol.specs.Facts.{base_of, current_of, deltas_at, executed_of};
 ghost use Rattle.mdcc_protocol.specs.News.{is_crowding};
 ghost use Rattle.mdcc_protocol.specs.Stores.{delta_of};
-ghost use Rattle.mdcc_struct.specs.Maps.{txs_of};
+ghost use Rattle.mdcc_struct.specs.Maps.{txs_of, value_of};
 ghost use Rattle.mdcc_index.specs.Crowding.{is_key_crowded};
 ghost use Rattle.mdcc_index.specs.Stores.{Represents};
 
@@ -55,11 +55,10 @@ impl PoolFacts {
         state.seen
     }
 
-    /// The delta of an executed transaction.
-    pub fn delta(&self, key: &Key, tx: TxId) -> Option<Delta>
-        ensures { (facts : List AFact) → Represents self.now facts → result ≡ delta_of facts key.now tx }
+    // What the delta of a transaction adds to a version of a key, by a walk over the facts of that.
+    fn walked_amounts(&self, key: &Key, version: u64, tx: TxId) -> Option<Amounts>
+        ensures { (facts : List AFact) → Represents self.now facts → result ≡ value_of (deltas_at facts key.now version) tx }
     {
-        let version = self.current(key);
         let mut state = OlderAmounts {
             key: *key,
             version,
@@ -67,7 +66,27 @@ impl PoolFacts {
             found: None,
         };
         self.walk_active(key, version, &mut state);
-        delta_by(tx, state.found)
+        state.found
+    }
+
+    // The same. Where nothing was adopted, the outcome of the transaction alone has its delta.
+    fn amounts_at(&self, key: &Key, version: u64, tx: TxId) -> Option<Amounts>
+        ensures { (facts : List AFact) → Represents self.now facts → result ≡ value_of (deltas_at facts key.now version) tx }
+    {
+        let tally = self.tallies.tally(&(*key, version));
+        if tally.adopted {
+            self.walked_amounts(key, version, tx)
+        } else {
+            self.outcomes.added(&self.cells, key, version, tx)
+        }
+    }
+
+    /// The delta of an executed transaction.
+    pub fn delta(&self, key: &Key, tx: TxId) -> Option<Delta>
+        ensures { (facts : List AFact) → Represents self.now facts → result ≡ delta_of facts key.now tx }
+    {
+        let version = self.current(key);
+        delta_by(tx, self.amounts_at(key, version, tx))
     }
 
     // Whether more than 64 deltas of a key would be executed with this fact.

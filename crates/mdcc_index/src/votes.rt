@@ -14,12 +14,12 @@ ghost use Rattle.mdcc_index.specs.Stores.{Represents};
 use crate::PoolFacts;
 use mdcc_base::{Ballot, Key, Memory, TxId};
 use mdcc_fact_cells::FactStep;
+use mdcc_fact_index::ballot_max;
 use mdcc_fact_tables::HeardTest;
 use mdcc_option::{Choice, Mark};
 use mdcc_struct::Options;
 use mdcc_vote_steps::{
     GatheredMarks, LeastAbove, OlderChoice, OlderMark, OlderVote, WithBallot, WithCount,
-    WithPromise,
 };
 use std::alloc::Global;
 
@@ -42,13 +42,9 @@ impl PoolFacts {
     pub fn promise(&self, key: &Key, version: u64) -> Ballot
         ensures { (facts : List AFact) → Represents self.now facts → result ≡ promise_of facts key.now version }
     {
-        let mut state = WithPromise {
-            key: *key,
-            version,
-            ballot: self.promises.greatest(key, version),
-        };
-        self.walk_active(key, version, &mut state);
-        state.ballot
+        let tally = self.tallies.tally(&(*key, version));
+        let promised = self.promises.greatest(key, version);
+        ballot_max(tally.ballot, promised)
     }
 
     // Whether no fact has a choice of a transaction, as far as tables tell.

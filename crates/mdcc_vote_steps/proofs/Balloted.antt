@@ -8,27 +8,9 @@ use Rattle.mdcc_messages.specs.Spelling.{fact_bytes}
 use Rattle.mdcc_messages.specs.WellFormed.{IsWellFormedFact}
 use Rattle.mdcc_messages.specs.declared.facts.Fact.{Fact}
 use Rattle.mdcc_messages.specs.declared.facts.Fact.TheVariants as facts
-use Rattle.mdcc_protocol.specs.Facts.{ballot_promised, ballot_voted}
-use Rattle.mdcc_vote_steps.specs.Ballots.{ballot_below, ballot_or, promised_in, voted_in}
-use Rattle.mdcc_vote_steps.specs.Heads.{promise_in}
-use Rattle.mdcc_vote_steps.proofs.Headed.{head-again, head_from, promise-in-again, promise_from}
-
-promise-of : (key : List ℕ) (version : ℕ) (fact : Fact) → ballot_or (head_from key version fact) (promise_from key version fact) ≡ ballot_promised key version fact
-promise-of key version (facts.Voted k v ballot options offered) = by (v == version && key_eq k key)
-  where
-    by : (test : Bool) → ballot_or (if test then Some (record { ballot = ballot; count = length options; begin = 23 + length k }) else None) fast_ballot ≡ (if test then ballot else fast_ballot)
-    by true = refl
-    by false = refl
-promise-of key version (facts.Promised k low high ballot) = refl
-promise-of key version (facts.Booted epoch) = refl
-promise-of key version (facts.Heard tx outcome) = refl
-promise-of key version (facts.Adopted k v item adds) = refl
-
-pub promised-again : (key : List ℕ) (version : ℕ) (fact : Fact) → IsWellFormedFact fact → promised_in key version (fact_bytes fact) ≡ ballot_promised key version fact
-promised-again key version fact w =
-    ap (λ head. ballot_or head (promise_in key version (fact_bytes fact))) (head-again key version fact w)
-    ∙ ap (ballot_or (head_from key version fact)) (promise-in-again key version fact w)
-    ∙ promise-of key version fact
+use Rattle.mdcc_protocol.specs.Facts.{ballot_voted}
+use Rattle.mdcc_vote_steps.specs.Ballots.{ballot_below, voted_in}
+use Rattle.mdcc_vote_steps.proofs.Headed.{head-again, head_from}
 
 voted-of : (key : List ℕ) (version : ℕ) (below : Ballot) (fact : Fact) → ballot_below below (head_from key version fact) ≡ ballot_voted key version below fact
 voted-of key version below (facts.Voted k v ballot options offered) = by (v == version) (key_eq k key) (ballot_lt ballot below) refl

@@ -25,7 +25,7 @@ use Rattle.mdcc_spelling.proofs.Identifiers.{ballot_again, key_again}
 use Rattle.mdcc_spelling.proofs.Numbers.{u32_again, u64_again, u8_again, u8_within_again}
 use Rattle.mdcc_spelling.proofs.Places.{IsAt, apart-5}
 use Rattle.mdcc_spelling.proofs.Steps.{done}
-use Rattle.mdcc_vote_steps.specs.Heads.{any_head, head_any, head_in, head_of, promise_at, promise_in, promise_of, vote_at}
+use Rattle.mdcc_vote_steps.specs.Heads.{any_head, head_any, head_in, head_of, vote_at}
 use Rattle.mdcc_vote_steps.specs.declared.heads.Head.{Head}
 use Rattle.mdcc_vote_steps.proofs.Fronts.{front-at}
 
@@ -115,49 +115,3 @@ any-head-again (facts.Booted epoch) w = no-head 1 (drop 1 (fact_bytes (facts.Boo
 any-head-again (facts.Promised k low high ballot) w = no-head 2 (drop 1 (fact_bytes (facts.Promised k low high ballot))) (omega arith) refl
 any-head-again (facts.Heard tx outcome) w = no-head 4 (drop 1 (fact_bytes (facts.Heard tx outcome))) (omega arith) refl
 any-head-again (facts.Adopted k v item adds) w = no-head 5 (drop 1 (fact_bytes (facts.Adopted k v item adds))) (omega arith) refl
-
--- ---- promises
-
-module _ (key : List ℕ) (low high : ℕ) (ballot : Ballot) where
-  abbrev promised : Fact
-  promised = facts.Promised key low high ballot
-
-  promised-length : length (fact_bytes promised) ≡ 27 + length key
-  promised-length =
-      omega (
-        arith,
-        length-append (key ++ u64_bytes low ++ u64_bytes high) (ballot_bytes ballot),
-        length-append (key ++ u64_bytes low) (u64_bytes high),
-        length-append key (u64_bytes low),
-      )
-
-  promise-again : IsWellFormedFact promised → promise_at (take 64 (fact_bytes promised)) ≡ Ok ((key, low, high, ballot), 27 + length key)
-  promise-again w =
-      let bytes = take 64 (fact_bytes promised) in
-      let short : length (fact_bytes promised) ≤ 64 = omega (arith, promised-length, w.instance.key_itself.fits) in
-      let p = apart-5 bytes 0 (u8_bytes 2) (key_bytes key) (u64_bytes low) (u64_bytes high) (ballot_bytes ballot) (front-at (fact_bytes promised) (fact_bytes promised) [] 64 (sym (append-nil (fact_bytes promised))) short) in
-      let tag = u8_within_again 0 2 2 bytes 0 2 (omega arith) (omega arith, omega arith) p.0 in
-      let e0 = key_again bytes 1 key w.instance.key_itself p.1 in
-      let e1 = u64_again bytes (1 + length (key_bytes key)) low w.instance.version_fits p.2 in
-      let e2 = u64_again bytes (1 + length (key_bytes key) + 8) high w.high_fits p.3 in
-      let e3 = ballot_again bytes (1 + length (key_bytes key) + 8 + 8) ballot w.ballot_itself p.4 in
-      rw (tag, e0, e1, e2, e3) (ap (λ n. done ((key, low, high, ballot), n)) (omega arith))
-
--- what is said of a promise
-abbrev pub promise_from : List ℕ → ℕ → Fact → Ballot
-promise_from key version (facts.Promised k low high ballot) = if nat_le low version && nat_le version high && key_eq k key then ballot else fast_ballot
-promise_from key version _ = fast_ballot
-
-abbrev promise_after : List ℕ → ℕ × ℕ → Result ((List ℕ × ℕ × ℕ × Ballot) × ℕ) WireFault
-promise_after bytes tag =
-    instance_at bytes tag.1 >>= λ instance. u64_at bytes instance.1 >>= λ high. ballot_at bytes high.1 >>= λ ballot. Ok ((instance.0.0, instance.0.1, high.0, ballot.0), ballot.1)
-
-no-promise : (key : List ℕ) (version n : ℕ) (rest : List ℕ) → n < 2 ^ 8 → is_in_range 2 2 n ≡ false → promise_in key version (n ∷ rest) ≡ fast_ballot
-no-promise key version n rest small other = ap (λ tag. promise_of key version (tag >>= promise_after (take 64 (n ∷ rest)))) (tag-other 2 2 n rest small other)
-
-pub promise-in-again : (key : List ℕ) (version : ℕ) (fact : Fact) → IsWellFormedFact fact → promise_in key version (fact_bytes fact) ≡ promise_from key version fact
-promise-in-again key version (facts.Promised k low high ballot) w = ap (promise_of key version) (promise-again k low high ballot w)
-promise-in-again key version (facts.Booted epoch) w = no-promise key version 1 (drop 1 (fact_bytes (facts.Booted epoch))) (omega arith) refl
-promise-in-again key version (facts.Voted k v ballot options offered) w = no-promise key version 3 (drop 1 (fact_bytes (facts.Voted k v ballot options offered))) (omega arith) refl
-promise-in-again key version (facts.Heard tx outcome) w = no-promise key version 4 (drop 1 (fact_bytes (facts.Heard tx outcome))) (omega arith) refl
-promise-in-again key version (facts.Adopted k v item adds) w = no-promise key version 5 (drop 1 (fact_bytes (facts.Adopted k v item adds))) (omega arith) refl

@@ -1,7 +1,7 @@
 -- A fold of steps keeps the fold of what is found.
-use Rattle.std.proofs.Common.{◌≡◌, ℕ, ◌+◌, ◌-◌, ◌^◌, ◌<◌, Bool, true, false, List, [], ◌∷◌, refl, ◌∙◌, arith}
-use Rattle.std.specs.List.{fold, list_any}
-use Rattle.std.specs.Prelude.{is_some, min, ◌||◌}
+use Rattle.std.proofs.Common.{◌≡◌, ℕ, ◌+◌, ◌-◌, ◌^◌, ◌<◌, List, [], ◌∷◌, refl, ◌∙◌, arith}
+use Rattle.std.specs.List.{fold}
+use Rattle.std.specs.Prelude.{is_some, min}
 use Rattle.mdcc_base.specs.Counts.{number_of}
 use Rattle.mdcc_base.specs.declared.identifiers.Ballot.{Ballot}
 use Rattle.mdcc_base.specs.declared.key.Key.{Key}
@@ -10,13 +10,8 @@ use Rattle.mdcc_struct.specs.Options.{Marks}
 use Rattle.mdcc_messages.specs.declared.facts.Fact.{Fact}
 use Rattle.mdcc_protocol.specs.Facts.{marks_voted}
 use Rattle.mdcc_fact_folds.specs.Live.{with_count}
-use Rattle.mdcc_fact_folds.specs.Votes.{is_mark_of}
-use Rattle.mdcc_vote_steps.specs.Steps.{ballot_step, choice_step, count_step, entries_step, has_mark_step, least_step, mark_step, promise_step, vote_step}
-use Rattle.mdcc_vote_steps.specs.Steps.{BallotIsWalked, ChoiceIsWalked, CountIsWalked, EntriesAreWalked, HasMarkIsWalked, LeastIsWalked, MarkIsWalked, PromiseIsWalked, VoteIsWalked}
-
-pub promise-walked : PromiseIsWalked
-promise-walked s [] = refl
-promise-walked s (fact ∷ facts) = promise-walked (promise_step s fact) facts
+use Rattle.mdcc_vote_steps.specs.Steps.{ballot_step, choice_step, count_step, least_step, mark_step, vote_step}
+use Rattle.mdcc_vote_steps.specs.Steps.{BallotIsWalked, ChoiceIsWalked, CountIsWalked, LeastIsWalked, MarkIsWalked, VoteIsWalked}
 
 pub ballot-walked : BallotIsWalked
 ballot-walked s [] = refl
@@ -34,27 +29,9 @@ pub choice-walked : ChoiceIsWalked
 choice-walked s [] = refl
 choice-walked s (fact ∷ facts) = choice-walked (choice_step s fact) facts
 
-or-false : (a : Bool) → a ≡ (a || false)
-or-false true = refl
-or-false false = refl
-
-or-assoc : (a b c : Bool) → ((a || b) || c) ≡ (a || (b || c))
-or-assoc true b c = refl
-or-assoc false b c = refl
-
-pub has_mark-walked : HasMarkIsWalked
-has_mark-walked s [] = or-false s.found
-has_mark-walked s (fact ∷ facts) =
-    has_mark-walked (has_mark_step s fact) facts
-    ∙ or-assoc s.found (is_mark_of s.key s.version s.ballot s.tx fact) (list_any (is_mark_of s.key s.version s.ballot s.tx) facts)
-
 pub least-walked : LeastIsWalked
 least-walked s [] = refl
 least-walked s (fact ∷ facts) = least-walked (least_step s fact) facts
-
-pub entries-walked : EntriesAreWalked
-entries-walked s [] = refl
-entries-walked s (fact ∷ facts) = entries-walked (entries_step s fact) facts
 
 -- counts that begin with more have more
 count-more : (key : Key) (version : ℕ) (ballot : Ballot) (options : Marks) (count : ℕ) (facts : List Fact)

@@ -1,6 +1,5 @@
 -- What the marks of a fact amount to, as they are read in its bytes.
 use Rattle.std.proofs.Common.{◌≡◌, ℕ, ◌+◌, Bool, true, false, List, [], ◌∷◌, Option, Some, None, length, drop, map, refl, ap, ◌∙◌}
-use Rattle.std.specs.List.{fold}
 use Rattle.std.specs.Prelude.{if◌then◌else◌, is_some, ◌&&◌, ◌==◌, ◌||◌}
 use Rattle.mdcc_base.specs.Ballot.{ballot_eq}
 use Rattle.mdcc_base.specs.Counts.{number_of}
@@ -15,11 +14,9 @@ use Rattle.mdcc_messages.specs.WellFormed.{IsWellFormedFact}
 use Rattle.mdcc_messages.specs.declared.facts.Fact.{Fact}
 use Rattle.mdcc_protocol.specs.Facts.{marks_voted}
 use Rattle.mdcc_facts.specs.Walks.{least_from, lower_passing}
-use Rattle.mdcc_facts.specs.Weights.{with_mark}
 use Rattle.mdcc_facts.proofs.Counting.{count-either}
 use Rattle.mdcc_vote_steps.specs.Marks.{tags_in}
 use Rattle.mdcc_vote_steps.specs.Tags.{tags_at, tags_by}
-use Rattle.mdcc_vote_steps.specs.Tallies.{with_tag}
 use Rattle.mdcc_vote_steps.proofs.Headed.{head-again, head_from}
 use Rattle.mdcc_vote_steps.proofs.Marked.{encoding, head_itself, tag_of, tags-of}
 
@@ -48,22 +45,9 @@ tags-at-again key version ballot fact w = ap (tags_by ballot (fact_bytes fact)) 
 
 -- ---- what tags say of marks
 
-pub has-of-tags : (marks : Marks) (tx : TxId) → is_some (value_of (map tag_of marks) tx) ≡ is_some (value_of marks tx)
-has-of-tags [] tx = refl
-has-of-tags (e ∷ es) tx = by (tx_eq e.0 tx) (has-of-tags es tx)
-  where
-    by : (same : Bool) → is_some (value_of (map tag_of es) tx) ≡ is_some (value_of es tx)
-        → is_some (if same then Some (tag_of e).1 else value_of (map tag_of es) tx) ≡ is_some (if same then Some e.1 else value_of es tx)
-    by true others = refl
-    by false others = others
-
 pub least-of-tags : (test : TxId → Bool) (found : Option TxId) (marks : Marks) → least_from test found (map tag_of marks) ≡ least_from test found marks
 least-of-tags test found [] = refl
 least-of-tags test found (e ∷ es) = least-of-tags test (lower_passing test found e.0) es
-
-pub fold-of-tags : (counts : ℕ × ℕ) (marks : Marks) → fold with_tag counts (map tag_of marks) ≡ fold with_mark counts marks
-fold-of-tags counts [] = refl
-fold-of-tags counts (e ∷ es) = fold-of-tags (with_mark counts e) es
 
 number-of-tags : (p : TxId → Bool) (marks : Marks) → number_of (λ tag. p tag.0) (map tag_of marks) ≡ number_of (λ e. p e.0) marks
 number-of-tags p [] = refl
@@ -83,13 +67,3 @@ marks-ascend key version ballot (Fact.Voted k v b options offered) w = by (v == 
     by : (test : Bool) → are_ascending (if test then options else []) ≡ true
     by true = w.options_itself.ascending
     by false = refl
-
--- ---- tests
-
-pub or-true : (a b : Bool) → a ≡ true → a ≡ (a || b)
-or-true true b is = refl
-or-true false b is = absurd (cc)
-
-pub or-false : (a b : Bool) → a ≡ false → b ≡ (a || b)
-or-false true b is = absurd (cc)
-or-false false b is = refl

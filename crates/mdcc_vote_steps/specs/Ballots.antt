@@ -1,18 +1,9 @@
--- The ballots of votes and of promises, in the bytes of a fact.
+-- The ballots of votes, in the bytes of a fact.
 use Rattle.std.specs.Prelude.{List, None, Option, Some, ℕ, if◌then◌else◌}
 use Rattle.mdcc_base.specs.Ballot.{ballot_lt, fast_ballot}
 use Rattle.mdcc_base.specs.declared.identifiers.Ballot.{Ballot}
-use Rattle.mdcc_vote_steps.specs.Heads.{head_in, promise_in}
+use Rattle.mdcc_vote_steps.specs.Heads.{head_in}
 use Rattle.mdcc_vote_steps.specs.declared.heads.Head.{Head}
-
--- the ballot of a vote, or another one where there is none
-abbrev pub ballot_or : Option Head → Ballot → Ballot
-ballot_or (Some head) other = head.ballot
-ballot_or None other = other
-
--- the ballot below which a fact bars votes in an instance
-abbrev pub promised_in : List ℕ → ℕ → List ℕ → Ballot
-promised_in key version bytes = ballot_or (head_in key version bytes) (promise_in key version bytes)
 
 abbrev pub ballot_below : Ballot → Option Head → Ballot
 ballot_below below (Some head) = if ballot_lt head.ballot below then head.ballot else fast_ballot

@@ -34,21 +34,3 @@ any_head (Err fault) = None
 -- the head of a vote in any instance
 abbrev pub head_any : List ℕ → Option Head
 head_any bytes = any_head (vote_at (take 64 bytes))
-
--- the key, the versions and the ballot of a promise
-abbrev pub promise_at : List ℕ → Result ((List ℕ × ℕ × ℕ × Ballot) × ℕ) WireFault
-promise_at bytes = do
-  tag ← u8_within 0 2 2 bytes 0
-  instance ← instance_at bytes tag.1
-  high ← u64_at bytes instance.1
-  ballot ← ballot_at bytes high.1
-  Ok ((instance.0.0, instance.0.1, high.0, ballot.0), ballot.1)
-
-abbrev pub promise_of : List ℕ → ℕ → Result ((List ℕ × ℕ × ℕ × Ballot) × ℕ) WireFault → Ballot
-promise_of key version (Ok promise) =
-    if nat_le promise.0.1 version && nat_le version promise.0.2 && key_eq promise.0.0 key then promise.0.3 else fast_ballot
-promise_of key version (Err fault) = fast_ballot
-
--- the ballot that is promised in an instance, and else the fast one
-abbrev pub promise_in : List ℕ → ℕ → List ℕ → Ballot
-promise_in key version bytes = promise_of key version (promise_at (take 64 bytes))

@@ -6,5 +6,4 @@ pub mod Older
 pub mod Passing
 pub mod Steps
 pub mod Tags
-pub mod Tallies
 pub mod WriteSets

@@ -1,24 +1,17 @@
 -- What each step keeps of one more fact, and of all facts of a walk.
-use Rattle.std.specs.List.{fold, list_any}
-use Rattle.std.specs.Prelude.{◌≡◌, ◌<◌, List, ◌-◌, ◌^◌, ◌||◌, min}
+use Rattle.std.specs.List.{fold}
+use Rattle.std.specs.Prelude.{◌≡◌, ◌<◌, List, ◌-◌, ◌^◌, min}
 use Rattle.mdcc_messages.specs.declared.facts.Fact.{Fact}
-use Rattle.mdcc_fact_folds.specs.Live.{with_count, with_entries}
-use Rattle.mdcc_fact_folds.specs.Promises.{with_promise}
-use Rattle.mdcc_fact_folds.specs.Votes.{is_mark_of, least_above, older_choice, older_mark, older_vote, with_ballot}
+use Rattle.mdcc_fact_folds.specs.Live.{with_count}
+use Rattle.mdcc_fact_folds.specs.Votes.{least_above, older_choice, older_mark, older_vote, with_ballot}
 use Rattle.mdcc_vote_steps.specs.declared.ballots.WithBallot.{WithBallot}
-use Rattle.mdcc_vote_steps.specs.declared.ballots.WithPromise.{WithPromise}
 use Rattle.mdcc_vote_steps.specs.declared.older.OlderChoice.{OlderChoice}
 use Rattle.mdcc_vote_steps.specs.declared.older.OlderMark.{OlderMark}
 use Rattle.mdcc_vote_steps.specs.declared.older.OlderVote.{OlderVote}
-use Rattle.mdcc_vote_steps.specs.declared.tallies.HasMark.{HasMark}
 use Rattle.mdcc_vote_steps.specs.declared.tallies.LeastAbove.{LeastAbove}
 use Rattle.mdcc_vote_steps.specs.declared.tallies.WithCount.{WithCount}
-use Rattle.mdcc_vote_steps.specs.declared.tallies.WithEntries.{WithEntries}
 
 -- ---- one more fact
-
-abbrev pub promise_step : WithPromise → Fact → WithPromise
-promise_step s fact = record s { ballot = with_promise s.key s.version s.ballot fact }
 
 abbrev pub ballot_step : WithBallot → Fact → WithBallot
 ballot_step s fact = record s { ballot = with_ballot s.key s.version s.below s.ballot fact }
@@ -32,25 +25,14 @@ mark_step s fact = record s { found = older_mark s.key s.version s.ballot s.tx s
 abbrev pub choice_step : OlderChoice → Fact → OlderChoice
 choice_step s fact = record s { found = older_choice s.key s.version s.tx s.found fact }
 
-abbrev pub has_mark_step : HasMark → Fact → HasMark
-has_mark_step s fact = record s { found = s.found || is_mark_of s.key s.version s.ballot s.tx fact }
-
 abbrev pub least_step : LeastAbove → Fact → LeastAbove
 least_step s fact = record s { found = least_above s.key s.version s.ballot s.last s.found fact }
-
-abbrev pub entries_step : WithEntries → Fact → WithEntries
-entries_step s fact =
-    let counts = with_entries s.key s.version (s.accepts, s.rejects) fact in
-    record s { accepts = counts.0; rejects = counts.1 }
 
 -- the count stops at 2^64 - 1
 abbrev pub count_step : WithCount → Fact → WithCount
 count_step s fact = record s { count = min (with_count s.key s.version s.ballot s.options.now s.count fact) (2 ^ 64 - 1) }
 
 -- ---- a walk
-
-abbrev pub PromiseIsWalked : Type 0
-PromiseIsWalked = (s : WithPromise) (facts : List Fact) → (fold promise_step s facts).ballot ≡ fold (with_promise s.key s.version) s.ballot facts
 
 abbrev pub BallotIsWalked : Type 0
 BallotIsWalked = (s : WithBallot) (facts : List Fact) → (fold ballot_step s facts).ballot ≡ fold (with_ballot s.key s.version s.below) s.ballot facts
@@ -64,16 +46,8 @@ MarkIsWalked = (s : OlderMark) (facts : List Fact) → (fold mark_step s facts).
 abbrev pub ChoiceIsWalked : Type 0
 ChoiceIsWalked = (s : OlderChoice) (facts : List Fact) → (fold choice_step s facts).found ≡ fold (older_choice s.key s.version s.tx) s.found facts
 
-abbrev pub HasMarkIsWalked : Type 0
-HasMarkIsWalked = (s : HasMark) (facts : List Fact) → (fold has_mark_step s facts).found ≡ (s.found || list_any (is_mark_of s.key s.version s.ballot s.tx) facts)
-
 abbrev pub LeastIsWalked : Type 0
 LeastIsWalked = (s : LeastAbove) (facts : List Fact) → (fold least_step s facts).found ≡ fold (least_above s.key s.version s.ballot s.last) s.found facts
-
-abbrev pub EntriesAreWalked : Type 0
-EntriesAreWalked =
-    (s : WithEntries) (facts : List Fact)
-    → ((fold entries_step s facts).accepts, (fold entries_step s facts).rejects) ≡ fold (with_entries s.key s.version) (s.accepts, s.rejects) facts
 
 -- so the count is exact where it is below 2^64
 abbrev pub CountIsWalked : Type 0

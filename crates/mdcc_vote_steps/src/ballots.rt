@@ -1,20 +1,12 @@
-//! The ballots of votes and of promises.
+//! The ballots of votes.
 ghost use Rattle.std.specs.Prelude.{◌≡◌, ◌<◌, [], get_or, length};
 ghost use Rattle.mdcc_base.specs.Ballot.{ballot_max};
-ghost use Rattle.mdcc_vote_steps.specs.Ballots.{promised_in, voted_in};
-ghost use Rattle.mdcc_vote_steps.specs.Steps.{ballot_step, promise_step};
+ghost use Rattle.mdcc_vote_steps.specs.Ballots.{voted_in};
+ghost use Rattle.mdcc_vote_steps.specs.Steps.{ballot_step};
 
-use crate::heads::{head_in, promise_in};
+use crate::heads::head_in;
 use mdcc_base::{Ballot, Key};
 use mdcc_fact_cells::{FactCells, FactStep};
-
-/// The greatest ballot so far that is promised for an instance, or voted at in it.
-#[derive(Drop)]
-pub struct WithPromise {
-    pub key: Key,
-    pub version: u64,
-    pub ballot: Ballot,
-}
 
 /// The greatest ballot so far below another one at which there is a vote in an instance.
 #[derive(Drop)]
@@ -32,18 +24,6 @@ fn ballot_max(a: Ballot, b: Ballot) -> Ballot
     if a.is_below(&b) { b } else { a }
 }
 
-// The ballot below which the fact of a number bars votes in the instance.
-fn promised_in(cells: &FactCells, number: u32, key: &Key, version: u64) -> Ballot
-    requires { number < length cells.now.encodings }
-    ensures { result ≡ promised_in key.now version (get_or cells.now.encodings number []) }
-{
-    let cursor = cells.start(number);
-    match head_in(&cursor, key, version) {
-        Some(head) => head.ballot,
-        None => promise_in(&cursor, key, version),
-    }
-}
-
 // The ballot at which the fact of a number votes in the instance, where it is below another one.
 fn voted_in(cells: &FactCells, number: u32, key: &Key, version: u64, below: &Ballot) -> Ballot
     requires { number < length cells.now.encodings }
@@ -58,15 +38,6 @@ fn voted_in(cells: &FactCells, number: u32, key: &Key, version: u64, below: &Bal
             }
         }
         None => Ballot::FAST,
-    }
-}
-
-impl FactStep for WithPromise {
-    ghost step = { promise_step };
-
-    fn take(&mut self, cells: &FactCells, number: u32) {
-        let promised = promised_in(cells, number, &self.key, self.version);
-        self.ballot = ballot_max(promised, self.ballot);
     }
 }
 

@@ -1,16 +1,16 @@
-//! The heads of votes and of promises, read in the cells.
+//! The heads of votes, read in the cells.
 ghost use Rattle.std.specs.Prelude.{◌≡◌, take};
-ghost use Rattle.mdcc_vote_steps.specs.Heads.{any_head, head_any, head_in, head_of, promise_at, promise_in, promise_of, vote_at};
+ghost use Rattle.mdcc_vote_steps.specs.Heads.{any_head, head_any, head_in, head_of, vote_at};
 
 use crate::passing::next_bytes;
 use mdcc_base::{Ballot, Key};
 use mdcc_messages::WireFault;
 use mdcc_parts::given::read_instance;
-use mdcc_parts::numbers::{u8_within, u32_at, u64_at};
+use mdcc_parts::numbers::{u8_within, u32_at};
 use mdcc_parts::read_ballot;
 use mdcc_pool::Cursor;
 
-/// The longest head of a vote or of a promise fits.
+/// The longest head of a vote fits.
 const WINDOW: usize = 64;
 
 /// The ballot of a vote, how many marks it has, and the offset of the first one.
@@ -80,39 +80,4 @@ pub(crate) fn head_any(cursor: &Cursor<'_>) -> Option<Head>
 {
     let mut window = [0u8; WINDOW];
     any_head(next_bytes(cursor, &mut window))
-}
-
-// The key, the versions and the ballot of a promise.
-fn promise_at(bytes: &[u8]) -> Result<((Key, u64, u64, Ballot), usize), WireFault>
-    ensures { result ≡ promise_at bytes.now }
-{
-    let (_tag, after) = u8_within(0, 2, 2, bytes, 0)?;
-    let ((key, low), after) = read_instance(bytes, after)?;
-    let (high, after) = u64_at(bytes, after)?;
-    let (ballot, after) = read_ballot(bytes, after)?;
-    Ok(((key, low, high, ballot), after))
-}
-
-// The ballot of a promise that begins with these bytes, where it is of the instance.
-fn promise_of(key: &Key, version: u64, bytes: &[u8]) -> Ballot
-    ensures { result ≡ promise_of key.now version (promise_at bytes.now) }
-{
-    match promise_at(bytes) {
-        Ok(((other, low, high, ballot), _)) => {
-            if low <= version && version <= high && other.is(key) {
-                ballot
-            } else {
-                Ballot::FAST
-            }
-        }
-        Err(_) => Ballot::FAST,
-    }
-}
-
-/// The ballot that the fact that is next promises in the instance, where it is a promise.
-pub(crate) fn promise_in(cursor: &Cursor<'_>, key: &Key, version: u64) -> Ballot
-    ensures { result ≡ promise_in key.now version cursor.now }
-{
-    let mut window = [0u8; WINDOW];
-    promise_of(key, version, next_bytes(cursor, &mut window))
 }

@@ -12,9 +12,9 @@ pub mod tallies;
 pub mod walks;
 pub mod write_sets;
 
-pub use ballots::{WithBallot, WithPromise};
+pub use ballots::WithBallot;
 pub use gathered::{GatheredMarks, gathered_marks_are_votes};
 pub use older::{OlderChoice, OlderMark, OlderVote};
-pub use tallies::{HasMark, LeastAbove, WithCount, WithEntries};
+pub use tallies::{LeastAbove, WithCount};
 pub use walks::steps_are_folds;
 pub use write_sets::write_set_at;

@@ -1,28 +1,15 @@
 //! What the marks of an instance at a ballot amount to.
-ghost use Rattle.std.specs.List.{fold};
 ghost use Rattle.std.specs.Prelude.{◌≡◌, ◌+◌, ◌-◌, ◌^◌, is_some, min};
 ghost use Rattle.mdcc_base.specs.Counts.{number_of};
 ghost use Rattle.mdcc_struct.specs.Maps.{value_of};
 ghost use Rattle.mdcc_protocol.specs.Stores.{is_above};
 ghost use Rattle.mdcc_facts.specs.Walks.{each_kept, is_lower, is_next, least_from, lower_passing};
-ghost use Rattle.mdcc_facts.specs.Weights.{counted};
-ghost use Rattle.mdcc_vote_steps.specs.Steps.{count_step, entries_step, has_mark_step, least_step};
-ghost use Rattle.mdcc_vote_steps.specs.Tallies.{with_tag};
+ghost use Rattle.mdcc_vote_steps.specs.Steps.{count_step, least_step};
 
 use crate::tags::{Tags, tags_at};
 use mdcc_base::{Ballot, Key, TxId};
 use mdcc_fact_cells::{FactCells, FactStep};
 use mdcc_struct::Options;
-
-/// Whether so far a transaction has a mark in an instance at a ballot.
-#[derive(Drop)]
-pub struct HasMark {
-    pub key: Key,
-    pub version: u64,
-    pub ballot: Ballot,
-    pub tx: TxId,
-    pub found: bool,
-}
 
 /// The least transaction so far above the last one that has a mark in an instance at a ballot.
 #[derive(Drop)]
@@ -34,16 +21,6 @@ pub struct LeastAbove {
     pub found: Option<TxId>,
 }
 
-/// How many marks so far accept and how many reject in an instance at the fast ballot. Each count
-/// stops at 2^32 - 1.
-#[derive(Drop)]
-pub struct WithEntries {
-    pub key: Key,
-    pub version: u64,
-    pub accepts: u32,
-    pub rejects: u32,
-}
-
 /// How many marks so far in an instance at a ballot are of transactions of a structure. The count
 /// stops at 2^64 - 1.
 #[derive(Drop)]
@@ -53,18 +30,6 @@ pub struct WithCount<'a> {
     pub ballot: Ballot,
     pub options: &'a Options,
     pub count: usize,
-}
-
-// Whether a mark is of the transaction.
-fn has_tx(tags: &mut Tags<'_>, tx: &TxId) -> bool
-    ensures { result ≡ is_some (value_of tags.old tx.now) }
-{
-    while let Some((other, _)) = tags.next() {
-        if other.is(tx) {
-            return true;
-        }
-    }
-    false
 }
 
 // Whether it is above the last one; each is where there is no last one.
@@ -109,24 +74,6 @@ fn least_from(tags: &mut Tags<'_>, last: &Option<TxId>, found: Option<TxId>) -> 
     least
 }
 
-// One more where the test holds.
-fn counted(test: bool, count: u32) -> u32
-    ensures { result ≡ counted test count }
-{
-    if test { count.saturating_add(1) } else { count }
-}
-
-// The counts with more marks.
-fn with_tags(tags: &mut Tags<'_>, accepts: u32, rejects: u32) -> (u32, u32)
-    ensures { result ≡ fold with_tag (accepts, rejects) tags.old }
-{
-    let mut counts = (accepts, rejects);
-    while let Some((_, accepted)) = tags.next() {
-        counts = (counted(accepted, counts.0), counted(!accepted, counts.1));
-    }
-    counts
-}
-
 // A count with the marks whose transactions a structure has.
 fn with_common(tags: &mut Tags<'_>, options: &Options, count: usize) -> usize
     ensures { result ≡ min (count + number_of (λ tag. is_some (value_of options.now tag.0)) tags.old) (2 ^ 64 - 1) }
@@ -140,34 +87,12 @@ fn with_common(tags: &mut Tags<'_>, options: &Options, count: usize) -> usize
     all
 }
 
-impl FactStep for HasMark {
-    ghost step = { has_mark_step };
-
-    fn take(&mut self, cells: &FactCells, number: u32) {
-        if !self.found {
-            let mut tags = tags_at(cells, number, &self.key, self.version, &self.ballot);
-            self.found = has_tx(&mut tags, &self.tx);
-        }
-    }
-}
-
 impl FactStep for LeastAbove {
     ghost step = { least_step };
 
     fn take(&mut self, cells: &FactCells, number: u32) {
         let mut tags = tags_at(cells, number, &self.key, self.version, &self.ballot);
         self.found = least_from(&mut tags, &self.last, self.found);
-    }
-}
-
-impl FactStep for WithEntries {
-    ghost step = { entries_step };
-
-    fn take(&mut self, cells: &FactCells, number: u32) {
-        let mut tags = tags_at(cells, number, &self.key, self.version, &Ballot::FAST);
-        let (accepts, rejects) = with_tags(&mut tags, self.accepts, self.rejects);
-        self.accepts = accepts;
-        self.rejects = rejects;
     }
 }
 

@@ -1,15 +1,12 @@
 //! What is kept of all facts of a walk, from the newest to the oldest.
-ghost use Rattle.mdcc_vote_steps.specs.Steps.{BallotIsWalked, ChoiceIsWalked, CountIsWalked, EntriesAreWalked, HasMarkIsWalked, LeastIsWalked, MarkIsWalked, PromiseIsWalked, VoteIsWalked};
+ghost use Rattle.mdcc_vote_steps.specs.Steps.{BallotIsWalked, ChoiceIsWalked, CountIsWalked, LeastIsWalked, MarkIsWalked, VoteIsWalked};
 
 /// Steps at all facts of a walk keep the fold over them.
 pub fn steps_are_folds()
-    ensures promise { PromiseIsWalked }
     ensures ballot { BallotIsWalked }
     ensures vote { VoteIsWalked }
     ensures mark { MarkIsWalked }
     ensures choice { ChoiceIsWalked }
-    ensures has_mark { HasMarkIsWalked }
     ensures least { LeastIsWalked }
-    ensures entries { EntriesAreWalked }
     ensures count { CountIsWalked }
 {}

@@ -1,5 +1,5 @@
-use Rattle.mdcc_delta_steps.proofs.Walked.{amounts-are-folded, delta-is-any, live-is-any}
+use Rattle.mdcc_delta_steps.proofs.Walked.{amounts-are-folded}
 use Rattle.mdcc_delta_steps.proofs.theorems.steps_are_folded.Goals as goal
 
 pub returns : goal.returns
-returns c = record { delta = delta-is-any; live = live-is-any; amounts = amounts-are-folded }
+returns c = record { amounts = amounts-are-folded }

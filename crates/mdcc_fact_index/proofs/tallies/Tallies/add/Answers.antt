@@ -1,9 +1,9 @@
-use Rattle.std.proofs.Common.{◌∷◌, sym, ap, ◌∙◌, subst}
+use Rattle.std.proofs.Common.{◌∷◌, refl, sym, ap, ◌∙◌, arith, subst}
 use Rattle.std.specs.Prelude.{if◌then◌else◌}
 use Rattle.mdcc_facts.specs.Adding.{MayBeAdded}
 use Rattle.mdcc_chains.specs.Keys.{instance_eq}
 use Rattle.mdcc_fact_index.specs.Tallies.{HoldsTallies, tally_in, with_vote}
-use Rattle.mdcc_fact_index.proofs.Tallying.{tallies-more}
+use Rattle.mdcc_fact_index.proofs.Tallying.{tallies-adopted, tallies-kept, tallies-more}
 use Rattle.mdcc_fact_index.proofs.tallies.Tallies.add.Goals as goal
 
 pub returns-in-Voted-clause-tallies : goal.returns-in-Voted-clause-tallies
@@ -16,3 +16,17 @@ returns-in-Voted-clause-tallies c facts holds may =
     ∙ ap (λ tally. if instance_eq other (vote.key, vote.version) then tally else tally_in old other)
     (c.with_vote-tally.ensures ∙ ap (λ tally. with_vote tally vote.ballot vote.options vote.offered) c.tally.ensures))
     holds (subst (MayBeAdded facts) vote.is may))
+
+pub returns-in-Adopted-clause-tallies : goal.returns-in-Adopted-clause-tallies
+returns-in-Adopted-clause-tallies c facts holds may =
+    let old = c.args.self.now in
+    let fact = c.in-Adopted in
+    subst (λ fact. HoldsTallies c.push_adopted.new.self (fact ∷ facts)) (sym fact.is)
+    (tallies-adopted old c.push_adopted.new.self facts fact.key fact.version fact.item fact.adds c.push_adopted.ensures.tallies holds (subst (MayBeAdded facts) fact.is may))
+
+pub returns-in_default-fact : goal.returns-in_default-fact
+returns-in_default-fact c = record {
+  tallies = λ facts holds may. tallies-kept c.args.self.now facts c.args.fact.now c.in_default.not-Voted c.in_default-fact.not-Adopted holds may;
+  few = omega arith;
+  room = refl;
+}
