@@ -1,6 +1,6 @@
 //! What the votes on one transaction and key decide.
 ghost use Rattle.std.specs.Prelude.{◌≡◌, ◌+◌, ◌-◌, ◌≤◌, ◌++◌, length, filter, fold, nat_lt, not};
-ghost use Rattle.std.specs.Option.{option_copied};
+ghost use Rattle.std.specs.Option.{option_copied, option_map};
 ghost use Rattle.mdcc_base.specs.Counts.{number_of};
 ghost use Rattle.mdcc_learner.specs.Decided.{deciding_vote, mark_decided, lower_with, votes_backed, fast_votes, is_collision};
 ghost use Rattle.mdcc_protocol.specs.Marks.{is_accept};
@@ -50,11 +50,35 @@ fn deciding_vote<'a>(quorums: &Quorums, votes: &'a [Vote], more: &'a [Vote]) -> 
 }
 
 /// The mark that the votes decide.
-pub(crate) fn mark_decided(quorums: &Quorums, votes: &[Vote], more: &[Vote]) -> Option<Mark>
-    ensures { result ≡ mark_decided quorums.now (votes.now ++ more.now) }
+pub(crate) fn mark_decided<'a>(
+    quorums: &Quorums,
+    votes: &'a [Vote],
+    more: &'a [Vote],
+) -> Option<&'a Mark>
+    ensures { option_copied result ≡ mark_decided quorums.now (votes.now ++ more.now) }
 {
     match deciding_vote(quorums, votes, more) {
-        Some(vote) => Some(vote.mark.copy()),
+        Some(vote) => Some(&vote.mark),
+        None => None,
+    }
+}
+
+/// An equal mark, where there is one.
+pub(crate) fn copy_of(mark: Option<&Mark>) -> Option<Mark>
+    ensures { result ≡ option_copied mark.entry }
+{
+    match mark {
+        Some(mark) => Some(mark.copy()),
+        None => None,
+    }
+}
+
+/// Whether the mark accepts, where there is one.
+pub(crate) fn side_of(mark: Option<&Mark>) -> Option<bool>
+    ensures { result ≡ option_map is_accept (option_copied mark.entry) }
+{
+    match mark {
+        Some(mark) => Some(is_accept(mark)),
         None => None,
     }
 }

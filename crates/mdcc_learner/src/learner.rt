@@ -1,15 +1,17 @@
 //! What was voted on each transaction and key, and what that decides.
+ghost use Rattle.std.specs.Option.{option_copied, option_map};
 ghost use Rattle.std.specs.Prelude.{◌≡◌, List, [], IsOkAnd, OnOk, OnErr};
 ghost use Rattle.mdcc_base.specs.AreQuorums.{AreQuorums};
 ghost use Rattle.mdcc_base.specs.Sizes.{Sizes};
 ghost use Rattle.mdcc_learner.specs.Stands.{Stands};
 ghost use Rattle.mdcc_protocol.specs.Learner.{with_vote, learned, collided, learned_with};
+ghost use Rattle.mdcc_protocol.specs.Marks.{is_accept};
 ghost use Rattle.mdcc_protocol.specs.Recover.{choice_received};
 ghost use Rattle.mdcc_protocol.specs.Volatile.{without_tx};
 ghost use Rattle.mdcc_protocol.specs.declared.votes.Vote.{Vote as AVote};
 
 use crate::accepted::first_accepted;
-use crate::decided::{is_collision, mark_decided};
+use crate::decided::{copy_of, is_collision, mark_decided, side_of};
 use crate::places::{VotesByTx, counted_on, forget, keep_counted, votes_at};
 use indexmap::IndexMap;
 use mdcc_base::{Key, Memory, Quorums, TxId};
@@ -59,7 +61,18 @@ impl Learner {
             → result ≡ learned quorums votes tx key.now }
     {
         match &self.quorums {
-            Some(quorums) => mark_decided(quorums, votes_at(&self.votes, &tx, key), &[]),
+            Some(quorums) => copy_of(mark_decided(quorums, votes_at(&self.votes, &tx, key), &[])),
+            None => None,
+        }
+    }
+
+    /// Whether the mark that `learned` gives accepts, where there is one. Nothing is copied.
+    pub fn side(&self, tx: TxId, key: &Key) -> Option<bool>
+        ensures { (quorums : Sizes) (votes : List AVote) → Stands self.now quorums votes
+            → result ≡ option_map is_accept (learned quorums votes tx key.now) }
+    {
+        match &self.quorums {
+            Some(quorums) => side_of(mark_decided(quorums, votes_at(&self.votes, &tx, key), &[])),
             None => None,
         }
     }
@@ -80,10 +93,32 @@ impl Learner {
         ensures { (votes : List AVote) → Stands self.now quorums.now votes
             → result ≡ learned_with quorums.now votes vote.now tx key.now }
     {
+        copy_of(self.mark_with(quorums, vote, &tx, key))
+    }
+
+    /// Whether the mark that `learned_with` gives accepts, where there is one. Nothing is copied.
+    pub fn side_with(&self, quorums: &Quorums, vote: &Vote, tx: TxId, key: &Key) -> Option<bool>
+        ensures { (votes : List AVote) → Stands self.now quorums.now votes
+            → result ≡ option_map is_accept (learned_with quorums.now votes vote.now tx key.now) }
+    {
+        side_of(self.mark_with(quorums, vote, &tx, key))
+    }
+
+    // The mark that would be learned once this vote is taken.
+    fn mark_with<'a>(
+        &'a self,
+        quorums: &Quorums,
+        vote: &'a Vote,
+        tx: &TxId,
+        key: &Key,
+    ) -> Option<&'a Mark>
+        ensures { (votes : List AVote) → Stands self.now quorums.now votes
+            → option_copied result ≡ learned_with quorums.now votes vote.now tx.now key.now }
+    {
         mark_decided(
             quorums,
-            votes_at(&self.votes, &tx, key),
-            counted_on(quorums, &self.votes, vote, &tx, key),
+            votes_at(&self.votes, tx, key),
+            counted_on(quorums, &self.votes, vote, tx, key),
         )
     }
 

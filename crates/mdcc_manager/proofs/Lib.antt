@@ -1,4 +1,5 @@
 pub mod Acts
 pub mod Kept
 pub mod Numbered
+pub mod Sides
 pub mod Ticked

@@ -1,5 +1,6 @@
 pub mod Begin
 pub mod Numbered
 pub mod Opened
+pub mod Sides
 pub mod Stands
 pub mod Ticks

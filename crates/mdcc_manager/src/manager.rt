@@ -1,5 +1,5 @@
 //! The manager.
-ghost use Rattle.std.specs.Prelude.{◌≡◌, ◌<◌, ◌≤◌, ◌^◌, ◌-◌, ◌&&◌, [], IfOk, IsOkAnd, IsTrue, List, OnErr, OnOk, not, ℕ};
+ghost use Rattle.std.specs.Prelude.{◌≡◌, ◌<◌, ◌≤◌, ◌^◌, ◌-◌, ◌&&◌, [], IfOk, IsOkAnd, IsTrue, List, None, OnErr, OnOk, is_some, not, option_map, ℕ};
 ghost use Rattle.std.specs.Int.{IsInRange};
 ghost use Rattle.std.specs.Option.{option_copied};
 ghost use Rattle.mdcc_base.specs.AreQuorums.{AreQuorums};
@@ -13,10 +13,11 @@ ghost use Rattle.mdcc_manager.specs.Stands.{Stands};
 ghost use Rattle.mdcc_protocol.specs.Learner.{is_learned};
 ghost use Rattle.mdcc_protocol.specs.Manager.{act_on_cause, act_on_vote, acted, after_act, begin, begun, choice_unled, decision, lead_act, on_escalate, on_voted, tick, vote_taken, would_decide};
 ghost use Rattle.mdcc_protocol.specs.Volatile.{Managing, is_open, manager_closed, txs_opened, with_led};
+ghost use Rattle.mdcc_protocol.specs.declared.manager.ManagerAct.{ManagerAct as AManagerAct};
 ghost use Rattle.mdcc_messages.specs.declared.facts.Fact.{Fact as AFact};
 
 use crate::begin::parts_begin_fault;
-use crate::marks::{marks_learned, marks_with};
+use crate::marks::{are_deciding, marks_learned, marks_with, sides_learned, sides_with};
 use crate::opened::{OpenChoices, OpenTransaction, close, close_tx, mark_led, opened_of};
 use crate::ticks::{acts_of, count_tick};
 use mdcc_base::{Centre, Key, Memory, Quorums, TxId};
@@ -127,8 +128,29 @@ impl Manager {
         ensures err { (me epoch : ℕ) (quorums : Sizes) (managing : Managing) → Stands self.old me epoch quorums managing
             → OnErr result (Stands self.new me epoch quorums managing) }
     {
+        let mut act = None;
+        self.answer_vote(cluster, vote, &mut act)?;
+        Ok(act)
+    }
+
+    /// The same, with what the manager does written into a place where nothing stands.
+    pub fn answer_vote(
+        &mut self,
+        cluster: &Cluster,
+        vote: &Vote,
+        act: &mut Option<ManagerAct>,
+    ) -> Result<(), Memory>
+        requires { act.old ≡ None }
+        ensures act { (me epoch : ℕ) (managing : Managing) → Stands self.old me epoch cluster.now.quorums managing
+            → OnOk result (act.new ≡ (on_voted cluster.now.quorums managing vote.now).0) }
+        ensures ok { (me epoch : ℕ) (managing : Managing) → Stands self.old me epoch cluster.now.quorums managing
+            → OnOk result (Stands self.new me epoch cluster.now.quorums (on_voted cluster.now.quorums managing vote.now).1) }
+        ensures err { (me epoch : ℕ) (quorums : Sizes) (managing : Managing) → Stands self.old me epoch quorums managing
+            → OnErr result (Stands self.new me epoch quorums managing) }
+    {
         self.take(&cluster.quorums, vote)?;
-        Ok(self.act_on_vote(&cluster.quorums, vote))
+        self.act_on_vote(&cluster.quorums, vote, act);
+        Ok(())
     }
 
     // Takes a vote, if its transaction is open.
@@ -145,19 +167,30 @@ impl Manager {
     }
 
     // What a vote that was taken makes the manager do.
-    fn act_on_vote(&mut self, quorums: &Quorums, vote: &Vote) -> Option<ManagerAct>
+    fn act_on_vote(&mut self, quorums: &Quorums, vote: &Vote, act: &mut Option<ManagerAct>)
+        requires { act.old ≡ None }
         ensures act { (me epoch : ℕ) (managing : Managing) → Stands self.old me epoch quorums.now managing
-            → result ≡ act_on_vote quorums.now managing vote.now (decision quorums.now managing vote.now.tx) }
+            → act.new ≡ act_on_vote quorums.now managing vote.now (decision quorums.now managing vote.now.tx) }
         ensures left { (me epoch : ℕ) (managing : Managing) → Stands self.old me epoch quorums.now managing
             → Stands self.new me epoch quorums.now (after_act managing (act_on_vote quorums.now managing vote.now (decision quorums.now managing vote.now.tx))) }
     {
-        if let Some(outcome) = self.decision(vote.tx) {
-            return Some(ManagerAct::Decide(vote.tx, outcome));
+        if self.is_decided(&vote.tx) {
+            *act = self.decide_act(vote.tx);
+        } else if self.learner.collided(vote.tx, &vote.key) {
+            *act = self.lead(quorums.home(&vote.key), vote.tx, &vote.key);
         }
-        if !self.learner.collided(vote.tx, &vote.key) {
-            return None;
+    }
+
+    // The end of a transaction that the votes decide.
+    #[inline(never)]
+    fn decide_act(&self, tx: TxId) -> Option<ManagerAct>
+        ensures { (me epoch : ℕ) (quorums : Sizes) (managing : Managing) → Stands self.now me epoch quorums managing
+            → result ≡ option_map (λ outcome. AManagerAct.Decide tx outcome) (decision quorums managing tx) }
+    {
+        match self.decision(tx) {
+            Some(outcome) => Some(ManagerAct::Decide(tx, outcome)),
+            None => None,
         }
-        self.lead(quorums.home(&vote.key), vote.tx, &vote.key)
     }
 
     /// Hears that a centre gives no vote at the fast ballot: data for one that is behind, else the
@@ -187,7 +220,7 @@ impl Manager {
         ensures { (me epoch : ℕ) (quorums : Sizes) (managing : Managing) → Stands self.now me epoch quorums managing
             → result ≡ (is_open managing tx && not (is_learned quorums managing.votes tx key.now)) }
     {
-        self.is_open(tx) && self.learner.learned(tx, key).is_none()
+        self.is_open(tx) && self.learner.side(tx, key).is_none()
     }
 
     // What it makes the manager do that a centre gives no vote.
@@ -264,6 +297,31 @@ impl Manager {
         let open = opened_of(&self.opened, &tx)?;
         let marks = marks_learned(&self.learner, tx, open.choices.as_slice());
         outcome_of_marks(marks.as_slice())
+    }
+
+    // Whether the votes decide an open transaction.
+    fn is_decided(&self, tx: &TxId) -> bool
+        ensures { (me epoch : ℕ) (quorums : Sizes) (managing : Managing) → Stands self.now me epoch quorums managing
+            → result ≡ is_some (decision quorums managing tx.now) }
+    {
+        let Some(open) = opened_of(&self.opened, tx) else {
+            return false;
+        };
+        let sides = sides_learned(&self.learner, *tx, open.choices.as_slice());
+        are_deciding(sides.as_slice())
+    }
+
+    /// Whether `would_decide` answers an outcome. No mark is copied.
+    pub fn would_end(&self, cluster: &Cluster, vote: &Vote) -> bool
+        ensures { (me epoch : ℕ) (managing : Managing) → Stands self.now me epoch cluster.now.quorums managing
+            → result ≡ is_some (would_decide cluster.now.quorums managing vote.now) }
+    {
+        let Some(open) = opened_of(&self.opened, &vote.tx) else {
+            return false;
+        };
+        let choices = open.choices.as_slice();
+        let sides = sides_with(&self.learner, &cluster.quorums, vote, vote.tx, choices);
+        are_deciding(sides.as_slice())
     }
 
     /// What `decision` of the vote's transaction would answer once the vote is taken.

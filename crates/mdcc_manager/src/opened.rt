@@ -149,7 +149,7 @@ pub(crate) fn is_unlearned(learner: &Learner, tx: &TxId, key: &Key) -> bool
     ensures { (quorums : Sizes) (votes : List AVote) → LearnerStands learner.now quorums votes
         → result ≡ not (is_learned quorums votes tx.now key.now) }
 {
-    learner.learned(*tx, key).is_none()
+    learner.side(*tx, key).is_none()
 }
 
 /// The open transaction of this identifier.

@@ -1,5 +1,6 @@
 pub mod Beginning
 pub mod Ending
+pub mod Ends
 pub mod Led
 pub mod Marks
 pub mod Planned

@@ -50,7 +50,7 @@ impl<S: FactStore + Drop> Node<S> {
             (AMessage.Voted choice.now.key choice.now.version ballot choice.now.tx mark.now)) }
     {
         let message = voted_message(choice, ballot, mark);
-        send(self.centre.number(), to, message, sends)
+        send(self.alloc, self.centre.number(), to, message, sends)
     }
 
     // It is told how a transaction ended.
@@ -65,6 +65,7 @@ impl<S: FactStore + Drop> Node<S> {
     {
         let outcome = outcome.copy();
         send(
+            self.alloc,
             self.centre.number(),
             to,
             Message::Outcome { tx, outcome },
@@ -89,7 +90,7 @@ impl<S: FactStore + Drop> Node<S> {
             tx: choice.tx,
             cause,
         };
-        send(self.centre.number(), to, message, sends)
+        send(self.alloc, self.centre.number(), to, message, sends)
     }
 
     // What the acceptor's answer to a choice adds and sends.
@@ -171,7 +172,7 @@ impl<S: FactStore + Drop> Node<S> {
             reported,
             votes,
         };
-        send(self.centre.number(), to, message, sends)
+        send(self.alloc, self.centre.number(), to, message, sends)
     }
 
     // This centre promised another ballot than that of a leader, or voted at it.
@@ -192,7 +193,7 @@ impl<S: FactStore + Drop> Node<S> {
             ballot,
             promised,
         };
-        send(self.centre.number(), to, message, sends)
+        send(self.alloc, self.centre.number(), to, message, sends)
     }
 
     // What the acceptor's answer to a leader that asks for a promise adds and sends.
@@ -267,6 +268,7 @@ impl<S: FactStore + Drop> Node<S> {
         let marks = new_marks(self.alloc, &votes, options)?;
         let centre = self.centre.number();
         send_votes(
+            self.alloc,
             &self.store,
             centre,
             key,
@@ -305,10 +307,27 @@ impl<S: FactStore + Drop> Node<S> {
             AcceptAnswer::Refused(promised) => {
                 self.refuse(to, key, version, ballot, promised, &mut step.sends)
             }
-            AcceptAnswer::Behind(_) => { send(centre, to, Message::SyncAsk(*key), &mut step.sends) }
+            AcceptAnswer::Behind(_) => {
+                send(
+                    self.alloc,
+                    centre,
+                    to,
+                    Message::SyncAsk(*key),
+                    &mut step.sends,
+                )
+            }
             AcceptAnswer::Older => {
                 let sends = &mut step.sends;
-                send_votes(&self.store, centre, key, version, ballot, options, sends)
+                send_votes(
+                    self.alloc,
+                    &self.store,
+                    centre,
+                    key,
+                    version,
+                    ballot,
+                    options,
+                    sends,
+                )
             }
             AcceptAnswer::Vote => self.vote_marks(key, version, ballot, options, step),
         }

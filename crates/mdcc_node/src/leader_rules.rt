@@ -45,7 +45,7 @@ impl<S: FactStore + Drop> Node<S> {
                     tx: choice.tx,
                     outcome,
                 };
-                send(self.centre.number(), from, message, sends)?;
+                send(self.alloc, self.centre.number(), from, message, sends)?;
                 Ok(())
             }
             None => self.lead_claim(&claim_of(choice), sends),
@@ -104,7 +104,13 @@ impl<S: FactStore + Drop> Node<S> {
     {
         match act {
             ManagerAct::Propose(choice) => {
-                propose(&self.cluster.quorums, self.centre.number(), choice, sends)?;
+                propose(
+                    self.alloc,
+                    &self.cluster.quorums,
+                    self.centre.number(),
+                    choice,
+                    sends,
+                )?;
                 Ok(())
             }
             ManagerAct::LeadHere(choice) => self.lead_or_leave(&claim_of(choice), sends),

@@ -1,5 +1,5 @@
 //! The node's rules around its manager: begins, votes, and acceptors that give no vote.
-ghost use Rattle.std.specs.Prelude.{◌≡◌, ◌++◌, List, None, Ok, OnOk, false};
+ghost use Rattle.std.specs.Prelude.{◌≡◌, ◌++◌, List, None, Ok, OnOk, false, is_some, true, ℕ};
 ghost use Rattle.mdcc_base.specs.Unless.{GivesUnless};
 ghost use Rattle.mdcc_messages.specs.WellFormedParts.{IsWellFormedCause};
 ghost use Rattle.mdcc_messages.specs.declared.facts.Fact.{Fact as AFact};
@@ -7,11 +7,13 @@ ghost use Rattle.mdcc_node.specs.Doing.{Follows};
 ghost use Rattle.mdcc_node.specs.Planning.{Acts, MayFollow, Plans, blank, planned, written};
 ghost use Rattle.mdcc_node.specs.Stepping.{is_memory};
 ghost use Rattle.mdcc_node.specs.Telling.{refused_given, replied};
+ghost use Rattle.mdcc_node.specs.Stands.{Stands};
 ghost use Rattle.mdcc_option.specs.Transaction.{choices_of};
+ghost use Rattle.mdcc_option.specs.declared.cluster.Cluster.{Cluster as ACluster};
 ghost use Rattle.mdcc_protocol.specs.Facts.{is_heard};
 ghost use Rattle.mdcc_protocol.specs.Manager.{key_refused as key_refused_of, would_decide};
 ghost use Rattle.mdcc_protocol.specs.Volatile.{Volatile as AVolatile};
-ghost use Rattle.mdcc_rules.specs.ManagerRules.{act_sent, begin_step, decided_step, escalate_step, opened_step, proposals_sent, undecided_step, voted_step};
+ghost use Rattle.mdcc_rules.specs.ManagerRules.{act_sent, begin_step, decided_step, escalate_step, opened_step, proposals_sent, voted_step};
 ghost use Rattle.mdcc_rules.specs.SyncRules.{outcome_step};
 ghost use Rattle.mdcc_rules.specs.declared.node.Answer.{Answer as AnAnswer};
 
@@ -38,7 +40,13 @@ impl<S: FactStore + Drop> Node<S> {
     {
         let choices = transaction.choices(tx);
         let (quorums, centre) = (&self.cluster.quorums, self.centre.number());
-        propose_each(quorums, centre, choices.as_slice(), &mut step.sends)?;
+        propose_each(
+            self.alloc,
+            quorums,
+            centre,
+            choices.as_slice(),
+            &mut step.sends,
+        )?;
         step.answer = Some(Answer::Begun(tx));
         Ok(())
     }
@@ -96,7 +104,13 @@ impl<S: FactStore + Drop> Node<S> {
         match act {
             Some(ManagerAct::Lead(leader, choice)) => {
                 let message = Message::Lead(choice.copy());
-                send(self.centre.number(), leader.number(), message, sends)
+                send(
+                    self.alloc,
+                    self.centre.number(),
+                    leader.number(),
+                    message,
+                    sends,
+                )
             }
             Some(ManagerAct::Give(centre, key)) => self.give(centre.number(), key, sends),
             _ => Ok(()),
@@ -111,18 +125,40 @@ impl<S: FactStore + Drop> Node<S> {
         ensures { (volatile : AVolatile) → OnOk result (step.new ≡ planned (decided_step self.now.cluster self.now.centre volatile tx outcome)) }
     {
         let (quorums, centre) = (&self.cluster.quorums, self.centre.number());
-        tell_others(quorums, centre, tx, &outcome, &mut step.sends)?;
+        tell_others(self.alloc, quorums, centre, tx, &outcome, &mut step.sends)?;
         step.fact = Some(Fact::Heard { tx, outcome });
         Ok(())
     }
 
     // A vote on an open transaction that decides nothing.
     fn undecided(&mut self, vote: &Vote, sends: &mut HeapList<Envelope>) -> Result<(), StepFault>
-        ensures { Acts S.stands self.old sends.old (written result sends.new) self.new (λ cluster me facts volatile. Ok (undecided_step cluster me facts volatile vote.now)) }
+        requires { (cluster : ACluster) (me : ℕ) (facts : List AFact) (volatile : AVolatile) → Stands S.stands self.old cluster me facts volatile
+            → would_decide cluster.quorums volatile.manager vote.now ≡ None }
+        ensures { Acts S.stands self.old sends.old (written result sends.new) self.new (λ cluster me facts volatile. Ok (opened_step cluster me facts volatile vote.now (would_decide cluster.quorums volatile.manager vote.now))) }
     {
-        let act = self.manager.on_voted(&self.cluster, vote)?;
+        let mut act = None;
+        self.manager.answer_vote(&self.cluster, vote, &mut act)?;
         self.send_act(&act, sends)?;
         Ok(())
+    }
+
+    // A vote on an open transaction that was not heard decides it.
+    #[inline(never)]
+    fn decided(&self, vote: &Vote, step: &mut Step) -> Result<(), StepFault>
+        requires blank { step.old ≡ blank }
+        requires unheard { (facts : List AFact) → S.stands self.now.store facts → is_heard facts vote.now.tx ≡ false }
+        requires ends { (cluster : ACluster) (me : ℕ) (facts : List AFact) (volatile : AVolatile) → Stands S.stands self.now cluster me facts volatile
+            → is_some (would_decide cluster.quorums volatile.manager vote.now) ≡ true }
+        ensures plan { Plans S.stands self.now (written result step.new) self.now (λ cluster me facts volatile. Ok (opened_step cluster me facts volatile vote.now (would_decide cluster.quorums volatile.manager vote.now))) }
+        ensures fact { (facts : List AFact) → S.stands self.now.store facts → OnOk result (MayFollow facts step.new.fact) }
+    {
+        match self.manager.would_decide(&self.cluster, vote) {
+            Some(outcome) => {
+                self.decide(vote.tx, outcome, step)?;
+                Ok(())
+            }
+            None => Ok(()),
+        }
     }
 
     // A vote on an open transaction that was not heard. One that decides is not taken, since its
@@ -133,12 +169,10 @@ impl<S: FactStore + Drop> Node<S> {
         ensures plan { Plans S.stands self.old (written result step.new) self.new (λ cluster me facts volatile. Ok (opened_step cluster me facts volatile vote.now (would_decide cluster.quorums volatile.manager vote.now))) }
         ensures fact { (facts : List AFact) → S.stands self.old.store facts → OnOk result (MayFollow facts step.new.fact) }
     {
-        match self.manager.would_decide(&self.cluster, vote) {
-            Some(outcome) => {
-                self.decide(vote.tx, outcome, step)?;
-                Ok(())
-            }
-            None => self.undecided(vote, &mut step.sends),
+        if self.manager.would_end(&self.cluster, vote) {
+            self.decided(vote, step)
+        } else {
+            self.undecided(vote, &mut step.sends)
         }
     }
 

@@ -36,7 +36,13 @@ impl<S: FactStore + Drop> Node<S> {
     {
         let centre = self.centre.number();
         if let Some(outcome) = self.store.heard(tx) {
-            return send(centre, to, Message::Outcome { tx, outcome }, sends);
+            return send(
+                self.alloc,
+                centre,
+                to,
+                Message::Outcome { tx, outcome },
+                sends,
+            );
         }
         match self.store.vote_of(key, version, tx) {
             Some((ballot, mark)) => {
@@ -47,7 +53,7 @@ impl<S: FactStore + Drop> Node<S> {
                     tx,
                     mark,
                 };
-                send(centre, to, message, sends)
+                send(self.alloc, centre, to, message, sends)
             }
             None => Ok(()),
         }
@@ -107,7 +113,7 @@ impl<S: FactStore + Drop> Node<S> {
         match act {
             RecoverAct::Ask(tx, key, version) => {
                 let (quorums, centre) = (&self.cluster.quorums, self.centre.number());
-                ask_votes(quorums, centre, *tx, key, *version, sends)?;
+                ask_votes(self.alloc, quorums, centre, *tx, key, *version, sends)?;
                 Ok(())
             }
             RecoverAct::LeadHere(claim) => self.lead_or_leave(claim, sends),

@@ -33,7 +33,7 @@ impl<S: FactStore + Drop> Node<S> {
                     item: give.item,
                     adds: give.adds,
                 };
-                send(self.centre.number(), to, message, sends)
+                send(self.alloc, self.centre.number(), to, message, sends)
             }
             None => Ok(()),
         }

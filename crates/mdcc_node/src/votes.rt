@@ -10,6 +10,7 @@ use mdcc_base::{Ballot, HeapList, Key, Memory, Plain, TxId};
 use mdcc_facts::FactStore;
 use mdcc_messages::{Envelope, Message};
 use mdcc_option::Mark;
+use mdcc_sends::send;
 use mdcc_struct::Options;
 use std::alloc::Global;
 
@@ -33,6 +34,7 @@ pub(crate) fn new_marks(
 
 // A vote goes to the transaction's centre and, if another, to the ballot's.
 fn send_vote(
+    alloc: Global,
     from: u8,
     key: &Key,
     version: u64,
@@ -44,17 +46,11 @@ fn send_vote(
     ensures { OnOk result (sends.new ≡ sends.old ++ votes_sent from key.now version ballot (tx, mark.now)) }
 {
     let manager = tx.centre.number();
-    sends.push(Envelope {
-        from,
-        to: manager,
-        message: vote_message(key, version, ballot, tx, mark),
-    })?;
+    let message = vote_message(key, version, ballot, tx, mark);
+    send(alloc, from, manager, message, sends)?;
     if manager != ballot.centre {
-        sends.push(Envelope {
-            from,
-            to: ballot.centre,
-            message: vote_message(key, version, ballot, tx, mark),
-        })?;
+        let message = vote_message(key, version, ballot, tx, mark);
+        send(alloc, from, ballot.centre, message, sends)?;
     }
     Ok(())
 }
@@ -74,6 +70,7 @@ fn vote_message(key: &Key, version: u64, ballot: Ballot, tx: TxId, mark: &Mark) 
 
 // A vote, where the transaction was not heard.
 fn send_unheard<S: FactStore>(
+    alloc: Global,
     store: &S,
     from: u8,
     key: &Key,
@@ -89,11 +86,12 @@ fn send_unheard<S: FactStore>(
     if store.is_heard(tx) {
         return Ok(());
     }
-    send_vote(from, key, version, ballot, tx, mark, sends)
+    send_vote(alloc, from, key, version, ballot, tx, mark, sends)
 }
 
 /// The votes on these marks, but for those whose transaction was heard.
 pub(crate) fn send_votes<S: FactStore>(
+    alloc: Global,
     store: &S,
     from: u8,
     key: &Key,
@@ -107,7 +105,7 @@ pub(crate) fn send_votes<S: FactStore>(
 {
     for place in 0..marks.len() {
         let (tx, mark) = marks.at(place);
-        send_unheard(store, from, key, version, ballot, tx, mark, sends)?;
+        send_unheard(alloc, store, from, key, version, ballot, tx, mark, sends)?;
     }
     Ok(())
 }

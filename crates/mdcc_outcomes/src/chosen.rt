@@ -1,4 +1,5 @@
 //! What the votes on one transaction choose.
+ghost use Rattle.std.specs.Option.{option_copied};
 ghost use Rattle.std.specs.Prelude.{◌≡◌, ◌≤◌};
 ghost use Rattle.mdcc_base.specs.Counts.{number_of};
 ghost use Rattle.mdcc_base.specs.Quorums.{quorum_size};
@@ -46,20 +47,20 @@ fn number_giving(
 
 #[tactic(auto, using(crate::proofs::Ranges::range_first))]
 // The mark that is chosen in an instance at a ballot.
-fn chosen_cast_at(
+fn chosen_cast_at<'a>(
     quorums: &Quorums,
-    casts: &[Cast],
+    casts: &'a [Cast],
     key: &Key,
     version: u64,
     ballot: &Ballot,
-) -> Option<Mark>
-    ensures { result ≡ chosen_cast_at quorums.now casts.now key.now version ballot.now }
+) -> Option<&'a Mark>
+    ensures { option_copied result ≡ chosen_cast_at quorums.now casts.now key.now version ballot.now }
 {
     let least = quorum_size(quorums, ballot);
     for centre in 1..quorums.centres() + 1 {
         if let Some(mark) = mark_cast(casts, key, version, ballot, centre) {
             if least <= number_giving(quorums, casts, key, version, ballot, mark) {
-                return Some(mark.copy());
+                return Some(mark);
             }
         }
     }
@@ -67,14 +68,14 @@ fn chosen_cast_at(
 }
 
 /// The mark that is chosen in an instance at the last of these ballots where one is.
-pub(crate) fn chosen_cast(
+pub(crate) fn chosen_cast<'a>(
     quorums: &Quorums,
-    casts: &[Cast],
+    casts: &'a [Cast],
     key: &Key,
     version: u64,
     ballots: &[Ballot],
-) -> Option<Mark>
-    ensures { result ≡ chosen_cast quorums.now casts.now key.now version ballots.now }
+) -> Option<&'a Mark>
+    ensures { option_copied result ≡ chosen_cast quorums.now casts.now key.now version ballots.now }
 {
     let mut found = None;
     for ballot in ballots {

@@ -1,6 +1,7 @@
 //! How the votes end transactions.
-ghost use Rattle.std.specs.Prelude.{◌≡◌};
+ghost use Rattle.std.specs.Prelude.{◌≡◌, Some};
 ghost use Rattle.mdcc_outcomes.specs.Endings.{ending_cast, ending_come, instances_at};
+ghost use Rattle.mdcc_protocol.specs.Marks.{is_reject_found};
 
 use crate::ballots::{BallotsByKey, ballots_at};
 use crate::casts::Cast;
@@ -22,6 +23,13 @@ pub(crate) fn instances_at<'a>(begun: &'a InstancesByTx, tx: &TxId) -> &'a [(Key
     }
 }
 
+// Whether the mark rejects.
+fn is_reject(mark: &Mark) -> bool
+    ensures { result ≡ is_reject_found (Some mark.now) }
+{
+    matches!(mark, Mark::Reject)
+}
+
 /// How the votes end a transaction with these instances: true is commit.
 pub(crate) fn ending_cast(
     quorums: &Quorums,
@@ -38,8 +46,8 @@ pub(crate) fn ending_cast(
     for instance in instances {
         let ballots = ballots_at(ballots, &instance.0, instance.1);
         match chosen_cast(quorums, casts, &instance.0, instance.1, ballots) {
-            Some(Mark::Reject) => return Some(false),
-            Some(Mark::Accept(_)) => {}
+            Some(mark) if is_reject(mark) => return Some(false),
+            Some(_) => {}
             None => is_open = true,
         }
     }

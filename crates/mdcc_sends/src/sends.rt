@@ -1,5 +1,5 @@
 //! Messages, by whom they go to, each written behind those before.
-ghost use Rattle.std.specs.Prelude.{◌≡◌, ◌++◌, OnOk};
+ghost use Rattle.std.specs.Prelude.{◌≡◌, ◌++◌, ◌∷◌, [], OnOk};
 ghost use Rattle.mdcc_sends.specs.Others.{to_other};
 ghost use Rattle.mdcc_rules.specs.LeaderRules.{lead_sent, promise_sent};
 ghost use Rattle.mdcc_rules.specs.ManagerRules.{proposals_sent};
@@ -12,9 +12,33 @@ use mdcc_option::{Choice, Claim, Outcome};
 use mdcc_protocol::{LeadAnswer, PromiseAnswer};
 use mdcc_struct::Options;
 use std::alloc::Global;
+use std::mem;
+
+// Makes room for so many messages more.
+fn make_room(alloc: Global, count: usize, sends: &mut HeapList<Envelope>) -> Result<(), Memory>
+    ensures { OnOk result (sends.new ≡ sends.old) }
+{
+    let mut messages = mem::replace(sends, HeapList::new(alloc)).into_vec();
+    messages.try_reserve(count)?;
+    *sends = HeapList::from_vec(messages);
+    Ok(())
+}
+
+// Adds a message behind the others. It is moved once, to where it stays.
+fn push(alloc: Global, envelope: Envelope, sends: &mut HeapList<Envelope>) -> Result<(), Memory>
+    ensures { OnOk result (sends.new ≡ sends.old ++ envelope ∷ []) }
+{
+    let mut messages = mem::replace(sends, HeapList::new(alloc)).into_vec();
+    messages.try_reserve(1)?;
+    messages.push_reserved(envelope);
+    *sends = HeapList::from_vec(messages);
+    Ok(())
+}
 
 /// One message to one centre.
+#[inline]
 pub fn send(
+    alloc: Global,
     from: u8,
     to: u8,
     message: Message,
@@ -22,13 +46,13 @@ pub fn send(
 ) -> Result<(), Memory>
     ensures { OnOk result (sends.new ≡ sends.old ++ to_one from to message) }
 {
-    sends.push(Envelope { from, to, message })?;
-    Ok(())
+    push(alloc, Envelope { from, to, message }, sends)
 }
 
 /// Proposes a choice to all centres.
 #[tactic(auto, using(crate::proofs::Ranges::next_sent))]
 pub fn propose(
+    alloc: Global,
     quorums: &Quorums,
     from: u8,
     choice: &Choice,
@@ -36,18 +60,16 @@ pub fn propose(
 ) -> Result<(), Memory>
     ensures { OnOk result (sends.new ≡ sends.old ++ to_all quorums.now from (AMessage.Propose choice.now)) }
 {
+    make_room(alloc, usize::from(quorums.centres()), sends)?;
     for to in 1..quorums.centres() + 1 {
-        sends.push(Envelope {
-            from,
-            to,
-            message: Message::Propose(choice.copy()),
-        })?;
+        send(alloc, from, to, Message::Propose(choice.copy()), sends)?;
     }
     Ok(())
 }
 
 /// Proposes choices to all centres.
 pub fn propose_each(
+    alloc: Global,
     quorums: &Quorums,
     from: u8,
     choices: &[Choice],
@@ -56,7 +78,7 @@ pub fn propose_each(
     ensures { OnOk result (sends.new ≡ sends.old ++ proposals_sent quorums.now from choices.now) }
 {
     for choice in choices {
-        propose(quorums, from, choice, sends)?;
+        propose(alloc, quorums, from, choice, sends)?;
     }
     Ok(())
 }
@@ -64,6 +86,7 @@ pub fn propose_each(
 // Asks all centres for promises.
 #[tactic(auto, using(crate::proofs::Ranges::next_sent))]
 fn prepare(
+    alloc: Global,
     quorums: &Quorums,
     from: u8,
     key: &Key,
@@ -75,16 +98,13 @@ fn prepare(
     ensures { OnOk result (sends.new ≡ sends.old ++ to_all quorums.now from (AMessage.Prepare key.now version through ballot)) }
 {
     for to in 1..quorums.centres() + 1 {
-        sends.push(Envelope {
-            from,
-            to,
-            message: Message::Prepare {
-                key: *key,
-                version,
-                through,
-                ballot,
-            },
-        })?;
+        let message = Message::Prepare {
+            key: *key,
+            version,
+            through,
+            ballot,
+        };
+        send(alloc, from, to, message, sends)?;
     }
     Ok(())
 }
@@ -103,18 +123,16 @@ fn accept(
 ) -> Result<(), Memory>
     ensures { OnOk result (sends.new ≡ sends.old ++ to_all quorums.now from (AMessage.Accept key.now version ballot options.now)) }
 {
+    make_room(alloc, usize::from(quorums.centres()), sends)?;
     for to in 1..quorums.centres() + 1 {
         let options = options.copy(alloc)?;
-        sends.push(Envelope {
-            from,
-            to,
-            message: Message::Accept {
-                key: *key,
-                version,
-                ballot,
-                options,
-            },
-        })?;
+        let message = Message::Accept {
+            key: *key,
+            version,
+            ballot,
+            options,
+        };
+        send(alloc, from, to, message, sends)?;
     }
     Ok(())
 }
@@ -122,6 +140,7 @@ fn accept(
 /// Asks all centres for their votes on a transaction.
 #[tactic(auto, using(crate::proofs::Ranges::next_sent))]
 pub fn ask_votes(
+    alloc: Global,
     quorums: &Quorums,
     from: u8,
     tx: TxId,
@@ -132,21 +151,19 @@ pub fn ask_votes(
     ensures { OnOk result (sends.new ≡ sends.old ++ to_all quorums.now from (AMessage.Ask tx key.now version)) }
 {
     for to in 1..quorums.centres() + 1 {
-        sends.push(Envelope {
-            from,
-            to,
-            message: Message::Ask {
-                tx,
-                key: *key,
-                version,
-            },
-        })?;
+        let message = Message::Ask {
+            tx,
+            key: *key,
+            version,
+        };
+        send(alloc, from, to, message, sends)?;
     }
     Ok(())
 }
 
 // Tells a centre how a transaction ended, where it is another one.
 fn tell(
+    alloc: Global,
     from: u8,
     to: u8,
     tx: TxId,
@@ -158,19 +175,16 @@ fn tell(
     if to == from {
         return Ok(());
     }
-    sends.push(Envelope {
-        from,
-        to,
-        message: Message::Outcome {
-            tx,
-            outcome: outcome.copy(),
-        },
-    })?;
-    Ok(())
+    let message = Message::Outcome {
+        tx,
+        outcome: outcome.copy(),
+    };
+    send(alloc, from, to, message, sends)
 }
 
 /// Tells all other centres how a transaction ended.
 pub fn tell_others(
+    alloc: Global,
     quorums: &Quorums,
     from: u8,
     tx: TxId,
@@ -179,29 +193,32 @@ pub fn tell_others(
 ) -> Result<(), Memory>
     ensures { OnOk result (sends.new ≡ sends.old ++ to_others quorums.now from (AMessage.Outcome tx outcome.now)) }
 {
+    make_room(alloc, usize::from(quorums.centres()), sends)?;
     for to in 1..quorums.centres() + 1 {
-        tell(from, to, tx, outcome, sends)?;
+        tell(alloc, from, to, tx, outcome, sends)?;
     }
     Ok(())
 }
 
 // Asks a centre for what it holds of a key, where it is another one.
-fn ask(from: u8, to: u8, key: &Key, sends: &mut HeapList<Envelope>) -> Result<(), Memory>
+fn ask(
+    alloc: Global,
+    from: u8,
+    to: u8,
+    key: &Key,
+    sends: &mut HeapList<Envelope>,
+) -> Result<(), Memory>
     ensures { OnOk result (sends.new ≡ sends.old ++ to_other from to (AMessage.SyncAsk key.now)) }
 {
     if to == from {
         return Ok(());
     }
-    sends.push(Envelope {
-        from,
-        to,
-        message: Message::SyncAsk(*key),
-    })?;
-    Ok(())
+    send(alloc, from, to, Message::SyncAsk(*key), sends)
 }
 
 // Asks all other centres for what they hold of a key.
 fn ask_others(
+    alloc: Global,
     quorums: &Quorums,
     from: u8,
     key: &Key,
@@ -210,7 +227,7 @@ fn ask_others(
     ensures { OnOk result (sends.new ≡ sends.old ++ to_others quorums.now from (AMessage.SyncAsk key.now)) }
 {
     for to in 1..quorums.centres() + 1 {
-        ask(from, to, key, sends)?;
+        ask(alloc, from, to, key, sends)?;
     }
     Ok(())
 }
@@ -228,7 +245,7 @@ pub fn send_lead(
 {
     let key = &claim.key;
     match answer {
-        LeadAnswer::Behind => ask_others(quorums, from, key, sends),
+        LeadAnswer::Behind => ask_others(alloc, quorums, from, key, sends),
         LeadAnswer::Accept {
             version,
             ballot,
@@ -238,7 +255,9 @@ pub fn send_lead(
             version,
             through,
             ballot,
-        } => prepare(quorums, from, key, *version, *through, *ballot, sends),
+        } => prepare(
+            alloc, quorums, from, key, *version, *through, *ballot, sends,
+        ),
         LeadAnswer::Left => Ok(()),
     }
 }

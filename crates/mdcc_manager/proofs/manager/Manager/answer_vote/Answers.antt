@@ -1,5 +1,5 @@
 use Rattle.mdcc_protocol.specs.Manager.{vote_taken}
-use Rattle.mdcc_manager.proofs.manager.Manager.on_voted.Goals as goal
+use Rattle.mdcc_manager.proofs.manager.Manager.answer_vote.Goals as goal
 
 pub returns-clause-act : goal.returns-clause-act
 returns-clause-act c me epoch managing stands =
