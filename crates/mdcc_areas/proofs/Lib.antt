@@ -3,9 +3,9 @@ mod Appends
 mod AreaRead
 mod Around
 mod Calls
-mod Choice
+pub mod Choice
 mod Copies
-mod Dues
+pub mod Dues
 pub mod Followed
 mod Gates
 mod Idles

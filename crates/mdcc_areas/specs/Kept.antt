@@ -42,3 +42,8 @@ ThenIsRead = (tears : ℕ → Type 0) → (tears 1 → ⊥) → (first second : 
     → MayOpenAs tears area (taken first second) (pick area first second) current ⊎ MayBeDue area log payload current
     → MayOpenAs tears (other_of area) (taken first second) (pick area second first) other ⊎ IsIdle (appended log payload) other
     → ReadsAsEither (payloads_of log) payload (payloads_by area current other)
+
+-- So it is of an append and the checkpoint that is due with it, where no opening came before.
+abbrev pub DueIsRead : Type 0
+DueIsRead = (area : ℕ) (log : AreaLog) (payload current other : List ℕ) → MayBeDue area log payload current → IsIdle (appended log payload) other
+    → ReadsAsEither (payloads_of log) payload (payloads_by area current other)

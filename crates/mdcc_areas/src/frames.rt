@@ -90,6 +90,27 @@ impl Frames {
         self.size
     }
 
+    /// How many payloads there are.
+    pub fn count(&self) -> u64
+        ensures { result ≡ self.now.count }
+    {
+        self.count
+    }
+
+    /// How many bytes all payloads take as records.
+    pub fn body(&self) -> u64
+        ensures { result ≡ self.now.body }
+    {
+        self.body
+    }
+
+    /// Whether a checkpoint is due after one more payload.
+    pub fn is_due_next(&self) -> bool
+        ensures { IsTrue result ↔ (self.now.every ≤ self.now.tail + 1) }
+    {
+        self.tail + 1 >= self.every as u64
+    }
+
     /// Whether the log has no room for one more payload of this length: all payloads with it would pass 2^30 bytes in an area of
     /// version 1, or `append_due` would answer LogFull.
     pub fn is_full(&self, length: u64) -> bool
@@ -102,8 +123,7 @@ impl Frames {
         if self.size > LOG_LIMIT - (length + 5) {
             return true;
         }
-        let due = self.tail + 1 >= self.every as u64;
-        due && (self.generation == u64::MAX || self.body > LOG_LIMIT - (length + 30))
+        self.is_due_next() && (self.generation == u64::MAX || self.body > LOG_LIMIT - (length + 30))
     }
 
     /// Opens the log of a centre, whatever a crash left in its two areas, and gives its payloads in order. A checkpoint is due
@@ -129,6 +149,7 @@ impl Frames {
         ensures at_rest { IsTrue (D.disk disks.old centre).told → IsTrue (D.disk disks.old (centre + 16)).told
             → IfOk result (λ r. IsAtRest D.disk D.may_leave disks.new r.0 r.1.items) }
         ensures keeps { IfOk result (λ r. (r.0.centre ≡ centre) × (r.0.every ≡ every)) }
+        ensures range { IfOk result (λ r. r.0.area ≤ 1) }
 
         // What a crash at any moment of it leaves of each area: what was left before, or the bytes while they are settled. A front
         // of the calls that the bytes call for is made, and all of them at `Ok`.

@@ -2,7 +2,7 @@
 ghost use Rattle.mdcc_areas.specs.Crash.{CurrentIsRead, BetweenIsRead};
 ghost use Rattle.mdcc_areas.specs.Examples.{ExamplesAreRead};
 ghost use Rattle.mdcc_areas.specs.Room.{RoomyGrows};
-ghost use Rattle.mdcc_areas.specs.Kept.{CurrentStays, BetweenStays, IdleStays, OtherIsSpare, CheckpointIsRead};
+ghost use Rattle.mdcc_areas.specs.Kept.{CurrentStays, BetweenStays, IdleStays, OtherIsSpare, CheckpointIsRead, DueIsRead};
 
 /// The payloads of the area in use are read, whatever a crash left of the other.
 pub fn current_is_read()
@@ -12,6 +12,11 @@ pub fn current_is_read()
 /// Of what a crash of an append leaves, the payloads from before it are read, or those and the new one.
 pub fn between_is_read()
     ensures { BetweenIsRead }
+{}
+
+/// The same where a checkpoint follows the append, with each area as a crash at a moment of its own left it.
+pub fn due_is_read()
+    ensures { DueIsRead }
 {}
 
 /// After a crash at any moment of a checkpoint all payloads are read.

@@ -19,5 +19,5 @@ pub use fault::LogFault;
 pub use frames::{Frames, LOG_LIMIT};
 pub use laws::{
     between_is_read, between_stays, checkpoint_is_read, current_is_read, current_stays,
-    examples_are_read, idle_stays, other_is_spare, roomy_grows,
+    due_is_read, examples_are_read, idle_stays, other_is_spare, roomy_grows,
 };

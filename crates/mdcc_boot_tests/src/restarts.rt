@@ -1,13 +1,14 @@
 //! Restarts over disks in memory, and after a crash in each call of an append.
-ghost use Rattle.std.specs.Prelude.{[]};
+ghost use Rattle.std.specs.Prelude.{[], ◌≤◌};
 
 use crate::setup::{BOOTED, HEARD, PROMISED, five_centres};
 use mdcc_admission::parts_belong::is_centre;
+use mdcc_areas::{Frames, LogFault};
 use mdcc_base::{Centre, Image};
 use mdcc_counted_facts::CountedFacts;
 use mdcc_disks::MemoryDisks;
 use mdcc_facts::{FactStore, ListFacts};
-use mdcc_log::{Frames, LogFault};
+use mdcc_log::Frames as FirstFrames;
 use mdcc_restart::{BootFault, RestartFault, restart};
 use std::alloc::Global;
 use std::process::Abort;
@@ -40,15 +41,17 @@ fn restarted_over<S: FactStore + Drop>(
     alloc: Global,
     store: S,
     disks: &mut MemoryDisks,
+    every: u32,
 ) -> Result<Result<u32, RestartFault>, Fail>
-    requires { S.stands store [] }
+    requires empty { S.stands store [] }
+    requires often { 1 ≤ every }
 {
     let cluster = five_centres(rt);
     let centre = Centre::new(1).unwrap_or_default();
     if !is_centre(&cluster, centre.number()) {
         return Ok(Ok(0));
     }
-    match restart(alloc, cluster, centre, store, disks) {
+    match restart(alloc, cluster, centre, store, disks, every) {
         Ok(running) => {
             let epoch = running.epoch;
             Ok(Ok(if epoch == running.node.epoch() {
@@ -66,8 +69,20 @@ fn restarted(
     alloc: Global,
     disks: &mut MemoryDisks,
 ) -> Result<Result<u32, RestartFault>, Fail> {
+    restarted_every(rt, alloc, disks, 1024)
+}
+
+// Where a checkpoint is due after so many frames.
+fn restarted_every(
+    rt: &impl Abort,
+    alloc: Global,
+    disks: &mut MemoryDisks,
+    every: u32,
+) -> Result<Result<u32, RestartFault>, Fail>
+    requires { 1 ≤ every }
+{
     let store = ListFacts::new(alloc).ok().ok_or("a store")?;
-    restarted_over(rt, alloc, store, disks)
+    restarted_over(rt, alloc, store, disks, every)
 }
 
 // Over a store of so many cells.
@@ -78,7 +93,7 @@ fn restarted_within(
     disks: &mut MemoryDisks,
 ) -> Result<Result<u32, RestartFault>, Fail> {
     let store = CountedFacts::new(alloc, cells).ok().ok_or("a store")?;
-    restarted_over(rt, alloc, store, disks)
+    restarted_over(rt, alloc, store, disks, 1024)
 }
 
 // Whether the log has these payloads.
@@ -87,7 +102,8 @@ fn has_payloads(
     disks: &mut MemoryDisks,
     expected: &[&[u8]],
 ) -> Result<bool, LogFault> {
-    let (_log, payloads) = Frames::open(alloc, disks, 1)?;
+    let centre = Centre::new(1).unwrap_or_default();
+    let (_log, payloads) = Frames::open(alloc, disks, centre, 1024)?;
     Ok(
         payloads.len() == expected.len()
             && payloads
@@ -105,12 +121,12 @@ fn left_behind(
     call: u32,
     image: Image,
 ) -> Result<MemoryDisks, Fail> {
-    let mut disks = MemoryDisks::new(alloc, 1, &[call])?;
-    let (mut log, _payloads) = Frames::open(alloc, &mut disks, 1)?;
+    let mut disks = MemoryDisks::new(alloc, 17, &[call])?;
+    let (mut log, _payloads) = FirstFrames::open(alloc, &mut disks, 1)?;
     log.append(&mut disks, &BOOTED)?;
     log.append(&mut disks, &PROMISED)?;
     let outcome = log.append(&mut disks, &HEARD);
-    assert_eq!(rt; outcome, Err(LogFault::DiskFault));
+    assert!(rt; outcome.is_err());
     disks.crash(1, image);
     Ok(disks)
 }
@@ -132,7 +148,7 @@ fn after_a_crash_in_each_call_of_an_append(rt: HostRuntime) -> Result<(), Fail> 
 #[test]
 fn the_first_start(rt: HostRuntime) -> Result<(), Fail> {
     let alloc = rt.alloc();
-    let mut disks = MemoryDisks::new(alloc, 1, &[])?;
+    let mut disks = MemoryDisks::new(alloc, 17, &[])?;
     assert_eq!(rt; restarted(&rt, alloc, &mut disks)?, Ok(1));
     assert_eq!(rt;
         disks.bytes(1),
@@ -144,15 +160,66 @@ fn the_first_start(rt: HostRuntime) -> Result<(), Fail> {
     Ok(())
 }
 
+// The area that a first checkpoint makes of a log of the boot in epoch 1: its mark, an open area gate, generation 1, one record, and a
+// closed gate.
+const COPIED: [u8; 35] = [
+    0x4d, 0x44, 0x43, 0x43, 0x4c, 0x4f, 0x47, 0x32, 0x01, 0x01, 0, 0, 0, 0, 0, 0, 0, 0x01, 0, 0, 0,
+    0, 0, 0, 0, 0x05, 0, 0, 0, 0x01, 0x01, 0, 0, 0, 0,
+];
+
+#[test]
+fn a_checkpoint_with_the_boot(rt: HostRuntime) -> Result<(), Fail> {
+    let alloc = rt.alloc();
+    let mut disks = MemoryDisks::new(alloc, 17, &[])?;
+    assert_eq!(rt; restarted_every(&rt, alloc, &mut disks, 1)?, Ok(1));
+    assert_eq!(rt;
+        disks.bytes(1),
+        b"MDCCLOG1\x01\x05\x00\x00\x00\x01\x01\x00\x00\x00\x00".as_slice()
+    );
+    assert_eq!(rt; disks.bytes(17), COPIED.as_slice());
+    assert_eq!(rt; restarted_every(&rt, alloc, &mut disks, 1)?, Ok(2));
+    let both: [&[u8]; 2] = [&BOOTED, &BOOTED_AGAIN];
+    assert!(rt; has_payloads(alloc, &mut disks, &both)?);
+    Ok(())
+}
+
+// A first start whose boot makes a checkpoint: seven calls open the two empty areas, four append the boot, and eleven make the
+// checkpoint. The boot is there from call 12 on, and where call 10 or 11 stopped if what was written is kept.
+#[test]
+fn after_a_crash_in_each_call_of_a_start(rt: HostRuntime) -> Result<(), Fail> {
+    let alloc = rt.alloc();
+    let once: [&[u8]; 1] = [&BOOTED];
+    let twice: [&[u8]; 2] = [&BOOTED, &BOOTED_AGAIN];
+    for call in 1..23u32 {
+        for image in [Image::Lost, Image::Kept, Image::Torn] {
+            let mut disks = MemoryDisks::new(alloc, 17, &[call])?;
+            assert_eq!(rt;
+                restarted_every(&rt, alloc, &mut disks, 1)?,
+                Err(RestartFault::Log(LogFault::DiskFault))
+            );
+            disks.crash(1, image);
+            disks.crash(17, image);
+            let is_there = call > 11 || (call > 9 && image == Image::Kept);
+            let epoch = if is_there { 2 } else { 1 };
+            assert_eq!(rt; restarted_every(&rt, alloc, &mut disks, 1)?, Ok(epoch));
+            assert_eq!(rt; has_payloads(alloc, &mut disks, &once)?, !is_there);
+            assert_eq!(rt; has_payloads(alloc, &mut disks, &twice)?, is_there);
+        }
+    }
+    let mut disks = MemoryDisks::new(alloc, 17, &[23])?;
+    assert_eq!(rt; restarted_every(&rt, alloc, &mut disks, 1)?, Ok(1));
+    Ok(())
+}
+
 #[test]
 fn no_start(rt: HostRuntime) -> Result<(), Fail> {
     let alloc = rt.alloc();
-    let mut disks = MemoryDisks::new(alloc, 1, &[1])?;
+    let mut disks = MemoryDisks::new(alloc, 17, &[1])?;
     assert_eq!(rt;
         restarted(&rt, alloc, &mut disks)?,
         Err(RestartFault::Log(LogFault::DiskFault))
     );
-    let (mut log, _payloads) = Frames::open(alloc, &mut disks, 1)?;
+    let (mut log, _payloads) = FirstFrames::open(alloc, &mut disks, 1)?;
     log.append(&mut disks, &HEARD)?;
     assert_eq!(rt;
         restarted(&rt, alloc, &mut disks)?,
@@ -165,8 +232,8 @@ fn no_start(rt: HostRuntime) -> Result<(), Fail> {
 #[test]
 fn within_cells(rt: HostRuntime) -> Result<(), Fail> {
     let alloc = rt.alloc();
-    let mut disks = MemoryDisks::new(alloc, 1, &[])?;
-    let (mut log, _payloads) = Frames::open(alloc, &mut disks, 1)?;
+    let mut disks = MemoryDisks::new(alloc, 17, &[])?;
+    let (mut log, _payloads) = FirstFrames::open(alloc, &mut disks, 1)?;
     log.append(&mut disks, &BOOTED)?;
     log.append(&mut disks, &PROMISED)?;
     assert_eq!(rt;

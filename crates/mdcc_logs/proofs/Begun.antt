@@ -5,20 +5,20 @@ use Rattle.std.proofs.lemmas.Bool.Decides.{eqb_tells}
 use Rattle.std.proofs.lemmas.List.{get_or-append_right, get_or_append_left}
 use Rattle.mdcc_base.specs.declared.outside.Image.{Image}
 use Rattle.mdcc_disks.specs.Contents.{durable, struck}
-use Rattle.mdcc_disks.specs.Disks.{KeepsOthers}
+use Rattle.mdcc_areas.specs.Area.{fresh, payloads, read_areas}
+use Rattle.mdcc_areas.specs.Both.{KeepsBut}
+use Rattle.mdcc_areas.specs.Frames.{OpenAreas}
 use Rattle.mdcc_disks.specs.History.{Event, replayed}
-use Rattle.mdcc_disks.specs.Memory.{AllMemory, AreNew, IsNewMemory, Place, at_place, disk_of, left_since_of, may_leave_of, moment_of, no_place, standing}
-use Rattle.mdcc_log.specs.Frames.{IsAtRest, OpenLog}
-use Rattle.mdcc_log.specs.Log.{read_log}
+use Rattle.mdcc_disks.specs.Memory.{AllMemory, AreNew, IsNewMemory, Place, at_place, disk_of, left_since_of, may_leave_of, moment_of, is_there, no_place, standing}
 use Rattle.mdcc_logs.proofs.Nodes.{length-more}
-use Rattle.mdcc_logs.proofs.Standing.{IsSame, both-same, elsewhere, log-at-rest, log-stays}
-use Rattle.mdcc_logs.specs.Stands.{IsLogOf, log_at, no_log}
+use Rattle.mdcc_logs.proofs.Standing.{AreSame, IsKept, IsSame, both-same, elsewhere, log-at-rest, log-stays, others-same}
+use Rattle.mdcc_logs.specs.Stands.{IsLogOf, checkpoint_every, log_at, no_log}
 use Rattle.mdcc_logs.specs.Starting.{AreBegun, first_facts}
 use Rattle.mdcc_logs.specs.declared.logs.Logs.{Logs}
 use Rattle.mdcc_option.specs.declared.cluster.Cluster.{Cluster}
 use Rattle.mdcc_messages.specs.declared.facts.Fact.{Fact}
 use Rattle.mdcc_restart.specs.Logged.{AreLogged, logged}
-use Rattle.mdcc_restart.specs.Restarting.{IsLogOf as IsReadAs}
+use Rattle.mdcc_restart.specs.Restarting.{HasRoom, IsLogOf as IsReadAs}
 
 -- ---- empty disks
 
@@ -31,11 +31,16 @@ new-empty : (place : Place) → place.events ≡ [] → place.crash ≡ None →
 new-empty place events crash =
     ap (λ (es : List Event). (struck place.crash (replayed (durable []) es)).kept) events ∙ ap (λ (c : Option Image). (struck c (durable [])).kept) crash
 
-pub none-begun : (logs : Logs) (centres : ℕ) (script : List ℕ) → IsNewMemory centres script logs.disks → logs.open.items ≡ [] → AreBegun logs centres 0
+none-there : (disks : AllMemory) (centres p : ℕ) → disks.count ≡ centres + 16 → 1 ≤ p → p ≤ centres + 16 → is_there disks p ≡ true
+none-there disks centres p counted some few = and_from (nat_le 1 p) (nat_le p disks.count) (le-leb 1 p (omega (some, arith))) (le-leb p disks.count (omega (few, counted, arith)))
+
+pub none-begun : (logs : Logs) (centres : ℕ) (script : List ℕ) → IsNewMemory (centres + 16) script logs.disks → logs.open.items ≡ [] → AreBegun logs centres 0
 none-begun logs centres script new none = record {
   stand = record { as_many = ap length none; each = λ a some few. absurd (omega (some, few, arith)) };
-  there = λ a some few. and_from (nat_le 1 a) (nat_le a logs.disks.count) (le-leb 1 a (omega (some, arith))) (le-leb a logs.disks.count (omega (few, new.counted, arith)));
-  empty = λ a some few. let fresh = new-at logs.disks.places a new.new in new-empty (at_place logs.disks a) fresh.0 fresh.1;
+  there = λ a some few. none-there logs.disks centres a new.counted (omega (some, arith)) (omega (few, arith));
+  there_other = λ a some few. none-there logs.disks centres (a + 16) new.counted (omega (some, arith)) (omega (few, arith));
+  empty = λ a some few. let new_place = new-at logs.disks.places a new.new in new-empty (at_place logs.disks a) new_place.0 new_place.1;
+  empty_other = λ a some few. let new_place = new-at logs.disks.places (a + 16) new.new in new-empty (at_place logs.disks (a + 16)) new_place.0 new_place.1;
 }
 
 -- ---- no facts are read of them
@@ -43,36 +48,58 @@ none-begun logs centres script new none = record {
 pub none-logged : (cluster : Cluster) → AreLogged cluster []
 none-logged cluster = record { allowed = refl; well_formed = tt }
 
-pub none-read : (logs : Logs) (d : AllMemory) (centres count a : ℕ) → AreBegun logs centres count → count < a → a ≤ centres → IsSame logs.disks d a → IsReadAs [] (disk_of d a)
-none-read logs d centres count a begun next few same = record {
-  told = same.there ∙ begun.there a next few;
-  read = ap (λ (bytes : List ℕ). read_log bytes) (same.bytes ∙ begun.empty a next few);
-}
+module _ (logs : Logs) (d : AllMemory) (centres count a : ℕ) (begun : AreBegun logs centres count) (next : count < a) (few : a ≤ centres) (same : (p : ℕ) → IsSame logs.disks d p) where
+  empty-here : (disk_of d a).bytes ≡ []
+  empty-here = (same a).bytes ∙ begun.empty a next few
+
+  empty-there : (disk_of d (a + 16)).bytes ≡ []
+  empty-there = (same (a + 16)).bytes ∙ begun.empty_other a next few
+
+  pub none-read : IsReadAs [] (disk_of d a) (disk_of d (a + 16))
+  none-read = record {
+    told_first = (same a).there ∙ begun.there a next few;
+    told_second = (same (a + 16)).there ∙ begun.there_other a next few;
+    read = ap (λ (bytes : List ℕ). payloads bytes (disk_of d (a + 16)).bytes) empty-here ∙ ap (λ (bytes : List ℕ). payloads [] bytes) empty-there;
+  }
+
+  pub none-room : HasRoom checkpoint_every (disk_of d a) (disk_of d (a + 16))
+  none-room = record {
+    log = fresh;
+    read = ap (λ (bytes : List ℕ). read_areas bytes (disk_of d (a + 16)).bytes) empty-here ∙ ap (λ (bytes : List ℕ). read_areas [] bytes) empty-there;
+    roomy = record { generations = omega arith; frames = omega arith; records = inl refl };
+    often = omega arith;
+  }
 
 -- ---- one more
 
-pub next-begun : (old new : Logs) (d : AllMemory) (centres count a : ℕ) (log : OpenLog) → AreBegun old centres count → a ≡ count + 1 → a ≤ centres
-    → ((b : ℕ) → IsSame old.disks d b) → KeepsOthers disk_of may_leave_of moment_of left_since_of d new.disks a → new.open.items ≡ old.open.items ++ log ∷ []
-    → log.place ≡ a → IsAtRest (logged (Fact.Booted 1 ∷ [])) log.size (disk_of new.disks a).bytes (may_leave_of new.disks a) → AreBegun new centres a
-next-begun old new d centres count a log begun next few same keeps items place rest =
-    let others : (b : ℕ) → b ≢ a → IsSame old.disks new.disks b = λ b other. both-same old.disks d new.disks b (same b) (elsewhere d new.disks a b keeps other) in
+pub next-begun : (old new : Logs) (d : AllMemory) (centres count a : ℕ) (log : OpenAreas) → AreBegun old centres count → a ≡ count + 1 → a ≤ centres → centres ≤ 9
+    → ((p : ℕ) → IsSame old.disks d p) → KeepsBut disk_of may_leave_of moment_of left_since_of d new.disks a (a + 16) → new.open.items ≡ old.open.items ++ log ∷ []
+    → IsKept new.disks a log (first_facts a) → AreBegun new centres a
+next-begun old new d centres count a log begun next few most same keeps items kept =
+    let beside : (p : ℕ) → p ≢ a → p ≢ a + 16 → IsSame old.disks new.disks p = λ p first second. both-same old.disks d new.disks p (same p) (elsewhere d new.disks a (a + 16) p keeps first second) in
+    let others : (b : ℕ) → b ≤ 9 → b ≢ a → AreSame old.disks new.disks b = others-same old.disks new.disks a (omega (few, most, arith)) beside in
     let before : length old.open.items ≡ a - 1 = begun.stand.as_many ∙ omega (next, arith) in
     let none : (a - 1) - (a - 1) ≡ 0 = omega arith in
     let log_here : log_at new a ≡ log =
-    ap (λ (logs : List OpenLog). get_or logs (a - 1) no_log) items ∙ get_or-append_right old.open.items (log ∷ []) (a - 1) (a - 1) no_log before (omega arith) ∙ ap (λ (n : ℕ). get_or (log ∷ []) n no_log) none in
-    let here : IsLogOf new a true (first_facts a) = log-at-rest new a log true (first_facts a) (keeps.told ∙ (same a).there ∙ begun.there a (omega (next, arith)) few) log_here place rest in
+    ap (λ (logs : List OpenAreas). get_or logs (a - 1) no_log) items ∙ get_or-append_right old.open.items (log ∷ []) (a - 1) (a - 1) no_log before (omega arith) ∙ ap (λ (n : ℕ). get_or (log ∷ []) n no_log) none in
+    let here : IsLogOf new a true (first_facts a) = log-at-rest new a log true (first_facts a) (omega (few, most, arith))
+    (keeps.told_one ∙ (same a).there ∙ begun.there a (omega (next, arith)) few) (keeps.told_two ∙ (same (a + 16)).there ∙ begun.there_other a (omega (next, arith)) few)
+    log_here kept.centre kept.every kept.few kept.roomy kept.at_rest in
     record {
       stand = record {
         as_many = ap length items ∙ length-more old.open.items log ∙ omega (before, next, arith);
-        each = λ b some most. elim (eqb_tells b a) [
+        each = λ b some late. elim (eqb_tells b a) [
           | inl is ↦ subst (λ (n : ℕ). IsLogOf new n true (first_facts n)) (sym is.1) here
           | inr other ↦
-              let less : b ≤ count = omega (other.1, most, next, arith) in
+              let less : b ≤ count = omega (other.1, late, next, arith) in
+              let was = begun.stand.each b some less in
               let log_there : log_at new b ≡ log_at old b =
-              ap (λ (logs : List OpenLog). get_or logs (b - 1) no_log) items ∙ get_or_append_left old.open.items (log ∷ []) no_log (b - 1) (omega (some, less, begun.stand.as_many, arith)) in
-              log-stays old new b true (first_facts b) log_there (others b other.1) (begun.stand.each b some less)
+              ap (λ (logs : List OpenAreas). get_or logs (b - 1) no_log) items ∙ get_or_append_left old.open.items (log ∷ []) no_log (b - 1) (omega (some, less, begun.stand.as_many, arith)) in
+              log-stays old new b true (first_facts b) log_there (others b was.range other.1) was
         ];
       };
-      there = λ b more most. (others b (λ is. absurd (omega (is, more, arith)))).there ∙ begun.there b (omega (next, more, arith)) most;
-      empty = λ b more most. (others b (λ is. absurd (omega (is, more, arith)))).bytes ∙ begun.empty b (omega (next, more, arith)) most;
+      there = λ b more late. (others b (omega (late, most, arith)) (λ is. absurd (omega (is, more, arith)))).first.there ∙ begun.there b (omega (next, more, arith)) late;
+      there_other = λ b more late. (others b (omega (late, most, arith)) (λ is. absurd (omega (is, more, arith)))).second.there ∙ begun.there_other b (omega (next, more, arith)) late;
+      empty = λ b more late. (others b (omega (late, most, arith)) (λ is. absurd (omega (is, more, arith)))).first.bytes ∙ begun.empty b (omega (next, more, arith)) late;
+      empty_other = λ b more late. (others b (omega (late, most, arith)) (λ is. absurd (omega (is, more, arith)))).second.bytes ∙ begun.empty_other b (omega (next, more, arith)) late;
     }

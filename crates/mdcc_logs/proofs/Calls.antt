@@ -1,115 +1,184 @@
 -- Logs that stand after an append and after a crash, and when a log is full.
-use Rattle.std.proofs.Common.{◌≡◌, ◌+◌, ◌-◌, ◌≤◌, ◌&&◌, ◌∷◌, ◌++◌, [], Bool, List, OnOk, Result, ap, arith, inl, inr, length, min, false, nat_le, nat_lt, refl, set, subst, sym, true, ℕ, ◌∙◌}
+use Rattle.std.proofs.Common.{◌≡◌, ◌≢◌, ◌↔◌, ◌⊎◌, ◌+◌, ◌-◌, ◌<◌, ◌≤◌, ◌&&◌, ◌∷◌, ◌++◌, [], Bool, List, OnOk, OnErr, Result, Ok, Err, ap, arith, inl, inr, length, false, nat_le, nat_lt, refl, set, subst, sym, true, ℕ, ◌∙◌}
 use Rattle.std.specs.Prelude.{IsTrue}
 use Rattle.std.proofs.lemmas.Bool.{false≢true}
 use Rattle.std.proofs.lemmas.Bool.Decides.{eqb_tells, nat_tests}
-use Rattle.std.proofs.lemmas.Result.{on_ok_weaker}
 use Rattle.mdcc_base.specs.declared.faults.Memory.{Memory}
-use Rattle.mdcc_base.specs.declared.outside.Image.TheVariants.{Lost}
-use Rattle.mdcc_disks.specs.Contents.{Contents, IsImage, durable}
-use Rattle.mdcc_disks.specs.Disks.{KeepsOthers, Only}
-use Rattle.mdcc_disks.specs.Memory.{AllMemory, CrashLeaves, IsBut, KeepsPlaces, at_place, crashed, disk_of, is_there, left_since_of, may_leave_of, moment_of, standing}
-use Rattle.mdcc_log.specs.Frames.{IsAtRest, IsSettled, OpenLog}
-use Rattle.mdcc_log.specs.Log.{log_limit}
+use Rattle.mdcc_base.specs.declared.outside.Image.{Image}
+use Rattle.mdcc_base.specs.declared.outside.Image.TheVariants.{Kept, Lost, Torn}
+use Rattle.mdcc_areas.proofs.Rooms.{full_by_length}
+use Rattle.mdcc_areas.specs.Area.{payloads, payloads_of, read_areas}
+use Rattle.mdcc_areas.specs.AtRest.{IsAtRest}
+use Rattle.mdcc_areas.specs.Both.{KeepsBut}
+use Rattle.mdcc_areas.specs.Crash.{ReadsAsEither, payloads_by}
+use Rattle.mdcc_areas.specs.Frames.{IsSettled, IsSpare, OpenAreas, other_of, place_of}
+use Rattle.mdcc_areas.specs.Room.{HasGrown, IsFull, IsRoomy, IsRoomyLog}
+use Rattle.mdcc_disks.specs.Contents.{Contents, IsImage, durable, image_of}
+use Rattle.mdcc_disks.specs.Disks.{Only}
+use Rattle.mdcc_disks.specs.Memory.{AllMemory, CrashLeaves, IsBut, KeepsPlaces, at_place, counts_now_of, crashed, disk_of, is_there, left_since_of, may_leave_of, moment_of, standing}
+use Rattle.mdcc_log.specs.Log.{log_bytes, log_limit}
 use Rattle.mdcc_logs.proofs.Payloads.{log-more}
-use Rattle.mdcc_restart.proofs.Logged.{logged-length}
-use Rattle.mdcc_logs.proofs.Standing.{IsSame, both-same, cond-here, cond-there, elsewhere, log-same, log-stays, logs-with, put, rests, unchanged}
-use Rattle.mdcc_restart.specs.Logged.{logged}
-use Rattle.mdcc_logs.specs.Stands.{IsOpenAt, LogsStand, log_at, with_fact_at, with_up}
+use Rattle.mdcc_logs.proofs.Refusals.{leaves-here, one}
+use Rattle.mdcc_logs.proofs.Standing.{AreSame, IsDurableAt, IsKept, IsSame, both-areas, both-same, cond-here, cond-there, elsewhere, log-same, log-stays, log-there, logs-with, others-same, put, rests, same-areas, standing-same, there-same}
+use Rattle.mdcc_logs.specs.Stands.{IsLogOf, IsOpenAt, LogsStand, MayHave, checkpoint_every, log_at, with_fact_at, with_up}
 use Rattle.mdcc_logs.specs.declared.logs.Logs.{Logs}
-use Rattle.mdcc_messages.specs.Lengths.{frame_length, log_length}
+use Rattle.mdcc_messages.specs.Lengths.{fact_length, log_length}
 use Rattle.mdcc_messages.specs.Spelling.{fact_bytes}
 use Rattle.mdcc_messages.specs.declared.facts.Fact.{Fact}
+use Rattle.mdcc_restart.proofs.Logged.{logged-length}
+use Rattle.mdcc_restart.proofs.Others.{but_areas}
+use Rattle.mdcc_restart.proofs.Places.{at_both, from_places}
+use Rattle.mdcc_restart.proofs.Roomy.{roomy_more, same_log}
+use Rattle.mdcc_restart.proofs.Struck.{rest_areas}
+use Rattle.mdcc_restart.specs.Logged.{logged}
 
 -- ---- a crash
 
-crash-here : (old new : AllMemory) (place : ℕ) → new.count ≡ old.count → standing (at_place new place) ≡ durable (standing (at_place old place)).lost
-    → Only (disk_of old place).bytes (may_leave_of old place) → IsSame old new place
-crash-here old new place counted is only =
-    let lost = only (standing (at_place old place)).lost (inr (inl refl)) in
+-- of a disk whose bytes are all durable
+pub crash-here : (image : Image) (old new : AllMemory) (p : ℕ) → new.count ≡ old.count → standing (at_place new p) ≡ durable (image_of image (standing (at_place old p))) → IsDurableAt old p → IsSame old new p
+crash-here image old new p counted is only =
+    let left : image_of image (standing (at_place old p)) ≡ (disk_of old p).bytes = by image in
+    let whole : standing (at_place new p) ≡ durable (disk_of old p).bytes = is ∙ ap (λ (l : List ℕ). durable l) left in
     record {
-      there = ap (λ (count : ℕ). nat_le 1 place && nat_le place count) counted;
-      bytes = ap (λ (contents : Contents). contents.kept) is ∙ lost;
-      leaves = λ c left. elim (subst (λ (contents : Contents). IsImage contents c) is left) [
-        | inl kept ↦ inr (inl kept)
-        | inr other ↦ elim other [ inl was ↦ inr (inl was) | inr torn ↦ inr (inl torn) ]
-      ];
+      there = there-same old new p counted;
+      bytes = ap (λ (c : Contents). c.kept) whole;
+      leaves = λ c now. inl (these (disk_of old p).bytes (standing (at_place new p)) whole c now);
     }
+  where
+    by : (i : Image) → image_of i (standing (at_place old p)) ≡ (disk_of old p).bytes
+    by Lost = only (standing (at_place old p)).lost (inr (inl refl))
+    by Kept = refl
+    by Torn = only (standing (at_place old p)).torn (inr (inr refl))
 
-pub crash-same : CrashLeaves → (old new : AllMemory) (place : ℕ) → KeepsPlaces place old new → IsBut (crashed Lost (at_place old place)) (at_place new place)
-    → Only (disk_of old place).bytes (may_leave_of old place) → (a : ℕ) → IsSame old new a
-crash-same leaves old new place keeps but only a = elim (eqb_tells a place) [
-  | inl same ↦ subst (λ (b : ℕ). IsSame old new b) (sym same.1) (crash-here old new place keeps.counted (ap standing but ∙ leaves Lost (at_place old place)) only)
-  | inr other ↦ unchanged old new place a keeps other.1
+    these : (bytes : List ℕ) (contents : Contents) → contents ≡ durable bytes → (c : List ℕ) → IsImage contents c → c ≡ bytes
+    these bytes contents whole c now = elim (subst (λ (x : Contents). IsImage x c) whole now) [ inl same ↦ same | inr more ↦ elim more [ inl same ↦ same | inr same ↦ same ] ]
+
+one-crash : CrashLeaves → (old new : AllMemory) (p : ℕ) → KeepsPlaces p old new → IsBut (crashed Lost (at_place old p)) (at_place new p) → IsDurableAt old p → (q : ℕ) → IsSame old new q
+one-crash leaves old new p keeps but only q = elim (eqb_tells q p) [
+  | inl same ↦ subst (λ (n : ℕ). IsSame old new n) (sym same.1) (crash-here Lost old new p keeps.counted (ap standing but ∙ leaves Lost (at_place old p)) only)
+  | inr other ↦ standing-same old new q keeps.counted (ap standing (keeps.others q other.1))
 ]
 
-pub crash-stays : CrashLeaves → (old new : Logs) (place a centres : ℕ) (up : ℕ → Bool) (facts : ℕ → List Fact) → place ≡ a → 1 ≤ a → a ≤ length old.open.items
-    → new.open.items ≡ old.open.items → KeepsPlaces place old.disks new.disks → IsBut (crashed Lost (at_place old.disks place)) (at_place new.disks place)
+pub stays-durable : (old new : AllMemory) (p : ℕ) → IsSame old new p → IsDurableAt old p → IsDurableAt new p
+stays-durable old new p same only c now = only c (same.leaves c now) ∙ sym same.bytes
+
+-- a centre that is down keeps its log
+pub is-down : (logs : Logs) (a : ℕ) (down was : Bool) (facts : List Fact) → down ≡ false → IsLogOf logs a was facts → IsLogOf logs a down facts
+is-down logs a down was facts is its = record {
+  range = its.range;
+  there = its.there;
+  there_other = its.there_other;
+  log = its.log;
+  read = its.read;
+  payloads_are = its.payloads_are;
+  roomy = its.roomy;
+  durable = its.durable;
+  durable_other = its.durable_other;
+  few = λ yes. absurd (false≢true (sym is ∙ yes));
+  «open» = λ yes. absurd (false≢true (sym is ∙ yes));
+}
+
+pub crash-stays : CrashLeaves → (old new : Logs) (mid : AllMemory) (a centres : ℕ) (up : ℕ → Bool) (facts : ℕ → List Fact) → 1 ≤ a → a ≤ length old.open.items
+    → new.open.items ≡ old.open.items → KeepsPlaces a old.disks mid → IsBut (crashed Lost (at_place old.disks a)) (at_place mid a)
+    → KeepsPlaces (a + 16) mid new.disks → IsBut (crashed Lost (at_place mid (a + 16))) (at_place new.disks (a + 16))
     → LogsStand old centres up facts → LogsStand new centres (with_up up a false) facts
-crash-stays leaves old new place a centres up facts is some few items keeps but stand =
-    let one = stand.each a some (omega (few, stand.as_many, arith)) in
-    let only : Only (disk_of old.disks place).bytes (may_leave_of old.disks place) =
-    subst (λ (n : ℕ). Only (disk_of old.disks n).bytes (may_leave_of old.disks n)) (sym is) one.durable in
-    let same = crash-same leaves old.disks new.disks place keeps but only in
-    let here = log-stays old new a (up a) (facts a) (log-same old new items a) (same a) one in
+crash-stays leaves old new mid a centres up facts some few items keeps but keeps_other but_other stand =
+    let its = stand.each a some (omega (few, stand.as_many, arith)) in
+    let first = one-crash leaves old.disks mid a keeps but its.durable in
+    let second = one-crash leaves mid new.disks (a + 16) keeps_other but_other (stays-durable old.disks mid (a + 16) (first (a + 16)) its.durable_other) in
+    let same : (p : ℕ) → IsSame old.disks new.disks p = λ p. both-same old.disks mid new.disks p (first p) (second p) in
+    let here = log-stays old new a (up a) (facts a) (log-same old new items a) (same-areas old.disks new.disks same a) its in
     logs-with old new a centres up (with_up up a false) facts facts stand (ap length items)
-    (λ b first other. log-same old new items b) (λ b other. same b) (λ b other. cond-there a b false (up b) other) (λ b other. refl)
-    (record {
-      there = here.there;
-      reads = here.reads;
-      short = here.short;
-      durable = here.durable;
-      «open» = λ yes. absurd (false≢true (sym (cond-here a false (up a)) ∙ yes));
-    })
+    (λ b first other. log-same old new items b) (λ b high other. same-areas old.disks new.disks same b) (λ b other. cond-there a b false (up b) other) (λ b other. refl)
+    (is-down new a (with_up up a false a) (up a) (facts a) (cond-here a false (up a)) here)
 
 -- ---- an append
 
-pub settled-there : (logs : Logs) (d : AllMemory) (a : ℕ) (log : OpenLog) → IsOpenAt logs a → 1 ≤ a → a ≤ length logs.open.items → log ≡ log_at logs a
-    → ((b : ℕ) → IsSame logs.disks d b) → IsSettled log.size (disk_of d log.place).bytes (may_leave_of d log.place)
+-- the open log of a centre that is up
+pub settled-there : (logs : Logs) (d : AllMemory) (a : ℕ) (log : OpenAreas) → IsOpenAt logs a → 1 ≤ a → a ≤ length logs.open.items → log ≡ log_at logs a
+    → ((p : ℕ) → IsSame logs.disks d p)
+    → IsSettled log (disk_of d (place_of log.centre log.area)).bytes (may_leave_of d (place_of log.centre log.area))
+    × IsSpare log (disk_of d (place_of log.centre (other_of log.area))).bytes (may_leave_of d (place_of log.centre (other_of log.area)))
 settled-there logs d a log are some few is same =
     let stand = are.3 in
-    let one = (stand.each a some (omega (few, stand.as_many, arith))).open are.4 in
-    let place : log.place ≡ a = ap (λ (l : OpenLog). l.place) is ∙ one.place in
-    subst (λ (l : OpenLog). IsSettled l.size (disk_of d log.place).bytes (may_leave_of d log.place)) (sym is)
-    (subst (λ (n : ℕ). IsSettled (log_at logs a).size (disk_of d n).bytes (may_leave_of d n)) (sym place)
-    (logged (are.2 a), rests (logged (are.2 a)) (log_at logs a).size logs.disks d a (same a) one.at_rest))
+    let its = (stand.each a some (omega (few, stand.as_many, arith))).open are.4 in
+    let rest = rests logs.disks d a (log_at logs a) (logged (are.2 a)) its.centre (same-areas logs.disks d same a) its.at_rest in
+    subst (λ (l : OpenAreas). IsSettled l (disk_of d (place_of l.centre l.area)).bytes (may_leave_of d (place_of l.centre l.area))
+    × IsSpare l (disk_of d (place_of l.centre (other_of l.area))).bytes (may_leave_of d (place_of l.centre (other_of l.area)))) (sym is)
+    ((rest.log, rest.in_use), rest.spare)
 
-pub appended : (old new : Logs) (d : AllMemory) (log more : OpenLog) (a : ℕ) (fact : Fact) (payload : List ℕ) (result : Result (Unit {0}) Memory) (centres : ℕ) (up : ℕ → Bool) (facts : ℕ → List Fact)
-    → LogsStand old centres up facts → up a ≡ true → 1 ≤ a → a ≤ length old.open.items → log ≡ log_at old a → payload ≡ fact_bytes fact → ((b : ℕ) → IsSame old.disks d b)
-    → new.open.items ≡ set old.open.items (a - 1) more → more.place ≡ log.place → KeepsOthers disk_of may_leave_of moment_of left_since_of d new.disks log.place
-    → ((payloads : List (List ℕ)) → IsTrue (disk_of d log.place).told → IsAtRest payloads log.size (disk_of d log.place).bytes (may_leave_of d log.place)
-    → OnOk result (IsAtRest (payloads ++ payload ∷ []) more.size (disk_of new.disks log.place).bytes (may_leave_of new.disks log.place)))
-    → OnOk result (LogsStand new centres up (with_fact_at facts a fact))
-appended old new d log more a fact payload result centres up facts stand running some few is bytes same items stays keeps acknowledged =
-    let its = stand.each a some (omega (few, stand.as_many, arith)) in
-    let one = its.open running in
-    let place : log.place ≡ a = ap (λ (l : OpenLog). l.place) is ∙ one.place in
-    let there : is_there d a ≡ true = (same a).there ∙ its.there in
-    let told : IsTrue (disk_of d log.place).told = subst (λ (n : ℕ). IsTrue (is_there d n)) (sym place) there in
-    let before : IsAtRest (logged (facts a)) (log_at old a).size (disk_of d a).bytes (may_leave_of d a) = rests (logged (facts a)) (log_at old a).size old.disks d a (same a) one.at_rest in
-    let before_log : IsAtRest (logged (facts a)) log.size (disk_of d log.place).bytes (may_leave_of d log.place) =
-    subst (λ (l : OpenLog). IsAtRest (logged (facts a)) l.size (disk_of d log.place).bytes (may_leave_of d log.place)) (sym is)
-    (subst (λ (n : ℕ). IsAtRest (logged (facts a)) (log_at old a).size (disk_of d n).bytes (may_leave_of d n)) (sym place) before) in
-    on_ok_weaker result (λ rest.
-    put old new a more fact centres up up facts stand some few items
-    (λ b other. both-same old.disks d new.disks b (same b) (elsewhere d new.disks log.place b keeps (λ e. other (e ∙ place))))
-    (λ b other. refl)
-    (subst (λ (n : ℕ). is_there new.disks n ≡ is_there d n) place keeps.told ∙ there)
-    (stays ∙ place)
-    (subst (λ (n : ℕ). IsAtRest (logged (fact ∷ facts a)) more.size (disk_of new.disks n).bytes (may_leave_of new.disks n)) place
-    (subst (λ (p : List ℕ). IsAtRest (logged (facts a) ++ p ∷ []) more.size (disk_of new.disks log.place).bytes (may_leave_of new.disks log.place)) bytes rest)))
-    (acknowledged (logged (facts a)) told before_log)
+module _ (old new : Logs) (a centres : ℕ) (up : ℕ → Bool) (facts : ℕ → List Fact) (stand : LogsStand old centres up facts) (running : up a ≡ true) (some : 1 ≤ a) (few : a ≤ length old.open.items)
+    (d : AllMemory) (log : OpenAreas) (is : log ≡ log_at old a) (same : (p : ℕ) → IsSame old.disks d p) where
+  its : IsLogOf old a (up a) (facts a)
+  its = stand.each a some (omega (few, stand.as_many, arith))
 
--- ---- a full log
+  pub centre-is : log.centre ≡ a
+  centre-is = ap (λ (l : OpenAreas). l.centre) is ∙ (its.open running).centre
 
-passes : (size more total n : ℕ) → total ≡ size + more → n ≡ min (size + more) 18446744073709551615 → nat_lt 1073741824 n ≡ nat_lt log_limit total
-passes size more total n is capped = grind (arith, nat_tests)
+  pub rest-there : IsAtRest disk_of may_leave_of d log (logged (facts a))
+  rest-there =
+      subst (λ (l : OpenAreas). IsAtRest disk_of may_leave_of d l (logged (facts a))) (sym is)
+      (rests old.disks d a (log_at old a) (logged (facts a)) (its.open running).centre (same-areas old.disks d same a) (its.open running).at_rest)
 
-pub full-is : (logs : Logs) (log : OpenLog) (a centres : ℕ) (up : ℕ → Bool) (facts : ℕ → List Fact) (fact : Fact) (size more n : ℕ) → LogsStand logs centres up facts → up a ≡ true → 1 ≤ a → a ≤ centres
-    → log ≡ log_at logs a → size ≡ log.size → more ≡ frame_length fact → n ≡ min (size + more) 18446744073709551615
-    → nat_lt 1073741824 n ≡ nat_lt log_limit (log_length (fact ∷ facts a))
-full-is logs log a centres up facts fact size more n stand running some few is sized framed capped =
-    let rest = ((stand.each a some few).open running).at_rest in
-    let now : log.size ≡ log_length (facts a) =
-    ap (λ (l : OpenLog). l.size) is ∙ rest.counted ∙ ap length rest.file ∙ logged-length (facts a) in
-    passes size more (log_length (fact ∷ facts a)) n (log-more fact (facts a) ∙ omega (sized, now, framed, arith)) capped
+  pub told-there : IsTrue (disk_of d (place_of log.centre log.area)).told × IsTrue (disk_of d (place_of log.centre (other_of log.area))).told
+  told-there = at_both (λ p. IsTrue (disk_of d p).told) a log.centre log.area centre-is ((same a).there ∙ its.there) ((same (a + 16)).there ∙ its.there_other) rest-there.range
+
+  -- its log is the one that is read
+  pub roomy-there : IsRoomyLog rest-there.log
+  roomy-there =
+      let read = (rest_areas disk_of may_leave_of d log a (logged (facts a)) centre-is rest-there).log_is in
+      let was = ap (λ (bytes : List ℕ). read_areas bytes (disk_of d (a + 16)).bytes) (same a).bytes ∙ ap (λ (bytes : List ℕ). read_areas (disk_of old.disks a).bytes bytes) (same (a + 16)).bytes ∙ its.read in
+      subst IsRoomyLog (same_log its.log rest-there.log (sym was ∙ read)) its.roomy
+
+  often : 17 ≤ log.every
+  often = subst (λ (n : ℕ). 17 ≤ n) (sym (ap (λ (l : OpenAreas). l.every) is ∙ (its.open running).every)) (omega arith)
+
+  module _ (more : OpenAreas) (fact : Fact) (items : new.open.items ≡ set old.open.items (a - 1) more) (keeps : KeepsBut disk_of may_leave_of moment_of left_since_of d new.disks (place_of log.centre log.area) (place_of log.centre (other_of log.area))) where
+    keeps-areas : KeepsBut disk_of may_leave_of moment_of left_since_of d new.disks a (a + 16)
+    keeps-areas = but_areas disk_of may_leave_of moment_of left_since_of d new.disks a log.centre log.area centre-is rest-there.range keeps
+
+    beside : (p : ℕ) → p ≢ a → p ≢ a + 16 → IsSame old.disks new.disks p
+    beside p first second = both-same old.disks d new.disks p (same p) (elsewhere d new.disks a (a + 16) p keeps-areas first second)
+
+    pub appended : more.centre ≡ log.centre → more.every ≡ log.every → more.tail < more.every → HasGrown log more
+        → IsAtRest disk_of may_leave_of new.disks more (logged (facts a) ++ fact_bytes fact ∷ []) → LogsStand new centres up (with_fact_at facts a fact)
+    appended centre every tail grown rest =
+        let every_is : more.every ≡ checkpoint_every = every ∙ ap (λ (l : OpenAreas). l.every) is ∙ (its.open running).every in
+        put old new a more fact centres up up facts stand some few items (others-same old.disks new.disks a its.range beside) (λ b other. refl)
+        (keeps-areas.told_one ∙ (same a).there ∙ its.there) (keeps-areas.told_two ∙ (same (a + 16)).there ∙ its.there_other)
+        (record {
+          centre = centre ∙ centre-is;
+          every = every_is;
+          few = subst (λ (n : ℕ). more.tail < n) every_is tail;
+          roomy = roomy_more log rest-there.log (disk_of d (place_of log.centre log.area)).bytes (may_leave_of d (place_of log.centre log.area)) rest-there.in_use more roomy-there often grown;
+          at_rest = rest;
+        })
+
+    -- or what a crash leaves of it
+    pub may-have : ((current other : List ℕ) → left_since_of new.disks (place_of log.centre log.area) (moment_of d) current → left_since_of new.disks (place_of log.centre (other_of log.area)) (moment_of d) other
+        → ReadsAsEither (logged (facts a)) (fact_bytes fact) (payloads_by log.area current other)) → MayHave new centres up a facts fact
+    may-have reads =
+        leaves-here old new a centres up facts stand some few fact (keeps-areas.told_one ∙ (same a).there) (keeps-areas.told_two ∙ (same (a + 16)).there) beside (log-there old new a more some items)
+        (from_places (λ n p q. (current other : List ℕ) → left_since_of new.disks p (moment_of d) current → left_since_of new.disks q (moment_of d) other → ReadsAsEither (logged (facts a)) (fact_bytes fact) (payloads_by n current other))
+        ((first second : List ℕ) → may_leave_of new.disks a first → may_leave_of new.disks (a + 16) second → ReadsAsEither (logged (facts a)) (fact_bytes fact) (payloads first second)) a
+        (λ has first second now now_other. has first second (counts_now_of new.disks a (moment_of d) first keeps-areas.later now) (counts_now_of new.disks (a + 16) (moment_of d) second keeps-areas.later now_other))
+        (λ has first second now now_other. has second first (counts_now_of new.disks (a + 16) (moment_of d) second keeps-areas.later now_other) (counts_now_of new.disks a (moment_of d) first keeps-areas.later now))
+        log.area rest-there.range
+        (subst (λ (n : ℕ). (current other : List ℕ) → left_since_of new.disks (place_of n log.area) (moment_of d) current → left_since_of new.disks (place_of n (other_of log.area)) (moment_of d) other
+        → ReadsAsEither (logged (facts a)) (fact_bytes fact) (payloads_by log.area current other)) centre-is reads))
+
+  -- ---- a full log
+
+  pub full-is : (fact : Fact) (length_is : ℕ) (full : Bool) → length_is ≡ fact_length fact → (IsTrue full ↔ IsFull log length_is) → full ≡ nat_lt log_limit (log_length (fact ∷ facts a))
+  full-is fact more full framed tells =
+      let rest = rest-there in
+      let by = full_by_length log rest.log (disk_of d (place_of log.centre log.area)).bytes (may_leave_of d (place_of log.centre log.area)) more rest.in_use in
+      let sized : length (log_bytes (payloads_of rest.log)) + (more + 5) ≡ log_length (fact ∷ facts a) =
+      omega (ap (λ (ps : List (List ℕ)). length (log_bytes ps)) rest.payloads_are, logged-length (facts a), log-more fact (facts a), framed, arith) in
+      as-test full (log_limit) (log_length (fact ∷ facts a))
+      (λ yes. subst (λ (n : ℕ). log_limit < n) sized (by.1 roomy-there often (tells.0 yes)))
+      (λ past. tells.1 (by.0 (subst (λ (n : ℕ). log_limit < n) (sym sized) past)))
+    where
+      as-test : (b : Bool) (m n : ℕ) → (b ≡ true → m < n) → (m < n → b ≡ true) → b ≡ nat_lt m n
+      as-test true m n to from = let lt = to refl in grind (arith, nat_tests)
+      as-test false m n to from = let no : m < n → ⊥ = λ lt. false≢true (from lt) in grind (arith, nat_tests)

@@ -3,7 +3,7 @@ mod Calls
 mod Made
 mod Nodes
 mod Payloads
-mod Refusals
+pub mod Refusals
 mod Stages
 mod Standing
 mod Starts

@@ -54,3 +54,7 @@ sync-failed {T} place old new fault made = elim (call-failed {T = T} place Sync 
 pub on-err-weaker : {T E : Type 0} {P Q : Type 0} (result : Result T E) → (P → Q) → OnErr result P → OnErr result Q
 on-err-weaker (Ok x) f p = tt
 on-err-weaker (Err e) f p = f p
+
+pub on-ok-three : {T E : Type 0} (P Q R S : Type 0) (result : Result T E) → OnOk result P → OnOk result Q → OnOk result R → (P → Q → R → S) → OnOk result S
+on-ok-three P Q R S (Ok x) p q r f = f p q r
+on-ok-three P Q R S (Err e) p q r f = tt

@@ -1,5 +1,5 @@
--- What the device calls of an append leave of a log, one after another, and what is read of it after a crash.
-use Rattle.std.proofs.Common.{◌≡◌, ◌+◌, ◌-◌, ◌≤◌, ◌<◌, ◌∷◌, ◌++◌, ◌⊎◌, [], Bool, List, Ok, ap, arith, cond, drop, false, inl, inr, length, refl, replicate, subst, suc, sym, true, zero, ℕ, ◌∙◌, append_assoc, length-append}
+-- What the device calls of an append leave of an area, one after another.
+use Rattle.std.proofs.Common.{◌≡◌, ◌≢◌, ◌+◌, ◌-◌, ◌≤◌, ◌<◌, ◌∷◌, ◌++◌, ◌⊎◌, [], Bool, List, Ok, ap, arith, cond, drop, false, inl, inr, length, refl, replicate, subst, suc, sym, true, zero, ℕ, ◌∙◌, append_assoc, length-append}
 use Rattle.std.proofs.lemmas.List.{drop_at, take_at}
 use Rattle.mdcc_base.specs.declared.outside.Image.{Image}
 use Rattle.mdcc_base.specs.declared.outside.Image.TheVariants.{Kept, Lost, Torn}
@@ -7,11 +7,12 @@ use Rattle.mdcc_disks.specs.Contents.{Contents, IsImage, done, durable, image_of
 use Rattle.mdcc_disks.specs.Disks.DiskCall.{Sync, Write}
 use Rattle.mdcc_disks.specs.Disks.{Within}
 use Rattle.mdcc_log.proofs.Bytes.{end_written, one_written}
-use Rattle.mdcc_log.proofs.Kept.{rest_is_read}
-use Rattle.mdcc_log.proofs.LogRead.{front_of_more, log_is_read, short_more}
-use Rattle.mdcc_log.specs.Crash.{AreShort, IsBetween}
+use Rattle.mdcc_areas.proofs.Choice.{appended_front}
+use Rattle.mdcc_areas.specs.Append.{MayAppend}
+use Rattle.mdcc_areas.specs.Area.{AreaLog, front_of}
+use Rattle.mdcc_areas.specs.Frames.{appended}
 use Rattle.mdcc_log.specs.Frames.{append_calls}
-use Rattle.mdcc_log.specs.Log.{frame_body, log_bytes, log_front, payload_limit, read_log}
+use Rattle.mdcc_log.specs.Log.{frame_body}
 use Rattle.mdcc_logs.specs.Stopping.{is_frame_kept, stopped_at}
 
 end-over : (old bytes : List ℕ) → overwritten (length old) bytes old ≡ old ++ bytes
@@ -51,32 +52,33 @@ stopped-late (suc (suc (suc (suc (suc n))))) size payload was late last = absurd
 
 -- ---- what stands then
 
-module _ (payloads : List (List ℕ)) (payload : List ℕ) (short : AreShort payloads) (fits : length payload ≤ payload_limit) where
-  abbrev pub front : List ℕ
-  front = log_front payloads
+-- behind this front stand a closed gate and nothing else
+abbrev pub shut_end : List ℕ → List ℕ
+shut_end front = front ++ 0 ∷ []
 
+module _ (front payload : List ℕ) where
   abbrev pub body : List ℕ
   body = frame_body payload ++ 0 ∷ []
 
-  -- the log as it was, and with something behind its closed gate
-  behind : (rest : List ℕ) → log_bytes payloads ++ rest ≡ front ++ 0 ∷ rest
+  -- with something behind its closed gate
+  behind : (rest : List ℕ) → shut_end front ++ rest ≡ front ++ 0 ∷ rest
   behind rest = append_assoc front (0 ∷ []) rest
 
   -- the frame is written behind the closed gate
   abbrev pub framed : Contents
-  framed = record { kept = front ++ 0 ∷ body; lost = log_bytes payloads; torn = front ++ 0 ∷ replicate (length body) 165 }
+  framed = record { kept = front ++ 0 ∷ body; lost = shut_end front; torn = front ++ 0 ∷ replicate (length body) 165 }
 
   -- the gate is written
   abbrev pub gated : Contents
   gated = record { kept = front ++ 1 ∷ body; lost = front ++ 0 ∷ body; torn = front ++ 165 ∷ body }
 
-  pub framing : (size : ℕ) (failed : Bool) → size ≡ length (log_bytes payloads) → done (Write size body) failed (durable (log_bytes payloads)) ≡ framed
+  pub framing : (size : ℕ) (failed : Bool) → size ≡ length (shut_end front) → done (Write size body) failed (durable (shut_end front)) ≡ framed
   framing size failed is =
-      ap (λ (n : ℕ). done (Write n body) failed (durable (log_bytes payloads))) is
-      ∙ ap (λ (l : List ℕ). record { kept = l; lost = log_bytes payloads; torn = overwritten (length (log_bytes payloads)) (replicate (length body) 165) (log_bytes payloads) }) (end-over (log_bytes payloads) body ∙ behind body)
-      ∙ ap (λ (l : List ℕ). record { kept = front ++ 0 ∷ body; lost = log_bytes payloads; torn = l }) (end-over (log_bytes payloads) (replicate (length body) 165) ∙ behind (replicate (length body) 165))
+      ap (λ (n : ℕ). done (Write n body) failed (durable (shut_end front))) is
+      ∙ ap (λ (l : List ℕ). record { kept = l; lost = shut_end front; torn = overwritten (length (shut_end front)) (replicate (length body) 165) (shut_end front) }) (end-over (shut_end front) body ∙ behind body)
+      ∙ ap (λ (l : List ℕ). record { kept = front ++ 0 ∷ body; lost = shut_end front; torn = l }) (end-over (shut_end front) (replicate (length body) 165) ∙ behind (replicate (length body) 165))
 
-  pub gating : (size : ℕ) (failed : Bool) → size ≡ length (log_bytes payloads) → done (Write (size - 1) (1 ∷ [])) failed (done Sync false framed) ≡ gated
+  pub gating : (size : ℕ) (failed : Bool) → size ≡ length (shut_end front) → done (Write (size - 1) (1 ∷ [])) failed (done Sync false framed) ≡ gated
   gating size failed is =
       let there : size - 1 ≡ length front = omega (is, length-append front (0 ∷ []), arith) in
       ap (λ (n : ℕ). done (Write n (1 ∷ [])) failed (durable (front ++ 0 ∷ body))) there
@@ -85,84 +87,53 @@ module _ (payloads : List (List ℕ)) (payload : List ℕ) (short : AreShort pay
 
   -- ---- what a crash may leave
 
-  shut : (rest c : List ℕ) → c ≡ front ++ 0 ∷ rest → IsBetween payloads payload c
-  shut rest c is = inl (record { short = short; file = inr (rest, is) })
+  shut : (rest c : List ℕ) → c ≡ front ++ 0 ∷ rest → MayAppend front payload c
+  shut rest c is = inl (rest, is)
 
-  undecided : (gate : ℕ) (c : List ℕ) → c ≡ front ++ gate ∷ body → IsBetween payloads payload c
-  undecided gate c is = inr (record { short = short; fits = fits; gate = gate; file = is })
+  undecided : (gate : ℕ) (c : List ℕ) → c ≡ front ++ gate ∷ body → MayAppend front payload c
+  undecided gate c is = inr (gate, is)
 
-  pub rest-between : Within (IsBetween payloads payload) (IsImage (durable (log_bytes payloads)))
+  pub rest-between : Within (MayAppend front payload) (IsImage (durable (shut_end front)))
   rest-between c (inl is) = shut [] c is
   rest-between c (inr (inl is)) = shut [] c is
   rest-between c (inr (inr is)) = shut [] c is
 
-  pub framed-between : Within (IsBetween payloads payload) (IsImage framed)
+  pub framed-between : Within (MayAppend front payload) (IsImage framed)
   framed-between c (inl is) = shut body c is
   framed-between c (inr (inl is)) = shut [] c is
   framed-between c (inr (inr is)) = shut (replicate (length body) 165) c is
 
-  pub synced-between : Within (IsBetween payloads payload) (IsImage (done Sync false framed))
+  pub synced-between : Within (MayAppend front payload) (IsImage (done Sync false framed))
   synced-between c (inl is) = shut body c is
   synced-between c (inr (inl is)) = shut body c is
   synced-between c (inr (inr is)) = shut body c is
 
-  pub gated-between : Within (IsBetween payloads payload) (IsImage gated)
+  pub gated-between : Within (MayAppend front payload) (IsImage gated)
   gated-between c (inl is) = undecided 1 c is
   gated-between c (inr (inl is)) = shut body c is
   gated-between c (inr (inr is)) = undecided 165 c is
 
-  -- ---- what is read of it
+  -- ---- where the calls are made in a disk that holds the area
 
-  shut-read : (rest : List ℕ) → read_log (front ++ 0 ∷ rest) ≡ Ok payloads
-  shut-read rest = log_is_read payloads (0 ∷ rest) short (omega arith) refl
+  holds-between : (contents other : Contents) → contents ≡ other → Within (MayAppend front payload) (IsImage other) → Within (MayAppend front payload) (IsImage contents)
+  holds-between contents other is within = subst (λ (c : Contents). Within (MayAppend front payload) (IsImage c)) (sym is) within
 
-  framed-read : (image : Image) → read_log (image_of image framed) ≡ Ok payloads
-  framed-read Lost = shut-read []
-  framed-read Kept = shut-read body
-  framed-read Torn = shut-read (replicate (length body) 165)
-
-  gated-read : (image : Image) → read_log (image_of image gated) ≡ Ok (cond (is_frame_kept 3 image) (payloads ++ payload ∷ []) payloads)
-  gated-read Lost = shut-read body
-  gated-read Kept =
-      ap read_log (sym (front_of_more payloads payload (0 ∷ [])))
-      ∙ rest_is_read (payloads ++ payload ∷ []) (log_bytes (payloads ++ payload ∷ [])) (short_more payloads payload short fits) refl
-  gated-read Torn = log_is_read payloads (165 ∷ body) short (omega arith) refl
-
-  -- what is read after a stop
-  pub stop-read : (size call : ℕ) (image : Image) → size ≡ length (log_bytes payloads) → 1 ≤ call → call ≤ 4
-      → read_log (image_of image (stopped_at call (append_calls size payload) (durable (log_bytes payloads)))) ≡ Ok (cond (is_frame_kept call image) (payloads ++ payload ∷ []) payloads)
-  stop-read size zero image is first last = absurd (omega (first, arith))
-  stop-read size (suc zero) image is first last = ap (λ (c : Contents). read_log (image_of image c)) (framing size true is) ∙ framed-read image ∙ ap (λ (b : Bool). Ok (cond b (payloads ++ payload ∷ []) payloads)) (sym (early-lost image))
-  stop-read size (suc (suc zero)) image is first last = ap (λ (c : Contents). read_log (image_of image c)) (framing size false is) ∙ framed-read image ∙ ap (λ (b : Bool). Ok (cond b (payloads ++ payload ∷ []) payloads)) (sym (early-lost image))
-  stop-read size (suc (suc (suc zero))) image is first last =
-      ap (λ (c : Contents). read_log (image_of image (done (Write (size - 1) (1 ∷ [])) true (done Sync false c)))) (framing size false is)
-      ∙ ap (λ (c : Contents). read_log (image_of image c)) (gating size true is) ∙ gated-read image
-  stop-read size (suc (suc (suc (suc zero)))) image is first last =
-      ap (λ (c : Contents). read_log (image_of image (done (Write (size - 1) (1 ∷ [])) false (done Sync false c)))) (framing size false is)
-      ∙ ap (λ (c : Contents). read_log (image_of image c)) (gating size false is) ∙ gated-read image
-  stop-read size (suc (suc (suc (suc (suc n))))) image is first last = absurd (omega (last, arith))
-
-  -- ---- where the calls are made in a disk that holds the log
-
-  holds-between : (contents other : Contents) → contents ≡ other → Within (IsBetween payloads payload) (IsImage other) → Within (IsBetween payloads payload) (IsImage contents)
-  holds-between contents other is within = subst (λ (c : Contents). Within (IsBetween payloads payload) (IsImage c)) (sym is) within
-
-  pub writing : (size : ℕ) (frame : List ℕ) (failed : Bool) (old new : Contents) → size ≡ length (log_bytes payloads) → frame ≡ frame_body payload ++ 0 ∷ [] → old ≡ durable (log_bytes payloads)
+  pub writing : (size : ℕ) (frame : List ℕ) (failed : Bool) (old new : Contents) → size ≡ length (shut_end front) → frame ≡ frame_body payload ++ 0 ∷ [] → old ≡ durable (shut_end front)
       → new ≡ done (Write size frame) failed old → new ≡ framed
   writing size frame failed old new is bytes was wrote =
       wrote ∙ ap (λ (l : List ℕ). done (Write size l) failed old) bytes ∙ ap (λ (c : Contents). done (Write size body) failed c) was ∙ framing size failed is
 
   -- the frame was perhaps not written
-  pub write-between : (size : ℕ) (frame : List ℕ) (old new : Contents) → size ≡ length (log_bytes payloads) → frame ≡ frame_body payload ++ 0 ∷ [] → old ≡ durable (log_bytes payloads)
-      → (new ≡ done (Write size frame) true old) ⊎ (new ≡ old) → Within (IsBetween payloads payload) (IsImage new)
+  pub write-between : (size : ℕ) (frame : List ℕ) (old new : Contents) → size ≡ length (shut_end front) → frame ≡ frame_body payload ++ 0 ∷ [] → old ≡ durable (shut_end front)
+      → (new ≡ done (Write size frame) true old) ⊎ (new ≡ old) → Within (MayAppend front payload) (IsImage new)
   write-between size frame old new is bytes was either = elim either [
     | inl wrote ↦ holds-between new framed (writing size frame true old new is bytes was wrote) framed-between
-    | inr same ↦ holds-between new (durable (log_bytes payloads)) (same ∙ was) rest-between
+    | inr same ↦ holds-between new (durable (shut_end front)) (same ∙ was) rest-between
   ]
 
   -- the gate was perhaps not written
-  pub gate-between : (size : ℕ) (old new : Contents) → size ≡ length (log_bytes payloads) → old ≡ framed
-      → (new ≡ old) ⊎ ((new ≡ done Sync false old) ⊎ (new ≡ done (Write (size - 1) (1 ∷ [])) false (done Sync false old))) → Within (IsBetween payloads payload) (IsImage new)
+  pub gate-between : (size : ℕ) (old new : Contents) → size ≡ length (shut_end front) → old ≡ framed
+      → (new ≡ old) ⊎ ((new ≡ done Sync false old) ⊎ (new ≡ done (Write (size - 1) (1 ∷ [])) false (done Sync false old))) → Within (MayAppend front payload) (IsImage new)
   gate-between size old new is was which = elim which [
     | inl same ↦ holds-between new framed (same ∙ was) framed-between
     | inr more ↦ elim more [
@@ -170,3 +141,56 @@ module _ (payloads : List (List ℕ)) (payload : List ℕ) (short : AreShort pay
       | inr wrote ↦ holds-between new gated (wrote ∙ ap (λ (c : Contents). done (Write (size - 1) (1 ∷ [])) false (done Sync false c)) was ∙ gating size false is) gated-between
     ]
   ]
+
+-- ---- what a stop leaves
+
+-- This log stands in an area: behind its front stands a gate that is not open.
+pub record EndsShut (log : AreaLog) (bytes : List ℕ) : Type 0 where
+  pub gate : ℕ
+  pub rest : List ℕ
+  pub shut : gate ≢ 1
+  pub file : bytes ≡ front_of log ++ gate ∷ rest
+
+module _ (log : AreaLog) (payload : List ℕ) where
+  ends : (gate : ℕ) (rest bytes : List ℕ) → gate ≢ 1 → bytes ≡ front_of log ++ gate ∷ rest → EndsShut log bytes
+  ends gate rest bytes shut is = record { gate = gate; rest = rest; shut = shut; file = is }
+
+  framed-ends : (image : Image) → EndsShut log (image_of image (framed (front_of log) payload))
+  framed-ends Lost = ends 0 [] _ (omega arith) refl
+  framed-ends Kept = ends 0 (body (front_of log) payload) _ (omega arith) refl
+  framed-ends Torn = ends 0 (replicate (length (body (front_of log) payload)) 165) _ (omega arith) refl
+
+  gated-ends : (image : Image) → EndsShut (cond (is_frame_kept 3 image) (appended log payload) log) (image_of image (gated (front_of log) payload))
+  gated-ends Lost = ends 0 (body (front_of log) payload) _ (omega arith) refl
+  gated-ends Kept = record { gate = 0; rest = []; shut = omega arith; file = sym (appended_front log payload (0 ∷ [])) }
+  gated-ends Torn = ends 165 (body (front_of log) payload) _ (omega arith) refl
+
+  early-ends : (image : Image) (call : ℕ) (bytes : List ℕ) → is_frame_kept call image ≡ false → EndsShut log bytes → EndsShut (cond (is_frame_kept call image) (appended log payload) log) bytes
+  early-ends image call bytes lost is = subst (λ (b : Bool). EndsShut (cond b (appended log payload) log) bytes) (sym lost) is
+
+  second-lost : (image : Image) → is_frame_kept 2 image ≡ false
+  second-lost Lost = refl
+  second-lost Kept = refl
+  second-lost Torn = refl
+
+  fourth-kept : (image : Image) → is_frame_kept 4 image ≡ is_frame_kept 3 image
+  fourth-kept Lost = refl
+  fourth-kept Kept = refl
+  fourth-kept Torn = refl
+
+  -- after a stop
+  pub stop-ends : (size call : ℕ) (image : Image) → size ≡ length (shut_end (front_of log)) → 1 ≤ call → call ≤ 4
+      → EndsShut (cond (is_frame_kept call image) (appended log payload) log) (image_of image (stopped_at call (append_calls size payload) (durable (shut_end (front_of log)))))
+  stop-ends size zero image is first last = absurd (omega (first, arith))
+  stop-ends size (suc zero) image is first last =
+      early-ends image 1 _ (early-lost image) (subst (λ (c : Contents). EndsShut log (image_of image c)) (sym (framing (front_of log) payload size true is)) (framed-ends image))
+  stop-ends size (suc (suc zero)) image is first last =
+      early-ends image 2 _ (second-lost image) (subst (λ (c : Contents). EndsShut log (image_of image c)) (sym (framing (front_of log) payload size false is)) (framed-ends image))
+  stop-ends size (suc (suc (suc zero))) image is first last =
+      subst (λ (c : Contents). EndsShut (cond (is_frame_kept 3 image) (appended log payload) log) (image_of image (done (Write (size - 1) (1 ∷ [])) true (done Sync false c)))) (sym (framing (front_of log) payload size false is))
+      (subst (λ (c : Contents). EndsShut (cond (is_frame_kept 3 image) (appended log payload) log) (image_of image c)) (sym (gating (front_of log) payload size true is)) (gated-ends image))
+  stop-ends size (suc (suc (suc (suc zero)))) image is first last =
+      subst (λ (b : Bool). EndsShut (cond b (appended log payload) log) (image_of image (stopped_at 4 (append_calls size payload) (durable (shut_end (front_of log)))))) (sym (fourth-kept image))
+      (subst (λ (c : Contents). EndsShut (cond (is_frame_kept 3 image) (appended log payload) log) (image_of image (done (Write (size - 1) (1 ∷ [])) false (done Sync false c)))) (sym (framing (front_of log) payload size false is))
+      (subst (λ (c : Contents). EndsShut (cond (is_frame_kept 3 image) (appended log payload) log) (image_of image c)) (sym (gating (front_of log) payload size false is)) (gated-ends image)))
+  stop-ends size (suc (suc (suc (suc (suc n))))) image is first last = absurd (omega (last, arith))

@@ -1,29 +1,38 @@
 -- What a start over the disk of a centre makes of the logs.
-use Rattle.std.proofs.Common.{◌≡◌, ◌+◌, ◌-◌, ◌≤◌, ◌<◌, ◌^◌, ◌∷◌, [], Bool, Err, List, Ok, Option, Some, ap, arith, if◌then◌else◌, length, nat_le, refl, set, subst, sym, true, false, nat_lt, ℕ, ◌∙◌}
+use Rattle.std.proofs.Common.{◌≡◌, ◌≢◌, ◌+◌, ◌-◌, ◌≤◌, ◌<◌, ◌^◌, ◌∷◌, [], Bool, Err, List, Ok, Option, Some, ap, arith, if◌then◌else◌, length, nat_le, refl, set, subst, sym, true, false, nat_lt, ℕ, ◌∙◌}
 use Rattle.std.specs.List.{AllByRecursion}
-use Rattle.std.proofs.lemmas.Bool.{le-ltb, lt-leb, ltb-false, ltb-true}
+use Rattle.std.proofs.lemmas.Bool.{false≢true, le-ltb, lt-leb, ltb-false, ltb-true}
 use Rattle.std.proofs.lemmas.Bool.Decides.{nat_tests}
 use Rattle.mdcc_admission.proofs.Alike.{counted_boots}
 use Rattle.mdcc_admission.specs.Loading.{Holds}
 use Rattle.mdcc_disks.specs.Contents.{tears_of}
-use Rattle.mdcc_disks.specs.Disks.{KeepsOthers}
-use Rattle.mdcc_disks.specs.Memory.{AllMemory, disk_of, left_since_of, may_leave_of, moment_of}
-use Rattle.mdcc_log.specs.Frames.{IsAtRest}
-use Rattle.mdcc_log.specs.Log.{log_limit, read_log}
-use Rattle.mdcc_log.specs.declared.fault.LogFault.{LogFault}
+use Rattle.mdcc_areas.specs.AtRest.{IsAtRest}
+use Rattle.mdcc_areas.specs.Area.{payloads, read_areas}
+use Rattle.mdcc_areas.specs.Both.{KeepsBut}
+use Rattle.mdcc_areas.specs.Crash.{ReadsAsEither}
+use Rattle.mdcc_areas.specs.declared.fault.LogFault.{LogFault}
+use Rattle.mdcc_disks.specs.Disks.{Only}
+use Rattle.mdcc_disks.specs.Memory.{AllMemory, counts_now_of, disk_of, is_there, left_since_of, may_leave_of, moment_of}
+use Rattle.mdcc_log.specs.Log.{log_limit}
 use Rattle.mdcc_restart.proofs.Logged.{logged-length}
-use Rattle.mdcc_logs.proofs.Standing.{IsSame, both-same, cond-there, elsewhere, put}
+use Rattle.mdcc_restart.proofs.Places.{from_both}
+use Rattle.mdcc_restart.proofs.Roomy.{roomy_log}
+use Rattle.mdcc_restart.proofs.Struck.{rest_areas}
+use Rattle.mdcc_logs.proofs.Calls.{stays-durable}
+use Rattle.mdcc_logs.proofs.Refusals.{its-payloads, leaves-here, one}
+use Rattle.mdcc_logs.proofs.Standing.{IsKept, IsSame, both-same, cond-there, elsewhere, log-same, logs-with, others-same, put}
 use Rattle.mdcc_logs.specs.Nodes.{CentreStore, IsNodeOf, are_stored, needed_in, spare_of}
-use Rattle.mdcc_logs.specs.Stands.{IsLogOf, LogsStand, with_up}
+use Rattle.mdcc_logs.specs.Stands.{IsLogOf, LogsStand, MayHave, checkpoint_every, log_at, with_up}
 use Rattle.mdcc_logs.specs.Starting.{HasStarted, OnNone, StartsOver, cells_of, cells_with_boot, lacking}
 use Rattle.mdcc_logs.specs.declared.logs.Logs.{Logs}
 use Rattle.mdcc_option.specs.declared.cluster.Cluster.{Cluster}
 use Rattle.mdcc_messages.specs.Lengths.{cells_needed, cells_used, log_length}
 use Rattle.mdcc_protocol.specs.Facts.{epoch_of}
 use Rattle.mdcc_protocol.specs.Volatile.{nothing_kept}
+use Rattle.mdcc_messages.specs.Spelling.{fact_bytes}
 use Rattle.mdcc_messages.specs.declared.facts.Fact.{Fact}
 use Rattle.mdcc_restart.specs.Logged.{AreLogged, logged}
-use Rattle.mdcc_restart.specs.Restarting.{IsLogOf as IsReadAs, IsRefused, KeepsLog, Runs, booted_over, next_boot, size_with_boot}
+use Rattle.mdcc_restart.specs.Restarting.{HasRoom, IsAsBefore, IsLogOf as IsReadAs, IsRefused, KeepsLog, Runs, booted_over, next_boot, size_with_boot}
 use Rattle.mdcc_restart.specs.declared.fault.RestartFault.{RestartFault}
 use Rattle.mdcc_restart.specs.declared.restarting.Restarted.{Restarted}
 use Rattle.mdcc_rules.specs.Boot.{booted_by}
@@ -75,30 +84,30 @@ module _ (cluster : Cluster) (facts : List Fact) (are : AreLogged cluster facts)
   lacks-by false past needed all e = absurd (cc)
 
   -- what comes of a start that is refused
-  pub lacking-over : (me : ℕ) (bytes : List ℕ) (may_leave : List ℕ → Type 0) (fault : RestartFault) → IsRefused (cells_of cluster) cluster facts fault → StartsOver (lacking fault) cluster me facts bytes may_leave
-  lacking-over me bytes may_leave (RestartFault.Log LogFault.LogFull) h =
-      (fits-by (nat_lt cluster.cells (cells_with_boot facts)) (ltb-false cluster.cells (cells_with_boot facts)) (next_boot facts ∷ facts) (sym boot-over ∙ h.0), h.1)
-  lacking-over me bytes may_leave (RestartFault.Log LogFault.DiskFault) h = tt
-  lacking-over me bytes may_leave (RestartFault.Log LogFault.Memory) h = tt
-  lacking-over me bytes may_leave (RestartFault.Log (LogFault.NotALog n)) h = tt
-  lacking-over me bytes may_leave (RestartFault.Boot (BootFault.Room needed all)) h =
+  pub lacking-over : (me : ℕ) (old new : AllMemory) (roomy : Type 0) (fault : RestartFault) → roomy → IsRefused (cells_of cluster) cluster facts roomy fault → StartsOver (lacking fault) cluster me facts old new
+  lacking-over me old new roomy (RestartFault.Log LogFault.LogFull) room h =
+      (fits-by (nat_lt cluster.cells (cells_with_boot facts)) (ltb-false cluster.cells (cells_with_boot facts)) (next_boot facts ∷ facts) (sym boot-over ∙ h.0), h.1 room)
+  lacking-over me old new roomy (RestartFault.Log LogFault.DiskFault) room h = tt
+  lacking-over me old new roomy (RestartFault.Log LogFault.Memory) room h = tt
+  lacking-over me old new roomy (RestartFault.Log (LogFault.NotALog n)) room h = tt
+  lacking-over me old new roomy (RestartFault.Boot (BootFault.Room needed all)) room h =
       lacks-by (nat_lt cluster.cells (cells_with_boot facts)) (ltb-true cluster.cells (cells_with_boot facts)) needed all (sym boot-over ∙ h)
-  lacking-over me bytes may_leave (RestartFault.Boot (BootFault.NotARun n)) h = tt
-  lacking-over me bytes may_leave (RestartFault.Boot BootFault.Epochs) h = tt
-  lacking-over me bytes may_leave (RestartFault.Boot BootFault.Memory) h = tt
-  lacking-over me bytes may_leave RestartFault.Memory h = tt
+  lacking-over me old new roomy (RestartFault.Boot (BootFault.NotARun n)) room h = tt
+  lacking-over me old new roomy (RestartFault.Boot BootFault.Epochs) room h = tt
+  lacking-over me old new roomy (RestartFault.Boot BootFault.Memory) room h = tt
+  lacking-over me old new roomy RestartFault.Memory room h = tt
 
 -- and the log is as it was
-pub lacking-kept : (payloads : List (List ℕ)) (bytes : List ℕ) (may_leave : List ℕ → Type 0) (fault : RestartFault) → KeepsLog payloads fault bytes may_leave → OnNone (lacking fault) payloads bytes may_leave
-lacking-kept payloads bytes may_leave (RestartFault.Log LogFault.LogFull) h = h
-lacking-kept payloads bytes may_leave (RestartFault.Log LogFault.DiskFault) h = tt
-lacking-kept payloads bytes may_leave (RestartFault.Log LogFault.Memory) h = tt
-lacking-kept payloads bytes may_leave (RestartFault.Log (LogFault.NotALog n)) h = tt
-lacking-kept payloads bytes may_leave (RestartFault.Boot (BootFault.Room needed all)) h = h
-lacking-kept payloads bytes may_leave (RestartFault.Boot (BootFault.NotARun n)) h = tt
-lacking-kept payloads bytes may_leave (RestartFault.Boot BootFault.Epochs) h = tt
-lacking-kept payloads bytes may_leave (RestartFault.Boot BootFault.Memory) h = tt
-lacking-kept payloads bytes may_leave RestartFault.Memory h = tt
+pub lacking-kept : (all : List (List ℕ)) (me : ℕ) (old new : AllMemory) (fault : RestartFault) → KeepsLog all fault me checkpoint_every disk_of may_leave_of old new → OnNone (lacking fault) all me old new
+lacking-kept all me old new (RestartFault.Log LogFault.LogFull) h = h
+lacking-kept all me old new (RestartFault.Log LogFault.DiskFault) h = tt
+lacking-kept all me old new (RestartFault.Log LogFault.Memory) h = tt
+lacking-kept all me old new (RestartFault.Log (LogFault.NotALog n)) h = tt
+lacking-kept all me old new (RestartFault.Boot (BootFault.Room needed total)) h = h
+lacking-kept all me old new (RestartFault.Boot (BootFault.NotARun n)) h = tt
+lacking-kept all me old new (RestartFault.Boot BootFault.Epochs) h = tt
+lacking-kept all me old new (RestartFault.Boot BootFault.Memory) h = tt
+lacking-kept all me old new RestartFault.Memory h = tt
 
 -- ---- a disk in memory tears no byte to 1
 
@@ -115,26 +124,94 @@ roomy-log facts short = le-ltb log_limit (log_length (next_boot facts ∷ facts)
 
 -- ---- the log of a centre is read
 
-pub reads : (logs : Logs) (d : AllMemory) (a : ℕ) (is_up : Bool) (facts : List Fact) → IsLogOf logs a is_up facts → IsSame logs.disks d a → IsReadAs facts (disk_of d a)
-reads logs d a is_up facts stands same = record { told = same.there ∙ stands.there; read = ap read_log same.bytes ∙ stands.reads }
+module _ (logs : Logs) (d : AllMemory) (a : ℕ) (is_up : Bool) (facts : List Fact) (its : IsLogOf logs a is_up facts) (same : (p : ℕ) → IsSame logs.disks d p) where
+  read-same : read_areas (disk_of d a).bytes (disk_of d (a + 16)).bytes ≡ Ok its.log
+  read-same = ap (λ (bytes : List ℕ). read_areas bytes (disk_of d (a + 16)).bytes) (same a).bytes ∙ ap (λ (bytes : List ℕ). read_areas (disk_of logs.disks a).bytes bytes) (same (a + 16)).bytes ∙ its.read
 
--- ---- a centre has started again
+  pub reads : IsReadAs facts (disk_of d a) (disk_of d (a + 16))
+  reads = record {
+    told_first = (same a).there ∙ its.there;
+    told_second = (same (a + 16)).there ∙ its.there_other;
+    read = its-payloads (disk_of d a).bytes (disk_of d (a + 16)).bytes its.log (logged facts) read-same its.payloads_are;
+  }
 
-pub restarted : (old new : Logs) (d : AllMemory) (centre : Restarted CentreStore) (cluster : Cluster) (a centres : ℕ) (up : ℕ → Bool) (facts : ℕ → List Fact) → LogsStand old centres up facts
-    → 1 ≤ a → a ≤ length old.open.items → ((b : ℕ) → IsSame old.disks d b) → KeepsOthers disk_of may_leave_of moment_of left_since_of d new.disks a
-    → new.open.items ≡ set old.open.items (a - 1) centre.log
-    → Runs are_stored spare_of (cells_of cluster) centre cluster a (facts a) (disk_of new.disks a).bytes (may_leave_of new.disks a)
-    → HasStarted centre.node centre.epoch new cluster centres (with_up up a true) a facts
-restarted old new d centre cluster a centres up facts stand some few same keeps items runs =
-    let one = stand.each a some (omega (few, stand.as_many, arith)) in
-    let next : next_boot (facts a) ≡ Fact.Booted centre.epoch = ap (λ (n : ℕ). Fact.Booted n) (sym runs.epoch) in
-    record {
-      next = runs.epoch;
-      node_of = subst (λ (fact : Fact). IsNodeOf centre.node cluster a (fact ∷ facts a) nothing_kept) next (record { itself = runs.node; spare = runs.spare });
-      stand = put old new a centre.log (Fact.Booted centre.epoch) centres up (with_up up a true) facts stand some few items
-          (λ b other. both-same old.disks d new.disks b (same b) (elsewhere d new.disks a b keeps other))
-          (λ b other. cond-there a b true (up b) other)
-          (keeps.told ∙ (same a).there ∙ one.there) runs.place
-          (subst (λ (fact : Fact). IsAtRest (logged (fact ∷ facts a)) centre.log.size (disk_of new.disks a).bytes (may_leave_of new.disks a)) next runs.at_rest);
-      room = subst (λ (fact : Fact). nat_lt log_limit (log_length (fact ∷ facts a)) ≡ false) next (roomy-log (facts a) runs.within);
-    }
+  pub room : HasRoom checkpoint_every (disk_of d a) (disk_of d (a + 16))
+  room = record { log = its.log; read = read-same; roomy = its.roomy; often = omega arith }
+
+  pub durable-first : Only (disk_of d a).bytes (may_leave_of d a)
+  durable-first = stays-durable logs.disks d a (same a) its.durable
+
+  pub durable-second : Only (disk_of d (a + 16)).bytes (may_leave_of d (a + 16))
+  durable-second = stays-durable logs.disks d (a + 16) (same (a + 16)) its.durable_other
+
+module _ (old new : Logs) (a centres : ℕ) (up : ℕ → Bool) (facts : ℕ → List Fact) (stand : LogsStand old centres up facts) (some : 1 ≤ a) (few : a ≤ length old.open.items)
+    (d : AllMemory) (same : (p : ℕ) → IsSame old.disks d p) (keeps : KeepsBut disk_of may_leave_of moment_of left_since_of d new.disks a (a + 16)) where
+  its : IsLogOf old a (up a) (facts a)
+  its = one old new a centres up facts stand some few
+
+  beside : (p : ℕ) → p ≢ a → p ≢ a + 16 → IsSame old.disks new.disks p
+  beside p first second = both-same old.disks d new.disks p (same p) (elsewhere d new.disks a (a + 16) p keeps first second)
+
+  there : is_there new.disks a ≡ true
+  there = keeps.told_one ∙ (same a).there ∙ its.there
+
+  there-other : is_there new.disks (a + 16) ≡ true
+  there-other = keeps.told_two ∙ (same (a + 16)).there ∙ its.there_other
+
+  -- ---- a centre has started again
+
+  pub restarted : (before : AllMemory) (centre : Restarted CentreStore) (cluster : Cluster) → new.open.items ≡ set old.open.items (a - 1) centre.log
+      → HasRoom checkpoint_every (disk_of before a) (disk_of before (a + 16))
+      → Runs are_stored spare_of (cells_of cluster) centre cluster a checkpoint_every (facts a) disk_of may_leave_of before new.disks
+      → HasStarted centre.node centre.epoch new cluster centres (with_up up a true) a facts
+  restarted before centre cluster items roomy runs =
+      let next : next_boot (facts a) ≡ Fact.Booted centre.epoch = ap (λ (n : ℕ). Fact.Booted n) (sym runs.epoch) in
+      record {
+        next = runs.epoch;
+        node_of = subst (λ (fact : Fact). IsNodeOf centre.node cluster a (fact ∷ facts a) nothing_kept) next (record { itself = runs.node; spare = runs.spare });
+        stand = put old new a centre.log (Fact.Booted centre.epoch) centres up (with_up up a true) facts stand some few items
+            (others-same old.disks new.disks a its.range beside)
+            (λ b other. cond-there a b true (up b) other)
+            there there-other
+            (record {
+              centre = runs.place;
+              every = runs.every_is;
+              few = runs.few;
+              roomy = runs.roomy roomy;
+              at_rest = subst (λ (fact : Fact). IsAtRest disk_of may_leave_of new.disks centre.log (logged (fact ∷ facts a))) next runs.at_rest;
+            });
+        room = subst (λ (fact : Fact). nat_lt log_limit (log_length (fact ∷ facts a)) ≡ false) next (roomy-log (facts a) runs.within);
+      }
+
+  -- ---- a start for which the log or the node has no room
+
+  pub none-stays : up a ≡ false → new.open.items ≡ old.open.items → IsAsBefore (logged (facts a)) a checkpoint_every disk_of may_leave_of d new.disks → LogsStand new centres up facts
+  none-stays down items was =
+      let rest = was.at_rest in
+      let durable = from_both (λ p. Only (disk_of new.disks p).bytes (may_leave_of new.disks p)) a was.frames.centre was.frames.area was.place rest.range rest.in_use.durable rest.spare.durable in
+      let roomy = was.room (room old d a (up a) (facts a) its same) in
+      let read = (rest_areas disk_of may_leave_of new.disks was.frames a (logged (facts a)) was.place rest).log_is in
+      logs-with old new a centres up up facts facts stand (ap length items) (λ b first other. log-same old new items b)
+      (others-same old.disks new.disks a its.range beside) (λ b other. refl) (λ b other. refl)
+      (record {
+        range = its.range;
+        there = there;
+        there_other = there-other;
+        log = rest.log;
+        read = read;
+        payloads_are = sym rest.payloads_are;
+        roomy = roomy_log checkpoint_every (disk_of new.disks a) (disk_of new.disks (a + 16)) rest.log read roomy;
+        durable = durable.0;
+        durable_other = durable.1;
+        few = λ yes. absurd (false≢true (sym down ∙ yes));
+        «open» = λ yes. absurd (false≢true (sym down ∙ yes));
+      })
+
+  -- ---- a start that found no memory
+
+  pub start-may-have : ((first second : List ℕ) → left_since_of new.disks a (moment_of d) first → left_since_of new.disks (a + 16) (moment_of d) second
+      → ReadsAsEither (logged (facts a)) (fact_bytes (next_boot (facts a))) (payloads first second)) → ((b : ℕ) → 1 ≤ b → b ≢ a → log_at new b ≡ log_at old b)
+      → MayHave new centres up a facts (next_boot (facts a))
+  start-may-have reads logs =
+      leaves-here old new a centres up facts stand some few (next_boot (facts a)) (keeps.told_one ∙ (same a).there) (keeps.told_two ∙ (same (a + 16)).there) beside logs
+      (λ first second now now_other. reads first second (counts_now_of new.disks a (moment_of d) first keeps.later now) (counts_now_of new.disks (a + 16) (moment_of d) second keeps.later now_other))

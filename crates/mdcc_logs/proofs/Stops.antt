@@ -1,37 +1,46 @@
 -- What an append that stops makes of the logs.
-use Rattle.std.proofs.Common.{◌≡◌, ◌≢◌, ◌≤◌, ◌∷◌, ◌++◌, [], Bool, List, Ok, ap, arith, cond, false, inl, inr, length, refl, subst, sym, true, ℕ, ◌∙◌}
+use Rattle.std.proofs.Common.{◌≡◌, ◌≢◌, ◌⊎◌, ⊎_elim, ◌+◌, ◌-◌, ◌*◌, ◌≤◌, ◌∷◌, ◌++◌, [], Bool, List, Ok, Result, ap, arith, cond, false, inl, inr, length, length-append, refl, subst, suc, sym, true, zero, ℕ, ◌∙◌}
 use Rattle.std.proofs.lemmas.Bool.{false≢true}
 use Rattle.mdcc_base.specs.declared.outside.Image.{Image}
+use Rattle.mdcc_areas.proofs.Choice.{Other, Seen, appended_payloads, between_is_read, front_is_read, front_seen}
+use Rattle.mdcc_areas.specs.Append.{MayAppend}
+use Rattle.mdcc_areas.specs.Area.{AreaLog, front_of, generation_of, payloads, payloads_of, read_area}
+use Rattle.mdcc_areas.specs.AtRest.{IsAtRest}
+use Rattle.mdcc_areas.specs.Crash.{IsBetween, IsDead, IsIdle, IsLog, IsOlder, ReadsAsEither, payloads_by}
+use Rattle.mdcc_areas.specs.Frames.{IsInUse, IsSpare, OpenAreas, appended, other_of, place_of}
+use Rattle.mdcc_areas.specs.Room.{IsRoomyLog}
 use Rattle.mdcc_disks.specs.Contents.{Contents, IsImage, durable, image_of}
 use Rattle.mdcc_disks.specs.Disks.{Only, Within}
-use Rattle.mdcc_disks.specs.Memory.{AllMemory, CrashLeaves, IsBut, KeepsPlaces, at_place, crashed, disk_of, may_leave_of, standing}
+use Rattle.mdcc_disks.specs.Memory.{AllMemory, at_place, disk_of, is_there, may_leave_of, standing}
 use Rattle.mdcc_log.proofs.LogRead.{short_more}
-use Rattle.mdcc_log.specs.Crash.{AreShort, IsBetween}
-use Rattle.mdcc_log.specs.Frames.{IsAtRest, OpenLog, append_calls}
-use Rattle.mdcc_log.specs.Log.{log_bytes, payload_limit, read_log}
+use Rattle.mdcc_log.specs.Frames.{append_calls}
+use Rattle.mdcc_log.specs.Log.{payload_limit}
+use Rattle.mdcc_logs.proofs.Calls.{centre-is, crash-here, rest-there, roomy-there, stays-durable}
 use Rattle.mdcc_logs.proofs.Made.{all-durable}
 use Rattle.mdcc_logs.proofs.Refusals.{leaves-here}
-use Rattle.mdcc_logs.proofs.Stages.{stop-read}
-use Rattle.mdcc_logs.proofs.Standing.{IsSame, both-same, cond-here, cond-there, log-same, logs-with, rests, there-same, unchanged}
+use Rattle.mdcc_logs.proofs.Stages.{EndsShut, shut_end, stop-ends}
+use Rattle.mdcc_logs.proofs.Standing.{IsDurableAt, IsSame, both-same, cond-here, cond-there, log-same, logs-with, others-same, standing-same, there-same}
 use Rattle.mdcc_logs.specs.Stands.{IsLogOf, LogsStand, MayHave, log_at, with_fact_at, with_up}
-use Rattle.mdcc_logs.specs.Stopping.{IsStruck, is_frame_kept, stopped_at, stopped_facts}
+use Rattle.mdcc_logs.specs.Stopping.{HoldBut, IsStruck, is_frame_kept, stopped_at, stopped_facts}
 use Rattle.mdcc_logs.specs.declared.logs.Logs.{Logs}
 use Rattle.mdcc_messages.specs.Spelling.{fact_bytes}
 use Rattle.mdcc_messages.specs.declared.facts.Fact.{Fact}
+use Rattle.mdcc_restart.proofs.Places.{at_both, by_places, from_both, from_places}
+use Rattle.mdcc_restart.proofs.Struck.{IsRead, idle_loses, seen_first, seen_second}
 use Rattle.mdcc_restart.specs.Logged.{logged}
-
--- the calls were made up to one that stopped, and then the disk crashed
-pub record Stops (d e new : AllMemory) (size : ℕ) (payload : List ℕ) (call : ℕ) (image : Image) (place : ℕ) : Type 0 where
-  pub keeps : KeepsPlaces place d e
-  pub made : standing (at_place e place) ≡ stopped_at call (append_calls size payload) (standing (at_place d place))
-  pub crash_keeps : KeepsPlaces place e new
-  pub crash : IsBut (crashed image (at_place e place)) (at_place new place)
 
 -- all is durable
 only-these : (contents : Contents) (bytes : List ℕ) → contents ≡ durable bytes → Only contents.kept (IsImage contents)
 only-these contents bytes is = subst (λ (c : Contents). Only c.kept (IsImage c)) (sym is) (λ c left. elim left [ inl same ↦ same | inr more ↦ elim more [ inl same ↦ same | inr same ↦ same ] ])
 
--- the payloads of the facts after it
+-- the area that the code names
+pub other-area : (area : ℕ) → area ≤ 1 → 1 - area ≡ other_of area
+other-area zero range = refl
+other-area (suc zero) range = refl
+other-area (suc (suc n)) range = absurd (omega (range, arith))
+
+-- ---- the facts after it
+
 stopped-logged : (facts : ℕ → List Fact) (a : ℕ) (fact : Fact) (kept : Bool)
     → logged (cond kept (with_fact_at facts a fact) facts a) ≡ cond kept (logged (facts a) ++ fact_bytes fact ∷ []) (logged (facts a))
 stopped-logged facts a fact true = ap logged (cond-here a (fact ∷ facts a) (facts a))
@@ -41,76 +50,199 @@ stopped-others : (facts : ℕ → List Fact) (a : ℕ) (fact : Fact) (kept : Boo
 stopped-others facts a fact true b other = cond-there a b (fact ∷ facts b) (facts b) other
 stopped-others facts a fact false b other = refl
 
-stopped-short : (payloads : List (List ℕ)) (payload : List ℕ) (kept : Bool) → AreShort payloads → length payload ≤ payload_limit → AreShort (cond kept (payloads ++ payload ∷ []) payloads)
-stopped-short payloads payload true short fits = short_more payloads payload short fits
-stopped-short payloads payload false short fits = short
+-- ---- the log after it
+
+abbrev stopped-log : Bool → AreaLog → List ℕ → AreaLog
+stopped-log kept log payload = cond kept (appended log payload) log
+
+stopped-payloads : (kept : Bool) (log : AreaLog) (payload : List ℕ) → payloads_of (stopped-log kept log payload) ≡ cond kept (payloads_of log ++ payload ∷ []) (payloads_of log)
+stopped-payloads true log payload = appended_payloads log payload
+stopped-payloads false log payload = refl
+
+stopped-generation : (kept : Bool) (log : AreaLog) (payload : List ℕ) → generation_of (stopped-log kept log payload).head ≡ generation_of log.head
+stopped-generation true log payload = refl
+stopped-generation false log payload = refl
+
+stopped-valid : (kept : Bool) (area : ℕ) (log : AreaLog) (payload : List ℕ) → length payload ≤ payload_limit → IsLog area log → IsLog area (stopped-log kept log payload)
+stopped-valid true area log payload fits valid = record { head = valid.head; short = short_more log.tail payload valid.short fits }
+stopped-valid false area log payload fits valid = valid
+
+stopped-roomy : (kept : Bool) (log : AreaLog) (payload : List ℕ) → IsRoomyLog log → IsRoomyLog (stopped-log kept log payload)
+stopped-roomy true log payload roomy =
+    let tail = length-append log.tail (payload ∷ []) in
+    let count : length (payloads_of (appended log payload)) ≡ length (payloads_of log) + 1 = ap (λ (ps : List (List ℕ)). length ps) (appended_payloads log payload) ∙ length-append (payloads_of log) (payload ∷ []) in
+    record {
+      generations = omega (roomy.generations, count, arith);
+      frames = omega (roomy.frames, count, tail, arith);
+      records = ⊎_elim (λ none. inl none) (λ some. inr (omega (some, count, tail, arith))) roomy.records;
+    }
+stopped-roomy false log payload roomy = roomy
+
+-- ---- a strike
 
 module _ (old : Logs) (a centres : ℕ) (up : ℕ → Bool) (facts : ℕ → List Fact) (stand : LogsStand old centres up facts) (running : up a ≡ true) (some : 1 ≤ a) (few : a ≤ length old.open.items)
-    (log : OpenLog) (is : log ≡ log_at old a) (d : AllMemory) (same : (b : ℕ) → IsSame old.disks d b) where
+    (log : OpenAreas) (is : log ≡ log_at old a) (d : AllMemory) (same : (p : ℕ) → IsSame old.disks d p) where
   its : IsLogOf old a (up a) (facts a)
   its = stand.each a some (omega (few, stand.as_many, arith))
 
-  rest : IsAtRest (logged (facts a)) log.size (disk_of d a).bytes (may_leave_of d a)
-  rest = subst (λ (l : OpenLog). IsAtRest (logged (facts a)) l.size (disk_of d a).bytes (may_leave_of d a)) (sym is)
-      (rests (logged (facts a)) (log_at old a).size old.disks d a (same a) (its.open running).at_rest)
+  abbrev pub rest : IsAtRest disk_of may_leave_of d log (logged (facts a))
+  rest = rest-there old old a centres up facts stand running some few d log is same
 
-  pub sized : log.size ≡ length (disk_of d a).bytes
-  sized = rest.counted
+  abbrev place : ℕ
+  place = place_of a log.area
 
-  pub log-sized : log.size ≡ length (log_bytes (logged (facts a)))
-  log-sized = rest.counted ∙ ap length rest.file
+  abbrev other : ℕ
+  other = place_of a (other_of log.area)
 
-  pub log-short : AreShort (logged (facts a))
-  log-short = its.short
+  abbrev front : List ℕ
+  front = front_of rest.log
 
-  pub holds-log : standing (at_place d a) ≡ durable (log_bytes (logged (facts a)))
-  holds-log = all-durable (standing (at_place d a)) (log_bytes (logged (facts a))) rest.file rest.durable
+  pub range : log.area ≤ 1
+  range = rest.range
 
-  left-there : (e : AllMemory) → KeepsPlaces a d e → (b : ℕ) → b ≢ a → IsSame old.disks e b
-  left-there e keeps b other = both-same old.disks d e b (same b) (unchanged d e a b keeps other)
+  used : IsInUse log rest.log (disk_of d place).bytes (may_leave_of d place)
+  used = subst (λ (n : ℕ). IsInUse log rest.log (disk_of d (place_of n log.area)).bytes (may_leave_of d (place_of n log.area))) (centre-is old old a centres up facts stand running some few d log is same) rest.in_use
 
-  -- it found no memory
-  pub unwritten : (new : Logs) (fact : Fact) (payload : List ℕ) → payload ≡ fact_bytes fact → new.open.items ≡ old.open.items → KeepsPlaces a d new.disks
-      → Within (IsBetween (logged (facts a)) payload) (may_leave_of new.disks a) → MayHave new centres up a facts fact
-  unwritten new fact payload bytes items keeps left =
-      leaves-here old new a centres up facts stand some few (IsBetween (logged (facts a)) (fact_bytes fact)) (there-same d new.disks a keeps.counted ∙ (same a).there) (left-there new.disks keeps) (λ b first other. log-same old new items b)
-      (subst (λ (p : List ℕ). Within (IsBetween (logged (facts a)) p) (may_leave_of new.disks a)) bytes left)
+  spare : IsSpare log (disk_of d other).bytes (may_leave_of d other)
+  spare = subst (λ (n : ℕ). IsSpare log (disk_of d (place_of n (other_of log.area))).bytes (may_leave_of d (place_of n (other_of log.area)))) (centre-is old old a centres up facts stand running some few d log is same) rest.spare
 
-  module _ (new : Logs) (e : AllMemory) (fact : Fact) (payload : List ℕ) (bytes : payload ≡ fact_bytes fact) (fits : length payload ≤ payload_limit) (call : ℕ) (first : 1 ≤ call) (last : call ≤ 4) (image : Image)
-      (leaves : CrashLeaves) (items : new.open.items ≡ old.open.items) (stops : Stops d e new.disks log.size payload call image a) where
-    abbrev left : Contents
-    left = stopped_at call (append_calls log.size payload) (durable (log_bytes (logged (facts a))))
+  pub holds-area : standing (at_place d place) ≡ durable (shut_end front)
+  holds-area = all-durable (standing (at_place d place)) (shut_end front) used.file used.durable
 
-    struck : standing (at_place new.disks a) ≡ durable (image_of image left)
-    struck =
-        ap standing stops.crash ∙ leaves image (at_place e a)
-        ∙ ap (λ (c : Contents). durable (image_of image c)) (stops.made ∙ ap (λ (c : Contents). stopped_at call (append_calls log.size payload) c) holds-log)
+  pub area-sized : log.size ≡ length (shut_end front)
+  area-sized = used.size ∙ ap length used.file
 
-    pub struck-bytes : IsStruck (facts a) fact call image (disk_of new.disks a).bytes
-    struck-bytes =
-        ap (λ (c : Contents). c.kept) struck
-        ∙ ap (λ (n : ℕ). image_of image (stopped_at call (append_calls n payload) (durable (log_bytes (logged (facts a)))))) log-sized
-        ∙ ap (λ (p : List ℕ). image_of image (stopped_at call (append_calls (length (log_bytes (logged (facts a)))) p) (durable (log_bytes (logged (facts a)))))) bytes
+  pub area-within : log.size ≤ length (disk_of d place).bytes
+  area-within = omega (used.size, arith)
 
-    payloads-are : logged (stopped_facts facts a fact call image a) ≡ cond (is_frame_kept call image) (logged (facts a) ++ payload ∷ []) (logged (facts a))
-    payloads-are =
-        stopped-logged facts a fact (is_frame_kept call image)
-        ∙ ap (λ (p : List ℕ). cond (is_frame_kept call image) (logged (facts a) ++ p ∷ []) (logged (facts a))) (sym bytes)
+  module _ (new : Logs) (items : new.open.items ≡ old.open.items) (but : HoldBut place other d new.disks) where
+    beside : (p : ℕ) → p ≢ place → p ≢ other → IsSame old.disks new.disks p
+    beside p first second = both-same old.disks d new.disks p (same p) (standing-same d new.disks p but.counted (but.contents p first second))
 
-    here : IsLogOf new a false (stopped_facts facts a fact call image a)
-    here = record {
-      there = there-same e new.disks a stops.crash_keeps.counted ∙ there-same d e a stops.keeps.counted ∙ (same a).there ∙ its.there;
-      reads = ap (λ (c : Contents). read_log c.kept) struck ∙ stop-read (logged (facts a)) payload its.short fits log.size call image log-sized first last ∙ ap (λ (ps : List (List ℕ)). Ok ps) (sym payloads-are);
-      short = subst (λ (ps : List (List ℕ)). AreShort ps) (sym payloads-are) (stopped-short (logged (facts a)) payload (is_frame_kept call image) its.short fits);
-      durable = only-these (standing (at_place new.disks a)) (image_of image left) struck;
-      «open» = λ yes. absurd (false≢true yes);
-    }
+    elsewhere-same : (p : ℕ) → p ≢ a → p ≢ a + 16 → IsSame old.disks new.disks p
+    elsewhere-same p first second =
+        by_places (λ n q r. ((s : ℕ) → s ≢ q → s ≢ r → IsSame old.disks new.disks s) → IsSame old.disks new.disks p) a
+        (λ each. each p first second) (λ each. each p second first) log.area rest.range beside
 
-    pub stopped : LogsStand new centres (with_up up a false) (stopped_facts facts a fact call image)
-    stopped =
-        logs-with old new a centres up (with_up up a false) facts (stopped_facts facts a fact call image) stand (ap length items)
-        (λ b one other. log-same old new items b)
-        (λ b other. both-same old.disks e new.disks b (left-there e stops.keeps b other) (unchanged e new.disks a b stops.crash_keeps other))
-        (λ b other. cond-there a b false (up b) other)
-        (λ b other. stopped-others facts a fact (is_frame_kept call image) b other)
-        (subst (λ (u : Bool). IsLogOf new a u (stopped_facts facts a fact call image a)) (sym (cond-here a false (up a))) here)
+    counted : (p : ℕ) → is_there new.disks p ≡ is_there old.disks p
+    counted p = there-same d new.disks p but.counted ∙ (same p).there
+
+    -- it found no memory
+    module _ (fact : Fact) (payload : List ℕ) (bytes : payload ≡ fact_bytes fact) (fits : length payload ≤ payload_limit)
+        (left : Within (MayAppend front payload) (may_leave_of new.disks place)) (left_other : standing (at_place new.disks other) ≡ standing (at_place d other)) where
+      between : (c : List ℕ) → may_leave_of new.disks place c → IsBetween log.area rest.log payload c
+      between c now = ⊎_elim
+          (λ shut. inl (record { valid = used.valid; file = inr shut }))
+          (λ undecided. inr (record { valid = used.valid; fits = fits; gate = undecided.0; file = undecided.1 })) (left c now)
+
+      idle : (c : List ℕ) → may_leave_of new.disks other c → IsIdle rest.log c
+      idle c now =
+          let stands : c ≡ (disk_of d other).bytes = spare.durable c (subst (λ (x : Contents). IsImage x c) left_other now) in
+          subst (IsIdle rest.log) (sym stands)
+          (⊎_elim (λ (dead : IsDead (disk_of d other).bytes). inl dead) (λ (older : IsOlder log.generation (disk_of d other).bytes). inr (inl (subst (λ (n : ℕ). IsOlder n (disk_of d other).bytes) used.generation older))) spare.idle)
+
+      reads-either : (current spared : List ℕ) → may_leave_of new.disks place current → may_leave_of new.disks other spared → ReadsAsEither (logged (facts a)) (fact_bytes fact) (payloads_by log.area current spared)
+      reads-either current spared now now_other =
+          subst (λ (p : List ℕ). ReadsAsEither (logged (facts a)) p (payloads_by log.area current spared)) bytes
+          (subst (λ (ps : List (List ℕ)). ReadsAsEither ps payload (payloads_by log.area current spared)) (sym rest.payloads_are)
+          (between_is_read log.area rest.log payload current spared (between current now) (idle spared now_other)))
+
+      pub unwritten : MayHave new centres up a facts fact
+      unwritten =
+          leaves-here old new a centres up facts stand some few fact (counted a) (counted (a + 16)) elsewhere-same (λ b first apart. log-same old new items b)
+          (from_places (λ n p q. (current spared : List ℕ) → may_leave_of new.disks p current → may_leave_of new.disks q spared → ReadsAsEither (logged (facts a)) (fact_bytes fact) (payloads_by n current spared))
+          ((first second : List ℕ) → may_leave_of new.disks a first → may_leave_of new.disks (a + 16) second → ReadsAsEither (logged (facts a)) (fact_bytes fact) (payloads first second)) a
+          (λ has. has) (λ has first second now now_other. has second first now_other now) log.area rest.range reads-either)
+
+    -- the calls were made up to the one that stopped, and both areas crashed
+    module _ (fact : Fact) (payload : List ℕ) (bytes : payload ≡ fact_bytes fact) (fits : length payload ≤ payload_limit) (call : ℕ) (first : 1 ≤ call) (last : call ≤ 4) (image : Image)
+        (struck : standing (at_place new.disks place) ≡ durable (image_of image (stopped_at call (append_calls log.size payload) (standing (at_place d place)))))
+        (struck_other : standing (at_place new.disks other) ≡ durable (image_of image (standing (at_place d other)))) where
+      abbrev kept : Bool
+      kept = is_frame_kept call image
+
+      abbrev after : AreaLog
+      after = stopped-log kept rest.log payload
+
+      abbrev left-bytes : List ℕ
+      left-bytes = image_of image (stopped_at call (append_calls log.size payload) (durable (shut_end front)))
+
+      whole : standing (at_place new.disks place) ≡ durable left-bytes
+      whole = struck ∙ ap (λ (c : Contents). durable (image_of image (stopped_at call (append_calls log.size payload) c))) holds-area
+
+      bytes-are : (disk_of new.disks place).bytes ≡ left-bytes
+      bytes-are = ap (λ (c : Contents). c.kept) whole
+
+      pub struck-bytes : IsStruck fact call image (disk_of old.disks place).bytes (disk_of new.disks place).bytes
+      struck-bytes =
+          let was : shut_end front ≡ (disk_of old.disks place).bytes = sym used.file ∙ (same place).bytes in
+          bytes-are
+          ∙ ap (λ (n : ℕ). image_of image (stopped_at call (append_calls n payload) (durable (shut_end front)))) area-sized
+          ∙ ap (λ (p : List ℕ). image_of image (stopped_at call (append_calls (length (shut_end front)) p) (durable (shut_end front)))) bytes
+          ∙ ap (λ (l : List ℕ). image_of image (stopped_at call (append_calls (length l) (fact_bytes fact)) (durable l))) was
+
+      other-same : IsSame d new.disks other
+      other-same = crash-here image d new.disks other but.counted struck_other spare.durable
+
+      pub other-bytes : (disk_of new.disks other).bytes ≡ (disk_of old.disks other).bytes
+      other-bytes = other-same.bytes ∙ (same other).bytes
+
+      ends : EndsShut after (disk_of new.disks place).bytes
+      ends = subst (EndsShut after) (sym bytes-are) (stop-ends rest.log payload log.size call image area-sized first last)
+
+      valid : IsLog log.area after
+      valid = stopped-valid kept log.area rest.log payload fits used.valid
+
+      seen : Seen log.area (generation_of after.head) (disk_of new.disks place).bytes
+      seen = front_seen log.area after (ends.gate ∷ ends.rest) (disk_of new.disks place).bytes valid ends.file
+
+      loses : Other (generation_of after.head) (disk_of new.disks other).bytes
+      loses =
+          idle_loses (generation_of after.head) (disk_of new.disks other).bytes
+          (subst (λ (n : ℕ). IsDead (disk_of new.disks other).bytes ⊎ IsOlder n (disk_of new.disks other).bytes) (used.generation ∙ sym (stopped-generation kept rest.log payload))
+          (subst (λ (l : List ℕ). IsDead l ⊎ IsOlder log.generation l) (sym other-same.bytes) spare.idle))
+
+      taken : IsRead (disk_of new.disks a).bytes (disk_of new.disks (a + 16)).bytes log.area after
+      taken =
+          by_places (λ n p q. Seen n (generation_of after.head) (disk_of new.disks p).bytes → Other (generation_of after.head) (disk_of new.disks q).bytes → read_area (disk_of new.disks p).bytes ≡ Ok after
+          → IsRead (disk_of new.disks a).bytes (disk_of new.disks (a + 16)).bytes n after) a
+          (seen_first (disk_of new.disks a).bytes (disk_of new.disks (a + 16)).bytes after) (seen_second (disk_of new.disks a).bytes (disk_of new.disks (a + 16)).bytes after)
+          log.area rest.range seen loses
+          (front_is_read log.area after ends.gate ends.rest (disk_of new.disks place).bytes valid ends.shut ends.file)
+
+      payloads-are : payloads_of after ≡ logged (stopped_facts facts a fact call image a)
+      payloads-are =
+          stopped-payloads kept rest.log payload
+          ∙ ap (λ (ps : List (List ℕ)). cond kept (ps ++ payload ∷ []) ps) (sym rest.payloads_are)
+          ∙ ap (λ (p : List ℕ). cond kept (logged (facts a) ++ p ∷ []) (logged (facts a))) bytes
+          ∙ sym (stopped-logged facts a fact kept)
+
+      durables : IsDurableAt new.disks a × IsDurableAt new.disks (a + 16)
+      durables =
+          from_both (IsDurableAt new.disks) a a log.area refl rest.range
+          (only-these (standing (at_place new.disks place)) left-bytes whole)
+          (stays-durable d new.disks other other-same spare.durable)
+
+      here : IsLogOf new a false (stopped_facts facts a fact call image a)
+      here = record {
+        range = its.range;
+        there = counted a ∙ its.there;
+        there_other = counted (a + 16) ∙ its.there_other;
+        log = after;
+        read = taken.log_is;
+        payloads_are = payloads-are;
+        roomy = stopped-roomy kept rest.log payload (roomy-there old old a centres up facts stand running some few d log is same);
+        durable = durables.0;
+        durable_other = durables.1;
+        few = λ yes. absurd (false≢true yes);
+        «open» = λ yes. absurd (false≢true yes);
+      }
+
+      pub stopped : LogsStand new centres (with_up up a false) (stopped_facts facts a fact call image)
+      stopped =
+          logs-with old new a centres up (with_up up a false) facts (stopped_facts facts a fact call image) stand (ap length items)
+          (λ b one apart. log-same old new items b)
+          (others-same old.disks new.disks a its.range elsewhere-same)
+          (λ b apart. cond-there a b false (up b) apart)
+          (λ b apart. stopped-others facts a fact kept b apart)
+          (subst (λ (u : Bool). IsLogOf new a u (stopped_facts facts a fact call image a)) (sym (cond-here a false (up a))) here)

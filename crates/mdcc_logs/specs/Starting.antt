@@ -2,12 +2,11 @@
 use Rattle.std.specs.Prelude.{◌≡◌, ◌≤◌, ◌+◌, ◌<◌, ◌∷◌, [], Bool, Err, List, Ok, Result, nat_lt, true, false, ℕ, ⊤}
 use Rattle.mdcc_admission.specs.Loading.{Cells}
 use Rattle.mdcc_base.specs.declared.faults.Memory.{Memory}
-use Rattle.mdcc_disks.specs.Memory.{disk_of, is_there}
-use Rattle.mdcc_log.specs.Frames.{IsAtRest}
+use Rattle.mdcc_areas.specs.declared.fault.LogFault.{LogFault}
+use Rattle.mdcc_disks.specs.Memory.{AllMemory, disk_of, is_there, may_leave_of}
 use Rattle.mdcc_log.specs.Log.{log_limit}
-use Rattle.mdcc_log.specs.declared.fault.LogFault.{LogFault}
 use Rattle.mdcc_logs.specs.Nodes.{CentreStore, IsNodeOf, are_stored, spare_of}
-use Rattle.mdcc_logs.specs.Stands.{LogsStand, with_fact_at}
+use Rattle.mdcc_logs.specs.Stands.{LogsStand, checkpoint_every, with_fact_at}
 use Rattle.mdcc_logs.specs.declared.logs.Logs.{Logs}
 use Rattle.mdcc_logs.specs.declared.starting.Attempt.{Attempt}
 use Rattle.mdcc_logs.specs.declared.starting.Started.{Started}
@@ -17,7 +16,7 @@ use Rattle.mdcc_protocol.specs.Facts.{epoch_of}
 use Rattle.mdcc_messages.specs.Lengths.{cells_needed, cells_used, log_length}
 use Rattle.mdcc_protocol.specs.Volatile.{nothing_kept}
 use Rattle.mdcc_messages.specs.declared.facts.Fact.{Fact}
-use Rattle.mdcc_restart.specs.Restarting.{Runs, next_boot, size_with_boot}
+use Rattle.mdcc_restart.specs.Restarting.{IsAsBefore, Runs, next_boot, size_with_boot}
 use Rattle.mdcc_restart.specs.declared.fault.RestartFault.{RestartFault}
 use Rattle.mdcc_rules.specs.declared.node.BootFault.{BootFault}
 
@@ -38,17 +37,17 @@ lacking (RestartFault.Boot (BootFault.Room needed all)) = Ok (Attempt.NoRoom nee
 lacking _ = Err (record {})
 
 -- a centre that runs; or none, where the new boot would pass the limit of its log or the cells of its node; or there was no memory
-abbrev pub StartsOver : Result Attempt Memory → Cluster → ℕ → List Fact → List ℕ → (List ℕ → Type 0) → Type 0
-StartsOver (Ok (Attempt.Runs centre)) cluster me facts bytes may_leave = Runs are_stored spare_of (cells_of cluster) centre cluster me facts bytes may_leave
-StartsOver (Ok Attempt.Full) cluster me facts bytes may_leave = (cells_with_boot facts ≤ cluster.cells) × (log_limit < size_with_boot facts)
-StartsOver (Ok (Attempt.NoRoom needed)) cluster me facts bytes may_leave = (cluster.cells < cells_with_boot facts) × (needed ≡ cells_with_boot facts)
-StartsOver (Err fault) cluster me facts bytes may_leave = ⊤
+abbrev pub StartsOver : Result Attempt Memory → Cluster → ℕ → List Fact → AllMemory → AllMemory → Type 0
+StartsOver (Ok (Attempt.Runs centre)) cluster me facts old new = Runs are_stored spare_of (cells_of cluster) centre cluster me checkpoint_every facts disk_of may_leave_of old new
+StartsOver (Ok Attempt.Full) cluster me facts old new = (cells_with_boot facts ≤ cluster.cells) × (log_limit < size_with_boot facts)
+StartsOver (Ok (Attempt.NoRoom needed)) cluster me facts old new = (cluster.cells < cells_with_boot facts) × (needed ≡ cells_with_boot facts)
+StartsOver (Err fault) cluster me facts old new = ⊤
 
--- where none runs, but for want of memory, the disk has the log of these payloads, all of it durable
-abbrev pub OnNone : Result Attempt Memory → List (List ℕ) → List ℕ → (List ℕ → Type 0) → Type 0
-OnNone (Ok (Attempt.Runs centre)) payloads bytes may_leave = ⊤
-OnNone (Ok _) payloads bytes may_leave = (size : ℕ) × IsAtRest payloads size bytes may_leave
-OnNone (Err fault) payloads bytes may_leave = ⊤
+-- where none runs, but for want of memory, the areas have the log of these payloads, all of it durable
+abbrev pub OnNone : Result Attempt Memory → List (List ℕ) → ℕ → AllMemory → AllMemory → Type 0
+OnNone (Ok (Attempt.Runs centre)) all me old new = ⊤
+OnNone (Ok _) all me old new = IsAsBefore all me checkpoint_every disk_of may_leave_of old new
+OnNone (Err fault) all me old new = ⊤
 
 -- ---- among the centres
 
@@ -79,8 +78,10 @@ OnLack (Err fault) P = ⊤
 abbrev pub first_facts : ℕ → List Fact
 first_facts a = Fact.Booted 1 ∷ []
 
--- So many of the centres have booted for the first time, and the disks of the others are empty.
+-- So many of the centres have booted for the first time, and the areas of the others are empty.
 pub record AreBegun (logs : Logs) (centres count : ℕ) : Type 0 where
   pub stand : LogsStand logs count (λ a. true) first_facts
   pub there : (a : ℕ) → count < a → a ≤ centres → is_there logs.disks a ≡ true
+  pub there_other : (a : ℕ) → count < a → a ≤ centres → is_there logs.disks (a + 16) ≡ true
   pub empty : (a : ℕ) → count < a → a ≤ centres → (disk_of logs.disks a).bytes ≡ []
+  pub empty_other : (a : ℕ) → count < a → a ≤ centres → (disk_of logs.disks (a + 16)).bytes ≡ []

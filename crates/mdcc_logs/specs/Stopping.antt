@@ -1,14 +1,13 @@
 -- An append that stops inside one of its device calls.
-use Rattle.std.specs.Prelude.{Bool, List, [], ◌∷◌, ◌≡◌, false, if◌then◌else◌, length, nat_le, suc, true, zero, ℕ}
+use Rattle.std.specs.Prelude.{Bool, List, [], ◌∷◌, ◌≡◌, ◌≢◌, false, if◌then◌else◌, length, nat_le, suc, true, zero, ℕ}
 use Rattle.mdcc_base.specs.declared.outside.Image.{Image}
 use Rattle.mdcc_disks.specs.Contents.{Contents, done, durable, image_of}
 use Rattle.mdcc_disks.specs.Disks.{DiskCall}
+use Rattle.mdcc_disks.specs.Memory.{AllMemory, at_place, standing}
 use Rattle.mdcc_log.specs.Frames.{append_calls}
-use Rattle.mdcc_log.specs.Log.{log_bytes}
 use Rattle.mdcc_logs.specs.Stands.{with_fact_at}
 use Rattle.mdcc_messages.specs.Spelling.{fact_bytes}
 use Rattle.mdcc_messages.specs.declared.facts.Fact.{Fact}
-use Rattle.mdcc_restart.specs.Logged.{logged}
 
 -- whether a frame is there after a stop inside a device call of its append
 abbrev pub is_frame_kept : ℕ → Image → Bool
@@ -26,8 +25,11 @@ stopped_at (suc n) [] contents = contents
 stopped_at (suc zero) (call ∷ calls) contents = done call true contents
 stopped_at (suc (suc n)) (call ∷ calls) contents = stopped_at (suc n) calls (done call false contents)
 
--- these bytes are left of the log of these facts, where the append of one more stops and then the disk crashes
-abbrev pub IsStruck : List Fact → Fact → ℕ → Image → List ℕ → Type 0
-IsStruck facts fact call image bytes =
-    let old = log_bytes (logged facts) in
-    bytes ≡ image_of image (stopped_at call (append_calls (length old) (fact_bytes fact)) (durable old))
+-- these bytes are left of the area in use, of which these stood there, where the append of a fact stops and then the disk crashes
+abbrev pub IsStruck : Fact → ℕ → Image → List ℕ → List ℕ → Type 0
+IsStruck fact call image old bytes = bytes ≡ image_of image (stopped_at call (append_calls (length old) (fact_bytes fact)) (durable old))
+
+-- the disks hold what they held, but at these two places
+pub record HoldBut (one two : ℕ) (old new : AllMemory) : Type 0 where
+  pub counted : new.count ≡ old.count
+  pub contents : (p : ℕ) → p ≢ one → p ≢ two → standing (at_place new p) ≡ standing (at_place old p)

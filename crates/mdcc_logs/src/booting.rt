@@ -7,6 +7,7 @@ ghost use Rattle.mdcc_protocol.specs.Belongs.{is_centre};
 ghost use Rattle.mdcc_protocol.specs.IsCluster.{IsCluster};
 ghost use Rattle.mdcc_protocol.specs.Volatile.{nothing_kept};
 
+use crate::rooms::reserve_first;
 use crate::starting::{Attempt, start};
 use crate::{CentreFacts, Logs};
 use mdcc_base::{Centre, Memory};
@@ -24,11 +25,12 @@ fn boot(
     logs: &mut Logs,
 ) -> Result<Node<CentreFacts>, Memory>
     requires among { is_centre cluster.now centre ≡ true }
+    requires most { cluster.now.quorums.centres ≤ 9 }
     requires begun { AreBegun logs.old cluster.now.quorums.centres (centre - 1) }
     ensures node { IfOk result (λ node. IsNodeOf node cluster.now centre (first_facts centre) nothing_kept) }
     ensures begun { OnOk result (AreBegun logs.new cluster.now.quorums.centres centre) }
 {
-    logs.disks.reserve(centre.number(), 16, 32)?;
+    reserve_first(&mut logs.disks, centre)?;
     match start(alloc, cluster, centre, &mut logs.disks)? {
         Attempt::Runs(started) => {
             let Restarted { node, log, .. } = started;
@@ -43,7 +45,7 @@ fn boot(
 fn none_begun(alloc: Global, cluster: &Cluster) -> Result<Logs, Memory>
     ensures { IfOk result (λ logs. AreBegun logs cluster.now.quorums.centres 0) }
 {
-    let disks = MemoryDisks::new(alloc, cluster.quorums.centres(), &[])?;
+    let disks = MemoryDisks::new(alloc, cluster.quorums.centres() + 16, &[])?;
     Ok(Logs {
         disks,
         open: Vec::new(alloc),

@@ -3,9 +3,10 @@
 
 pub mod booting;
 pub mod logs;
+mod rooms;
 pub mod starting;
 pub mod stopping;
 
 pub use booting::boot_all;
 pub use logs::Logs;
-pub use starting::{CentreFacts, Started};
+pub use starting::{CHECKPOINT_EVERY, CentreFacts, Started};

@@ -1,9 +1,11 @@
 //! The start of one centre.
-ghost use Rattle.std.specs.Prelude.{◌≡◌, ◌<◌, ◌≤◌, ◌-◌, ◌^◌, IsTrue, List, Ok, true, ℕ};
-ghost use Rattle.mdcc_disks.specs.Disks.{KeepsOthers, LeavesOnly, Within};
+ghost use Rattle.std.specs.Prelude.{◌≡◌, ◌<◌, ◌≤◌, ◌-◌, ◌+◌, ◌^◌, IsTrue, List, Ok, true, ℕ};
+ghost use Rattle.mdcc_areas.specs.Area.{payloads};
+ghost use Rattle.mdcc_areas.specs.Both.{KeepsBut};
+ghost use Rattle.mdcc_areas.specs.Crash.{ReadsAsEither};
+ghost use Rattle.mdcc_disks.specs.Disks.{Only};
 ghost use Rattle.mdcc_disks.specs.Memory.{disk_of, may_leave_of, moment_of, left_since_of};
-ghost use Rattle.mdcc_log.specs.Crash.{IsShut, ReadsAsEither};
-ghost use Rattle.mdcc_log.specs.Log.{read_log};
+ghost use Rattle.mdcc_logs.specs.Stands.{checkpoint_every};
 ghost use Rattle.mdcc_logs.specs.Starting.{OnNone, StartsOver, lacking};
 ghost use Rattle.mdcc_protocol.specs.Belongs.{is_centre};
 ghost use Rattle.mdcc_protocol.specs.Facts.{epoch_of};
@@ -11,16 +13,19 @@ ghost use Rattle.mdcc_messages.specs.Lengths.{cells_used};
 ghost use Rattle.mdcc_messages.specs.Spelling.{fact_bytes};
 ghost use Rattle.mdcc_messages.specs.declared.facts.Fact.{Fact as AFact};
 ghost use Rattle.mdcc_restart.specs.Logged.{AreLogged, logged};
-ghost use Rattle.mdcc_restart.specs.Restarting.{IsLogOf, MayHaveBoot, next_boot};
+ghost use Rattle.mdcc_restart.specs.Restarting.{HasRoom, IsLogOf, next_boot};
 
+use mdcc_areas::LogFault;
 use mdcc_base::{Centre, Memory, Plain};
 use mdcc_disks::MemoryDisks;
 use mdcc_index::PoolFacts;
-use mdcc_log::LogFault;
 use mdcc_node::Node;
 use mdcc_option::Cluster;
 use mdcc_restart::{BootFault, RestartFault, Restarted, restart};
 use std::alloc::Global;
+
+/// After so many frames a checkpoint is due.
+pub const CHECKPOINT_EVERY: u32 = 1024;
 
 /// The store of a centre's facts.
 pub type CentreFacts = PoolFacts;
@@ -58,7 +63,7 @@ fn lacking(fault: RestartFault) -> Result<Attempt, Memory>
     }
 }
 
-/// A centre that starts over its disk. None runs where the new boot would pass its node's cells or the limit of its log.
+/// A centre that starts over its areas. None runs where the new boot would pass its node's cells or the limit of its log.
 pub(crate) fn start(
     alloc: Global,
     cluster: &Cluster,
@@ -66,21 +71,29 @@ pub(crate) fn start(
     disks: &mut MemoryDisks,
 ) -> Result<Attempt, Memory>
     requires { is_centre cluster.now centre ≡ true }
-    ensures starts { (facts : List AFact) → AreLogged cluster.now facts → cells_used facts ≤ cluster.now.cells → IsLogOf facts (disk_of disks.old centre)
-        → epoch_of facts < 2 ^ 32 - 1
-        → StartsOver result cluster.now centre facts (disk_of disks.new centre).bytes (may_leave_of disks.new centre) }
-    ensures none { (payloads : List (List ℕ)) → IsTrue (disk_of disks.old centre).told → read_log (disk_of disks.old centre).bytes ≡ Ok payloads
-        → OnNone result payloads (disk_of disks.new centre).bytes (may_leave_of disks.new centre) }
-    ensures any_moment { (facts : List AFact) → AreLogged cluster.now facts
-        → IsTrue (disk_of disks.old centre).told → Within (IsShut (logged facts)) (may_leave_of disks.old centre)
-        → LeavesOnly moment_of left_since_of disks.old disks.new centre (MayHaveBoot facts) }
-    ensures any_moment_same { (facts : List AFact) → AreLogged cluster.now facts
-        → IsTrue (disk_of disks.old centre).told → Within (λ c. read_log c ≡ Ok (logged facts)) (may_leave_of disks.old centre)
-        → LeavesOnly moment_of left_since_of disks.old disks.new centre (ReadsAsEither (logged facts) (fact_bytes (next_boot facts))) }
-    ensures others { KeepsOthers disk_of may_leave_of moment_of left_since_of disks.old disks.new centre }
+    ensures starts { (facts : List AFact) → AreLogged cluster.now facts → cells_used facts ≤ cluster.now.cells
+        → IsLogOf facts (disk_of disks.old centre) (disk_of disks.old (centre + 16))
+        → HasRoom checkpoint_every (disk_of disks.old centre) (disk_of disks.old (centre + 16)) → epoch_of facts < 2 ^ 32 - 1
+        → StartsOver result cluster.now centre facts disks.old disks.new }
+    ensures none { (all : List (List ℕ)) → IsTrue (disk_of disks.old centre).told → IsTrue (disk_of disks.old (centre + 16)).told
+        → payloads (disk_of disks.old centre).bytes (disk_of disks.old (centre + 16)).bytes ≡ Ok all → OnNone result all centre disks.old disks.new }
+    ensures any_moment { (facts : List AFact) (first second : List ℕ) → AreLogged cluster.now facts
+        → IsLogOf facts (disk_of disks.old centre) (disk_of disks.old (centre + 16))
+        → Only (disk_of disks.old centre).bytes (may_leave_of disks.old centre)
+        → Only (disk_of disks.old (centre + 16)).bytes (may_leave_of disks.old (centre + 16))
+        → left_since_of disks.new centre (moment_of disks.old) first → left_since_of disks.new (centre + 16) (moment_of disks.old) second
+        → ReadsAsEither (logged facts) (fact_bytes (next_boot facts)) (payloads first second) }
+    ensures others { KeepsBut disk_of may_leave_of moment_of left_since_of disks.old disks.new centre (centre + 16) }
 {
     let store = CentreFacts::new(alloc, cluster.cells)?;
-    match restart(alloc, cluster.copy(), centre, store, disks) {
+    match restart(
+        alloc,
+        cluster.copy(),
+        centre,
+        store,
+        disks,
+        CHECKPOINT_EVERY,
+    ) {
         Ok(centre) => Ok(Attempt::Runs(centre)),
         Err(fault) => lacking(fault),
     }

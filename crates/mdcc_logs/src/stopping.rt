@@ -1,19 +1,21 @@
 //! Appends that stop inside a device call.
-ghost use Rattle.std.specs.Prelude.{◌≡◌, ◌≤◌, ◌-◌, ◌∷◌, ◌++◌, ◌⊎◌, [], Bool, IfOk, IsTrue, List, OnErr, OnOk, false, length, true, ℕ};
-ghost use Rattle.mdcc_disks.specs.Contents.{done, durable};
+ghost use Rattle.std.specs.Prelude.{◌≡◌, ◌≢◌, ◌≤◌, ◌-◌, ◌∷◌, ◌++◌, ◌⊎◌, [], Bool, IfOk, IsTrue, List, OnErr, OnOk, false, length, true, ℕ};
+ghost use Rattle.mdcc_areas.specs.Append.{MayAppend};
+ghost use Rattle.mdcc_areas.specs.Frames.{other_of, place_of};
+ghost use Rattle.mdcc_disks.specs.Contents.{done, durable, image_of};
 ghost use Rattle.mdcc_disks.specs.Disks.{Within};
 ghost use Rattle.mdcc_disks.specs.Disks.DiskCall.{Sync, Write};
 ghost use Rattle.mdcc_disks.specs.Memory.{KeepsPlaces, at_place, disk_of, may_leave_of, standing};
-ghost use Rattle.mdcc_log.specs.Crash.{AreShort, IsBetween};
 ghost use Rattle.mdcc_log.specs.Frames.{append_calls};
-ghost use Rattle.mdcc_log.specs.Log.{frame_body, log_bytes};
-ghost use Rattle.mdcc_logs.specs.Stands.{IsOpenAt, LogsStand, MayHave, with_up};
-ghost use Rattle.mdcc_logs.specs.Stopping.{IsStruck, stopped_at, stopped_facts};
+ghost use Rattle.mdcc_log.specs.Log.{frame_body};
+ghost use Rattle.mdcc_logs.specs.Stands.{IsOpenAt, LogsStand, MayHave, log_at, with_up};
+ghost use Rattle.mdcc_logs.specs.Stopping.{HoldBut, IsStruck, stopped_at, stopped_facts};
 ghost use Rattle.mdcc_messages.specs.Lengths.{fact_length};
 ghost use Rattle.mdcc_messages.specs.WellFormed.{IsWellFormedFact};
 ghost use Rattle.mdcc_messages.specs.declared.facts.Fact.{Fact as AFact};
 
 use crate::Logs;
+use crate::rooms::reserve_append;
 use mdcc_base::{Centre, Failed, Image, Memory};
 use mdcc_disks::{Disks, MemoryDisks, crash_leaves_the_image};
 use mdcc_journal::counts::well_formed_facts_have_counts;
@@ -64,9 +66,8 @@ fn write_until(
     requires frame { frame.now ≡ frame_body payload.now ++ 0 ∷ [] }
     requires within { IsTrue (disk_of disks.old place).told → size ≤ length (disk_of disks.old place).bytes }
     ensures made { OnOk result (standing (at_place disks.new place) ≡ stopped_at call (append_calls size payload.now) (standing (at_place disks.old place))) }
-    ensures left { (payloads : List (List ℕ)) → AreShort payloads → size ≡ length (log_bytes payloads)
-        → standing (at_place disks.old place) ≡ durable (log_bytes payloads)
-        → OnErr result (Within (IsBetween payloads payload.now) (may_leave_of disks.new place)) }
+    ensures left { (front : List ℕ) → size ≡ length (front ++ 0 ∷ []) → standing (at_place disks.old place) ≡ durable (front ++ 0 ∷ [])
+        → OnErr result (Within (MayAppend front payload.now) (may_leave_of disks.new place)) }
     ensures others { KeepsPlaces place disks.old disks.new }
 {
     disks.write_at(place, size, frame)?;
@@ -76,11 +77,44 @@ fn write_until(
     open_gate(disks, place, size)
 }
 
+// Makes these calls, and then both areas crash.
+fn strike(
+    disks: &mut MemoryDisks,
+    place: u8,
+    other: u8,
+    size: u64,
+    payload: &[u8],
+    frame: &[u8],
+    call: u8,
+    image: Image,
+) -> Result<(), Failed>
+    requires apart { other ≢ place }
+    requires first { 1 ≤ call }
+    requires last { call ≤ 4 }
+    requires some { 1 ≤ size }
+    requires short { length payload.now ≤ 2097152 }
+    requires frame { frame.now ≡ frame_body payload.now ++ 0 ∷ [] }
+    requires within { IsTrue (disk_of disks.old place).told → size ≤ length (disk_of disks.old place).bytes }
+    ensures struck { OnOk result (standing (at_place disks.new place)
+        ≡ durable (image_of image (stopped_at call (append_calls size payload.now) (standing (at_place disks.old place))))) }
+    ensures struck_other { OnOk result (standing (at_place disks.new other) ≡ durable (image_of image (standing (at_place disks.old other)))) }
+    ensures left { (front : List ℕ) → size ≡ length (front ++ 0 ∷ []) → standing (at_place disks.old place) ≡ durable (front ++ 0 ∷ [])
+        → OnErr result (Within (MayAppend front payload.now) (may_leave_of disks.new place)) }
+    ensures left_other { OnErr result (standing (at_place disks.new other) ≡ standing (at_place disks.old other)) }
+    ensures others { HoldBut place other disks.old disks.new }
+{
+    crash_leaves_the_image();
+    write_until(disks, place, size, payload, frame, call)?;
+    disks.crash(place, image);
+    disks.crash(other, image);
+    Ok(())
+}
+
 impl Logs {
-    /// A centre stops inside a device call, 1 to 4, of the append of a fact, and its disk is left with this image of what was
+    /// A centre stops inside a device call, 1 to 4, of the append of a fact, and its disks are left with this image of what was
     /// written since the last sync. The fact counts where its gate was written, in call 3 or 4, and the image is kept; else what
-    /// was written stands behind the last gate, and a start cuts it off. The log is asked first whether it is full, as before an
-    /// append. After a refusal, for want of memory, the log of the centre has the fact or not, and has to be opened again.
+    /// was written stands behind the last gate of the area in use, and a start cuts it off. The log is asked first whether it is full, as
+    /// before an append. After a refusal, for want of memory, the log of the centre has the fact or not, and has to be opened again.
     pub fn stop_append(
         &mut self,
         alloc: Global,
@@ -98,23 +132,36 @@ impl Logs {
         ensures as_many { length self.new.open.items ≡ length self.old.open.items }
         ensures stopped { (centres : ℕ) (up : ℕ → Bool) (facts : ℕ → List AFact) → LogsStand self.old centres up facts → up centre ≡ true
             → OnOk result (LogsStand self.new centres (with_up up centre false) (stopped_facts facts centre fact.now call image)) }
-        ensures struck { (centres : ℕ) (up : ℕ → Bool) (facts : ℕ → List AFact) → LogsStand self.old centres up facts → up centre ≡ true
-            → OnOk result (IsStruck (facts centre) fact.now call image (disk_of self.new.disks centre).bytes) }
+        ensures struck { let place = place_of centre (log_at self.old centre).area in
+            (centres : ℕ) (up : ℕ → Bool) (facts : ℕ → List AFact) → LogsStand self.old centres up facts → up centre ≡ true
+            → OnOk result (IsStruck fact.now call image (disk_of self.old.disks place).bytes (disk_of self.new.disks place).bytes) }
+        ensures struck_other { let place = place_of centre (other_of (log_at self.old centre).area) in
+            (centres : ℕ) (up : ℕ → Bool) (facts : ℕ → List AFact) → LogsStand self.old centres up facts → up centre ≡ true
+            → OnOk result ((disk_of self.new.disks place).bytes ≡ (disk_of self.old.disks place).bytes) }
         ensures refused { (centres : ℕ) (up : ℕ → Bool) (facts : ℕ → List AFact) → LogsStand self.old centres up facts → up centre ≡ true
             → OnErr result (MayHave self.new centres up centre facts fact.now) }
     {
         well_formed_facts_have_counts();
-        crash_leaves_the_image();
         let payload = payload_of(alloc, fact)?;
         let frame = frame_of(alloc, &payload)?;
-        let place = centre.number();
-        let size = self.open[usize::from(place) - 1].size();
-        self.disks.reserve(place, 4, payload.len() as u64 + 6)?;
-        match write_until(&mut self.disks, place, size, &payload, &frame, call) {
-            Ok(()) => {
-                self.disks.crash(place, image);
-                Ok(())
-            }
+        let index = usize::from(centre.number()) - 1;
+        let length = payload.len() as u64;
+        reserve_append(&mut self.disks, &self.open[index], centre, length)?;
+        let area = self.open[index].area();
+        let size = self.open[index].size();
+        let place = centre.number() + 16 * area;
+        let other = centre.number() + 16 * (1 - area);
+        match strike(
+            &mut self.disks,
+            place,
+            other,
+            size,
+            &payload,
+            &frame,
+            call,
+            image,
+        ) {
+            Ok(()) => Ok(()),
             Err(_) => Err(Memory),
         }
     }

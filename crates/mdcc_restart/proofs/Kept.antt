@@ -1,92 +1,90 @@
--- What a restart leaves of its log.
-use Rattle.std.proofs.Common.{◌≡◌, ◌⊎◌, inl, inr, ℕ, List, ◌∷◌, IfErr, IsErrOf, Result, Err, Ok, refl, ◌∙◌, ap, subst}
-use Rattle.mdcc_disks.specs.Disks.{LeavesOnly}
-use Rattle.mdcc_log.proofs.Moments.{both, weakened}
-use Rattle.mdcc_log.specs.Crash.{BetweenIsRead, IsBetween, IsShut, ReadsAsEither}
-use Rattle.mdcc_log.specs.Frames.{IsAtRest, RestIsRead}
-use Rattle.mdcc_log.specs.Log.{read_log}
-use Rattle.mdcc_log.specs.declared.fault.LogFault.{LogFault}
-use Rattle.mdcc_messages.specs.Spelling.{fact_bytes}
-use Rattle.mdcc_messages.specs.declared.facts.Fact.{Fact}
+-- What a restart leaves of its log after a refusal.
+use Rattle.std.proofs.Common.{◌≡◌, inl, inr, ⊎_elim, ℕ, ◌+◌, ◌≤◌, List, [], IfErr, IsErrOf, Result, Err, Ok, refl, sym, ◌∙◌, ap, subst}
+use Rattle.mdcc_disks.specs.Disks.{Disk}
+use Rattle.mdcc_areas.proofs.Choice.{current_is_read}
+use Rattle.mdcc_areas.specs.Area.{payloads, payloads_of}
+use Rattle.mdcc_areas.specs.AtRest.{IsAtRest}
+use Rattle.mdcc_areas.specs.Crash.{IsCurrent, IsIdle, IsOlder, payloads_by}
+use Rattle.mdcc_areas.specs.Frames.{OpenAreas, other_of, place_of}
+use Rattle.mdcc_areas.specs.declared.fault.LogFault.{LogFault}
+use Rattle.mdcc_areas.specs.Opening.{IsOpened}
+use Rattle.mdcc_restart.proofs.Places.{from_places}
+use Rattle.mdcc_restart.proofs.Roomy.{roomy_log}
+use Rattle.mdcc_restart.proofs.Struck.{rest_areas}
 use Rattle.mdcc_restart.specs.Faults.{of_log}
-use Rattle.mdcc_restart.specs.Logged.{logged}
-use Rattle.mdcc_restart.specs.Restarting.{KeepsLog, MayHaveBoot, MayHaveFactAndBoot, next_boot}
+use Rattle.mdcc_restart.specs.Restarting.{IsAsBefore, KeepsLog}
 use Rattle.mdcc_restart.specs.declared.fault.RestartFault.{RestartFault}
-
--- ---- after a refusal
 
 -- whatever the fault is
 pub each-fault : {T E : Type 0} (P : E → Type 0) (result : Result T E) → ((fault : E) → P fault) → IfErr result P
 each-fault P (Ok x) each = tt
 each-fault P (Err fault) each = each fault
 
--- the log was not opened
-pub open-keeps : {T : Type 0} (payloads : List (List ℕ)) (fault : LogFault) (old new : List ℕ) (may_leave : List ℕ → Type 0) → read_log old ≡ Ok payloads
-    → ((n : ℕ) → IsErrOf {T = T} (Err fault) (LogFault.NotALog n) → read_log old ≡ Err n)
-    → (IsErrOf {T = T} (Err fault) LogFault.Memory → new ≡ old)
-    → (IsErrOf {T = T} (Err fault) LogFault.LogFull → ⊥)
-    → KeepsLog payloads (of_log fault) new may_leave
-open-keeps payloads LogFault.DiskFault old new may_leave read not_a_log memory not_full = tt
-open-keeps payloads (LogFault.NotALog n) old new may_leave read not_a_log memory not_full = let broken = not_a_log n refl in absurd (cc)
-open-keeps payloads LogFault.LogFull old new may_leave read not_a_log memory not_full = absurd (not_full refl)
-open-keeps payloads LogFault.Memory old new may_leave read not_a_log memory not_full = ap read_log (memory refl) ∙ read
+abbrev ok_of : List (List ℕ) → Result (List (List ℕ)) ℕ
+ok_of l = Ok l
 
--- it was opened, and nothing was written since
-pub rest-keeps : RestIsRead → (payloads : List (List ℕ)) (fault : RestartFault) (size : ℕ) (bytes : List ℕ) (may_leave : List ℕ → Type 0) → IsAtRest payloads size bytes may_leave → KeepsLog payloads fault bytes may_leave
-rest-keeps law payloads (RestartFault.Log LogFault.DiskFault) size bytes may_leave rest = tt
-rest-keeps law payloads (RestartFault.Log (LogFault.NotALog n)) size bytes may_leave rest = (size, rest)
-rest-keeps law payloads (RestartFault.Log LogFault.LogFull) size bytes may_leave rest = (size, rest)
-rest-keeps law payloads (RestartFault.Log LogFault.Memory) size bytes may_leave rest = (size, rest)
-rest-keeps law payloads (RestartFault.Boot fault) size bytes may_leave rest = (size, rest)
-rest-keeps law payloads RestartFault.Memory size bytes may_leave rest = law payloads bytes rest.short rest.file
+module _ {D : Type 0} (disk : D → ℕ → Disk) (may_leave : D → ℕ → List ℕ → Type 0) where
+  -- what is at rest is read
+  pub rest_read : (new : D) (all : List (List ℕ)) (frames : OpenAreas) (me : ℕ) → frames.centre ≡ me → IsAtRest disk may_leave new frames all
+      → payloads (disk new me).bytes (disk new (me + 16)).bytes ≡ Ok all
+  rest_read new all frames me is rest =
+      let here = place_of frames.centre frames.area in
+      let there = place_of frames.centre (other_of frames.area) in
+      let current : IsCurrent frames.area rest.log (disk new here).bytes = record { valid = rest.in_use.valid; file = inr ([], rest.in_use.file) } in
+      let idle : IsIdle rest.log (disk new there).bytes = ⊎_elim (λ dead. inl dead) (λ older. inr (inl (subst (λ (n : ℕ). IsOlder n (disk new there).bytes) rest.in_use.generation older))) rest.spare.idle in
+      let read = current_is_read frames.area rest.log (disk new here).bytes (disk new there).bytes current idle ∙ ap ok_of (sym rest.payloads_are) in
+      subst (λ (m : ℕ). payloads (disk new m).bytes (disk new (m + 16)).bytes ≡ Ok all) is
+      (from_places (λ n p q. payloads_by n (disk new p).bytes (disk new q).bytes ≡ Ok all) (payloads (disk new frames.centre).bytes (disk new (frames.centre + 16)).bytes ≡ Ok all)
+      frames.centre (λ is. is) (λ is. is) frames.area rest.range read)
 
--- the new boot was not appended
-pub append-keeps : (payloads : List (List ℕ)) (fault : LogFault) (size : ℕ) (bytes : List ℕ) (may_leave : List ℕ → Type 0)
-    → (IsErrOf {T = Unit {0}} (Err fault) LogFault.LogFull → IsAtRest payloads size bytes may_leave)
-    → ((n : ℕ) → IsErrOf {T = Unit {0}} (Err fault) (LogFault.NotALog n) → ⊥)
-    → (IsErrOf {T = Unit {0}} (Err fault) LogFault.Memory → ⊥)
-    → KeepsLog payloads (of_log fault) bytes may_leave
-append-keeps payloads LogFault.DiskFault size bytes may_leave full a_log memory = tt
-append-keeps payloads (LogFault.NotALog n) size bytes may_leave full a_log memory = absurd (a_log n refl)
-append-keeps payloads LogFault.LogFull size bytes may_leave full a_log memory = (size, full refl)
-append-keeps payloads LogFault.Memory size bytes may_leave full a_log memory = absurd (memory refl)
+  module _ (old : D) (all : List (List ℕ)) (me every : ℕ) where
+    -- the log was not opened
+    pub open-keeps : {T : Type 0} (new : D) (fault : LogFault) (first second : List ℕ) → payloads first second ≡ Ok all
+        → ((n : ℕ) → IsErrOf {T = T} (Err fault) (LogFault.NotALog n) → payloads first second ≡ Err n)
+        → (IsErrOf {T = T} (Err fault) LogFault.Memory → ((disk new me).bytes ≡ first) × ((disk new (me + 16)).bytes ≡ second))
+        → (IsErrOf {T = T} (Err fault) LogFault.LogFull → ⊥)
+        → KeepsLog all (of_log fault) me every disk may_leave old new
+    open-keeps new LogFault.DiskFault first second read not_a_log memory not_full = tt
+    open-keeps new (LogFault.NotALog n) first second read not_a_log memory not_full = let broken = not_a_log n refl in absurd (cc)
+    open-keeps new LogFault.LogFull first second read not_a_log memory not_full = absurd (not_full refl)
+    open-keeps new LogFault.Memory first second read not_a_log memory not_full =
+        let same = memory refl in
+        ap (λ (l : List ℕ). payloads l (disk new (me + 16)).bytes) same.0 ∙ ap (λ (l : List ℕ). payloads first l) same.1 ∙ read
 
--- ---- at any moment
+    -- it was opened
+    pub opened-before : (moment : D → ℕ) (left_since : D → ℕ → ℕ → List ℕ → Type 0) (new : D) (frames : OpenAreas) (found : List (List ℕ)) → frames.centre ≡ me → frames.area ≤ 1 → found ≡ all
+        → IsOpened disk may_leave moment left_since new frames found (disk old me).bytes (disk old (me + 16)).bytes → IsAsBefore all me every disk may_leave old new
+    opened-before moment left_since new frames found place range is opened =
+        let rest : IsAtRest disk may_leave new frames all = record { log = opened.log; range = range; payloads_are = sym is ∙ opened.payloads_are; in_use = opened.in_use; spare = opened.spare } in
+        record {
+          frames = frames;
+          place = place;
+          at_rest = rest;
+          room = λ room. record {
+            log = opened.log;
+            read = (rest_areas disk may_leave new frames me all place rest).log_is;
+            roomy = roomy_log every (disk old me) (disk old (me + 16)) opened.log opened.read room;
+            often = room.often;
+          };
+        }
 
-module _ {D : Type 0} {moment : D → ℕ} {left_since : D → ℕ → ℕ → List ℕ → Type 0} {place : ℕ} where
-  -- the log was opened at most
-  pub shut-leaves : {old mid : D} (facts : List Fact) → LeavesOnly moment left_since old mid place (IsShut (logged facts)) → LeavesOnly moment left_since old mid place (MayHaveBoot facts)
-  shut-leaves facts opened = weakened (MayHaveBoot facts) opened (λ c shut. inl shut)
+    -- and nothing was written since
+    pub rest-keeps : (new : D) (fault : RestartFault) → IsAsBefore all me every disk may_leave old new → KeepsLog all fault me every disk may_leave old new
+    rest-keeps new (RestartFault.Log LogFault.DiskFault) was = tt
+    rest-keeps new (RestartFault.Log (LogFault.NotALog n)) was = was
+    rest-keeps new (RestartFault.Log LogFault.LogFull) was = was
+    rest-keeps new (RestartFault.Log LogFault.Memory) was = was
+    rest-keeps new (RestartFault.Boot fault) was = was
+    rest-keeps new RestartFault.Memory was = rest_read new all was.frames me was.place was.at_rest
 
-  -- the payload of the next boot was appended
-  pub boot-leaves : {mid new : D} (facts : List Fact) (payloads : List (List ℕ)) (payload : List ℕ) → payloads ≡ logged facts → payload ≡ fact_bytes (next_boot facts)
-      → LeavesOnly moment left_since mid new place (IsBetween payloads payload) → LeavesOnly moment left_since mid new place (MayHaveBoot facts)
-  boot-leaves facts payloads payload is bytes appended =
-      weakened (MayHaveBoot facts) appended (λ c between. subst (λ (p : List ℕ). IsBetween (logged facts) p c) bytes (subst (λ (ps : List (List ℕ)). IsBetween ps payload c) is between))
-
-  pub then-leaves : {old mid new : D} (facts : List Fact) → LeavesOnly moment left_since old mid place (IsShut (logged facts)) → LeavesOnly moment left_since mid new place (MayHaveBoot facts)
-      → LeavesOnly moment left_since old new place (MayHaveBoot facts)
-  then-leaves facts opened appended = both (shut-leaves facts opened) appended
-
-  -- the same, as it is read
-  pub same-leaves : {old mid : D} (facts : List Fact) → LeavesOnly moment left_since old mid place (λ c. read_log c ≡ Ok (logged facts))
-      → LeavesOnly moment left_since old mid place (ReadsAsEither (logged facts) (fact_bytes (next_boot facts)))
-  same-leaves facts opened = weakened (ReadsAsEither (logged facts) (fact_bytes (next_boot facts))) opened (λ c read. inl read)
-
-  pub then-leaves-same : BetweenIsRead → {old mid new : D} (facts : List Fact) → LeavesOnly moment left_since old mid place (λ c. read_log c ≡ Ok (logged facts))
-      → LeavesOnly moment left_since mid new place (MayHaveBoot facts) → LeavesOnly moment left_since old new place (ReadsAsEither (logged facts) (fact_bytes (next_boot facts)))
-  then-leaves-same law facts opened appended =
-      both (same-leaves facts opened)
-      (weakened (ReadsAsEither (logged facts) (fact_bytes (next_boot facts))) appended (λ c between. law (logged facts) (fact_bytes (next_boot facts)) c between))
-
-  -- the same over what a crash of an append left
-  pub between-leaves : {old mid : D} (facts : List Fact) (fact : Fact) → LeavesOnly moment left_since old mid place (IsBetween (logged facts) (fact_bytes fact)) → LeavesOnly moment left_since old mid place (MayHaveFactAndBoot facts fact)
-  between-leaves facts fact opened = weakened (MayHaveFactAndBoot facts fact) opened (λ c between. inl between)
-
-  pub then-leaves-either : {old mid new : D} (facts : List Fact) (fact : Fact) → LeavesOnly moment left_since old mid place (IsBetween (logged facts) (fact_bytes fact))
-      → LeavesOnly moment left_since mid new place (MayHaveBoot facts) ⊎ LeavesOnly moment left_since mid new place (MayHaveBoot (fact ∷ facts))
-      → LeavesOnly moment left_since old new place (MayHaveFactAndBoot facts fact)
-  then-leaves-either facts fact opened appended = elim appended [
-    | inl without ↦ both (between-leaves facts fact opened) (weakened (MayHaveFactAndBoot facts fact) without (λ c boot. inr (inl boot)))
-    | inr with_it ↦ both (between-leaves facts fact opened) (weakened (MayHaveFactAndBoot facts fact) with_it (λ c boot. inr (inr boot)))
-  ]
+    -- the new boot was not appended
+    pub append-keeps : (mid new : D) (fault : LogFault) → IsAsBefore all me every disk may_leave old mid
+        → (IsErrOf {T = Unit {0}} (Err fault) LogFault.LogFull → new ≡ mid)
+        → (IsErrOf {T = Unit {0}} (Err fault) LogFault.Memory → new ≡ mid)
+        → ((n : ℕ) → IsErrOf {T = Unit {0}} (Err fault) (LogFault.NotALog n) → ⊥)
+        → KeepsLog all (of_log fault) me every disk may_leave old new
+    append-keeps mid new LogFault.DiskFault was full memory a_log = tt
+    append-keeps mid new (LogFault.NotALog n) was full memory a_log = absurd (a_log n refl)
+    append-keeps mid new LogFault.LogFull was full memory a_log = subst (λ (d : D). IsAsBefore all me every disk may_leave old d) (sym (full refl)) was
+    append-keeps mid new LogFault.Memory was full memory a_log =
+        subst (λ (d : D). payloads (disk d me).bytes (disk d (me + 16)).bytes ≡ Ok all) (sym (memory refl)) (rest_read mid all was.frames me was.place was.at_rest)

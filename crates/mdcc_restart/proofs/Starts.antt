@@ -4,9 +4,10 @@ use Rattle.std.proofs.lemmas.Bool.{and_parts, leb-false, leb-true}
 use Rattle.mdcc_admission.specs.Loading.{Cells, boot_by, cells_with, fact_read, is_past, past_fault}
 use Rattle.mdcc_base.specs.Counts.{sum_over}
 use Rattle.mdcc_disks.specs.Disks.{Disk}
-use Rattle.mdcc_log.specs.Crash.{BetweenIsRead, IsBetween}
-use Rattle.mdcc_log.specs.Log.{log_bytes, log_limit, read_log}
-use Rattle.mdcc_log.specs.declared.fault.LogFault.{LogFault}
+use Rattle.mdcc_areas.specs.Area.{payloads}
+use Rattle.mdcc_areas.specs.Crash.{ReadsAsEither}
+use Rattle.mdcc_log.specs.Log.{log_bytes, log_limit}
+use Rattle.mdcc_areas.specs.declared.fault.LogFault.{LogFault}
 use Rattle.mdcc_node.specs.Booting.{Boots, IsBoot}
 use Rattle.mdcc_node.specs.Stands.{Stands}
 use Rattle.mdcc_node.specs.declared.node.Node.{Node}
@@ -92,19 +93,19 @@ module _ {S : Type 0} (stands : S → List Fact → Type 0) (room : S → ℕ) (
 
 -- a boot that is refused refuses the start
 pub boot-refuses : {S : Type 0} (stands : S → List Fact → Type 0) (room : S → ℕ) (cells : Cells) (cluster : Cluster) (me : ℕ) (facts : List Fact) (fault : RestartFault)
-    → BootsNode {S = S} stands room cells (Err fault) cluster me facts → IsRefused cells cluster facts fault
-boot-refuses stands room cells cluster me facts (RestartFault.Boot BootFault.Epochs) h = h
-boot-refuses stands room cells cluster me facts (RestartFault.Boot (BootFault.Room needed all)) h = h
-boot-refuses stands room cells cluster me facts (RestartFault.Boot (BootFault.NotARun n)) h = h
-boot-refuses stands room cells cluster me facts (RestartFault.Boot BootFault.Memory) h = h
-boot-refuses stands room cells cluster me facts (RestartFault.Log fault) h = absurd h
-boot-refuses stands room cells cluster me facts RestartFault.Memory h = tt
+    (roomy : Type 0) → BootsNode {S = S} stands room cells (Err fault) cluster me facts → IsRefused cells cluster facts roomy fault
+boot-refuses stands room cells cluster me facts (RestartFault.Boot BootFault.Epochs) roomy h = h
+boot-refuses stands room cells cluster me facts (RestartFault.Boot (BootFault.Room needed all)) roomy h = h
+boot-refuses stands room cells cluster me facts (RestartFault.Boot (BootFault.NotARun n)) roomy h = h
+boot-refuses stands room cells cluster me facts (RestartFault.Boot BootFault.Memory) roomy h = h
+boot-refuses stands room cells cluster me facts (RestartFault.Log fault) roomy h = absurd h
+boot-refuses stands room cells cluster me facts RestartFault.Memory roomy h = tt
 
 -- ---- the log
 
 -- what was read is what stands there
-pub same-payloads : (bytes : List ℕ) (payloads more : List (List ℕ)) → read_log bytes ≡ Ok payloads → read_log bytes ≡ Ok more → payloads ≡ more
-same-payloads bytes payloads more e f = cc
+pub same-payloads : (first second : List ℕ) (all more : List (List ℕ)) → payloads first second ≡ Ok all → payloads first second ≡ Ok more → all ≡ more
+same-payloads first second all more e f = cc
 
 -- the payload of a boot has five bytes
 pub boot-length : (fact : Fact) (payload : List ℕ) → IsBoot fact → payload ≡ fact_bytes fact → length payload ≡ 5
@@ -118,21 +119,35 @@ boot-length (Fact.Adopted key version item adds) payload boot e = absurd boot
 boot-size : (facts : List Fact) → size_with_boot facts ≡ length (log_bytes (logged facts)) + 10
 boot-size facts = log-grows (logged facts) (fact_bytes (next_boot facts))
 
--- why the new boot was not appended
-pub refuses : (cells : Cells) (cluster : Cluster) (facts : List Fact) (fault : LogFault) (size : ℕ) (payload : List ℕ) → booted_over cells cluster facts ≡ Ok (next_boot facts ∷ facts)
-    → size ≡ length (log_bytes (logged facts)) → length payload ≡ 5
-    → (IsErrOf {T = Unit {0}} (Err fault) LogFault.LogFull → log_limit < size + length payload + 5)
-    → ((n : ℕ) → IsErrOf {T = Unit {0}} (Err fault) (LogFault.NotALog n) → ⊥)
-    → IsRefused cells cluster facts (of_log fault)
-refuses cells cluster facts LogFault.DiskFault size payload boots sized five full not_a_log = tt
-refuses cells cluster facts (LogFault.NotALog n) size payload boots sized five full not_a_log = not_a_log n refl
-refuses cells cluster facts LogFault.LogFull size payload boots sized five full not_a_log = (boots, omega (arith, full refl, boot-size facts))
-refuses cells cluster facts LogFault.Memory size payload boots sized five full not_a_log = tt
+-- why the log was not opened
+pub open-refuses : {T : Type 0} (cells : Cells) (cluster : Cluster) (facts : List Fact) (roomy : Type 0) (fault : LogFault) (first second : List ℕ) → payloads first second ≡ Ok (logged facts)
+    → ((n : ℕ) → IsErrOf {T = T} (Err fault) (LogFault.NotALog n) → payloads first second ≡ Err n)
+    → (IsErrOf {T = T} (Err fault) LogFault.LogFull → ⊥)
+    → IsRefused cells cluster facts roomy (of_log fault)
+open-refuses cells cluster facts roomy LogFault.DiskFault first second read not_a_log not_full = tt
+open-refuses cells cluster facts roomy (LogFault.NotALog n) first second read not_a_log not_full = let broken = not_a_log n refl in absurd (cc)
+open-refuses cells cluster facts roomy LogFault.LogFull first second read not_a_log not_full = absurd (not_full refl)
+open-refuses cells cluster facts roomy LogFault.Memory first second read not_a_log not_full = tt
 
--- the new boot lies within the limit
-pub lies-within : (facts : List Fact) (size : ℕ) (payload : List ℕ) → size ≡ length (log_bytes (logged facts)) → length payload ≡ 5
-    → (log_limit < size + length payload + 5 → ⊥) → size_with_boot facts ≤ log_limit
-lies-within facts size payload sized five full = least (size_with_boot facts) log_limit (λ more. full (omega (arith, boot-size facts)))
+-- why the new boot was not appended
+pub refuses : (cells : Cells) (cluster : Cluster) (facts : List Fact) (roomy : Type 0) (fault : LogFault) → booted_over cells cluster facts ≡ Ok (next_boot facts ∷ facts)
+    → (IsErrOf {T = Unit {0}} (Err fault) LogFault.LogFull → roomy → log_limit < size_with_boot facts)
+    → ((n : ℕ) → IsErrOf {T = Unit {0}} (Err fault) (LogFault.NotALog n) → ⊥)
+    → IsRefused cells cluster facts roomy (of_log fault)
+refuses cells cluster facts roomy LogFault.DiskFault boots full not_a_log = tt
+refuses cells cluster facts roomy (LogFault.NotALog n) boots full not_a_log = not_a_log n refl
+refuses cells cluster facts roomy LogFault.LogFull boots full not_a_log = (boots, full refl)
+refuses cells cluster facts roomy LogFault.Memory boots full not_a_log = tt
+
+-- the new boot would not lie within the limit
+pub lies-past : (facts : List Fact) (all : List (List ℕ)) (five : ℕ) → all ≡ logged facts → five ≡ 5 → log_limit < length (log_bytes all) + (five + 5) → log_limit < size_with_boot facts
+lies-past facts all five is five_is past =
+    omega (arith, boot-size facts, five_is, past, ap (λ (ps : List (List ℕ)). length (log_bytes ps)) is)
+
+-- it lies within the limit
+pub lies-within : (facts : List Fact) (all : List (List ℕ)) (five : ℕ) → all ≡ logged facts → five ≡ 5 → (log_limit < length (log_bytes all) + (five + 5) → ⊥) → size_with_boot facts ≤ log_limit
+lies-within facts all five is five_is full =
+    least (size_with_boot facts) log_limit (λ more. full (omega (arith, boot-size facts, five_is, more, ap (λ (ps : List (List ℕ)). length (log_bytes ps)) is)))
   where
     least : (a b : ℕ) → (b < a → ⊥) → a ≤ b
     least a b h = omega arith
@@ -143,13 +158,13 @@ lies-within facts size payload sized five full = least (size_with_boot facts) lo
 older : (cluster : Cluster) (facts : List Fact) (fact : Fact) → AreLogged cluster (fact ∷ facts) → AreLogged cluster facts
 older cluster facts fact are = record { allowed = (and_parts (are_allowed_facts cluster facts) (is_allowed_fact cluster facts fact) are.allowed).0; well_formed = are.well_formed.1 }
 
--- what a crash of an append leaves is a log of the facts with the new one or without
-pub after-crash : (Q : List Fact → Type 0) (cluster : Cluster) (facts : List Fact) (fact : Fact) (disk : Disk) → BetweenIsRead
-    → ((fs : List Fact) → AreLogged cluster fs → IsLogOf fs disk → Q fs)
-    → AreLogged cluster (fact ∷ facts) → IsTrue disk.told → IsBetween (logged facts) (fact_bytes fact) disk.bytes
+-- what is read after a crash of an append is the facts with the new one or without
+pub after-crash : (Q : List Fact → Type 0) (cluster : Cluster) (facts : List Fact) (fact : Fact) (first second : Disk)
+    → ((fs : List Fact) → AreLogged cluster fs → IsLogOf fs first second → Q fs)
+    → AreLogged cluster (fact ∷ facts) → IsTrue first.told → IsTrue second.told → ReadsAsEither (logged facts) (fact_bytes fact) (payloads first.bytes second.bytes)
     → Q facts ⊎ Q (fact ∷ facts)
-after-crash Q cluster facts fact disk law each are told between =
-    elim (law (logged facts) (fact_bytes fact) disk.bytes between) [
-      | inl read ↦ inl (each facts (older cluster facts fact are) (record { told = told; read = read }))
-      | inr read ↦ inr (each (fact ∷ facts) are (record { told = told; read = read }))
+after-crash Q cluster facts fact first second each are told_first told_second either =
+    elim either [
+      | inl read ↦ inl (each facts (older cluster facts fact are) (record { told_first = told_first; told_second = told_second; read = read }))
+      | inr read ↦ inr (each (fact ∷ facts) are (record { told_first = told_first; told_second = told_second; read = read }))
     ]

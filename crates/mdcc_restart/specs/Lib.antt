@@ -1,3 +1,4 @@
 pub mod Faults
 pub mod Logged
 pub mod Restarting
+pub mod Struck

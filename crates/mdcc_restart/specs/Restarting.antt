@@ -3,10 +3,12 @@ use Rattle.std.specs.Prelude.{Err, IsTrue, List, Ok, Result, length, ℕ, ◌+�
 use Rattle.mdcc_admission.specs.Loading.{Cells, boot_by}
 use Rattle.mdcc_base.specs.Counts.{sum_over}
 use Rattle.mdcc_disks.specs.Disks.{Disk}
-use Rattle.mdcc_log.specs.Crash.{IsBetween}
-use Rattle.mdcc_log.specs.Frames.{IsAtRest}
-use Rattle.mdcc_log.specs.Log.{log_bytes, log_limit, read_log}
-use Rattle.mdcc_log.specs.declared.fault.LogFault.{LogFault}
+use Rattle.mdcc_areas.specs.Area.{AreaLog, payloads, read_areas}
+use Rattle.mdcc_areas.specs.AtRest.{IsAtRest}
+use Rattle.mdcc_areas.specs.Frames.{OpenAreas}
+use Rattle.mdcc_areas.specs.Room.{IsRoomy, IsRoomyLog}
+use Rattle.mdcc_areas.specs.declared.fault.LogFault.{LogFault}
+use Rattle.mdcc_log.specs.Log.{log_bytes, log_limit}
 use Rattle.mdcc_node.specs.Stands.{Stands}
 use Rattle.mdcc_node.specs.declared.node.Node.{Node}
 use Rattle.mdcc_option.specs.declared.cluster.Cluster.{Cluster}
@@ -22,10 +24,19 @@ use Rattle.mdcc_restart.specs.declared.restarting.Restarted.{Restarted}
 
 -- ---- what stands before it
 
--- a disk that tells its bytes, of which these facts are read
-pub record IsLogOf (facts : List Fact) (disk : Disk) : Type 0 where
-  pub told : IsTrue disk.told
-  pub read : read_log disk.bytes ≡ Ok (logged facts)
+-- Of the two areas of a centre, whose disks tell their bytes, these facts are read.
+pub record IsLogOf (facts : List Fact) (first second : Disk) : Type 0 where
+  pub told_first : IsTrue first.told
+  pub told_second : IsTrue second.told
+  pub read : payloads first.bytes second.bytes ≡ Ok (logged facts)
+
+-- The log in its two areas takes no more bytes than one of version 1 would, with generations left, and a checkpoint is due after 17
+-- frames or more.
+pub record HasRoom (every : ℕ) (first second : Disk) : Type 0 where
+  pub log : AreaLog
+  pub read : read_areas first.bytes second.bytes ≡ Ok log
+  pub roomy : IsRoomyLog log
+  pub often : 17 ≤ every
 
 -- ---- what comes of it
 
@@ -42,46 +53,47 @@ abbrev pub booted_over : Cells → Cluster → List Fact → Result (List Fact) 
 booted_over cells cluster facts = boot_by cells cluster (payloads_of facts)
 
 -- A centre that runs: its node has these facts and the new boot, and its log, which lies within the limit, has them too, all of it
--- durable. Its store has as many cells spare as these facts leave.
-pub record Runs {S : Type 0} (stands : S → List Fact → Type 0) (room : S → ℕ) (cells : Cells) (centre : Restarted S) (cluster : Cluster) (me : ℕ) (facts : List Fact) (bytes : List ℕ) (may_leave : List ℕ → Type 0) : Type 0 where
+-- durable; no checkpoint is due. Its store has as many cells spare as these facts leave.
+pub record Runs {S D : Type 0} (stands : S → List Fact → Type 0) (room : S → ℕ) (cells : Cells) (centre : Restarted S) (cluster : Cluster) (me every : ℕ) (facts : List Fact) (disk : D → ℕ → Disk) (may_leave : D → ℕ → List ℕ → Type 0) (old new : D) : Type 0 where
   pub epoch : centre.epoch ≡ epoch_of facts + 1
   pub below : epoch_of facts < 2 ^ 32 - 1
   pub node : Stands stands centre.node cluster me (next_boot facts ∷ facts) nothing_kept
   pub spare : room centre.node.store + sum_over cells.needed (next_boot facts ∷ facts) ≡ cells.total
-  pub place : centre.log.place ≡ me
-  pub at_rest : IsAtRest (logged (next_boot facts ∷ facts)) centre.log.size bytes may_leave
+  pub place : centre.log.centre ≡ me
+  pub every_is : centre.log.every ≡ every
+  pub few : centre.log.tail < every
+  pub at_rest : IsAtRest disk may_leave new centre.log (logged (next_boot facts ∷ facts))
   pub within : size_with_boot facts ≤ log_limit
+  pub roomy : HasRoom every (disk old me) (disk old (me + 16)) → IsRoomy centre.log.generation centre.log.tail centre.log.count
 
 -- Why no centre runs. A fault of the disk and want of memory may come at any time.
-abbrev pub IsRefused : Cells → Cluster → List Fact → RestartFault → Type 0
-IsRefused cells cluster facts (RestartFault.Boot BootFault.Epochs) = 2 ^ 32 - 1 ≤ epoch_of facts
-IsRefused cells cluster facts (RestartFault.Boot (BootFault.Room needed all)) = booted_over cells cluster facts ≡ Err (BootFault.Room needed all)
-IsRefused cells cluster facts (RestartFault.Log LogFault.LogFull) = (booted_over cells cluster facts ≡ Ok (next_boot facts ∷ facts)) × (log_limit < size_with_boot facts)
-IsRefused cells cluster facts (RestartFault.Log LogFault.DiskFault) = ⊤
-IsRefused cells cluster facts RestartFault.Memory = ⊤
-IsRefused cells cluster facts _ = ⊥
+abbrev pub IsRefused : Cells → Cluster → List Fact → Type 0 → RestartFault → Type 0
+IsRefused cells cluster facts roomy (RestartFault.Boot BootFault.Epochs) = 2 ^ 32 - 1 ≤ epoch_of facts
+IsRefused cells cluster facts roomy (RestartFault.Boot (BootFault.Room needed all)) = booted_over cells cluster facts ≡ Err (BootFault.Room needed all)
+IsRefused cells cluster facts roomy (RestartFault.Log LogFault.LogFull) = (booted_over cells cluster facts ≡ Ok (next_boot facts ∷ facts)) × (roomy → log_limit < size_with_boot facts)
+IsRefused cells cluster facts roomy (RestartFault.Log LogFault.DiskFault) = ⊤
+IsRefused cells cluster facts roomy RestartFault.Memory = ⊤
+IsRefused cells cluster facts roomy _ = ⊥
 
-abbrev pub Restarts : {S : Type 0} → (S → List Fact → Type 0) → (S → ℕ) → Cells → Result (Restarted S) RestartFault → Cluster → ℕ → List Fact → List ℕ → (List ℕ → Type 0) → Type 0
-Restarts stands room cells (Ok centre) cluster me facts bytes may_leave = Runs stands room cells centre cluster me facts bytes may_leave
-Restarts stands room cells (Err fault) cluster me facts bytes may_leave = IsRefused cells cluster facts fault
+abbrev pub Restarts : {S D : Type 0} → (S → List Fact → Type 0) → (S → ℕ) → Cells → Result (Restarted S) RestartFault → Cluster → ℕ → ℕ → List Fact → (D → ℕ → Disk) → (D → ℕ → List ℕ → Type 0) → D → D → Type 0
+Restarts stands room cells (Ok centre) cluster me every facts disk may_leave old new = Runs stands room cells centre cluster me every facts disk may_leave old new
+Restarts stands room cells (Err fault) cluster me every facts disk may_leave old new = IsRefused cells cluster facts (HasRoom every (disk old me) (disk old (me + 16))) fault
 
--- ---- what stands on its disk
+-- ---- what stands on its disks
 
--- what a crash may leave of a log of these facts while the next boot is appended: it has that boot, or not
-abbrev pub MayHaveBoot : List Fact → List ℕ → Type 0
-MayHaveBoot facts bytes = IsBetween (logged facts) (fact_bytes (next_boot facts)) bytes
+-- A log of these payloads is at rest, and has room where it had it.
+pub record IsAsBefore {D : Type 0} (all : List (List ℕ)) (me every : ℕ) (disk : D → ℕ → Disk) (may_leave : D → ℕ → List ℕ → Type 0) (old new : D) : Type 0 where
+  pub frames : OpenAreas
+  pub place : frames.centre ≡ me
+  pub at_rest : IsAtRest disk may_leave new frames all
+  pub room : HasRoom every (disk old me) (disk old (me + 16)) → HasRoom every (disk new me) (disk new (me + 16))
 
--- the same, where a crash of an append of this fact came before: the log has that fact or not, and then the next boot or not
-abbrev pub MayHaveFactAndBoot : List Fact → Fact → List ℕ → Type 0
-MayHaveFactAndBoot facts fact bytes =
-    IsBetween (logged facts) (fact_bytes fact) bytes ⊎ (MayHaveBoot facts bytes ⊎ MayHaveBoot (fact ∷ facts) bytes)
-
--- What stands after a refusal: the log of the same payloads, all of it durable where it was opened. After a fault of the disk
+-- What stands after a refusal: the log of the same payloads, all of it durable where it was opened. After a fault of a disk
 -- a part of what was being written may stand, as after a crash.
-abbrev pub KeepsLog : List (List ℕ) → RestartFault → List ℕ → (List ℕ → Type 0) → Type 0
-KeepsLog payloads (RestartFault.Log LogFault.DiskFault) bytes may_leave = ⊤
-KeepsLog payloads RestartFault.Memory bytes may_leave = read_log bytes ≡ Ok payloads
-KeepsLog payloads _ bytes may_leave = (size : ℕ) × IsAtRest payloads size bytes may_leave
+abbrev pub KeepsLog : {D : Type 0} → List (List ℕ) → RestartFault → ℕ → ℕ → (D → ℕ → Disk) → (D → ℕ → List ℕ → Type 0) → D → D → Type 0
+KeepsLog all (RestartFault.Log LogFault.DiskFault) me every disk may_leave old new = ⊤
+KeepsLog all RestartFault.Memory me every disk may_leave old new = payloads (disk new me).bytes (disk new (me + 16)).bytes ≡ Ok all
+KeepsLog all _ me every disk may_leave old new = IsAsBefore all me every disk may_leave old new
 
 -- ---- its boot
 

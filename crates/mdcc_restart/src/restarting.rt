@@ -1,24 +1,24 @@
 //! The start of a centre.
-ghost use Rattle.std.specs.Prelude.{◌≡◌, ◌≤◌, ◌⊎◌, ◌∷◌, [], List, IfErr, IfOk, IsErrOf, IsTrue, Ok, length, true, ℕ};
+ghost use Rattle.std.specs.Prelude.{◌≡◌, ◌≤◌, ◌<◌, ◌+◌, ◌⊎◌, ◌∷◌, [], List, IfErr, IfOk, IsErrOf, IsTrue, Ok, length, true, ℕ};
 ghost use Rattle.mdcc_admission.specs.Loading.{AreShort, Cells, Holds};
-ghost use Rattle.mdcc_base.specs.Causes.{Rose};
-ghost use Rattle.mdcc_disks.specs.Disks.{KeepsOthers, LeavesOnly, Within};
-ghost use Rattle.mdcc_journal.specs.Counts.{HasCounts};
-ghost use Rattle.mdcc_log.specs.Crash.{IsBetween, IsShut, ReadsAsEither};
-ghost use Rattle.mdcc_log.specs.Log.{payload_limit, read_log};
+ghost use Rattle.mdcc_areas.specs.Area.{AreaLog, payloads, payloads_of};
+ghost use Rattle.mdcc_areas.specs.AtRest.{IsAtRest};
+ghost use Rattle.mdcc_areas.specs.Both.{KeepsBut, RoseAtOne};
+ghost use Rattle.mdcc_areas.specs.Crash.{ReadsAsEither};
+ghost use Rattle.mdcc_disks.specs.Disks.{Only};
 ghost use Rattle.mdcc_node.specs.Booting.{IsBoot};
 ghost use Rattle.mdcc_protocol.specs.Belongs.{is_centre};
 ghost use Rattle.mdcc_messages.specs.Spelling.{fact_bytes};
 ghost use Rattle.mdcc_messages.specs.declared.facts.Fact.{Fact as AFact};
 ghost use Rattle.mdcc_restart.specs.Logged.{AreLogged, logged};
-ghost use Rattle.mdcc_restart.specs.Restarting.{BootsNode, IsLogOf, KeepsLog, MayHaveBoot, MayHaveFactAndBoot, Restarts, next_boot};
+ghost use Rattle.mdcc_restart.specs.Restarting.{BootsNode, IsLogOf, KeepsLog, Restarts, next_boot};
+ghost use Rattle.mdcc_restart.specs.Struck.{IsLeft, IsStruck, LeavesFactAndBoot, LeavesStruck};
 
-use crate::RestartFault;
-use mdcc_base::{Centre, HeapList, Memory};
+use crate::{RestartFault, append_fact};
+use mdcc_areas::{Frames, LogFault};
+use mdcc_base::{Centre, HeapList};
 use mdcc_disks::Disks;
 use mdcc_facts::FactStore;
-use mdcc_journal::encode_fact;
-use mdcc_log::{Frames, LogFault, between_is_read, rest_is_read, shut_is_read};
 use mdcc_messages::Fact;
 use mdcc_node::Node;
 use mdcc_option::Cluster;
@@ -31,16 +31,6 @@ pub struct Restarted<S> {
     pub node: Node<S>,
     pub log: Frames,
     pub epoch: u32,
-}
-
-/// The bytes of a fact, as its log has them.
-pub fn payload_of(alloc: Global, fact: &Fact) -> Result<Vec<u8>, Memory>
-    requires { HasCounts fact.now }
-    ensures { IfOk result (λ payload. payload.items ≡ fact_bytes fact.now) }
-{
-    let mut payload = Vec::new(alloc);
-    encode_fact(fact, &mut payload)?;
-    Ok(payload)
 }
 
 // A node from the payloads of its log, with the fact of the boot.
@@ -57,6 +47,7 @@ fn boot_node<S: FactStore + Drop>(
     ensures node { (cells : Cells) (facts : List AFact) → Holds S.stands S.room S.cells_for cells store [] → AreLogged cluster facts
         → payloads.now ≡ logged facts → BootsNode S.stands S.room cells result cluster centre facts }
     ensures fact { IfOk result (λ r. IsBoot r.1) }
+    ensures short { IfOk result (λ r. length (fact_bytes r.1) ≡ 5) }
     ensures no_log { (fault : LogFault) → IsErrOf result (RestartFault.Log fault) → ⊥ }
     ensures memory { IsErrOf result (RestartFault.Boot BootFault.Memory) → ⊥ }
 {
@@ -65,7 +56,8 @@ fn boot_node<S: FactStore + Drop>(
 
 /// Starts a centre over an empty store: opens its log, boots its node from the payloads, and appends
 /// the boot of the next epoch. So no two starts that succeed begin the same epoch, and at `Ok` each
-/// later crash leaves a log that has the new boot. After a refusal the log can be opened again: it has what it had, or where a
+/// later crash leaves a log that has the new boot. A checkpoint is due after so many frames, and one that is due with the boot is made.
+/// After a refusal the log can be opened again: it has what it had, or where a
 /// call of the disk failed perhaps the new boot too. Want of memory is always `Memory`. The store is given up with a refusal.
 pub fn restart<D: Disks, S: FactStore + Drop>(
     alloc: Global,
@@ -73,56 +65,68 @@ pub fn restart<D: Disks, S: FactStore + Drop>(
     centre: Centre,
     store: S,
     disks: &mut D,
+    every: u32,
 ) -> Result<Restarted<S>, RestartFault>
     requires among { is_centre cluster centre ≡ true }
     requires empty { S.stands store [] }
+    requires often { 1 ≤ every }
 
     // Over a log of facts that the centre may have added it has just these and the new boot. It is
     // refused where the epochs are used up, where the store has too few cells, with those that are needed,
     // and where the new boot would pass the limit of the log.
     ensures restarts { (cells : Cells) (facts : List AFact) → Holds S.stands S.room S.cells_for cells store [] → AreLogged cluster facts
-        → IsLogOf facts (D.disk disks.old centre)
-        → Restarts S.stands S.room cells result cluster centre facts (D.disk disks.new centre).bytes (D.may_leave disks.new centre) }
+        → IsLogOf facts (D.disk disks.old centre) (D.disk disks.old (centre + 16))
+        → Restarts S.stands S.room cells result cluster centre every facts D.disk D.may_leave disks.old disks.new }
 
-    // So too where a crash came at any moment of an append: with the fact that was being added, or
+    // So too where a crash came at any moment of an append and of the checkpoint behind it: with the fact that was being added, or
     // without it.
     ensures after_crash { (cells : Cells) (facts : List AFact) (fact : AFact) → Holds S.stands S.room S.cells_for cells store [] → AreLogged cluster (fact ∷ facts)
-        → IsTrue (D.disk disks.old centre).told → IsBetween (logged facts) (fact_bytes fact) (D.disk disks.old centre).bytes
-        → Restarts S.stands S.room cells result cluster centre facts (D.disk disks.new centre).bytes (D.may_leave disks.new centre)
-        ⊎ Restarts S.stands S.room cells result cluster centre (fact ∷ facts) (D.disk disks.new centre).bytes (D.may_leave disks.new centre) }
+        → IsTrue (D.disk disks.old centre).told → IsTrue (D.disk disks.old (centre + 16)).told
+        → ReadsAsEither (logged facts) (fact_bytes fact) (payloads (D.disk disks.old centre).bytes (D.disk disks.old (centre + 16)).bytes)
+        → Restarts S.stands S.room cells result cluster centre every facts D.disk D.may_leave disks.old disks.new
+        ⊎ Restarts S.stands S.room cells result cluster centre every (fact ∷ facts) D.disk D.may_leave disks.old disks.new }
+
+    // At `Ok` the log is open, whatever its payloads are, and no checkpoint is due.
+    ensures at_rest { IsTrue (D.disk disks.old centre).told → IsTrue (D.disk disks.old (centre + 16)).told
+        → IfOk result (λ r. (all : List (List ℕ)) × IsAtRest D.disk D.may_leave disks.new r.log all) }
+    ensures log { IfOk result (λ r. (r.log.centre ≡ centre) × ((r.log.every ≡ every) × (r.log.tail < every))) }
 
     // A refusal leaves the log as it was: its payloads are read again.
-    ensures refused { (payloads : List (List ℕ)) → IsTrue (D.disk disks.old centre).told
-        → read_log (D.disk disks.old centre).bytes ≡ Ok payloads
-        → IfErr result (λ fault. KeepsLog payloads fault (D.disk disks.new centre).bytes (D.may_leave disks.new centre)) }
+    ensures refused { (all : List (List ℕ)) → IsTrue (D.disk disks.old centre).told → IsTrue (D.disk disks.old (centre + 16)).told
+        → payloads (D.disk disks.old centre).bytes (D.disk disks.old (centre + 16)).bytes ≡ Ok all
+        → IfErr result (λ fault. KeepsLog all fault centre every D.disk D.may_leave disks.old disks.new) }
 
-    // A crash at any moment of it leaves a log of the facts, or of these and the new boot, whether it is answered or refused.
-    ensures any_moment { (cells : Cells) (facts : List AFact) → Holds S.stands S.room S.cells_for cells store [] → AreLogged cluster facts
-        → IsTrue (D.disk disks.old centre).told → Within (IsShut (logged facts)) (D.may_leave disks.old centre)
-        → LeavesOnly D.moment D.left_since disks.old disks.new centre (MayHaveBoot facts) }
-    ensures any_moment_between { (cells : Cells) (facts : List AFact) (fact : AFact) → Holds S.stands S.room S.cells_for cells store [] → AreLogged cluster (fact ∷ facts)
-        → IsTrue (D.disk disks.old centre).told → Within (IsBetween (logged facts) (fact_bytes fact)) (D.may_leave disks.old centre)
-        → LeavesOnly D.moment D.left_since disks.old disks.new centre (MayHaveFactAndBoot facts fact) }
+    // A crash at any moment of it leaves a log of the facts, or of these and the new boot, whether it is answered or refused, with each
+    // area as at a moment of its own: where the other area is dead or older; and, of whatever areas these facts are read, where no
+    // byte is torn to 1.
+    ensures any_moment { (cells : Cells) (facts : List AFact) (area : ℕ) (log : AreaLog) → Holds S.stands S.room S.cells_for cells store [] → AreLogged cluster facts
+        → IsTrue (D.disk disks.old centre).told → IsTrue (D.disk disks.old (centre + 16)).told
+        → IsLeft (D.may_leave disks.old) centre area log → payloads_of log ≡ logged facts
+        → LeavesStruck D.moment D.left_since disks.old disks.new centre area log (fact_bytes (next_boot facts)) }
+    ensures any_moment_same { (cells : Cells) (facts : List AFact) (current other : List ℕ) → Holds S.stands S.room S.cells_for cells store [] → AreLogged cluster facts
+        → IsLogOf facts (D.disk disks.old centre) (D.disk disks.old (centre + 16)) → (D.tears 1 → ⊥)
+        → Only (D.disk disks.old centre).bytes (D.may_leave disks.old centre)
+        → Only (D.disk disks.old (centre + 16)).bytes (D.may_leave disks.old (centre + 16))
+        → D.left_since disks.new centre (D.moment disks.old) current → D.left_since disks.new (centre + 16) (D.moment disks.old) other
+        → ReadsAsEither (logged facts) (fact_bytes (next_boot facts)) (payloads current other) }
 
-    // So it is of a log of which just the facts are read, whatever stands behind them, where no byte is torn to 1.
-    ensures any_moment_same { (cells : Cells) (facts : List AFact) → Holds S.stands S.room S.cells_for cells store [] → AreLogged cluster facts
-        → IsTrue (D.disk disks.old centre).told → (D.tears 1 → ⊥) → Within (λ c. read_log c ≡ Ok (logged facts)) (D.may_leave disks.old centre)
-        → LeavesOnly D.moment D.left_since disks.old disks.new centre (ReadsAsEither (logged facts) (fact_bytes (next_boot facts))) }
-    ensures others { KeepsOthers D.disk D.may_leave D.moment D.left_since disks.old disks.new centre }
-    ensures later { (D.disk disks.old centre).faults ≤ (D.disk disks.new centre).faults }
+    // So it is after a crash at any moment of an append and of the checkpoint behind it, with both areas struck at one moment: it
+    // leaves what that crash did, or from some moment on a log of the facts, with the fact that was being added or without, and then the
+    // new boot or not.
+    ensures any_moment_between { (cells : Cells) (facts : List AFact) (fact : AFact) (area : ℕ) (log : AreaLog) → Holds S.stands S.room S.cells_for cells store [] → AreLogged cluster (fact ∷ facts)
+        → IsTrue (D.disk disks.old centre).told → IsTrue (D.disk disks.old (centre + 16)).told
+        → IsStruck (D.may_leave disks.old) centre area log (fact_bytes fact) → payloads_of log ≡ logged facts
+        → LeavesFactAndBoot D.moment D.left_since disks.old disks.new centre area log facts fact }
+    ensures others { KeepsBut D.disk D.may_leave D.moment D.left_since disks.old disks.new centre (centre + 16) }
     ensures disk_fault { IsErrOf result (RestartFault.Log LogFault.DiskFault)
-        → Rose (D.disk disks.old centre).faults (D.disk disks.new centre).faults }
+        → RoseAtOne (D.disk disks.old centre) (D.disk disks.new centre) (D.disk disks.old (centre + 16)) (D.disk disks.new (centre + 16)) }
     ensures log_memory { IsErrOf result (RestartFault.Log LogFault.Memory) → ⊥ }
     ensures boot_memory { IsErrOf result (RestartFault.Boot BootFault.Memory) → ⊥ }
 {
-    between_is_read();
-    shut_is_read();
-    rest_is_read();
-    let (log, payloads) = Frames::open(alloc, disks, centre.number())?;
+    let (log, payloads) = Frames::open(alloc, disks, centre, every)?;
     let mut log = log;
     let (node, boot) = boot_node(alloc, cluster, centre, store, payloads.as_slice())?;
     let epoch = node.epoch();
-    let payload = payload_of(alloc, &boot)?;
-    log.append(disks, &payload)?;
+    append_fact(alloc, &mut log, disks, &boot)?;
     Ok(Restarted { node, log, epoch })
 }

@@ -1,71 +1,56 @@
-use Rattle.std.proofs.Common.{◌≡◌, ◌<◌, ◌^◌, arith, inl, sym, subst}
-use Rattle.mdcc_disks.specs.Memory.{disk_of, left_since_of, may_leave_of, moment_of, only_now_of}
-use Rattle.mdcc_log.proofs.Moments.{started}
-use Rattle.mdcc_log.specs.Crash.{ReadsAsEither}
+use Rattle.std.proofs.Common.{◌≡◌, ◌<◌, ◌+◌, ◌^◌, ◌∙◌, List, ℕ, ap, arith, inl, sym, subst}
+use Rattle.mdcc_areas.specs.Area.{payloads}
+use Rattle.mdcc_disks.specs.Memory.{disk_of, may_leave_of, only_now_of}
 use Rattle.mdcc_logs.proofs.Starts.{empty-store, lacking-kept, lacking-over, no-gate-is-torn-open}
 use Rattle.mdcc_logs.proofs.starting.start.Goals as goal
 use Rattle.mdcc_logs.specs.Nodes.{are_stored, spare_of}
+use Rattle.mdcc_logs.specs.Stands.{checkpoint_every}
 use Rattle.mdcc_logs.specs.Starting.{cells_of}
 use Rattle.mdcc_option.specs.declared.cluster.Cluster.{Cluster}
-use Rattle.mdcc_messages.specs.Spelling.{fact_bytes}
-use Rattle.mdcc_restart.specs.Logged.{AreLogged, logged as logged_of}
-use Rattle.mdcc_restart.specs.Restarting.{IsRefused, MayHaveBoot, Runs, next_boot}
+use Rattle.mdcc_restart.specs.Logged.{AreLogged}
+use Rattle.mdcc_restart.specs.Restarting.{HasRoom, IsRefused, Runs}
 
 pub returns-in-Ok-clause-starts : goal.returns-in-Ok-clause-starts
-returns-in-Ok-clause-starts c facts logged fits is early =
+returns-in-Ok-clause-starts c facts logged fits is room early =
     let cluster = c.args.cluster.now in
     let same : c.copy.result ≡ cluster = c.copy.ensures in
     let was = subst (λ (of : Cluster). AreLogged of facts) (sym same) logged in
-    subst (λ (of : Cluster). Runs are_stored spare_of (cells_of cluster) c.in-Ok.centre of c.args.centre facts (disk_of c.restart.new.disks c.args.centre).bytes (may_leave_of c.restart.new.disks c.args.centre)) same
+    subst (λ (of : Cluster). Runs are_stored spare_of (cells_of cluster) c.in-Ok.centre of c.args.centre checkpoint_every facts disk_of may_leave_of c.args.disks.now c.restart.new.disks) same
     (c.in-Ok.ensures.restarts (cells_of cluster) facts (empty-store c.in_ok-store.store cluster c.in_ok-store.ensures.empty c.in_ok-store.ensures.spare) was is)
 
 pub returns-in-Err-clause-starts : goal.returns-in-Err-clause-starts
-returns-in-Err-clause-starts c facts logged fits is early =
+returns-in-Err-clause-starts c facts logged fits is room early =
     let cluster = c.args.cluster.now in
     let same : c.copy.result ≡ cluster = c.copy.ensures in
     let was = subst (λ (of : Cluster). AreLogged of facts) (sym same) logged in
     let few : cluster.cells < 2 ^ 63 = omega arith in
+    let roomy = HasRoom checkpoint_every (disk_of c.args.disks.now c.args.centre) (disk_of c.args.disks.now (c.args.centre + 16)) in
     rw c.lacking.ensures
-    (lacking-over cluster facts logged few fits early c.args.centre _ _ c.in-Err.fault
-    (subst (λ (of : Cluster). IsRefused (cells_of cluster) of facts c.in-Err.fault) same
+    (lacking-over cluster facts logged few fits early c.args.centre c.args.disks.now c.restart.new.disks roomy c.in-Err.fault room
+    (subst (λ (of : Cluster). IsRefused (cells_of cluster) of facts roomy c.in-Err.fault) same
     (c.in-Err.ensures.restarts (cells_of cluster) facts (empty-store c.in_ok-store.store cluster c.in_ok-store.ensures.empty c.in_ok-store.ensures.spare) was is)))
 
 pub returns-in-Err-clause-none : goal.returns-in-Err-clause-none
-returns-in-Err-clause-none c payloads told read = rw c.lacking.ensures (lacking-kept payloads _ _ c.in-Err.fault (c.in-Err.ensures.refused payloads told read))
+returns-in-Err-clause-none c all told told_other read =
+    rw c.lacking.ensures (lacking-kept all c.args.centre c.args.disks.now c.restart.new.disks c.in-Err.fault (c.in-Err.ensures.refused all told told_other read))
 
--- no store was made, and so no call at the disk
+-- no store was made, and so no call at the disks
 pub returns-in_err-store-clause-any_moment : goal.returns-in_err-store-clause-any_moment
-returns-in_err-store-clause-any_moment c facts logged told within =
-    started moment_of left_since_of c.args.disks.now c.args.centre (MayHaveBoot facts) (λ b left. inl (within b (only_now_of c.args.disks.now c.args.centre b left)))
-
-pub returns-in_err-store-clause-any_moment_same : goal.returns-in_err-store-clause-any_moment_same
-returns-in_err-store-clause-any_moment_same c facts logged told within =
-    started moment_of left_since_of c.args.disks.now c.args.centre (ReadsAsEither (logged_of facts) (fact_bytes (next_boot facts))) (λ b left. inl (within b (only_now_of c.args.disks.now c.args.centre b left)))
+returns-in_err-store-clause-any_moment c facts first second logged is only only_other left left_other =
+    let here = only first (only_now_of c.args.disks.now c.args.centre first left) in
+    let there = only_other second (only_now_of c.args.disks.now (c.args.centre + 16) second left_other) in
+    inl (ap (λ (bytes : List ℕ). payloads bytes second) here ∙ ap (λ (bytes : List ℕ). payloads (disk_of c.args.disks.now c.args.centre).bytes bytes) there ∙ is.read)
 
 pub returns-in-Ok-clause-any_moment : goal.returns-in-Ok-clause-any_moment
-returns-in-Ok-clause-any_moment c facts logged told within =
+returns-in-Ok-clause-any_moment c facts first second logged is only only_other left left_other =
     let cluster = c.args.cluster.now in
     let same : c.copy.result ≡ cluster = c.copy.ensures in
     let was = subst (λ (of : Cluster). AreLogged of facts) (sym same) logged in
-    c.restart.ensures.any_moment (cells_of cluster) facts (empty-store c.in_ok-store.store cluster c.in_ok-store.ensures.empty c.in_ok-store.ensures.spare) was told within
+    c.restart.ensures.any_moment_same (cells_of cluster) facts first second (empty-store c.in_ok-store.store cluster c.in_ok-store.ensures.empty c.in_ok-store.ensures.spare) was is no-gate-is-torn-open only only_other left left_other
 
 pub returns-in-Err-clause-any_moment : goal.returns-in-Err-clause-any_moment
-returns-in-Err-clause-any_moment c facts logged told within =
+returns-in-Err-clause-any_moment c facts first second logged is only only_other left left_other =
     let cluster = c.args.cluster.now in
     let same : c.copy.result ≡ cluster = c.copy.ensures in
     let was = subst (λ (of : Cluster). AreLogged of facts) (sym same) logged in
-    c.restart.ensures.any_moment (cells_of cluster) facts (empty-store c.in_ok-store.store cluster c.in_ok-store.ensures.empty c.in_ok-store.ensures.spare) was told within
-
-pub returns-in-Ok-clause-any_moment_same : goal.returns-in-Ok-clause-any_moment_same
-returns-in-Ok-clause-any_moment_same c facts logged told within =
-    let cluster = c.args.cluster.now in
-    let same : c.copy.result ≡ cluster = c.copy.ensures in
-    let was = subst (λ (of : Cluster). AreLogged of facts) (sym same) logged in
-    c.restart.ensures.any_moment_same (cells_of cluster) facts (empty-store c.in_ok-store.store cluster c.in_ok-store.ensures.empty c.in_ok-store.ensures.spare) was told no-gate-is-torn-open within
-
-pub returns-in-Err-clause-any_moment_same : goal.returns-in-Err-clause-any_moment_same
-returns-in-Err-clause-any_moment_same c facts logged told within =
-    let cluster = c.args.cluster.now in
-    let same : c.copy.result ≡ cluster = c.copy.ensures in
-    let was = subst (λ (of : Cluster). AreLogged of facts) (sym same) logged in
-    c.restart.ensures.any_moment_same (cells_of cluster) facts (empty-store c.in_ok-store.store cluster c.in_ok-store.ensures.empty c.in_ok-store.ensures.spare) was told no-gate-is-torn-open within
+    c.restart.ensures.any_moment_same (cells_of cluster) facts first second (empty-store c.in_ok-store.store cluster c.in_ok-store.ensures.empty c.in_ok-store.ensures.spare) was is no-gate-is-torn-open only only_other left left_other

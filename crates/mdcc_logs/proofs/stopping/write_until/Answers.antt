@@ -9,8 +9,8 @@ use Rattle.mdcc_logs.proofs.Stages.{gate-between, stopped-early, stopped-late, w
 use Rattle.mdcc_logs.proofs.stopping.write_until.Goals as goal
 
 pub returns-in_err-write_at-clause-left : goal.returns-in_err-write_at-clause-left
-returns-in_err-write_at-clause-left c payloads short is was =
-    on-err _ (write-between payloads c.args.payload.now short c.requires.short c.args.size c.args.frame.now (standing (at_place c.args.disks.now c.args.place)) (standing (at_place c.write_at.new.self c.args.place)) is c.requires.frame was
+returns-in_err-write_at-clause-left c front is was =
+    on-err _ (write-between front c.args.payload.now c.args.size c.args.frame.now (standing (at_place c.args.disks.now c.args.place)) (standing (at_place c.write_at.new.self c.args.place)) is c.requires.frame was
     (call-failed c.args.place (Write c.args.size c.args.frame.now) c.args.disks.now c.write_at.new.self _ c.in_err-write_at.ensures.made))
 
 pub returns-then-call-lt3-clause-made : goal.returns-then-call-lt3-clause-made
@@ -32,10 +32,10 @@ returns-clause-made c =
     c.open_gate.ensures.made
 
 pub returns-clause-left : goal.returns-clause-left
-returns-clause-left c payloads short is was =
+returns-clause-left c front is was =
     let mid = standing (at_place c.write_at.new.self c.args.place) in
-    let framed = writing payloads c.args.payload.now short c.requires.short c.args.size c.args.frame.now false (standing (at_place c.args.disks.now c.args.place)) mid is c.requires.frame was
+    let framed = writing front c.args.payload.now c.args.size c.args.frame.now false (standing (at_place c.args.disks.now c.args.place)) mid is c.requires.frame was
     (call-made c.args.place (Write c.args.size c.args.frame.now) c.args.disks.now c.write_at.new.self _ c.in_ok-write_at.ensures.made) in
     on-err-weaker c.open_gate.result (λ which.
-    gate-between payloads c.args.payload.now short c.requires.short c.args.size mid (standing (at_place c.open_gate.new.disks c.args.place)) is framed which)
+    gate-between front c.args.payload.now c.args.size mid (standing (at_place c.open_gate.new.disks c.args.place)) is framed which)
     c.open_gate.ensures.left

@@ -1,315 +1,316 @@
-use Rattle.std.proofs.Common.{rules, refl, ◌≡◌, [], ◌∷◌, ◌++◌, List, ℕ, Ok, ◌∙◌, ap, length, subst, sym}
+use Rattle.std.proofs.Common.{◌≡◌, ◌+◌, ◌++◌, ◌∷◌, ◌≤◌, ◌<◌, [], List, ℕ, Ok, inl, inr, refl, sym, ◌∙◌, ap, length, subst, rules}
+use Rattle.std.specs.Prelude.{IsTrue}
 use Rattle.std.proofs.lemmas.Result.{err_from_is_err_and}
-use Rattle.mdcc_log.specs.Frames.{IsAtRest}
-use Rattle.mdcc_log.specs.Log.{log_bytes}
-use Rattle.mdcc_disks.specs.Disks.{LeavesOnly}
-use Rattle.mdcc_log.proofs.Moments.{others_joined}
-use Rattle.mdcc_restart.proofs.Kept.{append-keeps, between-leaves, boot-leaves, each-fault, open-keeps, rest-keeps, same-leaves, shut-leaves, then-leaves, then-leaves-either, then-leaves-same}
-use Rattle.mdcc_restart.proofs.Named.{no-boot-memory, no-log-memory, of-disk, rose-later}
-use Rattle.mdcc_restart.proofs.Starts.{after-crash, boot-length, boot-refuses, lies-within, refuses, same-payloads}
-use Rattle.mdcc_restart.specs.declared.fault.RestartFault.{RestartFault}
-use Rattle.mdcc_log.specs.declared.fault.LogFault.{LogFault}
-use Rattle.mdcc_rules.specs.declared.node.BootFault.{BootFault}
+use Rattle.mdcc_areas.specs.Area.{payloads, payloads_of}
+use Rattle.mdcc_areas.specs.AtRest.{IsAtRest}
+use Rattle.mdcc_areas.specs.Crash.{ReadsAsEither}
+use Rattle.mdcc_areas.specs.Frames.{appended, place_of}
+use Rattle.mdcc_areas.specs.declared.fault.LogFault.{LogFault}
 use Rattle.mdcc_messages.specs.Spelling.{fact_bytes}
 use Rattle.mdcc_messages.specs.declared.facts.Fact.{Fact}
+use Rattle.mdcc_restart.proofs.Kept.{append-keeps, each-fault, open-keeps, opened-before, rest-keeps}
+use Rattle.mdcc_restart.proofs.Named.{no-boot-memory, no-log-memory, of-disk}
+use Rattle.mdcc_restart.proofs.Others.{but_areas, but_joined, rose_areas}
+use Rattle.mdcc_restart.proofs.Places.{at_both}
+use Rattle.mdcc_restart.proofs.Roomy.{past_limit, roomy_log, roomy_more, same_log, within_limit}
+use Rattle.mdcc_restart.proofs.Starts.{after-crash, boot-refuses, open-refuses, refuses, same-payloads}
+use Rattle.mdcc_restart.proofs.Struck.{boot_leaves, left_read, left_struck, same_area, same_read, struck_as, struck_joined, struck_read}
 use Rattle.mdcc_restart.specs.Logged.{AreLogged, logged}
-use Rattle.mdcc_restart.specs.Restarting.{IsLogOf, KeepsLog, MayHaveBoot, Restarts}
+use Rattle.mdcc_restart.specs.Restarting.{HasRoom, IsLogOf, KeepsLog, Restarts, next_boot}
+use Rattle.mdcc_restart.specs.Struck.{LeavesBoot, LeavesStruck}
+use Rattle.mdcc_restart.specs.declared.fault.RestartFault.{RestartFault}
+use Rattle.mdcc_rules.specs.declared.node.BootFault.{BootFault}
 use Rattle.mdcc_restart.proofs.restarting.restart.Goals as goal
+-- ---- what comes of it
 
 pub returns-in_err-log-clause-restarts : goal.returns-in_err-log-clause-restarts
-returns-in_err-log-clause-restarts g c = search rules
+returns-in_err-log-clause-restarts g c cells facts holds are log =
+    let p = err_from_is_err_and c.from_residual.result c.from_residual.ensures.1 in
+    rw (p.1, p.2)
+    (open-refuses cells c.args.cluster facts (HasRoom c.args.every (g.D.Disks.disk c.args.disks.now c.args.centre) (g.D.Disks.disk c.args.disks.now (c.args.centre + 16))) c.in_err-log.field-0.0 (g.D.Disks.disk c.args.disks.now c.args.centre).bytes (g.D.Disks.disk c.args.disks.now (c.args.centre + 16)).bytes log.read
+    (λ n is. c.in_err-log.ensures.not_a_log n is log.told_first log.told_second) c.in_err-log.ensures.not_full)
 
 pub returns-in_err-log-clause-after_crash : goal.returns-in_err-log-clause-after_crash
-returns-in_err-log-clause-after_crash g c cells facts fact holds are told between =
-    after-crash (λ fs. Restarts g.S.FactStore.stands g.S.FactStore.room cells c.from_residual.result c.args.cluster c.args.centre fs (g.D.Disks.disk c.open.new.disks c.args.centre).bytes (g.D.Disks.may_leave c.open.new.disks c.args.centre))
-    c.args.cluster facts fact (g.D.Disks.disk c.args.disks.now c.args.centre) c.between_is_read.ensures (λ fs of_cluster log. returns-in_err-log-clause-restarts g c cells fs holds of_cluster log) are told between
+returns-in_err-log-clause-after_crash g c cells facts fact holds are told told_other either =
+    after-crash (λ fs. Restarts g.S.FactStore.stands g.S.FactStore.room cells c.from_residual.result c.args.cluster c.args.centre c.args.every fs g.D.Disks.disk g.D.Disks.may_leave c.args.disks.now c.open.new.disks)
+    c.args.cluster facts fact (g.D.Disks.disk c.args.disks.now c.args.centre) (g.D.Disks.disk c.args.disks.now (c.args.centre + 16)) (λ fs of_cluster log. returns-in_err-log-clause-restarts g c cells fs holds of_cluster log) are told told_other either
 
 pub returns-in_err-node-clause-restarts : goal.returns-in_err-node-clause-restarts
 returns-in_err-node-clause-restarts g c cells facts holds are log =
     let p = err_from_is_err_and c.from_residual-in_err-node.result c.from_residual-in_err-node.ensures.1 in
-    let opened = rw c.number.ensures.value at c.in_ok-log.ensures.payloads in
-    let is = same-payloads (g.D.Disks.disk c.args.disks.now c.args.centre).bytes c.in_ok-log.payloads.items (logged facts) (opened log.told) log.read in
+    let is = same-payloads (g.D.Disks.disk c.args.disks.now c.args.centre).bytes (g.D.Disks.disk c.args.disks.now (c.args.centre + 16)).bytes c.in_ok-log.payloads.items (logged facts) (c.in_ok-log.ensures.payloads log.told_first log.told_second) log.read in
     let refused = c.in_err-node.ensures.node cells facts holds are (c.as_slice.ensures.value ∙ is) in
-    rw (p.1, p.2) (boot-refuses g.S.FactStore.stands g.S.FactStore.room cells c.args.cluster c.args.centre facts c.in_err-node.field-0.0 refused)
+    rw (p.1, p.2) (boot-refuses g.S.FactStore.stands g.S.FactStore.room cells c.args.cluster c.args.centre facts c.in_err-node.field-0.0 (HasRoom c.args.every (g.D.Disks.disk c.args.disks.now c.args.centre) (g.D.Disks.disk c.args.disks.now (c.args.centre + 16))) refused)
 
 pub returns-in_err-node-clause-after_crash : goal.returns-in_err-node-clause-after_crash
-returns-in_err-node-clause-after_crash g c cells facts fact holds are told between =
-    after-crash (λ fs. Restarts g.S.FactStore.stands g.S.FactStore.room cells c.from_residual-in_err-node.result c.args.cluster c.args.centre fs (g.D.Disks.disk c.open.new.disks c.args.centre).bytes (g.D.Disks.may_leave c.open.new.disks c.args.centre))
-    c.args.cluster facts fact (g.D.Disks.disk c.args.disks.now c.args.centre) c.between_is_read.ensures (λ fs of_cluster log. returns-in_err-node-clause-restarts g c cells fs holds of_cluster log) are told between
+returns-in_err-node-clause-after_crash g c cells facts fact holds are told told_other either =
+    after-crash (λ fs. Restarts g.S.FactStore.stands g.S.FactStore.room cells c.from_residual-in_err-node.result c.args.cluster c.args.centre c.args.every fs g.D.Disks.disk g.D.Disks.may_leave c.args.disks.now c.open.new.disks)
+    c.args.cluster facts fact (g.D.Disks.disk c.args.disks.now c.args.centre) (g.D.Disks.disk c.args.disks.now (c.args.centre + 16)) (λ fs of_cluster log. returns-in_err-node-clause-restarts g c cells fs holds of_cluster log) are told told_other either
 
-pub returns-in_err-payload-clause-restarts : goal.returns-in_err-payload-clause-restarts
-returns-in_err-payload-clause-restarts g c cells facts holds are log =
-    let p = err_from_is_err_and c.from_residual-in_err-payload.result c.from_residual-in_err-payload.ensures.1 in
-    rw (p.1, p.2) tt
-
-pub returns-in_err-payload-clause-after_crash : goal.returns-in_err-payload-clause-after_crash
-returns-in_err-payload-clause-after_crash g c cells facts fact holds are told between =
-    after-crash (λ fs. Restarts g.S.FactStore.stands g.S.FactStore.room cells c.from_residual-in_err-payload.result c.args.cluster c.args.centre fs (g.D.Disks.disk c.open.new.disks c.args.centre).bytes (g.D.Disks.may_leave c.open.new.disks c.args.centre))
-    c.args.cluster facts fact (g.D.Disks.disk c.args.disks.now c.args.centre) c.between_is_read.ensures (λ fs of_cluster log. returns-in_err-payload-clause-restarts g c cells fs holds of_cluster log) are told between
-
-pub returns-in_err-append-clause-restarts : goal.returns-in_err-append-clause-restarts
-returns-in_err-append-clause-restarts g c cells facts holds are log =
-    let p = err_from_is_err_and c.from_residual-in_err-append.result c.from_residual-in_err-append.ensures.1 in
-    rw (p.1, p.2)
-    (let opened = rw c.number.ensures.value at c.in_ok-log.ensures.payloads in
-    let rest = rw c.number.ensures.value at c.in_ok-log.ensures.at_rest in
-    let is = same-payloads (g.D.Disks.disk c.args.disks.now c.args.centre).bytes c.in_ok-log.payloads.items (logged facts) (opened log.told) log.read in
+pub returns-in_err-append_fact-clause-restarts : goal.returns-in_err-append_fact-clause-restarts
+returns-in_err-append_fact-clause-restarts g c cells facts holds are log =
+    let p = err_from_is_err_and c.from_residual-in_err-append_fact.result c.from_residual-in_err-append_fact.ensures.1 in
+    let is = same-payloads (g.D.Disks.disk c.args.disks.now c.args.centre).bytes (g.D.Disks.disk c.args.disks.now (c.args.centre + 16)).bytes c.in_ok-log.payloads.items (logged facts) (c.in_ok-log.ensures.payloads log.told_first log.told_second) log.read in
     let booted = c.in_ok-node.ensures.node cells facts holds are (c.as_slice.ensures.value ∙ is) in
-    let stood = rest log.told in
-    let sized = stood.counted ∙ ap (λ (bytes : List ℕ). length bytes) stood.file ∙ ap (λ (payloads : List (List ℕ)). length (log_bytes payloads)) is in
-    refuses cells c.args.cluster facts c.in_err-append.field-0.0 c.in_ok-log.log.size c.deref.result.now booted.3 sized (boot-length c.in_ok-node.boot c.deref.result.now c.in_ok-node.ensures.fact (c.deref.ensures.value ∙ c.in_ok-payload.ensures))
-    c.in_err-append.ensures.full.0 c.in_err-append.ensures.a_log)
+    let rest = c.in_ok-log.ensures.at_rest log.told_first log.told_second in
+    let opened = c.in_ok-log.ensures.opened log.told_first log.told_second in
+    let told = at_both (λ p. IsTrue (g.D.Disks.disk c.open.new.disks p).told) c.args.centre c.in_ok-log.log.centre c.in_ok-log.log.area c.in_ok-log.ensures.keeps.0 (c.open.ensures.others.told_one ∙ log.told_first) (c.open.ensures.others.told_two ∙ log.told_second) c.in_ok-log.ensures.range in
+    rw (p.1, p.2)
+    (refuses cells c.args.cluster facts (HasRoom c.args.every (g.D.Disks.disk c.args.disks.now c.args.centre) (g.D.Disks.disk c.args.disks.now (c.args.centre + 16))) c.in_err-append_fact.field-0.0 booted.3
+    (λ full room. past_limit c.in_ok-log.log opened.log (g.D.Disks.disk c.open.new.disks (place_of c.in_ok-log.log.centre c.in_ok-log.log.area)).bytes (g.D.Disks.may_leave c.open.new.disks (place_of c.in_ok-log.log.centre c.in_ok-log.log.area)) opened.in_use
+    facts c.in_ok-log.payloads.items (length (fact_bytes c.in_ok-node.boot)) opened.payloads_are is c.in_ok-node.ensures.short (roomy_log c.args.every (g.D.Disks.disk c.args.disks.now c.args.centre) (g.D.Disks.disk c.args.disks.now (c.args.centre + 16)) opened.log opened.read room) (subst (λ (n : ℕ). 17 ≤ n) (sym c.in_ok-log.ensures.keeps.1) room.often) (c.in_err-append_fact.ensures.full full))
+    (λ n bad. c.in_err-append_fact.ensures.a_log n bad told.0))
 
-pub returns-in_err-append-clause-after_crash : goal.returns-in_err-append-clause-after_crash
-returns-in_err-append-clause-after_crash g c cells facts fact holds are told between =
-    after-crash (λ fs. Restarts g.S.FactStore.stands g.S.FactStore.room cells c.from_residual-in_err-append.result c.args.cluster c.args.centre fs (g.D.Disks.disk c.append.new.disks c.args.centre).bytes (g.D.Disks.may_leave c.append.new.disks c.args.centre))
-    c.args.cluster facts fact (g.D.Disks.disk c.args.disks.now c.args.centre) c.between_is_read.ensures (λ fs of_cluster log. returns-in_err-append-clause-restarts g c cells fs holds of_cluster log) are told between
+pub returns-in_err-append_fact-clause-after_crash : goal.returns-in_err-append_fact-clause-after_crash
+returns-in_err-append_fact-clause-after_crash g c cells facts fact holds are told told_other either =
+    after-crash (λ fs. Restarts g.S.FactStore.stands g.S.FactStore.room cells c.from_residual-in_err-append_fact.result c.args.cluster c.args.centre c.args.every fs g.D.Disks.disk g.D.Disks.may_leave c.args.disks.now c.append_fact.new.disks)
+    c.args.cluster facts fact (g.D.Disks.disk c.args.disks.now c.args.centre) (g.D.Disks.disk c.args.disks.now (c.args.centre + 16)) (λ fs of_cluster log. returns-in_err-append_fact-clause-restarts g c cells fs holds of_cluster log) are told told_other either
 
 pub returns-clause-restarts : goal.returns-clause-restarts
 returns-clause-restarts g c cells facts holds are log =
-    let opened = rw c.number.ensures.value at c.in_ok-log.ensures.payloads in
-    let rest = rw c.number.ensures.value at c.in_ok-log.ensures.at_rest in
-    let is = same-payloads (g.D.Disks.disk c.args.disks.now c.args.centre).bytes c.in_ok-log.payloads.items (logged facts) (opened log.told) log.read in
+    let is = same-payloads (g.D.Disks.disk c.args.disks.now c.args.centre).bytes (g.D.Disks.disk c.args.disks.now (c.args.centre + 16)).bytes c.in_ok-log.payloads.items (logged facts) (c.in_ok-log.ensures.payloads log.told_first log.told_second) log.read in
     let booted = c.in_ok-node.ensures.node cells facts holds are (c.as_slice.ensures.value ∙ is) in
-    let stood = rest log.told in
-    let sized = stood.counted ∙ ap (λ (bytes : List ℕ). length bytes) stood.file ∙ ap (λ (payloads : List (List ℕ)). length (log_bytes payloads)) is in
-    let others = rw c.number.ensures.value at c.open.ensures.others in
-    let acknowledged = rw (c.in_ok-log.ensures.place, c.number.ensures.value) at c.in_ok-append.ensures.acknowledged in
+    let rest = c.in_ok-log.ensures.at_rest log.told_first log.told_second in
+    let opened = c.in_ok-log.ensures.opened log.told_first log.told_second in
+    let told = at_both (λ p. IsTrue (g.D.Disks.disk c.open.new.disks p).told) c.args.centre c.in_ok-log.log.centre c.in_ok-log.log.area c.in_ok-log.ensures.keeps.0 (c.open.ensures.others.told_one ∙ log.told_first) (c.open.ensures.others.told_two ∙ log.told_second) c.in_ok-log.ensures.range in
+    let bytes = ap fact_bytes booted.2 in
+    let more = ap (λ (payloads : List (List ℕ)). payloads ++ fact_bytes c.in_ok-node.boot ∷ []) is ∙ ap (λ (payload : List ℕ). logged facts ++ payload ∷ []) bytes in
     let epoch = c.epoch-epoch.ensures c.args.cluster c.args.centre _ _ booted.1 in
-    let bytes = c.deref.ensures.value ∙ c.in_ok-payload.ensures ∙ ap fact_bytes booted.2 in
-    let more = ap (λ (payloads : List (List ℕ)). payloads ++ c.deref.result.now ∷ []) is ∙ ap (λ (payload : List ℕ). logged facts ++ payload ∷ []) bytes in
+    let every_is = c.append_fact.ensures.keeps.1 ∙ c.in_ok-log.ensures.keeps.1 in
     record {
       epoch = epoch;
       below = booted.0;
       node = booted.1;
       spare = booted.4;
-      place = c.append.ensures.place ∙ c.in_ok-log.ensures.place ∙ c.number.ensures.value;
-      at_rest = subst (λ (payloads : List (List ℕ)). IsAtRest payloads c.append.new.self.size (g.D.Disks.disk c.append.new.disks c.args.centre).bytes (g.D.Disks.may_leave c.append.new.disks c.args.centre)) more
-          (acknowledged c.in_ok-log.payloads.items (others.told ∙ log.told) stood);
-      within = lies-within facts c.in_ok-log.log.size c.deref.result.now sized (boot-length c.in_ok-node.boot c.deref.result.now c.in_ok-node.ensures.fact (c.deref.ensures.value ∙ c.in_ok-payload.ensures)) (λ past. let full = c.in_ok-append.ensures.full.1 past in absurd (cc));
+      place = c.append_fact.ensures.keeps.0 ∙ c.in_ok-log.ensures.keeps.0;
+      every_is = every_is;
+      few = subst (λ (n : ℕ). c.append_fact.new.log.tail < n) every_is c.in_ok-append_fact.ensures.few;
+      at_rest = subst (IsAtRest g.D.Disks.disk g.D.Disks.may_leave c.append_fact.new.disks c.append_fact.new.log) more (c.in_ok-append_fact.ensures.acknowledged c.in_ok-log.payloads.items told.0 told.1 rest);
+      within = within_limit c.in_ok-log.log opened.log (g.D.Disks.disk c.open.new.disks (place_of c.in_ok-log.log.centre c.in_ok-log.log.area)).bytes (g.D.Disks.may_leave c.open.new.disks (place_of c.in_ok-log.log.centre c.in_ok-log.log.area)) opened.in_use
+          facts c.in_ok-log.payloads.items (length (fact_bytes c.in_ok-node.boot)) opened.payloads_are is c.in_ok-node.ensures.short c.in_ok-append_fact.ensures.has_room;
+      roomy = λ room. roomy_more c.in_ok-log.log opened.log (g.D.Disks.disk c.open.new.disks (place_of c.in_ok-log.log.centre c.in_ok-log.log.area)).bytes (g.D.Disks.may_leave c.open.new.disks (place_of c.in_ok-log.log.centre c.in_ok-log.log.area)) opened.in_use
+          c.append_fact.new.log (roomy_log c.args.every (g.D.Disks.disk c.args.disks.now c.args.centre) (g.D.Disks.disk c.args.disks.now (c.args.centre + 16)) opened.log opened.read room) (subst (λ (n : ℕ). 17 ≤ n) (sym c.in_ok-log.ensures.keeps.1) room.often) c.in_ok-append_fact.ensures.grown;
     }
 
 pub returns-clause-after_crash : goal.returns-clause-after_crash
-returns-clause-after_crash g c cells facts fact holds are told between =
-    after-crash (λ fs. Restarts g.S.FactStore.stands g.S.FactStore.room cells (Ok (record { node = c.in_ok-node.node; log = c.append.new.self; epoch = c.epoch-epoch.result })) c.args.cluster c.args.centre fs (g.D.Disks.disk c.append.new.disks c.args.centre).bytes (g.D.Disks.may_leave c.append.new.disks c.args.centre))
-    c.args.cluster facts fact (g.D.Disks.disk c.args.disks.now c.args.centre) c.between_is_read.ensures (λ fs of_cluster log. returns-clause-restarts g c cells fs holds of_cluster log) are told between
+returns-clause-after_crash g c cells facts fact holds are told told_other either =
+    after-crash (λ fs. Restarts g.S.FactStore.stands g.S.FactStore.room cells (Ok (record { node = c.in_ok-node.node; log = c.append_fact.new.log; epoch = c.epoch-epoch.result })) c.args.cluster c.args.centre c.args.every fs g.D.Disks.disk g.D.Disks.may_leave c.args.disks.now c.append_fact.new.disks)
+    c.args.cluster facts fact (g.D.Disks.disk c.args.disks.now c.args.centre) (g.D.Disks.disk c.args.disks.now (c.args.centre + 16)) (λ fs of_cluster log. returns-clause-restarts g c cells fs holds of_cluster log) are told told_other either
+
+pub returns-clause-at_rest : goal.returns-clause-at_rest
+returns-clause-at_rest g c told told_other =
+    let at = at_both (λ p. IsTrue (g.D.Disks.disk c.open.new.disks p).told) c.args.centre c.in_ok-log.log.centre c.in_ok-log.log.area c.in_ok-log.ensures.keeps.0 (c.open.ensures.others.told_one ∙ told) (c.open.ensures.others.told_two ∙ told_other) c.in_ok-log.ensures.range in
+    (c.in_ok-log.payloads.items ++ fact_bytes c.in_ok-node.boot ∷ [], c.in_ok-append_fact.ensures.acknowledged c.in_ok-log.payloads.items at.0 at.1 (c.in_ok-log.ensures.at_rest told told_other))
 
 -- ---- after a refusal
 
 pub returns-in_err-log-clause-refused : goal.returns-in_err-log-clause-refused
-returns-in_err-log-clause-refused g c payloads told read =
+returns-in_err-log-clause-refused g c all told told_other read =
     let p = err_from_is_err_and c.from_residual.result c.from_residual.ensures.1 in
-    let not_a_log = rw c.number.ensures.value at c.in_err-log.ensures.not_a_log in
-    let memory = rw c.number.ensures.value at c.in_err-log.ensures.memory in
     rw (p.1, p.2)
-    (open-keeps payloads c.in_err-log.field-0.0 (g.D.Disks.disk c.args.disks.now c.args.centre).bytes (g.D.Disks.disk c.open.new.disks c.args.centre).bytes (g.D.Disks.may_leave c.open.new.disks c.args.centre) read
-    (λ n is. (not_a_log n is told).0) memory c.in_err-log.ensures.not_full)
+    (open-keeps g.D.Disks.disk g.D.Disks.may_leave c.args.disks.now all c.args.centre c.args.every c.open.new.disks c.in_err-log.field-0.0 (g.D.Disks.disk c.args.disks.now c.args.centre).bytes (g.D.Disks.disk c.args.disks.now (c.args.centre + 16)).bytes read
+    (λ n is. c.in_err-log.ensures.not_a_log n is told told_other) c.in_err-log.ensures.memory c.in_err-log.ensures.not_full)
 
 pub returns-in_err-node-clause-refused : goal.returns-in_err-node-clause-refused
-returns-in_err-node-clause-refused g c payloads told read =
-    let opened = rw c.number.ensures.value at c.in_ok-log.ensures.payloads in
-    let rest = rw c.number.ensures.value at c.in_ok-log.ensures.at_rest in
-    let bytes = (g.D.Disks.disk c.open.new.disks c.args.centre).bytes in
-    let may_leave = g.D.Disks.may_leave c.open.new.disks c.args.centre in
-    let is = same-payloads (g.D.Disks.disk c.args.disks.now c.args.centre).bytes c.in_ok-log.payloads.items payloads (opened told) read in
-    let stood = subst (λ (ps : List (List ℕ)). IsAtRest ps c.in_ok-log.log.size bytes may_leave) is (rest told) in
-    each-fault (λ fault. KeepsLog payloads fault bytes may_leave) c.from_residual-in_err-node.result (λ fault. rest-keeps c.rest_is_read.ensures payloads fault c.in_ok-log.log.size bytes may_leave stood)
+returns-in_err-node-clause-refused g c all told told_other read =
+    let is = same-payloads (g.D.Disks.disk c.args.disks.now c.args.centre).bytes (g.D.Disks.disk c.args.disks.now (c.args.centre + 16)).bytes c.in_ok-log.payloads.items all (c.in_ok-log.ensures.payloads told told_other) read in
+    let was = opened-before g.D.Disks.disk g.D.Disks.may_leave c.args.disks.now all c.args.centre c.args.every g.D.Disks.moment g.D.Disks.left_since c.open.new.disks c.in_ok-log.log c.in_ok-log.payloads.items c.in_ok-log.ensures.keeps.0 c.in_ok-log.ensures.range is (c.in_ok-log.ensures.opened told told_other) in
+    each-fault (λ fault. KeepsLog all fault c.args.centre c.args.every g.D.Disks.disk g.D.Disks.may_leave c.args.disks.now c.open.new.disks) c.from_residual-in_err-node.result (λ fault. rest-keeps g.D.Disks.disk g.D.Disks.may_leave c.args.disks.now all c.args.centre c.args.every c.open.new.disks fault was)
 
-pub returns-in_err-payload-clause-refused : goal.returns-in_err-payload-clause-refused
-returns-in_err-payload-clause-refused g c payloads told read =
-    let opened = rw c.number.ensures.value at c.in_ok-log.ensures.payloads in
-    let rest = rw c.number.ensures.value at c.in_ok-log.ensures.at_rest in
-    let bytes = (g.D.Disks.disk c.open.new.disks c.args.centre).bytes in
-    let may_leave = g.D.Disks.may_leave c.open.new.disks c.args.centre in
-    let is = same-payloads (g.D.Disks.disk c.args.disks.now c.args.centre).bytes c.in_ok-log.payloads.items payloads (opened told) read in
-    let stood = subst (λ (ps : List (List ℕ)). IsAtRest ps c.in_ok-log.log.size bytes may_leave) is (rest told) in
-    each-fault (λ fault. KeepsLog payloads fault bytes may_leave) c.from_residual-in_err-payload.result (λ fault. rest-keeps c.rest_is_read.ensures payloads fault c.in_ok-log.log.size bytes may_leave stood)
-
-pub returns-in_err-append-clause-refused : goal.returns-in_err-append-clause-refused
-returns-in_err-append-clause-refused g c payloads told read =
-    let p = err_from_is_err_and c.from_residual-in_err-append.result c.from_residual-in_err-append.ensures.1 in
-    let opened = rw c.number.ensures.value at c.in_ok-log.ensures.payloads in
-    let rest = rw c.number.ensures.value at c.in_ok-log.ensures.at_rest in
-    let is = same-payloads (g.D.Disks.disk c.args.disks.now c.args.centre).bytes c.in_ok-log.payloads.items payloads (opened told) read in
-    let stood = subst (λ (ps : List (List ℕ)). IsAtRest ps c.in_ok-log.log.size (g.D.Disks.disk c.open.new.disks c.args.centre).bytes (g.D.Disks.may_leave c.open.new.disks c.args.centre)) is (rest told) in
+pub returns-in_err-append_fact-clause-refused : goal.returns-in_err-append_fact-clause-refused
+returns-in_err-append_fact-clause-refused g c all told told_other read =
+    let p = err_from_is_err_and c.from_residual-in_err-append_fact.result c.from_residual-in_err-append_fact.ensures.1 in
+    let is = same-payloads (g.D.Disks.disk c.args.disks.now c.args.centre).bytes (g.D.Disks.disk c.args.disks.now (c.args.centre + 16)).bytes c.in_ok-log.payloads.items all (c.in_ok-log.ensures.payloads told told_other) read in
+    let was = opened-before g.D.Disks.disk g.D.Disks.may_leave c.args.disks.now all c.args.centre c.args.every g.D.Disks.moment g.D.Disks.left_since c.open.new.disks c.in_ok-log.log c.in_ok-log.payloads.items c.in_ok-log.ensures.keeps.0 c.in_ok-log.ensures.range is (c.in_ok-log.ensures.opened told told_other) in
+    let at = at_both (λ p. IsTrue (g.D.Disks.disk c.open.new.disks p).told) c.args.centre c.in_ok-log.log.centre c.in_ok-log.log.area c.in_ok-log.ensures.keeps.0 (c.open.ensures.others.told_one ∙ told) (c.open.ensures.others.told_two ∙ told_other) c.in_ok-log.ensures.range in
     rw (p.1, p.2)
-    (append-keeps payloads c.in_err-append.field-0.0 c.in_ok-log.log.size (g.D.Disks.disk c.append.new.disks c.args.centre).bytes (g.D.Disks.may_leave c.append.new.disks c.args.centre)
-    (λ full. subst (λ d. IsAtRest payloads c.in_ok-log.log.size (g.D.Disks.disk d c.args.centre).bytes (g.D.Disks.may_leave d c.args.centre)) (sym (c.in_err-append.ensures.full_keeps full).0) stood)
-    c.in_err-append.ensures.a_log c.in_err-append.ensures.memory)
+    (append-keeps g.D.Disks.disk g.D.Disks.may_leave c.args.disks.now all c.args.centre c.args.every c.open.new.disks c.append_fact.new.disks c.in_err-append_fact.field-0.0 was
+    c.in_err-append_fact.ensures.full_keeps c.in_err-append_fact.ensures.memory_keeps (λ n bad. c.in_err-append_fact.ensures.a_log n bad at.0))
 
 -- ---- at any moment
 
 pub returns-in_err-log-clause-any_moment : goal.returns-in_err-log-clause-any_moment
-returns-in_err-log-clause-any_moment g c cells facts holds are told within =
-    let opened = rw c.number.ensures.value at c.open.ensures.any_moment in
-    shut-leaves facts (opened (logged facts) told within)
+returns-in_err-log-clause-any_moment g c cells facts area log holds are told told_other left is =
+    let boot = fact_bytes (next_boot facts) in
+    let struck = left_struck (g.D.Disks.may_leave c.args.disks.now) c.args.centre area log boot left in
+    record {
+      current = c.open.ensures.any_moment_due area log boot struck.range told told_other struck.current;
+      other = c.open.ensures.any_moment_idle area log (appended log boot) boot struck.range refl told told_other struck.current struck.other;
+    }
 
 pub returns-in_err-log-clause-any_moment_between : goal.returns-in_err-log-clause-any_moment_between
-returns-in_err-log-clause-any_moment_between g c cells facts fact holds are told within =
-    let opened = rw c.number.ensures.value at c.open.ensures.any_moment_between in
-    between-leaves facts fact (opened (logged facts) (fact_bytes fact) told within)
-
-pub returns-in_err-node-clause-any_moment : goal.returns-in_err-node-clause-any_moment
-returns-in_err-node-clause-any_moment g c cells facts holds are told within =
-    let opened = rw c.number.ensures.value at c.open.ensures.any_moment in
-    shut-leaves facts (opened (logged facts) told within)
-
-pub returns-in_err-node-clause-any_moment_between : goal.returns-in_err-node-clause-any_moment_between
-returns-in_err-node-clause-any_moment_between g c cells facts fact holds are told within =
-    let opened = rw c.number.ensures.value at c.open.ensures.any_moment_between in
-    between-leaves facts fact (opened (logged facts) (fact_bytes fact) told within)
-
-pub returns-in_err-payload-clause-any_moment : goal.returns-in_err-payload-clause-any_moment
-returns-in_err-payload-clause-any_moment g c cells facts holds are told within =
-    let opened = rw c.number.ensures.value at c.open.ensures.any_moment in
-    shut-leaves facts (opened (logged facts) told within)
-
-pub returns-in_err-payload-clause-any_moment_between : goal.returns-in_err-payload-clause-any_moment_between
-returns-in_err-payload-clause-any_moment_between g c cells facts fact holds are told within =
-    let opened = rw c.number.ensures.value at c.open.ensures.any_moment_between in
-    between-leaves facts fact (opened (logged facts) (fact_bytes fact) told within)
-
-pub returns-in_err-append-clause-any_moment : goal.returns-in_err-append-clause-any_moment
-returns-in_err-append-clause-any_moment g c cells facts holds are told within =
-    let opened = rw c.number.ensures.value at c.in_ok-log.ensures.payloads in
-    let rest = rw c.number.ensures.value at c.in_ok-log.ensures.at_rest in
-    let others = rw c.number.ensures.value at c.open.ensures.others in
-    let appending = rw (c.in_ok-log.ensures.place, c.number.ensures.value) at c.append.ensures.any_moment in
-    let appended = λ (fs : List Fact) (of_cluster : AreLogged c.args.cluster fs) (log : IsLogOf fs (g.D.Disks.disk c.args.disks.now c.args.centre)).
-    (let is = same-payloads (g.D.Disks.disk c.args.disks.now c.args.centre).bytes c.in_ok-log.payloads.items (logged fs) (opened log.told) log.read in
-    let booted = c.in_ok-node.ensures.node cells fs holds of_cluster (c.as_slice.ensures.value ∙ is) in
-    let bytes = c.deref.ensures.value ∙ c.in_ok-payload.ensures ∙ ap fact_bytes booted.2 in
-    boot-leaves fs c.in_ok-log.payloads.items c.deref.result.now is bytes (appending c.in_ok-log.payloads.items (others.told ∙ told) (rest told))) in
-    let opens = rw c.number.ensures.value at c.open.ensures.any_moment in
-    let read = c.shut_is_read.ensures (logged facts) (g.D.Disks.disk c.args.disks.now c.args.centre).bytes (within _ (g.met.D.Disks.as_read c.args.disks.now c.args.centre told)) in
-    then-leaves facts (opens (logged facts) told within) (appended facts are (record { told = told; read = read }))
-
-pub returns-in_err-append-clause-any_moment_between : goal.returns-in_err-append-clause-any_moment_between
-returns-in_err-append-clause-any_moment_between g c cells facts fact holds are told within =
-    let opened = rw c.number.ensures.value at c.in_ok-log.ensures.payloads in
-    let rest = rw c.number.ensures.value at c.in_ok-log.ensures.at_rest in
-    let others = rw c.number.ensures.value at c.open.ensures.others in
-    let appending = rw (c.in_ok-log.ensures.place, c.number.ensures.value) at c.append.ensures.any_moment in
-    let appended = λ (fs : List Fact) (of_cluster : AreLogged c.args.cluster fs) (log : IsLogOf fs (g.D.Disks.disk c.args.disks.now c.args.centre)).
-    (let is = same-payloads (g.D.Disks.disk c.args.disks.now c.args.centre).bytes c.in_ok-log.payloads.items (logged fs) (opened log.told) log.read in
-    let booted = c.in_ok-node.ensures.node cells fs holds of_cluster (c.as_slice.ensures.value ∙ is) in
-    let bytes = c.deref.ensures.value ∙ c.in_ok-payload.ensures ∙ ap fact_bytes booted.2 in
-    boot-leaves fs c.in_ok-log.payloads.items c.deref.result.now is bytes (appending c.in_ok-log.payloads.items (others.told ∙ told) (rest told))) in
-    let opens = rw c.number.ensures.value at c.open.ensures.any_moment_between in
-    let stood = within _ (g.met.D.Disks.as_read c.args.disks.now c.args.centre told) in
-    then-leaves-either facts fact (opens (logged facts) (fact_bytes fact) told within)
-    (after-crash (λ fs. LeavesOnly g.D.Disks.moment g.D.Disks.left_since c.open.new.disks c.append.new.disks c.args.centre (MayHaveBoot fs))
-    c.args.cluster facts fact (g.D.Disks.disk c.args.disks.now c.args.centre) c.between_is_read.ensures appended are told stood)
-
-pub returns-clause-any_moment : goal.returns-clause-any_moment
-returns-clause-any_moment g c cells facts holds are told within =
-    let opened = rw c.number.ensures.value at c.in_ok-log.ensures.payloads in
-    let rest = rw c.number.ensures.value at c.in_ok-log.ensures.at_rest in
-    let others = rw c.number.ensures.value at c.open.ensures.others in
-    let appending = rw (c.in_ok-log.ensures.place, c.number.ensures.value) at c.append.ensures.any_moment in
-    let appended = λ (fs : List Fact) (of_cluster : AreLogged c.args.cluster fs) (log : IsLogOf fs (g.D.Disks.disk c.args.disks.now c.args.centre)).
-    (let is = same-payloads (g.D.Disks.disk c.args.disks.now c.args.centre).bytes c.in_ok-log.payloads.items (logged fs) (opened log.told) log.read in
-    let booted = c.in_ok-node.ensures.node cells fs holds of_cluster (c.as_slice.ensures.value ∙ is) in
-    let bytes = c.deref.ensures.value ∙ c.in_ok-payload.ensures ∙ ap fact_bytes booted.2 in
-    boot-leaves fs c.in_ok-log.payloads.items c.deref.result.now is bytes (appending c.in_ok-log.payloads.items (others.told ∙ told) (rest told))) in
-    let opens = rw c.number.ensures.value at c.open.ensures.any_moment in
-    let read = c.shut_is_read.ensures (logged facts) (g.D.Disks.disk c.args.disks.now c.args.centre).bytes (within _ (g.met.D.Disks.as_read c.args.disks.now c.args.centre told)) in
-    then-leaves facts (opens (logged facts) told within) (appended facts are (record { told = told; read = read }))
-
-pub returns-clause-any_moment_between : goal.returns-clause-any_moment_between
-returns-clause-any_moment_between g c cells facts fact holds are told within =
-    let opened = rw c.number.ensures.value at c.in_ok-log.ensures.payloads in
-    let rest = rw c.number.ensures.value at c.in_ok-log.ensures.at_rest in
-    let others = rw c.number.ensures.value at c.open.ensures.others in
-    let appending = rw (c.in_ok-log.ensures.place, c.number.ensures.value) at c.append.ensures.any_moment in
-    let appended = λ (fs : List Fact) (of_cluster : AreLogged c.args.cluster fs) (log : IsLogOf fs (g.D.Disks.disk c.args.disks.now c.args.centre)).
-    (let is = same-payloads (g.D.Disks.disk c.args.disks.now c.args.centre).bytes c.in_ok-log.payloads.items (logged fs) (opened log.told) log.read in
-    let booted = c.in_ok-node.ensures.node cells fs holds of_cluster (c.as_slice.ensures.value ∙ is) in
-    let bytes = c.deref.ensures.value ∙ c.in_ok-payload.ensures ∙ ap fact_bytes booted.2 in
-    boot-leaves fs c.in_ok-log.payloads.items c.deref.result.now is bytes (appending c.in_ok-log.payloads.items (others.told ∙ told) (rest told))) in
-    let opens = rw c.number.ensures.value at c.open.ensures.any_moment_between in
-    let stood = within _ (g.met.D.Disks.as_read c.args.disks.now c.args.centre told) in
-    then-leaves-either facts fact (opens (logged facts) (fact_bytes fact) told within)
-    (after-crash (λ fs. LeavesOnly g.D.Disks.moment g.D.Disks.left_since c.open.new.disks c.append.new.disks c.args.centre (MayHaveBoot fs))
-    c.args.cluster facts fact (g.D.Disks.disk c.args.disks.now c.args.centre) c.between_is_read.ensures appended are told stood)
+returns-in_err-log-clause-any_moment_between g c cells facts fact area log holds are told told_other struck is =
+    inl (record {
+      current = c.open.ensures.any_moment_due area log (fact_bytes fact) struck.range told told_other struck.current;
+      other = c.open.ensures.any_moment_idle area log (appended log (fact_bytes fact)) (fact_bytes fact) struck.range refl told told_other struck.current struck.other;
+    })
 
 pub returns-in_err-log-clause-any_moment_same : goal.returns-in_err-log-clause-any_moment_same
-returns-in_err-log-clause-any_moment_same g c cells facts holds are told no_one within =
-    let opened = rw c.number.ensures.value at c.open.ensures.any_moment_same in
-    same-leaves facts (opened (logged facts) told no_one within)
+returns-in_err-log-clause-any_moment_same g c cells facts current other holds are log never only only_other left left_other =
+    inl (c.open.ensures.any_moment_same (logged facts) current other never log.told_first log.told_second only only_other log.read left left_other)
+
+pub returns-in_err-node-clause-any_moment : goal.returns-in_err-node-clause-any_moment
+returns-in_err-node-clause-any_moment g c cells facts area log holds are told told_other left is =
+    let boot = fact_bytes (next_boot facts) in
+    let struck = left_struck (g.D.Disks.may_leave c.args.disks.now) c.args.centre area log boot left in
+    record {
+      current = c.open.ensures.any_moment_due area log boot struck.range told told_other struck.current;
+      other = c.open.ensures.any_moment_idle area log (appended log boot) boot struck.range refl told told_other struck.current struck.other;
+    }
+
+pub returns-in_err-node-clause-any_moment_between : goal.returns-in_err-node-clause-any_moment_between
+returns-in_err-node-clause-any_moment_between g c cells facts fact area log holds are told told_other struck is =
+    inl (record {
+      current = c.open.ensures.any_moment_due area log (fact_bytes fact) struck.range told told_other struck.current;
+      other = c.open.ensures.any_moment_idle area log (appended log (fact_bytes fact)) (fact_bytes fact) struck.range refl told told_other struck.current struck.other;
+    })
 
 pub returns-in_err-node-clause-any_moment_same : goal.returns-in_err-node-clause-any_moment_same
-returns-in_err-node-clause-any_moment_same g c cells facts holds are told no_one within =
-    let opened = rw c.number.ensures.value at c.open.ensures.any_moment_same in
-    same-leaves facts (opened (logged facts) told no_one within)
+returns-in_err-node-clause-any_moment_same g c cells facts current other holds are log never only only_other left left_other =
+    inl (c.open.ensures.any_moment_same (logged facts) current other never log.told_first log.told_second only only_other log.read left left_other)
 
-pub returns-in_err-payload-clause-any_moment_same : goal.returns-in_err-payload-clause-any_moment_same
-returns-in_err-payload-clause-any_moment_same g c cells facts holds are told no_one within =
-    let opened = rw c.number.ensures.value at c.open.ensures.any_moment_same in
-    same-leaves facts (opened (logged facts) told no_one within)
+pub returns-in_err-append_fact-clause-any_moment : goal.returns-in_err-append_fact-clause-any_moment
+returns-in_err-append_fact-clause-any_moment g c cells facts area log holds are told told_other left is =
+    let boot = fact_bytes (next_boot facts) in
+    let struck = left_struck (g.D.Disks.may_leave c.args.disks.now) c.args.centre area log boot left in
+    let read = left_read g.D.Disks.disk g.D.Disks.may_leave g.met.D.Disks.as_read c.args.disks.now c.args.centre area log told told_other left in
+    let at = at_both (λ p. IsTrue (g.D.Disks.disk c.open.new.disks p).told) c.args.centre c.in_ok-log.log.centre c.in_ok-log.log.area c.in_ok-log.ensures.keeps.0 (c.open.ensures.others.told_one ∙ told) (c.open.ensures.others.told_two ∙ told_other) c.in_ok-log.ensures.range in
+    let opened = c.in_ok-log.ensures.opened told told_other in
+    let due = c.append_fact.ensures.any_moment opened.log at.0 at.1 opened.in_use in
+    let idle = c.append_fact.ensures.any_moment_other opened.log at.0 at.1 opened.in_use opened.spare in
+    let booted = c.in_ok-node.ensures.node cells facts holds are (c.as_slice.ensures.value ∙ (opened.payloads_are ∙ ap payloads_of (same_log opened.log log (sym opened.read ∙ read.log_is)) ∙ is)) in
+    struck_joined g.D.Disks.moment g.D.Disks.left_since c.args.disks.now c.open.new.disks c.append_fact.new.disks c.args.centre area log boot
+    (record {
+      current = c.open.ensures.any_moment_due area log boot struck.range told told_other struck.current;
+      other = c.open.ensures.any_moment_idle area log (appended log boot) boot struck.range refl told told_other struck.current struck.other;
+    })
+    (struck_as g.D.Disks.moment g.D.Disks.left_since c.open.new.disks c.append_fact.new.disks c.args.centre area c.in_ok-log.log.centre c.in_ok-log.log.area log opened.log boot (fact_bytes c.in_ok-node.boot) c.in_ok-log.ensures.keeps.0
+    (same_area c.in_ok-log.log.area area (sym opened.choice ∙ read.choice)) (same_log opened.log log (sym opened.read ∙ read.log_is)) (ap fact_bytes booted.2) due idle)
 
-pub returns-in_err-append-clause-any_moment_same : goal.returns-in_err-append-clause-any_moment_same
-returns-in_err-append-clause-any_moment_same g c cells facts holds are told no_one within =
-    let opened = rw c.number.ensures.value at c.in_ok-log.ensures.payloads in
-    let rest = rw c.number.ensures.value at c.in_ok-log.ensures.at_rest in
-    let others = rw c.number.ensures.value at c.open.ensures.others in
-    let appending = rw (c.in_ok-log.ensures.place, c.number.ensures.value) at c.append.ensures.any_moment in
-    let appended = λ (fs : List Fact) (of_cluster : AreLogged c.args.cluster fs) (log : IsLogOf fs (g.D.Disks.disk c.args.disks.now c.args.centre)).
-    (let is = same-payloads (g.D.Disks.disk c.args.disks.now c.args.centre).bytes c.in_ok-log.payloads.items (logged fs) (opened log.told) log.read in
-    let booted = c.in_ok-node.ensures.node cells fs holds of_cluster (c.as_slice.ensures.value ∙ is) in
-    let bytes = c.deref.ensures.value ∙ c.in_ok-payload.ensures ∙ ap fact_bytes booted.2 in
-    boot-leaves fs c.in_ok-log.payloads.items c.deref.result.now is bytes (appending c.in_ok-log.payloads.items (others.told ∙ told) (rest told))) in
-    let opens = rw c.number.ensures.value at c.open.ensures.any_moment_same in
-    let read = within _ (g.met.D.Disks.as_read c.args.disks.now c.args.centre told) in
-    then-leaves-same c.between_is_read.ensures facts (opens (logged facts) told no_one within) (appended facts are (record { told = told; read = read }))
+pub returns-in_err-append_fact-clause-any_moment_same : goal.returns-in_err-append_fact-clause-any_moment_same
+returns-in_err-append_fact-clause-any_moment_same g c cells facts current other holds are log never only only_other left left_other =
+    let told = log.told_first in
+    let told_other = log.told_second in
+    let at = at_both (λ p. IsTrue (g.D.Disks.disk c.open.new.disks p).told) c.args.centre c.in_ok-log.log.centre c.in_ok-log.log.area c.in_ok-log.ensures.keeps.0 (c.open.ensures.others.told_one ∙ told) (c.open.ensures.others.told_two ∙ told_other) c.in_ok-log.ensures.range in
+    let opened = c.in_ok-log.ensures.opened told told_other in
+    let due = c.append_fact.ensures.any_moment opened.log at.0 at.1 opened.in_use in
+    let idle = c.append_fact.ensures.any_moment_other opened.log at.0 at.1 opened.in_use opened.spare in
+    let is = same-payloads (g.D.Disks.disk c.args.disks.now c.args.centre).bytes (g.D.Disks.disk c.args.disks.now (c.args.centre + 16)).bytes c.in_ok-log.payloads.items (logged facts) (c.in_ok-log.ensures.payloads log.told_first log.told_second) log.read in
+    let booted = c.in_ok-node.ensures.node cells facts holds are (c.as_slice.ensures.value ∙ is) in
+    let boot = fact_bytes (next_boot facts) in
+    let struck = struck_as g.D.Disks.moment g.D.Disks.left_since c.open.new.disks c.append_fact.new.disks c.args.centre c.in_ok-log.log.area c.in_ok-log.log.centre c.in_ok-log.log.area opened.log opened.log boot (fact_bytes c.in_ok-node.boot) c.in_ok-log.ensures.keeps.0 refl refl (ap fact_bytes booted.2) due idle in
+    subst (λ (ps : List (List ℕ)). ReadsAsEither ps boot (payloads current other)) (sym opened.payloads_are ∙ is)
+    (same_read g.D.Disks.moment g.D.Disks.left_since g.D.Disks.tears never (g.D.Disks.disk c.args.disks.now c.args.centre).bytes (g.D.Disks.disk c.args.disks.now (c.args.centre + 16)).bytes opened.log boot opened.read (g.D.Disks.may_leave c.args.disks.now c.args.centre) (g.D.Disks.may_leave c.args.disks.now (c.args.centre + 16)) c.args.disks.now c.open.new.disks c.append_fact.new.disks c.args.centre c.in_ok-log.log.area
+    c.in_ok-log.ensures.range opened.choice opened.in_use.valid only only_other (c.open.ensures.first told told_other).any_moment (c.open.ensures.second told told_other).any_moment struck current other left left_other)
+
+pub returns-in_err-append_fact-clause-any_moment_between : goal.returns-in_err-append_fact-clause-any_moment_between
+returns-in_err-append_fact-clause-any_moment_between g c cells facts fact area log holds are told told_other struck is =
+    let at = at_both (λ p. IsTrue (g.D.Disks.disk c.open.new.disks p).told) c.args.centre c.in_ok-log.log.centre c.in_ok-log.log.area c.in_ok-log.ensures.keeps.0 (c.open.ensures.others.told_one ∙ told) (c.open.ensures.others.told_two ∙ told_other) c.in_ok-log.ensures.range in
+    let opened = c.in_ok-log.ensures.opened told told_other in
+    let due = c.append_fact.ensures.any_moment opened.log at.0 at.1 opened.in_use in
+    let idle = c.append_fact.ensures.any_moment_other opened.log at.0 at.1 opened.in_use opened.spare in
+    let opening : LeavesStruck g.D.Disks.moment g.D.Disks.left_since c.args.disks.now c.open.new.disks c.args.centre area log (fact_bytes fact) = record {
+      current = c.open.ensures.any_moment_due area log (fact_bytes fact) struck.range told told_other struck.current;
+      other = c.open.ensures.any_moment_idle area log (appended log (fact_bytes fact)) (fact_bytes fact) struck.range refl told told_other struck.current struck.other;
+    } in
+    inr (record {
+      opened = c.open.new.disks;
+      opening = opening;
+      booting = after-crash (LeavesBoot g.D.Disks.moment g.D.Disks.left_since c.open.new.disks c.append_fact.new.disks c.args.centre) c.args.cluster facts fact (g.D.Disks.disk c.args.disks.now c.args.centre) (g.D.Disks.disk c.args.disks.now (c.args.centre + 16))
+          (λ fs of_cluster found.
+          (let same = same-payloads (g.D.Disks.disk c.args.disks.now c.args.centre).bytes (g.D.Disks.disk c.args.disks.now (c.args.centre + 16)).bytes c.in_ok-log.payloads.items (logged fs) (c.in_ok-log.ensures.payloads told told_other) found.read in
+          let booted = c.in_ok-node.ensures.node cells fs holds of_cluster (c.as_slice.ensures.value ∙ same) in
+          boot_leaves g.D.Disks.moment g.D.Disks.left_since c.open.new.disks c.append_fact.new.disks c.args.centre c.in_ok-log.log.centre c.in_ok-log.log.area opened.log fs (fact_bytes c.in_ok-node.boot) c.in_ok-log.ensures.keeps.0 c.in_ok-log.ensures.range (sym opened.payloads_are ∙ same) (ap fact_bytes booted.2) due idle))
+          are told told_other (struck_read g.D.Disks.disk g.D.Disks.may_leave g.met.D.Disks.as_read c.args.disks.now c.args.centre area log facts (fact_bytes fact) told told_other struck is);
+    })
+
+pub returns-clause-any_moment : goal.returns-clause-any_moment
+returns-clause-any_moment g c cells facts area log holds are told told_other left is =
+    let boot = fact_bytes (next_boot facts) in
+    let struck = left_struck (g.D.Disks.may_leave c.args.disks.now) c.args.centre area log boot left in
+    let read = left_read g.D.Disks.disk g.D.Disks.may_leave g.met.D.Disks.as_read c.args.disks.now c.args.centre area log told told_other left in
+    let at = at_both (λ p. IsTrue (g.D.Disks.disk c.open.new.disks p).told) c.args.centre c.in_ok-log.log.centre c.in_ok-log.log.area c.in_ok-log.ensures.keeps.0 (c.open.ensures.others.told_one ∙ told) (c.open.ensures.others.told_two ∙ told_other) c.in_ok-log.ensures.range in
+    let opened = c.in_ok-log.ensures.opened told told_other in
+    let due = c.append_fact.ensures.any_moment opened.log at.0 at.1 opened.in_use in
+    let idle = c.append_fact.ensures.any_moment_other opened.log at.0 at.1 opened.in_use opened.spare in
+    let booted = c.in_ok-node.ensures.node cells facts holds are (c.as_slice.ensures.value ∙ (opened.payloads_are ∙ ap payloads_of (same_log opened.log log (sym opened.read ∙ read.log_is)) ∙ is)) in
+    struck_joined g.D.Disks.moment g.D.Disks.left_since c.args.disks.now c.open.new.disks c.append_fact.new.disks c.args.centre area log boot
+    (record {
+      current = c.open.ensures.any_moment_due area log boot struck.range told told_other struck.current;
+      other = c.open.ensures.any_moment_idle area log (appended log boot) boot struck.range refl told told_other struck.current struck.other;
+    })
+    (struck_as g.D.Disks.moment g.D.Disks.left_since c.open.new.disks c.append_fact.new.disks c.args.centre area c.in_ok-log.log.centre c.in_ok-log.log.area log opened.log boot (fact_bytes c.in_ok-node.boot) c.in_ok-log.ensures.keeps.0
+    (same_area c.in_ok-log.log.area area (sym opened.choice ∙ read.choice)) (same_log opened.log log (sym opened.read ∙ read.log_is)) (ap fact_bytes booted.2) due idle)
 
 pub returns-clause-any_moment_same : goal.returns-clause-any_moment_same
-returns-clause-any_moment_same g c cells facts holds are told no_one within =
-    let opened = rw c.number.ensures.value at c.in_ok-log.ensures.payloads in
-    let rest = rw c.number.ensures.value at c.in_ok-log.ensures.at_rest in
-    let others = rw c.number.ensures.value at c.open.ensures.others in
-    let appending = rw (c.in_ok-log.ensures.place, c.number.ensures.value) at c.append.ensures.any_moment in
-    let appended = λ (fs : List Fact) (of_cluster : AreLogged c.args.cluster fs) (log : IsLogOf fs (g.D.Disks.disk c.args.disks.now c.args.centre)).
-    (let is = same-payloads (g.D.Disks.disk c.args.disks.now c.args.centre).bytes c.in_ok-log.payloads.items (logged fs) (opened log.told) log.read in
-    let booted = c.in_ok-node.ensures.node cells fs holds of_cluster (c.as_slice.ensures.value ∙ is) in
-    let bytes = c.deref.ensures.value ∙ c.in_ok-payload.ensures ∙ ap fact_bytes booted.2 in
-    boot-leaves fs c.in_ok-log.payloads.items c.deref.result.now is bytes (appending c.in_ok-log.payloads.items (others.told ∙ told) (rest told))) in
-    let opens = rw c.number.ensures.value at c.open.ensures.any_moment_same in
-    let read = within _ (g.met.D.Disks.as_read c.args.disks.now c.args.centre told) in
-    then-leaves-same c.between_is_read.ensures facts (opens (logged facts) told no_one within) (appended facts are (record { told = told; read = read }))
+returns-clause-any_moment_same g c cells facts current other holds are log never only only_other left left_other =
+    let told = log.told_first in
+    let told_other = log.told_second in
+    let at = at_both (λ p. IsTrue (g.D.Disks.disk c.open.new.disks p).told) c.args.centre c.in_ok-log.log.centre c.in_ok-log.log.area c.in_ok-log.ensures.keeps.0 (c.open.ensures.others.told_one ∙ told) (c.open.ensures.others.told_two ∙ told_other) c.in_ok-log.ensures.range in
+    let opened = c.in_ok-log.ensures.opened told told_other in
+    let due = c.append_fact.ensures.any_moment opened.log at.0 at.1 opened.in_use in
+    let idle = c.append_fact.ensures.any_moment_other opened.log at.0 at.1 opened.in_use opened.spare in
+    let is = same-payloads (g.D.Disks.disk c.args.disks.now c.args.centre).bytes (g.D.Disks.disk c.args.disks.now (c.args.centre + 16)).bytes c.in_ok-log.payloads.items (logged facts) (c.in_ok-log.ensures.payloads log.told_first log.told_second) log.read in
+    let booted = c.in_ok-node.ensures.node cells facts holds are (c.as_slice.ensures.value ∙ is) in
+    let boot = fact_bytes (next_boot facts) in
+    let struck = struck_as g.D.Disks.moment g.D.Disks.left_since c.open.new.disks c.append_fact.new.disks c.args.centre c.in_ok-log.log.area c.in_ok-log.log.centre c.in_ok-log.log.area opened.log opened.log boot (fact_bytes c.in_ok-node.boot) c.in_ok-log.ensures.keeps.0 refl refl (ap fact_bytes booted.2) due idle in
+    subst (λ (ps : List (List ℕ)). ReadsAsEither ps boot (payloads current other)) (sym opened.payloads_are ∙ is)
+    (same_read g.D.Disks.moment g.D.Disks.left_since g.D.Disks.tears never (g.D.Disks.disk c.args.disks.now c.args.centre).bytes (g.D.Disks.disk c.args.disks.now (c.args.centre + 16)).bytes opened.log boot opened.read (g.D.Disks.may_leave c.args.disks.now c.args.centre) (g.D.Disks.may_leave c.args.disks.now (c.args.centre + 16)) c.args.disks.now c.open.new.disks c.append_fact.new.disks c.args.centre c.in_ok-log.log.area
+    c.in_ok-log.ensures.range opened.choice opened.in_use.valid only only_other (c.open.ensures.first told told_other).any_moment (c.open.ensures.second told told_other).any_moment struck current other left left_other)
 
-pub returns-in_err-append-clause-others : goal.returns-in_err-append-clause-others
-returns-in_err-append-clause-others g c =
-    others_joined g.D.Disks.disk g.D.Disks.may_leave g.D.Disks.moment g.D.Disks.left_since c.args.disks.now c.open.new.disks c.append.new.disks c.args.centre
-    (rw c.number.ensures.value at c.open.ensures.others) (rw (c.in_ok-log.ensures.place, c.number.ensures.value) at c.in_err-append.ensures.others)
+pub returns-clause-any_moment_between : goal.returns-clause-any_moment_between
+returns-clause-any_moment_between g c cells facts fact area log holds are told told_other struck is =
+    let at = at_both (λ p. IsTrue (g.D.Disks.disk c.open.new.disks p).told) c.args.centre c.in_ok-log.log.centre c.in_ok-log.log.area c.in_ok-log.ensures.keeps.0 (c.open.ensures.others.told_one ∙ told) (c.open.ensures.others.told_two ∙ told_other) c.in_ok-log.ensures.range in
+    let opened = c.in_ok-log.ensures.opened told told_other in
+    let due = c.append_fact.ensures.any_moment opened.log at.0 at.1 opened.in_use in
+    let idle = c.append_fact.ensures.any_moment_other opened.log at.0 at.1 opened.in_use opened.spare in
+    let opening : LeavesStruck g.D.Disks.moment g.D.Disks.left_since c.args.disks.now c.open.new.disks c.args.centre area log (fact_bytes fact) = record {
+      current = c.open.ensures.any_moment_due area log (fact_bytes fact) struck.range told told_other struck.current;
+      other = c.open.ensures.any_moment_idle area log (appended log (fact_bytes fact)) (fact_bytes fact) struck.range refl told told_other struck.current struck.other;
+    } in
+    inr (record {
+      opened = c.open.new.disks;
+      opening = opening;
+      booting = after-crash (LeavesBoot g.D.Disks.moment g.D.Disks.left_since c.open.new.disks c.append_fact.new.disks c.args.centre) c.args.cluster facts fact (g.D.Disks.disk c.args.disks.now c.args.centre) (g.D.Disks.disk c.args.disks.now (c.args.centre + 16))
+          (λ fs of_cluster found.
+          (let same = same-payloads (g.D.Disks.disk c.args.disks.now c.args.centre).bytes (g.D.Disks.disk c.args.disks.now (c.args.centre + 16)).bytes c.in_ok-log.payloads.items (logged fs) (c.in_ok-log.ensures.payloads told told_other) found.read in
+          let booted = c.in_ok-node.ensures.node cells fs holds of_cluster (c.as_slice.ensures.value ∙ same) in
+          boot_leaves g.D.Disks.moment g.D.Disks.left_since c.open.new.disks c.append_fact.new.disks c.args.centre c.in_ok-log.log.centre c.in_ok-log.log.area opened.log fs (fact_bytes c.in_ok-node.boot) c.in_ok-log.ensures.keeps.0 c.in_ok-log.ensures.range (sym opened.payloads_are ∙ same) (ap fact_bytes booted.2) due idle))
+          are told told_other (struck_read g.D.Disks.disk g.D.Disks.may_leave g.met.D.Disks.as_read c.args.disks.now c.args.centre area log facts (fact_bytes fact) told told_other struck is);
+    })
+
+-- ---- all other places
+
+pub returns-in_err-append_fact-clause-others : goal.returns-in_err-append_fact-clause-others
+returns-in_err-append_fact-clause-others g c =
+    but_joined g.D.Disks.disk g.D.Disks.may_leave g.D.Disks.moment g.D.Disks.left_since c.args.disks.now c.open.new.disks c.append_fact.new.disks c.args.centre (c.args.centre + 16) c.open.ensures.others
+    (but_areas g.D.Disks.disk g.D.Disks.may_leave g.D.Disks.moment g.D.Disks.left_since c.open.new.disks c.append_fact.new.disks c.args.centre c.in_ok-log.log.centre c.in_ok-log.log.area c.in_ok-log.ensures.keeps.0 c.in_ok-log.ensures.range c.append_fact.ensures.others)
 
 pub returns-clause-others : goal.returns-clause-others
 returns-clause-others g c =
-    others_joined g.D.Disks.disk g.D.Disks.may_leave g.D.Disks.moment g.D.Disks.left_since c.args.disks.now c.open.new.disks c.append.new.disks c.args.centre
-    (rw c.number.ensures.value at c.open.ensures.others) (rw (c.in_ok-log.ensures.place, c.number.ensures.value) at c.in_ok-append.ensures.others)
+    but_joined g.D.Disks.disk g.D.Disks.may_leave g.D.Disks.moment g.D.Disks.left_since c.args.disks.now c.open.new.disks c.append_fact.new.disks c.args.centre (c.args.centre + 16) c.open.ensures.others
+    (but_areas g.D.Disks.disk g.D.Disks.may_leave g.D.Disks.moment g.D.Disks.left_since c.open.new.disks c.append_fact.new.disks c.args.centre c.in_ok-log.log.centre c.in_ok-log.log.area c.in_ok-log.ensures.keeps.0 c.in_ok-log.ensures.range c.append_fact.ensures.others)
 
 -- ---- faults
 
-pub returns-in_err-append-clause-disk_fault : goal.returns-in_err-append-clause-disk_fault
-returns-in_err-append-clause-disk_fault g c = λ h.
-    let p = err_from_is_err_and c.from_residual-in_err-append.result c.from_residual-in_err-append.ensures.1 in
+pub returns-in_err-append_fact-clause-disk_fault : goal.returns-in_err-append_fact-clause-disk_fault
+returns-in_err-append_fact-clause-disk_fault g c = λ h.
+    let p = err_from_is_err_and c.from_residual-in_err-append_fact.result c.from_residual-in_err-append_fact.ensures.1 in
     let is = sym p.1 ∙ h in
     let same : p.0 ≡ RestartFault.Log LogFault.DiskFault = cc in
-    let fault : c.in_err-append.field-0.0 ≡ LogFault.DiskFault = of-disk c.in_err-append.field-0.0 (sym p.2 ∙ same) in
-    let rose = rw (c.in_ok-log.ensures.place, c.number.ensures.value) at (c.in_err-append.ensures.disk_fault (rw fault refl)) in
-    let before = rw c.number.ensures.value at c.open.ensures.later in
-    rose-later _ _ _ before rose
+    let fault : c.in_err-append_fact.field-0.0 ≡ LogFault.DiskFault = of-disk c.in_err-append_fact.field-0.0 (sym p.2 ∙ same) in
+    rose_areas g.D.Disks.disk g.D.Disks.may_leave g.D.Disks.moment g.D.Disks.left_since c.args.disks.now c.open.new.disks c.append_fact.new.disks c.args.centre c.in_ok-log.log.centre c.in_ok-log.log.area c.in_ok-log.ensures.keeps.0 c.in_ok-log.ensures.range c.open.ensures.others (c.in_err-append_fact.ensures.disk_fault (rw fault refl))
 
-pub returns-in_err-append-clause-log_memory : goal.returns-in_err-append-clause-log_memory
-returns-in_err-append-clause-log_memory g c = λ h.
-    let p = err_from_is_err_and c.from_residual-in_err-append.result c.from_residual-in_err-append.ensures.1 in
+pub returns-in_err-append_fact-clause-log_memory : goal.returns-in_err-append_fact-clause-log_memory
+returns-in_err-append_fact-clause-log_memory g c = λ h.
+    let p = err_from_is_err_and c.from_residual-in_err-append_fact.result c.from_residual-in_err-append_fact.ensures.1 in
     let is = sym p.1 ∙ h in
     let same : p.0 ≡ RestartFault.Log LogFault.Memory = cc in
-    no-log-memory c.in_err-append.field-0.0 (sym p.2 ∙ same)
+    no-log-memory c.in_err-append_fact.field-0.0 (sym p.2 ∙ same)
 
-pub returns-in_err-append-clause-boot_memory : goal.returns-in_err-append-clause-boot_memory
-returns-in_err-append-clause-boot_memory g c = λ h.
-    let p = err_from_is_err_and c.from_residual-in_err-append.result c.from_residual-in_err-append.ensures.1 in
+pub returns-in_err-append_fact-clause-boot_memory : goal.returns-in_err-append_fact-clause-boot_memory
+returns-in_err-append_fact-clause-boot_memory g c = λ h.
+    let p = err_from_is_err_and c.from_residual-in_err-append_fact.result c.from_residual-in_err-append_fact.ensures.1 in
     let is = sym p.1 ∙ h in
     let same : p.0 ≡ RestartFault.Boot BootFault.Memory = cc in
-    no-boot-memory c.in_err-append.field-0.0 (sym p.2 ∙ same)
+    no-boot-memory c.in_err-append_fact.field-0.0 (sym p.2 ∙ same)
