@@ -5,6 +5,7 @@ use Rattle.std.proofs.lemmas.Bool.{cases_Bool, eqb-true, eq-eqb, le-ltb, lt-ltb}
 use Rattle.std.proofs.lemmas.List.{get_or-set_other, get_or-set_same, length-set}
 use Rattle.mdcc_base.specs.declared.outside.Image.{Image}
 use Rattle.mdcc_logs.specs.Nodes.{CentreStore, IsNodeOf, spare_of}
+use Rattle.mdcc_logs.proofs.Refusals.{log-payloads}
 use Rattle.mdcc_logs.specs.Stands.{LogsStand, with_fact_at, with_up}
 use Rattle.mdcc_logs.specs.Starting.{cells_with_boot}
 use Rattle.mdcc_logs.specs.declared.logs.Logs.{Logs}
@@ -306,7 +307,13 @@ has-restarted world new kept w a epoch node before lines like centre early many 
 -- ---- what the disks show
 
 pub disks-show : (world : TheWorld) (w : World) → IsLike world w → DisksShow world.logs.disks w
-disks-show world w like a centre = let both = some-centre w.cluster a centre in (like.logs.each a both.0 both.1).reads
+disks-show world w like a centre =
+    let both = some-centre w.cluster a centre in
+    let its = like.logs.each a both.0 both.1 in
+    record {
+      has = log-payloads world.logs a (is_up_at w a) (facts_of w.ledger a) its;
+      tail = λ up. (its.log, (its.read, its.few up));
+    }
 
 -- ---- what a restart asks for
 

@@ -1,14 +1,17 @@
 -- A deliver line, number by number.
-use Rattle.std.proofs.Common.{◌≡◌, ℕ, ◌∷◌, ◌||◌, ◌++◌, ◌∙◌, Bool, true, false, List, Ok, Err, ap, sym, subst, append-nil}
+use Rattle.std.proofs.Common.{◌≡◌, ℕ, ◌+◌, ◌≤◌, ◌∷◌, [], ◌||◌, ◌++◌, ◌∙◌, Bool, true, false, List, Ok, Err, ap, append_assoc, arith, length, length-append, refl, sym, subst, append-nil}
 use Rattle.std.specs.Bool.{OnFalse, OnTrue}
 use Rattle.mdcc_simulation.specs.State.{Happened, World, after_lines}
 use Rattle.mdcc_simulation.specs.Left.{deliveries_before}
 use Rattle.mdcc_simulation.specs.Deliveries.{deliveries_of, delivery_of}
 use Rattle.mdcc_simulation.specs.Limits.{is_limit}
+use Rattle.mdcc_language.specs.declared.events.Event.{Event}
 use Rattle.mdcc_language.specs.declared.lines.Line.{Line}
 use Rattle.mdcc_language.specs.declared.world.EventFault.{EventFault}
+use Rattle.mdcc_world.proofs.CutShort.{deliver-cut, of-last}
 use Rattle.mdcc_world.proofs.Happened.{fault-then, happened-then, has-come}
 use Rattle.mdcc_world.proofs.Limited.{limit-with}
+use Rattle.mdcc_world.specs.CutShort.{IsCutShort}
 use Rattle.mdcc_world.specs.Faults.{OnRefusal, is_memory}
 use Rattle.mdcc_world.specs.Stands.{HasHappened, Happens, IsLike}
 use Rattle.mdcc_world.specs.declared.world.World.{World as TheWorld}
@@ -20,12 +23,20 @@ pub record HasDelivered (world : TheWorld) (before after : List Line) (w : World
   pub reached : Happened
   pub happened : HasHappened world before after reached
   pub so_far : IsDelivering w whole left reached
+  pub made : List ℕ
+  pub split : whole ≡ made ++ left
+  pub first : deliveries_of made (unmoved w) ≡ Ok reached
+  pub counted : world.events ≤ w.events + length made
 
 pub delivers-begin : (world : TheWorld) (lines : List Line) (w : World) (whole : List ℕ) → IsLike world w → HasDelivered world lines lines w whole whole
 delivers-begin world lines w whole like = record {
   reached = unmoved w;
   happened = record { like = like; lines = sym (append-nil lines) };
   so_far = delivering-begins w whole;
+  made = [];
+  split = refl;
+  first = refl;
+  counted = (let events = like.records.events in omega (events, arith));
 }
 
 -- a refusal that is neither for want of memory nor for a limit
@@ -40,13 +51,18 @@ refusal-and fault f p q = both (is_memory fault) (is_limit fault) f p q
 module _ (world : TheWorld) (before lines : List Line) (w : World) (whole left : List ℕ) (has : HasDelivered world before lines w whole left) where
   pub delivers-go_on : (new : TheWorld) (after : List Line) (number : ℕ) (rest : List ℕ) → left ≡ number ∷ rest
       → ((v : World) → IsLike world v → Happens {T = Unit {0}} new lines after (Ok tt) (delivery_of v number))
+      → new.events ≤ world.events + 1
       → HasDelivered new before after w whole rest
-  delivers-go_on new after number rest first happens =
+  delivers-go_on new after number rest first happens more =
       let come = has-come {T = Unit {0}} tt new lines after (delivery_of has.reached.world number) (happens has.reached.world has.happened.like) in
       record {
         reached = after_lines has.reached.lines come.h;
         happened = happened-then world new before lines after has.reached come.h has.happened come.happened;
         so_far = delivering-goes_on w whole left rest number has.reached come.h first has.so_far come.is;
+        made = has.made ++ number ∷ [];
+        split = has.split ∙ ap (λ (xs : List ℕ). has.made ++ xs) first ∙ sym (append_assoc has.made (number ∷ []) rest);
+        first = of-last has.made number (unmoved w) has.reached come.h has.first come.is;
+        counted = (let counted = has.counted in let many = length-append has.made (number ∷ []) in omega (counted, more, many, arith));
       }
 
   pub delivers-refused : (number : ℕ) (rest : List ℕ) (fault : EventFault) → left ≡ number ∷ rest
@@ -69,10 +85,17 @@ module _ (world : TheWorld) (before lines : List Line) (w : World) (whole left :
 
   pub delivers-limited : (after : List Line) (number : ℕ) (rest : List ℕ) (fault : EventFault) → left ≡ number ∷ rest
       → ((v : World) → IsLike world v → OnFalse (is_memory fault) (delivery_of v number ≡ Err fault))
-      → OnTrue (is_limit fault) (after ≡ lines)
+      → after ≡ lines
       → OnTrue (is_limit fault) (after ≡ before ++ (deliveries_before whole (unmoved w)).lines)
-  delivers-limited after number rest fault first closed kept =
-      limit-with fault (λ (same : after ≡ lines) (e : delivery_of has.reached.world number ≡ Err fault).
+  delivers-limited after number rest fault first closed same =
+      limit-with fault (λ (e : delivery_of has.reached.world number ≡ Err fault).
       let reached = (delivering-refused w whole left rest number has.reached fault first has.so_far e).1 in
       same ∙ has.happened.lines ∙ ap (λ (h : Happened). before ++ h.lines) (sym reached))
-      kept (closed has.reached.world has.happened.like)
+      (closed has.reached.world has.happened.like)
+
+  -- no memory at the next number
+  pub delivers-cut : (new : TheWorld) (after : List Line) → new.events ≤ world.events + 1 → after ≡ lines → IsCutShort new before after w (Event.Deliver whole)
+  delivers-cut new after more same =
+      let counted = has.counted in
+      deliver-cut new before after w whole has.made left has.reached has.split has.first has.so_far.answer has.so_far.rest (omega (counted, more, arith))
+      (same ∙ has.happened.lines)

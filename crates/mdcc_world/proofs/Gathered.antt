@@ -3,8 +3,6 @@ use Rattle.std.proofs.Common.{◌≡◌, ◌++◌, [], List, Result, Ok, Err, ap
 use Rattle.mdcc_language.specs.declared.lines.Line.{Line}
 use Rattle.mdcc_language.specs.declared.world.EventFault.{EventFault}
 use Rattle.mdcc_simulation.specs.State.{Happened}
-use Rattle.mdcc_world.proofs.Happened.{fault-then}
-use Rattle.mdcc_world.specs.Faults.{OnRefusal, is_free}
 use Rattle.mdcc_world.specs.Stands.{Happens, HasHappened}
 use Rattle.mdcc_world.specs.declared.world.World.{World as TheWorld}
 
@@ -19,8 +17,3 @@ pub gathered : (result : Result (Unit {0}) EventFault) (world : TheWorld) (none 
 gathered (Ok x) world none told before after (Ok h) empty put happens = put-after world none told before after h empty put happens
 gathered (Ok x) world none told before after (Err fault) empty put happens = happens
 gathered (Err fault) world none told before after expected empty put happens = happens
-
-pub gathered-left : (result : Result (Unit {0}) EventFault) (world : TheWorld) (none told before after : List Line) (h : Happened) → none ≡ [] → after ≡ before ++ told
-    → OnRefusal result (HasHappened world none told h) → OnRefusal result (HasHappened world before after h)
-gathered-left (Ok x) world none told before after h empty put left = tt
-gathered-left (Err fault) world none told before after h empty put left = fault-then (is_free fault) (put-after world none told before after h empty put) left

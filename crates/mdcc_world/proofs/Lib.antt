@@ -2,6 +2,7 @@ mod BeginSaid
 mod BeginTaken
 mod Counted
 mod Crashed
+mod CutShort
 mod Delivered
 mod Delivering
 mod Ended

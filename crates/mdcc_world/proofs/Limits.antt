@@ -75,7 +75,7 @@ module _ (world : TheWorld) (w : World) (a : ℕ) (input : Input) (step : Step) 
 
   formed-by : (o : Option Fact) → step.fact ≡ o → IsFormed o
   formed-by None e = tt
-  formed-by (Some fact) e = step-formed fact e
+  formed-by (Some fact) e = (step-formed fact e, step-short fact e)
 
   pub fact-is-formed : IsFormed step.fact
   fact-is-formed = formed-by step.fact refl

@@ -1,5 +1,5 @@
 -- A settle line, delivery by delivery.
-use Rattle.std.proofs.Common.{◌≡◌, ℕ, suc, ◌+◌, ◌≤◌, ◌<◌, ◌==◌, true, List, [], ◌∷◌, ◌++◌, refl, sym, ap, ◌∙◌, subst, inl, inr, Option, Some, None, Result, Ok, Err, append-nil, arith, length, nat_lt, append_assoc, nat_le, ◌-◌}
+use Rattle.std.proofs.Common.{◌≡◌, ℕ, suc, ◌+◌, ◌≤◌, ◌<◌, ◌==◌, true, List, [], ◌∷◌, ◌++◌, refl, sym, ap, ◌∙◌, subst, inl, inr, Option, Some, None, Result, Ok, Err, arith, length, nat_lt, append_assoc, nat_le, ◌-◌}
 use Rattle.std.specs.Bool.{OnFalse, OnTrue}
 use Rattle.std.specs.List.{list_any}
 use Rattle.std.specs.Option.{option_map}
@@ -17,11 +17,13 @@ use Rattle.mdcc_language.specs.declared.lines.Line.{Line}
 use Rattle.mdcc_messages.specs.declared.messages.Envelope.{Envelope}
 use Rattle.mdcc_language.specs.declared.world.EventFault.{EventFault}
 use Rattle.mdcc_language.specs.declared.world.LimitName.{LimitName}
+use Rattle.mdcc_world.proofs.CutShort.{BeginsWith, before-last, before-next, settle-cut, settle-whole}
 use Rattle.mdcc_world.proofs.Happened.{fault-then, happened-then, has-come}
 use Rattle.mdcc_world.proofs.Limited.{limit-with}
 use Rattle.mdcc_world.proofs.Next.{message_of, next-is, with_number}
 use Rattle.mdcc_world.specs.Faults.{is_memory}
-use Rattle.mdcc_world.specs.Limited.{lines_told, unless_full}
+use Rattle.mdcc_world.specs.CutShort.{IsCutShort, lines_by}
+use Rattle.mdcc_world.specs.Limited.{lines_told}
 use Rattle.mdcc_world.specs.Settling.{AreAsked, EndsAfter, HasSettled, IsNext, is_named}
 use Rattle.mdcc_world.specs.Stands.{HasHappened, Happens, IsLike}
 use Rattle.mdcc_world.specs.declared.world.World.{World as TheWorld}
@@ -147,6 +149,12 @@ module _ (world : TheWorld) (before lines : List Line) (w : World) (listed : Lis
       record {
         reached = after_lines has.reached.lines come.h;
         happened = happened-then world new before lines after has.reached come.h has.happened come.happened;
+        first =
+            let more : deliveries + 1 ≡ suc deliveries = omega arith in
+            ap (λ (n : ℕ). settled_before n listed (settle_told w listed)) more
+            ∙ before-last deliveries listed (settle_told w listed)
+            ∙ ap (λ (h : Happened). settled_before 1 listed h) has.first
+            ∙ before-next listed has.reached come.h waits.next waits.waits (waiting-is has.reached.world listed waits.next waits.waits ∙ is);
         so_far = settling-goes_on w listed has.reached come.h deliveries waits.next has.so_far waits.waits (omega (events, few, arith)) is;
         earlier =
             let counted = waiting-events has.reached.world listed waits.next come.h waits.waits is in
@@ -168,20 +176,29 @@ module _ (world : TheWorld) (before lines : List Line) (w : World) (listed : Lis
 
   -- the lines where the next delivery would pass a limit
   pub settle-limited : (after : List Line) (number : ℕ) (fault : EventFault) → IsNext has.reached.world listed (Some number) → world.events < 100000
-      → OnFalse (is_memory fault) (delivery has.reached.world number ≡ Err fault) → OnTrue (is_limit fault) (after ≡ lines)
+      → OnFalse (is_memory fault) (delivery has.reached.world number ≡ Err fault) → after ≡ lines
       → OnTrue (is_limit fault) (after ≡ before ++ (left_of w (Event.Settle listed)).lines)
-  settle-limited after number fault next few refused kept =
+  settle-limited after number fault next few refused same =
       let waits = some-waits has.reached.world listed number next in
       let events = has.happened.like.records.events in
       let left = most_events - (has.reached.world.events + 1) in
       let more : most_events - has.reached.world.events ≡ suc left = omega (events, few, arith) in
-      limit-with fault (λ (same : after ≡ lines) (e : delivery has.reached.world number ≡ Err fault).
+      limit-with fault (λ (e : delivery has.reached.world number ≡ Err fault).
       let is : delivery has.reached.world waits.next.0 ≡ Err fault = ap (λ (n : ℕ). delivery has.reached.world n) waits.numbers ∙ e in
       let reached = has.earlier
       ∙ ap (λ (n : ℕ). settled_before n listed has.reached) more
       ∙ before-refused left listed has.reached waits.next fault waits.waits (waiting-is has.reached.world listed waits.next waits.waits ∙ is) in
       same ∙ has.happened.lines ∙ ap (λ (h : Happened). before ++ h.lines) (sym reached))
-      kept refused
+      refused
+
+  -- and where there was no memory for it
+  pub settle-short : (new : TheWorld) (after : List Line) → w.events < 100000 → new.events ≤ world.events + 1 → after ≡ lines
+      → IsCutShort new before after w (Event.Settle listed)
+  settle-short new after few more same =
+      let events = has.happened.like.records.events in
+      let count = has.so_far.count in
+      settle-cut new before after w listed has.reached deliveries has.first (settle-whole w listed has.reached deliveries has.so_far few has.earlier)
+      (omega (events, count, more, arith)) (same ∙ has.happened.lines)
 
   -- and where there were as many events as there may be
   pub settle-full : 100000 ≤ world.events → lines ≡ before ++ (left_of w (Event.Settle listed)).lines
@@ -194,6 +211,8 @@ module _ (world : TheWorld) (before lines : List Line) (w : World) (listed : Lis
   settle-ends new same next few = record {
     reached = has.reached;
     happened = record { like = subst (λ (x : TheWorld). IsLike x has.reached.world) (sym same) has.happened.like; lines = has.happened.lines };
+    so_far = has.so_far;
+    first = has.first;
     answer = settling-ends w listed has.reached deliveries has.so_far (none-waits has.reached.world listed next) few;
   }
 
@@ -211,6 +230,7 @@ settle-begins world before lines w listed happened = record {
   reached = settle_told w listed;
   happened = happened;
   so_far = settling-begins w listed;
+  first = refl;
   earlier = refl;
 }
 
@@ -241,12 +261,13 @@ pub ends-after : (world : TheWorld) (before lines : List Line) (w : World) (list
     → EndsAfter world before lines w listed deliveries → EndsAfter world before lines w listed all
 ends-after world before lines w listed deliveries all same ends = subst (λ (n : ℕ). EndsAfter world before lines w listed n) same ends
 
--- the lines of a settle line that would pass the limit of events by itself
-pub told-none : (w : World) (listed : List ℕ) (fault : EventFault) (lines after : List Line) → Err fault ≡ at_limit w → after ≡ lines
-    → after ≡ lines ++ lines_told w (Event.Settle listed)
-told-none w listed fault lines after closed same =
-    same ∙ sym (append-nil lines) ∙ ap (λ (r : Result (Unit {0}) EventFault). lines ++ unless_full r (left_of w (Event.Settle listed)).lines) closed
-
--- and of another one
-pub told-some : (w : World) (listed : List ℕ) → Ok tt ≡ at_limit w → (left_of w (Event.Settle listed)).lines ≡ lines_told w (Event.Settle listed)
-told-some w listed may = ap (λ (r : Result (Unit {0}) EventFault). unless_full r (left_of w (Event.Settle listed)).lines) may
+-- no memory for the line of the end
+pub ends-short : (world : TheWorld) (before lines after : List Line) (w : World) (listed : List ℕ) (deliveries : ℕ) → EndsAfter world before lines w listed deliveries
+    → after ≡ lines → IsCutShort world before after w (Event.Settle listed)
+ends-short world before lines after w listed deliveries ends same =
+    let events = ends.happened.like.records.events in
+    let count = ends.so_far.count in
+    settle-cut world before after w listed ends.reached deliveries ends.first
+    (subst (λ (r : Result Happened EventFault). BeginsWith ends.reached.lines (lines_by r (lines_told w (Event.Settle listed)))) (sym ends.answer)
+    (record { rest = Line.Settled deliveries (next_message ends.reached.world) ∷ []; is = refl }))
+    (omega (events, count, arith)) (same ∙ ends.happened.lines)

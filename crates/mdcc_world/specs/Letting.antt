@@ -25,10 +25,10 @@ abbrev pub IsFramed : Logs → ℕ → Option Fact → Type 0
 IsFramed logs a None = ⊤
 IsFramed logs a (Some fact) = MayAppend logs a fact
 
--- whether the fact of a step is well-formed, where it has one
+-- the fact of a step is well-formed and short, where it has one
 abbrev pub IsFormed : Option Fact → Type 0
 IsFormed None = ⊤
-IsFormed (Some fact) = IsWellFormedFact fact
+IsFormed (Some fact) = IsWellFormedFact fact × (fact_length fact ≤ 2097152)
 
 -- the bytes that were sent and the logs are those of a world, of which this is a centre that is up
 pub record Measures (world : TheWorld) (w : World) (a : ℕ) : Type 0 where

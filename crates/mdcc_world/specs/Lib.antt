@@ -1,3 +1,4 @@
+pub mod CutShort
 pub mod Disks
 pub mod Faults
 pub mod Letting

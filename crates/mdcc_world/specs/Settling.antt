@@ -30,6 +30,7 @@ pub record HasSettled (world : TheWorld) (before after : List Line) (w : World) 
   pub reached : Happened
   pub happened : HasHappened world before after reached
   pub so_far : IsSettling w listed reached deliveries
+  pub first : settled_before deliveries listed (settle_told w listed) ≡ reached
   pub earlier : settled_before (most_events - (counted_event w).events) listed (settle_told w listed) ≡ settled_before (most_events - reached.world.events) listed reached
 
 -- the number is that of the message that a settle delivers next, where one waits
@@ -40,7 +41,9 @@ IsNext w listed number = option_map (λ next. next.0) (first_waiting w listed 1 
 pub record EndsAfter (world : TheWorld) (before after : List Line) (w : World) (listed : List ℕ) (deliveries : ℕ) : Type 0 where
   pub reached : Happened
   pub happened : HasHappened world before after reached
+  pub so_far : IsSettling w listed reached deliveries
   pub answer : event_of w (Event.Settle listed) ≡ Ok (settled reached deliveries)
+  pub first : settled_before deliveries listed (settle_told w listed) ≡ reached
 
 -- so a settle ends, by how many messages it delivered, or it is refused as the line is to be
 abbrev pub SettlesTo : TheWorld → List Line → List Line → World → List ℕ → Result ℕ EventFault → Type 0

@@ -1,5 +1,5 @@
 //! Begin lines.
-ghost use Rattle.std.specs.Prelude.{◌≡◌, ◌≤◌, ◌<◌, Err, IfErr, List, Ok, OnOk, true, ℕ};
+ghost use Rattle.std.specs.Prelude.{◌≡◌, ◌≤◌, ◌<◌, Err, IfErr, List, Ok, OnErr, OnOk, true, ℕ};
 ghost use Rattle.mdcc_option.specs.Transaction.{transaction_of};
 ghost use Rattle.mdcc_option.specs.declared.items.Part.{Part as APart};
 ghost use Rattle.mdcc_simulation.specs.State.{World as AWorld, counted_event, is_up_at};
@@ -9,7 +9,6 @@ ghost use Rattle.mdcc_simulation.specs.Stepping.{step_at};
 ghost use Rattle.mdcc_language.specs.declared.events.Event.{Event as AEvent};
 ghost use Rattle.mdcc_rules.specs.declared.node.Input.{Input as AInput};
 ghost use Rattle.mdcc_steps.specs.Inputs.{AreWellFormedParts};
-ghost use Rattle.mdcc_world.specs.Limited.{OnLimit};
 ghost use Rattle.mdcc_world.specs.Faults.{OnRefusal, is_free};
 ghost use Rattle.mdcc_world.specs.Making.{IsMade, IsMadeSome};
 ghost use Rattle.mdcc_world.specs.Stands.{Happens, IsLike, IsLikeSome};
@@ -39,11 +38,11 @@ impl World {
             → Happens self.new lines.old lines.new result (begin_taken w centre (step_at w centre input)) }
         ensures free { IfErr result (λ fault. is_free fault ≡ true) }
         ensures events { self.new.events ≡ self.old.events }
-        ensures limited { OnLimit result (lines.new ≡ lines.old) }
+        ensures untold { OnErr result (lines.new ≡ lines.old) }
     {
         let mut told = HeapList::new(self.alloc);
         self.take(centre, step, &mut told)?;
-        tell_begun(lines, &step.answer, self.next_message(), told)
+        tell_begun(self.alloc, lines, &step.answer, self.next_message(), told)
     }
 
     // A transaction is begun at a centre or refused by it, where there may be one more event.
@@ -60,7 +59,7 @@ impl World {
             → Happens self.new lines.old lines.new result (if_open (at_limit w) (begun w centre transaction)) }
         ensures few { OnOk result (self.new.events ≤ 100000) }
         ensures kept { OnRefusal result ((self.new ≡ self.old) × (lines.new ≡ lines.old)) }
-        ensures limited { OnLimit result (lines.new ≡ lines.old) }
+        ensures untold { OnErr result (lines.new ≡ lines.old) }
     {
         self.at_limit()?;
         let mut step = blank(self.alloc);
@@ -82,7 +81,7 @@ impl World {
             → Happens self.new lines.old lines.new result (begun_if w centre (transaction_of w.cluster.schema parts.now)) }
         ensures few { OnOk result (self.new.events ≤ 100000) }
         ensures kept { OnRefusal result ((self.new ≡ self.old) × (lines.new ≡ lines.old)) }
-        ensures limited { OnLimit result (lines.new ≡ lines.old) }
+        ensures untold { OnErr result (lines.new ≡ lines.old) }
     {
         match Transaction::new(&self.cluster.schema, parts) {
             Ok(transaction) => self.begin_transaction(centre, transaction, lines),
@@ -97,7 +96,7 @@ impl World {
             → Happens self.new lines.old lines.new result (if_open (at_limit w) (Ok (no_item (counted_event w) key.now))) }
         ensures few { OnOk result (self.new.events ≤ 100000) }
         ensures kept { OnRefusal result ((self.new ≡ self.old) × (lines.new ≡ lines.old)) }
-        ensures limited { OnLimit result (lines.new ≡ lines.old) }
+        ensures untold { OnErr result (lines.new ≡ lines.old) }
     {
         self.at_limit()?;
         lines.push(Line::Refused(*key, BeginFault::NoItem))?;
@@ -116,7 +115,7 @@ impl World {
             → Happens self.new lines.old lines.new result (begin_by w a (Err fault.now)) }
         ensures few { OnOk result (self.new.events ≤ 100000) }
         ensures kept { OnRefusal result ((self.new ≡ self.old) × (lines.new ≡ lines.old)) }
-        ensures limited { OnLimit result (lines.new ≡ lines.old) }
+        ensures untold { OnErr result (lines.new ≡ lines.old) }
     {
         match fault {
             ResolveFault::NoRead(number) => Err(EventFault::NoRead(*number)),
@@ -138,7 +137,7 @@ impl World {
             → Happens self.new lines.old lines.new result (event_of w (AEvent.Begin centre words.now)) }
         ensures few { OnOk result (self.new.events ≤ 100000) }
         ensures kept { OnRefusal result ((self.new ≡ self.old) × (lines.new ≡ lines.old)) }
-        ensures limited { OnLimit result (lines.new ≡ lines.old) }
+        ensures untold { OnErr result (lines.new ≡ lines.old) }
     {
         if !self.is_up(centre) {
             return Err(EventFault::Down(centre));

@@ -1,11 +1,10 @@
 //! Crashes and restarts.
-ghost use Rattle.std.specs.Prelude.{◌≡◌, ◌≤◌, ◌<◌, ◌+◌, ◌-◌, IfErr, None, OnOk, length, set, false, true};
+ghost use Rattle.std.specs.Prelude.{◌≡◌, ◌≤◌, ◌<◌, ◌+◌, ◌-◌, IfErr, None, OnErr, OnOk, length, set, false, true};
 ghost use Rattle.mdcc_protocol.specs.Belongs.{is_centre};
 ghost use Rattle.mdcc_simulation.specs.State.{World as AWorld, counted_event, is_up_at};
 ghost use Rattle.mdcc_simulation.specs.Centres.{crash_happened};
 ghost use Rattle.mdcc_simulation.specs.Events.{event_of};
 ghost use Rattle.mdcc_language.specs.declared.events.Event.{Event as AEvent};
-ghost use Rattle.mdcc_world.specs.Limited.{OnLimit};
 ghost use Rattle.mdcc_world.specs.Faults.{OnRefusal, is_free};
 ghost use Rattle.mdcc_world.specs.Stands.{Happens, HasHappened, IsLike, IsLikeSome};
 ghost use Rattle.mdcc_worlds.specs.Happening.{at_restart, restarted};
@@ -36,6 +35,7 @@ impl World {
         requires up { (w : AWorld) → IsLike self.old w → is_up_at w centre ≡ true }
         ensures happened { (w : AWorld) → IsLike self.old w
             → OnOk result (HasHappened self.new lines.old lines.new (crash_happened (counted_event w) centre)) }
+        ensures untold { OnErr result (lines.new ≡ lines.old) }
         ensures few { OnOk result (self.new.events ≤ 100000) }
     {
         lines.push(Line::Crash(centre))?;
@@ -56,7 +56,7 @@ impl World {
             → Happens self.new lines.old lines.new result (event_of w (AEvent.Crash centre)) }
         ensures few { OnOk result (self.new.events ≤ 100000) }
         ensures kept { OnRefusal result ((self.new ≡ self.old) × (lines.new ≡ lines.old)) }
-        ensures limited { OnLimit result (lines.new ≡ lines.old) }
+        ensures untold { OnErr result (lines.new ≡ lines.old) }
     {
         self.at_centre(centre)?;
         self.crash_at(centre, lines)?;
@@ -103,7 +103,7 @@ impl World {
             → Happens self.new lines.old lines.new result (restarted w centre) }
         ensures free { IfErr result (λ fault. is_free fault ≡ true) }
         ensures few { OnOk result (self.new.events ≤ 100000) }
-        ensures limited { OnLimit result (lines.new ≡ lines.old) }
+        ensures untold { OnErr result (lines.new ≡ lines.old) }
     {
         match self.logs.restart(self.alloc, &self.cluster, centre)? {
             Started::Node(node, epoch) => {
@@ -127,7 +127,7 @@ impl World {
             → Happens self.new lines.old lines.new result (event_of w (AEvent.Restart centre)) }
         ensures few { OnOk result (self.new.events ≤ 100000) }
         ensures kept { OnRefusal result ((self.new ≡ self.old) × (lines.new ≡ lines.old)) }
-        ensures limited { OnLimit result (lines.new ≡ lines.old) }
+        ensures untold { OnErr result (lines.new ≡ lines.old) }
     {
         self.at_restart(centre)?;
         self.restart_at(centre, lines)

@@ -1,10 +1,12 @@
 //! Messages come to their centres.
-ghost use Rattle.std.specs.Prelude.{◌≡◌, ◌≤◌, ◌<◌, ◌+◌, ◌++◌, IfErr, Ok, OnOk, true};
+ghost use Rattle.std.specs.Prelude.{◌≡◌, ◌≤◌, ◌<◌, ◌+◌, ◌++◌, IfErr, Ok, OnErr, OnOk, true};
 ghost use Rattle.mdcc_simulation.specs.State.{World as AWorld};
 ghost use Rattle.mdcc_simulation.specs.Left.{deliveries_before};
 ghost use Rattle.mdcc_simulation.specs.Deliveries.{deliveries_of, delivery_of};
+ghost use Rattle.mdcc_language.specs.declared.events.Event.{Event as AEvent};
 ghost use Rattle.mdcc_world.specs.Limited.{OnLimit};
-ghost use Rattle.mdcc_world.specs.Faults.{OnRefusal, is_free};
+ghost use Rattle.mdcc_world.specs.CutShort.{IsCutShort};
+ghost use Rattle.mdcc_world.specs.Faults.{OnMemory, OnRefusal, is_free};
 ghost use Rattle.mdcc_world.specs.Stands.{Happens, HasHappened, IsLike, IsLikeSome};
 ghost use Rattle.mdcc_worlds.specs.Delivering.{at_message, delivery, delivery_told, unmoved};
 ghost use Rattle.mdcc_worlds.specs.Happening.{at_centre};
@@ -29,7 +31,6 @@ impl World {
             → Happens self.new lines.old lines.new result (delivery w number) }
         ensures free { IfErr result (λ fault. is_free fault ≡ true) }
         ensures few { self.new.events ≤ self.old.events + 1 }
-        ensures limited { OnLimit result (lines.new ≡ lines.old) }
     {
         let mut step = blank(self.alloc);
         let (centre, made) = self.message_made(number, &mut step)?;
@@ -69,12 +70,17 @@ impl World {
         ensures happens { (w : AWorld) → IsLike self.old w
             → Happens self.new lines.old lines.new result (delivery_told w number) }
         ensures free { IfErr result (λ fault. is_free fault ≡ true) }
-        ensures few { OnOk result (self.new.events ≤ 100000) }
-        ensures limited { OnLimit result (lines.new ≡ lines.old) }
+        ensures few { self.new.events ≤ self.old.events + 1 }
+        ensures untold { OnErr result (lines.new ≡ lines.old) }
     {
         let mut told = HeapList::new(self.alloc);
         self.delivered(number, &mut told)?;
-        tell(lines, Line::Deliver(number, self.next_message()), told)
+        tell(
+            self.alloc,
+            lines,
+            Line::Deliver(number, self.next_message()),
+            told,
+        )
     }
 
     // One number of a deliver line.
@@ -85,7 +91,8 @@ impl World {
             → Happens self.new lines.old lines.new result (delivery_of w number) }
         ensures kept { OnRefusal result ((self.new ≡ self.old) × (lines.new ≡ lines.old)) }
         ensures few { OnOk result (self.new.events ≤ 100000) }
-        ensures limited { OnLimit result (lines.new ≡ lines.old) }
+        ensures counted { self.new.events ≤ self.old.events + 1 }
+        ensures untold { OnErr result (lines.new ≡ lines.old) }
     {
         self.at_message(number)?;
         self.deliver_told(number, lines)
@@ -107,6 +114,8 @@ impl World {
         ensures few_left { OnRefusal result (self.new.events ≤ 100000) }
         ensures limited { (w : AWorld) → IsLike self.old w
             → OnLimit result (lines.new ≡ lines.old ++ (deliveries_before numbers.now (unmoved w)).lines) }
+        ensures cut { (w : AWorld) → IsLike self.old w
+            → OnMemory result (IsCutShort self.new lines.old lines.new w (AEvent.Deliver numbers.now)) }
     {
         for number in numbers {
             self.deliver_at(*number, lines)?;

@@ -1,15 +1,14 @@
 //! One event of each kind.
 ghost use Rattle.std.specs.Bool.{OnFalse};
-ghost use Rattle.std.specs.Prelude.{◌≡◌, ◌≤◌, ◌++◌, Err, IfErr, IsOkAnd, List, OnOk};
+ghost use Rattle.std.specs.Prelude.{◌≡◌, ◌≤◌, ◌++◌, Err, IfErr, IsOkAnd, OnOk};
 ghost use Rattle.mdcc_simulation.specs.State.{World as AWorld};
 ghost use Rattle.mdcc_simulation.specs.Events.{event_of};
 ghost use Rattle.mdcc_simulation.specs.Left.{left_of};
 ghost use Rattle.mdcc_world.specs.Limited.{OnLimit, lines_told};
-ghost use Rattle.mdcc_world.specs.Faults.{OnRefusal, is_memory};
+ghost use Rattle.mdcc_world.specs.CutShort.{IsCutShort};
+ghost use Rattle.mdcc_world.specs.Faults.{OnMemory, OnRefusal, is_memory};
 ghost use Rattle.mdcc_world.specs.Stands.{Happens, HasHappened, IsLike, IsLikeSome, Stands};
-ghost use Rattle.mdcc_language.specs.declared.lines.Line.{Line as ALine};
 
-use crate::telling::append;
 use crate::world::World;
 use mdcc_base::HeapList;
 use mdcc_language::{Event, EventFault, Line};
@@ -27,6 +26,8 @@ impl World {
         ensures few_left { OnRefusal result (self.new.events ≤ 100000) }
         ensures limited { (w : AWorld) → IsLike self.old w
             → OnLimit result (lines.new ≡ lines.old ++ lines_told w event.now) }
+        ensures cut { (w : AWorld) → IsLike self.old w
+            → OnMemory result (IsCutShort self.new lines.old lines.new w event.now) }
     {
         match event {
             Event::Read(centre, key) => self.read(*centre, key, lines),
@@ -43,7 +44,7 @@ impl World {
     /// One event: its lines stand after the others. Where it is refused nothing has changed, but of
     /// a deliver line the deliveries before the refused one stand, and so do their lines. Where
     /// there was no memory, or a limit was reached, the world must be dropped; the lines of earlier
-    /// events stand, and at a limit those of the earlier deliveries of this one.
+    /// events stand, and so do those of the earlier deliveries of this one.
     pub fn event(&mut self, event: &Event, lines: &mut HeapList<Line>) -> Result<(), EventFault>
         requires known { (w : AWorld) × Stands self.old w }
         ensures ok { (w : AWorld) → Stands self.old w
@@ -56,11 +57,9 @@ impl World {
             → OnRefusal result (Stands self.new (left_of w event.now).world) }
         ensures limited { (w : AWorld) → Stands self.old w
             → OnLimit result (lines.new ≡ lines.old ++ lines_told w event.now) }
-        ensures earlier { (more : List ALine) × (lines.new ≡ lines.old ++ more) }
+        ensures cut { (w : AWorld) → Stands self.old w
+            → OnMemory result (IsCutShort self.new lines.old lines.new w event.now) }
     {
-        let mut told = HeapList::new(self.alloc);
-        let happened = self.happen(event, &mut told);
-        append(lines, told)?;
-        happened
+        self.happen(event, lines)
     }
 }

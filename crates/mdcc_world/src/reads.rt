@@ -1,11 +1,10 @@
 //! Reads.
-ghost use Rattle.std.specs.Prelude.{◌≡◌, ◌≤◌, ◌<◌, OnOk, true};
+ghost use Rattle.std.specs.Prelude.{◌≡◌, ◌≤◌, ◌<◌, OnErr, OnOk, true};
 ghost use Rattle.mdcc_base.specs.Key.{IsKey};
 ghost use Rattle.mdcc_simulation.specs.State.{World as AWorld, counted_event, is_up_at};
 ghost use Rattle.mdcc_simulation.specs.Events.{event_of};
 ghost use Rattle.mdcc_simulation.specs.Clients.{known_of, read_happened};
 ghost use Rattle.mdcc_language.specs.declared.events.Event.{Event as AEvent};
-ghost use Rattle.mdcc_world.specs.Limited.{OnLimit};
 ghost use Rattle.mdcc_world.specs.Faults.{OnRefusal};
 ghost use Rattle.mdcc_world.specs.Stands.{Happens, HasHappened, IsLike, IsLikeSome};
 
@@ -42,6 +41,7 @@ impl World {
         requires up { (w : AWorld) → IsLike self.old w → is_up_at w centre ≡ true }
         ensures happened { (w : AWorld) → IsLike self.old w
             → OnOk result (HasHappened self.new lines.old lines.new (read_happened (counted_event w) centre key.now)) }
+        ensures untold { OnErr result (lines.new ≡ lines.old) }
         ensures few { OnOk result (self.new.events ≤ 100000) }
     {
         let reading = read(self.alloc, &mut self.nodes, centre, key)?;
@@ -64,7 +64,7 @@ impl World {
             → Happens self.new lines.old lines.new result (event_of w (AEvent.Read centre key.now)) }
         ensures few { OnOk result (self.new.events ≤ 100000) }
         ensures kept { OnRefusal result ((self.new ≡ self.old) × (lines.new ≡ lines.old)) }
-        ensures limited { OnLimit result (lines.new ≡ lines.old) }
+        ensures untold { OnErr result (lines.new ≡ lines.old) }
     {
         self.at_centre(centre)?;
         self.read_at(centre, key, lines)?;

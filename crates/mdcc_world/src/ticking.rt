@@ -1,5 +1,5 @@
 //! Ticks.
-ghost use Rattle.std.specs.Prelude.{◌≡◌, ◌≤◌, ◌<◌, IfErr, OnOk, true};
+ghost use Rattle.std.specs.Prelude.{◌≡◌, ◌≤◌, ◌<◌, IfErr, OnErr, OnOk, true};
 ghost use Rattle.mdcc_simulation.specs.State.{World as AWorld};
 ghost use Rattle.mdcc_simulation.specs.Events.{event_of};
 ghost use Rattle.mdcc_simulation.specs.Limits.{input_limited, with_lines};
@@ -7,7 +7,6 @@ ghost use Rattle.mdcc_simulation.specs.Stepping.{step_at};
 ghost use Rattle.mdcc_simulation.specs.Centres.{tick_line};
 ghost use Rattle.mdcc_language.specs.declared.events.Event.{Event as AEvent};
 ghost use Rattle.mdcc_rules.specs.declared.node.Input.{Input as AInput};
-ghost use Rattle.mdcc_world.specs.Limited.{OnLimit};
 ghost use Rattle.mdcc_world.specs.Faults.{OnRefusal, is_free};
 ghost use Rattle.mdcc_node.specs.Planning.{written};
 ghost use Rattle.mdcc_world.specs.Making.{IsMade, IsMadeSome};
@@ -34,11 +33,16 @@ impl World {
             → Happens self.new lines.old lines.new result (with_lines (tick_line centre) (input_limited w centre (step_at w centre input))) }
         ensures free { IfErr result (λ fault. is_free fault ≡ true) }
         ensures events { self.new.events ≡ self.old.events }
-        ensures limited { OnLimit result (lines.new ≡ lines.old) }
+        ensures untold { OnErr result (lines.new ≡ lines.old) }
     {
         let mut told = HeapList::new(self.alloc);
         self.taken(centre, made, step, &mut told)?;
-        tell(lines, Line::Tick(centre, self.next_message()), told)
+        tell(
+            self.alloc,
+            lines,
+            Line::Tick(centre, self.next_message()),
+            told,
+        )
     }
 
     // A tick line.
@@ -52,7 +56,7 @@ impl World {
             → Happens self.new lines.old lines.new result (event_of w (AEvent.Tick centre)) }
         ensures few { OnOk result (self.new.events ≤ 100000) }
         ensures kept { OnRefusal result ((self.new ≡ self.old) × (lines.new ≡ lines.old)) }
-        ensures limited { OnLimit result (lines.new ≡ lines.old) }
+        ensures untold { OnErr result (lines.new ≡ lines.old) }
     {
         self.at_centre(centre)?;
         let mut step = blank(self.alloc);

@@ -1,7 +1,8 @@
 use Rattle.std.proofs.Common.{◌≡◌, ◌+◌, ◌∷◌, ◌<◌, Err, arith, drop, get_or, length}
 use Rattle.std.proofs.lemmas.List.{drop_more}
 use Rattle.mdcc_simulation.specs.Deliveries.{delivery_of}
-use Rattle.mdcc_world.proofs.Delivering.{delivers-begin, delivers-go_on, delivers-left, delivers-limited, delivers-refused}
+use Rattle.mdcc_world.proofs.CutShort.{memory-always}
+use Rattle.mdcc_world.proofs.Delivering.{delivers-begin, delivers-cut, delivers-go_on, delivers-left, delivers-limited, delivers-refused}
 use Rattle.mdcc_world.proofs.Happened.{has-come, residual}
 use Rattle.mdcc_world.proofs.Left.{left-few}
 use Rattle.mdcc_world.proofs.world.World.deliver.Goals as goal
@@ -47,7 +48,16 @@ returns-in_err-deliver_at-clause-limited c w like =
     let fault = c.in_err-deliver_at.field-0.0 in
     rw (residual c.from_residual.result fault c.from_residual.ensures.1)
     (delivers-limited at.self c.args.lines.now at.lines w numbers (drop i numbers) (at.invariant.has w like) c.deliver_at.new.lines (get_or numbers i 0)
-    (drop (i + 1) numbers) fault first c.in_err-deliver_at.ensures.happens c.in_err-deliver_at.ensures.limited)
+    (drop (i + 1) numbers) fault first c.in_err-deliver_at.ensures.happens c.in_err-deliver_at.ensures.untold)
+
+pub returns-in_err-deliver_at-clause-cut : goal.returns-in_err-deliver_at-clause-cut
+returns-in_err-deliver_at-clause-cut c w like =
+    let at = c.loop-number in
+    let numbers = c.args.numbers.now in
+    let fault = c.in_err-deliver_at.field-0.0 in
+    rw (residual c.from_residual.result fault c.from_residual.ensures.1)
+    (memory-always fault (delivers-cut at.self c.args.lines.now at.lines w numbers (drop at.number-index numbers) (at.invariant.has w like) c.deliver_at.new.self c.deliver_at.new.lines
+    c.in_err-deliver_at.ensures.counted c.in_err-deliver_at.ensures.untold))
 
 pub returns-in_err-deliver_at-clause-few_left : goal.returns-in_err-deliver_at-clause-few_left
 returns-in_err-deliver_at-clause-few_left c =
@@ -71,5 +81,5 @@ loop-number-preserved c =
       some = (come.h.world, come.happened.like);
       has = λ w like.
           delivers-go_on at.self c.args.lines.now at.lines w numbers (drop i numbers) (at.invariant.has w like) c.deliver_at.new.self c.deliver_at.new.lines number
-          (drop (i + 1) numbers) first c.in_ok-deliver_at.ensures.happens;
+          (drop (i + 1) numbers) first c.in_ok-deliver_at.ensures.happens c.in_ok-deliver_at.ensures.counted;
     }

@@ -1,3 +1,5 @@
+use Rattle.std.proofs.Common.{◌≡◌, refl}
+use Rattle.mdcc_world.proofs.CutShort.{cut-none, memory-untold}
 use Rattle.mdcc_world.proofs.Left.{left-few, left-unmoved}
 use Rattle.mdcc_world.proofs.Limited.{limited-none}
 use Rattle.mdcc_world.proofs.world.World.happen.Goals as goal
@@ -63,19 +65,43 @@ pub returns-in-Stop-clause-few_left : goal.returns-in-Stop-clause-few_left
 returns-in-Stop-clause-few_left c = left-few c.stop.result c.args.self.now c.stop.new.self c.args.lines.now c.stop.new.lines c.requires.few c.stop.ensures.kept
 
 pub returns-in-Read-clause-limited : goal.returns-in-Read-clause-limited
-returns-in-Read-clause-limited c w like = rw c.in-Read.is (limited-none c.read.result c.args.lines.now c.read.new.lines c.read.ensures.limited)
+returns-in-Read-clause-limited c w like = rw c.in-Read.is (limited-none c.read.result c.args.lines.now c.read.new.lines c.read.ensures.untold)
 
 pub returns-in-Begin-clause-limited : goal.returns-in-Begin-clause-limited
-returns-in-Begin-clause-limited c w like = rw c.in-Begin.is (limited-none c.begin.result c.args.lines.now c.begin.new.lines c.begin.ensures.limited)
+returns-in-Begin-clause-limited c w like = rw c.in-Begin.is (limited-none c.begin.result c.args.lines.now c.begin.new.lines c.begin.ensures.untold)
 
 pub returns-in-Tick-clause-limited : goal.returns-in-Tick-clause-limited
-returns-in-Tick-clause-limited c w like = rw c.in-Tick.is (limited-none c.tick.result c.args.lines.now c.tick.new.lines c.tick.ensures.limited)
+returns-in-Tick-clause-limited c w like = rw c.in-Tick.is (limited-none c.tick.result c.args.lines.now c.tick.new.lines c.tick.ensures.untold)
 
 pub returns-in-Crash-clause-limited : goal.returns-in-Crash-clause-limited
-returns-in-Crash-clause-limited c w like = rw c.in-Crash.is (limited-none c.crash.result c.args.lines.now c.crash.new.lines c.crash.ensures.limited)
+returns-in-Crash-clause-limited c w like = rw c.in-Crash.is (limited-none c.crash.result c.args.lines.now c.crash.new.lines c.crash.ensures.untold)
 
 pub returns-in-Restart-clause-limited : goal.returns-in-Restart-clause-limited
-returns-in-Restart-clause-limited c w like = rw c.in-Restart.is (limited-none c.restart.result c.args.lines.now c.restart.new.lines c.restart.ensures.limited)
+returns-in-Restart-clause-limited c w like = rw c.in-Restart.is (limited-none c.restart.result c.args.lines.now c.restart.new.lines c.restart.ensures.untold)
 
 pub returns-in-Stop-clause-limited : goal.returns-in-Stop-clause-limited
-returns-in-Stop-clause-limited c w like = rw c.in-Stop.is (limited-none c.stop.result c.args.lines.now c.stop.new.lines c.stop.ensures.limited)
+returns-in-Stop-clause-limited c w like = rw c.in-Stop.is (limited-none c.stop.result c.args.lines.now c.stop.new.lines c.stop.ensures.untold)
+
+pub returns-in-Read-clause-cut : goal.returns-in-Read-clause-cut
+returns-in-Read-clause-cut c w like =
+    rw c.in-Read.is (memory-untold c.read.result (λ (same : c.read.new.lines ≡ c.args.lines.now). cut-none c.read.new.self c.args.lines.now c.read.new.lines w _ (λ n. refl) same) c.read.ensures.untold)
+
+pub returns-in-Begin-clause-cut : goal.returns-in-Begin-clause-cut
+returns-in-Begin-clause-cut c w like =
+    rw c.in-Begin.is (memory-untold c.begin.result (λ (same : c.begin.new.lines ≡ c.args.lines.now). cut-none c.begin.new.self c.args.lines.now c.begin.new.lines w _ (λ n. refl) same) c.begin.ensures.untold)
+
+pub returns-in-Tick-clause-cut : goal.returns-in-Tick-clause-cut
+returns-in-Tick-clause-cut c w like =
+    rw c.in-Tick.is (memory-untold c.tick.result (λ (same : c.tick.new.lines ≡ c.args.lines.now). cut-none c.tick.new.self c.args.lines.now c.tick.new.lines w _ (λ n. refl) same) c.tick.ensures.untold)
+
+pub returns-in-Crash-clause-cut : goal.returns-in-Crash-clause-cut
+returns-in-Crash-clause-cut c w like =
+    rw c.in-Crash.is (memory-untold c.crash.result (λ (same : c.crash.new.lines ≡ c.args.lines.now). cut-none c.crash.new.self c.args.lines.now c.crash.new.lines w _ (λ n. refl) same) c.crash.ensures.untold)
+
+pub returns-in-Restart-clause-cut : goal.returns-in-Restart-clause-cut
+returns-in-Restart-clause-cut c w like =
+    rw c.in-Restart.is (memory-untold c.restart.result (λ (same : c.restart.new.lines ≡ c.args.lines.now). cut-none c.restart.new.self c.args.lines.now c.restart.new.lines w _ (λ n. refl) same) c.restart.ensures.untold)
+
+pub returns-in-Stop-clause-cut : goal.returns-in-Stop-clause-cut
+returns-in-Stop-clause-cut c w like =
+    rw c.in-Stop.is (memory-untold c.stop.result (λ (same : c.stop.new.lines ≡ c.args.lines.now). cut-none c.stop.new.self c.args.lines.now c.stop.new.lines w _ (λ n. refl) same) c.stop.ensures.untold)

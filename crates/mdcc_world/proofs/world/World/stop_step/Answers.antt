@@ -5,7 +5,7 @@ use Rattle.mdcc_ledger.specs.Ledger.{facts_of}
 use Rattle.mdcc_simulation.specs.Limits.{log_limit}
 use Rattle.mdcc_simulation.specs.State.{is_up_at}
 use Rattle.mdcc_world.proofs.Happened.{residual, unlimited}
-use Rattle.mdcc_world.proofs.Limits.{fact-may, log-there, step-formed, step-measures}
+use Rattle.mdcc_world.proofs.Limits.{fact-may, log-there, step-formed, step-measures, step-short}
 use Rattle.mdcc_world.proofs.StoppedStep.{step-stops, stop-refused}
 use Rattle.mdcc_world.proofs.world.World.stop_step.Goals as goal
 
@@ -17,6 +17,10 @@ at_log_limit-requires-clause-within c =
 pub at_log_limit-requires-clause-formed : goal.at_log_limit-requires-clause-formed
 at_log_limit-requires-clause-formed c =
     step-formed c.args.self.now c.requires.some.0 c.args.centre c.requires.some.1 c.args.step.now c.requires.some.2 c.args.fact.now c.requires.fact
+
+pub at_log_limit-requires-clause-short : goal.at_log_limit-requires-clause-short
+at_log_limit-requires-clause-short c =
+    step-short c.args.self.now c.requires.some.0 c.args.centre c.requires.some.1 c.args.step.now c.requires.some.2 c.args.fact.now c.requires.fact
 
 pub returns-in_err-at_log_limit-clause-happens : goal.returns-in_err-at_log_limit-clause-happens
 returns-in_err-at_log_limit-clause-happens c w input made =
