@@ -1,0 +1,1 @@
+"""What the tools share: the bytes of messages, datagrams and logs, a configuration, and nodes as processes."""

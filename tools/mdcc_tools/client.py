@@ -1,0 +1,165 @@
+"""A client of all centres: it asks over datagrams, asks again where no answer comes, and gives each answer to who asked.
+
+It is one thread. `step` waits for answers, takes them all, and asks again what is late. A request has a serial of its own, under
+which a node begins at most one transaction until it starts anew, so asking again is safe but across a restart of the node.
+"""
+import heapq
+import itertools
+import os
+import select
+import socket
+import struct
+import time
+from collections import Counter, deque
+
+from . import messages
+from .datagrams import HEAD, WHOLE, Joiner, split
+from .parts import Refused
+
+# An answer that a transaction was begun, and one that it was heard, without their datagram's head.
+BEGUN_FORM = struct.Struct("<BBBBIBBII")
+HEARD_FORM = struct.Struct("<BBBBIBBIIB")
+
+
+def answer_in(message):
+    """The serial and the answer in a message; None where it is no answer to a client."""
+    size = len(message)
+    if size == BEGUN_FORM.size and message[1] == messages.CLIENT_ANSWER and message[8] == messages.BEGUN:
+        fields = BEGUN_FORM.unpack(message)
+        return fields[4], (messages.BEGUN, fields[6:9])
+    if size == HEARD_FORM.size and message[1] == messages.CLIENT_ANSWER and message[8] == messages.HEARD:
+        fields = HEARD_FORM.unpack(message)
+        return fields[4], (messages.HEARD, fields[6:9], fields[9])
+    try:
+        _, _, kind, body = messages.decode(message)
+    except Refused:
+        return None
+    return body if kind == messages.CLIENT_ANSWER else None
+
+
+class Request:
+    """What was asked. `answered` is called with each answer, and with None where none came in time; it says whether that ends it."""
+    __slots__ = ("serial", "centre", "datagrams", "began", "late", "answered", "is_open")
+
+    def __init__(self, serial, centre, datagrams, began, late, answered):
+        self.serial, self.centre, self.datagrams, self.answered = serial, centre, datagrams, answered
+        self.began, self.late, self.is_open = began, late, True
+
+
+class Client:
+    def __init__(self, configuration, again=0.25, patience=10.0):
+        self.configuration, self.again, self.patience = configuration, again, patience
+        # Other clients of these nodes have other serials, as far as chance goes.
+        self.serials = itertools.count(struct.unpack("<I", os.urandom(4))[0] >> 1 | 1)
+        self.requests, self.waiting, self.later = {}, deque(), []
+        self.order = itertools.count()
+        self.counts = Counter()
+        self.sockets, self.joiners, self.poll = {}, {}, select.poll()
+        self.by_descriptor = {}
+        for centre in configuration.numbers():
+            self.bind(centre)
+
+    def bind(self, centre):
+        bound = socket.socket(socket.AF_INET, socket.SOCK_DGRAM)
+        bound.setsockopt(socket.SOL_SOCKET, socket.SO_RCVBUF, 4 << 20)
+        bound.bind(self.configuration.client(centre))
+        bound.setblocking(False)
+        self.sockets[centre], self.joiners[centre] = bound, Joiner()
+        self.by_descriptor[bound.fileno()] = centre
+        self.poll.register(bound, select.POLLIN)
+
+    def close(self):
+        for bound in self.sockets.values():
+            bound.close()
+
+    # ---- asking
+
+    def read(self, centre, key, answered):
+        return self.ask(centre, messages.CLIENT_READ, key, answered)
+
+    def begin(self, centre, parts, answered):
+        """Begins a transaction of these parts, which ascend by key."""
+        return self.ask(centre, messages.CLIENT_BEGIN, parts, answered)
+
+    def ask(self, centre, kind, rest, answered):
+        serial = next(self.serials) & 0xFFFFFFFF
+        message = messages.encode(16 + centre, centre, kind, (serial, rest))
+        now = time.monotonic()
+        request = Request(serial, centre, split(message, 16 + centre, serial, 1), now, now + self.patience, answered)
+        self.requests[serial] = request
+        self.send(request, now)
+        return request
+
+    def send(self, request, now):
+        bound, address = self.sockets[request.centre], self.configuration.asked(request.centre)
+        for datagram in request.datagrams:
+            try:
+                bound.sendto(datagram, address)
+            except OSError:
+                self.counts["sends that failed"] += 1
+        self.waiting.append((now + self.again, request))
+
+    def after(self, seconds, call):
+        """Calls it later, out of `step`."""
+        heapq.heappush(self.later, (time.monotonic() + seconds, next(self.order), call))
+
+    # ---- answers
+
+    def step(self, wait):
+        """Waits at most so many seconds for answers, takes what came, and does what is due."""
+        due = min(self.waiting[0][0] if self.waiting else float("inf"), self.later[0][0] if self.later else float("inf"))
+        wait = max(0.0, min(wait, due - time.monotonic()))
+        for descriptor, _ in self.poll.poll(wait * 1000 + (0.5 if wait else 0)):
+            self.receive(self.by_descriptor[descriptor])
+        self.do_due(time.monotonic())
+
+    def receive(self, centre):
+        bound, joiner = self.sockets[centre], self.joiners[centre]
+        while True:
+            try:
+                datagram = bound.recv(2048)
+            except BlockingIOError:
+                return
+            except OSError:
+                self.counts["receives that failed"] += 1
+                return
+            joined = joiner.join(datagram)
+            found = answer_in(joined[1]) if joined[0] == WHOLE else None
+            if found is None:
+                self.counts["datagrams that are no answer"] += 1
+                continue
+            serial, answer = found
+            request = self.requests.get(serial)
+            if request is None or request.centre != centre:
+                self.counts["answers to what was answered"] += 1
+            else:
+                self.give(request, answer)
+
+    def give(self, request, answer):
+        if request.answered(request, answer):
+            request.is_open = False
+            self.requests.pop(request.serial, None)
+
+    def do_due(self, now):
+        while self.waiting and self.waiting[0][0] <= now:
+            _, request = self.waiting.popleft()
+            if not request.is_open:
+                continue
+            if request.late <= now:
+                request.is_open = False
+                self.requests.pop(request.serial, None)
+                request.answered(request, None)
+            else:
+                self.counts["asked again"] += 1
+                self.send(request, now)
+        while self.later and self.later[0][0] <= now:
+            heapq.heappop(self.later)[2]()
+
+    def run_until(self, done, seconds=60.0):
+        """Steps until it is done or the time is over, and says which."""
+        end = time.monotonic() + seconds
+        while not done():
+            if time.monotonic() > end:
+                return False
+            self.step(0.05)
+        return True

@@ -1,0 +1,65 @@
+"""What the disk costs: a small write that is made durable, and an append as a log makes it, with a gate."""
+import multiprocessing
+import os
+import tempfile
+import time
+
+from .orders import percentile
+
+SIZE = 100
+DATA = b"x" * SIZE
+
+
+def times_of(count, call):
+    times = []
+    for number in range(count):
+        began = time.perf_counter()
+        call(number)
+        times.append(time.perf_counter() - began)
+    return sorted(times)
+
+
+def write(descriptor, number):
+    os.pwrite(descriptor, DATA, number * SIZE)
+    os.fdatasync(descriptor)
+
+
+def append(descriptor, number):
+    os.pwrite(descriptor, DATA, number * SIZE + 1)
+    os.fdatasync(descriptor)
+    os.pwrite(descriptor, b"\1", number * SIZE)
+    os.fdatasync(descriptor)
+
+
+def open_in(folder, name):
+    return os.open(os.path.join(folder, name), os.O_RDWR | os.O_CREAT)
+
+
+def append_on(folder, name):
+    """Appends until it is ended."""
+    descriptor, number = open_in(folder, name), 0
+    while True:
+        append(descriptor, number)
+        number += 1
+
+
+def disk_times(folder, others, count=300):
+    """Times, ascending, in seconds: of a write and a sync, of an append, and of an append while so many others append to files of their own."""
+    with tempfile.TemporaryDirectory(dir=folder) as inside:
+        descriptor = open_in(inside, "own")
+        written = times_of(count, lambda number: write(descriptor, number))
+        appended = times_of(count, lambda number: append(descriptor, number))
+        beside = [multiprocessing.Process(target=append_on, args=(inside, f"other-{number}"), daemon=True) for number in range(others)]
+        for process in beside:
+            process.start()
+        shared = times_of(count, lambda number: append(descriptor, number))
+        for process in beside:
+            process.terminate()
+            process.join()
+        os.close(descriptor)
+    return written, appended, shared
+
+
+def floor_of(appended):
+    """What a commit costs at least: two appends one after the other."""
+    return 2 * percentile(appended, 0.5)

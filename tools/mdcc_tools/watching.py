@@ -1,0 +1,39 @@
+"""The memory of nodes over time."""
+import time
+
+from .processes import memory_of
+
+
+def lost_at(port):
+    """How many datagrams the system dropped at the socket that is bound to this port, since its buffer was full."""
+    with open("/proc/net/udp") as table:
+        rows = [line.split() for line in table.readlines()[1:]]
+    return sum(int(row[-1]) for row in rows if int(row[1].split(":")[1], 16) == port)
+
+
+class Watch:
+    """Looks once a second at the memory of each of some processes, by centre: the resident set and the greatest one so far, in kB."""
+
+    def __init__(self, pids):
+        self.pids, self.began, self.samples, self.next = pids, time.monotonic(), [], 0.0
+
+    def look(self):
+        now = time.monotonic()
+        if now < self.next:
+            return
+        self.next = now + 1
+        self.samples.append((now - self.began, {centre: memory_of(pid) for centre, pid in self.pids.items()}))
+
+    def gone(self):
+        return [centre for centre, memory in self.samples[-1][1].items() if memory is None] if self.samples else []
+
+    def at(self, seconds, centre):
+        """What it had at that time, or at the first look after it; None where there was none, or the node had ended."""
+        for taken, memories in self.samples:
+            if taken >= seconds:
+                return memories[centre]
+        return None
+
+    def last(self, centre):
+        """What it had when it was last there."""
+        return [memories[centre] for _, memories in self.samples if memories[centre] is not None][-1]
