@@ -2,7 +2,7 @@
 use Rattle.std.proofs.Common.{◌≡◌, ℕ, ◌+◌, ◌-◌, ◌^◌, ◌<◌, ◌≤◌, Bool, true, false, not, nat_lt, nat_le, min, List, [], ◌∷◌, Option, Some, None, Ok, Err, Result, refl, sym, ◌∙◌, ap, arith, if◌then◌else◌}
 use Rattle.std.specs.List.{AllByRecursion}
 use Rattle.std.proofs.lemmas.Bool.Decides.{nat_tests}
-use Rattle.mdcc_admission.specs.Boots.{AreAmple, BootsWithAmpleCells, BootsWithinCells}
+use Rattle.mdcc_admission.specs.Boots.{AreUnbounded, BootsUnbounded, BootsWithinCells}
 use Rattle.mdcc_admission.specs.Loading.{Cells, boot_by, is_past, list_cells, loaded_by, next_by, past_fault}
 use Rattle.mdcc_base.specs.Counts.{sum_over}
 use Rattle.mdcc_option.specs.declared.cluster.Cluster.{Cluster}
@@ -33,7 +33,7 @@ next-alike true past past' fault fault' more e f = refl
 next-alike false past true fault fault' more e f = rw e (ap (λ x. Err x) (f refl))
 next-alike false past false fault fault' more e f = rw e refl
 
--- ---- ample cells
+-- ---- unbounded cells
 
 none-needed : (facts : List Fact) → sum_over list_cells.needed facts ≡ 0
 none-needed [] = refl
@@ -42,36 +42,36 @@ none-needed (fact ∷ facts) = rw (none-needed facts) refl
 never-past : (facts : List Fact) (fact : Fact) → is_past list_cells facts fact ≡ false
 never-past facts fact = rw (none-needed facts) refl
 
-module _ (cells : Cells) (cluster : Cluster) (ample : AreAmple cells) where
-  test-ample : (facts : List Fact) (fact : Fact) → is_past cells facts fact ≡ is_past list_cells facts fact
-  test-ample facts fact = enough ∙ sym (never-past facts fact)
+module _ (cells : Cells) (cluster : Cluster) (unbounded : AreUnbounded cells) where
+  test-unbounded : (facts : List Fact) (fact : Fact) → is_past cells facts fact ≡ is_past list_cells facts fact
+  test-unbounded facts fact = enough ∙ sym (never-past facts fact)
     where
       enough : is_past cells facts fact ≡ false
-      enough = let most = ample facts fact in grind (arith, nat_tests)
+      enough = let most = unbounded facts fact in grind (arith, nat_tests)
 
-  fault-ample : (facts : List Fact) (fact : Fact) → is_past list_cells facts fact ≡ true → past_fault cells facts fact ≡ past_fault list_cells facts fact
-  fault-ample facts fact past = absurd (let bad : false ≡ true = sym (never-past facts fact) ∙ past in cc)
+  fault-unbounded : (facts : List Fact) (fact : Fact) → is_past list_cells facts fact ≡ true → past_fault cells facts fact ≡ past_fault list_cells facts fact
+  fault-unbounded facts fact past = absurd (let bad : false ≡ true = sym (never-past facts fact) ∙ past in cc)
 
-  loaded-ample : (facts : List Fact) (n : ℕ) (payloads : List (Option Fact)) → loaded_by cells cluster facts n payloads ≡ loaded_by list_cells cluster facts n payloads
-  loaded-ample facts n [] = refl
-  loaded-ample facts n (None ∷ payloads) = refl
-  loaded-ample facts n (Some fact ∷ payloads) =
+  loaded-unbounded : (facts : List Fact) (n : ℕ) (payloads : List (Option Fact)) → loaded_by cells cluster facts n payloads ≡ loaded_by list_cells cluster facts n payloads
+  loaded-unbounded facts n [] = refl
+  loaded-unbounded facts n (None ∷ payloads) = refl
+  loaded-unbounded facts n (Some fact ∷ payloads) =
       one-alike n (is_allowed_fact cluster facts fact) (is_past cells facts fact) (is_past list_cells facts fact) (past_fault cells facts fact) (past_fault list_cells facts fact)
       (loaded_by cells cluster (fact ∷ facts) (n + 1) payloads) (loaded_by list_cells cluster (fact ∷ facts) (n + 1) payloads)
-      (test-ample facts fact) (fault-ample facts fact) (λ fits. loaded-ample (fact ∷ facts) (n + 1) payloads)
+      (test-unbounded facts fact) (fault-unbounded facts fact) (λ fits. loaded-unbounded (fact ∷ facts) (n + 1) payloads)
 
-  next-ample : (loaded : Result (List Fact) BootFault) → next_by cells loaded ≡ next_by list_cells loaded
-  next-ample (Err fault) = refl
-  next-ample (Ok facts) =
+  next-unbounded : (loaded : Result (List Fact) BootFault) → next_by cells loaded ≡ next_by list_cells loaded
+  next-unbounded (Err fault) = refl
+  next-unbounded (Ok facts) =
       let fact = Fact.Booted (epoch_of facts + 1) in
       next-alike (nat_le (2 ^ 32 - 1) (epoch_of facts)) (is_past cells facts fact) (is_past list_cells facts fact) (past_fault cells facts fact) (past_fault list_cells facts fact) (fact ∷ facts)
-      (test-ample facts fact) (fault-ample facts fact)
+      (test-unbounded facts fact) (fault-unbounded facts fact)
 
-  boot-ample : (payloads : List (Option Fact)) → boot_by cells cluster payloads ≡ boot_by list_cells cluster payloads
-  boot-ample payloads = ap (next_by cells) (loaded-ample [] 0 payloads) ∙ next-ample (loaded_by list_cells cluster [] 0 payloads)
+  boot-unbounded : (payloads : List (Option Fact)) → boot_by cells cluster payloads ≡ boot_by list_cells cluster payloads
+  boot-unbounded payloads = ap (next_by cells) (loaded-unbounded [] 0 payloads) ∙ next-unbounded (loaded_by list_cells cluster [] 0 payloads)
 
-pub ample_boots : BootsWithAmpleCells
-ample_boots cells cluster payloads ample = boot-ample cells cluster ample payloads
+pub unbounded_boots : BootsUnbounded
+unbounded_boots cells cluster payloads unbounded = boot-unbounded cells cluster unbounded payloads
 
 -- ---- counted cells
 

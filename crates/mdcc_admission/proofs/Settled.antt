@@ -4,7 +4,7 @@ use Rattle.std.specs.Bool.{OnFalse}
 use Rattle.std.proofs.lemmas.Bool.Decides.{nat_tests}
 use Rattle.mdcc_admission.specs.Admission.{is_admitted}
 use Rattle.mdcc_admission.specs.Laws.{AreCounted}
-use Rattle.mdcc_admission.specs.Loading.{Cells, LoadsUnless, Refusal, after, is_memory, is_memory_at, is_past, is_room, list_cells, loaded_by, past_fault, run_by, settle, taken_by}
+use Rattle.mdcc_admission.specs.Loading.{Cells, LoadsUnless, Refusal, after, is_boot_memory, is_memory_at, is_past, is_room, list_cells, loaded_by, past_fault, run_by, settle, taken_by}
 use Rattle.mdcc_admission.proofs.Exact.{admission_exact, stay_counted}
 use Rattle.mdcc_base.specs.Counts.{sum_over}
 use Rattle.mdcc_option.specs.declared.cluster.Cluster.{Cluster}
@@ -29,7 +29,7 @@ list_spare = omega arith
 
 abbrev IsFrom : ℕ → Result (List Fact) Refusal → Type 0
 IsFrom n (Ok facts) = Unit {0}
-IsFrom n (Err refusal) = (n ≤ refusal.0) × (is_memory refusal.1 ≡ false)
+IsFrom n (Err refusal) = (n ≤ refusal.0) × (is_boot_memory refusal.1 ≡ false)
 
 from-later : (n : ℕ) (result : Result (List Fact) Refusal) → IsFrom (n + 1) result → IsFrom n result
 from-later n (Ok facts) h = tt
@@ -43,7 +43,7 @@ from-after n rest (Err refusal) h k = k
 at_least : (n : ℕ) → n ≤ n
 at_least n = omega arith
 
-from-if : (admitted past crowds : Bool) (n : ℕ) (fault : BootFault) (more : List Fact) → is_memory fault ≡ false
+from-if : (admitted past crowds : Bool) (n : ℕ) (fault : BootFault) (more : List Fact) → is_boot_memory fault ≡ false
     → IsFrom n (if not admitted then Err (n, BootFault.NotARun (n + 1))
     else (if past then Err (n, fault) else (if crowds then Err (n, BootFault.NotARun (n + 1)) else Ok more)))
 from-if false past crowds n fault more h = (at_least n, refl)
@@ -76,7 +76,7 @@ later n fault (Err refusal) h = by (is_room fault)
     over : nat_le refusal.0 n ≡ false
     over = let k = h.0 in grind (arith, nat_tests)
 
-    by : (room : Bool) → (if room && (is_memory refusal.1 || nat_le refusal.0 n) then refusal.1 else fault) ≡ fault
+    by : (room : Bool) → (if room && (is_boot_memory refusal.1 || nat_le refusal.0 n) then refusal.1 else fault) ≡ fault
     by true = rw (h.1, over) refl
     by false = refl
 
@@ -124,29 +124,29 @@ module _ (cells : Cells) (cluster : Cluster) (payloads : List (Option Fact)) whe
   memory-stays taken (Err refusal) = refl
 
   -- a fault of the run is settled
-  pub settles : (taken : ℕ) (fault result : BootFault) → OnFalse (is_memory fault) (run_by cells cluster [] 0 payloads ≡ Err (taken, fault))
-      → OnFalse (is_memory result) (result ≡ settle (taken, fault) (run_by list_cells cluster [] 0 payloads))
-      → OnFalse (is_memory result) (loaded_by cells cluster [] 0 payloads ≡ Err result)
-  settles taken fault result e f = by (is_memory result) refl f
+  pub settles : (taken : ℕ) (fault result : BootFault) → OnFalse (is_boot_memory fault) (run_by cells cluster [] 0 payloads ≡ Err (taken, fault))
+      → OnFalse (is_boot_memory result) (result ≡ settle (taken, fault) (run_by list_cells cluster [] 0 payloads))
+      → OnFalse (is_boot_memory result) (loaded_by cells cluster [] 0 payloads ≡ Err result)
+  settles taken fault result e f = by (is_boot_memory result) refl f
     where
-      ends : (memory : Bool) → is_memory fault ≡ memory → OnFalse memory (run_by cells cluster [] 0 payloads ≡ Err (taken, fault)) → is_memory result ≡ false
+      ends : (memory : Bool) → is_boot_memory fault ≡ memory → OnFalse memory (run_by cells cluster [] 0 payloads ≡ Err (taken, fault)) → is_boot_memory result ≡ false
           → result ≡ settle (taken, fault) (run_by list_cells cluster [] 0 payloads) → loaded_by cells cluster [] 0 payloads ≡ Err result
       ends false m k not_memory is = rw is (refused (taken, fault) k)
-      ends true m k not_memory is = absurd (let bad : is_memory result ≡ true = rw is (stays fault m) in cc)
+      ends true m k not_memory is = absurd (let bad : is_boot_memory result ≡ true = rw is (stays fault m) in cc)
         where
-          stays : (fault : BootFault) → is_memory fault ≡ true → is_memory (settle (taken, fault) (run_by list_cells cluster [] 0 payloads)) ≡ true
+          stays : (fault : BootFault) → is_boot_memory fault ≡ true → is_boot_memory (settle (taken, fault) (run_by list_cells cluster [] 0 payloads)) ≡ true
           stays BootFault.Memory m = rw (memory-stays taken (run_by list_cells cluster [] 0 payloads)) refl
           stays BootFault.Epochs m = absurd (cc)
           stays (BootFault.NotARun k) m = absurd (cc)
           stays (BootFault.Room k l) m = absurd (cc)
 
-      by : (memory : Bool) → is_memory result ≡ memory → OnFalse memory (result ≡ settle (taken, fault) (run_by list_cells cluster [] 0 payloads))
+      by : (memory : Bool) → is_boot_memory result ≡ memory → OnFalse memory (result ≡ settle (taken, fault) (run_by list_cells cluster [] 0 payloads))
           → OnFalse memory (loaded_by cells cluster [] 0 payloads ≡ Err result)
       by true m k = tt
-      by false m k = ends (is_memory fault) refl e m k
+      by false m k = ends (is_boot_memory fault) refl e m k
 
 -- a fault that is not for want of room stays
-pub not_room : (taken : ℕ) (fault : BootFault) (other : Result (List Fact) Refusal) → is_room fault ≡ false → OnFalse (is_memory fault) (fault ≡ settle (taken, fault) other)
+pub not_room : (taken : ℕ) (fault : BootFault) (other : Result (List Fact) Refusal) → is_room fault ≡ false → OnFalse (is_boot_memory fault) (fault ≡ settle (taken, fault) other)
 not_room taken (BootFault.Room needed cells) other h = absurd (cc)
 not_room taken BootFault.Epochs (Ok facts) h = refl
 not_room taken BootFault.Epochs (Err refusal) h = refl
@@ -160,12 +160,12 @@ always false P k = k
 
 -- what is settled by a run over a list
 pub settled_by : (P : List Fact → Type 0) (refusal : Refusal) (run : Result (Unit {0}) Refusal) (expected : Result (List Fact) Refusal)
-    → is_room refusal.1 ≡ true → LoadsUnless is_memory_at run expected P → OnFalse (is_memory (settle refusal run)) (settle refusal run ≡ settle refusal expected)
-settled_by P refusal (Ok u) expected room h = rw h.1 (always (is_memory refusal.1) (refusal.1 ≡ refusal.1) refl)
-settled_by P refusal (Err other) expected room h = by (is_memory other.1) refl h
+    → is_room refusal.1 ≡ true → LoadsUnless is_memory_at run expected P → OnFalse (is_boot_memory (settle refusal run)) (settle refusal run ≡ settle refusal expected)
+settled_by P refusal (Ok u) expected room h = rw h.1 (always (is_boot_memory refusal.1) (refusal.1 ≡ refusal.1) refl)
+settled_by P refusal (Err other) expected room h = by (is_boot_memory other.1) refl h
   where
-    by : (memory : Bool) → is_memory other.1 ≡ memory → OnFalse memory (expected ≡ Err other)
-        → OnFalse (is_memory (settle {T = Unit {0}} refusal (Err other))) (settle {T = Unit {0}} refusal (Err other) ≡ settle refusal expected)
+    by : (memory : Bool) → is_boot_memory other.1 ≡ memory → OnFalse memory (expected ≡ Err other)
+        → OnFalse (is_boot_memory (settle {T = Unit {0}} refusal (Err other))) (settle {T = Unit {0}} refusal (Err other) ≡ settle refusal expected)
     by true m k = rw (room, m) (rw m tt)
     by false m k =
-        rw k (always (is_memory (settle {T = Unit {0}} refusal (Err other))) (settle {T = Unit {0}} refusal (Err other) ≡ settle {T = List Fact} refusal (Err other)) refl)
+        rw k (always (is_boot_memory (settle {T = Unit {0}} refusal (Err other))) (settle {T = Unit {0}} refusal (Err other) ≡ settle {T = List Fact} refusal (Err other)) refl)

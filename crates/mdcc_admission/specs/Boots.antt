@@ -8,14 +8,14 @@ use Rattle.mdcc_messages.specs.Lengths.{cells_needed}
 use Rattle.mdcc_messages.specs.declared.facts.Fact.{Fact}
 
 -- no fact lacks cells, whatever the others are
-abbrev pub AreAmple : Cells → Type 0
-AreAmple cells = (facts : List Fact) (fact : Fact) → cells_with cells facts fact ≤ cells.total
+abbrev pub AreUnbounded : Cells → Type 0
+AreUnbounded cells = (facts : List Fact) (fact : Fact) → cells_with cells facts fact ≤ cells.total
 
 -- over a store in which cells never lack a boot is that over a store with room for any number of facts
-abbrev pub BootsWithAmpleCells : Type 0
-BootsWithAmpleCells =
+abbrev pub BootsUnbounded : Type 0
+BootsUnbounded =
     (cells : Cells) (cluster : Cluster) (payloads : List (Option Fact))
-    → AreAmple cells
+    → AreUnbounded cells
     → boot_by cells cluster payloads ≡ boot_by list_cells cluster payloads
 
 -- over a store that has and counts the cells of the cluster it is the protocol's

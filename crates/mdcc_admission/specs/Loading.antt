@@ -95,12 +95,12 @@ abbrev pub run_by : Cells → Cluster → List Fact → ℕ → List (Option Fac
 run_by cells cluster facts n [] = Ok facts
 run_by cells cluster facts n (payload ∷ payloads) = after (λ more. run_by cells cluster more (n + 1) payloads) (taken_by cells cluster facts n payload)
 
-abbrev pub is_memory : BootFault → Bool
-is_memory BootFault.Memory = true
-is_memory _ = false
+abbrev pub is_boot_memory : BootFault → Bool
+is_boot_memory BootFault.Memory = true
+is_boot_memory _ = false
 
 abbrev pub is_memory_at : Refusal → Bool
-is_memory_at refusal = is_memory refusal.1
+is_memory_at refusal = is_boot_memory refusal.1
 
 abbrev pub is_room : BootFault → Bool
 is_room (BootFault.Room needed cells) = true
@@ -109,7 +109,7 @@ is_room _ = false
 -- the fault, where the payloads are refused so over these cells and so over as many cells as there may be: a fact that brings too many deltas is no fact of the run, also where there is no room for it
 abbrev pub settle : {T : Type 0} → Refusal → Result T Refusal → BootFault
 settle refusal (Ok facts) = refusal.1
-settle refusal (Err other) = if is_room refusal.1 && (is_memory other.1 || nat_le other.0 refusal.0) then other.1 else refusal.1
+settle refusal (Err other) = if is_room refusal.1 && (is_boot_memory other.1 || nat_le other.0 refusal.0) then other.1 else refusal.1
 
 -- ---- what the parts answer
 

@@ -1,5 +1,5 @@
 //! What it means that a fact is admitted.
-ghost use Rattle.mdcc_admission.specs.Boots.{BootsWithAmpleCells, BootsWithinCells};
+ghost use Rattle.mdcc_admission.specs.Boots.{BootsUnbounded, BootsWithinCells};
 ghost use Rattle.mdcc_admission.specs.Laws.{AdmissionIsExact, AdmittedMayBeAdded, AllowedEpochsAreCounted, EpochsStayCounted};
 
 /// After facts whose epochs are counted, a fact is allowed exactly where it is admitted and leaves at
@@ -24,9 +24,9 @@ pub fn admitted_may_be_added()
 {}
 
 /// A boot over a store in which cells never lack is that over one with room for any number of facts.
-#[tactic(auto, using(crate::proofs::Alike::ample_boots))]
-pub fn boots_with_ample_cells()
-    ensures { BootsWithAmpleCells }
+#[tactic(auto, using(crate::proofs::Alike::unbounded_boots))]
+pub fn boots_unbounded()
+    ensures { BootsUnbounded }
 {}
 
 /// A boot over a store that has and counts the cells of the cluster is the protocol's.

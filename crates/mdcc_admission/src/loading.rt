@@ -1,7 +1,7 @@
 //! The payloads of a log, taken into a store, and the boot after them.
 ghost use Rattle.std.specs.Prelude.{◌≡◌, ◌-◌, ◌<◌, ◌≤◌, ◌^◌, [], IfOk, IsTrue, List, Ok, Some, length, map, slice_get, true};
 ghost use Rattle.std.specs.Bool.{OnFalse};
-ghost use Rattle.mdcc_admission.specs.Loading.{AreShort, BootsUnless, Cells, Holds, LoadsUnless, boot_by, fact_read, is_memory, is_memory_at, is_room, list_cells, loaded_by, next_by, read_fault, run_by, settle, store_fault, taken_by};
+ghost use Rattle.mdcc_admission.specs.Loading.{AreShort, BootsUnless, Cells, Holds, LoadsUnless, boot_by, fact_read, is_boot_memory, is_memory_at, is_room, list_cells, loaded_by, next_by, read_fault, run_by, settle, store_fault, taken_by};
 ghost use Rattle.mdcc_base.specs.Unless.{GivesUnless};
 ghost use Rattle.mdcc_messages.specs.Lengths.{fact_length};
 ghost use Rattle.mdcc_messages.specs.Reading.{fact_of};
@@ -54,8 +54,8 @@ fn read_fault(taken: u64, fault: WireFault) -> BootFault
     }
 }
 
-fn is_memory(fault: &BootFault) -> bool
-    ensures { result ≡ is_memory fault.now }
+fn is_boot_memory(fault: &BootFault) -> bool
+    ensures { result ≡ is_boot_memory fault.now }
 {
     match fault {
         BootFault::Memory => true,
@@ -188,7 +188,7 @@ fn settle(taken: u64, fault: BootFault, other: Result<(), Refusal>) -> BootFault
     match other {
         Ok(()) => fault,
         Err((place, why)) => {
-            if is_room(&fault) && (is_memory(&why) || place <= taken) {
+            if is_room(&fault) && (is_boot_memory(&why) || place <= taken) {
                 why
             } else {
                 fault
@@ -207,7 +207,7 @@ fn settled_by_list(
 ) -> BootFault
     requires room { is_room fault ≡ true }
     requires short { AreShort payloads.now }
-    ensures { OnFalse (is_memory result) (result ≡ settle (taken, fault) (run_by list_cells cluster.now [] 0 (map fact_read payloads.now))) }
+    ensures { OnFalse (is_boot_memory result) (result ≡ settle (taken, fault) (run_by list_cells cluster.now [] 0 (map fact_read payloads.now))) }
 {
     match ListFacts::new(alloc) {
         Ok(list) => {
@@ -230,7 +230,7 @@ fn settled(
     fault: BootFault,
 ) -> BootFault
     requires { AreShort payloads.now }
-    ensures { OnFalse (is_memory result) (result ≡ settle (taken, fault) (run_by list_cells cluster.now [] 0 (map fact_read payloads.now))) }
+    ensures { OnFalse (is_boot_memory result) (result ≡ settle (taken, fault) (run_by list_cells cluster.now [] 0 (map fact_read payloads.now))) }
 {
     if is_room(&fault) {
         settled_by_list(alloc, cluster, payloads, taken, fault)
@@ -248,7 +248,7 @@ fn load<S: FactStore>(
 ) -> Result<(), BootFault>
     requires { AreShort payloads.now }
     ensures { (all : Cells) → Holds S.stands S.room S.cells_for all store.old []
-        → LoadsUnless is_memory result (loaded_by all cluster.now [] 0 (map fact_read payloads.now)) (Holds S.stands S.room S.cells_for all store.new) }
+        → LoadsUnless is_boot_memory result (loaded_by all cluster.now [] 0 (map fact_read payloads.now)) (Holds S.stands S.room S.cells_for all store.new) }
 {
     match run(alloc, cluster, store, payloads) {
         Ok(()) => Ok(()),
@@ -259,7 +259,7 @@ fn load<S: FactStore>(
 // Adds the boot of the next epoch.
 fn begin_epoch<S: FactStore>(store: &mut S, cells: u64) -> Result<u32, BootFault>
     ensures { (all : Cells) (facts : List AFact) → Holds S.stands S.room S.cells_for all store.old facts → all.total ≡ cells
-        → BootsUnless is_memory result (next_by all (Ok facts)) (Holds S.stands S.room S.cells_for all store.new) }
+        → BootsUnless is_boot_memory result (next_by all (Ok facts)) (Holds S.stands S.room S.cells_for all store.new) }
 {
     let last = store.epoch();
     if last == u32::MAX {
@@ -284,7 +284,7 @@ pub fn boot_store<S: FactStore>(
 ) -> Result<u32, BootFault>
     requires short { AreShort payloads.now }
     ensures { (all : Cells) → Holds S.stands S.room S.cells_for all store.old []
-        → BootsUnless is_memory result (boot_by all cluster.now (map fact_read payloads.now)) (Holds S.stands S.room S.cells_for all store.new) }
+        → BootsUnless is_boot_memory result (boot_by all cluster.now (map fact_read payloads.now)) (Holds S.stands S.room S.cells_for all store.new) }
 {
     let cells = store.spare();
     match load(alloc, cluster, store, payloads) {

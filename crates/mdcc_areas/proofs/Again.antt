@@ -10,7 +10,7 @@ use Rattle.mdcc_log.specs.Crash.{MayRepair}
 use Rattle.mdcc_areas.specs.Area.{AreaLog, area_gate, area_mark, copy_generation, front_of, generation_of, is_copy, is_log, is_second, is_torn, newer, only, payloads, payloads_in, payloads_of, read_area, read_taken, taken}
 use Rattle.mdcc_areas.specs.Crash.{IsDead, IsLog, IsOlder}
 use Rattle.mdcc_areas.specs.Opening.{MayOpenAs}
-use Rattle.mdcc_areas.specs.Reading.{IsReadAs, Stands}
+use Rattle.mdcc_areas.specs.Reading.{IsReadAs, EndsAtGate}
 use Rattle.mdcc_areas.specs.Repair.{MayClose, MaySettle, with_closed_gate, with_gate}
 use Rattle.mdcc_areas.proofs.AreaRead.{second_no_log, shut_no_copy}
 use Rattle.mdcc_areas.proofs.Choice.{Other, Seen, Short, None, choice, dead_other, decided, either, first_taken, fresh_is_read, front_is_read, front_seen, older_other, second_taken}
@@ -57,7 +57,7 @@ module _ (tears : ℕ → Type 0) (never : tears 1 → ⊥) where
     at_gate : (x : ℕ) (rest : List ℕ) → x ≢ 1 → c ≡ front_of log ++ x ∷ rest → SettledAs area log c
     at_gate x rest shut is = record { seen = front_seen area log (x ∷ rest) c valid is; read = front_is_read area log x rest c valid shut is }
 
-    repaired_as : Stands log (length (front_of log)) bytes → MayRepair tears (length (front_of log)) bytes c → SettledAs area log c
+    repaired_as : EndsAtGate log (length (front_of log)) bytes → MayRepair tears (length (front_of log)) bytes c → SettledAs area log c
     repaired_as stands (inl same) =
         record { seen = front_seen area log (drop (length (front_of log)) bytes) c valid (same ∙ stands.front); read = ap read_area same ∙ was.read }
     repaired_as stands (inr (inl change)) =

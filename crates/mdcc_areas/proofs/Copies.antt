@@ -8,7 +8,7 @@ use Rattle.mdcc_base.specs.declared.faults.Failed.{Failed}
 use Rattle.mdcc_disks.specs.Disks.{DiskCall, AddsCall}
 use Rattle.mdcc_disks.specs.Disks.DiskCall.{Write}
 use Rattle.mdcc_log.specs.Log.{frame_body}
-use Rattle.mdcc_log.specs.Frames.{added, MadeSome}
+use Rattle.mdcc_log.specs.Frames.{with_calls, MadeSome}
 use Rattle.mdcc_areas.specs.Area.{records_bytes}
 use Rattle.mdcc_areas.specs.Copying.{IsRecordAt, IsSource, spaced}
 use Rattle.mdcc_areas.specs.Frames.{record_calls}
@@ -91,7 +91,7 @@ pub record Copied (gap from end room count to here turn : ℕ) (ps : List (List 
   pub rest : IsSource gap from end (room - (here - to)) (count - turn) left source
   pub here_is : here ≡ to + length (records_bytes done)
   pub bytes : IsTrue there → new ≡ old ++ records_bytes done
-  pub calls : new_calls ≡ added (record_calls to done) old_calls
+  pub calls : new_calls ≡ with_calls (record_calls to done) old_calls
 
 pub none_copied : (gap from end room count to : ℕ) (ps : List (List ℕ)) (source old : List ℕ) (there : Bool) (calls : Option (List DiskCall)) → IsSource gap from end room count ps source → Copied gap from end room count to to 0 ps source old old there calls calls
 none_copied gap from end room count to ps source old there calls is = record {
@@ -118,7 +118,7 @@ bytes_more done p old =
 
 -- one more
 pub one_copied : (gap from end room count to here turn size : ℕ) (ps : List (List ℕ)) (source old mid new written : List ℕ) (there : Bool) (old_calls mid_calls new_calls : Option (List DiskCall)) (so_far : Copied gap from end room count to here turn ps source old mid there old_calls mid_calls)
-    → (next : NextRecord gap from end (room - (here - to)) (count - turn) so_far.left source) → to ≤ here → turn < count → written ≡ frame_body next.payload → size ≡ length written → (IsTrue there → new ≡ mid ++ written) → new_calls ≡ added (Write here written ∷ []) mid_calls
+    → (next : NextRecord gap from end (room - (here - to)) (count - turn) so_far.left source) → to ≤ here → turn < count → written ≡ frame_body next.payload → size ≡ length written → (IsTrue there → new ≡ mid ++ written) → new_calls ≡ with_calls (Write here written ∷ []) mid_calls
     → Copied gap (from + gap + size) end room count to (here + size) (turn + 1) ps source old new there old_calls new_calls
 one_copied gap from end room count to here turn size ps source old mid new written there old_calls mid_calls new_calls so_far next le below is sized grown call =
     let p = next.payload in
@@ -141,11 +141,11 @@ one_copied gap from end room count to here turn size ps source old mid new writt
       bytes = λ told. grown told ∙ ap (λ (l : List ℕ). l ++ written) (so_far.bytes told) ∙ ap (λ (l : List ℕ). (old ++ records_bytes done) ++ l) is ∙ bytes_more done p old;
       calls =
           call
-          ∙ ap (λ (l : List ℕ). added (Write here l ∷ []) mid_calls) is
-          ∙ ap (λ (n : ℕ). added (Write n (frame_body p) ∷ []) mid_calls) so_far.here_is
-          ∙ ap (λ (o : Option (List DiskCall)). added (Write (to + length (records_bytes done)) (frame_body p) ∷ []) o) so_far.calls
+          ∙ ap (λ (l : List ℕ). with_calls (Write here l ∷ []) mid_calls) is
+          ∙ ap (λ (n : ℕ). with_calls (Write n (frame_body p) ∷ []) mid_calls) so_far.here_is
+          ∙ ap (λ (o : Option (List DiskCall)). with_calls (Write (to + length (records_bytes done)) (frame_body p) ∷ []) o) so_far.calls
           ∙ added_twice (record_calls to done) (Write (to + length (records_bytes done)) (frame_body p) ∷ []) old_calls
-          ∙ ap (λ (l : List DiskCall). added l old_calls) (sym (calls_more to done p));
+          ∙ ap (λ (l : List DiskCall). with_calls l old_calls) (sym (calls_more to done p));
     }
   where
     fits_in : (k n : ℕ) → size ≡ n → k ≤ room - (here - to) - n → k ≤ room - (here + size - to)

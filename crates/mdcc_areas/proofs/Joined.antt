@@ -5,7 +5,7 @@ use Rattle.mdcc_base.specs.declared.faults.Failed.{Failed}
 use Rattle.mdcc_base.specs.Causes.{Rose}
 use Rattle.mdcc_disks.specs.Disks.{Disk, DiskCall, AddsCall, Within, KeepsOthers, LeavesOnly}
 use Rattle.mdcc_disks.specs.Disks.DiskCall.{Read}
-use Rattle.mdcc_log.specs.Frames.{added}
+use Rattle.mdcc_log.specs.Frames.{with_calls}
 use Rattle.mdcc_log.proofs.Moments.{started, weakened, both}
 use Rattle.mdcc_areas.specs.Frames.{IsRead, OnlyReads}
 use Rattle.mdcc_areas.specs.Copying.{IsShut}
@@ -25,16 +25,16 @@ pub one_read : {T : Type 0} (offset count : ℕ) (old new : Option (List DiskCal
 one_read offset count old new (Ok x) adds = record { reads = Read offset count ∷ []; each = (tt, tt); told = inr adds.ok }
 one_read offset count old new (Err e) adds = record { reads = Read offset count ∷ []; each = (tt, tt); told = adds.err }
 
-added_to_none : (xs : List DiskCall) (calls : Option (List DiskCall)) → calls ≡ None → added xs calls ≡ None
-added_to_none xs calls none = ap (λ (o : Option (List DiskCall)). added xs o) none
+added_to_none : (xs : List DiskCall) (calls : Option (List DiskCall)) → calls ≡ None → with_calls xs calls ≡ None
+added_to_none xs calls none = ap (λ (o : Option (List DiskCall)). with_calls xs o) none
 
 pub reads_joined : (old mid new : Option (List DiskCall)) → OnlyReads old mid → OnlyReads mid new → OnlyReads old new
 reads_joined old mid new first second = record {
   reads = first.reads ++ second.reads;
   each = all_both first.reads second.reads first.each second.each;
-  told = ⊎_elim (λ none. inl none) (λ (more : new ≡ added second.reads mid). ⊎_elim
+  told = ⊎_elim (λ none. inl none) (λ (more : new ≡ with_calls second.reads mid). ⊎_elim
       (λ (none : mid ≡ None). inl (more ∙ added_to_none second.reads mid none))
-      (λ (was : mid ≡ added first.reads old). inr (more ∙ ap (λ (o : Option (List DiskCall)). added second.reads o) was ∙ added_twice first.reads second.reads old))
+      (λ (was : mid ≡ with_calls first.reads old). inr (more ∙ ap (λ (o : Option (List DiskCall)). with_calls second.reads o) was ∙ added_twice first.reads second.reads old))
       first.told) second.told;
 }
 

@@ -2,7 +2,7 @@
 use Rattle.std.proofs.Common.{◌≡◌, ◌⊎◌, inl, inr, ℕ, ◌+◌, ◌^◌, ◌<◌, IsTrue, List, length, Ok, Err, Result, sym, ◌∙◌, ap, refl, subst, arith}
 use Rattle.std.proofs.lemmas.Bool.{false≢true}
 use Rattle.mdcc_disks.specs.Disks.{Disk, DiskCall}
-use Rattle.mdcc_log.specs.Frames.{MadeSome, added}
+use Rattle.mdcc_log.specs.Frames.{MadeSome, with_calls}
 use Rattle.mdcc_log.proofs.Moments.{both, weakened}
 use Rattle.mdcc_areas.specs.declared.area.Spare.{Spare}
 use Rattle.mdcc_areas.specs.Area.{AreaLog, front_of, read_area, read_areas, read_taken, taken}
@@ -140,7 +140,7 @@ module _ {D : Type 0} (disk : D → ℕ → Disk) (may_leave : D → ℕ → Lis
         some_calls = made_before (length file) (load_calls (length file)) (changes file) _ _ _ (loads.all_calls told)
             (subst (λ (l : List DiskCall). MadeSome l (disk mid place).calls (disk new place).calls) same settles.some_calls);
         all_calls = on_ok _ _ result
-            (λ (all : (disk new place).calls ≡ added (changes bytes) (disk mid place).calls).
-            all_before (length file) (load_calls (length file)) (changes file) _ _ _ (loads.all_calls told) (all ∙ ap (λ (l : List DiskCall). added l (disk mid place).calls) same))
+            (λ (all : (disk new place).calls ≡ with_calls (changes bytes) (disk mid place).calls).
+            all_before (length file) (load_calls (length file)) (changes file) _ _ _ (loads.all_calls told) (all ∙ ap (λ (l : List DiskCall). with_calls l (disk mid place).calls) same))
             settles.all_calls;
       }

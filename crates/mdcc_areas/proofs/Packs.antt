@@ -8,7 +8,7 @@ use Rattle.mdcc_log.specs.Log.{frame_body, frame_bytes}
 use Rattle.mdcc_disks.specs.Disks.{DiskCall}
 use Rattle.mdcc_disks.specs.Disks.DiskCall.{Write}
 use Rattle.mdcc_log.specs.Crash.{AreShort}
-use Rattle.mdcc_log.specs.Frames.{MadeSome, added}
+use Rattle.mdcc_log.specs.Frames.{MadeSome, with_calls}
 use Rattle.mdcc_areas.specs.declared.checkpoint.Whole.{Whole}
 use Rattle.mdcc_areas.specs.Area.{Head, AreaLog, generation_of, records_of, payloads_of, records_bytes, counts_bytes, copy_body, head_bytes}
 use Rattle.mdcc_areas.specs.Area.Head.{Version1, Version2}
@@ -122,17 +122,17 @@ module _ (generation : ℕ) (ps : List (List ℕ)) (written : List ℕ) (is : wr
   pub body_begun : (new : Option (List DiskCall)) → MadeSome (Write 9 written ∷ []) old new → MadeSome (body_calls generation ps) old new
   body_begun new some = subst (λ (b : List ℕ). MadeSome (Write 9 b ∷ behind_counts) old new) is (made_first (Write 9 written ∷ []) behind_counts old new some)
 
-  body_after : (one new : Option (List DiskCall)) → one ≡ added (Write 9 written ∷ []) old → MadeSome behind_counts one new → MadeSome (body_calls generation ps) old new
+  body_after : (one new : Option (List DiskCall)) → one ≡ with_calls (Write 9 written ∷ []) old → MadeSome behind_counts one new → MadeSome (body_calls generation ps) old new
   body_after one new first some = subst (λ (b : List ℕ). MadeSome (Write 9 b ∷ behind_counts) old new) is (made_both (Write 9 written ∷ []) behind_counts old one new first some)
 
-  pub body_middle : (one new : Option (List DiskCall)) → one ≡ added (Write 9 written ∷ []) old → MadeSome (record_calls 25 ps) one new → MadeSome (body_calls generation ps) old new
+  pub body_middle : (one new : Option (List DiskCall)) → one ≡ with_calls (Write 9 written ∷ []) old → MadeSome (record_calls 25 ps) one new → MadeSome (body_calls generation ps) old new
   body_middle one new first some = body_after one new first (made_first (record_calls 25 ps) (Write (25 + length (records_bytes ps)) (0 ∷ []) ∷ []) one new some)
 
-  pub body_ending : (end : ℕ) (one two new : Option (List DiskCall)) → end ≡ 25 + length (records_bytes ps) → one ≡ added (Write 9 written ∷ []) old → two ≡ added (record_calls 25 ps) one → MadeSome (Write end (0 ∷ []) ∷ []) two new → MadeSome (body_calls generation ps) old new
+  pub body_ending : (end : ℕ) (one two new : Option (List DiskCall)) → end ≡ 25 + length (records_bytes ps) → one ≡ with_calls (Write 9 written ∷ []) old → two ≡ with_calls (record_calls 25 ps) one → MadeSome (Write end (0 ∷ []) ∷ []) two new → MadeSome (body_calls generation ps) old new
   body_ending end one two new at first second some =
       body_after one new first (made_both (record_calls 25 ps) (Write (25 + length (records_bytes ps)) (0 ∷ []) ∷ []) one two new second (subst (λ (n : ℕ). MadeSome (Write n (0 ∷ []) ∷ []) two new) at some))
 
-  pub body_ended : (end : ℕ) (one two new : Option (List DiskCall)) → end ≡ 25 + length (records_bytes ps) → one ≡ added (Write 9 written ∷ []) old → two ≡ added (record_calls 25 ps) one → new ≡ added (Write end (0 ∷ []) ∷ []) two → new ≡ added (body_calls generation ps) old
+  pub body_ended : (end : ℕ) (one two new : Option (List DiskCall)) → end ≡ 25 + length (records_bytes ps) → one ≡ with_calls (Write 9 written ∷ []) old → two ≡ with_calls (record_calls 25 ps) one → new ≡ with_calls (Write end (0 ∷ []) ∷ []) two → new ≡ with_calls (body_calls generation ps) old
   body_ended end one two new at first second third =
-      all_both (Write 9 written ∷ []) behind_counts old one new first (all_both (record_calls 25 ps) (Write (25 + length (records_bytes ps)) (0 ∷ []) ∷ []) one two new second (third ∙ ap (λ (n : ℕ). added (Write n (0 ∷ []) ∷ []) two) at))
-      ∙ ap (λ (b : List ℕ). added (Write 9 b ∷ behind_counts) old) is
+      all_both (Write 9 written ∷ []) behind_counts old one new first (all_both (record_calls 25 ps) (Write (25 + length (records_bytes ps)) (0 ∷ []) ∷ []) one two new second (third ∙ ap (λ (n : ℕ). with_calls (Write n (0 ∷ []) ∷ []) two) at))
+      ∙ ap (λ (b : List ℕ). with_calls (Write 9 b ∷ behind_counts) old) is

@@ -3,10 +3,10 @@ use Rattle.std.proofs.Common.{◌≡◌, ◌≢◌, inl, inr, ℕ, ◌<◌, ◌�
 use Rattle.std.proofs.lemmas.List.{take_at}
 use Rattle.mdcc_disks.specs.Disks.{Disk, DiskCall, Only, Within, KeepsOthers, LeavesOnly}
 use Rattle.mdcc_log.specs.Log.{log_bytes}
-use Rattle.mdcc_log.specs.Frames.{MadeSome, added, begin_calls, close_calls, cut_calls}
+use Rattle.mdcc_log.specs.Frames.{MadeSome, with_calls, begin_calls, close_calls, cut_calls}
 use Rattle.mdcc_log.proofs.Moments.{started, both, weakened}
 use Rattle.mdcc_areas.specs.Area.{AreaLog, front_of, area_bytes, read_area}
-use Rattle.mdcc_areas.specs.Reading.{AreaIs, IsReadAs, Stands}
+use Rattle.mdcc_areas.specs.Reading.{AreaIs, IsReadAs, EndsAtGate}
 use Rattle.mdcc_areas.specs.Repair.{settled, settle_at, MaySettle}
 use Rattle.mdcc_areas.specs.Opening.{MaySettleAs, taken_bytes}
 use Rattle.mdcc_areas.specs.Frames.{repair_calls, settle_calls}
@@ -40,7 +40,7 @@ module _ {g : ℕ} {all : List (List ℕ)} {start tail gate : ℕ} {bytes : List
     numbered = λ copy. is.numbered copy ∙ ap (λ (n : ℕ). let ok : Result ℕ ℕ = Ok n in ok) is.generation_is;
     stands = elim is.stands [
       | inl short ↦ inl short
-      | inr long ↦ inr (long.0, subst (λ (n : ℕ). Stands is.log n bytes) is.gate_is long.1)
+      | inr long ↦ inr (long.0, subst (λ (n : ℕ). EndsAtGate is.log n bytes) is.gate_is long.1)
     ];
   }
 
@@ -86,7 +86,7 @@ module _ {D : Type 0} (disk : D → ℕ → Disk) (may_leave : D → ℕ → Lis
 
   -- first there, and then elsewhere
   pub settles_first : {X Y : Type 0} (counts_now : (disks : D) (p t : ℕ) (c : List ℕ) → t ≤ moment disks → may_leave disks p c → left_since disks p t c) (old mid new : D) (place other : ℕ) (bytes : List ℕ) (P : List ℕ → Type 0) (calls : List DiskCall) (result : Result X Y) → place ≢ other → KeepsOthers disk may_leave moment left_since mid new other
-      → ((disk mid place).told ≡ (disk old place).told) → (IsTrue (disk old place).told → (disk mid place).bytes ≡ bytes) → (IsTrue (disk old place).told → Only (disk mid place).bytes (may_leave mid place)) → (IsTrue (disk old place).told → LeavesOnly moment left_since old mid place P) → ((disk mid place).calls ≡ added calls (disk old place).calls)
+      → ((disk mid place).told ≡ (disk old place).told) → (IsTrue (disk old place).told → (disk mid place).bytes ≡ bytes) → (IsTrue (disk old place).told → Only (disk mid place).bytes (may_leave mid place)) → (IsTrue (disk old place).told → LeavesOnly moment left_since old mid place P) → ((disk mid place).calls ≡ with_calls calls (disk old place).calls)
       → SettlesOne disk may_leave moment left_since old new place bytes P calls result
   settles_first counts_now old mid new place other bytes P calls result apart keeps told_is made durable moments told_calls = record {
     told = ap (λ (d : Disk). d.told) (keeps.others place apart) ∙ told_is;
@@ -110,7 +110,7 @@ module _ {D : Type 0} (disk : D → ℕ → Disk) (may_leave : D → ℕ → Lis
 
     -- first elsewhere, and then there
     pub settles_second : (here : T) → result ≡ Ok here → ((disk new place).told ≡ (disk mid place).told) → (IsTrue (disk mid place).told → (disk new place).bytes ≡ bytes) → (IsTrue (disk mid place).told → Only (disk new place).bytes (may_leave new place)) → (IsTrue (disk mid place).told → LeavesOnly moment left_since mid new place P)
-        → (disk new place).calls ≡ added calls (disk mid place).calls → SettlesOne disk may_leave moment left_since old new place bytes P calls result
+        → (disk new place).calls ≡ with_calls calls (disk mid place).calls → SettlesOne disk may_leave moment left_since old new place bytes P calls result
     settles_second here ok told_is made durable moments all =
         subst (λ (r : Result T E). SettlesOne disk may_leave moment left_since old new place bytes P calls r) (sym ok)
         (record {
@@ -119,7 +119,7 @@ module _ {D : Type 0} (disk : D → ℕ → Disk) (may_leave : D → ℕ → Lis
           durable = λ told. durable (told_same ∙ told);
           any_moment = λ told. both (moment_beside disk may_leave moment left_since only_now old mid place other P apart keeps (within told)) (moments (told_same ∙ told));
           some_calls = subst (λ (o : Option (List DiskCall)). MadeSome calls o (disk new place).calls) calls_same (made_all calls (disk mid place).calls (disk new place).calls all);
-          all_calls = all ∙ ap (λ (o : Option (List DiskCall)). added calls o) calls_same;
+          all_calls = all ∙ ap (λ (o : Option (List DiskCall)). with_calls calls o) calls_same;
         })
 
     -- where it failed
@@ -159,5 +159,5 @@ module _ {D : Type 0} {disk : D → ℕ → Disk} {may_leave : D → ℕ → Lis
         durable = part.durable;
         any_moment = λ told. weakened Q (part.any_moment told) from;
         some_calls = subst (λ (l : List DiskCall). MadeSome l (disk old place).calls (disk new place).calls) told_too part.some_calls;
-        all_calls = part.all_calls ∙ ap (λ (l : List DiskCall). added l (disk old place).calls) told_too;
+        all_calls = part.all_calls ∙ ap (λ (l : List DiskCall). with_calls l (disk old place).calls) told_too;
       })

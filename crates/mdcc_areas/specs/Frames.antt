@@ -4,7 +4,7 @@ use Rattle.std.specs.List.{AllByRecursion}
 use Rattle.mdcc_disks.specs.Disks.{DiskCall, Only}
 use Rattle.mdcc_disks.specs.Disks.DiskCall.{Length, Read, Write, Cut, Sync}
 use Rattle.mdcc_log.specs.Log.{frame_body}
-use Rattle.mdcc_log.specs.Frames.{added, begin_calls, close_calls, cut_calls, read_calls}
+use Rattle.mdcc_log.specs.Frames.{with_calls, begin_calls, close_calls, cut_calls, read_calls}
 use Rattle.mdcc_areas.specs.declared.area.Spare.{Spare}
 use Rattle.mdcc_areas.specs.declared.area.Spare.TheVariants as spares
 use Rattle.mdcc_areas.specs.Area.{AreaLog, generation_of, payloads_of, counts_bytes, records_bytes, head_bytes, front_of, area_bytes, area_mark, area_gate, is_second, is_torn, taken, read_area, read_areas}
@@ -130,4 +130,4 @@ IsRead _ = ⊥
 pub record OnlyReads (old new : Option (List DiskCall)) : Type 0 where
   pub reads : List DiskCall
   pub each : AllByRecursion IsRead reads
-  pub told : (new ≡ None) ⊎ (new ≡ added reads old)
+  pub told : (new ≡ None) ⊎ (new ≡ with_calls reads old)

@@ -35,7 +35,7 @@ pub record IsNumbered (generation : ℕ) (bytes : List ℕ) : Type 0 where
   pub spelled : take 8 (drop 9 bytes) ≡ to_le_bytes w64 generation
 
 -- This log stands in more than nine bytes, with its last gate here.
-pub record Stands (log : AreaLog) (gate : ℕ) (bytes : List ℕ) : Type 0 where
+pub record EndsAtGate (log : AreaLog) (gate : ℕ) (bytes : List ℕ) : Type 0 where
   pub front : bytes ≡ front_of log ++ drop gate bytes
   pub within : gate < length bytes
   pub shut : is_open (drop gate bytes) ≡ false
@@ -45,7 +45,7 @@ pub record IsReadAs (log : AreaLog) (bytes : List ℕ) : Type 0 where
   pub read : read_area bytes ≡ Ok log
   pub valid : (area : ℕ) → (is_copy bytes ≡ false → area ≡ 0) → IsLog area log
   pub numbered : is_copy bytes ≡ true → copy_generation bytes ≡ Ok (generation_of log.head)
-  pub stands : ((length bytes ≤ 9) × (log ≡ fresh)) ⊎ ((9 < length bytes) × Stands log (length (front_of log)) bytes)
+  pub stands : ((length bytes ≤ 9) × (log ≡ fresh)) ⊎ ((9 < length bytes) × EndsAtGate log (length (front_of log)) bytes)
 
 -- What was read of an area: a log with this generation, these payloads, frames from here on, so many, and the last gate here.
 pub record AreaIs (generation : ℕ) (all : List (List ℕ)) (start tail gate : ℕ) (bytes : List ℕ) : Type 0 where
@@ -58,4 +58,4 @@ pub record AreaIs (generation : ℕ) (all : List (List ℕ)) (start tail gate : 
   pub starts : start ≡ length (head_bytes log.head)
   pub counted : tail ≡ length log.tail
   pub gate_is : gate ≡ length (front_of log)
-  pub stands : ((length bytes ≤ 9) × (log ≡ fresh)) ⊎ ((9 < length bytes) × Stands log gate bytes)
+  pub stands : ((length bytes ≤ 9) × (log ≡ fresh)) ⊎ ((9 < length bytes) × EndsAtGate log gate bytes)

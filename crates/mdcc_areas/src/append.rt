@@ -3,7 +3,7 @@ ghost use Rattle.std.specs.Prelude.{◌≡◌, ◌≤◌, ◌+◌, ◌∷◌, �
 ghost use Rattle.mdcc_base.specs.Causes.{HasCause};
 ghost use Rattle.mdcc_disks.specs.Disks.{KeepsOthers, LeavesOnly};
 ghost use Rattle.mdcc_log.specs.Log.{frame_body, frame_bytes};
-ghost use Rattle.mdcc_log.specs.Frames.{MadeSome, added, append_calls};
+ghost use Rattle.mdcc_log.specs.Frames.{MadeSome, with_calls, append_calls};
 ghost use Rattle.mdcc_areas.specs.Append.{IsAtEnd, MayAppend};
 
 use crate::steps::write_through;
@@ -48,7 +48,7 @@ pub fn append_frame<D: Disks>(
     ensures calls { MadeSome (append_calls size payload.now)
         (D.disk disks.old place).calls (D.disk disks.new place).calls }
     ensures all_calls { OnOk result ((D.disk disks.new place).calls
-        ≡ added (append_calls size payload.now) (D.disk disks.old place).calls) }
+        ≡ with_calls (append_calls size payload.now) (D.disk disks.old place).calls) }
     ensures cause { HasCause (D.disk disks.old place).faults (D.disk disks.new place).faults result }
 {
     write_through(disks, place, size, body)?;

@@ -3,7 +3,7 @@ ghost use Rattle.std.specs.Prelude.{◌≡◌, ◌≢◌, ◌⊎◌, ◌≤◌, 
 ghost use Rattle.mdcc_base.specs.Causes.{Rose, HasCause};
 ghost use Rattle.mdcc_disks.specs.Disks.{Within, Only, KeepsOthers, LeavesOnly};
 ghost use Rattle.mdcc_disks.specs.Disks.DiskCall.{Write, Sync};
-ghost use Rattle.mdcc_log.specs.Frames.{MadeSome, added};
+ghost use Rattle.mdcc_log.specs.Frames.{MadeSome, with_calls};
 ghost use Rattle.mdcc_areas.specs.Area.{AreaLog, payloads_of, area_mark, counts_bytes, copy_body, records_bytes};
 ghost use Rattle.mdcc_areas.specs.Frames.{spare_of, body_calls, record_calls, checkpoint_calls};
 ghost use Rattle.mdcc_areas.specs.Copying.{IsShut};
@@ -75,7 +75,7 @@ fn copy_all<D: Disks>(
         → MadeSome (record_calls 25 (payloads_of log)) (D.disk disks.old place).calls (D.disk disks.new place).calls }
     ensures all_calls { (log : AreaLog) → IsTrue (D.disk disks.old whole.place).told
         → StandsAs whole log (D.disk disks.old whole.place).bytes
-        → OnOk result ((D.disk disks.new place).calls ≡ added (record_calls 25 (payloads_of log)) (D.disk disks.old place).calls) }
+        → OnOk result ((D.disk disks.new place).calls ≡ with_calls (record_calls 25 (payloads_of log)) (D.disk disks.old place).calls) }
 {
     let records = Part {
         place: whole.place,
@@ -134,7 +134,7 @@ pub fn write_body<D: Disks>(
         → MadeSome (body_calls generation (payloads_of log)) (D.disk disks.old place).calls (D.disk disks.new place).calls }
     ensures all_calls { (log : AreaLog) → IsTrue (D.disk disks.old whole.place).told
         → StandsAs whole log (D.disk disks.old whole.place).bytes
-        → OnOk result ((D.disk disks.new place).calls ≡ added (body_calls generation (payloads_of log)) (D.disk disks.old place).calls) }
+        → OnOk result ((D.disk disks.new place).calls ≡ with_calls (body_calls generation (payloads_of log)) (D.disk disks.old place).calls) }
 {
     grow(disks, place, 9, &counts(generation, whole.count))?;
     let end = copy_all(disks, whole, place, buffer)?;
@@ -156,7 +156,7 @@ pub fn open_area<D: Disks>(disks: &mut D, place: u8) -> Result<(), Failed>
     ensures cause { HasCause (D.disk disks.old place).faults (D.disk disks.new place).faults result }
     ensures calls { MadeSome (Sync ∷ Write 8 (1 ∷ []) ∷ Sync ∷ []) (D.disk disks.old place).calls (D.disk disks.new place).calls }
     ensures all_calls { OnOk result ((D.disk disks.new place).calls
-        ≡ added (Sync ∷ Write 8 (1 ∷ []) ∷ Sync ∷ []) (D.disk disks.old place).calls) }
+        ≡ with_calls (Sync ∷ Write 8 (1 ∷ []) ∷ Sync ∷ []) (D.disk disks.old place).calls) }
 {
     disks.sync(place)?;
     write_through(disks, place, 8, &[1])
@@ -206,7 +206,7 @@ pub fn copy_area<D: Disks>(
     ensures all_calls { (log : AreaLog) → IsTrue (D.disk disks.old whole.place).told
         → StandsAs whole log (D.disk disks.old whole.place).bytes
         → OnOk result ((D.disk disks.new place).calls
-        ≡ added (checkpoint_calls spare generation (payloads_of log)) (D.disk disks.old place).calls) }
+        ≡ with_calls (checkpoint_calls spare generation (payloads_of log)) (D.disk disks.old place).calls) }
 {
     shut_area(disks, place, spare)?;
     clear_area(disks, place, spare)?;

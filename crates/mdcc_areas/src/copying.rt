@@ -4,7 +4,7 @@ ghost use Rattle.mdcc_base.specs.Causes.{Rose, HasCause};
 ghost use Rattle.mdcc_disks.specs.Disks.{Within, Only, KeepsOthers, LeavesOnly};
 ghost use Rattle.mdcc_disks.specs.Disks.DiskCall.{Write, Cut, Sync};
 ghost use Rattle.mdcc_log.specs.Log.{frame_body};
-ghost use Rattle.mdcc_log.specs.Frames.{MadeSome, added};
+ghost use Rattle.mdcc_log.specs.Frames.{MadeSome, with_calls};
 ghost use Rattle.mdcc_areas.specs.Area.{area_mark, records_bytes};
 ghost use Rattle.mdcc_areas.specs.Frames.{OnlyReads, spare_of, shut_calls, mark_calls, record_calls};
 ghost use Rattle.mdcc_areas.specs.Copying.{IsShut, IsShutAs, MayShut, IsRecordAt, IsSource, needs_mark, shut_bytes};
@@ -46,7 +46,7 @@ fn write_shut<D: Disks>(disks: &mut D, place: u8, spare: Spare) -> Result<(), Fa
     ensures others { KeepsOthers D.disk D.may_leave D.moment D.left_since disks.old disks.new place }
     ensures cause { HasCause (D.disk disks.old place).faults (D.disk disks.new place).faults result }
     ensures calls { MadeSome (shut_calls spare) (D.disk disks.old place).calls (D.disk disks.new place).calls }
-    ensures all_calls { OnOk result ((D.disk disks.new place).calls ≡ added (shut_calls spare) (D.disk disks.old place).calls) }
+    ensures all_calls { OnOk result ((D.disk disks.new place).calls ≡ with_calls (shut_calls spare) (D.disk disks.old place).calls) }
 {
     match spare {
         Spare::Short => disks.write_at(place, 0, &FRESH),
@@ -75,7 +75,7 @@ pub fn shut_area<D: Disks>(disks: &mut D, place: u8, spare: Spare) -> Result<(),
     ensures cause { HasCause (D.disk disks.old place).faults (D.disk disks.new place).faults result }
     ensures calls { MadeSome (shut_calls spare ++ Sync ∷ []) (D.disk disks.old place).calls (D.disk disks.new place).calls }
     ensures all_calls { OnOk result ((D.disk disks.new place).calls
-        ≡ added (shut_calls spare ++ Sync ∷ []) (D.disk disks.old place).calls) }
+        ≡ with_calls (shut_calls spare ++ Sync ∷ []) (D.disk disks.old place).calls) }
 {
     write_shut(disks, place, spare)?;
     disks.sync(place)
@@ -101,7 +101,7 @@ fn write_mark<D: Disks>(disks: &mut D, place: u8, spare: Spare) -> Result<(), Fa
     ensures others { KeepsOthers D.disk D.may_leave D.moment D.left_since disks.old disks.new place }
     ensures cause { HasCause (D.disk disks.old place).faults (D.disk disks.new place).faults result }
     ensures calls { MadeSome (mark_calls spare) (D.disk disks.old place).calls (D.disk disks.new place).calls }
-    ensures all_calls { OnOk result ((D.disk disks.new place).calls ≡ added (mark_calls spare) (D.disk disks.old place).calls) }
+    ensures all_calls { OnOk result ((D.disk disks.new place).calls ≡ with_calls (mark_calls spare) (D.disk disks.old place).calls) }
 {
     if needs_mark(spare) {
         disks.write_at(place, 0, &MARK)
@@ -120,7 +120,7 @@ pub fn clear_area<D: Disks>(disks: &mut D, place: u8, spare: Spare) -> Result<()
     ensures cause { HasCause (D.disk disks.old place).faults (D.disk disks.new place).faults result }
     ensures calls { MadeSome (Cut 9 ∷ mark_calls spare) (D.disk disks.old place).calls (D.disk disks.new place).calls }
     ensures all_calls { OnOk result ((D.disk disks.new place).calls
-        ≡ added (Cut 9 ∷ mark_calls spare) (D.disk disks.old place).calls) }
+        ≡ with_calls (Cut 9 ∷ mark_calls spare) (D.disk disks.old place).calls) }
 {
     disks.cut(place, 9)?;
     write_mark(disks, place, spare)
@@ -219,7 +219,7 @@ pub fn copy_records<D: Disks>(
         → MadeSome (record_calls to ps) (D.disk disks.old place).calls (D.disk disks.new place).calls }
     ensures all_calls { (ps : List (List ℕ)) → IsTrue (D.disk disks.old part.place).told
         → IsSource part.gap part.from part.end (limit - to) part.count ps (D.disk disks.old part.place).bytes
-        → OnOk result ((D.disk disks.new place).calls ≡ added (record_calls to ps) (D.disk disks.old place).calls) }
+        → OnOk result ((D.disk disks.new place).calls ≡ with_calls (record_calls to ps) (D.disk disks.old place).calls) }
 {
     let mut from = part.from;
     let mut end = to;

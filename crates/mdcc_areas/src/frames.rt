@@ -3,7 +3,7 @@ ghost use Rattle.std.specs.Prelude.{◌≡◌, ◌≢◌, ◌≤◌, ◌<◌, �
 ghost use Rattle.mdcc_base.specs.Causes.{Rose, HasCause};
 ghost use Rattle.mdcc_disks.specs.Disks.{Only, Within, KeepsOthers, LeavesOnly};
 ghost use Rattle.mdcc_log.specs.Log.{frame_body, log_limit, payload_limit};
-ghost use Rattle.mdcc_log.specs.Frames.{MadeSome, added, append_calls};
+ghost use Rattle.mdcc_log.specs.Frames.{MadeSome, with_calls, append_calls};
 ghost use Rattle.mdcc_areas.specs.Area.{AreaLog, generation_of, payloads_of, payloads};
 ghost use Rattle.mdcc_areas.specs.AtRest.{IsAtRest, MayBeDue};
 ghost use Rattle.mdcc_log.specs.Crash.{AreShort};
@@ -263,7 +263,7 @@ impl Frames {
         ensures calls { let place = place_of self.old.centre self.old.area in MadeSome (append_calls self.old.size payload.now)
             (D.disk disks.old place).calls (D.disk disks.new place).calls }
         ensures all_calls { let place = place_of self.old.centre self.old.area in OnOk result ((D.disk disks.new place).calls
-            ≡ added (append_calls self.old.size payload.now) (D.disk disks.old place).calls) }
+            ≡ with_calls (append_calls self.old.size payload.now) (D.disk disks.old place).calls) }
 
         ensures disk_fault { let place = place_of self.old.centre self.old.area in IsErrOf result LogFault.DiskFault
             → Rose (D.disk disks.old place).faults (D.disk disks.new place).faults }
@@ -345,7 +345,7 @@ impl Frames {
             (log : AreaLog) → IsTrue (D.disk disks.old place).told
             → IsInUse self.old log (D.disk disks.old place).bytes (D.may_leave disks.old place)
             → OnOk result ((D.disk disks.new other).calls
-            ≡ added (checkpoint_calls self.old.spare (self.old.generation + 1) (payloads_of log)) (D.disk disks.old other).calls) }
+            ≡ with_calls (checkpoint_calls self.old.spare (self.old.generation + 1) (payloads_of log)) (D.disk disks.old other).calls) }
 
         ensures disk_fault { let place = place_of self.old.centre self.old.area in let other = place_of self.old.centre (other_of self.old.area) in
             IsErrOf result LogFault.DiskFault

@@ -3,7 +3,7 @@ ghost use Rattle.std.specs.Prelude.{◌≡◌, ◌≢◌, ◌⊎◌, ◌≤◌, 
 ghost use Rattle.mdcc_base.specs.Causes.{Rose, HasCause};
 ghost use Rattle.mdcc_disks.specs.Disks.{Only, Within, KeepsOthers, LeavesOnly};
 ghost use Rattle.mdcc_disks.specs.Disks.DiskCall.{Length, Sync};
-ghost use Rattle.mdcc_log.specs.Frames.{MadeSome, ReadsAll, ReadsSome, added, read_calls};
+ghost use Rattle.mdcc_log.specs.Frames.{MadeSome, ReadsAll, ReadsSome, with_calls, read_calls};
 ghost use Rattle.mdcc_areas.specs.Area.{is_copy, is_first, copy_generation, read_area, read_areas, taken};
 ghost use Rattle.mdcc_areas.specs.Reading.{AreaIs, IsNumbered};
 ghost use Rattle.mdcc_areas.specs.Frames.{change_calls, other_calls, spare_of, spare_calls, settle_calls};

@@ -3,7 +3,7 @@ ghost use Rattle.std.specs.Prelude.{◌≡◌, ◌≤◌, ◌<◌, ◌+◌, ◌�
 ghost use Rattle.mdcc_base.specs.Causes.{HasCause};
 ghost use Rattle.mdcc_disks.specs.Disks.{Only, KeepsOthers, LeavesOnly};
 ghost use Rattle.mdcc_log.specs.Crash.{MayRepair};
-ghost use Rattle.mdcc_log.specs.Frames.{MadeSome, added, close_calls, cut_calls};
+ghost use Rattle.mdcc_log.specs.Frames.{MadeSome, with_calls, close_calls, cut_calls};
 ghost use Rattle.mdcc_areas.specs.Frames.{spare_calls};
 ghost use Rattle.mdcc_areas.specs.Repair.{settled, settle_at, MaySettle, MayClose, with_closed_gate};
 
@@ -28,7 +28,7 @@ fn close_gate<D: Disks>(disks: &mut D, place: u8, bytes: &[u8], gate: usize) -> 
     ensures cause { HasCause (D.disk disks.old place).faults (D.disk disks.new place).faults result }
     ensures calls { MadeSome (close_calls gate bytes.now) (D.disk disks.old place).calls (D.disk disks.new place).calls }
     ensures all_calls { OnOk result ((D.disk disks.new place).calls
-        ≡ added (close_calls gate bytes.now) (D.disk disks.old place).calls) }
+        ≡ with_calls (close_calls gate bytes.now) (D.disk disks.old place).calls) }
 {
     if bytes[gate] == 0 {
         return Ok(());
@@ -53,7 +53,7 @@ fn cut_end<D: Disks>(disks: &mut D, place: u8, bytes: &[u8], gate: usize) -> Res
     ensures cause { HasCause (D.disk disks.old place).faults (D.disk disks.new place).faults result }
     ensures calls { MadeSome (cut_calls gate bytes.now) (D.disk disks.old place).calls (D.disk disks.new place).calls }
     ensures all_calls { OnOk result ((D.disk disks.new place).calls
-        ≡ added (cut_calls gate bytes.now) (D.disk disks.old place).calls) }
+        ≡ with_calls (cut_calls gate bytes.now) (D.disk disks.old place).calls) }
 {
     if bytes.len() == gate + 1 {
         return Ok(());
@@ -78,7 +78,7 @@ pub fn repair<D: Disks>(disks: &mut D, place: u8, bytes: &[u8], gate: usize) -> 
     ensures cause { HasCause (D.disk disks.old place).faults (D.disk disks.new place).faults result }
     ensures calls { MadeSome (close_calls gate bytes.now ++ cut_calls gate bytes.now) (D.disk disks.old place).calls (D.disk disks.new place).calls }
     ensures all_calls { OnOk result ((D.disk disks.new place).calls
-        ≡ added (close_calls gate bytes.now ++ cut_calls gate bytes.now) (D.disk disks.old place).calls) }
+        ≡ with_calls (close_calls gate bytes.now ++ cut_calls gate bytes.now) (D.disk disks.old place).calls) }
 {
     close_gate(disks, place, bytes, gate)?;
     cut_end(disks, place, bytes, gate)
@@ -100,7 +100,7 @@ pub fn settle<D: Disks>(disks: &mut D, place: u8, bytes: &[u8], gate: usize) -> 
     ensures cause { HasCause (D.disk disks.old place).faults (D.disk disks.new place).faults result }
     ensures calls { MadeSome (settle_at gate bytes.now) (D.disk disks.old place).calls (D.disk disks.new place).calls }
     ensures all_calls { OnOk result ((D.disk disks.new place).calls
-        ≡ added (settle_at gate bytes.now) (D.disk disks.old place).calls) }
+        ≡ with_calls (settle_at gate bytes.now) (D.disk disks.old place).calls) }
 {
     if bytes.len() <= 9 {
         begin(disks, place)
@@ -124,7 +124,7 @@ pub fn close_spare<D: Disks>(disks: &mut D, place: u8, bytes: &[u8]) -> Result<(
     ensures cause { HasCause (D.disk disks.old place).faults (D.disk disks.new place).faults result }
     ensures calls { MadeSome (spare_calls bytes.now) (D.disk disks.old place).calls (D.disk disks.new place).calls }
     ensures all_calls { OnOk result ((D.disk disks.new place).calls
-        ≡ added (spare_calls bytes.now) (D.disk disks.old place).calls) }
+        ≡ with_calls (spare_calls bytes.now) (D.disk disks.old place).calls) }
 {
     if is_torn(bytes) {
         write_through(disks, place, 8, &[0])

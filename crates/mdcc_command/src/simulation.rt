@@ -13,9 +13,9 @@ pub(crate) struct Replayed {
 }
 
 impl Simulation for Replayed {
-    ghost use Rattle.mdcc_world.specs.Stands.{Stands};
+    ghost use Rattle.mdcc_world.specs.Represents.{RepresentsWorld};
 
-    ghost stands = { λ replayed w. Stands replayed.world w };
+    ghost stands = { λ replayed w. RepresentsWorld replayed.world w };
 
     fn start(alloc: Global, cluster: Cluster) -> Result<Replayed, Memory> {
         let world = World::new(alloc, cluster)?;

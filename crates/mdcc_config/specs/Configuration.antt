@@ -31,9 +31,9 @@ abbrev pub ◌>>=◌ : {A B : Type 0} → Read A → (A → Read B) → Read B
 (Err fault) >>= next = Err fault
 
 -- the fault that may come at any time
-abbrev pub is_memory : ConfigFault → Bool
-is_memory Fault.Memory = true
-is_memory _ = false
+abbrev pub is_config_memory : ConfigFault → Bool
+is_config_memory Fault.Memory = true
+is_config_memory _ = false
 
 -- ---- 1. the text is a JSON object, and 2. it has the right members
 

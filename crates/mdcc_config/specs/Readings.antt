@@ -54,10 +54,10 @@ host d = option_map host_of (as_str d)
 
 -- ---- the fast limit
 
-abbrev pub limit_of : List ℕ → Option FastLimit
-limit_of text =
+abbrev pub fast_limit_named : List ℕ → Option FastLimit
+fast_limit_named text =
     if bytes_eq text (codes "safe") then Some FastLimit.Safe
     else (if bytes_eq text (codes "paper") then Some FastLimit.Paper else None)
 
 abbrev pub limit : Data → Option (Option FastLimit)
-limit d = option_map limit_of (as_str d)
+limit d = option_map fast_limit_named (as_str d)

@@ -1,7 +1,7 @@
 //! The addresses of the centres.
 ghost use Rattle.std.specs.Prelude.{◌≡◌, ◌+◌, ◌≤◌, [], IfOk, length};
 ghost use Rattle.mdcc_base.specs.Unless.{GivesUnless};
-ghost use Rattle.mdcc_config.specs.Configuration.{is_memory, address_of, each_address};
+ghost use Rattle.mdcc_config.specs.Configuration.{is_config_memory, address_of, each_address};
 ghost use Rattle.mdcc_config.specs.IsConfig.{ports_of, centre_ports};
 
 use crate::ConfigFault;
@@ -41,7 +41,7 @@ pub(crate) fn addresses_of(
 ) -> Result<HeapList<Address>, ConfigFault>
     requires nine { centres ≤ 9 }
     requires room { port ≤ 65000 }
-    ensures value { GivesUnless is_memory result (each_address centres port [] hosts.now) }
+    ensures value { GivesUnless is_config_memory result (each_address centres port [] hosts.now) }
     ensures ports { IfOk result (λ addresses. ports_of addresses ≡ centre_ports port centres) }
 {
     let mut addresses = HeapList::new(alloc);

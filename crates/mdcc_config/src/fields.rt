@@ -7,7 +7,7 @@ ghost use Rattle.mdcc_option.specs.declared.cluster.FastLimit as FastLimit;
 ghost use Rattle.mdcc_config.specs.declared.faults.MemberName.TheVariants as Member;
 ghost use Rattle.mdcc_config.specs.Names.{name_text};
 ghost use Rattle.mdcc_config.specs.Readings.{natural, pair, host, limit};
-ghost use Rattle.mdcc_config.specs.Configuration.{is_memory, member_as, given_or, list_as, default_cells, fields_of};
+ghost use Rattle.mdcc_config.specs.Configuration.{is_config_memory, member_as, given_or, list_as, default_cells, fields_of};
 
 use crate::lists::{hosts_of, pairs_of};
 use crate::values::{limit, natural};
@@ -48,7 +48,7 @@ fn number_of(object: &Value, name: MemberName) -> Result<Option<u64>, ConfigFaul
 fn entries_of(object: &Value, name: MemberName) -> Result<&[Value], ConfigFault>
     ensures ok { IfOk result (λ entries. member_as as_array name (view object.now) ≡ Ok (items_view entries.now)) }
     ensures err { IfErr result (λ fault. member_as as_array name (view object.now) ≡ Err fault) }
-    ensures kind { IfErr result (λ fault. is_memory fault ≡ false) }
+    ensures kind { IfErr result (λ fault. is_config_memory fault ≡ false) }
 {
     match object.get(name.text()).and_then(Value::as_array) {
         Some(list) => Ok(list.as_slice()),
@@ -58,14 +58,14 @@ fn entries_of(object: &Value, name: MemberName) -> Result<&[Value], ConfigFault>
 
 // The pairs of the member `bounds`.
 fn bounds_in(alloc: Global, object: &Value) -> Result<HeapList<Option<(i64, i64)>>, ConfigFault>
-    ensures { GivesUnless is_memory result (list_as pair Member.Bounds (view object.now)) }
+    ensures { GivesUnless is_config_memory result (list_as pair Member.Bounds (view object.now)) }
 {
     pairs_of(alloc, entries_of(object, MemberName::Bounds)?)
 }
 
 // The hosts of the member `hosts`.
 fn hosts_in(alloc: Global, object: &Value) -> Result<HeapList<Option<[u8; 4]>>, ConfigFault>
-    ensures { GivesUnless is_memory result (list_as host Member.Hosts (view object.now)) }
+    ensures { GivesUnless is_config_memory result (list_as host Member.Hosts (view object.now)) }
 {
     hosts_of(alloc, entries_of(object, MemberName::Hosts)?)
 }
@@ -92,7 +92,7 @@ fn limit_in(object: &Value) -> Result<Option<FastLimit>, ConfigFault>
 
 /// The members of an object, each read as its kind.
 pub(crate) fn fields_of(alloc: Global, object: &Value) -> Result<Fields, ConfigFault>
-    ensures { GivesUnless is_memory result (fields_of (view object.now)) }
+    ensures { GivesUnless is_config_memory result (fields_of (view object.now)) }
 {
     let centres = number_of(object, MemberName::Centres)?;
     let classic = number_of(object, MemberName::Classic)?;

@@ -4,7 +4,7 @@ ghost use Rattle.serde_json.specs.View.{view, items_view};
 ghost use Rattle.mdcc_base.specs.Unless.{GivesUnless};
 ghost use Rattle.mdcc_config.specs.declared.faults.MemberName.TheVariants.{Bounds, Hosts};
 ghost use Rattle.mdcc_config.specs.Readings.{pair, host};
-ghost use Rattle.mdcc_config.specs.Configuration.{is_memory, each_item, each_pair};
+ghost use Rattle.mdcc_config.specs.Configuration.{is_config_memory, each_item, each_pair};
 
 use crate::values::{host, pair};
 use crate::{ConfigFault, MemberName};
@@ -17,7 +17,7 @@ pub(crate) fn pairs_of(
     alloc: Global,
     values: &[Value],
 ) -> Result<HeapList<Option<(i64, i64)>>, ConfigFault>
-    ensures { GivesUnless is_memory result (each_item pair Bounds [] (items_view values.now)) }
+    ensures { GivesUnless is_config_memory result (each_item pair Bounds [] (items_view values.now)) }
 {
     let mut pairs = HeapList::new(alloc);
     for value in values {
@@ -31,7 +31,7 @@ pub(crate) fn hosts_of(
     alloc: Global,
     values: &[Value],
 ) -> Result<HeapList<Option<[u8; 4]>>, ConfigFault>
-    ensures { GivesUnless is_memory result (each_item host Hosts [] (items_view values.now)) }
+    ensures { GivesUnless is_config_memory result (each_item host Hosts [] (items_view values.now)) }
 {
     let mut hosts = HeapList::new(alloc);
     for value in values {
@@ -45,7 +45,7 @@ pub(crate) fn bounds_of(
     alloc: Global,
     pairs: &[Option<(i64, i64)>],
 ) -> Result<HeapList<(i64, i64)>, ConfigFault>
-    ensures { GivesUnless is_memory result (each_pair [] pairs.now) }
+    ensures { GivesUnless is_config_memory result (each_pair [] pairs.now) }
 {
     let mut bounds = HeapList::new(alloc);
     for pair in pairs {

@@ -6,7 +6,7 @@ ghost use Rattle.mdcc_base.specs.Unless.{GivesUnless};
 ghost use Rattle.mdcc_option.specs.Bounds.{IsSchema};
 ghost use Rattle.mdcc_config.specs.Names.{wrong_name};
 ghost use Rattle.mdcc_config.specs.IsConfig.{AreInRange, IsConfig};
-ghost use Rattle.mdcc_config.specs.Configuration.{is_memory, object_of, refused_name, cluster_of, config_with, config_in, config_of};
+ghost use Rattle.mdcc_config.specs.Configuration.{is_config_memory, object_of, refused_name, cluster_of, config_with, config_in, config_of};
 
 use crate::addresses::addresses_of;
 use crate::fields::fields_of;
@@ -21,7 +21,7 @@ use std::alloc::Global;
 // The value that a text is in JSON.
 fn value_of(alloc: Global, text: &[u8]) -> Result<Value, ConfigFault>
     ensures ok { IfOk result (λ value. object_of text.now ≡ Ok (view value)) }
-    ensures err { IfErr result (λ fault. is_memory fault ≡ false → object_of text.now ≡ Err fault) }
+    ensures err { IfErr result (λ fault. is_config_memory fault ≡ false → object_of text.now ≡ Err fault) }
 {
     match Value::from_slice(alloc, text) {
         Ok(value) => Ok(value),
@@ -32,7 +32,7 @@ fn value_of(alloc: Global, text: &[u8]) -> Result<Value, ConfigFault>
 
 // Refuses members of which one is missing or unknown.
 fn check_names(alloc: Global, members: &Map<String, Value>) -> Result<(), ConfigFault>
-    ensures { GivesUnless is_memory result (refused_name (wrong_name (members_view members.now.entries))) }
+    ensures { GivesUnless is_config_memory result (refused_name (wrong_name (members_view members.now.entries))) }
 {
     match wrong_name(members) {
         Some(name) => Err(ConfigFault::Member(Name::new(alloc, name)?)),
@@ -60,7 +60,7 @@ fn cluster_of(settings: &Settings) -> Result<Cluster, ConfigFault>
 // The configuration of members in their ranges.
 fn config_with(alloc: Global, settings: &Settings) -> Result<Config, ConfigFault>
     requires { AreInRange settings.now }
-    ensures value { GivesUnless is_memory result (config_with settings.now) }
+    ensures value { GivesUnless is_config_memory result (config_with settings.now) }
     ensures meets { IfOk result IsConfig }
 {
     let cluster = cluster_of(settings)?;
@@ -79,7 +79,7 @@ fn config_with(alloc: Global, settings: &Settings) -> Result<Config, ConfigFault
 
 // The configuration that a JSON value is.
 fn config_in(alloc: Global, value: &Value) -> Result<Config, ConfigFault>
-    ensures value { GivesUnless is_memory result (config_in (view value.now)) }
+    ensures value { GivesUnless is_config_memory result (config_in (view value.now)) }
     ensures meets { IfOk result IsConfig }
 {
     let Some(members) = value.as_object() else {
@@ -93,7 +93,7 @@ fn config_in(alloc: Global, value: &Value) -> Result<Config, ConfigFault>
 
 /// The configuration that a JSON text is.
 pub fn read_config(alloc: Global, text: &[u8]) -> Result<Config, ConfigFault>
-    ensures value { GivesUnless is_memory result (config_of text.now) }
+    ensures value { GivesUnless is_config_memory result (config_of text.now) }
     ensures meets { IfOk result IsConfig }
 {
     let value = value_of(alloc, text)?;

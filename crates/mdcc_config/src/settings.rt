@@ -3,7 +3,7 @@ ghost use Rattle.std.specs.Prelude.{◌≡◌, ◌≤◌, IfOk, ok_or};
 ghost use Rattle.mdcc_base.specs.Unless.{GivesUnless};
 ghost use Rattle.mdcc_config.specs.declared.faults.ConfigFault.TheVariants.{Range};
 ghost use Rattle.mdcc_config.specs.declared.faults.MemberName.TheVariants.{Port, Cells};
-ghost use Rattle.mdcc_config.specs.Configuration.{is_memory, number_in, settings_of};
+ghost use Rattle.mdcc_config.specs.Configuration.{is_config_memory, number_in, settings_of};
 ghost use Rattle.mdcc_config.specs.IsConfig.{AreInRange};
 
 use crate::fields::Fields;
@@ -63,7 +63,7 @@ fn cells_in(number: Option<u64>) -> Result<u32, ConfigFault>
 
 /// The members, each in its range.
 pub(crate) fn settings_of(alloc: Global, fields: Fields) -> Result<Settings, ConfigFault>
-    ensures value { GivesUnless is_memory result (settings_of fields) }
+    ensures value { GivesUnless is_config_memory result (settings_of fields) }
     ensures ranges { IfOk result AreInRange }
 {
     let Fields {

@@ -1,7 +1,7 @@
 //! What the values of members are read as.
 ghost use Rattle.std.specs.Prelude.{◌≡◌};
 ghost use Rattle.serde_json.specs.View.{view, items_view};
-ghost use Rattle.mdcc_config.specs.Readings.{natural, integer, pair_in, pair, host_of, host, limit_of, limit};
+ghost use Rattle.mdcc_config.specs.Readings.{natural, integer, pair_in, pair, host_of, host, fast_limit_named, limit};
 
 use mdcc_option::FastLimit;
 use serde_json::Value;
@@ -65,7 +65,7 @@ pub(crate) fn host(value: &Value) -> Option<Option<[u8; 4]>>
 
 // The fast limit that a text names.
 fn limit_of(text: &str) -> Option<FastLimit>
-    ensures { result ≡ limit_of text.now }
+    ensures { result ≡ fast_limit_named text.now }
 {
     if text == "safe" {
         return Some(FastLimit::Safe);

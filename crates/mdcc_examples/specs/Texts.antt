@@ -37,8 +37,8 @@ abbrev pub event : Event → Result (Option Event) SchedFault
 event e = Ok (Some e)
 
 -- a begin at centre 1 with one update word
-abbrev pub begun : UpdateWord → Result (Option Event) SchedFault
-begun word = event (Begin 1 (word ∷ []))
+abbrev pub begin_line_of : UpdateWord → Result (Option Event) SchedFault
+begin_line_of word = event (Begin 1 (word ∷ []))
 
 abbrev pub skipped : Result (Option Event) SchedFault
 skipped = Ok None

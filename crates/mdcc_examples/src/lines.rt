@@ -7,7 +7,7 @@ ghost use Rattle.mdcc_language.specs.declared.events.UpdateWord.TheVariants.{New
 ghost use Rattle.mdcc_language.specs.declared.schedule.SchedCause.TheVariants.{Word, Number, Key, Range, Order};
 ghost use Rattle.mdcc_language.specs.Updates.{update_of};
 ghost use Rattle.mdcc_language.specs.Words.{number_of};
-ghost use Rattle.mdcc_examples.specs.Texts.{line, event, begun, skipped, fault, item};
+ghost use Rattle.mdcc_examples.specs.Texts.{line, event, begin_line_of, skipped, fault, item};
 
 // ---- Each word
 
@@ -20,23 +20,23 @@ pub fn read_other_centre()
 {}
 
 pub fn begin_new()
-    ensures { line (codes "begin 1 new:a:-:10\n") ≡ begun (New (codes "a") (item [] (pos 10 ∷ []))) }
+    ensures { line (codes "begin 1 new:a:-:10\n") ≡ begin_line_of (New (codes "a") (item [] (pos 10 ∷ []))) }
 {}
 
 pub fn begin_set()
-    ensures { line (codes "begin 1 set:2:-:11\n") ≡ begun (Set 2 (item [] (pos 11 ∷ []))) }
+    ensures { line (codes "begin 1 set:2:-:11\n") ≡ begin_line_of (Set 2 (item [] (pos 11 ∷ []))) }
 {}
 
 pub fn begin_add()
-    ensures { line (codes "begin 1 add:1:1=-4\n") ≡ begun (Add 1 ((1, negsuc 3) ∷ [])) }
+    ensures { line (codes "begin 1 add:1:1=-4\n") ≡ begin_line_of (Add 1 ((1, negsuc 3) ∷ [])) }
 {}
 
 pub fn begin_add_four()
-    ensures { line (codes "begin 1 add:1:1=3,4=0,2=-5,2=7\n") ≡ begun (Add 1 ((1, pos 3) ∷ (4, pos 0) ∷ (2, negsuc 4) ∷ (2, pos 7) ∷ [])) }
+    ensures { line (codes "begin 1 add:1:1=3,4=0,2=-5,2=7\n") ≡ begin_line_of (Add 1 ((1, pos 3) ∷ (4, pos 0) ∷ (2, negsuc 4) ∷ (2, pos 7) ∷ [])) }
 {}
 
 pub fn begin_keep()
-    ensures { line (codes "begin 1 keep:2\n") ≡ begun (Keep 2) }
+    ensures { line (codes "begin 1 keep:2\n") ≡ begin_line_of (Keep 2) }
 {}
 
 pub fn begin_several()
@@ -410,7 +410,7 @@ pub fn message_above()
 {}
 
 pub fn greatest_read()
-    ensures { line (codes "begin 1 keep:4294967295\n") ≡ begun (Keep 4294967295) }
+    ensures { line (codes "begin 1 keep:4294967295\n") ≡ begin_line_of (Keep 4294967295) }
 {}
 
 pub fn read_above()
@@ -430,7 +430,7 @@ pub fn call_above()
 {}
 
 pub fn greatest_value()
-    ensures { line (codes "begin 1 new:a:-:9223372036854775807\n") ≡ begun (New (codes "a") (item [] (pos 9223372036854775807 ∷ []))) }
+    ensures { line (codes "begin 1 new:a:-:9223372036854775807\n") ≡ begin_line_of (New (codes "a") (item [] (pos 9223372036854775807 ∷ []))) }
 {}
 
 pub fn value_above()
@@ -438,7 +438,7 @@ pub fn value_above()
 {}
 
 pub fn least_value()
-    ensures { line (codes "begin 1 new:a:-:-9223372036854775808\n") ≡ begun (New (codes "a") (item [] (negsuc 9223372036854775807 ∷ []))) }
+    ensures { line (codes "begin 1 new:a:-:-9223372036854775808\n") ≡ begin_line_of (New (codes "a") (item [] (negsuc 9223372036854775807 ∷ []))) }
 {}
 
 pub fn value_below()
@@ -458,7 +458,7 @@ pub fn attribute_above()
 {}
 
 pub fn four_values()
-    ensures { line (codes "begin 1 set:1:-:1,2,3,4\n") ≡ begun (Set 1 (item [] (pos 1 ∷ pos 2 ∷ pos 3 ∷ pos 4 ∷ []))) }
+    ensures { line (codes "begin 1 set:1:-:1,2,3,4\n") ≡ begin_line_of (Set 1 (item [] (pos 1 ∷ pos 2 ∷ pos 3 ∷ pos 4 ∷ []))) }
 {}
 
 pub fn fifth_value()
@@ -494,7 +494,7 @@ pub fn no_hexadecimal_body()
 {}
 
 pub fn longest_body()
-    ensures { line (codes "begin 1 new:a:" ++ replicate 256 48 ++ codes ":1\n") ≡ begun (New (codes "a") (item (replicate 128 0) (pos 1 ∷ []))) }
+    ensures { line (codes "begin 1 new:a:" ++ replicate 256 48 ++ codes ":1\n") ≡ begin_line_of (New (codes "a") (item (replicate 128 0) (pos 1 ∷ []))) }
 {}
 
 pub fn too_long_body()

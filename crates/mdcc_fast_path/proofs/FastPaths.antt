@@ -25,9 +25,9 @@ use Rattle.mdcc_protocol.specs.IsCluster.{IsCluster}
 use Rattle.mdcc_protocol.specs.News.{is_crowding}
 use Rattle.mdcc_protocol.specs.Volatile.{Undecided, opened_of}
 use Rattle.mdcc_simulation.specs.State.{Happened, Site, World, booted, centre_at, is_up_at}
-use Rattle.mdcc_trace_states.specs.Keeping.{IsOpened}
+use Rattle.mdcc_trace_states.specs.VolatileInvariant.{IsOpened}
 use Rattle.mdcc_trace_states.specs.Sound.{IsSound}
-use Rattle.mdcc_trace_states.specs.Standing.{IsBackedMessage}
+use Rattle.mdcc_trace_states.specs.MessageMeaning.{IsBackedMessage}
 use Rattle.mdcc_trace_states.specs.Steps.{IsUp}
 use Rattle.mdcc_trace_states.specs.Words.{Each, In}
 use Rattle.mdcc_trace_states.proofs.Belonging.{begun-belong}

@@ -34,7 +34,7 @@ use Rattle.mdcc_rules.specs.declared.node.Input.{Input}
 use Rattle.mdcc_rules.specs.declared.node.StepFault.{StepFault}
 use Rattle.mdcc_simulation.specs.Runs.{run_of}
 use Rattle.mdcc_simulation.specs.State.{Site, World, booted, booted_to, centre_at, down, first_world}
-use Rattle.mdcc_simulation.specs.Stepping.{fact_happened, input_happened, is_frame_kept, step_at, step_happened_by, step_stopped}
+use Rattle.mdcc_simulation.specs.AppliedSteps.{fact_happened, input_happened, is_frame_kept, step_at, step_happened_by, step_stopped}
 use Rattle.mdcc_trace_states.specs.Invariant.{Holds, IsGood}
 use Rattle.mdcc_trace_states.specs.Sound.{IsSound}
 use Rattle.mdcc_trace_states.specs.Steps.{IsFair, IsUp}
@@ -49,7 +49,7 @@ use Rattle.mdcc_trace_rules.proofs.Outcomes.{outcome-begun}
 use Rattle.mdcc_trace_rules.proofs.Votings.{was-outcome}
 use Rattle.mdcc_trace.proofs.Laws.{all-good}
 use Rattle.mdcc_trace_limits.proofs.Walks.{IsWalk, envelopes, trace-reached}
-use Rattle.mdcc_worlds.specs.Taking.{with_fact}
+use Rattle.mdcc_worlds.specs.StepEffects.{ledger_with_fact}
 use Rattle.mdcc_round_trip.specs.Messages.{proposal_of}
 use Rattle.mdcc_fast_path.proofs.OpenSteps.{IsKeeping, IsKeepingResult, WasOpen, message-keeps, old-same, tick-keeps}
 
@@ -153,7 +153,7 @@ quiet-fact t (Fact.Heard tx outcome) h =
 
 -- what a step leaves is well, over its entries, its fact and its messages
 abbrev pub IsWellStep : World → ℕ → NodeStep → Option Fact → Type 0
-IsWellStep w a step fact = Each (IsWell w.cluster (with_fact a fact (step.entries ++ w.ledger)) (envelopes (w.sent ++ map unsent step.sends)) a) step.after.manager.opened
+IsWellStep w a step fact = Each (IsWell w.cluster (ledger_with_fact a fact (step.entries ++ w.ledger)) (envelopes (w.sent ++ map unsent step.sends)) a) step.after.manager.opened
 
 keeping-well : (w : World) (a : ℕ) (step : NodeStep) → IsKeeping (centre_at w a).volatile step → Each (IsWell w.cluster w.ledger (envelopes w.sent) a) (centre_at w a).volatile.manager.opened → IsWellStep w a step step.fact
 keeping-well w a step keeps all = by_fact step.fact refl

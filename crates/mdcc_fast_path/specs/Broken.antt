@@ -17,7 +17,7 @@ use Rattle.mdcc_protocol.specs.Acceptor.{on_propose}
 use Rattle.mdcc_protocol.specs.Volatile.{Undecided}
 use Rattle.mdcc_protocol.specs.declared.acceptor.ProposeAnswer.{ProposeAnswer}
 use Rattle.mdcc_simulation.specs.State.{World, centre_at, is_up_at}
-use Rattle.mdcc_round_trip.specs.Example.{after, item, key_a, three}
+use Rattle.mdcc_round_trip.specs.Example.{after_line, item, key_a, three}
 use Rattle.mdcc_fast_path.specs.FastPaths.{AcceptsAll, IsUntaken}
 use Rattle.mdcc_fast_path.specs.States.{state_after}
 
@@ -32,8 +32,8 @@ pub record LacksOne (w : World) (a : ℕ) (t : Undecided) (others : List ℕ) (m
 -- what two lines of deliveries report
 abbrev pub two_lines : World → List ℕ → List ℕ → List Line
 two_lines w first second =
-    let asked = after w (Event.Deliver first) in
-    asked.lines ++ (after asked.world (Event.Deliver second)).lines
+    let asked = after_line w (Event.Deliver first) in
+    asked.lines ++ (after_line asked.world (Event.Deliver second)).lines
 
 abbrev pub open_with : TxId → Choice → Undecided
 open_with tx choice = record { tx = tx; choices = choice ∷ []; led = []; ticks = 0 }

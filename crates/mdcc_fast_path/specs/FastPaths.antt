@@ -8,7 +8,7 @@ use Rattle.mdcc_language.specs.declared.events.Event.{Event}
 use Rattle.mdcc_ledger.specs.Ledger.{facts_of}
 use Rattle.mdcc_protocol.specs.IsCluster.{IsCluster}
 use Rattle.mdcc_protocol.specs.Volatile.{Undecided}
-use Rattle.mdcc_simulation.specs.Events.{event_of}
+use Rattle.mdcc_simulation.specs.Events.{after_event}
 use Rattle.mdcc_simulation.specs.Runs.{run_of}
 use Rattle.mdcc_simulation.specs.State.{Happened, World, centre_at, first_world, is_up_at}
 use Rattle.mdcc_round_trip.specs.Accepting.{IsAccepted}
@@ -37,7 +37,7 @@ pub record IsAsked (w : World) (a : ℕ) (t : Undecided) (members : List ℕ) (f
   pub proposals : List ℕ
   pub asks_each : IsPermutation (each_with t.choices members) asked
   pub proposals_are : AreNumbersOf w proposals (map (proposal_of a) asked)
-  pub proposed : event_of w (Event.Deliver proposals) ≡ Ok first
+  pub proposed : after_event w (Event.Deliver proposals) ≡ Ok first
   pub undropped : AllByRecursion (λ line. is_dropped line ≡ false) first.lines
 
 -- then each member has given its vote on each choice, so that such votes have numbers, in whatever order they are wanted

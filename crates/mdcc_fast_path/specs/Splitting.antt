@@ -3,7 +3,7 @@ use Rattle.std.specs.Prelude.{Err, List, Ok, Result, ℕ, ◌++◌, ◌≡◌}
 use Rattle.mdcc_language.specs.declared.events.Event.{Event}
 use Rattle.mdcc_language.specs.declared.lines.Line.{Line}
 use Rattle.mdcc_language.specs.declared.world.EventFault.{EventFault}
-use Rattle.mdcc_simulation.specs.Events.{event_of}
+use Rattle.mdcc_simulation.specs.Events.{after_event}
 use Rattle.mdcc_simulation.specs.State.{Happened, World, after_lines}
 
 -- what a line reports after these lines, unless it is refused
@@ -13,5 +13,5 @@ reported_after lines (Ok h) = Ok (after_lines lines h)
 
 abbrev pub DeliverLinesSplit : Type 0
 DeliverLinesSplit =
-    (w : World) (first rest : List ℕ) (reached : Happened) → event_of w (Event.Deliver first) ≡ Ok reached
-    → event_of w (Event.Deliver (first ++ rest)) ≡ reported_after reached.lines (event_of reached.world (Event.Deliver rest))
+    (w : World) (first rest : List ℕ) (reached : Happened) → after_event w (Event.Deliver first) ≡ Ok reached
+    → after_event w (Event.Deliver (first ++ rest)) ≡ reported_after reached.lines (after_event reached.world (Event.Deliver rest))

@@ -21,7 +21,7 @@ use Rattle.mdcc_ledger.specs.Ledger.{Added, Entry, choices_begun, committed_of, 
 use Rattle.mdcc_protocol.specs.Marks.{Amounts}
 use Rattle.mdcc_protocol.specs.Visible
 use Rattle.mdcc_protocol.specs.Visible.{item_read, value_read}
-use Rattle.mdcc_simulation.specs.Clients.{known_of}
+use Rattle.mdcc_simulation.specs.Clients.{known_of_reading}
 use Rattle.mdcc_messages.specs.declared.facts.Fact.{Fact}
 use Rattle.mdcc_agreement.specs.Laws.{IsAbort, IsCommit, IsLedger}
 use Rattle.mdcc_agreement.proofs.BegunOnce.{begun_own}
@@ -201,11 +201,11 @@ module _ (cluster : Cluster) (later es : List Entry) (h : IsLedger cluster (late
   }
 
   -- what a centre shows of a key
-  pub read-told : (a : ℕ) (key : Key) → IsReportedRead cluster (later ++ es) (known_of key (Visible.read (facts_of es a) key))
+  pub read-told : (a : ℕ) (key : Key) → IsReportedRead cluster (later ++ es) (known_of_reading key (Visible.read (facts_of es a) key))
   read-told a key = by_base (base_of (facts_of es a) key) refl (held_base cluster es (ledger-before cluster later es h) a key)
     where
       by_base : (base : Option Item) → base_of (facts_of es a) key ≡ base → IsBase cluster es key (current_of (facts_of es a) key) (base_of (facts_of es a) key) →
-          IsReadOf (committed_of cluster.quorums (later ++ es)) (known_of key (Visible.read (facts_of es a) key)) (option_map (item_read (executed_of (facts_of es a) key)) (base_of (facts_of es a) key))
+          IsReadOf (committed_of cluster.quorums (later ++ es)) (known_of_reading key (Visible.read (facts_of es a) key)) (option_map (item_read (executed_of (facts_of es a) key)) (base_of (facts_of es a) key))
       by_base None e b = rw e (rw e at b)
       by_base (Some base) e b =
           let held : IsBase cluster es key (current_of (facts_of es a) key) (Some base) = subst (IsBase cluster es key (current_of (facts_of es a) key)) e b in

@@ -5,7 +5,7 @@ use Rattle.mdcc_option.specs.OneCopy.{IsRun}
 use Rattle.mdcc_base.specs.declared.identifiers.TxId.{TxId}
 use Rattle.mdcc_option.specs.declared.choices.Choice.{Choice}
 use Rattle.mdcc_option.specs.declared.cluster.Cluster.{Cluster}
-use Rattle.mdcc_language.specs.Header.{Left}
+use Rattle.mdcc_language.specs.Header.{UnreadLines}
 use Rattle.mdcc_protocol.specs.IsCluster.{IsCluster}
 use Rattle.mdcc_ledger.specs.Ledger.{Entry, choices_begun, committed_of}
 use Rattle.mdcc_simulation.specs.Runs.{Run, end_line, run_of}
@@ -40,14 +40,14 @@ EveryRunTellsTruth =
     → RunTellsTruth cluster (run_of (first_world cluster) events)
 
 -- the text of a replay is that of the run of these events, which tells the truth at the end and at every moment, after each of the events
-pub record IsTextOfTruth (input : List ℕ) (header : Cluster × Left) (events : List Event) : Type 0 where
+pub record IsTextOfTruth (input : List ℕ) (header : Cluster × UnreadLines) (events : List Event) : Type 0 where
   pub of_cluster : IsCluster header.0
   pub replayed : IsReplayed input header events
   pub tells_truth : (first rest : List Event) → events ≡ first ++ rest → RunTellsTruth header.0 (run_of (first_world header.0) first)
 
 -- where the input is not too long and its header is accepted, its replay is the text of such a run
 abbrev pub ReplayTellsTruth : List ℕ → Type 0
-ReplayTellsTruth input = (header : Cluster × Left) → IsAccepted input header → (events : List Event) × IsTextOfTruth input header events
+ReplayTellsTruth input = (header : Cluster × UnreadLines) → IsAccepted input header → (events : List Event) × IsTextOfTruth input header events
 
 abbrev pub EveryReplayTellsTruth : Type 0
 EveryReplayTellsTruth = (input : List ℕ) → ReplayTellsTruth input

@@ -14,38 +14,38 @@ use Rattle.mdcc_language.specs.declared.schedule.SchedFault.{SchedFault}
 use Rattle.mdcc_language.specs.declared.schedule.SchedCause.TheVariants.{Word, Order}
 use Rattle.mdcc_language.specs.Lines.{bounded, bytes_of_line, lines_in, line_end_of}
 use Rattle.mdcc_language.specs.Schedule.{begins_with}
-use Rattle.mdcc_language.specs.Words.{◌>>=◌, refused, text_eq, end_at, word_at, word_end, word_behind, natural_of, value_of}
+use Rattle.mdcc_language.specs.Words.{◌>>=◌, refused, text_eq, end_at, word_at, word_end, word_after, natural_of, value_of}
 
 -- ---- how far a header is read
 
 -- the lines that are left, the place of the first of them in the text, and its number
-pub record Left : Type 0 where
+pub record UnreadLines : Type 0 where
   pub lines : List (List ℕ)
   pub at : ℕ
   pub number : ℕ
 
-abbrev pub all_of : List ℕ → Left
+abbrev pub all_of : List ℕ → UnreadLines
 all_of text = record { lines = lines_in text; at = 0; number = 1 }
 
 -- the next line; at the end of the text an empty one without a line end
-abbrev pub next_line : Left → List ℕ
+abbrev pub next_line : UnreadLines → List ℕ
 next_line left = get_or left.lines 0 []
 
-abbrev pub without_next : Left → Left
+abbrev pub without_next : UnreadLines → UnreadLines
 without_next left =
     record { lines = drop 1 left.lines; at = left.at + length (next_line left); number = left.number + 1 }
 
-abbrev pub refused_at : {A : Type 0} → Left → HeaderCause → Result A HeaderFault
+abbrev pub refused_at : {A : Type 0} → UnreadLines → HeaderCause → Result A HeaderFault
 refused_at left cause = Err (record { line = left.number; cause = cause })
 
 -- a header fault names the line and not the column
-abbrev pub in_line : {A : Type 0} → Left → Result A SchedFault → Result A HeaderFault
+abbrev pub in_line : {A : Type 0} → UnreadLines → Result A SchedFault → Result A HeaderFault
 in_line left (Ok x) = Ok x
 in_line left (Err fault) = refused_at left (Sched fault.cause)
 
 -- whether the next line begins with this word
-abbrev pub is_next : List ℕ → Left → Bool
-is_next word left = begins_with word (bytes_of_line (next_line left))
+abbrev pub begins_next : List ℕ → UnreadLines → Bool
+begins_next word left = begins_with word (bytes_of_line (next_line left))
 
 -- ---- one line
 
@@ -62,7 +62,7 @@ whole_line word read line = (do
   Ok value)
 
 -- what the next line spells, where its bytes aren't too many, and what is left behind it
-abbrev pub header_line : {A : Type 0} → List ℕ → (List ℕ → Result A SchedFault) → Left → Result (A × Left) HeaderFault
+abbrev pub header_line : {A : Type 0} → List ℕ → (List ℕ → Result A SchedFault) → UnreadLines → Result (A × UnreadLines) HeaderFault
 header_line word read left =
     in_line left (bounded (bytes_of_line (next_line left)) (whole_line word read (next_line left)))
     >>= λ value. Ok (value, without_next left)
@@ -74,24 +74,24 @@ is_version word column = if text_eq word (codes "1") then Ok tt else refused col
 -- `mdcc-schedule 1`
 abbrev pub version_of : List ℕ → Result (Unit {0}) SchedFault
 version_of line = (do
-  start ← word_behind 13 line
+  start ← word_after 13 line
   _ ← is_version (word_at start line) (start + 1)
   end_at (word_end start line) line 1)
 
 -- the number behind this place, which ends the line
 abbrev pub last_number : ℕ → ℕ → ℕ → List ℕ → Result ℕ SchedFault
 last_number low high at line = (do
-  start ← word_behind at line
+  start ← word_after at line
   number ← natural_of (word_at start line) (start + 1) low high
   _ ← end_at (word_end start line) line 1
   Ok number)
 
 -- `quorums N C F`
-abbrev pub sizes_of : List ℕ → Result (ℕ × ℕ × ℕ) SchedFault
-sizes_of line = (do
-  first ← word_behind 7 line
+abbrev pub parse_sizes : List ℕ → Result (ℕ × ℕ × ℕ) SchedFault
+parse_sizes line = (do
+  first ← word_after 7 line
   n ← natural_of (word_at first line) (first + 1) 0 255
-  second ← word_behind (word_end first line) line
+  second ← word_after (word_end first line) line
   c ← natural_of (word_at second line) (second + 1) 0 255
   f ← last_number 0 255 (word_end second line) line
   Ok (n, c, f))
@@ -99,9 +99,9 @@ sizes_of line = (do
 -- `bound LOWER UPPER`
 abbrev pub bound_of : List ℕ → Result (ℤ × ℤ) SchedFault
 bound_of line = (do
-  start ← word_behind 5 line
+  start ← word_after 5 line
   lower ← value_of (word_at start line) (start + 1)
-  next ← word_behind (word_end start line) line
+  next ← word_after (word_end start line) line
   upper ← value_of (word_at next line) (next + 1)
   _ ← end_at (word_end next line) line 1
   Ok (lower, upper))
@@ -109,13 +109,13 @@ bound_of line = (do
 -- ---- several lines
 
 -- the sizes of quorums that the numbers of a line are
-abbrev pub quorums_in : Left → Result Sizes QuorumFault → Result Sizes HeaderFault
+abbrev pub quorums_in : UnreadLines → Result Sizes QuorumFault → Result Sizes HeaderFault
 quorums_in left (Ok sizes) = Ok sizes
 quorums_in left (Err fault) = refused_at left (Quorums fault)
 
-abbrev pub quorums_line : Left → Result (Sizes × Left) HeaderFault
+abbrev pub quorums_line : UnreadLines → Result (Sizes × UnreadLines) HeaderFault
 quorums_line left = (do
-  sizes ← header_line (codes "quorums") sizes_of left
+  sizes ← header_line (codes "quorums") parse_sizes left
   quorums ← quorums_in left (quorums_of sizes.0.0 sizes.0.1 sizes.0.2)
   Ok (quorums, sizes.1))
 
@@ -124,9 +124,9 @@ abbrev pub default_cells : ℕ
 default_cells = 1048576
 
 -- `cells C`, which may be left out
-abbrev pub cells_line : Left → Result (ℕ × Left) HeaderFault
+abbrev pub cells_line : UnreadLines → Result (ℕ × UnreadLines) HeaderFault
 cells_line left =
-    if is_next (codes "cells") left
+    if begins_next (codes "cells") left
     then header_line (codes "cells") (last_number 1 4194304 5) left else Ok (default_cells, left)
 
 -- the word of the fast limit
@@ -138,21 +138,21 @@ limit_in word column =
 -- `limit safe` or `limit paper`
 abbrev pub fast_limit_of : List ℕ → Result FastLimit SchedFault
 fast_limit_of line = (do
-  start ← word_behind 5 line
+  start ← word_after 5 line
   limit ← limit_in (word_at start line) (start + 1)
   _ ← end_at (word_end start line) line 1
   Ok limit)
 
 -- it may be left out, and the limit is then the safe one
-abbrev pub limit_line : Left → Result (FastLimit × Left) HeaderFault
+abbrev pub limit_line : UnreadLines → Result (FastLimit × UnreadLines) HeaderFault
 limit_line left =
-    if is_next (codes "limit") left then header_line (codes "limit") fast_limit_of left else Ok (FastLimit.Safe, left)
+    if begins_next (codes "limit") left then header_line (codes "limit") fast_limit_of left else Ok (FastLimit.Safe, left)
 
 -- the n-th bounds of a schema
-abbrev pub bounds_in : ℕ → Left → ℤ × ℤ → Result (ℤ × ℤ) HeaderFault
+abbrev pub bounds_in : ℕ → UnreadLines → ℤ × ℤ → Result (ℤ × ℤ) HeaderFault
 bounds_in n left bounds = if is_bound bounds then Ok bounds else refused_at left (Schema (Bound n))
 
-abbrev pub bound_line : ℕ → Left → Result ((ℤ × ℤ) × Left) HeaderFault
+abbrev pub bound_line : ℕ → UnreadLines → Result ((ℤ × ℤ) × UnreadLines) HeaderFault
 bound_line n left = (do
   read ← header_line (codes "bound") bound_of left
   bounds ← bounds_in n left read.0
@@ -162,10 +162,10 @@ abbrev pub Bounds : Type 0
 Bounds = List (ℤ × ℤ)
 
 -- further lines `bound`, the n-th and at most so many more
-abbrev pub more_bounds : ℕ → ℕ → Left → Result (Bounds × Left) HeaderFault
+abbrev pub more_bounds : ℕ → ℕ → UnreadLines → Result (Bounds × UnreadLines) HeaderFault
 more_bounds zero n left = Ok ([], left)
 more_bounds (suc more) n left =
-    if is_next (codes "bound") left
+    if begins_next (codes "bound") left
     then (do
       one ← bound_line n left
       rest ← more_bounds more (n + 1) one.1
@@ -173,14 +173,14 @@ more_bounds (suc more) n left =
     else Ok ([], left)
 
 -- one to four lines `bound`
-abbrev pub bounds_lines : Left → Result (Bounds × Left) HeaderFault
+abbrev pub bounds_lines : UnreadLines → Result (Bounds × UnreadLines) HeaderFault
 bounds_lines left = (do
   one ← bound_line 1 left
   rest ← more_bounds 3 2 one.1
   Ok (one.0 ∷ rest.0, rest.1))
 
 -- the lines of a header in their order, and what is left behind them
-abbrev pub header_lines : Left → Result (Cluster × Left) HeaderFault
+abbrev pub header_lines : UnreadLines → Result (Cluster × UnreadLines) HeaderFault
 header_lines left = (do
   version ← header_line (codes "mdcc-schedule") version_of left
   quorums ← quorums_line version.1

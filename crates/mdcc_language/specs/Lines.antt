@@ -10,8 +10,8 @@ abbrev pub line_end : ℕ
 line_end = 10
 
 -- the most bytes that a line may have before its end
-abbrev pub most_bytes : ℕ
-most_bytes = 4096
+abbrev pub most_line_bytes : ℕ
+most_line_bytes = 4096
 
 -- the lines of a text, each with its line end; the last one has none where the text doesn't end with one
 abbrev pub lines_in : List ℕ → List (List ℕ)
@@ -25,12 +25,12 @@ bytes_of_line line = part_at line_end 0 line
 -- what is read of a line that has too many bytes: its fault where that stands within the most bytes, and in all other
 -- cases the first byte too much is out of range
 abbrev pub of_long : {A : Type 0} → Result A SchedFault → Result A SchedFault
-of_long (Ok x) = refused (most_bytes + 1) Range
-of_long (Err fault) = if nat_le fault.column most_bytes then Err fault else refused (most_bytes + 1) Range
+of_long (Ok x) = refused (most_line_bytes + 1) Range
+of_long (Err fault) = if nat_le fault.column most_line_bytes then Err fault else refused (most_line_bytes + 1) Range
 
 -- what is read of a line with these bytes before its line end
 abbrev pub bounded : {A : Type 0} → List ℕ → Result A SchedFault → Result A SchedFault
-bounded text read = if nat_le (length text) most_bytes then read else of_long read
+bounded text read = if nat_le (length text) most_line_bytes then read else of_long read
 
 -- one line end and nothing more, from this column on
 abbrev pub line_end_by : ℕ → List ℕ → Result (Unit {0}) SchedFault

@@ -10,16 +10,16 @@ use Rattle.mdcc_language.specs.declared.schedule.SchedFault.{SchedFault}
 use Rattle.mdcc_language.specs.declared.schedule.SchedCause.TheVariants.{Word, Order}
 use Rattle.mdcc_language.specs.Lines.{bounded, bytes_of_line, line_end_of}
 use Rattle.mdcc_language.specs.Updates.{update_of}
-use Rattle.mdcc_language.specs.Words.{◌>>=◌, refused, text_eq, parts_from, end_at, word_at, word_end, not_empty, word_behind, natural_of, count_of, key_of}
+use Rattle.mdcc_language.specs.Words.{◌>>=◌, refused, text_eq, parts_from, end_at, word_at, word_end, not_empty, word_after, natural_of, count_of, key_of}
 
 -- ---- words
 
 -- a centre of the cluster
-abbrev pub centre_of : Cluster → List ℕ → ℕ → Result ℕ SchedFault
-centre_of cluster word column = natural_of word column 1 cluster.quorums.centres
+abbrev pub parse_centre : Cluster → List ℕ → ℕ → Result ℕ SchedFault
+parse_centre cluster word column = natural_of word column 1 cluster.quorums.centres
 
-abbrev pub image_of : List ℕ → ℕ → Result Image SchedFault
-image_of word column =
+abbrev pub parse_image : List ℕ → ℕ → Result Image SchedFault
+parse_image word column =
     if text_eq word (codes "lost") then Ok Lost
     else (if text_eq word (codes "kept") then Ok Kept
     else (if text_eq word (codes "torn") then Ok Torn
@@ -52,7 +52,7 @@ abbrev pub centres_from : Cluster → ℕ → ℕ → List (List ℕ) → Result
 centres_from cluster last column [] = Ok []
 centres_from cluster last column (word ∷ words) = (do
   _ ← not_empty word column
-  centre ← centre_of cluster word column
+  centre ← parse_centre cluster word column
   _ ← above last centre column
   centres ← centres_from cluster centre (column + length word + 1) words
   Ok (centre ∷ centres))
@@ -62,64 +62,64 @@ centres_from cluster last column (word ∷ words) = (do
 -- the centre behind this place, which ends the line
 abbrev pub last_centre : Cluster → ℕ → List ℕ → Result ℕ SchedFault
 last_centre cluster at line = (do
-  start ← word_behind at line
-  centre ← centre_of cluster (word_at start line) (start + 1)
+  start ← word_after at line
+  centre ← parse_centre cluster (word_at start line) (start + 1)
   _ ← end_at (word_end start line) line 1
   Ok centre)
 
 -- `tick K`
-abbrev pub tick_of : Cluster → List ℕ → Result Event SchedFault
-tick_of cluster line = last_centre cluster 4 line >>= λ centre. Ok (Tick centre)
+abbrev pub parse_tick : Cluster → List ℕ → Result Event SchedFault
+parse_tick cluster line = last_centre cluster 4 line >>= λ centre. Ok (Tick centre)
 
 -- `crash K`
-abbrev pub crash_of : Cluster → List ℕ → Result Event SchedFault
-crash_of cluster line = last_centre cluster 5 line >>= λ centre. Ok (Crash centre)
+abbrev pub parse_crash : Cluster → List ℕ → Result Event SchedFault
+parse_crash cluster line = last_centre cluster 5 line >>= λ centre. Ok (Crash centre)
 
 -- `restart K`
-abbrev pub restart_of : Cluster → List ℕ → Result Event SchedFault
-restart_of cluster line = last_centre cluster 7 line >>= λ centre. Ok (Restart centre)
+abbrev pub parse_restart : Cluster → List ℕ → Result Event SchedFault
+parse_restart cluster line = last_centre cluster 7 line >>= λ centre. Ok (Restart centre)
 
 -- `read K KEY`
-abbrev pub read_of : Cluster → List ℕ → Result Event SchedFault
-read_of cluster line = (do
-  start ← word_behind 4 line
-  centre ← centre_of cluster (word_at start line) (start + 1)
-  next ← word_behind (word_end start line) line
+abbrev pub parse_read : Cluster → List ℕ → Result Event SchedFault
+parse_read cluster line = (do
+  start ← word_after 4 line
+  centre ← parse_centre cluster (word_at start line) (start + 1)
+  next ← word_after (word_end start line) line
   key ← key_of (word_at next line) (next + 1)
   _ ← end_at (word_end next line) line 1
   Ok (Read centre key))
 
 -- `begin K UPDATE ..`
-abbrev pub begin_of : Cluster → List ℕ → Result Event SchedFault
-begin_of cluster line = (do
-  start ← word_behind 5 line
-  centre ← centre_of cluster (word_at start line) (start + 1)
-  next ← word_behind (word_end start line) line
+abbrev pub parse_begin : Cluster → List ℕ → Result Event SchedFault
+parse_begin cluster line = (do
+  start ← word_after 5 line
+  centre ← parse_centre cluster (word_at start line) (start + 1)
+  next ← word_after (word_end start line) line
   updates ← updates_from (next + 1) (parts_from 32 next line)
   Ok (Begin centre updates))
 
 -- `deliver M ..`
-abbrev pub deliver_of : List ℕ → Result Event SchedFault
-deliver_of line = (do
-  start ← word_behind 7 line
+abbrev pub parse_deliver : List ℕ → Result Event SchedFault
+parse_deliver line = (do
+  start ← word_after 7 line
   numbers ← numbers_from (start + 1) (parts_from 32 start line)
   Ok (Deliver numbers))
 
 -- `settle` or `settle K ..`
-abbrev pub settle_of : Cluster → List ℕ → Result Event SchedFault
-settle_of cluster line =
+abbrev pub parse_settle : Cluster → List ℕ → Result Event SchedFault
+parse_settle cluster line =
     if length line == 6 then Ok (Settle [])
     else centres_from cluster 0 8 (parts_from 32 7 line) >>= λ centres. Ok (Settle centres)
 
 -- `stop K N IMAGE`
-abbrev pub stop_of : Cluster → List ℕ → Result Event SchedFault
-stop_of cluster line = (do
-  start ← word_behind 4 line
-  centre ← centre_of cluster (word_at start line) (start + 1)
-  next ← word_behind (word_end start line) line
+abbrev pub parse_stop : Cluster → List ℕ → Result Event SchedFault
+parse_stop cluster line = (do
+  start ← word_after 4 line
+  centre ← parse_centre cluster (word_at start line) (start + 1)
+  next ← word_after (word_end start line) line
   call ← natural_of (word_at next line) (next + 1) 1 4
-  last ← word_behind (word_end next line) line
-  image ← image_of (word_at last line) (last + 1)
+  last ← word_after (word_end next line) line
+  image ← parse_image (word_at last line) (last + 1)
   _ ← end_at (word_end last line) line 1
   Ok (Stop centre call image))
 
@@ -128,23 +128,23 @@ abbrev pub begins_with : List ℕ → List ℕ → Bool
 begins_with word line = text_eq (word_at 0 line) word
 
 -- the event of a line that is not skipped
-abbrev pub event_of : Cluster → List ℕ → Result Event SchedFault
-event_of cluster line =
-    if begins_with (codes "read") line then read_of cluster line
-    else (if begins_with (codes "begin") line then begin_of cluster line
-    else (if begins_with (codes "deliver") line then deliver_of line
-    else (if begins_with (codes "settle") line then settle_of cluster line
-    else (if begins_with (codes "tick") line then tick_of cluster line
-    else (if begins_with (codes "crash") line then crash_of cluster line
-    else (if begins_with (codes "restart") line then restart_of cluster line
-    else (if begins_with (codes "stop") line then stop_of cluster line
+abbrev pub parse_event : Cluster → List ℕ → Result Event SchedFault
+parse_event cluster line =
+    if begins_with (codes "read") line then parse_read cluster line
+    else (if begins_with (codes "begin") line then parse_begin cluster line
+    else (if begins_with (codes "deliver") line then parse_deliver line
+    else (if begins_with (codes "settle") line then parse_settle cluster line
+    else (if begins_with (codes "tick") line then parse_tick cluster line
+    else (if begins_with (codes "crash") line then parse_crash cluster line
+    else (if begins_with (codes "restart") line then parse_restart cluster line
+    else (if begins_with (codes "stop") line then parse_stop cluster line
     else refused 1 Word)))))))
 
 -- an empty line and one that begins with `#` are skipped
 abbrev pub event_or_none : Cluster → List ℕ → Result (Option Event) SchedFault
 event_or_none cluster [] = Ok None
 event_or_none cluster (b ∷ bs) =
-    if b == 35 then Ok None else event_of cluster (b ∷ bs) >>= λ event. Ok (Some event)
+    if b == 35 then Ok None else parse_event cluster (b ∷ bs) >>= λ event. Ok (Some event)
 
 -- the event of a line with its line end, which is asked last
 abbrev pub event_in : Cluster → List ℕ → Result (Option Event) SchedFault

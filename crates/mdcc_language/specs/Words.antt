@@ -45,8 +45,8 @@ is_separator separator None = false
 is_separator separator (Some b) = b == separator
 
 -- the place behind the separator that stands at a place of a text; the text begins at a column
-abbrev pub behind : ℕ → ℕ → List ℕ → ℕ → Result ℕ SchedFault
-behind separator at text column =
+abbrev pub start_after : ℕ → ℕ → List ℕ → ℕ → Result ℕ SchedFault
+start_after separator at text column =
     if is_separator separator (slice_get text at) then Ok (at + 1) else refused (column + at) Word
 
 -- the last part of a text ends at this place, and the text with it; else a part is too much
@@ -67,9 +67,9 @@ not_empty [] column = refused column Word
 not_empty (b ∷ bs) column = Ok tt
 
 -- the place of the next word, behind the space at a place
-abbrev pub word_behind : ℕ → List ℕ → Result ℕ SchedFault
-word_behind at line = (do
-  start ← behind 32 at line 1
+abbrev pub word_after : ℕ → List ℕ → Result ℕ SchedFault
+word_after at line = (do
+  start ← start_after 32 at line 1
   _ ← not_empty (word_at start line) (start + 1)
   Ok start)
 

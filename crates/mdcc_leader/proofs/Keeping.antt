@@ -8,7 +8,7 @@ use Rattle.mdcc_base.specs.Unless.{GivesUnless}
 use Rattle.mdcc_base.specs.declared.identifiers.Ballot.{Ballot}
 use Rattle.mdcc_base.specs.declared.key.Key.{Key}
 use Rattle.mdcc_leader.proofs.Lookups.{key_eq-refl, key_eq-same, lead_of-key, lead_of-with, number_at-with}
-use Rattle.mdcc_leader.specs.Answers.{answered, is_memory, left}
+use Rattle.mdcc_leader.specs.Answers.{answered, is_lead_memory, left}
 use Rattle.mdcc_leader.specs.Extending.{begun_with, lead_counted, lead_extended}
 use Rattle.mdcc_leader.specs.Leads.{AreOfCentres, Keeps, lead_in, round_led, round_refused}
 use Rattle.mdcc_leader.specs.declared.led.Led.{Led}
@@ -291,7 +291,7 @@ Keeps-counted cluster facts leading from promise led answer k counts are given =
 pub Keeps-counted-by : (cluster : Cluster) (facts : List Fact) (leading : Leading) (from : ℕ) (promise : Promise) (led : Led) (after : Lead) (result : Result PromiseAnswer LeadFault)
     → Keeps cluster.quorums leading promise.key (Some led) → is_promise_counted led.lead from promise ≡ true
     → AreOfCentres cluster.quorums (with_promise led.lead from promise).promises
-    → GivesUnless is_memory result (answered (counted_promise cluster facts leading (with_promise led.lead from promise)))
+    → GivesUnless is_lead_memory result (answered (counted_promise cluster facts leading (with_promise led.lead from promise)))
     → OnOk result (after ≡ lead_counted cluster facts (with_promise led.lead from promise))
     → OnOk result (Keeps cluster.quorums (left leading (promise_taken cluster facts leading from promise (Some led.lead))) promise.key
     (Some (record { lead = after; refused_round = led.refused_round })))

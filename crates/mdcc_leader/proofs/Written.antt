@@ -10,7 +10,7 @@ use Rattle.mdcc_leader.proofs.Lookups.{key_eq-same}
 use Rattle.mdcc_leader.specs.Answers.{left}
 use Rattle.mdcc_leader.specs.Extending.{begun_with}
 use Rattle.mdcc_leader.specs.Leads.{Keeps}
-use Rattle.mdcc_leader.specs.Stands.{Stands}
+use Rattle.mdcc_leader.specs.Represents.{RepresentsLeading}
 use Rattle.mdcc_leader.specs.declared.leader.Leader.{Leader}
 use Rattle.mdcc_leader.specs.declared.led.Led.{Led}
 use Rattle.mdcc_messages.specs.declared.facts.Fact.{Fact}
@@ -22,12 +22,12 @@ use Rattle.mdcc_protocol.specs.Volatile.{Lead, Leading, lead_of}
 use Rattle.mdcc_protocol.specs.declared.leader.Promise.{Promise}
 
 -- something is written at a key
-pub Stands-written : (old new : Leader) (me epoch : ℕ) (quorums : Sizes) (leading after : Leading) (key : Key) (led : Led)
+pub represents-written : (old new : Leader) (me epoch : ℕ) (quorums : Sizes) (leading after : Leading) (key : Key) (led : Led)
     → new.centre ≡ old.centre → new.epoch ≡ old.epoch
     → ((k : Key) → get key_eq new.leads k ≡ cond (key_eq key k) (Some led) (get key_eq old.leads k))
-    → Stands old me epoch quorums leading → ((k : Key) → key_eq key k ≡ false → SameAt leading after k) → Keeps quorums after key (Some led)
-    → Stands new me epoch quorums after
-Stands-written old new me epoch quorums leading after key led centre since at stands others here = record {
+    → RepresentsLeading old me epoch quorums leading → ((k : Key) → key_eq key k ≡ false → SameAt leading after k) → Keeps quorums after key (Some led)
+    → RepresentsLeading new me epoch quorums after
+represents-written old new me epoch quorums leading after key led centre since at stands others here = record {
   at = centre ∙ stands.at;
   since = since ∙ stands.since;
   keeps = λ k. elim (cases_Bool (key_eq key k)) [
@@ -42,54 +42,54 @@ Stands-written old new me epoch quorums leading after key led centre since at st
 }
 
 -- nothing is changed
-pub Stands-same : (old new : Leader) (me epoch : ℕ) (quorums : Sizes) (leading : Leading) → new.centre ≡ old.centre → new.epoch ≡ old.epoch
-    → ((k : Key) → get key_eq new.leads k ≡ get key_eq old.leads k) → Stands old me epoch quorums leading → Stands new me epoch quorums leading
-Stands-same old new me epoch quorums leading centre since at stands = record {
+pub represents-same : (old new : Leader) (me epoch : ℕ) (quorums : Sizes) (leading : Leading) → new.centre ≡ old.centre → new.epoch ≡ old.epoch
+    → ((k : Key) → get key_eq new.leads k ≡ get key_eq old.leads k) → RepresentsLeading old me epoch quorums leading → RepresentsLeading new me epoch quorums leading
+represents-same old new me epoch quorums leading centre since at stands = record {
   at = centre ∙ stands.at;
   since = since ∙ stands.since;
   keeps = λ k. rw (at k) (stands.keeps k);
 }
 
 -- a first lead is written
-pub Stands-begun : (old new : Leader) (me epoch : ℕ) (cluster : Cluster) (facts : List Fact) (leading : Leading) (claim : Claim) (begun : Lead)
+pub represents-begun : (old new : Leader) (me epoch : ℕ) (cluster : Cluster) (facts : List Fact) (leading : Leading) (claim : Claim) (begun : Lead)
     → new.centre ≡ old.centre → new.epoch ≡ old.epoch
     → ((k : Key) → get key_eq new.leads k ≡ cond (key_eq claim.key k) (Some (record { lead = begun; refused_round = 0 })) (get key_eq old.leads k))
-    → get key_eq old.leads claim.key ≡ None → Stands old me epoch cluster.quorums leading
+    → get key_eq old.leads claim.key ≡ None → RepresentsLeading old me epoch cluster.quorums leading
     → Ok begun ≡ begun_with cluster old.centre old.epoch facts 0 0 claim
-    → Stands new me epoch cluster.quorums (left leading (led_anew cluster me epoch facts leading claim))
-Stands-begun old new me epoch cluster facts leading claim begun centre since at none stands is =
+    → RepresentsLeading new me epoch cluster.quorums (left leading (led_anew cluster me epoch facts leading claim))
+represents-begun old new me epoch cluster facts leading claim begun centre since at none stands is =
     let kept : Keeps cluster.quorums leading claim.key None = rw (← none) (stands.keeps claim.key) in
     let made : Ok begun ≡ begun_with cluster me epoch facts 0 0 claim = rw (← stands.at, ← stands.since) is in
-    Stands-written old new me epoch cluster.quorums leading _ claim.key (record { lead = begun; refused_round = 0 }) centre since at stands
+    represents-written old new me epoch cluster.quorums leading _ claim.key (record { lead = begun; refused_round = 0 }) centre since at stands
     (λ k other. led_anew-elsewhere cluster me epoch facts leading claim k other)
     (Keeps-replaced cluster me epoch facts leading claim None begun kept made)
 
 -- a lead that stands takes a claim
-pub Stands-led : (old new : Leader) (me epoch : ℕ) (cluster : Cluster) (facts : List Fact) (leading : Leading) (claim : Claim) (led after : Led)
+pub represents-led : (old new : Leader) (me epoch : ℕ) (cluster : Cluster) (facts : List Fact) (leading : Leading) (claim : Claim) (led after : Led)
     → new.centre ≡ old.centre → new.epoch ≡ old.epoch
     → ((k : Key) → get key_eq new.leads k ≡ cond (key_eq claim.key k) (Some after) (get key_eq old.leads k))
-    → get key_eq old.leads claim.key ≡ Some led → nat_lt (current_of facts claim.key) claim.version ≡ false → Stands old me epoch cluster.quorums leading
+    → get key_eq old.leads claim.key ≡ Some led → nat_lt (current_of facts claim.key) claim.version ≡ false → RepresentsLeading old me epoch cluster.quorums leading
     → (Keeps cluster.quorums leading claim.key (Some led)
     → Keeps cluster.quorums (left leading (led_by cluster old.centre old.epoch facts leading claim (Some led.lead))) claim.key (Some after))
-    → Stands new me epoch cluster.quorums (left leading (lead cluster me epoch facts leading claim))
-Stands-led old new me epoch cluster facts leading claim led after centre since at there held stands takes =
+    → RepresentsLeading new me epoch cluster.quorums (left leading (lead cluster me epoch facts leading claim))
+represents-led old new me epoch cluster facts leading claim led after centre since at there held stands takes =
     let kept : Keeps cluster.quorums leading claim.key (Some led) = rw (← there) (stands.keeps claim.key) in
     let taken : Keeps cluster.quorums (left leading (led_by cluster me epoch facts leading claim (Some led.lead))) claim.key (Some after) =
     rw (← stands.at, ← stands.since) (takes kept) in
     let same : lead cluster me epoch facts leading claim ≡ led_by cluster me epoch facts leading claim (Some led.lead) = rw (held, kept.lead) refl in
-    Stands-written old new me epoch cluster.quorums leading _ claim.key after centre since at stands
+    represents-written old new me epoch cluster.quorums leading _ claim.key after centre since at stands
     (λ k other. lead-elsewhere cluster me epoch facts leading claim k other) (rw same taken)
 
 -- a lead that stands takes a promise
-pub Stands-promised : (old new : Leader) (me epoch : ℕ) (cluster : Cluster) (facts : List Fact) (leading : Leading) (from : ℕ) (promise : Promise) (led after : Led)
+pub represents-promised : (old new : Leader) (me epoch : ℕ) (cluster : Cluster) (facts : List Fact) (leading : Leading) (from : ℕ) (promise : Promise) (led after : Led)
     → new.centre ≡ old.centre → new.epoch ≡ old.epoch
     → ((k : Key) → get key_eq new.leads k ≡ cond (key_eq promise.key k) (Some after) (get key_eq old.leads k))
-    → get key_eq old.leads promise.key ≡ Some led → Stands old me epoch cluster.quorums leading
+    → get key_eq old.leads promise.key ≡ Some led → RepresentsLeading old me epoch cluster.quorums leading
     → (Keeps cluster.quorums leading promise.key (Some led)
     → Keeps cluster.quorums (left leading (promise_taken cluster facts leading from promise (Some led.lead))) promise.key (Some after))
-    → Stands new me epoch cluster.quorums (left leading (on_promise cluster facts leading from promise))
-Stands-promised old new me epoch cluster facts leading from promise led after centre since at there stands takes =
+    → RepresentsLeading new me epoch cluster.quorums (left leading (on_promise cluster facts leading from promise))
+represents-promised old new me epoch cluster facts leading from promise led after centre since at there stands takes =
     let kept : Keeps cluster.quorums leading promise.key (Some led) = rw (← there) (stands.keeps promise.key) in
     let same : on_promise cluster facts leading from promise ≡ promise_taken cluster facts leading from promise (Some led.lead) = rw kept.lead refl in
-    Stands-written old new me epoch cluster.quorums leading _ promise.key after centre since at stands
+    represents-written old new me epoch cluster.quorums leading _ promise.key after centre since at stands
     (λ k other. on_promise-elsewhere cluster facts leading from promise k other) (rw same (takes kept))

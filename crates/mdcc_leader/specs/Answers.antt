@@ -3,9 +3,9 @@ use Rattle.std.specs.Prelude.{Bool, Err, Ok, Result, false, true}
 use Rattle.mdcc_protocol.specs.Volatile.{Leading}
 use Rattle.mdcc_protocol.specs.declared.leader.LeadFault.{LeadFault}
 
-abbrev pub is_memory : LeadFault → Bool
-is_memory LeadFault.Memory = true
-is_memory _ = false
+abbrev pub is_lead_memory : LeadFault → Bool
+is_lead_memory LeadFault.Memory = true
+is_lead_memory _ = false
 
 -- the answer, without what the leader keeps
 abbrev pub answered : {A : Type 0} → Result (A × Leading) LeadFault → Result A LeadFault

@@ -2,4 +2,4 @@ pub mod Answers
 pub mod Extending
 pub mod Leads
 pub mod Promises
-pub mod Stands
+pub mod Represents

@@ -5,7 +5,7 @@ ghost use Rattle.std.specs.Option.{option_copied};
 ghost use Rattle.mdcc_base.specs.Ballot.{ballot_eq};
 ghost use Rattle.mdcc_base.specs.Counts.{number_of};
 ghost use Rattle.mdcc_base.specs.Unless.{GivesUnless};
-ghost use Rattle.mdcc_leader.specs.Answers.{answered, is_memory};
+ghost use Rattle.mdcc_leader.specs.Answers.{answered, is_lead_memory};
 ghost use Rattle.mdcc_leader.specs.Extending.{judged, lead_counted, lead_extended, structure_forced};
 ghost use Rattle.mdcc_messages.specs.declared.facts.Fact.{Fact as AFact};
 ghost use Rattle.mdcc_protocol.specs.Leader.{counted_promise, has_proposed, is_at_odds, is_covered, is_differing, is_promise_counted, is_waiting, lead_begun, led_on, prepare_of, with_promise, with_refused};
@@ -303,7 +303,7 @@ impl Lead {
     ) -> Result<PromiseAnswer, LeadFault>
         requires { length self.old.promises < cluster.now.quorums.centres }
         ensures answer { (facts : List AFact) (leader : Leading) → S.stands store.now facts
-            → GivesUnless is_memory result (answered (counted_promise cluster.now facts leader (with_promise self.old from promise.now))) }
+            → GivesUnless is_lead_memory result (answered (counted_promise cluster.now facts leader (with_promise self.old from promise.now))) }
         ensures ok { (facts : List AFact) → S.stands store.now facts
             → OnOk result (self.new ≡ lead_counted cluster.now facts (with_promise self.old from promise.now)) }
         ensures err { OnErr result (self.new ≡ self.old) }
@@ -353,7 +353,7 @@ impl Lead {
     ) -> Result<PromiseAnswer, LeadFault>
         requires { length self.old.promises ≤ cluster.now.quorums.centres }
         ensures answer { (facts : List AFact) (leader : Leading) → S.stands store.now facts
-            → GivesUnless is_memory result (answered (counted_promise cluster.now facts leader self.old)) }
+            → GivesUnless is_lead_memory result (answered (counted_promise cluster.now facts leader self.old)) }
         ensures ok { (facts : List AFact) → S.stands store.now facts → OnOk result (self.new ≡ lead_counted cluster.now facts self.old) }
         ensures err { OnErr result (self.new ≡ self.old) }
     {
@@ -408,7 +408,7 @@ impl Lead {
 
     // The first structure is made and sent, unless it has too many marks. No claim is pending then.
     fn make(&mut self, alloc: Global, options: Options) -> Result<PromiseAnswer, LeadFault>
-        ensures answer { GivesUnless is_memory result (if is_crowded options then Err ALeadFault.Crowded else Ok (APromiseAnswer.Accept self.old.version self.old.ballot options)) }
+        ensures answer { GivesUnless is_lead_memory result (if is_crowded options then Err ALeadFault.Crowded else Ok (APromiseAnswer.Accept self.old.version self.old.ballot options)) }
         ensures ok { OnOk result (self.new ≡ record self.old { claims = []; structures = with_structure self.old.structures self.old.version options }) }
         ensures err { OnErr result (self.new ≡ self.old) }
     {

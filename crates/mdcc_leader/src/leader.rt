@@ -6,8 +6,8 @@ ghost use Rattle.mdcc_base.specs.Key.{key_eq};
 ghost use Rattle.mdcc_base.specs.Sizes.{Sizes};
 ghost use Rattle.mdcc_base.specs.Unless.{GivesUnless};
 ghost use Rattle.mdcc_base.specs.declared.key.Key.{Key as AKey};
-ghost use Rattle.mdcc_leader.specs.Answers.{answered, is_memory, left};
-ghost use Rattle.mdcc_leader.specs.Stands.{Stands};
+ghost use Rattle.mdcc_leader.specs.Answers.{answered, is_lead_memory, left};
+ghost use Rattle.mdcc_leader.specs.Represents.{RepresentsLeading};
 ghost use Rattle.mdcc_messages.specs.declared.facts.Fact.{Fact as AFact};
 ghost use Rattle.mdcc_protocol.specs.Leader.{lead, led_anew, on_promise, on_refused};
 ghost use Rattle.mdcc_protocol.specs.Volatile.{Leading, nothing_kept};
@@ -33,7 +33,7 @@ impl Leader {
     /// The leader of a centre at the start of one of its epochs.
     pub fn new(alloc: Global, centre: Centre, epoch: u32) -> Result<Leader, Memory>
         ensures { (quorums : Sizes) → AreQuorums quorums
-            → IsOkAnd result (λ leader. Stands leader centre epoch quorums nothing_kept.leader) }
+            → IsOkAnd result (λ leader. RepresentsLeading leader centre epoch quorums nothing_kept.leader) }
     {
         Ok(Leader {
             alloc,
@@ -52,13 +52,13 @@ impl Leader {
         claim: &Claim,
     ) -> Result<LeadAnswer, LeadFault>
         ensures answer { (me epoch : ℕ) (facts : List AFact) (leading : Leading) → S.stands store.now facts
-            → Stands self.old me epoch cluster.now.quorums leading
-            → GivesUnless is_memory result (answered (lead cluster.now me epoch facts leading claim.now)) }
+            → RepresentsLeading self.old me epoch cluster.now.quorums leading
+            → GivesUnless is_lead_memory result (answered (lead cluster.now me epoch facts leading claim.now)) }
         ensures ok { (me epoch : ℕ) (facts : List AFact) (leading : Leading) → S.stands store.now facts
-            → Stands self.old me epoch cluster.now.quorums leading
-            → OnOk result (Stands self.new me epoch cluster.now.quorums (left leading (lead cluster.now me epoch facts leading claim.now))) }
-        ensures err { (me epoch : ℕ) (quorums : Sizes) (leading : Leading) → Stands self.old me epoch quorums leading
-            → OnErr result (Stands self.new me epoch quorums leading) }
+            → RepresentsLeading self.old me epoch cluster.now.quorums leading
+            → OnOk result (RepresentsLeading self.new me epoch cluster.now.quorums (left leading (lead cluster.now me epoch facts leading claim.now))) }
+        ensures err { (me epoch : ℕ) (quorums : Sizes) (leading : Leading) → RepresentsLeading self.old me epoch quorums leading
+            → OnErr result (RepresentsLeading self.new me epoch quorums leading) }
     {
         let is_behind = store.current(&claim.key) < claim.version;
         if is_behind {
@@ -80,13 +80,13 @@ impl Leader {
     ) -> Result<LeadAnswer, LeadFault>
         requires { get key_eq self.old.leads claim.now.key ≡ None }
         ensures answer { (me epoch : ℕ) (facts : List AFact) (leading : Leading) → S.stands store.now facts
-            → Stands self.old me epoch cluster.now.quorums leading
-            → GivesUnless is_memory result (answered (led_anew cluster.now me epoch facts leading claim.now)) }
+            → RepresentsLeading self.old me epoch cluster.now.quorums leading
+            → GivesUnless is_lead_memory result (answered (led_anew cluster.now me epoch facts leading claim.now)) }
         ensures ok { (me epoch : ℕ) (facts : List AFact) (leading : Leading) → S.stands store.now facts
-            → Stands self.old me epoch cluster.now.quorums leading
-            → OnOk result (Stands self.new me epoch cluster.now.quorums (left leading (led_anew cluster.now me epoch facts leading claim.now))) }
-        ensures err { (me epoch : ℕ) (quorums : Sizes) (leading : Leading) → Stands self.old me epoch quorums leading
-            → OnErr result (Stands self.new me epoch quorums leading) }
+            → RepresentsLeading self.old me epoch cluster.now.quorums leading
+            → OnOk result (RepresentsLeading self.new me epoch cluster.now.quorums (left leading (led_anew cluster.now me epoch facts leading claim.now))) }
+        ensures err { (me epoch : ℕ) (quorums : Sizes) (leading : Leading) → RepresentsLeading self.old me epoch quorums leading
+            → OnErr result (RepresentsLeading self.new me epoch quorums leading) }
     {
         let lead = begin(
             self.alloc,
@@ -121,13 +121,13 @@ impl Leader {
     ) -> Result<PromiseAnswer, LeadFault>
         requires { from ≤ cluster.now.quorums.centres }
         ensures answer { (me epoch : ℕ) (facts : List AFact) (leading : Leading) → S.stands store.now facts
-            → Stands self.old me epoch cluster.now.quorums leading
-            → GivesUnless is_memory result (answered (on_promise cluster.now facts leading from promise.now)) }
+            → RepresentsLeading self.old me epoch cluster.now.quorums leading
+            → GivesUnless is_lead_memory result (answered (on_promise cluster.now facts leading from promise.now)) }
         ensures ok { (me epoch : ℕ) (facts : List AFact) (leading : Leading) → S.stands store.now facts
-            → Stands self.old me epoch cluster.now.quorums leading
-            → OnOk result (Stands self.new me epoch cluster.now.quorums (left leading (on_promise cluster.now facts leading from promise.now))) }
-        ensures err { (me epoch : ℕ) (quorums : Sizes) (leading : Leading) → Stands self.old me epoch quorums leading
-            → OnErr result (Stands self.new me epoch quorums leading) }
+            → RepresentsLeading self.old me epoch cluster.now.quorums leading
+            → OnOk result (RepresentsLeading self.new me epoch cluster.now.quorums (left leading (on_promise cluster.now facts leading from promise.now))) }
+        ensures err { (me epoch : ℕ) (quorums : Sizes) (leading : Leading) → RepresentsLeading self.old me epoch quorums leading
+            → OnErr result (RepresentsLeading self.new me epoch quorums leading) }
     {
         let alloc = self.alloc;
         match self.leads.get_mut(&promise.key) {
@@ -138,8 +138,8 @@ impl Leader {
 
     /// Hears that a centre promised another ballot than that of a lead, which is given up.
     pub fn on_refused(&mut self, key: &Key, ballot: Ballot, promised: Ballot)
-        ensures { (me epoch : ℕ) (quorums : Sizes) (leading : Leading) → Stands self.old me epoch quorums leading
-            → Stands self.new me epoch quorums (on_refused leading key.now ballot promised) }
+        ensures { (me epoch : ℕ) (quorums : Sizes) (leading : Leading) → RepresentsLeading self.old me epoch quorums leading
+            → RepresentsLeading self.new me epoch quorums (on_refused leading key.now ballot promised) }
     {
         match self.leads.get_mut(key) {
             Some(led) => led.refuse(&ballot, promised.round),

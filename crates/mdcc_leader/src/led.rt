@@ -1,7 +1,7 @@
 //! What a leader keeps for a key.
 ghost use Rattle.std.specs.Prelude.{◌≡◌, ◌+◌, ◌^◌, List, None, OnErr, OnOk, Some, if◌then◌else◌, max, nat_le, ◌≤◌};
 ghost use Rattle.mdcc_base.specs.Unless.{GivesUnless};
-ghost use Rattle.mdcc_leader.specs.Answers.{answered, is_memory, left};
+ghost use Rattle.mdcc_leader.specs.Answers.{answered, is_lead_memory, left};
 ghost use Rattle.mdcc_leader.specs.Extending.{begun_with};
 ghost use Rattle.mdcc_leader.specs.Leads.{Keeps};
 ghost use Rattle.mdcc_messages.specs.declared.facts.Fact.{Fact as AFact};
@@ -42,7 +42,7 @@ pub(crate) fn begin<S: FactStore>(
     rounds: (u32, u32),
 ) -> Result<Lead, LeadFault>
     ensures { (facts : List AFact) → S.stands store.now facts
-        → GivesUnless is_memory result (begun_with cluster.now centre epoch facts rounds.0 rounds.1 claim.now) }
+        → GivesUnless is_lead_memory result (begun_with cluster.now centre epoch facts rounds.0 rounds.1 claim.now) }
 {
     let promise = store.promise(&claim.key, claim.version);
     match next_round(&promise, rounds.0, rounds.1) {
@@ -64,7 +64,7 @@ impl Led {
     ) -> Result<LeadAnswer, LeadFault>
         ensures answer { (facts : List AFact) (leading : Leading) → S.stands store.now facts
             → Keeps cluster.now.quorums leading claim.now.key (Some self.old)
-            → GivesUnless is_memory result (answered (led_by cluster.now centre epoch facts leading claim.now (Some self.old.lead))) }
+            → GivesUnless is_lead_memory result (answered (led_by cluster.now centre epoch facts leading claim.now (Some self.old.lead))) }
         ensures ok { (facts : List AFact) (leading : Leading) → S.stands store.now facts
             → Keeps cluster.now.quorums leading claim.now.key (Some self.old)
             → OnOk result (Keeps cluster.now.quorums (left leading (led_by cluster.now centre epoch facts leading claim.now (Some self.old.lead))) claim.now.key (Some self.new)) }
@@ -95,7 +95,7 @@ impl Led {
     ) -> Result<LeadAnswer, LeadFault>
         ensures answer { (facts : List AFact) (leading : Leading) → S.stands store.now facts
             → Keeps cluster.now.quorums leading claim.now.key (Some self.old)
-            → GivesUnless is_memory result (answered (led_anew cluster.now centre epoch facts leading claim.now)) }
+            → GivesUnless is_lead_memory result (answered (led_anew cluster.now centre epoch facts leading claim.now)) }
         ensures ok { (facts : List AFact) (leading : Leading) → S.stands store.now facts
             → Keeps cluster.now.quorums leading claim.now.key (Some self.old)
             → OnOk result (Keeps cluster.now.quorums (left leading (led_anew cluster.now centre epoch facts leading claim.now)) claim.now.key (Some self.new)) }
@@ -118,7 +118,7 @@ impl Led {
         requires { from ≤ cluster.now.quorums.centres }
         ensures answer { (facts : List AFact) (leading : Leading) → S.stands store.now facts
             → Keeps cluster.now.quorums leading promise.now.key (Some self.old)
-            → GivesUnless is_memory result (answered (promise_taken cluster.now facts leading from promise.now (Some self.old.lead))) }
+            → GivesUnless is_lead_memory result (answered (promise_taken cluster.now facts leading from promise.now (Some self.old.lead))) }
         ensures ok { (facts : List AFact) (leading : Leading) → S.stands store.now facts
             → Keeps cluster.now.quorums leading promise.now.key (Some self.old)
             → OnOk result (Keeps cluster.now.quorums (left leading (promise_taken cluster.now facts leading from promise.now (Some self.old.lead))) promise.now.key (Some self.new)) }

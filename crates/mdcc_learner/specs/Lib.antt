@@ -1,3 +1,3 @@
 pub mod Decided
 pub mod Places
-pub mod Stands
+pub mod Represents

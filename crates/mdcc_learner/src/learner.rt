@@ -3,7 +3,7 @@ ghost use Rattle.std.specs.Option.{option_copied, option_map};
 ghost use Rattle.std.specs.Prelude.{◌≡◌, List, [], IsOkAnd, OnOk, OnErr};
 ghost use Rattle.mdcc_base.specs.AreQuorums.{AreQuorums};
 ghost use Rattle.mdcc_base.specs.Sizes.{Sizes};
-ghost use Rattle.mdcc_learner.specs.Stands.{Stands};
+ghost use Rattle.mdcc_learner.specs.Represents.{RepresentsVotes};
 ghost use Rattle.mdcc_protocol.specs.Learner.{with_vote, learned, collided, learned_with};
 ghost use Rattle.mdcc_protocol.specs.Marks.{is_accept};
 ghost use Rattle.mdcc_protocol.specs.Recover.{choice_received};
@@ -31,7 +31,7 @@ impl Learner {
     /// A learner that took no vote.
     pub fn new(alloc: Global) -> Result<Learner, Memory>
         ensures { (quorums : Sizes) → AreQuorums quorums
-            → IsOkAnd result (λ learner. Stands learner quorums []) }
+            → IsOkAnd result (λ learner. RepresentsVotes learner quorums []) }
     {
         Ok(Learner {
             alloc,
@@ -43,10 +43,10 @@ impl Learner {
     /// Takes a vote. It counts if its centre is one of the cluster, and if no vote that counts on
     /// its transaction and key has another version, or the same ballot and centre.
     pub fn take(&mut self, quorums: &Quorums, vote: &Vote) -> Result<(), Memory>
-        ensures ok { (votes : List AVote) → Stands self.old quorums.now votes
-            → OnOk result (Stands self.new quorums.now (with_vote quorums.now votes vote.now)) }
-        ensures err { (known : Sizes) (votes : List AVote) → Stands self.old known votes
-            → OnErr result (Stands self.new known votes) }
+        ensures ok { (votes : List AVote) → RepresentsVotes self.old quorums.now votes
+            → OnOk result (RepresentsVotes self.new quorums.now (with_vote quorums.now votes vote.now)) }
+        ensures err { (known : Sizes) (votes : List AVote) → RepresentsVotes self.old known votes
+            → OnErr result (RepresentsVotes self.new known votes) }
     {
         keep_counted(self.alloc, quorums, &mut self.votes, vote)?;
         if self.quorums.is_none() {
@@ -57,7 +57,7 @@ impl Learner {
 
     /// The mark that a quorum has, at the least ballot where one has.
     pub fn learned(&self, tx: TxId, key: &Key) -> Option<Mark>
-        ensures { (quorums : Sizes) (votes : List AVote) → Stands self.now quorums votes
+        ensures { (quorums : Sizes) (votes : List AVote) → RepresentsVotes self.now quorums votes
             → result ≡ learned quorums votes tx key.now }
     {
         match &self.quorums {
@@ -68,7 +68,7 @@ impl Learner {
 
     /// Whether the mark that `learned` gives accepts, where there is one. Nothing is copied.
     pub fn side(&self, tx: TxId, key: &Key) -> Option<bool>
-        ensures { (quorums : Sizes) (votes : List AVote) → Stands self.now quorums votes
+        ensures { (quorums : Sizes) (votes : List AVote) → RepresentsVotes self.now quorums votes
             → result ≡ option_map is_accept (learned quorums votes tx key.now) }
     {
         match &self.quorums {
@@ -79,7 +79,7 @@ impl Learner {
 
     /// Whether nothing is learned, and neither mark can be learned at the fast ballot.
     pub fn collided(&self, tx: TxId, key: &Key) -> bool
-        ensures { (quorums : Sizes) (votes : List AVote) → Stands self.now quorums votes
+        ensures { (quorums : Sizes) (votes : List AVote) → RepresentsVotes self.now quorums votes
             → result ≡ collided quorums votes tx key.now }
     {
         match &self.quorums {
@@ -90,7 +90,7 @@ impl Learner {
 
     /// What would be learned once this vote is taken.
     pub fn learned_with(&self, quorums: &Quorums, vote: &Vote, tx: TxId, key: &Key) -> Option<Mark>
-        ensures { (votes : List AVote) → Stands self.now quorums.now votes
+        ensures { (votes : List AVote) → RepresentsVotes self.now quorums.now votes
             → result ≡ learned_with quorums.now votes vote.now tx key.now }
     {
         copy_of(self.mark_with(quorums, vote, &tx, key))
@@ -98,7 +98,7 @@ impl Learner {
 
     /// Whether the mark that `learned_with` gives accepts, where there is one. Nothing is copied.
     pub fn side_with(&self, quorums: &Quorums, vote: &Vote, tx: TxId, key: &Key) -> Option<bool>
-        ensures { (votes : List AVote) → Stands self.now quorums.now votes
+        ensures { (votes : List AVote) → RepresentsVotes self.now quorums.now votes
             → result ≡ option_map is_accept (learned_with quorums.now votes vote.now tx key.now) }
     {
         side_of(self.mark_with(quorums, vote, &tx, key))
@@ -112,7 +112,7 @@ impl Learner {
         tx: &TxId,
         key: &Key,
     ) -> Option<&'a Mark>
-        ensures { (votes : List AVote) → Stands self.now quorums.now votes
+        ensures { (votes : List AVote) → RepresentsVotes self.now quorums.now votes
             → option_copied result ≡ learned_with quorums.now votes vote.now tx.now key.now }
     {
         mark_decided(
@@ -124,7 +124,7 @@ impl Learner {
 
     /// The choice that a vote accepts at this version, the first that was taken.
     pub fn accepted(&self, tx: TxId, key: &Key, version: u64) -> Option<Choice>
-        ensures { (quorums : Sizes) (votes : List AVote) → Stands self.now quorums votes
+        ensures { (quorums : Sizes) (votes : List AVote) → RepresentsVotes self.now quorums votes
             → result ≡ choice_received votes tx key.now version }
     {
         first_accepted(votes_at(&self.votes, &tx, key), version)
@@ -132,8 +132,8 @@ impl Learner {
 
     /// Lets all votes on a transaction go.
     pub fn forget(&mut self, tx: TxId)
-        ensures { (quorums : Sizes) (votes : List AVote) → Stands self.old quorums votes
-            → Stands self.new quorums (without_tx votes tx) }
+        ensures { (quorums : Sizes) (votes : List AVote) → RepresentsVotes self.old quorums votes
+            → RepresentsVotes self.new quorums (without_tx votes tx) }
     {
         forget(&mut self.votes, &tx);
     }

@@ -14,7 +14,7 @@ use Rattle.mdcc_option.specs.declared.items.Item.{Item}
 use Rattle.mdcc_option.proofs.Equal.{Decides-amounts, Decides-choices, Decides-item, Decides-tx}
 use Rattle.mdcc_struct.specs.Maps.{TxMap, union}
 use Rattle.mdcc_ledger.specs.AllowedLedgers.{IsBacked, WasHeld}
-use Rattle.mdcc_ledger_laws.specs.LedgerTest.{deltas_eq, did_hold, is_base_eq, is_fact_backed, outcome_eq, was_held}
+use Rattle.mdcc_ledger_laws.specs.LedgerTest.{deltas_eq, did_hold, is_base_eq, is_fact_backed, is_outcome_found, was_held}
 use Rattle.mdcc_protocol.specs.Facts.{base_of, current_of, executed_of, votes_of}
 use Rattle.mdcc_ledger.specs.Ledger.{Entry, facts_of, outcome_of}
 use Rattle.mdcc_protocol.specs.Marks.{Amounts}
@@ -23,9 +23,9 @@ use Rattle.mdcc_ledger_laws.proofs.Found.{found}
 
 -- ---- what is heard
 
-Decides-outcome : (outcome : Outcome) (found : Option Outcome) → Decides (outcome_eq outcome found) (found ≡ Some outcome)
+Decides-outcome : (outcome : Outcome) (found : Option Outcome) → Decides (is_outcome_found outcome found) (found ≡ Some outcome)
 Decides-outcome (Outcome.Commit choices) (Some (Outcome.Commit choices')) =
-    Decides-like (outcome_eq (Outcome.Commit choices) (Some (Outcome.Commit choices'))) (λ e. cc) (λ e. cc) (Decides-choices choices choices')
+    Decides-like (is_outcome_found (Outcome.Commit choices) (Some (Outcome.Commit choices'))) (λ e. cc) (λ e. cc) (Decides-choices choices choices')
 Decides-outcome Outcome.Abort (Some Outcome.Abort) = (λ e. refl, λ e. refl)
 Decides-outcome _ _ = (λ e. cc, λ e. cc)
 

@@ -13,7 +13,7 @@ use Rattle.mdcc_option.proofs.Equal.{Decides-mark, Decides-tx}
 use Rattle.mdcc_struct.specs.declared.options.Options.{Options}
 use Rattle.mdcc_ledger.specs.AllowedLedgers.{IsAllowedValued}
 use Rattle.mdcc_ledger.specs.AllowedStructures.{IsAmongCentres, IsFirstStructure, IsMade, IsNextStructure, are_begun, has_promised, promisers_of, reports_at}
-use Rattle.mdcc_ledger_laws.specs.LedgerTest.{claims_in, is_made, is_made_by, is_made_from, is_next, is_valued_allowed, subsets}
+use Rattle.mdcc_ledger_laws.specs.LedgerTest.{claims_in, is_made, is_made_by, is_made_from, is_next_structure, is_valued_allowed, subsets}
 use Rattle.mdcc_protocol.specs.Facts.{current_of, epoch_of}
 use Rattle.mdcc_ledger.specs.Ledger.{Entry, facts_of, structure_valued}
 use Rattle.mdcc_protocol.specs.Marks.{choice_in, options_eq}
@@ -48,7 +48,7 @@ first_shown cluster before a key version ballot options centres none among h =
     }
 
 next_shown : (cluster : Cluster) (before : List Entry) (a : ℕ) (key : Key) (version : ℕ) (ballot : Ballot) (options last : Options)
-    → structure_valued before key version ballot ≡ Some last → is_next cluster before a key version options last ≡ true
+    → structure_valued before key version ballot ≡ Some last → is_next_structure cluster before a key version options last ≡ true
     → (claim : TxId × Option Choice) × IsNextStructure cluster before a key version ballot options last claim
 next_shown cluster before a key version ballot options last there h =
     let test : TxId × Mark → Bool = λ e. options_eq options (with_claim cluster (facts_of before a) key version last (e.0, choice_in e.1)) in

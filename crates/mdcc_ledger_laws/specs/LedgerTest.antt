@@ -30,10 +30,10 @@ use Rattle.mdcc_protocol.specs.Marks.{Amounts, choice_in, options_eq}
 use Rattle.mdcc_protocol.specs.Structures.{first_structure, is_enough, with_claim}
 use Rattle.mdcc_messages.specs.declared.facts.Fact.{Fact}
 
-abbrev pub outcome_eq : Outcome → Option Outcome → Bool
-outcome_eq (Outcome.Commit choices) (Some (Outcome.Commit choices')) = choices_eq choices choices'
-outcome_eq Outcome.Abort (Some Outcome.Abort) = true
-outcome_eq _ _ = false
+abbrev pub is_outcome_found : Outcome → Option Outcome → Bool
+is_outcome_found (Outcome.Commit choices) (Some (Outcome.Commit choices')) = choices_eq choices choices'
+is_outcome_found Outcome.Abort (Some Outcome.Abort) = true
+is_outcome_found _ _ = false
 
 -- parts that stand in key order make a transaction
 abbrev pub is_draft : Schema → List Part → Bool
@@ -61,15 +61,15 @@ is_made_from cluster before a key version ballot options centres =
     is_enough cluster (facts_of before a) key version (reports_at before key version ballot centres)
     && options_eq options (first_structure cluster (facts_of before a) key version (claims_in options) (reports_at before key version ballot centres))
 
-abbrev pub is_next : Cluster → List Entry → ℕ → Key → ℕ → Options → Options → Bool
-is_next cluster before a key version options last =
+abbrev pub is_next_structure : Cluster → List Entry → ℕ → Key → ℕ → Options → Options → Bool
+is_next_structure cluster before a key version options last =
     length options == length last + 1
     && list_any (λ e. options_eq options (with_claim cluster (facts_of before a) key version last (e.0, choice_in e.1))) options
 
 abbrev pub is_made_by : Cluster → List Entry → ℕ → Key → ℕ → Ballot → Options → Option Options → Bool
 is_made_by cluster before a key version ballot options None =
     list_any (is_made_from cluster before a key version ballot options) (subsets (promisers_of cluster.quorums before key version ballot))
-is_made_by cluster before a key version ballot options (Some last) = is_next cluster before a key version options last
+is_made_by cluster before a key version ballot options (Some last) = is_next_structure cluster before a key version options last
 
 abbrev pub is_made : Cluster → List Entry → ℕ → Key → ℕ → Ballot → Options → Bool
 is_made cluster before a key version ballot options =
@@ -109,7 +109,7 @@ abbrev pub is_fact_backed : Cluster → List Entry → ℕ → Fact → Bool
 is_fact_backed cluster before a (Fact.Voted key version ballot options offered) =
     if is_fast ballot then is_fast_vote_begun before key version options offered
     else is_valued before key version ballot (union (votes_of (facts_of before a) key version ballot) options)
-is_fact_backed cluster before a (Fact.Heard tx outcome) = outcome_eq outcome (outcome_of cluster.quorums before tx)
+is_fact_backed cluster before a (Fact.Heard tx outcome) = is_outcome_found outcome (outcome_of cluster.quorums before tx)
 is_fact_backed cluster before a (Fact.Adopted key version item adds) = was_held cluster before key version item adds
 is_fact_backed cluster before a _ = true
 

@@ -9,17 +9,17 @@ use Rattle.mdcc_disks.specs.Disks.{DiskCall, AddsCall, Only}
 use Rattle.mdcc_disks.specs.Disks.DiskCall.{Read}
 use Rattle.mdcc_log.specs.Log.{log_front, read_log}
 use Rattle.mdcc_log.specs.Crash.{IsRead}
-use Rattle.mdcc_log.specs.Frames.{IsAtRest, added, AreReads, MadeSome, ReadsAll, ReadsSome, begin_calls, close_calls, cut_calls, read_calls, repair_calls, settle_calls}
+use Rattle.mdcc_log.specs.Frames.{IsAtRest, with_calls, AreReads, MadeSome, ReadsAll, ReadsSome, begin_calls, close_calls, cut_calls, read_calls, repair_calls, settle_calls}
 use Rattle.mdcc_log.proofs.Kept.{read_is}
 use Rattle.mdcc_log.proofs.Calls.{added_none, added_twice, made_both, made_first, made_none}
 
 -- ---- some calls, and all of them
 
-pub made_all : (xs : List DiskCall) (old new : Option (List DiskCall)) → new ≡ added xs old → MadeSome xs old new
+pub made_all : (xs : List DiskCall) (old new : Option (List DiskCall)) → new ≡ with_calls xs old → MadeSome xs old new
 made_all xs old new all = record {
   made = length xs;
   within = omega arith;
-  told = inr (all ∙ ap (λ (l : List DiskCall). added l old) (sym (take_all (length xs) xs (omega arith))));
+  told = inr (all ∙ ap (λ (l : List DiskCall). with_calls l old) (sym (take_all (length xs) xs (omega arith))));
 }
 
 -- one call, which may have failed
@@ -31,16 +31,16 @@ made_one call old new (Err e) adds = elim adds.err [
 ]
 
 -- one run behind another
-pub all_both : (xs ys : List DiskCall) (old mid new : Option (List DiskCall)) → mid ≡ added xs old → new ≡ added ys mid → new ≡ added (xs ++ ys) old
-all_both xs ys old mid new first second = second ∙ ap (λ (o : Option (List DiskCall)). added ys o) first ∙ added_twice xs ys old
+pub all_both : (xs ys : List DiskCall) (old mid new : Option (List DiskCall)) → mid ≡ with_calls xs old → new ≡ with_calls ys mid → new ≡ with_calls (xs ++ ys) old
+all_both xs ys old mid new first second = second ∙ ap (λ (o : Option (List DiskCall)). with_calls ys o) first ∙ added_twice xs ys old
 
 -- three calls
-pub all_three : {T : Type 0} (a b c : DiskCall) (old one two new : Option (List DiskCall)) (result : Result T Failed) → one ≡ added (a ∷ []) old → two ≡ added (b ∷ []) one → AddsCall c two new result → OnOk result (new ≡ added (a ∷ b ∷ c ∷ []) old)
+pub all_three : {T : Type 0} (a b c : DiskCall) (old one two new : Option (List DiskCall)) (result : Result T Failed) → one ≡ with_calls (a ∷ []) old → two ≡ with_calls (b ∷ []) one → AddsCall c two new result → OnOk result (new ≡ with_calls (a ∷ b ∷ c ∷ []) old)
 all_three a b c old one two new (Ok x) first second third = all_both (a ∷ b ∷ []) (c ∷ []) old two new (all_both (a ∷ []) (b ∷ []) old one two first second) third.ok
 all_three a b c old one two new (Err e) first second third = tt
 
 -- where the second answered Ok
-pub all_where : {T : Type 0} {E : Type 0} (xs ys : List DiskCall) (old mid new : Option (List DiskCall)) (result : Result T E) → mid ≡ added xs old → OnOk result (new ≡ added ys mid) → OnOk result (new ≡ added (xs ++ ys) old)
+pub all_where : {T : Type 0} {E : Type 0} (xs ys : List DiskCall) (old mid new : Option (List DiskCall)) (result : Result T E) → mid ≡ with_calls xs old → OnOk result (new ≡ with_calls ys mid) → OnOk result (new ≡ with_calls (xs ++ ys) old)
 all_where xs ys old mid new (Ok x) first second = all_both xs ys old mid new first second
 all_where xs ys old mid new (Err e) first second = tt
 
@@ -66,15 +66,15 @@ pub reads_begun : (size : ℕ) (calls : Option (List DiskCall)) → ReadsAll 0 (
 reads_begun size calls = record { counts = []; are = record { some = tt; all = refl }; told = added_none calls }
 
 -- one read more
-pub reads_more : (size done n : ℕ) (old mid new : Option (List DiskCall)) → 0 < n → ReadsAll done (read_calls size 0) old mid → new ≡ added (Read done (size - done) ∷ []) mid → ReadsAll (done + n) (read_calls size 0) old new
+pub reads_more : (size done n : ℕ) (old mid new : Option (List DiskCall)) → 0 < n → ReadsAll done (read_calls size 0) old mid → new ≡ with_calls (Read done (size - done) ∷ []) mid → ReadsAll (done + n) (read_calls size 0) old new
 reads_more size done n old mid new some so_far more = record {
   counts = so_far.counts ++ n ∷ [];
   are = record { some = some_more so_far.counts n so_far.are.some some; all = omega (arith, sum_more so_far.counts n, so_far.are.all) };
   told =
       more
-      ∙ ap (λ (o : Option (List DiskCall)). added (Read done (size - done) ∷ []) o) so_far.told
+      ∙ ap (λ (o : Option (List DiskCall)). with_calls (Read done (size - done) ∷ []) o) so_far.told
       ∙ added_twice (read_calls size 0 so_far.counts) (Read done (size - done) ∷ []) old
-      ∙ ap (λ (l : List DiskCall). added l old) (sym (read_calls_more size 0 done n so_far.counts (omega (arith, so_far.are.all))));
+      ∙ ap (λ (l : List DiskCall). with_calls l old) (sym (read_calls_more size 0 done n so_far.counts (omega (arith, so_far.are.all))));
 }
 
 -- ---- reads among other calls
@@ -83,21 +83,21 @@ module _ (size : ℕ) (calls : List ℕ → List DiskCall) where
   pub all_are_some : (old new : Option (List DiskCall)) → ReadsAll size calls old new → ReadsSome size calls old new
   all_are_some old new all = record { counts = all.counts; are = all.are; made = made_all (calls all.counts) old new all.told }
 
-  pub all_behind : (xs : List DiskCall) (old mid new : Option (List DiskCall)) → mid ≡ added xs old → ReadsAll size calls mid new → ReadsAll size (λ counts. xs ++ calls counts) old new
+  pub all_behind : (xs : List DiskCall) (old mid new : Option (List DiskCall)) → mid ≡ with_calls xs old → ReadsAll size calls mid new → ReadsAll size (λ counts. xs ++ calls counts) old new
   all_behind xs old mid new first all = record {
     counts = all.counts;
     are = all.are;
-    told = all.told ∙ ap (λ (o : Option (List DiskCall)). added (calls all.counts) o) first ∙ added_twice xs (calls all.counts) old;
+    told = all.told ∙ ap (λ (o : Option (List DiskCall)). with_calls (calls all.counts) o) first ∙ added_twice xs (calls all.counts) old;
   }
 
-  pub some_behind : (xs : List DiskCall) (old mid new : Option (List DiskCall)) → mid ≡ added xs old → ReadsSome size calls mid new → ReadsSome size (λ counts. xs ++ calls counts) old new
+  pub some_behind : (xs : List DiskCall) (old mid new : Option (List DiskCall)) → mid ≡ with_calls xs old → ReadsSome size calls mid new → ReadsSome size (λ counts. xs ++ calls counts) old new
   some_behind xs old mid new first some = record { counts = some.counts; are = some.are; made = made_both xs (calls some.counts) old mid new first some.made }
 
-  pub all_before : (ys : List DiskCall) (old mid new : Option (List DiskCall)) → ReadsAll size calls old mid → new ≡ added ys mid → ReadsAll size (λ counts. calls counts ++ ys) old new
+  pub all_before : (ys : List DiskCall) (old mid new : Option (List DiskCall)) → ReadsAll size calls old mid → new ≡ with_calls ys mid → ReadsAll size (λ counts. calls counts ++ ys) old new
   all_before ys old mid new all last = record {
     counts = all.counts;
     are = all.are;
-    told = last ∙ ap (λ (o : Option (List DiskCall)). added ys o) all.told ∙ added_twice (calls all.counts) ys old;
+    told = last ∙ ap (λ (o : Option (List DiskCall)). with_calls ys o) all.told ∙ added_twice (calls all.counts) ys old;
   }
 
   pub some_before : (ys : List DiskCall) (old new : Option (List DiskCall)) → ReadsSome size calls old new → ReadsSome size (λ counts. calls counts ++ ys) old new

@@ -33,14 +33,14 @@ abbrev pub append_calls : ℕ → List ℕ → List DiskCall
 append_calls size payload = Write size (frame_body payload ++ 0 ∷ []) ∷ Sync ∷ Write (size - 1) (1 ∷ []) ∷ Sync ∷ []
 
 -- the calls that are told, where they are, with more behind them
-abbrev pub added : List DiskCall → Option (List DiskCall) → Option (List DiskCall)
-added more calls = option_map (λ before. before ++ more) calls
+abbrev pub with_calls : List DiskCall → Option (List DiskCall) → Option (List DiskCall)
+with_calls more calls = option_map (λ before. before ++ more) calls
 
 -- the calls that are told after a front of these calls was made; or none are told any more
 pub record MadeSome (calls : List DiskCall) (old new : Option (List DiskCall)) : Type 0 where
   pub made : ℕ
   pub within : made ≤ length calls
-  pub told : (new ≡ None) ⊎ (new ≡ added (take made calls) old)
+  pub told : (new ≡ None) ⊎ (new ≡ with_calls (take made calls) old)
 
 -- ---- the calls of an opening
 
@@ -83,7 +83,7 @@ open_calls counts bytes = Sync ∷ Length ∷ (read_calls (length bytes) 0 count
 pub record ReadsAll (size : ℕ) (calls : List ℕ → List DiskCall) (old new : Option (List DiskCall)) : Type 0 where
   pub counts : List ℕ
   pub are : AreReads size counts
-  pub told : new ≡ added (calls counts) old
+  pub told : new ≡ with_calls (calls counts) old
 
 pub record ReadsSome (size : ℕ) (calls : List ℕ → List DiskCall) (old new : Option (List DiskCall)) : Type 0 where
   pub counts : List ℕ

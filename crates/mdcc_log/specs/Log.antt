@@ -42,19 +42,19 @@ is_open [] = false
 is_open (gate ∷ rest) = gate == 1
 
 -- the length of the payload that stands at an open gate
-abbrev pub frame_length : List ℕ → ℕ
-frame_length rest = from_le_bytes w32 (take 4 (drop 1 rest))
+abbrev pub stated_length : List ℕ → ℕ
+stated_length rest = from_le_bytes w32 (take 4 (drop 1 rest))
 
 abbrev pub payload_of : List ℕ → List ℕ
-payload_of rest = take (frame_length rest) (drop 5 rest)
+payload_of rest = take (stated_length rest) (drop 5 rest)
 
 -- what stands behind it
 abbrev pub next_of : List ℕ → List ℕ
-next_of rest = drop (frame_length rest) (drop 5 rest)
+next_of rest = drop (stated_length rest) (drop 5 rest)
 
 -- The length is no more than a payload has, and the frame lies in the bytes, with a gate behind it.
 abbrev pub is_whole : List ℕ → Bool
-is_whole rest = nat_le 5 (length rest) && (nat_le (frame_length rest) payload_limit && nat_lt (5 + frame_length rest) (length rest))
+is_whole rest = nat_le 5 (length rest) && (nat_le (stated_length rest) payload_limit && nat_lt (5 + stated_length rest) (length rest))
 
 -- these payloads, and then what else was read
 abbrev pub behind : List (List ℕ) → Result (List (List ℕ)) ℕ → Result (List (List ℕ)) ℕ
@@ -68,7 +68,7 @@ frames_from zero offset rest = Ok []
 frames_from (suc most) offset rest =
     if is_open rest
     then (if is_whole rest
-    then behind (payload_of rest ∷ []) (frames_from most (offset + (5 + frame_length rest)) (next_of rest))
+    then behind (payload_of rest ∷ []) (frames_from most (offset + (5 + stated_length rest)) (next_of rest))
     else Err offset)
     else Ok []
 

@@ -5,7 +5,7 @@ ghost use Rattle.mdcc_disks.specs.Disks.{Only, Within, KeepsOthers, LeavesOnly};
 ghost use Rattle.mdcc_log.specs.Log.{frame_body, read_log, log_limit, payload_limit};
 ghost use Rattle.mdcc_log.specs.Crash.{AreShort, IsShut, IsBetween, MayRepair, ReadsAgain};
 ghost use Rattle.mdcc_disks.specs.Disks.DiskCall.{Length, Sync};
-ghost use Rattle.mdcc_log.specs.Frames.{IsAtRest, IsSettled, MadeSome, ReadsAll, ReadsSome, added, append_calls, close_calls, cut_calls, open_calls, read_calls, settle_calls};
+ghost use Rattle.mdcc_log.specs.Frames.{IsAtRest, IsSettled, MadeSome, ReadsAll, ReadsSome, with_calls, append_calls, close_calls, cut_calls, open_calls, read_calls, settle_calls};
 
 use crate::LogFault;
 use crate::reading::{PAYLOAD_LIMIT, read_file, read_frames};
@@ -95,7 +95,7 @@ fn close_gate<D: Disks>(disks: &mut D, place: u8, bytes: &[u8], gate: usize) -> 
     ensures cause { HasCause (D.disk disks.old place).faults (D.disk disks.new place).faults result }
     ensures calls { MadeSome (close_calls gate bytes.now) (D.disk disks.old place).calls (D.disk disks.new place).calls }
     ensures all_calls { OnOk result ((D.disk disks.new place).calls
-        ≡ added (close_calls gate bytes.now) (D.disk disks.old place).calls) }
+        ≡ with_calls (close_calls gate bytes.now) (D.disk disks.old place).calls) }
 {
     if bytes[gate] == 0 {
         return Ok(());
@@ -120,7 +120,7 @@ fn cut_end<D: Disks>(disks: &mut D, place: u8, bytes: &[u8], gate: usize) -> Res
     ensures cause { HasCause (D.disk disks.old place).faults (D.disk disks.new place).faults result }
     ensures calls { MadeSome (cut_calls gate bytes.now) (D.disk disks.old place).calls (D.disk disks.new place).calls }
     ensures all_calls { OnOk result ((D.disk disks.new place).calls
-        ≡ added (cut_calls gate bytes.now) (D.disk disks.old place).calls) }
+        ≡ with_calls (cut_calls gate bytes.now) (D.disk disks.old place).calls) }
 {
     if bytes.len() == gate + 1 {
         return Ok(());
@@ -145,7 +145,7 @@ fn repair<D: Disks>(disks: &mut D, place: u8, bytes: &[u8], gate: usize) -> Resu
     ensures cause { HasCause (D.disk disks.old place).faults (D.disk disks.new place).faults result }
     ensures calls { MadeSome (close_calls gate bytes.now ++ cut_calls gate bytes.now) (D.disk disks.old place).calls (D.disk disks.new place).calls }
     ensures all_calls { OnOk result ((D.disk disks.new place).calls
-        ≡ added (close_calls gate bytes.now ++ cut_calls gate bytes.now) (D.disk disks.old place).calls) }
+        ≡ with_calls (close_calls gate bytes.now ++ cut_calls gate bytes.now) (D.disk disks.old place).calls) }
 {
     close_gate(disks, place, bytes, gate)?;
     cut_end(disks, place, bytes, gate)
@@ -185,7 +185,7 @@ fn recover<D: Disks>(
     ensures not_full { IsErrOf result LogFault.LogFull → ⊥ }
     ensures calls { MadeSome (settle_calls bytes.now) (D.disk disks.old place).calls (D.disk disks.new place).calls }
     ensures all_calls { OnOk result ((D.disk disks.new place).calls
-        ≡ added (settle_calls bytes.now) (D.disk disks.old place).calls) }
+        ≡ with_calls (settle_calls bytes.now) (D.disk disks.old place).calls) }
 {
     if bytes.len() <= 9 {
         begin(disks, place)?;
@@ -220,7 +220,7 @@ fn append_frame<D: Disks>(
     ensures calls { MadeSome (append_calls size payload.now)
         (D.disk disks.old place).calls (D.disk disks.new place).calls }
     ensures all_calls { OnOk result ((D.disk disks.new place).calls
-        ≡ added (append_calls size payload.now) (D.disk disks.old place).calls) }
+        ≡ with_calls (append_calls size payload.now) (D.disk disks.old place).calls) }
     ensures cause { HasCause (D.disk disks.old place).faults (D.disk disks.new place).faults result }
 {
     write_through(disks, place, size, body)?;
@@ -338,7 +338,7 @@ impl Frames {
         ensures calls { MadeSome (append_calls self.old.size payload.now)
             (D.disk disks.old self.old.place).calls (D.disk disks.new self.old.place).calls }
         ensures all_calls { OnOk result ((D.disk disks.new self.old.place).calls
-            ≡ added (append_calls self.old.size payload.now) (D.disk disks.old self.old.place).calls) }
+            ≡ with_calls (append_calls self.old.size payload.now) (D.disk disks.old self.old.place).calls) }
 
         ensures disk_fault { IsErrOf result LogFault.DiskFault
             → Rose (D.disk disks.old self.old.place).faults (D.disk disks.new self.old.place).faults }

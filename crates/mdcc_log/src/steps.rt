@@ -4,7 +4,7 @@ ghost use Rattle.mdcc_base.specs.Causes.{HasCause};
 ghost use Rattle.mdcc_disks.specs.Disks.{Holds, IsTorn, IsCut, Only, KeepsOthers, LeavesOnly};
 ghost use Rattle.mdcc_disks.specs.Disks.DiskCall.{Write, Cut, Sync};
 ghost use Rattle.mdcc_log.specs.Log.{log_bytes};
-ghost use Rattle.mdcc_log.specs.Frames.{MadeSome, added, begin_calls};
+ghost use Rattle.mdcc_log.specs.Frames.{MadeSome, with_calls, begin_calls};
 
 use mdcc_base::Failed;
 use mdcc_disks::Disks;
@@ -33,7 +33,7 @@ pub fn write_through<D: Disks>(
     ensures calls { MadeSome (Write offset bytes.now ∷ Sync ∷ [])
         (D.disk disks.old place).calls (D.disk disks.new place).calls }
     ensures all_calls { OnOk result ((D.disk disks.new place).calls
-        ≡ added (Write offset bytes.now ∷ Sync ∷ []) (D.disk disks.old place).calls) }
+        ≡ with_calls (Write offset bytes.now ∷ Sync ∷ []) (D.disk disks.old place).calls) }
 {
     disks.write_at(place, offset, bytes)?;
     disks.sync(place)
@@ -56,7 +56,7 @@ pub fn cut_through<D: Disks>(disks: &mut D, place: u8, size: u64) -> Result<(), 
     ensures calls { MadeSome (Cut size ∷ Sync ∷ [])
         (D.disk disks.old place).calls (D.disk disks.new place).calls }
     ensures all_calls { OnOk result ((D.disk disks.new place).calls
-        ≡ added (Cut size ∷ Sync ∷ []) (D.disk disks.old place).calls) }
+        ≡ with_calls (Cut size ∷ Sync ∷ []) (D.disk disks.old place).calls) }
 {
     disks.cut(place, size)?;
     disks.sync(place)
@@ -76,7 +76,7 @@ pub fn begin<D: Disks>(disks: &mut D, place: u8) -> Result<(), Failed>
     ensures others { KeepsOthers D.disk D.may_leave D.moment D.left_since disks.old disks.new place }
     ensures cause { HasCause (D.disk disks.old place).faults (D.disk disks.new place).faults result }
     ensures calls { MadeSome begin_calls (D.disk disks.old place).calls (D.disk disks.new place).calls }
-    ensures all_calls { OnOk result ((D.disk disks.new place).calls ≡ added begin_calls (D.disk disks.old place).calls) }
+    ensures all_calls { OnOk result ((D.disk disks.new place).calls ≡ with_calls begin_calls (D.disk disks.old place).calls) }
 {
     disks.cut(place, 0)?;
     disks.write_at(place, 0, &FRESH)?;

@@ -12,7 +12,7 @@ use Rattle.mdcc_disks.specs.History.{Event, replayed}
 use Rattle.mdcc_disks.specs.Memory.{AllMemory, AreNew, IsNewMemory, Place, at_place, disk_of, left_since_of, may_leave_of, moment_of, is_there, no_place, standing}
 use Rattle.mdcc_logs.proofs.Nodes.{length-more}
 use Rattle.mdcc_logs.proofs.Standing.{AreSame, IsKept, IsSame, both-same, elsewhere, log-at-rest, log-stays, others-same}
-use Rattle.mdcc_logs.specs.Stands.{IsLogOf, checkpoint_every, log_at, no_log}
+use Rattle.mdcc_logs.specs.Represents.{IsLogOf, checkpoint_every, log_at, no_log}
 use Rattle.mdcc_logs.specs.Starting.{AreBegun, first_facts}
 use Rattle.mdcc_logs.specs.declared.logs.Logs.{Logs}
 use Rattle.mdcc_option.specs.declared.cluster.Cluster.{Cluster}

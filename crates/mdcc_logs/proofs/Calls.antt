@@ -20,7 +20,7 @@ use Rattle.mdcc_log.specs.Log.{log_bytes, log_limit}
 use Rattle.mdcc_logs.proofs.Payloads.{log-more}
 use Rattle.mdcc_logs.proofs.Refusals.{leaves-here, one}
 use Rattle.mdcc_logs.proofs.Standing.{AreSame, IsDurableAt, IsKept, IsSame, both-areas, both-same, cond-here, cond-there, elsewhere, log-same, log-stays, log-there, logs-with, others-same, put, rests, same-areas, standing-same, there-same}
-use Rattle.mdcc_logs.specs.Stands.{IsLogOf, IsOpenAt, LogsStand, MayHave, checkpoint_every, log_at, with_fact_at, with_up}
+use Rattle.mdcc_logs.specs.Represents.{IsLogOf, IsOpenAt, LogsRepresent, MayHave, checkpoint_every, log_at, with_fact_at, with_up}
 use Rattle.mdcc_logs.specs.declared.logs.Logs.{Logs}
 use Rattle.mdcc_messages.specs.Lengths.{fact_length, log_length}
 use Rattle.mdcc_messages.specs.Spelling.{fact_bytes}
@@ -81,7 +81,7 @@ is-down logs a down was facts is its = record {
 pub crash-stays : CrashLeaves → (old new : Logs) (mid : AllMemory) (a centres : ℕ) (up : ℕ → Bool) (facts : ℕ → List Fact) → 1 ≤ a → a ≤ length old.open.items
     → new.open.items ≡ old.open.items → KeepsPlaces a old.disks mid → IsBut (crashed Lost (at_place old.disks a)) (at_place mid a)
     → KeepsPlaces (a + 16) mid new.disks → IsBut (crashed Lost (at_place mid (a + 16))) (at_place new.disks (a + 16))
-    → LogsStand old centres up facts → LogsStand new centres (with_up up a false) facts
+    → LogsRepresent old centres up facts → LogsRepresent new centres (with_up up a false) facts
 crash-stays leaves old new mid a centres up facts some few items keeps but keeps_other but_other stand =
     let its = stand.each a some (omega (few, stand.as_many, arith)) in
     let first = one-crash leaves old.disks mid a keeps but its.durable in
@@ -107,7 +107,7 @@ settled-there logs d a log are some few is same =
     × IsSpare l (disk_of d (place_of l.centre (other_of l.area))).bytes (may_leave_of d (place_of l.centre (other_of l.area)))) (sym is)
     ((rest.log, rest.in_use), rest.spare)
 
-module _ (old new : Logs) (a centres : ℕ) (up : ℕ → Bool) (facts : ℕ → List Fact) (stand : LogsStand old centres up facts) (running : up a ≡ true) (some : 1 ≤ a) (few : a ≤ length old.open.items)
+module _ (old new : Logs) (a centres : ℕ) (up : ℕ → Bool) (facts : ℕ → List Fact) (stand : LogsRepresent old centres up facts) (running : up a ≡ true) (some : 1 ≤ a) (few : a ≤ length old.open.items)
     (d : AllMemory) (log : OpenAreas) (is : log ≡ log_at old a) (same : (p : ℕ) → IsSame old.disks d p) where
   its : IsLogOf old a (up a) (facts a)
   its = stand.each a some (omega (few, stand.as_many, arith))
@@ -141,7 +141,7 @@ module _ (old new : Logs) (a centres : ℕ) (up : ℕ → Bool) (facts : ℕ →
     beside p first second = both-same old.disks d new.disks p (same p) (elsewhere d new.disks a (a + 16) p keeps-areas first second)
 
     pub appended : more.centre ≡ log.centre → more.every ≡ log.every → more.tail < more.every → HasGrown log more
-        → IsAtRest disk_of may_leave_of new.disks more (logged (facts a) ++ fact_bytes fact ∷ []) → LogsStand new centres up (with_fact_at facts a fact)
+        → IsAtRest disk_of may_leave_of new.disks more (logged (facts a) ++ fact_bytes fact ∷ []) → LogsRepresent new centres up (with_fact_at facts a fact)
     appended centre every tail grown rest =
         let every_is : more.every ≡ checkpoint_every = every ∙ ap (λ (l : OpenAreas). l.every) is ∙ (its.open running).every in
         put old new a more fact centres up up facts stand some few items (others-same old.disks new.disks a its.range beside) (λ b other. refl)

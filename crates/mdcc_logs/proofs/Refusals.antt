@@ -4,7 +4,7 @@ use Rattle.mdcc_areas.specs.Area.{AreaLog, payloads, payloads_in, payloads_of, r
 use Rattle.mdcc_areas.specs.Crash.{ReadsAsEither}
 use Rattle.mdcc_disks.specs.Memory.{AllMemory, disk_of, is_there, may_leave_of}
 use Rattle.mdcc_logs.proofs.Standing.{AreSame, IsSame, log-same, log-stays, others-same, same-areas}
-use Rattle.mdcc_logs.specs.Stands.{IsLogOf, LogsStand, MayHave, log_at}
+use Rattle.mdcc_logs.specs.Represents.{IsLogOf, LogsRepresent, MayHave, log_at}
 use Rattle.mdcc_logs.specs.declared.logs.Logs.{Logs}
 use Rattle.mdcc_messages.specs.Spelling.{fact_bytes}
 use Rattle.mdcc_messages.specs.declared.facts.Fact.{Fact}
@@ -24,7 +24,7 @@ its-payloads first second log all read are = ap payloads_in read ∙ ap (λ (l :
 pub log-payloads : (logs : Logs) (a : ℕ) (is_up : Bool) (facts : List Fact) → IsLogOf logs a is_up facts → payloads (disk_of logs.disks a).bytes (disk_of logs.disks (a + 16)).bytes ≡ Ok (logged facts)
 log-payloads logs a is_up facts its = its-payloads (disk_of logs.disks a).bytes (disk_of logs.disks (a + 16)).bytes its.log (logged facts) its.read its.payloads_are
 
-module _ (old new : Logs) (a centres : ℕ) (up : ℕ → Bool) (facts : ℕ → List Fact) (stand : LogsStand old centres up facts) (some : 1 ≤ a) (few : a ≤ length old.open.items) where
+module _ (old new : Logs) (a centres : ℕ) (up : ℕ → Bool) (facts : ℕ → List Fact) (stand : LogsRepresent old centres up facts) (some : 1 ≤ a) (few : a ≤ length old.open.items) where
   pub one : IsLogOf old a (up a) (facts a)
   one = stand.each a some (omega (few, stand.as_many, arith))
 

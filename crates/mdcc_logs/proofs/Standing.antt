@@ -15,7 +15,7 @@ use Rattle.mdcc_restart.proofs.Places.{at_both, from_both}
 use Rattle.mdcc_restart.proofs.Roomy.{roomy_read}
 use Rattle.mdcc_restart.proofs.Struck.{rest_areas}
 use Rattle.mdcc_restart.specs.Logged.{logged}
-use Rattle.mdcc_logs.specs.Stands.{HoldSame, IsLogOf, LogsStand, checkpoint_every, log_at, no_log, with_fact_at}
+use Rattle.mdcc_logs.specs.Represents.{HoldSame, IsLogOf, LogsRepresent, checkpoint_every, log_at, no_log, with_fact_at}
 use Rattle.mdcc_logs.specs.declared.logs.Logs.{Logs}
 use Rattle.mdcc_messages.specs.declared.facts.Fact.{Fact}
 
@@ -159,13 +159,13 @@ log-at-rest logs a frames is_up facts range there there_other is centre every fe
     }
 
 -- all logs stand, where that of one centre does, and the others are as they were
-pub logs-with : (old new : Logs) (a centres : ℕ) (up now : ℕ → Bool) (facts more : ℕ → List Fact) → LogsStand old centres up facts
+pub logs-with : (old new : Logs) (a centres : ℕ) (up now : ℕ → Bool) (facts more : ℕ → List Fact) → LogsRepresent old centres up facts
     → length new.open.items ≡ length old.open.items
     → ((b : ℕ) → 1 ≤ b → b ≢ a → log_at new b ≡ log_at old b)
     → ((b : ℕ) → b ≤ 9 → b ≢ a → AreSame old.disks new.disks b)
     → ((b : ℕ) → b ≢ a → now b ≡ up b)
     → ((b : ℕ) → b ≢ a → more b ≡ facts b)
-    → IsLogOf new a (now a) (more a) → LogsStand new centres now more
+    → IsLogOf new a (now a) (more a) → LogsRepresent new centres now more
 logs-with old new a centres up now facts more stand as_many logs disks ups others here = record {
   as_many = as_many ∙ stand.as_many;
   each = λ b one most. elim (eqb_tells b a) [
@@ -219,11 +219,11 @@ pub record IsKept (disks : AllMemory) (a : ℕ) (frames : OpenAreas) (facts : Li
   pub at_rest : IsAtRest disk_of may_leave_of disks frames (logged facts)
 
 -- the log of a centre is another one, with one fact more
-pub put : (old new : Logs) (a : ℕ) (log : OpenAreas) (fact : Fact) (centres : ℕ) (up now : ℕ → Bool) (facts : ℕ → List Fact) → LogsStand old centres up facts
+pub put : (old new : Logs) (a : ℕ) (log : OpenAreas) (fact : Fact) (centres : ℕ) (up now : ℕ → Bool) (facts : ℕ → List Fact) → LogsRepresent old centres up facts
     → 1 ≤ a → a ≤ length old.open.items → new.open.items ≡ set old.open.items (a - 1) log → ((b : ℕ) → b ≤ 9 → b ≢ a → AreSame old.disks new.disks b)
     → ((b : ℕ) → b ≢ a → now b ≡ up b)
     → is_there new.disks a ≡ true → is_there new.disks (a + 16) ≡ true → IsKept new.disks a log (fact ∷ facts a)
-    → LogsStand new centres now (with_fact_at facts a fact)
+    → LogsRepresent new centres now (with_fact_at facts a fact)
 put old new a log fact centres up now facts stand some few items same ups there there_other kept =
     let was = stand.each a some (omega (few, stand.as_many, arith)) in
     logs-with old new a centres up now facts (with_fact_at facts a fact) stand

@@ -22,7 +22,7 @@ use Rattle.mdcc_logs.proofs.Calls.{stays-durable}
 use Rattle.mdcc_logs.proofs.Refusals.{its-payloads, leaves-here, one}
 use Rattle.mdcc_logs.proofs.Standing.{IsKept, IsSame, both-same, cond-there, elsewhere, log-same, logs-with, others-same, put}
 use Rattle.mdcc_logs.specs.Nodes.{CentreStore, IsNodeOf, are_stored, needed_in, spare_of}
-use Rattle.mdcc_logs.specs.Stands.{IsLogOf, LogsStand, MayHave, checkpoint_every, log_at, with_up}
+use Rattle.mdcc_logs.specs.Represents.{IsLogOf, LogsRepresent, MayHave, checkpoint_every, log_at, with_up}
 use Rattle.mdcc_logs.specs.Starting.{HasStarted, OnNone, StartsOver, cells_of, cells_with_boot, lacking}
 use Rattle.mdcc_logs.specs.declared.logs.Logs.{Logs}
 use Rattle.mdcc_option.specs.declared.cluster.Cluster.{Cluster}
@@ -39,7 +39,7 @@ use Rattle.mdcc_rules.specs.Boot.{booted_by}
 use Rattle.mdcc_rules.specs.declared.node.BootFault.{BootFault}
 use Rattle.mdcc_steps.proofs.Booting.{boot-reads}
 use Rattle.mdcc_steps.proofs.Each.{each-append}
-use Rattle.mdcc_steps.specs.Forming.{payloads_of}
+use Rattle.mdcc_steps.specs.NodeInvariant.{payloads_of}
 
 -- ---- the cells of a centre
 
@@ -144,7 +144,7 @@ module _ (logs : Logs) (d : AllMemory) (a : ℕ) (is_up : Bool) (facts : List Fa
   pub durable-second : Only (disk_of d (a + 16)).bytes (may_leave_of d (a + 16))
   durable-second = stays-durable logs.disks d (a + 16) (same (a + 16)) its.durable_other
 
-module _ (old new : Logs) (a centres : ℕ) (up : ℕ → Bool) (facts : ℕ → List Fact) (stand : LogsStand old centres up facts) (some : 1 ≤ a) (few : a ≤ length old.open.items)
+module _ (old new : Logs) (a centres : ℕ) (up : ℕ → Bool) (facts : ℕ → List Fact) (stand : LogsRepresent old centres up facts) (some : 1 ≤ a) (few : a ≤ length old.open.items)
     (d : AllMemory) (same : (p : ℕ) → IsSame old.disks d p) (keeps : KeepsBut disk_of may_leave_of moment_of left_since_of d new.disks a (a + 16)) where
   its : IsLogOf old a (up a) (facts a)
   its = one old new a centres up facts stand some few
@@ -185,7 +185,7 @@ module _ (old new : Logs) (a centres : ℕ) (up : ℕ → Bool) (facts : ℕ →
 
   -- ---- a start for which the log or the node has no room
 
-  pub none-stays : up a ≡ false → new.open.items ≡ old.open.items → IsAsBefore (logged (facts a)) a checkpoint_every disk_of may_leave_of d new.disks → LogsStand new centres up facts
+  pub none-stays : up a ≡ false → new.open.items ≡ old.open.items → IsAsBefore (logged (facts a)) a checkpoint_every disk_of may_leave_of d new.disks → LogsRepresent new centres up facts
   none-stays down items was =
       let rest = was.at_rest in
       let durable = from_both (λ p. Only (disk_of new.disks p).bytes (may_leave_of new.disks p)) a was.frames.centre was.frames.area was.place rest.range rest.in_use.durable rest.spare.durable in

@@ -20,7 +20,7 @@ use Rattle.mdcc_logs.proofs.Made.{all-durable}
 use Rattle.mdcc_logs.proofs.Refusals.{leaves-here}
 use Rattle.mdcc_logs.proofs.Stages.{EndsShut, shut_end, stop-ends}
 use Rattle.mdcc_logs.proofs.Standing.{IsDurableAt, IsSame, both-same, cond-here, cond-there, log-same, logs-with, others-same, standing-same, there-same}
-use Rattle.mdcc_logs.specs.Stands.{IsLogOf, LogsStand, MayHave, log_at, with_fact_at, with_up}
+use Rattle.mdcc_logs.specs.Represents.{IsLogOf, LogsRepresent, MayHave, log_at, with_fact_at, with_up}
 use Rattle.mdcc_logs.specs.Stopping.{HoldBut, IsStruck, is_frame_kept, stopped_at, stopped_facts}
 use Rattle.mdcc_logs.specs.declared.logs.Logs.{Logs}
 use Rattle.mdcc_messages.specs.Spelling.{fact_bytes}
@@ -80,7 +80,7 @@ stopped-roomy false log payload roomy = roomy
 
 -- ---- a strike
 
-module _ (old : Logs) (a centres : ℕ) (up : ℕ → Bool) (facts : ℕ → List Fact) (stand : LogsStand old centres up facts) (running : up a ≡ true) (some : 1 ≤ a) (few : a ≤ length old.open.items)
+module _ (old : Logs) (a centres : ℕ) (up : ℕ → Bool) (facts : ℕ → List Fact) (stand : LogsRepresent old centres up facts) (running : up a ≡ true) (some : 1 ≤ a) (few : a ≤ length old.open.items)
     (log : OpenAreas) (is : log ≡ log_at old a) (d : AllMemory) (same : (p : ℕ) → IsSame old.disks d p) where
   its : IsLogOf old a (up a) (facts a)
   its = stand.each a some (omega (few, stand.as_many, arith))
@@ -238,7 +238,7 @@ module _ (old : Logs) (a centres : ℕ) (up : ℕ → Bool) (facts : ℕ → Lis
         «open» = λ yes. absurd (false≢true yes);
       }
 
-      pub stopped : LogsStand new centres (with_up up a false) (stopped_facts facts a fact call image)
+      pub stopped : LogsRepresent new centres (with_up up a false) (stopped_facts facts a fact call image)
       stopped =
           logs-with old new a centres up (with_up up a false) facts (stopped_facts facts a fact call image) stand (ap length items)
           (λ b one apart. log-same old new items b)

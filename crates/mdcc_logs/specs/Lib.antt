@@ -1,4 +1,4 @@
 pub mod Nodes
-pub mod Stands
+pub mod Represents
 pub mod Starting
 pub mod Stopping

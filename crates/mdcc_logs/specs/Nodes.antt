@@ -2,7 +2,7 @@
 use Rattle.std.specs.Prelude.{◌≡◌, ◌+◌, ◌∷◌, [], List, Some, length, slice_get, ℕ}
 use Rattle.mdcc_index.specs.Stores.{Represents, Store}
 use Rattle.mdcc_messages.specs.Lengths.{cells_needed, cells_used}
-use Rattle.mdcc_node.specs.Stands.{Stands as NodeStands}
+use Rattle.mdcc_node.specs.Represents.{RepresentsCentre}
 use Rattle.mdcc_node.specs.declared.node.Node.{Node}
 use Rattle.mdcc_option.specs.declared.cluster.Cluster.{Cluster}
 use Rattle.mdcc_protocol.specs.Volatile.{Volatile, nothing_kept}
@@ -25,7 +25,7 @@ needed_in store fact = cells_needed fact
 
 -- a node over such a store, which has as many cells spare as the facts leave of the cluster's
 pub record IsNodeOf (node : Node CentreStore) (cluster : Cluster) (me : ℕ) (facts : List Fact) (volatile : Volatile) : Type 0 where
-  pub itself : NodeStands are_stored node cluster me facts volatile
+  pub itself : RepresentsCentre are_stored node cluster me facts volatile
   pub spare : spare_of node.store + cells_used facts ≡ cluster.cells
 
 -- so many nodes, each booted for the first time

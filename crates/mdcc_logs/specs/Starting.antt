@@ -6,7 +6,7 @@ use Rattle.mdcc_areas.specs.declared.fault.LogFault.{LogFault}
 use Rattle.mdcc_disks.specs.Memory.{AllMemory, disk_of, is_there, may_leave_of}
 use Rattle.mdcc_log.specs.Log.{log_limit}
 use Rattle.mdcc_logs.specs.Nodes.{CentreStore, IsNodeOf, are_stored, spare_of}
-use Rattle.mdcc_logs.specs.Stands.{LogsStand, checkpoint_every, with_fact_at}
+use Rattle.mdcc_logs.specs.Represents.{LogsRepresent, checkpoint_every, with_fact_at}
 use Rattle.mdcc_logs.specs.declared.logs.Logs.{Logs}
 use Rattle.mdcc_logs.specs.declared.starting.Attempt.{Attempt}
 use Rattle.mdcc_logs.specs.declared.starting.Started.{Started}
@@ -55,7 +55,7 @@ OnNone (Err fault) all me old new = ⊤
 pub record HasStarted (node : Node CentreStore) (epoch : ℕ) (logs : Logs) (cluster : Cluster) (centres : ℕ) (up : ℕ → Bool) (a : ℕ) (facts : ℕ → List Fact) : Type 0 where
   pub next : epoch ≡ epoch_of (facts a) + 1
   pub node_of : IsNodeOf node cluster a (Fact.Booted epoch ∷ facts a) nothing_kept
-  pub stand : LogsStand logs centres up (with_fact_at facts a (Fact.Booted epoch))
+  pub stand : LogsRepresent logs centres up (with_fact_at facts a (Fact.Booted epoch))
   pub room : nat_lt log_limit (log_length (Fact.Booted epoch ∷ facts a)) ≡ false
 
 -- it has started; or the new boot would pass the limit of the log or the cells of the node; or there was no memory
@@ -80,7 +80,7 @@ first_facts a = Fact.Booted 1 ∷ []
 
 -- So many of the centres have booted for the first time, and the areas of the others are empty.
 pub record AreBegun (logs : Logs) (centres count : ℕ) : Type 0 where
-  pub stand : LogsStand logs count (λ a. true) first_facts
+  pub stand : LogsRepresent logs count (λ a. true) first_facts
   pub there : (a : ℕ) → count < a → a ≤ centres → is_there logs.disks a ≡ true
   pub there_other : (a : ℕ) → count < a → a ≤ centres → is_there logs.disks (a + 16) ≡ true
   pub empty : (a : ℕ) → count < a → a ≤ centres → (disk_of logs.disks a).bytes ≡ []

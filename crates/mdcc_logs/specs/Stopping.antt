@@ -5,7 +5,7 @@ use Rattle.mdcc_disks.specs.Contents.{Contents, done, durable, image_of}
 use Rattle.mdcc_disks.specs.Disks.{DiskCall}
 use Rattle.mdcc_disks.specs.Memory.{AllMemory, at_place, standing}
 use Rattle.mdcc_log.specs.Frames.{append_calls}
-use Rattle.mdcc_logs.specs.Stands.{with_fact_at}
+use Rattle.mdcc_logs.specs.Represents.{with_fact_at}
 use Rattle.mdcc_messages.specs.Spelling.{fact_bytes}
 use Rattle.mdcc_messages.specs.declared.facts.Fact.{Fact}
 

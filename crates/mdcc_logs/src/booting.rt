@@ -1,7 +1,7 @@
 //! The first boot of all centres.
 ghost use Rattle.std.specs.Prelude.{◌≡◌, ◌≤◌, ◌-◌, ◌∷◌, [], IfOk, OnOk, length, true};
 ghost use Rattle.mdcc_logs.specs.Nodes.{AreStarted, IsNodeOf};
-ghost use Rattle.mdcc_logs.specs.Stands.{LogsStand};
+ghost use Rattle.mdcc_logs.specs.Represents.{LogsRepresent};
 ghost use Rattle.mdcc_logs.specs.Starting.{AreBegun, first_facts};
 ghost use Rattle.mdcc_protocol.specs.Belongs.{is_centre};
 ghost use Rattle.mdcc_protocol.specs.IsCluster.{IsCluster};
@@ -56,7 +56,7 @@ fn none_begun(alloc: Global, cluster: &Cluster) -> Result<Logs, Memory>
 pub fn boot_all(alloc: Global, cluster: &Cluster) -> Result<(Vec<Node<CentreFacts>>, Logs), Memory>
     requires { IsCluster cluster.now }
     ensures nodes { IfOk result (λ r. AreStarted r.0.items cluster.now cluster.now.quorums.centres) }
-    ensures logs { IfOk result (λ r. LogsStand r.1 cluster.now.quorums.centres (λ a. true) first_facts) }
+    ensures logs { IfOk result (λ r. LogsRepresent r.1 cluster.now.quorums.centres (λ a. true) first_facts) }
 {
     let mut logs = none_begun(alloc, cluster)?;
     let mut nodes = Vec::new(alloc);

@@ -8,7 +8,7 @@ ghost use Rattle.mdcc_areas.specs.Frames.{IsSettled, IsSpare, other_of, place_of
 ghost use Rattle.mdcc_areas.specs.Room.{HasGrown};
 ghost use Rattle.mdcc_disks.specs.Memory.{IsBut, at_place, crashed, disk_of, may_leave_of, moment_of, left_since_of};
 ghost use Rattle.mdcc_log.specs.Log.{log_limit, payload_limit};
-ghost use Rattle.mdcc_logs.specs.Stands.{IsOpenAt, LogsStand, MayHave, with_fact_at, with_up};
+ghost use Rattle.mdcc_logs.specs.Represents.{IsOpenAt, LogsRepresent, MayHave, with_fact_at, with_up};
 ghost use Rattle.mdcc_logs.specs.Starting.{OnLack, Starts};
 ghost use Rattle.mdcc_protocol.specs.Belongs.{is_centre};
 ghost use Rattle.mdcc_protocol.specs.Facts.{epoch_of};
@@ -87,7 +87,7 @@ impl Logs {
         requires within { centre ≤ length self.now.open.items }
         requires formed { IsWellFormedFact fact.now }
         requires short { fact_length fact.now ≤ 2097152 }
-        ensures { (centres : ℕ) (up : ℕ → Bool) (facts : ℕ → List AFact) → LogsStand self.now centres up facts → up centre ≡ true → 1 ≤ centre → centre ≤ centres
+        ensures { (centres : ℕ) (up : ℕ → Bool) (facts : ℕ → List AFact) → LogsRepresent self.now centres up facts → up centre ≡ true → 1 ≤ centre → centre ≤ centres
             → result ≡ nat_lt log_limit (log_length (fact.now ∷ facts centre)) }
     {
         well_formed_facts_have_counts();
@@ -102,9 +102,9 @@ impl Logs {
         requires short { fact_length fact.now ≤ 2097152 }
         requires stand { IsOpenAt self.old centre }
         ensures as_many { length self.new.open.items ≡ length self.old.open.items }
-        ensures appended { (centres : ℕ) (up : ℕ → Bool) (facts : ℕ → List AFact) → LogsStand self.old centres up facts → up centre ≡ true
-            → OnOk result (LogsStand self.new centres up (with_fact_at facts centre fact.now)) }
-        ensures refused { (centres : ℕ) (up : ℕ → Bool) (facts : ℕ → List AFact) → LogsStand self.old centres up facts → up centre ≡ true
+        ensures appended { (centres : ℕ) (up : ℕ → Bool) (facts : ℕ → List AFact) → LogsRepresent self.old centres up facts → up centre ≡ true
+            → OnOk result (LogsRepresent self.new centres up (with_fact_at facts centre fact.now)) }
+        ensures refused { (centres : ℕ) (up : ℕ → Bool) (facts : ℕ → List AFact) → LogsRepresent self.old centres up facts → up centre ≡ true
             → OnErr result (MayHave self.new centres up centre facts fact.now) }
     {
         well_formed_facts_have_counts();
@@ -120,8 +120,8 @@ impl Logs {
         ensures as_many { length self.new.open.items ≡ length self.old.open.items }
         ensures crashed { IsBut (crashed Image.Lost (at_place self.old.disks centre)) (at_place self.new.disks centre) }
         ensures crashed_other { IsBut (crashed Image.Lost (at_place self.old.disks (centre + 16))) (at_place self.new.disks (centre + 16)) }
-        ensures kept { (centres : ℕ) (up : ℕ → Bool) (facts : ℕ → List AFact) → LogsStand self.old centres up facts → up centre ≡ true
-            → LogsStand self.new centres (with_up up centre false) facts }
+        ensures kept { (centres : ℕ) (up : ℕ → Bool) (facts : ℕ → List AFact) → LogsRepresent self.old centres up facts → up centre ≡ true
+            → LogsRepresent self.new centres (with_up up centre false) facts }
     {
         crash_leaves_the_image();
         let place = centre.number();
@@ -141,12 +141,12 @@ impl Logs {
         requires among { is_centre cluster.now centre ≡ true }
         requires within { centre ≤ length self.old.open.items }
         ensures as_many { length self.new.open.items ≡ length self.old.open.items }
-        ensures started { (centres : ℕ) (up : ℕ → Bool) (facts : ℕ → List AFact) → LogsStand self.old centres up facts
+        ensures started { (centres : ℕ) (up : ℕ → Bool) (facts : ℕ → List AFact) → LogsRepresent self.old centres up facts
             → AreLogged cluster.now (facts centre) → cells_used (facts centre) ≤ cluster.now.cells → epoch_of (facts centre) < 2 ^ 32 - 1
             → Starts result self.new cluster.now centres (with_up up centre true) centre facts }
-        ensures lack { (centres : ℕ) (up : ℕ → Bool) (facts : ℕ → List AFact) → LogsStand self.old centres up facts → up centre ≡ false
-            → OnLack result (LogsStand self.new centres up facts) }
-        ensures refused { (centres : ℕ) (up : ℕ → Bool) (facts : ℕ → List AFact) → LogsStand self.old centres up facts → AreLogged cluster.now (facts centre)
+        ensures lack { (centres : ℕ) (up : ℕ → Bool) (facts : ℕ → List AFact) → LogsRepresent self.old centres up facts → up centre ≡ false
+            → OnLack result (LogsRepresent self.new centres up facts) }
+        ensures refused { (centres : ℕ) (up : ℕ → Bool) (facts : ℕ → List AFact) → LogsRepresent self.old centres up facts → AreLogged cluster.now (facts centre)
             → OnErr result (MayHave self.new centres up centre facts (next_boot (facts centre))) }
     {
         let index = usize::from(centre.number()) - 1;

@@ -1,6 +1,6 @@
 //! Room for the device calls of a log.
 ghost use Rattle.std.specs.Prelude.{◌≡◌, ◌≤◌};
-ghost use Rattle.mdcc_logs.specs.Stands.{HoldSame};
+ghost use Rattle.mdcc_logs.specs.Represents.{HoldSame};
 
 use mdcc_areas::Frames;
 use mdcc_base::{Centre, Memory};

@@ -5,7 +5,7 @@ ghost use Rattle.mdcc_areas.specs.Both.{KeepsBut};
 ghost use Rattle.mdcc_areas.specs.Crash.{ReadsAsEither};
 ghost use Rattle.mdcc_disks.specs.Disks.{Only};
 ghost use Rattle.mdcc_disks.specs.Memory.{disk_of, may_leave_of, moment_of, left_since_of};
-ghost use Rattle.mdcc_logs.specs.Stands.{checkpoint_every};
+ghost use Rattle.mdcc_logs.specs.Represents.{checkpoint_every};
 ghost use Rattle.mdcc_logs.specs.Starting.{OnNone, StartsOver, lacking};
 ghost use Rattle.mdcc_protocol.specs.Belongs.{is_centre};
 ghost use Rattle.mdcc_protocol.specs.Facts.{epoch_of};

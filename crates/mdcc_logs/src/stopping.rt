@@ -8,7 +8,7 @@ ghost use Rattle.mdcc_disks.specs.Disks.DiskCall.{Sync, Write};
 ghost use Rattle.mdcc_disks.specs.Memory.{KeepsPlaces, at_place, disk_of, may_leave_of, standing};
 ghost use Rattle.mdcc_log.specs.Frames.{append_calls};
 ghost use Rattle.mdcc_log.specs.Log.{frame_body};
-ghost use Rattle.mdcc_logs.specs.Stands.{IsOpenAt, LogsStand, MayHave, log_at, with_up};
+ghost use Rattle.mdcc_logs.specs.Represents.{IsOpenAt, LogsRepresent, MayHave, log_at, with_up};
 ghost use Rattle.mdcc_logs.specs.Stopping.{HoldBut, IsStruck, stopped_at, stopped_facts};
 ghost use Rattle.mdcc_messages.specs.Lengths.{fact_length};
 ghost use Rattle.mdcc_messages.specs.WellFormed.{IsWellFormedFact};
@@ -130,15 +130,15 @@ impl Logs {
         requires first { 1 ≤ call }
         requires last { call ≤ 4 }
         ensures as_many { length self.new.open.items ≡ length self.old.open.items }
-        ensures stopped { (centres : ℕ) (up : ℕ → Bool) (facts : ℕ → List AFact) → LogsStand self.old centres up facts → up centre ≡ true
-            → OnOk result (LogsStand self.new centres (with_up up centre false) (stopped_facts facts centre fact.now call image)) }
+        ensures stopped { (centres : ℕ) (up : ℕ → Bool) (facts : ℕ → List AFact) → LogsRepresent self.old centres up facts → up centre ≡ true
+            → OnOk result (LogsRepresent self.new centres (with_up up centre false) (stopped_facts facts centre fact.now call image)) }
         ensures struck { let place = place_of centre (log_at self.old centre).area in
-            (centres : ℕ) (up : ℕ → Bool) (facts : ℕ → List AFact) → LogsStand self.old centres up facts → up centre ≡ true
+            (centres : ℕ) (up : ℕ → Bool) (facts : ℕ → List AFact) → LogsRepresent self.old centres up facts → up centre ≡ true
             → OnOk result (IsStruck fact.now call image (disk_of self.old.disks place).bytes (disk_of self.new.disks place).bytes) }
         ensures struck_other { let place = place_of centre (other_of (log_at self.old centre).area) in
-            (centres : ℕ) (up : ℕ → Bool) (facts : ℕ → List AFact) → LogsStand self.old centres up facts → up centre ≡ true
+            (centres : ℕ) (up : ℕ → Bool) (facts : ℕ → List AFact) → LogsRepresent self.old centres up facts → up centre ≡ true
             → OnOk result ((disk_of self.new.disks place).bytes ≡ (disk_of self.old.disks place).bytes) }
-        ensures refused { (centres : ℕ) (up : ℕ → Bool) (facts : ℕ → List AFact) → LogsStand self.old centres up facts → up centre ≡ true
+        ensures refused { (centres : ℕ) (up : ℕ → Bool) (facts : ℕ → List AFact) → LogsRepresent self.old centres up facts → up centre ≡ true
             → OnErr result (MayHave self.new centres up centre facts fact.now) }
     {
         well_formed_facts_have_counts();

@@ -5,7 +5,7 @@ use Rattle.std.proofs.lemmas.Bool.{cases_Bool}
 use Rattle.std.proofs.lemmas.List.{length-append}
 use Rattle.std.proofs.lemmas.Option.{slice_get-get_or}
 use Rattle.std.proofs.Math.Numerals.{add-one}
-use Rattle.mdcc_mail.specs.Letters.{AreCursors, delivered}
+use Rattle.mdcc_mail.specs.StoredMessages.{AreCursors, marked_delivered}
 use Rattle.mdcc_mail.specs.Waiting.{before_first, waits_among, waits_for}
 use Rattle.mdcc_messages.specs.Mailbox.{Sent, numbered, with_delivered}
 
@@ -57,7 +57,7 @@ min_among least centre centres xs = rw (among_next centre centres xs) (omega ari
 
 -- ---- deliveries
 
-pub set_delivered : (xs : List Sent) (place : ℕ) (x : Sent) → slice_get xs place ≡ Some x → set xs place (delivered x) ≡ with_delivered xs place
+pub set_delivered : (xs : List Sent) (place : ℕ) (x : Sent) → slice_get xs place ≡ Some x → set xs place (marked_delivered x) ≡ with_delivered xs place
 set_delivered [] place x at = absurd (cc)
 set_delivered (y ∷ xs) zero x at = let same : y ≡ x = cc in rw same refl
 set_delivered (y ∷ xs) (suc place) x at = ap (λ ys. y ∷ ys) (set_delivered xs place x at)
@@ -69,8 +69,8 @@ delivered_past (x ∷ xs) (suc place) past = ap (λ ys. x ∷ ys) (delivered_pas
 
 -- ---- numbers
 
-pub letter_there : (xs : List Sent) (place : ℕ) (x : Sent) → place < length xs → x ≡ get_or xs place x → slice_get xs place ≡ Some x
-letter_there xs place x within is = slice_get-get_or xs place x within ∙ ap (λ (y : Sent). Some y) (sym is)
+pub message_there : (xs : List Sent) (place : ℕ) (x : Sent) → place < length xs → x ≡ get_or xs place x → slice_get xs place ≡ Some x
+message_there xs place x within is = slice_get-get_or xs place x within ∙ ap (λ (y : Sent). Some y) (sym is)
 
 pub numbered_at : {X : Type 0} (xs : List X) (place : ℕ) → numbered xs (place + 1) ≡ slice_get xs place
 numbered_at xs place = rw (add-one place) refl

@@ -2,7 +2,7 @@
 use Rattle.std.proofs.Common.{◌≡◌, ℕ, ◌+◌, List, [], ◌∷◌, ◌++◌, Ok, length, map, sym, ap, ◌∙◌, arith}
 use Rattle.std.proofs.lemmas.List.{map-append}
 use Rattle.mdcc_base.specs.Counts.{sum_over}
-use Rattle.mdcc_mail.specs.Letters.{AreOutgoing, IsLetter, envelope_in, envelope_or_empty, envelopes_of}
+use Rattle.mdcc_mail.specs.StoredMessages.{IsMessageBatch, IsStoredMessage, envelope_in, envelope_or_empty, envelopes_of}
 use Rattle.mdcc_spelling.proofs.Lengths.{length-message}
 use Rattle.mdcc_messages.specs.Lengths.{message_length, messages_length}
 use Rattle.mdcc_messages.specs.Reading.{view_of}
@@ -24,8 +24,8 @@ read-in envelope bytes is = ap envelope_or_empty is
 pub written-in : (envelope : Envelope) (bytes : List ℕ) → IsWellFormedEnvelope envelope → bytes ≡ message_bytes envelope → envelope_in bytes ≡ envelope
 written-in envelope bytes w is = read-in envelope bytes (spelled envelope bytes w is)
 
-pub written-letter : (envelope : Envelope) (bytes : List ℕ) → IsWellFormedEnvelope envelope → bytes ≡ message_bytes envelope → IsLetter bytes envelope.to
-written-letter envelope bytes w is =
+pub written-message : (envelope : Envelope) (bytes : List ℕ) → IsWellFormedEnvelope envelope → bytes ≡ message_bytes envelope → IsStoredMessage bytes envelope.to
+written-message envelope bytes w is =
     let same = written-in envelope bytes w is in
     record {
       spells = spelled envelope bytes w is ∙ ap (λ (e : Envelope). Ok e) (sym same);
@@ -35,20 +35,20 @@ written-letter envelope bytes w is =
 
 -- ---- messages in order
 
-pub pushed-envelopes : (letters : List Sent) (envelope : Envelope) → envelopes_of (letters ++ unsent envelope ∷ []) ≡ envelopes_of letters ++ envelope ∷ []
-pushed-envelopes letters envelope = map-append (λ (s : Sent). s.envelope) letters (unsent envelope ∷ [])
+pub pushed-envelopes : (messages : List Sent) (envelope : Envelope) → envelopes_of (messages ++ unsent envelope ∷ []) ≡ envelopes_of messages ++ envelope ∷ []
+pushed-envelopes messages envelope = map-append (λ (s : Sent). s.envelope) messages (unsent envelope ∷ [])
 
 sum_over-push : {X : Type 0} (size : X → ℕ) (xs : List X) (x : X) → sum_over size (xs ++ x ∷ []) ≡ sum_over size xs + size x
 sum_over-push size [] x = omega arith
 sum_over-push size (y ∷ xs) x = omega (arith, sum_over-push size xs x)
 
-pub pushed-outgoing : (letters : List Sent) (bytes : ℕ) (envelope : Envelope) → AreOutgoing letters bytes
-    → AreOutgoing (letters ++ unsent envelope ∷ []) (bytes + message_length envelope)
-pushed-outgoing letters bytes envelope are =
-    let pushed = pushed-envelopes letters envelope in
+pub pushed-batch : (messages : List Sent) (bytes : ℕ) (envelope : Envelope) → IsMessageBatch messages bytes
+    → IsMessageBatch (messages ++ unsent envelope ∷ []) (bytes + message_length envelope)
+pushed-batch messages bytes envelope are =
+    let pushed = pushed-envelopes messages envelope in
     record {
       not_delivered =
-          ap (λ (xs : List Sent). xs ++ unsent envelope ∷ []) are.not_delivered ∙ sym (map-append unsent (envelopes_of letters) (envelope ∷ []))
+          ap (λ (xs : List Sent). xs ++ unsent envelope ∷ []) are.not_delivered ∙ sym (map-append unsent (envelopes_of messages) (envelope ∷ []))
           ∙ ap (λ (es : List Envelope). map unsent es) (sym pushed);
-      whole = omega (arith, are.whole, sum_over-push message_length (envelopes_of letters) envelope, ap messages_length pushed);
+      whole = omega (arith, are.whole, sum_over-push message_length (envelopes_of messages) envelope, ap messages_length pushed);
     }

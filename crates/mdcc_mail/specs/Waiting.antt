@@ -16,9 +16,9 @@ abbrev pub before_first : {X : Type 0} → (X → Bool) → List X → ℕ
 before_first test [] = 0
 before_first test (x ∷ xs) = if test x then 0 else before_first test xs + 1
 
-abbrev pub number_at : ℕ → ℕ → Option ℕ
-number_at place count = if nat_lt place count then Some (place + 1) else None
+abbrev pub waiting_number_at : ℕ → ℕ → Option ℕ
+waiting_number_at place count = if nat_lt place count then Some (place + 1) else None
 
 -- the least number of a message that waits for one of some centres
 abbrev pub first_to : List ℕ → List Sent → Option ℕ
-first_to centres sent = number_at (before_first (waits_among centres) sent) (length sent)
+first_to centres sent = waiting_number_at (before_first (waits_among centres) sent) (length sent)

@@ -4,9 +4,9 @@ use Rattle.mdcc_base.specs.declared.identifiers.TxId.{TxId}
 use Rattle.mdcc_option.specs.declared.faults.BeginFault.{BeginFault}
 use Rattle.mdcc_protocol.specs.Volatile.{Managing}
 
-abbrev pub is_memory : BeginFault → Bool
-is_memory BeginFault.Memory = true
-is_memory _ = false
+abbrev pub is_begin_memory : BeginFault → Bool
+is_begin_memory BeginFault.Memory = true
+is_begin_memory _ = false
 
 -- the identifier that was given, without what the manager keeps
 abbrev pub tx_begun : Result (TxId × Managing) BeginFault → Result TxId BeginFault

@@ -2,5 +2,5 @@ pub mod Begin
 pub mod Numbered
 pub mod Opened
 pub mod Sides
-pub mod Stands
+pub mod Represents
 pub mod Ticks

@@ -7,9 +7,9 @@ ghost use Rattle.mdcc_base.specs.Sizes.{Sizes};
 ghost use Rattle.mdcc_base.specs.Unless.{GivesUnless};
 ghost use Rattle.mdcc_option.specs.declared.choices.Cause.{Cause as ACause};
 ghost use Rattle.mdcc_base.specs.declared.identifiers.Ballot.{Ballot as ABallot};
-ghost use Rattle.mdcc_manager.specs.Begin.{is_memory, tx_begun};
+ghost use Rattle.mdcc_manager.specs.Begin.{is_begin_memory, tx_begun};
 ghost use Rattle.mdcc_manager.specs.Numbered.{are_numbered};
-ghost use Rattle.mdcc_manager.specs.Stands.{Stands};
+ghost use Rattle.mdcc_manager.specs.Represents.{RepresentsManaging};
 ghost use Rattle.mdcc_protocol.specs.Learner.{is_learned};
 ghost use Rattle.mdcc_protocol.specs.Manager.{act_on_cause, act_on_vote, acted, after_act, begin, begun, choice_unled, decision, lead_act, on_escalate, on_voted, tick, vote_taken, would_decide};
 ghost use Rattle.mdcc_protocol.specs.Volatile.{Managing, is_open, manager_closed, txs_opened, with_led};
@@ -44,7 +44,7 @@ impl Manager {
     /// The manager of a centre at the start of one of its epochs.
     pub fn new(alloc: Global, centre: Centre, epoch: u32) -> Result<Manager, Memory>
         ensures { (quorums : Sizes) → AreQuorums quorums
-            → IsOkAnd result (λ manager. Stands manager centre epoch quorums (record { seq = 0; opened = []; votes = [] })) }
+            → IsOkAnd result (λ manager. RepresentsManaging manager centre epoch quorums (record { seq = 0; opened = []; votes = [] })) }
     {
         Ok(Manager {
             alloc,
@@ -65,12 +65,12 @@ impl Manager {
         transaction: &Transaction,
     ) -> Result<TxId, BeginFault>
         ensures answer { (me epoch : ℕ) (quorums : Sizes) (facts : List AFact) (managing : Managing)
-            → S.stands store.now facts → Stands self.old me epoch quorums managing
-            → GivesUnless is_memory result (tx_begun (begin me epoch facts managing transaction.now)) }
-        ensures ok { (me epoch : ℕ) (quorums : Sizes) (managing : Managing) → Stands self.old me epoch quorums managing
-            → OnOk result (Stands self.new me epoch quorums (begun me epoch managing transaction.now).1) }
-        ensures err { (me epoch : ℕ) (quorums : Sizes) (managing : Managing) → Stands self.old me epoch quorums managing
-            → OnErr result (Stands self.new me epoch quorums managing) }
+            → S.stands store.now facts → RepresentsManaging self.old me epoch quorums managing
+            → GivesUnless is_begin_memory result (tx_begun (begin me epoch facts managing transaction.now)) }
+        ensures ok { (me epoch : ℕ) (quorums : Sizes) (managing : Managing) → RepresentsManaging self.old me epoch quorums managing
+            → OnOk result (RepresentsManaging self.new me epoch quorums (begun me epoch managing transaction.now).1) }
+        ensures err { (me epoch : ℕ) (quorums : Sizes) (managing : Managing) → RepresentsManaging self.old me epoch quorums managing
+            → OnErr result (RepresentsManaging self.new me epoch quorums managing) }
     {
         if let Some((_, fault)) = parts_begin_fault(store, transaction.parts()) {
             return Err(fault);
@@ -87,12 +87,12 @@ impl Manager {
     // Opens a transaction.
     fn open(&mut self, transaction: &Transaction) -> Result<TxId, Memory>
         requires { self.old.seq < 2 ^ 32 - 1 }
-        ensures tx { (me epoch : ℕ) (quorums : Sizes) (managing : Managing) → Stands self.old me epoch quorums managing
+        ensures tx { (me epoch : ℕ) (quorums : Sizes) (managing : Managing) → RepresentsManaging self.old me epoch quorums managing
             → IfOk result (λ tx. tx ≡ (begun me epoch managing transaction.now).0) }
-        ensures ok { (me epoch : ℕ) (quorums : Sizes) (managing : Managing) → Stands self.old me epoch quorums managing
-            → OnOk result (Stands self.new me epoch quorums (begun me epoch managing transaction.now).1) }
-        ensures err { (me epoch : ℕ) (quorums : Sizes) (managing : Managing) → Stands self.old me epoch quorums managing
-            → OnErr result (Stands self.new me epoch quorums managing) }
+        ensures ok { (me epoch : ℕ) (quorums : Sizes) (managing : Managing) → RepresentsManaging self.old me epoch quorums managing
+            → OnOk result (RepresentsManaging self.new me epoch quorums (begun me epoch managing transaction.now).1) }
+        ensures err { (me epoch : ℕ) (quorums : Sizes) (managing : Managing) → RepresentsManaging self.old me epoch quorums managing
+            → OnErr result (RepresentsManaging self.new me epoch quorums managing) }
     {
         let tx = TxId {
             centre: self.centre,
@@ -121,12 +121,12 @@ impl Manager {
     /// now, or one is rejected; where the marks on its key collide, the option goes to the leader
     /// at the key's home, once.
     pub fn on_voted(&mut self, cluster: &Cluster, vote: &Vote) -> Result<Option<ManagerAct>, Memory>
-        ensures act { (me epoch : ℕ) (managing : Managing) → Stands self.old me epoch cluster.now.quorums managing
+        ensures act { (me epoch : ℕ) (managing : Managing) → RepresentsManaging self.old me epoch cluster.now.quorums managing
             → IfOk result (λ act. act ≡ (on_voted cluster.now.quorums managing vote.now).0) }
-        ensures ok { (me epoch : ℕ) (managing : Managing) → Stands self.old me epoch cluster.now.quorums managing
-            → OnOk result (Stands self.new me epoch cluster.now.quorums (on_voted cluster.now.quorums managing vote.now).1) }
-        ensures err { (me epoch : ℕ) (quorums : Sizes) (managing : Managing) → Stands self.old me epoch quorums managing
-            → OnErr result (Stands self.new me epoch quorums managing) }
+        ensures ok { (me epoch : ℕ) (managing : Managing) → RepresentsManaging self.old me epoch cluster.now.quorums managing
+            → OnOk result (RepresentsManaging self.new me epoch cluster.now.quorums (on_voted cluster.now.quorums managing vote.now).1) }
+        ensures err { (me epoch : ℕ) (quorums : Sizes) (managing : Managing) → RepresentsManaging self.old me epoch quorums managing
+            → OnErr result (RepresentsManaging self.new me epoch quorums managing) }
     {
         let mut act = None;
         self.answer_vote(cluster, vote, &mut act)?;
@@ -141,12 +141,12 @@ impl Manager {
         act: &mut Option<ManagerAct>,
     ) -> Result<(), Memory>
         requires { act.old ≡ None }
-        ensures act { (me epoch : ℕ) (managing : Managing) → Stands self.old me epoch cluster.now.quorums managing
+        ensures act { (me epoch : ℕ) (managing : Managing) → RepresentsManaging self.old me epoch cluster.now.quorums managing
             → OnOk result (act.new ≡ (on_voted cluster.now.quorums managing vote.now).0) }
-        ensures ok { (me epoch : ℕ) (managing : Managing) → Stands self.old me epoch cluster.now.quorums managing
-            → OnOk result (Stands self.new me epoch cluster.now.quorums (on_voted cluster.now.quorums managing vote.now).1) }
-        ensures err { (me epoch : ℕ) (quorums : Sizes) (managing : Managing) → Stands self.old me epoch quorums managing
-            → OnErr result (Stands self.new me epoch quorums managing) }
+        ensures ok { (me epoch : ℕ) (managing : Managing) → RepresentsManaging self.old me epoch cluster.now.quorums managing
+            → OnOk result (RepresentsManaging self.new me epoch cluster.now.quorums (on_voted cluster.now.quorums managing vote.now).1) }
+        ensures err { (me epoch : ℕ) (quorums : Sizes) (managing : Managing) → RepresentsManaging self.old me epoch quorums managing
+            → OnErr result (RepresentsManaging self.new me epoch quorums managing) }
     {
         self.take(&cluster.quorums, vote)?;
         self.act_on_vote(&cluster.quorums, vote, act);
@@ -155,10 +155,10 @@ impl Manager {
 
     // Takes a vote, if its transaction is open.
     fn take(&mut self, quorums: &Quorums, vote: &Vote) -> Result<(), Memory>
-        ensures ok { (me epoch : ℕ) (managing : Managing) → Stands self.old me epoch quorums.now managing
-            → OnOk result (Stands self.new me epoch quorums.now (vote_taken quorums.now managing vote.now)) }
-        ensures err { (me epoch : ℕ) (known : Sizes) (managing : Managing) → Stands self.old me epoch known managing
-            → OnErr result (Stands self.new me epoch known managing) }
+        ensures ok { (me epoch : ℕ) (managing : Managing) → RepresentsManaging self.old me epoch quorums.now managing
+            → OnOk result (RepresentsManaging self.new me epoch quorums.now (vote_taken quorums.now managing vote.now)) }
+        ensures err { (me epoch : ℕ) (known : Sizes) (managing : Managing) → RepresentsManaging self.old me epoch known managing
+            → OnErr result (RepresentsManaging self.new me epoch known managing) }
     {
         if self.is_open(vote.tx) {
             self.learner.take(quorums, vote)?;
@@ -169,10 +169,10 @@ impl Manager {
     // What a vote that was taken makes the manager do.
     fn act_on_vote(&mut self, quorums: &Quorums, vote: &Vote, act: &mut Option<ManagerAct>)
         requires { act.old ≡ None }
-        ensures act { (me epoch : ℕ) (managing : Managing) → Stands self.old me epoch quorums.now managing
+        ensures act { (me epoch : ℕ) (managing : Managing) → RepresentsManaging self.old me epoch quorums.now managing
             → act.new ≡ act_on_vote quorums.now managing vote.now (decision quorums.now managing vote.now.tx) }
-        ensures left { (me epoch : ℕ) (managing : Managing) → Stands self.old me epoch quorums.now managing
-            → Stands self.new me epoch quorums.now (after_act managing (act_on_vote quorums.now managing vote.now (decision quorums.now managing vote.now.tx))) }
+        ensures left { (me epoch : ℕ) (managing : Managing) → RepresentsManaging self.old me epoch quorums.now managing
+            → RepresentsManaging self.new me epoch quorums.now (after_act managing (act_on_vote quorums.now managing vote.now (decision quorums.now managing vote.now.tx))) }
     {
         if self.is_decided(&vote.tx) {
             *act = self.decide_act(vote.tx);
@@ -184,7 +184,7 @@ impl Manager {
     // The end of a transaction that the votes decide.
     #[inline(never)]
     fn decide_act(&self, tx: TxId) -> Option<ManagerAct>
-        ensures { (me epoch : ℕ) (quorums : Sizes) (managing : Managing) → Stands self.now me epoch quorums managing
+        ensures { (me epoch : ℕ) (quorums : Sizes) (managing : Managing) → RepresentsManaging self.now me epoch quorums managing
             → result ≡ option_map (λ outcome. AManagerAct.Decide tx outcome) (decision quorums managing tx) }
     {
         match self.decision(tx) {
@@ -204,10 +204,10 @@ impl Manager {
         cause: Cause,
     ) -> Option<ManagerAct>
         requires { (ballot : ABallot) → cause ≡ ACause.Classic ballot → IsInRange 1 9 ballot.centre }
-        ensures act { (me epoch : ℕ) (managing : Managing) → Stands self.old me epoch cluster.now.quorums managing
+        ensures act { (me epoch : ℕ) (managing : Managing) → RepresentsManaging self.old me epoch cluster.now.quorums managing
             → result ≡ (on_escalate cluster.now.quorums managing from tx key.now cause).0 }
-        ensures left { (me epoch : ℕ) (managing : Managing) → Stands self.old me epoch cluster.now.quorums managing
-            → Stands self.new me epoch cluster.now.quorums (on_escalate cluster.now.quorums managing from tx key.now cause).1 }
+        ensures left { (me epoch : ℕ) (managing : Managing) → RepresentsManaging self.old me epoch cluster.now.quorums managing
+            → RepresentsManaging self.new me epoch cluster.now.quorums (on_escalate cluster.now.quorums managing from tx key.now cause).1 }
     {
         if !self.is_awaited(tx, key) {
             return None;
@@ -217,7 +217,7 @@ impl Manager {
 
     // Whether the transaction is open, and no mark of its option for the key is learned.
     fn is_awaited(&self, tx: TxId, key: &Key) -> bool
-        ensures { (me epoch : ℕ) (quorums : Sizes) (managing : Managing) → Stands self.now me epoch quorums managing
+        ensures { (me epoch : ℕ) (quorums : Sizes) (managing : Managing) → RepresentsManaging self.now me epoch quorums managing
             → result ≡ (is_open managing tx && not (is_learned quorums managing.votes tx key.now)) }
     {
         self.is_open(tx) && self.learner.side(tx, key).is_none()
@@ -233,10 +233,10 @@ impl Manager {
         cause: Cause,
     ) -> Option<ManagerAct>
         requires { (ballot : ABallot) → cause ≡ ACause.Classic ballot → IsInRange 1 9 ballot.centre }
-        ensures act { (me epoch : ℕ) (managing : Managing) → Stands self.old me epoch quorums.now managing
+        ensures act { (me epoch : ℕ) (managing : Managing) → RepresentsManaging self.old me epoch quorums.now managing
             → result ≡ act_on_cause quorums.now managing from tx key.now cause }
-        ensures left { (me epoch : ℕ) (managing : Managing) → Stands self.old me epoch quorums.now managing
-            → Stands self.new me epoch quorums.now (after_act managing (act_on_cause quorums.now managing from tx key.now cause)) }
+        ensures left { (me epoch : ℕ) (managing : Managing) → RepresentsManaging self.old me epoch quorums.now managing
+            → RepresentsManaging self.new me epoch quorums.now (after_act managing (act_on_cause quorums.now managing from tx key.now cause)) }
     {
         match cause {
             Cause::Behind => Some(ManagerAct::Give(from, *key)),
@@ -248,10 +248,10 @@ impl Manager {
 
     // The option of a key goes to a leader, unless one did before.
     fn lead(&mut self, leader: Centre, tx: TxId, key: &Key) -> Option<ManagerAct>
-        ensures act { (me epoch : ℕ) (quorums : Sizes) (managing : Managing) → Stands self.old me epoch quorums managing
+        ensures act { (me epoch : ℕ) (quorums : Sizes) (managing : Managing) → RepresentsManaging self.old me epoch quorums managing
             → result ≡ lead_act leader (choice_unled managing tx key.now) }
-        ensures left { (me epoch : ℕ) (quorums : Sizes) (managing : Managing) → Stands self.old me epoch quorums managing
-            → Stands self.new me epoch quorums (after_act managing (lead_act leader (choice_unled managing tx key.now))) }
+        ensures left { (me epoch : ℕ) (quorums : Sizes) (managing : Managing) → RepresentsManaging self.old me epoch quorums managing
+            → RepresentsManaging self.new me epoch quorums (after_act managing (lead_act leader (choice_unled managing tx key.now))) }
     {
         let choice = self.choice_unled(&tx, key)?;
         self.mark_led(&choice.tx, &choice.key);
@@ -260,7 +260,7 @@ impl Manager {
 
     // The option of a key of an open transaction, where it is not marked led.
     fn choice_unled(&self, tx: &TxId, key: &Key) -> Option<Choice>
-        ensures { (me epoch : ℕ) (quorums : Sizes) (managing : Managing) → Stands self.now me epoch quorums managing
+        ensures { (me epoch : ℕ) (quorums : Sizes) (managing : Managing) → RepresentsManaging self.now me epoch quorums managing
             → result ≡ choice_unled managing tx.now key.now }
     {
         opened_of(&self.opened, tx)?.choices.unled_at(key)
@@ -268,8 +268,8 @@ impl Manager {
 
     // Marks the option of a transaction and a key as led.
     fn mark_led(&mut self, tx: &TxId, key: &Key)
-        ensures { (me epoch : ℕ) (quorums : Sizes) (managing : Managing) → Stands self.old me epoch quorums managing
-            → Stands self.new me epoch quorums (with_led managing tx.now key.now) }
+        ensures { (me epoch : ℕ) (quorums : Sizes) (managing : Managing) → RepresentsManaging self.old me epoch quorums managing
+            → RepresentsManaging self.new me epoch quorums (with_led managing tx.now key.now) }
     {
         mark_led(&mut self.opened, tx, key);
     }
@@ -277,12 +277,12 @@ impl Manager {
     /// Counts a tick, and says what is done for each open transaction in order: an option of which
     /// nothing is learned is proposed again at an odd count, and led here at an even one.
     pub fn tick(&mut self) -> Result<Vec<ManagerAct>, Memory>
-        ensures acts { (me epoch : ℕ) (quorums : Sizes) (managing : Managing) → Stands self.old me epoch quorums managing
+        ensures acts { (me epoch : ℕ) (quorums : Sizes) (managing : Managing) → RepresentsManaging self.old me epoch quorums managing
             → IfOk result (λ acts. acts.items ≡ (tick quorums managing).0) }
-        ensures ok { (me epoch : ℕ) (quorums : Sizes) (managing : Managing) → Stands self.old me epoch quorums managing
-            → OnOk result (Stands self.new me epoch quorums (tick quorums managing).1) }
-        ensures err { (me epoch : ℕ) (quorums : Sizes) (managing : Managing) → Stands self.old me epoch quorums managing
-            → OnErr result (Stands self.new me epoch quorums managing) }
+        ensures ok { (me epoch : ℕ) (quorums : Sizes) (managing : Managing) → RepresentsManaging self.old me epoch quorums managing
+            → OnOk result (RepresentsManaging self.new me epoch quorums (tick quorums managing).1) }
+        ensures err { (me epoch : ℕ) (quorums : Sizes) (managing : Managing) → RepresentsManaging self.old me epoch quorums managing
+            → OnErr result (RepresentsManaging self.new me epoch quorums managing) }
     {
         let acts = acts_of(self.alloc, &self.learner, &self.opened)?;
         count_tick(&mut self.opened, &self.learner);
@@ -291,7 +291,7 @@ impl Manager {
 
     /// What the votes decide of an open transaction.
     pub fn decision(&self, tx: TxId) -> Option<Outcome>
-        ensures { (me epoch : ℕ) (quorums : Sizes) (managing : Managing) → Stands self.now me epoch quorums managing
+        ensures { (me epoch : ℕ) (quorums : Sizes) (managing : Managing) → RepresentsManaging self.now me epoch quorums managing
             → result ≡ decision quorums managing tx }
     {
         let open = opened_of(&self.opened, &tx)?;
@@ -301,7 +301,7 @@ impl Manager {
 
     // Whether the votes decide an open transaction.
     fn is_decided(&self, tx: &TxId) -> bool
-        ensures { (me epoch : ℕ) (quorums : Sizes) (managing : Managing) → Stands self.now me epoch quorums managing
+        ensures { (me epoch : ℕ) (quorums : Sizes) (managing : Managing) → RepresentsManaging self.now me epoch quorums managing
             → result ≡ is_some (decision quorums managing tx.now) }
     {
         let Some(open) = opened_of(&self.opened, tx) else {
@@ -313,7 +313,7 @@ impl Manager {
 
     /// Whether `would_decide` answers an outcome. No mark is copied.
     pub fn would_end(&self, cluster: &Cluster, vote: &Vote) -> bool
-        ensures { (me epoch : ℕ) (managing : Managing) → Stands self.now me epoch cluster.now.quorums managing
+        ensures { (me epoch : ℕ) (managing : Managing) → RepresentsManaging self.now me epoch cluster.now.quorums managing
             → result ≡ is_some (would_decide cluster.now.quorums managing vote.now) }
     {
         let Some(open) = opened_of(&self.opened, &vote.tx) else {
@@ -326,7 +326,7 @@ impl Manager {
 
     /// What `decision` of the vote's transaction would answer once the vote is taken.
     pub fn would_decide(&self, cluster: &Cluster, vote: &Vote) -> Option<Outcome>
-        ensures { (me epoch : ℕ) (managing : Managing) → Stands self.now me epoch cluster.now.quorums managing
+        ensures { (me epoch : ℕ) (managing : Managing) → RepresentsManaging self.now me epoch cluster.now.quorums managing
             → result ≡ would_decide cluster.now.quorums managing vote.now }
     {
         let open = opened_of(&self.opened, &vote.tx)?;
@@ -337,7 +337,7 @@ impl Manager {
 
     /// Whether the transaction is open.
     pub fn is_open(&self, tx: TxId) -> bool
-        ensures { (me epoch : ℕ) (quorums : Sizes) (managing : Managing) → Stands self.now me epoch quorums managing
+        ensures { (me epoch : ℕ) (quorums : Sizes) (managing : Managing) → RepresentsManaging self.now me epoch quorums managing
             → result ≡ is_open managing tx }
     {
         opened_of(&self.opened, &tx).is_some()
@@ -345,9 +345,9 @@ impl Manager {
 
     /// The open transactions in ascending order.
     pub fn opened(&self) -> &[TxId]
-        ensures value { (me epoch : ℕ) (quorums : Sizes) (managing : Managing) → Stands self.now me epoch quorums managing
+        ensures value { (me epoch : ℕ) (quorums : Sizes) (managing : Managing) → RepresentsManaging self.now me epoch quorums managing
             → result.now ≡ txs_opened managing }
-        ensures ascending { (me epoch : ℕ) (quorums : Sizes) (managing : Managing) → Stands self.now me epoch quorums managing
+        ensures ascending { (me epoch : ℕ) (quorums : Sizes) (managing : Managing) → RepresentsManaging self.now me epoch quorums managing
             → IsTrue (are_numbered me epoch 0 managing.seq result.now) }
     {
         self.txs.as_slice()
@@ -355,8 +355,8 @@ impl Manager {
 
     /// Lets a transaction and its votes go.
     pub fn close(&mut self, tx: TxId)
-        ensures { (me epoch : ℕ) (quorums : Sizes) (managing : Managing) → Stands self.old me epoch quorums managing
-            → Stands self.new me epoch quorums (manager_closed managing tx) }
+        ensures { (me epoch : ℕ) (quorums : Sizes) (managing : Managing) → RepresentsManaging self.old me epoch quorums managing
+            → RepresentsManaging self.new me epoch quorums (manager_closed managing tx) }
     {
         close(&mut self.opened, &tx);
         close_tx(&mut self.txs, &tx);

@@ -1,7 +1,7 @@
 //! The marks that are learned of the options of an open transaction.
 ghost use Rattle.std.specs.Prelude.{◌≡◌, ◌≤◌, List, length, map, option_map};
 ghost use Rattle.mdcc_base.specs.Sizes.{Sizes};
-ghost use Rattle.mdcc_learner.specs.Stands.{Stands as LearnerStands};
+ghost use Rattle.mdcc_learner.specs.Represents.{RepresentsVotes};
 ghost use Rattle.mdcc_manager.specs.Sides.{are_deciding};
 ghost use Rattle.mdcc_protocol.specs.Learner.{learned, learned_with};
 ghost use Rattle.mdcc_protocol.specs.Marks.{is_accept};
@@ -18,7 +18,7 @@ pub(crate) type Sides = BoundedList<Option<bool>, 8>;
 /// The marks that are learned of a transaction.
 pub(crate) fn marks_learned(learner: &Learner, tx: TxId, choices: &[OpenChoice]) -> LearnedMarks
     requires { length choices.now ≤ 8 }
-    ensures { (quorums : Sizes) (votes : List AVote) → LearnerStands learner.now quorums votes
+    ensures { (quorums : Sizes) (votes : List AVote) → RepresentsVotes learner.now quorums votes
         → result ≡ map (λ entry. learned quorums votes tx entry.choice.key) choices.now }
 {
     let mut marks = BoundedList::new();
@@ -37,7 +37,7 @@ pub(crate) fn marks_with(
     choices: &[OpenChoice],
 ) -> LearnedMarks
     requires { length choices.now ≤ 8 }
-    ensures { (votes : List AVote) → LearnerStands learner.now quorums.now votes
+    ensures { (votes : List AVote) → RepresentsVotes learner.now quorums.now votes
         → result ≡ map (λ entry. learned_with quorums.now votes vote.now tx entry.choice.key) choices.now }
 {
     let mut marks = BoundedList::new();
@@ -50,7 +50,7 @@ pub(crate) fn marks_with(
 /// The sides that are learned of a transaction.
 pub(crate) fn sides_learned(learner: &Learner, tx: TxId, choices: &[OpenChoice]) -> Sides
     requires { length choices.now ≤ 8 }
-    ensures { (quorums : Sizes) (votes : List AVote) → LearnerStands learner.now quorums votes
+    ensures { (quorums : Sizes) (votes : List AVote) → RepresentsVotes learner.now quorums votes
         → result ≡ map (λ entry. option_map is_accept (learned quorums votes tx entry.choice.key)) choices.now }
 {
     let mut sides = BoundedList::new();
@@ -69,7 +69,7 @@ pub(crate) fn sides_with(
     choices: &[OpenChoice],
 ) -> Sides
     requires { length choices.now ≤ 8 }
-    ensures { (votes : List AVote) → LearnerStands learner.now quorums.now votes
+    ensures { (votes : List AVote) → RepresentsVotes learner.now quorums.now votes
         → result ≡ map (λ entry. option_map is_accept (learned_with quorums.now votes vote.now tx entry.choice.key)) choices.now }
 {
     let mut sides = BoundedList::new();

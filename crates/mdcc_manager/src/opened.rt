@@ -3,7 +3,7 @@ ghost use Rattle.std.specs.Prelude.{◌≡◌, ◌≤◌, IfOk, List, find, filt
 ghost use Rattle.std.specs.Option.{option_copied};
 ghost use Rattle.mdcc_base.specs.Sizes.{Sizes};
 ghost use Rattle.mdcc_base.specs.TxId.{tx_eq};
-ghost use Rattle.mdcc_learner.specs.Stands.{Stands as LearnerStands};
+ghost use Rattle.mdcc_learner.specs.Represents.{RepresentsVotes};
 ghost use Rattle.mdcc_manager.specs.Opened.{led_at, led_in, open_choices, unled_at};
 ghost use Rattle.mdcc_manager.specs.Ticks.{led_unlearned};
 ghost use Rattle.mdcc_option.specs.Transaction.{choices_of};
@@ -60,7 +60,7 @@ impl OpenChoice {
 
     // Marks the option as led, if it is not learned.
     fn mark_unlearned(&mut self, learner: &Learner, tx: &TxId)
-        ensures { (quorums : Sizes) (votes : List AVote) → LearnerStands learner.now quorums votes
+        ensures { (quorums : Sizes) (votes : List AVote) → RepresentsVotes learner.now quorums votes
             → self.new ≡ led_unlearned quorums votes tx.now self.old }
     {
         if is_unlearned(learner, tx, &self.choice.key) {
@@ -124,7 +124,7 @@ impl OpenChoices {
 
     /// Marks each option that is not learned as led.
     pub(crate) fn mark_unlearned(&mut self, learner: &Learner, tx: &TxId)
-        ensures { (quorums : Sizes) (votes : List AVote) → LearnerStands learner.now quorums votes
+        ensures { (quorums : Sizes) (votes : List AVote) → RepresentsVotes learner.now quorums votes
             → self.new ≡ map (led_unlearned quorums votes tx.now) self.old }
     {
         for open in self.choices.iter_mut() {
@@ -146,7 +146,7 @@ impl OpenTransaction {
 
 /// Whether nothing is learned of a transaction and a key.
 pub(crate) fn is_unlearned(learner: &Learner, tx: &TxId, key: &Key) -> bool
-    ensures { (quorums : Sizes) (votes : List AVote) → LearnerStands learner.now quorums votes
+    ensures { (quorums : Sizes) (votes : List AVote) → RepresentsVotes learner.now quorums votes
         → result ≡ not (is_learned quorums votes tx.now key.now) }
 {
     learner.side(*tx, key).is_none()

@@ -1,7 +1,7 @@
 //! What is done about open transactions at a tick.
 ghost use Rattle.std.specs.Prelude.{◌≡◌, ◌++◌, IfOk, List, OnOk, flat_map, map};
 ghost use Rattle.mdcc_base.specs.Sizes.{Sizes};
-ghost use Rattle.mdcc_learner.specs.Stands.{Stands as LearnerStands};
+ghost use Rattle.mdcc_learner.specs.Represents.{RepresentsVotes};
 ghost use Rattle.mdcc_manager.specs.Ticks.{acts_in, ticked_in};
 ghost use Rattle.mdcc_protocol.specs.Manager.{act_at};
 ghost use Rattle.mdcc_protocol.specs.Volatile.{next_count};
@@ -38,7 +38,7 @@ fn add_acts(
     learner: &Learner,
     undecided: &OpenTransaction,
 ) -> Result<(), Memory>
-    ensures { (quorums : Sizes) (votes : List AVote) → LearnerStands learner.now quorums votes
+    ensures { (quorums : Sizes) (votes : List AVote) → RepresentsVotes learner.now quorums votes
         → OnOk result (acts.new.items ≡ acts.old.items ++ acts_in quorums votes undecided.now) }
 {
     let count = next_count(undecided.ticks);
@@ -56,7 +56,7 @@ pub(crate) fn acts_of(
     learner: &Learner,
     opened: &[OpenTransaction],
 ) -> Result<Vec<ManagerAct>, Memory>
-    ensures { (quorums : Sizes) (votes : List AVote) → LearnerStands learner.now quorums votes
+    ensures { (quorums : Sizes) (votes : List AVote) → RepresentsVotes learner.now quorums votes
         → IfOk result (λ acts. acts.items ≡ flat_map (acts_in quorums votes) opened.now) }
 {
     let mut acts = Vec::new(alloc);
@@ -69,7 +69,7 @@ pub(crate) fn acts_of(
 impl OpenTransaction {
     // Counts the tick. At an even counter each option that is not learned is led here.
     fn tick(&mut self, learner: &Learner)
-        ensures { (quorums : Sizes) (votes : List AVote) → LearnerStands learner.now quorums votes
+        ensures { (quorums : Sizes) (votes : List AVote) → RepresentsVotes learner.now quorums votes
             → self.new ≡ ticked_in quorums votes self.old }
     {
         self.ticks = next_count(self.ticks);
@@ -81,7 +81,7 @@ impl OpenTransaction {
 
 /// Counts the tick in each transaction.
 pub(crate) fn count_tick(opened: &mut Vec<OpenTransaction>, learner: &Learner)
-    ensures { (quorums : Sizes) (votes : List AVote) → LearnerStands learner.now quorums votes
+    ensures { (quorums : Sizes) (votes : List AVote) → RepresentsVotes learner.now quorums votes
         → opened.new.items ≡ map (ticked_in quorums votes) opened.old.items }
 {
     for open in opened.iter_mut() {

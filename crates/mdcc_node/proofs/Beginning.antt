@@ -4,10 +4,10 @@ use Rattle.mdcc_base.specs.declared.identifiers.TxId.{TxId}
 use Rattle.mdcc_base.specs.declared.key.Key.{Key}
 use Rattle.mdcc_base.specs.Unless.{GivesUnless}
 use Rattle.mdcc_manager.specs.Begin.{tx_begun}
-use Rattle.mdcc_manager.specs.Begin.{is_memory as begin_memory}
-use Rattle.mdcc_node.specs.Stands.{Left, Stands}
-use Rattle.mdcc_node.specs.Stepping.{UnlessMemory, given, is_memory}
-use Rattle.mdcc_node.specs.Telling.{refused_given}
+use Rattle.mdcc_manager.specs.Begin.{is_begin_memory as begin_memory}
+use Rattle.mdcc_node.specs.Represents.{RepresentsAfter, RepresentsCentre}
+use Rattle.mdcc_node.specs.StepAnswers.{UnlessMemory, step_result, is_step_memory}
+use Rattle.mdcc_node.specs.StepParts.{refused_given}
 use Rattle.mdcc_node.specs.declared.node.Node.{Node}
 use Rattle.mdcc_option.specs.declared.cluster.Cluster.{Cluster}
 use Rattle.mdcc_option.specs.declared.faults.BeginFault.{BeginFault}
@@ -49,7 +49,7 @@ module _ (cluster : Cluster) (me : ℕ) (facts : List Fact) (volatile : Volatile
   step_refused fault e = refused-by fault (begin_fault facts volatile.manager parts) e
 
   pub refused_gives : (fault : BeginFault) → GivesUnless begin_memory (Err fault) (tx_begun (begin me (epoch_of facts) facts volatile.manager parts))
-      → GivesUnless is_memory (refused_given (key_refused facts parts) fault) (given (Ok (begin_step cluster me facts volatile parts)))
+      → GivesUnless is_step_memory (refused_given (key_refused facts parts) fault) (step_result (Ok (begin_step cluster me facts volatile parts)))
   refused_gives (BeginFault.Stale token) e = rw (step_refused (BeginFault.Stale token) e) refl
   refused_gives (BeginFault.Unseen version) e = rw (step_refused (BeginFault.Unseen version) e) refl
   refused_gives BeginFault.NoItem e = rw (step_refused BeginFault.NoItem e) refl
@@ -59,8 +59,8 @@ module _ (cluster : Cluster) (me : ℕ) (facts : List Fact) (volatile : Volatile
 
   pub refused_leaves : {S : Type 0} (stands : S → List Fact → Type 0) (node : Node S) (fault : BeginFault)
       → GivesUnless begin_memory (Err fault) (tx_begun (begin me (epoch_of facts) facts volatile.manager parts))
-      → Stands stands node cluster me facts volatile
-      → UnlessMemory (refused_given (key_refused facts parts) fault) (Left stands node cluster me facts volatile (Ok (begin_step cluster me facts volatile parts)))
+      → RepresentsCentre stands node cluster me facts volatile
+      → UnlessMemory (refused_given (key_refused facts parts) fault) (RepresentsAfter stands node cluster me facts volatile (Ok (begin_step cluster me facts volatile parts)))
   refused_leaves stands node (BeginFault.Stale token) e h = rw (step_refused (BeginFault.Stale token) e) h
   refused_leaves stands node (BeginFault.Unseen version) e h = rw (step_refused (BeginFault.Unseen version) e) h
   refused_leaves stands node BeginFault.NoItem e h = rw (step_refused BeginFault.NoItem e) h

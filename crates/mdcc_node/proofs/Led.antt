@@ -4,16 +4,16 @@ use Rattle.std.specs.Prelude.{IsErrAnd}
 use Rattle.mdcc_base.specs.Sizes.{Sizes}
 use Rattle.mdcc_base.specs.Unless.{GivesUnless}
 use Rattle.mdcc_base.specs.declared.key.Key.{Key}
-use Rattle.mdcc_leader.specs.Answers.{answered, is_memory as lead_memory, left}
+use Rattle.mdcc_leader.specs.Answers.{answered, is_lead_memory as lead_memory, left}
 use Rattle.mdcc_messages.specs.declared.messages.Envelope.{Envelope}
-use Rattle.mdcc_node.specs.Planning.{kept, left_out, sends_after, written}
-use Rattle.mdcc_node.specs.Stepping.{UnlessMemory, is_memory}
+use Rattle.mdcc_node.specs.StepPlans.{kept, left_out, sends_after, written}
+use Rattle.mdcc_node.specs.StepAnswers.{UnlessMemory, is_step_memory}
 use Rattle.mdcc_option.specs.declared.choices.Claim.{Claim}
 use Rattle.mdcc_protocol.specs.Volatile.{Leading, Volatile, with_leader}
 use Rattle.mdcc_protocol.specs.declared.leader.LeadAnswer.{LeadAnswer}
 use Rattle.mdcc_protocol.specs.declared.leader.LeadFault.{LeadFault}
 use Rattle.mdcc_protocol.specs.declared.leader.PromiseAnswer.{PromiseAnswer}
-use Rattle.mdcc_rules.specs.LeaderRules.{lead_sent, led_by_answer, promise_sent, promised_by_answer, step_fault, step_of_led}
+use Rattle.mdcc_rules.specs.LeaderRules.{lead_sent, led_by_answer, promise_sent, promised_by_answer, lead_step_fault, step_of_led}
 use Rattle.mdcc_rules.specs.TickRules.{led_or_left}
 use Rattle.mdcc_rules.specs.declared.node.StepFault.{StepFault}
 
@@ -39,7 +39,7 @@ module _ (quorums : Sizes) (me : ℕ) (volatile : Volatile) where
     -- one that is refused
     pub led-refused : (led : Result (LeadAnswer × Leading) LeadFault) (fault : LeadFault) (sends : List Envelope)
         → GivesUnless {T = LeadAnswer} lead_memory (Err fault) (answered led)
-        → GivesUnless {T = List Envelope} is_memory (Err (step_fault fault)) (sends_after sends (step_of_led (led_by_answer quorums me volatile claim led)))
+        → GivesUnless {T = List Envelope} is_step_memory (Err (lead_step_fault fault)) (sends_after sends (step_of_led (led_by_answer quorums me volatile claim led)))
     led-refused led LeadFault.Memory sends e = tt
     led-refused (Ok next) LeadFault.Exhausted sends e = absurd (cc)
     led-refused (Ok next) LeadFault.Crowded sends e = absurd (cc)
@@ -52,7 +52,7 @@ module _ (quorums : Sizes) (me : ℕ) (volatile : Volatile) where
 
     pub refused-left : (led : Result (LeadAnswer × Leading) LeadFault) (fault : LeadFault) (P : Volatile → Type 0)
         → GivesUnless {T = LeadAnswer} lead_memory (Err fault) (answered led) → P volatile
-        → UnlessMemory {T = List Envelope} (Err (step_fault fault)) (P (kept volatile (step_of_led (led_by_answer quorums me volatile claim led))))
+        → UnlessMemory {T = List Envelope} (Err (lead_step_fault fault)) (P (kept volatile (step_of_led (led_by_answer quorums me volatile claim led))))
     refused-left led LeadFault.Memory P e h = tt
     refused-left (Ok next) LeadFault.Exhausted P e h = absurd (cc)
     refused-left (Ok next) LeadFault.Crowded P e h = absurd (cc)
@@ -75,7 +75,7 @@ module _ (quorums : Sizes) (me : ℕ) (volatile : Volatile) where
     -- a claim that is refused for anything but want of memory is left out
     pub tick-refused : (led : Result (LeadAnswer × Leading) LeadFault) (fault : LeadFault) (sends : List Envelope)
         → GivesUnless {T = LeadAnswer} lead_memory (Err fault) (answered led)
-        → GivesUnless is_memory (written (left_out fault) sends) (Ok (sends ++ (led_or_left volatile (led_by_answer quorums me volatile claim led)).sends))
+        → GivesUnless is_step_memory (written (left_out fault) sends) (Ok (sends ++ (led_or_left volatile (led_by_answer quorums me volatile claim led)).sends))
     tick-refused led LeadFault.Memory sends e = tt
     tick-refused (Ok next) LeadFault.Exhausted sends e = absurd (cc)
     tick-refused (Ok next) LeadFault.Crowded sends e = absurd (cc)
@@ -106,7 +106,7 @@ module _ (quorums : Sizes) (me : ℕ) (volatile : Volatile) where
 
     pub promised-refused : (led : Result (PromiseAnswer × Leading) LeadFault) (fault : LeadFault) (sends : List Envelope)
         → GivesUnless {T = PromiseAnswer} lead_memory (Err fault) (answered led)
-        → GivesUnless {T = List Envelope} is_memory (Err (step_fault fault)) (sends_after sends (step_of_led (promised_by_answer quorums me volatile key led)))
+        → GivesUnless {T = List Envelope} is_step_memory (Err (lead_step_fault fault)) (sends_after sends (step_of_led (promised_by_answer quorums me volatile key led)))
     promised-refused led LeadFault.Memory sends e = tt
     promised-refused (Ok next) LeadFault.Exhausted sends e = absurd (cc)
     promised-refused (Ok next) LeadFault.Crowded sends e = absurd (cc)
@@ -119,7 +119,7 @@ module _ (quorums : Sizes) (me : ℕ) (volatile : Volatile) where
 
     pub promise-left : (led : Result (PromiseAnswer × Leading) LeadFault) (fault : LeadFault) (P : Volatile → Type 0)
         → GivesUnless {T = PromiseAnswer} lead_memory (Err fault) (answered led) → P volatile
-        → UnlessMemory {T = List Envelope} (Err (step_fault fault)) (P (kept volatile (step_of_led (promised_by_answer quorums me volatile key led))))
+        → UnlessMemory {T = List Envelope} (Err (lead_step_fault fault)) (P (kept volatile (step_of_led (promised_by_answer quorums me volatile key led))))
     promise-left led LeadFault.Memory P e h = tt
     promise-left (Ok next) LeadFault.Exhausted P e h = absurd (cc)
     promise-left (Ok next) LeadFault.Crowded P e h = absurd (cc)

@@ -7,10 +7,10 @@ use Rattle.mdcc_base.specs.Unless.{GivesUnless}
 use Rattle.mdcc_facts.specs.Adding.{add_of}
 use Rattle.mdcc_messages.specs.declared.facts.Fact.{Fact}
 use Rattle.mdcc_messages.specs.declared.messages.Envelope.{Envelope}
-use Rattle.mdcc_node.specs.Doing.{ended}
-use Rattle.mdcc_node.specs.Planning.{FitsFrame, PlanFitsFrame, kept, kept_by, plan_of, planned, written}
-use Rattle.mdcc_node.specs.Stands.{Left, Stands}
-use Rattle.mdcc_node.specs.Stepping.{OnMemory, Room, UnlessMemory, given, if_added, is_memory, step_if, step_taken, with_fact, with_new, with_store}
+use Rattle.mdcc_node.specs.MethodEffects.{ended}
+use Rattle.mdcc_node.specs.StepPlans.{FitsFrame, PlanFitsFrame, kept, kept_by, plan_of, planned, written}
+use Rattle.mdcc_node.specs.Represents.{RepresentsAfter, RepresentsCentre}
+use Rattle.mdcc_node.specs.StepAnswers.{OnMemory, Room, UnlessMemory, step_result, if_added, is_step_memory, step_if, if_plan_added, if_fact_added, with_new, with_store}
 use Rattle.mdcc_node.specs.declared.node.Node.{Node}
 use Rattle.mdcc_option.specs.declared.cluster.Cluster.{Cluster}
 use Rattle.mdcc_protocol.specs.Volatile.{Volatile}
@@ -33,18 +33,18 @@ EndsIn volatile (Err fault) = ⊤
 -- ---- what is given
 
 taken-if : (step : NodeStep) (fact : Fact) (answer : Result (Unit {0}) StoreFault) → step.fact ≡ Some fact
-    → given (if_added step answer) ≡ step_if (planned step) fact answer
+    → step_result (if_added step answer) ≡ step_if (planned step) fact answer
 taken-if step fact (Ok done) e = rw e refl
 taken-if step fact (Err fault) e = refl
 
 taken : (room : Room) (facts : List Fact) (step : NodeStep) (fact : Option Fact) → step.fact ≡ fact
-    → given (with_fact room facts step fact) ≡ step_taken room facts (planned step) fact
+    → step_result (if_fact_added room facts step fact) ≡ if_plan_added room facts (planned step) fact
 taken room facts step None e = rw e refl
 taken room facts step (Some fact) e = taken-if step fact (add_of room.spare (room.needed fact) facts fact) e
 
 -- the store takes a planned step as it takes the rule's
 pub plan-given : (room : Room) (facts : List Fact) (plan : Step) (expected : Result NodeStep StepFault) → Ok plan ≡ plan_of expected
-    → given (with_store room facts expected) ≡ step_taken room facts plan plan.fact
+    → step_result (with_store room facts expected) ≡ if_plan_added room facts plan plan.fact
 plan-given room facts plan (Err fault) e = absurd (cc)
 plan-given room facts plan (Ok step) e =
     let is : plan ≡ planned step = cc in
@@ -64,10 +64,10 @@ plan-fits plan (Ok step) e h =
 
 -- a rule's refusal is the step's
 pub fault-given : (room : Room) (facts : List Fact) (fault : StepFault) (expected : Result NodeStep StepFault)
-    → GivesUnless {T = Step} is_memory (Err fault) (plan_of expected) → GivesUnless {T = Step} is_memory (Err fault) (given (with_store room facts expected))
+    → GivesUnless {T = Step} is_step_memory (Err fault) (plan_of expected) → GivesUnless {T = Step} is_step_memory (Err fault) (step_result (with_store room facts expected))
 fault-given room facts fault (Err other) e = e
 fault-given room facts fault (Ok step) e =
-    elim (cases_Bool (is_memory fault)) [
+    elim (cases_Bool (is_step_memory fault)) [
       | inl free ↦ rw free tt
       | inr not ↦ absurd (let bad : Err fault ≡ Ok (planned step) = rw not at e in cc)
     ]
@@ -77,62 +77,62 @@ fault-given room facts fault (Ok step) e =
 module _ {S : Type 0} (stands : S → List Fact → Type 0) (node : Node S) (cluster : Cluster) (me : ℕ) (facts : List Fact) (volatile : Volatile) where
   left-if : (room : Room) (plan : Step) (fact : Fact) (step : NodeStep) (result : Result (Unit {0}) StepFault) (after : Step) (answer : Result (Unit {0}) StoreFault)
       → step.fact ≡ Some fact → Ends volatile step.after (Some fact)
-      → GivesUnless is_memory (written result after) (step_if plan fact answer)
-      → OnOk result (Stands stands node cluster me (fact ∷ facts) (ended (heard_by (Some fact)) volatile))
-      → OnErr result (Stands stands node cluster me facts volatile)
-      → UnlessMemory (written result after) (Left stands node cluster me facts volatile (if_added step answer))
+      → GivesUnless is_step_memory (written result after) (step_if plan fact answer)
+      → OnOk result (RepresentsCentre stands node cluster me (fact ∷ facts) (ended (heard_by (Some fact)) volatile))
+      → OnErr result (RepresentsCentre stands node cluster me facts volatile)
+      → UnlessMemory (written result after) (RepresentsAfter stands node cluster me facts volatile (if_added step answer))
   left-if room plan fact step (Ok done) after (Ok added) is ends e ok err = rw (is, ends) ok
   left-if room plan fact step (Ok done) after (Err fault) is ends e ok err = absurd (cc)
   left-if room plan fact step (Err fault) after (Ok added) is ends e ok err =
-      elim (cases_Bool (is_memory fault)) [
+      elim (cases_Bool (is_step_memory fault)) [
         | inl free ↦ rw free tt
         | inr not ↦ absurd (let bad : Err fault ≡ step_if plan fact (Ok added) = rw not at e in cc)
       ]
   left-if room plan fact step (Err fault) after (Err other) is ends e ok err =
-      elim (cases_Bool (is_memory fault)) [
+      elim (cases_Bool (is_step_memory fault)) [
         | inl free ↦ rw free tt
         | inr not ↦ rw not err
       ]
 
   left-none : (plan : Step) (step : NodeStep) (result : Result (Unit {0}) StepFault) (after : Step)
-      → step.fact ≡ None → GivesUnless is_memory (written result after) (Ok plan)
-      → OnOk result (Stands stands node cluster me facts step.after)
-      → UnlessMemory (written result after) (Left stands node cluster me facts volatile (Ok step))
+      → step.fact ≡ None → GivesUnless is_step_memory (written result after) (Ok plan)
+      → OnOk result (RepresentsCentre stands node cluster me facts step.after)
+      → UnlessMemory (written result after) (RepresentsAfter stands node cluster me facts volatile (Ok step))
   left-none plan step (Ok done) after is e ok = rw is ok
   left-none plan step (Err fault) after is e ok =
-      elim (cases_Bool (is_memory fault)) [
+      elim (cases_Bool (is_step_memory fault)) [
         | inl free ↦ rw free tt
         | inr not ↦ absurd (let bad : Err fault ≡ Ok plan = rw not at e in cc)
       ]
 
   left-by : (room : Room) (step : NodeStep) (fact : Option Fact) (result : Result (Unit {0}) StepFault) (after : Step)
       → step.fact ≡ fact → Ends volatile step.after fact
-      → GivesUnless is_memory (written result after) (step_taken room facts (planned step) fact)
-      → OnOk result (Stands stands node cluster me (with_new facts fact) (ended (heard_by fact) (kept_by volatile step.after fact)))
-      → OnErr result (Stands stands node cluster me facts (kept_by volatile step.after fact))
-      → UnlessMemory (written result after) (Left stands node cluster me facts volatile (with_fact room facts step fact))
+      → GivesUnless is_step_memory (written result after) (if_plan_added room facts (planned step) fact)
+      → OnOk result (RepresentsCentre stands node cluster me (with_new facts fact) (ended (heard_by fact) (kept_by volatile step.after fact)))
+      → OnErr result (RepresentsCentre stands node cluster me facts (kept_by volatile step.after fact))
+      → UnlessMemory (written result after) (RepresentsAfter stands node cluster me facts volatile (if_fact_added room facts step fact))
   left-by room step None result after is ends e ok err = left-none (planned step) step result after is e ok
   left-by room step (Some fact) result after is ends e ok err =
       left-if room (planned step) fact step result after (add_of room.spare (room.needed fact) facts fact) is ends e ok err
 
   pub plan-left : (room : Room) (plan : Step) (expected : Result NodeStep StepFault) (result : Result (Unit {0}) StepFault) (after : Step)
       → Ok plan ≡ plan_of expected → EndsIn volatile expected
-      → GivesUnless is_memory (written result after) (step_taken room facts plan plan.fact)
-      → OnOk result (Stands stands node cluster me (with_new facts plan.fact) (ended (heard_by plan.fact) (kept volatile expected)))
-      → OnErr result (Stands stands node cluster me facts (kept volatile expected))
-      → UnlessMemory (written result after) (Left stands node cluster me facts volatile (with_store room facts expected))
+      → GivesUnless is_step_memory (written result after) (if_plan_added room facts plan plan.fact)
+      → OnOk result (RepresentsCentre stands node cluster me (with_new facts plan.fact) (ended (heard_by plan.fact) (kept volatile expected)))
+      → OnErr result (RepresentsCentre stands node cluster me facts (kept volatile expected))
+      → UnlessMemory (written result after) (RepresentsAfter stands node cluster me facts volatile (with_store room facts expected))
   plan-left room plan (Err fault) result after is ends e ok err = absurd (cc)
   plan-left room plan (Ok step) result after is ends e ok err =
       let same : plan ≡ planned step = cc in
       left-by room step step.fact result after refl ends (rw same at e) (rw same at ok) err
 
   pub fault-left : (room : Room) (fault : StepFault) (expected : Result NodeStep StepFault)
-      → GivesUnless {T = Step} is_memory (Err fault) (plan_of expected)
-      → UnlessMemory {T = Step} (Err fault) (Stands stands node cluster me facts (kept volatile expected))
-      → UnlessMemory {T = Step} (Err fault) (Left stands node cluster me facts volatile (with_store room facts expected))
+      → GivesUnless {T = Step} is_step_memory (Err fault) (plan_of expected)
+      → UnlessMemory {T = Step} (Err fault) (RepresentsCentre stands node cluster me facts (kept volatile expected))
+      → UnlessMemory {T = Step} (Err fault) (RepresentsAfter stands node cluster me facts volatile (with_store room facts expected))
   fault-left room fault (Err other) e h = h
   fault-left room fault (Ok step) e h =
-      elim (cases_Bool (is_memory fault)) [
+      elim (cases_Bool (is_step_memory fault)) [
         | inl free ↦ rw free tt
         | inr not ↦ absurd (let bad : Err fault ≡ Ok (planned step) = rw not at e in cc)
       ]
@@ -141,13 +141,13 @@ module _ {S : Type 0} (stands : S → List Fact → Type 0) (node : Node S) (clu
 
 -- what it writes into a blank step is what it plans
 pub acts-plan : (step : NodeStep) (sends : List Envelope) (result : Result (Unit {0}) StepFault) → step.fact ≡ None → step.answer ≡ None
-    → GivesUnless is_memory (written result sends) (Ok step.sends)
-    → GivesUnless is_memory (written result (record { fact = None; sends = sends; heard = None; answer = None })) (plan_of (Ok step))
+    → GivesUnless is_step_memory (written result sends) (Ok step.sends)
+    → GivesUnless is_step_memory (written result (record { fact = None; sends = sends; heard = None; answer = None })) (plan_of (Ok step))
 acts-plan step sends (Ok done) fact answer e =
     let is : sends ≡ step.sends = cc in
     rw (fact, answer, is) refl
 acts-plan step sends (Err fault) fact answer e =
-    elim (cases_Bool (is_memory fault)) [
+    elim (cases_Bool (is_step_memory fault)) [
       | inl free ↦ rw free tt
       | inr not ↦ absurd (let bad : Err fault ≡ Ok step.sends = rw not at e in cc)
     ]
@@ -165,21 +165,21 @@ on-true false P h = tt
 
 pub memory-left : {T : Type 0} (result : Result (Unit {0}) StepFault) (x : T) (P : Type 0) → OnErr result P → OnMemory (written result x) P
 memory-left (Ok done) x P h = tt
-memory-left (Err fault) x P h = on-true (is_memory fault) P h
+memory-left (Err fault) x P h = on-true (is_step_memory fault) P h
 
 -- a call that fails for want of memory alone
-pub only-memory : {T U : Type 0} (fault : StepFault) (x : T) (expected : Result U StepFault) → GivesUnless {T = T} is_memory (Err fault) (Ok x)
-    → GivesUnless {T = U} is_memory (Err fault) expected
+pub only-memory : {T U : Type 0} (fault : StepFault) (x : T) (expected : Result U StepFault) → GivesUnless {T = T} is_step_memory (Err fault) (Ok x)
+    → GivesUnless {T = U} is_step_memory (Err fault) expected
 only-memory {T = T} fault x expected e =
-    elim (cases_Bool (is_memory fault)) [
+    elim (cases_Bool (is_step_memory fault)) [
       | inl free ↦ rw free tt
       | inr not ↦ absurd (let bad : Err fault ≡ Ok x = rw not at e in cc)
     ]
 
-pub only-memory-left : {T : Type 0} (fault : StepFault) (x : T) (P : Type 0) → GivesUnless {T = T} is_memory (Err fault) (Ok x)
+pub only-memory-left : {T : Type 0} (fault : StepFault) (x : T) (P : Type 0) → GivesUnless {T = T} is_step_memory (Err fault) (Ok x)
     → UnlessMemory {T = T} (Err fault) P
 only-memory-left {T = T} fault x P e =
-    elim (cases_Bool (is_memory fault)) [
+    elim (cases_Bool (is_step_memory fault)) [
       | inl free ↦ rw free tt
       | inr not ↦ absurd (let bad : Err fault ≡ Ok x = rw not at e in cc)
     ]

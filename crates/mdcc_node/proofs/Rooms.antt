@@ -1,7 +1,7 @@
 -- What a store takes is what the protocol takes, where both count cells alike; and where cells never lack, what any other such store takes.
 use Rattle.std.proofs.Common.{◌≡◌, ◌≤◌, ℕ, Bool, true, false, List, Option, Some, None, Ok, Err, Result, refl, arith, if◌then◌else◌, nat_lt}
-use Rattle.mdcc_node.specs.Laws.{StepsWithAmpleCells, StepsWithinCells, list_room}
-use Rattle.mdcc_node.specs.Stepping.{Room, if_added, step_by, with_fact, with_store}
+use Rattle.mdcc_node.specs.Laws.{StepsUnbounded, StepsWithinCells, list_room}
+use Rattle.mdcc_node.specs.StepAnswers.{Room, if_added, step_by, if_fact_added, with_store}
 use Rattle.mdcc_option.specs.declared.cluster.Cluster.{Cluster}
 use Rattle.mdcc_messages.specs.Lengths.{cells_needed}
 use Rattle.mdcc_protocol.specs.News.{is_crowding}
@@ -15,10 +15,10 @@ use Rattle.mdcc_rules.specs.declared.node.StepFault.{StepFault}
 
 -- the store refuses a fact just as the protocol does
 abbrev IsAlike : Room → Cluster → List Fact → Type 0
-IsAlike room cluster facts = (step : NodeStep) (fact : Fact) → with_fact room facts step (Some fact) ≡ with_room cluster facts step (Some fact)
+IsAlike room cluster facts = (step : NodeStep) (fact : Fact) → if_fact_added room facts step (Some fact) ≡ with_room cluster facts step (Some fact)
 
 fact-alike : (room : Room) (cluster : Cluster) (facts : List Fact) → IsAlike room cluster facts
-    → (step : NodeStep) (fact : Option Fact) → with_fact room facts step fact ≡ with_room cluster facts step fact
+    → (step : NodeStep) (fact : Option Fact) → if_fact_added room facts step fact ≡ with_room cluster facts step fact
 fact-alike room cluster facts alike step None = refl
 fact-alike room cluster facts alike step (Some fact) = alike step fact
 
@@ -41,23 +41,23 @@ crowded step facts fact true = refl
 crowded step facts fact false = refl
 
 -- a fact that does not lack cells is taken just as where there are any number
-fact-ample : (room : Room) (facts : List Fact) (step : NodeStep) (fact : Option Fact) → ((fact : Fact) → room.needed fact ≤ room.spare)
-    → with_fact room facts step fact ≡ with_fact list_room facts step fact
-fact-ample room facts step None ample = refl
-fact-ample room facts step (Some fact) ample =
-    let enough : nat_lt room.spare (room.needed fact) ≡ false = (let most = ample fact in grind arith) in rw enough refl
+fact-unbounded : (room : Room) (facts : List Fact) (step : NodeStep) (fact : Option Fact) → ((fact : Fact) → room.needed fact ≤ room.spare)
+    → if_fact_added room facts step fact ≡ if_fact_added list_room facts step fact
+fact-unbounded room facts step None unbounded = refl
+fact-unbounded room facts step (Some fact) unbounded =
+    let enough : nat_lt room.spare (room.needed fact) ≡ false = (let most = unbounded fact in grind arith) in rw enough refl
 
-store-ample : (room : Room) (facts : List Fact) (expected : Result NodeStep StepFault) → ((fact : Fact) → room.needed fact ≤ room.spare)
+store-unbounded : (room : Room) (facts : List Fact) (expected : Result NodeStep StepFault) → ((fact : Fact) → room.needed fact ≤ room.spare)
     → with_store room facts expected ≡ with_store list_room facts expected
-store-ample room facts (Err fault) ample = refl
-store-ample room facts (Ok step) ample = fact-ample room facts step step.fact ample
+store-unbounded room facts (Err fault) unbounded = refl
+store-unbounded room facts (Ok step) unbounded = fact-unbounded room facts step step.fact unbounded
 
-pub ample_steps : StepsWithAmpleCells
-ample_steps room cluster me facts volatile (Input.Message envelope) ample =
-    rw (store-ample room facts (message_step cluster me facts volatile envelope.from envelope.message) ample) refl
-ample_steps room cluster me facts volatile Input.Tick ample = refl
-ample_steps room cluster me facts volatile (Input.Read key) ample = refl
-ample_steps room cluster me facts volatile (Input.Begin parts) ample = refl
+pub unbounded_steps : StepsUnbounded
+unbounded_steps room cluster me facts volatile (Input.Message envelope) unbounded =
+    rw (store-unbounded room facts (message_step cluster me facts volatile envelope.from envelope.message) unbounded) refl
+unbounded_steps room cluster me facts volatile Input.Tick unbounded = refl
+unbounded_steps room cluster me facts volatile (Input.Read key) unbounded = refl
+unbounded_steps room cluster me facts volatile (Input.Begin parts) unbounded = refl
 
 lacking : (step : NodeStep) (facts : List Fact) (fact : Fact) (needed spare : ℕ) (lacks : Bool)
     → if_added step (if lacks then Err (StoreFault.NoRoom needed spare) else (if is_crowding facts fact then Err StoreFault.Crowded else Ok tt))

@@ -1,7 +1,7 @@
 -- What holds of a node whatever comes, and who sent it a message.
 use Rattle.std.proofs.Common.{◌≡◌, ℕ, Bool, true, false, List, Some, None, Ok, Err, Result, refl, if◌then◌else◌}
 use Rattle.std.specs.Bool.{OnFalse, OnTrue}
-use Rattle.mdcc_node.specs.Stepping.{OnMemory, Room, UnlessMemory, is_memory, step_by, with_store}
+use Rattle.mdcc_node.specs.StepAnswers.{OnMemory, Room, UnlessMemory, is_step_memory, step_by, with_store}
 use Rattle.mdcc_option.specs.declared.cluster.Cluster.{Cluster}
 use Rattle.mdcc_rules.specs.Node.{is_own_message, message_step}
 use Rattle.mdcc_rules.specs.declared.node.Input.{Input}
@@ -22,11 +22,11 @@ on_true false P h = tt
 
 pub left_always : {T : Type 0} (result : Result T StepFault) (P : Type 0) → P → UnlessMemory result P
 left_always (Ok x) P h = h
-left_always (Err fault) P h = on_false (is_memory fault) P h
+left_always (Err fault) P h = on_false (is_step_memory fault) P h
 
 pub memory_always : {T : Type 0} (result : Result T StepFault) (P : Type 0) → P → OnMemory result P
 memory_always (Ok x) P h = tt
-memory_always (Err fault) P h = on_true (is_memory fault) P h
+memory_always (Err fault) P h = on_true (is_step_memory fault) P h
 
 -- ---- who sent a message
 

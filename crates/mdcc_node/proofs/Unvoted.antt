@@ -6,8 +6,8 @@ use Rattle.mdcc_base.specs.Ballot.{ballot_lt, fast_ballot}
 use Rattle.mdcc_base.specs.declared.identifiers.Ballot.{Ballot}
 use Rattle.mdcc_base.specs.declared.identifiers.TxId.{TxId}
 use Rattle.mdcc_base.specs.declared.key.Key.{Key}
-use Rattle.mdcc_node.specs.Planning.{IsNews}
-use Rattle.mdcc_node.specs.Telling.{vote_fact}
+use Rattle.mdcc_node.specs.StepPlans.{IsNews}
+use Rattle.mdcc_node.specs.StepParts.{vote_fact}
 use Rattle.mdcc_option.specs.declared.choices.Choice.{Choice}
 use Rattle.mdcc_option.specs.declared.choices.Mark.{Mark}
 use Rattle.mdcc_option.specs.declared.choices.Outcome.{Outcome}

@@ -1,6 +1,6 @@
 -- That a node's step is the protocol's, where its store counts cells as the protocol does; and that cells are all it asks of a store.
 use Rattle.std.specs.Prelude.{◌≡◌, ◌≤◌, ◌-◌, ◌^◌, List, ℕ}
-use Rattle.mdcc_node.specs.Stepping.{Room, step_by}
+use Rattle.mdcc_node.specs.StepAnswers.{Room, step_by}
 use Rattle.mdcc_option.specs.declared.cluster.Cluster.{Cluster}
 use Rattle.mdcc_messages.specs.Lengths.{cells_needed}
 use Rattle.mdcc_rules.specs.Node.{cells_spare, step_of}
@@ -13,8 +13,8 @@ abbrev pub list_room : Room
 list_room = record { spare = 2 ^ 64 - 1; needed = λ fact. 0 }
 
 -- over a store in which no fact lacks cells a step is that over such a store
-abbrev pub StepsWithAmpleCells : Type 0
-StepsWithAmpleCells =
+abbrev pub StepsUnbounded : Type 0
+StepsUnbounded =
     (room : Room) (cluster : Cluster) (me : ℕ) (facts : List Fact) (volatile : Volatile) (input : Input)
     → ((fact : Fact) → room.needed fact ≤ room.spare)
     → step_by room cluster me facts volatile input ≡ step_by list_room cluster me facts volatile input

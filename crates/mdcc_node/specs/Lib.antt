@@ -1,8 +1,8 @@
-pub mod Booting
-pub mod Doing
+pub mod BootEffects
+pub mod MethodEffects
 pub mod Laws
-pub mod Planning
-pub mod Running
-pub mod Stands
-pub mod Stepping
-pub mod Telling
+pub mod StepPlans
+pub mod NodeHistory
+pub mod Represents
+pub mod StepAnswers
+pub mod StepParts

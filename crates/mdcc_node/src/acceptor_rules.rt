@@ -3,7 +3,7 @@ ghost use Rattle.std.specs.Prelude.{◌≡◌, ◌++◌, [], IfOk, List, OnOk, i
 ghost use Rattle.mdcc_base.specs.Ballot.{is_fast};
 ghost use Rattle.mdcc_messages.specs.declared.facts.Fact.{Fact as AFact};
 ghost use Rattle.mdcc_messages.specs.declared.messages.Message.{Message as AMessage};
-ghost use Rattle.mdcc_node.specs.Planning.{MayFollow, blank, planned};
+ghost use Rattle.mdcc_node.specs.StepPlans.{MayFollow, blank, planned};
 ghost use Rattle.mdcc_protocol.specs.Acceptor.{new_marks};
 ghost use Rattle.mdcc_protocol.specs.Facts.{votes_of};
 ghost use Rattle.mdcc_protocol.specs.Volatile.{Volatile as AVolatile};

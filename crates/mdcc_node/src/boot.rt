@@ -1,7 +1,7 @@
 //! The boot of a node from the payloads of its log.
 ghost use Rattle.std.specs.Prelude.{◌≡◌, [], IfOk, map, true};
 ghost use Rattle.mdcc_admission.specs.Loading.{AreShort, Cells, Holds, boot_by, fact_read};
-ghost use Rattle.mdcc_node.specs.Booting.{Boots, IsBoot};
+ghost use Rattle.mdcc_node.specs.BootEffects.{Boots, IsBoot};
 ghost use Rattle.mdcc_protocol.specs.Belongs.{is_centre};
 
 use crate::node::Node;

@@ -1,8 +1,8 @@
 //! The node's rules around its leader: claims, promises and refusals, and the open transactions at a tick.
 ghost use Rattle.std.specs.Prelude.{◌≡◌, ◌≤◌, List, Ok, ℕ};
 ghost use Rattle.mdcc_messages.specs.declared.facts.Fact.{Fact as AFact};
-ghost use Rattle.mdcc_node.specs.Planning.{Acts, left_out, written};
-ghost use Rattle.mdcc_node.specs.Stands.{Stands};
+ghost use Rattle.mdcc_node.specs.StepPlans.{Acts, left_out, written};
+ghost use Rattle.mdcc_node.specs.Represents.{RepresentsCentre};
 ghost use Rattle.mdcc_option.specs.declared.cluster.Cluster.{Cluster as ACluster};
 ghost use Rattle.mdcc_protocol.specs.Volatile.{Volatile as AVolatile};
 ghost use Rattle.mdcc_rules.specs.LeaderRules.{lead_step, led_of, promise_step, refused_step, step_of_led};
@@ -71,8 +71,8 @@ impl<S: FactStore + Drop> Node<S> {
 
     // A centre promised another ballot than one that is led here.
     pub(crate) fn take_refusal(&mut self, key: &Key, ballot: Ballot, promised: Ballot)
-        ensures left { (cluster : ACluster) (me : ℕ) (facts : List AFact) (volatile : AVolatile) → Stands S.stands self.old cluster me facts volatile
-            → Stands S.stands self.new cluster me facts (refused_step volatile key.now ballot promised).after }
+        ensures left { (cluster : ACluster) (me : ℕ) (facts : List AFact) (volatile : AVolatile) → RepresentsCentre S.stands self.old cluster me facts volatile
+            → RepresentsCentre S.stands self.new cluster me facts (refused_step volatile key.now ballot promised).after }
         ensures store { self.new.store ≡ self.old.store }
     {
         self.leader.on_refused(key, ballot, promised);

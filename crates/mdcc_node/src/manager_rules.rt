@@ -3,11 +3,11 @@ ghost use Rattle.std.specs.Prelude.{◌≡◌, ◌++◌, List, None, Ok, OnOk, f
 ghost use Rattle.mdcc_base.specs.Unless.{GivesUnless};
 ghost use Rattle.mdcc_messages.specs.WellFormedParts.{IsWellFormedCause};
 ghost use Rattle.mdcc_messages.specs.declared.facts.Fact.{Fact as AFact};
-ghost use Rattle.mdcc_node.specs.Doing.{Follows};
-ghost use Rattle.mdcc_node.specs.Planning.{Acts, MayFollow, Plans, blank, planned, written};
-ghost use Rattle.mdcc_node.specs.Stepping.{is_memory};
-ghost use Rattle.mdcc_node.specs.Telling.{refused_given, replied};
-ghost use Rattle.mdcc_node.specs.Stands.{Stands};
+ghost use Rattle.mdcc_node.specs.MethodEffects.{Follows};
+ghost use Rattle.mdcc_node.specs.StepPlans.{Acts, MayFollow, Plans, blank, planned, written};
+ghost use Rattle.mdcc_node.specs.StepAnswers.{is_step_memory};
+ghost use Rattle.mdcc_node.specs.StepParts.{refused_given, replied};
+ghost use Rattle.mdcc_node.specs.Represents.{RepresentsCentre};
 ghost use Rattle.mdcc_option.specs.Transaction.{choices_of};
 ghost use Rattle.mdcc_option.specs.declared.cluster.Cluster.{Cluster as ACluster};
 ghost use Rattle.mdcc_protocol.specs.Facts.{is_heard};
@@ -34,7 +34,7 @@ impl<S: FactStore + Drop> Node<S> {
     // The transaction was begun.
     fn begun(&self, tx: TxId, transaction: &Transaction, step: &mut Step) -> Result<(), StepFault>
         requires { step.old ≡ blank }
-        ensures answer { GivesUnless is_memory (written result step.new)
+        ensures answer { GivesUnless is_step_memory (written result step.new)
             (Ok (replied (proposals_sent self.now.cluster.quorums self.now.centre (choices_of tx transaction.now)) (AnAnswer.Begun tx))) }
         ensures fact { step.new.fact ≡ step.old.fact }
     {
@@ -132,7 +132,7 @@ impl<S: FactStore + Drop> Node<S> {
 
     // A vote on an open transaction that decides nothing.
     fn undecided(&mut self, vote: &Vote, sends: &mut HeapList<Envelope>) -> Result<(), StepFault>
-        requires { (cluster : ACluster) (me : ℕ) (facts : List AFact) (volatile : AVolatile) → Stands S.stands self.old cluster me facts volatile
+        requires { (cluster : ACluster) (me : ℕ) (facts : List AFact) (volatile : AVolatile) → RepresentsCentre S.stands self.old cluster me facts volatile
             → would_decide cluster.quorums volatile.manager vote.now ≡ None }
         ensures { Acts S.stands self.old sends.old (written result sends.new) self.new (λ cluster me facts volatile. Ok (opened_step cluster me facts volatile vote.now (would_decide cluster.quorums volatile.manager vote.now))) }
     {
@@ -147,7 +147,7 @@ impl<S: FactStore + Drop> Node<S> {
     fn decided(&self, vote: &Vote, step: &mut Step) -> Result<(), StepFault>
         requires blank { step.old ≡ blank }
         requires unheard { (facts : List AFact) → S.stands self.now.store facts → is_heard facts vote.now.tx ≡ false }
-        requires ends { (cluster : ACluster) (me : ℕ) (facts : List AFact) (volatile : AVolatile) → Stands S.stands self.now cluster me facts volatile
+        requires ends { (cluster : ACluster) (me : ℕ) (facts : List AFact) (volatile : AVolatile) → RepresentsCentre S.stands self.now cluster me facts volatile
             → is_some (would_decide cluster.quorums volatile.manager vote.now) ≡ true }
         ensures plan { Plans S.stands self.now (written result step.new) self.now (λ cluster me facts volatile. Ok (opened_step cluster me facts volatile vote.now (would_decide cluster.quorums volatile.manager vote.now))) }
         ensures fact { (facts : List AFact) → S.stands self.now.store facts → OnOk result (MayFollow facts step.new.fact) }

@@ -4,11 +4,11 @@ ghost use Rattle.mdcc_base.specs.Unless.{GivesUnless};
 ghost use Rattle.mdcc_facts.specs.Adding.{add_of};
 ghost use Rattle.mdcc_messages.specs.WellFormed.{IsWellFormedEnvelope, IsWellFormedMessage};
 ghost use Rattle.mdcc_messages.specs.declared.facts.Fact.{Fact as AFact};
-ghost use Rattle.mdcc_node.specs.Doing.{Does, Follows, Spends, ended};
-ghost use Rattle.mdcc_node.specs.Planning.{FitsFrame, IsNews, MayFollow, PlanFitsFrame, Plans, blank, is_asked_by_leader, is_for_leader, is_of_fast_path, written};
-ghost use Rattle.mdcc_node.specs.Running.{IsRunning};
-ghost use Rattle.mdcc_node.specs.Stands.{Stands};
-ghost use Rattle.mdcc_node.specs.Stepping.{IsGiven, add_given, is_memory, room_of, step_by, step_taken, with_new};
+ghost use Rattle.mdcc_node.specs.MethodEffects.{Does, Follows, Spends, ended};
+ghost use Rattle.mdcc_node.specs.StepPlans.{FitsFrame, IsNews, MayFollow, PlanFitsFrame, Plans, blank, is_asked_by_leader, is_for_leader, is_of_fast_path, written};
+ghost use Rattle.mdcc_node.specs.NodeHistory.{IsRunning};
+ghost use Rattle.mdcc_node.specs.Represents.{RepresentsCentre};
+ghost use Rattle.mdcc_node.specs.StepAnswers.{IsGiven, add_given, is_step_memory, room_of, step_by, if_plan_added, with_new};
 ghost use Rattle.mdcc_option.specs.declared.cluster.Cluster.{Cluster as ACluster};
 ghost use Rattle.mdcc_protocol.specs.Belongs.{is_centre};
 ghost use Rattle.mdcc_protocol.specs.Facts.{epoch_of};
@@ -16,7 +16,7 @@ ghost use Rattle.mdcc_protocol.specs.Volatile.{Volatile as AVolatile};
 ghost use Rattle.mdcc_rules.specs.Node.{message_step};
 ghost use Rattle.mdcc_rules.specs.Steps.{heard_by};
 ghost use Rattle.mdcc_rules.specs.declared.node.Input.{Input as AInput};
-ghost use Rattle.mdcc_steps.specs.Forming.{accept_length};
+ghost use Rattle.mdcc_steps.specs.NodeInvariant.{accept_length};
 
 use crate::steps::{blank, heard_by};
 use mdcc_base::{Centre, Plain};
@@ -48,7 +48,7 @@ impl<S: FactStore + Drop> Node<S> {
     /// The epoch of the node's last boot.
     pub fn epoch(&self) -> u32
         ensures { (cluster : ACluster) (me : ℕ) (facts : List AFact) (volatile : AVolatile)
-            → Stands S.stands self.now cluster me facts volatile → result ≡ epoch_of facts }
+            → RepresentsCentre S.stands self.now cluster me facts volatile → result ≡ epoch_of facts }
     {
         self.store.epoch()
     }
@@ -59,11 +59,11 @@ impl<S: FactStore + Drop> Node<S> {
         requires fits { FitsFrame fact.now }
         requires no_boot { (facts : List AFact) → S.stands self.old.store facts → epoch_of (fact.now ∷ facts) ≡ epoch_of facts }
         ensures answer { (facts : List AFact) → S.stands self.old.store facts
-            → GivesUnless is_memory result (add_given (add_of (S.room self.old.store) (S.cells_for self.old.store fact.now) facts fact.now)) }
-        ensures ok { (cluster : ACluster) (me : ℕ) (facts : List AFact) (volatile : AVolatile) → Stands S.stands self.old cluster me facts volatile
-            → OnOk result (Stands S.stands self.new cluster me (fact.now ∷ facts) (ended (heard_by (Some fact.now)) volatile)) }
-        ensures err { (cluster : ACluster) (me : ℕ) (facts : List AFact) (volatile : AVolatile) → Stands S.stands self.old cluster me facts volatile
-            → OnErr result (Stands S.stands self.new cluster me facts volatile) }
+            → GivesUnless is_step_memory result (add_given (add_of (S.room self.old.store) (S.cells_for self.old.store fact.now) facts fact.now)) }
+        ensures ok { (cluster : ACluster) (me : ℕ) (facts : List AFact) (volatile : AVolatile) → RepresentsCentre S.stands self.old cluster me facts volatile
+            → OnOk result (RepresentsCentre S.stands self.new cluster me (fact.now ∷ facts) (ended (heard_by (Some fact.now)) volatile)) }
+        ensures err { (cluster : ACluster) (me : ℕ) (facts : List AFact) (volatile : AVolatile) → RepresentsCentre S.stands self.old cluster me facts volatile
+            → OnErr result (RepresentsCentre S.stands self.new cluster me facts volatile) }
         ensures left { (facts : List AFact) → S.stands self.old.store facts → OnErr result (S.stands self.new.store facts) }
         ensures used { OnOk result (S.room self.new.store + S.cells_for self.old.store fact.now ≡ S.room self.old.store) }
         ensures unused { OnErr result (S.room self.new.store ≡ S.room self.old.store) }
@@ -81,11 +81,11 @@ impl<S: FactStore + Drop> Node<S> {
         requires follows { (facts : List AFact) → S.stands self.old.store facts → MayFollow facts step.old.fact }
         requires fits { PlanFitsFrame step.old.fact }
         ensures answer { (facts : List AFact) → S.stands self.old.store facts
-            → GivesUnless is_memory (written result step.new) (step_taken (room_of S.room S.cells_for self.old.store) facts step.old step.old.fact) }
-        ensures ok { (cluster : ACluster) (me : ℕ) (facts : List AFact) (volatile : AVolatile) → Stands S.stands self.old cluster me facts volatile
-            → OnOk result (Stands S.stands self.new cluster me (with_new facts step.old.fact) (ended (heard_by step.old.fact) volatile)) }
-        ensures err { (cluster : ACluster) (me : ℕ) (facts : List AFact) (volatile : AVolatile) → Stands S.stands self.old cluster me facts volatile
-            → OnErr result (Stands S.stands self.new cluster me facts volatile) }
+            → GivesUnless is_step_memory (written result step.new) (if_plan_added (room_of S.room S.cells_for self.old.store) facts step.old step.old.fact) }
+        ensures ok { (cluster : ACluster) (me : ℕ) (facts : List AFact) (volatile : AVolatile) → RepresentsCentre S.stands self.old cluster me facts volatile
+            → OnOk result (RepresentsCentre S.stands self.new cluster me (with_new facts step.old.fact) (ended (heard_by step.old.fact) volatile)) }
+        ensures err { (cluster : ACluster) (me : ℕ) (facts : List AFact) (volatile : AVolatile) → RepresentsCentre S.stands self.old cluster me facts volatile
+            → OnErr result (RepresentsCentre S.stands self.new cluster me facts volatile) }
         ensures left { (facts : List AFact) → S.stands self.old.store facts → OnErr result (S.stands self.new.store facts) }
         ensures spent { Spends S.room S.cells_for self.old.store (written result step.new) self.new.store }
     {

@@ -2,7 +2,7 @@
 //! and the dangling transactions at a tick.
 ghost use Rattle.std.specs.Prelude.{◌≡◌, ◌++◌, [], List, None, Ok, OnOk, false};
 ghost use Rattle.mdcc_messages.specs.declared.facts.Fact.{Fact as AFact};
-ghost use Rattle.mdcc_node.specs.Planning.{Acts, MayFollow, Plans, blank, planned, written};
+ghost use Rattle.mdcc_node.specs.StepPlans.{Acts, MayFollow, Plans, blank, planned, written};
 ghost use Rattle.mdcc_protocol.specs.Facts.{is_heard};
 ghost use Rattle.mdcc_protocol.specs.Recover.{would_decide};
 ghost use Rattle.mdcc_protocol.specs.Volatile.{Volatile as AVolatile};

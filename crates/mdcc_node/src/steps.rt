@@ -1,7 +1,7 @@
 //! What steps are made of.
 ghost use Rattle.std.specs.Prelude.{◌≡◌, None, OnOk, Some};
-ghost use Rattle.mdcc_node.specs.Planning.{blank};
-ghost use Rattle.mdcc_node.specs.Telling.{offered, vote_fact};
+ghost use Rattle.mdcc_node.specs.StepPlans.{blank};
+ghost use Rattle.mdcc_node.specs.StepParts.{offered, vote_fact};
 ghost use Rattle.mdcc_protocol.specs.Leader.{claim_of_choice};
 ghost use Rattle.mdcc_rules.specs.Steps.{heard_by};
 ghost use Rattle.mdcc_messages.specs.declared.messages.Message.{Message as AMessage};

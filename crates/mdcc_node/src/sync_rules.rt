@@ -1,7 +1,7 @@
 //! The node's rules for centres that are behind: what it gives another one, and what it adopts.
 ghost use Rattle.std.specs.Prelude.{◌≡◌, ◌++◌, List, OnOk};
 ghost use Rattle.mdcc_messages.specs.declared.facts.Fact.{Fact as AFact};
-ghost use Rattle.mdcc_node.specs.Planning.{MayFollow, blank, planned};
+ghost use Rattle.mdcc_node.specs.StepPlans.{MayFollow, blank, planned};
 ghost use Rattle.mdcc_protocol.specs.Volatile.{Volatile as AVolatile};
 ghost use Rattle.mdcc_rules.specs.SyncRules.{give_sent, sync_give_step};
 

@@ -2,7 +2,7 @@
 ghost use Rattle.std.specs.Prelude.{◌≡◌, ◌++◌, IfOk, List, OnOk, filter, is_some, not};
 ghost use Rattle.mdcc_messages.specs.declared.facts.Fact.{Fact as AFact};
 ghost use Rattle.mdcc_messages.specs.declared.messages.Message.{Message as AMessage};
-ghost use Rattle.mdcc_node.specs.Planning.{unheard_sent};
+ghost use Rattle.mdcc_node.specs.StepPlans.{unheard_sent};
 ghost use Rattle.mdcc_rules.specs.AcceptorRules.{all_votes_sent, votes_sent};
 ghost use Rattle.mdcc_struct.specs.Maps.{value_of};
 

@@ -25,7 +25,7 @@ use Rattle.mdcc_struct.specs.Maps.{union, value_of}
 use Rattle.mdcc_struct.specs.declared.options.Options.{Options}
 use Rattle.mdcc_outcomes.specs.Ballots.{BallotsByKey, ballots_at}
 use Rattle.mdcc_outcomes.specs.Casts.{casts_among, casts_from, casts_of, chosen_by, chosen_cast, chosen_cast_at, mark_cast}
-use Rattle.mdcc_outcomes.specs.Endings.{chosen_in, ending_by, ending_cast, ending_of, instance_of}
+use Rattle.mdcc_outcomes.specs.Decided.{chosen_in, decided_by, decided_cast, decided_of, instance_of}
 use Rattle.mdcc_outcomes.specs.declared.casts.Cast.{Cast}
 
 -- ---- one centre's mark
@@ -162,7 +162,7 @@ chosen_cast-ledger quorums entries key version tx =
 
 -- ---- endings
 
-ending_by-outcome : (marks : List (Option Mark)) → ending_by marks ≡ option_map is_commit (outcome_of_marks marks)
+ending_by-outcome : (marks : List (Option Mark)) → decided_by marks ≡ option_map is_commit (outcome_of_marks marks)
 ending_by-outcome marks =
     elim (cases_Bool (list_any is_reject_found marks)) [
       | inl e ↦ rw e refl
@@ -182,10 +182,10 @@ chosen_in-ledger quorums entries tx ballots (choice ∷ choices) kept =
     rw (kept choice.key choice.version, chosen_cast-ledger quorums entries choice.key choice.version tx, ih) refl
 
 -- how the votes end a transaction is how the ledger does
-pub ending_cast-ledger : (quorums : Sizes) (entries : List Entry) (tx : TxId) (ballots : BallotsByKey)
+pub decided_cast-ledger : (quorums : Sizes) (entries : List Entry) (tx : TxId) (ballots : BallotsByKey)
     → ((key : Key) (version : ℕ) → ballots_at ballots key version ≡ reverse (ballots_voted entries key version))
-    → ending_cast quorums ballots (casts_of entries tx) (map instance_of (choices_begun entries tx)) ≡ ending_of quorums entries tx
-ending_cast-ledger quorums entries tx ballots kept =
+    → decided_cast quorums ballots (casts_of entries tx) (map instance_of (choices_begun entries tx)) ≡ decided_of quorums entries tx
+decided_cast-ledger quorums entries tx ballots kept =
     rw (chosen_in-ledger quorums entries tx ballots (choices_begun entries tx) kept, length-map, ending_by-outcome)
     (elim (cases_Bool (nat_lt 0 (length (choices_begun entries tx)))) [
       | inl e ↦ rw e refl

@@ -15,7 +15,7 @@ use Rattle.mdcc_ledger.specs.Ledger.{Added, Begun, Entry, ballots_voted, choices
 use Rattle.mdcc_messages.specs.declared.facts.Fact.{Fact}
 use Rattle.mdcc_struct.specs.declared.options.Options.{Options}
 use Rattle.mdcc_outcomes.specs.Ballots.{BallotsByKey, ballots_at, pushed_new, voted_with}
-use Rattle.mdcc_outcomes.specs.Endings.{Instances, InstancesByTx, instance_of, instances_at}
+use Rattle.mdcc_outcomes.specs.Decided.{Instances, InstancesByTx, instance_of, instances_at}
 
 any-append : {X : Type 0} (test : X → Bool) (xs ys : List X) → list_any test (xs ++ ys) ≡ (list_any test xs || list_any test ys)
 any-append test [] ys = refl

@@ -4,9 +4,9 @@ use Rattle.std.specs.Prelude.{is_some, not, slice_get}
 use Rattle.std.specs.Map.{keys_of}
 use Rattle.mdcc_base.specs.Counts.{number_of}
 use Rattle.mdcc_base.specs.declared.identifiers.TxId.{TxId}
-use Rattle.mdcc_outcomes.specs.Endings.{is_abort_ending, is_commit_ending, next_count, totals_of, with_ending}
+use Rattle.mdcc_outcomes.specs.Decided.{is_abort_decided, is_commit_decided, next_count, totals_of, with_decided}
 use Rattle.mdcc_struct.proofs.Walks.{drop-get}
-use Rattle.mdcc_outcomes.specs.declared.outcomes.Totals.{Totals}
+use Rattle.mdcc_outcomes.specs.declared.decisions.Totals.{Totals}
 
 -- the totals with those of more transactions
 abbrev added_to : Totals → Totals → Totals
@@ -16,7 +16,7 @@ abbrev pub none_ended : Totals
 none_ended = record { commits = 0; aborts = 0; undecided = 0 }
 
 abbrev pub counted_on : (TxId → Option Bool) → Totals → List TxId → Totals
-counted_on ending totals txs = fold (λ t tx. with_ending t (ending tx)) totals txs
+counted_on ending totals txs = fold (λ t tx. with_decided t (ending tx)) totals txs
 
 next-small : (n : ℕ) → n + 1 ≤ 2 ^ 32 - 1 → next_count n ≡ n + 1
 next-small n h = omega (h, arith)
@@ -42,7 +42,7 @@ counted ending t (tx ∷ txs) h = counted-by t (ending tx) ending tx txs refl (o
 
 -- one entry more
 pub counted-next : {X : Type 0} (ending : TxId → Option Bool) (t : Totals) (es : List (TxId × X)) (i : ℕ) (e : TxId × X) → slice_get es i ≡ Some e
-    → counted_on ending t (keys_of (drop i es)) ≡ counted_on ending (with_ending t (ending e.0)) (keys_of (drop (i + 1) es))
+    → counted_on ending t (keys_of (drop i es)) ≡ counted_on ending (with_decided t (ending e.0)) (keys_of (drop (i + 1) es))
 counted-next ending t es i e at = rw (drop-get es i e at) refl
 
 -- from none on
@@ -52,4 +52,4 @@ counted-all ending txs h = counted ending none_ended txs (omega (h, arith)) ∙ 
 -- totals are the same of two lists in which as many pass each test
 pub totals-same : (ending : TxId → Option Bool) (xs ys : List TxId) → ((test : TxId → Bool) → number_of test xs ≡ number_of test ys)
     → totals_of ending xs ≡ totals_of ending ys
-totals-same ending xs ys same = rw (same (λ tx. is_commit_ending (ending tx)), same (λ tx. is_abort_ending (ending tx)), same (λ tx. not (is_some (ending tx)))) refl
+totals-same ending xs ys same = rw (same (λ tx. is_commit_decided (ending tx)), same (λ tx. is_abort_decided (ending tx)), same (λ tx. not (is_some (ending tx)))) refl

@@ -17,7 +17,7 @@ use Rattle.mdcc_struct.specs.declared.options.Options.{Options}
 use Rattle.mdcc_struct.specs.Maps.{TxMap, txs_of}
 use Rattle.mdcc_outcomes.specs.Casts.{cast_on, casts_among}
 use Rattle.mdcc_outcomes.specs.declared.casts.Cast.{Cast}
-use Rattle.mdcc_outcomes.specs.Endings.{come_since, ending_come, endings_come, with_ending_of}
+use Rattle.mdcc_outcomes.specs.Decided.{decided_since, newly_decided, all_newly_decided, with_decided_of}
 
 -- the votes on some marks
 pub among-next : (before : List Cast) (centre : ℕ) (key : Key) (version : ℕ) (ballot : Ballot) (options : Options) (i : ℕ) (e : TxId × Mark) (tx : TxId) → slice_get options i ≡ Some e
@@ -32,23 +32,23 @@ txs-next made f xs i e at = rw (drop-get xs i e at) (sym (append_assoc made _ _)
 
 -- the endings of one transaction more
 pub come-next : (made : List (TxId × Bool)) (quorums : Sizes) (entries : List Entry) (was : TxId × Option Bool) (rest : List (TxId × Option Bool))
-    → made ++ endings_come quorums entries (was ∷ rest) ≡ (made ++ option_to_list (come_since quorums entries was)) ++ endings_come quorums entries rest
-come-next made quorums entries was rest = one (come_since quorums entries was)
+    → made ++ all_newly_decided quorums entries (was ∷ rest) ≡ (made ++ option_to_list (decided_since quorums entries was)) ++ all_newly_decided quorums entries rest
+come-next made quorums entries was rest = one (decided_since quorums entries was)
   where
-    one : (ending : Option (TxId × Bool)) → made ++ cons_option ending (endings_come quorums entries rest) ≡ (made ++ option_to_list ending) ++ endings_come quorums entries rest
-    one None = ap (λ xs. xs ++ endings_come quorums entries rest) (sym (append-nil made))
-    one (Some x) = sym (append_assoc made (x ∷ []) (endings_come quorums entries rest))
+    one : (ending : Option (TxId × Bool)) → made ++ cons_option ending (all_newly_decided quorums entries rest) ≡ (made ++ option_to_list ending) ++ all_newly_decided quorums entries rest
+    one None = ap (λ xs. xs ++ all_newly_decided quorums entries rest) (sym (append-nil made))
+    one (Some x) = sym (append_assoc made (x ∷ []) (all_newly_decided quorums entries rest))
 
 -- endings that were not before are outcomes that were not before
 pub come-new : (quorums : Sizes) (entry : Entry) (before : List Entry) (txs : List TxId)
-    → endings_come quorums (entry ∷ before) (map (with_ending_of quorums before) txs)
+    → all_newly_decided quorums (entry ∷ before) (map (with_decided_of quorums before) txs)
     ≡ map (λ e. (e.0, is_commit e.1)) (filter_map (new_outcome quorums entry before) txs)
 come-new quorums entry before [] = refl
 come-new quorums entry before (tx ∷ txs) =
     rw (come-new quorums entry before txs) (one (outcome_of quorums (entry ∷ before) tx) (outcome_of quorums before tx) (filter_map (new_outcome quorums entry before) txs))
   where
     one : (now was : Option Outcome) (rest : List (TxId × Outcome))
-        → cons_option (ending_come tx (option_map is_commit now) (option_map is_commit was)) (map (λ e. (e.0, is_commit e.1)) rest)
+        → cons_option (newly_decided tx (option_map is_commit now) (option_map is_commit was)) (map (λ e. (e.0, is_commit e.1)) rest)
         ≡ map (λ e. (e.0, is_commit e.1)) (cons_option (outcome_come tx now was) rest)
     one None was rest = refl
     one (Some now) None rest = refl

@@ -1,4 +1,4 @@
 pub mod Ballots
 pub mod Casts
-pub mod Endings
-pub mod Stands
+pub mod Decided
+pub mod Represents

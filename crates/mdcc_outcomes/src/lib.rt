@@ -4,7 +4,7 @@
 mod ballots;
 pub mod casts;
 mod chosen;
-mod endings;
-pub mod outcomes;
+mod decided;
+pub mod decisions;
 
-pub use outcomes::{Outcomes, Totals};
+pub use decisions::{Decisions, Totals};

@@ -1,2 +1,2 @@
 pub mod Counters
-pub mod Stands
+pub mod Represents

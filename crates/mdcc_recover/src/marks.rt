@@ -1,6 +1,6 @@
 //! What the votes on a dangling transaction decide.
 ghost use Rattle.std.specs.Prelude.{◌≡◌, ◌≤◌, List, length, map};
-ghost use Rattle.mdcc_learner.specs.Stands.{Stands as LearnerStands};
+ghost use Rattle.mdcc_learner.specs.Represents.{RepresentsVotes};
 ghost use Rattle.mdcc_protocol.specs.Learner.{decision_of, learned, with_vote};
 ghost use Rattle.mdcc_protocol.specs.declared.votes.Vote.{Vote as AVote};
 
@@ -17,7 +17,7 @@ fn marks_with(
     write_set: &[(Key, u64)],
 ) -> LearnedMarks
     requires { length write_set.now ≤ 8 }
-    ensures { (votes : List AVote) → LearnerStands learner.now quorums.now votes
+    ensures { (votes : List AVote) → RepresentsVotes learner.now quorums.now votes
         → result ≡ map (learned quorums.now (with_vote quorums.now votes vote.now) vote.now.tx) (map (λ e. e.0) write_set.now) }
 {
     let mut marks = BoundedList::new();
@@ -35,7 +35,7 @@ pub(crate) fn decision_with(
     write_set: &[(Key, u64)],
 ) -> Option<Outcome>
     requires { length write_set.now ≤ 8 }
-    ensures { (votes : List AVote) → LearnerStands learner.now quorums.now votes
+    ensures { (votes : List AVote) → RepresentsVotes learner.now quorums.now votes
         → result ≡ decision_of quorums.now (with_vote quorums.now votes vote.now) vote.now.tx (map (λ e. e.0) write_set.now) }
 {
     let marks = marks_with(learner, quorums, vote, write_set);

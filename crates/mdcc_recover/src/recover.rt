@@ -6,7 +6,7 @@ ghost use Rattle.mdcc_messages.specs.declared.facts.Fact.{Fact as AFact};
 ghost use Rattle.mdcc_protocol.specs.Learner.{decision_of};
 ghost use Rattle.mdcc_protocol.specs.Recover.{acts_on, ask_of, claim_of_key, keys_led, keys_watched, on_voted, tick, watched_vote, would_decide};
 ghost use Rattle.mdcc_protocol.specs.Volatile.{Recovering, counter_of, is_watched, nothing_kept, recovery_closed};
-ghost use Rattle.mdcc_recover.specs.Stands.{Stands};
+ghost use Rattle.mdcc_recover.specs.Represents.{RepresentsRecovering};
 
 use crate::counters::{Counters, count_tick, counter_in, forget, keep_counters, next_count};
 use crate::dangling::dangling;
@@ -32,7 +32,7 @@ impl Recover {
     /// A recovery that has seen no tick.
     pub fn new(alloc: Global) -> Result<Recover, Memory>
         ensures { (quorums : Sizes) → AreQuorums quorums
-            → IsOkAnd result (λ recover. Stands recover quorums nothing_kept.recovery) }
+            → IsOkAnd result (λ recover. RepresentsRecovering recover quorums nothing_kept.recovery) }
     {
         Ok(Recover {
             alloc,
@@ -50,12 +50,12 @@ impl Recover {
         store: &S,
         opened: &[TxId],
     ) -> Result<Vec<RecoverAct>, Memory>
-        ensures acts { (quorums : Sizes) (facts : List AFact) (recovering : Recovering) → S.stands store.now facts → Stands self.old quorums recovering
+        ensures acts { (quorums : Sizes) (facts : List AFact) (recovering : Recovering) → S.stands store.now facts → RepresentsRecovering self.old quorums recovering
             → IfOk result (λ acts. acts.items ≡ (tick quorums facts recovering opened.now).0) }
-        ensures ok { (quorums : Sizes) (facts : List AFact) (recovering : Recovering) → S.stands store.now facts → Stands self.old quorums recovering
-            → OnOk result (Stands self.new quorums (tick quorums facts recovering opened.now).1) }
-        ensures err { (quorums : Sizes) (recovering : Recovering) → Stands self.old quorums recovering
-            → OnErr result (Stands self.new quorums recovering) }
+        ensures ok { (quorums : Sizes) (facts : List AFact) (recovering : Recovering) → S.stands store.now facts → RepresentsRecovering self.old quorums recovering
+            → OnOk result (RepresentsRecovering self.new quorums (tick quorums facts recovering opened.now).1) }
+        ensures err { (quorums : Sizes) (recovering : Recovering) → RepresentsRecovering self.old quorums recovering
+            → OnErr result (RepresentsRecovering self.new quorums recovering) }
     {
         let txs = dangling(self.alloc, store, opened)?;
         let acts = self.acts_of(store, &txs)?;
@@ -70,7 +70,7 @@ impl Recover {
         store: &S,
         txs: &[(TxId, WriteSet)],
     ) -> Result<Vec<RecoverAct>, Memory>
-        ensures { (quorums : Sizes) (facts : List AFact) (recovering : Recovering) → S.stands store.now facts → Stands self.now quorums recovering
+        ensures { (quorums : Sizes) (facts : List AFact) (recovering : Recovering) → S.stands store.now facts → RepresentsRecovering self.now quorums recovering
             → IfOk result (λ acts. acts.items ≡ flat_map (acts_on quorums facts recovering) txs.now) }
     {
         let mut acts = Vec::new(self.alloc);
@@ -88,7 +88,7 @@ impl Recover {
         tx: &TxId,
         write_set: &[(Key, u64)],
     ) -> Result<(), Memory>
-        ensures { (quorums : Sizes) (facts : List AFact) (recovering : Recovering) → S.stands store.now facts → Stands self.now quorums recovering
+        ensures { (quorums : Sizes) (facts : List AFact) (recovering : Recovering) → S.stands store.now facts → RepresentsRecovering self.now quorums recovering
             → OnOk result (acts.new.items ≡ acts.old.items ++ acts_on quorums facts recovering (tx.now, write_set.now)) }
     {
         let count = next_count(counter_in(&self.counters, tx));
@@ -109,7 +109,7 @@ impl Recover {
         tx: &TxId,
         write_set: &[(Key, u64)],
     ) -> Result<(), Memory>
-        ensures { (quorums : Sizes) (facts : List AFact) (recovering : Recovering) → S.stands store.now facts → Stands self.now quorums recovering
+        ensures { (quorums : Sizes) (facts : List AFact) (recovering : Recovering) → S.stands store.now facts → RepresentsRecovering self.now quorums recovering
             → OnOk result (acts.new.items ≡ acts.old.items ++ keys_led quorums facts recovering tx.now write_set.now) }
     {
         for entry in write_set {
@@ -123,7 +123,7 @@ impl Recover {
     // The claim of a transaction at a key, with the choice where a vote that was taken or an own
     // vote has it.
     fn claim_of_key<S: FactStore>(&self, store: &S, tx: &TxId, entry: &(Key, u64)) -> Claim
-        ensures { (quorums : Sizes) (facts : List AFact) (recovering : Recovering) → S.stands store.now facts → Stands self.now quorums recovering
+        ensures { (quorums : Sizes) (facts : List AFact) (recovering : Recovering) → S.stands store.now facts → RepresentsRecovering self.now quorums recovering
             → result ≡ claim_of_key facts recovering tx.now entry.now }
     {
         let (key, version) = *entry;
@@ -147,12 +147,12 @@ impl Recover {
         cluster: &Cluster,
         vote: &Vote,
     ) -> Result<Option<(TxId, Outcome)>, Memory>
-        ensures decided { (facts : List AFact) (recovering : Recovering) → S.stands store.now facts → Stands self.old cluster.now.quorums recovering
+        ensures decided { (facts : List AFact) (recovering : Recovering) → S.stands store.now facts → RepresentsRecovering self.old cluster.now.quorums recovering
             → IfOk result (λ decided. decided ≡ (on_voted cluster.now.quorums facts recovering vote.now).0) }
-        ensures ok { (facts : List AFact) (recovering : Recovering) → S.stands store.now facts → Stands self.old cluster.now.quorums recovering
-            → OnOk result (Stands self.new cluster.now.quorums (on_voted cluster.now.quorums facts recovering vote.now).1) }
-        ensures err { (quorums : Sizes) (recovering : Recovering) → Stands self.old quorums recovering
-            → OnErr result (Stands self.new quorums recovering) }
+        ensures ok { (facts : List AFact) (recovering : Recovering) → S.stands store.now facts → RepresentsRecovering self.old cluster.now.quorums recovering
+            → OnOk result (RepresentsRecovering self.new cluster.now.quorums (on_voted cluster.now.quorums facts recovering vote.now).1) }
+        ensures err { (quorums : Sizes) (recovering : Recovering) → RepresentsRecovering self.old quorums recovering
+            → OnErr result (RepresentsRecovering self.new quorums recovering) }
     {
         match self.watched(store, &vote.tx) {
             Some(write_set) => {
@@ -171,7 +171,7 @@ impl Recover {
         cluster: &Cluster,
         vote: &Vote,
     ) -> Option<(TxId, Outcome)>
-        ensures { (facts : List AFact) (recovering : Recovering) → S.stands store.now facts → Stands self.now cluster.now.quorums recovering
+        ensures { (facts : List AFact) (recovering : Recovering) → S.stands store.now facts → RepresentsRecovering self.now cluster.now.quorums recovering
             → result ≡ would_decide cluster.now.quorums facts recovering vote.now }
     {
         match self.watched(store, &vote.tx) {
@@ -182,7 +182,7 @@ impl Recover {
 
     // The write set of a transaction that is watched and not resolved.
     fn watched<S: FactStore>(&self, store: &S, tx: &TxId) -> Option<WriteSet>
-        ensures { (quorums : Sizes) (facts : List AFact) (recovering : Recovering) → S.stands store.now facts → Stands self.now quorums recovering
+        ensures { (quorums : Sizes) (facts : List AFact) (recovering : Recovering) → S.stands store.now facts → RepresentsRecovering self.now quorums recovering
             → option_map (λ write_set. map (λ e. e.0) write_set) result ≡ keys_watched facts recovering tx.now }
     {
         if counter_in(&self.counters, tx) < 2 {
@@ -198,7 +198,7 @@ impl Recover {
         vote: &Vote,
         write_set: &WriteSet,
     ) -> Option<(TxId, Outcome)>
-        ensures { (recovering : Recovering) → Stands self.now quorums.now recovering
+        ensures { (recovering : Recovering) → RepresentsRecovering self.now quorums.now recovering
             → result ≡ option_map (λ outcome. (vote.now.tx, outcome)) (decision_of quorums.now (watched_vote quorums.now recovering vote.now).votes vote.now.tx (map (λ e. e.0) write_set.now)) }
     {
         let outcome = decision_with(&self.learner, quorums, vote, write_set.as_slice())?;
@@ -207,8 +207,8 @@ impl Recover {
 
     /// Lets the counter of a transaction and the votes on it go.
     pub fn close(&mut self, tx: TxId)
-        ensures { (quorums : Sizes) (recovering : Recovering) → Stands self.old quorums recovering
-            → Stands self.new quorums (recovery_closed recovering tx) }
+        ensures { (quorums : Sizes) (recovering : Recovering) → RepresentsRecovering self.old quorums recovering
+            → RepresentsRecovering self.new quorums (recovery_closed recovering tx) }
     {
         forget(&mut self.counters, &tx);
         self.learner.forget(tx);

@@ -7,9 +7,9 @@ use Rattle.std.proofs.lemmas.List.{drop-drop}
 use Rattle.mdcc_base.specs.Quorums.{quorums_of}
 use Rattle.mdcc_option.specs.declared.cluster.Cluster.{Cluster}
 use Rattle.mdcc_option.specs.declared.cluster.FastLimit.{FastLimit}
-use Rattle.mdcc_language.specs.Header.{Left, all_of, next_line, without_next, in_line, is_next, whole_line, in_order, header_line, version_of, last_number, sizes_of, bound_of, fast_limit_of, cells_line, limit_line, quorums_in, quorums_line, bounds_in, bound_line, Bounds, more_bounds, bounds_lines, header_lines, default_cells}
+use Rattle.mdcc_language.specs.Header.{UnreadLines, all_of, next_line, without_next, in_line, begins_next, whole_line, in_order, header_line, version_of, last_number, parse_sizes, bound_of, fast_limit_of, cells_line, limit_line, quorums_in, quorums_line, bounds_in, bound_line, Bounds, more_bounds, bounds_lines, header_lines, default_cells}
 use Rattle.mdcc_language.specs.Lines.{bounded, bytes_of_line, lines_in, line_end_of}
-use Rattle.mdcc_language.specs.Words.{◌>>=◌, are_plain_digits, is_negative, refused, within, number_of, natural_of, end_at, word_at, word_behind, word_end}
+use Rattle.mdcc_language.specs.Words.{◌>>=◌, are_plain_digits, is_negative, refused, within, number_of, natural_of, end_at, word_at, word_after, word_end}
 use Rattle.mdcc_sched.specs.Headers.{numbered, numbered_header}
 use Rattle.mdcc_replay.proofs.Steps.{bind_ok, bounded_ok}
 use Rattle.mdcc_language.specs.declared.schedule.HeaderFault.{HeaderFault}
@@ -43,10 +43,10 @@ others [] = refl
 others (b ∷ bs) = others_by b bs (b == 10) (others bs)
 
 -- what is left of a text
-abbrev pub IsLeft : List ℕ → Left → Type 0
+abbrev pub IsLeft : List ℕ → UnreadLines → Type 0
 IsLeft text left = left.lines ≡ lines_in (drop left.at text)
 
-next_left : (text : List ℕ) (left : Left) → IsLeft text left → IsLeft text (without_next left)
+next_left : (text : List ℕ) (left : UnreadLines) → IsLeft text left → IsLeft text (without_next left)
 next_left text left h =
     ap (drop 1) h
     ∙ sym (others (drop left.at text))
@@ -54,14 +54,14 @@ next_left text left h =
     ∙ ap lines_in (drop-drop (length (next_line left)) left.at text)
 
 -- a value, and what is left behind its line
-abbrev Read : {A : Type 0} → (A → Type 0) → List ℕ → A × Left → Type 0
+abbrev Read : {A : Type 0} → (A → Type 0) → List ℕ → A × UnreadLines → Type 0
 Read P text read = P read.0 × IsLeft text read.1
 
-in_line_ok : {A : Type 0} (P : A → Type 0) (left : Left) (r : Result A SchedFault) → IfOk r P → IfOk (in_line left r) P
+in_line_ok : {A : Type 0} (P : A → Type 0) (left : UnreadLines) (r : Result A SchedFault) → IfOk r P → IfOk (in_line left r) P
 in_line_ok P left (Ok a) p = p
 in_line_ok P left (Err fault) p = tt
 
-line_read : {A : Type 0} (P : A → Type 0) (text word : List ℕ) (read : List ℕ → Result A SchedFault) (left : Left) → IfOk (whole_line word read (next_line left)) P
+line_read : {A : Type 0} (P : A → Type 0) (text word : List ℕ) (read : List ℕ → Result A SchedFault) (left : UnreadLines) → IfOk (whole_line word read (next_line left)) P
     → IsLeft text left → IfOk (header_line word read left) (Read P text)
 line_read P text word read left p h =
     let line : List ℕ = next_line left in
@@ -106,7 +106,7 @@ natural_ok word column low high =
 
 last_ok : (low high at : ℕ) (line : List ℕ) → IfOk (last_number low high at line) (IsBetween low high)
 last_ok low high at line =
-    bind_ok Any _ (word_behind at line) _ (any_ok (word_behind at line)) (λ start _.
+    bind_ok Any _ (word_after at line) _ (any_ok (word_after at line)) (λ start _.
     bind_ok (IsBetween low high) _ (natural_of (word_at start line) (start + 1) low high) _ (natural_ok (word_at start line) (start + 1) low high) (λ number good.
     bind_ok Any _ (end_at (word_end start line) line 1) _ (any_ok (end_at (word_end start line) line 1)) (λ _ _. good)))
 
@@ -119,74 +119,74 @@ whole_ok P word read line p =
 
 -- ---- the lines of a header
 
-any_read : {A : Type 0} (text word : List ℕ) (read : List ℕ → Result A SchedFault) (left : Left) → IsLeft text left → IfOk (header_line word read left) (Read Any text)
+any_read : {A : Type 0} (text word : List ℕ) (read : List ℕ → Result A SchedFault) (left : UnreadLines) → IsLeft text left → IfOk (header_line word read left) (Read Any text)
 any_read text word read left h = line_read Any text word read left (any_ok (whole_line word read (next_line left))) h
 
-quorums_read : (text : List ℕ) (left : Left) → IsLeft text left → IfOk (quorums_line left) (Read Any text)
+quorums_read : (text : List ℕ) (left : UnreadLines) → IsLeft text left → IfOk (quorums_line left) (Read Any text)
 quorums_read text left h =
-    bind_ok (Read Any text) (Read Any text) (header_line (codes "quorums") sizes_of left) _ (any_read text (codes "quorums") sizes_of left h) (λ sizes read.
+    bind_ok (Read Any text) (Read Any text) (header_line (codes "quorums") parse_sizes left) _ (any_read text (codes "quorums") parse_sizes left h) (λ sizes read.
     bind_ok Any (Read Any text) (quorums_in left (quorums_of sizes.0.0 sizes.0.1 sizes.0.2)) _ (any_ok (quorums_in left (quorums_of sizes.0.0 sizes.0.1 sizes.0.2))) (λ quorums _. (tt, read.1)))
 
 -- the last number of a line
-number_read : (text word : List ℕ) (low high at : ℕ) (left : Left) → IsLeft text left → IfOk (header_line word (last_number low high at) left) (Read (IsBetween low high) text)
+number_read : (text word : List ℕ) (low high at : ℕ) (left : UnreadLines) → IsLeft text left → IfOk (header_line word (last_number low high at) left) (Read (IsBetween low high) text)
 number_read text word low high at left h =
     line_read (IsBetween low high) text word (last_number low high at) left (whole_ok (IsBetween low high) word (last_number low high at) (next_line left) (last_ok low high at)) h
 
-abbrev given_cells : Left → Result (ℕ × Left) HeaderFault
+abbrev given_cells : UnreadLines → Result (ℕ × UnreadLines) HeaderFault
 given_cells left = Ok (default_cells, left)
 
-cells_by : (text : List ℕ) (left : Left) → IsLeft text left → (test : Bool)
+cells_by : (text : List ℕ) (left : UnreadLines) → IsLeft text left → (test : Bool)
     → IfOk (cond test (header_line (codes "cells") (last_number 1 4194304 5) left) (given_cells left)) (Read (IsBetween 1 4194304) text)
 cells_by text left h true = number_read text (codes "cells") 1 4194304 5 left h
 cells_by text left h false = ((leb→le 1 default_cells tt, leb→le default_cells 4194304 tt), h)
 
 -- the line of the cells may be left out
-cells_read : (text : List ℕ) (left : Left) → IsLeft text left → IfOk (cells_line left) (Read (IsBetween 1 4194304) text)
-cells_read text left h = cells_by text left h (is_next (codes "cells") left)
+cells_read : (text : List ℕ) (left : UnreadLines) → IsLeft text left → IfOk (cells_line left) (Read (IsBetween 1 4194304) text)
+cells_read text left h = cells_by text left h (begins_next (codes "cells") left)
 
-abbrev safe_at : Left → Result (FastLimit × Left) HeaderFault
+abbrev safe_at : UnreadLines → Result (FastLimit × UnreadLines) HeaderFault
 safe_at left = Ok (FastLimit.Safe, left)
 
-limit_by : (text : List ℕ) (left : Left) → IsLeft text left → (test : Bool) → IfOk (cond test (header_line (codes "limit") fast_limit_of left) (safe_at left)) (Read Any text)
+limit_by : (text : List ℕ) (left : UnreadLines) → IsLeft text left → (test : Bool) → IfOk (cond test (header_line (codes "limit") fast_limit_of left) (safe_at left)) (Read Any text)
 limit_by text left h true = any_read text (codes "limit") fast_limit_of left h
 limit_by text left h false = (tt, h)
 
 -- the line of the fast limit may be left out
-limit_read : (text : List ℕ) (left : Left) → IsLeft text left → IfOk (limit_line left) (Read Any text)
-limit_read text left h = limit_by text left h (is_next (codes "limit") left)
+limit_read : (text : List ℕ) (left : UnreadLines) → IsLeft text left → IfOk (limit_line left) (Read Any text)
+limit_read text left h = limit_by text left h (begins_next (codes "limit") left)
 
-bound_read : (text : List ℕ) (k : ℕ) (left : Left) → IsLeft text left → IfOk (bound_line k left) (Read Any text)
+bound_read : (text : List ℕ) (k : ℕ) (left : UnreadLines) → IsLeft text left → IfOk (bound_line k left) (Read Any text)
 bound_read text k left h =
     bind_ok (Read Any text) (Read Any text) (header_line (codes "bound") bound_of left) _ (any_read text (codes "bound") bound_of left h) (λ bounds read.
     bind_ok Any (Read Any text) (bounds_in k left bounds.0) _ (any_ok (bounds_in k left bounds.0)) (λ bounds _. (tt, read.1)))
 
-abbrev with_bound : ℤ × ℤ → Bounds × Left → Result (Bounds × Left) HeaderFault
+abbrev with_bound : ℤ × ℤ → Bounds × UnreadLines → Result (Bounds × UnreadLines) HeaderFault
 with_bound one rest = Ok (one ∷ rest.0, rest.1)
 
-abbrev none_left : Left → Result (Bounds × Left) HeaderFault
+abbrev none_left : UnreadLines → Result (Bounds × UnreadLines) HeaderFault
 none_left left = Ok ([], left)
 
-abbrev more_by : ℕ → ℕ → Left → Bool → Result (Bounds × Left) HeaderFault
+abbrev more_by : ℕ → ℕ → UnreadLines → Bool → Result (Bounds × UnreadLines) HeaderFault
 more_by more k left test = cond test (bound_line k left >>= λ one. more_bounds more (k + 1) one.1 >>= λ rest. with_bound one.0 rest) (none_left left)
 
-more_test : (text : List ℕ) (more k : ℕ) (left : Left) → IsLeft text left → ((one : Left) → IsLeft text one → IfOk (more_bounds more (k + 1) one) (Read Any text)) → (test : Bool)
+more_test : (text : List ℕ) (more k : ℕ) (left : UnreadLines) → IsLeft text left → ((one : UnreadLines) → IsLeft text one → IfOk (more_bounds more (k + 1) one) (Read Any text)) → (test : Bool)
     → IfOk (more_by more k left test) (Read Any text)
 more_test text more k left h next true =
     bind_ok (Read Any text) (Read Any text) (bound_line k left) _ (bound_read text k left h) (λ one read.
     bind_ok (Read Any text) (Read Any text) (more_bounds more (k + 1) one.1) _ (next one.1 read.1) (λ rest good. (tt, good.1)))
 more_test text more k left h next false = (tt, h)
 
-more_read : (text : List ℕ) (more k : ℕ) (left : Left) → IsLeft text left → IfOk (more_bounds more k left) (Read Any text)
+more_read : (text : List ℕ) (more k : ℕ) (left : UnreadLines) → IsLeft text left → IfOk (more_bounds more k left) (Read Any text)
 more_read text zero k left h = (tt, h)
-more_read text (suc more) k left h = more_test text more k left h (λ one good. more_read text more (k + 1) one good) (is_next (codes "bound") left)
+more_read text (suc more) k left h = more_test text more k left h (λ one good. more_read text more (k + 1) one good) (begins_next (codes "bound") left)
 
-bounds_read : (text : List ℕ) (left : Left) → IsLeft text left → IfOk (bounds_lines left) (Read Any text)
+bounds_read : (text : List ℕ) (left : UnreadLines) → IsLeft text left → IfOk (bounds_lines left) (Read Any text)
 bounds_read text left h =
     bind_ok (Read Any text) (Read Any text) (bound_line 1 left) _ (bound_read text 1 left h) (λ one read.
     bind_ok (Read Any text) (Read Any text) (more_bounds 3 2 one.1) _ (more_read text 3 2 one.1 read.1) (λ rest good. (tt, good.1)))
 
 -- the range of a cluster and its cells are in their limits, and the lines behind the header are left
-pub record IsRead (text : List ℕ) (header : Cluster × Left) : Type 0 where
+pub record IsRead (text : List ℕ) (header : Cluster × UnreadLines) : Type 0 where
   pub range : header.0.gamma ≤ 1000
   pub cells : IsBetween 1 4194304 header.0.cells
   pub left : IsLeft text header.1
@@ -207,7 +207,7 @@ header_read text =
 pub record IsHeader (text : List ℕ) (cluster : Cluster) (end first : ℕ) : Type 0 where
   pub range : cluster.gamma ≤ 1000
   pub cells : IsBetween 1 4194304 cluster.cells
-  pub left : Left
+  pub left : UnreadLines
   pub read : header_lines (all_of text) ≡ Ok (cluster, left)
   pub at : left.at ≡ end
   pub number : left.number ≡ first
@@ -220,7 +220,7 @@ abbrev place_or : Cluster × ℕ × ℕ → Result (Cluster × ℕ × ℕ) Heade
 place_or other (Ok place) = place
 place_or other (Err fault) = other
 
-given_by : (text : List ℕ) (cluster : Cluster) (end first : ℕ) (r : Result (Cluster × Left) HeaderFault) → header_lines (all_of text) ≡ r → IfOk r (IsRead text)
+given_by : (text : List ℕ) (cluster : Cluster) (end first : ℕ) (r : Result (Cluster × UnreadLines) HeaderFault) → header_lines (all_of text) ≡ r → IfOk r (IsRead text)
     → (r >>= numbered) ≡ Ok (cluster, end, first) → IsHeader text cluster end first
 given_by text cluster end first (Ok (found, left)) e h f =
     let all : place found left.at left.number ≡ place cluster end first = ap (place_or (place found left.at left.number)) f in
@@ -229,7 +229,7 @@ given_by text cluster end first (Ok (found, left)) e h f =
       range = subst (λ (c : Cluster). c.gamma ≤ 1000) same h.range;
       cells = subst (λ (c : Cluster). IsBetween 1 4194304 c.cells) same h.cells;
       left = left;
-      read = e ∙ ap (λ (c : Cluster). let r : Result (Cluster × Left) HeaderFault = Ok (c, left) in r) same;
+      read = e ∙ ap (λ (c : Cluster). let r : Result (Cluster × UnreadLines) HeaderFault = Ok (c, left) in r) same;
       at = ap (λ (p : Cluster × ℕ × ℕ). p.1) all;
       number = ap (λ (p : Cluster × ℕ × ℕ). p.2) all;
       is_left = h.left;

@@ -7,12 +7,12 @@ use Rattle.mdcc_base.specs.AreQuorums.{AreQuorums}
 use Rattle.mdcc_option.specs.Bounds.{IsSchema}
 use Rattle.mdcc_option.specs.declared.cluster.Cluster.{Cluster}
 use Rattle.mdcc_language.specs.Errors.{AtHeader, TooLong, most_input}
-use Rattle.mdcc_language.specs.Header.{Left, all_of, header_lines}
+use Rattle.mdcc_language.specs.Header.{UnreadLines, all_of, header_lines}
 use Rattle.mdcc_language.specs.Words.{◌>>=◌}
 use Rattle.mdcc_language.specs.declared.schedule.HeaderFault.{HeaderFault}
 use Rattle.mdcc_protocol.specs.IsCluster.{IsCluster}
 use Rattle.mdcc_language.specs.Lines.{lines_in}
-use Rattle.mdcc_simulation.specs.Replay.{Replay, after_text, ended, lines_replayed, replay_behind, replay_of}
+use Rattle.mdcc_simulation.specs.Replay.{Replay, after_text, ended, lines_replayed, replay_after_header, replay_of}
 use Rattle.mdcc_language.specs.Report.{header_text}
 use Rattle.mdcc_simulation.specs.State.{World, first_world}
 use Rattle.mdcc_sched.specs.Headers.{numbered, numbered_header}
@@ -38,12 +38,12 @@ not_past a b h = grind (arith, nat_tests)
 past : (a b : ℕ) → a < b → nat_lt a b ≡ true
 past a b h = grind (arith, nat_tests)
 
-short_by : (input : List ℕ) → length input ≤ 67108864 → replay_of input ≡ replay_behind input (header_lines (all_of input))
-short_by input h = ap (λ (t : Bool). cond t (ended None [] (Some TooLong)) (replay_behind input (header_lines (all_of input)))) (not_past most_input (length input) h)
+short_by : (input : List ℕ) → length input ≤ 67108864 → replay_of input ≡ replay_after_header input (header_lines (all_of input))
+short_by input h = ap (λ (t : Bool). cond t (ended None [] (Some TooLong)) (replay_after_header input (header_lines (all_of input)))) (not_past most_input (length input) h)
 
 pub long_ended : (a : Option (List ℕ)) (input : List ℕ) → 67108864 < length input → Ends a a (replay_of input) (Some Refusal.TooLong)
 long_ended a input h =
-    subst (λ (t : Bool). Ends a a (cond t (ended None [] (Some TooLong)) (replay_behind input (header_lines (all_of input)))) (Some Refusal.TooLong)) (sym (past most_input (length input) h))
+    subst (λ (t : Bool). Ends a a (cond t (ended None [] (Some TooLong)) (replay_after_header input (header_lines (all_of input)))) (Some Refusal.TooLong)) (sym (past most_input (length input) h))
     (record { wrote = Appends-nil a; fault = refl })
 
 -- ---- headers
@@ -52,7 +52,7 @@ long_ended a input h =
 abbrev pub behind_header : List ℕ → Cluster → ℕ → ℕ → Replay
 behind_header input cluster end first = lines_replayed cluster first (first_world cluster) (lines_in (drop end input))
 
-abbrev from_number : Cluster → Left → ℕ → Replay
+abbrev from_number : Cluster → UnreadLines → ℕ → Replay
 from_number cluster left number = lines_replayed cluster number (first_world cluster) left.lines
 
 pub replay_given : (input : List ℕ) (cluster : Cluster) (end first : ℕ) → length input ≤ 67108864 → numbered_header input ≡ Ok (cluster, end, first)
@@ -61,7 +61,7 @@ replay_given input cluster end first h e =
     let header = header_given input cluster end first e in
     let left = header.left in
     short_by input h
-    ∙ ap (replay_behind input) header.read
+    ∙ ap (replay_after_header input) header.read
     ∙ ap (λ (n : ℕ). after_text (header_text left.at input) (from_number cluster left n)) header.number
     ∙ ap (λ (lines : List (List ℕ)). after_text (header_text left.at input) (lines_replayed cluster first (first_world cluster) lines)) header.is_left
     ∙ ap (λ (at : ℕ). after_text (header_text at input) (behind_header input cluster at first)) header.at
@@ -87,7 +87,7 @@ pub header_refused : (a : Option (List ℕ)) (input : List ℕ) (fault : HeaderF
     → Ends a a (replay_of input) (Some (Refusal.Header fault))
 header_refused a input fault h e = rw (short_by input h) (by (header_lines (all_of input)) e)
   where
-    by : (r : Result (Cluster × Left) HeaderFault) → Err fault ≡ (r >>= numbered)
-        → Ends a a (replay_behind input r) (Some (Refusal.Header fault))
+    by : (r : Result (Cluster × UnreadLines) HeaderFault) → Err fault ≡ (r >>= numbered)
+        → Ends a a (replay_after_header input r) (Some (Refusal.Header fault))
     by (Ok header) e = absurd (cc)
     by (Err found) e = let same : fault ≡ found = cc in record { wrote = Appends-nil a; fault = ap (λ (f : HeaderFault). Some (AtHeader f)) (sym same) }

@@ -4,15 +4,15 @@ use Rattle.std.specs.Prelude.{nat_lt}
 use Rattle.std.specs.Io.KnownBytes.{Appends}
 use Rattle.mdcc_option.specs.declared.cluster.Cluster.{Cluster}
 use Rattle.mdcc_language.specs.Errors.{TooLong, most_input, status_at_event, status_at_line, status_of}
-use Rattle.mdcc_language.specs.Header.{Left, all_of, header_lines}
+use Rattle.mdcc_language.specs.Header.{UnreadLines, all_of, header_lines}
 use Rattle.mdcc_language.specs.Schedule.{line_of}
 use Rattle.mdcc_language.specs.declared.events.Event.{Event}
 use Rattle.mdcc_language.specs.declared.schedule.HeaderFault.{HeaderFault}
 use Rattle.mdcc_language.specs.declared.schedule.SchedCause.{SchedCause}
 use Rattle.mdcc_language.specs.declared.schedule.SchedFault.{SchedFault}
 use Rattle.mdcc_language.specs.declared.world.EventFault.{EventFault}
-use Rattle.mdcc_simulation.specs.Events.{event_of}
-use Rattle.mdcc_simulation.specs.Replay.{ended, lines_replayed, replay_behind, replay_of}
+use Rattle.mdcc_simulation.specs.Events.{after_event}
+use Rattle.mdcc_simulation.specs.Replay.{ended, lines_replayed, replay_after_header, replay_of}
 use Rattle.mdcc_simulation.specs.State.{Happened, World, first_world}
 use Rattle.mdcc_replay.specs.Runs.{IsStatus}
 use Rattle.mdcc_replay.specs.Writing.{Replayed}
@@ -46,21 +46,21 @@ never_refused : (cluster : Cluster) (lines : List (List ℕ)) → NeverRefused c
 never_refused cluster [] number w h = omega (arith, h)
 never_refused cluster (line ∷ lines) number w h = by_line (line_of cluster line) refl (never_refused cluster lines)
   where
-    by_event : (event : Event) (r : Result Happened EventFault) → line_of cluster line ≡ Ok (Some event) → event_of w event ≡ r → NeverRefused cluster lines → ⊥
+    by_event : (event : Event) (r : Result Happened EventFault) → line_of cluster line ≡ Ok (Some event) → after_event w event ≡ r → NeverRefused cluster lines → ⊥
     by_event event (Err fault) e f rest = at_event fault (rw (e, f, lines_replayed) at h)
     by_event event (Ok happened) e f rest = rest (number + 1) happened.world (rw (e, f, lines_replayed) at h)
 
     by_line : (r : Result (Option Event) SchedFault) → line_of cluster line ≡ r → NeverRefused cluster lines → ⊥
     by_line (Err fault) e rest = at_line fault.cause (rw (e, lines_replayed) at h)
     by_line (Ok None) e rest = rest (number + 1) w (rw (e, lines_replayed) at h)
-    by_line (Ok (Some event)) e rest = by_event event (event_of w event) e refl rest
+    by_line (Ok (Some event)) e rest = by_event event (after_event w event) e refl rest
 
 -- ---- whole inputs
 
 no_text : (input : List ℕ) → status_of (replay_of input).fault ≡ 3 → (replay_of input).text ≡ []
 no_text input = pick (nat_lt most_input (length input)) (header_lines (all_of input))
   where
-    pick : (long : Bool) (header : Result (Cluster × Left) HeaderFault) → status_of (cond long (ended None [] (Some TooLong)) (replay_behind input header)).fault ≡ 3 → (cond long (ended None [] (Some TooLong)) (replay_behind input header)).text ≡ []
+    pick : (long : Bool) (header : Result (Cluster × UnreadLines) HeaderFault) → status_of (cond long (ended None [] (Some TooLong)) (replay_after_header input header)).fault ≡ 3 → (cond long (ended None [] (Some TooLong)) (replay_after_header input header)).text ≡ []
     pick true header h = refl
     pick false (Err fault) h = refl
     pick false (Ok header) h = absurd (never_refused header.0 header.1.lines header.1.number (first_world header.0) h)

@@ -1,6 +1,6 @@
 -- Steps that may be refused, one after another.
 use Rattle.std.proofs.Common.{ℕ, ◌+◌, nat_le, List, length, Bool, true, false, cond, Result, Ok, Err, IfOk}
-use Rattle.mdcc_language.specs.Lines.{bounded, most_bytes, of_long}
+use Rattle.mdcc_language.specs.Lines.{bounded, most_line_bytes, of_long}
 use Rattle.mdcc_language.specs.Words.{◌>>=◌, refused}
 use Rattle.mdcc_language.specs.declared.schedule.SchedFault.{SchedFault}
 use Rattle.mdcc_language.specs.declared.schedule.SchedCause.TheVariants.{Range}
@@ -20,8 +20,8 @@ if_ok P false x y p q = q
 
 -- what is known of a line that is read is known where it isn't too long
 pub bounded_ok : {A : Type 0} (P : A → Type 0) (text : List ℕ) (r : Result A SchedFault) → IfOk r P → IfOk (bounded text r) P
-bounded_ok P text r p = if_ok P (nat_le (length text) most_bytes) r (of_long r) p (long r)
+bounded_ok P text r p = if_ok P (nat_le (length text) most_line_bytes) r (of_long r) p (long r)
   where
     long : (r : Result _ SchedFault) → IfOk (of_long r) P
     long (Ok x) = tt
-    long (Err fault) = if_ok P (nat_le fault.column most_bytes) (Err fault) (refused (most_bytes + 1) Range) tt tt
+    long (Err fault) = if_ok P (nat_le fault.column most_line_bytes) (Err fault) (refused (most_line_bytes + 1) Range) tt tt

@@ -14,6 +14,6 @@ abbrev pub faults_of : Option Refusal → Option ReplayFault
 faults_of refusal = option_map fault_of refusal
 
 -- want of memory, which may come at any time
-abbrev pub is_memory : EventFault → Bool
-is_memory EventFault.Memory = true
-is_memory _ = false
+abbrev pub is_replay_out_of_memory : EventFault → Bool
+is_replay_out_of_memory EventFault.Memory = true
+is_replay_out_of_memory _ = false

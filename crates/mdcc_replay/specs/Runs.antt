@@ -3,7 +3,7 @@ use Rattle.std.specs.Prelude.{◌≡◌, ◌⊎◌, ◌==◌, ◌||◌, Bool, if
 use Rattle.std.specs.List.{list_any}
 use Rattle.mdcc_language.specs.Errors.{AtEvent, AtLine, error_line, error_text, memory_text, status_of}
 use Rattle.mdcc_simulation.specs.State.{Happened, World}
-use Rattle.mdcc_simulation.specs.Events.{event_of}
+use Rattle.mdcc_simulation.specs.Events.{after_event}
 use Rattle.mdcc_simulation.specs.Replay.{Replay, after_text, ended, lines_replayed}
 use Rattle.mdcc_option.specs.declared.cluster.Cluster.{Cluster}
 use Rattle.mdcc_language.specs.declared.events.Event.{Event}
@@ -18,15 +18,15 @@ use Rattle.mdcc_replay.specs.declared.writing.Failure.TheVariants.{Output, Memor
 -- ---- lines
 
 -- what an event and the lines behind it add to a replay, by what happened
-abbrev pub event_told : Cluster → ℕ → World → List (List ℕ) → Result Happened EventFault → Replay
-event_told cluster number world lines (Err fault) = ended (Some world) [] (Some (AtEvent number fault))
-event_told cluster number world lines (Ok happened) = after_text (lines_text happened.lines) (lines_replayed cluster (number + 1) happened.world lines)
+abbrev pub event_reported : Cluster → ℕ → World → List (List ℕ) → Result Happened EventFault → Replay
+event_reported cluster number world lines (Err fault) = ended (Some world) [] (Some (AtEvent number fault))
+event_reported cluster number world lines (Ok happened) = after_text (lines_text happened.lines) (lines_replayed cluster (number + 1) happened.world lines)
 
 -- the same for a line, by what it says
-abbrev pub line_told : Cluster → ℕ → World → List (List ℕ) → Result (Option Event) SchedFault → Replay
-line_told cluster number world lines (Err fault) = ended (Some world) [] (Some (AtLine number fault))
-line_told cluster number world lines (Ok None) = lines_replayed cluster (number + 1) world lines
-line_told cluster number world lines (Ok (Some event)) = event_told cluster number world lines (event_of world event)
+abbrev pub line_reported : Cluster → ℕ → World → List (List ℕ) → Result (Option Event) SchedFault → Replay
+line_reported cluster number world lines (Err fault) = ended (Some world) [] (Some (AtLine number fault))
+line_reported cluster number world lines (Ok None) = lines_replayed cluster (number + 1) world lines
+line_reported cluster number world lines (Ok (Some event)) = event_reported cluster number world lines (after_event world event)
 
 -- ---- statuses
 

@@ -2,7 +2,7 @@
 ghost use Rattle.std.specs.Prelude.{◌≡◌, ◌++◌, ◌+◌, ◌∷◌, ◌<◌, ◌≤◌, codes, drop, length, take, IfOk};
 ghost use Rattle.mdcc_language.specs.Lines.{lines_in};
 ghost use Rattle.mdcc_language.specs.Report.{header_text};
-ghost use Rattle.mdcc_sched.specs.Free.{is_memory};
+ghost use Rattle.mdcc_sched.specs.Free.{is_sched_memory};
 
 use mdcc_base::Memory;
 use mdcc_language::{SchedCause, SchedFault};
@@ -59,8 +59,8 @@ pub(crate) fn header_text(alloc: Global, end: usize, input: &[u8]) -> Result<Vec
 }
 
 /// Whether it is want of memory, as it comes from reading a line.
-pub(crate) fn is_memory(fault: &SchedFault) -> bool
-    ensures { result ≡ is_memory fault.now }
+pub(crate) fn is_sched_memory(fault: &SchedFault) -> bool
+    ensures { result ≡ is_sched_memory fault.now }
 {
     let is_cause = match fault.cause {
         SchedCause::Memory => true,

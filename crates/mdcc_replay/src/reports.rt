@@ -10,12 +10,12 @@ ghost use Rattle.mdcc_language.specs.Lines.{lines_in};
 ghost use Rattle.mdcc_simulation.specs.Replay.{lines_replayed, replay_of};
 ghost use Rattle.mdcc_language.specs.Report.{lines_text};
 ghost use Rattle.mdcc_simulation.specs.State.{World as AWorld};
-ghost use Rattle.mdcc_simulation.specs.Events.{event_of};
-ghost use Rattle.mdcc_replay.specs.Refusals.{is_memory};
-ghost use Rattle.mdcc_replay.specs.Runs.{event_told};
+ghost use Rattle.mdcc_simulation.specs.Events.{after_event};
+ghost use Rattle.mdcc_replay.specs.Refusals.{is_replay_out_of_memory};
+ghost use Rattle.mdcc_replay.specs.Runs.{event_reported};
 ghost use Rattle.mdcc_replay.specs.Writing.{IsLeftBy, LeavesLast, Replayed, ReplayedTo, StandsLast, refusal_in};
 
-use crate::lines::{behind, header_text, is_memory, split_line};
+use crate::lines::{behind, header_text, is_sched_memory, split_line};
 use crate::writing::{line_text, lines_text, write_text};
 use crate::{Failure, Refusal, Simulation};
 use mdcc_base::{HeapList, LIMIT, Plain, Sink};
@@ -35,7 +35,7 @@ pub enum Ended<W: Drop> {
 
 // Whether it is want of memory.
 fn is_event_memory(fault: &EventFault) -> bool
-    ensures { result ≡ is_memory fault.now }
+    ensures { result ≡ is_replay_out_of_memory fault.now }
 {
     match fault {
         EventFault::Memory => true,
@@ -51,9 +51,9 @@ fn event_text<W: Simulation>(
 ) -> Result<Vec<u8>, EventFault>
     requires known { (w : AWorld) × W.stands world.old w }
     ensures ok { (w : AWorld) → W.stands world.old w → IfOk result (λ text.
-        IsOkAnd (event_of w event.now) (λ h. (text.items ≡ lines_text h.lines) × W.stands world.new h.world)) }
+        IsOkAnd (after_event w event.now) (λ h. (text.items ≡ lines_text h.lines) × W.stands world.new h.world)) }
     ensures err { (w : AWorld) → W.stands world.old w → IfErr result (λ fault.
-        OnFalse (is_memory fault) (event_of w event.now ≡ Err fault)) }
+        OnFalse (is_replay_out_of_memory fault) (after_event w event.now ≡ Err fault)) }
 {
     let mut lines = HeapList::new(alloc);
     world.take(event, &mut lines)?;
@@ -71,7 +71,7 @@ fn replay_event<W: Simulation, O: Sink>(
 ) -> Result<Option<Refusal>, Failure>
     requires known { (w : AWorld) × W.stands world.old w }
     ensures written { (w : AWorld) (cluster : ACluster) (lines : List (List ℕ)) → W.stands world.old w
-        → ReplayedTo (λ next. W.stands world.new next) (O.held out.old) (O.held out.new) (event_told cluster number w lines (event_of w event.now))
+        → ReplayedTo (λ next. W.stands world.new next) (O.held out.old) (O.held out.new) (event_reported cluster number w lines (after_event w event.now))
         (λ next. lines_replayed cluster (number + 1) next lines) result }
     ensures later { O.faults out.old ≤ O.faults out.new }
     ensures failed { IsErrOf result Failure.Output → Rose (O.faults out.old) (O.faults out.new) }
@@ -110,7 +110,7 @@ fn replay_line<W: Simulation, O: Sink>(
         Ok(None) => Ok(None),
         Ok(Some(event)) => replay_event(alloc, world, number, &event, out),
         Err(fault) => {
-            if is_memory(&fault) {
+            if is_sched_memory(&fault) {
                 return Err(Failure::Memory);
             }
             Ok(Some(Refusal::Line(number, fault)))
@@ -189,7 +189,7 @@ fn left_by<W: Drop>(
 }
 
 // Replays an input behind its header, which ends before this place. The line there has this number.
-fn replay_behind<W: Simulation + Drop, O: Sink>(
+fn replay_after_header<W: Simulation + Drop, O: Sink>(
     alloc: Global,
     cluster: &Cluster,
     end: usize,
@@ -231,7 +231,7 @@ pub fn replay_to_end<W: Simulation + Drop, O: Sink>(
     }
     match parse_numbered_header(input) {
         Ok((cluster, end, first)) => {
-            replay_behind::<W, O>(alloc, &cluster, end, first, input, out)
+            replay_after_header::<W, O>(alloc, &cluster, end, first, input, out)
         }
         Err(fault) => Ok(Ended::Early(Refusal::Header(fault))),
     }

@@ -2,7 +2,7 @@
 ghost use Rattle.std.specs.Prelude.{IfOk, OnOk};
 ghost use Rattle.mdcc_protocol.specs.IsCluster.{IsCluster};
 ghost use Rattle.mdcc_simulation.specs.State.{World as AWorld};
-ghost use Rattle.mdcc_world.specs.Stands.{Stands};
+ghost use Rattle.mdcc_world.specs.Represents.{RepresentsWorld};
 
 use crate::replay_rows::{REPORT, Row, SCHEDULE};
 use crate::replays::check_behind;
@@ -336,8 +336,8 @@ fn five_centres() -> Result<Cluster, Fail>
 
 // What happens next in a world; its lines are let go.
 fn happen(alloc: Global, world: &mut World, event: &Event) -> Result<(), EventFault>
-    requires known { (w : AWorld) × Stands world.old w }
-    ensures { OnOk result ((w : AWorld) × Stands world.new w) }
+    requires known { (w : AWorld) × RepresentsWorld world.old w }
+    ensures { OnOk result ((w : AWorld) × RepresentsWorld world.new w) }
 {
     let mut lines = HeapList::new(alloc);
     world.event(event, &mut lines)

@@ -9,10 +9,10 @@ use Rattle.mdcc_base.specs.Sizes.{Sizes}
 use Rattle.mdcc_base.specs.declared.quorums.QuorumFault.{QuorumFault}
 use Rattle.mdcc_option.specs.Bounds.{IsSchema, is_bound}
 use Rattle.mdcc_option.specs.declared.cluster.Cluster.{Cluster}
-use Rattle.mdcc_language.specs.Header.{Bounds, Left, bound_line, bound_of, bounds_in, bounds_lines, cells_line, default_cells, header_line, header_lines, in_line, in_order, is_next, last_number, more_bounds, next_line, quorums_in, quorums_line, sizes_of, version_of, whole_line, limit_line}
+use Rattle.mdcc_language.specs.Header.{Bounds, UnreadLines, bound_line, bound_of, bounds_in, bounds_lines, cells_line, default_cells, header_line, header_lines, in_line, in_order, begins_next, last_number, more_bounds, next_line, quorums_in, quorums_line, parse_sizes, version_of, whole_line, limit_line}
 use Rattle.mdcc_protocol.specs.IsCluster.{IsCluster}
-use Rattle.mdcc_language.specs.Lines.{bounded, bytes_of_line, line_end_of, most_bytes, of_long}
-use Rattle.mdcc_language.specs.Words.{are_plain_digits, end_at, is_negative, natural_of, number_of, within, word_at, word_behind, word_end, ◌>>=◌}
+use Rattle.mdcc_language.specs.Lines.{bounded, bytes_of_line, line_end_of, most_line_bytes, of_long}
+use Rattle.mdcc_language.specs.Words.{are_plain_digits, end_at, is_negative, natural_of, number_of, within, word_at, word_after, word_end, ◌>>=◌}
 use Rattle.mdcc_language.specs.declared.schedule.SchedFault.{SchedFault}
 
 -- ---- steps in turn
@@ -36,21 +36,21 @@ only-if : {A E : Type 0} (b : Bool) (x : A) (fault : E) (y : A) → (if b then O
 only-if true x fault y h = (refl, cc)
 only-if false x fault y h = absurd (cc)
 
-in-line : {A : Type 0} (left : Left) (r : Result A SchedFault) (y : A) → in_line left r ≡ Ok y → r ≡ Ok y
+in-line : {A : Type 0} (left : UnreadLines) (r : Result A SchedFault) (y : A) → in_line left r ≡ Ok y → r ≡ Ok y
 in-line left (Ok x) y h = cc
 in-line left (Err fault) y h = absurd (cc)
 
 -- a line that is too long is refused
 short-line : {A : Type 0} (text : List ℕ) (r : Result A SchedFault) (y : A) → bounded text r ≡ Ok y → r ≡ Ok y
-short-line text r y h = by_length (nat_le (length text) most_bytes) r h
+short-line text r y h = by_length (nat_le (length text) most_line_bytes) r h
   where
     by_length : (few : Bool) (r : Result _ SchedFault) → (if few then r else of_long r) ≡ Ok y → r ≡ Ok y
     by_length true r h = h
     by_length false (Ok x) h = absurd (cc)
-    by_length false (Err fault) h = whenever (nat_le fault.column most_bytes) (Err fault) _ y h
+    by_length false (Err fault) h = whenever (nat_le fault.column most_line_bytes) (Err fault) _ y h
 
 -- what a header line spells was read of some text
-line-read : {A : Type 0} (word : List ℕ) (read : List ℕ → Result A SchedFault) (left : Left) (y : A × Left) → header_line word read left ≡ Ok y → (text : List ℕ) × (read text ≡ Ok y.0)
+line-read : {A : Type 0} (word : List ℕ) (read : List ℕ → Result A SchedFault) (left : UnreadLines) (y : A × UnreadLines) → header_line word read left ≡ Ok y → (text : List ℕ) × (read text ≡ Ok y.0)
 line-read word read left y h =
     let text : List ℕ = bytes_of_line (next_line left) in
     let line : Result _ SchedFault = whole_line word read (next_line left) in
@@ -78,16 +78,16 @@ natural-range word column low high n h =
 
 last-range : (low high at : ℕ) (line : List ℕ) (n : ℕ) → last_number low high at line ≡ Ok n → (low ≤ n) × (n ≤ high)
 last-range low high at line n h =
-    let start = bind-ok (word_behind at line) _ n h in
+    let start = bind-ok (word_after at line) _ n h in
     let number = bind-ok (natural_of (word_at start.0 line) (start.0 + 1) low high) _ n start.2 in
     let ended = bind-ok (end_at (word_end start.0 line) line 1) _ n number.2 in
     natural-range (word_at start.0 line) (start.0 + 1) low high n (number.1 ∙ ended.2)
 
-number-line : (word : List ℕ) (low high at : ℕ) (left : Left) (y : ℕ × Left) → header_line word (last_number low high at) left ≡ Ok y → (low ≤ y.0) × (y.0 ≤ high)
+number-line : (word : List ℕ) (low high at : ℕ) (left : UnreadLines) (y : ℕ × UnreadLines) → header_line word (last_number low high at) left ≡ Ok y → (low ≤ y.0) × (y.0 ≤ high)
 number-line word low high at left y h = let read = line-read word (last_number low high at) left y h in last-range low high at read.0 y.0 read.1
 
-cells-range : (left : Left) (y : ℕ × Left) → cells_line left ≡ Ok y → (1 ≤ y.0) × (y.0 ≤ 4194304)
-cells-range left y h = by_word (is_next (codes "cells") left) h
+cells-range : (left : UnreadLines) (y : ℕ × UnreadLines) → cells_line left ≡ Ok y → (1 ≤ y.0) × (y.0 ≤ 4194304)
+cells-range left y h = by_word (begins_next (codes "cells") left) h
   where
     by_word : (b : Bool) → (if b then header_line (codes "cells") (last_number 1 4194304 5) left else Ok (default_cells, left)) ≡ Ok y → (1 ≤ y.0) × (y.0 ≤ 4194304)
     by_word true g = number-line (codes "cells") 1 4194304 5 left y g
@@ -118,20 +118,20 @@ are-quorums n c f sizes h =
       fast_meet = grind (arith);
     })
 
-quorums-read : (left : Left) (y : Sizes × Left) → quorums_line left ≡ Ok y → AreQuorums y.0
+quorums-read : (left : UnreadLines) (y : Sizes × UnreadLines) → quorums_line left ≡ Ok y → AreQuorums y.0
 quorums-read left y h =
-    let sizes = bind-ok (header_line (codes "quorums") sizes_of left) _ y h in
+    let sizes = bind-ok (header_line (codes "quorums") parse_sizes left) _ y h in
     let quorums = bind-ok (quorums_in left (quorums_of sizes.0.0.0 sizes.0.0.1 sizes.0.0.2)) _ y sizes.2 in
     let same : quorums.0 ≡ y.0 = cc in
     subst AreQuorums same (are-quorums sizes.0.0.0 sizes.0.0.1 sizes.0.0.2 quorums.0 (inner left (quorums_of sizes.0.0.0 sizes.0.0.1 sizes.0.0.2) quorums.0 quorums.1))
   where
-    inner : (left : Left) (r : Result Sizes QuorumFault) (x : Sizes) → quorums_in left r ≡ Ok x → r ≡ Ok x
+    inner : (left : UnreadLines) (r : Result Sizes QuorumFault) (x : Sizes) → quorums_in left r ≡ Ok x → r ≡ Ok x
     inner left (Ok z) x e = cc
     inner left (Err fault) x e = absurd (cc)
 
 -- ---- bounds
 
-bound-read : (n : ℕ) (left : Left) (y : (ℤ × ℤ) × Left) → bound_line n left ≡ Ok y → is_bound y.0 ≡ true
+bound-read : (n : ℕ) (left : UnreadLines) (y : (ℤ × ℤ) × UnreadLines) → bound_line n left ≡ Ok y → is_bound y.0 ≡ true
 bound-read n left y h =
     let read = bind-ok (header_line (codes "bound") bound_of left) _ y h in
     let bounds = bind-ok (bounds_in n left read.0.0) _ y read.2 in
@@ -145,11 +145,11 @@ AreBounds most bounds = (length bounds ≤ most) × (list_all is_bound bounds �
 longer : (more : ℕ) (bounds : Bounds) (b : ℤ × ℤ) → length bounds ≤ more → length (b ∷ bounds) ≤ suc more
 longer more bounds b k = omega arith
 
-more-read : (more n : ℕ) (left : Left) (y : Bounds × Left) → more_bounds more n left ≡ Ok y → AreBounds more y.0
+more-read : (more n : ℕ) (left : UnreadLines) (y : Bounds × UnreadLines) → more_bounds more n left ≡ Ok y → AreBounds more y.0
 more-read zero n left y h = let same : [] ≡ y.0 = cc in subst (AreBounds 0) same (omega arith, refl)
-more-read (suc more) n left y h = by_word (is_next (codes "bound") left) (λ m x z. more-read more m x z) h
+more-read (suc more) n left y h = by_word (begins_next (codes "bound") left) (λ m x z. more-read more m x z) h
   where
-    by_word : (b : Bool) → ((m : ℕ) (x : Left) (z : Bounds × Left) → more_bounds more m x ≡ Ok z → AreBounds more z.0) →
+    by_word : (b : Bool) → ((m : ℕ) (x : UnreadLines) (z : Bounds × UnreadLines) → more_bounds more m x ≡ Ok z → AreBounds more z.0) →
         (if b then bound_line n left >>= (λ one. more_bounds more (n + 1) one.1 >>= (λ rest. Ok (one.0 ∷ rest.0, rest.1))) else Ok ([], left)) ≡ Ok y → AreBounds (suc more) y.0
     by_word false rest g = let same : [] ≡ y.0 = cc in subst (AreBounds (suc more)) same (omega arith, refl)
     by_word true rest g =
@@ -159,7 +159,7 @@ more-read (suc more) n left y h = by_word (is_next (codes "bound") left) (λ m x
         let k = rest (n + 1) one.0.1 others.0 others.1 in
         subst (AreBounds (suc more)) same (longer more others.0.0 one.0.0 k.0, rw (bound-read n left one.0 one.1) k.1)
 
-schema-read : (left : Left) (y : Bounds × Left) → bounds_lines left ≡ Ok y → IsSchema y.0
+schema-read : (left : UnreadLines) (y : Bounds × UnreadLines) → bounds_lines left ≡ Ok y → IsSchema y.0
 schema-read left y h =
     let one = bind-ok (bound_line 1 left) _ y h in
     let rest = bind-ok (more_bounds 3 2 one.0.1) _ y one.2 in
@@ -175,7 +175,7 @@ schema-read left y h =
 
 -- ---- all lines
 
-pub header-cluster : (left : Left) (y : Cluster × Left) → header_lines left ≡ Ok y → IsCluster y.0
+pub header-cluster : (left : UnreadLines) (y : Cluster × UnreadLines) → header_lines left ≡ Ok y → IsCluster y.0
 header-cluster left y h =
     let version = bind-ok (header_line (codes "mdcc-schedule") version_of left) _ y h in
     let quorums = bind-ok (quorums_line version.0.1) _ y version.2 in
@@ -184,7 +184,7 @@ header-cluster left y h =
     let limit = bind-ok (limit_line cells.0.1) _ y cells.2 in
     let bounds = bind-ok (bounds_lines limit.0.1) _ y limit.2 in
     let start = bind-ok (header_line (codes "start") (λ line. end_at 5 line 1) bounds.0.1) _ y bounds.2 in
-    let same : record { quorums = quorums.0.0; schema = bounds.0.0; gamma = gamma.0.0; cells = cells.0.0; limit = limit.0.0 } ≡ y.0 = ap (λ (z : Cluster × Left). z.0) (same-ok _ y _ start.2 refl) in
+    let same : record { quorums = quorums.0.0; schema = bounds.0.0; gamma = gamma.0.0; cells = cells.0.0; limit = limit.0.0 } ≡ y.0 = ap (λ (z : Cluster × UnreadLines). z.0) (same-ok _ y _ start.2 refl) in
     let few = cells-range gamma.0.1 cells.0 cells.1 in
     subst IsCluster same (record {
       quorums = quorums-read version.0.1 quorums.0 quorums.1;

@@ -11,7 +11,7 @@ use Rattle.mdcc_protocol.specs.Marks.{is_commit}
 use Rattle.mdcc_rules.specs.Steps.{NodeStep}
 use Rattle.mdcc_rules.specs.declared.node.StepFault.{StepFault}
 use Rattle.mdcc_simulation.specs.State.{World, centre_at}
-use Rattle.mdcc_simulation.specs.Stepping.{chosen_lines, fact_happened, heard_lines, input_happened, is_frame_kept, step_at, step_happened_by, step_stopped}
+use Rattle.mdcc_simulation.specs.AppliedSteps.{chosen_lines, fact_happened, heard_lines, input_happened, is_frame_kept, step_at, step_happened_by, step_stopped}
 use Rattle.mdcc_simulation.specs.Runs.{run_of}
 use Rattle.mdcc_language.specs.declared.events.Event.{Event}
 use Rattle.mdcc_language.specs.declared.lines.Line.{Line}

@@ -3,7 +3,7 @@ use Rattle.std.proofs.Common.{Err, List, None, Ok, Result, Some, [], ap, refl, �
 use Rattle.std.proofs.lemmas.List.{append-nil}
 use Rattle.mdcc_simulation.specs.State.{Happened, World, after_lines}
 use Rattle.mdcc_simulation.specs.Runs.{Run, run_from, run_of}
-use Rattle.mdcc_simulation.specs.Events.{event_of}
+use Rattle.mdcc_simulation.specs.Events.{after_event}
 use Rattle.mdcc_language.specs.declared.events.Event.{Event}
 use Rattle.mdcc_language.specs.declared.lines.Line.{Line}
 use Rattle.mdcc_language.specs.declared.world.EventFault.{EventFault}
@@ -14,9 +14,9 @@ use Rattle.mdcc_reports.proofs.Lists.{together}
 pub run-before : (events : List Event) (w : World) (ls ks : List Line) →
     run_from events (record { world = w; lines = ls ++ ks }) ≡ told_before ls (run_from events (record { world = w; lines = ks }))
 run-before [] w ls ks = refl
-run-before (event ∷ events) w ls ks = by_case (event_of w event) refl (run-before events)
+run-before (event ∷ events) w ls ks = by_case (after_event w event) refl (run-before events)
   where
-    by_case : (r : Result Happened EventFault) → event_of w event ≡ r →
+    by_case : (r : Result Happened EventFault) → after_event w event ≡ r →
         ((w : World) (ls ks : List Line) → run_from events (record { world = w; lines = ls ++ ks }) ≡ told_before ls (run_from events (record { world = w; lines = ks }))) →
         run_from (event ∷ events) (record { world = w; lines = ls ++ ks }) ≡ told_before ls (run_from (event ∷ events) (record { world = w; lines = ks }))
     by_case (Err fault) e rest = rw (e, run_from) refl
@@ -31,9 +31,9 @@ reached run = record { world = run.world; lines = run.lines }
 run-on : (first rest : List Event) (h : Happened) → (run_from first h).fault ≡ None →
     run_from (first ++ rest) h ≡ run_from rest (reached (run_from first h))
 run-on [] rest h e = refl
-run-on (event ∷ first) rest h e = by_case (event_of h.world event) refl (run-on first rest) e
+run-on (event ∷ first) rest h e = by_case (after_event h.world event) refl (run-on first rest) e
   where
-    by_case : (r : Result Happened EventFault) → event_of h.world event ≡ r →
+    by_case : (r : Result Happened EventFault) → after_event h.world event ≡ r →
         ((g : Happened) → (run_from first g).fault ≡ None → run_from (first ++ rest) g ≡ run_from rest (reached (run_from first g))) →
         (run_from (event ∷ first) h).fault ≡ None → run_from ((event ∷ first) ++ rest) h ≡ run_from rest (reached (run_from (event ∷ first) h))
     by_case (Err fault) f next k = (let bad : Some fault ≡ None = rw (f, run_from) at k in absurd (cc))
@@ -48,9 +48,9 @@ runs-go_on w first rest e =
 
 first-from : (first rest : List Event) (h : Happened) → (run_from (first ++ rest) h).fault ≡ None → (run_from first h).fault ≡ None
 first-from [] rest h e = refl
-first-from (event ∷ first) rest h e = by_case (event_of h.world event) refl (first-from first rest) e
+first-from (event ∷ first) rest h e = by_case (after_event h.world event) refl (first-from first rest) e
   where
-    by_case : (r : Result Happened EventFault) → event_of h.world event ≡ r →
+    by_case : (r : Result Happened EventFault) → after_event h.world event ≡ r →
         ((g : Happened) → (run_from (first ++ rest) g).fault ≡ None → (run_from first g).fault ≡ None) →
         (run_from ((event ∷ first) ++ rest) h).fault ≡ None → (run_from (event ∷ first) h).fault ≡ None
     by_case (Err fault) f next k = (let bad : Some fault ≡ None = rw (f, run_from) at k in absurd (cc))

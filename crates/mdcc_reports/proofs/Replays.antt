@@ -4,19 +4,19 @@ use Rattle.std.specs.Prelude.{false, length, nat_lt, ◌≤◌}
 use Rattle.std.proofs.lemmas.List.{append-nil}
 use Rattle.mdcc_option.specs.declared.cluster.Cluster.{Cluster}
 use Rattle.mdcc_language.specs.Errors.{AtEvent, AtLine, ReplayFault, most_input}
-use Rattle.mdcc_language.specs.Header.{Left}
+use Rattle.mdcc_language.specs.Header.{UnreadLines}
 use Rattle.mdcc_simulation.specs.Replay.{Replay, after_text, ended, lines_replayed, replay_of}
 use Rattle.mdcc_language.specs.Report.{header_text, line_text, lines_text}
 use Rattle.mdcc_language.specs.Schedule.{line_of}
 use Rattle.mdcc_language.specs.Words.{◌>>=◌}
 use Rattle.mdcc_simulation.specs.State.{Happened, World, first_world}
 use Rattle.mdcc_simulation.specs.Runs.{Run, end_line, run_from, run_of}
-use Rattle.mdcc_simulation.specs.Events.{event_of}
+use Rattle.mdcc_simulation.specs.Events.{after_event}
 use Rattle.mdcc_language.specs.declared.events.Event.{Event}
 use Rattle.mdcc_language.specs.declared.lines.Line.{Line}
 use Rattle.mdcc_language.specs.declared.schedule.SchedFault.{SchedFault}
 use Rattle.mdcc_language.specs.declared.world.EventFault.{EventFault}
-use Rattle.mdcc_reports.specs.Replays.{IsAccepted, IsLeft, IsReplayed, end_told, event_listed, events_read}
+use Rattle.mdcc_reports.specs.Replays.{IsAccepted, IsLeft, IsReplayed, end_reported, event_listed, events_read}
 use Rattle.mdcc_reports.specs.Growth.{told_before}
 use Rattle.mdcc_reports.proofs.Lists.{together}
 use Rattle.mdcc_reports.proofs.Prefixes.{run-before}
@@ -34,7 +34,7 @@ record IsRun (cluster : Cluster) (number : ℕ) (w : World) (lines : List (List 
   left : IsLeft (number + length taken) replay.fault rest
   read : events_read cluster taken ≡ Ok events
   whole : (run_of w events).fault ≡ None
-  text : replay.text ≡ lines_text ((run_of w events).lines ++ end_told replay.fault (run_of w events).world)
+  text : replay.text ≡ lines_text ((run_of w events).lines ++ end_reported replay.fault (run_of w events).world)
   world : replay.world ≡ Some (run_of w events).world
 
 some-line : (line : List ℕ) (lines : List (List ℕ)) → line ∷ lines ≡ [] → ⊥
@@ -62,12 +62,12 @@ lines-run cluster number w [] =
     ([], record { taken = []; rest = []; parts = refl; left = refl; read = refl; whole = refl; text = sym (append-nil (line_text (end_line w))); world = refl })
 lines-run cluster number w (line ∷ lines) = by_line (λ n x. lines-run cluster n x lines) (line_of cluster line) refl
   where
-    first : (event : Event) (next : Happened) (events : List Event) → event_of w event ≡ Ok next → run_of w (event ∷ events) ≡ told_before next.lines (run_of next.world events)
+    first : (event : Event) (next : Happened) (events : List Event) → after_event w event ≡ Ok next → run_of w (event ∷ events) ≡ told_before next.lines (run_of next.world events)
     first event next events e =
         rw (e, run_from)
         (ap (λ zs. run_from events (record { world = next.world; lines = zs })) (sym (append-nil next.lines)) ∙ run-before events next.world next.lines [])
 
-    by_event : ((n : ℕ) (x : World) → (events : List Event) × IsRun cluster n x lines (lines_replayed cluster n x lines) events) → (event : Event) → line_of cluster line ≡ Ok (Some event) → (r : Result Happened EventFault) → event_of w event ≡ r →
+    by_event : ((n : ℕ) (x : World) → (events : List Event) × IsRun cluster n x lines (lines_replayed cluster n x lines) events) → (event : Event) → line_of cluster line ≡ Ok (Some event) → (r : Result Happened EventFault) → after_event w event ≡ r →
         (events : List Event) × IsRun cluster number w (line ∷ lines) (lines_replayed cluster number w (line ∷ lines)) events
     by_event later event e (Err fault) f = rw (e, lines_replayed) (rw f (stopped cluster number w line lines (AtEvent number fault) (from-here number, some-line line lines)))
     by_event later event e (Ok next) f =
@@ -84,9 +84,9 @@ lines-run cluster number w (line ∷ lines) = by_line (λ n x. lines-run cluster
             read = read-more cluster line rest.1.taken (Some event) rest.0 e rest.1.read;
             whole = ap (λ (z : Run). z.fault) same ∙ rest.1.whole;
             text = ap (λ zs. lines_text next.lines ++ zs) rest.1.text
-                ∙ sym (texts-append next.lines ((run_of next.world rest.0).lines ++ end_told tail.fault (run_of next.world rest.0).world))
-                ∙ ap lines_text (sym (together next.lines (run_of next.world rest.0).lines (end_told tail.fault (run_of next.world rest.0).world)))
-                ∙ ap (λ (z : Run). lines_text (z.lines ++ end_told tail.fault z.world)) (sym same);
+                ∙ sym (texts-append next.lines ((run_of next.world rest.0).lines ++ end_reported tail.fault (run_of next.world rest.0).world))
+                ∙ ap lines_text (sym (together next.lines (run_of next.world rest.0).lines (end_reported tail.fault (run_of next.world rest.0).world)))
+                ∙ ap (λ (z : Run). lines_text (z.lines ++ end_reported tail.fault z.world)) (sym same);
             world = rest.1.world ∙ ap (λ (z : Run). Some z.world) (sym same);
           },
         ))
@@ -109,14 +109,14 @@ lines-run cluster number w (line ∷ lines) = by_line (λ n x. lines-run cluster
             world = rest.1.world;
           },
         )
-    by_line later (Ok (Some event)) e = by_event later event e (event_of w event) refl
+    by_line later (Ok (Some event)) e = by_event later event e (after_event w event) refl
 
 -- ---- whole inputs
 
 not-long : (most long : ℕ) → long ≤ most → nat_lt most long ≡ false
 not-long most long h = grind (arith)
 
-pub replayed : (input : List ℕ) (header : Cluster × Left) → IsAccepted input header → (events : List Event) × IsReplayed input header events
+pub replayed : (input : List ℕ) (header : Cluster × UnreadLines) → IsAccepted input header → (events : List Event) × IsReplayed input header events
 replayed input header accepted =
     let rest = lines-run header.0 header.1.number (first_world header.0) header.1.lines in
     (rest.0, printed rest.0 rest.1)

@@ -14,12 +14,12 @@ use Rattle.mdcc_ledger.specs.Ledger.{facts_of}
 use Rattle.mdcc_language.specs.Resolve.{resolve}
 use Rattle.mdcc_simulation.specs.State.{Happened, Site, World, after_lines, centre_at, counted_event, down, is_up_at, next_message, with_centre}
 use Rattle.mdcc_messages.specs.Mailbox.{Sent, numbered, with_delivered}
-use Rattle.mdcc_simulation.specs.Clients.{answer_in, begin_lines, begin_of, begun_by, parts_begun, read_happened}
-use Rattle.mdcc_simulation.specs.Limits.{cells_limit, if_up, is_limit, is_past_events, log_limit, most_events, step_limit, unless, with_lines, within_events}
-use Rattle.mdcc_simulation.specs.Deliveries.{deliver_line, delivered, deliveries_of, delivery_by, delivery_of, first_waiting, is_waiting_for, settle_of, settled_line, settled_of}
-use Rattle.mdcc_simulation.specs.Events.{event_of, happened_of, is_deliver}
-use Rattle.mdcc_simulation.specs.Stepping.{fact_happened, input_happened, is_frame_kept, step_at, step_happened_by, step_stopped}
-use Rattle.mdcc_simulation.specs.Centres.{restart_happened, restart_of, tick_line, tick_of}
+use Rattle.mdcc_simulation.specs.Clients.{answer_in, begin_lines, after_begin, begun_by, parts_begun, read_happened}
+use Rattle.mdcc_simulation.specs.Limits.{cells_limit, if_up, is_limit, is_past_events, log_limit, most_events, step_limit, unless_limit, with_lines, within_events}
+use Rattle.mdcc_simulation.specs.Deliveries.{deliver_line, after_message, after_deliveries, after_delivery_by, after_delivery, first_waiting, is_waiting_for, after_settle, settled_line, settled_of}
+use Rattle.mdcc_simulation.specs.Events.{after_event, happened_of, is_deliver}
+use Rattle.mdcc_simulation.specs.AppliedSteps.{fact_happened, input_happened, is_frame_kept, step_at, step_happened_by, step_stopped}
+use Rattle.mdcc_simulation.specs.Centres.{restart_happened, after_restart, tick_line, after_tick}
 use Rattle.mdcc_simulation.specs.Runs.{run_from, run_of}
 use Rattle.mdcc_language.specs.declared.events.Event.{Event}
 use Rattle.mdcc_messages.specs.declared.facts.Fact.{Fact}
@@ -96,11 +96,11 @@ input-events w a (Ok step) = by_fact step.fact
     by_fact (Some fact) = by_stop fact (centre_at w a).stop
 
 -- a delivery counts one
-delivered-events : (w : World) (number : ℕ) (envelope : Envelope) (after : Happened) → delivered w number envelope ≡ Ok after → after.world.events ≡ w.events + 1
+delivered-events : (w : World) (number : ℕ) (envelope : Envelope) (after : Happened) → after_message w number envelope ≡ Ok after → after.world.events ≡ w.events + 1
 delivered-events w number envelope after e =
     by_limit (step_limit (counted_with w (with_delivered w.sent (number - 1))) envelope.to (step_at (counted_with w (with_delivered w.sent (number - 1))) envelope.to (Input.Message envelope))) e
   where
-    by_limit : (o : Option EventFault) → unless o (taken_in w (with_delivered w.sent (number - 1)) envelope.to (Input.Message envelope)) ≡ Ok after → after.world.events ≡ w.events + 1
+    by_limit : (o : Option EventFault) → unless_limit o (taken_in w (with_delivered w.sent (number - 1)) envelope.to (Input.Message envelope)) ≡ Ok after → after.world.events ≡ w.events + 1
     by_limit (Some fault) g = absurd (cc)
     by_limit None g =
         let same : taken_in w (with_delivered w.sent (number - 1)) envelope.to (Input.Message envelope) ≡ after = cc in
@@ -114,7 +114,7 @@ no-left : (most events : ℕ) → nat_le events most ≡ false → most - events
 no-left most events h = grind (arith)
 
 module _ (R : World → World → List Line → Type 0) (kept : IsKept R) where
-  unless-kept : (w : World) (o : Option EventFault) (h : Happened) → R w h.world h.lines → OkKept R w (unless o h)
+  unless-kept : (w : World) (o : Option EventFault) (h : Happened) → R w h.world h.lines → OkKept R w (unless_limit o h)
   unless-kept w None h g = g
   unless-kept w (Some fault) h g = tt
 
@@ -148,7 +148,7 @@ module _ (R : World → World → List Line → Type 0) (kept : IsKept R) where
   -- ---- inputs
 
   taken-kept : (w : World) (sent : List Sent) (a : ℕ) (input : Input) → IsOpen w → is_up_at w a ≡ true →
-      OkKept R w (unless (step_limit (counted_with w sent) a (step_at (counted_with w sent) a input)) (taken_in w sent a input))
+      OkKept R w (unless_limit (step_limit (counted_with w sent) a (step_at (counted_with w sent) a input)) (taken_in w sent a input))
   taken-kept w sent a input free up =
       unless-kept w (step_limit (counted_with w sent) a (step_at (counted_with w sent) a input)) (taken_in w sent a input) (kept.input w sent a input free up)
 
@@ -169,28 +169,28 @@ module _ (R : World → World → List Line → Type 0) (kept : IsKept R) where
 
   -- ---- deliveries
 
-  delivered-kept : (w : World) (number : ℕ) (envelope : Envelope) → IsOpen w → is_up_at w envelope.to ≡ true → OkKept R w (delivered w number envelope)
+  delivered-kept : (w : World) (number : ℕ) (envelope : Envelope) → IsOpen w → is_up_at w envelope.to ≡ true → OkKept R w (after_message w number envelope)
   delivered-kept w number envelope free up = taken-kept w (with_delivered w.sent (number - 1)) envelope.to (Input.Message envelope) free up
 
-  delivery-by-kept : (w : World) (number : ℕ) (o : Option Sent) → OkKept R w (delivery_by w number o)
+  delivery-by-kept : (w : World) (number : ℕ) (o : Option Sent) → OkKept R w (after_delivery_by w number o)
   delivery-by-kept w number None = tt
   delivery-by-kept w number (Some s) =
       up-kept w w s.envelope.to _
-      (λ up. within-kept w (with_lines (deliver_line number) (delivered w number s.envelope))
-      (λ free. lines-kept w (deliver_line number) (delivered w number s.envelope) (λ x. (refl, tt)) (delivered-kept w number s.envelope free up)))
+      (λ up. within-kept w (with_lines (deliver_line number) (after_message w number s.envelope))
+      (λ free. lines-kept w (deliver_line number) (after_message w number s.envelope) (λ x. (refl, tt)) (delivered-kept w number s.envelope free up)))
 
   -- what was reached before, and this
   abbrev After : World → Happened → Result Happened EventFault → Type 0
   After v h r = R v h.world h.lines → OkKept R v r
 
-  deliveries-kept : (v : World) (numbers : List ℕ) (h : Happened) → R v h.world h.lines → OkKept R v (deliveries_of numbers h)
+  deliveries-kept : (v : World) (numbers : List ℕ) (h : Happened) → R v h.world h.lines → OkKept R v (after_deliveries numbers h)
   deliveries-kept v [] h g = g
-  deliveries-kept v (number ∷ numbers) h g = by_case (λ next. deliveries-kept v numbers next) (delivery_of h.world number) refl (delivery-by-kept h.world number (numbered h.world.sent number))
+  deliveries-kept v (number ∷ numbers) h g = by_case (λ next. deliveries-kept v numbers next) (after_delivery h.world number) refl (delivery-by-kept h.world number (numbered h.world.sent number))
     where
-      by_case : ((next : Happened) → R v next.world next.lines → OkKept R v (deliveries_of numbers next)) → (r : Result Happened EventFault) → delivery_of h.world number ≡ r → OkKept R h.world r →
-          OkKept R v (deliveries_of (number ∷ numbers) h)
-      by_case rest (Err fault) e k = rw (e, deliveries_of, OkKept) tt
-      by_case rest (Ok next) e k = rw (e, deliveries_of, OkKept) (rest (after_lines h.lines next) (kept.join v h.world next.world h.lines next.lines g k))
+      by_case : ((next : Happened) → R v next.world next.lines → OkKept R v (after_deliveries numbers next)) → (r : Result Happened EventFault) → after_delivery h.world number ≡ r → OkKept R h.world r →
+          OkKept R v (after_deliveries (number ∷ numbers) h)
+      by_case rest (Err fault) e k = rw (e, after_deliveries, OkKept) tt
+      by_case rest (Ok next) e k = rw (e, after_deliveries, OkKept) (rest (after_lines h.lines next) (kept.join v h.world next.world h.lines next.lines g k))
 
   -- ---- settle
 
@@ -222,7 +222,7 @@ module _ (R : World → World → List Line → Type 0) (kept : IsKept R) where
   settled-kept v (suc left) listed h d few g = by_case (λ k n. settled-kept v left listed k n) (first_waiting h.world listed 1 h.world.sent) refl
     where
       by_result : ((k : Happened) (n : ℕ) → left + k.world.events ≤ most_events → R v k.world k.lines → OkSettled v (settled_of left listed k n)) → (next : ℕ × Envelope) → first_waiting h.world listed 1 h.world.sent ≡ Some next →
-          (r : Result Happened EventFault) → delivered h.world next.0 next.1 ≡ r → OkKept R h.world r → OkSettled v (settled_of (suc left) listed h d)
+          (r : Result Happened EventFault) → after_message h.world next.0 next.1 ≡ r → OkKept R h.world r → OkSettled v (settled_of (suc left) listed h d)
       by_result rest next e (Err fault) f k = rw (e, settled_of) (rw (f, OkSettled) tt)
       by_result rest next e (Ok after) f k =
           let events : after.world.events ≡ h.world.events + 1 = delivered-events h.world next.0 next.1 after f in
@@ -232,7 +232,7 @@ module _ (R : World → World → List Line → Type 0) (kept : IsKept R) where
           OkSettled v (settled_of (suc left) listed h d)
       by_case rest None e = rw (e, settled_of, OkSettled) g
       by_case rest (Some next) e =
-          by_result rest next e (delivered h.world next.0 next.1) refl
+          by_result rest next e (after_message h.world next.0 next.1) refl
           (delivered-kept h.world next.0 next.1 (omega arith) (waiting-up h.world listed 1 h.world.sent next e))
 
   none-left : (v : World) (left : ℕ) (listed : List ℕ) (h : Happened) (d : ℕ) → left ≡ 0 → R v h.world h.lines → OkSettled v (settled_of left listed h d)
@@ -246,7 +246,7 @@ module _ (R : World → World → List Line → Type 0) (kept : IsKept R) where
   settled-line v (Err fault) h = tt
   settled-line v (Ok (h, n)) g = kept.join v h.world h.world h.lines _ g (silents h.world (Line.Settled n (next_message h.world) ∷ []) (refl, tt))
 
-  settle-kept : (w : World) (listed : List ℕ) → IsOpen w → OkKept R w (settle_of (counted_event w) listed)
+  settle-kept : (w : World) (listed : List ℕ) → IsOpen w → OkKept R w (after_settle (counted_event w) listed)
   settle-kept w listed free =
       elim (cases_Bool (nat_le (w.events + 1) most_events)) [
         | inl few ↦ settled-line w (settled_of (most_events - (w.events + 1)) listed first 0) (settled-kept w (most_events - (w.events + 1)) listed first 0 (left-few most_events (w.events + 1) few) (told w (counted_event w) (Line.Settle listed) refl (kept.count w free)))
@@ -258,7 +258,7 @@ module _ (R : World → World → List Line → Type 0) (kept : IsKept R) where
 
   -- ---- events
 
-  restart-kept : (w : World) (a : ℕ) → IsOpen w → OkKept R w (restart_of (counted_event w) a)
+  restart-kept : (w : World) (a : ℕ) → IsOpen w → OkKept R w (after_restart (counted_event w) a)
   restart-kept w a free =
       unless-kept w (option_or (cells_limit (counted_event w) a (Fact.Booted (epoch_of (facts_of w.ledger a) + 1))) (log_limit (counted_event w) a (Fact.Booted (epoch_of (facts_of w.ledger a) + 1))))
       (restart_happened (counted_event w) a (epoch_of (facts_of w.ledger a) + 1))
@@ -266,11 +266,11 @@ module _ (R : World → World → List Line → Type 0) (kept : IsKept R) where
 
   happened-kept : (w : World) (event : Event) → IsTrue (not (is_deliver event)) → IsOpen w → OkKept R w (happened_of (counted_event w) event)
   happened-kept w (Event.Read a key) single free = up-kept (counted_event w) w a _ (λ up. kept.read w a key free)
-  happened-kept w (Event.Begin a words) single free = up-kept (counted_event w) w a (begin_of (counted_event w) a words) (λ up. parts-kept w a (resolve words (map Some w.reads)) free up)
+  happened-kept w (Event.Begin a words) single free = up-kept (counted_event w) w a (after_begin (counted_event w) a words) (λ up. parts-kept w a (resolve words (map Some w.reads)) free up)
   happened-kept w (Event.Deliver numbers) single free = absurd (cc)
   happened-kept w (Event.Settle listed) single free = settle-kept w listed free
   happened-kept w (Event.Tick a) single free =
-      up-kept (counted_event w) w a (tick_of (counted_event w) a)
+      up-kept (counted_event w) w a (after_tick (counted_event w) a)
       (λ up. lines-kept w (tick_line a) _ (λ x. (refl, tt)) (taken-kept w w.sent a Input.Tick free up))
   happened-kept w (Event.Crash a) single free = up-kept (counted_event w) w a _ (λ up. told w (with_centre (counted_event w) a down) _ refl (kept.site w a down free))
   happened-kept w (Event.Restart a) single free =
@@ -281,7 +281,7 @@ module _ (R : World → World → List Line → Type 0) (kept : IsKept R) where
   happened-kept w (Event.Stop a call image) single free =
       up-kept (counted_event w) w a _ (λ up. told w (with_centre (counted_event w) a (record (centre_at w a) { stop = Some (call, image) })) _ refl (kept.site w a (record (centre_at w a) { stop = Some (call, image) }) free))
 
-  pub event-kept : (w : World) (event : Event) → OkKept R w (event_of w event)
+  pub event-kept : (w : World) (event : Event) → OkKept R w (after_event w event)
   event-kept w (Event.Deliver numbers) = deliveries-kept w numbers (record { world = w; lines = [] }) (kept.none w)
   event-kept w (Event.Read a key) = within-kept w _ (happened-kept w (Event.Read a key) refl)
   event-kept w (Event.Begin a words) = within-kept w _ (happened-kept w (Event.Begin a words) refl)
@@ -295,9 +295,9 @@ module _ (R : World → World → List Line → Type 0) (kept : IsKept R) where
 
   run-kept : (v : World) (events : List Event) (h : Happened) → R v h.world h.lines → R v (run_from events h).world (run_from events h).lines
   run-kept v [] h g = g
-  run-kept v (event ∷ events) h g = by_case (λ next k. run-kept v events next k) (event_of h.world event) refl (event-kept h.world event)
+  run-kept v (event ∷ events) h g = by_case (λ next k. run-kept v events next k) (after_event h.world event) refl (event-kept h.world event)
     where
-      by_case : ((next : Happened) → R v next.world next.lines → R v (run_from events next).world (run_from events next).lines) → (r : Result Happened EventFault) → event_of h.world event ≡ r → OkKept R h.world r →
+      by_case : ((next : Happened) → R v next.world next.lines → R v (run_from events next).world (run_from events next).lines) → (r : Result Happened EventFault) → after_event h.world event ≡ r → OkKept R h.world r →
           R v (run_from (event ∷ events) h).world (run_from (event ∷ events) h).lines
       by_case rest (Err fault) e k = rw (e, run_from) g
       by_case rest (Ok next) e k = rw (e, run_from) (rest (after_lines h.lines next) (kept.join v h.world next.world h.lines next.lines g k))

@@ -9,7 +9,7 @@ use Rattle.mdcc_ledger.specs.Ledger.{Added, Entry, facts_of, new_outcomes}
 use Rattle.mdcc_protocol.specs.Marks.{is_commit}
 use Rattle.mdcc_protocol.specs.Visible
 use Rattle.mdcc_simulation.specs.State.{World}
-use Rattle.mdcc_simulation.specs.Clients.{known_of}
+use Rattle.mdcc_simulation.specs.Clients.{known_of_reading}
 use Rattle.mdcc_simulation.specs.Runs.{run_of}
 use Rattle.mdcc_language.specs.declared.events.Event.{Event}
 use Rattle.mdcc_messages.specs.declared.facts.Fact.{Fact}
@@ -34,7 +34,7 @@ pub record WasRead (ledger : List Entry) (a : ℕ) (known : Known) : Type 0 wher
   pub later : List Entry
   pub before : List Entry
   pub parts : ledger ≡ later ++ before
-  pub shown : known ≡ known_of known.key (Visible.read (facts_of before a) known.key)
+  pub shown : known ≡ known_of_reading known.key (Visible.read (facts_of before a) known.key)
 
 -- a line on an outcome is told where the outcome came or was heard, and a read where it was made; of other lines nothing is said
 abbrev pub HasOrigin : Sizes → List Entry → Line → Type 0
@@ -57,7 +57,7 @@ BeginsAt quorums now (Line.Chosen tx is_committed) =
     × (entry : Entry) × (before : List Entry) × (now ≡ entry ∷ before) × Contains (new_outcomes quorums entry before) (tx, outcome)
 BeginsAt quorums now (Line.Heard a tx is_committed) =
     (outcome : Outcome) × (is_commit outcome ≡ is_committed) × (before : List Entry) × (now ≡ Added a (Fact.Heard tx outcome) ∷ before)
-BeginsAt quorums now (Line.Read number a known) = known ≡ known_of known.key (Visible.read (facts_of now a) known.key)
+BeginsAt quorums now (Line.Read number a known) = known ≡ known_of_reading known.key (Visible.read (facts_of now a) known.key)
 BeginsAt quorums now line = ⊤
 
 -- the lines are told in turn while the ledger grows from the first to the last of these

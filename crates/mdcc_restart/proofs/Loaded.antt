@@ -7,7 +7,7 @@ use Rattle.mdcc_ledger.specs.BootTest.{are_allowed_facts, is_allowed_fact}
 use Rattle.mdcc_messages.specs.declared.facts.Fact.{Fact}
 use Rattle.mdcc_option.specs.declared.cluster.Cluster.{Cluster}
 use Rattle.mdcc_rules.specs.declared.node.BootFault.{BootFault}
-use Rattle.mdcc_steps.specs.Forming.{payloads_of}
+use Rattle.mdcc_steps.specs.NodeInvariant.{payloads_of}
 
 module _ (cells : Cells) (cluster : Cluster) where
   -- one payload more, behind others that were taken

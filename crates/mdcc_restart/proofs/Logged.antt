@@ -13,7 +13,7 @@ use Rattle.mdcc_messages.specs.WellFormed.{IsWellFormedFact}
 use Rattle.mdcc_messages.specs.declared.facts.Fact.{Fact}
 use Rattle.mdcc_restart.specs.Logged.{logged}
 use Rattle.mdcc_spelling.proofs.Whole.{fact_again}
-use Rattle.mdcc_steps.specs.Forming.{payloads_of}
+use Rattle.mdcc_steps.specs.NodeInvariant.{payloads_of}
 
 -- ---- what is read of them
 

@@ -8,8 +8,8 @@ use Rattle.mdcc_areas.specs.Area.{payloads}
 use Rattle.mdcc_areas.specs.Crash.{ReadsAsEither}
 use Rattle.mdcc_log.specs.Log.{log_bytes, log_limit}
 use Rattle.mdcc_areas.specs.declared.fault.LogFault.{LogFault}
-use Rattle.mdcc_node.specs.Booting.{Boots, IsBoot}
-use Rattle.mdcc_node.specs.Stands.{Stands}
+use Rattle.mdcc_node.specs.BootEffects.{Boots, IsBoot}
+use Rattle.mdcc_node.specs.Represents.{RepresentsCentre}
 use Rattle.mdcc_node.specs.declared.node.Node.{Node}
 use Rattle.mdcc_option.specs.declared.cluster.Cluster.{Cluster}
 use Rattle.mdcc_ledger.specs.BootTest.{are_allowed_facts, is_allowed_fact}
@@ -55,7 +55,7 @@ module _ {S : Type 0} (stands : S → List Fact → Type 0) (room : S → ℕ) (
       let found = node-of (r.1 ∷ h.0) over in
       let same : r.1 ∷ h.0 ≡ next_boot facts ∷ facts = found.1 in (
         found.0,
-        subst (λ fs. Stands stands r.0 cluster me fs nothing_kept) same h.2,
+        subst (λ fs. RepresentsCentre stands r.0 cluster me fs nothing_kept) same h.2,
         cc,
         over ∙ ap (λ fs. Ok fs) same,
         subst (λ fs. room r.0.store + sum_over cells.needed fs ≡ cells.total) same h.3.spare,

@@ -9,7 +9,7 @@ use Rattle.mdcc_areas.specs.Frames.{OpenAreas}
 use Rattle.mdcc_areas.specs.Room.{IsRoomy, IsRoomyLog}
 use Rattle.mdcc_areas.specs.declared.fault.LogFault.{LogFault}
 use Rattle.mdcc_log.specs.Log.{log_bytes, log_limit}
-use Rattle.mdcc_node.specs.Stands.{Stands}
+use Rattle.mdcc_node.specs.Represents.{RepresentsCentre}
 use Rattle.mdcc_node.specs.declared.node.Node.{Node}
 use Rattle.mdcc_option.specs.declared.cluster.Cluster.{Cluster}
 use Rattle.mdcc_protocol.specs.Facts.{epoch_of}
@@ -17,7 +17,7 @@ use Rattle.mdcc_protocol.specs.Volatile.{nothing_kept}
 use Rattle.mdcc_messages.specs.Spelling.{fact_bytes}
 use Rattle.mdcc_messages.specs.declared.facts.Fact.{Fact}
 use Rattle.mdcc_rules.specs.declared.node.BootFault.{BootFault}
-use Rattle.mdcc_steps.specs.Forming.{payloads_of}
+use Rattle.mdcc_steps.specs.NodeInvariant.{payloads_of}
 use Rattle.mdcc_restart.specs.Logged.{logged}
 use Rattle.mdcc_restart.specs.declared.fault.RestartFault.{RestartFault}
 use Rattle.mdcc_restart.specs.declared.restarting.Restarted.{Restarted}
@@ -57,7 +57,7 @@ booted_over cells cluster facts = boot_by cells cluster (payloads_of facts)
 pub record Runs {S D : Type 0} (stands : S → List Fact → Type 0) (room : S → ℕ) (cells : Cells) (centre : Restarted S) (cluster : Cluster) (me every : ℕ) (facts : List Fact) (disk : D → ℕ → Disk) (may_leave : D → ℕ → List ℕ → Type 0) (old new : D) : Type 0 where
   pub epoch : centre.epoch ≡ epoch_of facts + 1
   pub below : epoch_of facts < 2 ^ 32 - 1
-  pub node : Stands stands centre.node cluster me (next_boot facts ∷ facts) nothing_kept
+  pub node : RepresentsCentre stands centre.node cluster me (next_boot facts ∷ facts) nothing_kept
   pub spare : room centre.node.store + sum_over cells.needed (next_boot facts ∷ facts) ≡ cells.total
   pub place : centre.log.centre ≡ me
   pub every_is : centre.log.every ≡ every
@@ -100,7 +100,7 @@ KeepsLog all _ me every disk may_leave old new = IsAsBefore all me every disk ma
 -- a node of these facts and the new boot, with this boot, or the fault: the epochs are used up, cells lack, or there was no memory
 abbrev pub BootsNode : {S : Type 0} → (S → List Fact → Type 0) → (S → ℕ) → Cells → Result (Node S × Fact) RestartFault → Cluster → ℕ → List Fact → Type 0
 BootsNode stands room cells (Ok r) cluster me facts =
-    (epoch_of facts < 2 ^ 32 - 1) × Stands stands r.0 cluster me (next_boot facts ∷ facts) nothing_kept × (r.1 ≡ next_boot facts)
+    (epoch_of facts < 2 ^ 32 - 1) × RepresentsCentre stands r.0 cluster me (next_boot facts ∷ facts) nothing_kept × (r.1 ≡ next_boot facts)
     × (booted_over cells cluster facts ≡ Ok (next_boot facts ∷ facts)) × (room r.0.store + sum_over cells.needed (next_boot facts ∷ facts) ≡ cells.total)
 BootsNode stands room cells (Err (RestartFault.Boot BootFault.Epochs)) cluster me facts = 2 ^ 32 - 1 ≤ epoch_of facts
 BootsNode stands room cells (Err (RestartFault.Boot (BootFault.Room needed all))) cluster me facts = booted_over cells cluster facts ≡ Err (BootFault.Room needed all)

@@ -6,7 +6,7 @@ ghost use Rattle.mdcc_areas.specs.AtRest.{IsAtRest};
 ghost use Rattle.mdcc_areas.specs.Both.{KeepsBut, RoseAtOne};
 ghost use Rattle.mdcc_areas.specs.Crash.{ReadsAsEither};
 ghost use Rattle.mdcc_disks.specs.Disks.{Only};
-ghost use Rattle.mdcc_node.specs.Booting.{IsBoot};
+ghost use Rattle.mdcc_node.specs.BootEffects.{IsBoot};
 ghost use Rattle.mdcc_protocol.specs.Belongs.{is_centre};
 ghost use Rattle.mdcc_messages.specs.Spelling.{fact_bytes};
 ghost use Rattle.mdcc_messages.specs.declared.facts.Fact.{Fact as AFact};

@@ -3,7 +3,7 @@ use crate::values::{cluster, insert, key, tx};
 use mdcc_base::{Ballot, Plain};
 use mdcc_messages::Fact;
 use mdcc_option::{Choice, Mark};
-use mdcc_outcomes::{Outcomes, Totals};
+use mdcc_outcomes::{Decisions, Totals};
 use mdcc_struct::Options;
 use std::alloc::Global;
 use std::process::Abort;
@@ -21,9 +21,9 @@ fn inserts() -> (Choice, Choice) {
 }
 
 // The insert and the other one are begun.
-fn begun(alloc: Global) -> Result<Outcomes, Fail> {
+fn begun(alloc: Global) -> Result<Decisions, Fail> {
     let (first, second) = inserts();
-    let mut outcomes = Outcomes::new(alloc, &cluster()?.quorums)?;
+    let mut outcomes = Decisions::new(alloc, &cluster()?.quorums)?;
     outcomes.begin(tx(1), &[first])?;
     outcomes.begin(tx(2), &[second])?;
     Ok(outcomes)
@@ -43,20 +43,28 @@ fn voted(alloc: Global, seq: u32, mark: Mark) -> Result<Fact, Fail> {
 }
 
 // What ends as a centre accepts the first insert.
-fn accept(alloc: Global, outcomes: &mut Outcomes, centre: u8) -> Result<Option<(u32, bool)>, Fail> {
+fn accept(
+    alloc: Global,
+    outcomes: &mut Decisions,
+    centre: u8,
+) -> Result<Option<(u32, bool)>, Fail> {
     let fact = voted(alloc, 1, Mark::Accept(insert()))?;
     let ended = outcomes.add(centre, &fact)?;
     Ok(ended.as_slice().first().map(|end| (end.0.seq, end.1)))
 }
 
 // What ends as a centre rejects the second one.
-fn reject(alloc: Global, outcomes: &mut Outcomes, centre: u8) -> Result<Option<(u32, bool)>, Fail> {
+fn reject(
+    alloc: Global,
+    outcomes: &mut Decisions,
+    centre: u8,
+) -> Result<Option<(u32, bool)>, Fail> {
     let fact = voted(alloc, 2, Mark::Reject)?;
     let ended = outcomes.add(centre, &fact)?;
     Ok(ended.as_slice().first().map(|end| (end.0.seq, end.1)))
 }
 
-fn is_total(outcomes: &Outcomes, commits: u32, aborts: u32, undecided: u32) -> bool {
+fn is_total(outcomes: &Decisions, commits: u32, aborts: u32, undecided: u32) -> bool {
     outcomes.totals()
         == Totals {
             commits,
@@ -73,10 +81,10 @@ fn a_fast_quorum_commits(rt: HostRuntime) -> Result<(), Fail> {
     for centre in 1..4 {
         assert!(rt; accept(alloc, &mut outcomes, centre)?.is_none());
     }
-    assert!(rt; outcomes.ending_of(&tx(1)).is_none());
+    assert!(rt; outcomes.decided_of(&tx(1)).is_none());
     assert!(rt; accept(alloc, &mut outcomes, 5)? == Some((1, true)));
     assert!(rt; accept(alloc, &mut outcomes, 4)?.is_none());
-    assert!(rt; outcomes.ending_of(&tx(1)) == Some(true));
+    assert!(rt; outcomes.decided_of(&tx(1)) == Some(true));
     assert!(rt; is_total(&outcomes, 1, 0, 1));
     Ok(())
 }

@@ -30,9 +30,9 @@ use Rattle.mdcc_rules.specs.Node.{cells_spare, checked, is_without_room, step_of
 use Rattle.mdcc_rules.specs.Steps.{NodeStep, nothing_done}
 use Rattle.mdcc_rules.specs.declared.node.Input.{Input}
 use Rattle.mdcc_rules.specs.declared.node.StepFault.{StepFault}
-use Rattle.mdcc_simulation.specs.Deliveries.{delivery_of}
+use Rattle.mdcc_simulation.specs.Deliveries.{after_delivery}
 use Rattle.mdcc_simulation.specs.State.{Happened, Site, World, booted, centre_at, next_message}
-use Rattle.mdcc_simulation.specs.Stepping.{fact_happened, fact_taken, input_happened, step_at, step_taken}
+use Rattle.mdcc_simulation.specs.AppliedSteps.{fact_happened, fact_applied, input_happened, step_at, step_applied}
 use Rattle.mdcc_round_trip.specs.Deciding.{AreChoicesOf, IsFastQuorum, counting}
 use Rattle.mdcc_round_trip.specs.Messages.{each_with, vote_counted, vote_of_member}
 use Rattle.mdcc_round_trip.specs.RoundTrips.{IsUndecidedAt, is_dropped, is_hearing, message_at, messages_of}
@@ -163,7 +163,7 @@ module _ (w : World) (a : ℕ) (t : Undecided) (members : List ℕ) (order : Lis
 
   -- a vote at a world that has counted those before it
   module _ (before : List (Choice × ℕ)) (pair : Choice × ℕ) (after : List (Choice × ℕ)) (is : order ≡ before ++ pair ∷ after) (u : World) (c : Counted before u)
-      (number : ℕ) (next : Happened) (named : message_at u number ≡ Some (vote_of_member a pair)) (answer : delivery_of u number ≡ Ok next) where
+      (number : ℕ) (next : Happened) (named : message_at u number ≡ Some (vote_of_member a pair)) (answer : after_delivery u number ≡ Ok next) where
     abbrev here : Volatile
     here = (centre_at u a).volatile
 
@@ -209,7 +209,7 @@ module _ (w : World) (a : ℕ) (t : Undecided) (members : List ℕ) (order : Lis
 
     abbrev quiet_after : Happened
     quiet_after = record {
-      world = step_taken (counted u number) a (nothing_done (with_manager (centre_at u a).volatile (vote_taken u.cluster.quorums (centre_at u a).volatile.manager (vote_counted pair))));
+      world = step_applied (counted u number) a (nothing_done (with_manager (centre_at u a).volatile (vote_taken u.cluster.quorums (centre_at u a).volatile.manager (vote_counted pair))));
       lines = [];
     }
 
@@ -286,7 +286,7 @@ module _ (w : World) (a : ℕ) (t : Undecided) (members : List ℕ) (order : Lis
           by false e = refl
 
       last-lines : is_without_room u.cluster (facts_of u.ledger a) (Fact.Heard pair.0.tx (Outcome.Commit t.choices)) ≡ false
-          → next.lines ≡ Line.Deliver number (next_message (fact_taken (counted u number) a last_step fact).world) ∷ Line.Heard a pair.0.tx true ∷ []
+          → next.lines ≡ Line.Deliver number (next_message (fact_applied (counted u number) a last_step fact).world) ∷ Line.Heard a pair.0.tx true ∷ []
       last-lines e =
           ap (λ (x : Happened). x.lines) whole
           ∙ rw (e, uncrowded-here) (ap (λ stop. (delivery_told number (fact_happened (counted u number) a last_step fact stop)).lines) c.unstopped)
@@ -306,9 +306,9 @@ module _ (w : World) (a : ℕ) (t : Undecided) (members : List ℕ) (order : Lis
       (committed-with w.cluster.quorums (centre_at w a).volatile.manager t members order are undecided.uncounted choices quorum moved) in
       let told = last-lines before pair [] is u c number next name.0 d.1 all (roomy-commit before pair [] is u c number next name.0 d.1 all first) in
       let own = (at-split before pair [] is).own in (
-        Line.Deliver number (next_message (fact_taken (counted u number) a (decided_step u.cluster a (centre_at u a).volatile pair.0.tx (Outcome.Commit t.choices)) (Fact.Heard pair.0.tx (Outcome.Commit t.choices))).world) ∷ [],
+        Line.Deliver number (next_message (fact_applied (counted u number) a (decided_step u.cluster a (centre_at u a).volatile pair.0.tx (Outcome.Commit t.choices)) (Fact.Heard pair.0.tx (Outcome.Commit t.choices))).world) ∷ [],
         d.2.1 ∙ ap (λ rest. next.lines ++ rest) d.2.2.1 ∙ append-nil next.lines ∙ told
-            ∙ ap (λ tx. Line.Deliver number (next_message (fact_taken (counted u number) a (decided_step u.cluster a (centre_at u a).volatile pair.0.tx (Outcome.Commit t.choices)) (Fact.Heard pair.0.tx (Outcome.Commit t.choices))).world) ∷ Line.Heard a tx true ∷ []) own,
+            ∙ ap (λ tx. Line.Deliver number (next_message (fact_applied (counted u number) a (decided_step u.cluster a (centre_at u a).volatile pair.0.tx (Outcome.Commit t.choices)) (Fact.Heard pair.0.tx (Outcome.Commit t.choices))).world) ∷ Line.Heard a tx true ∷ []) own,
         (refl, tt),
       )
   all-voted (number ∷ m ∷ numbers) before (pair ∷ []) u v lines is some c name d roomy = absurd name.1

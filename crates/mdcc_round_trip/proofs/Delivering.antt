@@ -7,16 +7,16 @@ use Rattle.mdcc_language.specs.declared.world.EventFault.{EventFault}
 use Rattle.mdcc_messages.specs.Mailbox.{Sent, numbered, unsent, with_delivered}
 use Rattle.mdcc_messages.specs.declared.messages.Envelope.{Envelope}
 use Rattle.mdcc_rules.specs.declared.node.Input.{Input}
-use Rattle.mdcc_simulation.specs.Deliveries.{deliver_line, deliveries_of, delivery_by, delivery_of}
-use Rattle.mdcc_simulation.specs.Limits.{if_up, is_limit, is_past_events, limit_if, most_events, step_limit, unless, with_lines, within_events}
+use Rattle.mdcc_simulation.specs.Deliveries.{deliver_line, after_deliveries, after_delivery_by, after_delivery}
+use Rattle.mdcc_simulation.specs.Limits.{if_up, is_limit, is_past_events, limit_if, most_events, step_limit, unless_limit, with_lines, within_events}
 use Rattle.mdcc_simulation.specs.State.{Happened, World, after_lines, is_up_at}
-use Rattle.mdcc_simulation.specs.Stepping.{input_happened, step_at}
+use Rattle.mdcc_simulation.specs.AppliedSteps.{input_happened, step_at}
 use Rattle.mdcc_language.specs.declared.world.LimitName.{LimitName}
 use Rattle.mdcc_round_trip.specs.RoundTrips.{message_at, messages_of}
 
 -- ---- an answer that is no refusal
 
-peel-unless : {X : Type 0} (o : Option EventFault) (x y : X) → unless o x ≡ Ok y → x ≡ y
+peel-unless : {X : Type 0} (o : Option EventFault) (x y : X) → unless_limit o x ≡ Ok y → x ≡ y
 peel-unless None x y h = cc
 peel-unless (Some fault) x y h = absurd (cc)
 
@@ -47,16 +47,16 @@ counted w number = record w { sent = with_delivered w.sent (number - 1); events 
 abbrev pub delivery_told : ℕ → Happened → Happened
 delivery_told number h = after_lines (deliver_line number h.world) h
 
-module _ (w : World) (number : ℕ) (envelope : Envelope) (next : Happened) (named : message_at w number ≡ Some envelope) (answer : delivery_of w number ≡ Ok next) where
-  by_sent : (o : Option Sent) → option_map (λ (s : Sent). s.envelope) o ≡ Some envelope → delivery_by w number o ≡ Ok next
+module _ (w : World) (number : ℕ) (envelope : Envelope) (next : Happened) (named : message_at w number ≡ Some envelope) (answer : after_delivery w number ≡ Ok next) where
+  by_sent : (o : Option Sent) → option_map (λ (s : Sent). s.envelope) o ≡ Some envelope → after_delivery_by w number o ≡ Ok next
       → next ≡ delivery_told number (input_happened (counted w number) envelope.to (step_at (counted w number) envelope.to (Input.Message envelope)))
   by_sent None e g = absurd (cc)
   by_sent (Some sent) e g =
       let is : sent.envelope ≡ envelope = cc in
-      let h = subst (λ m. delivery_by w number (Some (record { envelope = m; is_delivered = sent.is_delivered })) ≡ Ok next) is g in
+      let h = subst (λ m. after_delivery_by w number (Some (record { envelope = m; is_delivered = sent.is_delivered })) ≡ Ok next) is g in
       let after = counted w number in
       let result = step_at after envelope.to (Input.Message envelope) in
-      let parts = peel-lines (deliver_line number) (unless (step_limit after envelope.to result) (input_happened after envelope.to result)) next
+      let parts = peel-lines (deliver_line number) (unless_limit (step_limit after envelope.to result) (input_happened after envelope.to result)) next
       (peel-events w _ next (peel-up w envelope.to _ next h)) in
       parts.2 ∙ ap (delivery_told number) (sym (peel-unless (step_limit after envelope.to result) (input_happened after envelope.to result) parts.0 parts.1))
 
@@ -69,18 +69,18 @@ module _ (w : World) (number : ℕ) (envelope : Envelope) (next : Happened) (nam
 abbrev pub Delivers : World → List ℕ → World → List Line → Type 0
 Delivers w [] after lines = (w ≡ after) × (lines ≡ [])
 Delivers w (number ∷ numbers) after lines =
-    (next : Happened) × (delivery_of w number ≡ Ok next) × ((rest : List Line) × (lines ≡ next.lines ++ rest) × Delivers next.world numbers after rest)
+    (next : Happened) × (after_delivery w number ≡ Ok next) × ((rest : List Line) × (lines ≡ next.lines ++ rest) × Delivers next.world numbers after rest)
 
-pub unrolled : (numbers : List ℕ) (h after : Happened) → deliveries_of numbers h ≡ Ok after
+pub unrolled : (numbers : List ℕ) (h after : Happened) → after_deliveries numbers h ≡ Ok after
     → (lines : List Line) × (after.lines ≡ h.lines ++ lines) × Delivers h.world numbers after.world lines
 unrolled [] h after e = let same : h ≡ after = cc in ([], ap (λ (x : Happened). x.lines) (sym same) ∙ sym (append-nil h.lines), (ap (λ (x : Happened). x.world) same, refl))
-unrolled (number ∷ numbers) h after e = by (λ next g. unrolled numbers (after_lines h.lines next) after g) (delivery_of h.world number) refl
+unrolled (number ∷ numbers) h after e = by (λ next g. unrolled numbers (after_lines h.lines next) after g) (after_delivery h.world number) refl
   where
-    by : ((next : Happened) → deliveries_of numbers (after_lines h.lines next) ≡ Ok after → (lines : List Line) × (after.lines ≡ (h.lines ++ next.lines) ++ lines) × Delivers next.world numbers after.world lines)
-        → (r : Result Happened EventFault) → delivery_of h.world number ≡ r → (lines : List Line) × (after.lines ≡ h.lines ++ lines) × Delivers h.world (number ∷ numbers) after.world lines
-    by later (Err fault) g = let bad : Err fault ≡ Ok after = rw (g, deliveries_of) at e in absurd (cc)
+    by : ((next : Happened) → after_deliveries numbers (after_lines h.lines next) ≡ Ok after → (lines : List Line) × (after.lines ≡ (h.lines ++ next.lines) ++ lines) × Delivers next.world numbers after.world lines)
+        → (r : Result Happened EventFault) → after_delivery h.world number ≡ r → (lines : List Line) × (after.lines ≡ h.lines ++ lines) × Delivers h.world (number ∷ numbers) after.world lines
+    by later (Err fault) g = let bad : Err fault ≡ Ok after = rw (g, after_deliveries) at e in absurd (cc)
     by later (Ok next) g =
-        let rest : deliveries_of numbers (after_lines h.lines next) ≡ Ok after = rw (g, deliveries_of) at e in
+        let rest : after_deliveries numbers (after_lines h.lines next) ≡ Ok after = rw (g, after_deliveries) at e in
         let ih = later next rest in
         (next.lines ++ ih.0, ih.1 ∙ append_assoc h.lines next.lines ih.0, (next, g, (ih.0, refl, ih.2)))
 

@@ -23,9 +23,9 @@ use Rattle.mdcc_messages.specs.Lengths.{cells_needed, cells_used}
 use Rattle.mdcc_rules.specs.Node.{cells_spare, is_without_room, step_of}
 use Rattle.mdcc_rules.specs.declared.node.Input.{Input}
 use Rattle.mdcc_rules.specs.declared.node.StepFault.{StepFault}
-use Rattle.mdcc_simulation.specs.Deliveries.{delivery_of}
+use Rattle.mdcc_simulation.specs.Deliveries.{after_delivery}
 use Rattle.mdcc_simulation.specs.State.{Happened, Site, World, booted, centre_at}
-use Rattle.mdcc_simulation.specs.Stepping.{chosen_lines, fact_happened, fact_taken, input_happened}
+use Rattle.mdcc_simulation.specs.AppliedSteps.{chosen_lines, fact_happened, fact_applied, input_happened}
 use Rattle.mdcc_round_trip.specs.Accepting.{IsAccepted, vote_if_roomy, vote_step}
 use Rattle.mdcc_round_trip.specs.Messages.{accepting_fact, proposal_of, vote_of_member}
 use Rattle.mdcc_round_trip.specs.RoundTrips.{is_dropped, is_hearing, message_at, messages_of}
@@ -98,7 +98,7 @@ module _ (a : ℕ) (tx : TxId) where
   HasRoom w pair = is_without_room w.cluster (facts_of w.ledger pair.1) (accepting_fact pair.0) ≡ false
 
   module _ (w : World) (number : ℕ) (pair : Choice × ℕ) (next : Happened) (centre : is_centre w.cluster a ≡ true) (h : Accepts w pair)
-      (named : message_at w number ≡ Some (proposal_of a pair)) (answer : delivery_of w number ≡ Ok next) where
+      (named : message_at w number ≡ Some (proposal_of a pair)) (answer : after_delivery w number ≡ Ok next) where
     told : next ≡ delivery_told number (input_happened (counted w number) pair.1 (vote_if_roomy w.cluster (facts_of w.ledger pair.1) (centre_at w pair.1).volatile a pair))
     told =
         delivery-told w number (proposal_of a pair) next named answer
@@ -118,7 +118,7 @@ module _ (a : ℕ) (tx : TxId) where
     proposed e =
         let step = vote_step (centre_at w pair.1).volatile a pair in
         let fact = accepting_fact pair.0 in
-        let is : next ≡ delivery_told number (fact_taken (counted w number) pair.1 step fact) =
+        let is : next ≡ delivery_told number (fact_applied (counted w number) pair.1 step fact) =
         told ∙ rw e (ap (λ stop. delivery_told number (fact_happened (counted w number) pair.1 step fact stop)) h.unstopped) in
         record {
           cluster = ap (λ (x : Happened). x.world.cluster) is;

@@ -15,10 +15,10 @@ use Rattle.mdcc_protocol.specs.Belongs.{is_centre}
 use Rattle.mdcc_rules.specs.Steps.{NodeStep}
 use Rattle.mdcc_rules.specs.declared.node.Input.{Input}
 use Rattle.mdcc_rules.specs.declared.node.StepFault.{StepFault}
-use Rattle.mdcc_simulation.specs.Deliveries.{deliver_line, deliveries_of, delivery_by, delivery_of}
-use Rattle.mdcc_simulation.specs.Limits.{bytes_limit, is_limit, is_past_events, limit_if, log_limit, most_events, step_limit, step_limit_by, unless, with_lines, within_events}
+use Rattle.mdcc_simulation.specs.Deliveries.{deliver_line, after_deliveries, after_delivery_by, after_delivery}
+use Rattle.mdcc_simulation.specs.Limits.{bytes_limit, is_limit, is_past_events, limit_if, log_limit, most_events, step_limit, step_limit_by, unless_limit, with_lines, within_events}
 use Rattle.mdcc_simulation.specs.State.{Happened, Site, World, after_lines, booted, centre_at, is_up_at}
-use Rattle.mdcc_simulation.specs.Stepping.{fact_happened, input_happened, step_at, step_happened_by}
+use Rattle.mdcc_simulation.specs.AppliedSteps.{fact_happened, input_happened, step_at, step_happened_by}
 use Rattle.mdcc_round_trip.specs.Refusals.{GoesUp}
 use Rattle.mdcc_round_trip.specs.RoundTrips.{message_at, messages_of}
 use Rattle.mdcc_round_trip.proofs.Delivering.{Name, counted, delivery-told, messages-after, name-more, named}
@@ -54,7 +54,7 @@ limit-step w a (Ok step) = by step.fact
         limit-or (log_limit w a fact) (cond (is_some (centre_at w a).stop) None (bytes_limit w step.sends)) (limit-if _ _ _)
         (limit-unless_some (is_some (centre_at w a).stop) (bytes_limit w step.sends) (limit-if _ _ _))
 
-limit-unless : {X : Type 0} (o : Option EventFault) (x : X) (fault : EventFault) → AreLimits o → unless o x ≡ Err fault → is_limit fault ≡ true
+limit-unless : {X : Type 0} (o : Option EventFault) (x : X) (fault : EventFault) → AreLimits o → unless_limit o x ≡ Err fault → is_limit fault ≡ true
 limit-unless None x fault h e = absurd (cc)
 limit-unless (Some f) x fault h e = let is : f ≡ fault = cc in subst (λ g. is_limit g ≡ true) is (h f refl)
 
@@ -71,16 +71,16 @@ limit-events {X = X} w (Err f) fault g e = by (is_limit f && is_past_events w) e
     by false k = let is : f ≡ fault = cc in subst (λ h. is_limit h ≡ true) is (g f refl)
 
 delivery-limit : (w : World) (number : ℕ) (envelope : Envelope) (fault : EventFault) → message_at w number ≡ Some envelope → is_up_at w envelope.to ≡ true
-    → delivery_of w number ≡ Err fault → is_limit fault ≡ true
+    → after_delivery w number ≡ Err fault → is_limit fault ≡ true
 delivery-limit w number envelope fault at up answer = by (numbered w.sent number) at answer
   where
-    by : (o : Option Sent) → option_map (λ (s : Sent). s.envelope) o ≡ Some envelope → delivery_by w number o ≡ Err fault → is_limit fault ≡ true
+    by : (o : Option Sent) → option_map (λ (s : Sent). s.envelope) o ≡ Some envelope → after_delivery_by w number o ≡ Err fault → is_limit fault ≡ true
     by None e g = absurd (cc)
     by (Some sent) e g =
         let is : sent.envelope ≡ envelope = cc in
-        let h = subst (λ m. delivery_by w number (Some (record { envelope = m; is_delivered = sent.is_delivered })) ≡ Err fault) is g in
+        let h = subst (λ m. after_delivery_by w number (Some (record { envelope = m; is_delivered = sent.is_delivered })) ≡ Err fault) is g in
         let result = step_at (counted w number) envelope.to (Input.Message envelope) in
-        let told : within_events w (with_lines (deliver_line number) (unless (step_limit (counted w number) envelope.to result) (input_happened (counted w number) envelope.to result))) ≡ Err fault = rw up at h in
+        let told : within_events w (with_lines (deliver_line number) (unless_limit (step_limit (counted w number) envelope.to result) (input_happened (counted w number) envelope.to result))) ≡ Err fault = rw up at h in
         limit-events w _ fault (λ f k. limit-lines (deliver_line number) _ f (λ m j. limit-unless _ _ m (limit-step (counted w number) envelope.to result) j) k) told
 
 -- ---- what deliveries leave
@@ -135,20 +135,20 @@ still-up w v message l h =
     }
 
 deliveries-limit : (numbers : List ℕ) (messages : List Envelope) (h : Happened) (fault : EventFault) → Name (λ (m : Envelope). m) h.world numbers messages → AllByRecursion (GoesUp h.world) messages
-    → deliveries_of numbers h ≡ Err fault → is_limit fault ≡ true
+    → after_deliveries numbers h ≡ Err fault → is_limit fault ≡ true
 deliveries-limit [] messages h fault name ups e = absurd (cc)
 deliveries-limit (number ∷ numbers) [] h fault name ups e = absurd name
 deliveries-limit (number ∷ numbers) (m ∷ messages) h fault name ups e =
-    by (λ next n u k. deliveries-limit numbers messages (after_lines h.lines next) fault n u k) (delivery_of h.world number) refl
+    by (λ next n u k. deliveries-limit numbers messages (after_lines h.lines next) fault n u k) (after_delivery h.world number) refl
   where
-    by : ((next : Happened) → Name (λ (x : Envelope). x) next.world numbers messages → AllByRecursion (GoesUp next.world) messages → deliveries_of numbers (after_lines h.lines next) ≡ Err fault → is_limit fault ≡ true)
-        → (r : Result Happened EventFault) → delivery_of h.world number ≡ r → is_limit fault ≡ true
+    by : ((next : Happened) → Name (λ (x : Envelope). x) next.world numbers messages → AllByRecursion (GoesUp next.world) messages → after_deliveries numbers (after_lines h.lines next) ≡ Err fault → is_limit fault ≡ true)
+        → (r : Result Happened EventFault) → after_delivery h.world number ≡ r → is_limit fault ≡ true
     by later (Err f) g =
-        let same : Err f ≡ Err fault = rw (g, deliveries_of) at e in
+        let same : Err f ≡ Err fault = rw (g, after_deliveries) at e in
         let is : f ≡ fault = cc in
         subst (λ k. is_limit k ≡ true) is (delivery-limit h.world number m f name.0 ups.0.up g)
     by later (Ok next) g =
-        let rest : deliveries_of numbers (after_lines h.lines next) ≡ Err fault = rw (g, deliveries_of) at e in
+        let rest : after_deliveries numbers (after_lines h.lines next) ≡ Err fault = rw (g, after_deliveries) at e in
         let told = delivery-told h.world number m next name.0 g in
         let left = subst (λ (x : Happened). Leaves h.world x.world) (sym told) (left-by h.world number m.to (step_at (counted h.world number) m.to (Input.Message m)) ups.0.unstopped) in
         later next (name-more (λ (x : Envelope). x) h.world next.world left.sends numbers messages left.messages name.1)
@@ -159,7 +159,7 @@ map-same [] = refl
 map-same (m ∷ ms) = ap (λ xs. m ∷ xs) (map-same ms)
 
 pub only-limits : (w : World) (numbers : List ℕ) (messages : List Envelope) (fault : EventFault) → map (message_at w) numbers ≡ map Some messages → AllByRecursion (GoesUp w) messages
-    → deliveries_of numbers (record { world = w; lines = [] }) ≡ Err fault → is_limit fault ≡ true
+    → after_deliveries numbers (record { world = w; lines = [] }) ≡ Err fault → is_limit fault ≡ true
 only-limits w numbers messages fault are ups e =
     deliveries-limit numbers messages (record { world = w; lines = [] }) fault
     (named (λ (m : Envelope). m) w numbers messages (are ∙ ap (map Some) (sym (map-same messages)))) ups e

@@ -11,8 +11,8 @@ use Rattle.mdcc_messages.specs.WellFormedParts.{IsWellFormedCommit, IsWellFormed
 use Rattle.mdcc_protocol.specs.Volatile.{Undecided}
 use Rattle.mdcc_simulation.specs.State.{World, centre_at}
 use Rattle.mdcc_steps.proofs.Each.{each-found}
-use Rattle.mdcc_steps.specs.Keeping.{IsWellFormedOpen}
-use Rattle.mdcc_worlds.specs.Standing.{IsWorld}
+use Rattle.mdcc_steps.specs.WellFormedVolatile.{IsWellFormedOpen}
+use Rattle.mdcc_worlds.specs.WorldInvariant.{IsWorld}
 use Rattle.mdcc_round_trip.specs.Deciding.{AreApart, AreChoicesOf, IsFastQuorum, have_one_key}
 use Rattle.mdcc_round_trip.specs.RoundTrips.{AcceptsEach, IsReady}
 use Rattle.mdcc_round_trip.specs.Worlds.{MayCommit}

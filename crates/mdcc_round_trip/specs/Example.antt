@@ -11,7 +11,7 @@ use Rattle.mdcc_protocol.specs.Volatile.{Undecided}
 use Rattle.mdcc_language.specs.declared.events.Event.{Event}
 use Rattle.mdcc_language.specs.declared.events.UpdateWord.{UpdateWord}
 use Rattle.mdcc_language.specs.declared.world.EventFault.{EventFault}
-use Rattle.mdcc_simulation.specs.Events.{event_of}
+use Rattle.mdcc_simulation.specs.Events.{after_event}
 use Rattle.mdcc_simulation.specs.State.{Happened, World, first_world}
 
 -- three centres, one attribute from 0 to 100
@@ -46,16 +46,16 @@ abbrev pub happened : World → Result Happened EventFault → Happened
 happened w (Ok h) = h
 happened w (Err fault) = record { world = w; lines = [] }
 
-abbrev pub after : World → Event → Happened
-after w event = happened w (event_of w event)
+abbrev pub after_line : World → Event → Happened
+after_line w event = happened w (after_event w event)
 
 -- it was begun
-abbrev pub begun : World
-begun = (after (first_world three) (Event.Begin 1 (UpdateWord.New key_a item ∷ UpdateWord.New key_b item ∷ []))).world
+abbrev pub world_begun : World
+world_begun = (after_line (first_world three) (Event.Begin 1 (UpdateWord.New key_a item ∷ UpdateWord.New key_b item ∷ []))).world
 
 -- the proposals, and then the votes, are delivered
 abbrev pub asked : Happened
-asked = after begun (Event.Deliver (6 ∷ 2 ∷ 3 ∷ 4 ∷ 5 ∷ 1 ∷ []))
+asked = after_line world_begun (Event.Deliver (6 ∷ 2 ∷ 3 ∷ 4 ∷ 5 ∷ 1 ∷ []))
 
 abbrev pub answered : Happened
-answered = after asked.world (Event.Deliver (12 ∷ 11 ∷ 9 ∷ 10 ∷ 8 ∷ 7 ∷ []))
+answered = after_line asked.world (Event.Deliver (12 ∷ 11 ∷ 9 ∷ 10 ∷ 8 ∷ 7 ∷ []))

@@ -4,7 +4,7 @@ use Rattle.std.specs.Prelude.{Err, List, None, true, ℕ, ◌≡◌}
 use Rattle.mdcc_messages.specs.declared.messages.Envelope.{Envelope}
 use Rattle.mdcc_language.specs.declared.events.Event.{Event}
 use Rattle.mdcc_language.specs.declared.world.EventFault.{EventFault}
-use Rattle.mdcc_simulation.specs.Events.{event_of}
+use Rattle.mdcc_simulation.specs.Events.{after_event}
 use Rattle.mdcc_simulation.specs.Limits.{is_limit}
 use Rattle.mdcc_simulation.specs.State.{World, centre_at, is_up_at}
 use Rattle.mdcc_round_trip.specs.RoundTrips.{AreNumbersOf}
@@ -19,4 +19,4 @@ abbrev pub OnlyLimitsRefuse : Type 0
 OnlyLimitsRefuse =
     (w : World) (numbers : List ℕ) (messages : List Envelope) (fault : EventFault)
     → AreNumbersOf w numbers messages → AllByRecursion (GoesUp w) messages
-    → event_of w (Event.Deliver numbers) ≡ Err fault → is_limit fault ≡ true
+    → after_event w (Event.Deliver numbers) ≡ Err fault → is_limit fault ≡ true

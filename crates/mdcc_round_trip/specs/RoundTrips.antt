@@ -17,7 +17,7 @@ use Rattle.mdcc_protocol.specs.News.{is_crowding}
 use Rattle.mdcc_protocol.specs.Volatile.{Undecided}
 use Rattle.mdcc_language.specs.declared.events.Event.{Event}
 use Rattle.mdcc_language.specs.declared.lines.Line.{Line}
-use Rattle.mdcc_simulation.specs.Events.{event_of}
+use Rattle.mdcc_simulation.specs.Events.{after_event}
 use Rattle.mdcc_simulation.specs.State.{Happened, World, centre_at}
 use Rattle.mdcc_round_trip.specs.Accepting.{IsAccepted}
 use Rattle.mdcc_round_trip.specs.Deciding.{AreChoicesOf, IsFastQuorum, IsUncounted}
@@ -73,12 +73,12 @@ pub record AreDelivered (w : World) (a : ℕ) (t : Undecided) (members : List �
   pub proposals : List ℕ
   pub asks_each : IsPermutation (each_with t.choices members) asked
   pub proposals_are : AreNumbersOf w proposals (map (proposal_of a) asked)
-  pub proposed : event_of w (Event.Deliver proposals) ≡ Ok first
+  pub proposed : after_event w (Event.Deliver proposals) ≡ Ok first
   pub answered : List (Choice × ℕ)
   pub votes : List ℕ
   pub answers_each : IsPermutation (each_with t.choices members) answered
   pub votes_are : AreNumbersOf first.world votes (map (vote_of_member a) answered)
-  pub voted : event_of first.world (Event.Deliver votes) ≡ Ok second
+  pub voted : after_event first.world (Event.Deliver votes) ≡ Ok second
 
 -- no delivery is dropped
 abbrev pub AreUndropped : List Line → Type 0

@@ -10,7 +10,7 @@ use Rattle.mdcc_protocol.specs.Facts.{heard_of}
 use Rattle.mdcc_protocol.specs.News.{is_crowding}
 use Rattle.mdcc_protocol.specs.Volatile.{Undecided}
 use Rattle.mdcc_simulation.specs.State.{World, centre_at}
-use Rattle.mdcc_worlds.specs.Standing.{IsWorld}
+use Rattle.mdcc_worlds.specs.WorldInvariant.{IsWorld}
 use Rattle.mdcc_round_trip.specs.Deciding.{IsFastQuorum, IsUncounted}
 use Rattle.mdcc_round_trip.specs.RoundTrips.{AcceptsEach, IsReady}
 

@@ -4,7 +4,7 @@
 ghost use Rattle.mdcc_round_trip.specs.Accepting.{OtherKeysChangeNothing, ProposalsGiveVotes};
 ghost use Rattle.mdcc_round_trip.specs.Cells.{CellsSuffice, HaveCells, RoomyRoundTripCommits};
 ghost use Rattle.mdcc_round_trip.specs.Deciding.{QuorumsCommitAtLast};
-ghost use Rattle.mdcc_round_trip.specs.Example.{answered, asked, begun, members, transaction};
+ghost use Rattle.mdcc_round_trip.specs.Example.{answered, asked, world_begun, members, transaction};
 ghost use Rattle.mdcc_round_trip.specs.Refusals.{OnlyLimitsRefuse};
 ghost use Rattle.mdcc_round_trip.specs.RoundTrips.{IsReady, IsRoundTrip, OneRoundTripCommits, ProposalsSendVotes};
 ghost use Rattle.mdcc_round_trip.specs.Worlds.{WorldsAreReady};
@@ -55,7 +55,7 @@ pub fn worlds_are_ready()
 /// There are such round trips, so that the theorem does not speak of nothing: here three centres accept
 /// two choices.
 pub fn example()
-    ensures ready { IsReady begun 1 transaction members }
-    ensures cells { HaveCells begun 1 transaction members }
-    ensures trip { IsRoundTrip begun 1 transaction members asked answered }
+    ensures ready { IsReady world_begun 1 transaction members }
+    ensures cells { HaveCells world_begun 1 transaction members }
+    ensures trip { IsRoundTrip world_begun 1 transaction members asked answered }
 {}

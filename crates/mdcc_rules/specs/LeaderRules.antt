@@ -22,15 +22,15 @@ use Rattle.mdcc_messages.specs.declared.messages.Envelope.{Envelope}
 use Rattle.mdcc_messages.specs.declared.messages.Message.{Message}
 use Rattle.mdcc_rules.specs.declared.node.StepFault.{StepFault}
 
-abbrev pub step_fault : LeadFault → StepFault
-step_fault LeadFault.Exhausted = StepFault.Exhausted
-step_fault LeadFault.Crowded = StepFault.Crowded
-step_fault LeadFault.Memory = StepFault.Memory
+abbrev pub lead_step_fault : LeadFault → StepFault
+lead_step_fault LeadFault.Exhausted = StepFault.Exhausted
+lead_step_fault LeadFault.Crowded = StepFault.Crowded
+lead_step_fault LeadFault.Memory = StepFault.Memory
 
 -- a step that is the leader's part, unless the leader refuses it
 abbrev pub step_of_led : Result StepPart LeadFault → Result NodeStep StepFault
 step_of_led (Ok part) = Ok (step_of_part part)
-step_of_led (Err fault) = Err (step_fault fault)
+step_of_led (Err fault) = Err (lead_step_fault fault)
 
 -- ---- claims
 

@@ -63,7 +63,7 @@ abbrev pub step_given : NodeStep → Step
 step_given step = record { fact = step.fact; sends = step.sends; heard = heard_by step.fact; answer = step.answer }
 
 -- why a step's fact is not taken
-abbrev pub step_fault : StoreFault → StepFault
-step_fault (StoreFault.NoRoom needed spare) = StepFault.NoRoom needed spare
-step_fault StoreFault.Crowded = StepFault.Crowded
-step_fault StoreFault.Memory = StepFault.Memory
+abbrev pub store_step_fault : StoreFault → StepFault
+store_step_fault (StoreFault.NoRoom needed spare) = StepFault.NoRoom needed spare
+store_step_fault StoreFault.Crowded = StepFault.Crowded
+store_step_fault StoreFault.Memory = StepFault.Memory

@@ -58,9 +58,9 @@ pub enum StepFault {
 
 impl From<StoreFault> for StepFault {
     ghost use Rattle.std.specs.Prelude.{◌≡◌};
-    ghost use Rattle.mdcc_rules.specs.Steps.{step_fault};
+    ghost use Rattle.mdcc_rules.specs.Steps.{store_step_fault};
 
-    ghost from_gives = { λ fault e. e ≡ step_fault fault };
+    ghost from_gives = { λ fault e. e ≡ store_step_fault fault };
 
     fn from(fault: StoreFault) -> StepFault {
         match fault {
@@ -73,9 +73,9 @@ impl From<StoreFault> for StepFault {
 
 impl From<LeadFault> for StepFault {
     ghost use Rattle.std.specs.Prelude.{◌≡◌};
-    ghost use Rattle.mdcc_rules.specs.LeaderRules.{step_fault};
+    ghost use Rattle.mdcc_rules.specs.LeaderRules.{lead_step_fault};
 
-    ghost from_gives = { λ fault e. e ≡ step_fault fault };
+    ghost from_gives = { λ fault e. e ≡ lead_step_fault fault };
 
     fn from(fault: LeadFault) -> StepFault {
         match fault {

@@ -13,11 +13,11 @@ use Rattle.mdcc_language.specs.declared.events.Event.TheVariants.{Read, Begin, D
 use Rattle.mdcc_language.specs.declared.events.UpdateWord.{UpdateWord}
 use Rattle.mdcc_language.specs.declared.schedule.SchedFault.{SchedFault}
 use Rattle.mdcc_language.specs.declared.schedule.SchedCause.TheVariants.{Word, Range}
-use Rattle.mdcc_language.specs.Lines.{bounded, bytes_of_line, most_bytes, of_long, line_end_by, line_end_of}
+use Rattle.mdcc_language.specs.Lines.{bounded, bytes_of_line, most_line_bytes, of_long, line_end_by, line_end_of}
 use Rattle.mdcc_language.specs.Report.{image_text}
-use Rattle.mdcc_language.specs.Schedule.{centre_of, image_of, stop_of, above, numbers_from, updates_from, centres_from, last_centre, tick_of, crash_of, restart_of, read_of, begin_of, deliver_of, settle_of, begins_with, event_of, event_or_none, event_in, line_of}
+use Rattle.mdcc_language.specs.Schedule.{parse_centre, parse_image, parse_stop, above, numbers_from, updates_from, centres_from, last_centre, parse_tick, parse_crash, parse_restart, parse_read, parse_begin, parse_deliver, parse_settle, begins_with, parse_event, event_or_none, event_in, line_of}
 use Rattle.mdcc_language.specs.Updates.{update_of}
-use Rattle.mdcc_language.specs.Words.{◌>>=◌, refused, part_at, parts_from, behind, end_at, word_at, word_end, not_empty, word_behind, count_of, key_of, natural_of, text_eq}
+use Rattle.mdcc_language.specs.Words.{◌>>=◌, refused, part_at, parts_from, start_after, end_at, word_at, word_end, not_empty, word_after, count_of, key_of, natural_of, text_eq}
 use Rattle.mdcc_words.specs.Spelled.{update_text}
 use Rattle.mdcc_words.proofs.Parts.{part_len_is, place_within}
 use Rattle.mdcc_words.proofs.Seams.{bind_ok, part_seam, front_seam, behind_ok, end_ok, drop_all}
@@ -31,14 +31,14 @@ begun name line e =
     let same : word_at 0 line ≡ name = same_text (word_at 0 line) name (sym e) in
     front_seam 32 line ∙ ap (λ word. word ++ drop (length word) line) same
 
-spaced : (at : ℕ) (line : List ℕ) (start : ℕ) → word_behind at line ≡ Ok start → drop at line ≡ 32 ∷ drop start line
+spaced : (at : ℕ) (line : List ℕ) (start : ℕ) → word_after at line ≡ Ok start → drop at line ≡ 32 ∷ drop start line
 spaced at line start e =
-    let place = bind_ok (behind 32 at line 1) _ start e in
+    let place = bind_ok (start_after 32 at line 1) _ start e in
     let some = bind_ok (not_empty (word_at place.0 line) (place.0 + 1)) _ start place.2 in
     let same : place.0 ≡ start = cc (some.2) in
     behind_ok 32 at line 1 place.0 place.1 ∙ ap (λ n. 32 ∷ drop n line) same
 
-centre_spelled : (cluster : Cluster) (word : List ℕ) (column centre : ℕ) → AreQuorums cluster.quorums → centre_of cluster word column ≡ Ok centre → word ≡ decimal centre
+centre_spelled : (cluster : Cluster) (word : List ℕ) (column centre : ℕ) → AreQuorums cluster.quorums → parse_centre cluster word column ≡ Ok centre → word ≡ decimal centre
 centre_spelled cluster word column centre h e =
     let nine : 9 < 2 ^ 64 = lit< tt in
     let few : cluster.quorums.centres < 2 ^ 64 = omega (arith, h.nine_centres, nine) in
@@ -46,8 +46,8 @@ centre_spelled cluster word column centre h e =
 
 last_spelled : (cluster : Cluster) (at : ℕ) (line : List ℕ) (centre : ℕ) → AreQuorums cluster.quorums → last_centre cluster at line ≡ Ok centre → drop at line ≡ 32 ∷ decimal centre
 last_spelled cluster at line centre h e =
-    let start = bind_ok (word_behind at line) _ centre e in
-    let found = bind_ok (centre_of cluster (word_at start.0 line) (start.0 + 1)) _ centre start.2 in
+    let start = bind_ok (word_after at line) _ centre e in
+    let found = bind_ok (parse_centre cluster (word_at start.0 line) (start.0 + 1)) _ centre start.2 in
     let end = bind_ok (end_at (word_end start.0 line) line 1) _ centre found.2 in
     let same : found.0 ≡ centre = cc (end.2) in
     spaced at line start.0 start.1
@@ -85,7 +85,7 @@ each_centre cluster last column [] [] h e = refl
 each_centre cluster last column [] (centre ∷ centres) h e = absurd (cc)
 each_centre cluster last column (word ∷ words) centres h e =
     let some = bind_ok (not_empty word column) _ centres e in
-    let one = bind_ok (centre_of cluster word column) _ centres some.2 in
+    let one = bind_ok (parse_centre cluster word column) _ centres some.2 in
     let order = bind_ok (above last one.0 column) _ centres one.2 in
     let rest = bind_ok (centres_from cluster one.0 (column + length word + 1) words) _ centres order.2 in
     let all : one.0 ∷ rest.0 ≡ centres = cc (rest.2) in
@@ -93,29 +93,29 @@ each_centre cluster last column (word ∷ words) centres h e =
 
 -- ---- events
 
-tick_spelled : (cluster : Cluster) (line : List ℕ) (event : Event) → AreQuorums cluster.quorums → begins_with (codes "tick") line ≡ true → tick_of cluster line ≡ Ok event → line ≡ event_text event
+tick_spelled : (cluster : Cluster) (line : List ℕ) (event : Event) → AreQuorums cluster.quorums → begins_with (codes "tick") line ≡ true → parse_tick cluster line ≡ Ok event → line ≡ event_text event
 tick_spelled cluster line event h b e =
     let centre = bind_ok (last_centre cluster 4 line) _ event e in
     let same : Tick centre.0 ≡ event = cc (centre.2) in
     begun (codes "tick") line b ∙ ap (λ rest. codes "tick" ++ rest) (last_spelled cluster 4 line centre.0 h centre.1) ∙ ap event_text same
 
-crash_spelled : (cluster : Cluster) (line : List ℕ) (event : Event) → AreQuorums cluster.quorums → begins_with (codes "crash") line ≡ true → crash_of cluster line ≡ Ok event → line ≡ event_text event
+crash_spelled : (cluster : Cluster) (line : List ℕ) (event : Event) → AreQuorums cluster.quorums → begins_with (codes "crash") line ≡ true → parse_crash cluster line ≡ Ok event → line ≡ event_text event
 crash_spelled cluster line event h b e =
     let centre = bind_ok (last_centre cluster 5 line) _ event e in
     let same : Crash centre.0 ≡ event = cc (centre.2) in
     begun (codes "crash") line b ∙ ap (λ rest. codes "crash" ++ rest) (last_spelled cluster 5 line centre.0 h centre.1) ∙ ap event_text same
 
-restart_spelled : (cluster : Cluster) (line : List ℕ) (event : Event) → AreQuorums cluster.quorums → begins_with (codes "restart") line ≡ true → restart_of cluster line ≡ Ok event → line ≡ event_text event
+restart_spelled : (cluster : Cluster) (line : List ℕ) (event : Event) → AreQuorums cluster.quorums → begins_with (codes "restart") line ≡ true → parse_restart cluster line ≡ Ok event → line ≡ event_text event
 restart_spelled cluster line event h b e =
     let centre = bind_ok (last_centre cluster 7 line) _ event e in
     let same : Restart centre.0 ≡ event = cc (centre.2) in
     begun (codes "restart") line b ∙ ap (λ rest. codes "restart" ++ rest) (last_spelled cluster 7 line centre.0 h centre.1) ∙ ap event_text same
 
-read_spelled : (cluster : Cluster) (line : List ℕ) (event : Event) → AreQuorums cluster.quorums → begins_with (codes "read") line ≡ true → read_of cluster line ≡ Ok event → line ≡ event_text event
+read_spelled : (cluster : Cluster) (line : List ℕ) (event : Event) → AreQuorums cluster.quorums → begins_with (codes "read") line ≡ true → parse_read cluster line ≡ Ok event → line ≡ event_text event
 read_spelled cluster line event h b e =
-    let start = bind_ok (word_behind 4 line) _ event e in
-    let centre = bind_ok (centre_of cluster (word_at start.0 line) (start.0 + 1)) _ event start.2 in
-    let next = bind_ok (word_behind (word_end start.0 line) line) _ event centre.2 in
+    let start = bind_ok (word_after 4 line) _ event e in
+    let centre = bind_ok (parse_centre cluster (word_at start.0 line) (start.0 + 1)) _ event start.2 in
+    let next = bind_ok (word_after (word_end start.0 line) line) _ event centre.2 in
     let key = bind_ok (key_of (word_at next.0 line) (next.0 + 1)) _ event next.2 in
     let end = bind_ok (end_at (word_end next.0 line) line 1) _ event key.2 in
     let same : Read centre.0 key.0 ≡ event = cc (end.2) in
@@ -128,11 +128,11 @@ read_spelled cluster line event h b e =
     ∙ ap (λ rest. decimal centre.0 ++ (32 ∷ rest)) last)
     ∙ ap event_text same
 
-begin_spelled : (cluster : Cluster) (line : List ℕ) (event : Event) → AreQuorums cluster.quorums → begins_with (codes "begin") line ≡ true → begin_of cluster line ≡ Ok event → line ≡ event_text event
+begin_spelled : (cluster : Cluster) (line : List ℕ) (event : Event) → AreQuorums cluster.quorums → begins_with (codes "begin") line ≡ true → parse_begin cluster line ≡ Ok event → line ≡ event_text event
 begin_spelled cluster line event h b e =
-    let start = bind_ok (word_behind 5 line) _ event e in
-    let centre = bind_ok (centre_of cluster (word_at start.0 line) (start.0 + 1)) _ event start.2 in
-    let next = bind_ok (word_behind (word_end start.0 line) line) _ event centre.2 in
+    let start = bind_ok (word_after 5 line) _ event e in
+    let centre = bind_ok (parse_centre cluster (word_at start.0 line) (start.0 + 1)) _ event start.2 in
+    let next = bind_ok (word_after (word_end start.0 line) line) _ event centre.2 in
     let updates = bind_ok (updates_from (next.0 + 1) (parts_from 32 next.0 line)) _ event next.2 in
     let same : Begin centre.0 updates.0 ≡ event = cc (updates.2) in
     let last = joined next.0 line (map update_text updates.0) (each_update (next.0 + 1) (parts_from 32 next.0 line) updates.0 updates.1) in
@@ -143,9 +143,9 @@ begin_spelled cluster line event h b e =
     ∙ ap (λ rest. decimal centre.0 ++ (32 ∷ rest)) last)
     ∙ ap event_text same
 
-deliver_spelled : (line : List ℕ) (event : Event) → begins_with (codes "deliver") line ≡ true → deliver_of line ≡ Ok event → line ≡ event_text event
+deliver_spelled : (line : List ℕ) (event : Event) → begins_with (codes "deliver") line ≡ true → parse_deliver line ≡ Ok event → line ≡ event_text event
 deliver_spelled line event b e =
-    let start = bind_ok (word_behind 7 line) _ event e in
+    let start = bind_ok (word_after 7 line) _ event e in
     let numbers = bind_ok (numbers_from (start.0 + 1) (parts_from 32 start.0 line)) _ event start.2 in
     let same : Deliver numbers.0 ≡ event = cc (numbers.2) in
     begun (codes "deliver") line b
@@ -205,7 +205,7 @@ settle_on cluster line event h b more (c ∷ rest) some e =
     ∙ settle_text centres.0 (some_centres line centres.0 words)
     ∙ ap event_text same
 
-settle_spelled : (cluster : Cluster) (line : List ℕ) (event : Event) → AreQuorums cluster.quorums → begins_with (codes "settle") line ≡ true → settle_of cluster line ≡ Ok event → line ≡ event_text event
+settle_spelled : (cluster : Cluster) (line : List ℕ) (event : Event) → AreQuorums cluster.quorums → begins_with (codes "settle") line ≡ true → parse_settle cluster line ≡ Ok event → line ≡ event_text event
 settle_spelled cluster line event h b e = by (length line == 6) refl e
   where
     by : (bare : Bool) → (length line == 6) ≡ bare → cond bare (Ok (Settle [])) (centres_from cluster 0 8 (parts_from 32 7 line) >>= λ centres. Ok (Settle centres)) ≡ Ok event → line ≡ event_text event
@@ -215,7 +215,7 @@ settle_spelled cluster line event h b e = by (length line == 6) refl e
         begun (codes "settle") line b ∙ ap (λ n. codes "settle" ++ drop n line) (sym len) ∙ ap (λ rest. codes "settle" ++ rest) (drop_all line) ∙ ap event_text same
     by false more e = settle_on cluster line event h b more (drop 6 line) refl e
 
-image_spelled : (word : List ℕ) (column : ℕ) (image : Image) → image_of word column ≡ Ok image → word ≡ image_text image
+image_spelled : (word : List ℕ) (column : ℕ) (image : Image) → parse_image word column ≡ Ok image → word ≡ image_text image
 image_spelled word column image e = by (text_eq word (codes "lost")) refl (text_eq word (codes "kept")) refl (text_eq word (codes "torn")) refl e
   where
     by : (l : Bool) → text_eq word (codes "lost") ≡ l → (k : Bool) → text_eq word (codes "kept") ≡ k → (t : Bool) → text_eq word (codes "torn") ≡ t
@@ -228,14 +228,14 @@ image_spelled word column image e = by (text_eq word (codes "lost")) refl (text_
 read_event : (one other : Event) → ◌≡◌ {A = Result Event SchedFault} (Ok one) (Ok other) → one ≡ other
 read_event one other e = cc
 
-stop_spelled : (cluster : Cluster) (line : List ℕ) (event : Event) → AreQuorums cluster.quorums → begins_with (codes "stop") line ≡ true → stop_of cluster line ≡ Ok event → line ≡ event_text event
+stop_spelled : (cluster : Cluster) (line : List ℕ) (event : Event) → AreQuorums cluster.quorums → begins_with (codes "stop") line ≡ true → parse_stop cluster line ≡ Ok event → line ≡ event_text event
 stop_spelled cluster line event h b e =
-    let start = bind_ok (word_behind 4 line) _ event e in
-    let centre = bind_ok (centre_of cluster (word_at start.0 line) (start.0 + 1)) _ event start.2 in
-    let next = bind_ok (word_behind (word_end start.0 line) line) _ event centre.2 in
+    let start = bind_ok (word_after 4 line) _ event e in
+    let centre = bind_ok (parse_centre cluster (word_at start.0 line) (start.0 + 1)) _ event start.2 in
+    let next = bind_ok (word_after (word_end start.0 line) line) _ event centre.2 in
     let call = bind_ok (natural_of (word_at next.0 line) (next.0 + 1) 1 4) _ event next.2 in
-    let place = bind_ok (word_behind (word_end next.0 line) line) _ event call.2 in
-    let image = bind_ok (image_of (word_at place.0 line) (place.0 + 1)) _ event place.2 in
+    let place = bind_ok (word_after (word_end next.0 line) line) _ event call.2 in
+    let image = bind_ok (parse_image (word_at place.0 line) (place.0 + 1)) _ event place.2 in
     let end = bind_ok (end_at (word_end place.0 line) line 1) _ event image.2 in
     let same = read_event (Stop centre.0 call.0 image.0) event end.2 in
     let few : 4 < 2 ^ 64 = lit< tt in
@@ -255,23 +255,23 @@ stop_spelled cluster line event h b e =
 -- a line of `tick`, `crash`, `restart` or `stop`
 last_words_spelled : (cluster : Cluster) (line : List ℕ) (event : Event) → AreQuorums cluster.quorums → (t : Bool) → begins_with (codes "tick") line ≡ t
     → (c : Bool) → begins_with (codes "crash") line ≡ c → (r : Bool) → begins_with (codes "restart") line ≡ r → (s : Bool) → begins_with (codes "stop") line ≡ s
-    → cond t (tick_of cluster line) (cond c (crash_of cluster line) (cond r (restart_of cluster line) (cond s (stop_of cluster line) (refused 1 Word)))) ≡ Ok event → line ≡ event_text event
+    → cond t (parse_tick cluster line) (cond c (parse_crash cluster line) (cond r (parse_restart cluster line) (cond s (parse_stop cluster line) (refused 1 Word)))) ≡ Ok event → line ≡ event_text event
 last_words_spelled cluster line event h true i c j r k s l e = tick_spelled cluster line event h i e
 last_words_spelled cluster line event h false i true j r k s l e = crash_spelled cluster line event h j e
 last_words_spelled cluster line event h false i false j true k s l e = restart_spelled cluster line event h k e
 last_words_spelled cluster line event h false i false j false k true l e = stop_spelled cluster line event h l e
 last_words_spelled cluster line event h false i false j false k false l e = absurd (cc)
 
-event_spelled : (cluster : Cluster) (line : List ℕ) (event : Event) → AreQuorums cluster.quorums → event_of cluster line ≡ Ok event → line ≡ event_text event
+event_spelled : (cluster : Cluster) (line : List ℕ) (event : Event) → AreQuorums cluster.quorums → parse_event cluster line ≡ Ok event → line ≡ event_text event
 event_spelled cluster line event h e =
     by (begins_with (codes "read") line) refl (begins_with (codes "begin") line) refl (begins_with (codes "deliver") line) refl (begins_with (codes "settle") line) refl e
   where
     last : Result Event SchedFault
-    last = cond (begins_with (codes "tick") line) (tick_of cluster line) (cond (begins_with (codes "crash") line) (crash_of cluster line) (cond (begins_with (codes "restart") line) (restart_of cluster line) (cond (begins_with (codes "stop") line) (stop_of cluster line) (refused 1 Word))))
+    last = cond (begins_with (codes "tick") line) (parse_tick cluster line) (cond (begins_with (codes "crash") line) (parse_crash cluster line) (cond (begins_with (codes "restart") line) (parse_restart cluster line) (cond (begins_with (codes "stop") line) (parse_stop cluster line) (refused 1 Word))))
 
     by : (r : Bool) → begins_with (codes "read") line ≡ r → (b : Bool) → begins_with (codes "begin") line ≡ b → (d : Bool) → begins_with (codes "deliver") line ≡ d
         → (s : Bool) → begins_with (codes "settle") line ≡ s
-        → cond r (read_of cluster line) (cond b (begin_of cluster line) (cond d (deliver_of line) (cond s (settle_of cluster line) last))) ≡ Ok event
+        → cond r (parse_read cluster line) (cond b (parse_begin cluster line) (cond d (parse_deliver line) (cond s (parse_settle cluster line) last))) ≡ Ok event
         → line ≡ event_text event
     by true i b j d k s l e = read_spelled cluster line event h i e
     by false i true j d k s l e = begin_spelled cluster line event h j e
@@ -281,14 +281,14 @@ event_spelled cluster line event h e =
 
 -- ---- lines
 
-some_event : (cluster : Cluster) (text : List ℕ) (event : Event) → event_or_none cluster text ≡ Ok (Some event) → event_of cluster text ≡ Ok event
+some_event : (cluster : Cluster) (text : List ℕ) (event : Event) → event_or_none cluster text ≡ Ok (Some event) → parse_event cluster text ≡ Ok event
 some_event cluster [] event e = absurd (cc)
 some_event cluster (b ∷ bs) event e = by (b == 35) e
   where
-    by : (comment : Bool) → cond comment (Ok None) (event_of cluster (b ∷ bs) >>= λ event. Ok (Some event)) ≡ Ok (Some event) → event_of cluster (b ∷ bs) ≡ Ok event
+    by : (comment : Bool) → cond comment (Ok None) (parse_event cluster (b ∷ bs) >>= λ event. Ok (Some event)) ≡ Ok (Some event) → parse_event cluster (b ∷ bs) ≡ Ok event
     by true e = absurd (cc)
     by false e =
-        let found = bind_ok (event_of cluster (b ∷ bs)) _ (Some event) e in
+        let found = bind_ok (parse_event cluster (b ∷ bs)) _ (Some event) e in
         let same : found.0 ≡ event = cc (found.2) in
         found.1 ∙ ap (λ x. let r : Result Event SchedFault = Ok x in r) same
 
@@ -299,14 +299,14 @@ ended line y (b ∷ c ∷ bs) at e = absurd (cc)
 
 -- what is read of a line that isn't too long is what it spells
 read_short : {A : Type 0} (text : List ℕ) (read : Result A SchedFault) (x : A) → bounded text read ≡ Ok x → read ≡ Ok x
-read_short text read x e = by (nat_le (length text) most_bytes) read e
+read_short text read x e = by (nat_le (length text) most_line_bytes) read e
   where
     by : (few : Bool) (read : Result _ SchedFault) → cond few read (of_long read) ≡ Ok x → read ≡ Ok x
     by true read e = e
     by false (Ok y) e = absurd (cc)
-    by false (Err fault) e = long (nat_le fault.column most_bytes) e
+    by false (Err fault) e = long (nat_le fault.column most_line_bytes) e
       where
-        long : (early : Bool) → cond early (Err fault) (refused (most_bytes + 1) Range) ≡ Ok x → Err fault ≡ Ok x
+        long : (early : Bool) → cond early (Err fault) (refused (most_line_bytes + 1) Range) ≡ Ok x → Err fault ≡ Ok x
         long true e = e
         long false e = absurd (cc)
 

@@ -3,7 +3,7 @@ use Rattle.std.proofs.Common.{ℕ, ◌+◌, ◌≤◌, Bool, true, false, List, 
 use Rattle.std.specs.Bool.{OnFalse}
 use Rattle.mdcc_option.specs.declared.cluster.Cluster.{Cluster}
 use Rattle.mdcc_language.specs.declared.schedule.SchedFault.{SchedFault}
-use Rattle.mdcc_language.specs.Schedule.{centre_of, above, numbers_from, updates_from, centres_from}
+use Rattle.mdcc_language.specs.Schedule.{parse_centre, above, numbers_from, updates_from, centres_from}
 use Rattle.mdcc_language.specs.Updates.{update_of}
 use Rattle.mdcc_language.specs.Words.{◌>>=◌, part_at, not_empty, count_of}
 use Rattle.mdcc_sched.specs.Centres.{centre_above}
@@ -75,4 +75,4 @@ tested (Ok y) (Ok x) c g = kept x (c x) g
 pub centre_law : (cluster : Cluster) (last column : ℕ) (word : List ℕ) (words : List (List ℕ))
     → centres_from cluster last column (word ∷ words) ≡ (centre_above cluster last column word >>= λ centre. centres_from cluster centre (column + length word + 1) words >>= λ centres. Ok (centre ∷ centres))
 centre_law cluster last column word words =
-    tested (not_empty word column) (centre_of cluster word column) (λ centre. above last centre column) (λ centre. centres_from cluster centre (column + length word + 1) words >>= λ centres. Ok (centre ∷ centres))
+    tested (not_empty word column) (parse_centre cluster word column) (λ centre. above last centre column) (λ centre. centres_from cluster centre (column + length word + 1) words >>= λ centres. Ok (centre ∷ centres))

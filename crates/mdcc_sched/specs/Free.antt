@@ -9,8 +9,8 @@ is_memory_cause SchedCause.Memory = true
 is_memory_cause _ = false
 
 -- want of memory, which stands at the first column
-abbrev pub is_memory : SchedFault → Bool
-is_memory fault = fault.column == 1 && is_memory_cause fault.cause
+abbrev pub is_sched_memory : SchedFault → Bool
+is_sched_memory fault = fault.column == 1 && is_memory_cause fault.cause
 
 abbrev pub is_resolve_memory : ResolveFault → Bool
 is_resolve_memory ResolveFault.Memory = true

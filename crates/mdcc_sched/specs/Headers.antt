@@ -1,11 +1,11 @@
 -- A header with the number of the line behind it.
 use Rattle.std.specs.Prelude.{List, Ok, Result, ℕ}
 use Rattle.mdcc_option.specs.declared.cluster.Cluster.{Cluster}
-use Rattle.mdcc_language.specs.Header.{Left, all_of, header_lines}
+use Rattle.mdcc_language.specs.Header.{UnreadLines, all_of, header_lines}
 use Rattle.mdcc_language.specs.Words.{◌>>=◌}
 use Rattle.mdcc_language.specs.declared.schedule.HeaderFault.{HeaderFault}
 
-abbrev pub numbered : Cluster × Left → Result (Cluster × ℕ × ℕ) HeaderFault
+abbrev pub numbered : Cluster × UnreadLines → Result (Cluster × ℕ × ℕ) HeaderFault
 numbered header = Ok (header.0, header.1.at, header.1.number)
 
 -- the cluster of a header, the place behind it, and the number of the line there

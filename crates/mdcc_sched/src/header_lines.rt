@@ -1,10 +1,10 @@
 //! The lines of a header, each with its line end, whatever their length.
 ghost use Rattle.std.specs.Prelude.{◌≡◌, ◌≤◌, ◌+◌, codes, length, IfOk, OnOk};
-ghost use Rattle.mdcc_language.specs.Header.{in_order, whole_line, is_version, version_of, last_number, sizes_of, limit_in, fast_limit_of, bound_of};
+ghost use Rattle.mdcc_language.specs.Header.{in_order, whole_line, is_version, version_of, last_number, parse_sizes, limit_in, fast_limit_of, bound_of};
 ghost use Rattle.mdcc_language.specs.Words.{end_at, word_at, natural_of};
 
 use crate::lines::{bytes_of_line, line_end_of};
-use crate::words::{begins_with, word_at, word_behind, word_end};
+use crate::words::{begins_with, word_after, word_at, word_end};
 use mdcc_language::SchedCause;
 use mdcc_option::FastLimit;
 use mdcc_words::TextFault;
@@ -29,7 +29,7 @@ fn last_number(low: u64, high: u64, at: usize, line: &[u8]) -> Result<u64, TextF
     ensures value { result ≡ last_number low high at line.now }
     ensures within { IfOk result (λ number. number ≤ high) }
 {
-    let start = word_behind(at, line)?;
+    let start = word_after(at, line)?;
     let number = natural_of(word_at(start, line), start + 1, low, high)?;
     end_at(word_end(start, line), line, 1)?;
     Ok(number)
@@ -49,7 +49,7 @@ fn version_of(line: &[u8]) -> Result<(), TextFault>
     requires { 13 ≤ length line.now }
     ensures { result ≡ version_of line.now }
 {
-    let start = word_behind(13, line)?;
+    let start = word_after(13, line)?;
     is_version(word_at(start, line), start + 1)?;
     end_at(word_end(start, line), line, 1)
 }
@@ -62,13 +62,13 @@ fn size_of(at: usize, line: &[u8]) -> Result<u8, TextFault>
     Ok(natural_of(word_at(at, line), at + 1, 0, 255)? as u8)
 }
 
-fn sizes_of(line: &[u8]) -> Result<(u8, u8, u8), TextFault>
+fn parse_sizes(line: &[u8]) -> Result<(u8, u8, u8), TextFault>
     requires { 7 ≤ length line.now }
-    ensures { result ≡ sizes_of line.now }
+    ensures { result ≡ parse_sizes line.now }
 {
-    let first = word_behind(7, line)?;
+    let first = word_after(7, line)?;
     let n = size_of(first, line)?;
-    let second = word_behind(word_end(first, line), line)?;
+    let second = word_after(word_end(first, line), line)?;
     let c = size_of(second, line)?;
     let f = last_number(0, 255, word_end(second, line), line)?;
     Ok((n, c, f as u8))
@@ -91,7 +91,7 @@ fn fast_limit_of(line: &[u8]) -> Result<FastLimit, TextFault>
     requires { 5 ≤ length line.now }
     ensures { result ≡ fast_limit_of line.now }
 {
-    let start = word_behind(5, line)?;
+    let start = word_after(5, line)?;
     let limit = limit_in(word_at(start, line), start + 1)?;
     end_at(word_end(start, line), line, 1)?;
     Ok(limit)
@@ -101,9 +101,9 @@ fn bound_of(line: &[u8]) -> Result<(i64, i64), TextFault>
     requires { 5 ≤ length line.now }
     ensures { result ≡ bound_of line.now }
 {
-    let start = word_behind(5, line)?;
+    let start = word_after(5, line)?;
     let lower = value_of(word_at(start, line), start + 1)?;
-    let next = word_behind(word_end(start, line), line)?;
+    let next = word_after(word_end(start, line), line)?;
     let upper = value_of(word_at(next, line), next + 1)?;
     end_at(word_end(next, line), line, 1)?;
     Ok((lower, upper))
@@ -121,11 +121,11 @@ pub fn version_line(line: &[u8]) -> Result<(), TextFault>
 
 /// `quorums N C F`
 pub fn quorums_line(line: &[u8]) -> Result<(u8, u8, u8), TextFault>
-    ensures { result ≡ whole_line (codes "quorums") sizes_of line.now }
+    ensures { result ≡ whole_line (codes "quorums") parse_sizes line.now }
 {
     let text = bytes_of_line(line);
     in_order(b"quorums", text)?;
-    let sizes = sizes_of(text)?;
+    let sizes = parse_sizes(text)?;
     line_end_of(text, line)?;
     Ok(sizes)
 }

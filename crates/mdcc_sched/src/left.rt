@@ -1,6 +1,6 @@
 //! How far a header is read.
 ghost use Rattle.std.specs.Prelude.{◌≡◌, ◌+◌, ◌-◌, ◌≤◌, ◌<◌, ◌^◌, [], get_or, drop, length};
-ghost use Rattle.mdcc_language.specs.Header.{all_of, next_line, without_next, refused_at, in_line, is_next};
+ghost use Rattle.mdcc_language.specs.Header.{all_of, next_line, without_next, refused_at, in_line, begins_next};
 ghost use Rattle.mdcc_language.specs.Lines.{bounded, bytes_of_line, lines_in};
 
 use crate::lines::{bounded, bytes_of_line};
@@ -23,7 +23,7 @@ impl<'a> Model for Left<'a> {
     ghost use Rattle.mdcc_language.specs.Header as header;
     ghost use Rattle.mdcc_language.specs.Lines.{lines_in};
 
-    ghost Value = { header.Left };
+    ghost Value = { header.UnreadLines };
 
     ghost view = { λ l. record { lines = lines_in l.rest.now; at = l.at; number = l.number } };
 
@@ -92,7 +92,7 @@ impl<'a> Left<'a> {
 
     /// Whether the next line begins with this word.
     pub fn is_next(&self, word: &[u8]) -> bool
-        ensures { result ≡ is_next word.now self.now }
+        ensures { result ≡ begins_next word.now self.now }
     {
         begins_with(word, bytes_of_line(self.next_line()))
     }

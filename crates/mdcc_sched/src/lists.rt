@@ -1,10 +1,10 @@
 //! Lists of words, from a place of a line to its end.
 ghost use Rattle.std.specs.Prelude.{◌≡◌, ◌+◌, ◌≤◌, IfErr, length};
 ghost use Rattle.mdcc_base.specs.Unless.{GivesUnless};
-ghost use Rattle.mdcc_language.specs.Schedule.{centre_of, above, numbers_from, updates_from, centres_from};
+ghost use Rattle.mdcc_language.specs.Schedule.{parse_centre, above, numbers_from, updates_from, centres_from};
 ghost use Rattle.mdcc_language.specs.Words.{parts_from};
 ghost use Rattle.mdcc_sched.specs.Centres.{centre_above};
-ghost use Rattle.mdcc_sched.specs.Free.{is_memory};
+ghost use Rattle.mdcc_sched.specs.Free.{is_sched_memory};
 ghost use Rattle.mdcc_sched.specs.Numbers.{number_of_word};
 
 use crate::words::{not_empty, word_at};
@@ -29,7 +29,7 @@ fn number_of_word(column: usize, word: &[u8]) -> Result<u32, TextFault>
 /// The numbers of messages from a place on.
 pub fn numbers_from(alloc: Global, at: usize, line: &[u8]) -> Result<HeapList<u32>, TextFault>
     requires { at ≤ length line.now }
-    ensures value { GivesUnless is_memory result (numbers_from (at + 1) (parts_from 32 at line.now)) }
+    ensures value { GivesUnless is_sched_memory result (numbers_from (at + 1) (parts_from 32 at line.now)) }
     ensures column { IfErr result (λ fault. fault.column ≤ length line.now + 1) }
 {
     let mut numbers = HeapList::new(alloc);
@@ -50,7 +50,7 @@ pub fn updates_from(
     line: &[u8],
 ) -> Result<HeapList<UpdateWord>, TextFault>
     requires { at ≤ length line.now }
-    ensures value { GivesUnless is_memory result (updates_from (at + 1) (parts_from 32 at line.now)) }
+    ensures value { GivesUnless is_sched_memory result (updates_from (at + 1) (parts_from 32 at line.now)) }
     ensures column { IfErr result (λ fault. fault.column ≤ length line.now + 1) }
 {
     let mut updates = HeapList::new(alloc);
@@ -65,8 +65,8 @@ pub fn updates_from(
 }
 
 /// A centre of the cluster.
-pub fn centre_of(cluster: &Cluster, word: &[u8], column: usize) -> Result<Centre, TextFault>
-    ensures value { result ≡ centre_of cluster.now word.now column }
+pub fn parse_centre(cluster: &Cluster, word: &[u8], column: usize) -> Result<Centre, TextFault>
+    ensures value { result ≡ parse_centre cluster.now word.now column }
     ensures column { IfErr result (λ fault. fault.column ≡ column) }
 {
     let number = natural_of(word, column, 1, u64::from(cluster.quorums.centres()))?;
@@ -84,7 +84,7 @@ fn centre_above(
     ensures column { IfErr result (λ fault. fault.column ≡ column) }
 {
     not_empty(word, column)?;
-    let centre = centre_of(cluster, word, column)?;
+    let centre = parse_centre(cluster, word, column)?;
     if last < centre.number() {
         return Ok(centre);
     }
@@ -99,7 +99,7 @@ pub fn centres_from(
     line: &[u8],
 ) -> Result<HeapList<Centre>, TextFault>
     requires { at ≤ length line.now }
-    ensures value { GivesUnless is_memory result (centres_from cluster.now 0 (at + 1) (parts_from 32 at line.now)) }
+    ensures value { GivesUnless is_sched_memory result (centres_from cluster.now 0 (at + 1) (parts_from 32 at line.now)) }
     ensures column { IfErr result (λ fault. fault.column ≤ length line.now + 1) }
 {
     let mut centres = HeapList::new(alloc);

@@ -1,13 +1,13 @@
 //! Lines of a schedule.
 ghost use Rattle.std.specs.Prelude.{◌≡◌, ◌+◌, ◌≤◌, IfErr, length};
 ghost use Rattle.mdcc_base.specs.Unless.{GivesUnless};
-ghost use Rattle.mdcc_language.specs.Schedule.{last_centre, tick_of, crash_of, restart_of, read_of, begin_of, deliver_of, settle_of, image_of, stop_of, event_of, event_or_none, event_in, line_of};
+ghost use Rattle.mdcc_language.specs.Schedule.{last_centre, parse_tick, parse_crash, parse_restart, parse_read, parse_begin, parse_deliver, parse_settle, parse_image, parse_stop, parse_event, event_or_none, event_in, line_of};
 ghost use Rattle.mdcc_language.specs.Lines.{bytes_of_line};
-ghost use Rattle.mdcc_sched.specs.Free.{is_memory};
+ghost use Rattle.mdcc_sched.specs.Free.{is_sched_memory};
 
 use crate::lines::{bounded, bytes_of_line, line_end_of};
-use crate::lists::{centre_of, centres_from, numbers_from, updates_from};
-use crate::words::{begins_with, word_at, word_behind, word_end};
+use crate::lists::{centres_from, numbers_from, parse_centre, updates_from};
+use crate::words::{begins_with, word_after, word_at, word_end};
 use mdcc_base::{Centre, HeapList, Image};
 use mdcc_language::{Event, SchedCause, SchedFault};
 use mdcc_option::Cluster;
@@ -24,16 +24,16 @@ fn last_centre(cluster: &Cluster, at: usize, line: &[u8]) -> Result<Centre, Text
     ensures value { result ≡ last_centre cluster.now at line.now }
     ensures column { IfErr result (λ fault. fault.column ≤ length line.now + 1) }
 {
-    let start = word_behind(at, line)?;
-    let centre = centre_of(cluster, word_at(start, line), start + 1)?;
+    let start = word_after(at, line)?;
+    let centre = parse_centre(cluster, word_at(start, line), start + 1)?;
     end_at(word_end(start, line), line, 1)?;
     Ok(centre)
 }
 
 // `tick K`
-fn tick_of(cluster: &Cluster, line: &[u8]) -> Result<Event, TextFault>
+fn parse_tick(cluster: &Cluster, line: &[u8]) -> Result<Event, TextFault>
     requires { 4 ≤ length line.now }
-    ensures value { result ≡ tick_of cluster.now line.now }
+    ensures value { result ≡ parse_tick cluster.now line.now }
     ensures column { IfErr result (λ fault. fault.column ≤ length line.now + 1) }
 {
     let centre = last_centre(cluster, 4, line)?;
@@ -41,9 +41,9 @@ fn tick_of(cluster: &Cluster, line: &[u8]) -> Result<Event, TextFault>
 }
 
 // `crash K`
-fn crash_of(cluster: &Cluster, line: &[u8]) -> Result<Event, TextFault>
+fn parse_crash(cluster: &Cluster, line: &[u8]) -> Result<Event, TextFault>
     requires { 5 ≤ length line.now }
-    ensures value { result ≡ crash_of cluster.now line.now }
+    ensures value { result ≡ parse_crash cluster.now line.now }
     ensures column { IfErr result (λ fault. fault.column ≤ length line.now + 1) }
 {
     let centre = last_centre(cluster, 5, line)?;
@@ -51,9 +51,9 @@ fn crash_of(cluster: &Cluster, line: &[u8]) -> Result<Event, TextFault>
 }
 
 // `restart K`
-fn restart_of(cluster: &Cluster, line: &[u8]) -> Result<Event, TextFault>
+fn parse_restart(cluster: &Cluster, line: &[u8]) -> Result<Event, TextFault>
     requires { 7 ≤ length line.now }
-    ensures value { result ≡ restart_of cluster.now line.now }
+    ensures value { result ≡ parse_restart cluster.now line.now }
     ensures column { IfErr result (λ fault. fault.column ≤ length line.now + 1) }
 {
     let centre = last_centre(cluster, 7, line)?;
@@ -61,47 +61,47 @@ fn restart_of(cluster: &Cluster, line: &[u8]) -> Result<Event, TextFault>
 }
 
 // `read K KEY`
-fn read_of(cluster: &Cluster, line: &[u8]) -> Result<Event, TextFault>
+fn parse_read(cluster: &Cluster, line: &[u8]) -> Result<Event, TextFault>
     requires { 4 ≤ length line.now }
-    ensures value { result ≡ read_of cluster.now line.now }
+    ensures value { result ≡ parse_read cluster.now line.now }
     ensures column { IfErr result (λ fault. fault.column ≤ length line.now + 1) }
 {
-    let start = word_behind(4, line)?;
-    let centre = centre_of(cluster, word_at(start, line), start + 1)?;
-    let next = word_behind(word_end(start, line), line)?;
+    let start = word_after(4, line)?;
+    let centre = parse_centre(cluster, word_at(start, line), start + 1)?;
+    let next = word_after(word_end(start, line), line)?;
     let key = key_of(word_at(next, line), next + 1)?;
     end_at(word_end(next, line), line, 1)?;
     Ok(Event::Read(centre, key))
 }
 
 // `begin K UPDATE ..`
-fn begin_of(alloc: Global, cluster: &Cluster, line: &[u8]) -> Result<Event, TextFault>
+fn parse_begin(alloc: Global, cluster: &Cluster, line: &[u8]) -> Result<Event, TextFault>
     requires { 5 ≤ length line.now }
-    ensures value { GivesUnless is_memory result (begin_of cluster.now line.now) }
+    ensures value { GivesUnless is_sched_memory result (parse_begin cluster.now line.now) }
     ensures column { IfErr result (λ fault. fault.column ≤ length line.now + 1) }
 {
-    let start = word_behind(5, line)?;
-    let centre = centre_of(cluster, word_at(start, line), start + 1)?;
-    let next = word_behind(word_end(start, line), line)?;
+    let start = word_after(5, line)?;
+    let centre = parse_centre(cluster, word_at(start, line), start + 1)?;
+    let next = word_after(word_end(start, line), line)?;
     let updates = updates_from(alloc, next, line)?;
     Ok(Event::Begin(centre, updates))
 }
 
 // `deliver M ..`
-fn deliver_of(alloc: Global, line: &[u8]) -> Result<Event, TextFault>
+fn parse_deliver(alloc: Global, line: &[u8]) -> Result<Event, TextFault>
     requires { 7 ≤ length line.now }
-    ensures value { GivesUnless is_memory result (deliver_of line.now) }
+    ensures value { GivesUnless is_sched_memory result (parse_deliver line.now) }
     ensures column { IfErr result (λ fault. fault.column ≤ length line.now + 1) }
 {
-    let start = word_behind(7, line)?;
+    let start = word_after(7, line)?;
     let numbers = numbers_from(alloc, start, line)?;
     Ok(Event::Deliver(numbers))
 }
 
 // `settle` or `settle K ..`
-fn settle_of(alloc: Global, cluster: &Cluster, line: &[u8]) -> Result<Event, TextFault>
+fn parse_settle(alloc: Global, cluster: &Cluster, line: &[u8]) -> Result<Event, TextFault>
     requires { 6 ≤ length line.now }
-    ensures value { GivesUnless is_memory result (settle_of cluster.now line.now) }
+    ensures value { GivesUnless is_sched_memory result (parse_settle cluster.now line.now) }
     ensures column { IfErr result (λ fault. fault.column ≤ length line.now + 1) }
 {
     if line.len() == 6 {
@@ -112,8 +112,8 @@ fn settle_of(alloc: Global, cluster: &Cluster, line: &[u8]) -> Result<Event, Tex
 }
 
 // What a crash leaves of what was not synced.
-fn image_of(word: &[u8], column: usize) -> Result<Image, TextFault>
-    ensures value { result ≡ image_of word.now column }
+fn parse_image(word: &[u8], column: usize) -> Result<Image, TextFault>
+    ensures value { result ≡ parse_image word.now column }
     ensures column { IfErr result (λ fault. fault.column ≡ column) }
 {
     if text_eq(word, b"lost") {
@@ -128,42 +128,42 @@ fn image_of(word: &[u8], column: usize) -> Result<Image, TextFault>
 }
 
 // `stop K N IMAGE`
-fn stop_of(cluster: &Cluster, line: &[u8]) -> Result<Event, TextFault>
+fn parse_stop(cluster: &Cluster, line: &[u8]) -> Result<Event, TextFault>
     requires { 4 ≤ length line.now }
-    ensures value { result ≡ stop_of cluster.now line.now }
+    ensures value { result ≡ parse_stop cluster.now line.now }
     ensures column { IfErr result (λ fault. fault.column ≤ length line.now + 1) }
 {
-    let start = word_behind(4, line)?;
-    let centre = centre_of(cluster, word_at(start, line), start + 1)?;
-    let next = word_behind(word_end(start, line), line)?;
+    let start = word_after(4, line)?;
+    let centre = parse_centre(cluster, word_at(start, line), start + 1)?;
+    let next = word_after(word_end(start, line), line)?;
     let call = natural_of(word_at(next, line), next + 1, 1, 4)?;
-    let last = word_behind(word_end(next, line), line)?;
-    let image = image_of(word_at(last, line), last + 1)?;
+    let last = word_after(word_end(next, line), line)?;
+    let image = parse_image(word_at(last, line), last + 1)?;
     end_at(word_end(last, line), line, 1)?;
     Ok(Event::Stop(centre, call as u8, image))
 }
 
 // The event of a line that is not skipped.
-fn event_of(alloc: Global, cluster: &Cluster, line: &[u8]) -> Result<Event, TextFault>
-    ensures value { GivesUnless is_memory result (event_of cluster.now line.now) }
+fn parse_event(alloc: Global, cluster: &Cluster, line: &[u8]) -> Result<Event, TextFault>
+    ensures value { GivesUnless is_sched_memory result (parse_event cluster.now line.now) }
     ensures column { IfErr result (λ fault. fault.column ≤ length line.now + 1) }
 {
     if begins_with(b"read", line) {
-        read_of(cluster, line)
+        parse_read(cluster, line)
     } else if begins_with(b"begin", line) {
-        begin_of(alloc, cluster, line)
+        parse_begin(alloc, cluster, line)
     } else if begins_with(b"deliver", line) {
-        deliver_of(alloc, line)
+        parse_deliver(alloc, line)
     } else if begins_with(b"settle", line) {
-        settle_of(alloc, cluster, line)
+        parse_settle(alloc, cluster, line)
     } else if begins_with(b"tick", line) {
-        tick_of(cluster, line)
+        parse_tick(cluster, line)
     } else if begins_with(b"crash", line) {
-        crash_of(cluster, line)
+        parse_crash(cluster, line)
     } else if begins_with(b"restart", line) {
-        restart_of(cluster, line)
+        parse_restart(cluster, line)
     } else if begins_with(b"stop", line) {
-        stop_of(cluster, line)
+        parse_stop(cluster, line)
     } else {
         refused(1, SchedCause::Word)
     }
@@ -171,14 +171,14 @@ fn event_of(alloc: Global, cluster: &Cluster, line: &[u8]) -> Result<Event, Text
 
 // The event of a line; an empty one and one that begins with `#` are skipped.
 fn event_or_none(alloc: Global, cluster: &Cluster, line: &[u8]) -> Result<Option<Event>, TextFault>
-    ensures value { GivesUnless is_memory result (event_or_none cluster.now line.now) }
+    ensures value { GivesUnless is_sched_memory result (event_or_none cluster.now line.now) }
     ensures column { IfErr result (λ fault. fault.column ≤ length line.now + 1) }
 {
     match line {
         [] => Ok(None),
         [b'#', ..] => Ok(None),
         _ => {
-            let event = event_of(alloc, cluster, line)?;
+            let event = parse_event(alloc, cluster, line)?;
             Ok(Some(event))
         }
     }
@@ -186,7 +186,7 @@ fn event_or_none(alloc: Global, cluster: &Cluster, line: &[u8]) -> Result<Option
 
 // The event of a line with its line end, which is asked last.
 fn event_in(alloc: Global, cluster: &Cluster, line: &[u8]) -> Result<Option<Event>, TextFault>
-    ensures value { GivesUnless is_memory result (event_in cluster.now line.now) }
+    ensures value { GivesUnless is_sched_memory result (event_in cluster.now line.now) }
     ensures column { IfErr result (λ fault. fault.column ≤ length (bytes_of_line line.now) + 2) }
 {
     let text = bytes_of_line(line);
@@ -203,7 +203,7 @@ pub fn parse_line(
     line: &[u8],
     cluster: &Cluster,
 ) -> Result<Option<Event>, SchedFault>
-    ensures { GivesUnless is_memory result (line_of cluster.now line.now) }
+    ensures { GivesUnless is_sched_memory result (line_of cluster.now line.now) }
 {
     let event = event_in(alloc, cluster, line);
     narrowed(bounded(bytes_of_line(line), event))

@@ -1,12 +1,12 @@
 //! Words of a line, which are separated by one space. The line has no line end.
 ghost use Rattle.std.specs.Prelude.{◌≡◌, ◌+◌, ◌≤◌, IsTrue, IfErr, IfOk, length};
-ghost use Rattle.mdcc_language.specs.Words.{word_at, word_end, not_empty, word_behind};
+ghost use Rattle.mdcc_language.specs.Words.{word_at, word_end, not_empty, word_after};
 ghost use Rattle.mdcc_language.specs.Schedule.{begins_with};
 
 use mdcc_language::SchedCause;
 use mdcc_words::TextFault;
 use mdcc_words::faults::refused;
-use mdcc_words::places::{behind, part_at, part_end, text_eq};
+use mdcc_words::places::{part_at, part_end, start_after, text_eq};
 
 /// The word that begins at a place.
 pub fn word_at(at: usize, line: &[u8]) -> &[u8]
@@ -38,13 +38,13 @@ pub fn not_empty(word: &[u8], column: usize) -> Result<(), TextFault>
 }
 
 /// The place of the next word, behind the space at a place.
-pub fn word_behind(at: usize, line: &[u8]) -> Result<usize, TextFault>
+pub fn word_after(at: usize, line: &[u8]) -> Result<usize, TextFault>
     requires { at ≤ length line.now }
-    ensures place { result ≡ word_behind at line.now }
+    ensures place { result ≡ word_after at line.now }
     ensures within { IfOk result (λ start. start ≤ length line.now) }
     ensures column { IfErr result (λ fault. fault.column ≤ length line.now + 1) }
 {
-    let start = behind(b' ', at, line, 1)?;
+    let start = start_after(b' ', at, line, 1)?;
     not_empty(word_at(start, line), start + 1)?;
     Ok(start)
 }

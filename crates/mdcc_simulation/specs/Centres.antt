@@ -9,14 +9,14 @@ use Rattle.mdcc_language.specs.declared.lines.Line.{Line}
 use Rattle.mdcc_rules.specs.declared.node.Input.{Input}
 use Rattle.mdcc_language.specs.declared.world.EventFault.{EventFault}
 use Rattle.mdcc_simulation.specs.State.{World, booted, down, centre_at, with_centre, next_message, Happened}
-use Rattle.mdcc_simulation.specs.Limits.{log_limit, cells_limit, unless, input_taken, with_lines}
+use Rattle.mdcc_simulation.specs.Limits.{log_limit, cells_limit, unless_limit, input_applied, with_lines}
 
 abbrev pub tick_line : ℕ → World → List Line
 tick_line a w = Line.Tick a (next_message w) ∷ []
 
 -- a tick line
-abbrev pub tick_of : World → ℕ → Result Happened EventFault
-tick_of w a = with_lines (tick_line a) (input_taken w a Input.Tick)
+abbrev pub after_tick : World → ℕ → Result Happened EventFault
+after_tick w a = with_lines (tick_line a) (input_applied w a Input.Tick)
 
 -- a crash line: all but the log is lost
 abbrev pub crash_happened : World → ℕ → Happened
@@ -29,10 +29,10 @@ restart_happened w a epoch = record {
 }
 
 -- a restart line, at a centre that is down: the next epoch begins
-abbrev pub restart_of : World → ℕ → Result Happened EventFault
-restart_of w a =
+abbrev pub after_restart : World → ℕ → Result Happened EventFault
+after_restart w a =
     let epoch = epoch_of (facts_of w.ledger a) + 1 in
-    unless (option_or (cells_limit w a (Fact.Booted epoch)) (log_limit w a (Fact.Booted epoch))) (restart_happened w a epoch)
+    unless_limit (option_or (cells_limit w a (Fact.Booted epoch)) (log_limit w a (Fact.Booted epoch))) (restart_happened w a epoch)
 
 -- a stop line: the next append will stop
 abbrev pub stop_happened : World → ℕ → ℕ → Image → Happened

@@ -19,16 +19,16 @@ use Rattle.mdcc_language.specs.declared.schedule.ResolveFault.{ResolveFault}
 use Rattle.mdcc_protocol.specs.declared.visible.Reading.{Reading}
 use Rattle.mdcc_language.specs.declared.world.EventFault.{EventFault}
 use Rattle.mdcc_simulation.specs.State.{World, next_message, Happened}
-use Rattle.mdcc_simulation.specs.Stepping.{step_at}
+use Rattle.mdcc_simulation.specs.AppliedSteps.{step_at}
 use Rattle.mdcc_simulation.specs.Limits.{input_limited, with_lines}
 
-abbrev pub known_of : Key → Reading → Known
-known_of key reading = record { key = key; token = reading.token; item = reading.item }
+abbrev pub known_of_reading : Key → Reading → Known
+known_of_reading key reading = record { key = key; token = reading.token; item = reading.item }
 
 -- a read line
 abbrev pub read_happened : World → ℕ → Key → Happened
 read_happened w a key =
-    let known = known_of key (Visible.read (facts_of w.ledger a) key) in
+    let known = known_of_reading key (Visible.read (facts_of w.ledger a) key) in
     record {
       world = record w { reads = w.reads ++ known ∷ [] };
       lines = Line.Read (length w.reads + 1) a known ∷ [];
@@ -44,13 +44,13 @@ abbrev pub answer_in : Result NodeStep StepFault → Option Answer
 answer_in (Ok step) = step.answer
 answer_in (Err fault) = None
 
-abbrev pub begin_taken : World → ℕ → Result NodeStep StepFault → Result Happened EventFault
-begin_taken w a result = with_lines (begin_lines (answer_in result)) (input_limited w a result)
+abbrev pub after_begin_step : World → ℕ → Result NodeStep StepFault → Result Happened EventFault
+after_begin_step w a result = with_lines (begin_lines (answer_in result)) (input_limited w a result)
 
 -- by the parts in key order, or why they make no transaction
 abbrev pub begun_by : World → ℕ → Result (List Part) DraftFault → Result Happened EventFault
 begun_by w a (Err fault) = Err (EventFault.Begin fault)
-begun_by w a (Ok parts) = begin_taken w a (step_at w a (Input.Begin parts))
+begun_by w a (Ok parts) = after_begin_step w a (step_at w a (Input.Begin parts))
 
 -- a read without an item is told in a line of its own
 abbrev pub no_item : World → Key → Happened
@@ -63,5 +63,5 @@ parts_begun w a (Err ResolveFault.Memory) = Err EventFault.Memory
 parts_begun w a (Ok parts) = begun_by w a (transaction_of w.cluster.schema parts)
 
 -- a begin line
-abbrev pub begin_of : World → ℕ → List UpdateWord → Result Happened EventFault
-begin_of w a words = parts_begun w a (resolve words (map Some w.reads))
+abbrev pub after_begin : World → ℕ → List UpdateWord → Result Happened EventFault
+after_begin w a words = parts_begun w a (resolve words (map Some w.reads))

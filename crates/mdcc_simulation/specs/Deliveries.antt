@@ -8,32 +8,32 @@ use Rattle.mdcc_language.specs.declared.world.EventFault.{EventFault}
 use Rattle.mdcc_language.specs.declared.world.LimitName.{LimitName}
 use Rattle.mdcc_messages.specs.Mailbox.{Sent, with_delivered, numbered}
 use Rattle.mdcc_simulation.specs.State.{World, is_up_at, next_message, Happened, after_lines}
-use Rattle.mdcc_simulation.specs.Limits.{most_events, within_events, if_up, input_taken, with_lines}
+use Rattle.mdcc_simulation.specs.Limits.{most_events, within_events, if_up, input_applied, with_lines}
 
 -- the message of a number is delivered, which is an event; it counts as delivered whatever its step does
-abbrev pub delivered : World → ℕ → Envelope → Result Happened EventFault
-delivered w number envelope =
-    input_taken (record w { sent = with_delivered w.sent (number - 1); events = w.events + 1 }) envelope.to (Input.Message envelope)
+abbrev pub after_message : World → ℕ → Envelope → Result Happened EventFault
+after_message w number envelope =
+    input_applied (record w { sent = with_delivered w.sent (number - 1); events = w.events + 1 }) envelope.to (Input.Message envelope)
 
 abbrev pub deliver_line : ℕ → World → List Line
 deliver_line number w = Line.Deliver number (next_message w) ∷ []
 
 -- one number of a deliver line
-abbrev pub delivery_by : World → ℕ → Option Sent → Result Happened EventFault
-delivery_by w number None = Err (EventFault.NoMessage number)
-delivery_by w number (Some sent) =
-    if_up w sent.envelope.to (within_events w (with_lines (deliver_line number) (delivered w number sent.envelope)))
+abbrev pub after_delivery_by : World → ℕ → Option Sent → Result Happened EventFault
+after_delivery_by w number None = Err (EventFault.NoMessage number)
+after_delivery_by w number (Some sent) =
+    if_up w sent.envelope.to (within_events w (with_lines (deliver_line number) (after_message w number sent.envelope)))
 
-abbrev pub delivery_of : World → ℕ → Result Happened EventFault
-delivery_of w number = delivery_by w number (numbered w.sent number)
+abbrev pub after_delivery : World → ℕ → Result Happened EventFault
+after_delivery w number = after_delivery_by w number (numbered w.sent number)
 
 -- the numbers of a deliver line, in turn; the first that is refused refuses the line
-abbrev pub deliveries_of : List ℕ → Happened → Result Happened EventFault
-deliveries_of [] h = Ok h
-deliveries_of (number ∷ numbers) h =
-    elim (delivery_of h.world number) [
+abbrev pub after_deliveries : List ℕ → Happened → Result Happened EventFault
+after_deliveries [] h = Ok h
+after_deliveries (number ∷ numbers) h =
+    elim (after_delivery h.world number) [
       | Err fault ↦ Err fault
-      | Ok next ↦ deliveries_of numbers (after_lines h.lines next)
+      | Ok next ↦ after_deliveries numbers (after_lines h.lines next)
     ]
 
 -- whether a message waits for a centre that is up and, where centres are listed, among them
@@ -61,7 +61,7 @@ settled_of zero listed h deliveries =
 settled_of (suc left) listed h deliveries =
     elim (first_waiting h.world listed 1 h.world.sent) [
       | None ↦ Ok (h, deliveries)
-      | Some next ↦ elim (delivered h.world next.0 next.1) [
+      | Some next ↦ elim (after_message h.world next.0 next.1) [
         | Err fault ↦ Err fault
         | Ok after ↦ settled_of left listed (after_lines h.lines after) (deliveries + 1)
       ]
@@ -73,6 +73,6 @@ settled_line (Ok (h, deliveries)) =
     Ok (record { world = h.world; lines = h.lines ++ Line.Settled deliveries (next_message h.world) ∷ [] })
 
 -- a settle line
-abbrev pub settle_of : World → List ℕ → Result Happened EventFault
-settle_of w listed =
+abbrev pub after_settle : World → List ℕ → Result Happened EventFault
+after_settle w listed =
     settled_line (settled_of (most_events - w.events) listed (record { world = w; lines = Line.Settle listed ∷ [] }) 0)

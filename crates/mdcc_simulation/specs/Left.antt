@@ -4,13 +4,13 @@ use Rattle.mdcc_language.specs.declared.events.Event.{Event}
 use Rattle.mdcc_language.specs.declared.lines.Line.{Line}
 use Rattle.mdcc_simulation.specs.State.{World, Happened, after_lines, counted_event}
 use Rattle.mdcc_simulation.specs.Limits.{most_events}
-use Rattle.mdcc_simulation.specs.Deliveries.{delivered, delivery_of, first_waiting}
+use Rattle.mdcc_simulation.specs.Deliveries.{after_message, after_delivery, first_waiting}
 
 -- the deliveries of a line before the first that is refused
 abbrev pub deliveries_before : List ℕ → Happened → Happened
 deliveries_before [] h = h
 deliveries_before (number ∷ numbers) h =
-    elim (delivery_of h.world number) [
+    elim (after_delivery h.world number) [
       | Err fault ↦ h
       | Ok next ↦ deliveries_before numbers (after_lines h.lines next)
     ]
@@ -21,7 +21,7 @@ settled_before zero listed h = h
 settled_before (suc left) listed h =
     elim (first_waiting h.world listed 1 h.world.sent) [
       | None ↦ h
-      | Some next ↦ elim (delivered h.world next.0 next.1) [
+      | Some next ↦ elim (after_message h.world next.0 next.1) [
         | Err fault ↦ h
         | Ok after ↦ settled_before left listed (after_lines h.lines after)
       ]

@@ -7,4 +7,4 @@ pub mod Limits
 pub mod Replay
 pub mod Runs
 pub mod State
-pub mod Stepping
+pub mod AppliedSteps

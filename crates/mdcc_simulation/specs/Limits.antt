@@ -13,7 +13,7 @@ use Rattle.mdcc_rules.specs.declared.node.StepFault.{StepFault}
 use Rattle.mdcc_language.specs.declared.world.EventFault.{EventFault}
 use Rattle.mdcc_language.specs.declared.world.LimitName.{LimitName}
 use Rattle.mdcc_simulation.specs.State.{World, centre_at, is_up_at, Happened, after_lines}
-use Rattle.mdcc_simulation.specs.Stepping.{input_happened, step_at}
+use Rattle.mdcc_simulation.specs.AppliedSteps.{input_happened, step_at}
 
 -- how many events a replay has at most, how many bytes of messages, and how many bytes a log
 abbrev pub most_events : ℕ
@@ -55,9 +55,9 @@ cells_limit w a fact =
     limit_if (is_past_cells w.cluster facts fact) LimitName.Cells (cells_used facts + cells_needed fact)
 
 -- what happens where no limit is passed
-abbrev pub unless : {X : Type 0} → Option EventFault → X → Result X EventFault
-unless (Some fault) x = Err fault
-unless None x = Ok x
+abbrev pub unless_limit : {X : Type 0} → Option EventFault → X → Result X EventFault
+unless_limit (Some fault) x = Err fault
+unless_limit None x = Ok x
 
 abbrev pub is_limit : EventFault → Bool
 is_limit (EventFault.Limit name number) = true
@@ -69,7 +69,7 @@ is_past_events w = nat_le most_events w.events
 
 -- the limit of events is asked behind all other refusals, and before the other limits
 abbrev pub within_events : {X : Type 0} → World → Result X EventFault → Result X EventFault
-within_events w (Ok x) = unless (limit_if (is_past_events w) LimitName.Events most_events) x
+within_events w (Ok x) = unless_limit (limit_if (is_past_events w) LimitName.Events most_events) x
 within_events w (Err fault) =
     if is_limit fault && is_past_events w then Err (EventFault.Limit LimitName.Events most_events) else Err fault
 
@@ -79,10 +79,10 @@ if_up w a result = if is_up_at w a then result else Err (EventFault.Down a)
 
 -- an input of a centre, within the limits
 abbrev pub input_limited : World → ℕ → Result NodeStep StepFault → Result Happened EventFault
-input_limited w a result = unless (step_limit w a result) (input_happened w a result)
+input_limited w a result = unless_limit (step_limit w a result) (input_happened w a result)
 
-abbrev pub input_taken : World → ℕ → Input → Result Happened EventFault
-input_taken w a input = input_limited w a (step_at w a input)
+abbrev pub input_applied : World → ℕ → Input → Result Happened EventFault
+input_applied w a input = input_limited w a (step_at w a input)
 
 -- the lines of what happened stand behind others that it determines
 abbrev pub with_lines : (World → List Line) → Result Happened EventFault → Result Happened EventFault

@@ -3,11 +3,11 @@ use Rattle.std.specs.Prelude.{ℕ, ◌+◌, nat_lt, if◌then◌else◌, List, [
 use Rattle.mdcc_option.specs.declared.cluster.Cluster.{Cluster}
 use Rattle.mdcc_language.specs.declared.schedule.HeaderFault.{HeaderFault}
 use Rattle.mdcc_language.specs.Errors.{ReplayFault, TooLong, AtHeader, AtLine, AtEvent, most_input, status_of, error_text}
-use Rattle.mdcc_language.specs.Header.{Left, all_of, header_lines}
+use Rattle.mdcc_language.specs.Header.{UnreadLines, all_of, header_lines}
 use Rattle.mdcc_language.specs.Report.{line_text, lines_text, header_text}
 use Rattle.mdcc_language.specs.Schedule.{line_of}
 use Rattle.mdcc_simulation.specs.State.{World, first_world}
-use Rattle.mdcc_simulation.specs.Events.{event_of}
+use Rattle.mdcc_simulation.specs.Events.{after_event}
 use Rattle.mdcc_simulation.specs.Runs.{end_line}
 
 -- ---- lines in turn
@@ -32,7 +32,7 @@ lines_replayed cluster number world (line ∷ lines) =
     elim (line_of cluster line) [
       | Err fault ↦ ended (Some world) [] (Some (AtLine number fault))
       | Ok None ↦ lines_replayed cluster (number + 1) world lines
-      | Ok (Some event) ↦ (elim (event_of world event) [
+      | Ok (Some event) ↦ (elim (after_event world event) [
         | Err fault ↦ ended (Some world) [] (Some (AtEvent number fault))
         | Ok happened ↦ after_text (lines_text happened.lines) (lines_replayed cluster (number + 1) happened.world lines)
       ])
@@ -40,15 +40,15 @@ lines_replayed cluster number world (line ∷ lines) =
 
 -- ---- whole inputs
 
-abbrev pub replay_behind : List ℕ → Result (Cluster × Left) HeaderFault → Replay
-replay_behind input (Err fault) = ended None [] (Some (AtHeader fault))
-replay_behind input (Ok header) =
+abbrev pub replay_after_header : List ℕ → Result (Cluster × UnreadLines) HeaderFault → Replay
+replay_after_header input (Err fault) = ended None [] (Some (AtHeader fault))
+replay_after_header input (Ok header) =
     after_text (header_text header.1.at input) (lines_replayed header.0 header.1.number (first_world header.0) header.1.lines)
 
 abbrev pub replay_of : List ℕ → Replay
 replay_of input =
     if nat_lt most_input (length input) then ended None [] (Some TooLong)
-    else replay_behind input (header_lines (all_of input))
+    else replay_after_header input (header_lines (all_of input))
 
 -- what the program writes and answers
 pub record Output : Type 0 where

@@ -8,7 +8,7 @@ use Rattle.mdcc_language.specs.declared.events.Event.{Event}
 use Rattle.mdcc_language.specs.declared.lines.Line.{Line}
 use Rattle.mdcc_language.specs.declared.world.EventFault.{EventFault}
 use Rattle.mdcc_simulation.specs.State.{World, Happened, after_lines}
-use Rattle.mdcc_simulation.specs.Events.{event_of}
+use Rattle.mdcc_simulation.specs.Events.{after_event}
 
 -- the outcomes of all begun transactions
 abbrev pub outcomes_of : World → List (Option Outcome)
@@ -33,7 +33,7 @@ pub record Run : Type 0 where
 abbrev pub run_from : List Event → Happened → Run
 run_from [] h = record { world = h.world; lines = h.lines; fault = None }
 run_from (event ∷ events) h =
-    elim (event_of h.world event) [
+    elim (after_event h.world event) [
       | Err fault ↦ record { world = h.world; lines = h.lines; fault = Some fault }
       | Ok next ↦ run_from events (after_lines h.lines next)
     ]

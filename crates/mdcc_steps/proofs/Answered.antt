@@ -31,10 +31,10 @@ use Rattle.mdcc_messages.specs.declared.facts.Fact.{Fact}
 use Rattle.mdcc_rules.specs.declared.node.Answer.{Answer}
 use Rattle.mdcc_rules.specs.declared.node.Input.{Input}
 use Rattle.mdcc_rules.specs.declared.node.StepFault.{StepFault}
-use Rattle.mdcc_steps.specs.Answering.{IsWellFormedGivenAnswer}
-use Rattle.mdcc_steps.specs.Forming.{IsNode}
+use Rattle.mdcc_steps.specs.StepAnswers.{IsWellFormedGivenAnswer}
+use Rattle.mdcc_steps.specs.NodeInvariant.{IsNode}
 use Rattle.mdcc_steps.specs.Inputs.{AreWellFormedParts, IsWellFormedInput}
-use Rattle.mdcc_steps.specs.Keeping.{AreNodeFacts}
+use Rattle.mdcc_steps.specs.WellFormedVolatile.{AreNodeFacts}
 use Rattle.mdcc_steps.proofs.Allowing.{OnStep, on_checked}
 use Rattle.mdcc_steps.proofs.Each.{each-map, each-weaker}
 use Rattle.mdcc_steps.proofs.Executed.{executed-few}

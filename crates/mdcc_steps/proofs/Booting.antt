@@ -15,8 +15,8 @@ use Rattle.mdcc_protocol.specs.Volatile.{nothing_kept}
 use Rattle.mdcc_messages.specs.WellFormed.{IsWellFormedFact}
 use Rattle.mdcc_messages.specs.declared.facts.Fact.{Fact}
 use Rattle.mdcc_rules.specs.declared.node.BootFault.{BootFault}
-use Rattle.mdcc_steps.specs.Forming.{IsNode, payloads_of}
-use Rattle.mdcc_steps.specs.Keeping.{AreNodeFacts}
+use Rattle.mdcc_steps.specs.NodeInvariant.{IsNode, payloads_of}
+use Rattle.mdcc_steps.specs.WellFormedVolatile.{AreNodeFacts}
 
 -- a result behind two tests
 two_tests : {X Y : Type 0} (a b : Bool) (x y : Y) (m : Result X Y) (r : X) → cond a (Err x) (cond b (Err y) m) ≡ Ok r → (a ≡ false) × (b ≡ false) × (m ≡ Ok r)

@@ -23,7 +23,7 @@ use Rattle.mdcc_messages.specs.WellFormed.{IsWellFormedFact, IsWellFormedOffered
 use Rattle.mdcc_messages.specs.WellFormedParts.{IsWellFormedChoice, IsWellFormedEntry, IsWellFormedInstance, IsWellFormedTx, IsWellFormedWithin, IsWellFormedWritten}
 use Rattle.mdcc_messages.specs.declared.facts.Fact.{Fact}
 use Rattle.mdcc_protocol.specs.declared.votes.Vote.{Vote}
-use Rattle.mdcc_steps.specs.Keeping.{IsWellFormedClaim, IsWellFormedVoteKept}
+use Rattle.mdcc_steps.specs.WellFormedVolatile.{IsWellFormedClaim, IsWellFormedVoteKept}
 use Rattle.mdcc_steps.proofs.Each.{each-filter, folded}
 use Rattle.mdcc_steps.proofs.Held.{HoldsIn, each-filter_map, holds-or, holds-then, value-in}
 use Rattle.mdcc_steps.proofs.Told.{entries-of}

@@ -18,7 +18,7 @@ use Rattle.mdcc_protocol.specs.Recover.{keys_watched, on_voted_by}
 use Rattle.mdcc_protocol.specs.Volatile.{Managing, Recovering, Undecided, is_open, opened_of}
 use Rattle.mdcc_messages.specs.declared.facts.Fact.{Fact}
 use Rattle.mdcc_protocol.specs.declared.votes.Vote.{Vote}
-use Rattle.mdcc_steps.specs.Adding.{IsVoteOf}
+use Rattle.mdcc_steps.specs.AddedFacts.{IsVoteOf}
 use Rattle.mdcc_steps.proofs.Decided.{IsCounted, decided-choices, each-with_vote, matched-each}
 use Rattle.mdcc_steps.proofs.Each.{each-all}
 

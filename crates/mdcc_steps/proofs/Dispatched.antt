@@ -38,9 +38,9 @@ use Rattle.mdcc_messages.specs.declared.messages.Message.{Message}
 use Rattle.mdcc_rules.specs.declared.node.Input.{Input}
 use Rattle.mdcc_rules.specs.declared.node.StepFault.{StepFault}
 use Rattle.mdcc_protocol.specs.declared.visible.Give.{Give}
-use Rattle.mdcc_steps.specs.Forming.{IsNode, with_new}
+use Rattle.mdcc_steps.specs.NodeInvariant.{IsNode, with_new}
 use Rattle.mdcc_steps.specs.Inputs.{AreWellFormedParts, IsWellFormedInput}
-use Rattle.mdcc_steps.specs.Keeping.{AreNodeFacts, IsWellFormedLead, IsWellFormedOpen, IsWellFormedVolatile, IsWellFormedVoteKept}
+use Rattle.mdcc_steps.specs.WellFormedVolatile.{AreNodeFacts, IsWellFormedLead, IsWellFormedOpen, IsWellFormedVolatile, IsWellFormedVoteKept}
 use Rattle.mdcc_steps.proofs.Allowing.{OnStep, on_checked}
 use Rattle.mdcc_steps.proofs.Counted.{HoldsOfInput, HoldsOfVote, votes-step}
 use Rattle.mdcc_steps.proofs.Each.{each-kept, each-weaker}

@@ -33,7 +33,7 @@ use Rattle.mdcc_protocol.specs.declared.manager.ManagerAct.{ManagerAct}
 use Rattle.mdcc_messages.specs.declared.messages.Message.{Message}
 use Rattle.mdcc_protocol.specs.declared.votes.Vote.{Vote}
 use Rattle.mdcc_steps.specs.Inputs.{AreWellFormedParts}
-use Rattle.mdcc_steps.specs.Keeping.{AreNodeFacts, IsWellFormedLead, IsWellFormedOpen, IsWellFormedVolatile, IsWellFormedVoteKept}
+use Rattle.mdcc_steps.specs.WellFormedVolatile.{AreNodeFacts, IsWellFormedLead, IsWellFormedOpen, IsWellFormedVolatile, IsWellFormedVoteKept}
 use Rattle.mdcc_steps.proofs.Deciding.{open-decided, watched-decided}
 use Rattle.mdcc_steps.proofs.Each.{each-append, each-kept, each-weaker}
 use Rattle.mdcc_steps.proofs.Held.{HoldsIn, holds-then}

@@ -25,7 +25,7 @@ use Rattle.mdcc_protocol.specs.declared.leader.LeadAnswer.{LeadAnswer}
 use Rattle.mdcc_protocol.specs.declared.leader.LeadFault.{LeadFault}
 use Rattle.mdcc_protocol.specs.declared.leader.Promise.{Promise}
 use Rattle.mdcc_protocol.specs.declared.leader.PromiseAnswer.{PromiseAnswer}
-use Rattle.mdcc_steps.specs.Keeping.{IsWellFormedClaim, IsWellFormedCounted, IsWellFormedLead, IsWellFormedMade}
+use Rattle.mdcc_steps.specs.WellFormedVolatile.{IsWellFormedClaim, IsWellFormedCounted, IsWellFormedLead, IsWellFormedMade}
 use Rattle.mdcc_steps.proofs.Claims.{IsFormedClaim}
 use Rattle.mdcc_steps.proofs.Each.{each-append, each-kept, each-map, each-weaker}
 use Rattle.mdcc_steps.proofs.Held.{HoldsIn}

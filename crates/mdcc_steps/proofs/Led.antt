@@ -23,7 +23,7 @@ use Rattle.mdcc_protocol.specs.declared.leader.LeadFault.{LeadFault}
 use Rattle.mdcc_protocol.specs.declared.leader.Promise.{Promise}
 use Rattle.mdcc_protocol.specs.declared.leader.PromiseAnswer.{PromiseAnswer}
 use Rattle.mdcc_messages.specs.declared.messages.Message.{Message}
-use Rattle.mdcc_steps.specs.Keeping.{AreNodeFacts, IsWellFormedVolatile}
+use Rattle.mdcc_steps.specs.WellFormedVolatile.{AreNodeFacts, IsWellFormedVolatile}
 use Rattle.mdcc_steps.proofs.Allowing.{OnStep}
 use Rattle.mdcc_steps.proofs.Claims.{IsFormedClaim, formed-choice}
 use Rattle.mdcc_steps.proofs.Formed.{IsFormed}

@@ -17,7 +17,7 @@ use Rattle.mdcc_messages.specs.WellFormed.{IsWellFormedFact}
 use Rattle.mdcc_messages.specs.WellFormedParts.{IsWellFormedCommit, IsWellFormedOf, IsWellFormedPart, IsWellFormedTx, IsWellFormedWriteSet, IsWellFormedWritten, choice_lt, is_ascending_by, is_written, written_lt}
 use Rattle.mdcc_messages.specs.declared.facts.Fact.{Fact}
 use Rattle.mdcc_steps.specs.Inputs.{AreWellFormedParts}
-use Rattle.mdcc_steps.specs.Keeping.{IsWellFormedOpen}
+use Rattle.mdcc_steps.specs.WellFormedVolatile.{IsWellFormedOpen}
 use Rattle.mdcc_steps.proofs.Each.{each-map, each-weaker}
 
 -- ---- begun transactions

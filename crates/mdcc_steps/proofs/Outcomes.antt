@@ -21,7 +21,7 @@ use Rattle.mdcc_protocol.specs.Volatile.{Managing, Recovering, Undecided, is_wat
 use Rattle.mdcc_messages.specs.WellFormed.{IsWellFormedFact}
 use Rattle.mdcc_messages.specs.WellFormedParts.{IsWellFormedEntry, IsWellFormedHeard, IsWellFormedOf, IsWellFormedTx, IsWellFormedWriteSet, choice_lt, is_ascending_by, written_lt}
 use Rattle.mdcc_messages.specs.declared.facts.Fact.{Fact}
-use Rattle.mdcc_steps.specs.Keeping.{IsWellFormedOpen, IsWellFormedVoteKept}
+use Rattle.mdcc_steps.specs.WellFormedVolatile.{IsWellFormedOpen, IsWellFormedVoteKept}
 use Rattle.mdcc_steps.proofs.Decided.{AreMatched, IsCounted, decided-choices, matched-each}
 use Rattle.mdcc_steps.proofs.Deciding.{IsDecidedBy, IsOpenDecided, IsWatchedDecided}
 use Rattle.mdcc_steps.proofs.Held.{HoldsIn, holds-at, holds-map, holds-weaker, value-in}

@@ -26,7 +26,7 @@ use Rattle.mdcc_protocol.specs.declared.acceptor.AcceptAnswer.{AcceptAnswer}
 use Rattle.mdcc_protocol.specs.declared.acceptor.PrepareAnswer.{PrepareAnswer}
 use Rattle.mdcc_messages.specs.declared.facts.Fact.{Fact}
 use Rattle.mdcc_messages.specs.declared.messages.Message.{Message}
-use Rattle.mdcc_steps.specs.Keeping.{AreNodeFacts, IsWellFormedVolatile}
+use Rattle.mdcc_steps.specs.WellFormedVolatile.{AreNodeFacts, IsWellFormedVolatile}
 use Rattle.mdcc_steps.proofs.Adding.{classic-not_fast}
 use Rattle.mdcc_steps.proofs.Cells.{votes-few}
 use Rattle.mdcc_steps.proofs.Each.{each-kept}

@@ -16,7 +16,7 @@ use Rattle.mdcc_protocol.specs.Volatile.{Volatile}
 use Rattle.mdcc_messages.specs.declared.facts.Fact.{Fact}
 use Rattle.mdcc_rules.specs.declared.node.Input.{Input}
 use Rattle.mdcc_rules.specs.declared.node.StepFault.{StepFault}
-use Rattle.mdcc_steps.specs.Forming.{with_new}
+use Rattle.mdcc_steps.specs.NodeInvariant.{with_new}
 use Rattle.mdcc_steps.proofs.Allowing.{OnStep}
 use Rattle.mdcc_steps.proofs.Stepping.{on_made}
 

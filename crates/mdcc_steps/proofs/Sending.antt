@@ -25,7 +25,7 @@ use Rattle.mdcc_messages.specs.WellFormedParts.{IsWellFormedDelta, IsWellFormedG
 use Rattle.mdcc_messages.specs.declared.facts.Fact.{Fact}
 use Rattle.mdcc_messages.specs.declared.messages.Envelope.{Envelope}
 use Rattle.mdcc_messages.specs.declared.messages.Message.{Message}
-use Rattle.mdcc_steps.specs.Keeping.{AreNodeFacts}
+use Rattle.mdcc_steps.specs.WellFormedVolatile.{AreNodeFacts}
 use Rattle.mdcc_steps.proofs.Each.{each-append, each-kept, each-map, each-weaker}
 use Rattle.mdcc_steps.proofs.Executed.{executed-few}
 use Rattle.mdcc_steps.proofs.Held.{HoldsIn}

@@ -46,7 +46,7 @@ use Rattle.mdcc_rules.specs.declared.node.StepFault.{StepFault}
 use Rattle.mdcc_protocol.specs.declared.visible.Give.{Give}
 use Rattle.mdcc_protocol.specs.declared.votes.Vote.{Vote}
 use Rattle.mdcc_spelling.proofs.Longest.{longest_choice}
-use Rattle.mdcc_steps.specs.Forming.{HasRoom, IsNode, accept_length_in, accept_length}
+use Rattle.mdcc_steps.specs.NodeInvariant.{HasRoom, IsNode, accept_length_in, accept_length}
 use Rattle.mdcc_steps.proofs.Sending.{HasRoomIn, IsGoodSent}
 use Rattle.mdcc_steps.specs.Inputs.{IsWellFormedInput}
 use Rattle.mdcc_steps.proofs.Allowing.{OnStep, on_checked}

@@ -30,7 +30,7 @@ use Rattle.mdcc_protocol.specs.declared.leader.LeadFault.{LeadFault}
 use Rattle.mdcc_messages.specs.declared.messages.Message.{Message}
 use Rattle.mdcc_rules.specs.declared.node.Input.{Input}
 use Rattle.mdcc_rules.specs.declared.node.StepFault.{StepFault}
-use Rattle.mdcc_steps.specs.Adding.{AreVotesOf, IsVoteOf}
+use Rattle.mdcc_steps.specs.AddedFacts.{AreVotesOf, IsVoteOf}
 use Rattle.mdcc_steps.specs.Inputs.{IsWellFormedInput}
 use Rattle.mdcc_steps.proofs.Adding.{accept-allowed, classic-not_fast, give-allowed, outcome-allowed, prepare-allowed}
 use Rattle.mdcc_steps.proofs.Allowing.{IsAllowedIf, OnStep, on_checked}

@@ -26,7 +26,7 @@ use Rattle.mdcc_protocol.specs.Marks.{accepts_in, choice_in, is_accept, rejects_
 use Rattle.mdcc_protocol.specs.Structures.{accept_room, all_claims, choices_reported, claims_reported, first_structure, fit_at_leader, is_accepted, is_crowded, is_left_out, mark_of_choice, reject_room, with_choice, with_claim}
 use Rattle.mdcc_messages.specs.WellFormedParts.{IsWellFormedEntry, IsWellFormedTx}
 use Rattle.mdcc_messages.specs.declared.facts.Fact.{Fact}
-use Rattle.mdcc_steps.specs.Keeping.{IsWellFormedClaim, IsWellFormedMade}
+use Rattle.mdcc_steps.specs.WellFormedVolatile.{IsWellFormedClaim, IsWellFormedMade}
 use Rattle.mdcc_steps.proofs.Each.{each-kept}
 use Rattle.mdcc_steps.proofs.Held.{HoldsIn, each-filter_map, each-union, each-with_entry, value-in}
 use Rattle.mdcc_steps.proofs.Proposed.{holds-find}

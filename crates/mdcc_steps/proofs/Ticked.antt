@@ -27,7 +27,7 @@ use Rattle.mdcc_protocol.specs.declared.manager.ManagerAct.{ManagerAct}
 use Rattle.mdcc_messages.specs.declared.messages.Message.{Message}
 use Rattle.mdcc_protocol.specs.declared.recover.RecoverAct.{RecoverAct}
 use Rattle.mdcc_protocol.specs.declared.votes.Vote.{Vote}
-use Rattle.mdcc_steps.specs.Keeping.{IsWellFormedOpen, IsWellFormedVolatile, IsWellFormedVoteKept}
+use Rattle.mdcc_steps.specs.WellFormedVolatile.{IsWellFormedOpen, IsWellFormedVolatile, IsWellFormedVoteKept}
 use Rattle.mdcc_steps.proofs.Claims.{IsFormedClaim, formed-choice, formed-key}
 use Rattle.mdcc_steps.proofs.Each.{each-append, each-kept, each-map, each-weaker}
 use Rattle.mdcc_steps.proofs.Sending.{IsGoodSent, each-flat_map, sent-all}

@@ -13,7 +13,7 @@ use Rattle.mdcc_rules.specs.Steps.{NodeStep, nothing_done}
 use Rattle.mdcc_protocol.specs.Volatile.{Volatile, is_open}
 use Rattle.mdcc_messages.specs.declared.facts.Fact.{Fact}
 use Rattle.mdcc_protocol.specs.declared.votes.Vote.{Vote}
-use Rattle.mdcc_steps.specs.Adding.{AreVotesOf, IsVoteOf}
+use Rattle.mdcc_steps.specs.AddedFacts.{AreVotesOf, IsVoteOf}
 use Rattle.mdcc_steps.proofs.Adding.{heard-allowed}
 use Rattle.mdcc_steps.proofs.Allowing.{IsAllowedIf}
 use Rattle.mdcc_steps.proofs.Deciding.{decided-belongs, open-decided, watched-decided}

@@ -1,5 +1,5 @@
-pub mod Adding
-pub mod Answering
-pub mod Forming
+pub mod AddedFacts
+pub mod StepAnswers
+pub mod NodeInvariant
 pub mod Inputs
-pub mod Keeping
+pub mod WellFormedVolatile

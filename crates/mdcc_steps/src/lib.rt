@@ -1,9 +1,9 @@
 //! Laws of a node's step, for any input: what it adds may stand in the node's log, and all that it adds, keeps and sends is well-formed.
 #![tactic(auto)]
 
-ghost use Rattle.mdcc_steps.specs.Adding.{AddedFactIsAllowed, FactsStayAllowed, NoVotesAtBoot, NodeStaysBooted, VotesStayOf};
-ghost use Rattle.mdcc_steps.specs.Answering.{AnswerIsWellFormed};
-ghost use Rattle.mdcc_steps.specs.Forming.{AddedFactIsShort, AddedFactIsWellFormed, BootGivesNode, BootKeepsRoom, BootReadsFacts, BroughtFactFits, CellsGiveRoom, LogsGiveRoom, NodeStays, RoomStays, SendsAreWellFormed, StructuresHaveRoom};
+ghost use Rattle.mdcc_steps.specs.AddedFacts.{AddedFactIsAllowed, FactsStayAllowed, NoVotesAtBoot, NodeStaysBooted, VotesStayOf};
+ghost use Rattle.mdcc_steps.specs.StepAnswers.{AnswerIsWellFormed};
+ghost use Rattle.mdcc_steps.specs.NodeInvariant.{AddedFactIsShort, AddedFactIsWellFormed, BootGivesNode, BootKeepsRoom, BootReadsFacts, BroughtFactFits, CellsGiveRoom, LogsGiveRoom, NodeStays, RoomStays, SendsAreWellFormed, StructuresHaveRoom};
 
 /// A fact that a step adds is allowed after the node's facts, so that a boot over the log accepts it.
 pub fn added_facts_are_allowed()

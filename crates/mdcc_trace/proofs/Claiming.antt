@@ -25,8 +25,8 @@ use Rattle.mdcc_messages.specs.declared.messages.Message.{Message}
 use Rattle.mdcc_rules.specs.Messages.{to_all, to_each, to_others}
 use Rattle.mdcc_rules.specs.Steps.{StepPart}
 use Rattle.mdcc_trace_states.specs.Words.{Each, In, count}
-use Rattle.mdcc_trace_states.specs.Keeping.{IsClaim, IsLead, IsPromise, Leads}
-use Rattle.mdcc_trace_states.specs.Standing.{Says}
+use Rattle.mdcc_trace_states.specs.VolatileInvariant.{IsClaim, IsLead, IsPromise, Leads}
+use Rattle.mdcc_trace_states.specs.MessageMeaning.{Says}
 use Rattle.mdcc_trace_states.proofs.Lists.{Each-at, Each-filter, Each-from, Each-like, In-filter}
 use Rattle.mdcc_trace_states.proofs.Led.{IsClaim-more, IsPromise-more}
 use Rattle.mdcc_protocol.proofs.EnoughPromises.{parts-classic}

@@ -26,7 +26,7 @@ use Rattle.mdcc_ledger.specs.AllowedStructures.{reports_at}
 use Rattle.mdcc_ledger.specs.BootTest.{is_allowed_fast_vote}
 use Rattle.mdcc_protocol.specs.Volatile.{Counted, structure_found, with_structure}
 use Rattle.mdcc_trace_states.specs.Words.{Each}
-use Rattle.mdcc_trace_states.specs.Keeping.{IsPromise}
+use Rattle.mdcc_trace_states.specs.VolatileInvariant.{IsPromise}
 use Rattle.mdcc_trace_states.proofs.Tests.{Decides-key}
 use Rattle.mdcc_trace_states.proofs.Boots.{kind}
 use Rattle.mdcc_trace_states.proofs.Ledgers.{Allowed-tail}

@@ -29,10 +29,10 @@ use Rattle.mdcc_protocol.specs.Recover.{acts_on, ask_of, choice_received, claim_
 use Rattle.mdcc_rules.specs.Steps.{NodeStep, StepPart, nothing_done}
 use Rattle.mdcc_rules.specs.declared.node.StepFault.{StepFault}
 use Rattle.mdcc_trace_states.specs.Words.{Each, In, IsTail}
-use Rattle.mdcc_trace_states.specs.Keeping.{AreVotes, IsClaim, IsGiven, IsOwn}
+use Rattle.mdcc_trace_states.specs.VolatileInvariant.{AreVotes, IsClaim, IsGiven, IsOwn}
 use Rattle.mdcc_trace_states.specs.Sound.{HasOneMark, IsSound}
 use Rattle.mdcc_trace_states.specs.Invariant.{IsGood, IsGoodRoomy}
-use Rattle.mdcc_trace_states.specs.Standing.{Says, Stands}
+use Rattle.mdcc_trace_states.specs.MessageMeaning.{Says, TrueWhenSent}
 use Rattle.mdcc_trace_states.proofs.Lists.{Each-at, Each-from, Each-like, Each-map, In-filter, IsTail-same}
 use Rattle.mdcc_trace_states.proofs.Ledgers.{is_begun-tail, mark-tail}
 use Rattle.mdcc_trace_rules.proofs.Begins.{Each-flat_map, begin-good, nothing-good, sends-good, stands-each}
@@ -194,7 +194,7 @@ module _ (law : OneMarkLaw) (cluster : Cluster) (es : List Entry) (a : ℕ) (vol
       sends-good IsSound cluster es a volatile volatile _ up up.keeps (record { from = up.centre; old = w.old; tail = w.tail; says = w.outcome }, tt)
   lead-good s choice None e claim = led-step (led_of cluster a (facts_of es a) volatile (claim_of_choice choice)) (led-good IsSound (sound-well law) cluster es a volatile up (claim_of_choice choice) claim)
 
-  pub message-good : (env : Envelope) (message : Message) → env.message ≡ message → Stands cluster es env → is_centre cluster env.from ≡ true → message_belongs cluster message ≡ true →
+  pub message-good : (env : Envelope) (message : Message) → env.message ≡ message → TrueWhenSent cluster es env → is_centre cluster env.from ≡ true → message_belongs cluster message ≡ true →
       Roomy (message_step cluster a (facts_of es a) volatile env.from message)
   message-good env (Message.Propose choice) e h from belongs =
       let said = subst (λ z. Says cluster h.old env.from z) e h.says in
@@ -239,7 +239,7 @@ module _ (law : OneMarkLaw) (cluster : Cluster) (es : List Entry) (a : ℕ) (vol
   message-good env (Message.ClientBegin n ps) e h from belongs = nothing
   message-good env (Message.ClientAnswer n x) e h from belongs = nothing
 
-  received-good : (env : Envelope) → Stands cluster es env → IsGood cluster IsSound es a (step_of cluster a (facts_of es a) volatile (Input.Message env))
+  received-good : (env : Envelope) → TrueWhenSent cluster es env → IsGood cluster IsSound es a (step_of cluster a (facts_of es a) volatile (Input.Message env))
   received-good env h =
       elim (cases_Bool (env.to == a && is_centre cluster env.from && message_belongs cluster env.message)) [
         | inl e ↦

@@ -10,7 +10,7 @@ use Rattle.mdcc_protocol.specs.Facts.{promised_through}
 use Rattle.mdcc_ledger.specs.Ledger.{Added, Entry, Valued, facts_of}
 use Rattle.mdcc_messages.specs.declared.messages.Envelope.{Envelope}
 use Rattle.mdcc_messages.specs.declared.messages.Message.{Message}
-use Rattle.mdcc_trace_states.specs.Standing.{IsBackedMessage, IsLasting, Says, Stands}
+use Rattle.mdcc_trace_states.specs.MessageMeaning.{IsBackedMessage, IsLasting, Says, TrueWhenSent}
 use Rattle.mdcc_trace_states.specs.Words.{IsTail}
 use Rattle.mdcc_trace_rules.proofs.Chains.{valued-tail}
 use Rattle.mdcc_trace.proofs.Own.{own}
@@ -56,7 +56,7 @@ lasts cluster sizes old es a (Message.ClientRead n k) tail legal l h = h
 lasts cluster sizes old es a (Message.ClientBegin n ps) tail legal l h = h
 lasts cluster sizes old es a (Message.ClientAnswer n x) tail legal l h = h
 
-pub backed-message : (cluster : Cluster) → AreQuorums cluster.quorums → (es : List Entry) → IsAllowed cluster es → (envelope : Envelope) → Stands cluster es envelope → IsBackedMessage cluster es envelope
+pub backed-message : (cluster : Cluster) → AreQuorums cluster.quorums → (es : List Entry) → IsAllowed cluster es → (envelope : Envelope) → TrueWhenSent cluster es envelope → IsBackedMessage cluster es envelope
 backed-message cluster sizes es legal envelope h = record {
   sent = h;
   still = λ l. lasts cluster sizes h.old es envelope.from envelope.message h.tail legal l h.says;

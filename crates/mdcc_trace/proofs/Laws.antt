@@ -10,7 +10,7 @@ use Rattle.mdcc_language.specs.declared.events.Event.{Event}
 use Rattle.mdcc_trace_states.specs.Words.{Each}
 use Rattle.mdcc_trace_states.specs.Invariant.{Holds}
 use Rattle.mdcc_trace_states.specs.Sound.{IsSound}
-use Rattle.mdcc_trace_states.specs.Standing.{IsBackedMessage, Stands}
+use Rattle.mdcc_trace_states.specs.MessageMeaning.{IsBackedMessage, TrueWhenSent}
 use Rattle.mdcc_trace_states.specs.Steps.{AreGood}
 use Rattle.mdcc_trace_states.proofs.Schedules.{trace-holds}
 use Rattle.mdcc_trace.proofs.Full.{OneMarkLaw, full-good}
@@ -36,7 +36,7 @@ pub all_sent : (cluster : Cluster) → IsCluster cluster → (events : List Even
     Each (λ (s : Sent). IsBackedMessage cluster (run_of (first_world cluster) events).world.ledger s.envelope) (run_of (first_world cluster) events).world.sent
 all_sent cluster is events =
     let h = holds cluster is events in
-    Each-like (λ (s : Sent). Stands cluster (run_of (first_world cluster) events).world.ledger s.envelope) (λ (s : Sent). IsBackedMessage cluster (run_of (first_world cluster) events).world.ledger s.envelope)
+    Each-like (λ (s : Sent). TrueWhenSent cluster (run_of (first_world cluster) events).world.ledger s.envelope) (λ (s : Sent). IsBackedMessage cluster (run_of (first_world cluster) events).world.ledger s.envelope)
     (run_of (first_world cluster) events).world.sent
     (λ s g. backed-message cluster is.quorums (run_of (first_world cluster) events).world.ledger (allowed cluster is events) s.envelope g)
-    (subst (λ z. Each (λ (s : Sent). Stands z (run_of (first_world cluster) events).world.ledger s.envelope) (run_of (first_world cluster) events).world.sent) h.same h.sent)
+    (subst (λ z. Each (λ (s : Sent). TrueWhenSent z (run_of (first_world cluster) events).world.ledger s.envelope) (run_of (first_world cluster) events).world.sent) h.same h.sent)

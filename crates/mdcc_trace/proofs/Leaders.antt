@@ -18,7 +18,7 @@ use Rattle.mdcc_rules.specs.TickRules.{claim_led, led_or_left, manager_act, mana
 use Rattle.mdcc_rules.specs.Steps.{StepPart, only_sending}
 use Rattle.mdcc_protocol.specs.Volatile.{Managing, Undecided, Volatile, next_count, with_manager}
 use Rattle.mdcc_trace_states.specs.Words.{Each, In}
-use Rattle.mdcc_trace_states.specs.Keeping.{IsClaim, IsOpened, IsOwn, Keeps}
+use Rattle.mdcc_trace_states.specs.VolatileInvariant.{IsClaim, IsOpened, IsOwn, Keeps}
 use Rattle.mdcc_trace_states.proofs.Lists.{Each-at, Each-from, Each-map, In-filter, IsTail-more, IsTail-same}
 use Rattle.mdcc_trace_states.proofs.Ledgers.{any-In, is_begun-tail}
 use Rattle.mdcc_trace_rules.proofs.Begins.{Each-flat_map, stands-each}

@@ -18,7 +18,7 @@ use Rattle.mdcc_ledger.specs.AllowedLedgers.{IsAllowed}
 use Rattle.mdcc_ledger.specs.AllowedStructures.{IsAmongCentres, are_distinct, has_promised, has_promised_in, promisers_of}
 use Rattle.mdcc_protocol.specs.Volatile.{Counted, Lead, Leading, lead_of, number_at, with_lead, with_number}
 use Rattle.mdcc_trace_states.specs.Words.{Each, In, IsTail, count}
-use Rattle.mdcc_trace_states.specs.Keeping.{IsLead, IsPromise, Leads}
+use Rattle.mdcc_trace_states.specs.VolatileInvariant.{IsLead, IsPromise, Leads}
 use Rattle.mdcc_trace_states.proofs.Tests.{Decides-ballot, Decides-key}
 use Rattle.mdcc_trace_states.proofs.Lists.{Each-at, Each-filter, Each-from, In-filter, find_some}
 use Rattle.mdcc_trace_rules.proofs.Votes.{AllDiffer, at_places}

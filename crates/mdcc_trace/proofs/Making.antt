@@ -29,7 +29,7 @@ use Rattle.mdcc_ledger.specs.AllowedStructures.{are_begun, is_begun, is_own_mark
 use Rattle.mdcc_protocol.specs.Leader.{reports_of}
 use Rattle.mdcc_protocol.specs.Volatile.{Counted}
 use Rattle.mdcc_trace_states.specs.Words.{Each, In}
-use Rattle.mdcc_trace_states.specs.Keeping.{IsClaim, IsOwn, IsPromise}
+use Rattle.mdcc_trace_states.specs.VolatileInvariant.{IsClaim, IsOwn, IsPromise}
 use Rattle.mdcc_trace_states.specs.Sound.{IsSound, IsSoundMark}
 use Rattle.mdcc_trace_states.proofs.Lists.{Each-at, Each-from, In-filter, In-filter_map, find_some}
 use Rattle.mdcc_trace_states.proofs.Maps.{each-union, is_some-none, tx-true, value_of-inserted, value_of-union}

@@ -24,7 +24,7 @@ use Rattle.mdcc_ledger.specs.Ledger.{Added, Entry, Valued, choices_begun, chosen
 use Rattle.mdcc_protocol.specs.Marks.{Amounts, options_eq}
 use Rattle.mdcc_messages.specs.declared.messages.Message.{Message}
 use Rattle.mdcc_trace_states.specs.Words.{Each, In}
-use Rattle.mdcc_trace_states.specs.Standing.{Says}
+use Rattle.mdcc_trace_states.specs.MessageMeaning.{Says}
 use Rattle.mdcc_trace_states.proofs.Belonging.{AreOf, IsDeltaOf, base-belongs, begun-belong, deltas-belong, each-all, facts-belong, given-belongs, last-belongs, through-belongs, votes-belong}
 use Rattle.mdcc_trace_states.proofs.Ledgers.{any-In}
 use Rattle.mdcc_trace_states.proofs.Lists.{Each-at, Each-map}

@@ -26,7 +26,7 @@ use Rattle.mdcc_ledger.specs.AllowedStructures.{is_begun, is_own_mark}
 use Rattle.mdcc_ledger.specs.BootTest.{is_allowed_fast_vote}
 use Rattle.mdcc_trace_states.specs.Words.{In}
 use Rattle.mdcc_trace_states.specs.Sound.{HasOneMark, IsSound, IsSoundMark}
-use Rattle.mdcc_trace_states.specs.Keeping.{IsOwn}
+use Rattle.mdcc_trace_states.specs.VolatileInvariant.{IsOwn}
 use Rattle.mdcc_trace_states.specs.Invariant.{IsPlainEntry}
 use Rattle.mdcc_trace_states.proofs.Lists.{In-filter, In-filter_map}
 use Rattle.mdcc_trace_states.proofs.Maps.{tx-true, value_of-union}

@@ -23,7 +23,7 @@ use Rattle.mdcc_ledger.specs.AllowedStructures.{IsMade, are_distinct, promisers_
 use Rattle.mdcc_messages.specs.declared.messages.Message.{Message}
 use Rattle.mdcc_trace_states.specs.Words.{Each, In, count}
 use Rattle.mdcc_trace_states.specs.Invariant.{IsGoodStep}
-use Rattle.mdcc_trace_states.specs.Keeping.{IsLead, IsPromise, Keeps, Leads}
+use Rattle.mdcc_trace_states.specs.VolatileInvariant.{IsLead, IsPromise, Keeps, Leads}
 use Rattle.mdcc_trace_states.specs.Sound.{IsSound}
 use Rattle.mdcc_trace_states.proofs.Tests.{Decides-ballot, Decides-key, Decides-options}
 use Rattle.mdcc_trace_states.proofs.Lists.{Each-append, Each-at, Each-like}

@@ -28,7 +28,7 @@ use Rattle.mdcc_protocol.specs.Learner.{votes_on}
 use Rattle.mdcc_protocol.specs.Recover.{choice_accepted, choice_received}
 use Rattle.mdcc_protocol.specs.declared.votes.Vote.{Vote}
 use Rattle.mdcc_trace_states.specs.Words.{In}
-use Rattle.mdcc_trace_states.specs.Keeping.{AreVotes, IsGiven, IsOwn, IsPlaced}
+use Rattle.mdcc_trace_states.specs.VolatileInvariant.{AreVotes, IsGiven, IsOwn, IsPlaced}
 use Rattle.mdcc_trace_states.specs.Sound.{IsSound}
 use Rattle.mdcc_trace_states.proofs.Tests.{Decides-ballot, Decides-key}
 use Rattle.mdcc_trace_states.proofs.Lists.{Each-at, In-filter, In-filter_map}

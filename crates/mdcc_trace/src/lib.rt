@@ -11,7 +11,7 @@ ghost use Rattle.mdcc_simulation.specs.Runs.{run_of};
 ghost use Rattle.mdcc_language.specs.declared.events.Event.{Event};
 ghost use Rattle.mdcc_trace_states.specs.Invariant.{Holds};
 ghost use Rattle.mdcc_trace_states.specs.Sound.{IsSound};
-ghost use Rattle.mdcc_trace_states.specs.Standing.{IsBackedMessage};
+ghost use Rattle.mdcc_trace_states.specs.MessageMeaning.{IsBackedMessage};
 ghost use Rattle.mdcc_trace_states.specs.Words.{Each};
 
 /// For every cluster and every list of events, also of such as name centres, messages or reads that do

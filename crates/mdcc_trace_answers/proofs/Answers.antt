@@ -38,7 +38,7 @@ use Rattle.mdcc_agreement.specs.Laws.{IsLedger}
 use Rattle.mdcc_rooms.proofs.RoomTold.{room_sent}
 use Rattle.mdcc_trace_states.specs.Invariant.{IsGoodBy, IsGoodRoomy}
 use Rattle.mdcc_trace_states.specs.Sound.{IsSound}
-use Rattle.mdcc_trace_states.specs.Standing.{IsBackedMessage, Says, Stands}
+use Rattle.mdcc_trace_states.specs.MessageMeaning.{IsBackedMessage, Says, TrueWhenSent}
 use Rattle.mdcc_trace_states.specs.Steps.{IsUp}
 use Rattle.mdcc_trace_states.proofs.Tests.{Decides-ballot, Decides-key, Decides-options}
 use Rattle.mdcc_trace.proofs.Full.{message-good}
@@ -140,7 +140,7 @@ module _ (cluster : Cluster) (es : List Entry) (a : ℕ) (volatile : Volatile) (
   promised-answered k (Err LeadFault.Crowded) f g = absurd (g refl)
   promised-answered k (Err LeadFault.Memory) f g = let bad = f LeadFault.Memory refl in absurd (cc)
 
-  message-answered : (env : Envelope) (message : Message) → env.message ≡ message → Stands cluster es env → IsAnswered (message_step cluster a (facts_of es a) volatile env.from message)
+  message-answered : (env : Envelope) (message : Message) → env.message ≡ message → TrueWhenSent cluster es env → IsAnswered (message_step cluster a (facts_of es a) volatile env.from message)
   message-answered env (Message.Propose choice) e h = tt
   message-answered env (Message.Voted k v b t m) e h = tt
   message-answered env (Message.Escalate k v t cause) e h = tt

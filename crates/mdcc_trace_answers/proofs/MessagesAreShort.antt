@@ -19,14 +19,14 @@ use Rattle.mdcc_protocol.specs.IsCluster.{IsCluster}
 use Rattle.mdcc_ledger.specs.Ledger.{Entry, facts_of}
 use Rattle.mdcc_language.specs.declared.events.Event.{Event}
 use Rattle.mdcc_language.specs.declared.world.EventFault.{EventFault}
-use Rattle.mdcc_simulation.specs.Events.{event_of}
+use Rattle.mdcc_simulation.specs.Events.{after_event}
 use Rattle.mdcc_simulation.specs.Runs.{run_from, run_of}
 use Rattle.mdcc_simulation.specs.State.{Happened, World, after_lines, first_world}
 use Rattle.mdcc_spelling.proofs.Longest.{longest_choice}
 use Rattle.mdcc_agreement.specs.Laws.{IsLedger}
 use Rattle.mdcc_rooms.proofs.RoomTold.{room_sent}
 use Rattle.mdcc_steps.proofs.Shortness.{entries-long, longest-choices, longest-deltas, longest-entry}
-use Rattle.mdcc_trace_states.specs.Standing.{IsBackedMessage, IsLasting, Says}
+use Rattle.mdcc_trace_states.specs.MessageMeaning.{IsBackedMessage, IsLasting, Says}
 use Rattle.mdcc_trace_states.specs.Words.{Each}
 use Rattle.mdcc_trace_states.proofs.Lists.{Each-like}
 use Rattle.mdcc_trace.proofs.Laws.{all_sent, allowed}
@@ -36,7 +36,7 @@ use Rattle.mdcc_worlds.proofs.Begins.{first-stands}
 use Rattle.mdcc_worlds.proofs.Staying.{event-between}
 use Rattle.mdcc_worlds.specs.Words.{IsGivenEvent}
 use Rattle.mdcc_worlds.specs.Events.{IsBetween}
-use Rattle.mdcc_worlds.specs.Standing.{IsSent}
+use Rattle.mdcc_worlds.specs.WorldInvariant.{IsSentWithin}
 use Rattle.mdcc_trace_answers.proofs.VotesAreFew.{AreFew, votes-few}
 
 -- ---- one message
@@ -107,11 +107,11 @@ well_formed-short cluster is events =
 
 -- ---- which are well-formed
 
-next-between : (event : Event) (events : List Event) (h : Happened) → ((next : Happened) → event_of h.world event ≡ Ok next → IsBetween (run_from events (after_lines h.lines next)).world)
+next-between : (event : Event) (events : List Event) (h : Happened) → ((next : Happened) → after_event h.world event ≡ Ok next → IsBetween (run_from events (after_lines h.lines next)).world)
     → IsBetween h.world → IsBetween (run_from (event ∷ events) h).world
-next-between event events h go between = by_answer (event_of h.world event) refl
+next-between event events h go between = by_answer (after_event h.world event) refl
   where
-    by_answer : (r : Result Happened EventFault) → event_of h.world event ≡ r → IsBetween (run_from (event ∷ events) h).world
+    by_answer : (r : Result Happened EventFault) → after_event h.world event ≡ r → IsBetween (run_from (event ∷ events) h).world
     by_answer (Err fault) e = rw (e, run_from) between
     by_answer (Ok next) e = rw (e, run_from) (go next e)
 
@@ -121,7 +121,7 @@ run-between (event ∷ events) h may between =
     next-between event events h
     (λ next e. run-between events (after_lines h.lines next) may.1 (let stays = event-between h.world event next between may.0 e in record { itself = stays.itself; few = stays.few })) between
 
-both-each : (cluster : Cluster) (sent : List Sent) → Each (λ (s : Sent). IsWellFormedMessage s.envelope.message → message_length s.envelope ≤ 1473505) sent → AllByRecursion (IsSent cluster) sent
+both-each : (cluster : Cluster) (sent : List Sent) → Each (λ (s : Sent). IsWellFormedMessage s.envelope.message → message_length s.envelope ≤ 1473505) sent → AllByRecursion (IsSentWithin cluster) sent
     → Each (λ (s : Sent). message_length s.envelope ≤ 1473505) sent
 both-each cluster [] h w = tt
 both-each cluster (s ∷ ss) h w = (h.0 w.0.envelope_itself.message, both-each cluster ss h.1 w.1)

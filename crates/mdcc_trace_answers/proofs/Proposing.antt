@@ -18,7 +18,7 @@ use Rattle.mdcc_protocol.specs.declared.leader.Promise.{Promise}
 use Rattle.mdcc_protocol.specs.declared.leader.PromiseAnswer.{PromiseAnswer}
 use Rattle.mdcc_simulation.specs.Runs.{run_of}
 use Rattle.mdcc_simulation.specs.State.{World, centre_at, first_world}
-use Rattle.mdcc_trace_states.specs.Keeping.{IsLead}
+use Rattle.mdcc_trace_states.specs.VolatileInvariant.{IsLead}
 use Rattle.mdcc_trace_states.specs.Sound.{IsSound}
 use Rattle.mdcc_trace_states.proofs.Events.{is-up}
 use Rattle.mdcc_trace_states.proofs.Lists.{Each-like}

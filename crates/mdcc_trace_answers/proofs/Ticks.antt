@@ -28,7 +28,7 @@ use Rattle.mdcc_rules.specs.Steps.{StepPart, and_then, only_sending}
 use Rattle.mdcc_rules.specs.TickRules.{claim_led, led_or_left, manager_act, manager_ticked, recovery_act}
 use Rattle.mdcc_simulation.specs.Runs.{run_of}
 use Rattle.mdcc_simulation.specs.State.{World, centre_at, first_world, is_up_at}
-use Rattle.mdcc_trace_states.specs.Keeping.{IsOpened}
+use Rattle.mdcc_trace_states.specs.VolatileInvariant.{IsOpened}
 use Rattle.mdcc_trace_states.specs.Sound.{IsSound}
 use Rattle.mdcc_trace_states.specs.Steps.{IsUp}
 use Rattle.mdcc_trace_states.proofs.Events.{is-up}

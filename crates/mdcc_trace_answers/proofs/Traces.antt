@@ -5,12 +5,12 @@ use Rattle.mdcc_protocol.specs.IsCluster.{IsCluster}
 use Rattle.mdcc_messages.specs.Mailbox.{Sent}
 use Rattle.mdcc_simulation.specs.State.{World, centre_at, first_world, is_up_at}
 use Rattle.mdcc_simulation.specs.Runs.{run_of}
-use Rattle.mdcc_simulation.specs.Stepping.{step_at}
+use Rattle.mdcc_simulation.specs.AppliedSteps.{step_at}
 use Rattle.mdcc_language.specs.declared.events.Event.{Event}
 use Rattle.mdcc_messages.specs.declared.messages.Envelope.{Envelope}
 use Rattle.mdcc_rules.specs.declared.node.Input.{Input}
 use Rattle.mdcc_trace_states.specs.Sound.{IsSound}
-use Rattle.mdcc_trace_states.specs.Standing.{IsBackedMessage}
+use Rattle.mdcc_trace_states.specs.MessageMeaning.{IsBackedMessage}
 use Rattle.mdcc_trace_states.proofs.Events.{is-up}
 use Rattle.mdcc_trace_states.proofs.Lists.{Each-like}
 use Rattle.mdcc_trace.proofs.Laws.{all_sent, holds}

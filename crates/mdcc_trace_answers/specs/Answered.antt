@@ -3,7 +3,7 @@ use Rattle.std.specs.Prelude.{Err, Ok, Result, ⊤}
 use Rattle.mdcc_rules.specs.Steps.{NodeStep}
 use Rattle.mdcc_messages.specs.Mailbox.{Sent}
 use Rattle.mdcc_simulation.specs.State.{World, is_up_at}
-use Rattle.mdcc_simulation.specs.Stepping.{step_at}
+use Rattle.mdcc_simulation.specs.AppliedSteps.{step_at}
 use Rattle.mdcc_rules.specs.declared.node.Input.{Input}
 use Rattle.mdcc_rules.specs.declared.node.StepFault.{StepFault}
 use Rattle.std.specs.Prelude.{true, ◌≡◌}

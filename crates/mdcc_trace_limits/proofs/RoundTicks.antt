@@ -31,7 +31,7 @@ use Rattle.mdcc_messages.specs.declared.messages.Envelope.{Envelope}
 use Rattle.mdcc_messages.specs.declared.messages.Message.{Message}
 use Rattle.mdcc_protocol.specs.declared.recover.RecoverAct.{RecoverAct}
 use Rattle.mdcc_protocol.specs.declared.votes.Vote.{Vote}
-use Rattle.mdcc_trace_states.specs.Keeping.{IsOpened}
+use Rattle.mdcc_trace_states.specs.VolatileInvariant.{IsOpened}
 use Rattle.mdcc_trace_states.specs.Sound.{IsSound}
 use Rattle.mdcc_trace_states.specs.Steps.{IsUp}
 use Rattle.mdcc_trace_states.specs.Words.{Each, In}

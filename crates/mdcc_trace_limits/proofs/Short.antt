@@ -26,7 +26,7 @@ use Rattle.mdcc_rules.specs.Steps.{NodeStep, StepPart, only_sending}
 use Rattle.mdcc_rules.specs.TickRules.{manager_act, manager_ticked, recovery_act, recovery_ticked, tick_parts}
 use Rattle.mdcc_protocol.specs.Volatile.{Managing, Recovering, Undecided, Volatile, txs_opened, with_manager, with_recovery}
 use Rattle.mdcc_simulation.specs.State.{Site, World, booted, booted_to, centre_at, down, first_world, is_up_at}
-use Rattle.mdcc_simulation.specs.Stepping.{fact_happened, input_happened, is_frame_kept, step_at, step_happened_by, step_stopped}
+use Rattle.mdcc_simulation.specs.AppliedSteps.{fact_happened, input_happened, is_frame_kept, step_at, step_happened_by, step_stopped}
 use Rattle.mdcc_simulation.specs.Runs.{run_of}
 use Rattle.mdcc_language.specs.declared.events.Event.{Event}
 use Rattle.mdcc_messages.specs.declared.facts.Fact.{Fact}
@@ -34,7 +34,7 @@ use Rattle.mdcc_messages.specs.declared.messages.Envelope.{Envelope}
 use Rattle.mdcc_rules.specs.declared.node.Input.{Input}
 use Rattle.mdcc_rules.specs.declared.node.StepFault.{StepFault}
 use Rattle.mdcc_trace_states.specs.Invariant.{Holds}
-use Rattle.mdcc_trace_states.specs.Keeping.{IsOpened}
+use Rattle.mdcc_trace_states.specs.VolatileInvariant.{IsOpened}
 use Rattle.mdcc_trace_states.specs.Sound.{IsSound}
 use Rattle.mdcc_trace_states.specs.Steps.{IsFair, IsUp}
 use Rattle.mdcc_trace_states.specs.Words.{Each}

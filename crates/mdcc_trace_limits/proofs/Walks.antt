@@ -17,12 +17,12 @@ use Rattle.mdcc_language.specs.Resolve.{resolve}
 use Rattle.mdcc_rules.specs.Steps.{NodeStep}
 use Rattle.mdcc_simulation.specs.State.{Happened, World, after_lines, centre_at, counted_event, down, first_world, is_up_at, with_centre}
 use Rattle.mdcc_messages.specs.Mailbox.{Sent, numbered, with_delivered}
-use Rattle.mdcc_simulation.specs.Clients.{answer_in, begin_lines, begin_of, begun_by, parts_begun}
-use Rattle.mdcc_simulation.specs.Limits.{cells_limit, if_up, input_taken, is_limit, is_past_events, log_limit, most_events, step_limit, unless, with_lines, within_events}
-use Rattle.mdcc_simulation.specs.Deliveries.{deliver_line, delivered, deliveries_of, delivery_by, delivery_of, first_waiting, settled_line, settled_of}
-use Rattle.mdcc_simulation.specs.Events.{event_of, happened_of}
-use Rattle.mdcc_simulation.specs.Stepping.{fact_happened, input_happened, is_frame_kept, step_at, step_happened_by, step_stopped}
-use Rattle.mdcc_simulation.specs.Centres.{restart_happened, restart_of, tick_line, tick_of}
+use Rattle.mdcc_simulation.specs.Clients.{answer_in, begin_lines, after_begin, begun_by, parts_begun}
+use Rattle.mdcc_simulation.specs.Limits.{cells_limit, if_up, input_applied, is_limit, is_past_events, log_limit, most_events, step_limit, unless_limit, with_lines, within_events}
+use Rattle.mdcc_simulation.specs.Deliveries.{deliver_line, after_message, after_deliveries, after_delivery_by, after_delivery, first_waiting, settled_line, settled_of}
+use Rattle.mdcc_simulation.specs.Events.{after_event, happened_of}
+use Rattle.mdcc_simulation.specs.AppliedSteps.{fact_happened, input_happened, is_frame_kept, step_at, step_happened_by, step_stopped}
+use Rattle.mdcc_simulation.specs.Centres.{restart_happened, after_restart, tick_line, after_tick}
 use Rattle.mdcc_simulation.specs.Runs.{run_from, run_of}
 use Rattle.mdcc_language.specs.declared.events.Event.{Event}
 use Rattle.mdcc_messages.specs.declared.facts.Fact.{Fact}
@@ -34,7 +34,7 @@ use Rattle.mdcc_language.specs.declared.schedule.ResolveFault.{ResolveFault}
 use Rattle.mdcc_language.specs.declared.world.EventFault.{EventFault}
 use Rattle.mdcc_trace_states.specs.Invariant.{Holds}
 use Rattle.mdcc_trace_states.specs.Sound.{IsSound}
-use Rattle.mdcc_trace_states.specs.Standing.{Stands}
+use Rattle.mdcc_trace_states.specs.MessageMeaning.{TrueWhenSent}
 use Rattle.mdcc_trace_states.specs.Steps.{AreGood, IsFair}
 use Rattle.mdcc_trace_states.specs.Words.{Each, In}
 use Rattle.mdcc_trace_states.proofs.Lists.{Each-at, Each-from}
@@ -138,7 +138,7 @@ listed-in (x ∷ xs) s i = elim i [ inl e ↦ inl (ap (λ (z : Sent). z.envelope
 
 -- a message that was sent, and stands
 abbrev pub IsWaiting : World → Envelope → Type 0
-IsWaiting w envelope = Stands w.cluster w.ledger envelope × In envelope (envelopes w.sent)
+IsWaiting w envelope = TrueWhenSent w.cluster w.ledger envelope × In envelope (envelopes w.sent)
 
 module _ (cluster : Cluster) (P : ℕ → ℕ → World → Type 0) (walk : IsWalk cluster P) (good : AreGood IsSound) where
   abbrev Reached : ℕ → World → Type 0
@@ -165,7 +165,7 @@ module _ (cluster : Cluster) (P : ℕ → ℕ → World → Type 0) (walk : IsWa
       sum : (x y n : ℕ) → x + y ≡ 1 → n ≡ w.events → c.ticks + c.others + 1 ≤ w.events → (c.ticks + x) + (c.others + y) + 0 ≤ n
       sum x y n e f g = omega (arith, e, f, g)
 
-  unless-reached : (o : Option EventFault) (h : Happened) → Reached 0 h.world → OkReached P (unless o h)
+  unless-reached : (o : Option EventFault) (h : Happened) → Reached 0 h.world → OkReached P (unless_limit o h)
   unless-reached None h g = g
   unless-reached (Some fault) h g = tt
 
@@ -186,13 +186,13 @@ module _ (cluster : Cluster) (P : ℕ → ℕ → World → Type 0) (walk : IsWa
 
   -- ---- inputs
 
-  taken : (w : World) (a : ℕ) (input : Input) → Holds IsSound cluster w → is_up_at w a ≡ true → IsFair w.cluster w.ledger input → IsSentInput w input → Reached 1 w → OkReached P (input_taken w a input)
+  taken : (w : World) (a : ℕ) (input : Input) → Holds IsSound cluster w → is_up_at w a ≡ true → IsFair w.cluster w.ledger input → IsSentInput w input → Reached 1 w → OkReached P (input_applied w a input)
   taken w a input h up fair known c = unless-reached (step_limit w a (step_at w a input)) (input_happened w a (step_at w a input)) (input-reached w a input h up fair known c)
 
   begun-by : (w : World) (a : ℕ) (qs : List Part) (r : Result (List Part) DraftFault) → Holds IsSound cluster w → is_up_at w a ≡ true → transaction_of w.cluster.schema qs ≡ r → Reached 1 w → OkReached P (begun_by w a r)
   begun-by w a qs (Err fault) h up e c = tt
   begun-by w a qs (Ok parts) h up e c =
-      lines-reached (begin_lines (answer_in (step_at w a (Input.Begin parts)))) (input_taken w a (Input.Begin parts))
+      lines-reached (begin_lines (answer_in (step_at w a (Input.Begin parts)))) (input_applied w a (Input.Begin parts))
       (taken w a (Input.Begin parts) h up (made-transaction w.cluster.schema qs parts e) tt c)
 
   parts-reached : (w : World) (a : ℕ) (r : Result (List Part) ResolveFault) → Holds IsSound cluster w → is_up_at w a ≡ true → Reached 1 w → OkReached P (parts_begun w a r)
@@ -203,32 +203,32 @@ module _ (cluster : Cluster) (P : ℕ → ℕ → World → Type 0) (walk : IsWa
 
   -- ---- deliveries
 
-  delivered-reached : (w : World) (n : ℕ) (env : Envelope) → Holds IsSound cluster w → IsWaiting w env → is_up_at w env.to ≡ true → IsOpen w → Reached 0 w → OkReached P (delivered w n env)
+  delivered-reached : (w : World) (n : ℕ) (env : Envelope) → Holds IsSound cluster w → IsWaiting w env → is_up_at w env.to ≡ true → IsOpen w → Reached 0 w → OkReached P (after_message w n env)
   delivered-reached w n env h waits up free c =
       taken (record w { sent = with_delivered w.sent (n - 1); events = w.events + 1 }) env.to (Input.Message env) (counted-holds IsSound cluster w (n - 1) (w.events + 1) h) up waits.0 (subst (λ z. In env z) (sym (same-envelopes w.sent (n - 1))) waits.1) (counted-delivery w (n - 1) c free)
 
-  delivery-by : (w : World) (n : ℕ) (o : Option Sent) → Holds IsSound cluster w → ((s : Sent) → o ≡ Some s → IsWaiting w s.envelope) → Reached 0 w → OkReached P (delivery_by w n o)
+  delivery-by : (w : World) (n : ℕ) (o : Option Sent) → Holds IsSound cluster w → ((s : Sent) → o ≡ Some s → IsWaiting w s.envelope) → Reached 0 w → OkReached P (after_delivery_by w n o)
   delivery-by w n None h f c = tt
   delivery-by w n (Some s) h f c =
-      up-reached w s.envelope.to _ (λ up. within-reached w (with_lines (deliver_line n) (delivered w n s.envelope))
-      (λ free. lines-reached (deliver_line n) (delivered w n s.envelope) (delivered-reached w n s.envelope h (f s refl) up free c)))
+      up-reached w s.envelope.to _ (λ up. within-reached w (with_lines (deliver_line n) (after_message w n s.envelope))
+      (λ free. lines-reached (deliver_line n) (after_message w n s.envelope) (delivered-reached w n s.envelope h (f s refl) up free c)))
 
   all-waiting : (w : World) → Holds IsSound cluster w → Each (λ (s : Sent). IsWaiting w s.envelope) w.sent
-  all-waiting w h = Each-from (λ (s : Sent). IsWaiting w s.envelope) w.sent (λ s i. (Each-at (λ (s : Sent). Stands w.cluster w.ledger s.envelope) w.sent s h.sent i, listed-in w.sent s i))
+  all-waiting w h = Each-from (λ (s : Sent). IsWaiting w s.envelope) w.sent (λ s i. (Each-at (λ (s : Sent). TrueWhenSent w.cluster w.ledger s.envelope) w.sent s h.sent i, listed-in w.sent s i))
 
   stands-of : (w : World) (n : ℕ) → Holds IsSound cluster w → (s : Sent) → numbered w.sent n ≡ Some s → IsWaiting w s.envelope
   stands-of w n h s e = numbered-each (λ (s : Sent). IsWaiting w s.envelope) w.sent n s (all-waiting w h) e
 
-  deliveries : (numbers : List ℕ) (h : Happened) → Holds IsSound cluster h.world → Reached 0 h.world → OkReached P (deliveries_of numbers h)
+  deliveries : (numbers : List ℕ) (h : Happened) → Holds IsSound cluster h.world → Reached 0 h.world → OkReached P (after_deliveries numbers h)
   deliveries [] h g c = c
   deliveries (n ∷ ns) h g c =
-      by_case (λ next k j. deliveries ns next k j) (delivery_of h.world n) refl
+      by_case (λ next k j. deliveries ns next k j) (after_delivery h.world n) refl
       (delivery-by-holds IsSound cluster good h.world n (numbered h.world.sent n) g (λ s e. (stands-of h.world n g s e).0)) (delivery-by h.world n (numbered h.world.sent n) g (stands-of h.world n g) c)
     where
-      by_case : ((next : Happened) → Holds IsSound cluster next.world → Reached 0 next.world → OkReached P (deliveries_of ns next)) → (r : Result Happened EventFault) → delivery_of h.world n ≡ r → OkHolds IsSound cluster r → OkReached P r →
-          OkReached P (deliveries_of (n ∷ ns) h)
-      by_case rest (Err fault) e k j = rw (e, deliveries_of, OkReached) tt
-      by_case rest (Ok next) e k j = rw (e, deliveries_of, OkReached) (rest (after_lines h.lines next) k j)
+      by_case : ((next : Happened) → Holds IsSound cluster next.world → Reached 0 next.world → OkReached P (after_deliveries ns next)) → (r : Result Happened EventFault) → after_delivery h.world n ≡ r → OkHolds IsSound cluster r → OkReached P r →
+          OkReached P (after_deliveries (n ∷ ns) h)
+      by_case rest (Err fault) e k j = rw (e, after_deliveries, OkReached) tt
+      by_case rest (Ok next) e k j = rw (e, after_deliveries, OkReached) (rest (after_lines h.lines next) k j)
 
   -- ---- settle
 
@@ -241,7 +241,7 @@ module _ (cluster : Cluster) (P : ℕ → ℕ → World → Type 0) (walk : IsWa
   settled (suc left) listed h d few g c = by_case (λ k n i j m. settled left listed k n i j m) (first_waiting h.world listed 1 h.world.sent) refl
     where
       by_result : ((k : Happened) (n : ℕ) → left + k.world.events ≤ most_events → Holds IsSound cluster k.world → Reached 0 k.world → OkSettledTo P (settled_of left listed k n)) → (next : ℕ × Envelope) →
-          first_waiting h.world listed 1 h.world.sent ≡ Some next → (r : Result Happened EventFault) → delivered h.world next.0 next.1 ≡ r → OkHolds IsSound cluster r → OkReached P r → ((k : Happened) → r ≡ Ok k → k.world.events ≡ h.world.events + 1) →
+          first_waiting h.world listed 1 h.world.sent ≡ Some next → (r : Result Happened EventFault) → after_message h.world next.0 next.1 ≡ r → OkHolds IsSound cluster r → OkReached P r → ((k : Happened) → r ≡ Ok k → k.world.events ≡ h.world.events + 1) →
           OkSettledTo P (settled_of (suc left) listed h d)
       by_result rest next e (Err fault) f k j m = rw (e, settled_of) (rw (f, OkSettledTo) tt)
       by_result rest next e (Ok after) f k j m = rw (e, settled_of) (rw (f, OkSettledTo) (rest (after_lines h.lines after) (d + 1) (let n = m after refl in omega (arith, few, n)) k j))
@@ -251,10 +251,10 @@ module _ (cluster : Cluster) (P : ℕ → ℕ → World → Type 0) (walk : IsWa
       by_case rest None e = rw (e, settled_of, OkSettledTo) c
       by_case rest (Some next) e =
           let m = waiting h.world (IsWaiting h.world) listed 1 h.world.sent next (all-waiting h.world g) e in
-          by_result rest next e (delivered h.world next.0 next.1) refl (delivered-holds IsSound cluster good h.world next.0 next.1 g m.0.0 m.1)
+          by_result rest next e (after_message h.world next.0 next.1) refl (delivered-holds IsSound cluster good h.world next.0 next.1 g m.0.0 m.1)
           (delivered-reached h.world next.0 next.1 g m.0 m.1 (omega (arith, few)) c) (λ k s. one-more next.0 next.1 k s)
         where
-          one-more : (n : ℕ) (env : Envelope) (k : Happened) → delivered h.world n env ≡ Ok k → k.world.events ≡ h.world.events + 1
+          one-more : (n : ℕ) (env : Envelope) (k : Happened) → after_message h.world n env ≡ Ok k → k.world.events ≡ h.world.events + 1
           one-more n env k s = by_limit (step_limit w a (step_at w a (Input.Message env))) s
             where
               w : World
@@ -263,7 +263,7 @@ module _ (cluster : Cluster) (P : ℕ → ℕ → World → Type 0) (walk : IsWa
               a : ℕ
               a = env.to
 
-              by_limit : (o : Option EventFault) → unless o (input_happened w a (step_at w a (Input.Message env))) ≡ Ok k → k.world.events ≡ h.world.events + 1
+              by_limit : (o : Option EventFault) → unless_limit o (input_happened w a (step_at w a (Input.Message env))) ≡ Ok k → k.world.events ≡ h.world.events + 1
               by_limit (Some fault) q = absurd (cc)
               by_limit None q =
                   let same : input_happened w a (step_at w a (Input.Message env)) ≡ k = cc in
@@ -275,7 +275,7 @@ module _ (cluster : Cluster) (P : ℕ → ℕ → World → Type 0) (walk : IsWa
 
   -- ---- events
 
-  restart-reached : (w : World) (a : ℕ) → Holds IsSound cluster w → is_centre w.cluster a ≡ true → Reached 1 w → OkReached P (restart_of w a)
+  restart-reached : (w : World) (a : ℕ) → Holds IsSound cluster w → is_centre w.cluster a ≡ true → Reached 1 w → OkReached P (after_restart w a)
   restart-reached w a h here c =
       unless-reached
       (option_or (cells_limit w a (Fact.Booted (epoch_of (facts_of w.ledger a) + 1))) (log_limit w a (Fact.Booted (epoch_of (facts_of w.ledger a) + 1))))
@@ -287,12 +287,12 @@ module _ (cluster : Cluster) (P : ℕ → ℕ → World → Type 0) (walk : IsWa
 
   happened-reached : (w : World) (event : Event) → Holds IsSound cluster w → Reached 1 w → OkReached P (happened_of w event)
   happened-reached w (Event.Read a key) h c = up-reached w a _ (λ up. same-reached w _ c refl (λ t d. walk.reads t d w _))
-  happened-reached w (Event.Begin a words) h c = up-reached w a (begin_of w a words) (λ up. parts-reached w a (resolve words (map Some w.reads)) h up c)
+  happened-reached w (Event.Begin a words) h c = up-reached w a (after_begin w a words) (λ up. parts-reached w a (resolve words (map Some w.reads)) h up c)
   happened-reached w (Event.Deliver numbers) h c = deliveries numbers (record { world = w; lines = [] }) h (loosen w c)
   happened-reached w (Event.Settle listed) h c =
       settled-end (settled_of (most_events - w.events) listed (record { world = w; lines = Line.Settle listed ∷ [] }) 0)
       (settled (most_events - w.events) listed (record { world = w; lines = Line.Settle listed ∷ [] }) 0 (left-few most_events w.events c.few) h (loosen w c))
-  happened-reached w (Event.Tick a) h c = up-reached w a (tick_of w a) (λ up. lines-reached (tick_line a) (input_taken w a Input.Tick) (taken w a Input.Tick h up tt tt c))
+  happened-reached w (Event.Tick a) h c = up-reached w a (after_tick w a) (λ up. lines-reached (tick_line a) (input_applied w a Input.Tick) (taken w a Input.Tick h up tt tt c))
   happened-reached w (Event.Crash a) h c = up-reached w a _ (λ up. same-reached w (with_centre w a down) c refl (λ t d. walk.crash t d w a h (is-up IsSound cluster w a h up).centre))
   happened-reached w (Event.Restart a) h c =
       elim (cases_Bool (is_up_at w a)) [
@@ -301,7 +301,7 @@ module _ (cluster : Cluster) (P : ℕ → ℕ → World → Type 0) (walk : IsWa
       ]
   happened-reached w (Event.Stop a call image) h c = up-reached w a _ (λ up. same-reached w _ c refl (λ t d. walk.stop t d w a (Some (call, image)) h (is-up IsSound cluster w a h up).centre))
 
-  event-reached : (w : World) (event : Event) → Holds IsSound cluster w → Reached 0 w → OkReached P (event_of w event)
+  event-reached : (w : World) (event : Event) → Holds IsSound cluster w → Reached 0 w → OkReached P (after_event w event)
   event-reached w (Event.Deliver numbers) h c = deliveries numbers (record { world = w; lines = [] }) h c
   event-reached w (Event.Read a key) h c = within-reached w _ (λ free. happened-reached (counted_event w) (Event.Read a key) (event-holds IsSound cluster w h) (counted w c free))
   event-reached w (Event.Begin a words) h c = within-reached w _ (λ free. happened-reached (counted_event w) (Event.Begin a words) (event-holds IsSound cluster w h) (counted w c free))
@@ -313,9 +313,9 @@ module _ (cluster : Cluster) (P : ℕ → ℕ → World → Type 0) (walk : IsWa
 
   run-reached : (events : List Event) (h : Happened) → Holds IsSound cluster h.world → Reached 0 h.world → Reached 0 (run_from events h).world
   run-reached [] h g c = c
-  run-reached (event ∷ events) h g c = by_case (λ next k j. run-reached events next k j) (event_of h.world event) refl (event-good IsSound cluster good h.world event g) (event-reached h.world event g c)
+  run-reached (event ∷ events) h g c = by_case (λ next k j. run-reached events next k j) (after_event h.world event) refl (event-good IsSound cluster good h.world event g) (event-reached h.world event g c)
     where
-      by_case : ((next : Happened) → Holds IsSound cluster next.world → Reached 0 next.world → Reached 0 (run_from events next).world) → (r : Result Happened EventFault) → event_of h.world event ≡ r → OkHolds IsSound cluster r → OkReached P r →
+      by_case : ((next : Happened) → Holds IsSound cluster next.world → Reached 0 next.world → Reached 0 (run_from events next).world) → (r : Result Happened EventFault) → after_event h.world event ≡ r → OkHolds IsSound cluster r → OkReached P r →
           Reached 0 (run_from (event ∷ events) h).world
       by_case rest (Err fault) e k j = rw (e, run_from) c
       by_case rest (Ok next) e k j = rw (e, run_from) (rest (after_lines h.lines next) k j)

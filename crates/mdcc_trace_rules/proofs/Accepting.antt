@@ -27,9 +27,9 @@ use Rattle.mdcc_messages.specs.declared.messages.Message.{Message}
 use Rattle.mdcc_protocol.specs.Volatile.{Volatile}
 use Rattle.mdcc_trace_states.specs.Words.{Each, In}
 use Rattle.mdcc_trace_states.specs.Invariant.{IsGoodBy}
-use Rattle.mdcc_trace_states.specs.Keeping.{IsPlaced}
+use Rattle.mdcc_trace_states.specs.VolatileInvariant.{IsPlaced}
 use Rattle.mdcc_trace_states.specs.Sound.{IsSoundMark}
-use Rattle.mdcc_trace_states.specs.Standing.{Stands}
+use Rattle.mdcc_trace_states.specs.MessageMeaning.{TrueWhenSent}
 use Rattle.mdcc_trace_states.proofs.Tests.{Decides-ballot, Decides-key, may-add}
 use Rattle.mdcc_trace_states.proofs.Lists.{In-filter, IsTail-same}
 use Rattle.mdcc_trace_states.proofs.Maps.{is_some-none, tx-true, value_of-union}
@@ -134,9 +134,9 @@ module _ (also : List Entry → Type 0) (shut : IsClosed also) (cluster : Cluste
   GoodAccepted answer = IsGoodBy cluster also es a (accepted_step a (facts_of es a) volatile l k v b xs answer) (accepted_step a (facts_of es a) volatile l k v b xs answer).fact
 
   -- a vote that a message says is given, in a ledger where it is
-  each-sent : (ledger : List Entry) (os : Options) → ((e : TxId × Mark) → In e os → mark_given ledger k v b e.0 a ≡ Some e.1) → Each (Stands cluster ledger) (all_votes_sent a (facts_of es a) k v b os)
+  each-sent : (ledger : List Entry) (os : Options) → ((e : TxId × Mark) → In e os → mark_given ledger k v b e.0 a ≡ Some e.1) → Each (TrueWhenSent cluster ledger) (all_votes_sent a (facts_of es a) k v b os)
   each-sent ledger os h =
-      Each-flat_map (Stands cluster ledger) (votes_sent a k v b) (filter (λ (e : TxId × Mark). not (is_heard (facts_of es a) e.0)) os)
+      Each-flat_map (TrueWhenSent cluster ledger) (votes_sent a k v b) (filter (λ (e : TxId × Mark). not (is_heard (facts_of es a) e.0)) os)
       (λ e i. stands-each cluster ledger a (Message.Voted k v b e.0 e.1) _ up.centre (h e (In-filter (λ (e : TxId × Mark). not (is_heard (facts_of es a) e.0)) os e i).0))
 
   new-in : (e : TxId × Mark) → In e (new_marks (facts_of es a) k v b xs) → In e xs × (value_of (votes_of (facts_of es a) k v b) e.0 ≡ None)

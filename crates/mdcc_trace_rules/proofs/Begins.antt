@@ -26,8 +26,8 @@ use Rattle.mdcc_rules.specs.ManagerRules.{begin_step, begin_step_by, begun_step}
 use Rattle.mdcc_protocol.specs.Volatile.{Volatile}
 use Rattle.mdcc_trace_states.specs.Words.{Each, In}
 use Rattle.mdcc_trace_states.specs.Invariant.{IsGood, IsGoodStep}
-use Rattle.mdcc_trace_states.specs.Keeping.{IsOpened, Keeps, Manages}
-use Rattle.mdcc_trace_states.specs.Standing.{Says, Stands}
+use Rattle.mdcc_trace_states.specs.VolatileInvariant.{IsOpened, Keeps, Manages}
+use Rattle.mdcc_trace_states.specs.MessageMeaning.{Says, TrueWhenSent}
 use Rattle.mdcc_trace_states.proofs.Lists.{Each-append, Each-like, IsTail-same}
 use Rattle.mdcc_trace_states.proofs.Maps.{tx-refl}
 use Rattle.mdcc_trace_states.proofs.Ledgers.{In-any}
@@ -37,7 +37,7 @@ use Rattle.mdcc_trace_states.proofs.Sorting.{choices_of-some, choices_of-tx, par
 use Rattle.mdcc_trace_rules.specs.Closed.{IsClosed}
 use Rattle.mdcc_trace_states.specs.Steps.{IsTransaction, IsUp}
 
-pub stands-each : (cluster : Cluster) (es : List Entry) (a : ℕ) (message : Message) (centres : List ℕ) → is_centre cluster a ≡ true → Says cluster es a message → Each (Stands cluster es) (to_each centres a message)
+pub stands-each : (cluster : Cluster) (es : List Entry) (a : ℕ) (message : Message) (centres : List ℕ) → is_centre cluster a ≡ true → Says cluster es a message → Each (TrueWhenSent cluster es) (to_each centres a message)
 stands-each cluster es a message [] here h = tt
 stands-each cluster es a message (b ∷ bs) here h = (record { from = here; old = es; tail = IsTail-same es; says = h }, stands-each cluster es a message bs here h)
 
@@ -51,7 +51,7 @@ nothing-good also cluster es a volatile after up keeps = record { own = tt; lega
 
 -- messages are sent
 pub sends-good : (also : List Entry → Type 0) (cluster : Cluster) (es : List Entry) (a : ℕ) (volatile after : Volatile) (sends : List Envelope) → IsUp also cluster es a volatile → Keeps cluster es a after →
-    Each (Stands cluster es) sends → IsGoodStep cluster also es a [] sends after
+    Each (TrueWhenSent cluster es) sends → IsGoodStep cluster also es a [] sends after
 sends-good also cluster es a volatile after sends up keeps stand = record { own = tt; legal = up.legal; placed = up.placed; more = up.more; stand = stand; keeps = keeps }
 
 no-fault : {A : Type 0} (x y : Option A) → option_or x y ≡ None → x ≡ None
@@ -66,7 +66,7 @@ begun-good also closed cluster es a volatile ps up draft held = record {
   legal = legal;
   placed = ArePlaced-begun cluster a tx choices es legal up.placed;
   more = closed.more cluster (Entry.Begun a tx choices) es legal tt up.more;
-  stand = Each-flat_map (Stands cluster new) (λ choice. to_all cluster.quorums a (Message.Propose choice)) choices (λ c i. stands-each cluster new a (Message.Propose c) (all_centres cluster.quorums) up.centre (said c i));
+  stand = Each-flat_map (TrueWhenSent cluster new) (λ choice. to_all cluster.quorums a (Message.Propose choice)) choices (λ c i. stands-each cluster new a (Message.Propose c) (all_centres cluster.quorums) up.centre (said c i));
   keeps = record {
     manager = manager;
     recovery = AreVotes-more cluster (Entry.Begun a tx choices) es volatile.recovery.votes up.keeps.recovery;

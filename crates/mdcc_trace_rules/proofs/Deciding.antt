@@ -25,7 +25,7 @@ use Rattle.mdcc_protocol.specs.Manager.{keys_of_choices}
 use Rattle.mdcc_protocol.specs.Volatile.{Undecided, Volatile, closed}
 use Rattle.mdcc_protocol.specs.declared.votes.Vote.{Vote}
 use Rattle.mdcc_trace_states.specs.Words.{Each, In}
-use Rattle.mdcc_trace_states.specs.Keeping.{AreVotes, IsGiven, IsOpened, Keeps}
+use Rattle.mdcc_trace_states.specs.VolatileInvariant.{AreVotes, IsGiven, IsOpened, Keeps}
 use Rattle.mdcc_trace_states.proofs.Lists.{Each-at, Each-filter, Each-map, In-filter}
 use Rattle.mdcc_trace_states.proofs.Maps.{tx-true}
 use Rattle.mdcc_trace_rules.proofs.Votes.{AreVotes-filter, lower-one, reduce-in}

@@ -34,7 +34,7 @@ use Rattle.mdcc_messages.specs.declared.messages.Message.{Message}
 use Rattle.mdcc_rules.specs.Messages.{to_one}
 use Rattle.mdcc_protocol.specs.Volatile.{Volatile}
 use Rattle.mdcc_trace_states.specs.Invariant.{IsGoodBy, IsGoodStep}
-use Rattle.mdcc_trace_states.specs.Keeping.{IsPlaced}
+use Rattle.mdcc_trace_states.specs.VolatileInvariant.{IsPlaced}
 use Rattle.mdcc_trace_states.proofs.Tests.{Decides-key, Decides-mark, may-add}
 use Rattle.mdcc_trace_states.proofs.Lists.{IsTail-same}
 use Rattle.mdcc_trace_states.proofs.Maps.{tx-refl, tx-true, value_of-union}

@@ -35,16 +35,16 @@ use Rattle.mdcc_rules.specs.Steps.{NodeStep, nothing_done}
 use Rattle.mdcc_protocol.specs.Volatile.{Managing, Recovering, Undecided, Volatile, closed, has_key, is_open, is_watched, opened_of, with_led, with_manager, with_recovery}
 use Rattle.mdcc_protocol.specs.declared.votes.Vote.{Vote}
 use Rattle.mdcc_trace_states.specs.Words.{Each, In, IsTail}
-use Rattle.mdcc_trace_states.specs.Keeping.{AreVotes, IsGiven, IsOpened, Keeps, Manages}
+use Rattle.mdcc_trace_states.specs.VolatileInvariant.{AreVotes, IsGiven, IsOpened, Keeps, Manages}
 use Rattle.mdcc_trace_states.specs.Sound.{HasOneMark}
 use Rattle.mdcc_trace_states.specs.Invariant.{IsGoodBy, IsGoodStep}
-use Rattle.mdcc_trace_states.specs.Standing.{Stands}
+use Rattle.mdcc_trace_states.specs.MessageMeaning.{TrueWhenSent}
 use Rattle.mdcc_trace_states.proofs.Lists.{Each-at, Each-like, IsTail-same, find_some}
 use Rattle.mdcc_trace_states.proofs.Maps.{tx-true}
 use Rattle.mdcc_trace_states.proofs.Ledgers.{In-any}
 use Rattle.mdcc_trace_rules.proofs.Outcomes.{outcome-tail}
 use Rattle.mdcc_trace_rules.proofs.Votes.{AreVotes-push, decided}
-use Rattle.mdcc_trace_states.proofs.Kept.{ArePlaced-fact, Keeps-more, Stands-more, quiet-fact}
+use Rattle.mdcc_trace_states.proofs.Kept.{ArePlaced-fact, Keeps-more, true-more, quiet-fact}
 use Rattle.mdcc_trace_rules.proofs.Begins.{nothing-good, sends-good, stands-each}
 use Rattle.mdcc_trace_rules.proofs.Deciding.{begun-tx, closed-keeps, decision-belongs, set-keys, some-in, value_of-filter}
 use Rattle.mdcc_protocol.specs.declared.visible.Give.{Give}
@@ -78,11 +78,11 @@ map-again [] = refl
 map-again (e ∷ es) = ap (λ z. e ∷ z) (map-again es)
 
 -- what a centre gives is what it holds
-pub give-stands : (cluster : Cluster) (es : List Entry) (a s : ℕ) (k : Key) → is_centre cluster a ≡ true → Each (Stands cluster es) (give_sent a (facts_of es a) s k)
+pub give-stands : (cluster : Cluster) (es : List Entry) (a s : ℕ) (k : Key) → is_centre cluster a ≡ true → Each (TrueWhenSent cluster es) (give_sent a (facts_of es a) s k)
 give-stands cluster es a s k here = by_case (base_of (facts_of es a) k) refl
   where
     by_case : (o : Option Item) → base_of (facts_of es a) k ≡ o →
-        Each (Stands cluster es) (give_sent_by a s (option_map {U = Give} (λ (item : Item). record { key = k; version = current_of (facts_of es a) k; item = item; adds = map (λ (e : TxId × Amounts). record { tx = e.0; amounts = e.1 }) (executed_of (facts_of es a) k) }) o))
+        Each (TrueWhenSent cluster es) (give_sent_by a s (option_map {U = Give} (λ (item : Item). record { key = k; version = current_of (facts_of es a) k; item = item; adds = map (λ (e : TxId × Amounts). record { tx = e.0; amounts = e.1 }) (executed_of (facts_of es a) k) }) o))
     by_case None e = tt
     by_case (Some item) e = (record { from = here; old = es; tail = IsTail-same es; says = (refl, e, map-again (executed_of (facts_of es a) k)) }, tt)
 
@@ -97,7 +97,7 @@ module _ (also : List Entry → Type 0) (shut : IsClosed also) (cluster : Cluste
       (up.legal, (up.centre, may-add cluster (facts_of es a) (Fact.Heard t o) (and_from _ _ (and_from _ _ (and_from _ _ tx outcome) (lt-ltb 0 _ up.booted)) (and_from _ _ (rw unheard refl) (not_from_false (is_crowding (facts_of es a) (Fact.Heard t o)) room))), is))
 
   pub heard-fact : (t : TxId) (o : Outcome) (v : Volatile) (sends : List Envelope) → Keeps cluster es a v → outcome_of cluster.quorums es t ≡ Some o → is_heard (facts_of es a) t ≡ false → tx_belongs cluster t ≡ true → outcome_belongs cluster o ≡ true →
-      is_crowding (facts_of es a) (Fact.Heard t o) ≡ false → Each (Stands cluster es) sends → IsGoodStep cluster also es a (Added a (Fact.Heard t o) ∷ []) sends (closed v t)
+      is_crowding (facts_of es a) (Fact.Heard t o) ≡ false → Each (TrueWhenSent cluster es) sends → IsGoodStep cluster also es a (Added a (Fact.Heard t o) ∷ []) sends (closed v t)
   heard-fact t o v sends keeps is unheard tx outcome room stand =
       let legal = heard-legal t o is unheard tx outcome room in
       record {
@@ -105,7 +105,7 @@ module _ (also : List Entry → Type 0) (shut : IsClosed also) (cluster : Cluste
         legal = legal;
         placed = ArePlaced-fact cluster a (Fact.Heard t o) es legal up.placed (λ k w b u x g. absurd (cc));
         more = shut.more cluster (Added a (Fact.Heard t o)) es legal tt up.more;
-        stand = Each-like (Stands cluster es) (Stands cluster (Added a (Fact.Heard t o) ∷ es)) sends (λ env g. Stands-more cluster (Added a (Fact.Heard t o) ∷ []) es env g) stand;
+        stand = Each-like (TrueWhenSent cluster es) (TrueWhenSent cluster (Added a (Fact.Heard t o) ∷ es)) sends (λ env g. true-more cluster (Added a (Fact.Heard t o) ∷ []) es env g) stand;
         keeps = Keeps-more cluster (Added a (Fact.Heard t o)) es a (closed v t) legal (quiet-fact a a (Fact.Heard t o) es refl) (closed-keeps cluster es a v t keeps);
       }
 

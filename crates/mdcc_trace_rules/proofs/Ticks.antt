@@ -7,11 +7,11 @@ use Rattle.mdcc_ledger.specs.AllowedLedgers.{IsAllowed}
 use Rattle.mdcc_messages.specs.declared.messages.Envelope.{Envelope}
 use Rattle.mdcc_protocol.specs.Volatile.{Volatile}
 use Rattle.mdcc_trace_states.specs.Words.{Each, In, IsTail}
-use Rattle.mdcc_trace_states.specs.Keeping.{ArePlaced, Keeps}
+use Rattle.mdcc_trace_states.specs.VolatileInvariant.{ArePlaced, Keeps}
 use Rattle.mdcc_trace_states.specs.Invariant.{IsGoodStep, IsOf}
-use Rattle.mdcc_trace_states.specs.Standing.{Stands}
+use Rattle.mdcc_trace_states.specs.MessageMeaning.{TrueWhenSent}
 use Rattle.mdcc_trace_states.proofs.Lists.{Each-append, Each-like, IsTail-more}
-use Rattle.mdcc_trace_states.proofs.Kept.{Stands-more, epoch-aboves}
+use Rattle.mdcc_trace_states.proofs.Kept.{true-more, epoch-aboves}
 use Rattle.mdcc_trace_rules.proofs.Begins.{sends-good}
 use Rattle.mdcc_trace_states.specs.Steps.{IsUp}
 use Rattle.mdcc_rules.specs.Steps.{StepPart, and_then, only_sending}
@@ -40,9 +40,9 @@ then-good also cluster es a act before x h g = record {
     legal = at (IsAllowed cluster) g.good.legal;
     placed = at ArePlaced g.good.placed;
     more = at also g.good.more;
-    stand = at (λ z. Each (Stands cluster z) (before.sends ++ (act before.after x).sends))
-        (Each-append (Stands cluster ((act before.after x).entries ++ (before.entries ++ es))) before.sends (act before.after x).sends
-        (Each-like (Stands cluster (before.entries ++ es)) (Stands cluster ((act before.after x).entries ++ (before.entries ++ es))) before.sends (λ env k. Stands-more cluster (act before.after x).entries (before.entries ++ es) env k) h.good.stand)
+    stand = at (λ z. Each (TrueWhenSent cluster z) (before.sends ++ (act before.after x).sends))
+        (Each-append (TrueWhenSent cluster ((act before.after x).entries ++ (before.entries ++ es))) before.sends (act before.after x).sends
+        (Each-like (TrueWhenSent cluster (before.entries ++ es)) (TrueWhenSent cluster ((act before.after x).entries ++ (before.entries ++ es))) before.sends (λ env k. true-more cluster (act before.after x).entries (before.entries ++ es) env k) h.good.stand)
         g.good.stand);
     keeps = at (λ z. Keeps cluster z a (act before.after x).after) g.good.keeps;
   };
@@ -68,6 +68,6 @@ fold-good also cluster base es a act (x ∷ xs) before v up h tail f =
     subst (IsTail base) (sym (append_assoc (act before.after x).entries before.entries es)) (IsTail-more (act before.after x).entries base (before.entries ++ es) tail) in
     fold-good also cluster base es a act xs (and_then act before x) v up (then-good also cluster es a act before x h next) more (λ y i. f y (inr i))
 
-pub sent-part : (also : List Entry → Type 0) (cluster : Cluster) (es : List Entry) (a : ℕ) (v w : Volatile) (sends : List Envelope) → IsUp also cluster es a v → Keeps cluster es a w → Each (Stands cluster es) sends →
+pub sent-part : (also : List Entry → Type 0) (cluster : Cluster) (es : List Entry) (a : ℕ) (v w : Volatile) (sends : List Envelope) → IsUp also cluster es a v → Keeps cluster es a w → Each (TrueWhenSent cluster es) sends →
     IsGoodPart also cluster es a (only_sending w sends)
 sent-part also cluster es a v w sends up keeps stand = record { good = sends-good also cluster es a v w sends up keeps stand; still = refl }

@@ -22,7 +22,7 @@ use Rattle.mdcc_ledger.specs.Ledger.{Entry, choices_begun, chosen_of, mark_given
 use Rattle.mdcc_ledger.specs.AllowedLedgers.{IsAllowed}
 use Rattle.mdcc_protocol.specs.Manager.{keys_of_choices}
 use Rattle.mdcc_trace_states.specs.Words.{Each, In, count}
-use Rattle.mdcc_trace_states.specs.Keeping.{AllApart, AreApart, ArePlaced, AreVotes, IsGiven}
+use Rattle.mdcc_trace_states.specs.VolatileInvariant.{AllApart, AreApart, ArePlaced, AreVotes, IsGiven}
 use Rattle.mdcc_trace_states.specs.Sound.{HasOneMark, IsChosen}
 use Rattle.mdcc_trace_states.proofs.Tests.{Decides-ballot, Decides-is_mark, Decides-key, Decides-mark, Decides-tx}
 use Rattle.mdcc_trace_states.proofs.Lists.{Each-append, Each-at, Each-filter, Each-from, Each-like, In-filter}

@@ -17,11 +17,11 @@ use Rattle.mdcc_protocol.specs.Belongs.{fact_belongs, is_centre}
 use Rattle.mdcc_protocol.specs.Volatile.{nothing_kept}
 use Rattle.mdcc_simulation.specs.State.{World, booted, booted_to, first_world}
 use Rattle.mdcc_simulation.specs.Centres.{restart_happened}
-use Rattle.mdcc_trace_states.specs.Keeping.{ArePlaced, AreVotes, IsCentre, Keeps}
+use Rattle.mdcc_trace_states.specs.VolatileInvariant.{ArePlaced, AreVotes, IsCentre, Keeps}
 use Rattle.mdcc_trace_states.specs.Invariant.{Holds}
-use Rattle.mdcc_trace_states.specs.Standing.{Stands}
+use Rattle.mdcc_trace_states.specs.MessageMeaning.{TrueWhenSent}
 use Rattle.mdcc_trace_states.proofs.Lists.{Each-like}
-use Rattle.mdcc_trace_states.proofs.Kept.{ArePlaced-fact, Stands-more}
+use Rattle.mdcc_trace_states.proofs.Kept.{ArePlaced-fact, true-more}
 use Rattle.mdcc_trace_states.proofs.Walk.{bounds, moved-holds}
 use Rattle.mdcc_trace_states.proofs.Led.{valued-epoch}
 use Rattle.mdcc_trace_states.proofs.Tests.{add-test, may-add}
@@ -98,8 +98,8 @@ restart-holds also cluster good w a h here =
     let legal = boot-legal w.cluster w.ledger a h.legal here in
     moved-holds also cluster w a booted (Added a (Fact.Booted (epoch_of (facts_of w.ledger a) + 1)) ∷ []) w.sent w.bytes h here (refl, tt) legal
     (boot-placed w.cluster w.ledger a (epoch_of (facts_of w.ledger a) + 1) legal h.placed) (good.boot w.cluster w.ledger a (epoch_of (facts_of w.ledger a) + 1) legal h.more)
-    (Each-like (λ s. Stands w.cluster w.ledger s.envelope) (λ s. Stands w.cluster (Added a (Fact.Booted (epoch_of (facts_of w.ledger a) + 1)) ∷ w.ledger) s.envelope) w.sent
-    (λ s g. Stands-more w.cluster (Added a (Fact.Booted (epoch_of (facts_of w.ledger a) + 1)) ∷ []) w.ledger s.envelope g) h.sent)
+    (Each-like (λ s. TrueWhenSent w.cluster w.ledger s.envelope) (λ s. TrueWhenSent w.cluster (Added a (Fact.Booted (epoch_of (facts_of w.ledger a) + 1)) ∷ w.ledger) s.envelope) w.sent
+    (λ s g. true-more w.cluster (Added a (Fact.Booted (epoch_of (facts_of w.ledger a) + 1)) ∷ []) w.ledger s.envelope g) h.sent)
     (record { booted = above; keeps = λ up. keeps-nothing w.cluster _ a new none })
   where
     own : facts_of (Added a (Fact.Booted (epoch_of (facts_of w.ledger a) + 1)) ∷ w.ledger) a ≡ Fact.Booted (epoch_of (facts_of w.ledger a) + 1) ∷ facts_of w.ledger a

@@ -12,12 +12,12 @@ use Rattle.mdcc_rules.specs.declared.node.Input.{Input}
 use Rattle.mdcc_language.specs.declared.world.EventFault.{EventFault}
 use Rattle.mdcc_simulation.specs.State.{Happened, World, after_lines, centre_at, counted_event, is_up_at}
 use Rattle.mdcc_messages.specs.Mailbox.{Sent, numbered, with_delivered}
-use Rattle.mdcc_simulation.specs.Deliveries.{deliver_line, delivered, deliveries_of, delivery_by, delivery_of, first_waiting, is_waiting_for, settled_line, settled_of}
-use Rattle.mdcc_simulation.specs.Limits.{if_up, is_limit, is_past_events, limit_if, most_events, step_limit, unless, with_lines, within_events}
-use Rattle.mdcc_simulation.specs.Stepping.{input_happened, step_at}
+use Rattle.mdcc_simulation.specs.Deliveries.{deliver_line, after_message, after_deliveries, after_delivery_by, after_delivery, first_waiting, is_waiting_for, settled_line, settled_of}
+use Rattle.mdcc_simulation.specs.Limits.{if_up, is_limit, is_past_events, limit_if, most_events, step_limit, unless_limit, with_lines, within_events}
+use Rattle.mdcc_simulation.specs.AppliedSteps.{input_happened, step_at}
 use Rattle.mdcc_trace_states.specs.Words.{Each}
 use Rattle.mdcc_trace_states.specs.Invariant.{Holds}
-use Rattle.mdcc_trace_states.specs.Standing.{Stands}
+use Rattle.mdcc_trace_states.specs.MessageMeaning.{TrueWhenSent}
 use Rattle.mdcc_trace_states.proofs.Walk.{input-holds}
 use Rattle.mdcc_language.specs.declared.lines.Line.{Line}
 use Rattle.mdcc_language.specs.declared.world.LimitName.{LimitName}
@@ -31,7 +31,7 @@ abbrev pub OkSettled : (List Entry → Type 0) → Cluster → Result (Happened 
 OkSettled also cluster (Ok h) = Holds also cluster h.0.world
 OkSettled also cluster (Err fault) = ⊤
 
-pub unless-holds : (also : List Entry → Type 0) (cluster : Cluster) (o : Option EventFault) (h : Happened) → Holds also cluster h.world → OkHolds also cluster (unless o h)
+pub unless-holds : (also : List Entry → Type 0) (cluster : Cluster) (o : Option EventFault) (h : Happened) → Holds also cluster h.world → OkHolds also cluster (unless_limit o h)
 unless-holds also cluster None h g = g
 unless-holds also cluster (Some fault) h g = tt
 
@@ -65,7 +65,7 @@ counted-holds also cluster w n m h = record {
   legal = h.legal;
   placed = h.placed;
   more = h.more;
-  sent = delivered-sent (Stands w.cluster w.ledger) w.sent n h.sent;
+  sent = delivered-sent (TrueWhenSent w.cluster w.ledger) w.sent n h.sent;
   size = h.size;
   centres = h.centres;
 }
@@ -76,8 +76,8 @@ event-holds also cluster w h = record { same = h.same; sizes = h.sizes; legal = 
 pub reads-hold : (also : List Entry → Type 0) (cluster : Cluster) (w : World) (reads : List Known) → Holds also cluster w → Holds also cluster (record w { reads = reads })
 reads-hold also cluster w reads h = record { same = h.same; sizes = h.sizes; legal = h.legal; placed = h.placed; more = h.more; sent = h.sent; size = h.size; centres = h.centres }
 
-pub delivered-holds : (also : List Entry → Type 0) (cluster : Cluster) → AreGood also → (w : World) (n : ℕ) (env : Envelope) → Holds also cluster w → Stands w.cluster w.ledger env → is_up_at w env.to ≡ true →
-    OkHolds also cluster (delivered w n env)
+pub delivered-holds : (also : List Entry → Type 0) (cluster : Cluster) → AreGood also → (w : World) (n : ℕ) (env : Envelope) → Holds also cluster w → TrueWhenSent w.cluster w.ledger env → is_up_at w env.to ≡ true →
+    OkHolds also cluster (after_message w n env)
 delivered-holds also cluster good w n env h stands up =
     let u = is-up also cluster w env.to h up in
     unless-holds also cluster
@@ -86,11 +86,11 @@ delivered-holds also cluster good w n env h stands up =
     (input-holds also cluster (record w { sent = with_delivered w.sent (n - 1); events = w.events + 1 }) env.to (step_at (record w { sent = with_delivered w.sent (n - 1); events = w.events + 1 }) env.to (Input.Message env))
     (counted-holds also cluster w (n - 1) (w.events + 1) h) u.centre (good.step w.cluster w.ledger env.to (centre_at w env.to).volatile (Input.Message env) u stands))
 
-pub delivery-by-holds : (also : List Entry → Type 0) (cluster : Cluster) → AreGood also → (w : World) (n : ℕ) (o : Option Sent) → Holds also cluster w → ((s : Sent) → o ≡ Some s → Stands w.cluster w.ledger s.envelope) →
-    OkHolds also cluster (delivery_by w n o)
+pub delivery-by-holds : (also : List Entry → Type 0) (cluster : Cluster) → AreGood also → (w : World) (n : ℕ) (o : Option Sent) → Holds also cluster w → ((s : Sent) → o ≡ Some s → TrueWhenSent w.cluster w.ledger s.envelope) →
+    OkHolds also cluster (after_delivery_by w n o)
 delivery-by-holds also cluster good w n None h f = tt
 delivery-by-holds also cluster good w n (Some s) h f =
-    up-holds also cluster w s.envelope.to _ (λ up. within-holds also cluster w (with_lines (deliver_line n) (delivered w n s.envelope)) (lines-hold also cluster (deliver_line n) (delivered w n s.envelope) (delivered-holds also cluster good w n s.envelope h (f s refl) up)))
+    up-holds also cluster w s.envelope.to _ (λ up. within-holds also cluster w (with_lines (deliver_line n) (after_message w n s.envelope)) (lines-hold also cluster (deliver_line n) (after_message w n s.envelope) (delivered-holds also cluster good w n s.envelope h (f s refl) up)))
 
 get-each : {A : Type 0} (P : A → Type 0) (xs : List A) (n : ℕ) (x : A) → Each P xs → slice_get xs n ≡ Some x → P x
 get-each P [] n x h e = absurd (cc)
@@ -101,18 +101,18 @@ pub numbered-each : {A : Type 0} (P : A → Type 0) (xs : List A) (n : ℕ) (x :
 numbered-each P xs zero x h e = absurd (cc)
 numbered-each P xs (suc n) x h e = get-each P xs n x h e
 
-delivery-holds : (also : List Entry → Type 0) (cluster : Cluster) → AreGood also → (w : World) (n : ℕ) → Holds also cluster w → OkHolds also cluster (delivery_of w n)
+delivery-holds : (also : List Entry → Type 0) (cluster : Cluster) → AreGood also → (w : World) (n : ℕ) → Holds also cluster w → OkHolds also cluster (after_delivery w n)
 delivery-holds also cluster good w n h =
-    delivery-by-holds also cluster good w n (numbered w.sent n) h (λ s e. numbered-each (λ (s : Sent). Stands w.cluster w.ledger s.envelope) w.sent n s h.sent e)
+    delivery-by-holds also cluster good w n (numbered w.sent n) h (λ s e. numbered-each (λ (s : Sent). TrueWhenSent w.cluster w.ledger s.envelope) w.sent n s h.sent e)
 
-pub deliveries-hold : (also : List Entry → Type 0) (cluster : Cluster) → AreGood also → (ns : List ℕ) (h : Happened) → Holds also cluster h.world → OkHolds also cluster (deliveries_of ns h)
+pub deliveries-hold : (also : List Entry → Type 0) (cluster : Cluster) → AreGood also → (ns : List ℕ) (h : Happened) → Holds also cluster h.world → OkHolds also cluster (after_deliveries ns h)
 deliveries-hold also cluster good [] h g = g
-deliveries-hold also cluster good (n ∷ ns) h g = by_case (λ next k. deliveries-hold also cluster good ns next k) (delivery_of h.world n) refl (delivery-holds also cluster good h.world n g)
+deliveries-hold also cluster good (n ∷ ns) h g = by_case (λ next k. deliveries-hold also cluster good ns next k) (after_delivery h.world n) refl (delivery-holds also cluster good h.world n g)
   where
-    by_case : ((next : Happened) → Holds also cluster next.world → OkHolds also cluster (deliveries_of ns next)) → (r : Result Happened EventFault) → delivery_of h.world n ≡ r → OkHolds also cluster r →
-        OkHolds also cluster (deliveries_of (n ∷ ns) h)
-    by_case rest (Err fault) e k = rw (e, deliveries_of, OkHolds) tt
-    by_case rest (Ok next) e k = rw (e, deliveries_of, OkHolds) (rest (after_lines h.lines next) k)
+    by_case : ((next : Happened) → Holds also cluster next.world → OkHolds also cluster (after_deliveries ns next)) → (r : Result Happened EventFault) → after_delivery h.world n ≡ r → OkHolds also cluster r →
+        OkHolds also cluster (after_deliveries (n ∷ ns) h)
+    by_case rest (Err fault) e k = rw (e, after_deliveries, OkHolds) tt
+    by_case rest (Ok next) e k = rw (e, after_deliveries, OkHolds) (rest (after_lines h.lines next) k)
 
 -- ---- settle
 
@@ -141,7 +141,7 @@ settled-holds also cluster good zero listed h d g = by_case (first_waiting h.wor
 settled-holds also cluster good (suc left) listed h d g = by_case (λ k n. settled-holds also cluster good left listed k n) (first_waiting h.world listed 1 h.world.sent) refl
   where
     by_result : ((k : Happened) (n : ℕ) → Holds also cluster k.world → OkSettled also cluster (settled_of left listed k n)) → (next : ℕ × Envelope) → first_waiting h.world listed 1 h.world.sent ≡ Some next →
-        (r : Result Happened EventFault) → delivered h.world next.0 next.1 ≡ r → OkHolds also cluster r → OkSettled also cluster (settled_of (suc left) listed h d)
+        (r : Result Happened EventFault) → after_message h.world next.0 next.1 ≡ r → OkHolds also cluster r → OkSettled also cluster (settled_of (suc left) listed h d)
     by_result rest next e (Err fault) f k = rw (e, settled_of) (rw (f, OkSettled) tt)
     by_result rest next e (Ok after) f k = rw (e, settled_of) (rw (f, OkSettled) (rest (after_lines h.lines after) (d + 1) k))
 
@@ -149,8 +149,8 @@ settled-holds also cluster good (suc left) listed h d g = by_case (λ k n. settl
         OkSettled also cluster (settled_of (suc left) listed h d)
     by_case rest None e = rw (e, settled_of, OkSettled) g
     by_case rest (Some next) e =
-        let m = waiting h.world (Stands h.world.cluster h.world.ledger) listed 1 h.world.sent next g.sent e in
-        by_result rest next e (delivered h.world next.0 next.1) refl (delivered-holds also cluster good h.world next.0 next.1 g m.0 m.1)
+        let m = waiting h.world (TrueWhenSent h.world.cluster h.world.ledger) listed 1 h.world.sent next g.sent e in
+        by_result rest next e (after_message h.world next.0 next.1) refl (delivered-holds also cluster good h.world next.0 next.1 g m.0 m.1)
 
 pub settled-line : (also : List Entry → Type 0) (cluster : Cluster) (r : Result (Happened × ℕ) EventFault) → OkSettled also cluster r → OkHolds also cluster (settled_line r)
 settled-line also cluster (Err fault) h = tt

@@ -22,9 +22,9 @@ use Rattle.mdcc_protocol.specs.declared.votes.Vote.{Vote}
 use Rattle.mdcc_simulation.specs.State.{Site}
 use Rattle.mdcc_messages.specs.declared.messages.Envelope.{Envelope}
 use Rattle.mdcc_trace_states.specs.Words.{Each}
-use Rattle.mdcc_trace_states.specs.Keeping.{ArePlaced, AreVotes, IsCentre, IsGiven, IsOpened, IsPlaced, Keeps, Manages}
+use Rattle.mdcc_trace_states.specs.VolatileInvariant.{ArePlaced, AreVotes, IsCentre, IsGiven, IsOpened, IsPlaced, Keeps, Manages}
 use Rattle.mdcc_trace_states.specs.Invariant.{IsOf}
-use Rattle.mdcc_trace_states.specs.Standing.{Stands}
+use Rattle.mdcc_trace_states.specs.MessageMeaning.{TrueWhenSent}
 use Rattle.mdcc_trace_states.proofs.Lists.{Each-like, IsTail-more}
 use Rattle.mdcc_trace_states.proofs.Maps.{value_of-union}
 use Rattle.mdcc_trace_states.proofs.Ledgers.{begun-more, mark-more}
@@ -155,5 +155,5 @@ ArePlaced-fact cluster c f es legal h new k v b t a x g =
 pub ArePlaced-begun : (cluster : Cluster) (a : ℕ) (t : TxId) (cs : List Choice) (es : List Entry) → IsAllowed cluster (Entry.Begun a t cs ∷ es) → ArePlaced es → ArePlaced (Entry.Begun a t cs ∷ es)
 ArePlaced-begun cluster a t cs es legal h k v b u c x g = IsPlaced-more cluster (Entry.Begun a t cs) es k v u legal (h k v b u c x g)
 
-pub Stands-more : (cluster : Cluster) (new es : List Entry) → (env : Envelope) → Stands cluster es env → Stands cluster (new ++ es) env
-Stands-more cluster new es env h = record { from = h.from; old = h.old; tail = IsTail-more new h.old es h.tail; says = h.says }
+pub true-more : (cluster : Cluster) (new es : List Entry) → (env : Envelope) → TrueWhenSent cluster es env → TrueWhenSent cluster (new ++ es) env
+true-more cluster new es env h = record { from = h.from; old = h.old; tail = IsTail-more new h.old es h.tail; says = h.says }

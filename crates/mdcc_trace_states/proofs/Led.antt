@@ -14,7 +14,7 @@ use Rattle.mdcc_ledger.specs.Ledger.{Added, Entry, Valued, choices_begun, facts_
 use Rattle.mdcc_ledger.specs.AllowedLedgers.{IsAllowed}
 use Rattle.mdcc_protocol.specs.Volatile.{Counted, Lead, Leading}
 use Rattle.mdcc_trace_states.specs.Words.{In}
-use Rattle.mdcc_trace_states.specs.Keeping.{IsClaim, IsLead, IsOwn, IsPlaced, IsPromise, Leads}
+use Rattle.mdcc_trace_states.specs.VolatileInvariant.{IsClaim, IsLead, IsOwn, IsPlaced, IsPromise, Leads}
 use Rattle.mdcc_trace_states.proofs.Tests.{Decides-ballot}
 use Rattle.mdcc_trace_states.proofs.Lists.{Each-like}
 use Rattle.mdcc_trace_states.proofs.Ledgers.{begun-more}

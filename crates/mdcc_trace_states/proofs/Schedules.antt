@@ -12,11 +12,11 @@ use Rattle.mdcc_language.specs.declared.events.Event.{Event}
 use Rattle.mdcc_language.specs.declared.world.EventFault.{EventFault}
 use Rattle.mdcc_language.specs.declared.lines.Line.{Line}
 use Rattle.mdcc_simulation.specs.State.{Happened, World, after_lines, centre_at, counted_event, first_world, is_up_at}
-use Rattle.mdcc_simulation.specs.Clients.{answer_in, begin_lines, begin_of, begun_by, parts_begun}
-use Rattle.mdcc_simulation.specs.Limits.{cells_limit, input_taken, log_limit, most_events, step_limit}
-use Rattle.mdcc_simulation.specs.Events.{event_of, happened_of, is_deliver}
-use Rattle.mdcc_simulation.specs.Stepping.{input_happened, step_at}
-use Rattle.mdcc_simulation.specs.Centres.{restart_happened, restart_of, tick_line, tick_of}
+use Rattle.mdcc_simulation.specs.Clients.{answer_in, begin_lines, after_begin, begun_by, parts_begun}
+use Rattle.mdcc_simulation.specs.Limits.{cells_limit, input_applied, log_limit, most_events, step_limit}
+use Rattle.mdcc_simulation.specs.Events.{after_event, happened_of, is_deliver}
+use Rattle.mdcc_simulation.specs.AppliedSteps.{input_happened, step_at}
+use Rattle.mdcc_simulation.specs.Centres.{restart_happened, after_restart, tick_line, after_tick}
 use Rattle.mdcc_simulation.specs.Runs.{run_from, run_of}
 use Rattle.mdcc_simulation.specs.Deliveries.{settled_of}
 use Rattle.mdcc_trace_states.specs.Invariant.{Holds}
@@ -35,7 +35,7 @@ use Rattle.mdcc_trace_states.specs.Steps.{AreGood, IsFair}
 
 module _ (also : List Entry → Type 0) (cluster : Cluster) (good : AreGood also) where
   -- an input that is fair, within the limits
-  limited-holds : (w : World) (a : ℕ) (input : Input) → Holds also cluster w → is_up_at w a ≡ true → IsFair w.cluster w.ledger input → OkHolds also cluster (input_taken w a input)
+  limited-holds : (w : World) (a : ℕ) (input : Input) → Holds also cluster w → is_up_at w a ≡ true → IsFair w.cluster w.ledger input → OkHolds also cluster (input_applied w a input)
   limited-holds w a input h up fair =
       let u = is-up also cluster w a h up in
       unless-holds also cluster (step_limit w a (step_at w a input)) (input_happened w a (step_at w a input))
@@ -44,7 +44,7 @@ module _ (also : List Entry → Type 0) (cluster : Cluster) (good : AreGood also
   begun-by-holds : (w : World) (a : ℕ) (qs : List Part) (r : Result (List Part) DraftFault) → Holds also cluster w → is_up_at w a ≡ true → transaction_of w.cluster.schema qs ≡ r → OkHolds also cluster (begun_by w a r)
   begun-by-holds w a qs (Err fault) h up e = tt
   begun-by-holds w a qs (Ok parts) h up e =
-      lines-hold also cluster (begin_lines (answer_in (step_at w a (Input.Begin parts)))) (input_taken w a (Input.Begin parts))
+      lines-hold also cluster (begin_lines (answer_in (step_at w a (Input.Begin parts)))) (input_applied w a (Input.Begin parts))
       (limited-holds w a (Input.Begin parts) h up (made-transaction w.cluster.schema qs parts e))
 
   parts-hold : (w : World) (a : ℕ) (r : Result (List Part) ResolveFault) → Holds also cluster w → is_up_at w a ≡ true → OkHolds also cluster (parts_begun w a r)
@@ -53,7 +53,7 @@ module _ (also : List Entry → Type 0) (cluster : Cluster) (good : AreGood also
   parts-hold w a (Err ResolveFault.Memory) h up = tt
   parts-hold w a (Ok parts) h up = begun-by-holds w a parts (transaction_of w.cluster.schema parts) h up refl
 
-  restart-of-holds : (w : World) (a : ℕ) → Holds also cluster w → is_centre w.cluster a ≡ true → OkHolds also cluster (restart_of w a)
+  restart-of-holds : (w : World) (a : ℕ) → Holds also cluster w → is_centre w.cluster a ≡ true → OkHolds also cluster (after_restart w a)
   restart-of-holds w a h here =
       unless-holds also cluster
       (option_or (cells_limit w a (Fact.Booted (epoch_of (facts_of w.ledger a) + 1))) (log_limit w a (Fact.Booted (epoch_of (facts_of w.ledger a) + 1))))
@@ -61,12 +61,12 @@ module _ (also : List Entry → Type 0) (cluster : Cluster) (good : AreGood also
 
   happened-holds : (w : World) (event : Event) → Holds also cluster w → OkHolds also cluster (happened_of w event)
   happened-holds w (Event.Read a key) h = up-holds also cluster w a _ (λ up. reads-hold also cluster w _ h)
-  happened-holds w (Event.Begin a words) h = up-holds also cluster w a (begin_of w a words) (λ up. parts-hold w a (resolve words (map Some w.reads)) h up)
+  happened-holds w (Event.Begin a words) h = up-holds also cluster w a (after_begin w a words) (λ up. parts-hold w a (resolve words (map Some w.reads)) h up)
   happened-holds w (Event.Deliver numbers) h = deliveries-hold also cluster good numbers (record { world = w; lines = [] }) h
   happened-holds w (Event.Settle listed) h =
       settled-line also cluster (settled_of (most_events - w.events) listed (record { world = w; lines = Line.Settle listed ∷ [] }) 0)
       (settled-holds also cluster good (most_events - w.events) listed (record { world = w; lines = Line.Settle listed ∷ [] }) 0 h)
-  happened-holds w (Event.Tick a) h = up-holds also cluster w a (tick_of w a) (λ up. lines-hold also cluster (tick_line a) (input_taken w a Input.Tick) (limited-holds w a Input.Tick h up tt))
+  happened-holds w (Event.Tick a) h = up-holds also cluster w a (after_tick w a) (λ up. lines-hold also cluster (tick_line a) (input_applied w a Input.Tick) (limited-holds w a Input.Tick h up tt))
   happened-holds w (Event.Crash a) h = up-holds also cluster w a _ (λ up. down-holds also cluster w a [] h (is-up also cluster w a h up).centre tt h.legal h.placed h.more)
   happened-holds w (Event.Restart a) h =
       elim (cases_Bool (is_up_at w a)) [
@@ -78,7 +78,7 @@ module _ (also : List Entry → Type 0) (cluster : Cluster) (good : AreGood also
       moved-holds also cluster w a (record { is_up = (centre_at w a).is_up; stop = Some (call, image); volatile = (centre_at w a).volatile }) [] w.sent w.bytes h here tt h.legal h.placed h.more h.sent
       (record { booted = (h.centres a here).booted; keeps = (h.centres a here).keeps }))
 
-  pub event-good : (w : World) (event : Event) → Holds also cluster w → OkHolds also cluster (event_of w event)
+  pub event-good : (w : World) (event : Event) → Holds also cluster w → OkHolds also cluster (after_event w event)
   event-good w event h =
       elim (cases_Bool (is_deliver event)) [
         | inl e ↦ rw e (happened-holds w event h)
@@ -87,9 +87,9 @@ module _ (also : List Entry → Type 0) (cluster : Cluster) (good : AreGood also
 
   run-holds : (events : List Event) (h : Happened) → Holds also cluster h.world → Holds also cluster (run_from events h).world
   run-holds [] h g = g
-  run-holds (event ∷ events) h g = by_case (λ next k. run-holds events next k) (event_of h.world event) refl (event-good h.world event g)
+  run-holds (event ∷ events) h g = by_case (λ next k. run-holds events next k) (after_event h.world event) refl (event-good h.world event g)
     where
-      by_case : ((next : Happened) → Holds also cluster next.world → Holds also cluster (run_from events next).world) → (r : Result Happened EventFault) → event_of h.world event ≡ r → OkHolds also cluster r →
+      by_case : ((next : Happened) → Holds also cluster next.world → Holds also cluster (run_from events next).world) → (r : Result Happened EventFault) → after_event h.world event ≡ r → OkHolds also cluster r →
           Holds also cluster (run_from (event ∷ events) h).world
       by_case rest (Err fault) e k = rw (e, run_from) g
       by_case rest (Ok next) e k = rw (e, run_from) (rest (after_lines h.lines next) k)

@@ -15,13 +15,13 @@ use Rattle.mdcc_rules.specs.declared.node.StepFault.{StepFault}
 use Rattle.mdcc_protocol.specs.Volatile.{Volatile}
 use Rattle.mdcc_messages.specs.Mailbox.{Sent, unsent}
 use Rattle.mdcc_simulation.specs.State.{Site, World, booted, centre_at, down}
-use Rattle.mdcc_simulation.specs.Stepping.{fact_happened, fact_taken, input_happened, is_frame_kept, step_happened_by, step_stopped}
+use Rattle.mdcc_simulation.specs.AppliedSteps.{fact_happened, fact_applied, input_happened, is_frame_kept, step_happened_by, step_stopped}
 use Rattle.mdcc_trace_states.specs.Words.{Each}
-use Rattle.mdcc_trace_states.specs.Keeping.{ArePlaced, IsCentre}
+use Rattle.mdcc_trace_states.specs.VolatileInvariant.{ArePlaced, IsCentre}
 use Rattle.mdcc_trace_states.specs.Invariant.{Holds, IsGood, IsGoodBy, IsGoodStep, IsOf}
-use Rattle.mdcc_trace_states.specs.Standing.{Stands}
+use Rattle.mdcc_trace_states.specs.MessageMeaning.{TrueWhenSent}
 use Rattle.mdcc_trace_states.proofs.Lists.{Each-append, Each-like, Each-map}
-use Rattle.mdcc_trace_states.proofs.Kept.{IsCentre-others, Stands-more, epoch-aboves}
+use Rattle.mdcc_trace_states.proofs.Kept.{IsCentre-others, true-more, epoch-aboves}
 use Rattle.mdcc_messages.specs.Lengths.{messages_length}
 
 -- ---- one centre changes
@@ -43,7 +43,7 @@ pub bounds : (cluster : Cluster) (a : ℕ) → is_centre cluster a ≡ true → 
 bounds cluster a h = let p = and_parts (nat_le 1 a) (nat_le a cluster.quorums.centres) h in (leb-true _ _ p.0, leb-true _ _ p.1)
 
 pub moved-holds : (also : List Entry → Type 0) (cluster : Cluster) (w : World) (a : ℕ) (c : Site) (new : List Entry) (sent : List Sent) (bytes : ℕ) → Holds also cluster w → is_centre w.cluster a ≡ true →
-    Each (IsOf a) new → IsAllowed w.cluster (new ++ w.ledger) → ArePlaced (new ++ w.ledger) → also (new ++ w.ledger) → Each (λ (s : Sent). Stands w.cluster (new ++ w.ledger) s.envelope) sent →
+    Each (IsOf a) new → IsAllowed w.cluster (new ++ w.ledger) → ArePlaced (new ++ w.ledger) → also (new ++ w.ledger) → Each (λ (s : Sent). TrueWhenSent w.cluster (new ++ w.ledger) s.envelope) sent →
     IsCentre w.cluster (new ++ w.ledger) a c → Holds also cluster (moved w a c new sent bytes)
 moved-holds also cluster w a c new sent bytes h here own legal placed more stand kept = record {
   same = h.same;
@@ -67,16 +67,16 @@ moved-holds also cluster w a c new sent bytes h here own legal placed more stand
               (IsCentre-others w.cluster new w.ledger a b (get_or w.centres (b - 1) booted) legal own e (h.centres b there))
         ]
 
-sent-more : (cluster : Cluster) (new es : List Entry) (sent : List Sent) → Each (λ (s : Sent). Stands cluster es s.envelope) sent → Each (λ (s : Sent). Stands cluster (new ++ es) s.envelope) sent
-sent-more cluster new es sent h = Each-like (λ (s : Sent). Stands cluster es s.envelope) (λ (s : Sent). Stands cluster (new ++ es) s.envelope) sent (λ s g. Stands-more cluster new es s.envelope g) h
+sent-more : (cluster : Cluster) (new es : List Entry) (sent : List Sent) → Each (λ (s : Sent). TrueWhenSent cluster es s.envelope) sent → Each (λ (s : Sent). TrueWhenSent cluster (new ++ es) s.envelope) sent
+sent-more cluster new es sent h = Each-like (λ (s : Sent). TrueWhenSent cluster es s.envelope) (λ (s : Sent). TrueWhenSent cluster (new ++ es) s.envelope) sent (λ s g. true-more cluster new es s.envelope g) h
 
 -- a good step, with the new entries that it makes
 pub good-holds : (also : List Entry → Type 0) (cluster : Cluster) (w : World) (a : ℕ) (new : List Entry) (sends : List Envelope) (after : Volatile) (stop : Option (ℕ × Image)) (up : Bool) (bytes : ℕ) → Holds also cluster w → is_centre w.cluster a ≡ true →
     IsGoodStep w.cluster also w.ledger a new sends after → Holds also cluster (moved w a (record { is_up = up; stop = stop; volatile = after }) new (w.sent ++ map unsent sends) bytes)
 good-holds also cluster w a new sends after stop up bytes h here g =
     moved-holds also cluster w a (record { is_up = up; stop = stop; volatile = after }) new (w.sent ++ map unsent sends) bytes h here g.own g.legal g.placed g.more
-    (Each-append (λ (s : Sent). Stands w.cluster (new ++ w.ledger) s.envelope) w.sent (map unsent sends) (sent-more w.cluster new w.ledger w.sent h.sent)
-    (Each-map (λ (s : Sent). Stands w.cluster (new ++ w.ledger) s.envelope) unsent sends g.stand))
+    (Each-append (λ (s : Sent). TrueWhenSent w.cluster (new ++ w.ledger) s.envelope) w.sent (map unsent sends) (sent-more w.cluster new w.ledger w.sent h.sent)
+    (Each-map (λ (s : Sent). TrueWhenSent w.cluster (new ++ w.ledger) s.envelope) unsent sends g.stand))
     (record { booted = epoch-aboves w.cluster new w.ledger a g.legal (h.centres a here).booted; keeps = λ u. g.keeps })
 
 -- a centre goes down, with or without its new fact
@@ -95,7 +95,7 @@ stopped-holds also cluster w a step fact stop h here g =
     ]
 
 taken-holds : (also : List Entry → Type 0) (cluster : Cluster) (w : World) (a : ℕ) (step : NodeStep) (fact : Fact) → Holds also cluster w → is_centre w.cluster a ≡ true → step.entries ≡ [] →
-    IsGoodStep w.cluster also w.ledger a (Added a fact ∷ []) step.sends step.after → Holds also cluster (fact_taken w a step fact).world
+    IsGoodStep w.cluster also w.ledger a (Added a fact ∷ []) step.sends step.after → Holds also cluster (fact_applied w a step fact).world
 taken-holds also cluster w a step fact h here none g =
     subst (λ (z : List Entry). Holds also cluster (moved w a (record { is_up = (centre_at w a).is_up; stop = (centre_at w a).stop; volatile = step.after }) (Added a fact ∷ z) (w.sent ++ map unsent step.sends) (w.bytes + messages_length step.sends)))
     (sym none) (good-holds also cluster w a (Added a fact ∷ []) step.sends step.after (centre_at w a).stop (centre_at w a).is_up (w.bytes + messages_length step.sends) h here g)

@@ -15,8 +15,8 @@ use Rattle.mdcc_protocol.specs.News.{is_crowding}
 use Rattle.mdcc_messages.specs.Mailbox.{Sent}
 use Rattle.mdcc_simulation.specs.State.{World, centre_at}
 use Rattle.mdcc_trace_states.specs.Words.{Each}
-use Rattle.mdcc_trace_states.specs.Standing.{Stands}
-use Rattle.mdcc_trace_states.specs.Keeping.{ArePlaced, IsCentre, Keeps}
+use Rattle.mdcc_trace_states.specs.MessageMeaning.{TrueWhenSent}
+use Rattle.mdcc_trace_states.specs.VolatileInvariant.{ArePlaced, IsCentre, Keeps}
 
 -- the entry is made by the centre
 abbrev pub IsOf : ℕ → Entry → Type 0
@@ -31,7 +31,7 @@ pub record IsGoodStep (cluster : Cluster) (also : List Entry → Type 0) (es : L
   pub legal : IsAllowed cluster (new ++ es)
   pub placed : ArePlaced (new ++ es)
   pub more : also (new ++ es)
-  pub stand : Each (Stands cluster (new ++ es)) sends
+  pub stand : Each (TrueWhenSent cluster (new ++ es)) sends
   pub keeps : Keeps cluster (new ++ es) a after
 
 -- a step makes either ledger entries that no log keeps or one fact
@@ -57,7 +57,7 @@ pub record Holds (also : List Entry → Type 0) (cluster : Cluster) (w : World) 
   pub legal : IsAllowed w.cluster w.ledger
   pub placed : ArePlaced w.ledger
   pub more : also w.ledger
-  pub sent : Each (λ (s : Sent). Stands w.cluster w.ledger s.envelope) w.sent
+  pub sent : Each (λ (s : Sent). TrueWhenSent w.cluster w.ledger s.envelope) w.sent
   pub size : length w.centres ≡ w.cluster.quorums.centres
   pub centres : (a : ℕ) → is_centre w.cluster a ≡ true → IsCentre w.cluster w.ledger a (centre_at w a)
 

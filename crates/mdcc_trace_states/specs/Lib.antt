@@ -1,6 +1,6 @@
 pub mod Invariant
-pub mod Keeping
+pub mod VolatileInvariant
 pub mod Sound
-pub mod Standing
+pub mod MessageMeaning
 pub mod Steps
 pub mod Words

@@ -15,7 +15,7 @@ use Rattle.mdcc_protocol.specs.Facts.{write_sets_of}
 use Rattle.mdcc_ledger.specs.Ledger.{Entry, choices_begun, facts_of, mark_given}
 use Rattle.mdcc_ledger.specs.AllowedLedgers.{is_valued}
 use Rattle.mdcc_trace_states.specs.Words.{In, count}
-use Rattle.mdcc_trace_states.specs.Keeping.{IsOwn, IsPlaced}
+use Rattle.mdcc_trace_states.specs.VolatileInvariant.{IsOwn, IsPlaced}
 
 -- a mark is chosen in an instance: a quorum of some ballot gives it to the transaction
 pub record IsChosen (quorums : Sizes) (es : List Entry) (key : Key) (version : ℕ) (tx : TxId) (mark : Mark) : Type 0 where

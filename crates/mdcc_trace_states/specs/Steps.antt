@@ -15,8 +15,8 @@ use Rattle.mdcc_protocol.specs.Volatile.{Volatile}
 use Rattle.mdcc_messages.specs.declared.facts.Fact.{Fact}
 use Rattle.mdcc_rules.specs.declared.node.Input.{Input}
 use Rattle.mdcc_trace_states.specs.Invariant.{IsGood}
-use Rattle.mdcc_trace_states.specs.Keeping.{ArePlaced, Keeps}
-use Rattle.mdcc_trace_states.specs.Standing.{Stands}
+use Rattle.mdcc_trace_states.specs.VolatileInvariant.{ArePlaced, Keeps}
+use Rattle.mdcc_trace_states.specs.MessageMeaning.{TrueWhenSent}
 
 -- parts in key order that a schema takes as they stand
 pub record IsTransaction (schema : Schema) (ps : List Part) : Type 0 where
@@ -26,7 +26,7 @@ pub record IsTransaction (schema : Schema) (ps : List Part) : Type 0 where
 
 -- what a node is given: a message that stands, parts that make a transaction, a tick, or a key to read
 abbrev pub IsFair : Cluster → List Entry → Input → Type 0
-IsFair cluster es (Input.Message envelope) = Stands cluster es envelope
+IsFair cluster es (Input.Message envelope) = TrueWhenSent cluster es envelope
 IsFair cluster es Input.Tick = ⊤
 IsFair cluster es (Input.Begin parts) = IsTransaction cluster.schema parts
 IsFair cluster es (Input.Read key) = ⊤

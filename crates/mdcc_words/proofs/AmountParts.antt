@@ -2,7 +2,7 @@
 use Rattle.std.proofs.Common.{ℕ, suc, ◌+◌, ◌-◌, ◌≤◌, ◌<◌, ◌++◌, length-append, List, [], ◌∷◌, length, ◌≡◌, sym, ap, ◌∙◌, arith, Result, Ok, Err, ℤ}
 use Rattle.mdcc_language.specs.declared.schedule.SchedFault.{SchedFault}
 use Rattle.mdcc_language.specs.declared.schedule.SchedCause.TheVariants.{Range}
-use Rattle.mdcc_language.specs.Updates.{amount_of, amounts_from}
+use Rattle.mdcc_language.specs.Updates.{parse_amount, amounts_from}
 use Rattle.mdcc_language.specs.Words.{refused, ◌>>=◌, part_at}
 use Rattle.mdcc_words.proofs.Onto.{onto, onto_more}
 use Rattle.mdcc_words.proofs.Parts.{parts_left, parts_first}
@@ -10,18 +10,18 @@ use Rattle.mdcc_words.proofs.Parts.{parts_left, parts_first}
 -- the parts that are left give the first amount and those of the rest
 amounts_step : (left at column : ℕ) (text : List ℕ) → at ≤ length text
     → amounts_from (suc left) (at + column) (parts_left 44 at text)
-    ≡ (amount_of (part_at 44 at text) (at + column) >>= λ amount. amounts_from left (at + (length (part_at 44 at text) + 1) + column) (parts_left 44 (at + (length (part_at 44 at text) + 1)) text) >>= λ amounts. Ok (amount ∷ amounts))
+    ≡ (parse_amount (part_at 44 at text) (at + column) >>= λ amount. amounts_from left (at + (length (part_at 44 at text) + 1) + column) (parts_left 44 (at + (length (part_at 44 at text) + 1)) text) >>= λ amounts. Ok (amount ∷ amounts))
 amounts_step left at column text h =
     let len : ℕ = length (part_at 44 at text) in
     let rest : List (List ℕ) = parts_left 44 (at + (len + 1)) text in
     let place : at + column + len + 1 ≡ at + (len + 1) + column = omega arith in
     ap (amounts_from (suc left) (at + column)) (parts_first 44 at text h)
-    ∙ ap (λ next. amount_of (part_at 44 at text) (at + column) >>= λ amount. amounts_from left next rest >>= λ amounts. Ok (amount ∷ amounts)) place
+    ∙ ap (λ next. parse_amount (part_at 44 at text) (at + column) >>= λ amount. amounts_from left next rest >>= λ amounts. Ok (amount ∷ amounts)) place
 
 module _ (whole : Result (List (ℕ × ℤ)) SchedFault) (amounts : List (ℕ × ℤ)) (at column : ℕ) (text : List ℕ) (within : at ≤ length text)
     (same : onto amounts (amounts_from (4 - length amounts) (at + column) (parts_left 44 at text)) ≡ whole) where
   -- an amount is read, and the rest is left
-  pub amount_read : (amount : ℕ × ℤ) → length amounts < 4 → amount_of (part_at 44 at text) (at + column) ≡ Ok amount
+  pub amount_read : (amount : ℕ × ℤ) → length amounts < 4 → parse_amount (part_at 44 at text) (at + column) ≡ Ok amount
       → onto (amounts ++ amount ∷ []) (amounts_from (4 - length (amounts ++ amount ∷ [])) (at + (length (part_at 44 at text) + 1) + column) (parts_left 44 (at + (length (part_at 44 at text) + 1)) text)) ≡ whole
   amount_read amount few e =
       let len : ℕ = length (part_at 44 at text) in
@@ -35,7 +35,7 @@ module _ (whole : Result (List (ℕ × ℤ)) SchedFault) (amounts : List (ℕ ×
       ∙ same
 
   -- a part is no amount
-  pub amount_refused : (fault : SchedFault) → length amounts < 4 → amount_of (part_at 44 at text) (at + column) ≡ Err fault → Err fault ≡ whole
+  pub amount_refused : (fault : SchedFault) → length amounts < 4 → parse_amount (part_at 44 at text) (at + column) ≡ Err fault → Err fault ≡ whole
   amount_refused fault few e =
       let left : 4 - length amounts ≡ suc (3 - length amounts) = omega arith in
       sym (ap (λ r. onto amounts (r >>= λ v. amounts_from (3 - length amounts) (at + (length (part_at 44 at text) + 1) + column) (parts_left 44 (at + (length (part_at 44 at text) + 1)) text) >>= λ vs. Ok (v ∷ vs))) e)

@@ -4,7 +4,7 @@ use Rattle.std.proofs.lemmas.Bool.{eqb-true}
 use Rattle.mdcc_language.specs.declared.schedule.SchedFault.{SchedFault}
 use Rattle.mdcc_language.specs.declared.schedule.SchedCause.{SchedCause}
 use Rattle.mdcc_language.specs.declared.schedule.SchedCause.TheVariants.{Word}
-use Rattle.mdcc_language.specs.Words.{◌>>=◌, refused, part_len, part_at, part_end, is_separator, behind, end_at}
+use Rattle.mdcc_language.specs.Words.{◌>>=◌, refused, part_len, part_at, part_end, is_separator, start_after, end_at}
 
 pub bind_ok : {A B : Type 0} (r : Result A SchedFault) (f : A → Result B SchedFault) (y : B) → (r >>= f) ≡ Ok y → (x : A) × (r ≡ Ok x) × (f x ≡ Ok y)
 bind_ok (Ok x) f y e = (x, refl, e)
@@ -37,7 +37,7 @@ separator_drop separator (suc at) [] e = absurd (cc)
 separator_drop separator zero (b ∷ bs) e = ap (λ x. x ∷ bs) (eqb-true b separator e)
 separator_drop separator (suc at) (b ∷ bs) e = separator_drop separator at bs e
 
-pub behind_ok : (separator at : ℕ) (text : List ℕ) (column next : ℕ) → behind separator at text column ≡ Ok next → drop at text ≡ separator ∷ drop next text
+pub behind_ok : (separator at : ℕ) (text : List ℕ) (column next : ℕ) → start_after separator at text column ≡ Ok next → drop at text ≡ separator ∷ drop next text
 behind_ok separator at text column next e =
     let first = guard_ok (is_separator separator (slice_get text at)) _ (column + at) Word next e in
     let place : suc at ≡ next = (let same : at + 1 ≡ next = cc (first.1) in omega arith) in

@@ -16,8 +16,8 @@ use Rattle.mdcc_language.specs.declared.events.UpdateWord.TheVariants.{New, Set,
 use Rattle.mdcc_language.specs.declared.schedule.SchedFault.{SchedFault}
 use Rattle.mdcc_language.specs.declared.schedule.SchedCause.TheVariants.{Word, Number, Key, Range}
 use Rattle.mdcc_language.specs.Report.{byte_text, body_text, values_text}
-use Rattle.mdcc_language.specs.Updates.{amount_of, amounts_from, amounts_of, add_of, item_of, new_of, set_of, keep_of, is_named, update_of}
-use Rattle.mdcc_language.specs.Words.{refused, text_eq, part_at, part_end, parts_from, behind, end_at, are_plain_digits, is_negative, within, number_of, natural_of, count_of, value_of, is_key, key_of, hex_digit_of, hex_byte_by, onto_bytes, hex_bytes_of, body_by, body_of, values_from, values_of}
+use Rattle.mdcc_language.specs.Updates.{parse_amount, amounts_from, parse_amounts, parse_add, parse_item, parse_new, parse_set, parse_keep, begins_update, update_of}
+use Rattle.mdcc_language.specs.Words.{refused, text_eq, part_at, part_end, parts_from, start_after, end_at, are_plain_digits, is_negative, within, number_of, natural_of, count_of, value_of, is_key, key_of, hex_digit_of, hex_byte_by, onto_bytes, hex_bytes_of, body_by, body_of, values_from, values_of}
 use Rattle.mdcc_words.specs.Spelled.{amount_text, item_text, update_text}
 use Rattle.mdcc_words.proofs.Numerals.{model, plain_digits, plain_numeral, no_sign}
 use Rattle.mdcc_words.proofs.Seams.{bind_ok, guard_ok, part_seam, front_seam, behind_ok, end_ok}
@@ -142,10 +142,10 @@ values_spelled word column values e =
 
 -- ---- amounts
 
-amount_spelled : (word : List ℕ) (column : ℕ) (amount : ℕ × ℤ) → amount_of word column ≡ Ok amount → word ≡ amount_text amount
+amount_spelled : (word : List ℕ) (column : ℕ) (amount : ℕ × ℤ) → parse_amount word column ≡ Ok amount → word ≡ amount_text amount
 amount_spelled word column amount e =
     let attribute = bind_ok (natural_of (part_at 61 0 word) column 1 4) _ amount e in
-    let start = bind_ok (behind 61 (part_end 61 0 word) word column) _ amount attribute.2 in
+    let start = bind_ok (start_after 61 (part_end 61 0 word) word column) _ amount attribute.2 in
     let value = bind_ok (value_of (part_at 61 start.0 word) (column + start.0)) _ amount start.2 in
     let end = bind_ok (end_at (part_end 61 start.0 word) word column) _ amount value.2 in
     let made : ℕ × ℤ = (attribute.0, value.0) in
@@ -164,12 +164,12 @@ each_amount left column [] [] e = refl
 each_amount left column [] (amount ∷ amounts) e = absurd (cc)
 each_amount zero column (part ∷ parts) amounts e = absurd (cc)
 each_amount (suc left) column (part ∷ parts) amounts e =
-    let one = bind_ok (amount_of part column) _ amounts e in
+    let one = bind_ok (parse_amount part column) _ amounts e in
     let rest = bind_ok (amounts_from left (column + length part + 1) parts) _ amounts one.2 in
     let all : one.0 ∷ rest.0 ≡ amounts = cc (rest.2) in
     (λ i. amount_spelled part column one.0 one.1 i ∷ each_amount left (column + length part + 1) parts rest.0 rest.1 i) ∙ ap (map amount_text) all
 
-amounts_spelled : (word : List ℕ) (column : ℕ) (amounts : List (ℕ × ℤ)) → amounts_of word column ≡ Ok amounts → word ≡ join_with_byte 44 (map amount_text amounts)
+amounts_spelled : (word : List ℕ) (column : ℕ) (amounts : List (ℕ × ℤ)) → parse_amounts word column ≡ Ok amounts → word ≡ join_with_byte 44 (map amount_text amounts)
 amounts_spelled word column amounts e =
     sym (join_with_byte-slice_split 44 word) ∙ ap (join_with_byte 44) (each_amount 4 column (parts_from 44 0 word) amounts e)
 
@@ -255,16 +255,16 @@ key_spelled word column key e =
     let told = guard_ok (is_key word) (Ok word) column Key key e in
     cc (told.1)
 
-pub named : (name word : List ℕ) → is_named name word ≡ true → word ≡ name ++ drop (length name) word
+pub named : (name word : List ℕ) → begins_update name word ≡ true → word ≡ name ++ drop (length name) word
 named name word e =
     let same : part_at 58 0 word ≡ name = same_text (part_at 58 0 word) name (sym e) in
     front_seam 58 word ∙ ap (λ part. part ++ drop (length part) word) same
 
-item_spelled : (at : ℕ) (word : List ℕ) (column : ℕ) (item : Item) → item_of at word column ≡ Ok item → drop at word ≡ item_text item
+item_spelled : (at : ℕ) (word : List ℕ) (column : ℕ) (item : Item) → parse_item at word column ≡ Ok item → drop at word ≡ item_text item
 item_spelled at word column item e =
-    let start = bind_ok (behind 58 at word column) _ item e in
+    let start = bind_ok (start_after 58 at word column) _ item e in
     let body = bind_ok (body_of (part_at 58 start.0 word) (column + start.0)) _ item start.2 in
-    let next = bind_ok (behind 58 (part_end 58 start.0 word) word column) _ item body.2 in
+    let next = bind_ok (start_after 58 (part_end 58 start.0 word) word column) _ item body.2 in
     let values = bind_ok (values_of (part_at 58 next.0 word) (column + next.0)) _ item next.2 in
     let end = bind_ok (end_at (part_end 58 next.0 word) word column) _ item values.2 in
     let made : Item = record { body = body.0; values = values.0 } in
@@ -277,11 +277,11 @@ item_spelled at word column item e =
     ∙ ap (λ rest. body_text body.0 ++ (58 ∷ rest)) last in
     behind_ok 58 at word column start.0 start.1 ∙ ap (λ rest. 58 ∷ rest) first ∙ ap item_text same
 
-new_spelled : (word : List ℕ) (column : ℕ) (update : UpdateWord) → is_named (codes "new") word ≡ true → new_of word column ≡ Ok update → word ≡ update_text update
+new_spelled : (word : List ℕ) (column : ℕ) (update : UpdateWord) → begins_update (codes "new") word ≡ true → parse_new word column ≡ Ok update → word ≡ update_text update
 new_spelled word column update h e =
-    let start = bind_ok (behind 58 3 word column) _ update e in
+    let start = bind_ok (start_after 58 3 word column) _ update e in
     let key = bind_ok (key_of (part_at 58 start.0 word) (column + start.0)) _ update start.2 in
-    let item = bind_ok (item_of (part_end 58 start.0 word) word column) _ update key.2 in
+    let item = bind_ok (parse_item (part_end 58 start.0 word) word column) _ update key.2 in
     let same : New key.0 item.0 ≡ update = cc (item.2) in
     named (codes "new") word h
     ∙ ap (λ rest. codes "new" ++ rest) (behind_ok 58 3 word column start.0 start.1)
@@ -289,11 +289,11 @@ new_spelled word column update h e =
     ∙ (λ i. key_spelled (part_at 58 start.0 word) (column + start.0) key.0 key.1 i ++ item_spelled (part_end 58 start.0 word) word column item.0 item.1 i))
     ∙ ap update_text same
 
-set_spelled : (word : List ℕ) (column : ℕ) (update : UpdateWord) → is_named (codes "set") word ≡ true → set_of word column ≡ Ok update → word ≡ update_text update
+set_spelled : (word : List ℕ) (column : ℕ) (update : UpdateWord) → begins_update (codes "set") word ≡ true → parse_set word column ≡ Ok update → word ≡ update_text update
 set_spelled word column update h e =
-    let start = bind_ok (behind 58 3 word column) _ update e in
+    let start = bind_ok (start_after 58 3 word column) _ update e in
     let read = bind_ok (count_of (part_at 58 start.0 word) (column + start.0)) _ update start.2 in
-    let item = bind_ok (item_of (part_end 58 start.0 word) word column) _ update read.2 in
+    let item = bind_ok (parse_item (part_end 58 start.0 word) word column) _ update read.2 in
     let same : Set read.0 item.0 ≡ update = cc (item.2) in
     named (codes "set") word h
     ∙ ap (λ rest. codes "set" ++ rest) (behind_ok 58 3 word column start.0 start.1)
@@ -301,12 +301,12 @@ set_spelled word column update h e =
     ∙ (λ i. count_spelled (part_at 58 start.0 word) (column + start.0) read.0 read.1 i ++ item_spelled (part_end 58 start.0 word) word column item.0 item.1 i))
     ∙ ap update_text same
 
-add_spelled : (word : List ℕ) (column : ℕ) (update : UpdateWord) → is_named (codes "add") word ≡ true → add_of word column ≡ Ok update → word ≡ update_text update
+add_spelled : (word : List ℕ) (column : ℕ) (update : UpdateWord) → begins_update (codes "add") word ≡ true → parse_add word column ≡ Ok update → word ≡ update_text update
 add_spelled word column update h e =
-    let start = bind_ok (behind 58 3 word column) _ update e in
+    let start = bind_ok (start_after 58 3 word column) _ update e in
     let read = bind_ok (count_of (part_at 58 start.0 word) (column + start.0)) _ update start.2 in
-    let next = bind_ok (behind 58 (part_end 58 start.0 word) word column) _ update read.2 in
-    let amounts = bind_ok (amounts_of (part_at 58 next.0 word) (column + next.0)) _ update next.2 in
+    let next = bind_ok (start_after 58 (part_end 58 start.0 word) word column) _ update read.2 in
+    let amounts = bind_ok (parse_amounts (part_at 58 next.0 word) (column + next.0)) _ update next.2 in
     let end = bind_ok (end_at (part_end 58 next.0 word) word column) _ update amounts.2 in
     let same : UpdateWord.Add read.0 amounts.0 ≡ update = cc (end.2) in
     let last : drop next.0 word ≡ join_with_byte 44 (map amount_text amounts.0) =
@@ -320,9 +320,9 @@ add_spelled word column update h e =
     ∙ ap (λ rest. decimal read.0 ++ (58 ∷ rest)) last)
     ∙ ap update_text same
 
-keep_spelled : (word : List ℕ) (column : ℕ) (update : UpdateWord) → is_named (codes "keep") word ≡ true → keep_of word column ≡ Ok update → word ≡ update_text update
+keep_spelled : (word : List ℕ) (column : ℕ) (update : UpdateWord) → begins_update (codes "keep") word ≡ true → parse_keep word column ≡ Ok update → word ≡ update_text update
 keep_spelled word column update h e =
-    let start = bind_ok (behind 58 4 word column) _ update e in
+    let start = bind_ok (start_after 58 4 word column) _ update e in
     let read = bind_ok (count_of (part_at 58 start.0 word) (column + start.0)) _ update start.2 in
     let end = bind_ok (end_at (part_end 58 start.0 word) word column) _ update read.2 in
     let same : Keep read.0 ≡ update = cc (end.2) in
@@ -334,11 +334,11 @@ keep_spelled word column update h e =
     ∙ ap update_text same
 
 pub update_spelled : (word : List ℕ) (column : ℕ) (update : UpdateWord) → update_of word column ≡ Ok update → word ≡ update_text update
-update_spelled word column update e = by (is_named (codes "new") word) refl (is_named (codes "set") word) refl (is_named (codes "add") word) refl (is_named (codes "keep") word) refl e
+update_spelled word column update e = by (begins_update (codes "new") word) refl (begins_update (codes "set") word) refl (begins_update (codes "add") word) refl (begins_update (codes "keep") word) refl e
   where
-    by : (new : Bool) → is_named (codes "new") word ≡ new → (set : Bool) → is_named (codes "set") word ≡ set
-        → (add : Bool) → is_named (codes "add") word ≡ add → (keep : Bool) → is_named (codes "keep") word ≡ keep
-        → cond new (new_of word column) (cond set (set_of word column) (cond add (add_of word column) (cond keep (keep_of word column) (refused column Word)))) ≡ Ok update → word ≡ update_text update
+    by : (new : Bool) → begins_update (codes "new") word ≡ new → (set : Bool) → begins_update (codes "set") word ≡ set
+        → (add : Bool) → begins_update (codes "add") word ≡ add → (keep : Bool) → begins_update (codes "keep") word ≡ keep
+        → cond new (parse_new word column) (cond set (parse_set word column) (cond add (parse_add word column) (cond keep (parse_keep word column) (refused column Word)))) ≡ Ok update → word ≡ update_text update
     by true h set k add l keep m e = new_spelled word column update h e
     by false h true k add l keep m e = set_spelled word column update k e
     by false h false k true l keep m e = add_spelled word column update l e

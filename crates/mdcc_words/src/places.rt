@@ -1,6 +1,6 @@
 //! Places in a text, which count from 0, and columns, which count from 1.
 ghost use Rattle.std.specs.Prelude.{◌≡◌, ◌+◌, ◌<◌, ◌≤◌, ◌^◌, ◌==◌, IsTrue, IfOk, IfErr, IfSome, length, position};
-ghost use Rattle.mdcc_language.specs.Words.{text_eq, part_len, part_at, part_end, behind, end_at};
+ghost use Rattle.mdcc_language.specs.Words.{text_eq, part_len, part_at, part_end, start_after, end_at};
 
 use crate::faults::{TextFault, refused};
 use mdcc_language::SchedCause;
@@ -51,10 +51,10 @@ pub fn part_end(separator: u8, at: usize, text: &[u8]) -> usize
 }
 
 /// The place behind the separator that stands at a place of a text; the text begins at a column.
-pub fn behind(separator: u8, at: usize, text: &[u8], column: usize) -> Result<usize, TextFault>
+pub fn start_after(separator: u8, at: usize, text: &[u8], column: usize) -> Result<usize, TextFault>
     requires place { at ≤ length text.now }
     requires fits { column + length text.now < 2 ^ 64 }
-    ensures place { result ≡ behind separator at text.now column }
+    ensures place { result ≡ start_after separator at text.now column }
     ensures within { IfOk result (λ next. next ≤ length text.now) }
     ensures column { IfErr result (λ fault. fault.column ≤ column + length text.now) }
 {

@@ -1,90 +1,90 @@
 //! Update words.
 ghost use Rattle.std.specs.Prelude.{◌≡◌, ◌+◌, ◌<◌, ◌≤◌, ◌^◌, IfErr, IsTrue, length};
-ghost use Rattle.mdcc_language.specs.Updates.{add_of, item_of, new_of, set_of, keep_of, is_named, update_of};
+ghost use Rattle.mdcc_language.specs.Updates.{parse_add, parse_item, parse_new, parse_set, parse_keep, begins_update, update_of};
 ghost use Rattle.mdcc_words.specs.Columns.{with_column_within};
 
-use crate::amounts::amounts_of;
+use crate::amounts::parse_amounts;
 use crate::bodies::body_of;
 use crate::faults::{TextFault, capped, refused};
 use crate::keys::key_of;
 use crate::numbers::count_of;
-use crate::places::{behind, end_at, part_at, part_end, text_eq};
+use crate::places::{end_at, part_at, part_end, start_after, text_eq};
 use crate::values::values_of;
 use mdcc_language::{SchedCause, SchedFault, UpdateWord};
 use mdcc_option::Item;
 
 // The item whose two parts stand behind a place and end the word.
-fn item_of(at: usize, word: &[u8], column: usize) -> Result<Item, TextFault>
+fn parse_item(at: usize, word: &[u8], column: usize) -> Result<Item, TextFault>
     requires place { at ≤ length word.now }
     requires fits { column + length word.now < 2 ^ 64 }
-    ensures value { result ≡ item_of at word.now column }
+    ensures value { result ≡ parse_item at word.now column }
     ensures column { IfErr result (λ fault. fault.column ≤ column + length word.now) }
 {
-    let start = behind(b':', at, word, column)?;
+    let start = start_after(b':', at, word, column)?;
     let body = body_of(part_at(b':', start, word), column + start)?;
-    let next = behind(b':', part_end(b':', start, word), word, column)?;
+    let next = start_after(b':', part_end(b':', start, word), word, column)?;
     let values = values_of(part_at(b':', next, word), column + next)?;
     end_at(part_end(b':', next, word), word, column)?;
     Ok(Item { body, values })
 }
 
 // `new:KEY:BODY:VALUES`
-fn new_of(word: &[u8], column: usize) -> Result<UpdateWord, TextFault>
+fn parse_new(word: &[u8], column: usize) -> Result<UpdateWord, TextFault>
     requires place { 3 ≤ length word.now }
     requires fits { column + length word.now < 2 ^ 64 }
-    ensures value { result ≡ new_of word.now column }
+    ensures value { result ≡ parse_new word.now column }
     ensures column { IfErr result (λ fault. fault.column ≤ column + length word.now) }
 {
-    let start = behind(b':', 3, word, column)?;
+    let start = start_after(b':', 3, word, column)?;
     let key = key_of(part_at(b':', start, word), column + start)?;
-    let item = item_of(part_end(b':', start, word), word, column)?;
+    let item = parse_item(part_end(b':', start, word), word, column)?;
     Ok(UpdateWord::New(key, item))
 }
 
 // `set:R:BODY:VALUES`
-fn set_of(word: &[u8], column: usize) -> Result<UpdateWord, TextFault>
+fn parse_set(word: &[u8], column: usize) -> Result<UpdateWord, TextFault>
     requires place { 3 ≤ length word.now }
     requires fits { column + length word.now < 2 ^ 64 }
-    ensures value { result ≡ set_of word.now column }
+    ensures value { result ≡ parse_set word.now column }
     ensures column { IfErr result (λ fault. fault.column ≤ column + length word.now) }
 {
-    let start = behind(b':', 3, word, column)?;
+    let start = start_after(b':', 3, word, column)?;
     let read = count_of(part_at(b':', start, word), column + start)?;
-    let item = item_of(part_end(b':', start, word), word, column)?;
+    let item = parse_item(part_end(b':', start, word), word, column)?;
     Ok(UpdateWord::Set(read, item))
 }
 
 // `add:R:ATTRIBUTE=AMOUNT,..`
-fn add_of(word: &[u8], column: usize) -> Result<UpdateWord, TextFault>
+fn parse_add(word: &[u8], column: usize) -> Result<UpdateWord, TextFault>
     requires place { 3 ≤ length word.now }
     requires fits { column + length word.now < 2 ^ 64 }
-    ensures value { result ≡ add_of word.now column }
+    ensures value { result ≡ parse_add word.now column }
     ensures column { IfErr result (λ fault. fault.column ≤ column + length word.now) }
 {
-    let start = behind(b':', 3, word, column)?;
+    let start = start_after(b':', 3, word, column)?;
     let read = count_of(part_at(b':', start, word), column + start)?;
-    let next = behind(b':', part_end(b':', start, word), word, column)?;
-    let amounts = amounts_of(part_at(b':', next, word), column + next)?;
+    let next = start_after(b':', part_end(b':', start, word), word, column)?;
+    let amounts = parse_amounts(part_at(b':', next, word), column + next)?;
     end_at(part_end(b':', next, word), word, column)?;
     Ok(UpdateWord::Add(read, amounts))
 }
 
 // `keep:R`
-fn keep_of(word: &[u8], column: usize) -> Result<UpdateWord, TextFault>
+fn parse_keep(word: &[u8], column: usize) -> Result<UpdateWord, TextFault>
     requires place { 4 ≤ length word.now }
     requires fits { column + length word.now < 2 ^ 64 }
-    ensures value { result ≡ keep_of word.now column }
+    ensures value { result ≡ parse_keep word.now column }
     ensures column { IfErr result (λ fault. fault.column ≤ column + length word.now) }
 {
-    let start = behind(b':', 4, word, column)?;
+    let start = start_after(b':', 4, word, column)?;
     let read = count_of(part_at(b':', start, word), column + start)?;
     end_at(part_end(b':', start, word), word, column)?;
     Ok(UpdateWord::Keep(read))
 }
 
 // Whether the first part of a word is this one.
-fn is_named(name: &[u8], word: &[u8]) -> bool
-    ensures value { result ≡ is_named name.now word.now }
+fn begins_update(name: &[u8], word: &[u8]) -> bool
+    ensures value { result ≡ begins_update name.now word.now }
     ensures within { IsTrue result → length name.now ≤ length word.now }
 {
     text_eq(part_at(b':', 0, word), name)
@@ -96,14 +96,14 @@ pub fn update_of(word: &[u8], column: usize) -> Result<UpdateWord, TextFault>
     ensures value { result ≡ update_of word.now column }
     ensures column { IfErr result (λ fault. fault.column ≤ column + length word.now) }
 {
-    if is_named(b"new", word) {
-        new_of(word, column)
-    } else if is_named(b"set", word) {
-        set_of(word, column)
-    } else if is_named(b"add", word) {
-        add_of(word, column)
-    } else if is_named(b"keep", word) {
-        keep_of(word, column)
+    if begins_update(b"new", word) {
+        parse_new(word, column)
+    } else if begins_update(b"set", word) {
+        parse_set(word, column)
+    } else if begins_update(b"add", word) {
+        parse_add(word, column)
+    } else if begins_update(b"keep", word) {
+        parse_keep(word, column)
     } else {
         refused(column, SchedCause::Word)
     }

@@ -8,7 +8,7 @@ use Rattle.mdcc_option.specs.declared.items.Known.{Known}
 use Rattle.mdcc_option.specs.declared.items.Part.{Part}
 use Rattle.mdcc_language.specs.Resolve.{resolve}
 use Rattle.mdcc_simulation.specs.State.{World, is_up_at}
-use Rattle.mdcc_simulation.specs.Events.{event_of}
+use Rattle.mdcc_simulation.specs.Events.{after_event}
 use Rattle.mdcc_language.specs.declared.events.Event.{Event}
 use Rattle.mdcc_language.specs.declared.events.UpdateWord.{UpdateWord}
 use Rattle.mdcc_language.specs.declared.lines.Line.{Line}
@@ -17,23 +17,23 @@ use Rattle.mdcc_language.specs.declared.world.EventFault.{EventFault}
 use Rattle.mdcc_sched.specs.Free.{is_resolve_memory}
 use Rattle.mdcc_steps.specs.Inputs.{AreWellFormedParts}
 use Rattle.mdcc_world.proofs.Happened.{memory-happens}
-use Rattle.mdcc_world.specs.Stands.{Happens, IsLike}
+use Rattle.mdcc_world.specs.Represents.{Happens, IsLike}
 use Rattle.mdcc_world.specs.declared.world.World.{World as TheWorld}
 use Rattle.mdcc_worlds.proofs.Drafting.{parts-formed}
 use Rattle.mdcc_worlds.proofs.Events.{begin-is}
-use Rattle.mdcc_worlds.specs.Beginning.{begin_by, begin_told}
+use Rattle.mdcc_worlds.specs.BeginEffects.{after_begin_resolved, after_begin_words}
 use Rattle.mdcc_worlds.specs.Words.{IsGivenWord}
 
 module _ (world : TheWorld) (w : World) (a : ℕ) (words : List UpdateWord) (like : IsLike world w) (up : is_up_at w a ≡ true) where
-  told : begin_told w a words ≡ begin_by w a (resolve words (map (λ (k : Known). Some k) w.reads))
-  told = rw up refl
+  reported : after_begin_words w a words ≡ after_begin_resolved w a (resolve words (map (λ (k : Known). Some k) w.reads))
+  reported = rw up refl
 
   -- it is what its words stand for by the reads that are kept
-  pub begin-as : (r : Result (List Part) ResolveFault) → r ≡ resolve words world.reads → event_of w (Event.Begin a words) ≡ begin_by w a r
+  pub begin-as : (r : Result (List Part) ResolveFault) → r ≡ resolve words world.reads → after_event w (Event.Begin a words) ≡ after_begin_resolved w a r
   begin-as r is =
-      begin-is w a words ∙ told
-      ∙ ap (λ (reads : List (Option Known)). begin_by w a (resolve words reads)) (sym like.records.reads)
-      ∙ ap (λ (r : Result (List Part) ResolveFault). begin_by w a r) (sym is)
+      begin-is w a words ∙ reported
+      ∙ ap (λ (reads : List (Option Known)). after_begin_resolved w a (resolve words reads)) (sym like.records.reads)
+      ∙ ap (λ (r : Result (List Part) ResolveFault). after_begin_resolved w a r) (sym is)
 
 -- the parts of a transaction are well-formed
 pub formed-parts : (world : TheWorld) (w : World) (words : List UpdateWord) (resolved made : List Part) → IsLike world w → AllByRecursion IsGivenWord words
@@ -49,9 +49,9 @@ pub gives-ok : (r expected : Result (List Part) ResolveFault) (parts : List Part
 gives-ok r expected parts gives is = subst (λ (r : Result (List Part) ResolveFault). GivesUnless is_resolve_memory r expected) is gives
 
 pub unresolved-as : {T : Type 0} (r : Result T EventFault) (new : TheWorld) (before after : List Line) (w : World) (a : ℕ) (fault : ResolveFault) (resolved : Result (List Part) ResolveFault)
-    → GivesUnless is_resolve_memory (Err fault) resolved → Happens new before after r (begin_by w a (Err fault)) → Happens new before after r (begin_by w a resolved)
+    → GivesUnless is_resolve_memory (Err fault) resolved → Happens new before after r (after_begin_resolved w a (Err fault)) → Happens new before after r (after_begin_resolved w a resolved)
 unresolved-as r new before after w a (ResolveFault.NoRead number) resolved gives happens =
-    subst (λ (x : Result (List Part) ResolveFault). Happens new before after r (begin_by w a x)) gives happens
+    subst (λ (x : Result (List Part) ResolveFault). Happens new before after r (after_begin_resolved w a x)) gives happens
 unresolved-as r new before after w a (ResolveFault.NoItem key) resolved gives happens =
-    subst (λ (x : Result (List Part) ResolveFault). Happens new before after r (begin_by w a x)) gives happens
-unresolved-as r new before after w a ResolveFault.Memory resolved gives happens = memory-happens r new before after (begin_by w a resolved) happens
+    subst (λ (x : Result (List Part) ResolveFault). Happens new before after r (after_begin_resolved w a x)) gives happens
+unresolved-as r new before after w a ResolveFault.Memory resolved gives happens = memory-happens r new before after (after_begin_resolved w a resolved) happens

@@ -1,12 +1,12 @@
 -- What a begin brings.
 use Rattle.std.proofs.Common.{◌≡◌, ℕ, List, ◌++◌, refl, sym, ap, ◌∙◌, subst, Option, Some, None, Result, Ok, Err}
 use Rattle.mdcc_base.specs.declared.identifiers.TxId.{TxId}
-use Rattle.mdcc_node.specs.Stepping.{given}
+use Rattle.mdcc_node.specs.StepAnswers.{step_result}
 use Rattle.mdcc_option.specs.declared.cluster.Cluster.{Cluster}
 use Rattle.mdcc_option.specs.declared.faults.BeginFault.{BeginFault}
 use Rattle.mdcc_option.specs.declared.items.Part.{Part}
-use Rattle.mdcc_outcomes.specs.Stands.{Stands as OutcomesStand}
-use Rattle.mdcc_outcomes.specs.declared.outcomes.Outcomes.{Outcomes}
+use Rattle.mdcc_outcomes.specs.Represents.{RepresentsLedger}
+use Rattle.mdcc_outcomes.specs.declared.decisions.Decisions.{Decisions}
 use Rattle.mdcc_protocol.specs.Facts.{epoch_of}
 use Rattle.mdcc_ledger.specs.Ledger.{facts_of}
 use Rattle.mdcc_protocol.specs.Manager
@@ -15,15 +15,15 @@ use Rattle.mdcc_rules.specs.Steps.{NodeStep, step_given}
 use Rattle.mdcc_protocol.specs.Volatile.{Managing, Volatile}
 use Rattle.mdcc_simulation.specs.State.{World, centre_at, counted_event, next_message}
 use Rattle.mdcc_simulation.specs.Clients.{answer_in, begin_lines}
-use Rattle.mdcc_simulation.specs.Stepping.{step_at}
+use Rattle.mdcc_simulation.specs.AppliedSteps.{step_at}
 use Rattle.mdcc_messages.specs.declared.facts.Fact.{Fact}
 use Rattle.mdcc_rules.specs.declared.node.Answer.{Answer}
 use Rattle.mdcc_rules.specs.declared.node.Input.{Input}
 use Rattle.mdcc_rules.specs.declared.node.Step.{Step}
 use Rattle.mdcc_rules.specs.declared.node.StepFault.{StepFault}
 use Rattle.mdcc_world.proofs.Took.{ok-given}
-use Rattle.mdcc_world.specs.Stands.{entries_of}
-use Rattle.mdcc_world.specs.Telling.{begun_entries, begun_tx, lines_begun}
+use Rattle.mdcc_world.specs.Represents.{entries_of_step}
+use Rattle.mdcc_world.specs.Report.{begun_entries, begun_tx, lines_begun}
 
 -- a begin tells its entry by its answer
 entries-by : (cluster : Cluster) (me : ℕ) (facts : List Fact) (volatile : Volatile) (parts : List Part) (r : Result (TxId × Managing) BeginFault)
@@ -36,16 +36,16 @@ entries-are : (cluster : Cluster) (me : ℕ) (facts : List Fact) (volatile : Vol
 entries-are cluster me facts volatile parts = entries-by cluster me facts volatile parts (Manager.begin me (epoch_of facts) facts volatile.manager parts)
 
 -- so what is counted by the answer is what the step tells
-pub begun-counted : (outcomes : Outcomes) (w : World) (a : ℕ) (parts : List Part) (step : Step)
-    → Ok step ≡ given (step_at (counted_event w) a (Input.Begin parts))
-    → OutcomesStand outcomes w.cluster.quorums (begun_entries a parts (begun_tx step.answer) ++ w.ledger)
-    → OutcomesStand outcomes w.cluster.quorums (entries_of (step_at (counted_event w) a (Input.Begin parts)) ++ w.ledger)
-begun-counted outcomes w a parts step itself counted =
+pub begun-counted : (decisions : Decisions) (w : World) (a : ℕ) (parts : List Part) (step : Step)
+    → Ok step ≡ step_result (step_at (counted_event w) a (Input.Begin parts))
+    → RepresentsLedger decisions w.cluster.quorums (begun_entries a parts (begun_tx step.answer) ++ w.ledger)
+    → RepresentsLedger decisions w.cluster.quorums (entries_of_step (step_at (counted_event w) a (Input.Begin parts)) ++ w.ledger)
+begun-counted decisions w a parts step itself counted =
     let s = begin_step w.cluster a (facts_of w.ledger a) (centre_at w a).volatile parts in
     let same : step ≡ step_given s = cc in
     let answer : step.answer ≡ s.answer = ap (λ (x : Step). x.answer) same in
     let are = entries-are w.cluster a (facts_of w.ledger a) (centre_at w a).volatile parts in
-    rw are (subst (λ (o : Option Answer). OutcomesStand outcomes w.cluster.quorums (begun_entries a parts (begun_tx o) ++ w.ledger)) answer counted)
+    rw are (subst (λ (o : Option Answer). RepresentsLedger decisions w.cluster.quorums (begun_entries a parts (begun_tx o) ++ w.ledger)) answer counted)
 
 -- ---- the line
 
@@ -55,7 +55,7 @@ lines-are (Some (Answer.Read reading)) w next e = refl
 lines-are (Some (Answer.Begun tx)) w next e = rw e refl
 lines-are (Some (Answer.Refused key fault)) w next e = refl
 
-pub begin-line : (step : Step) (r : Result NodeStep StepFault) (w : World) (next : ℕ) → Ok step ≡ given r → next ≡ next_message w
+pub begin-line : (step : Step) (r : Result NodeStep StepFault) (w : World) (next : ℕ) → Ok step ≡ step_result r → next ≡ next_message w
     → lines_begun step.answer next ≡ begin_lines (answer_in r) w
 begin-line step r w next itself number =
     let gave = ok-given step r itself in

@@ -5,25 +5,25 @@ use Rattle.std.proofs.lemmas.List.{length-append, length-map, map-append}
 use Rattle.mdcc_base.specs.Key.{IsKey}
 use Rattle.mdcc_base.specs.declared.key.Key.{Key}
 use Rattle.mdcc_logs.specs.Nodes.{CentreStore}
-use Rattle.mdcc_node.specs.Stepping.{given}
+use Rattle.mdcc_node.specs.StepAnswers.{step_result}
 use Rattle.mdcc_node.specs.declared.node.Node.{Node}
 use Rattle.mdcc_option.specs.declared.items.Known.{Known}
-use Rattle.mdcc_outcomes.specs.Stands.{Stands as OutcomesStand}
+use Rattle.mdcc_outcomes.specs.Represents.{RepresentsLedger}
 use Rattle.mdcc_protocol.specs.Belongs.{is_centre}
 use Rattle.mdcc_ledger.specs.Ledger.{facts_of}
 use Rattle.mdcc_protocol.specs.Visible
 use Rattle.mdcc_simulation.specs.State.{World, centre_at, counted_event, is_up_at}
-use Rattle.mdcc_simulation.specs.Stepping.{input_happened, step_at}
-use Rattle.mdcc_simulation.specs.Clients.{known_of, read_happened}
+use Rattle.mdcc_simulation.specs.AppliedSteps.{input_happened, step_at}
+use Rattle.mdcc_simulation.specs.Clients.{known_of_reading, read_happened}
 use Rattle.mdcc_language.specs.declared.lines.Line.{Line}
 use Rattle.mdcc_rules.specs.declared.node.Input.{Input}
 use Rattle.mdcc_rules.specs.declared.node.Step.{Step}
 use Rattle.mdcc_rules.specs.declared.node.StepFault.{StepFault}
-use Rattle.mdcc_steps.specs.Forming.{accept_length_in}
+use Rattle.mdcc_steps.specs.NodeInvariant.{accept_length_in}
 use Rattle.mdcc_steps.specs.Inputs.{IsWellFormedInput}
-use Rattle.mdcc_world.specs.Making.{IsMade}
-use Rattle.mdcc_world.specs.Nodes.{NodesStand}
-use Rattle.mdcc_world.specs.Stands.{HasHappened, IsLike, entries_of}
+use Rattle.mdcc_world.specs.NodeRuns.{HasRun}
+use Rattle.mdcc_world.specs.Nodes.{NodesRepresent}
+use Rattle.mdcc_world.specs.Represents.{HasHappened, IsLike, entries_of_step}
 use Rattle.mdcc_world.specs.declared.world.World.{World as TheWorld}
 use Rattle.mdcc_worlds.proofs.Stays.{counted-stays, read-stays, some-centre}
 
@@ -32,25 +32,25 @@ pub up-centre : (w : World) (a : ℕ) → is_up_at w a ≡ true → is_centre w.
 up-centre w a up = (and_parts (is_centre w.cluster a) (centre_at w a).is_up up).0
 
 -- and has a node
-pub up-within : (nodes : List (Node CentreStore)) (w : World) (a : ℕ) → NodesStand nodes w → is_up_at w a ≡ true → a ≤ length nodes
+pub up-within : (nodes : List (Node CentreStore)) (w : World) (a : ℕ) → NodesRepresent nodes w → is_up_at w a ≡ true → a ≤ length nodes
 up-within nodes w a stand up =
     let few = (some-centre w.cluster a (up-centre w a up)).1 in
     let many = stand.as_many in
     omega (few, many, arith)
 
-pub counted-nodes : (nodes : List (Node CentreStore)) (w : World) → NodesStand nodes w → NodesStand nodes (counted_event w)
+pub counted-nodes : (nodes : List (Node CentreStore)) (w : World) → NodesRepresent nodes w → NodesRepresent nodes (counted_event w)
 counted-nodes nodes w standing = record { as_many = standing.as_many; each = standing.each }
 
 -- ---- reads
 
 pub has-read : (world new : TheWorld) (w : World) (a : ℕ) (key : Key) (known : Known) (before lines : List Line) → IsLike world w → is_up_at w a ≡ true → IsKey key
-    → known ≡ known_of key (Visible.read (facts_of w.ledger a) key)
-    → NodesStand new.nodes.items w
+    → known ≡ known_of_reading key (Visible.read (facts_of w.ledger a) key)
+    → NodesRepresent new.nodes.items w
     → new ≡ record world { nodes = new.nodes; reads = new.reads; events = world.events + 1 }
     → new.reads ≡ world.reads ++ Some known ∷ []
     → lines ≡ before ++ Line.Read (length new.reads) a known ∷ []
     → HasHappened new before lines (read_happened (counted_event w) a key)
-has-read world new w a key known before lines like up key_itself shown nodes rest reads told =
+has-read world new w a key known before lines like up key_itself shown nodes rest reads reported =
     let all : new.reads ≡ map (λ (k : Known). Some k) (w.reads ++ known ∷ []) =
     reads ∙ ap (λ (xs : List (Option Known)). xs ++ Some known ∷ []) like.records.reads ∙ sym (map-append (λ (k : Known). Some k) w.reads (known ∷ [])) in
     let many : length (w.reads ++ known ∷ []) ≡ length w.reads + 1 = length-append w.reads (known ∷ []) in
@@ -63,7 +63,7 @@ has-read world new w a key known before lines like up key_itself shown nodes res
         records = record {
           itself = stays;
           cluster = ap (λ (x : TheWorld). x.cluster) rest ∙ like.records.cluster;
-          mail = ap (λ (x : TheWorld). x.mail) rest ∙ like.records.mail;
+          network = ap (λ (x : TheWorld). x.network) rest ∙ like.records.network;
           bytes = ap (λ (x : TheWorld). x.bytes) rest ∙ like.records.bytes;
           reads = all ∙ ap (λ (k : Known). map (λ (k : Known). Some k) (w.reads ++ k ∷ [])) shown;
           few_reads = subst (λ (k : Known). length (w.reads ++ k ∷ []) ≤ w.events + 1) shown (omega (many, few, arith));
@@ -71,28 +71,28 @@ has-read world new w a key known before lines like up key_itself shown nodes res
           ups = rw rest like.records.ups;
           stops = rw rest like.records.stops;
         };
-        outcomes = rw rest like.outcomes;
+        decisions = rw rest like.decisions;
         nodes = record { as_many = nodes.as_many; each = nodes.each };
         logs = rw rest like.logs;
       };
-      lines = told ∙ ap (λ (n : ℕ). before ++ Line.Read n a known ∷ []) number ∙ ap (λ (k : Known). before ++ Line.Read (length w.reads + 1) a k ∷ []) shown;
+      lines = reported ∙ ap (λ (n : ℕ). before ++ Line.Read n a known ∷ []) number ∙ ap (λ (k : Known). before ++ Line.Read (length w.reads + 1) a k ∷ []) shown;
     }
 
 -- ---- inputs of one centre
 
 -- its node has taken an input, which is an event
 pub made-counted : (world new : TheWorld) (w : World) (a : ℕ) (input : Input) (made : Result Step StepFault) → IsLike world w → is_up_at w a ≡ true → IsWellFormedInput input → accept_length_in input ≤ 2097152
-    → new ≡ record world { nodes = new.nodes; outcomes = new.outcomes; events = world.events + 1 }
-    → OutcomesStand new.outcomes w.cluster.quorums (entries_of (step_at (counted_event w) a input) ++ w.ledger)
-    → made ≡ given (step_at (counted_event w) a input)
-    → NodesStand new.nodes.items (input_happened (counted_event w) a (step_at (counted_event w) a input)).world
-    → IsMade new (counted_event w) a input made
-made-counted world new w a input made like up formed short rest outcomes itself nodes = record {
+    → new ≡ record world { nodes = new.nodes; decisions = new.decisions; events = world.events + 1 }
+    → RepresentsLedger new.decisions w.cluster.quorums (entries_of_step (step_at (counted_event w) a input) ++ w.ledger)
+    → made ≡ step_result (step_at (counted_event w) a input)
+    → NodesRepresent new.nodes.items (input_happened (counted_event w) a (step_at (counted_event w) a input)).world
+    → HasRun new (counted_event w) a input made
+made-counted world new w a input made like up formed short rest decisions itself nodes = record {
   before = record {
     records = record {
       itself = counted-stays w like.records.itself;
       cluster = ap (λ (x : TheWorld). x.cluster) rest ∙ like.records.cluster;
-      mail = ap (λ (x : TheWorld). x.mail) rest ∙ like.records.mail;
+      network = ap (λ (x : TheWorld). x.network) rest ∙ like.records.network;
       bytes = ap (λ (x : TheWorld). x.bytes) rest ∙ like.records.bytes;
       reads = ap (λ (x : TheWorld). x.reads) rest ∙ like.records.reads;
       few_reads = (let few = like.records.few_reads in omega (few, arith));
@@ -104,7 +104,7 @@ made-counted world new w a input made like up formed short rest outcomes itself 
     up = up;
     well_formed = formed;
     short = short;
-    outcomes = outcomes;
+    decisions = decisions;
     logs = rw rest like.logs;
     step_itself = itself;
   };

@@ -6,7 +6,7 @@ use Rattle.std.proofs.lemmas.List.{get_or-set_other, get_or-set_same, length-set
 use Rattle.mdcc_base.specs.declared.outside.Image.{Image}
 use Rattle.mdcc_logs.specs.Nodes.{CentreStore, IsNodeOf, spare_of}
 use Rattle.mdcc_logs.proofs.Refusals.{log-payloads}
-use Rattle.mdcc_logs.specs.Stands.{LogsStand, with_fact_at, with_up}
+use Rattle.mdcc_logs.specs.Represents.{LogsRepresent, with_fact_at, with_up}
 use Rattle.mdcc_logs.specs.Starting.{cells_with_boot}
 use Rattle.mdcc_logs.specs.declared.logs.Logs.{Logs}
 use Rattle.mdcc_node.specs.declared.node.Node.{Node}
@@ -28,13 +28,13 @@ use Rattle.mdcc_world.proofs.Counted.{up-centre}
 use Rattle.mdcc_world.proofs.NodesStay.{set-get}
 use Rattle.mdcc_world.proofs.Took.{booted-counted, logs-same}
 use Rattle.mdcc_world.specs.Disks.{DisksShow}
-use Rattle.mdcc_world.specs.Nodes.{NodesStand, StopsStand, UpsStand}
-use Rattle.mdcc_world.specs.Stands.{HasHappened, Happens, IsLike}
+use Rattle.mdcc_world.specs.Nodes.{NodesRepresent, StopsRepresent, UpsRepresent}
+use Rattle.mdcc_world.specs.Represents.{HasHappened, Happens, IsLike}
 use Rattle.mdcc_world.specs.declared.world.World.{World as TheWorld}
 use Rattle.mdcc_worlds.proofs.Staying.{restarted-stays}
 use Rattle.mdcc_worlds.proofs.Stays.{counted-stays, crash-stays, each-put, site-other, site-same, some-centre, stop-stays}
-use Rattle.mdcc_worlds.specs.Happening.{next_epoch, restarted}
-use Rattle.mdcc_worlds.specs.Standing.{IsWorld}
+use Rattle.mdcc_worlds.specs.EventEffects.{restart_epoch, restarted}
+use Rattle.mdcc_worlds.specs.WorldInvariant.{IsWorld}
 
 -- ---- sites
 
@@ -52,7 +52,7 @@ module _ (w : World) (a : ℕ) (site : Site) (world : IsWorld w) (centre : is_ce
   site-elsewhere b positive other = site-other w.centres a b site some positive other
 
   -- which centres are up
-  pub ups-set : (ups : List Bool) (up : Bool) → length ups ≡ 9 → a ≤ 9 → site.is_up ≡ up → UpsStand ups w
+  pub ups-set : (ups : List Bool) (up : Bool) → length ups ≡ 9 → a ≤ 9 → site.is_up ≡ up → UpsRepresent ups w
       → (b : ℕ) → 1 ≤ b → b ≤ 9 → get_or (set ups (a - 1) up) (b - 1) false ≡ (is_centre w.cluster b && (get_or (set w.centres (a - 1) site) (b - 1) booted).is_up)
   ups-set ups up many nine is stand b positive few = elim (cases_Bool (a == b)) [
     | inl e ↦
@@ -69,7 +69,7 @@ module _ (w : World) (a : ℕ) (site : Site) (world : IsWorld w) (centre : is_ce
   ]
 
   -- where a stop is armed
-  pub stops-set : (stops : List (Option (ℕ × Image))) (stop : Option (ℕ × Image)) → a ≤ length stops → site.stop ≡ stop → StopsStand stops w
+  pub stops-set : (stops : List (Option (ℕ × Image))) (stop : Option (ℕ × Image)) → a ≤ length stops → site.stop ≡ stop → StopsRepresent stops w
       → (b : ℕ) → is_centre w.cluster b ≡ true → get_or (set stops (a - 1) stop) (b - 1) None ≡ (get_or (set w.centres (a - 1) site) (b - 1) booted).stop
   stops-set stops stop many is stand b here = elim (cases_Bool (a == b)) [
     | inl e ↦
@@ -108,8 +108,8 @@ other-place a j some other = elim (cases_Bool (a == (j + 1))) [
 
 -- ---- a crash
 
-crashed-nodes : (nodes : List (Node CentreStore)) (w : World) (a : ℕ) → IsWorld w → is_centre w.cluster a ≡ true → NodesStand nodes w
-    → NodesStand nodes (crash_happened w a).world
+crashed-nodes : (nodes : List (Node CentreStore)) (w : World) (a : ℕ) → IsWorld w → is_centre w.cluster a ≡ true → NodesRepresent nodes w
+    → NodesRepresent nodes (crash_happened w a).world
 crashed-nodes nodes w a world centre stand = record {
   as_many = stand.as_many;
   each = λ j node at up. elim (cases_Bool (a == (j + 1))) [
@@ -128,20 +128,20 @@ pub has-crashed : (world new : TheWorld) (w : World) (a : ℕ) (before lines : L
     → length world.up ≡ 9 → a ≤ 9
     → new ≡ record world { up = set world.up (a - 1) false; stops = set world.stops (a - 1) None; logs = new.logs; events = world.events + 1 }
     → length world.stops ≡ 9
-    → LogsStand new.logs w.cluster.quorums.centres (with_up (is_up_at w) a false) (facts_of w.ledger)
+    → LogsRepresent new.logs w.cluster.quorums.centres (with_up (is_up_at w) a false) (facts_of w.ledger)
     → lines ≡ before ++ Line.Crash a ∷ []
     → HasHappened new before lines (crash_happened (counted_event w) a)
-has-crashed world new w a before lines like up many nine rest armed logs told =
+has-crashed world new w a before lines like up many nine rest armed logs reported =
     let centre = up-centre w a up in
     let counted = counted-stays w like.records.itself in
     let few = like.records.few_reads in
-    let nodes : NodesStand world.nodes.items (counted_event w) = record { as_many = like.nodes.as_many; each = like.nodes.each } in
+    let nodes : NodesRepresent world.nodes.items (counted_event w) = record { as_many = like.nodes.as_many; each = like.nodes.each } in
     record {
       like = record {
         records = record {
           itself = crash-stays (counted_event w) a counted centre;
           cluster = ap (λ (x : TheWorld). x.cluster) rest ∙ like.records.cluster;
-          mail = ap (λ (x : TheWorld). x.mail) rest ∙ like.records.mail;
+          network = ap (λ (x : TheWorld). x.network) rest ∙ like.records.network;
           bytes = ap (λ (x : TheWorld). x.bytes) rest ∙ like.records.bytes;
           reads = ap (λ (x : TheWorld). x.reads) rest ∙ like.records.reads;
           few_reads = omega (few, arith);
@@ -149,18 +149,18 @@ has-crashed world new w a before lines like up many nine rest armed logs told =
           ups = rw rest (ups-set (counted_event w) a down counted centre world.up false many nine refl like.records.ups);
           stops = rw rest (stops-set (counted_event w) a down counted centre world.stops None (omega (armed, nine, arith)) refl like.records.stops);
         };
-        outcomes = rw rest like.outcomes;
+        decisions = rw rest like.decisions;
         nodes = rw rest (crashed-nodes world.nodes.items (counted_event w) a counted centre nodes);
         logs = logs-same new.logs w.cluster.quorums.centres (with_up (is_up_at w) a false) (is_up_at (crash_happened (counted_event w) a).world) (facts_of w.ledger) (facts_of w.ledger)
             (λ b some few. open-set (counted_event w) a down counted centre false refl b some) (λ b some few. refl) logs;
       };
-      lines = told;
+      lines = reported;
     }
 
 -- ---- a stop is armed
 
-armed-nodes : (nodes : List (Node CentreStore)) (w : World) (a call : ℕ) (image : Image) → IsWorld w → is_centre w.cluster a ≡ true → NodesStand nodes w
-    → NodesStand nodes (stop_happened w a call image).world
+armed-nodes : (nodes : List (Node CentreStore)) (w : World) (a call : ℕ) (image : Image) → IsWorld w → is_centre w.cluster a ≡ true → NodesRepresent nodes w
+    → NodesRepresent nodes (stop_happened w a call image).world
 armed-nodes nodes w a call image world centre stand = record {
   as_many = stand.as_many;
   each = λ j node at up.
@@ -179,17 +179,17 @@ pub has-armed : (world new : TheWorld) (w : World) (a call : ℕ) (image : Image
     → new ≡ record world { stops = set world.stops (a - 1) (Some (call, image)); events = world.events + 1 }
     → lines ≡ before ++ Line.Stop a call image ∷ []
     → HasHappened new before lines (stop_happened (counted_event w) a call image)
-has-armed world new w a call image before lines like up many nine rest told =
+has-armed world new w a call image before lines like up many nine rest reported =
     let centre = up-centre w a up in
     let counted = counted-stays w like.records.itself in
     let few = like.records.few_reads in
-    let nodes : NodesStand world.nodes.items (counted_event w) = record { as_many = like.nodes.as_many; each = like.nodes.each } in
+    let nodes : NodesRepresent world.nodes.items (counted_event w) = record { as_many = like.nodes.as_many; each = like.nodes.each } in
     record {
       like = record {
         records = record {
           itself = stop-stays (counted_event w) a call image counted centre;
           cluster = ap (λ (x : TheWorld). x.cluster) rest ∙ like.records.cluster;
-          mail = ap (λ (x : TheWorld). x.mail) rest ∙ like.records.mail;
+          network = ap (λ (x : TheWorld). x.network) rest ∙ like.records.network;
           bytes = ap (λ (x : TheWorld). x.bytes) rest ∙ like.records.bytes;
           reads = ap (λ (x : TheWorld). x.reads) rest ∙ like.records.reads;
           few_reads = omega (few, arith);
@@ -198,19 +198,19 @@ has-armed world new w a call image before lines like up many nine rest told =
           stops = rw (ap (λ (x : TheWorld). x.stops) rest)
               (stops-set (counted_event w) a (record (centre_at w a) { stop = Some (call, image) }) counted centre world.stops (Some (call, image)) (omega (many, nine, arith)) refl like.records.stops);
         };
-        outcomes = rw rest like.outcomes;
+        decisions = rw rest like.decisions;
         nodes = rw rest (armed-nodes world.nodes.items (counted_event w) a call image counted centre nodes);
         logs = rw rest (logs-same world.logs w.cluster.quorums.centres (is_up_at w) (is_up_at (stop_happened (counted_event w) a call image).world) (facts_of w.ledger) (facts_of w.ledger)
             (λ b some within. armed-up (counted_event w) a call image counted centre b some) (λ b some within. refl) like.logs);
       };
-      lines = told;
+      lines = reported;
     }
 
 -- ---- a restart
 
-restarted-nodes : (nodes : List (Node CentreStore)) (node : Node CentreStore) (w : World) (a epoch : ℕ) → IsWorld w → is_centre w.cluster a ≡ true → NodesStand nodes w
+restarted-nodes : (nodes : List (Node CentreStore)) (node : Node CentreStore) (w : World) (a epoch : ℕ) → IsWorld w → is_centre w.cluster a ≡ true → NodesRepresent nodes w
     → IsNodeOf node w.cluster a (Fact.Booted epoch ∷ facts_of w.ledger a) nothing_kept
-    → NodesStand (set nodes (a - 1) node) (restart_happened w a epoch).world
+    → NodesRepresent (set nodes (a - 1) node) (restart_happened w a epoch).world
 restarted-nodes nodes node w a epoch world centre stand is = record {
   as_many = length-set nodes (a - 1) node ∙ stand.as_many;
   each = λ j x at up. elim (set-get nodes (a - 1) j node x at) [
@@ -228,7 +228,7 @@ restarted-nodes nodes node w a epoch world centre stand is = record {
 }
 
 -- the limit of its log, where its cells suffice
-pub restart-limit : (w : World) (a : ℕ) → cells_with_boot (facts_of w.ledger a) ≤ w.cluster.cells → nat_lt most_log (log_length (Fact.Booted (next_epoch w a) ∷ facts_of w.ledger a)) ≡ true
+pub restart-limit : (w : World) (a : ℕ) → cells_with_boot (facts_of w.ledger a) ≤ w.cluster.cells → nat_lt most_log (log_length (Fact.Booted (restart_epoch w a) ∷ facts_of w.ledger a)) ≡ true
     → restarted w a ≡ Err (EventFault.Limit LimitName.Log most_log)
 restart-limit w a fits full =
     let roomy : nat_lt w.cluster.cells (cells_with_boot (facts_of w.ledger a)) ≡ false = le-ltb w.cluster.cells (cells_with_boot (facts_of w.ledger a)) fits in
@@ -241,8 +241,8 @@ restart-cells w a needed lacks is =
     let past : nat_lt w.cluster.cells (cells_with_boot (facts_of w.ledger a)) ≡ true = lt-ltb w.cluster.cells (cells_with_boot (facts_of w.ledger a)) lacks in
     rw (past, is) refl
 
-pub restart-within : (w : World) (a : ℕ) → cells_with_boot (facts_of w.ledger a) ≤ w.cluster.cells → nat_lt most_log (log_length (Fact.Booted (next_epoch w a) ∷ facts_of w.ledger a)) ≡ false
-    → restarted w a ≡ Ok (restart_happened (counted_event w) a (next_epoch w a))
+pub restart-within : (w : World) (a : ℕ) → cells_with_boot (facts_of w.ledger a) ≤ w.cluster.cells → nat_lt most_log (log_length (Fact.Booted (restart_epoch w a) ∷ facts_of w.ledger a)) ≡ false
+    → restarted w a ≡ Ok (restart_happened (counted_event w) a (restart_epoch w a))
 restart-within w a fits room =
     let roomy : nat_lt w.cluster.cells (cells_with_boot (facts_of w.ledger a)) ≡ false = le-ltb w.cluster.cells (cells_with_boot (facts_of w.ledger a)) fits in
     rw (roomy, room) refl
@@ -262,25 +262,25 @@ pub has-restarted : (world new : TheWorld) (kept : Logs) (w : World) (a epoch : 
     → new ≡ record world { nodes = new.nodes; up = set world.up (a - 1) true; stops = set world.stops (a - 1) None; logs = kept; events = world.events + 1 }
     → length world.stops ≡ 9
     → new.nodes.items ≡ set world.nodes.items (a - 1) node
-    → epoch ≡ next_epoch w a
+    → epoch ≡ restart_epoch w a
     → IsNodeOf node w.cluster a (Fact.Booted epoch ∷ facts_of w.ledger a) nothing_kept
-    → LogsStand kept w.cluster.quorums.centres (with_up (is_up_at w) a true) (with_fact_at (facts_of w.ledger) a (Fact.Booted epoch))
+    → LogsRepresent kept w.cluster.quorums.centres (with_up (is_up_at w) a true) (with_fact_at (facts_of w.ledger) a (Fact.Booted epoch))
     → nat_lt most_log (log_length (Fact.Booted epoch ∷ facts_of w.ledger a)) ≡ false
     → lines ≡ before ++ Line.Restart a epoch ∷ []
     → Happens {T = Unit {0}} new before lines (Ok tt) (restarted w a)
-has-restarted world new kept w a epoch node before lines like centre early many nine rest armed nodes same is logs room told =
+has-restarted world new kept w a epoch node before lines like centre early many nine rest armed nodes same is logs room reported =
     let counted = counted-stays w like.records.itself in
     let few = like.records.few_reads in
-    let standing : NodesStand world.nodes.items (counted_event w) = record { as_many = like.nodes.as_many; each = like.nodes.each } in
+    let standing : NodesRepresent world.nodes.items (counted_event w) = record { as_many = like.nodes.as_many; each = like.nodes.each } in
     let within : restarted w a ≡ Ok (restart_happened (counted_event w) a epoch) =
     restart-within w a (boot-fits node w.cluster a epoch (facts_of w.ledger a) is) (subst (λ (n : ℕ). nat_lt most_log (log_length (Fact.Booted n ∷ facts_of w.ledger a)) ≡ false) same room)
     ∙ ap (λ (n : ℕ). Ok (restart_happened (counted_event w) a n)) (sym same) in
     let itself : IsWorld (restart_happened (counted_event w) a epoch).world =
     restarted-stays w a (restart_happened (counted_event w) a epoch) like.records.itself centre early within in
-    let ups : UpsStand (set world.up (a - 1) true) (restart_happened (counted_event w) a epoch).world = ups-set (counted_event w) a booted counted centre world.up true many nine refl like.records.ups in
-    let stops : StopsStand (set world.stops (a - 1) None) (restart_happened (counted_event w) a epoch).world =
+    let ups : UpsRepresent (set world.up (a - 1) true) (restart_happened (counted_event w) a epoch).world = ups-set (counted_event w) a booted counted centre world.up true many nine refl like.records.ups in
+    let stops : StopsRepresent (set world.stops (a - 1) None) (restart_happened (counted_event w) a epoch).world =
     stops-set (counted_event w) a booted counted centre world.stops None (omega (armed, nine, arith)) refl like.records.stops in
-    let standing-logs : LogsStand kept w.cluster.quorums.centres (is_up_at (restart_happened (counted_event w) a epoch).world) (facts_of (Added a (Fact.Booted epoch) ∷ w.ledger)) =
+    let standing-logs : LogsRepresent kept w.cluster.quorums.centres (is_up_at (restart_happened (counted_event w) a epoch).world) (facts_of (Added a (Fact.Booted epoch) ∷ w.ledger)) =
     logs-same kept w.cluster.quorums.centres (with_up (is_up_at w) a true) (is_up_at (restart_happened (counted_event w) a epoch).world)
     (with_fact_at (facts_of w.ledger) a (Fact.Booted epoch)) (facts_of (Added a (Fact.Booted epoch) ∷ w.ledger))
     (λ b some within. open-set (counted_event w) a booted counted centre true refl b some) (λ b some within. facts-restarted w a epoch b) logs in
@@ -289,7 +289,7 @@ has-restarted world new kept w a epoch node before lines like centre early many 
         records = record {
           itself = itself;
           cluster = ap (λ (x : TheWorld). x.cluster) rest ∙ like.records.cluster;
-          mail = ap (λ (x : TheWorld). x.mail) rest ∙ like.records.mail;
+          network = ap (λ (x : TheWorld). x.network) rest ∙ like.records.network;
           bytes = ap (λ (x : TheWorld). x.bytes) rest ∙ like.records.bytes;
           reads = ap (λ (x : TheWorld). x.reads) rest ∙ like.records.reads;
           few_reads = omega (few, arith);
@@ -297,11 +297,11 @@ has-restarted world new kept w a epoch node before lines like centre early many 
           ups = rw (ap (λ (x : TheWorld). x.up) rest) ups;
           stops = rw (ap (λ (x : TheWorld). x.stops) rest) stops;
         };
-        outcomes = rw (ap (λ (x : TheWorld). x.outcomes) rest) (booted-counted world.outcomes w.cluster.quorums w.ledger a epoch like.outcomes);
+        decisions = rw (ap (λ (x : TheWorld). x.decisions) rest) (booted-counted world.decisions w.cluster.quorums w.ledger a epoch like.decisions);
         nodes = rw nodes (restarted-nodes world.nodes.items node (counted_event w) a epoch counted centre standing is);
         logs = rw (ap (λ (x : TheWorld). x.logs) rest) standing-logs;
       };
-      lines = told;
+      lines = reported;
     })
 
 -- ---- what the disks show

@@ -2,12 +2,12 @@
 use Rattle.std.proofs.Common.{◌≡◌, ℕ, zero, suc, ◌+◌, ◌-◌, ◌≤◌, Bool, true, false, List, refl, sym, ap, ◌∙◌, subst, inl, inr, Option, Some, None, Result, Ok, Err, arith, length}
 use Rattle.std.specs.Option.{option_map}
 use Rattle.std.proofs.lemmas.Bool.{cases_Bool}
-use Rattle.mdcc_mail.specs.Letters.{read}
-use Rattle.mdcc_node.specs.Stepping.{given}
+use Rattle.mdcc_mail.specs.StoredMessages.{envelope_if_read}
+use Rattle.mdcc_node.specs.StepAnswers.{step_result}
 use Rattle.mdcc_messages.specs.WellFormed.{IsWellFormedEnvelope}
 use Rattle.mdcc_messages.specs.Mailbox.{Sent, numbered, with_delivered}
 use Rattle.mdcc_simulation.specs.State.{World, is_up_at}
-use Rattle.mdcc_simulation.specs.Stepping.{input_happened, step_at}
+use Rattle.mdcc_simulation.specs.AppliedSteps.{input_happened, step_at}
 use Rattle.mdcc_messages.specs.declared.messages.Envelope.{Envelope}
 use Rattle.mdcc_rules.specs.declared.node.Input.{Input}
 use Rattle.mdcc_rules.specs.declared.node.Step.{Step}
@@ -15,16 +15,16 @@ use Rattle.mdcc_rules.specs.declared.node.StepFault.{StepFault}
 use Rattle.mdcc_language.specs.declared.world.EventFault.{EventFault}
 use Rattle.mdcc_world.proofs.Counted.{up-centre, up-within}
 use Rattle.mdcc_world.proofs.Took.{input-counted}
-use Rattle.mdcc_world.specs.Making.{IsMade, IsMessageMade}
-use Rattle.mdcc_world.specs.Nodes.{NodesStand}
-use Rattle.mdcc_world.specs.Stands.{IsLike}
+use Rattle.mdcc_world.specs.NodeRuns.{HasRun, HasRunMessage}
+use Rattle.mdcc_world.specs.Nodes.{NodesRepresent}
+use Rattle.mdcc_world.specs.Represents.{IsLike}
 use Rattle.mdcc_world.specs.declared.world.World.{World as TheWorld}
-use Rattle.mdcc_steps.specs.Forming.{accept_length}
+use Rattle.mdcc_steps.specs.NodeInvariant.{accept_length}
 use Rattle.mdcc_worlds.proofs.Numbers.{each-numbered}
 use Rattle.mdcc_worlds.proofs.Stays.{delivered-stays, some-centre}
-use Rattle.mdcc_worlds.specs.Delivering.{at_message, delivery_by, message_by, message_counted}
-use Rattle.mdcc_worlds.specs.Happening.{at_centre}
-use Rattle.mdcc_worlds.specs.Standing.{IsSent, IsWorld}
+use Rattle.mdcc_worlds.specs.DeliveryProgress.{at_message, after_sent_message, message_by, message_counted}
+use Rattle.mdcc_worlds.specs.EventEffects.{at_centre}
+use Rattle.mdcc_worlds.specs.WorldInvariant.{IsSentWithin, IsWorld}
 
 -- the message that was sent under a number, to a centre that is up
 pub record IsSentAs (w : World) (number : ℕ) (envelope : Envelope) : Type 0 where
@@ -50,13 +50,13 @@ up-addressee w number sent e clear = elim (cases_Bool (is_up_at w sent.envelope.
 ]
 
 -- what was read, where it is there
-pub read-there : (is_there : Bool) (envelope : Envelope) (o : Option Envelope) → is_there ≡ true → read is_there envelope ≡ o → Some envelope ≡ o
+pub read-there : (is_there : Bool) (envelope : Envelope) (o : Option Envelope) → is_there ≡ true → envelope_if_read is_there envelope ≡ o → Some envelope ≡ o
 read-there true envelope o some is = is
 read-there false envelope o some is = absurd (cc)
 
-pub some-sent : (w : World) (number : ℕ) (envelope : Envelope) (mail : List Sent) → mail ≡ w.sent → at_message w number ≡ Ok tt
-    → Some envelope ≡ option_map (λ (sent : Sent). sent.envelope) (numbered mail number) → IsSentAs w number envelope
-some-sent w number envelope mail are clear some = by_sent (numbered w.sent number) refl
+pub some-sent : (w : World) (number : ℕ) (envelope : Envelope) (network : List Sent) → network ≡ w.sent → at_message w number ≡ Ok tt
+    → Some envelope ≡ option_map (λ (sent : Sent). sent.envelope) (numbered network number) → IsSentAs w number envelope
+some-sent w number envelope network are clear some = by_sent (numbered w.sent number) refl
   where
     here : Some envelope ≡ option_map (λ (sent : Sent). sent.envelope) (numbered w.sent number)
     here = some ∙ ap (λ (xs : List Sent). option_map (λ (sent : Sent). sent.envelope) (numbered xs number)) are
@@ -76,10 +76,10 @@ some-sent w number envelope mail are clear some = by_sent (numbered w.sent numbe
 
 module _ (world : TheWorld) (w : World) (number : ℕ) (envelope : Envelope) (like : IsLike world w) (is : IsSentAs w number envelope) where
   pub sent-formed : IsWellFormedEnvelope envelope
-  sent-formed = subst (λ (e : Envelope). IsWellFormedEnvelope e) is.same (each-numbered (IsSent w.cluster) w.sent number is.sent like.records.itself.sent is.there).envelope_itself
+  sent-formed = subst (λ (e : Envelope). IsWellFormedEnvelope e) is.same (each-numbered (IsSentWithin w.cluster) w.sent number is.sent like.records.itself.sent is.there).envelope_itself
 
   pub sent-short : accept_length envelope.message ≤ 2097152
-  sent-short = subst (λ (e : Envelope). accept_length e.message ≤ 2097152) is.same (each-numbered (IsSent w.cluster) w.sent number is.sent like.records.itself.sent is.there).short
+  sent-short = subst (λ (e : Envelope). accept_length e.message ≤ 2097152) is.same (each-numbered (IsSentWithin w.cluster) w.sent number is.sent like.records.itself.sent is.there).short
 
   pub sent-node : envelope.to ≤ length world.nodes.items
   sent-node = up-within world.nodes.items w envelope.to like.nodes is.up
@@ -90,16 +90,16 @@ module _ (world : TheWorld) (w : World) (number : ℕ) (envelope : Envelope) (li
   pub counted-world : IsWorld (message_counted w number)
   counted-world = delivered-stays w (number - 1) (w.events + 1) (omega arith) like.records.itself
 
-  pub counted-nodes : NodesStand world.nodes.items (message_counted w number)
+  pub counted-nodes : NodesRepresent world.nodes.items (message_counted w number)
   counted-nodes = record { as_many = like.nodes.as_many; each = like.nodes.each }
 
   made-there : (new : TheWorld) (made : Result Step StepFault)
-      → new ≡ record world { nodes = new.nodes; mail = new.mail; events = world.events + 1 }
-      → new.mail ≡ with_delivered world.mail (number - 1)
-      → made ≡ given (step_at (message_counted w number) envelope.to (Input.Message envelope))
-      → NodesStand new.nodes.items (input_happened (message_counted w number) envelope.to (step_at (message_counted w number) envelope.to (Input.Message envelope))).world
-      → IsMade new (message_counted w number) envelope.to (Input.Message envelope) made
-  made-there new made rest mail itself nodes =
+      → new ≡ record world { nodes = new.nodes; network = new.network; events = world.events + 1 }
+      → new.network ≡ with_delivered world.network (number - 1)
+      → made ≡ step_result (step_at (message_counted w number) envelope.to (Input.Message envelope))
+      → NodesRepresent new.nodes.items (input_happened (message_counted w number) envelope.to (step_at (message_counted w number) envelope.to (Input.Message envelope))).world
+      → HasRun new (message_counted w number) envelope.to (Input.Message envelope) made
+  made-there new made rest network itself nodes =
       let after = message_counted w number in
       let few = like.records.few_reads in
       record {
@@ -107,7 +107,7 @@ module _ (world : TheWorld) (w : World) (number : ℕ) (envelope : Envelope) (li
           records = record {
             itself = counted-world;
             cluster = ap (λ (x : TheWorld). x.cluster) rest ∙ like.records.cluster;
-            mail = mail ∙ ap (λ (sent : List Sent). with_delivered sent (number - 1)) like.records.mail;
+            network = network ∙ ap (λ (sent : List Sent). with_delivered sent (number - 1)) like.records.network;
             bytes = ap (λ (x : TheWorld). x.bytes) rest ∙ like.records.bytes;
             reads = ap (λ (x : TheWorld). x.reads) rest ∙ like.records.reads;
             few_reads = omega (few, arith);
@@ -119,7 +119,7 @@ module _ (world : TheWorld) (w : World) (number : ℕ) (envelope : Envelope) (li
           up = is.up;
           well_formed = sent-formed;
           short = sent-short;
-          outcomes = rw rest (input-counted world.outcomes after envelope.to (Input.Message envelope) counted-world sent-formed refl like.outcomes);
+          decisions = rw rest (input-counted world.decisions after envelope.to (Input.Message envelope) counted-world sent-formed refl like.decisions);
           logs = rw rest like.logs;
           step_itself = itself;
         };
@@ -128,26 +128,26 @@ module _ (world : TheWorld) (w : World) (number : ℕ) (envelope : Envelope) (li
 
   -- the centre that the code finds is the one to which the message goes
   pub message-made : (new : TheWorld) (a : ℕ) (made : Result Step StepFault) → a ≡ envelope.to
-      → new ≡ record world { nodes = new.nodes; mail = new.mail; events = world.events + 1 }
-      → new.mail ≡ with_delivered world.mail (number - 1)
-      → made ≡ given (step_at (message_counted w number) a (Input.Message envelope))
-      → NodesStand new.nodes.items (input_happened (message_counted w number) a (step_at (message_counted w number) a (Input.Message envelope))).world
-      → IsMessageMade new w number a made
-  message-made new a made same rest mail =
+      → new ≡ record world { nodes = new.nodes; network = new.network; events = world.events + 1 }
+      → new.network ≡ with_delivered world.network (number - 1)
+      → made ≡ step_result (step_at (message_counted w number) a (Input.Message envelope))
+      → NodesRepresent new.nodes.items (input_happened (message_counted w number) a (step_at (message_counted w number) a (Input.Message envelope))).world
+      → HasRunMessage new w number a made
+  message-made new a made same rest network =
       subst (λ (x : ℕ).
-      made ≡ given (step_at (message_counted w number) x (Input.Message envelope))
-      → NodesStand new.nodes.items (input_happened (message_counted w number) x (step_at (message_counted w number) x (Input.Message envelope))).world
-      → IsMessageMade new w number x made) (sym same)
+      made ≡ step_result (step_at (message_counted w number) x (Input.Message envelope))
+      → NodesRepresent new.nodes.items (input_happened (message_counted w number) x (step_at (message_counted w number) x (Input.Message envelope))).world
+      → HasRunMessage new w number x made) (sym same)
       (λ itself nodes. record {
         envelope = envelope;
-        itself = made-there new made rest mail itself nodes;
-        comes = ap (λ (o : Option Sent). delivery_by w number o) is.there ∙ subst (λ (e : Envelope). delivery_by w number (Some is.sent) ≡ delivery_by w number (Some (record is.sent { envelope = e }))) is.same refl;
+        itself = made-there new made rest network itself nodes;
+        comes = ap (λ (o : Option Sent). after_sent_message w number o) is.there ∙ subst (λ (e : Envelope). after_sent_message w number (Some is.sent) ≡ after_sent_message w number (Some (record is.sent { envelope = e }))) is.same refl;
       })
 
 -- to whom a message goes
-pub addressee-within : (w : World) (number a : ℕ) (mail : List Sent) → IsWorld w → mail ≡ w.sent
-    → Some a ≡ option_map (λ (sent : Sent). sent.envelope.to) (numbered mail number) → (1 ≤ a) × (a ≤ 9)
-addressee-within w number a mail world are some = by_sent (numbered w.sent number) refl
+pub addressee-within : (w : World) (number a : ℕ) (network : List Sent) → IsWorld w → network ≡ w.sent
+    → Some a ≡ option_map (λ (sent : Sent). sent.envelope.to) (numbered network number) → (1 ≤ a) × (a ≤ 9)
+addressee-within w number a network world are some = by_sent (numbered w.sent number) refl
   where
     here : Some a ≡ option_map (λ (sent : Sent). sent.envelope.to) (numbered w.sent number)
     here = some ∙ ap (λ (xs : List Sent). option_map (λ (sent : Sent). sent.envelope.to) (numbered xs number)) are
@@ -158,16 +158,16 @@ addressee-within w number a mail world are some = by_sent (numbered w.sent numbe
     by_sent (Some sent) e =
         let is : Some a ≡ Some sent.envelope.to = here ∙ ap (λ (o : Option Sent). option_map (λ (sent : Sent). sent.envelope.to) o) e in
         let same : a ≡ sent.envelope.to = cc in
-        let both = some-centre w.cluster sent.envelope.to (each-numbered (IsSent w.cluster) w.sent number sent world.sent e).within in
+        let both = some-centre w.cluster sent.envelope.to (each-numbered (IsSentWithin w.cluster) w.sent number sent world.sent e).within in
         let nine = world.cluster_itself.quorums.nine_centres in
         let some = both.0 in
         let few = both.1 in
         (omega (same, some, arith), omega (same, few, nine, arith))
 
 -- why nothing is delivered to it
-pub addressee-at : (w : World) (number a : ℕ) (mail : List Sent) → mail ≡ w.sent
-    → Some a ≡ option_map (λ (sent : Sent). sent.envelope.to) (numbered mail number) → at_centre w a ≡ at_message w number
-addressee-at w number a mail are some = by_sent (numbered w.sent number) refl
+pub addressee-at : (w : World) (number a : ℕ) (network : List Sent) → network ≡ w.sent
+    → Some a ≡ option_map (λ (sent : Sent). sent.envelope.to) (numbered network number) → at_centre w a ≡ at_message w number
+addressee-at w number a network are some = by_sent (numbered w.sent number) refl
   where
     here : Some a ≡ option_map (λ (sent : Sent). sent.envelope.to) (numbered w.sent number)
     here = some ∙ ap (λ (xs : List Sent). option_map (λ (sent : Sent). sent.envelope.to) (numbered xs number)) are

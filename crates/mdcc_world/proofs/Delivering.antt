@@ -3,7 +3,7 @@ use Rattle.std.proofs.Common.{◌≡◌, ℕ, ◌+◌, ◌≤◌, ◌∷◌, [],
 use Rattle.std.specs.Bool.{OnFalse, OnTrue}
 use Rattle.mdcc_simulation.specs.State.{Happened, World, after_lines}
 use Rattle.mdcc_simulation.specs.Left.{deliveries_before}
-use Rattle.mdcc_simulation.specs.Deliveries.{deliveries_of, delivery_of}
+use Rattle.mdcc_simulation.specs.Deliveries.{after_deliveries, after_delivery}
 use Rattle.mdcc_simulation.specs.Limits.{is_limit}
 use Rattle.mdcc_language.specs.declared.events.Event.{Event}
 use Rattle.mdcc_language.specs.declared.lines.Line.{Line}
@@ -12,11 +12,11 @@ use Rattle.mdcc_world.proofs.CutShort.{deliver-cut, of-last}
 use Rattle.mdcc_world.proofs.Happened.{fault-then, happened-then, has-come}
 use Rattle.mdcc_world.proofs.Limited.{limit-with}
 use Rattle.mdcc_world.specs.CutShort.{IsCutShort}
-use Rattle.mdcc_world.specs.Faults.{OnRefusal, is_memory}
-use Rattle.mdcc_world.specs.Stands.{HasHappened, Happens, IsLike}
+use Rattle.mdcc_world.specs.Faults.{OnRefusal, is_event_out_of_memory}
+use Rattle.mdcc_world.specs.Represents.{HasHappened, Happens, IsLike}
 use Rattle.mdcc_world.specs.declared.world.World.{World as TheWorld}
 use Rattle.mdcc_worlds.proofs.Delivers.{delivering-begins, delivering-goes_on, delivering-refused}
-use Rattle.mdcc_worlds.specs.Delivering.{IsDelivering, unmoved}
+use Rattle.mdcc_worlds.specs.DeliveryProgress.{IsDelivering, unmoved}
 
 -- the world stands for what a deliver line has brought where these numbers are left
 pub record HasDelivered (world : TheWorld) (before after : List Line) (w : World) (whole left : List ℕ) : Type 0 where
@@ -25,7 +25,7 @@ pub record HasDelivered (world : TheWorld) (before after : List Line) (w : World
   pub so_far : IsDelivering w whole left reached
   pub made : List ℕ
   pub split : whole ≡ made ++ left
-  pub first : deliveries_of made (unmoved w) ≡ Ok reached
+  pub first : after_deliveries made (unmoved w) ≡ Ok reached
   pub counted : world.events ≤ w.events + length made
 
 pub delivers-begin : (world : TheWorld) (lines : List Line) (w : World) (whole : List ℕ) → IsLike world w → HasDelivered world lines lines w whole whole
@@ -45,16 +45,16 @@ both true b f p q = tt
 both false true f p q = tt
 both false false f p q = f p q
 
-pub refusal-and : (fault : EventFault) {P Q R : Type 0} → (P → Q → R) → OnRefusal {T = Unit {0}} (Err fault) P → OnFalse (is_memory fault) Q → OnRefusal {T = Unit {0}} (Err fault) R
-refusal-and fault f p q = both (is_memory fault) (is_limit fault) f p q
+pub refusal-and : (fault : EventFault) {P Q R : Type 0} → (P → Q → R) → OnRefusal {T = Unit {0}} (Err fault) P → OnFalse (is_event_out_of_memory fault) Q → OnRefusal {T = Unit {0}} (Err fault) R
+refusal-and fault f p q = both (is_event_out_of_memory fault) (is_limit fault) f p q
 
 module _ (world : TheWorld) (before lines : List Line) (w : World) (whole left : List ℕ) (has : HasDelivered world before lines w whole left) where
   pub delivers-go_on : (new : TheWorld) (after : List Line) (number : ℕ) (rest : List ℕ) → left ≡ number ∷ rest
-      → ((v : World) → IsLike world v → Happens {T = Unit {0}} new lines after (Ok tt) (delivery_of v number))
+      → ((v : World) → IsLike world v → Happens {T = Unit {0}} new lines after (Ok tt) (after_delivery v number))
       → new.events ≤ world.events + 1
       → HasDelivered new before after w whole rest
   delivers-go_on new after number rest first happens more =
-      let come = has-come {T = Unit {0}} tt new lines after (delivery_of has.reached.world number) (happens has.reached.world has.happened.like) in
+      let come = has-come {T = Unit {0}} tt new lines after (after_delivery has.reached.world number) (happens has.reached.world has.happened.like) in
       record {
         reached = after_lines has.reached.lines come.h;
         happened = happened-then world new before lines after has.reached come.h has.happened come.happened;
@@ -66,29 +66,29 @@ module _ (world : TheWorld) (before lines : List Line) (w : World) (whole left :
       }
 
   pub delivers-refused : (number : ℕ) (rest : List ℕ) (fault : EventFault) → left ≡ number ∷ rest
-      → ((v : World) → IsLike world v → OnFalse (is_memory fault) (delivery_of v number ≡ Err fault))
-      → OnFalse (is_memory fault) (deliveries_of whole (unmoved w) ≡ Err fault)
+      → ((v : World) → IsLike world v → OnFalse (is_event_out_of_memory fault) (after_delivery v number ≡ Err fault))
+      → OnFalse (is_event_out_of_memory fault) (after_deliveries whole (unmoved w) ≡ Err fault)
   delivers-refused number rest fault first closed =
-      fault-then (is_memory fault) (λ (e : delivery_of has.reached.world number ≡ Err fault).
+      fault-then (is_event_out_of_memory fault) (λ (e : after_delivery has.reached.world number ≡ Err fault).
       (delivering-refused w whole left rest number has.reached fault first has.so_far e).0)
       (closed has.reached.world has.happened.like)
 
   pub delivers-left : (new : TheWorld) (after : List Line) (number : ℕ) (rest : List ℕ) (fault : EventFault) → left ≡ number ∷ rest
-      → ((v : World) → IsLike world v → OnFalse (is_memory fault) (delivery_of v number ≡ Err fault))
+      → ((v : World) → IsLike world v → OnFalse (is_event_out_of_memory fault) (after_delivery v number ≡ Err fault))
       → OnRefusal {T = Unit {0}} (Err fault) ((new ≡ world) × (after ≡ lines))
       → OnRefusal {T = Unit {0}} (Err fault) (HasHappened new before after (deliveries_before whole (unmoved w)))
   delivers-left new after number rest fault first closed kept =
-      refusal-and fault (λ (same : (new ≡ world) × (after ≡ lines)) (e : delivery_of has.reached.world number ≡ Err fault).
+      refusal-and fault (λ (same : (new ≡ world) × (after ≡ lines)) (e : after_delivery has.reached.world number ≡ Err fault).
       let reached = (delivering-refused w whole left rest number has.reached fault first has.so_far e).1 in
       rw (same.0, same.1) (subst (λ (h : Happened). HasHappened world before lines h) (sym reached) has.happened))
       kept (closed has.reached.world has.happened.like)
 
   pub delivers-limited : (after : List Line) (number : ℕ) (rest : List ℕ) (fault : EventFault) → left ≡ number ∷ rest
-      → ((v : World) → IsLike world v → OnFalse (is_memory fault) (delivery_of v number ≡ Err fault))
+      → ((v : World) → IsLike world v → OnFalse (is_event_out_of_memory fault) (after_delivery v number ≡ Err fault))
       → after ≡ lines
       → OnTrue (is_limit fault) (after ≡ before ++ (deliveries_before whole (unmoved w)).lines)
   delivers-limited after number rest fault first closed same =
-      limit-with fault (λ (e : delivery_of has.reached.world number ≡ Err fault).
+      limit-with fault (λ (e : after_delivery has.reached.world number ≡ Err fault).
       let reached = (delivering-refused w whole left rest number has.reached fault first has.so_far e).1 in
       same ∙ has.happened.lines ∙ ap (λ (h : Happened). before ++ h.lines) (sym reached))
       (closed has.reached.world has.happened.like)

@@ -2,7 +2,7 @@
 use Rattle.std.proofs.Common.{◌≡◌, ℕ, ◌-◌, ◌≤◌, ◌&&◌, Bool, true, false, List, [], ◌∷◌, None, Option, sym, ap, ◌∙◌, inl, inr, get_or, nat_le, refl, replicate, suc, zero}
 use Rattle.std.proofs.lemmas.Bool.{and_from, cases_Bool, le-leb}
 use Rattle.mdcc_base.specs.declared.outside.Image.{Image}
-use Rattle.mdcc_logs.specs.Stands.{LogsStand}
+use Rattle.mdcc_logs.specs.Represents.{LogsRepresent}
 use Rattle.mdcc_logs.specs.declared.logs.Logs.{Logs}
 use Rattle.mdcc_option.specs.declared.cluster.Cluster.{Cluster}
 use Rattle.mdcc_protocol.specs.Belongs.{is_centre}
@@ -11,14 +11,14 @@ use Rattle.mdcc_simulation.specs.State.{Site, booted_to, centre_at, first_world,
 use Rattle.mdcc_messages.specs.declared.facts.Fact.{Fact}
 use Rattle.mdcc_worlds.proofs.Begins.{first-facts, first-site}
 use Rattle.mdcc_world.proofs.Took.{logs-same}
-use Rattle.mdcc_world.specs.Nodes.{StopsStand, UpsStand}
+use Rattle.mdcc_world.specs.Nodes.{StopsRepresent, UpsRepresent}
 
 within-is : (cluster : Cluster) (a : ℕ) → 1 ≤ a → is_centre cluster a ≡ nat_le a cluster.quorums.centres
 within-is cluster a some = ap (λ (b : Bool). b && nat_le a cluster.quorums.centres) (le-leb 1 a some)
 
 -- all its centres are up
 pub first-ups : (ups : List Bool) (cluster : Cluster) → ((a : ℕ) → 1 ≤ a → a ≤ 9 → get_or ups (a - 1) false ≡ nat_le a cluster.quorums.centres)
-    → UpsStand ups (first_world cluster)
+    → UpsRepresent ups (first_world cluster)
 first-ups ups cluster are a some few = are a some few ∙ elim (cases_Bool (is_centre cluster a)) [
   | inl e ↦
       let up : (centre_at (first_world cluster) a).is_up ≡ true = ap (λ (s : Site). s.is_up) (first-site cluster a e) in
@@ -35,12 +35,12 @@ none-armed (suc n) zero = refl
 none-armed (suc n) (suc k) = none-armed n k
 
 -- no stop is armed
-pub first-stops : (stops : List (Option (ℕ × Image))) (cluster : Cluster) → ((a : ℕ) → get_or stops (a - 1) None ≡ None) → StopsStand stops (first_world cluster)
+pub first-stops : (stops : List (Option (ℕ × Image))) (cluster : Cluster) → ((a : ℕ) → get_or stops (a - 1) None ≡ None) → StopsRepresent stops (first_world cluster)
 first-stops stops cluster none a here = none a ∙ ap (λ (s : Site). s.stop) (sym (first-site cluster a here))
 
 -- and each log has the first boot
-pub first-logs : (logs : Logs) (cluster : Cluster) → LogsStand logs cluster.quorums.centres (λ a. true) (λ a. Fact.Booted 1 ∷ [])
-    → LogsStand logs cluster.quorums.centres (is_up_at (first_world cluster)) (facts_of (first_world cluster).ledger)
+pub first-logs : (logs : Logs) (cluster : Cluster) → LogsRepresent logs cluster.quorums.centres (λ a. true) (λ a. Fact.Booted 1 ∷ [])
+    → LogsRepresent logs cluster.quorums.centres (is_up_at (first_world cluster)) (facts_of (first_world cluster).ledger)
 first-logs logs cluster stand =
     logs-same logs cluster.quorums.centres (λ a. true) (is_up_at (first_world cluster)) (λ a. Fact.Booted 1 ∷ []) (facts_of (booted_to cluster.quorums.centres))
     (λ a some within. sym (up-first cluster a (within-is cluster a some ∙ le-leb a cluster.quorums.centres within)))

@@ -4,14 +4,14 @@ use Rattle.std.specs.Bool.{OnFalse}
 use Rattle.std.specs.Prelude.{IfErr, IsErrAnd, OnOk}
 use Rattle.mdcc_simulation.specs.State.{Happened, World, after_lines, counted_event, next_message}
 use Rattle.mdcc_messages.specs.Mailbox.{Sent}
-use Rattle.mdcc_simulation.specs.Limits.{unless, with_lines}
+use Rattle.mdcc_simulation.specs.Limits.{unless_limit, with_lines}
 use Rattle.mdcc_language.specs.declared.lines.Line.{Line}
 use Rattle.mdcc_language.specs.declared.world.EventFault.{EventFault}
-use Rattle.mdcc_world.specs.Faults.{OnRefusal, is_free, is_memory}
-use Rattle.mdcc_world.specs.Stands.{HasHappened, Happens, IsLike}
+use Rattle.mdcc_world.specs.Faults.{OnRefusal, is_free, is_event_out_of_memory}
+use Rattle.mdcc_world.specs.Represents.{HasHappened, Happens, IsLike}
 use Rattle.mdcc_world.specs.declared.world.World.{World as TheWorld}
 use Rattle.mdcc_worlds.proofs.Stays.{counted-stays}
-use Rattle.mdcc_worlds.specs.Happening.{if_open}
+use Rattle.mdcc_worlds.specs.EventEffects.{if_open}
 
 pub happened-then : (first second : TheWorld) (before mid after : List Line) (h k : Happened)
     → HasHappened first before mid h → HasHappened second mid after k → HasHappened second before after (after_lines h.lines k)
@@ -48,7 +48,7 @@ memory-happens (Err (EventFault.Limit name n)) world before after expected h = a
 memory-happens (Err EventFault.Memory) world before after expected h = tt
 
 -- a fault that is want of memory says nothing
-pub memory-free : (fault : EventFault) (expected : Result Happened EventFault) → fault ≡ EventFault.Memory → OnFalse (is_memory fault) (expected ≡ Err fault)
+pub memory-free : (fault : EventFault) (expected : Result Happened EventFault) → fault ≡ EventFault.Memory → OnFalse (is_event_out_of_memory fault) (expected ≡ Err fault)
 memory-free fault expected e = rw e tt
 
 -- what comes about has happened
@@ -74,15 +74,15 @@ opened result world before after expected may r is none happens =
 
 -- and what is not is refused
 pub refused-is : (expected : Result Happened EventFault) (may : Result (Unit {0}) EventFault) (r : Result Happened EventFault) (fault : EventFault)
-    → expected ≡ if_open may r → Err fault ≡ may → OnFalse (is_memory fault) (expected ≡ Err fault)
+    → expected ≡ if_open may r → Err fault ≡ may → OnFalse (is_event_out_of_memory fault) (expected ≡ Err fault)
 refused-is expected may r fault is none =
-    any-fault (is_memory fault) (is ∙ ap (λ (o : Result (Unit {0}) EventFault). if_open o r) (sym none))
+    any-fault (is_event_out_of_memory fault) (is ∙ ap (λ (o : Result (Unit {0}) EventFault). if_open o r) (sym none))
 
 -- ---- limits
 
 -- nothing happens where a limit would be passed
 abbrev pub may_be : Option EventFault → Result (Unit {0}) EventFault
-may_be o = unless o tt
+may_be o = unless_limit o tt
 
 abbrev pub clear : Result (Unit {0}) EventFault
 clear = Ok tt
@@ -97,22 +97,22 @@ limited (Some other) fault e = let same : fault ≡ other = cc in rw same refl
 
 -- ---- lines before what happened
 
-pub told-happens : (world : TheWorld) (before after told first : List Line) (line : World → List Line) (expected : Result Happened EventFault)
-    → Happens {T = Unit {0}} world [] told (Ok tt) expected → ((w : World) → IsLike world w → first ≡ line w) → after ≡ before ++ (first ++ told)
+pub reported-happens : (world : TheWorld) (before after reported first : List Line) (line : World → List Line) (expected : Result Happened EventFault)
+    → Happens {T = Unit {0}} world [] reported (Ok tt) expected → ((w : World) → IsLike world w → first ≡ line w) → after ≡ before ++ (first ++ reported)
     → Happens {T = Unit {0}} world before after (Ok tt) (with_lines line expected)
-told-happens world before after told first line (Ok h) one is put = record {
+reported-happens world before after reported first line (Ok h) one is put = record {
   like = one.like;
-  lines = put ∙ ap (λ (xs : List Line). before ++ (xs ++ told)) (is h.world one.like) ∙ ap (λ (xs : List Line). before ++ (line h.world ++ xs)) one.lines;
+  lines = put ∙ ap (λ (xs : List Line). before ++ (xs ++ reported)) (is h.world one.like) ∙ ap (λ (xs : List Line). before ++ (line h.world ++ xs)) one.lines;
 }
-told-happens world before after told first line (Err fault) one is put = absurd one
+reported-happens world before after reported first line (Err fault) one is put = absurd one
 
-pub told-refused : (fault : EventFault) (line : World → List Line) (expected : Result Happened EventFault)
-    → OnFalse (is_memory fault) (expected ≡ Err fault) → OnFalse (is_memory fault) (with_lines line expected ≡ Err fault)
-told-refused fault line expected refused = fault-then (is_memory fault) (λ (e : expected ≡ Err fault). ap (with_lines line) e) refused
+pub reported-refused : (fault : EventFault) (line : World → List Line) (expected : Result Happened EventFault)
+    → OnFalse (is_event_out_of_memory fault) (expected ≡ Err fault) → OnFalse (is_event_out_of_memory fault) (with_lines line expected ≡ Err fault)
+reported-refused fault line expected refused = fault-then (is_event_out_of_memory fault) (λ (e : expected ≡ Err fault). ap (with_lines line) e) refused
 
 -- the number of the next message
-pub next-is : (world : TheWorld) (w : World) (next : ℕ) → IsLike world w → next ≡ length world.mail + 1 → next ≡ next_message w
-next-is world w next like number = number ∙ ap (λ (sent : List Sent). length sent + 1) like.records.mail
+pub next-is : (world : TheWorld) (w : World) (next : ℕ) → IsLike world w → next ≡ length world.network + 1 → next ≡ next_message w
+next-is world w next like number = number ∙ ap (λ (sent : List Sent). length sent + 1) like.records.network
 
 -- ---- what stays like a world
 
@@ -121,7 +121,7 @@ like-counted world w like = record {
   records = record {
     itself = counted-stays w like.records.itself;
     cluster = like.records.cluster;
-    mail = like.records.mail;
+    network = like.records.network;
     bytes = like.records.bytes;
     reads = like.records.reads;
     few_reads = (let few = like.records.few_reads in omega (few, arith));
@@ -129,17 +129,17 @@ like-counted world w like = record {
     ups = like.records.ups;
     stops = like.records.stops;
   };
-  outcomes = like.outcomes;
+  decisions = like.decisions;
   nodes = record { as_many = like.nodes.as_many; each = like.nodes.each };
   logs = like.logs;
 }
 
-pub like-mail : (world : TheWorld) (mail : List Sent) (w : World) → mail ≡ world.mail → IsLike world w → IsLike (record world { mail = mail }) w
-like-mail world mail w kept like = record {
+pub like-network : (world : TheWorld) (network : List Sent) (w : World) → network ≡ world.network → IsLike world w → IsLike (record world { network = network }) w
+like-network world network w kept like = record {
   records = record {
     itself = like.records.itself;
     cluster = like.records.cluster;
-    mail = kept ∙ like.records.mail;
+    network = kept ∙ like.records.network;
     bytes = like.records.bytes;
     reads = like.records.reads;
     few_reads = like.records.few_reads;
@@ -147,7 +147,7 @@ like-mail world mail w kept like = record {
     ups = like.records.ups;
     stops = like.records.stops;
   };
-  outcomes = like.outcomes;
+  decisions = like.decisions;
   nodes = like.nodes;
   logs = like.logs;
 }
@@ -168,8 +168,8 @@ memory-is-free (Ok x) h = tt
 memory-is-free (Err fault) h = rw h refl
 
 -- what is told, unless there was no memory
-pub told-result : (r : Result (Unit {0}) EventFault) (world : TheWorld) (before after : List Line) (expected : Result Happened EventFault) {P : Type 0}
+pub reported-result : (r : Result (Unit {0}) EventFault) (world : TheWorld) (before after : List Line) (expected : Result Happened EventFault) {P : Type 0}
     → OnOk r P → IfErr r (λ fault. fault ≡ EventFault.Memory) → (P → Happens {T = Unit {0}} world before after (Ok tt) expected)
     → Happens {T = Unit {0}} world before after r expected
-told-result (Ok x) world before after expected p memory f = f p
-told-result (Err fault) world before after expected p memory f = memory-free fault expected memory
+reported-result (Ok x) world before after expected p memory f = f p
+reported-result (Err fault) world before after expected p memory f = memory-free fault expected memory

@@ -6,9 +6,9 @@ use Rattle.mdcc_language.specs.declared.lines.Line.{Line}
 use Rattle.mdcc_language.specs.declared.world.EventFault.{EventFault}
 use Rattle.mdcc_world.proofs.Happened.{any-fault}
 use Rattle.mdcc_world.specs.Faults.{OnRefusal, is_free}
-use Rattle.mdcc_world.specs.Stands.{HasHappened, IsLike, Stands}
+use Rattle.mdcc_world.specs.Represents.{HasHappened, IsLike, RepresentsWorld}
 use Rattle.mdcc_world.specs.declared.world.World.{World as TheWorld}
-use Rattle.mdcc_worlds.specs.Delivering.{unmoved}
+use Rattle.mdcc_worlds.specs.DeliveryProgress.{unmoved}
 
 -- ---- what follows from what stands
 
@@ -50,10 +50,10 @@ pub left-few : {T : Type 0} (r : Result T EventFault) (world new : TheWorld) (be
 left-few r world new before after few kept = refusal-then r (λ (same : (new ≡ world) × (after ≡ before)). subst (λ (x : TheWorld). x.events ≤ 100000) (sym same.0) few) kept
 
 pub left-stands : {T : Type 0} (r : Result T EventFault) (new : TheWorld) (before after : List Line) (h : Happened)
-    → OnRefusal r (HasHappened new before after h) → OnRefusal r (new.events ≤ 100000) → OnRefusal r (Stands new h.world)
+    → OnRefusal r (HasHappened new before after h) → OnRefusal r (new.events ≤ 100000) → OnRefusal r (RepresentsWorld new h.world)
 left-stands r new before after h happened few = refusal-both r (stands-few new before after h) happened few
   where
-    stands-few : (new : TheWorld) (before after : List Line) (h : Happened) → HasHappened new before after h → new.events ≤ 100000 → Stands new h.world
+    stands-few : (new : TheWorld) (before after : List Line) (h : Happened) → HasHappened new before after h → new.events ≤ 100000 → RepresentsWorld new h.world
     stands-few new before after h happened few =
         let events = happened.like.records.events in
         record { like = happened.like; few = omega (events, few, arith) }

@@ -1,14 +1,14 @@
 -- The limits that a step is asked for.
 use Rattle.std.proofs.Common.{◌≡◌, ℕ, ◌≤◌, Bool, true, false, List, ◌∷◌, refl, sym, ap, ◌∙◌, subst, Option, Some, None, Result, Ok, Err, arith, length, nat_lt}
 use Rattle.std.specs.Option.{option_or}
-use Rattle.mdcc_logs.specs.Stands.{LogsStand}
+use Rattle.mdcc_logs.specs.Represents.{LogsRepresent}
 use Rattle.mdcc_protocol.specs.Belongs.{is_centre}
 use Rattle.mdcc_ledger.specs.Ledger.{facts_of}
 use Rattle.mdcc_messages.specs.Lengths.{fact_length, log_length}
 use Rattle.mdcc_messages.specs.WellFormed.{IsWellFormedEnvelope, IsWellFormedFact}
 use Rattle.mdcc_simulation.specs.State.{World, centre_at, is_up_at}
 use Rattle.mdcc_simulation.specs.Limits.{log_limit, most_log}
-use Rattle.mdcc_simulation.specs.Stepping.{step_at}
+use Rattle.mdcc_simulation.specs.AppliedSteps.{step_at}
 use Rattle.mdcc_rules.specs.Steps.{NodeStep, step_given}
 use Rattle.mdcc_messages.specs.declared.facts.Fact.{Fact}
 use Rattle.mdcc_messages.specs.declared.messages.Envelope.{Envelope}
@@ -21,8 +21,8 @@ use Rattle.mdcc_steps.proofs.Dispatched.{fact-formed, sends-formed}
 use Rattle.mdcc_steps.proofs.Shortness.{fact-short}
 use Rattle.mdcc_world.proofs.Happened.{clear, may_be}
 use Rattle.mdcc_world.proofs.Took.{ok-given}
-use Rattle.mdcc_world.specs.Letting.{IsFormed, IsFramed, MayAppend, Measures}
-use Rattle.mdcc_world.specs.Making.{IsMade}
+use Rattle.mdcc_world.specs.StepOutputs.{IsFormed, IsFramed, MayAppendFact, Measures}
+use Rattle.mdcc_world.specs.NodeRuns.{HasRun}
 use Rattle.mdcc_world.specs.declared.world.World.{World as TheWorld}
 use Rattle.mdcc_worlds.proofs.Stays.{log-few, some-centre}
 
@@ -38,7 +38,7 @@ pub log-room : (w : World) (a : ℕ) (fact : Fact) (b : Bool) → b ≡ nat_lt m
 log-room w a fact b is e = let within : nat_lt most_log (log_length (fact ∷ facts_of w.ledger a)) ≡ false = sym is ∙ e in rw within refl
 
 -- a centre has a log
-pub log-there : (world : TheWorld) (w : World) (a : ℕ) → is_centre w.cluster a ≡ true → LogsStand world.logs w.cluster.quorums.centres (is_up_at w) (facts_of w.ledger)
+pub log-there : (world : TheWorld) (w : World) (a : ℕ) → is_centre w.cluster a ≡ true → LogsRepresent world.logs w.cluster.quorums.centres (is_up_at w) (facts_of w.ledger)
     → a ≤ length world.logs.open.items
 log-there world w a centre stand =
     let few = (some-centre w.cluster a centre).1 in
@@ -47,7 +47,7 @@ log-there world w a centre stand =
 
 -- ---- what a step lets out
 
-module _ (world : TheWorld) (w : World) (a : ℕ) (input : Input) (step : Step) (made : IsMade world w a input (Ok step)) where
+module _ (world : TheWorld) (w : World) (a : ℕ) (input : Input) (step : Step) (made : HasRun world w a input (Ok step)) where
   abbrev gave : (s : NodeStep) × (step_at w a input ≡ Ok s) × (step ≡ step_given s)
   gave = ok-given step (step_at w a input) made.before.step_itself
 
@@ -80,7 +80,7 @@ module _ (world : TheWorld) (w : World) (a : ℕ) (input : Input) (step : Step) 
   pub fact-is-formed : IsFormed step.fact
   fact-is-formed = formed-by step.fact refl
 
-  pub fact-may : (fact : Fact) → step.fact ≡ Some fact → MayAppend world.logs a fact
+  pub fact-may : (fact : Fact) → step.fact ≡ Some fact → MayAppendFact world.logs a fact
   fact-may fact e = record {
     formed = step-formed fact e;
     short = step-short fact e;

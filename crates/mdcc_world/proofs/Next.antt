@@ -5,12 +5,12 @@ use Rattle.std.specs.Option.{option_map}
 use Rattle.std.proofs.lemmas.Bool.{cases_Bool, ltb-false}
 use Rattle.std.proofs.Math.Numerals.{add-one}
 use Rattle.mdcc_mail.proofs.Firsts.{numbered_at, past}
-use Rattle.mdcc_mail.specs.Waiting.{before_first, first_to, number_at, waits_among}
+use Rattle.mdcc_mail.specs.Waiting.{before_first, first_to, waiting_number_at, waits_among}
 use Rattle.mdcc_messages.specs.Mailbox.{Sent, numbered}
 use Rattle.mdcc_simulation.specs.State.{World}
 use Rattle.mdcc_simulation.specs.Deliveries.{first_waiting, is_waiting_for}
 use Rattle.mdcc_messages.specs.declared.messages.Envelope.{Envelope}
-use Rattle.mdcc_world.specs.Settling.{AreAsked}
+use Rattle.mdcc_world.specs.SettleEnd.{AreAsked}
 
 -- a message with its number
 abbrev pub with_number : ℕ → Sent → ℕ × Envelope
@@ -51,10 +51,10 @@ next_from w listed centres are number (s ∷ rest) = by_case (next_from w listed
         let waits = asked w listed centres are s ∙ e in
         rw (waits, first_waiting, e) (later ∙ one_later number s rest (before_first (waits_among centres) rest))
 
-found : (sent : List Sent) (place : ℕ) → at_place 1 sent place ≡ message_of sent (number_at place (length sent))
+found : (sent : List Sent) (place : ℕ) → at_place 1 sent place ≡ message_of sent (waiting_number_at place (length sent))
 found sent place = by_case (nat_lt place (length sent)) refl
   where
-    by_case : (b : Bool) → nat_lt place (length sent) ≡ b → at_place 1 sent place ≡ message_of sent (number_at place (length sent))
+    by_case : (b : Bool) → nat_lt place (length sent) ≡ b → at_place 1 sent place ≡ message_of sent (waiting_number_at place (length sent))
     by_case true e =
         let same : 1 + place ≡ place + 1 = omega arith in
         rw (e, numbered_at sent place) (ap (λ (n : ℕ). option_map (with_number n) (slice_get sent place)) same)

@@ -9,9 +9,9 @@ use Rattle.mdcc_base.specs.Unless.{GivesUnless}
 use Rattle.mdcc_base.specs.declared.faults.Memory.{Memory}
 use Rattle.mdcc_base.specs.declared.key.Key.{Key}
 use Rattle.mdcc_base.specs.declared.outside.Image.{Image}
-use Rattle.mdcc_node.specs.Planning.{written}
-use Rattle.mdcc_node.specs.Running.{IsRunning}
-use Rattle.mdcc_node.specs.Stepping.{UnlessMemory, facts_left, is_memory, volatile_left, with_new}
+use Rattle.mdcc_node.specs.StepPlans.{written}
+use Rattle.mdcc_node.specs.NodeHistory.{IsRunning}
+use Rattle.mdcc_node.specs.StepAnswers.{UnlessMemory, facts_left, is_step_memory, volatile_left, with_new}
 use Rattle.mdcc_node.specs.declared.node.Node.{Node}
 use Rattle.mdcc_option.specs.declared.cluster.Cluster.{Cluster}
 use Rattle.mdcc_protocol.specs.Belongs.{is_centre}
@@ -19,23 +19,23 @@ use Rattle.mdcc_protocol.specs.Volatile.{Volatile}
 use Rattle.mdcc_ledger.specs.Ledger.{facts_of}
 use Rattle.mdcc_rules.specs.Steps.{NodeStep}
 use Rattle.mdcc_simulation.specs.State.{Happened, Site, World, booted, centre_at, down, first_world, is_up_at, with_centre}
-use Rattle.mdcc_simulation.specs.Stepping.{input_happened, is_frame_kept, step_at, step_happened_by, step_stopped}
+use Rattle.mdcc_simulation.specs.AppliedSteps.{input_happened, is_frame_kept, step_at, step_happened_by, step_stopped}
 use Rattle.mdcc_messages.specs.declared.facts.Fact.{Fact}
 use Rattle.mdcc_protocol.specs.declared.visible.Reading.{Reading}
 use Rattle.mdcc_rules.specs.declared.node.Answer.{Answer}
 use Rattle.mdcc_rules.specs.declared.node.Input.{Input}
 use Rattle.mdcc_rules.specs.declared.node.Step.{Step}
 use Rattle.mdcc_rules.specs.declared.node.StepFault.{StepFault}
-use Rattle.mdcc_steps.specs.Forming.{with_new as with_new_fact}
+use Rattle.mdcc_steps.specs.NodeInvariant.{with_new as with_new_fact}
 use Rattle.mdcc_steps.specs.Inputs.{IsWellFormedInput}
 use Rattle.mdcc_worlds.proofs.Begins.{first-facts, first-site}
 use Rattle.mdcc_worlds.proofs.Stays.{by-none, by-some, each-put, facts-here, facts-there, facts-with, refused-same, site-here, site-other, site-same, site-there}
 use Rattle.mdcc_worlds.proofs.Within.{made-stays}
 use Rattle.mdcc_logs.specs.Nodes.{AreStarted, CentreStore, IsNodeOf, are_stored}
-use Rattle.mdcc_world.specs.Nodes.{NodesStand, RunsAt, is_memory_made}
-use Rattle.mdcc_worlds.specs.Sending.{StaysWithin}
-use Rattle.mdcc_worlds.specs.Standing.{IsWorld}
-use Rattle.mdcc_worlds.specs.Taking.{with_fact, world_taken}
+use Rattle.mdcc_world.specs.Nodes.{NodesRepresent, RunsAt, is_memory_run}
+use Rattle.mdcc_worlds.specs.StepSends.{StaysWithin}
+use Rattle.mdcc_worlds.specs.WorldInvariant.{IsWorld}
+use Rattle.mdcc_worlds.specs.StepEffects.{ledger_with_fact, world_after_step}
 
 -- ---- places
 
@@ -84,17 +84,17 @@ on_false false f h = f h
 
 pub unless-weaker : {T P Q : Type 0} (r : Result T StepFault) → (P → Q) → UnlessMemory r P → UnlessMemory r Q
 unless-weaker (Ok x) f h = f h
-unless-weaker (Err fault) f h = on_false (is_memory fault) f h
+unless-weaker (Err fault) f h = on_false (is_step_memory fault) f h
 
 -- ---- a step
 
 module _ (nodes : List (Node CentreStore)) (w : World) (place : ℕ) (node : Node CentreStore)
-    (standing : NodesStand nodes w) (world : IsWorld w) (within : place < length nodes) where
+    (standing : NodesRepresent nodes w) (world : IsWorld w) (within : place < length nodes) where
   pub centre-here : is_centre w.cluster (place + 1) ≡ true
   centre-here = centre-there w.cluster place (omega (within, standing.as_many, arith))
 
   refused : IsNodeOf node w.cluster (place + 1) (facts_of w.ledger (place + 1)) (centre_at w (place + 1)).volatile
-      → NodesStand (set nodes place node) w
+      → NodesRepresent (set nodes place node) w
   refused after = record {
     as_many = length-set nodes place node ∙ standing.as_many;
     each = λ j x at up. elim (set-get nodes place j node x at) [
@@ -105,7 +105,7 @@ module _ (nodes : List (Node CentreStore)) (w : World) (place : ℕ) (node : Nod
 
   made : (step : NodeStep) → StaysWithin w.cluster step
       → IsNodeOf node w.cluster (place + 1) (with_new (facts_of w.ledger (place + 1)) step.fact) step.after
-      → NodesStand (set nodes place node) (world_taken w (place + 1) step)
+      → NodesRepresent (set nodes place node) (world_after_step w (place + 1) step)
   made step stays after = record {
     as_many = length-set nodes place node ∙ standing.as_many;
     each = λ j x at up. elim (set-get nodes place j node x at) [
@@ -122,7 +122,7 @@ module _ (nodes : List (Node CentreStore)) (w : World) (place : ℕ) (node : Nod
   }
 
   -- its centre is down, and its node counts for nothing
-  gone : (o : Option Fact) → NodesStand (set nodes place node) (record (with_centre w (place + 1) down) { ledger = with_fact (place + 1) o w.ledger })
+  gone : (o : Option Fact) → NodesRepresent (set nodes place node) (record (with_centre w (place + 1) down) { ledger = ledger_with_fact (place + 1) o w.ledger })
   gone o = record {
     as_many = length-set nodes place node ∙ standing.as_many;
     each = λ j x at up. elim (set-get nodes place j node x at) [
@@ -136,12 +136,12 @@ module _ (nodes : List (Node CentreStore)) (w : World) (place : ℕ) (node : Nod
       | inr there ↦
           let other = other-next place j there.0 in
           let site = site-other w.centres (place + 1) (j + 1) down (omega arith) (omega arith) other in
-          let facts : facts_of (with_fact (place + 1) o w.ledger) (j + 1) ≡ facts_of w.ledger (j + 1) = facts-with (place + 1) (j + 1) o w.ledger ∙ rw other refl in
+          let facts : facts_of (ledger_with_fact (place + 1) o w.ledger) (j + 1) ≡ facts_of w.ledger (j + 1) = facts-with (place + 1) (j + 1) o w.ledger ∙ rw other refl in
           rw (facts, site) (standing.each j x there.1 (ap (λ (s : Site). s.is_up) (sym site) ∙ up))
     ];
   }
 
-  stopped : (fact : Fact) (stop : ℕ × Image) → NodesStand (set nodes place node) (step_stopped w (place + 1) fact stop).world
+  stopped : (fact : Fact) (stop : ℕ × Image) → NodesRepresent (set nodes place node) (step_stopped w (place + 1) fact stop).world
   stopped fact stop = elim (cases_Bool (is_frame_kept stop.0 stop.1)) [
     | inl e ↦ rw e (gone (Some fact))
     | inr e ↦ rw e (gone None)
@@ -149,23 +149,23 @@ module _ (nodes : List (Node CentreStore)) (w : World) (place : ℕ) (node : Nod
 
   pub nodes-stay : (input : Input) → IsWellFormedInput input → (r : Result NodeStep StepFault) → step_at w (place + 1) input ≡ r
       → IsNodeOf node w.cluster (place + 1) (facts_left (facts_of w.ledger (place + 1)) r) (volatile_left (centre_at w (place + 1)).volatile r)
-      → NodesStand (set nodes place node) (input_happened w (place + 1) r).world
+      → NodesRepresent (set nodes place node) (input_happened w (place + 1) r).world
   nodes-stay input formed (Err fault) e after = rw (refused-same w (place + 1) fault) (refused after)
   nodes-stay input formed (Ok step) e after =
       by_fact step
       (made step (made-stays w.cluster (place + 1) (facts_of w.ledger (place + 1)) (centre_at w (place + 1)).volatile input step world.cluster_itself.quorums formed e) after)
       step.fact refl (centre_at w (place + 1)).stop refl
     where
-      by_fact : (step : NodeStep) → NodesStand (set nodes place node) (world_taken w (place + 1) step) → (o : Option Fact) → step.fact ≡ o
-          → (stop : Option (ℕ × Image)) → (centre_at w (place + 1)).stop ≡ stop → NodesStand (set nodes place node) (step_happened_by w (place + 1) step o).world
-      by_fact step whole None e stop k = subst (λ (x : Happened). NodesStand (set nodes place node) x.world) (sym (by-none w (place + 1) step e)) whole
-      by_fact step whole (Some fact) e None k = subst (λ (x : Happened). NodesStand (set nodes place node) x.world) (sym (by-some w (place + 1) step fact e k)) whole
+      by_fact : (step : NodeStep) → NodesRepresent (set nodes place node) (world_after_step w (place + 1) step) → (o : Option Fact) → step.fact ≡ o
+          → (stop : Option (ℕ × Image)) → (centre_at w (place + 1)).stop ≡ stop → NodesRepresent (set nodes place node) (step_happened_by w (place + 1) step o).world
+      by_fact step whole None e stop k = subst (λ (x : Happened). NodesRepresent (set nodes place node) x.world) (sym (by-none w (place + 1) step e)) whole
+      by_fact step whole (Some fact) e None k = subst (λ (x : Happened). NodesRepresent (set nodes place node) x.world) (sym (by-some w (place + 1) step fact e k)) whole
       by_fact step whole (Some fact) e (Some stop) k = rw k (stopped fact stop)
 
 -- ---- the first nodes
 
 pub first-nodes : (nodes : List (Node CentreStore)) (cluster : Cluster)
-    → AreStarted nodes cluster cluster.quorums.centres → NodesStand nodes (first_world cluster)
+    → AreStarted nodes cluster cluster.quorums.centres → NodesRepresent nodes (first_world cluster)
 first-nodes nodes cluster are = record {
   as_many = are.as_many;
   each = λ place node at up.
@@ -176,17 +176,17 @@ first-nodes nodes cluster are = record {
 
 -- ---- what a node made of an input, want of memory apart
 
-pub exact : (r expected : Result Step StepFault) → GivesUnless is_memory r expected → is_memory_made r ≡ false → r ≡ expected
+pub exact : (r expected : Result Step StepFault) → GivesUnless is_step_memory r expected → is_memory_run r ≡ false → r ≡ expected
 exact (Ok step) expected gives some = gives
 exact (Err fault) expected gives some = rw some at gives
 
-pub kept : (r : Result Step StepFault) {P : Type 0} → UnlessMemory r P → is_memory_made r ≡ false → P
+pub kept : (r : Result Step StepFault) {P : Type 0} → UnlessMemory r P → is_memory_run r ≡ false → P
 kept (Ok step) h some = h
 kept (Err fault) h some = rw some at h
 
 -- ---- the node of a centre
 
-pub node-at : (nodes : List (Node CentreStore)) (w : World) (a : ℕ) (node : Node CentreStore) → NodesStand nodes w → is_up_at w a ≡ true → 1 ≤ a → a ≤ length nodes
+pub node-at : (nodes : List (Node CentreStore)) (w : World) (a : ℕ) (node : Node CentreStore) → NodesRepresent nodes w → is_up_at w a ≡ true → 1 ≤ a → a ≤ length nodes
     → node ≡ get_or nodes (a - 1) node → IsNodeOf node w.cluster a (facts_of w.ledger a) (centre_at w a).volatile
 node-at nodes w a node standing up some few is =
     let back : a - 1 + 1 ≡ a = omega (some, arith) in
@@ -195,23 +195,23 @@ node-at nodes w a node standing up some few is =
     subst (λ (b : ℕ). (centre_at w b).is_up ≡ true → IsNodeOf node w.cluster b (facts_of w.ledger b) (centre_at w b).volatile) back
     (standing.each (a - 1) node (node-there nodes (a - 1) node within is)) there
 
-pub after-step : (nodes : List (Node CentreStore)) (w : World) (a : ℕ) (node : Node CentreStore) (input : Input) → NodesStand nodes w → IsWorld w
+pub after-step : (nodes : List (Node CentreStore)) (w : World) (a : ℕ) (node : Node CentreStore) (input : Input) → NodesRepresent nodes w → IsWorld w
     → 1 ≤ a → a ≤ length nodes → IsWellFormedInput input
     → IsNodeOf node w.cluster a (facts_left (facts_of w.ledger a) (step_at w a input)) (volatile_left (centre_at w a).volatile (step_at w a input))
-    → NodesStand (set nodes (a - 1) node) (input_happened w a (step_at w a input)).world
+    → NodesRepresent (set nodes (a - 1) node) (input_happened w a (step_at w a input)).world
 after-step nodes w a node input standing world some few formed =
     let back : a - 1 + 1 ≡ a = omega (some, arith) in
     let within : a - 1 < length nodes = omega (some, few, arith) in
     subst (λ (b : ℕ).
     IsNodeOf node w.cluster b (facts_left (facts_of w.ledger b) (step_at w b input)) (volatile_left (centre_at w b).volatile (step_at w b input))
-    → NodesStand (set nodes (a - 1) node) (input_happened w b (step_at w b input)).world) back
+    → NodesRepresent (set nodes (a - 1) node) (input_happened w b (step_at w b input)).world) back
     (λ after. nodes-stay nodes w (a - 1) node standing world within input formed (step_at w (a - 1 + 1) input) refl after)
 
 -- ---- what is made of an input
 
 -- a read leaves the nodes as they were
 pub read-left : (nodes : List (Node CentreStore)) (w : World) (a : ℕ) (key : Key) → IsWorld w → is_centre w.cluster a ≡ true
-    → NodesStand nodes (input_happened w a (step_at w a (Input.Read key))).world → NodesStand nodes w
+    → NodesRepresent nodes (input_happened w a (step_at w a (Input.Read key))).world → NodesRepresent nodes w
 read-left nodes w a key world centre stand = record {
   as_many = stand.as_many;
   each = λ place node at up.
@@ -232,42 +232,42 @@ shown-as x y answer reading other same here is there =
     ap (λ (a : Answer). Some a) (sym is) ∙ sym here ∙ ap (λ (s : Step). s.answer) steps ∙ there in
     cc
 
-some-written : (r : Result (Unit {0}) StepFault) (step : Step) → is_memory_made r ≡ false → is_memory_made (written r step) ≡ false
+some-written : (r : Result (Unit {0}) StepFault) (step : Step) → is_memory_run r ≡ false → is_memory_run (written r step) ≡ false
 some-written (Ok done) step some = refl
 some-written (Err fault) step some = some
 
 pub made-is : (result : Result (Result (Unit {0}) StepFault) Memory) (r : Result (Unit {0}) StepFault) (step : Step) (expected : Result Step StepFault)
-    → IfOk result (λ made. made ≡ r) → OnOk result (is_memory_made r ≡ false) → GivesUnless is_memory (written r step) expected
+    → IfOk result (λ made. made ≡ r) → OnOk result (is_memory_run r ≡ false) → GivesUnless is_step_memory (written r step) expected
     → IfOk result (λ made. written made step ≡ expected)
 made-is (Ok x) r step expected same some gives =
     ap (λ (m : Result (Unit {0}) StepFault). written m step) same ∙ exact (written r step) expected gives (some-written r step some)
 made-is (Err fault) r step expected same some gives = tt
 
 pub made-kept : (result : Result (Result (Unit {0}) StepFault) Memory) (r : Result (Unit {0}) StepFault) (step : Step) (P : Type 0)
-    → OnOk result (is_memory_made r ≡ false) → UnlessMemory (written r step) P → OnOk result P
+    → OnOk result (is_memory_run r ≡ false) → UnlessMemory (written r step) P → OnOk result P
 made-kept (Ok x) r step P some left = kept (written r step) left (some-written r step some)
 made-kept (Err fault) r step P some left = tt
 
 -- the nodes after a step that is as the definition's
-pub stepped : (nodes : List (Node CentreStore)) (w : World) (a place : ℕ) (node : Node CentreStore) (input : Input) → NodesStand nodes w → IsWorld w
+pub stepped : (nodes : List (Node CentreStore)) (w : World) (a place : ℕ) (node : Node CentreStore) (input : Input) → NodesRepresent nodes w → IsWorld w
     → 1 ≤ a → a ≤ length nodes → place ≡ a → IsWellFormedInput input → (expected : Result NodeStep StepFault) → expected ≡ step_at w a input
     → {T : Type 0} (step : Result T StepFault)
     → UnlessMemory step (IsNodeOf node w.cluster a (facts_left (facts_of w.ledger a) expected) (volatile_left (centre_at w a).volatile expected))
-    → UnlessMemory step (NodesStand (set nodes (place - 1) node) (input_happened w a (step_at w a input)).world)
+    → UnlessMemory step (NodesRepresent (set nodes (place - 1) node) (input_happened w a (step_at w a input)).world)
 stepped nodes w a place node input standing world some few there formed expected is step left =
     unless-weaker step (λ after.
-    subst (λ (n : ℕ). NodesStand (set nodes (n - 1) node) (input_happened w a (step_at w a input)).world) (sym there)
+    subst (λ (n : ℕ). NodesRepresent (set nodes (n - 1) node) (input_happened w a (step_at w a input)).world) (sym there)
     (after-step nodes w a node input standing world some few formed
     (subst (λ (r : Result NodeStep StepFault). IsNodeOf node w.cluster a (facts_left (facts_of w.ledger a) r) (volatile_left (centre_at w a).volatile r)) is after)))
     left
 
-pub node-in : (nodes : List (Node CentreStore)) (w : World) (a place : ℕ) (node : Node CentreStore) → NodesStand nodes w → is_up_at w a ≡ true → 1 ≤ a → a ≤ length nodes → place ≡ a
+pub node-in : (nodes : List (Node CentreStore)) (w : World) (a place : ℕ) (node : Node CentreStore) → NodesRepresent nodes w → is_up_at w a ≡ true → 1 ≤ a → a ≤ length nodes → place ≡ a
     → node ≡ get_or nodes (place - 1) node → IsNodeOf node w.cluster a (facts_of w.ledger a) (centre_at w a).volatile
 node-in nodes w a place node standing up some few there is =
     node-at nodes w a node standing up some few (subst (λ (n : ℕ). node ≡ get_or nodes (n - 1) node) there is)
 
 -- as it stands in the list
-pub node-under : (nodes : List (Node CentreStore)) (w : World) (a place : ℕ) (node : Node CentreStore) → NodesStand nodes w → is_up_at w a ≡ true → 1 ≤ a → a ≤ length nodes → place ≡ a
+pub node-under : (nodes : List (Node CentreStore)) (w : World) (a place : ℕ) (node : Node CentreStore) → NodesRepresent nodes w → is_up_at w a ≡ true → 1 ≤ a → a ≤ length nodes → place ≡ a
     → node ≡ get_or nodes (place - 1) node → IsNodeOf (get_or nodes (place - 1) node) w.cluster a (facts_of w.ledger a) (centre_at w a).volatile
 node-under nodes w a place node standing up some few there is =
     subst (λ (n : Node CentreStore). IsNodeOf n w.cluster a (facts_of w.ledger a) (centre_at w a).volatile) is
@@ -286,5 +286,5 @@ runs-at nodes a place node runs some few there is = record {
 }
 
 -- a centre that is up in a world has such a node
-pub runs-in : (nodes : List (Node CentreStore)) (w : World) (a : ℕ) → IsWorld w → NodesStand nodes w → is_up_at w a ≡ true → RunsAt nodes a
+pub runs-in : (nodes : List (Node CentreStore)) (w : World) (a : ℕ) → IsWorld w → NodesRepresent nodes w → is_up_at w a ≡ true → RunsAt nodes a
 runs-in nodes w a itself standing up = record { world = w; itself = itself; standing = standing; up = up }

@@ -6,9 +6,9 @@ use Rattle.mdcc_logs.specs.Nodes.{CentreStore, IsNodeOf, are_stored, needed_in, 
 use Rattle.mdcc_messages.specs.Lengths.{cells_needed, cells_used}
 use Rattle.mdcc_messages.specs.declared.facts.Fact.{Fact}
 use Rattle.mdcc_node.proofs.Rooms.{counted_steps}
-use Rattle.mdcc_node.specs.Doing.{Spends, cells_taken}
-use Rattle.mdcc_node.specs.Stands.{Stands}
-use Rattle.mdcc_node.specs.Stepping.{UnlessMemory, facts_left, given, is_memory, room_of, step_by, volatile_left, with_new}
+use Rattle.mdcc_node.specs.MethodEffects.{Spends, cells_taken}
+use Rattle.mdcc_node.specs.Represents.{RepresentsCentre}
+use Rattle.mdcc_node.specs.StepAnswers.{UnlessMemory, facts_left, step_result, is_step_memory, room_of, step_by, volatile_left, with_new}
 use Rattle.mdcc_node.specs.declared.node.Node.{Node}
 use Rattle.mdcc_option.specs.declared.cluster.Cluster.{Cluster}
 use Rattle.mdcc_protocol.specs.Volatile.{Volatile}
@@ -37,19 +37,19 @@ module _ (node : Node CentreStore) (cluster : Cluster) (me : ℕ) (facts : List 
         sum left needed spare used all e f = omega (e, f, arith)
 
     -- and it is over such a store afterwards
-    pub node-left : (r : Result Step StepFault) (expected : Result NodeStep StepFault) → GivesUnless is_memory r (given expected)
+    pub node-left : (r : Result Step StepFault) (expected : Result NodeStep StepFault) → GivesUnless is_step_memory r (step_result expected)
         → Spends spare_of needed_in node.store r after.store
-        → UnlessMemory r (Stands are_stored after cluster me (facts_left facts expected) (volatile_left volatile expected))
+        → UnlessMemory r (RepresentsCentre are_stored after cluster me (facts_left facts expected) (volatile_left volatile expected))
         → UnlessMemory r (IsNodeOf after cluster me (facts_left facts expected) (volatile_left volatile expected))
     node-left (Ok step) (Ok planned) gives spends left =
         let same : step ≡ step_given planned = cc in
         record { itself = left; spare = spent planned.fact (subst (λ (s : Step). spare_of after.store + cells_taken (needed_in node.store) s.fact ≡ spare_of node.store) same spends) }
     node-left (Ok step) (Err fault) gives spends left = absurd (cc)
-    node-left (Err fault) (Ok planned) gives spends left = elim (cases_Bool (is_memory fault)) [
+    node-left (Err fault) (Ok planned) gives spends left = elim (cases_Bool (is_step_memory fault)) [
       | inl free ↦ rw free tt
       | inr not ↦ absurd (let bad : Err fault ≡ Ok (step_given planned) = rw not at gives in cc)
     ]
-    node-left (Err fault) (Err other) gives spends left = elim (cases_Bool (is_memory fault)) [
+    node-left (Err fault) (Err other) gives spends left = elim (cases_Bool (is_step_memory fault)) [
       | inl free ↦ rw free tt
       | inr not ↦ rw not (record { itself = rw not at left; spare = spent None (let same = spends in omega (same, arith)) })
     ]

@@ -8,8 +8,8 @@ use Rattle.std.proofs.lemmas.Bool.{and_parts, cases_Bool, leb-true, ltb-true}
 use Rattle.mdcc_mail.specs.Waiting.{before_first, first_to, waits_among}
 use Rattle.mdcc_messages.specs.Mailbox.{Sent, numbered}
 use Rattle.mdcc_simulation.specs.State.{Happened, World, after_lines, is_up_at, next_message}
-use Rattle.mdcc_simulation.specs.Events.{event_of}
-use Rattle.mdcc_simulation.specs.Deliveries.{delivered, first_waiting}
+use Rattle.mdcc_simulation.specs.Events.{after_event}
+use Rattle.mdcc_simulation.specs.Deliveries.{after_message, first_waiting}
 use Rattle.mdcc_simulation.specs.Left.{left_of, settled_before}
 use Rattle.mdcc_simulation.specs.Limits.{is_limit, most_events}
 use Rattle.mdcc_language.specs.declared.events.Event.{Event}
@@ -21,18 +21,18 @@ use Rattle.mdcc_world.proofs.CutShort.{BeginsWith, before-last, before-next, set
 use Rattle.mdcc_world.proofs.Happened.{fault-then, happened-then, has-come}
 use Rattle.mdcc_world.proofs.Limited.{limit-with}
 use Rattle.mdcc_world.proofs.Next.{message_of, next-is, with_number}
-use Rattle.mdcc_world.specs.Faults.{is_memory}
+use Rattle.mdcc_world.specs.Faults.{is_event_out_of_memory}
 use Rattle.mdcc_world.specs.CutShort.{IsCutShort, lines_by}
-use Rattle.mdcc_world.specs.Limited.{lines_told}
-use Rattle.mdcc_world.specs.Settling.{AreAsked, EndsAfter, HasSettled, IsNext, is_named}
-use Rattle.mdcc_world.specs.Stands.{HasHappened, Happens, IsLike}
+use Rattle.mdcc_world.specs.Limited.{lines_reported}
+use Rattle.mdcc_world.specs.SettleEnd.{AreAsked, EndsAfter, HasSettled, IsNext, is_listed_centre}
+use Rattle.mdcc_world.specs.Represents.{HasHappened, Happens, IsLike}
 use Rattle.mdcc_world.specs.declared.world.World.{World as TheWorld}
 use Rattle.mdcc_worlds.proofs.Events.{delivered-is}
 use Rattle.mdcc_worlds.proofs.Numbers.{waiting-numbered}
 use Rattle.mdcc_worlds.proofs.Settles.{settle-closed, settling-begins, settling-breaks, settling-ends, settling-goes_on, settling-stops, waiting-events}
-use Rattle.mdcc_worlds.specs.Delivering.{at_message, delivery, message_by}
-use Rattle.mdcc_worlds.specs.Happening.{at_limit}
-use Rattle.mdcc_worlds.specs.Settling.{settle_told}
+use Rattle.mdcc_worlds.specs.DeliveryProgress.{at_message, after_numbered_message, message_by}
+use Rattle.mdcc_worlds.specs.EventEffects.{at_limit}
+use Rattle.mdcc_worlds.specs.SettleProgress.{settle_reported}
 
 -- ---- the message that waits first
 
@@ -115,44 +115,44 @@ clear-next w listed centres None are first few = tt
 clear-next w listed centres (Some number) are first few =
     let there = first-there centres w.sent number first in
     let to = there.message.envelope.to in
-    let up = and_parts (is_up_at w to) (is_named listed to) (sym (are to) ∙ there.among) in
+    let up = and_parts (is_up_at w to) (is_listed_centre listed to) (sym (are to) ∙ there.among) in
     let clear : message_by w number (Some there.message) ≡ Ok tt = rw up.0 (open-limit w few) in
     ap (λ (o : Option Sent). message_by w number o) there.there ∙ clear
 
 -- ---- the deliveries before one that is refused
 
 -- what comes of the message that waits first is what comes of its number
-waiting-is : (w : World) (listed : List ℕ) (next : ℕ × Envelope) → first_waiting w listed 1 w.sent ≡ Some next → delivered w next.0 next.1 ≡ delivery w next.0
+waiting-is : (w : World) (listed : List ℕ) (next : ℕ × Envelope) → first_waiting w listed 1 w.sent ≡ Some next → after_message w next.0 next.1 ≡ after_numbered_message w next.0
 waiting-is w listed next e =
     let is = waiting-numbered w listed w.sent next e in
-    ap (λ (envelope : Envelope). delivered w next.0 envelope) (sym is.envelope) ∙ delivered-is w next.0 is.sent is.there
+    ap (λ (envelope : Envelope). after_message w next.0 envelope) (sym is.envelope) ∙ delivered-is w next.0 is.sent is.there
 
 before-by : (left : ℕ) (listed : List ℕ) (h after : Happened) (next : ℕ × Envelope) → first_waiting h.world listed 1 h.world.sent ≡ Some next
-    → delivered h.world next.0 next.1 ≡ Ok after → settled_before (suc left) listed h ≡ settled_before left listed (after_lines h.lines after)
+    → after_message h.world next.0 next.1 ≡ Ok after → settled_before (suc left) listed h ≡ settled_before left listed (after_lines h.lines after)
 before-by left listed h after next e f = rw (e, f, settled_before) refl
 
 before-refused : (left : ℕ) (listed : List ℕ) (h : Happened) (next : ℕ × Envelope) (fault : EventFault) → first_waiting h.world listed 1 h.world.sent ≡ Some next
-    → delivered h.world next.0 next.1 ≡ Err fault → settled_before (suc left) listed h ≡ h
+    → after_message h.world next.0 next.1 ≡ Err fault → settled_before (suc left) listed h ≡ h
 before-refused left listed h next fault e f = rw (e, f, settled_before) refl
 
 -- ---- the settle
 
 module _ (world : TheWorld) (before lines : List Line) (w : World) (listed : List ℕ) (deliveries : ℕ) (has : HasSettled world before lines w listed deliveries) where
   pub settle-goes_on : (new : TheWorld) (after : List Line) (number : ℕ) → IsNext has.reached.world listed (Some number) → world.events < 100000
-      → Happens {T = Unit {0}} new lines after (Ok tt) (delivery has.reached.world number)
+      → Happens {T = Unit {0}} new lines after (Ok tt) (after_numbered_message has.reached.world number)
       → HasSettled new before after w listed (deliveries + 1)
   settle-goes_on new after number next few happens =
       let waits = some-waits has.reached.world listed number next in
-      let come = has-come {T = Unit {0}} tt new lines after (delivery has.reached.world number) happens in
+      let come = has-come {T = Unit {0}} tt new lines after (after_numbered_message has.reached.world number) happens in
       let events = has.happened.like.records.events in
-      let is : delivery has.reached.world waits.next.0 ≡ Ok come.h = ap (λ (n : ℕ). delivery has.reached.world n) waits.numbers ∙ come.is in
+      let is : after_numbered_message has.reached.world waits.next.0 ≡ Ok come.h = ap (λ (n : ℕ). after_numbered_message has.reached.world n) waits.numbers ∙ come.is in
       record {
         reached = after_lines has.reached.lines come.h;
         happened = happened-then world new before lines after has.reached come.h has.happened come.happened;
         first =
             let more : deliveries + 1 ≡ suc deliveries = omega arith in
-            ap (λ (n : ℕ). settled_before n listed (settle_told w listed)) more
-            ∙ before-last deliveries listed (settle_told w listed)
+            ap (λ (n : ℕ). settled_before n listed (settle_reported w listed)) more
+            ∙ before-last deliveries listed (settle_reported w listed)
             ∙ ap (λ (h : Happened). settled_before 1 listed h) has.first
             ∙ before-next listed has.reached come.h waits.next waits.waits (waiting-is has.reached.world listed waits.next waits.waits ∙ is);
         so_far = settling-goes_on w listed has.reached come.h deliveries waits.next has.so_far waits.waits (omega (events, few, arith)) is;
@@ -165,26 +165,26 @@ module _ (world : TheWorld) (before lines : List Line) (w : World) (listed : Lis
       }
 
   pub settle-breaks : (number : ℕ) (fault : EventFault) → IsNext has.reached.world listed (Some number) → world.events < 100000 → w.events < 100000
-      → OnFalse (is_memory fault) (delivery has.reached.world number ≡ Err fault)
-      → OnFalse (is_memory fault) (event_of w (Event.Settle listed) ≡ Err fault)
+      → OnFalse (is_event_out_of_memory fault) (after_numbered_message has.reached.world number ≡ Err fault)
+      → OnFalse (is_event_out_of_memory fault) (after_event w (Event.Settle listed) ≡ Err fault)
   settle-breaks number fault next few begun refused =
       let waits = some-waits has.reached.world listed number next in
       let events = has.happened.like.records.events in
-      fault-then (is_memory fault) (λ (e : delivery has.reached.world number ≡ Err fault).
+      fault-then (is_event_out_of_memory fault) (λ (e : after_numbered_message has.reached.world number ≡ Err fault).
       settling-breaks w listed has.reached deliveries waits.next fault has.so_far waits.waits (omega (events, few, arith)) begun
-      (ap (λ (n : ℕ). delivery has.reached.world n) waits.numbers ∙ e)) refused
+      (ap (λ (n : ℕ). after_numbered_message has.reached.world n) waits.numbers ∙ e)) refused
 
   -- the lines where the next delivery would pass a limit
   pub settle-limited : (after : List Line) (number : ℕ) (fault : EventFault) → IsNext has.reached.world listed (Some number) → world.events < 100000
-      → OnFalse (is_memory fault) (delivery has.reached.world number ≡ Err fault) → after ≡ lines
+      → OnFalse (is_event_out_of_memory fault) (after_numbered_message has.reached.world number ≡ Err fault) → after ≡ lines
       → OnTrue (is_limit fault) (after ≡ before ++ (left_of w (Event.Settle listed)).lines)
   settle-limited after number fault next few refused same =
       let waits = some-waits has.reached.world listed number next in
       let events = has.happened.like.records.events in
       let left = most_events - (has.reached.world.events + 1) in
       let more : most_events - has.reached.world.events ≡ suc left = omega (events, few, arith) in
-      limit-with fault (λ (e : delivery has.reached.world number ≡ Err fault).
-      let is : delivery has.reached.world waits.next.0 ≡ Err fault = ap (λ (n : ℕ). delivery has.reached.world n) waits.numbers ∙ e in
+      limit-with fault (λ (e : after_numbered_message has.reached.world number ≡ Err fault).
+      let is : after_numbered_message has.reached.world waits.next.0 ≡ Err fault = ap (λ (n : ℕ). after_numbered_message has.reached.world n) waits.numbers ∙ e in
       let reached = has.earlier
       ∙ ap (λ (n : ℕ). settled_before n listed has.reached) more
       ∙ before-refused left listed has.reached waits.next fault waits.waits (waiting-is has.reached.world listed waits.next waits.waits ∙ is) in
@@ -217,17 +217,17 @@ module _ (world : TheWorld) (before lines : List Line) (w : World) (listed : Lis
   }
 
   pub settle-stops : (number : ℕ) → IsNext has.reached.world listed (Some number) → 100000 ≤ world.events
-      → event_of w (Event.Settle listed) ≡ Err (EventFault.Limit LimitName.Events most_events)
+      → after_event w (Event.Settle listed) ≡ Err (EventFault.Limit LimitName.Events most_events)
   settle-stops number next full =
       let waits = some-waits has.reached.world listed number next in
       let events = has.happened.like.records.events in
       settling-stops w listed has.reached deliveries waits.next has.so_far waits.waits (omega (events, full, arith))
 
 -- a settle begins with no delivery
-pub settle-begins : (world : TheWorld) (before lines : List Line) (w : World) (listed : List ℕ) → HasHappened world before lines (settle_told w listed)
+pub settle-begins : (world : TheWorld) (before lines : List Line) (w : World) (listed : List ℕ) → HasHappened world before lines (settle_reported w listed)
     → HasSettled world before lines w listed 0
 settle-begins world before lines w listed happened = record {
-  reached = settle_told w listed;
+  reached = settle_reported w listed;
   happened = happened;
   so_far = settling-begins w listed;
   first = refl;
@@ -235,20 +235,20 @@ settle-begins world before lines w listed happened = record {
 }
 
 -- the line of the end
-pub settle-told : (world : TheWorld) (before lines after : List Line) (w : World) (listed : List ℕ) (deliveries next : ℕ) → EndsAfter world before lines w listed deliveries
-    → next ≡ length world.mail + 1 → after ≡ lines ++ Line.Settled deliveries next ∷ []
-    → Happens {T = Unit {0}} world before after (Ok tt) (event_of w (Event.Settle listed))
-settle-told world before lines after w listed deliveries next ends number told =
-    let same : next ≡ next_message ends.reached.world = number ∙ ap (λ (sent : List Sent). length sent + 1) ends.happened.like.records.mail in
+pub settle-reported : (world : TheWorld) (before lines after : List Line) (w : World) (listed : List ℕ) (deliveries next : ℕ) → EndsAfter world before lines w listed deliveries
+    → next ≡ length world.network + 1 → after ≡ lines ++ Line.Settled deliveries next ∷ []
+    → Happens {T = Unit {0}} world before after (Ok tt) (after_event w (Event.Settle listed))
+settle-reported world before lines after w listed deliveries next ends number reported =
+    let same : next ≡ next_message ends.reached.world = number ∙ ap (λ (sent : List Sent). length sent + 1) ends.happened.like.records.network in
     rw ends.answer (record {
       like = ends.happened.like;
-      lines = told ∙ ap (λ (n : ℕ). lines ++ Line.Settled deliveries n ∷ []) same
+      lines = reported ∙ ap (λ (n : ℕ). lines ++ Line.Settled deliveries n ∷ []) same
           ∙ ap (λ (ls : List Line). ls ++ Line.Settled deliveries (next_message ends.reached.world) ∷ []) ends.happened.lines
           ∙ append_assoc before ends.reached.lines (Line.Settled deliveries (next_message ends.reached.world) ∷ []);
     })
 
 -- where there were as many events as there may be before the line
-pub settle-at_limit : (w : World) (listed : List ℕ) (fault : EventFault) → Err fault ≡ at_limit w → event_of w (Event.Settle listed) ≡ Err fault
+pub settle-at_limit : (w : World) (listed : List ℕ) (fault : EventFault) → Err fault ≡ at_limit w → after_event w (Event.Settle listed) ≡ Err fault
 settle-at_limit w listed fault closed = elim (cases_Bool (nat_le most_events w.events)) [
   | inl e ↦
       let is : Err fault ≡ Err (EventFault.Limit LimitName.Events most_events) = rw e at closed in
@@ -268,6 +268,6 @@ ends-short world before lines after w listed deliveries ends same =
     let events = ends.happened.like.records.events in
     let count = ends.so_far.count in
     settle-cut world before after w listed ends.reached deliveries ends.first
-    (subst (λ (r : Result Happened EventFault). BeginsWith ends.reached.lines (lines_by r (lines_told w (Event.Settle listed)))) (sym ends.answer)
+    (subst (λ (r : Result Happened EventFault). BeginsWith ends.reached.lines (lines_by r (lines_reported w (Event.Settle listed)))) (sym ends.answer)
     (record { rest = Line.Settled deliveries (next_message ends.reached.world) ∷ []; is = refl }))
     (omega (events, count, arith)) (same ∙ ends.happened.lines)

@@ -6,7 +6,7 @@ use Rattle.std.proofs.lemmas.Bool.{cases_Bool}
 use Rattle.mdcc_base.specs.Sizes.{Sizes}
 use Rattle.mdcc_base.specs.declared.outside.Image.{Image}
 use Rattle.mdcc_ledger.specs.Ledger.{Added, Entry, facts_of}
-use Rattle.mdcc_logs.specs.Stands.{LogsStand, with_fact_at, with_up}
+use Rattle.mdcc_logs.specs.Represents.{LogsRepresent, with_fact_at, with_up}
 use Rattle.mdcc_logs.specs.Stopping as logs
 use Rattle.mdcc_messages.specs.declared.facts.Fact.{Fact}
 use Rattle.mdcc_language.specs.declared.lines.Line.{Line}
@@ -17,7 +17,7 @@ use Rattle.mdcc_base.specs.declared.identifiers.TxId.{TxId}
 use Rattle.mdcc_protocol.specs.Facts.{epoch_of}
 use Rattle.mdcc_protocol.specs.Volatile.{Managing, Volatile}
 use Rattle.mdcc_option.specs.declared.cluster.Cluster.{Cluster}
-use Rattle.mdcc_outcomes.specs.Stands.{Stands as OutcomesStand}
+use Rattle.mdcc_outcomes.specs.Represents.{RepresentsLedger}
 use Rattle.mdcc_rules.specs.ManagerRules.{begin_step, begin_step_by}
 use Rattle.mdcc_protocol.specs.Manager as Manager
 use Rattle.mdcc_rules.specs.Steps.{NodeStep, step_given}
@@ -25,23 +25,23 @@ use Rattle.mdcc_rules.specs.declared.node.Input.{Input}
 use Rattle.mdcc_rules.specs.declared.node.Step.{Step}
 use Rattle.mdcc_rules.specs.declared.node.StepFault.{StepFault}
 use Rattle.mdcc_simulation.specs.State.{Happened, World, centre_at, down, is_up_at, with_centre}
-use Rattle.mdcc_simulation.specs.Limits.{input_limited, log_limit, unless}
-use Rattle.mdcc_simulation.specs.Stepping.{chosen_lines, fact_happened, input_happened, is_frame_kept, step_at, step_happened_by, step_stopped}
+use Rattle.mdcc_simulation.specs.Limits.{input_limited, log_limit, unless_limit}
+use Rattle.mdcc_simulation.specs.AppliedSteps.{chosen_lines, fact_happened, input_happened, is_frame_kept, step_at, step_happened_by, step_stopped}
 use Rattle.mdcc_worlds.proofs.Events.{input-is}
 use Rattle.mdcc_worlds.proofs.Staying.{limited-stays}
 use Rattle.mdcc_worlds.proofs.Within.{made-quiet}
-use Rattle.mdcc_worlds.specs.Sending.{is_begin}
-use Rattle.mdcc_worlds.specs.Standing.{IsWorld}
-use Rattle.mdcc_worlds.specs.Taking.{step_told, told_by, told_stopped, with_fact}
+use Rattle.mdcc_worlds.specs.StepSends.{is_begin}
+use Rattle.mdcc_worlds.specs.WorldInvariant.{IsWorld}
+use Rattle.mdcc_worlds.specs.StepEffects.{step_reported, reported_by, reported_stopped, ledger_with_fact}
 use Rattle.mdcc_world.proofs.Crashed.{open-set, stops-set, ups-set}
 use Rattle.mdcc_world.proofs.Happened.{any-fault, limited, may_be}
 use Rattle.mdcc_world.proofs.Took.{logs-same, ok-given, valued-uncounted}
-use Rattle.mdcc_world.specs.Faults.{is_memory}
-use Rattle.mdcc_world.specs.Letting.{facts_with}
-use Rattle.mdcc_world.specs.Making.{IsMade}
-use Rattle.mdcc_world.specs.Nodes.{NodesStand}
-use Rattle.mdcc_world.specs.Stands.{Happens, IsLike, entries_of}
-use Rattle.mdcc_world.specs.Stopping.{kept_entries, kept_facts, kept_lines}
+use Rattle.mdcc_world.specs.Faults.{is_event_out_of_memory}
+use Rattle.mdcc_world.specs.StepOutputs.{facts_with}
+use Rattle.mdcc_world.specs.NodeRuns.{HasRun}
+use Rattle.mdcc_world.specs.Nodes.{NodesRepresent}
+use Rattle.mdcc_world.specs.Represents.{Happens, IsLike, entries_of_step}
+use Rattle.mdcc_world.specs.StoppedAppend.{kept_entries, kept_facts, kept_lines}
 use Rattle.mdcc_world.specs.declared.world.World.{World as TheWorld}
 
 -- ---- the logs say the same
@@ -67,7 +67,7 @@ begin-adds_none cluster me facts volatile parts = no-fact cluster me facts volat
 
 -- ---- what a step stands on
 
-module _ (world : TheWorld) (w : World) (a : ℕ) (input : Input) (step : Step) (made : IsMade world w a input (Ok step)) (fact : Fact) (has : step.fact ≡ Some fact) where
+module _ (world : TheWorld) (w : World) (a : ℕ) (input : Input) (step : Step) (made : HasRun world w a input (Ok step)) (fact : Fact) (has : step.fact ≡ Some fact) where
   abbrev result : Result NodeStep StepFault
   result = step_at w a input
 
@@ -95,11 +95,11 @@ module _ (world : TheWorld) (w : World) (a : ℕ) (input : Input) (step : Step) 
           absurd (cc)
 
   -- so no entry but its fact was counted
-  uncounted : OutcomesStand world.outcomes w.cluster.quorums w.ledger
+  uncounted : RepresentsLedger world.decisions w.cluster.quorums w.ledger
   uncounted =
-      let here : OutcomesStand world.outcomes w.cluster.quorums (s.entries ++ w.ledger) =
-      subst (λ (r : Result NodeStep StepFault). OutcomesStand world.outcomes w.cluster.quorums (entries_of r ++ w.ledger)) gave.1 made.before.outcomes in
-      valued-uncounted world.outcomes w.cluster.quorums a s.entries w.ledger
+      let here : RepresentsLedger world.decisions w.cluster.quorums (s.entries ++ w.ledger) =
+      subst (λ (r : Result NodeStep StepFault). RepresentsLedger world.decisions w.cluster.quorums (entries_of_step r ++ w.ledger)) gave.1 made.before.decisions in
+      valued-uncounted world.decisions w.cluster.quorums a s.entries w.ledger
       (made-quiet w.cluster a (facts_of w.ledger a) (centre_at w a).volatile input s made.before.records.itself.cluster_itself.quorums made.before.well_formed other gave.1) here
 
   module _ (call : ℕ) (image : Image) (armed : get_or world.stops (a - 1) None ≡ Some (call, image)) where
@@ -110,34 +110,34 @@ module _ (world : TheWorld) (w : World) (a : ℕ) (input : Input) (step : Step) 
     happens =
         ap (input_happened w a) gave.1 ∙ ap (step_happened_by w a s) fact-is ∙ ap (fact_happened w a s fact) stop-here
 
-    comes : input_limited w a result ≡ told_stopped w a fact (call, image)
+    comes : input_limited w a result ≡ reported_stopped w a fact (call, image)
     comes =
-        input-is w a result ∙ ap (step_told w a) gave.1 ∙ ap (λ (o : Option Fact). told_by w a s o (centre_at w a).stop) fact-is
-        ∙ ap (told_by w a s (Some fact)) stop-here
+        input-is w a result ∙ ap (step_reported w a) gave.1 ∙ ap (λ (o : Option Fact). reported_by w a s o (centre_at w a).stop) fact-is
+        ∙ ap (reported_by w a s (Some fact)) stop-here
 
     -- the limit of the log refuses it
     pub stop-refused : (fault : EventFault) → Err fault ≡ may_be (log_limit w a fact)
-        → OnFalse (is_memory fault) (input_limited w a (step_at w a input) ≡ Err fault)
+        → OnFalse (is_event_out_of_memory fault) (input_limited w a (step_at w a input) ≡ Err fault)
     stop-refused fault closed =
-        any-fault (is_memory fault)
-        (comes ∙ ap (λ (o : Option EventFault). unless o (step_stopped w a fact (call, image))) (limited (log_limit w a fact) fault closed))
+        any-fault (is_event_out_of_memory fault)
+        (comes ∙ ap (λ (o : Option EventFault). unless_limit o (step_stopped w a fact (call, image))) (limited (log_limit w a fact) fault closed))
 
     module _ (new : TheWorld)
-        (rest : new ≡ record world { up = set world.up (a - 1) false; stops = set world.stops (a - 1) None; logs = new.logs; outcomes = new.outcomes })
+        (rest : new ≡ record world { up = set world.up (a - 1) false; stops = set world.stops (a - 1) None; logs = new.logs; decisions = new.decisions })
         (many : length world.up ≡ 9) (armable : length world.stops ≡ 9) (nine : a ≤ 9) where
       -- the world is down at the centre, with this fact of it or without
-      down-like : (o : Option Fact) → IsWorld (record (with_centre w a down) { ledger = with_fact a o w.ledger })
-          → NodesStand world.nodes.items (record (with_centre w a down) { ledger = with_fact a o w.ledger })
-          → LogsStand new.logs w.cluster.quorums.centres (with_up (is_up_at w) a false) (facts_with (facts_of w.ledger) a o)
-          → OutcomesStand new.outcomes w.cluster.quorums (with_fact a o w.ledger)
-          → IsLike new (record (with_centre w a down) { ledger = with_fact a o w.ledger })
-      down-like o itself nodes logs outcomes =
+      down-like : (o : Option Fact) → IsWorld (record (with_centre w a down) { ledger = ledger_with_fact a o w.ledger })
+          → NodesRepresent world.nodes.items (record (with_centre w a down) { ledger = ledger_with_fact a o w.ledger })
+          → LogsRepresent new.logs w.cluster.quorums.centres (with_up (is_up_at w) a false) (facts_with (facts_of w.ledger) a o)
+          → RepresentsLedger new.decisions w.cluster.quorums (ledger_with_fact a o w.ledger)
+          → IsLike new (record (with_centre w a down) { ledger = ledger_with_fact a o w.ledger })
+      down-like o itself nodes logs decisions =
           let records = made.before.records in
           record {
             records = record {
               itself = itself;
               cluster = ap (λ (x : TheWorld). x.cluster) rest ∙ records.cluster;
-              mail = ap (λ (x : TheWorld). x.mail) rest ∙ records.mail;
+              network = ap (λ (x : TheWorld). x.network) rest ∙ records.network;
               bytes = ap (λ (x : TheWorld). x.bytes) rest ∙ records.bytes;
               reads = ap (λ (x : TheWorld). x.reads) rest ∙ records.reads;
               few_reads = records.few_reads;
@@ -146,32 +146,32 @@ module _ (world : TheWorld) (w : World) (a : ℕ) (input : Input) (step : Step) 
               stops = rw (ap (λ (x : TheWorld). x.stops) rest)
                   (stops-set w a down records.itself made.before.centre world.stops None (omega (armable, nine, arith)) refl records.stops);
             };
-            outcomes = outcomes;
+            decisions = decisions;
             nodes = rw (ap (λ (x : TheWorld). x.nodes) rest) nodes;
             logs = logs-same new.logs w.cluster.quorums.centres (with_up (is_up_at w) a false) (is_up_at (with_centre w a down))
-                (facts_with (facts_of w.ledger) a o) (facts_of (with_fact a o w.ledger))
+                (facts_with (facts_of w.ledger) a o) (facts_of (ledger_with_fact a o w.ledger))
                 (λ b some within. open-set w a down records.itself made.before.centre false refl b some) (λ b some within. facts-down o b) logs;
           }
         where
-          facts-down : (o : Option Fact) (b : ℕ) → facts_with (facts_of w.ledger) a o b ≡ facts_of (with_fact a o w.ledger) b
+          facts-down : (o : Option Fact) (b : ℕ) → facts_with (facts_of w.ledger) a o b ≡ facts_of (ledger_with_fact a o w.ledger) b
           facts-down None b = refl
           facts-down (Some new) b = refl
 
       pub step-stops : (before lines : List Line) → log_limit w a fact ≡ None
-          → LogsStand new.logs w.cluster.quorums.centres (with_up (is_up_at w) a false) (kept_facts (facts_of w.ledger) a fact call image)
-          → ((quorums : Sizes) (entries : List Entry) → OutcomesStand world.outcomes quorums entries → OutcomesStand new.outcomes quorums (kept_entries a fact call image entries))
-          → ((quorums : Sizes) (entries : List Entry) → OutcomesStand world.outcomes quorums entries
+          → LogsRepresent new.logs w.cluster.quorums.centres (with_up (is_up_at w) a false) (kept_facts (facts_of w.ledger) a fact call image)
+          → ((quorums : Sizes) (entries : List Entry) → RepresentsLedger world.decisions quorums entries → RepresentsLedger new.decisions quorums (kept_entries a fact call image entries))
+          → ((quorums : Sizes) (entries : List Entry) → RepresentsLedger world.decisions quorums entries
           → lines ≡ (before ++ Line.Stopped a ∷ []) ++ kept_lines quorums a fact call image entries)
           → Happens {T = Unit {0}} new before lines (Ok tt) (input_limited w a (step_at w a input))
-      step-stops before lines within logs ledger told =
+      step-stops before lines within logs ledger reported =
           let is : input_limited w a result ≡ Ok (step_stopped w a fact (call, image)) =
-          comes ∙ ap (λ (o : Option EventFault). unless o (step_stopped w a fact (call, image))) within in
+          comes ∙ ap (λ (o : Option EventFault). unless_limit o (step_stopped w a fact (call, image))) within in
           let itself : IsWorld (step_stopped w a fact (call, image)).world =
           limited-stays w a input (step_stopped w a fact (call, image)) made.before.records.itself made.before.centre made.before.well_formed is in
-          let nodes : NodesStand world.nodes.items (step_stopped w a fact (call, image)).world =
-          subst (λ (h : Happened). NodesStand world.nodes.items h.world) happens made.nodes in
+          let nodes : NodesRepresent world.nodes.items (step_stopped w a fact (call, image)).world =
+          subst (λ (h : Happened). NodesRepresent world.nodes.items h.world) happens made.nodes in
           let counted = ledger w.cluster.quorums w.ledger uncounted in
-          let lines-are = told w.cluster.quorums w.ledger uncounted in
+          let lines-are = reported w.cluster.quorums w.ledger uncounted in
           subst (λ (r : Result Happened EventFault). Happens {T = Unit {0}} new before lines (Ok tt) r) (sym is)
           (elim (cases_Bool (is_frame_kept call image)) [
             | inl e ↦

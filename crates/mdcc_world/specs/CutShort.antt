@@ -3,20 +3,20 @@ use Rattle.std.specs.Prelude.{◌≡◌, ◌≤◌, ◌+◌, ◌++◌, Err, List
 use Rattle.mdcc_language.specs.declared.events.Event.{Event}
 use Rattle.mdcc_language.specs.declared.lines.Line.{Line}
 use Rattle.mdcc_language.specs.declared.world.EventFault.{EventFault}
-use Rattle.mdcc_simulation.specs.Events.{event_of}
+use Rattle.mdcc_simulation.specs.Events.{after_event}
 use Rattle.mdcc_simulation.specs.Left.{deliveries_before, settled_before}
 use Rattle.mdcc_simulation.specs.State.{Happened, World}
-use Rattle.mdcc_world.specs.Limited.{lines_told}
+use Rattle.mdcc_world.specs.Limited.{lines_reported}
 use Rattle.mdcc_world.specs.declared.world.World.{World as TheWorld}
-use Rattle.mdcc_worlds.specs.Delivering.{unmoved}
-use Rattle.mdcc_worlds.specs.Settling.{settle_told}
+use Rattle.mdcc_worlds.specs.DeliveryProgress.{unmoved}
+use Rattle.mdcc_worlds.specs.SettleProgress.{settle_reported}
 
 -- the lines of the first so many of the events that a line counts as: of a deliver line each number is one, of a settle line the line
 -- itself and then each delivery; any other line has none but its own, which comes last
 abbrev pub first_lines : ℕ → World → Event → List Line
 first_lines count w (Event.Deliver numbers) = (deliveries_before (take count numbers) (unmoved w)).lines
 first_lines zero w (Event.Settle listed) = []
-first_lines (suc deliveries) w (Event.Settle listed) = (settled_before deliveries listed (settle_told w listed)).lines
+first_lines (suc deliveries) w (Event.Settle listed) = (settled_before deliveries listed (settle_reported w listed)).lines
 first_lines count w event = []
 
 -- all lines of an event: of one that is refused those that stand
@@ -25,7 +25,7 @@ lines_by (Ok h) left = h.lines
 lines_by (Err fault) left = left
 
 abbrev pub lines_of : World → Event → List Line
-lines_of w event = lines_by (event_of w event) (lines_told w event)
+lines_of w event = lines_by (after_event w event) (lines_reported w event)
 
 -- The lines of so many of its events stand, which are a prefix of all its lines. The world has counted at most one event more.
 pub record IsCutShort (world : TheWorld) (before after : List Line) (w : World) (event : Event) : Type 0 where

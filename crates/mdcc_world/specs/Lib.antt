@@ -1,11 +1,11 @@
 pub mod CutShort
 pub mod Disks
 pub mod Faults
-pub mod Letting
+pub mod StepOutputs
 pub mod Limited
-pub mod Making
+pub mod NodeRuns
 pub mod Nodes
-pub mod Settling
-pub mod Stands
-pub mod Stopping
-pub mod Telling
+pub mod SettleEnd
+pub mod Represents
+pub mod StoppedAppend
+pub mod Report

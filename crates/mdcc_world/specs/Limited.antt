@@ -7,7 +7,7 @@ use Rattle.mdcc_language.specs.declared.world.EventFault.{EventFault}
 use Rattle.mdcc_simulation.specs.Left.{left_of}
 use Rattle.mdcc_simulation.specs.Limits.{is_limit}
 use Rattle.mdcc_simulation.specs.State.{World}
-use Rattle.mdcc_worlds.specs.Happening.{at_limit}
+use Rattle.mdcc_worlds.specs.EventEffects.{at_limit}
 
 -- where an answer is that a limit would be passed
 abbrev pub OnLimit : {T : Type 0} → Result T EventFault → Type 0 → Type 0
@@ -19,6 +19,6 @@ unless_full (Ok done) lines = lines
 unless_full (Err fault) lines = []
 
 -- the lines that stand: of a settle or deliver line those of the deliveries before the one that would pass the limit
-abbrev pub lines_told : World → Event → List Line
-lines_told w (Event.Settle listed) = unless_full (at_limit w) (left_of w (Event.Settle listed)).lines
-lines_told w event = (left_of w event).lines
+abbrev pub lines_reported : World → Event → List Line
+lines_reported w (Event.Settle listed) = unless_full (at_limit w) (left_of w (Event.Settle listed)).lines
+lines_reported w event = (left_of w event).lines

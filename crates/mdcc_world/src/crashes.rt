@@ -3,11 +3,11 @@ ghost use Rattle.std.specs.Prelude.{◌≡◌, ◌≤◌, ◌<◌, ◌+◌, ◌-
 ghost use Rattle.mdcc_protocol.specs.Belongs.{is_centre};
 ghost use Rattle.mdcc_simulation.specs.State.{World as AWorld, counted_event, is_up_at};
 ghost use Rattle.mdcc_simulation.specs.Centres.{crash_happened};
-ghost use Rattle.mdcc_simulation.specs.Events.{event_of};
+ghost use Rattle.mdcc_simulation.specs.Events.{after_event};
 ghost use Rattle.mdcc_language.specs.declared.events.Event.{Event as AEvent};
 ghost use Rattle.mdcc_world.specs.Faults.{OnRefusal, is_free};
-ghost use Rattle.mdcc_world.specs.Stands.{Happens, HasHappened, IsLike, IsLikeSome};
-ghost use Rattle.mdcc_worlds.specs.Happening.{at_restart, restarted};
+ghost use Rattle.mdcc_world.specs.Represents.{Happens, HasHappened, IsLike, IsLikeSome};
+ghost use Rattle.mdcc_worlds.specs.EventEffects.{at_restart, restarted};
 
 use crate::world::World;
 use mdcc_base::{Centre, HeapList, Memory};
@@ -53,7 +53,7 @@ impl World {
     ) -> Result<(), EventFault>
         requires { IsLikeSome self.old }
         ensures happens { (w : AWorld) → IsLike self.old w
-            → Happens self.new lines.old lines.new result (event_of w (AEvent.Crash centre)) }
+            → Happens self.new lines.old lines.new result (after_event w (AEvent.Crash centre)) }
         ensures few { OnOk result (self.new.events ≤ 100000) }
         ensures kept { OnRefusal result ((self.new ≡ self.old) × (lines.new ≡ lines.old)) }
         ensures untold { OnErr result (lines.new ≡ lines.old) }
@@ -124,7 +124,7 @@ impl World {
     ) -> Result<(), EventFault>
         requires { IsLikeSome self.old }
         ensures happens { (w : AWorld) → IsLike self.old w
-            → Happens self.new lines.old lines.new result (event_of w (AEvent.Restart centre)) }
+            → Happens self.new lines.old lines.new result (after_event w (AEvent.Restart centre)) }
         ensures few { OnOk result (self.new.events ≤ 100000) }
         ensures kept { OnRefusal result ((self.new ≡ self.old) × (lines.new ≡ lines.old)) }
         ensures untold { OnErr result (lines.new ≡ lines.old) }

@@ -2,16 +2,16 @@
 ghost use Rattle.std.specs.Prelude.{◌≡◌, ◌≤◌, ◌<◌, ◌+◌, ◌++◌, IfErr, Ok, OnErr, OnOk, true};
 ghost use Rattle.mdcc_simulation.specs.State.{World as AWorld};
 ghost use Rattle.mdcc_simulation.specs.Left.{deliveries_before};
-ghost use Rattle.mdcc_simulation.specs.Deliveries.{deliveries_of, delivery_of};
+ghost use Rattle.mdcc_simulation.specs.Deliveries.{after_deliveries, after_delivery};
 ghost use Rattle.mdcc_language.specs.declared.events.Event.{Event as AEvent};
 ghost use Rattle.mdcc_world.specs.Limited.{OnLimit};
 ghost use Rattle.mdcc_world.specs.CutShort.{IsCutShort};
 ghost use Rattle.mdcc_world.specs.Faults.{OnMemory, OnRefusal, is_free};
-ghost use Rattle.mdcc_world.specs.Stands.{Happens, HasHappened, IsLike, IsLikeSome};
-ghost use Rattle.mdcc_worlds.specs.Delivering.{at_message, delivery, delivery_told, unmoved};
-ghost use Rattle.mdcc_worlds.specs.Happening.{at_centre};
+ghost use Rattle.mdcc_world.specs.Represents.{Happens, HasHappened, IsLike, IsLikeSome};
+ghost use Rattle.mdcc_worlds.specs.DeliveryProgress.{at_message, after_numbered_message, delivery_reported, unmoved};
+ghost use Rattle.mdcc_worlds.specs.EventEffects.{at_centre};
 
-use crate::telling::tell;
+use crate::report::report_event;
 use crate::world::World;
 use mdcc_base::{Centre, HeapList};
 use mdcc_language::{EventFault, Line};
@@ -19,7 +19,7 @@ use mdcc_node::blank;
 
 impl World {
     // The message of a number comes to its centre, which is an event.
-    pub(crate) fn delivered(
+    pub(crate) fn apply_message(
         &mut self,
         number: u32,
         lines: &mut HeapList<Line>,
@@ -28,13 +28,13 @@ impl World {
         requires like { IsLikeSome self.old }
         requires clear { (w : AWorld) → IsLike self.old w → at_message w number ≡ Ok tt }
         ensures happens { (w : AWorld) → IsLike self.old w
-            → Happens self.new lines.old lines.new result (delivery w number) }
+            → Happens self.new lines.old lines.new result (after_numbered_message w number) }
         ensures free { IfErr result (λ fault. is_free fault ≡ true) }
         ensures few { self.new.events ≤ self.old.events + 1 }
     {
         let mut step = blank(self.alloc);
-        let (centre, made) = self.message_made(number, &mut step)?;
-        self.taken(centre, &made, &step, lines)
+        let (centre, made) = self.run_message(number, &mut step)?;
+        self.apply_run(centre, &made, &step, lines)
     }
 
     // Why no message is delivered to a centre.
@@ -56,30 +56,30 @@ impl World {
         ensures message { (w : AWorld) → IsLike self.now w → result ≡ at_message w number }
         ensures few { OnOk result (self.now.events < 100000) }
     {
-        match self.mail.addressee(number) {
+        match self.network.addressee(number) {
             Some(centre) => self.at_addressee(centre),
             None => Err(EventFault::NoMessage(number)),
         }
     }
 
     // The message of a number is delivered, behind its line.
-    fn deliver_told(&mut self, number: u32, lines: &mut HeapList<Line>) -> Result<(), EventFault>
+    fn report_delivery(&mut self, number: u32, lines: &mut HeapList<Line>) -> Result<(), EventFault>
         requires few { self.old.events < 100000 }
         requires like { IsLikeSome self.old }
         requires clear { (w : AWorld) → IsLike self.old w → at_message w number ≡ Ok tt }
         ensures happens { (w : AWorld) → IsLike self.old w
-            → Happens self.new lines.old lines.new result (delivery_told w number) }
+            → Happens self.new lines.old lines.new result (delivery_reported w number) }
         ensures free { IfErr result (λ fault. is_free fault ≡ true) }
         ensures few { self.new.events ≤ self.old.events + 1 }
         ensures untold { OnErr result (lines.new ≡ lines.old) }
     {
-        let mut told = HeapList::new(self.alloc);
-        self.delivered(number, &mut told)?;
-        tell(
+        let mut reported = HeapList::new(self.alloc);
+        self.apply_message(number, &mut reported)?;
+        report_event(
             self.alloc,
             lines,
             Line::Deliver(number, self.next_message()),
-            told,
+            reported,
         )
     }
 
@@ -88,14 +88,14 @@ impl World {
         requires few { self.old.events ≤ 100000 }
         requires like { IsLikeSome self.old }
         ensures happens { (w : AWorld) → IsLike self.old w
-            → Happens self.new lines.old lines.new result (delivery_of w number) }
+            → Happens self.new lines.old lines.new result (after_delivery w number) }
         ensures kept { OnRefusal result ((self.new ≡ self.old) × (lines.new ≡ lines.old)) }
         ensures few { OnOk result (self.new.events ≤ 100000) }
         ensures counted { self.new.events ≤ self.old.events + 1 }
         ensures untold { OnErr result (lines.new ≡ lines.old) }
     {
         self.at_message(number)?;
-        self.deliver_told(number, lines)
+        self.report_delivery(number, lines)
     }
 
     // A deliver line: the numbers in turn, up to the first that is refused. Those before it stand.
@@ -107,7 +107,7 @@ impl World {
         requires few { self.old.events ≤ 100000 }
         requires like { IsLikeSome self.old }
         ensures happens { (w : AWorld) → IsLike self.old w
-            → Happens self.new lines.old lines.new result (deliveries_of numbers.now (unmoved w)) }
+            → Happens self.new lines.old lines.new result (after_deliveries numbers.now (unmoved w)) }
         ensures few { OnOk result (self.new.events ≤ 100000) }
         ensures left { (w : AWorld) → IsLike self.old w
             → OnRefusal result (HasHappened self.new lines.old lines.new (deliveries_before numbers.now (unmoved w))) }

@@ -2,12 +2,12 @@
 ghost use Rattle.std.specs.Bool.{OnFalse};
 ghost use Rattle.std.specs.Prelude.{◌≡◌, ◌≤◌, ◌++◌, Err, IfErr, IsOkAnd, OnOk};
 ghost use Rattle.mdcc_simulation.specs.State.{World as AWorld};
-ghost use Rattle.mdcc_simulation.specs.Events.{event_of};
+ghost use Rattle.mdcc_simulation.specs.Events.{after_event};
 ghost use Rattle.mdcc_simulation.specs.Left.{left_of};
-ghost use Rattle.mdcc_world.specs.Limited.{OnLimit, lines_told};
+ghost use Rattle.mdcc_world.specs.Limited.{OnLimit, lines_reported};
 ghost use Rattle.mdcc_world.specs.CutShort.{IsCutShort};
-ghost use Rattle.mdcc_world.specs.Faults.{OnMemory, OnRefusal, is_memory};
-ghost use Rattle.mdcc_world.specs.Stands.{Happens, HasHappened, IsLike, IsLikeSome, Stands};
+ghost use Rattle.mdcc_world.specs.Faults.{OnMemory, OnRefusal, is_event_out_of_memory};
+ghost use Rattle.mdcc_world.specs.Represents.{Happens, HasHappened, IsLike, IsLikeSome, RepresentsWorld};
 
 use crate::world::World;
 use mdcc_base::HeapList;
@@ -19,13 +19,13 @@ impl World {
         requires few { self.old.events ≤ 100000 }
         requires like { IsLikeSome self.old }
         ensures happens { (w : AWorld) → IsLike self.old w
-            → Happens self.new lines.old lines.new result (event_of w event.now) }
+            → Happens self.new lines.old lines.new result (after_event w event.now) }
         ensures few { OnOk result (self.new.events ≤ 100000) }
         ensures left { (w : AWorld) → IsLike self.old w
             → OnRefusal result (HasHappened self.new lines.old lines.new (left_of w event.now)) }
         ensures few_left { OnRefusal result (self.new.events ≤ 100000) }
         ensures limited { (w : AWorld) → IsLike self.old w
-            → OnLimit result (lines.new ≡ lines.old ++ lines_told w event.now) }
+            → OnLimit result (lines.new ≡ lines.old ++ lines_reported w event.now) }
         ensures cut { (w : AWorld) → IsLike self.old w
             → OnMemory result (IsCutShort self.new lines.old lines.new w event.now) }
     {
@@ -46,18 +46,18 @@ impl World {
     /// there was no memory, or a limit was reached, the world must be dropped; the lines of earlier
     /// events stand, and so do those of the earlier deliveries of this one.
     pub fn event(&mut self, event: &Event, lines: &mut HeapList<Line>) -> Result<(), EventFault>
-        requires known { (w : AWorld) × Stands self.old w }
-        ensures ok { (w : AWorld) → Stands self.old w
-            → OnOk result (IsOkAnd (event_of w event.now) (λ h. (lines.new ≡ lines.old ++ h.lines) × Stands self.new h.world)) }
-        ensures err { (w : AWorld) → Stands self.old w
-            → IfErr result (λ fault. OnFalse (is_memory fault) (event_of w event.now ≡ Err fault)) }
-        ensures left { (w : AWorld) → Stands self.old w
+        requires known { (w : AWorld) × RepresentsWorld self.old w }
+        ensures ok { (w : AWorld) → RepresentsWorld self.old w
+            → OnOk result (IsOkAnd (after_event w event.now) (λ h. (lines.new ≡ lines.old ++ h.lines) × RepresentsWorld self.new h.world)) }
+        ensures err { (w : AWorld) → RepresentsWorld self.old w
+            → IfErr result (λ fault. OnFalse (is_event_out_of_memory fault) (after_event w event.now ≡ Err fault)) }
+        ensures left { (w : AWorld) → RepresentsWorld self.old w
             → OnRefusal result (HasHappened self.new lines.old lines.new (left_of w event.now)) }
-        ensures stands { (w : AWorld) → Stands self.old w
-            → OnRefusal result (Stands self.new (left_of w event.now).world) }
-        ensures limited { (w : AWorld) → Stands self.old w
-            → OnLimit result (lines.new ≡ lines.old ++ lines_told w event.now) }
-        ensures cut { (w : AWorld) → Stands self.old w
+        ensures stands { (w : AWorld) → RepresentsWorld self.old w
+            → OnRefusal result (RepresentsWorld self.new (left_of w event.now).world) }
+        ensures limited { (w : AWorld) → RepresentsWorld self.old w
+            → OnLimit result (lines.new ≡ lines.old ++ lines_reported w event.now) }
+        ensures cut { (w : AWorld) → RepresentsWorld self.old w
             → OnMemory result (IsCutShort self.new lines.old lines.new w event.now) }
     {
         self.happen(event, lines)

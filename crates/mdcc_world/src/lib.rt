@@ -2,20 +2,20 @@
 //! and what the events of a schedule do to them.
 #![tactic(auto)]
 
-mod beginning;
+mod begins;
+mod commits;
 mod crashes;
 mod deliveries;
 mod events;
 mod given;
-mod making;
+mod node_runs;
 mod nodes;
 mod reads;
-mod settling;
-mod stepping;
+mod report;
+mod settles;
+mod steps;
 mod stops;
-mod taking;
-mod telling;
-mod ticking;
+mod ticks;
 pub mod world;
 
 pub use mdcc_disks::MemoryDisks;

@@ -1,16 +1,16 @@
 //! The nodes of a world.
 ghost use Rattle.std.specs.Prelude.{◌≡◌, ◌≤◌, IfOk, OnOk, false, length, true};
-ghost use Rattle.mdcc_node.specs.Planning.{blank, written};
-ghost use Rattle.mdcc_node.specs.Stepping.{given};
+ghost use Rattle.mdcc_node.specs.StepPlans.{blank, written};
+ghost use Rattle.mdcc_node.specs.StepAnswers.{step_result};
 ghost use Rattle.mdcc_rules.specs.declared.node.Input.{Input as AInput};
 ghost use Rattle.mdcc_ledger.specs.Ledger.{facts_of};
 ghost use Rattle.mdcc_protocol.specs.Visible;
 ghost use Rattle.mdcc_simulation.specs.State.{World as AWorld, is_up_at};
-ghost use Rattle.mdcc_simulation.specs.Stepping.{input_happened, step_at};
-ghost use Rattle.mdcc_steps.specs.Forming.{accept_length_in};
+ghost use Rattle.mdcc_simulation.specs.AppliedSteps.{input_happened, step_at};
+ghost use Rattle.mdcc_steps.specs.NodeInvariant.{accept_length_in};
 ghost use Rattle.mdcc_steps.specs.Inputs.{IsWellFormedInput};
-ghost use Rattle.mdcc_world.specs.Nodes.{NodesStand, RunsAt, is_memory_made};
-ghost use Rattle.mdcc_worlds.specs.Standing.{IsWorld};
+ghost use Rattle.mdcc_world.specs.Nodes.{NodesRepresent, RunsAt, is_memory_run};
+ghost use Rattle.mdcc_worlds.specs.WorldInvariant.{IsWorld};
 
 use mdcc_base::{Centre, Key, Memory};
 use mdcc_logs::CentreFacts;
@@ -21,9 +21,9 @@ use mdcc_rules::{Answer, Input, Step, StepFault};
 use std::alloc::Global;
 
 // Tells want of memory from what a node makes of an input.
-fn made(acted: Result<(), StepFault>) -> Result<Result<(), StepFault>, Memory>
+fn run_result(acted: Result<(), StepFault>) -> Result<Result<(), StepFault>, Memory>
     ensures same { IfOk result (λ made. made ≡ acted) }
-    ensures memory { OnOk result (is_memory_made acted ≡ false) }
+    ensures memory { OnOk result (is_memory_run acted ≡ false) }
 {
     match acted {
         Err(StepFault::Memory) => Err(Memory),
@@ -43,12 +43,12 @@ pub(crate) fn act_on(
     requires short { accept_length_in input.now ≤ 2097152 }
     requires running { RunsAt nodes.old centre }
     requires blank { step.old ≡ blank }
-    ensures answer { (w : AWorld) → NodesStand nodes.old w → is_up_at w centre ≡ true
-        → IfOk result (λ made. written made step.new ≡ given (step_at w centre input.now)) }
-    ensures left { (w : AWorld) → IsWorld w → NodesStand nodes.old w → is_up_at w centre ≡ true
-        → OnOk result (NodesStand nodes.new (input_happened w centre (step_at w centre input.now)).world) }
+    ensures answer { (w : AWorld) → NodesRepresent nodes.old w → is_up_at w centre ≡ true
+        → IfOk result (λ made. written made step.new ≡ step_result (step_at w centre input.now)) }
+    ensures left { (w : AWorld) → IsWorld w → NodesRepresent nodes.old w → is_up_at w centre ≡ true
+        → OnOk result (NodesRepresent nodes.new (input_happened w centre (step_at w centre input.now)).world) }
 {
-    made(nodes[usize::from(centre.number()) - 1].act_on(input, step))
+    run_result(nodes[usize::from(centre.number()) - 1].act_on(input, step))
 }
 
 /// The same for a message.
@@ -63,12 +63,12 @@ pub(crate) fn receive(
     requires short { accept_length_in (AInput.Message envelope.now) ≤ 2097152 }
     requires running { RunsAt nodes.old centre }
     requires blank { step.old ≡ blank }
-    ensures answer { (w : AWorld) → NodesStand nodes.old w → is_up_at w centre ≡ true
-        → IfOk result (λ made. written made step.new ≡ given (step_at w centre (AInput.Message envelope.now))) }
-    ensures left { (w : AWorld) → IsWorld w → NodesStand nodes.old w → is_up_at w centre ≡ true
-        → OnOk result (NodesStand nodes.new (input_happened w centre (step_at w centre (AInput.Message envelope.now))).world) }
+    ensures answer { (w : AWorld) → NodesRepresent nodes.old w → is_up_at w centre ≡ true
+        → IfOk result (λ made. written made step.new ≡ step_result (step_at w centre (AInput.Message envelope.now))) }
+    ensures left { (w : AWorld) → IsWorld w → NodesRepresent nodes.old w → is_up_at w centre ≡ true
+        → OnOk result (NodesRepresent nodes.new (input_happened w centre (step_at w centre (AInput.Message envelope.now))).world) }
 {
-    made(nodes[usize::from(centre.number()) - 1].deliver(envelope, step))
+    run_result(nodes[usize::from(centre.number()) - 1].deliver(envelope, step))
 }
 
 /// What a key shows at the node of a centre that is up, which is left as it was.
@@ -80,10 +80,10 @@ pub(crate) fn read(
 ) -> Result<Reading, Memory>
     requires within { centre ≤ length nodes.old }
     requires running { RunsAt nodes.old centre }
-    ensures shown { (w : AWorld) → NodesStand nodes.old w → is_up_at w centre ≡ true
+    ensures shown { (w : AWorld) → NodesRepresent nodes.old w → is_up_at w centre ≡ true
         → IfOk result (λ reading. reading ≡ Visible.read (facts_of w.ledger centre) key.now) }
-    ensures left { (w : AWorld) → IsWorld w → NodesStand nodes.old w → is_up_at w centre ≡ true
-        → OnOk result (NodesStand nodes.new w) }
+    ensures left { (w : AWorld) → IsWorld w → NodesRepresent nodes.old w → is_up_at w centre ≡ true
+        → OnOk result (NodesRepresent nodes.new w) }
 {
     let _key = key.bytes();
     let mut step = blank(alloc);

@@ -2,11 +2,11 @@
 ghost use Rattle.std.specs.Prelude.{◌≡◌, ◌≤◌, ◌<◌, OnErr, OnOk, true};
 ghost use Rattle.mdcc_base.specs.Key.{IsKey};
 ghost use Rattle.mdcc_simulation.specs.State.{World as AWorld, counted_event, is_up_at};
-ghost use Rattle.mdcc_simulation.specs.Events.{event_of};
-ghost use Rattle.mdcc_simulation.specs.Clients.{known_of, read_happened};
+ghost use Rattle.mdcc_simulation.specs.Events.{after_event};
+ghost use Rattle.mdcc_simulation.specs.Clients.{known_of_reading, read_happened};
 ghost use Rattle.mdcc_language.specs.declared.events.Event.{Event as AEvent};
 ghost use Rattle.mdcc_world.specs.Faults.{OnRefusal};
-ghost use Rattle.mdcc_world.specs.Stands.{Happens, HasHappened, IsLike, IsLikeSome};
+ghost use Rattle.mdcc_world.specs.Represents.{Happens, HasHappened, IsLike, IsLikeSome};
 
 use crate::nodes::read;
 use crate::world::World;
@@ -17,7 +17,7 @@ use mdcc_protocol::Reading;
 
 // What a read shows of a key.
 fn known_of(key: &Key, reading: Reading) -> Known
-    ensures known { result ≡ known_of key.now reading }
+    ensures known { result ≡ known_of_reading key.now reading }
     ensures key { IsKey key.now }
 {
     let _bytes = key.bytes();
@@ -61,7 +61,7 @@ impl World {
     ) -> Result<(), EventFault>
         requires { IsLikeSome self.old }
         ensures happens { (w : AWorld) → IsLike self.old w
-            → Happens self.new lines.old lines.new result (event_of w (AEvent.Read centre key.now)) }
+            → Happens self.new lines.old lines.new result (after_event w (AEvent.Read centre key.now)) }
         ensures few { OnOk result (self.new.events ≤ 100000) }
         ensures kept { OnRefusal result ((self.new ≡ self.old) × (lines.new ≡ lines.old)) }
         ensures untold { OnErr result (lines.new ≡ lines.old) }

@@ -5,17 +5,17 @@ ghost use Rattle.mdcc_simulation.specs.State.{World as AWorld, first_world, is_u
 ghost use Rattle.mdcc_simulation.specs.Runs.{end_line};
 ghost use Rattle.mdcc_world.specs.Disks.{DisksShow};
 ghost use Rattle.mdcc_world.specs.Faults.{is_free};
-ghost use Rattle.mdcc_world.specs.Stands.{IsLike, Stands};
-ghost use Rattle.mdcc_worlds.specs.Happening.{at_centre, at_limit};
+ghost use Rattle.mdcc_world.specs.Represents.{IsLike, RepresentsWorld};
+ghost use Rattle.mdcc_worlds.specs.EventEffects.{at_centre, at_limit};
 
 use mdcc_base::{Centre, HeapList, Image, Memory};
 use mdcc_disks::MemoryDisks;
 use mdcc_language::{EventFault, LimitName, Line};
 use mdcc_logs::{CentreFacts, Logs, boot_all};
-use mdcc_mail::Mail;
+use mdcc_mail::Network;
 use mdcc_node::Node;
 use mdcc_option::{Cluster, Known};
-use mdcc_outcomes::Outcomes;
+use mdcc_outcomes::Decisions;
 use std::alloc::Global;
 
 /// How many events there may be.
@@ -32,9 +32,9 @@ pub struct World {
     pub(crate) up: [bool; 9],
     pub(crate) stops: [Option<(u8, Image)>; 9],
     pub(crate) logs: Logs,
-    pub(crate) mail: Mail,
+    pub(crate) network: Network,
     pub(crate) bytes: u64,
-    pub(crate) outcomes: Outcomes,
+    pub(crate) decisions: Decisions,
     pub(crate) reads: HeapList<Option<Known>>,
     pub(crate) events: u32,
 }
@@ -60,11 +60,11 @@ impl World {
     /// All centres are booted for the first time, from empty disks.
     pub fn new(alloc: Global, cluster: Cluster) -> Result<World, Memory>
         requires { IsCluster cluster }
-        ensures { IfOk result (λ world. Stands world (first_world cluster)) }
+        ensures { IfOk result (λ world. RepresentsWorld world (first_world cluster)) }
     {
         let (nodes, logs) = boot_all(alloc, &cluster)?;
-        let mail = Mail::new(alloc)?;
-        let outcomes = Outcomes::new(alloc, &cluster.quorums)?;
+        let network = Network::new(alloc)?;
+        let decisions = Decisions::new(alloc, &cluster.quorums)?;
         let up = first_ups(cluster.quorums.centres());
         Ok(World {
             alloc,
@@ -73,9 +73,9 @@ impl World {
             up,
             stops: [None; 9],
             logs,
-            mail,
+            network,
             bytes: 0,
-            outcomes,
+            decisions,
             reads: HeapList::new(alloc),
             events: 0,
         })
@@ -84,19 +84,19 @@ impl World {
     /// The disks of the centres: that of centre K is at place K, and its log has all that the centre
     /// added to the ledger.
     pub fn disks(&self) -> &MemoryDisks
-        ensures { (w : AWorld) → Stands self.now w → DisksShow result.now w }
+        ensures { (w : AWorld) → RepresentsWorld self.now w → DisksShow result.now w }
     {
         self.logs.disks()
     }
 
     /// The last line of a report.
     pub fn end(&self) -> Line
-        ensures { (w : AWorld) → Stands self.now w → result ≡ end_line w }
+        ensures { (w : AWorld) → RepresentsWorld self.now w → result ≡ end_line w }
     {
-        let totals = self.outcomes.totals();
+        let totals = self.decisions.totals();
         Line::End {
             events: self.events,
-            messages: self.mail.len() as u32,
+            messages: self.network.len() as u32,
             commits: totals.commits,
             aborts: totals.aborts,
             undecided: totals.undecided,
@@ -105,16 +105,16 @@ impl World {
 
     /// How many reads were made.
     pub fn reads(&self) -> usize
-        ensures { (w : AWorld) → Stands self.now w → result ≡ length w.reads }
+        ensures { (w : AWorld) → RepresentsWorld self.now w → result ≡ length w.reads }
     {
         self.reads.len()
     }
 
     // The number of the next message.
     pub(crate) fn next_message(&self) -> u32
-        ensures { result ≡ length self.now.mail + 1 }
+        ensures { result ≡ length self.now.network + 1 }
     {
-        self.mail.len() as u32 + 1
+        self.network.len() as u32 + 1
     }
 
     // Whether a centre is up.

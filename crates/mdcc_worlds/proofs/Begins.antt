@@ -11,9 +11,9 @@ use Rattle.mdcc_simulation.specs.State.{booted, booted_to, centre_at, first_worl
 use Rattle.mdcc_messages.specs.declared.facts.Fact.{Fact}
 use Rattle.mdcc_rules.specs.Boot.{is_past_cells, room_fault}
 use Rattle.mdcc_steps.proofs.Booting.{boot-node}
-use Rattle.mdcc_steps.specs.Forming.{IsNode}
+use Rattle.mdcc_steps.specs.NodeInvariant.{IsNode}
 use Rattle.mdcc_worlds.proofs.Stays.{some-centre}
-use Rattle.mdcc_worlds.specs.Standing.{IsWorld}
+use Rattle.mdcc_worlds.specs.WorldInvariant.{IsWorld}
 
 first-none : (n a : ℕ) → n < a → facts_of (booted_to n) a ≡ []
 first-none zero a above = refl

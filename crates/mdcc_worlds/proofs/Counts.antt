@@ -5,20 +5,20 @@ use Rattle.mdcc_base.specs.declared.outside.Image.{Image}
 use Rattle.mdcc_rules.specs.Steps.{NodeStep}
 use Rattle.mdcc_simulation.specs.State.{Happened, World, centre_at}
 use Rattle.mdcc_messages.specs.Mailbox.{Sent, numbered}
-use Rattle.mdcc_simulation.specs.Stepping.{fact_happened, input_happened, is_frame_kept, step_at, step_happened_by}
-use Rattle.mdcc_simulation.specs.Limits.{input_limited, is_past_events, limit_if, most_events, step_limit, unless}
+use Rattle.mdcc_simulation.specs.AppliedSteps.{fact_happened, input_happened, is_frame_kept, step_at, step_happened_by}
+use Rattle.mdcc_simulation.specs.Limits.{input_limited, is_past_events, limit_if, most_events, step_limit, unless_limit}
 use Rattle.mdcc_messages.specs.declared.facts.Fact.{Fact}
 use Rattle.mdcc_rules.specs.declared.node.Input.{Input}
 use Rattle.mdcc_rules.specs.declared.node.StepFault.{StepFault}
 use Rattle.mdcc_language.specs.declared.world.EventFault.{EventFault}
 use Rattle.mdcc_language.specs.declared.world.LimitName.{LimitName}
-use Rattle.mdcc_worlds.specs.Delivering.{delivery, delivery_by, message_counted}
-use Rattle.mdcc_worlds.specs.Happening.{at_limit}
+use Rattle.mdcc_worlds.specs.DeliveryProgress.{after_numbered_message, after_sent_message, message_counted}
+use Rattle.mdcc_worlds.specs.EventEffects.{at_limit}
 
 -- ---- the limit
 
 abbrev by_limit : Bool → Result (Unit {0}) EventFault
-by_limit b = unless (limit_if b LimitName.Events most_events) tt
+by_limit b = unless_limit (limit_if b LimitName.Events most_events) tt
 
 pub limit-open : (w : World) → w.events < most_events → at_limit w ≡ Ok tt
 limit-open w few = elim (cases_Bool (is_past_events w)) [
@@ -58,7 +58,7 @@ happened-events w a (Ok step) = by_fact step.fact
     by_fact (Some fact) = by_stop fact (centre_at w a).stop
 
 -- what happens where no limit is passed
-pub unless-happened : (o : Option EventFault) (h after : Happened) → unless o h ≡ Ok after → h ≡ after
+pub unless-happened : (o : Option EventFault) (h after : Happened) → unless_limit o h ≡ Ok after → h ≡ after
 unless-happened None h after e = cc
 unless-happened (Some fault) h after e = absurd (cc)
 
@@ -69,10 +69,10 @@ limited-events w a r h e =
 
 -- ---- and a delivery is one event
 
-pub delivery-events : (w : World) (number : ℕ) (sent : Sent) (h : Happened) → numbered w.sent number ≡ Some sent → delivery w number ≡ Ok h → h.world.events ≡ w.events + 1
+pub delivery-events : (w : World) (number : ℕ) (sent : Sent) (h : Happened) → numbered w.sent number ≡ Some sent → after_numbered_message w number ≡ Ok h → h.world.events ≡ w.events + 1
 delivery-events w number sent h at e = by_sent (numbered w.sent number) e
   where
-    by_sent : (o : Option Sent) → delivery_by w number o ≡ Ok h → h.world.events ≡ w.events + 1
+    by_sent : (o : Option Sent) → after_sent_message w number o ≡ Ok h → h.world.events ≡ w.events + 1
     by_sent None k = absurd (cc)
     by_sent (Some other) k =
         limited-events (message_counted w number) other.envelope.to (step_at (message_counted w number) other.envelope.to (Input.Message other.envelope)) h k

@@ -23,7 +23,7 @@ use Rattle.mdcc_language.specs.declared.events.UpdateWord.{UpdateWord}
 use Rattle.mdcc_language.specs.declared.schedule.ResolveFault.{ResolveFault}
 use Rattle.mdcc_steps.specs.Inputs.{AreWellFormedParts}
 use Rattle.mdcc_worlds.proofs.Fitting.{added-fits, written-fits}
-use Rattle.mdcc_worlds.specs.Standing.{IsRead}
+use Rattle.mdcc_worlds.specs.WorldInvariant.{IsWellFormedKnown}
 use Rattle.mdcc_worlds.specs.Words.{HasBody, IsGivenWord}
 
 -- what holds of an update before a schema is asked
@@ -46,12 +46,12 @@ on-given P (Err fault) x h e = absurd (cc)
 
 -- ---- reads
 
-got-read : (reads : List Known) (place : ℕ) (known : Known) → AllByRecursion IsRead reads → option_and_then (λ read. read) (slice_get (map Some reads) place) ≡ Some known → IsRead known
+got-read : (reads : List Known) (place : ℕ) (known : Known) → AllByRecursion IsWellFormedKnown reads → option_and_then (λ read. read) (slice_get (map Some reads) place) ≡ Some known → IsWellFormedKnown known
 got-read [] place known h e = absurd (cc)
-got-read (r ∷ rs) zero known h e = let same : r ≡ known = cc in subst IsRead same h.0
+got-read (r ∷ rs) zero known h e = let same : r ≡ known = cc in subst IsWellFormedKnown same h.0
 got-read (r ∷ rs) (suc place) known h e = got-read rs place known h.1 e
 
-read-there : (reads : List Known) (number : ℕ) (known : Known) → AllByRecursion IsRead reads → read_at (map Some reads) number ≡ Some known → IsRead known
+read-there : (reads : List Known) (number : ℕ) (known : Known) → AllByRecursion IsWellFormedKnown reads → read_at (map Some reads) number ≡ Some known → IsWellFormedKnown known
 read-there reads zero known h e = absurd (cc)
 read-there reads (suc place) known h e = got-read reads place known h e
 
@@ -60,7 +60,7 @@ read-there reads (suc place) known h e = got-read reads place known h e
 none-seen : IsWellFormedSeen []
 none-seen = record { few = omega arith; each = tt; ascending = refl }
 
-written-given : (known : Known) (item : Item) → IsRead known → HasBody item → IsGivenPart (written_on known item)
+written-given : (known : Known) (item : Item) → IsWellFormedKnown known → HasBody item → IsGivenPart (written_on known item)
 written-given known item h body = record { key = h.key_itself; version = h.token_itself.version; update = (body, h.token_itself.seen) }
 
 on-read : (o : Option Known) (number : ℕ) (next : Known → Result Part ResolveFault) → ((known : Known) → o ≡ Some known → OnGiven IsGivenPart (next known))
@@ -73,14 +73,14 @@ on-item : (o : Option Item) (known : Known) (next : Item → Result Part Resolve
 on-item None known next h = tt
 on-item (Some item) known next h = h item refl
 
-shown-body : (known : Known) (item : Item) → IsRead known → known.item ≡ Some item → HasBody item
+shown-body : (known : Known) (item : Item) → IsWellFormedKnown known → known.item ≡ Some item → HasBody item
 shown-body known item h e = by_item known.item h.item_itself e
   where
     by_item : (o : Option Item) → IsWellFormedShown o → o ≡ Some item → HasBody item
     by_item None w f = absurd (cc)
     by_item (Some other) w f = let same : other ≡ item = cc in subst HasBody same (record { fits = w.body_fits; bytes = w.bytes })
 
-part-given : (reads : List Known) (word : UpdateWord) → AllByRecursion IsRead reads → IsGivenWord word → OnGiven IsGivenPart (part_of (map Some reads) word)
+part-given : (reads : List Known) (word : UpdateWord) → AllByRecursion IsWellFormedKnown reads → IsGivenWord word → OnGiven IsGivenPart (part_of (map Some reads) word)
 part-given reads (UpdateWord.New key item) h w = record { key = w.0; version = omega arith; update = (w.1, none-seen) }
 part-given reads (UpdateWord.Set number item) h w =
     on-read (read_at (map Some reads) number) number (λ read. Ok (written_on read item)) (λ known e. written-given known item (read-there reads number known h e) w)
@@ -101,13 +101,13 @@ both-given (Err fault) q h k = tt
 both-given (Ok part) (Err fault) h k = tt
 both-given (Ok part) (Ok parts) h k = (h, k)
 
-parts-given : (reads : List Known) (words : List UpdateWord) → AllByRecursion IsRead reads → AllByRecursion IsGivenWord words
+parts-given : (reads : List Known) (words : List UpdateWord) → AllByRecursion IsWellFormedKnown reads → AllByRecursion IsGivenWord words
     → OnGiven (AllByRecursion IsGivenPart) (parts_of (map Some reads) words)
 parts-given reads [] h w = tt
 parts-given reads (word ∷ words) h w =
     both-given (part_of (map Some reads) word) (parts_of (map Some reads) words) (part-given reads word h w.0) (parts-given reads words h w.1)
 
-resolved-given : (reads : List Known) (words : List UpdateWord) (parts : List Part) → AllByRecursion IsRead reads → AllByRecursion IsGivenWord words
+resolved-given : (reads : List Known) (words : List UpdateWord) (parts : List Part) → AllByRecursion IsWellFormedKnown reads → AllByRecursion IsGivenWord words
     → resolve words (map Some reads) ≡ Ok parts → AllByRecursion IsGivenPart parts
 resolved-given reads words parts h w e = by_missing (first_missing (map Some reads) words) e
   where
@@ -182,7 +182,7 @@ drafted-formed schema resolved parts is h made = elim (cases_Bool (length resolv
 ]
 
 pub parts-formed : (schema : List (ℤ × ℤ)) (reads : List Known) (words : List UpdateWord) (resolved parts : List Part)
-    → IsSchema schema → AllByRecursion IsRead reads → AllByRecursion IsGivenWord words
+    → IsSchema schema → AllByRecursion IsWellFormedKnown reads → AllByRecursion IsGivenWord words
     → resolve words (map Some reads) ≡ Ok resolved → transaction_of schema resolved ≡ Ok parts
     → AreWellFormedParts parts
 parts-formed schema reads words resolved parts is h w found made = drafted-formed schema resolved parts is (resolved-given reads words resolved h w found) made

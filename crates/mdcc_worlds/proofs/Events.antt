@@ -13,15 +13,15 @@ use Rattle.mdcc_language.specs.Resolve.{resolve}
 use Rattle.mdcc_rules.specs.Steps.{NodeStep}
 use Rattle.mdcc_simulation.specs.State.{Happened, World, centre_at, counted_event, is_up_at}
 use Rattle.mdcc_messages.specs.Mailbox.{Sent, numbered}
-use Rattle.mdcc_simulation.specs.Clients.{answer_in, begin_lines, begin_of, begun_by, no_item, parts_begun, read_happened}
-use Rattle.mdcc_simulation.specs.Limits.{bytes_limit, cells_limit, input_limited, input_taken, is_limit, is_past_events, limit_if, log_limit, step_limit, step_limit_by, unless, with_lines, within_events}
-use Rattle.mdcc_simulation.specs.Centres.{crash_happened, restart_happened, restart_of, stop_happened, tick_line}
-use Rattle.mdcc_simulation.specs.Deliveries.{deliver_line, delivered, delivery_of}
-use Rattle.mdcc_simulation.specs.Events.{event_of}
-use Rattle.mdcc_simulation.specs.Stepping.{step_at, step_happened_by, step_stopped}
+use Rattle.mdcc_simulation.specs.Clients.{answer_in, begin_lines, after_begin, begun_by, no_item, parts_begun, read_happened}
+use Rattle.mdcc_simulation.specs.Limits.{bytes_limit, cells_limit, input_limited, input_applied, is_limit, is_past_events, limit_if, log_limit, step_limit, step_limit_by, unless_limit, with_lines, within_events}
+use Rattle.mdcc_simulation.specs.Centres.{crash_happened, restart_happened, after_restart, stop_happened, tick_line}
+use Rattle.mdcc_simulation.specs.Deliveries.{deliver_line, after_message, after_delivery}
+use Rattle.mdcc_simulation.specs.Events.{after_event}
+use Rattle.mdcc_simulation.specs.AppliedSteps.{step_at, step_happened_by, step_stopped}
 use Rattle.mdcc_simulation.specs.Deliveries as deliveries
 use Rattle.mdcc_simulation.specs.Limits as limits
-use Rattle.mdcc_simulation.specs.Stepping as stepping
+use Rattle.mdcc_simulation.specs.AppliedSteps as stepping
 use Rattle.mdcc_language.specs.declared.events.Event.{Event}
 use Rattle.mdcc_language.specs.declared.events.UpdateWord.{UpdateWord}
 use Rattle.mdcc_messages.specs.declared.facts.Fact.{Fact}
@@ -32,10 +32,10 @@ use Rattle.mdcc_language.specs.declared.schedule.ResolveFault.{ResolveFault}
 use Rattle.mdcc_language.specs.declared.world.EventFault.{EventFault}
 use Rattle.mdcc_language.specs.declared.world.LimitName.{LimitName}
 use Rattle.mdcc_worlds.proofs.Stays.{by-none, by-some}
-use Rattle.mdcc_worlds.specs.Beginning.{begin_by, begin_told, begun, begun_if}
-use Rattle.mdcc_worlds.specs.Delivering.{at_message, delivery, delivery_by, delivery_told, message_by, message_counted}
-use Rattle.mdcc_worlds.specs.Happening.{at_centre, at_limit, at_restart, if_open, next_epoch, restarted, ticked}
-use Rattle.mdcc_worlds.specs.Taking.{limit_of, step_told, taken, told_by}
+use Rattle.mdcc_worlds.specs.BeginEffects.{after_begin_resolved, after_begin_words, after_begin_parts, after_begin_draft}
+use Rattle.mdcc_worlds.specs.DeliveryProgress.{at_message, after_numbered_message, after_sent_message, delivery_reported, message_by, message_counted}
+use Rattle.mdcc_worlds.specs.EventEffects.{at_centre, at_limit, at_restart, if_open, restart_epoch, restarted, tick_reported}
+use Rattle.mdcc_worlds.specs.StepEffects.{limit_passed, step_reported, after_whole_step, reported_by}
 
 -- ---- limits
 
@@ -57,7 +57,7 @@ limit-or : (o p : Option EventFault) → IsLimit o → IsLimit p → IsLimit (op
 limit-or None p h k = k
 limit-or (Some fault) p h k = h
 
-unless-limited : (o : Option EventFault) (h : Happened) → IsLimit o → OnlyLimits (unless o h)
+unless-limited : (o : Option EventFault) (h : Happened) → IsLimit o → OnlyLimits (unless_limit o h)
 unless-limited None h k = tt
 unless-limited (Some fault) h k = k
 
@@ -90,7 +90,7 @@ open-is w (Err fault) only = elim (cases_Bool (is_past_events w)) [ inl e ↦ rw
 -- ---- inputs
 
 -- an input comes to its step, where no limit is passed
-pub input-is : (w : World) (a : ℕ) (result : Result NodeStep StepFault) → input_limited w a result ≡ step_told w a result
+pub input-is : (w : World) (a : ℕ) (result : Result NodeStep StepFault) → input_limited w a result ≡ step_reported w a result
 input-is w a (Err fault) = refl
 input-is w a (Ok step) = by_fact step.fact refl (centre_at w a).stop refl
   where
@@ -99,13 +99,13 @@ input-is w a (Ok step) = by_fact step.fact refl (centre_at w a).stop refl
     or-none (Some fault) = refl
 
     by_fact : (o : Option Fact) → step.fact ≡ o → (stop : Option (ℕ × Image)) → (centre_at w a).stop ≡ stop
-        → unless (step_limit_by w a step o) (step_happened_by w a step o) ≡ told_by w a step o stop
-    by_fact None e stop k = rw (by-none w a step e) (ap (λ (o : Option Fact). unless (limit_of w a o step.sends) (taken w a step)) (sym e))
+        → unless_limit (step_limit_by w a step o) (step_happened_by w a step o) ≡ reported_by w a step o stop
+    by_fact None e stop k = rw (by-none w a step e) (ap (λ (o : Option Fact). unless_limit (limit_passed w a o step.sends) (after_whole_step w a step)) (sym e))
     by_fact (Some fact) e None k =
-        ap (λ (o : Option (ℕ × Image)). unless (option_or (log_limit w a fact) (if is_some o then None else bytes_limit w step.sends)) (step_happened_by w a step (Some fact))) k
-        ∙ ap (λ (h : Happened). unless (option_or (log_limit w a fact) (bytes_limit w step.sends)) h) (by-some w a step fact e k)
-        ∙ ap (λ (o : Option Fact). unless (limit_of w a o step.sends) (taken w a step)) (sym e)
-    by_fact (Some fact) e (Some stop) k = rw k (ap (λ (o : Option EventFault). unless o (step_stopped w a fact stop)) (or-none (log_limit w a fact)))
+        ap (λ (o : Option (ℕ × Image)). unless_limit (option_or (log_limit w a fact) (if is_some o then None else bytes_limit w step.sends)) (step_happened_by w a step (Some fact))) k
+        ∙ ap (λ (h : Happened). unless_limit (option_or (log_limit w a fact) (bytes_limit w step.sends)) h) (by-some w a step fact e k)
+        ∙ ap (λ (o : Option Fact). unless_limit (limit_passed w a o step.sends) (after_whole_step w a step)) (sym e)
+    by_fact (Some fact) e (Some stop) k = rw k (ap (λ (o : Option EventFault). unless_limit o (step_stopped w a fact stop)) (or-none (log_limit w a fact)))
 
 -- ---- events at a centre
 
@@ -117,35 +117,35 @@ at-centre-is w a r only = by_up (is_up_at w a)
     by_up true = open-is w r only
     by_up false = refl
 
-pub read-is : (w : World) (a : ℕ) (key : Key) → event_of w (Event.Read a key) ≡ if_open (at_centre w a) (Ok (read_happened (counted_event w) a key))
+pub read-is : (w : World) (a : ℕ) (key : Key) → after_event w (Event.Read a key) ≡ if_open (at_centre w a) (Ok (read_happened (counted_event w) a key))
 read-is w a key = at-centre-is w a (Ok (read_happened (counted_event w) a key)) tt
 
-pub tick-is : (w : World) (a : ℕ) → event_of w (Event.Tick a) ≡ if_open (at_centre w a) (ticked w a)
+pub tick-is : (w : World) (a : ℕ) → after_event w (Event.Tick a) ≡ if_open (at_centre w a) (tick_reported w a)
 tick-is w a =
-    at-centre-is w a (ticked w a)
-    (lines-limited (tick_line a) (input_taken (counted_event w) a Input.Tick) (input-limits (counted_event w) a (step_at (counted_event w) a Input.Tick)))
+    at-centre-is w a (tick_reported w a)
+    (lines-limited (tick_line a) (input_applied (counted_event w) a Input.Tick) (input-limits (counted_event w) a (step_at (counted_event w) a Input.Tick)))
 
-pub crash-is : (w : World) (a : ℕ) → event_of w (Event.Crash a) ≡ if_open (at_centre w a) (Ok (crash_happened (counted_event w) a))
+pub crash-is : (w : World) (a : ℕ) → after_event w (Event.Crash a) ≡ if_open (at_centre w a) (Ok (crash_happened (counted_event w) a))
 crash-is w a = at-centre-is w a (Ok (crash_happened (counted_event w) a)) tt
 
 pub stop-is : (w : World) (a call : ℕ) (image : Image)
-    → event_of w (Event.Stop a call image) ≡ if_open (at_centre w a) (Ok (stop_happened (counted_event w) a call image))
+    → after_event w (Event.Stop a call image) ≡ if_open (at_centre w a) (Ok (stop_happened (counted_event w) a call image))
 stop-is w a call image = at-centre-is w a (Ok (stop_happened (counted_event w) a call image)) tt
 
 -- ---- restarts
 
-pub restart-is : (w : World) (a : ℕ) → event_of w (Event.Restart a) ≡ if_open (at_restart w a) (restarted w a)
+pub restart-is : (w : World) (a : ℕ) → after_event w (Event.Restart a) ≡ if_open (at_restart w a) (restarted w a)
 restart-is w a = by_up (is_up_at w a) (is_centre w.cluster a)
   where
     boot : Fact
-    boot = Fact.Booted (next_epoch w a)
+    boot = Fact.Booted (restart_epoch w a)
 
     only : OnlyLimits (restarted w a)
     only =
-        unless-limited (option_or (cells_limit w a boot) (log_limit w a boot)) (restart_happened (counted_event w) a (next_epoch w a))
+        unless-limited (option_or (cells_limit w a boot) (log_limit w a boot)) (restart_happened (counted_event w) a (restart_epoch w a))
         (limit-or (cells_limit w a boot) (log_limit w a boot) (limit-if _ LimitName.Cells _) (log-limited w a boot))
 
-    by_up : (b c : Bool) → within_events w (if b then Err (EventFault.Up a) else (if c then restart_of (counted_event w) a else Err (EventFault.Down a)))
+    by_up : (b c : Bool) → within_events w (if b then Err (EventFault.Up a) else (if c then after_restart (counted_event w) a else Err (EventFault.Down a)))
         ≡ if_open (if b then Err (EventFault.Up a) else (if c then at_limit w else Err (EventFault.Down a))) (restarted w a)
     by_up true c = refl
     by_up false true = open-is w (restarted w a) only
@@ -154,10 +154,10 @@ restart-is w a = by_up (is_up_at w a) (is_centre w.cluster a)
 -- ---- deliveries
 
 -- the message of a number is delivered
-pub delivered-is : (w : World) (number : ℕ) (sent : Sent) → numbered w.sent number ≡ Some sent → delivered w number sent.envelope ≡ delivery w number
-delivered-is w number sent at = ap (delivery_by w number) (sym at)
+pub delivered-is : (w : World) (number : ℕ) (sent : Sent) → numbered w.sent number ≡ Some sent → after_message w number sent.envelope ≡ after_numbered_message w number
+delivered-is w number sent at = ap (after_sent_message w number) (sym at)
 
-pub delivery-is : (w : World) (number : ℕ) → delivery_of w number ≡ if_open (at_message w number) (delivery_told w number)
+pub delivery-is : (w : World) (number : ℕ) → after_delivery w number ≡ if_open (at_message w number) (delivery_reported w number)
 delivery-is w number = by_sent (numbered w.sent number) refl
   where
     by_up : (b : Bool) (a : ℕ) (r : Result Happened EventFault) → OnlyLimits r
@@ -165,33 +165,33 @@ delivery-is w number = by_sent (numbered w.sent number) refl
     by_up true a r only = open-is w r only
     by_up false a r only = refl
 
-    by_sent : (o : Option Sent) → numbered w.sent number ≡ o → deliveries.delivery_by w number o ≡ if_open (message_by w number o) (delivery_told w number)
+    by_sent : (o : Option Sent) → numbered w.sent number ≡ o → deliveries.after_delivery_by w number o ≡ if_open (message_by w number o) (delivery_reported w number)
     by_sent None e = refl
     by_sent (Some sent) e =
         let after = message_counted w number in
-        let result = delivered w number sent.envelope in
+        let result = after_message w number sent.envelope in
         let only : OnlyLimits result = input-limits after sent.envelope.to (step_at after sent.envelope.to (Input.Message sent.envelope)) in
         by_up (is_up_at w sent.envelope.to) sent.envelope.to (with_lines (deliver_line number) result) (lines-limited (deliver_line number) result only)
         ∙ ap (λ (r : Result Happened EventFault). if_open (message_by w number (Some sent)) (with_lines (deliver_line number) r)) (delivered-is w number sent e)
 
 -- ---- begins
 
-drafted-is : (w : World) (a : ℕ) (r : Result (List Part) DraftFault) → within_events w (begun_by (counted_event w) a r) ≡ begun_if w a r
+drafted-is : (w : World) (a : ℕ) (r : Result (List Part) DraftFault) → within_events w (begun_by (counted_event w) a r) ≡ after_begin_draft w a r
 drafted-is w a (Err fault) = refl
 drafted-is w a (Ok parts) =
     let result = step_at (counted_event w) a (Input.Begin parts) in
-    open-is w (begun w a parts) (lines-limited (begin_lines (answer_in result)) (input_limited (counted_event w) a result) (input-limits (counted_event w) a result))
+    open-is w (after_begin_parts w a parts) (lines-limited (begin_lines (answer_in result)) (input_limited (counted_event w) a result) (input-limits (counted_event w) a result))
 
-resolved-is : (w : World) (a : ℕ) (r : Result (List Part) ResolveFault) → within_events w (parts_begun (counted_event w) a r) ≡ begin_by w a r
+resolved-is : (w : World) (a : ℕ) (r : Result (List Part) ResolveFault) → within_events w (parts_begun (counted_event w) a r) ≡ after_begin_resolved w a r
 resolved-is w a (Err (ResolveFault.NoRead number)) = refl
 resolved-is w a (Err (ResolveFault.NoItem key)) = open-is w (Ok (no_item (counted_event w) key)) tt
 resolved-is w a (Err ResolveFault.Memory) = refl
 resolved-is w a (Ok parts) = drafted-is w a (transaction_of w.cluster.schema parts)
 
-pub begin-is : (w : World) (a : ℕ) (words : List UpdateWord) → event_of w (Event.Begin a words) ≡ begin_told w a words
+pub begin-is : (w : World) (a : ℕ) (words : List UpdateWord) → after_event w (Event.Begin a words) ≡ after_begin_words w a words
 begin-is w a words = by_up (is_up_at w a)
   where
-    by_up : (b : Bool) → within_events w (if b then begin_of (counted_event w) a words else Err (EventFault.Down a))
-        ≡ (if b then begin_by w a (resolve words (map Some w.reads)) else Err (EventFault.Down a))
+    by_up : (b : Bool) → within_events w (if b then after_begin (counted_event w) a words else Err (EventFault.Down a))
+        ≡ (if b then after_begin_resolved w a (resolve words (map Some w.reads)) else Err (EventFault.Down a))
     by_up true = resolved-is w a (resolve words (map Some w.reads))
     by_up false = refl

@@ -2,8 +2,8 @@
 use Rattle.std.proofs.Common.{◌≡◌, ℕ, zero, suc, ◌+◌, ◌-◌, ◌≤◌, ◌<◌, ◌&&◌, Bool, true, false, List, refl, sym, ap, ◌∙◌, inl, inr, Option, Some, None, Result, Ok, Err, if◌then◌else◌, arith}
 use Rattle.std.proofs.lemmas.Bool.{cases_Bool, lt-leb}
 use Rattle.mdcc_simulation.specs.State.{Happened, World, after_lines, counted_event}
-use Rattle.mdcc_simulation.specs.Deliveries.{delivered, first_waiting, settled_line, settled_of}
-use Rattle.mdcc_simulation.specs.Events.{event_of}
+use Rattle.mdcc_simulation.specs.Deliveries.{after_message, first_waiting, settled_line, settled_of}
+use Rattle.mdcc_simulation.specs.Events.{after_event}
 use Rattle.mdcc_simulation.specs.Limits.{is_limit, is_past_events, most_events, within_events}
 use Rattle.mdcc_language.specs.declared.events.Event.{Event}
 use Rattle.mdcc_messages.specs.declared.messages.Envelope.{Envelope}
@@ -12,9 +12,9 @@ use Rattle.mdcc_language.specs.declared.world.LimitName.{LimitName}
 use Rattle.mdcc_worlds.proofs.Counts.{delivery-events, limit-open, past-events}
 use Rattle.mdcc_worlds.proofs.Events.{delivered-is, open-is}
 use Rattle.mdcc_worlds.proofs.Numbers.{waiting-numbered}
-use Rattle.mdcc_worlds.specs.Delivering.{delivery}
-use Rattle.mdcc_worlds.specs.Happening.{if_open}
-use Rattle.mdcc_worlds.specs.Settling.{IsSettling, settle_told, settled}
+use Rattle.mdcc_worlds.specs.DeliveryProgress.{after_numbered_message}
+use Rattle.mdcc_worlds.specs.EventEffects.{if_open}
+use Rattle.mdcc_worlds.specs.SettleProgress.{IsSettling, settle_reported, settle_ended}
 
 abbrev passed : EventFault
 passed = EventFault.Limit LimitName.Events most_events
@@ -31,28 +31,28 @@ pub settled-limit : (listed : List ℕ) (h : Happened) (deliveries : ℕ) (next 
 settled-limit listed h deliveries next e = rw (e, settled_of) refl
 
 settled-by : (left : ℕ) (listed : List ℕ) (h after : Happened) (deliveries : ℕ) (next : ℕ × Envelope) → first_waiting h.world listed 1 h.world.sent ≡ Some next
-    → delivered h.world next.0 next.1 ≡ Ok after
+    → after_message h.world next.0 next.1 ≡ Ok after
     → settled_of (suc left) listed h deliveries ≡ settled_of left listed (after_lines h.lines after) (deliveries + 1)
 settled-by left listed h after deliveries next e f = rw (e, f, settled_of) refl
 
 -- what comes of the message that waits first is what comes of its number
-waiting-is : (w : World) (listed : List ℕ) (next : ℕ × Envelope) → first_waiting w listed 1 w.sent ≡ Some next → delivered w next.0 next.1 ≡ delivery w next.0
+waiting-is : (w : World) (listed : List ℕ) (next : ℕ × Envelope) → first_waiting w listed 1 w.sent ≡ Some next → after_message w next.0 next.1 ≡ after_numbered_message w next.0
 waiting-is w listed next e =
     let is = waiting-numbered w listed w.sent next e in
-    ap (λ (envelope : Envelope). delivered w next.0 envelope) (sym is.envelope) ∙ delivered-is w next.0 is.sent is.there
+    ap (λ (envelope : Envelope). after_message w next.0 envelope) (sym is.envelope) ∙ delivered-is w next.0 is.sent is.there
 
 pub settled-next : (left : ℕ) (listed : List ℕ) (h after : Happened) (deliveries : ℕ) (next : ℕ × Envelope) → first_waiting h.world listed 1 h.world.sent ≡ Some next
-    → delivery h.world next.0 ≡ Ok after
+    → after_numbered_message h.world next.0 ≡ Ok after
     → settled_of (suc left) listed h deliveries ≡ settled_of left listed (after_lines h.lines after) (deliveries + 1)
 settled-next left listed h after deliveries next e f = settled-by left listed h after deliveries next e (waiting-is h.world listed next e ∙ f)
 
 pub settled-refused : (left : ℕ) (listed : List ℕ) (h : Happened) (deliveries : ℕ) (next : ℕ × Envelope) (fault : EventFault) → first_waiting h.world listed 1 h.world.sent ≡ Some next
-    → delivery h.world next.0 ≡ Err fault
+    → after_numbered_message h.world next.0 ≡ Err fault
     → settled_of (suc left) listed h deliveries ≡ Err fault
 settled-refused left listed h deliveries next fault e f = let is = waiting-is h.world listed next e ∙ f in rw (e, is, settled_of) refl
 
 -- the delivery of the message that waits first is an event
-pub waiting-events : (w : World) (listed : List ℕ) (next : ℕ × Envelope) (after : Happened) → first_waiting w listed 1 w.sent ≡ Some next → delivery w next.0 ≡ Ok after
+pub waiting-events : (w : World) (listed : List ℕ) (next : ℕ × Envelope) (after : Happened) → first_waiting w listed 1 w.sent ≡ Some next → after_numbered_message w next.0 ≡ Ok after
     → after.world.events ≡ w.events + 1
 waiting-events w listed next after e f =
     let is = waiting-numbered w listed w.sent next e in
@@ -60,12 +60,12 @@ waiting-events w listed next after e f =
 
 -- ---- the line
 
-pub settling-begins : (w : World) (listed : List ℕ) → IsSettling w listed (settle_told w listed) 0
+pub settling-begins : (w : World) (listed : List ℕ) → IsSettling w listed (settle_reported w listed) 0
 settling-begins w listed = record { answer = refl; count = omega arith }
 
 pub settling-goes_on : (w : World) (listed : List ℕ) (reached after : Happened) (deliveries : ℕ) (next : ℕ × Envelope) → IsSettling w listed reached deliveries
     → first_waiting reached.world listed 1 reached.world.sent ≡ Some next → reached.world.events < most_events
-    → delivery reached.world next.0 ≡ Ok after
+    → after_numbered_message reached.world next.0 ≡ Ok after
     → IsSettling w listed (after_lines reached.lines after) (deliveries + 1)
 settling-goes_on w listed reached after deliveries next so_far waits few is =
     let counted = waiting-events reached.world listed next after waits is in
@@ -99,8 +99,8 @@ within-limit w fault few = by_limit (is_limit fault) (is_past_events w) (lt-leb 
 -- a delivery is refused
 pub settling-breaks : (w : World) (listed : List ℕ) (reached : Happened) (deliveries : ℕ) (next : ℕ × Envelope) (fault : EventFault) → IsSettling w listed reached deliveries
     → first_waiting reached.world listed 1 reached.world.sent ≡ Some next → reached.world.events < most_events → w.events < most_events
-    → delivery reached.world next.0 ≡ Err fault
-    → event_of w (Event.Settle listed) ≡ Err fault
+    → after_numbered_message reached.world next.0 ≡ Err fault
+    → after_event w (Event.Settle listed) ≡ Err fault
 settling-breaks w listed reached deliveries next fault so_far waits few first is =
     let left = most_events - (reached.world.events + 1) in
     let more : most_events - reached.world.events ≡ suc left = omega (few, arith) in
@@ -112,16 +112,16 @@ settling-breaks w listed reached deliveries next fault so_far waits few first is
 -- none waits
 pub settling-ends : (w : World) (listed : List ℕ) (reached : Happened) (deliveries : ℕ) → IsSettling w listed reached deliveries
     → first_waiting reached.world listed 1 reached.world.sent ≡ None → w.events < most_events
-    → event_of w (Event.Settle listed) ≡ Ok (settled reached deliveries)
+    → after_event w (Event.Settle listed) ≡ Ok (settle_ended reached deliveries)
 settling-ends w listed reached deliveries so_far none few =
     ap (line_of w) (so_far.answer ∙ settled-none (most_events - reached.world.events) listed reached deliveries none)
-    ∙ open-is w (Ok (settled reached deliveries)) tt
-    ∙ ap (λ (r : Result (Unit {0}) EventFault). if_open r (Ok (settled reached deliveries))) (limit-open w few)
+    ∙ open-is w (Ok (settle_ended reached deliveries)) tt
+    ∙ ap (λ (r : Result (Unit {0}) EventFault). if_open r (Ok (settle_ended reached deliveries))) (limit-open w few)
 
 -- one waits, and there were as many events as there may be
 pub settling-stops : (w : World) (listed : List ℕ) (reached : Happened) (deliveries : ℕ) (next : ℕ × Envelope) → IsSettling w listed reached deliveries
     → first_waiting reached.world listed 1 reached.world.sent ≡ Some next → most_events ≤ reached.world.events
-    → event_of w (Event.Settle listed) ≡ Err (EventFault.Limit LimitName.Events most_events)
+    → after_event w (Event.Settle listed) ≡ Err (EventFault.Limit LimitName.Events most_events)
 settling-stops w listed reached deliveries next so_far waits full =
     let none : most_events - reached.world.events ≡ 0 = omega (full, arith) in
     ap (line_of w) (so_far.answer
@@ -131,14 +131,14 @@ settling-stops w listed reached deliveries next so_far waits full =
 
 -- there were as many before the line
 pub settle-closed : (w : World) (listed : List ℕ) → most_events ≤ w.events
-    → event_of w (Event.Settle listed) ≡ Err (EventFault.Limit LimitName.Events most_events)
+    → after_event w (Event.Settle listed) ≡ Err (EventFault.Limit LimitName.Events most_events)
 settle-closed w listed full = by_waiting (first_waiting (counted_event w) listed 1 w.sent) refl
   where
     past : is_past_events w ≡ true
     past = past-events w full
 
-    by_waiting : (o : Option (ℕ × Envelope)) → first_waiting (counted_event w) listed 1 w.sent ≡ o → event_of w (Event.Settle listed) ≡ Err passed
+    by_waiting : (o : Option (ℕ × Envelope)) → first_waiting (counted_event w) listed 1 w.sent ≡ o → after_event w (Event.Settle listed) ≡ Err passed
     by_waiting None e =
-        ap (line_of w) (settled-none (most_events - (w.events + 1)) listed (settle_told w listed) 0 e)
+        ap (line_of w) (settled-none (most_events - (w.events + 1)) listed (settle_reported w listed) 0 e)
         ∙ rw past refl
-    by_waiting (Some next) e = settling-stops w listed (settle_told w listed) 0 next (settling-begins w listed) e (omega (full, arith))
+    by_waiting (Some next) e = settling-stops w listed (settle_reported w listed) 0 next (settling-begins w listed) e (omega (full, arith))

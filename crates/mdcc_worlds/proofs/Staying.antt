@@ -20,10 +20,10 @@ use Rattle.mdcc_simulation.specs.State.{Happened, World, after_lines, centre_at,
 use Rattle.mdcc_messages.specs.Mailbox.{Sent, numbered}
 use Rattle.mdcc_simulation.specs.Clients.{answer_in, begin_lines, no_item, read_happened}
 use Rattle.mdcc_simulation.specs.Centres.{crash_happened, restart_happened, stop_happened, tick_line}
-use Rattle.mdcc_simulation.specs.Deliveries.{deliver_line, deliveries_of, delivery_of, first_waiting, settled_line, settled_of}
-use Rattle.mdcc_simulation.specs.Events.{event_of}
-use Rattle.mdcc_simulation.specs.Stepping.{input_happened, step_at}
-use Rattle.mdcc_simulation.specs.Limits.{bytes_limit, cells_limit, input_taken, is_limit, is_past_events, limit_if, log_limit, most_events, most_log, step_limit, step_limit_by, unless, with_lines, within_events}
+use Rattle.mdcc_simulation.specs.Deliveries.{deliver_line, after_deliveries, after_delivery, first_waiting, settled_line, settled_of}
+use Rattle.mdcc_simulation.specs.Events.{after_event}
+use Rattle.mdcc_simulation.specs.AppliedSteps.{input_happened, step_at}
+use Rattle.mdcc_simulation.specs.Limits.{bytes_limit, cells_limit, input_applied, is_limit, is_past_events, limit_if, log_limit, most_events, most_log, step_limit, step_limit_by, unless_limit, with_lines, within_events}
 use Rattle.mdcc_language.specs.declared.events.Event.{Event}
 use Rattle.mdcc_language.specs.declared.events.UpdateWord.{UpdateWord}
 use Rattle.mdcc_messages.specs.declared.facts.Fact.{Fact}
@@ -33,7 +33,7 @@ use Rattle.mdcc_rules.specs.declared.node.Input.{Input}
 use Rattle.mdcc_language.specs.declared.schedule.ResolveFault.{ResolveFault}
 use Rattle.mdcc_language.specs.declared.world.EventFault.{EventFault}
 use Rattle.mdcc_language.specs.declared.world.LimitName.{LimitName}
-use Rattle.mdcc_steps.specs.Forming.{with_new}
+use Rattle.mdcc_steps.specs.NodeInvariant.{with_new}
 use Rattle.mdcc_steps.specs.Inputs.{IsWellFormedInput}
 use Rattle.mdcc_worlds.proofs.Counts.{delivery-events, limited-events, open-few, unless-happened}
 use Rattle.mdcc_worlds.proofs.Delivers.{next-of, refused-of}
@@ -42,17 +42,17 @@ use Rattle.mdcc_worlds.proofs.Events.{begin-is, crash-is, delivery-is, open-is, 
 use Rattle.mdcc_worlds.proofs.Numbers.{each-numbered}
 use Rattle.mdcc_worlds.proofs.Settles.{settle-closed, settled-limit, settled-next, settled-none, settled-refused, waiting-events}
 use Rattle.mdcc_worlds.proofs.Stays.{KeepsLog, counted-stays, crash-stays, delivered-stays, input-stays, read-stays, restart-stays, stop-stays}
-use Rattle.mdcc_worlds.specs.Beginning.{begin_by, begun, begun_if}
-use Rattle.mdcc_worlds.specs.Delivering.{at_message, delivery, delivery_by, delivery_told, message_by, message_counted, unmoved}
+use Rattle.mdcc_worlds.specs.BeginEffects.{after_begin_resolved, after_begin_parts, after_begin_draft}
+use Rattle.mdcc_worlds.specs.DeliveryProgress.{at_message, after_numbered_message, after_sent_message, delivery_reported, message_by, message_counted, unmoved}
 use Rattle.mdcc_worlds.specs.Events.{IsBetween}
-use Rattle.mdcc_worlds.specs.Happening.{at_centre, at_limit, at_restart, if_open, next_epoch, restarted, ticked}
-use Rattle.mdcc_worlds.specs.Settling.{settle_told, settled}
-use Rattle.mdcc_worlds.specs.Standing.{IsSent, IsWorld}
+use Rattle.mdcc_worlds.specs.EventEffects.{at_centre, at_limit, at_restart, if_open, restart_epoch, restarted, tick_reported}
+use Rattle.mdcc_worlds.specs.SettleProgress.{settle_reported, settle_ended}
+use Rattle.mdcc_worlds.specs.WorldInvariant.{IsSentWithin, IsWorld}
 use Rattle.mdcc_worlds.specs.Words.{IsGivenEvent, IsGivenWord}
 
 -- ---- limits
 
-unless-open : (o : Option EventFault) (h after : Happened) → unless o h ≡ Ok after → o ≡ None
+unless-open : (o : Option EventFault) (h after : Happened) → unless_limit o h ≡ Ok after → o ≡ None
 unless-open None h after e = refl
 unless-open (Some fault) h after e = absurd (cc)
 
@@ -90,7 +90,7 @@ log-kept w a r stands centre e step is = by_fact step.fact (subst (λ (x : Resul
 
 -- an input that no limit refuses
 pub limited-stays : (w : World) (a : ℕ) (input : Input) (h : Happened) → IsWorld w → is_centre w.cluster a ≡ true → IsWellFormedInput input
-    → input_taken w a input ≡ Ok h → IsWorld h.world
+    → input_applied w a input ≡ Ok h → IsWorld h.world
 limited-stays w a input h stands centre formed e =
     let result = step_at w a input in
     let clear = unless-open (step_limit w a result) (input_happened w a result) h e in
@@ -101,8 +101,8 @@ limited-stays w a input h stands centre formed e =
 pub restarted-stays : (w : World) (a : ℕ) (h : Happened) → IsWorld w → is_centre w.cluster a ≡ true → w.events < most_events
     → restarted w a ≡ Ok h → IsWorld h.world
 restarted-stays w a h stands centre few e =
-    let boot = Fact.Booted (next_epoch w a) in
-    let after = restart_happened (counted_event w) a (next_epoch w a) in
+    let boot = Fact.Booted (restart_epoch w a) in
+    let after = restart_happened (counted_event w) a (restart_epoch w a) in
     let limit = option_or (cells_limit w a boot) (log_limit w a boot) in
     let same = unless-happened limit after h e in
     let none = unless-open limit after h e in
@@ -116,13 +116,13 @@ restarted-stays w a h stands centre few e =
 
 -- ---- a delivery
 
-pub delivery-stays : (w : World) (number : ℕ) (h : Happened) → IsWorld w → delivery w number ≡ Ok h → IsWorld h.world
+pub delivery-stays : (w : World) (number : ℕ) (h : Happened) → IsWorld w → after_numbered_message w number ≡ Ok h → IsWorld h.world
 delivery-stays w number h stands e = by_sent (numbered w.sent number) refl e
   where
-    by_sent : (o : Option Sent) → numbered w.sent number ≡ o → delivery_by w number o ≡ Ok h → IsWorld h.world
+    by_sent : (o : Option Sent) → numbered w.sent number ≡ o → after_sent_message w number o ≡ Ok h → IsWorld h.world
     by_sent None f k = absurd (cc)
     by_sent (Some sent) f k =
-        let is = each-numbered (IsSent w.cluster) w.sent number sent stands.sent f in
+        let is = each-numbered (IsSentWithin w.cluster) w.sent number sent stands.sent f in
         limited-stays (message_counted w number) sent.envelope.to (Input.Message sent.envelope) h
         (delivered-stays w (number - 1) (w.events + 1) (omega arith) stands) is.within is.envelope_itself k
 
@@ -173,7 +173,7 @@ open-message w number clear = by_sent (numbered w.sent number) refl clear
 
 -- one event more, and what an input did
 input-between : (w : World) (a : ℕ) (input : Input) (h : Happened) → IsBetween w → is_centre w.cluster a ≡ true → w.events < most_events → IsWellFormedInput input
-    → input_taken (counted_event w) a input ≡ Ok h → IsBetween h.world
+    → input_applied (counted_event w) a input ≡ Ok h → IsBetween h.world
 input-between w a input h between centre few formed e = record {
   itself = limited-stays (counted_event w) a input h (counted-stays w between.itself) centre formed e;
   few =
@@ -183,9 +183,9 @@ input-between w a input h between centre few formed e = record {
 
 -- the same behind its lines
 lines-between : (w : World) (a : ℕ) (input : Input) (lines : World → List Line) (h : Happened) → IsBetween w → is_centre w.cluster a ≡ true → w.events < most_events → IsWellFormedInput input
-    → with_lines lines (input_taken (counted_event w) a input) ≡ Ok h → IsBetween h.world
+    → with_lines lines (input_applied (counted_event w) a input) ≡ Ok h → IsBetween h.world
 lines-between w a input lines h between centre few formed e =
-    let there = told lines (input_taken (counted_event w) a input) h e in
+    let there = told lines (input_applied (counted_event w) a input) h e in
     subst IsBetween there.2 (input-between w a input there.0 between centre few formed there.1)
 
 counted-between : (w : World) → IsBetween w → w.events < most_events → IsBetween (counted_event w)
@@ -198,7 +198,7 @@ happens h = Ok h
 happened-between : (h after : Happened) → happens h ≡ Ok after → IsBetween h.world → IsBetween after.world
 happened-between h after e between = let same : h ≡ after = cc in subst (λ (x : Happened). IsBetween x.world) same between
 
-read-between : (w : World) (a : ℕ) (key : Key) (h : Happened) → IsBetween w → IsKey key → event_of w (Event.Read a key) ≡ Ok h → IsBetween h.world
+read-between : (w : World) (a : ℕ) (key : Key) (h : Happened) → IsBetween w → IsKey key → after_event w (Event.Read a key) ≡ Ok h → IsBetween h.world
 read-between w a key h between is e =
     let both = opened (at_centre w a) (Ok (read_happened (counted_event w) a key)) h (sym (read-is w a key) ∙ e) in
     let there = open-centre w a both.0 in
@@ -206,13 +206,13 @@ read-between w a key h between is e =
     happened-between (read_happened (counted_event w) a key) h both.1
     (record { itself = read-stays (counted_event w) a key (counted-stays w between.itself) there.0 is; few = omega (few, arith) })
 
-tick-between : (w : World) (a : ℕ) (h : Happened) → IsBetween w → event_of w (Event.Tick a) ≡ Ok h → IsBetween h.world
+tick-between : (w : World) (a : ℕ) (h : Happened) → IsBetween w → after_event w (Event.Tick a) ≡ Ok h → IsBetween h.world
 tick-between w a h between e =
-    let both = opened (at_centre w a) (ticked w a) h (sym (tick-is w a) ∙ e) in
+    let both = opened (at_centre w a) (tick_reported w a) h (sym (tick-is w a) ∙ e) in
     let there = open-centre w a both.0 in
     lines-between w a Input.Tick (tick_line a) h between there.0 there.1 tt both.1
 
-crash-between : (w : World) (a : ℕ) (h : Happened) → IsBetween w → event_of w (Event.Crash a) ≡ Ok h → IsBetween h.world
+crash-between : (w : World) (a : ℕ) (h : Happened) → IsBetween w → after_event w (Event.Crash a) ≡ Ok h → IsBetween h.world
 crash-between w a h between e =
     let both = opened (at_centre w a) (Ok (crash_happened (counted_event w) a)) h (sym (crash-is w a) ∙ e) in
     let there = open-centre w a both.0 in
@@ -220,7 +220,7 @@ crash-between w a h between e =
     happened-between (crash_happened (counted_event w) a) h both.1
     (record { itself = crash-stays (counted_event w) a (counted-stays w between.itself) there.0; few = omega (few, arith) })
 
-stop-between : (w : World) (a call : ℕ) (image : Image) (h : Happened) → IsBetween w → event_of w (Event.Stop a call image) ≡ Ok h → IsBetween h.world
+stop-between : (w : World) (a call : ℕ) (image : Image) (h : Happened) → IsBetween w → after_event w (Event.Stop a call image) ≡ Ok h → IsBetween h.world
 stop-between w a call image h between e =
     let both = opened (at_centre w a) (Ok (stop_happened (counted_event w) a call image)) h (sym (stop-is w a call image) ∙ e) in
     let there = open-centre w a both.0 in
@@ -228,31 +228,31 @@ stop-between w a call image h between e =
     happened-between (stop_happened (counted_event w) a call image) h both.1
     (record { itself = stop-stays (counted_event w) a call image (counted-stays w between.itself) there.0; few = omega (few, arith) })
 
-restart-between : (w : World) (a : ℕ) (h : Happened) → IsBetween w → event_of w (Event.Restart a) ≡ Ok h → IsBetween h.world
+restart-between : (w : World) (a : ℕ) (h : Happened) → IsBetween w → after_event w (Event.Restart a) ≡ Ok h → IsBetween h.world
 restart-between w a h between e =
     let both = opened (at_restart w a) (restarted w a) h (sym (restart-is w a) ∙ e) in
     let there = open-restart w a both.0 in
     let few = there.1 in
-    let boot = Fact.Booted (next_epoch w a) in
-    let after = restart_happened (counted_event w) a (next_epoch w a) in
+    let boot = Fact.Booted (restart_epoch w a) in
+    let after = restart_happened (counted_event w) a (restart_epoch w a) in
     let same = unless-happened (option_or (cells_limit w a boot) (log_limit w a boot)) after h both.1 in
     let itself : IsWorld after.world =
     subst (λ (x : Happened). IsWorld x.world) (sym same) (restarted-stays w a h between.itself there.0 few both.1) in
     subst (λ (x : Happened). IsBetween x.world) same
     (record { itself = itself; few = omega (few, arith) })
 
-begin-between : (w : World) (a : ℕ) (words : List UpdateWord) (h : Happened) → IsBetween w → AllByRecursion IsGivenWord words → event_of w (Event.Begin a words) ≡ Ok h → IsBetween h.world
+begin-between : (w : World) (a : ℕ) (words : List UpdateWord) (h : Happened) → IsBetween w → AllByRecursion IsGivenWord words → after_event w (Event.Begin a words) ≡ Ok h → IsBetween h.world
 begin-between w a words h between given e = by_up (is_up_at w a) refl (sym (begin-is w a words) ∙ e)
   where
     drafted : (resolved : List Part) → resolve words (map Some w.reads) ≡ Ok resolved → is_centre w.cluster a ≡ true
-        → (r : Result (List Part) DraftFault) → transaction_of w.cluster.schema resolved ≡ r → begun_if w a r ≡ Ok h → IsBetween h.world
+        → (r : Result (List Part) DraftFault) → transaction_of w.cluster.schema resolved ≡ r → after_begin_draft w a r ≡ Ok h → IsBetween h.world
     drafted resolved found centre (Err fault) made k = absurd (cc)
     drafted resolved found centre (Ok parts) made k =
-        let both = opened (at_limit w) (begun w a parts) h k in
+        let both = opened (at_limit w) (after_begin_parts w a parts) h k in
         let formed = parts-formed w.cluster.schema w.reads words resolved parts between.itself.cluster_itself.schema between.itself.reads given found made in
         lines-between w a (Input.Begin parts) (begin_lines (answer_in (step_at (counted_event w) a (Input.Begin parts)))) h between centre (open-few w both.0) formed both.1
 
-    resolved-by : (r : Result (List Part) ResolveFault) → resolve words (map Some w.reads) ≡ r → is_centre w.cluster a ≡ true → begin_by w a r ≡ Ok h → IsBetween h.world
+    resolved-by : (r : Result (List Part) ResolveFault) → resolve words (map Some w.reads) ≡ r → is_centre w.cluster a ≡ true → after_begin_resolved w a r ≡ Ok h → IsBetween h.world
     resolved-by (Err (ResolveFault.NoRead number)) found centre k = absurd (cc)
     resolved-by (Err (ResolveFault.NoItem key)) found centre k =
         let both = opened (at_limit w) (Ok (no_item (counted_event w) key)) h k in
@@ -260,27 +260,27 @@ begin-between w a words h between given e = by_up (is_up_at w a) refl (sym (begi
     resolved-by (Err ResolveFault.Memory) found centre k = absurd (cc)
     resolved-by (Ok resolved) found centre k = drafted resolved found centre (transaction_of w.cluster.schema resolved) refl k
 
-    by_up : (b : Bool) → is_up_at w a ≡ b → (if b then begin_by w a (resolve words (map Some w.reads)) else Err (EventFault.Down a)) ≡ Ok h → IsBetween h.world
+    by_up : (b : Bool) → is_up_at w a ≡ b → (if b then after_begin_resolved w a (resolve words (map Some w.reads)) else Err (EventFault.Down a)) ≡ Ok h → IsBetween h.world
     by_up true up k = resolved-by (resolve words (map Some w.reads)) refl (up-centre w a up) k
     by_up false up k = absurd (cc)
 
 -- ---- deliveries
 
-told-between : (w : World) (number : ℕ) (h : Happened) → IsBetween w → delivery_of w number ≡ Ok h → IsBetween h.world
+told-between : (w : World) (number : ℕ) (h : Happened) → IsBetween w → after_delivery w number ≡ Ok h → IsBetween h.world
 told-between w number h between e =
-    let both = opened (at_message w number) (delivery_told w number) h (sym (delivery-is w number) ∙ e) in
+    let both = opened (at_message w number) (delivery_reported w number) h (sym (delivery-is w number) ∙ e) in
     let sent = open-message w number both.0 in
-    let there = told (deliver_line number) (delivery w number) h both.1 in
+    let there = told (deliver_line number) (after_numbered_message w number) h both.1 in
     let counted = delivery-events w number sent.0 there.0 sent.1 there.1 in
     let few = sent.2 in
     subst IsBetween there.2 (record { itself = delivery-stays w number there.0 between.itself there.1; few = omega (counted, few, arith) })
 
-delivery-between : (number : ℕ) (numbers : List ℕ) (h after : Happened) → IsBetween h.world → deliveries_of (number ∷ numbers) h ≡ Ok after
-    → ((next : Happened) → IsBetween next.world → deliveries_of numbers next ≡ Ok after → IsBetween after.world)
+delivery-between : (number : ℕ) (numbers : List ℕ) (h after : Happened) → IsBetween h.world → after_deliveries (number ∷ numbers) h ≡ Ok after
+    → ((next : Happened) → IsBetween next.world → after_deliveries numbers next ≡ Ok after → IsBetween after.world)
     → IsBetween after.world
-delivery-between number numbers h after between e go = by_answer (delivery_of h.world number) refl
+delivery-between number numbers h after between e go = by_answer (after_delivery h.world number) refl
   where
-    by_answer : (r : Result Happened EventFault) → delivery_of h.world number ≡ r → IsBetween after.world
+    by_answer : (r : Result Happened EventFault) → after_delivery h.world number ≡ r → IsBetween after.world
     by_answer (Err fault) f =
         let bad : Err fault ≡ Ok after = sym (refused-of number numbers h fault f) ∙ e in
         absurd (cc)
@@ -288,7 +288,7 @@ delivery-between number numbers h after between e go = by_answer (delivery_of h.
         let stays = told-between h.world number next between f in
         go (after_lines h.lines next) (record { itself = stays.itself; few = stays.few }) (sym (next-of number numbers h next f) ∙ e)
 
-deliveries-between : (numbers : List ℕ) (h after : Happened) → IsBetween h.world → deliveries_of numbers h ≡ Ok after → IsBetween after.world
+deliveries-between : (numbers : List ℕ) (h after : Happened) → IsBetween h.world → after_deliveries numbers h ≡ Ok after → IsBetween after.world
 deliveries-between [] h after between e = happened-between h after e between
 deliveries-between (number ∷ numbers) h after between e =
     delivery-between number numbers h after between e (λ next stands k. deliveries-between numbers next after stands k)
@@ -321,9 +321,9 @@ settled-between (suc left) listed h deliveries after stands few e =
     by_waiting : ((h : Happened) (deliveries : ℕ) → IsWorld h.world → left + h.world.events ≤ most_events → settled_of left listed h deliveries ≡ Ok after → IsBetween after.0.world)
         → (o : Option (ℕ × Envelope)) → first_waiting h.world listed 1 h.world.sent ≡ o → IsBetween after.0.world
     by_waiting go None f = settled-done (suc left) listed h deliveries after stands few e f
-    by_waiting go (Some next) f = by_delivery (delivery h.world next.0) refl
+    by_waiting go (Some next) f = by_delivery (after_numbered_message h.world next.0) refl
       where
-        by_delivery : (r : Result Happened EventFault) → delivery h.world next.0 ≡ r → IsBetween after.0.world
+        by_delivery : (r : Result Happened EventFault) → after_numbered_message h.world next.0 ≡ r → IsBetween after.0.world
         by_delivery (Err fault) g =
             let bad : Err fault ≡ Ok after = sym (settled-refused left listed h deliveries next fault f g) ∙ e in
             absurd (cc)
@@ -332,10 +332,10 @@ settled-between (suc left) listed h deliveries after stands few e =
             go (after_lines h.lines reached) (deliveries + 1) (delivery-stays h.world next.0 reached stands g) (omega (counted, few, arith))
             (sym (settled-next left listed h reached deliveries next f g) ∙ e)
 
-settle-between : (w : World) (listed : List ℕ) (h : Happened) → IsBetween w → event_of w (Event.Settle listed) ≡ Ok h → IsBetween h.world
+settle-between : (w : World) (listed : List ℕ) (h : Happened) → IsBetween w → after_event w (Event.Settle listed) ≡ Ok h → IsBetween h.world
 settle-between w listed h between e = by_limit (cases_Bool (nat_le most_events w.events))
   where
-    by_result : (r : Result (Happened × ℕ) EventFault) → settled_of (most_events - (w.events + 1)) listed (settle_told w listed) 0 ≡ r
+    by_result : (r : Result (Happened × ℕ) EventFault) → settled_of (most_events - (w.events + 1)) listed (settle_reported w listed) 0 ≡ r
         → w.events < most_events → within_events w (settled_line r) ≡ Ok h → IsBetween h.world
     by_result (Err fault) f few k = absurd (refused fault k)
       where
@@ -345,18 +345,18 @@ settle-between w listed h between e = by_limit (cases_Bool (nat_le most_events w
           | inr g ↦ let bad : Err fault ≡ Ok h = rw g at k in cc
         ]
     by_result (Ok after) f few k =
-        let both = opened (at_limit w) (Ok (settled after.0 after.1)) h (sym (open-is w (Ok (settled after.0 after.1)) tt) ∙ k) in
-        let ends = settled-between (most_events - (w.events + 1)) listed (settle_told w listed) 0 after (counted-stays w between.itself) (omega (few, arith)) f in
-        happened-between (settled after.0 after.1) h both.1 (record { itself = ends.itself; few = ends.few })
+        let both = opened (at_limit w) (Ok (settle_ended after.0 after.1)) h (sym (open-is w (Ok (settle_ended after.0 after.1)) tt) ∙ k) in
+        let ends = settled-between (most_events - (w.events + 1)) listed (settle_reported w listed) 0 after (counted-stays w between.itself) (omega (few, arith)) f in
+        happened-between (settle_ended after.0 after.1) h both.1 (record { itself = ends.itself; few = ends.few })
 
     by_limit : (nat_le most_events w.events ≡ true) ⊎ (nat_le most_events w.events ≡ false) → IsBetween h.world
     by_limit (inl full) =
         let bad : Err (EventFault.Limit LimitName.Events most_events) ≡ Ok h = sym (settle-closed w listed (leb-true most_events w.events full)) ∙ e in absurd (cc)
-    by_limit (inr few) = by_result (settled_of (most_events - (w.events + 1)) listed (settle_told w listed) 0) refl (leb-false most_events w.events few) e
+    by_limit (inr few) = by_result (settled_of (most_events - (w.events + 1)) listed (settle_reported w listed) 0) refl (leb-false most_events w.events few) e
 
 -- ---- every event
 
-pub event-between : (w : World) (event : Event) (h : Happened) → IsBetween w → IsGivenEvent event → event_of w event ≡ Ok h → IsBetween h.world
+pub event-between : (w : World) (event : Event) (h : Happened) → IsBetween w → IsGivenEvent event → after_event w event ≡ Ok h → IsBetween h.world
 event-between w (Event.Read a key) h between given e = read-between w a key h between given e
 event-between w (Event.Begin a words) h between given e = begin-between w a words h between given e
 event-between w (Event.Deliver numbers) h between given e = deliveries-between numbers (unmoved w) h between e

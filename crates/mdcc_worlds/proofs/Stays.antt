@@ -20,8 +20,8 @@ use Rattle.mdcc_messages.specs.WellFormed.{IsWellFormedEnvelope, IsWellFormedFac
 use Rattle.mdcc_messages.specs.Mailbox.{Sent, unsent, with_delivered}
 use Rattle.mdcc_simulation.specs.State.{Happened, Site, World, booted, centre_at, counted_event, down, with_centre}
 use Rattle.mdcc_simulation.specs.Centres.{crash_happened, restart_happened, stop_happened}
-use Rattle.mdcc_simulation.specs.Stepping.{fact_happened, input_happened, is_frame_kept, step_at, step_happened_by, step_stopped}
-use Rattle.mdcc_simulation.specs.Clients.{known_of, read_happened}
+use Rattle.mdcc_simulation.specs.AppliedSteps.{fact_happened, input_happened, is_frame_kept, step_at, step_happened_by, step_stopped}
+use Rattle.mdcc_simulation.specs.Clients.{known_of_reading, read_happened}
 use Rattle.mdcc_simulation.specs.Limits.{most_events, most_log}
 use Rattle.mdcc_messages.specs.declared.facts.Fact.{Fact}
 use Rattle.mdcc_messages.specs.declared.messages.Envelope.{Envelope}
@@ -35,12 +35,12 @@ use Rattle.mdcc_steps.proofs.Cells.{few-logged}
 use Rattle.mdcc_steps.proofs.Dispatched.{node-stays, sends-formed}
 use Rattle.mdcc_steps.proofs.Each.{each-append}
 use Rattle.mdcc_steps.proofs.Shortness.{sends-short}
-use Rattle.mdcc_steps.specs.Forming.{HasRoom, IsNode, accept_length, payloads_of, with_new}
+use Rattle.mdcc_steps.specs.NodeInvariant.{HasRoom, IsNode, accept_length, payloads_of, with_new}
 use Rattle.mdcc_steps.specs.Inputs.{IsWellFormedInput}
 use Rattle.mdcc_worlds.proofs.Within.{LeavesEpoch, made-epoch, made-stays}
-use Rattle.mdcc_worlds.specs.Sending.{GoesWithin, StaysWithin}
-use Rattle.mdcc_worlds.specs.Standing.{IsRead, IsSent, IsWorld}
-use Rattle.mdcc_worlds.specs.Taking.{taken, with_fact, world_taken}
+use Rattle.mdcc_worlds.specs.StepSends.{GoesWithin, StaysWithin}
+use Rattle.mdcc_worlds.specs.WorldInvariant.{IsWellFormedKnown, IsSentWithin, IsWorld}
+use Rattle.mdcc_worlds.specs.StepEffects.{after_whole_step, ledger_with_fact, world_after_step}
 
 -- ---- centres
 
@@ -63,24 +63,24 @@ site-other sites a b site some some' other =
 -- ---- facts
 
 pub facts-with : (a b : ℕ) (o : Option Fact) (entries : List Entry)
-    → facts_of (with_fact a o entries) b ≡ (if a == b then with_new (facts_of entries b) o else facts_of entries b)
+    → facts_of (ledger_with_fact a o entries) b ≡ (if a == b then with_new (facts_of entries b) o else facts_of entries b)
 facts-with a b None entries = elim (cases_Bool (a == b)) [ inl e ↦ rw e refl | inr e ↦ rw e refl ]
 facts-with a b (Some fact) entries = refl
 
 -- what holds of each centre with its facts holds where one is put, with a new fact of its own or without
 pub each-put : (w : World) (a : ℕ) (site : Site) (new : Option Fact) (P : ℕ → List Fact → Site → Type 0) → IsWorld w → is_centre w.cluster a ≡ true
     → ((b : ℕ) → P b (facts_of w.ledger b) (centre_at w b)) → P a (with_new (facts_of w.ledger a) new) site
-    → (b : ℕ) → 1 ≤ b → P b (facts_of (with_fact a new w.ledger) b) (centre_at (with_centre w a site) b)
+    → (b : ℕ) → 1 ≤ b → P b (facts_of (ledger_with_fact a new w.ledger) b) (centre_at (with_centre w a site) b)
 each-put w a site new P stands centre others here b some = elim (cases_Bool (a == b)) [
   | inl e ↦
       let same : a ≡ b = eqb-true a b e in
-      subst (λ (n : ℕ). P n (facts_of (with_fact a new w.ledger) n) (centre_at (with_centre w a site) n)) same (rw (facts, there) here)
+      subst (λ (n : ℕ). P n (facts_of (ledger_with_fact a new w.ledger) n) (centre_at (with_centre w a site) n)) same (rw (facts, there) here)
   | inr e ↦
-      let rest : facts_of (with_fact a new w.ledger) b ≡ facts_of w.ledger b = facts-with a b new w.ledger ∙ rw e refl in
+      let rest : facts_of (ledger_with_fact a new w.ledger) b ≡ facts_of w.ledger b = facts-with a b new w.ledger ∙ rw e refl in
       rw (rest, site-other w.centres a b site (some-centre w.cluster a centre).0 some e) (others b)
 ]
   where
-    facts : facts_of (with_fact a new w.ledger) a ≡ with_new (facts_of w.ledger a) new
+    facts : facts_of (ledger_with_fact a new w.ledger) a ≡ with_new (facts_of w.ledger a) new
     facts = let same : (a == a) ≡ true = eq-eqb a a refl in facts-with a a new w.ledger ∙ rw same refl
 
     there : centre_at (with_centre w a site) a ≡ site
@@ -89,13 +89,13 @@ each-put w a site new P stands centre others here b some = elim (cases_Bool (a =
 -- ---- what happens is that the step is taken
 
 -- where it has no fact
-pub by-none : (w : World) (a : ℕ) (step : NodeStep) → step.fact ≡ None → step_happened_by w a step None ≡ taken w a step
+pub by-none : (w : World) (a : ℕ) (step : NodeStep) → step.fact ≡ None → step_happened_by w a step None ≡ after_whole_step w a step
 by-none w a step e = rw e refl
 
 -- and where no stop is armed
-pub by-some : (w : World) (a : ℕ) (step : NodeStep) (fact : Fact) → step.fact ≡ Some fact → (centre_at w a).stop ≡ None → step_happened_by w a step (Some fact) ≡ taken w a step
+pub by-some : (w : World) (a : ℕ) (step : NodeStep) (fact : Fact) → step.fact ≡ Some fact → (centre_at w a).stop ≡ None → step_happened_by w a step (Some fact) ≡ after_whole_step w a step
 by-some w a step fact e unstopped =
-    let rest : fact_happened w a step fact None ≡ taken w a step = rw e refl in
+    let rest : fact_happened w a step fact None ≡ after_whole_step w a step = rw e refl in
     ap (fact_happened w a step fact) unstopped ∙ rest
 
 -- a refusal changes nothing
@@ -122,7 +122,7 @@ abbrev AreShort : List Envelope → Type 0
 AreShort envelopes = AllByRecursion (λ e. accept_length e.message ≤ 1474618) envelopes
 
 each-sent : (cluster : Cluster) (envelopes : List Envelope) → AllByRecursion IsWellFormedEnvelope envelopes → AllByRecursion (GoesWithin cluster) envelopes → AreShort envelopes
-    → AllByRecursion (IsSent cluster) (map unsent envelopes)
+    → AllByRecursion (IsSentWithin cluster) (map unsent envelopes)
 each-sent cluster [] h k s = tt
 each-sent cluster (e ∷ es) h k s =
     (record { envelope_itself = h.0; within = k.0; short = below (accept_length e.message) s.0 }, each-sent cluster es h.1 k.1 s.1)
@@ -137,34 +137,34 @@ module _ (w : World) (a : ℕ) (step : NodeStep) (stands : IsWorld w) (centre : 
   few : a ≤ length w.centres
   few = rw stands.sites (some-centre w.cluster a centre).1
 
-  pub site-here : centre_at (world_taken w a step) a ≡ record (centre_at w a) { volatile = step.after }
+  pub site-here : centre_at (world_after_step w a step) a ≡ record (centre_at w a) { volatile = step.after }
   site-here = site-same w.centres a (record (centre_at w a) { volatile = step.after }) (some-centre w.cluster a centre).0 few
 
-  pub site-there : (b : ℕ) → 1 ≤ b → (a == b) ≡ false → centre_at (world_taken w a step) b ≡ centre_at w b
+  pub site-there : (b : ℕ) → 1 ≤ b → (a == b) ≡ false → centre_at (world_after_step w a step) b ≡ centre_at w b
   site-there b some other = site-other w.centres a b (record (centre_at w a) { volatile = step.after }) (some-centre w.cluster a centre).0 some other
 
-  pub facts-here : facts_of (world_taken w a step).ledger a ≡ with_new (facts_of w.ledger a) step.fact
+  pub facts-here : facts_of (world_after_step w a step).ledger a ≡ with_new (facts_of w.ledger a) step.fact
   facts-here =
       let same : (a == a) ≡ true = eq-eqb a a refl in
       facts-with a a step.fact (step.entries ++ w.ledger) ∙ rw (same, stays.entries w.ledger a) refl
 
-  pub facts-there : (b : ℕ) → (a == b) ≡ false → facts_of (world_taken w a step).ledger b ≡ facts_of w.ledger b
+  pub facts-there : (b : ℕ) → (a == b) ≡ false → facts_of (world_after_step w a step).ledger b ≡ facts_of w.ledger b
   facts-there b other = facts-with a b step.fact (step.entries ++ w.ledger) ∙ rw (other, stays.entries w.ledger b) refl
 
   -- what holds of each centre with its facts holds after the step
   pub each-stays : (P : ℕ → List Fact → Site → Type 0) → ((b : ℕ) → 1 ≤ b → (a == b) ≡ false → P b (facts_of w.ledger b) (centre_at w b))
       → P a (with_new (facts_of w.ledger a) step.fact) (record (centre_at w a) { volatile = step.after })
-      → (b : ℕ) → 1 ≤ b → P b (facts_of (world_taken w a step).ledger b) (centre_at (world_taken w a step) b)
+      → (b : ℕ) → 1 ≤ b → P b (facts_of (world_after_step w a step).ledger b) (centre_at (world_after_step w a step) b)
   each-stays P others here b some = elim (cases_Bool (a == b)) [
     | inl e ↦
         let same : a ≡ b = eqb-true a b e in
-        subst (λ (n : ℕ). P n (facts_of (world_taken w a step).ledger n) (centre_at (world_taken w a step) n)) same (rw (facts-here, site-here) here)
+        subst (λ (n : ℕ). P n (facts_of (world_after_step w a step).ledger n) (centre_at (world_after_step w a step) n)) same (rw (facts-here, site-here) here)
     | inr e ↦ rw (facts-there b e, site-there b some e) (others b some e)
   ]
 
   pub world-stays : IsNode w.cluster a (with_new (facts_of w.ledger a) step.fact) step.after → LeavesEpoch step.fact → AllByRecursion IsWellFormedEnvelope step.sends → AreShort step.sends
       → log_length (with_new (facts_of w.ledger a) step.fact) ≤ most_log → cells_used (with_new (facts_of w.ledger a) step.fact) ≤ w.cluster.cells
-      → IsWorld (world_taken w a step)
+      → IsWorld (world_after_step w a step)
   world-stays node epoch formed short log cells = record {
     cluster_itself = stands.cluster_itself;
     sites = length-set w.centres (a - 1) (record (centre_at w a) { volatile = step.after }) ∙ stands.sites;
@@ -173,7 +173,7 @@ module _ (w : World) (a : ℕ) (step : NodeStep) (stands : IsWorld w) (centre : 
     cells = λ b h. each-stays (λ b facts s. is_centre w.cluster b ≡ true → cells_used facts ≤ w.cluster.cells) (λ b some e h. stands.cells b h) (λ h. cells) b (some-centre w.cluster b h).0 h;
     epochs = λ b h. each-stays (λ b facts s. is_centre w.cluster b ≡ true → epoch_of facts ≤ w.events + 1) (λ b some e h. stands.epochs b h)
         (λ h. rw (epoch (facts_of w.ledger a)) (stands.epochs a h)) b (some-centre w.cluster b h).0 h;
-    sent = each-append (IsSent w.cluster) w.sent (map unsent step.sends) stands.sent (each-sent w.cluster step.sends formed stays.sends short);
+    sent = each-append (IsSentWithin w.cluster) w.sent (map unsent step.sends) stands.sent (each-sent w.cluster step.sends formed stays.sends short);
     reads = stands.reads;
   }
 
@@ -182,7 +182,7 @@ module _ (w : World) (a : ℕ) (step : NodeStep) (stands : IsWorld w) (centre : 
 -- a centre goes down with a new fact, or without one
 down-stays : (w : World) (a : ℕ) (new : Option Fact) → IsWorld w → is_centre w.cluster a ≡ true → IsNode w.cluster a (with_new (facts_of w.ledger a) new) nothing_kept
     → LeavesEpoch new → log_length (with_new (facts_of w.ledger a) new) ≤ most_log → cells_used (with_new (facts_of w.ledger a) new) ≤ w.cluster.cells
-    → IsWorld (record (with_centre w a down) { ledger = with_fact a new w.ledger })
+    → IsWorld (record (with_centre w a down) { ledger = ledger_with_fact a new w.ledger })
 down-stays w a new stands centre node epoch log cells = record {
   cluster_itself = stands.cluster_itself;
   sites = length-set w.centres (a - 1) down ∙ stands.sites;
@@ -221,7 +221,7 @@ pub input-stays : (w : World) (a : ℕ) (input : Input) → KeepsLog w a (step_a
 input-stays w a input keeps stands centre formed = by_result (step_at w a input) refl
   where
     by_fact : (step : NodeStep) → IsNode w.cluster a (with_new (facts_of w.ledger a) step.fact) step.after → LeavesEpoch step.fact
-        → log_length (with_new (facts_of w.ledger a) step.fact) ≤ most_log → cells_used (with_new (facts_of w.ledger a) step.fact) ≤ w.cluster.cells → IsWorld (world_taken w a step)
+        → log_length (with_new (facts_of w.ledger a) step.fact) ≤ most_log → cells_used (with_new (facts_of w.ledger a) step.fact) ≤ w.cluster.cells → IsWorld (world_after_step w a step)
         → (o : Option Fact) → step.fact ≡ o → (stop : Option (ℕ × Image)) → (centre_at w a).stop ≡ stop → IsWorld (step_happened_by w a step o).world
     by_fact step node epoch log cells whole None e stop k = subst (λ (x : Happened). IsWorld x.world) (sym (by-none w a step e)) whole
     by_fact step node epoch log cells whole (Some fact) e None k = subst (λ (x : Happened). IsWorld x.world) (sym (by-some w a step fact e k)) whole
@@ -246,7 +246,7 @@ input-stays w a input keeps stands centre formed = by_result (step_at w a input)
 
 -- ---- a delivery
 
-pub delivered-sent : (cluster : Cluster) (sent : List Sent) (place : ℕ) → AllByRecursion (IsSent cluster) sent → AllByRecursion (IsSent cluster) (with_delivered sent place)
+pub delivered-sent : (cluster : Cluster) (sent : List Sent) (place : ℕ) → AllByRecursion (IsSentWithin cluster) sent → AllByRecursion (IsSentWithin cluster) (with_delivered sent place)
 delivered-sent cluster [] place h = tt
 delivered-sent cluster (s ∷ ss) zero h = (record { envelope_itself = h.0.envelope_itself; within = h.0.within; short = h.0.short }, h.1)
 delivered-sent cluster (s ∷ ss) (suc place) h = (h.0, delivered-sent cluster ss place h.1)
@@ -298,7 +298,7 @@ read-stays w a key stands centre is =
       cells = stands.cells;
       epochs = stands.epochs;
       sent = stands.sent;
-      reads = each-append IsRead w.reads (known_of key (Visible.read (facts_of w.ledger a) key) ∷ []) stands.reads
+      reads = each-append IsWellFormedKnown w.reads (known_of_reading key (Visible.read (facts_of w.ledger a) key) ∷ []) stands.reads
           (record { key_itself = is; token_itself = shown.0; item_itself = shown.1 }, tt);
     }
 

@@ -56,13 +56,13 @@ use Rattle.mdcc_rules.specs.declared.node.StepFault.{StepFault}
 use Rattle.mdcc_protocol.specs.declared.recover.RecoverAct.{RecoverAct}
 use Rattle.mdcc_protocol.specs.declared.visible.Give.{Give}
 use Rattle.mdcc_protocol.specs.declared.votes.Vote.{Vote}
-use Rattle.mdcc_steps.specs.Forming.{with_new}
+use Rattle.mdcc_steps.specs.NodeInvariant.{with_new}
 use Rattle.mdcc_steps.specs.Inputs.{IsWellFormedInput}
 use Rattle.mdcc_steps.proofs.Allowing.{OnStep, on_checked}
 use Rattle.mdcc_steps.proofs.Each.{all-each, each-append, each-kept}
 use Rattle.mdcc_steps.proofs.Sending.{each-flat_map}
 use Rattle.mdcc_steps.proofs.Stepping.{on_made}
-use Rattle.mdcc_worlds.specs.Sending.{GoesWithin, IsValuedBy, StaysWithin, TellNoFact, is_begin}
+use Rattle.mdcc_worlds.specs.StepSends.{GoesWithin, IsValuedBy, StaysWithin, TellNoFact, is_begin}
 
 -- a new fact begins no epoch
 abbrev pub LeavesEpoch : Option Fact → Type 0

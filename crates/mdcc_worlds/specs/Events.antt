@@ -1,10 +1,10 @@
 -- What holds of a world after an event.
 use Rattle.std.specs.Prelude.{◌≡◌, Ok, ◌≤◌}
 use Rattle.mdcc_simulation.specs.State.{Happened, World}
-use Rattle.mdcc_simulation.specs.Events.{event_of}
+use Rattle.mdcc_simulation.specs.Events.{after_event}
 use Rattle.mdcc_simulation.specs.Limits.{most_events}
 use Rattle.mdcc_language.specs.declared.events.Event.{Event}
-use Rattle.mdcc_worlds.specs.Standing.{IsWorld}
+use Rattle.mdcc_worlds.specs.WorldInvariant.{IsWorld}
 use Rattle.mdcc_worlds.specs.Words.{IsGivenEvent}
 
 -- what a world is at every moment between events
@@ -15,4 +15,4 @@ pub record IsBetween (w : World) : Type 0 where
 -- it is so after each event that happens
 abbrev pub EventsStay : Type 0
 EventsStay =
-    (w : World) (event : Event) (h : Happened) → IsBetween w → IsGivenEvent event → event_of w event ≡ Ok h → IsBetween h.world
+    (w : World) (event : Event) (h : Happened) → IsBetween w → IsGivenEvent event → after_event w event ≡ Ok h → IsBetween h.world

@@ -1,9 +1,9 @@
-pub mod Beginning
-pub mod Delivering
+pub mod BeginEffects
+pub mod DeliveryProgress
 pub mod Events
-pub mod Happening
-pub mod Sending
-pub mod Settling
-pub mod Standing
-pub mod Taking
+pub mod EventEffects
+pub mod StepSends
+pub mod SettleProgress
+pub mod WorldInvariant
+pub mod StepEffects
 pub mod Words

@@ -1,12 +1,12 @@
 //! What holds of a world at every moment, and what its events do.
-ghost use Rattle.mdcc_worlds.specs.Beginning.{BeginsHappen, PartsAreWellFormed};
-ghost use Rattle.mdcc_worlds.specs.Delivering.{DeliveriesHappen, DeliversBegin, DeliversEnd, DeliversGoOn, DeliversStop};
+ghost use Rattle.mdcc_worlds.specs.BeginEffects.{BeginsHappen, PartsAreWellFormed};
+ghost use Rattle.mdcc_worlds.specs.DeliveryProgress.{DeliveriesHappen, DeliversBegin, DeliversEnd, DeliversGoOn, DeliversStop};
 ghost use Rattle.mdcc_worlds.specs.Events.{EventsStay};
-ghost use Rattle.mdcc_worlds.specs.Happening.{CrashesHappen, ReadsHappen, RestartsHappen, StopsHappen, TicksHappen};
-ghost use Rattle.mdcc_worlds.specs.Sending.{OthersBeginNothing, StepsStayWithin};
-ghost use Rattle.mdcc_worlds.specs.Settling.{SettlesBegin, SettlesBreak, SettlesEnd, SettlesFail, SettlesGoOn, SettlesStop};
-ghost use Rattle.mdcc_worlds.specs.Standing.{CountedStays, CrashStays, DeliveredStays, FirstStands, ReadStays, RestartStays, StopStays, WorldStays};
-ghost use Rattle.mdcc_worlds.specs.Taking.{InputsHappen};
+ghost use Rattle.mdcc_worlds.specs.EventEffects.{CrashesHappen, ReadsHappen, RestartsHappen, StopsHappen, TicksHappen};
+ghost use Rattle.mdcc_worlds.specs.StepSends.{OthersBeginNothing, StepsStayWithin};
+ghost use Rattle.mdcc_worlds.specs.SettleProgress.{SettlesBegin, SettlesBreak, SettlesEnd, SettlesFail, SettlesGoOn, SettlesStop};
+ghost use Rattle.mdcc_worlds.specs.WorldInvariant.{CountedStays, CrashStays, DeliveredStays, FirstWorldIsWorld, ReadStays, RestartStays, StopStays, WorldStays};
+ghost use Rattle.mdcc_worlds.specs.StepEffects.{InputsHappen};
 
 /// Messages go to centres of the cluster, no step tells a fact but its own, and no input but a begin
 /// begins a transaction.
@@ -20,7 +20,7 @@ pub fn steps_stay_within()
 /// crash and a restart, and after a stop is armed. Logs stay within their limit, the facts of a centre lie
 /// in the cells of its node, and each message that brings a structure is short enough for a frame of a log.
 pub fn worlds_stay()
-    ensures first { FirstStands }
+    ensures first { FirstWorldIsWorld }
     ensures input { WorldStays }
     ensures delivered { DeliveredStays }
     ensures counted { CountedStays }

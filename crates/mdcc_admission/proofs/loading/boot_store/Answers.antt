@@ -1,6 +1,6 @@
 use Rattle.std.proofs.Common.{ap}
 use Rattle.mdcc_admission.proofs.Taking.{all_spare, on_false}
-use Rattle.mdcc_admission.specs.Loading.{is_memory, next_by}
+use Rattle.mdcc_admission.specs.Loading.{is_boot_memory, next_by}
 use Rattle.mdcc_admission.proofs.loading.boot_store.Goals as goal
 
 pub returns-in-Ok : goal.returns-in-Ok
@@ -9,4 +9,4 @@ returns-in-Ok g c all held =
     rw loaded.1 (c.begin_epoch.ensures all loaded.0 loaded.2 (all_spare _ all.total c.spare-cells.result held.spare c.spare-cells.ensures))
 
 pub returns-in-Err : goal.returns-in-Err
-returns-in-Err g c all held = on_false (is_memory c.in-Err.fault) _ _ (λ is. ap (next_by all) is) (c.in-Err.ensures all held)
+returns-in-Err g c all held = on_false (is_boot_memory c.in-Err.fault) _ _ (λ is. ap (next_by all) is) (c.in-Err.ensures all held)

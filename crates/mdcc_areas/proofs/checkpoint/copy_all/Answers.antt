@@ -1,6 +1,6 @@
 use Rattle.std.proofs.Common.{◌≡◌, ◌+◌, ◌-◌, ◌++◌, List, ℕ, length, IsTrue, sym, ◌∙◌, ap, subst}
 use Rattle.mdcc_disks.specs.Disks.{DiskCall}
-use Rattle.mdcc_log.specs.Frames.{MadeSome, added}
+use Rattle.mdcc_log.specs.Frames.{MadeSome, with_calls}
 use Rattle.mdcc_areas.specs.Area.{payloads_of, records_of, records_bytes}
 use Rattle.mdcc_areas.specs.Copying.{IsSource}
 use Rattle.mdcc_areas.specs.Frames.{record_calls}
@@ -67,8 +67,8 @@ returns-clause-all_calls g c log told stands =
     let size = c.in_ok-middle.ensures.size rs told (records_source stands) in
     let source = subst (λ (l : List ℕ). IsSource 1 c.args.whole.start c.args.whole.end (25 + c.args.whole.body - c.in_ok-middle.middle) c.args.whole.tail log.tail l) (sym c.copy_records.ensures.only_read.bytes) (frames_source stands c.in_ok-middle.middle size) in
     let is : record_calls 25 rs ++ record_calls c.in_ok-middle.middle log.tail ≡ record_calls 25 (payloads_of log) = ap (λ (n : ℕ). record_calls 25 rs ++ record_calls n log.tail) size ∙ sym (calls_split 25 rs log.tail) in
-    on_ok (new ≡ added (record_calls 25 rs ++ record_calls c.in_ok-middle.middle log.tail) old) (new ≡ added (record_calls 25 (payloads_of log)) old) c.copy_records-2.result
-    (λ all. all ∙ ap (λ (l : List DiskCall). added l old) is)
+    on_ok (new ≡ with_calls (record_calls 25 rs ++ record_calls c.in_ok-middle.middle log.tail) old) (new ≡ with_calls (record_calls 25 (payloads_of log)) old) c.copy_records-2.result
+    (λ all. all ∙ ap (λ (l : List DiskCall). with_calls l old) is)
     (all_where (record_calls 25 rs) (record_calls c.in_ok-middle.middle log.tail) _ _ _ c.copy_records-2.result (c.in_ok-middle.ensures.all_calls rs told (records_source stands))
     (c.copy_records-2.ensures.all_calls log.tail (c.copy_records.ensures.others.told_one ∙ told) source))
 

@@ -1,7 +1,7 @@
 use Rattle.std.proofs.Common.{inl, inr, ◌∷◌, ◌++◌, [], List, ℕ, length, IsTrue, sym, ◌∙◌, ap, subst, arith}
 use Rattle.mdcc_disks.specs.Disks.{DiskCall, Within}
 use Rattle.mdcc_disks.specs.Disks.DiskCall.{Write, Cut, Sync}
-use Rattle.mdcc_log.specs.Frames.{MadeSome, added}
+use Rattle.mdcc_log.specs.Frames.{MadeSome, with_calls}
 use Rattle.mdcc_log.proofs.Moments.{weakened, both}
 use Rattle.mdcc_areas.specs.Area.{payloads_of, area_gate, copy_body}
 use Rattle.mdcc_areas.specs.Copying.{IsShut}
@@ -179,4 +179,4 @@ returns-clause-all_calls g c log told stands =
     all_both (shut_calls c.args.spare ++ Sync ∷ []) ((Cut 9 ∷ mark_calls c.args.spare) ++ ((body_calls c.args.generation (payloads_of log)) ++ (Sync ∷ Write 8 (1 ∷ []) ∷ Sync ∷ []))) _ _ _ c.in_ok-shut_area.ensures.all_calls
     (all_both (Cut 9 ∷ mark_calls c.args.spare) ((body_calls c.args.generation (payloads_of log)) ++ (Sync ∷ Write 8 (1 ∷ []) ∷ Sync ∷ [])) _ _ _ c.in_ok-clear_area.ensures.all_calls
     (all_both (body_calls c.args.generation (payloads_of log)) (Sync ∷ Write 8 (1 ∷ []) ∷ Sync ∷ []) _ _ _ (c.in_ok-end.ensures.all_calls log told_mid stands_mid) c.in_ok-open_area.ensures.all_calls))
-    ∙ ap (λ (l : List DiskCall). added l (g.D.Disks.disk c.args.disks.now c.args.place).calls) (calls_are c.args.spare c.args.generation (payloads_of log))
+    ∙ ap (λ (l : List DiskCall). with_calls l (g.D.Disks.disk c.args.disks.now c.args.place).calls) (calls_are c.args.spare c.args.generation (payloads_of log))

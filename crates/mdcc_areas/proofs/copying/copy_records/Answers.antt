@@ -2,7 +2,7 @@ use Rattle.std.proofs.Common.{◌≡◌, ◌+◌, ◌-◌, ◌≤◌, ◌∷◌,
 use Rattle.mdcc_disks.specs.Disks.{AddsCall}
 use Rattle.mdcc_disks.specs.Disks.DiskCall.{Write}
 use Rattle.mdcc_log.specs.Log.{frame_body}
-use Rattle.mdcc_log.specs.Frames.{MadeSome, added}
+use Rattle.mdcc_log.specs.Frames.{MadeSome, with_calls}
 use Rattle.mdcc_areas.specs.Area.{records_bytes}
 use Rattle.mdcc_areas.specs.Frames.{record_calls}
 use Rattle.mdcc_areas.proofs.Copies.{next_record_stands, next_at, from_within, end_within, none_copied, one_copied, some_told, one_told, all_done}
@@ -111,7 +111,7 @@ loop-turn-preserved g c =
           let read : c.deref.result.now ≡ frame_body next.payload = c.deref.ensures.value ∙ c.in_ok-read_record.ensures.read next.payload (inv.others.told_one ∙ told) at in
           one_copied c.args.part.gap c.loop-turn.from c.args.part.end (c.args.limit - c.args.to) c.args.part.count c.args.to c.loop-turn.end c.loop-turn.turn c.len-size.result ps bytes _ _ _ c.deref.result.now _ _ _ _ so_far next (omega (arith, inv.counted)) (omega arith) read sized
           (λ there. c.in_ok-grow.ensures.grown (ap (λ d. d.told) same ∙ (inv.others.told_two ∙ there)) ∙ ap (λ d. d.bytes ++ c.deref.result.now) same)
-          (c.in_ok-grow.ensures.call.ok ∙ ap (λ d. added (Write c.loop-turn.end c.deref.result.now ∷ []) d.calls) same);
+          (c.in_ok-grow.ensures.call.ok ∙ ap (λ d. with_calls (Write c.loop-turn.end c.deref.result.now ∷ []) d.calls) same);
     }
 
 pub returns-clause-copied : goal.returns-clause-copied
@@ -130,4 +130,4 @@ returns-clause-calls g c ps told is = some_told (c.loop-turn.invariant.copies ps
 pub returns-clause-all_calls : goal.returns-clause-all_calls
 returns-clause-all_calls g c ps told is =
     let so_far = c.loop-turn.invariant.copies ps told is in
-    so_far.calls ∙ ap (λ (l : List (List ℕ)). added (record_calls c.args.to l) (g.D.Disks.disk c.args.disks.now c.args.place).calls) (sym (all_done so_far (omega arith)))
+    so_far.calls ∙ ap (λ (l : List (List ℕ)). with_calls (record_calls c.args.to l) (g.D.Disks.disk c.args.disks.now c.args.place).calls) (sym (all_done so_far (omega arith)))

@@ -2,7 +2,7 @@ use Rattle.std.proofs.Common.{◌-◌, ◌∷◌, [], List, ℕ, ◌∙◌, ap, 
 use Rattle.mdcc_disks.specs.Disks.{Holds, DiskCall}
 use Rattle.mdcc_disks.specs.Disks.DiskCall.{Write, Sync}
 use Rattle.mdcc_log.specs.Crash.{IsBetween}
-use Rattle.mdcc_log.specs.Frames.{MadeSome, added}
+use Rattle.mdcc_log.specs.Frames.{MadeSome, with_calls}
 use Rattle.mdcc_log.proofs.Appends.{stage_leaves, stage_makes, gate_leaves, gate_makes}
 use Rattle.mdcc_log.proofs.Calls.{made_first, made_both, added_twice}
 use Rattle.mdcc_log.proofs.Moments.{weakened, both}
@@ -64,5 +64,5 @@ returns-clause-all_calls g c =
     let one = Write c.args.size c.args.body.now ∷ Sync ∷ [] in
     let two = Write (c.args.size - 1) (1 ∷ []) ∷ Sync ∷ [] in
     let old = (g.D.Disks.disk c.args.disks.now c.args.place).calls in
-    c.in_ok-write_through-2.ensures.all_calls ∙ ap (λ (o : Option (List DiskCall)). added two o) c.in_ok-write_through.ensures.all_calls ∙ added_twice one two old
-    ∙ ap (λ (b : List ℕ). added (Write c.args.size b ∷ Sync ∷ two) old) c.requires.body
+    c.in_ok-write_through-2.ensures.all_calls ∙ ap (λ (o : Option (List DiskCall)). with_calls two o) c.in_ok-write_through.ensures.all_calls ∙ added_twice one two old
+    ∙ ap (λ (b : List ℕ). with_calls (Write c.args.size b ∷ Sync ∷ two) old) c.requires.body

@@ -1,6 +1,6 @@
 use Rattle.std.proofs.Common.{◌≡◌, List, subst, ap, ◌∙◌, arith}
 use Rattle.mdcc_disks.specs.Disks.{DiskCall}
-use Rattle.mdcc_log.specs.Frames.{MadeSome, added}
+use Rattle.mdcc_log.specs.Frames.{MadeSome, with_calls}
 use Rattle.mdcc_log.proofs.ReadCalls.{rests, settle_is}
 use Rattle.mdcc_log.specs.Crash.{IsShut, IsBetween, ReadsAgain}
 use Rattle.mdcc_log.proofs.Again.{fresh_again, repaired_again}
@@ -82,4 +82,4 @@ returns-clause-calls g c =
 pub returns-clause-all_calls : goal.returns-clause-all_calls
 returns-clause-all_calls g c =
     c.in_ok-repair.ensures.all_calls
-    ∙ ap (λ (l : List DiskCall). added l (g.D.Disks.disk c.args.disks.now c.args.place).calls) (settle_is c.in_ok-payloads.payloads.items c.in_ok-payloads.gate c.args.bytes.now (omega arith) c.in_ok-payloads.ensures.read)
+    ∙ ap (λ (l : List DiskCall). with_calls l (g.D.Disks.disk c.args.disks.now c.args.place).calls) (settle_is c.in_ok-payloads.payloads.items c.in_ok-payloads.gate c.args.bytes.now (omega arith) c.in_ok-payloads.ensures.read)

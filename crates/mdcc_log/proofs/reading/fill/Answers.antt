@@ -1,7 +1,7 @@
 use Rattle.std.proofs.Common.{◌≡◌, ◌+◌, ◌-◌, ◌∷◌, [], List, ℕ, length, subst, take, ap, ◌∙◌, arith, rules}
 use Rattle.mdcc_disks.specs.Disks.{AddsCall}
 use Rattle.mdcc_disks.specs.Disks.DiskCall.{Read}
-use Rattle.mdcc_log.specs.Frames.{ReadsAll, added, read_calls}
+use Rattle.mdcc_log.specs.Frames.{ReadsAll, with_calls, read_calls}
 use Rattle.mdcc_log.proofs.Moments.{both, others_joined, weakened}
 use Rattle.mdcc_log.proofs.ReadCalls.{all_are_some, reads_more, reads_broken}
 use Rattle.mdcc_log.proofs.reading.fill.Goals as goal
@@ -36,6 +36,6 @@ loop-turn-preserved g c =
       any_moment = both inv.any_moment (weakened (g.D.Disks.may_leave c.args.disks.now place) more.any_moment inv.crash);
       others = others_joined g.D.Disks.disk g.D.Disks.may_leave g.D.Disks.moment g.D.Disks.left_since c.args.disks.now c.loop-turn.disks c.read_more.new.disks place inv.others more.others;
       calls = reads_more size c.loop-turn.done c.in_ok-done.field-0 _ _ _ more.some inv.calls
-          (subst (λ (n : ℕ). (g.D.Disks.disk c.read_more.new.disks place).calls ≡ added (Read c.loop-turn.done (n - c.loop-turn.done) ∷ []) (g.D.Disks.disk c.loop-turn.disks place).calls) same more.call.ok);
+          (subst (λ (n : ℕ). (g.D.Disks.disk c.read_more.new.disks place).calls ≡ with_calls (Read c.loop-turn.done (n - c.loop-turn.done) ∷ []) (g.D.Disks.disk c.loop-turn.disks place).calls) same more.call.ok);
       later = omega (arith, inv.later, more.cause.later);
     }

@@ -6,7 +6,7 @@ use Rattle.mdcc_logs.proofs.Begun.{next-begun, none-logged, none-read, none-room
 use Rattle.mdcc_logs.proofs.Standing.{held-same}
 use Rattle.mdcc_logs.proofs.booting.boot.Goals as goal
 use Rattle.mdcc_logs.specs.Nodes.{are_stored, spare_of}
-use Rattle.mdcc_logs.specs.Stands.{checkpoint_every}
+use Rattle.mdcc_logs.specs.Represents.{checkpoint_every}
 use Rattle.mdcc_logs.specs.Starting.{StartsOver, cells_of}
 use Rattle.mdcc_logs.specs.declared.starting.Attempt.{Attempt}
 use Rattle.mdcc_restart.specs.Restarting.{Runs}

@@ -4,7 +4,7 @@ use Rattle.mdcc_disks.specs.Memory.{disk_of, may_leave_of, only_now_of}
 use Rattle.mdcc_logs.proofs.Starts.{empty-store, lacking-kept, lacking-over, no-gate-is-torn-open}
 use Rattle.mdcc_logs.proofs.starting.start.Goals as goal
 use Rattle.mdcc_logs.specs.Nodes.{are_stored, spare_of}
-use Rattle.mdcc_logs.specs.Stands.{checkpoint_every}
+use Rattle.mdcc_logs.specs.Represents.{checkpoint_every}
 use Rattle.mdcc_logs.specs.Starting.{cells_of}
 use Rattle.mdcc_option.specs.declared.cluster.Cluster.{Cluster}
 use Rattle.mdcc_restart.specs.Logged.{AreLogged}

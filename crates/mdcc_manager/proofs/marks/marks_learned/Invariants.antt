@@ -1,13 +1,13 @@
 use Rattle.std.proofs.Common.{◌≡◌, List, length, map, take}
 use Rattle.mdcc_base.specs.Sizes.{Sizes}
-use Rattle.mdcc_learner.specs.Stands.{Stands}
+use Rattle.mdcc_learner.specs.Represents.{RepresentsVotes}
 use Rattle.mdcc_protocol.specs.Learner.{learned}
 use Rattle.mdcc_protocol.specs.declared.votes.Vote.{Vote}
 use Rattle.mdcc_manager.proofs.marks.marks_learned.Given as goal
 
 abbrev pub invariant-loop-open : goal.invariant-loop-open
 invariant-loop-open l = record {
-  read : (quorums : Sizes) (votes : List Vote) → Stands l.learner quorums votes
+  read : (quorums : Sizes) (votes : List Vote) → RepresentsVotes l.learner quorums votes
       → l.marks ≡ map (λ entry. learned quorums votes l.tx entry.choice.key) (take l.open-index l.choices);
   fits : length l.marks ≡ l.open-index;
 }

@@ -21,6 +21,7 @@ use Rattle.mdcc_restart.specs.Struck.{LeavesBoot, LeavesStruck}
 use Rattle.mdcc_restart.specs.declared.fault.RestartFault.{RestartFault}
 use Rattle.mdcc_rules.specs.declared.node.BootFault.{BootFault}
 use Rattle.mdcc_restart.proofs.restarting.restart.Goals as goal
+
 -- ---- what comes of it
 
 pub returns-in_err-log-clause-restarts : goal.returns-in_err-log-clause-restarts

@@ -1,9 +1,9 @@
 use Rattle.std.proofs.Common.{◌≡◌, Ok, refl}
 use Rattle.std.proofs.lemmas.Bool.{and_parts}
-use Rattle.mdcc_node.specs.Planning.{written}
-use Rattle.mdcc_node.specs.Stepping.{given}
+use Rattle.mdcc_node.specs.StepPlans.{written}
+use Rattle.mdcc_node.specs.StepAnswers.{step_result}
 use Rattle.mdcc_rules.specs.declared.node.Input.{Input}
-use Rattle.mdcc_simulation.specs.Stepping.{step_at}
+use Rattle.mdcc_simulation.specs.AppliedSteps.{step_at}
 use Rattle.mdcc_protocol.specs.Belongs.{is_centre}
 use Rattle.mdcc_simulation.specs.State.{centre_at}
 use Rattle.mdcc_world.proofs.NodesStay.{read-left, shown-as}
@@ -11,7 +11,7 @@ use Rattle.mdcc_world.proofs.nodes.read.Goals as goal
 
 pub returns-in-Some-Read-clause-shown : goal.returns-in-Some-Read-clause-shown
 returns-in-Some-Read-clause-shown c w standing up =
-    let made : Ok c.act_on.new.step ≡ given (step_at w c.args.centre (Input.Read c.args.key.now)) =
+    let made : Ok c.act_on.new.step ≡ step_result (step_at w c.args.centre (Input.Read c.args.key.now)) =
     rw c.in-Ok.is at (c.in_ok-act_on.ensures.answer w standing up) in
     shown-as c.act_on.new.step _ c.in-Some-Read.field-0 c.in-Some-Read.reading _ made c.in-Some-Read.is c.in-Some-Read.field-0-is refl
 

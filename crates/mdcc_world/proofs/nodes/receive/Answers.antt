@@ -1,7 +1,7 @@
 use Rattle.std.proofs.Common.{◌≡◌, ◌≤◌, Result, subst}
 use Rattle.mdcc_base.specs.Unless.{GivesUnless}
-use Rattle.mdcc_node.specs.Planning.{written}
-use Rattle.mdcc_node.specs.Stepping.{given, is_memory}
+use Rattle.mdcc_node.specs.StepPlans.{written}
+use Rattle.mdcc_node.specs.StepAnswers.{step_result, is_step_memory}
 use Rattle.mdcc_ledger.specs.Ledger.{facts_of}
 use Rattle.mdcc_rules.specs.Steps.{NodeStep}
 use Rattle.mdcc_rules.specs.declared.node.Input.{Input}
@@ -32,8 +32,8 @@ returns-clause-answer c w standing up =
     let node = node-under c.args.nodes.now w a c.from.result c.index-nodes-from.result standing up some c.requires.within place c.index-nodes-from.is in
     let input = Input.Message c.args.envelope.now in
     let gives = c.deliver.ensures.follows.answer w.cluster a (facts_of w.ledger a) (centre_at w a).volatile node.itself in
-    made-is c.made.result c.deliver.result c.deliver.new.step _ c.made.ensures.same c.made.ensures.memory
-    (subst (λ (r : Result NodeStep StepFault). GivesUnless is_memory (written c.deliver.result c.deliver.new.step) (given r)) (step-roomy _ w.cluster a (facts_of w.ledger a) (centre_at w a).volatile node input) gives)
+    made-is c.run_result.result c.deliver.result c.deliver.new.step _ c.run_result.ensures.same c.run_result.ensures.memory
+    (subst (λ (r : Result NodeStep StepFault). GivesUnless is_step_memory (written c.deliver.result c.deliver.new.step) (step_result r)) (step-roomy _ w.cluster a (facts_of w.ledger a) (centre_at w a).volatile node input) gives)
 
 pub returns-clause-left : goal.returns-clause-left
 returns-clause-left c w world standing up =
@@ -46,6 +46,6 @@ returns-clause-left c w world standing up =
     let volatile = (centre_at w a).volatile in
     let gives = c.deliver.ensures.follows.answer w.cluster a facts volatile node.itself in
     let left = c.deliver.ensures.follows.left w.cluster a facts volatile node.itself in
-    made-kept c.made.result c.deliver.result c.deliver.new.step _ c.made.ensures.memory
+    made-kept c.run_result.result c.deliver.result c.deliver.new.step _ c.run_result.ensures.memory
     (stepped c.args.nodes.now w a c.from.result c.deliver.new.self input standing world some c.requires.within place c.requires.formed _
     (step-roomy _ w.cluster a facts volatile node input) (written c.deliver.result c.deliver.new.step) (node-left _ w.cluster a facts volatile node c.deliver.new.self (written c.deliver.result c.deliver.new.step) _ gives c.deliver.ensures.spent left))

@@ -4,7 +4,7 @@ use Rattle.indexmap.specs.IndexMap.{get}
 use Rattle.mdcc_base.specs.Key.{key_eq}
 use Rattle.mdcc_leader.proofs.Keeping.{SameAt-refl}
 use Rattle.mdcc_leader.proofs.Structured.{OnErr-map, OnOk-map}
-use Rattle.mdcc_leader.proofs.Written.{Stands-led, Stands-written}
+use Rattle.mdcc_leader.proofs.Written.{represents-led, represents-written}
 use Rattle.mdcc_leader.proofs.leader.Leader.lead.Goals as goal
 use Rattle.mdcc_leader.specs.Leads.{Keeps}
 use Rattle.mdcc_protocol.specs.Facts.{current_of}
@@ -17,7 +17,7 @@ returns-in-Some-clause-ok g c me epoch facts leading holds stands =
     let kept : Keeps c.args.cluster.now.quorums leading c.args.claim.now.key (Some c.in-Some.led.now) = rw there (stands.keeps c.args.claim.now.key) in
     let held : nat_lt (current_of facts c.args.claim.now.key) c.args.claim.now.version ≡ false = rw (← c.current.ensures facts holds) (grind (arith, nat_tests, c.if-is_behind.false)) in
     OnOk-map c.take.result
-    (λ taken. Stands-led c.args.self.now _ me epoch c.args.cluster.now facts leading c.args.claim.now c.in-Some.led.now c.take.new.self refl refl (λ k. updates.0 k)
+    (λ taken. represents-led c.args.self.now _ me epoch c.args.cluster.now facts leading c.args.claim.now c.in-Some.led.now c.take.new.self refl refl (λ k. updates.0 k)
     (sym there) held stands (λ k. taken))
     (c.take.ensures.ok facts leading holds kept)
 
@@ -28,6 +28,6 @@ returns-in-Some-clause-err g c me epoch quorums leading stands =
     let updates = (c.get_mut.follows.holds c.take.new.self).3 some in
     let kept : Keeps quorums leading c.args.claim.now.key (Some c.in-Some.led.now) = rw there (stands.keeps c.args.claim.now.key) in
     OnErr-map c.take.result
-    (λ same. Stands-written c.args.self.now _ me epoch quorums leading leading c.args.claim.now.key c.take.new.self refl refl (λ k. updates.0 k) stands
+    (λ same. represents-written c.args.self.now _ me epoch quorums leading leading c.args.claim.now.key c.take.new.self refl refl (λ k. updates.0 k) stands
     (λ k other. SameAt-refl leading k) (rw same kept))
     c.take.ensures.err

@@ -3,7 +3,7 @@ use Rattle.indexmap.specs.IndexMap.{get}
 use Rattle.mdcc_base.specs.Key.{key_eq}
 use Rattle.mdcc_leader.proofs.Keeping.{SameAt-refl}
 use Rattle.mdcc_leader.proofs.Structured.{OnErr-map, OnOk-map}
-use Rattle.mdcc_leader.proofs.Written.{Stands-promised, Stands-written}
+use Rattle.mdcc_leader.proofs.Written.{represents-promised, represents-written}
 use Rattle.mdcc_leader.proofs.leader.Leader.on_promise.Goals as goal
 use Rattle.mdcc_leader.specs.Leads.{Keeps}
 
@@ -14,7 +14,7 @@ returns-in-Some-clause-ok g c me epoch facts leading holds stands =
     let updates = (c.get_mut.follows.holds c.count.new.self).3 some in
     let kept : Keeps c.args.cluster.now.quorums leading c.args.promise.now.key (Some c.in-Some.led.now) = rw there (stands.keeps c.args.promise.now.key) in
     OnOk-map c.count.result
-    (λ taken. Stands-promised c.args.self.now _ me epoch c.args.cluster.now facts leading c.args.from c.args.promise.now c.in-Some.led.now c.count.new.self refl refl
+    (λ taken. represents-promised c.args.self.now _ me epoch c.args.cluster.now facts leading c.args.from c.args.promise.now c.in-Some.led.now c.count.new.self refl refl
     (λ k. updates.0 k) (sym there) stands (λ k. taken))
     (c.count.ensures.ok facts leading holds kept)
 
@@ -25,6 +25,6 @@ returns-in-Some-clause-err g c me epoch quorums leading stands =
     let updates = (c.get_mut.follows.holds c.count.new.self).3 some in
     let kept : Keeps quorums leading c.args.promise.now.key (Some c.in-Some.led.now) = rw there (stands.keeps c.args.promise.now.key) in
     OnErr-map c.count.result
-    (λ same. Stands-written c.args.self.now _ me epoch quorums leading leading c.args.promise.now.key c.count.new.self refl refl (λ k. updates.0 k) stands
+    (λ same. represents-written c.args.self.now _ me epoch quorums leading leading c.args.promise.now.key c.count.new.self refl refl (λ k. updates.0 k) stands
     (λ k other. SameAt-refl leading k) (rw same kept))
     c.count.ensures.err

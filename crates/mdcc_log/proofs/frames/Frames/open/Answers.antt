@@ -3,7 +3,7 @@ use Rattle.mdcc_disks.specs.Disks.{DiskCall}
 use Rattle.mdcc_disks.specs.Disks.DiskCall.{Length, Sync}
 use Rattle.mdcc_log.specs.Log.{read_log}
 use Rattle.mdcc_log.specs.Crash.{IsShut, IsBetween, ReadsAgain}
-use Rattle.mdcc_log.specs.Frames.{MadeSome, added, open_calls, read_calls, settle_calls}
+use Rattle.mdcc_log.specs.Frames.{MadeSome, with_calls, open_calls, read_calls, settle_calls}
 use Rattle.mdcc_log.proofs.ReadCalls.{all_before, made_before, none_made, some_before}
 use Rattle.mdcc_log.proofs.Again.{none_opened}
 use Rattle.mdcc_log.proofs.Moments.{weakened, both}
@@ -100,4 +100,4 @@ returns-clause-all_calls g c told =
     let file = (g.D.Disks.disk c.args.disks.now c.args.place).bytes in
     let is = c.deref.ensures.value ∙ c.in_ok-bytes.ensures.file told in
     all_before (length file) (λ counts. Sync ∷ Length ∷ read_calls (length file) 0 counts) (settle_calls file) _ _ _ (c.in_ok-bytes.ensures.all_calls told)
-    (subst (λ (l : List ℕ). (g.D.Disks.disk c.recover.new.disks c.args.place).calls ≡ added (settle_calls l) (g.D.Disks.disk c.load.new.disks c.args.place).calls) is c.in_ok-size.ensures.all_calls)
+    (subst (λ (l : List ℕ). (g.D.Disks.disk c.recover.new.disks c.args.place).calls ≡ with_calls (settle_calls l) (g.D.Disks.disk c.load.new.disks c.args.place).calls) is c.in_ok-size.ensures.all_calls)

@@ -1,7 +1,7 @@
 use Rattle.std.proofs.Common.{refl}
 use Rattle.mdcc_node.proofs.Planned.{acts-plan, unless-any}
 use Rattle.mdcc_node.proofs.Standing.{memory_always}
-use Rattle.mdcc_node.specs.Planning.{written}
+use Rattle.mdcc_node.specs.StepPlans.{written}
 use Rattle.mdcc_rules.specs.TickRules.{tick_step}
 use Rattle.mdcc_node.proofs.node.Node.act_on.Goals as goal
 

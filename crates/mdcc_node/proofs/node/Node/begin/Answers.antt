@@ -1,6 +1,6 @@
 use Rattle.mdcc_node.proofs.Beginning.{refused_gives, refused_leaves, step_begun}
 use Rattle.mdcc_node.proofs.Standing.{left_always, memory_always}
-use Rattle.mdcc_node.specs.Planning.{written}
+use Rattle.mdcc_node.specs.StepPlans.{written}
 use Rattle.mdcc_protocol.specs.Facts.{epoch_of}
 use Rattle.mdcc_node.proofs.node.Node.begin.Goals as goal
 

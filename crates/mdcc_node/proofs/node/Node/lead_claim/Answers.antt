@@ -1,10 +1,10 @@
 use Rattle.std.proofs.Common.{◌≡◌, Ok, refl}
 use Rattle.mdcc_leader.specs.Answers.{answered}
 use Rattle.mdcc_node.proofs.Led.{led-keeps, led-refused, led-sends, refused-left, residual}
-use Rattle.mdcc_node.specs.Stands.{Stands}
+use Rattle.mdcc_node.specs.Represents.{RepresentsCentre}
 use Rattle.mdcc_protocol.specs.Facts.{epoch_of}
 use Rattle.mdcc_protocol.specs.Leader.{lead}
-use Rattle.mdcc_rules.specs.LeaderRules.{step_fault}
+use Rattle.mdcc_rules.specs.LeaderRules.{lead_step_fault}
 use Rattle.mdcc_node.proofs.node.Node.lead_claim.Goals as goal
 
 pub returns-in_err-answer : goal.returns-in_err-answer
@@ -13,13 +13,13 @@ returns-in_err-answer g c =
     let fault = c.in_err-answer.field-0.0 in
     record {
       answer = λ cluster me facts volatile known.
-          rw (residual c.from_residual.result (step_fault fault) c.from_residual.ensures.1)
+          rw (residual c.from_residual.result (lead_step_fault fault) c.from_residual.ensures.1)
           (led-refused cluster.quorums me volatile claim (lead cluster me (epoch_of facts) facts volatile.leader claim) fault c.args.sends.now
           (rw known.of at (c.in_err-answer.ensures.answer me (epoch_of facts) facts volatile.leader known.store (rw known.of known.leader))));
       left = λ cluster me facts volatile known.
-          rw (residual c.from_residual.result (step_fault fault) c.from_residual.ensures.1)
+          rw (residual c.from_residual.result (lead_step_fault fault) c.from_residual.ensures.1)
           (refused-left cluster.quorums me volatile claim (lead cluster me (epoch_of facts) facts volatile.leader claim) fault
-          (Stands g.S.FactStore.stands (record c.args.self.now { leader = c.lead.new.self }) cluster me facts)
+          (RepresentsCentre g.S.FactStore.stands (record c.args.self.now { leader = c.lead.new.self }) cluster me facts)
           (rw known.of at (c.in_err-answer.ensures.answer me (epoch_of facts) facts volatile.leader known.store (rw known.of known.leader)))
           (record {
             of = known.of;

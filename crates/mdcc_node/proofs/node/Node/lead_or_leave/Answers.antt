@@ -1,7 +1,7 @@
 use Rattle.std.proofs.Common.{◌≡◌, Ok, refl}
 use Rattle.mdcc_leader.specs.Answers.{answered}
 use Rattle.mdcc_node.proofs.Led.{tick-keeps, tick-left, tick-refused, tick-sends}
-use Rattle.mdcc_node.specs.Stands.{Stands}
+use Rattle.mdcc_node.specs.Represents.{RepresentsCentre}
 use Rattle.mdcc_protocol.specs.Facts.{epoch_of}
 use Rattle.mdcc_protocol.specs.Leader.{lead}
 use Rattle.mdcc_node.proofs.node.Node.lead_or_leave.Goals as goal
@@ -41,7 +41,7 @@ returns-in-Err g c =
       left = λ cluster me facts volatile known.
           rw c.leave_out.ensures
           (tick-left cluster.quorums me volatile claim (lead cluster me (epoch_of facts) facts volatile.leader claim) fault c.args.sends.now
-          (Stands g.S.FactStore.stands (record c.args.self.now { leader = c.lead.new.self }) cluster me facts)
+          (RepresentsCentre g.S.FactStore.stands (record c.args.self.now { leader = c.lead.new.self }) cluster me facts)
           (rw known.of at (c.in-Err.ensures.answer me (epoch_of facts) facts volatile.leader known.store (rw known.of known.leader)))
           (record {
             of = known.of;

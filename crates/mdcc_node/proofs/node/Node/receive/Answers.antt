@@ -3,9 +3,9 @@ use Rattle.mdcc_base.specs.Unless.{GivesUnless}
 use Rattle.mdcc_messages.specs.declared.facts.Fact.{Fact}
 use Rattle.mdcc_node.proofs.Ending.{ends}
 use Rattle.mdcc_node.proofs.Planned.{memory-left, plan-fits, plan-given, plan-left}
-use Rattle.mdcc_node.specs.Doing.{Spends}
-use Rattle.mdcc_node.specs.Planning.{kept, written}
-use Rattle.mdcc_node.specs.Stepping.{is_memory, room_of, step_taken}
+use Rattle.mdcc_node.specs.MethodEffects.{Spends}
+use Rattle.mdcc_node.specs.StepPlans.{kept, written}
+use Rattle.mdcc_node.specs.StepAnswers.{is_step_memory, room_of, if_plan_added}
 use Rattle.mdcc_option.specs.declared.cluster.Cluster.{Cluster}
 use Rattle.mdcc_protocol.specs.Belongs.{is_centre}
 use Rattle.mdcc_rules.specs.Node.{message_step}
@@ -30,8 +30,8 @@ returns-clause-does g c =
     let plan = c.take.new.step in
     let same : mid.store ≡ c.args.self.now.store = c.in_ok-take.ensures.plan.store in
     let given : (facts : List Fact) → stands c.args.self.now.store facts
-    → GivesUnless is_memory (written c.add_planned.result c.add_planned.new.step) (step_taken room facts plan plan.fact) =
-    λ facts store. subst (λ (held : g.row.S.Denot). GivesUnless is_memory (written c.add_planned.result c.add_planned.new.step) (step_taken (room_of g.S.FactStore.room g.S.FactStore.cells_for held) facts plan plan.fact)) same
+    → GivesUnless is_step_memory (written c.add_planned.result c.add_planned.new.step) (if_plan_added room facts plan plan.fact) =
+    λ facts store. subst (λ (held : g.row.S.Denot). GivesUnless is_step_memory (written c.add_planned.result c.add_planned.new.step) (if_plan_added (room_of g.S.FactStore.room g.S.FactStore.cells_for held) facts plan plan.fact)) same
     (c.add_planned.ensures.answer facts (rw same store)) in
     record {
       answer = λ cluster me facts volatile known.

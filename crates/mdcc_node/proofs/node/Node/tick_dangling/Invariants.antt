@@ -1,6 +1,6 @@
 use Rattle.std.proofs.Common.{◌≡◌, ◌++◌, [], List, ℕ, drop, fold}
 use Rattle.mdcc_messages.specs.declared.facts.Fact.{Fact}
-use Rattle.mdcc_node.specs.Stands.{Stands}
+use Rattle.mdcc_node.specs.Represents.{RepresentsCentre}
 use Rattle.mdcc_option.specs.declared.cluster.Cluster.{Cluster}
 use Rattle.mdcc_protocol.specs.Volatile.{Volatile}
 use Rattle.mdcc_rules.specs.Steps.{StepPart, and_then, only_sending}
@@ -10,9 +10,9 @@ use Rattle.mdcc_node.proofs.node.Node.tick_dangling.Given as goal
 abbrev pub invariant-loop-act : goal.invariant-loop-act
 invariant-loop-act g l = record {
   store : l.self.store ≡ l.fn.self.store;
-  parts : (cluster : Cluster) (me : ℕ) (facts : List Fact) (volatile : Volatile) → Stands g.S.FactStore.stands l.fn.self cluster me facts volatile
+  parts : (cluster : Cluster) (me : ℕ) (facts : List Fact) (volatile : Volatile) → RepresentsCentre g.S.FactStore.stands l.fn.self cluster me facts volatile
       → (part : StepPart)
       × (l.sends ≡ l.fn.sends ++ part.sends)
-      × Stands g.S.FactStore.stands l.self cluster me facts part.after
+      × RepresentsCentre g.S.FactStore.stands l.self cluster me facts part.after
       × (fold (and_then (recovery_act cluster me facts)) part (drop l.act-index l.act-items) ≡ recovery_ticked cluster me facts (only_sending volatile []));
 }

@@ -9,12 +9,12 @@ returns-in_err-at_log_limit-clause-limit c w measures =
     let a = c.args.centre in
     let fault = c.in_err-at_log_limit.field-0.0 in
     rw (residual c.from_residual.result fault c.from_residual.ensures.1, c.in-Some.is)
-    (limit-first (log_limit w a c.in-Some.fact) (bytes_limit w c.args.outgoing.now) fault (c.in_err-at_log_limit.ensures.limit w measures))
+    (limit-first (log_limit w a c.in-Some.fact) (bytes_limit w c.args.batch.now) fault (c.in_err-at_log_limit.ensures.limit w measures))
 
 pub returns-clause-limit : goal.returns-clause-limit
 returns-clause-limit c w measures =
     let a = c.args.centre in
-    let sends = c.args.outgoing.now in
+    let sends = c.args.batch.now in
     let bytes = c.at_bytes_limit.ensures.limit w a measures in
     elim c.match-fact.branch [
       | in-Some+in_ok-at_log_limit b ↦

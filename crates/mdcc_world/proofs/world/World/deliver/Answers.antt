@@ -1,6 +1,6 @@
 use Rattle.std.proofs.Common.{◌≡◌, ◌+◌, ◌∷◌, ◌<◌, Err, arith, drop, get_or, length}
 use Rattle.std.proofs.lemmas.List.{drop_more}
-use Rattle.mdcc_simulation.specs.Deliveries.{delivery_of}
+use Rattle.mdcc_simulation.specs.Deliveries.{after_delivery}
 use Rattle.mdcc_world.proofs.CutShort.{memory-always}
 use Rattle.mdcc_world.proofs.Delivering.{delivers-begin, delivers-cut, delivers-go_on, delivers-left, delivers-limited, delivers-refused}
 use Rattle.mdcc_world.proofs.Happened.{has-come, residual}
@@ -75,7 +75,7 @@ loop-number-preserved c =
     let within : i < length numbers = omega arith in
     let first : drop i numbers ≡ get_or numbers i 0 ∷ drop (i + 1) numbers = drop_more numbers i 0 within in
     let some = at.invariant.some in
-    let come = has-come {T = Unit {0}} tt c.deliver_at.new.self at.lines c.deliver_at.new.lines (delivery_of some.0 number) (c.in_ok-deliver_at.ensures.happens some.0 some.1) in
+    let come = has-come {T = Unit {0}} tt c.deliver_at.new.self at.lines c.deliver_at.new.lines (after_delivery some.0 number) (c.in_ok-deliver_at.ensures.happens some.0 some.1) in
     record {
       few = c.in_ok-deliver_at.ensures.few;
       some = (come.h.world, come.happened.like);

@@ -1,7 +1,7 @@
 use Rattle.std.proofs.Common.{◌≤◌, drop}
 use Rattle.mdcc_simulation.specs.State.{World}
 use Rattle.mdcc_world.proofs.Delivering.{HasDelivered}
-use Rattle.mdcc_world.specs.Stands.{IsLike, IsLikeSome}
+use Rattle.mdcc_world.specs.Represents.{IsLike, IsLikeSome}
 use Rattle.mdcc_world.proofs.world.World.deliver.Given as goal
 
 abbrev pub invariant-loop-number : goal.invariant-loop-number

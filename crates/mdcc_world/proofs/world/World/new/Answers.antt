@@ -13,7 +13,7 @@ returns c =
         records = record {
           itself = first-stands cluster c.requires;
           cluster = refl;
-          mail = value-of c.in_ok-mail.mail [] c.in_ok-mail.ensures;
+          network = value-of c.in_ok-network.network [] c.in_ok-network.ensures;
           bytes = refl;
           reads = c.new-3.ensures;
           few_reads = omega arith;
@@ -21,7 +21,7 @@ returns c =
           stops = first-stops (replicate 9 None) cluster (λ a. none-armed 9 (a - 1));
           ups = first-ups c.first_ups-up.result cluster (rw (c.centres.ensures.value) at c.first_ups-up.ensures);
         };
-        outcomes = first-counted c.in_ok-outcomes.outcomes cluster.quorums cluster.quorums.centres c.in_ok-outcomes.ensures;
+        decisions = first-counted c.in_ok-decisions.decisions cluster.quorums cluster.quorums.centres c.in_ok-decisions.ensures;
         nodes = first-nodes c.in_ok-nodes.nodes.items cluster c.in_ok-nodes.ensures.nodes;
         logs = first-logs c.in_ok-nodes.logs cluster c.in_ok-nodes.ensures.logs;
       };

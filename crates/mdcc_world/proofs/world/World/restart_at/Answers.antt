@@ -1,6 +1,6 @@
 use Rattle.std.proofs.Common.{◌<◌, ◌≤◌, ◌+◌, ◌-◌, ◌∷◌, Bool, List, Ok, Option, true, ℕ, arith, ap, ◌∙◌, subst}
 use Rattle.mdcc_logs.specs.Nodes.{IsNodeOf}
-use Rattle.mdcc_logs.specs.Stands.{with_up}
+use Rattle.mdcc_logs.specs.Represents.{with_up}
 use Rattle.mdcc_logs.specs.Starting.{HasStarted, Starts}
 use Rattle.mdcc_logs.specs.declared.starting.Started.{Started}
 use Rattle.mdcc_option.specs.declared.cluster.Cluster.{Cluster}

@@ -3,10 +3,10 @@ use Rattle.mdcc_simulation.specs.State.{World}
 use Rattle.mdcc_world.proofs.CutShort.{memory-always, memory-any}
 use Rattle.mdcc_world.proofs.Happened.{has-come, residual}
 use Rattle.mdcc_world.proofs.Settled.{ends-after, settle-breaks, settle-ends, settle-full, settle-goes_on, settle-limited, settle-short, settle-stops}
-use Rattle.mdcc_world.specs.Settling.{IsNext}
-use Rattle.mdcc_world.specs.Stands.{IsLike}
+use Rattle.mdcc_world.specs.SettleEnd.{IsNext}
+use Rattle.mdcc_world.specs.Represents.{IsLike}
 use Rattle.mdcc_world.specs.declared.world.World.{World as TheWorld}
-use Rattle.mdcc_worlds.specs.Delivering.{delivery}
+use Rattle.mdcc_worlds.specs.DeliveryProgress.{after_numbered_message}
 use Rattle.mdcc_world.proofs.world.World.settle_for.Goals as goal
 
 pub returns-in_err-deliver_waiting-in-Some-clause-ends : goal.returns-in_err-deliver_waiting-in-Some-clause-ends
@@ -37,7 +37,7 @@ loop-deliveries-preserved c =
     let some = at.invariant.some in
     let number = c.in-Some.number in
     let here : (w : World) → IsLike at.self w → IsLike c.next_asked.new.self w = λ w like. subst (λ (x : TheWorld). IsLike x w) (sym c.in_ok-number.ensures.kept) like in
-    let come = has-come {T = Unit {0}} tt c.deliver_waiting.new.self at.lines c.deliver_waiting.new.lines (delivery some.0 number) (c.in_ok-deliver_waiting-in-Some.ensures.happens some.0 (here some.0 some.1)) in
+    let come = has-come {T = Unit {0}} tt c.deliver_waiting.new.self at.lines c.deliver_waiting.new.lines (after_numbered_message some.0 number) (c.in_ok-deliver_waiting-in-Some.ensures.happens some.0 (here some.0 some.1)) in
     record {
       events = (let more = c.in_ok-deliver_waiting-in-Some.ensures.few in let events = at.invariant.events in let kept = c.in_ok-number.ensures.kept in
           subst (λ (x : TheWorld). c.deliver_waiting.new.self.events ≤ x.events + 1 → c.deliver_waiting.new.self.events ≤ c.args.self.now.events + (at.deliveries + 1)) (sym kept)

@@ -1,15 +1,15 @@
 use Rattle.std.proofs.Common.{◌+◌, ◌<◌, ◌≤◌, List}
 use Rattle.mdcc_simulation.specs.State.{World}
 use Rattle.mdcc_language.specs.declared.lines.Line.{Line}
-use Rattle.mdcc_world.specs.Settling.{HasSettled}
-use Rattle.mdcc_world.specs.Stands.{HasHappened, IsLikeSome}
-use Rattle.mdcc_worlds.specs.Settling.{settle_told}
+use Rattle.mdcc_world.specs.SettleEnd.{HasSettled}
+use Rattle.mdcc_world.specs.Represents.{HasHappened, IsLikeSome}
+use Rattle.mdcc_worlds.specs.SettleProgress.{settle_reported}
 use Rattle.mdcc_world.proofs.world.World.settle_for.Given as goal
 
 abbrev pub invariant-loop-deliveries : goal.invariant-loop-deliveries
 invariant-loop-deliveries l = record {
   events : l.self.events ≤ l.fn.self.events + l.deliveries;
   some : IsLikeSome l.self;
-  has : (w : World) (before : List Line) → w.events < 100000 → HasHappened l.fn.self before l.fn.lines (settle_told w l.listed)
+  has : (w : World) (before : List Line) → w.events < 100000 → HasHappened l.fn.self before l.fn.lines (settle_reported w l.listed)
       → HasSettled l.self before l.lines w l.listed l.deliveries;
 }

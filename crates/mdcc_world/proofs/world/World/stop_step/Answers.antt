@@ -51,7 +51,7 @@ returns-clause-happens c w input made =
     let stopped = c.in_ok-stop_append.ensures in
     let within = unlimited (log_limit w a fact) (c.in_ok-at_log_limit.ensures.limit w (step-measures world w a input step made)) in
     let rest = c.stop_append.ensures.rest
-    ∙ ap (λ (ups : List Bool). record world { up = ups; stops = new.stops; logs = new.logs; outcomes = new.outcomes }) c.stop_append.ensures.down
-    ∙ ap (λ (stops : List (Option (ℕ × Image))). record world { up = set world.up (a - 1) false; stops = stops; logs = new.logs; outcomes = new.outcomes }) c.stop_append.ensures.stops in
+    ∙ ap (λ (ups : List Bool). record world { up = ups; stops = new.stops; logs = new.logs; decisions = new.decisions }) c.stop_append.ensures.down
+    ∙ ap (λ (stops : List (Option (ℕ × Image))). record world { up = set world.up (a - 1) false; stops = stops; logs = new.logs; decisions = new.decisions }) c.stop_append.ensures.stops in
     step-stops world w a input step made fact c.requires.fact c.args.stop.0 c.args.stop.1 c.requires.armed new rest (omega arith) (omega arith) (omega arith)
     c.args.lines.now c.stop_append.new.lines within (stopped.logs w.cluster.quorums.centres (is_up_at w) (facts_of w.ledger) made.before.logs made.before.up) stopped.ledger stopped.lines

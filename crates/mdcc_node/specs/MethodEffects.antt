@@ -1,0 +1,47 @@
+-- What a node's method does: what it answers, and what the node is afterwards.
+use Rattle.std.specs.Prelude.{Bool, Err, List, None, Ok, Option, Result, Some, ℕ, ◌+◌, ◌≡◌}
+use Rattle.mdcc_base.specs.declared.identifiers.TxId.{TxId}
+use Rattle.mdcc_base.specs.Unless.{GivesUnless}
+use Rattle.mdcc_messages.specs.declared.facts.Fact.{Fact}
+use Rattle.mdcc_node.specs.Represents.{RepresentsAfter, RepresentsCentre}
+use Rattle.mdcc_node.specs.StepAnswers.{OnMemory, UnlessMemory, step_result, is_step_memory, room_of, with_store}
+use Rattle.mdcc_node.specs.declared.node.Node.{Node}
+use Rattle.mdcc_option.specs.declared.cluster.Cluster.{Cluster}
+use Rattle.mdcc_protocol.specs.Volatile.{Volatile, closed}
+use Rattle.mdcc_rules.specs.Steps.{NodeStep}
+use Rattle.mdcc_rules.specs.declared.node.Step.{Step}
+use Rattle.mdcc_rules.specs.declared.node.StepFault.{StepFault}
+
+-- what is expected of a centre of a cluster, by its facts and by what it keeps beside them
+abbrev pub Rule : Type 0
+Rule = Cluster → ℕ → List Fact → Volatile → Result NodeStep StepFault
+
+-- the answer and the node afterwards are those of the rule, where memory does not lack; where it does, the facts are as before
+pub record Follows {S : Type 0} (stands : S → List Fact → Type 0) (before : Node S) (result : Result Step StepFault) (after : Node S) (rule : Rule) : Type 0 where
+  pub answer : (cluster : Cluster) (me : ℕ) (facts : List Fact) (volatile : Volatile) → RepresentsCentre stands before cluster me facts volatile
+      → GivesUnless is_step_memory result (step_result (rule cluster me facts volatile))
+  pub left : (cluster : Cluster) (me : ℕ) (facts : List Fact) (volatile : Volatile) → RepresentsCentre stands before cluster me facts volatile
+      → UnlessMemory result (RepresentsAfter stands after cluster me facts volatile (rule cluster me facts volatile))
+  pub memory : (facts : List Fact) → stands before.store facts → OnMemory result (stands after.store facts)
+
+-- the same for a rule whose fact the store may refuse
+abbrev pub Does : {S : Type 0} → (S → List Fact → Type 0) → (S → ℕ) → (S → Fact → ℕ) → Node S → Result Step StepFault → Node S → Rule → Type 0
+Does stands spare needed before result after rule =
+    Follows stands before result after (λ cluster me facts volatile. with_store (room_of spare needed before.store) facts (rule cluster me facts volatile))
+
+-- a transaction that has ended is closed
+abbrev pub ended : Option (TxId × Bool) → Volatile → Volatile
+ended None volatile = volatile
+ended (Some (tx, is_commit)) volatile = closed volatile tx
+
+-- ---- cells
+
+-- how many cells the fact of a step needs
+abbrev pub cells_taken : (Fact → ℕ) → Option Fact → ℕ
+cells_taken needed None = 0
+cells_taken needed (Some fact) = needed fact
+
+-- the store has fewer cells spare by those of the step's fact; after a refusal it has as many as before
+abbrev pub Spends : {S : Type 0} → (S → ℕ) → (S → Fact → ℕ) → S → Result Step StepFault → S → Type 0
+Spends spare needed before (Ok step) after = spare after + cells_taken (needed before) step.fact ≡ spare before
+Spends spare needed before (Err fault) after = spare after ≡ spare before

@@ -1,6 +1,0 @@
-use Rattle.std.proofs.Common.{◌≡◌, ◌++◌, drop, map}
-use Rattle.mdcc_worlds.specs.Taking.{chosen_line}
-use Rattle.mdcc_world.proofs.taking.push_chosen.Given as goal
-
-abbrev pub invariant-loop-ending : goal.invariant-loop-ending
-invariant-loop-ending l = l.lines ++ map chosen_line (drop l.ending-index l.endings) ≡ l.fn.lines ++ map chosen_line l.endings

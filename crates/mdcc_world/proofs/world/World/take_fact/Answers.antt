@@ -1,6 +1,0 @@
-use Rattle.std.proofs.Common.{◌∙◌, inr, sym}
-use Rattle.mdcc_world.proofs.world.World.take_fact.Goals as goal
-
-pub returns-in-None-clause-happens : goal.returns-in-None-clause-happens
-returns-in-None-clause-happens c w input made =
-    c.let_step.ensures.happens w input made (inr (sym (made.before.records.stops c.args.centre made.before.centre) ∙ sym c.stop_at.ensures ∙ c.in-None.is))
