@@ -24,7 +24,7 @@ fn make_room(alloc: Global, count: usize, sends: &mut HeapList<Envelope>) -> Res
     Ok(())
 }
 
-// Adds a message behind the others. It is moved once, to where it stays.
+// Adds a message behind the others.
 fn push(alloc: Global, envelope: Envelope, sends: &mut HeapList<Envelope>) -> Result<(), Memory>
     ensures { OnOk result (sends.new ≡ sends.old ++ envelope ∷ []) }
 {
