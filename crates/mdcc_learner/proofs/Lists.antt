@@ -1,6 +1,8 @@
 -- Counts and folds over lists.
-use Rattle.std.proofs.Common.{◌≡◌, ℕ, zero, suc, ◌+◌, ◌<◌, Bool, ◌&&◌, List, [], ◌∷◌, ◌++◌, Option, Some, None, refl, sym, ap, ◌∙◌, arith, fold, length, drop, get_or}
+use Rattle.std.proofs.Common.{◌≡◌, ℕ, zero, suc, ◌+◌, ◌<◌, Bool, ◌&&◌, List, [], ◌∷◌, ◌++◌, Option, Some, None, refl, sym, ap, ◌∙◌, arith, fold, length, drop, get_or, inl, inr, ◌≤◌, false, nat_le}
 use Rattle.std.specs.List.{filter, filter_map, list_any, reduce}
+use Rattle.std.proofs.lemmas.Bool.{cases_Bool}
+use Rattle.std.proofs.lemmas.Bool.Decides.{nat_tests}
 use Rattle.std.proofs.lemmas.List.Elements.{filter-append}
 use Rattle.std.proofs.lemmas.List.Sums.{fold-append}
 use Rattle.mdcc_base.specs.Counts.{number_of}
@@ -12,6 +14,18 @@ use Rattle.mdcc_protocol.specs.declared.votes.Vote.{Vote}
 pub number_of-append : {X : Type 0} (test : X → Bool) (xs ys : List X) → number_of test (xs ++ ys) ≡ number_of test xs + number_of test ys
 number_of-append test [] ys = grind arith
 number_of-append test (x ∷ xs) ys = let ih = number_of-append test xs ys in omega arith
+
+pub number_of-most : {X : Type 0} (test : X → Bool) (xs : List X) → number_of test xs ≤ length xs
+number_of-most test [] = omega arith
+number_of-most test (x ∷ xs) =
+    let ih = number_of-most test xs in
+    elim (cases_Bool (test x)) [
+      | inl e ↦ rw e (omega (arith, ih))
+      | inr e ↦ rw e (omega (arith, ih))
+    ]
+
+pub too-few : (least n : ℕ) → n < least → false ≡ nat_le least n
+too-few least n few = grind (arith, nat_tests, few)
 
 -- a fold that keeps what it has
 fold-kept : {X : Type 0} (x : X) (xs : List X) → fold (λ a b. a) x xs ≡ x

@@ -70,7 +70,11 @@ fn number_alike(votes: &[Vote], vote: &Vote) -> usize
 pub(crate) fn has_quorum(quorums: &Quorums, votes: &[Vote], more: &[Vote], vote: &Vote) -> bool
     ensures { result ≡ has_quorum quorums.now (votes.now ++ more.now) vote.now }
 {
-    quorum_size(quorums, &vote.ballot) <= number_alike(votes, vote) + number_alike(more, vote)
+    let least = quorum_size(quorums, &vote.ballot);
+    if votes.len() + more.len() < least {
+        return false;
+    }
+    least <= number_alike(votes, vote) + number_alike(more, vote)
 }
 
 /// The vote of the lower ballot, the first where they have one ballot.

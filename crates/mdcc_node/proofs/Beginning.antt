@@ -13,31 +13,32 @@ use Rattle.mdcc_option.specs.declared.cluster.Cluster.{Cluster}
 use Rattle.mdcc_option.specs.declared.faults.BeginFault.{BeginFault}
 use Rattle.mdcc_option.specs.declared.items.Part.{Part}
 use Rattle.mdcc_protocol.specs.Facts.{epoch_of}
-use Rattle.mdcc_protocol.specs.Manager.{begin, begin_by, begin_fault, begun}
+use Rattle.mdcc_protocol.specs.Manager.{begin, begin_with, begin_fault, begun_transaction}
 use Rattle.mdcc_rules.specs.ManagerRules.{begin_step, begin_step_by, begun_step}
 use Rattle.mdcc_protocol.specs.Manager.{key_refused}
 use Rattle.mdcc_rules.specs.Steps.{answering}
 use Rattle.mdcc_protocol.specs.Volatile.{Volatile}
 use Rattle.mdcc_messages.specs.declared.facts.Fact.{Fact}
 use Rattle.mdcc_rules.specs.declared.node.Answer.{Answer}
+use Rattle.mdcc_rules.specs.Here.{here}
 
 module _ (cluster : Cluster) (me : ℕ) (facts : List Fact) (volatile : Volatile) (parts : List Part) where
   begun-by : (tx : TxId) (fault : Option (Key × BeginFault))
-      → Ok tx ≡ tx_begun (begin_by me (epoch_of facts) volatile.manager parts fault)
-      → begin_step_by cluster me facts volatile parts (begin_by me (epoch_of facts) volatile.manager parts fault)
-      ≡ begun_step cluster me volatile parts (tx, (begun me (epoch_of facts) volatile.manager parts).1)
+      → Ok tx ≡ tx_begun (begin_with me (epoch_of facts) volatile.manager parts fault)
+      → begin_step_by (here cluster me facts) volatile parts (begin_with me (epoch_of facts) volatile.manager parts fault)
+      ≡ begun_step cluster me volatile parts (tx, (begun_transaction me (epoch_of facts) volatile.manager parts).1)
   begun-by tx None e =
-      let is : tx ≡ (begun me (epoch_of facts) volatile.manager parts).0 = cc in
+      let is : tx ≡ (begun_transaction me (epoch_of facts) volatile.manager parts).0 = cc in
       rw is refl
   begun-by tx (Some fault) e = absurd (cc)
 
   pub step_begun : (tx : TxId) → Ok tx ≡ tx_begun (begin me (epoch_of facts) facts volatile.manager parts)
-      → begin_step cluster me facts volatile parts ≡ begun_step cluster me volatile parts (tx, (begun me (epoch_of facts) volatile.manager parts).1)
+      → begin_step (here cluster me facts) volatile parts ≡ begun_step cluster me volatile parts (tx, (begun_transaction me (epoch_of facts) volatile.manager parts).1)
   step_begun tx e = begun-by tx (begin_fault facts volatile.manager parts) e
 
   refused-by : (fault : BeginFault) (found : Option (Key × BeginFault))
-      → Err fault ≡ tx_begun (begin_by me (epoch_of facts) volatile.manager parts found)
-      → begin_step_by cluster me facts volatile parts (begin_by me (epoch_of facts) volatile.manager parts found)
+      → Err fault ≡ tx_begun (begin_with me (epoch_of facts) volatile.manager parts found)
+      → begin_step_by (here cluster me facts) volatile parts (begin_with me (epoch_of facts) volatile.manager parts found)
       ≡ answering volatile (Answer.Refused (key_refused facts parts) fault)
   refused-by fault None e = absurd (cc)
   refused-by fault (Some found) e =
@@ -45,11 +46,11 @@ module _ (cluster : Cluster) (me : ℕ) (facts : List Fact) (volatile : Volatile
       rw is refl
 
   pub step_refused : (fault : BeginFault) → Err fault ≡ tx_begun (begin me (epoch_of facts) facts volatile.manager parts)
-      → begin_step cluster me facts volatile parts ≡ answering volatile (Answer.Refused (key_refused facts parts) fault)
+      → begin_step (here cluster me facts) volatile parts ≡ answering volatile (Answer.Refused (key_refused facts parts) fault)
   step_refused fault e = refused-by fault (begin_fault facts volatile.manager parts) e
 
   pub refused_gives : (fault : BeginFault) → GivesUnless begin_memory (Err fault) (tx_begun (begin me (epoch_of facts) facts volatile.manager parts))
-      → GivesUnless is_step_memory (refused_given (key_refused facts parts) fault) (step_result (Ok (begin_step cluster me facts volatile parts)))
+      → GivesUnless is_step_memory (refused_given (key_refused facts parts) fault) (step_result (Ok (begin_step (here cluster me facts) volatile parts)))
   refused_gives (BeginFault.Stale token) e = rw (step_refused (BeginFault.Stale token) e) refl
   refused_gives (BeginFault.Unseen version) e = rw (step_refused (BeginFault.Unseen version) e) refl
   refused_gives BeginFault.NoItem e = rw (step_refused BeginFault.NoItem e) refl
@@ -60,7 +61,7 @@ module _ (cluster : Cluster) (me : ℕ) (facts : List Fact) (volatile : Volatile
   pub refused_leaves : {S : Type 0} (stands : S → List Fact → Type 0) (node : Node S) (fault : BeginFault)
       → GivesUnless begin_memory (Err fault) (tx_begun (begin me (epoch_of facts) facts volatile.manager parts))
       → RepresentsCentre stands node cluster me facts volatile
-      → UnlessMemory (refused_given (key_refused facts parts) fault) (RepresentsAfter stands node cluster me facts volatile (Ok (begin_step cluster me facts volatile parts)))
+      → UnlessMemory (refused_given (key_refused facts parts) fault) (RepresentsAfter stands node cluster me facts volatile (Ok (begin_step (here cluster me facts) volatile parts)))
   refused_leaves stands node (BeginFault.Stale token) e h = rw (step_refused (BeginFault.Stale token) e) h
   refused_leaves stands node (BeginFault.Unseen version) e h = rw (step_refused (BeginFault.Unseen version) e) h
   refused_leaves stands node BeginFault.NoItem e h = rw (step_refused BeginFault.NoItem e) h

@@ -45,6 +45,7 @@ use Rattle.mdcc_struct.specs.declared.options.Options.{Options}
 use Rattle.mdcc_struct.proofs.Walks.{drop-get}
 use Rattle.mdcc_node.proofs.Planned.{Ends, EndsIn}
 use Rattle.mdcc_node.proofs.Unvoted.{new_vote}
+use Rattle.mdcc_rules.specs.Here.{here}
 
 -- ---- rules whose fact is all that they change
 
@@ -62,7 +63,7 @@ module _ (me : ℕ) (facts : List Fact) (volatile : Volatile) (s : ℕ) where
   proposed-adds cluster choice (ProposeAnswer.Escalate cause) e = record { ends = tt; keeps = refl; follows = tt }
   proposed-adds cluster choice (ProposeAnswer.Vote mark) e = record { ends = refl; keeps = refl; follows = (new_vote cluster facts choice mark e, refl) }
 
-  pub propose-adds : (cluster : Cluster) (choice : Choice) → AddsAlone facts volatile (propose_step cluster me facts volatile s choice)
+  pub propose-adds : (cluster : Cluster) (choice : Choice) → AddsAlone facts volatile (propose_step (here cluster me facts) volatile s choice)
   propose-adds cluster choice = proposed-adds cluster choice (on_propose cluster facts choice) refl
 
   promised-adds : (key : Key) (version new : ℕ) (ballot : Ballot) (before : Option ℕ) → promised_through facts key version ballot ≡ before
@@ -162,20 +163,20 @@ module _ (volatile : Volatile) where
   ends-led (Err fault) = tt
 
   ends-lead : (cluster : Cluster) (me : ℕ) (facts : List Fact) (s : ℕ) (choice : Choice) (heard : Option Outcome)
-      → EndsIn volatile (lead_step_after cluster me facts volatile s choice heard)
+      → EndsIn volatile (lead_step_after (here cluster me facts) volatile s choice heard)
   ends-lead cluster me facts s choice (Some outcome) = tt
-  ends-lead cluster me facts s choice None = ends-led (led_of cluster me facts volatile (claim_of_choice choice))
+  ends-lead cluster me facts s choice None = ends-led (led_of (here cluster me facts) volatile (claim_of_choice choice))
 
   ends-act : (me : ℕ) (facts : List Fact) (acted : Option ManagerAct × Managing) → EndsIn volatile (Ok (acted_step me facts volatile acted))
   ends-act me facts (act, manager) = tt
 
   ends-opened : (cluster : Cluster) (me : ℕ) (facts : List Fact) (vote : Vote) (decided : Option Outcome)
-      → EndsIn volatile (Ok (opened_step cluster me facts volatile vote decided))
+      → EndsIn volatile (Ok (opened_step (here cluster me facts) volatile vote decided))
   ends-opened cluster me facts vote (Some outcome) = refl
   ends-opened cluster me facts vote None = ends-act me facts (Manager.on_voted cluster.quorums volatile.manager vote)
 
   ends-watched : (cluster : Cluster) (me : ℕ) (facts : List Fact) (vote : Vote) (decided : Option (TxId × Outcome))
-      → EndsIn volatile (Ok (watched_step cluster me facts volatile vote decided))
+      → EndsIn volatile (Ok (watched_step (here cluster me facts) volatile vote decided))
   ends-watched cluster me facts vote (Some decided) = refl
   ends-watched cluster me facts vote None = tt
 
@@ -186,7 +187,7 @@ module _ (volatile : Volatile) where
   ends-either false false a b c x y z = z
 
   ends-voted : (cluster : Cluster) (me : ℕ) (facts : List Fact) (vote : Vote)
-      → EndsIn volatile (Ok (voted_step cluster me facts volatile vote))
+      → EndsIn volatile (Ok (voted_step (here cluster me facts) volatile vote))
   ends-voted cluster me facts vote =
       ends-either (is_heard facts vote.tx) (is_open volatile.manager vote.tx) _ _ _ tt
       (ends-opened cluster me facts vote (Manager.would_decide cluster.quorums volatile.manager vote))
@@ -199,7 +200,7 @@ module _ (volatile : Volatile) where
   ends-ask me s tx key version None None = tt
 
   pub ends : (cluster : Cluster) (me : ℕ) (facts : List Fact) (s : ℕ) (message : Message)
-      → EndsIn volatile (message_step cluster me facts volatile s message)
+      → EndsIn volatile (message_step (here cluster me facts) volatile s message)
   ends cluster me facts s (Message.Propose choice) = (propose-adds me facts volatile s cluster choice).ends
   ends cluster me facts s (Message.Voted key version ballot tx mark) =
       ends-voted cluster me facts (record { from = s; key = key; version = version; ballot = ballot; tx = tx; mark = mark })
@@ -241,7 +242,7 @@ module _ (quorums : Sizes) (facts : List Fact) (recovery : Recovering) (vote : V
 -- ---- votes on what was heard
 
 pub voted-heard : (cluster : Cluster) (me : ℕ) (facts : List Fact) (volatile : Volatile) (vote : Vote)
-    → is_heard facts vote.tx ≡ true → voted_step cluster me facts volatile vote ≡ nothing_done volatile
+    → is_heard facts vote.tx ≡ true → voted_step (here cluster me facts) volatile vote ≡ nothing_done volatile
 voted-heard cluster me facts volatile vote heard = rw heard refl
 
 -- ---- what a plan adds

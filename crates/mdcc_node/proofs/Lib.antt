@@ -4,6 +4,7 @@ pub mod Ends
 pub mod Led
 pub mod Marks
 pub mod Planned
+pub mod Rest
 pub mod Rooms
 pub mod Standing
 pub mod Ticks

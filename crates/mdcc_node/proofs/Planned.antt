@@ -4,18 +4,18 @@ use Rattle.std.specs.Bool.{OnTrue}
 use Rattle.std.specs.Prelude.{OnErr, OnOk, ⊤}
 use Rattle.std.proofs.lemmas.Bool.{cases_Bool}
 use Rattle.mdcc_base.specs.Unless.{GivesUnless}
-use Rattle.mdcc_facts.specs.Adding.{add_of}
+use Rattle.mdcc_facts.specs.Adding.{add_result}
 use Rattle.mdcc_messages.specs.declared.facts.Fact.{Fact}
 use Rattle.mdcc_messages.specs.declared.messages.Envelope.{Envelope}
 use Rattle.mdcc_node.specs.MethodEffects.{ended}
 use Rattle.mdcc_node.specs.StepPlans.{FitsFrame, PlanFitsFrame, kept, kept_by, plan_of, planned, written}
 use Rattle.mdcc_node.specs.Represents.{RepresentsAfter, RepresentsCentre}
-use Rattle.mdcc_node.specs.StepAnswers.{OnMemory, Room, UnlessMemory, step_result, if_added, is_step_memory, step_if, if_plan_added, if_fact_added, with_new, with_store}
+use Rattle.mdcc_node.specs.StepAnswers.{OnMemory, Room, UnlessMemory, step_result, if_added, is_step_memory, step_if, if_plan_added, if_fact_added, with_store}
 use Rattle.mdcc_node.specs.declared.node.Node.{Node}
 use Rattle.mdcc_option.specs.declared.cluster.Cluster.{Cluster}
 use Rattle.mdcc_protocol.specs.Volatile.{Volatile}
 use Rattle.mdcc_protocol.specs.declared.stores.StoreFault.{StoreFault}
-use Rattle.mdcc_rules.specs.Steps.{NodeStep, heard_by}
+use Rattle.mdcc_rules.specs.Steps.{NodeStep, heard_by, with_new}
 use Rattle.mdcc_rules.specs.declared.node.Step.{Step}
 use Rattle.mdcc_rules.specs.declared.node.StepFault.{StepFault}
 
@@ -40,7 +40,7 @@ taken-if step fact (Err fault) e = refl
 taken : (room : Room) (facts : List Fact) (step : NodeStep) (fact : Option Fact) → step.fact ≡ fact
     → step_result (if_fact_added room facts step fact) ≡ if_plan_added room facts (planned step) fact
 taken room facts step None e = rw e refl
-taken room facts step (Some fact) e = taken-if step fact (add_of room.spare (room.needed fact) facts fact) e
+taken room facts step (Some fact) e = taken-if step fact (add_result room.spare (room.needed fact) facts fact) e
 
 -- the store takes a planned step as it takes the rule's
 pub plan-given : (room : Room) (facts : List Fact) (plan : Step) (expected : Result NodeStep StepFault) → Ok plan ≡ plan_of expected
@@ -113,7 +113,7 @@ module _ {S : Type 0} (stands : S → List Fact → Type 0) (node : Node S) (clu
       → UnlessMemory (written result after) (RepresentsAfter stands node cluster me facts volatile (if_fact_added room facts step fact))
   left-by room step None result after is ends e ok err = left-none (planned step) step result after is e ok
   left-by room step (Some fact) result after is ends e ok err =
-      left-if room (planned step) fact step result after (add_of room.spare (room.needed fact) facts fact) is ends e ok err
+      left-if room (planned step) fact step result after (add_result room.spare (room.needed fact) facts fact) is ends e ok err
 
   pub plan-left : (room : Room) (plan : Step) (expected : Result NodeStep StepFault) (result : Result (Unit {0}) StepFault) (after : Step)
       → Ok plan ≡ plan_of expected → EndsIn volatile expected

@@ -12,6 +12,7 @@ use Rattle.mdcc_messages.specs.declared.facts.Fact.{Fact}
 use Rattle.mdcc_protocol.specs.declared.stores.StoreFault.{StoreFault}
 use Rattle.mdcc_rules.specs.declared.node.Input.{Input}
 use Rattle.mdcc_rules.specs.declared.node.StepFault.{StepFault}
+use Rattle.mdcc_rules.specs.Here.{here}
 
 -- the store refuses a fact just as the protocol does
 abbrev IsAlike : Room → Cluster → List Fact → Type 0
@@ -28,9 +29,9 @@ store-alike room cluster facts alike (Err fault) = refl
 store-alike room cluster facts alike (Ok step) = fact-alike room cluster facts alike step step.fact
 
 step-alike : (room : Room) (cluster : Cluster) (me : ℕ) (facts : List Fact) (volatile : Volatile) → IsAlike room cluster facts
-    → (input : Input) → step_by room cluster me facts volatile input ≡ step_of cluster me facts volatile input
+    → (input : Input) → step_by room cluster me facts volatile input ≡ step_of (here cluster me facts) volatile input
 step-alike room cluster me facts volatile alike (Input.Message envelope) =
-    rw (store-alike room cluster facts alike (message_step cluster me facts volatile envelope.from envelope.message)) refl
+    rw (store-alike room cluster facts alike (message_step (here cluster me facts) volatile envelope.from envelope.message)) refl
 step-alike room cluster me facts volatile alike Input.Tick = refl
 step-alike room cluster me facts volatile alike (Input.Read key) = refl
 step-alike room cluster me facts volatile alike (Input.Begin parts) = refl
@@ -54,7 +55,7 @@ store-unbounded room facts (Ok step) unbounded = fact-unbounded room facts step 
 
 pub unbounded_steps : StepsUnbounded
 unbounded_steps room cluster me facts volatile (Input.Message envelope) unbounded =
-    rw (store-unbounded room facts (message_step cluster me facts volatile envelope.from envelope.message) unbounded) refl
+    rw (store-unbounded room facts (message_step (here cluster me facts) volatile envelope.from envelope.message) unbounded) refl
 unbounded_steps room cluster me facts volatile Input.Tick unbounded = refl
 unbounded_steps room cluster me facts volatile (Input.Read key) unbounded = refl
 unbounded_steps room cluster me facts volatile (Input.Begin parts) unbounded = refl

@@ -9,6 +9,7 @@ use Rattle.mdcc_protocol.specs.Volatile.{Volatile}
 use Rattle.mdcc_messages.specs.declared.facts.Fact.{Fact}
 use Rattle.mdcc_messages.specs.declared.messages.Envelope.{Envelope}
 use Rattle.mdcc_rules.specs.declared.node.StepFault.{StepFault}
+use Rattle.mdcc_rules.specs.Here.{here}
 
 -- ---- what holds whatever comes
 
@@ -44,9 +45,9 @@ foreign-by false sender step foreign e = refl
 module _ (room : Room) (cluster : Cluster) (me : ℕ) (facts : List Fact) (volatile : Volatile) (envelope : Envelope) where
   -- a message of the cluster to this centre
   pub own_step : (from : ℕ) → Some from ≡ (if is_own_message cluster me envelope then Some envelope.from else None)
-      → step_by room cluster me facts volatile (Input.Message envelope) ≡ with_store room facts (message_step cluster me facts volatile from envelope.message)
+      → step_by room cluster me facts volatile (Input.Message envelope) ≡ with_store room facts (message_step (here cluster me facts) volatile from envelope.message)
   own_step from e =
-      own-by (is_own_message cluster me envelope) envelope.from from (λ s. with_store room facts (message_step cluster me facts volatile s envelope.message)) (Err StepFault.Foreign) e
+      own-by (is_own_message cluster me envelope) envelope.from from (λ s. with_store room facts (message_step (here cluster me facts) volatile s envelope.message)) (Err StepFault.Foreign) e
 
   -- any other
   pub foreign_step : None ≡ (if is_own_message cluster me envelope then Some envelope.from else None)

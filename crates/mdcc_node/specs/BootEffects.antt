@@ -5,7 +5,7 @@ use Rattle.mdcc_admission.specs.Loading.{Cells, Holds, is_boot_memory}
 use Rattle.mdcc_node.specs.Represents.{RepresentsCentre}
 use Rattle.mdcc_node.specs.declared.node.Node.{Node}
 use Rattle.mdcc_option.specs.declared.cluster.Cluster.{Cluster}
-use Rattle.mdcc_protocol.specs.Volatile.{nothing_kept}
+use Rattle.mdcc_protocol.specs.Volatile.{initial_volatile}
 use Rattle.mdcc_messages.specs.declared.facts.Fact.{Fact}
 use Rattle.mdcc_rules.specs.declared.node.BootFault.{BootFault}
 
@@ -18,5 +18,5 @@ IsBoot fact = ⊥
 -- expected fault, where memory does not lack
 abbrev pub Boots : {S : Type 0} → (S → List Fact → Type 0) → (S → ℕ) → (S → Fact → ℕ) → Cells → Result (Node S × Fact) BootFault → Cluster → ℕ → Result (List Fact) BootFault → Type 0
 Boots stands room cells_for cells (Ok r) cluster me expected =
-    (facts : List Fact) × (expected ≡ Ok (r.1 ∷ facts)) × RepresentsCentre stands r.0 cluster me (r.1 ∷ facts) nothing_kept × Holds stands room cells_for cells r.0.store (r.1 ∷ facts)
+    (facts : List Fact) × (expected ≡ Ok (r.1 ∷ facts)) × RepresentsCentre stands r.0 cluster me (r.1 ∷ facts) initial_volatile × Holds stands room cells_for cells r.0.store (r.1 ∷ facts)
 Boots stands room cells_for cells (Err fault) cluster me expected = OnFalse (is_boot_memory fault) (expected ≡ Err fault)

@@ -7,6 +7,7 @@ use Rattle.mdcc_rules.specs.Node.{cells_spare, step_of}
 use Rattle.mdcc_protocol.specs.Volatile.{Volatile}
 use Rattle.mdcc_messages.specs.declared.facts.Fact.{Fact}
 use Rattle.mdcc_rules.specs.declared.node.Input.{Input}
+use Rattle.mdcc_rules.specs.Here.{here}
 
 -- the room of a store that takes any number of facts
 abbrev pub list_room : Room
@@ -24,4 +25,4 @@ abbrev pub StepsWithinCells : Type 0
 StepsWithinCells =
     (room : Room) (cluster : Cluster) (me : ℕ) (facts : List Fact) (volatile : Volatile) (input : Input)
     → room.spare ≡ cells_spare cluster facts → ((fact : Fact) → room.needed fact ≡ cells_needed fact)
-    → step_by room cluster me facts volatile input ≡ step_of cluster me facts volatile input
+    → step_by room cluster me facts volatile input ≡ step_of (here cluster me facts) volatile input

@@ -1,10 +1,10 @@
 -- What a node answers to an input over a store with so many spare cells, and what it is afterwards.
 use Rattle.std.specs.Bool.{OnFalse, OnTrue}
 use Rattle.std.specs.Prelude.{Bool, Err, List, None, Ok, Option, Result, Some, false, if◌then◌else◌, true, ⊤, ℕ, ◌∷◌, ◌≤◌}
-use Rattle.mdcc_facts.specs.Adding.{add_of}
+use Rattle.mdcc_facts.specs.Adding.{add_result}
 use Rattle.mdcc_option.specs.declared.cluster.Cluster.{Cluster}
 use Rattle.mdcc_rules.specs.Node.{is_own_message, message_step, step_of}
-use Rattle.mdcc_rules.specs.Steps.{NodeStep, heard_by, store_step_fault, step_given}
+use Rattle.mdcc_rules.specs.Steps.{NodeStep, heard_by, store_step_fault, step_given, with_new}
 use Rattle.mdcc_protocol.specs.Volatile.{Volatile}
 use Rattle.mdcc_messages.specs.declared.facts.Fact.{Fact}
 use Rattle.mdcc_protocol.specs.declared.stores.StoreFault.{StoreFault}
@@ -13,6 +13,7 @@ use Rattle.mdcc_rules.specs.declared.node.Step.{Step}
 use Rattle.mdcc_rules.specs.declared.node.StepFault.{StepFault}
 use Rattle.mdcc_steps.specs.NodeInvariant.{accept_length_in}
 use Rattle.mdcc_steps.specs.Inputs.{IsWellFormedInput}
+use Rattle.mdcc_rules.specs.Here.{here}
 
 -- ---- the store's room
 
@@ -31,7 +32,7 @@ if_added step (Err fault) = Err (store_step_fault fault)
 
 abbrev pub if_fact_added : Room → List Fact → NodeStep → Option Fact → Result NodeStep StepFault
 if_fact_added room facts step None = Ok step
-if_fact_added room facts step (Some fact) = if_added step (add_of room.spare (room.needed fact) facts fact)
+if_fact_added room facts step (Some fact) = if_added step (add_result room.spare (room.needed fact) facts fact)
 
 abbrev pub with_store : Room → List Fact → Result NodeStep StepFault → Result NodeStep StepFault
 with_store room facts (Err fault) = Err fault
@@ -43,9 +44,9 @@ with_store room facts (Ok step) = if_fact_added room facts step step.fact
 abbrev pub step_by : Room → Cluster → ℕ → List Fact → Volatile → Input → Result NodeStep StepFault
 step_by room cluster me facts volatile (Input.Message envelope) =
     if is_own_message cluster me envelope
-    then with_store room facts (message_step cluster me facts volatile envelope.from envelope.message)
+    then with_store room facts (message_step (here cluster me facts) volatile envelope.from envelope.message)
     else Err StepFault.Foreign
-step_by room cluster me facts volatile input = step_of cluster me facts volatile input
+step_by room cluster me facts volatile input = step_of (here cluster me facts) volatile input
 
 -- what the caller is given
 abbrev pub step_result : Result NodeStep StepFault → Result Step StepFault
@@ -64,17 +65,13 @@ step_if step fact (Err fault) = Err (store_step_fault fault)
 
 abbrev pub if_plan_added : Room → List Fact → Step → Option Fact → Result Step StepFault
 if_plan_added room facts step None = Ok step
-if_plan_added room facts step (Some fact) = step_if step fact (add_of room.spare (room.needed fact) facts fact)
+if_plan_added room facts step (Some fact) = step_if step fact (add_result room.spare (room.needed fact) facts fact)
 
 -- ---- what is left
 
 abbrev pub is_step_memory : StepFault → Bool
 is_step_memory StepFault.Memory = true
 is_step_memory _ = false
-
-abbrev pub with_new : List Fact → Option Fact → List Fact
-with_new facts None = facts
-with_new facts (Some fact) = fact ∷ facts
 
 abbrev pub facts_left : List Fact → Result NodeStep StepFault → List Fact
 facts_left facts (Ok step) = with_new facts step.fact

@@ -10,10 +10,11 @@ ghost use Rattle.mdcc_protocol.specs.Volatile.{Volatile as AVolatile};
 ghost use Rattle.mdcc_protocol.specs.declared.acceptor.ProposeAnswer.{ProposeAnswer as AProposeAnswer};
 ghost use Rattle.mdcc_rules.specs.AcceptorRules.{accept_step, accepted_step, prepare_step, prepared_step, promise_message, propose_step, proposed_step, voted_marks_step};
 ghost use Rattle.mdcc_rules.specs.Messages.{to_one};
+ghost use Rattle.mdcc_rules.specs.Here.{here};
 
 use crate::node::Node;
 use crate::steps::{voted_message, write_vote};
-use crate::votes::{new_marks, send_votes};
+use crate::votes::{send_votes, unvoted_marks};
 use mdcc_acceptor::{answer_proposal, on_accept, on_prepare};
 use mdcc_base::{Ballot, HeapList, Key, Memory, Plain, TxId};
 use mdcc_facts::FactStore;
@@ -122,7 +123,7 @@ impl<S: FactStore + Drop> Node<S> {
     pub(crate) fn propose(&self, from: u8, choice: &Choice, step: &mut Step) -> Result<(), Memory>
         requires { step.old ≡ blank }
         ensures plan { (facts : List AFact) (volatile : AVolatile) → S.stands self.now.store facts
-            → OnOk result (step.new ≡ planned (propose_step self.now.cluster self.now.centre facts volatile from choice.now)) }
+            → OnOk result (step.new ≡ planned (propose_step (here self.now.cluster self.now.centre facts) volatile from choice.now)) }
         ensures fact { (facts : List AFact) → S.stands self.now.store facts → OnOk result (MayFollow facts step.new.fact) }
     {
         let mut acceptor = ProposeAnswer::Vote(Mark::Reject);
@@ -264,8 +265,7 @@ impl<S: FactStore + Drop> Node<S> {
         ensures { (facts : List AFact) (volatile : AVolatile) → S.stands self.now.store facts
             → OnOk result (step.new ≡ planned (voted_marks_step self.now.centre facts volatile key.now version ballot (new_marks facts key.now version ballot options.now))) }
     {
-        let votes = self.store.votes(self.alloc, key, version, ballot)?;
-        let marks = new_marks(self.alloc, &votes, options)?;
+        let marks = unvoted_marks(self.alloc, &self.store, key, version, ballot, options)?;
         let centre = self.centre.number();
         send_votes(
             self.alloc,

@@ -8,6 +8,7 @@ ghost use Rattle.mdcc_protocol.specs.Volatile.{Volatile as AVolatile};
 ghost use Rattle.mdcc_rules.specs.LeaderRules.{lead_step, led_of, promise_step, refused_step, step_of_led};
 ghost use Rattle.mdcc_rules.specs.Steps.{step_of_part};
 ghost use Rattle.mdcc_rules.specs.TickRules.{claim_led, manager_act, manager_ticked};
+ghost use Rattle.mdcc_rules.specs.Here.{here};
 
 use crate::node::Node;
 use crate::steps::claim_of;
@@ -22,7 +23,7 @@ use mdcc_sends::{propose, send, send_lead, send_promised};
 impl<S: FactStore + Drop> Node<S> {
     // A claim is led here.
     fn lead_claim(&mut self, claim: &Claim, sends: &mut HeapList<Envelope>) -> Result<(), StepFault>
-        ensures { Acts S.stands self.old sends.old (written result sends.new) self.new (λ cluster me facts volatile. step_of_led (led_of cluster me facts volatile claim.now)) }
+        ensures { Acts S.stands self.old sends.old (written result sends.new) self.new (λ cluster me facts volatile. step_of_led (led_of (here cluster me facts) volatile claim.now)) }
     {
         let answer = self.leader.lead(&self.store, &self.cluster, claim)?;
         let (quorums, centre) = (&self.cluster.quorums, self.centre.number());
@@ -37,7 +38,7 @@ impl<S: FactStore + Drop> Node<S> {
         choice: &Choice,
         sends: &mut HeapList<Envelope>,
     ) -> Result<(), StepFault>
-        ensures { Acts S.stands self.old sends.old (written result sends.new) self.new (λ cluster me facts volatile. lead_step cluster me facts volatile from choice.now) }
+        ensures { Acts S.stands self.old sends.old (written result sends.new) self.new (λ cluster me facts volatile. lead_step (here cluster me facts) volatile from choice.now) }
     {
         match self.store.heard(choice.tx) {
             Some(outcome) => {
@@ -60,7 +61,7 @@ impl<S: FactStore + Drop> Node<S> {
         sends: &mut HeapList<Envelope>,
     ) -> Result<(), StepFault>
         requires { from ≤ self.old.cluster.quorums.centres }
-        ensures { Acts S.stands self.old sends.old (written result sends.new) self.new (λ cluster me facts volatile. promise_step cluster me facts volatile from promise.now) }
+        ensures { Acts S.stands self.old sends.old (written result sends.new) self.new (λ cluster me facts volatile. promise_step (here cluster me facts) volatile from promise.now) }
     {
         let (store, cluster) = (&self.store, &self.cluster);
         let answer = self.leader.on_promise(store, cluster, from, promise)?;
@@ -86,7 +87,7 @@ impl<S: FactStore + Drop> Node<S> {
         claim: &Claim,
         sends: &mut HeapList<Envelope>,
     ) -> Result<(), StepFault>
-        ensures { Acts S.stands self.old sends.old (written result sends.new) self.new (λ cluster me facts volatile. Ok (step_of_part (claim_led cluster me facts volatile claim.now))) }
+        ensures { Acts S.stands self.old sends.old (written result sends.new) self.new (λ cluster me facts volatile. Ok (step_of_part (claim_led (here cluster me facts) volatile claim.now))) }
     {
         match self.leader.lead(&self.store, &self.cluster, claim) {
             Ok(answer) => {
@@ -100,7 +101,7 @@ impl<S: FactStore + Drop> Node<S> {
 
     // What the manager wants done at a tick.
     fn act(&mut self, act: &ManagerAct, sends: &mut HeapList<Envelope>) -> Result<(), StepFault>
-        ensures { Acts S.stands self.old sends.old (written result sends.new) self.new (λ cluster me facts volatile. Ok (step_of_part (manager_act cluster me facts volatile act.now))) }
+        ensures { Acts S.stands self.old sends.old (written result sends.new) self.new (λ cluster me facts volatile. Ok (step_of_part (manager_act (here cluster me facts) volatile act.now))) }
     {
         match act {
             ManagerAct::Propose(choice) => {
@@ -120,7 +121,7 @@ impl<S: FactStore + Drop> Node<S> {
 
     // Time has passed for the open transactions. Each act sees the leader that those before it left.
     pub(crate) fn tick_opened(&mut self, sends: &mut HeapList<Envelope>) -> Result<(), StepFault>
-        ensures { Acts S.stands self.old sends.old (written result sends.new) self.new (λ cluster me facts volatile. Ok (step_of_part (manager_ticked cluster me facts volatile))) }
+        ensures { Acts S.stands self.old sends.old (written result sends.new) self.new (λ cluster me facts volatile. Ok (step_of_part (manager_ticked (here cluster me facts) volatile))) }
     {
         let acts = self.manager.tick()?;
         for act in &acts {

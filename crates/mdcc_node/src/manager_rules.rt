@@ -16,6 +16,7 @@ ghost use Rattle.mdcc_protocol.specs.Volatile.{Volatile as AVolatile};
 ghost use Rattle.mdcc_rules.specs.ManagerRules.{act_sent, begin_step, decided_step, escalate_step, opened_step, proposals_sent, voted_step};
 ghost use Rattle.mdcc_rules.specs.SyncRules.{outcome_step};
 ghost use Rattle.mdcc_rules.specs.declared.node.Answer.{Answer as AnAnswer};
+ghost use Rattle.mdcc_rules.specs.Here.{here};
 
 use crate::node::Node;
 use mdcc_base::{Centre, HeapList, Key, Memory, Plain, TxId};
@@ -80,7 +81,7 @@ impl<S: FactStore + Drop> Node<S> {
         step: &mut Step,
     ) -> Result<(), StepFault>
         requires { step.old ≡ blank }
-        ensures follows { Follows S.stands self.old (written result step.new) self.new (λ cluster me facts volatile. Ok (begin_step cluster me facts volatile transaction.now)) }
+        ensures follows { Follows S.stands self.old (written result step.new) self.new (λ cluster me facts volatile. Ok (begin_step (here cluster me facts) volatile transaction.now)) }
         ensures fact { step.new.fact ≡ None }
         ensures store { self.new.store ≡ self.old.store }
     {
@@ -134,7 +135,7 @@ impl<S: FactStore + Drop> Node<S> {
     fn undecided(&mut self, vote: &Vote, sends: &mut HeapList<Envelope>) -> Result<(), StepFault>
         requires { (cluster : ACluster) (me : ℕ) (facts : List AFact) (volatile : AVolatile) → RepresentsCentre S.stands self.old cluster me facts volatile
             → would_decide cluster.quorums volatile.manager vote.now ≡ None }
-        ensures { Acts S.stands self.old sends.old (written result sends.new) self.new (λ cluster me facts volatile. Ok (opened_step cluster me facts volatile vote.now (would_decide cluster.quorums volatile.manager vote.now))) }
+        ensures { Acts S.stands self.old sends.old (written result sends.new) self.new (λ cluster me facts volatile. Ok (opened_step (here cluster me facts) volatile vote.now (would_decide cluster.quorums volatile.manager vote.now))) }
     {
         let mut act = None;
         self.manager.answer_vote(&self.cluster, vote, &mut act)?;
@@ -149,7 +150,7 @@ impl<S: FactStore + Drop> Node<S> {
         requires unheard { (facts : List AFact) → S.stands self.now.store facts → is_heard facts vote.now.tx ≡ false }
         requires ends { (cluster : ACluster) (me : ℕ) (facts : List AFact) (volatile : AVolatile) → RepresentsCentre S.stands self.now cluster me facts volatile
             → is_some (would_decide cluster.quorums volatile.manager vote.now) ≡ true }
-        ensures plan { Plans S.stands self.now (written result step.new) self.now (λ cluster me facts volatile. Ok (opened_step cluster me facts volatile vote.now (would_decide cluster.quorums volatile.manager vote.now))) }
+        ensures plan { Plans S.stands self.now (written result step.new) self.now (λ cluster me facts volatile. Ok (opened_step (here cluster me facts) volatile vote.now (would_decide cluster.quorums volatile.manager vote.now))) }
         ensures fact { (facts : List AFact) → S.stands self.now.store facts → OnOk result (MayFollow facts step.new.fact) }
     {
         match self.manager.would_decide(&self.cluster, vote) {
@@ -166,7 +167,7 @@ impl<S: FactStore + Drop> Node<S> {
     fn opened(&mut self, vote: &Vote, step: &mut Step) -> Result<(), StepFault>
         requires blank { step.old ≡ blank }
         requires unheard { (facts : List AFact) → S.stands self.old.store facts → is_heard facts vote.now.tx ≡ false }
-        ensures plan { Plans S.stands self.old (written result step.new) self.new (λ cluster me facts volatile. Ok (opened_step cluster me facts volatile vote.now (would_decide cluster.quorums volatile.manager vote.now))) }
+        ensures plan { Plans S.stands self.old (written result step.new) self.new (λ cluster me facts volatile. Ok (opened_step (here cluster me facts) volatile vote.now (would_decide cluster.quorums volatile.manager vote.now))) }
         ensures fact { (facts : List AFact) → S.stands self.old.store facts → OnOk result (MayFollow facts step.new.fact) }
     {
         if self.manager.would_end(&self.cluster, vote) {
@@ -179,7 +180,7 @@ impl<S: FactStore + Drop> Node<S> {
     // A vote came. One on a transaction that is neither open nor watched here changes nothing.
     pub(crate) fn voted(&mut self, vote: &Vote, step: &mut Step) -> Result<(), StepFault>
         requires { step.old ≡ blank }
-        ensures plan { Plans S.stands self.old (written result step.new) self.new (λ cluster me facts volatile. Ok (voted_step cluster me facts volatile vote.now)) }
+        ensures plan { Plans S.stands self.old (written result step.new) self.new (λ cluster me facts volatile. Ok (voted_step (here cluster me facts) volatile vote.now)) }
         ensures fact { (facts : List AFact) → S.stands self.old.store facts → OnOk result (MayFollow facts step.new.fact) }
     {
         if self.store.is_heard(vote.tx) {
@@ -201,7 +202,7 @@ impl<S: FactStore + Drop> Node<S> {
         sends: &mut HeapList<Envelope>,
     ) -> Result<(), StepFault>
         requires { IsWellFormedCause cause }
-        ensures { Acts S.stands self.old sends.old (written result sends.new) self.new (λ cluster me facts volatile. Ok (escalate_step cluster me facts volatile from key.now tx cause)) }
+        ensures { Acts S.stands self.old sends.old (written result sends.new) self.new (λ cluster me facts volatile. Ok (escalate_step (here cluster me facts) volatile from key.now tx cause)) }
     {
         let act = self
             .manager

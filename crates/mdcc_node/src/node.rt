@@ -1,22 +1,23 @@
 //! One node.
 ghost use Rattle.std.specs.Prelude.{◌≡◌, ◌≤◌, ◌+◌, ◌∷◌, List, ℕ, OnErr, OnOk, Some, false, true};
 ghost use Rattle.mdcc_base.specs.Unless.{GivesUnless};
-ghost use Rattle.mdcc_facts.specs.Adding.{add_of};
+ghost use Rattle.mdcc_facts.specs.Adding.{add_result};
 ghost use Rattle.mdcc_messages.specs.WellFormed.{IsWellFormedEnvelope, IsWellFormedMessage};
 ghost use Rattle.mdcc_messages.specs.declared.facts.Fact.{Fact as AFact};
 ghost use Rattle.mdcc_node.specs.MethodEffects.{Does, Follows, Spends, ended};
 ghost use Rattle.mdcc_node.specs.StepPlans.{FitsFrame, IsNews, MayFollow, PlanFitsFrame, Plans, blank, is_asked_by_leader, is_for_leader, is_of_fast_path, written};
 ghost use Rattle.mdcc_node.specs.NodeHistory.{IsRunning};
 ghost use Rattle.mdcc_node.specs.Represents.{RepresentsCentre};
-ghost use Rattle.mdcc_node.specs.StepAnswers.{IsGiven, add_given, is_step_memory, room_of, step_by, if_plan_added, with_new};
+ghost use Rattle.mdcc_node.specs.StepAnswers.{IsGiven, add_given, is_step_memory, room_of, step_by, if_plan_added};
 ghost use Rattle.mdcc_option.specs.declared.cluster.Cluster.{Cluster as ACluster};
 ghost use Rattle.mdcc_protocol.specs.Belongs.{is_centre};
 ghost use Rattle.mdcc_protocol.specs.Facts.{epoch_of};
 ghost use Rattle.mdcc_protocol.specs.Volatile.{Volatile as AVolatile};
 ghost use Rattle.mdcc_rules.specs.Node.{message_step};
-ghost use Rattle.mdcc_rules.specs.Steps.{heard_by};
+ghost use Rattle.mdcc_rules.specs.Steps.{heard_by, with_new};
 ghost use Rattle.mdcc_rules.specs.declared.node.Input.{Input as AInput};
 ghost use Rattle.mdcc_steps.specs.NodeInvariant.{accept_length};
+ghost use Rattle.mdcc_rules.specs.Here.{here};
 
 use crate::steps::{blank, heard_by};
 use mdcc_base::{Centre, Plain};
@@ -59,7 +60,7 @@ impl<S: FactStore + Drop> Node<S> {
         requires fits { FitsFrame fact.now }
         requires no_boot { (facts : List AFact) → S.stands self.old.store facts → epoch_of (fact.now ∷ facts) ≡ epoch_of facts }
         ensures answer { (facts : List AFact) → S.stands self.old.store facts
-            → GivesUnless is_step_memory result (add_given (add_of (S.room self.old.store) (S.cells_for self.old.store fact.now) facts fact.now)) }
+            → GivesUnless is_step_memory result (add_given (add_result (S.room self.old.store) (S.cells_for self.old.store fact.now) facts fact.now)) }
         ensures ok { (cluster : ACluster) (me : ℕ) (facts : List AFact) (volatile : AVolatile) → RepresentsCentre S.stands self.old cluster me facts volatile
             → OnOk result (RepresentsCentre S.stands self.new cluster me (fact.now ∷ facts) (ended (heard_by (Some fact.now)) volatile)) }
         ensures err { (cluster : ACluster) (me : ℕ) (facts : List AFact) (volatile : AVolatile) → RepresentsCentre S.stands self.old cluster me facts volatile
@@ -109,7 +110,7 @@ impl<S: FactStore + Drop> Node<S> {
         requires left { is_asked_by_leader message.now ≡ false }
         requires led { is_for_leader message.now ≡ false }
         requires blank { step.old ≡ blank }
-        ensures plan { Plans S.stands self.old (written result step.new) self.new (λ cluster me facts volatile. message_step cluster me facts volatile from message.now) }
+        ensures plan { Plans S.stands self.old (written result step.new) self.new (λ cluster me facts volatile. message_step (here cluster me facts) volatile from message.now) }
         ensures fact { (facts : List AFact) → S.stands self.old.store facts → OnOk result (MayFollow facts step.new.fact) }
     {
         match message {
@@ -151,7 +152,7 @@ impl<S: FactStore + Drop> Node<S> {
         requires left { is_asked_by_leader message.now ≡ false }
         requires member { from ≤ self.old.cluster.quorums.centres }
         requires blank { step.old ≡ blank }
-        ensures plan { Plans S.stands self.old (written result step.new) self.new (λ cluster me facts volatile. message_step cluster me facts volatile from message.now) }
+        ensures plan { Plans S.stands self.old (written result step.new) self.new (λ cluster me facts volatile. message_step (here cluster me facts) volatile from message.now) }
         ensures fact { (facts : List AFact) → S.stands self.old.store facts → OnOk result (MayFollow facts step.new.fact) }
     {
         match message {
@@ -197,7 +198,7 @@ impl<S: FactStore + Drop> Node<S> {
         requires other { is_of_fast_path message.now ≡ false }
         requires member { from ≤ self.old.cluster.quorums.centres }
         requires blank { step.old ≡ blank }
-        ensures plan { Plans S.stands self.old (written result step.new) self.new (λ cluster me facts volatile. message_step cluster me facts volatile from message.now) }
+        ensures plan { Plans S.stands self.old (written result step.new) self.new (λ cluster me facts volatile. message_step (here cluster me facts) volatile from message.now) }
         ensures fact { (facts : List AFact) → S.stands self.old.store facts → OnOk result (MayFollow facts step.new.fact) }
     {
         match message {
@@ -228,7 +229,7 @@ impl<S: FactStore + Drop> Node<S> {
         requires message { IsWellFormedMessage message.now }
         requires member { from ≤ self.old.cluster.quorums.centres }
         requires blank { step.old ≡ blank }
-        ensures plan { Plans S.stands self.old (written result step.new) self.new (λ cluster me facts volatile. message_step cluster me facts volatile from message.now) }
+        ensures plan { Plans S.stands self.old (written result step.new) self.new (λ cluster me facts volatile. message_step (here cluster me facts) volatile from message.now) }
         ensures fact { (facts : List AFact) → S.stands self.old.store facts → OnOk result (MayFollow facts step.new.fact) }
     {
         match message {
@@ -272,7 +273,7 @@ impl<S: FactStore + Drop> Node<S> {
         requires running { IsRunning S.stands self.old }
         requires member { from ≤ self.old.cluster.quorums.centres }
         requires blank { step.old ≡ blank }
-        ensures does { Does S.stands S.room S.cells_for self.old (written result step.new) self.new (λ cluster me facts volatile. message_step cluster me facts volatile from message.now) }
+        ensures does { Does S.stands S.room S.cells_for self.old (written result step.new) self.new (λ cluster me facts volatile. message_step (here cluster me facts) volatile from message.now) }
         ensures spent { Spends S.room S.cells_for self.old.store (written result step.new) self.new.store }
     {
         self.take(from, message, step)?;

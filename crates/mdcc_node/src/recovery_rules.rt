@@ -10,6 +10,7 @@ ghost use Rattle.mdcc_rules.specs.AcceptorRules.{ask_step};
 ghost use Rattle.mdcc_rules.specs.ManagerRules.{watched_step};
 ghost use Rattle.mdcc_rules.specs.Steps.{only_sending, step_of_part};
 ghost use Rattle.mdcc_rules.specs.TickRules.{recovery_act, recovery_ticked, tick_step};
+ghost use Rattle.mdcc_rules.specs.Here.{here};
 
 use crate::node::Node;
 use mdcc_base::{HeapList, Key, Memory, TxId};
@@ -84,7 +85,7 @@ impl<S: FactStore + Drop> Node<S> {
     pub(crate) fn watched(&mut self, vote: &Vote, step: &mut Step) -> Result<(), StepFault>
         requires blank { step.old ≡ blank }
         requires unheard { (facts : List AFact) → S.stands self.old.store facts → is_heard facts vote.now.tx ≡ false }
-        ensures plan { Plans S.stands self.old (written result step.new) self.new (λ cluster me facts volatile. Ok (watched_step cluster me facts volatile vote.now (would_decide cluster.quorums facts volatile.recovery vote.now))) }
+        ensures plan { Plans S.stands self.old (written result step.new) self.new (λ cluster me facts volatile. Ok (watched_step (here cluster me facts) volatile vote.now (would_decide cluster.quorums facts volatile.recovery vote.now))) }
         ensures fact { (facts : List AFact) → S.stands self.old.store facts → OnOk result (MayFollow facts step.new.fact) }
     {
         match self.recover.would_decide(&self.store, &self.cluster, vote) {
@@ -108,7 +109,7 @@ impl<S: FactStore + Drop> Node<S> {
         act: &RecoverAct,
         sends: &mut HeapList<Envelope>,
     ) -> Result<(), StepFault>
-        ensures { Acts S.stands self.old sends.old (written result sends.new) self.new (λ cluster me facts volatile. Ok (step_of_part (recovery_act cluster me facts volatile act.now))) }
+        ensures { Acts S.stands self.old sends.old (written result sends.new) self.new (λ cluster me facts volatile. Ok (step_of_part (recovery_act (here cluster me facts) volatile act.now))) }
     {
         match act {
             RecoverAct::Ask(tx, key, version) => {
@@ -122,7 +123,7 @@ impl<S: FactStore + Drop> Node<S> {
 
     // Time has passed for the dangling transactions. Each act sees the leader that those before it left.
     fn tick_dangling(&mut self, sends: &mut HeapList<Envelope>) -> Result<(), StepFault>
-        ensures { Acts S.stands self.old sends.old (written result sends.new) self.new (λ cluster me facts volatile. Ok (step_of_part (recovery_ticked cluster me facts (only_sending volatile [])))) }
+        ensures { Acts S.stands self.old sends.old (written result sends.new) self.new (λ cluster me facts volatile. Ok (step_of_part (recovery_ticked (here cluster me facts) (only_sending volatile [])))) }
     {
         let acts = self.recover.tick(&self.store, self.manager.opened())?;
         for act in &acts {
@@ -133,7 +134,7 @@ impl<S: FactStore + Drop> Node<S> {
 
     // Time has passed. The recovery sees what the open transactions left.
     pub(crate) fn tick(&mut self, sends: &mut HeapList<Envelope>) -> Result<(), StepFault>
-        ensures { Acts S.stands self.old sends.old (written result sends.new) self.new (λ cluster me facts volatile. Ok (tick_step cluster me facts volatile)) }
+        ensures { Acts S.stands self.old sends.old (written result sends.new) self.new (λ cluster me facts volatile. Ok (tick_step (here cluster me facts) volatile)) }
     {
         self.tick_opened(sends)?;
         self.tick_dangling(sends)

@@ -1,10 +1,13 @@
 //! The votes of an acceptor on a leader's structure.
-ghost use Rattle.std.specs.Prelude.{◌≡◌, ◌++◌, IfOk, List, OnOk, filter, is_some, not};
+ghost use Rattle.std.specs.Prelude.{◌≡◌, ◌++◌, ◌&&◌, ◌-◌, ◌==◌, IfOk, List, None, OnOk, filter, is_some, length, not};
 ghost use Rattle.mdcc_messages.specs.declared.facts.Fact.{Fact as AFact};
 ghost use Rattle.mdcc_messages.specs.declared.messages.Message.{Message as AMessage};
+ghost use Rattle.mdcc_node.specs.StepParts.{is_unknown};
 ghost use Rattle.mdcc_node.specs.StepPlans.{unheard_sent};
+ghost use Rattle.mdcc_protocol.specs.Acceptor;
+ghost use Rattle.mdcc_protocol.specs.Stores.{count_voted};
 ghost use Rattle.mdcc_rules.specs.AcceptorRules.{all_votes_sent, votes_sent};
-ghost use Rattle.mdcc_struct.specs.Maps.{value_of};
+ghost use Rattle.mdcc_struct.specs.Maps.{inserted, value_of};
 
 use mdcc_base::{Ballot, HeapList, Key, Memory, Plain, TxId};
 use mdcc_facts::FactStore;
@@ -14,12 +17,8 @@ use mdcc_sends::send;
 use mdcc_struct::Options;
 use std::alloc::Global;
 
-/// The marks of a structure whose transactions have none in another one.
-pub(crate) fn new_marks(
-    alloc: Global,
-    votes: &Options,
-    options: &Options,
-) -> Result<Options, Memory>
+// The marks of a structure whose transactions have none in another one.
+fn new_marks(alloc: Global, votes: &Options, options: &Options) -> Result<Options, Memory>
     ensures { IfOk result (λ marks. marks ≡ filter (λ e. not (is_some (value_of votes.now e.0))) options.now) }
 {
     let mut marks = Options::new(alloc)?;
@@ -30,6 +29,81 @@ pub(crate) fn new_marks(
         }
     }
     Ok(marks)
+}
+
+// Whether the outcome of a transaction was not heard, and no vote holds a choice of it.
+fn is_unknown<S: FactStore>(store: &S, tx: TxId) -> bool
+    ensures { (facts : List AFact) → S.stands store.now facts → result ≡ is_unknown facts tx }
+{
+    !store.is_heard(tx) && store.write_set(tx).is_none()
+}
+
+// Adds a copy of a mark, where its transaction has none.
+fn add_mark(marks: &mut Options, tx: TxId, mark: &Mark) -> Result<(), Memory>
+    ensures { value_of marks.old tx ≡ None → OnOk result (marks.new ≡ inserted marks.old (tx, mark.now)) }
+{
+    if marks.mark_of(tx).is_none() {
+        marks.insert(tx, mark.copy())?;
+    }
+    Ok(())
+}
+
+// The marks of a structure whose transactions are unknown.
+fn unknown_marks<S: FactStore>(
+    alloc: Global,
+    store: &S,
+    options: &Options,
+) -> Result<Options, Memory>
+    ensures { (facts : List AFact) → S.stands store.now facts
+        → IfOk result (λ marks. marks ≡ filter (λ e. is_unknown facts e.0) options.now) }
+{
+    let mut marks = Options::new(alloc)?;
+    for place in 0..options.len() {
+        let (tx, mark) = options.at(place);
+        if is_unknown(store, tx) {
+            add_mark(&mut marks, tx, mark)?;
+        }
+    }
+    Ok(marks)
+}
+
+// Whether none of some marks of a structure was voted in an instance at a ballot, and so many of
+// the structure were as it has besides.
+fn are_unvoted<S: FactStore>(
+    store: &S,
+    key: &Key,
+    version: u64,
+    ballot: Ballot,
+    options: &Options,
+    marks: &Options,
+) -> bool
+    ensures { (facts : List AFact) → S.stands store.now facts
+        → result ≡ (count_voted facts key.now version ballot options.now == length options.now - length marks.now && count_voted facts key.now version ballot marks.now == 0) }
+{
+    let others = options.len().saturating_sub(marks.len());
+    store.count_voted(key, version, ballot, options) == others
+        && store.count_voted(key, version, ballot, marks) == 0
+}
+
+/// The marks of a structure whose transactions were not voted in an instance at a ballot. Most often
+/// they are those of which nothing is known, and then no vote is read.
+pub(crate) fn unvoted_marks<S: FactStore>(
+    alloc: Global,
+    store: &S,
+    key: &Key,
+    version: u64,
+    ballot: Ballot,
+    options: &Options,
+) -> Result<Options, Memory>
+    ensures { (facts : List AFact) → S.stands store.now facts
+        → IfOk result (λ marks. marks ≡ Acceptor.new_marks facts key.now version ballot options.now) }
+{
+    let marks = unknown_marks(alloc, store, options)?;
+    if are_unvoted(store, key, version, ballot, options, &marks) {
+        return Ok(marks);
+    }
+    let votes = store.votes(alloc, key, version, ballot)?;
+    new_marks(alloc, &votes, options)
 }
 
 // A vote goes to the transaction's centre and, if another, to the ballot's.

@@ -4,12 +4,13 @@ use Rattle.mdcc_node.proofs.Standing.{memory_always}
 use Rattle.mdcc_node.specs.StepPlans.{written}
 use Rattle.mdcc_rules.specs.TickRules.{tick_step}
 use Rattle.mdcc_node.proofs.node.Node.act_on.Goals as goal
+use Rattle.mdcc_rules.specs.Here.{here}
 
 pub returns-in-Tick-clause-follows : goal.returns-in-Tick-clause-follows
 returns-in-Tick-clause-follows g c = record {
   answer = λ cluster me facts volatile known.
       rw (c.in-Tick.is, c.requires.blank)
-      (acts-plan (tick_step cluster me facts volatile) c.tick.new.sends c.tick.result refl refl
+      (acts-plan (tick_step (here cluster me facts) volatile) c.tick.new.sends c.tick.result refl refl
       (rw c.requires.blank at (c.tick.ensures.answer cluster me facts volatile known)));
   left = λ cluster me facts volatile known.
       rw c.in-Tick.is (unless-any c.tick.result c.tick.new.sends _ _ (c.tick.ensures.left cluster me facts volatile known));

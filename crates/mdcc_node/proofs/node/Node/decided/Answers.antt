@@ -1,7 +1,7 @@
 use Rattle.std.proofs.Common.{◌≡◌, None, Some, refl}
 use Rattle.mdcc_protocol.specs.Facts.{epoch_of}
 use Rattle.mdcc_protocol.specs.Manager.{would_decide}
-use Rattle.mdcc_protocol.specs.Volatile.{nothing_kept}
+use Rattle.mdcc_protocol.specs.Volatile.{initial_volatile}
 use Rattle.mdcc_node.proofs.Ending.{heard-follows}
 use Rattle.mdcc_node.proofs.Ends.{none-is-no-end}
 use Rattle.mdcc_node.proofs.node.Node.decided.Goals as goal
@@ -21,7 +21,7 @@ returns-in_ok-decide-in-Some-clause-plan g c = record {
 
 pub returns-in_ok-decide-in-Some-clause-fact : goal.returns-in_ok-decide-in-Some-clause-fact
 returns-in_ok-decide-in-Some-clause-fact g c = λ facts store.
-    rw (c.in_ok-decide-in-Some.ensures nothing_kept) (heard-follows facts nothing_kept c.args.vote.now.tx c.in-Some.outcome (c.requires.unheard facts store))
+    rw (c.in_ok-decide-in-Some.ensures initial_volatile) (heard-follows facts initial_volatile c.args.vote.now.tx c.in-Some.outcome (c.requires.unheard facts store))
 
 pub returns-in-None-clause-plan : goal.returns-in-None-clause-plan
 returns-in-None-clause-plan g c = record {

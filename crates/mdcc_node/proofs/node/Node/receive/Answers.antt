@@ -11,6 +11,7 @@ use Rattle.mdcc_protocol.specs.Belongs.{is_centre}
 use Rattle.mdcc_rules.specs.Node.{message_step}
 use Rattle.mdcc_steps.proofs.Shortness.{brought-fits}
 use Rattle.mdcc_node.proofs.node.Node.receive.Goals as goal
+use Rattle.mdcc_rules.specs.Here.{here}
 
 pub add_planned-requires-clause-fits : goal.add_planned-requires-clause-fits
 add_planned-requires-clause-fits g c =
@@ -18,7 +19,7 @@ add_planned-requires-clause-fits g c =
     let from = c.args.from in
     let message = c.args.message.now in
     let centre : is_centre runs.cluster from ≡ true = subst (λ (cluster : Cluster). is_centre cluster from ≡ true) runs.itself.of c.requires.centre in
-    plan-fits c.take.new.step (message_step runs.cluster runs.me runs.facts runs.volatile from message)
+    plan-fits c.take.new.step (message_step (here runs.cluster runs.me runs.facts) runs.volatile from message)
     (c.in_ok-take.ensures.plan.answer runs.cluster runs.me runs.facts runs.volatile runs.itself)
     (λ step fact made is. brought-fits runs.cluster runs.me runs.facts runs.volatile from message step fact c.requires.short runs.kept centre c.requires.message made is)
 
@@ -35,10 +36,10 @@ returns-clause-does g c =
     (c.add_planned.ensures.answer facts (rw same store)) in
     record {
       answer = λ cluster me facts volatile known.
-          rw (plan-given room facts plan (message_step cluster me facts volatile c.args.from c.args.message.now) (c.in_ok-take.ensures.plan.answer cluster me facts volatile known))
+          rw (plan-given room facts plan (message_step (here cluster me facts) volatile c.args.from c.args.message.now) (c.in_ok-take.ensures.plan.answer cluster me facts volatile known))
           (given facts known.store);
       left = λ cluster me facts volatile known.
-          let expected = message_step cluster me facts volatile c.args.from c.args.message.now in
+          let expected = message_step (here cluster me facts) volatile c.args.from c.args.message.now in
           let now = c.in_ok-take.ensures.plan.left cluster me facts volatile known in
           plan-left stands c.add_planned.new.self cluster me facts volatile room plan expected c.add_planned.result c.add_planned.new.step
           (c.in_ok-take.ensures.plan.answer cluster me facts volatile known)

@@ -11,6 +11,7 @@ use Rattle.mdcc_protocol.specs.Volatile.{txs_opened, with_recovery}
 use Rattle.mdcc_rules.specs.Steps.{and_then, only_sending}
 use Rattle.mdcc_rules.specs.TickRules.{recovery_act, recovery_ticked}
 use Rattle.mdcc_node.proofs.node.Node.tick_dangling.Goals as goal
+use Rattle.mdcc_rules.specs.Here.{here}
 
 -- what a call that does not fail gives
 abbrev given_sends : List Envelope → Result (List Envelope) StepFault
@@ -57,14 +58,14 @@ loop-act-preserved g c = record {
   parts = λ cluster me facts volatile known.
       let so = c.loop-act.invariant.parts cluster me facts volatile known in
       let part = so.0 in
-      let acted = recovery_act cluster me facts part.after c.act-item.result in
+      let acted = recovery_act (here cluster me facts) part.after c.act-item.result in
       let given : given_sends c.recover_by.new.sends ≡ given_sends (c.loop-act.sends ++ acted.sends) = c.in_ok-recover_by.ensures.answer cluster me facts part.after so.2 in
       let now : c.recover_by.new.sends ≡ c.loop-act.sends ++ acted.sends = cc in (
-        and_then (recovery_act cluster me facts) part c.act-item.result,
+        and_then (recovery_act (here cluster me facts)) part c.act-item.result,
         rw (now, so.1, append_assoc) refl,
         c.in_ok-recover_by.ensures.left cluster me facts part.after so.2,
-        fold-next (and_then (recovery_act cluster me facts)) c.deref-act-items.result.now c.loop-act.act-index c.act-item.result part
-            (recovery_ticked cluster me facts (only_sending volatile [])) (omega (arith, c.loop-act-test.true)) c.act-item.is so.3,
+        fold-next (and_then (recovery_act (here cluster me facts))) c.deref-act-items.result.now c.loop-act.act-index c.act-item.result part
+            (recovery_ticked (here cluster me facts) (only_sending volatile [])) (omega (arith, c.loop-act-test.true)) c.act-item.is so.3,
       );
 }
 
@@ -73,12 +74,12 @@ returns g c = record {
   answer = λ cluster me facts volatile known.
       let so = c.loop-act.invariant.parts cluster me facts volatile known in
       let past = drop_all c.loop-act.act-index c.deref-act-items.result.now (omega (arith, c.loop-act-test.false)) in
-      let done : so.0 ≡ recovery_ticked cluster me facts (only_sending volatile []) = rw past at so.3 in
+      let done : so.0 ≡ recovery_ticked (here cluster me facts) (only_sending volatile []) = rw past at so.3 in
       rw (so.1, done) refl;
   left = λ cluster me facts volatile known.
       let so = c.loop-act.invariant.parts cluster me facts volatile known in
       let past = drop_all c.loop-act.act-index c.deref-act-items.result.now (omega (arith, c.loop-act-test.false)) in
-      let done : so.0 ≡ recovery_ticked cluster me facts (only_sending volatile []) = rw past at so.3 in
+      let done : so.0 ≡ recovery_ticked (here cluster me facts) (only_sending volatile []) = rw past at so.3 in
       rw (← done) so.2;
   store = c.loop-act.invariant.store;
 }

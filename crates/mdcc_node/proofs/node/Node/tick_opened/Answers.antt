@@ -11,6 +11,7 @@ use Rattle.mdcc_protocol.specs.Volatile.{with_manager}
 use Rattle.mdcc_rules.specs.Steps.{and_then, only_sending}
 use Rattle.mdcc_rules.specs.TickRules.{manager_act, manager_ticked}
 use Rattle.mdcc_node.proofs.node.Node.tick_opened.Goals as goal
+use Rattle.mdcc_rules.specs.Here.{here}
 
 -- what a call that does not fail gives
 abbrev given_sends : List Envelope → Result (List Envelope) StepFault
@@ -55,14 +56,14 @@ loop-act-preserved g c = record {
   parts = λ cluster me facts volatile known.
       let so = c.loop-act.invariant.parts cluster me facts volatile known in
       let part = so.0 in
-      let acted = manager_act cluster me facts part.after c.act-item.result in
+      let acted = manager_act (here cluster me facts) part.after c.act-item.result in
       let given : given_sends c.act.new.sends ≡ given_sends (c.loop-act.sends ++ acted.sends) = c.in_ok-act.ensures.answer cluster me facts part.after so.2 in
       let now : c.act.new.sends ≡ c.loop-act.sends ++ acted.sends = cc in (
-        and_then (manager_act cluster me facts) part c.act-item.result,
+        and_then (manager_act (here cluster me facts)) part c.act-item.result,
         rw (now, so.1, append_assoc) refl,
         c.in_ok-act.ensures.left cluster me facts part.after so.2,
-        fold-next (and_then (manager_act cluster me facts)) c.deref-act-items.result.now c.loop-act.act-index c.act-item.result part
-            (manager_ticked cluster me facts volatile) (omega (arith, c.loop-act-test.true)) c.act-item.is so.3,
+        fold-next (and_then (manager_act (here cluster me facts))) c.deref-act-items.result.now c.loop-act.act-index c.act-item.result part
+            (manager_ticked (here cluster me facts) volatile) (omega (arith, c.loop-act-test.true)) c.act-item.is so.3,
       );
 }
 
@@ -71,12 +72,12 @@ returns g c = record {
   answer = λ cluster me facts volatile known.
       let so = c.loop-act.invariant.parts cluster me facts volatile known in
       let past = drop_all c.loop-act.act-index c.deref-act-items.result.now (omega (arith, c.loop-act-test.false)) in
-      let done : so.0 ≡ manager_ticked cluster me facts volatile = rw past at so.3 in
+      let done : so.0 ≡ manager_ticked (here cluster me facts) volatile = rw past at so.3 in
       rw (so.1, done) refl;
   left = λ cluster me facts volatile known.
       let so = c.loop-act.invariant.parts cluster me facts volatile known in
       let past = drop_all c.loop-act.act-index c.deref-act-items.result.now (omega (arith, c.loop-act-test.false)) in
-      let done : so.0 ≡ manager_ticked cluster me facts volatile = rw past at so.3 in
+      let done : so.0 ≡ manager_ticked (here cluster me facts) volatile = rw past at so.3 in
       rw (← done) so.2;
   store = c.loop-act.invariant.store;
 }

@@ -1,6 +1,6 @@
 use Rattle.std.proofs.Common.{◌≡◌, Some, refl}
 use Rattle.mdcc_protocol.specs.Recover.{would_decide}
-use Rattle.mdcc_protocol.specs.Volatile.{nothing_kept}
+use Rattle.mdcc_protocol.specs.Volatile.{initial_volatile}
 use Rattle.mdcc_node.proofs.Ending.{decided-tx, heard-follows}
 use Rattle.mdcc_node.proofs.node.Node.watched.Goals as goal
 
@@ -20,4 +20,4 @@ returns-in_ok-decide-in-Some-clause-plan g c = record {
 
 pub returns-in_ok-decide-in-Some-clause-fact : goal.returns-in_ok-decide-in-Some-clause-fact
 returns-in_ok-decide-in-Some-clause-fact g c = λ facts store.
-    rw (c.in_ok-decide-in-Some.ensures nothing_kept) (heard-follows facts nothing_kept c.args.vote.now.tx c.in-Some.decided.1 (c.requires.unheard facts store))
+    rw (c.in_ok-decide-in-Some.ensures initial_volatile) (heard-follows facts initial_volatile c.args.vote.now.tx c.in-Some.decided.1 (c.requires.unheard facts store))
