@@ -10,10 +10,8 @@ ghost use Rattle.mdcc_areas.specs.Reading.{AreRecords, AreFrames, IsNumbered};
 
 use crate::LogFault;
 use mdcc_base::HeapList;
+use mdcc_log::PAYLOAD_LIMIT;
 use std::alloc::Global;
-
-/// The most bytes of a payload.
-pub const PAYLOAD_LIMIT: usize = 2_097_152;
 
 const LOG_MARK: [u8; 8] = [77, 68, 67, 67, 76, 79, 71, 49];
 

@@ -11,11 +11,12 @@ ghost use Rattle.mdcc_areas.specs.Copying.{IsShut, IsShutAs, MayShut, IsRecordAt
 ghost use Rattle.mdcc_areas.specs.Both.{KeepsBut, IsOnlyRead, StaysShut, RoseAtOne};
 
 use crate::LogFault;
-use crate::area::{PAYLOAD_LIMIT, Spare};
+use crate::area::Spare;
 use crate::reading::read_at;
 use crate::steps::grow;
 use mdcc_base::Failed;
 use mdcc_disks::Disks;
+use mdcc_log::PAYLOAD_LIMIT;
 
 const FRESH: [u8; 9] = [77, 68, 67, 67, 76, 79, 71, 50, 0];
 

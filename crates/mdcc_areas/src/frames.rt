@@ -16,16 +16,14 @@ ghost use Rattle.mdcc_areas.specs.Checkpoint.{head_size, left_area};
 
 use crate::LogFault;
 use crate::append::{append_frame, lay_out};
-use crate::area::{PAYLOAD_LIMIT, Spare};
+use crate::area::Spare;
 use crate::checkpoint::{Whole, copy_area};
 use crate::opening::{AreaRead, open_areas};
 use mdcc_base::{Centre, HeapList};
 use mdcc_disks::Disks;
+use mdcc_log::{LOG_LIMIT, PAYLOAD_LIMIT};
 use std::alloc::Global;
 use std::marker::Model;
-
-/// The most bytes of an area.
-pub const LOG_LIMIT: u64 = 1 << 30;
 
 /// The open log of a centre.
 #[derive(Drop)]
@@ -74,6 +72,13 @@ fn place_of(centre: u8, area: u8) -> u8
     centre + 16 * area
 }
 
+// Whether these bytes are more than a log has.
+fn passes_limit(bytes: u64, length: u64, more: u64) -> bool
+    ensures { IsTrue result ↔ (log_limit < bytes + length + more) }
+{
+    bytes.saturating_add(length).saturating_add(more) > LOG_LIMIT
+}
+
 impl Frames {
     /// The current area, 0 or 1.
     pub fn area(&self) -> u8
@@ -114,16 +119,15 @@ impl Frames {
     /// Whether the log has no room for one more payload of this length: all payloads with it would pass 2^30 bytes in an area of
     /// version 1, or `append_due` would answer LogFull.
     pub fn is_full(&self, length: u64) -> bool
-        requires { length ≤ payload_limit }
         ensures { IsTrue result ↔ IsFull self.now length }
     {
-        if self.body.saturating_add(self.count) > LOG_LIMIT - (length + 14) {
+        if passes_limit(self.body.saturating_add(self.count), length, 14) {
             return true;
         }
-        if self.size > LOG_LIMIT - (length + 5) {
+        if passes_limit(self.size, length, 5) {
             return true;
         }
-        self.is_due_next() && (self.generation == u64::MAX || self.body > LOG_LIMIT - (length + 30))
+        self.is_due_next() && (self.generation == u64::MAX || passes_limit(self.body, length, 30))
     }
 
     /// Opens the log of a centre, whatever a crash left in its two areas, and gives its payloads in order. A checkpoint is due

@@ -14,9 +14,9 @@ mod reading;
 mod repair;
 mod steps;
 
-pub use area::{PAYLOAD_LIMIT, Spare};
+pub use area::Spare;
 pub use fault::LogFault;
-pub use frames::{Frames, LOG_LIMIT};
+pub use frames::Frames;
 pub use laws::{
     between_is_read, between_stays, checkpoint_is_read, current_is_read, current_stays,
     due_is_read, examples_are_read, idle_stays, other_is_spare, roomy_grows,

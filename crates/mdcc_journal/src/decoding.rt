@@ -1,7 +1,7 @@
 //! Facts read from bytes.
 ghost use Rattle.std.specs.Prelude.{◌≡◌};
 ghost use Rattle.mdcc_base.specs.Unless.{GivesUnless};
-ghost use Rattle.mdcc_parts.specs.Reads.{is_memory};
+ghost use Rattle.mdcc_parts.specs.Reads.{is_wire_memory};
 ghost use Rattle.mdcc_messages.specs.ReadingSteps.{checked, u8_at};
 ghost use Rattle.mdcc_messages.specs.Reading.{known, booted_at, promised_at, some_offered_at, offered_at, vote_at, heard_fact_at, adopted_at, fact_at, fact_of};
 
@@ -73,7 +73,7 @@ fn offered_at(
 
 // A vote.
 fn vote_at(alloc: Global, bytes: &[u8], at: usize) -> Result<(Fact, usize), WireFault>
-    ensures { GivesUnless is_memory result (vote_at bytes.now at) }
+    ensures { GivesUnless is_wire_memory result (vote_at bytes.now at) }
 {
     let ((key, version), after) = read_instance(bytes, at)?;
     let (ballot, after) = read_ballot(bytes, after)?;
@@ -101,7 +101,7 @@ fn heard_fact_at(bytes: &[u8], at: usize) -> Result<(Fact, usize), WireFault>
 
 // A version of a key that another centre gave.
 fn adopted_at(alloc: Global, bytes: &[u8], at: usize) -> Result<(Fact, usize), WireFault>
-    ensures { GivesUnless is_memory result (adopted_at bytes.now at) }
+    ensures { GivesUnless is_wire_memory result (adopted_at bytes.now at) }
 {
     let ((key, version, item, adds), after) = read_given(alloc, bytes, at)?;
     Ok((
@@ -129,7 +129,7 @@ fn kind_at(bytes: &[u8]) -> Result<(u8, usize), WireFault>
 
 // What follows the number of a kind of facts.
 fn fact_at(alloc: Global, kind: u8, bytes: &[u8], at: usize) -> Result<(Fact, usize), WireFault>
-    ensures { GivesUnless is_memory result (fact_at kind bytes.now at) }
+    ensures { GivesUnless is_wire_memory result (fact_at kind bytes.now at) }
 {
     match kind {
         1 => {
@@ -152,7 +152,7 @@ fn fact_at(alloc: Global, kind: u8, bytes: &[u8], at: usize) -> Result<(Fact, us
 /// The fact that the bytes spell. Else, where memory is found, the fault at the first byte in reading
 /// order that is not of the grammar.
 pub fn decode_fact(alloc: Global, bytes: &[u8]) -> Result<Fact, WireFault>
-    ensures { GivesUnless is_memory result (fact_of bytes.now) }
+    ensures { GivesUnless is_wire_memory result (fact_of bytes.now) }
 {
     let (kind, after) = kind_at(bytes)?;
     let (fact, end) = fact_at(alloc, kind, bytes, after)?;

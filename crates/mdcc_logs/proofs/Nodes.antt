@@ -4,7 +4,7 @@ use Rattle.std.specs.Prelude.{slice_get}
 use Rattle.mdcc_logs.specs.Nodes.{AreStarted, CentreStore, IsNodeOf}
 use Rattle.mdcc_node.specs.declared.node.Node.{Node}
 use Rattle.mdcc_option.specs.declared.cluster.Cluster.{Cluster}
-use Rattle.mdcc_protocol.specs.Volatile.{nothing_kept}
+use Rattle.mdcc_protocol.specs.Volatile.{initial_volatile}
 use Rattle.mdcc_messages.specs.declared.facts.Fact.{Fact}
 
 pushed-get : {X : Type 0} (xs : List X) (v x : X) (i : ℕ) → slice_get (xs ++ v ∷ []) i ≡ Some x → (slice_get xs i ≡ Some x) ⊎ ((i ≡ length xs) × (v ≡ x))
@@ -21,7 +21,7 @@ length-more [] v = refl
 length-more (y ∷ ys) v = let ih = length-more ys v in omega (ih, arith)
 
 pub one-started : (nodes : List (Node CentreStore)) (cluster : Cluster) (count number : ℕ) (node : Node CentreStore)
-    → AreStarted nodes cluster count → number ≡ count + 1 → IsNodeOf node cluster number (Fact.Booted 1 ∷ []) nothing_kept
+    → AreStarted nodes cluster count → number ≡ count + 1 → IsNodeOf node cluster number (Fact.Booted 1 ∷ []) initial_volatile
     → AreStarted (nodes ++ node ∷ []) cluster number
 one-started nodes cluster count number node are next more = record {
   as_many = length-more nodes node ∙ omega (are.as_many, next, arith);

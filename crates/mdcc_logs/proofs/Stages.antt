@@ -13,7 +13,8 @@ use Rattle.mdcc_areas.specs.Area.{AreaLog, front_of}
 use Rattle.mdcc_areas.specs.Frames.{appended}
 use Rattle.mdcc_log.specs.Frames.{append_calls}
 use Rattle.mdcc_log.specs.Log.{frame_body}
-use Rattle.mdcc_logs.specs.Stopping.{is_frame_kept, stopped_at}
+use Rattle.mdcc_logs.specs.Stopping.{stopped_at}
+use Rattle.mdcc_simulation.specs.AppliedSteps.{is_frame_kept}
 
 end-over : (old bytes : List ℕ) → overwritten (length old) bytes old ≡ old ++ bytes
 end-over old bytes = end_written old bytes (overwritten (length old) bytes old) refl

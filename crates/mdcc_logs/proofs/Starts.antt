@@ -20,7 +20,7 @@ use Rattle.mdcc_restart.proofs.Roomy.{roomy_log}
 use Rattle.mdcc_restart.proofs.Struck.{rest_areas}
 use Rattle.mdcc_logs.proofs.Calls.{stays-durable}
 use Rattle.mdcc_logs.proofs.Refusals.{its-payloads, leaves-here, one}
-use Rattle.mdcc_logs.proofs.Standing.{IsKept, IsSame, both-same, cond-there, elsewhere, log-same, logs-with, others-same, put}
+use Rattle.mdcc_logs.proofs.Standing.{IsKept, IsSame, both-same, cond-here, cond-there, elsewhere, log-same, logs-with, others-same, put}
 use Rattle.mdcc_logs.specs.Nodes.{CentreStore, IsNodeOf, are_stored, needed_in, spare_of}
 use Rattle.mdcc_logs.specs.Represents.{IsLogOf, LogsRepresent, MayHave, checkpoint_every, log_at, with_up}
 use Rattle.mdcc_logs.specs.Starting.{HasStarted, OnNone, StartsOver, cells_of, cells_with_boot, lacking}
@@ -28,14 +28,14 @@ use Rattle.mdcc_logs.specs.declared.logs.Logs.{Logs}
 use Rattle.mdcc_option.specs.declared.cluster.Cluster.{Cluster}
 use Rattle.mdcc_messages.specs.Lengths.{cells_needed, cells_used, log_length}
 use Rattle.mdcc_protocol.specs.Facts.{epoch_of}
-use Rattle.mdcc_protocol.specs.Volatile.{nothing_kept}
+use Rattle.mdcc_protocol.specs.Volatile.{initial_volatile}
 use Rattle.mdcc_messages.specs.Spelling.{fact_bytes}
 use Rattle.mdcc_messages.specs.declared.facts.Fact.{Fact}
 use Rattle.mdcc_restart.specs.Logged.{AreLogged, logged}
-use Rattle.mdcc_restart.specs.Restarting.{HasRoom, IsAsBefore, IsLogOf as IsReadAs, IsRefused, KeepsLog, Runs, booted_over, next_boot, size_with_boot}
+use Rattle.mdcc_restart.specs.Restarting.{HasRoom, IsAsBefore, IsLogOf as IsReadAs, IsRefused, KeepsLog, Runs, booted_over, size_with_boot}
 use Rattle.mdcc_restart.specs.declared.fault.RestartFault.{RestartFault}
 use Rattle.mdcc_restart.specs.declared.restarting.Restarted.{Restarted}
-use Rattle.mdcc_rules.specs.Boot.{booted_by}
+use Rattle.mdcc_rules.specs.Boot.{booted_by, next_boot}
 use Rattle.mdcc_rules.specs.declared.node.BootFault.{BootFault}
 use Rattle.mdcc_steps.proofs.Booting.{boot-reads}
 use Rattle.mdcc_steps.proofs.Each.{each-append}
@@ -168,7 +168,7 @@ module _ (old new : Logs) (a centres : ℕ) (up : ℕ → Bool) (facts : ℕ →
       let next : next_boot (facts a) ≡ Fact.Booted centre.epoch = ap (λ (n : ℕ). Fact.Booted n) (sym runs.epoch) in
       record {
         next = runs.epoch;
-        node_of = subst (λ (fact : Fact). IsNodeOf centre.node cluster a (fact ∷ facts a) nothing_kept) next (record { itself = runs.node; spare = runs.spare });
+        node_of = subst (λ (fact : Fact). IsNodeOf centre.node cluster a (fact ∷ facts a) initial_volatile) next (record { itself = runs.node; spare = runs.spare });
         stand = put old new a centre.log (Fact.Booted centre.epoch) centres up (with_up up a true) facts stand some few items
             (others-same old.disks new.disks a its.range beside)
             (λ b other. cond-there a b true (up b) other)
@@ -185,14 +185,15 @@ module _ (old new : Logs) (a centres : ℕ) (up : ℕ → Bool) (facts : ℕ →
 
   -- ---- a start for which the log or the node has no room
 
-  pub none-stays : up a ≡ false → new.open.items ≡ old.open.items → IsAsBefore (logged (facts a)) a checkpoint_every disk_of may_leave_of d new.disks → LogsRepresent new centres up facts
-  none-stays down items was =
+  pub none-stays-as : (now : ℕ → Bool) → now a ≡ false → ((b : ℕ) → b ≢ a → now b ≡ up b) → new.open.items ≡ old.open.items
+      → IsAsBefore (logged (facts a)) a checkpoint_every disk_of may_leave_of d new.disks → LogsRepresent new centres now facts
+  none-stays-as now down others items was =
       let rest = was.at_rest in
       let durable = from_both (λ p. Only (disk_of new.disks p).bytes (may_leave_of new.disks p)) a was.frames.centre was.frames.area was.place rest.range rest.in_use.durable rest.spare.durable in
       let roomy = was.room (room old d a (up a) (facts a) its same) in
       let read = (rest_areas disk_of may_leave_of new.disks was.frames a (logged (facts a)) was.place rest).log_is in
-      logs-with old new a centres up up facts facts stand (ap length items) (λ b first other. log-same old new items b)
-      (others-same old.disks new.disks a its.range beside) (λ b other. refl) (λ b other. refl)
+      logs-with old new a centres up now facts facts stand (ap length items) (λ b first other. log-same old new items b)
+      (others-same old.disks new.disks a its.range beside) others (λ b other. refl)
       (record {
         range = its.range;
         there = there;
@@ -206,6 +207,12 @@ module _ (old new : Logs) (a centres : ℕ) (up : ℕ → Bool) (facts : ℕ →
         few = λ yes. absurd (false≢true (sym down ∙ yes));
         «open» = λ yes. absurd (false≢true (sym down ∙ yes));
       })
+
+  pub none-stays : up a ≡ false → new.open.items ≡ old.open.items → IsAsBefore (logged (facts a)) a checkpoint_every disk_of may_leave_of d new.disks → LogsRepresent new centres up facts
+  none-stays down items was = none-stays-as up down (λ b other. refl) items was
+
+  pub none-stays-down : new.open.items ≡ old.open.items → IsAsBefore (logged (facts a)) a checkpoint_every disk_of may_leave_of d new.disks → LogsRepresent new centres (with_up up a false) facts
+  none-stays-down items was = none-stays-as (with_up up a false) (cond-here a false (up a)) (λ b other. cond-there a b false (up b) other) items was
 
   -- ---- a start that found no memory
 

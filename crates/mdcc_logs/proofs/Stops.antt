@@ -21,13 +21,14 @@ use Rattle.mdcc_logs.proofs.Refusals.{leaves-here}
 use Rattle.mdcc_logs.proofs.Stages.{EndsShut, shut_end, stop-ends}
 use Rattle.mdcc_logs.proofs.Standing.{IsDurableAt, IsSame, both-same, cond-here, cond-there, log-same, logs-with, others-same, standing-same, there-same}
 use Rattle.mdcc_logs.specs.Represents.{IsLogOf, LogsRepresent, MayHave, log_at, with_fact_at, with_up}
-use Rattle.mdcc_logs.specs.Stopping.{HoldBut, IsStruck, is_frame_kept, stopped_at, stopped_facts}
+use Rattle.mdcc_logs.specs.Stopping.{HoldBut, IsStruck, stopped_at, stopped_facts}
 use Rattle.mdcc_logs.specs.declared.logs.Logs.{Logs}
 use Rattle.mdcc_messages.specs.Spelling.{fact_bytes}
 use Rattle.mdcc_messages.specs.declared.facts.Fact.{Fact}
 use Rattle.mdcc_restart.proofs.Places.{at_both, by_places, from_both, from_places}
 use Rattle.mdcc_restart.proofs.Struck.{IsRead, idle_loses, seen_first, seen_second}
 use Rattle.mdcc_restart.specs.Logged.{logged}
+use Rattle.mdcc_simulation.specs.AppliedSteps.{is_frame_kept}
 
 -- all is durable
 only-these : (contents : Contents) (bytes : List ℕ) → contents ≡ durable bytes → Only contents.kept (IsImage contents)

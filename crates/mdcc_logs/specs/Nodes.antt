@@ -5,7 +5,7 @@ use Rattle.mdcc_messages.specs.Lengths.{cells_needed, cells_used}
 use Rattle.mdcc_node.specs.Represents.{RepresentsCentre}
 use Rattle.mdcc_node.specs.declared.node.Node.{Node}
 use Rattle.mdcc_option.specs.declared.cluster.Cluster.{Cluster}
-use Rattle.mdcc_protocol.specs.Volatile.{Volatile, nothing_kept}
+use Rattle.mdcc_protocol.specs.Volatile.{Volatile, initial_volatile}
 use Rattle.mdcc_messages.specs.declared.facts.Fact.{Fact}
 
 -- the store of a centre's facts
@@ -32,4 +32,4 @@ pub record IsNodeOf (node : Node CentreStore) (cluster : Cluster) (me : ℕ) (fa
 pub record AreStarted (nodes : List (Node CentreStore)) (cluster : Cluster) (count : ℕ) : Type 0 where
   pub as_many : length nodes ≡ count
   pub each : (place : ℕ) (node : Node CentreStore) → slice_get nodes place ≡ Some node
-      → IsNodeOf node cluster (place + 1) (Fact.Booted 1 ∷ []) nothing_kept
+      → IsNodeOf node cluster (place + 1) (Fact.Booted 1 ∷ []) initial_volatile

@@ -14,11 +14,12 @@ use Rattle.mdcc_node.specs.declared.node.Node.{Node}
 use Rattle.mdcc_option.specs.declared.cluster.Cluster.{Cluster}
 use Rattle.mdcc_protocol.specs.Facts.{epoch_of}
 use Rattle.mdcc_messages.specs.Lengths.{cells_needed, cells_used, log_length}
-use Rattle.mdcc_protocol.specs.Volatile.{nothing_kept}
+use Rattle.mdcc_protocol.specs.Volatile.{initial_volatile}
 use Rattle.mdcc_messages.specs.declared.facts.Fact.{Fact}
-use Rattle.mdcc_restart.specs.Restarting.{IsAsBefore, Runs, next_boot, size_with_boot}
+use Rattle.mdcc_restart.specs.Restarting.{IsAsBefore, Runs, size_with_boot}
 use Rattle.mdcc_restart.specs.declared.fault.RestartFault.{RestartFault}
 use Rattle.mdcc_rules.specs.declared.node.BootFault.{BootFault}
+use Rattle.mdcc_rules.specs.Boot.{next_boot}
 
 -- ---- over the disk of a centre
 
@@ -54,7 +55,7 @@ OnNone (Err fault) all me old new = ⊤
 -- The node of a centre has its facts and the boot of the next epoch, and so has its log, which lies within the limit; then these centres are up.
 pub record HasStarted (node : Node CentreStore) (epoch : ℕ) (logs : Logs) (cluster : Cluster) (centres : ℕ) (up : ℕ → Bool) (a : ℕ) (facts : ℕ → List Fact) : Type 0 where
   pub next : epoch ≡ epoch_of (facts a) + 1
-  pub node_of : IsNodeOf node cluster a (Fact.Booted epoch ∷ facts a) nothing_kept
+  pub node_of : IsNodeOf node cluster a (Fact.Booted epoch ∷ facts a) initial_volatile
   pub stand : LogsRepresent logs centres up (with_fact_at facts a (Fact.Booted epoch))
   pub room : nat_lt log_limit (log_length (Fact.Booted epoch ∷ facts a)) ≡ false
 

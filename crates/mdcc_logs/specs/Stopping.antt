@@ -1,5 +1,5 @@
 -- An append that stops inside one of its device calls.
-use Rattle.std.specs.Prelude.{Bool, List, [], ◌∷◌, ◌≡◌, ◌≢◌, false, if◌then◌else◌, length, nat_le, suc, true, zero, ℕ}
+use Rattle.std.specs.Prelude.{List, [], ◌∷◌, ◌≡◌, ◌≢◌, false, if◌then◌else◌, length, suc, true, zero, ℕ}
 use Rattle.mdcc_base.specs.declared.outside.Image.{Image}
 use Rattle.mdcc_disks.specs.Contents.{Contents, done, durable, image_of}
 use Rattle.mdcc_disks.specs.Disks.{DiskCall}
@@ -8,11 +8,7 @@ use Rattle.mdcc_log.specs.Frames.{append_calls}
 use Rattle.mdcc_logs.specs.Represents.{with_fact_at}
 use Rattle.mdcc_messages.specs.Spelling.{fact_bytes}
 use Rattle.mdcc_messages.specs.declared.facts.Fact.{Fact}
-
--- whether a frame is there after a stop inside a device call of its append
-abbrev pub is_frame_kept : ℕ → Image → Bool
-is_frame_kept call Image.Kept = nat_le 3 call
-is_frame_kept call _ = false
+use Rattle.mdcc_simulation.specs.AppliedSteps.{is_frame_kept}
 
 -- the facts after it
 abbrev pub stopped_facts : (ℕ → List Fact) → ℕ → Fact → ℕ → Image → ℕ → List Fact

@@ -5,7 +5,7 @@ ghost use Rattle.mdcc_logs.specs.Represents.{LogsRepresent};
 ghost use Rattle.mdcc_logs.specs.Starting.{AreBegun, first_facts};
 ghost use Rattle.mdcc_protocol.specs.Belongs.{is_centre};
 ghost use Rattle.mdcc_protocol.specs.IsCluster.{IsCluster};
-ghost use Rattle.mdcc_protocol.specs.Volatile.{nothing_kept};
+ghost use Rattle.mdcc_protocol.specs.Volatile.{initial_volatile};
 
 use crate::rooms::reserve_first;
 use crate::starting::{Attempt, start};
@@ -27,7 +27,7 @@ fn boot(
     requires among { is_centre cluster.now centre ≡ true }
     requires most { cluster.now.quorums.centres ≤ 9 }
     requires begun { AreBegun logs.old cluster.now.quorums.centres (centre - 1) }
-    ensures node { IfOk result (λ node. IsNodeOf node cluster.now centre (first_facts centre) nothing_kept) }
+    ensures node { IfOk result (λ node. IsNodeOf node cluster.now centre (first_facts centre) initial_volatile) }
     ensures begun { OnOk result (AreBegun logs.new cluster.now.quorums.centres centre) }
 {
     reserve_first(&mut logs.disks, centre)?;

@@ -17,7 +17,7 @@ ghost use Rattle.mdcc_messages.specs.Spelling.{fact_bytes};
 ghost use Rattle.mdcc_messages.specs.WellFormed.{IsWellFormedFact};
 ghost use Rattle.mdcc_messages.specs.declared.facts.Fact.{Fact as AFact};
 ghost use Rattle.mdcc_restart.specs.Logged.{AreLogged, logged};
-ghost use Rattle.mdcc_restart.specs.Restarting.{next_boot};
+ghost use Rattle.mdcc_rules.specs.Boot.{next_boot};
 
 use crate::rooms::{reserve_append, reserve_start};
 use crate::starting::{Attempt, Started, start};
@@ -86,7 +86,6 @@ impl Logs {
     pub fn is_full(&self, centre: Centre, fact: &Fact) -> bool
         requires within { centre ≤ length self.now.open.items }
         requires formed { IsWellFormedFact fact.now }
-        requires short { fact_length fact.now ≤ 2097152 }
         ensures { (centres : ℕ) (up : ℕ → Bool) (facts : ℕ → List AFact) → LogsRepresent self.now centres up facts → up centre ≡ true → 1 ≤ centre → centre ≤ centres
             → result ≡ nat_lt log_limit (log_length (fact.now ∷ facts centre)) }
     {
@@ -130,8 +129,8 @@ impl Logs {
     }
 
     /// A centre starts again from its log, also where a stop left something behind it: it has the facts of its log and the new
-    /// boot. After `Full` and `NoRoom` the logs stand as before. After want of memory the log of the centre has the new boot or not, and has to
-    /// be opened again; where its last gate was torn it may be torn still.
+    /// boot. After `Full` and `NoRoom` the logs stand as before, but a centre that was up is down. Out of memory, the log of the
+    /// centre has the new boot or not, and has to be opened again; where its last gate was torn it may be torn still.
     pub fn restart(
         &mut self,
         alloc: Global,
@@ -146,6 +145,8 @@ impl Logs {
             → Starts result self.new cluster.now centres (with_up up centre true) centre facts }
         ensures lack { (centres : ℕ) (up : ℕ → Bool) (facts : ℕ → List AFact) → LogsRepresent self.old centres up facts → up centre ≡ false
             → OnLack result (LogsRepresent self.new centres up facts) }
+        ensures lack_down { (centres : ℕ) (up : ℕ → Bool) (facts : ℕ → List AFact) → LogsRepresent self.old centres up facts
+            → OnLack result (LogsRepresent self.new centres (with_up up centre false) facts) }
         ensures refused { (centres : ℕ) (up : ℕ → Bool) (facts : ℕ → List AFact) → LogsRepresent self.old centres up facts → AreLogged cluster.now (facts centre)
             → OnErr result (MayHave self.new centres up centre facts (next_boot (facts centre))) }
     {

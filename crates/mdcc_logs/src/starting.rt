@@ -13,7 +13,8 @@ ghost use Rattle.mdcc_messages.specs.Lengths.{cells_used};
 ghost use Rattle.mdcc_messages.specs.Spelling.{fact_bytes};
 ghost use Rattle.mdcc_messages.specs.declared.facts.Fact.{Fact as AFact};
 ghost use Rattle.mdcc_restart.specs.Logged.{AreLogged, logged};
-ghost use Rattle.mdcc_restart.specs.Restarting.{HasRoom, IsLogOf, next_boot};
+ghost use Rattle.mdcc_restart.specs.Restarting.{HasRoom, IsLogOf};
+ghost use Rattle.mdcc_rules.specs.Boot.{next_boot};
 
 use mdcc_areas::LogFault;
 use mdcc_base::{Centre, Memory, Plain};

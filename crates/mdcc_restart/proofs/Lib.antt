@@ -9,3 +9,4 @@ pub mod Roomy
 pub mod Short
 pub mod Starts
 pub mod Struck
+pub mod Unread

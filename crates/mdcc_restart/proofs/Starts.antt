@@ -15,7 +15,7 @@ use Rattle.mdcc_option.specs.declared.cluster.Cluster.{Cluster}
 use Rattle.mdcc_ledger.specs.BootTest.{are_allowed_facts, is_allowed_fact}
 use Rattle.mdcc_protocol.specs.Facts.{epoch_of}
 use Rattle.mdcc_messages.specs.Spelling.{fact_bytes}
-use Rattle.mdcc_protocol.specs.Volatile.{nothing_kept}
+use Rattle.mdcc_protocol.specs.Volatile.{initial_volatile}
 use Rattle.mdcc_messages.specs.declared.facts.Fact.{Fact}
 use Rattle.mdcc_rules.specs.declared.node.BootFault.{BootFault}
 use Rattle.mdcc_restart.proofs.Loaded.{own-boots}
@@ -23,7 +23,8 @@ use Rattle.mdcc_restart.proofs.Logged.{log-grows, payloads-read}
 use Rattle.mdcc_restart.specs.Faults.{of_boot, of_log}
 use Rattle.mdcc_restart.specs.Logged.{AreLogged, logged}
 use Rattle.mdcc_restart.specs.declared.fault.RestartFault.{RestartFault}
-use Rattle.mdcc_restart.specs.Restarting.{BootsNode, IsLogOf, IsRefused, booted_over, next_boot, size_with_boot}
+use Rattle.mdcc_restart.specs.Restarting.{BootsNode, IsLogOf, IsRefused, booted_over, size_with_boot}
+use Rattle.mdcc_rules.specs.Boot.{next_boot}
 
 -- ---- the boot
 
@@ -55,7 +56,7 @@ module _ {S : Type 0} (stands : S → List Fact → Type 0) (room : S → ℕ) (
       let found = node-of (r.1 ∷ h.0) over in
       let same : r.1 ∷ h.0 ≡ next_boot facts ∷ facts = found.1 in (
         found.0,
-        subst (λ fs. RepresentsCentre stands r.0 cluster me fs nothing_kept) same h.2,
+        subst (λ fs. RepresentsCentre stands r.0 cluster me fs initial_volatile) same h.2,
         cc,
         over ∙ ap (λ fs. Ok fs) same,
         subst (λ fs. room r.0.store + sum_over cells.needed fs ≡ cells.total) same h.3.spare,

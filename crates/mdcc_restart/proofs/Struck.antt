@@ -15,8 +15,8 @@ use Rattle.mdcc_messages.specs.Spelling.{fact_bytes}
 use Rattle.mdcc_messages.specs.declared.facts.Fact.{Fact}
 use Rattle.mdcc_restart.proofs.Places.{by_places, from_places, of_both}
 use Rattle.mdcc_restart.specs.Logged.{logged}
-use Rattle.mdcc_restart.specs.Restarting.{next_boot}
 use Rattle.mdcc_restart.specs.Struck.{IsLeft, IsStruck, LeavesBoot, LeavesStruck}
+use Rattle.mdcc_rules.specs.Boot.{next_boot}
 
 -- ---- which area is taken
 

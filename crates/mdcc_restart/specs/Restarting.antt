@@ -13,14 +13,14 @@ use Rattle.mdcc_node.specs.Represents.{RepresentsCentre}
 use Rattle.mdcc_node.specs.declared.node.Node.{Node}
 use Rattle.mdcc_option.specs.declared.cluster.Cluster.{Cluster}
 use Rattle.mdcc_protocol.specs.Facts.{epoch_of}
-use Rattle.mdcc_protocol.specs.Volatile.{nothing_kept}
-use Rattle.mdcc_messages.specs.Spelling.{fact_bytes}
+use Rattle.mdcc_protocol.specs.Volatile.{initial_volatile}
 use Rattle.mdcc_messages.specs.declared.facts.Fact.{Fact}
 use Rattle.mdcc_rules.specs.declared.node.BootFault.{BootFault}
 use Rattle.mdcc_steps.specs.NodeInvariant.{payloads_of}
 use Rattle.mdcc_restart.specs.Logged.{logged}
 use Rattle.mdcc_restart.specs.declared.fault.RestartFault.{RestartFault}
 use Rattle.mdcc_restart.specs.declared.restarting.Restarted.{Restarted}
+use Rattle.mdcc_rules.specs.Boot.{next_boot}
 
 -- ---- what stands before it
 
@@ -40,10 +40,6 @@ pub record HasRoom (every : ℕ) (first second : Disk) : Type 0 where
 
 -- ---- what comes of it
 
--- the boot that comes after these facts
-abbrev pub next_boot : List Fact → Fact
-next_boot facts = Fact.Booted (epoch_of facts + 1)
-
 -- how many bytes the log has with it
 abbrev pub size_with_boot : List Fact → ℕ
 size_with_boot facts = length (log_bytes (logged (next_boot facts ∷ facts)))
@@ -57,7 +53,7 @@ booted_over cells cluster facts = boot_by cells cluster (payloads_of facts)
 pub record Runs {S D : Type 0} (stands : S → List Fact → Type 0) (room : S → ℕ) (cells : Cells) (centre : Restarted S) (cluster : Cluster) (me every : ℕ) (facts : List Fact) (disk : D → ℕ → Disk) (may_leave : D → ℕ → List ℕ → Type 0) (old new : D) : Type 0 where
   pub epoch : centre.epoch ≡ epoch_of facts + 1
   pub below : epoch_of facts < 2 ^ 32 - 1
-  pub node : RepresentsCentre stands centre.node cluster me (next_boot facts ∷ facts) nothing_kept
+  pub node : RepresentsCentre stands centre.node cluster me (next_boot facts ∷ facts) initial_volatile
   pub spare : room centre.node.store + sum_over cells.needed (next_boot facts ∷ facts) ≡ cells.total
   pub place : centre.log.centre ≡ me
   pub every_is : centre.log.every ≡ every
@@ -95,12 +91,24 @@ KeepsLog all (RestartFault.Log LogFault.DiskFault) me every disk may_leave old n
 KeepsLog all RestartFault.Memory me every disk may_leave old new = payloads (disk new me).bytes (disk new (me + 16)).bytes ≡ Ok all
 KeepsLog all _ me every disk may_leave old new = IsAsBefore all me every disk may_leave old new
 
+-- both areas have the bytes that they had
+abbrev pub AreasStand : {D : Type 0} → ℕ → (D → ℕ → Disk) → D → D → Type 0
+AreasStand me disk old new = ((disk new me).bytes ≡ (disk old me).bytes) × ((disk new (me + 16)).bytes ≡ (disk old (me + 16)).bytes)
+
+-- Why no centre runs over areas that give no log, for what stands at this offset: nothing is written or cut off. A fault of a disk and
+-- want of memory may come first.
+abbrev pub IsUnread : {D : Type 0} → ℕ → RestartFault → ℕ → (D → ℕ → Disk) → D → D → Type 0
+IsUnread n (RestartFault.Log LogFault.DiskFault) me disk old new = ⊤
+IsUnread n (RestartFault.Log (LogFault.NotALog m)) me disk old new = (m ≡ n) × AreasStand me disk old new
+IsUnread n RestartFault.Memory me disk old new = AreasStand me disk old new
+IsUnread n _ me disk old new = ⊥
+
 -- ---- its boot
 
 -- a node of these facts and the new boot, with this boot, or the fault: the epochs are used up, cells lack, or there was no memory
 abbrev pub BootsNode : {S : Type 0} → (S → List Fact → Type 0) → (S → ℕ) → Cells → Result (Node S × Fact) RestartFault → Cluster → ℕ → List Fact → Type 0
 BootsNode stands room cells (Ok r) cluster me facts =
-    (epoch_of facts < 2 ^ 32 - 1) × RepresentsCentre stands r.0 cluster me (next_boot facts ∷ facts) nothing_kept × (r.1 ≡ next_boot facts)
+    (epoch_of facts < 2 ^ 32 - 1) × RepresentsCentre stands r.0 cluster me (next_boot facts ∷ facts) initial_volatile × (r.1 ≡ next_boot facts)
     × (booted_over cells cluster facts ≡ Ok (next_boot facts ∷ facts)) × (room r.0.store + sum_over cells.needed (next_boot facts ∷ facts) ≡ cells.total)
 BootsNode stands room cells (Err (RestartFault.Boot BootFault.Epochs)) cluster me facts = 2 ^ 32 - 1 ≤ epoch_of facts
 BootsNode stands room cells (Err (RestartFault.Boot (BootFault.Room needed all))) cluster me facts = booted_over cells cluster facts ≡ Err (BootFault.Room needed all)

@@ -8,7 +8,7 @@ use Rattle.mdcc_disks.specs.Disks.{LeavesOnly, Within}
 use Rattle.mdcc_messages.specs.Spelling.{fact_bytes}
 use Rattle.mdcc_messages.specs.declared.facts.Fact.{Fact}
 use Rattle.mdcc_restart.specs.Logged.{logged}
-use Rattle.mdcc_restart.specs.Restarting.{next_boot}
+use Rattle.mdcc_rules.specs.Boot.{next_boot}
 
 -- ---- a crash now
 

@@ -78,7 +78,9 @@ pub fn append_fact<D: Disks>(
     ensures full { IsErrOf result LogFault.LogFull → IsFull log.old (length (fact_bytes fact.now)) }
     ensures has_room { OnOk result (IsFull log.old (length (fact_bytes fact.now)) → ⊥) }
     ensures full_keeps { IsErrOf result LogFault.LogFull → disks.new ≡ disks.old }
+    ensures full_keeps_log { IsErrOf result LogFault.LogFull → log.new ≡ log.old }
     ensures memory_keeps { IsErrOf result LogFault.Memory → disks.new ≡ disks.old }
+    ensures memory_keeps_log { IsErrOf result LogFault.Memory → log.new ≡ log.old }
     ensures a_log { (n : ℕ) → IsErrOf result (LogFault.NotALog n) → IsTrue (D.disk disks.old (place_of log.old.centre log.old.area)).told → ⊥ }
 {
     let Ok(payload) = payload_of(alloc, fact) else {

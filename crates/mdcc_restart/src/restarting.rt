@@ -1,5 +1,5 @@
 //! The start of a centre.
-ghost use Rattle.std.specs.Prelude.{◌≡◌, ◌≤◌, ◌<◌, ◌+◌, ◌⊎◌, ◌∷◌, [], List, IfErr, IfOk, IsErrOf, IsTrue, Ok, length, true, ℕ};
+ghost use Rattle.std.specs.Prelude.{◌≡◌, ◌≤◌, ◌<◌, ◌+◌, ◌⊎◌, ◌∷◌, [], List, Err, IfErr, IfOk, IsErrAnd, IsErrOf, IsTrue, Ok, length, true, ℕ};
 ghost use Rattle.mdcc_admission.specs.Loading.{AreShort, Cells, Holds};
 ghost use Rattle.mdcc_areas.specs.Area.{AreaLog, payloads, payloads_of};
 ghost use Rattle.mdcc_areas.specs.AtRest.{IsAtRest};
@@ -11,8 +11,9 @@ ghost use Rattle.mdcc_protocol.specs.Belongs.{is_centre};
 ghost use Rattle.mdcc_messages.specs.Spelling.{fact_bytes};
 ghost use Rattle.mdcc_messages.specs.declared.facts.Fact.{Fact as AFact};
 ghost use Rattle.mdcc_restart.specs.Logged.{AreLogged, logged};
-ghost use Rattle.mdcc_restart.specs.Restarting.{BootsNode, IsLogOf, KeepsLog, Restarts, next_boot};
+ghost use Rattle.mdcc_restart.specs.Restarting.{BootsNode, IsLogOf, IsUnread, KeepsLog, Restarts};
 ghost use Rattle.mdcc_restart.specs.Struck.{IsLeft, IsStruck, LeavesFactAndBoot, LeavesStruck};
+ghost use Rattle.mdcc_rules.specs.Boot.{next_boot};
 
 use crate::{RestartFault, append_fact};
 use mdcc_areas::{Frames, LogFault};
@@ -95,6 +96,14 @@ pub fn restart<D: Disks, S: FactStore + Drop>(
     ensures refused { (all : List (List ℕ)) → IsTrue (D.disk disks.old centre).told → IsTrue (D.disk disks.old (centre + 16)).told
         → payloads (D.disk disks.old centre).bytes (D.disk disks.old (centre + 16)).bytes ≡ Ok all
         → IfErr result (λ fault. KeepsLog all fault centre every D.disk D.may_leave disks.old disks.new) }
+
+    // Areas that give no log are refused as they are read, and stand as they were; only such areas are no log.
+    ensures unread { (n : ℕ) → IsTrue (D.disk disks.old centre).told → IsTrue (D.disk disks.old (centre + 16)).told
+        → payloads (D.disk disks.old centre).bytes (D.disk disks.old (centre + 16)).bytes ≡ Err n
+        → IsErrAnd result (λ fault. IsUnread n fault centre D.disk disks.old disks.new) }
+    ensures not_a_log { (n : ℕ) → IsErrOf result (RestartFault.Log (LogFault.NotALog n))
+        → IsTrue (D.disk disks.old centre).told → IsTrue (D.disk disks.old (centre + 16)).told
+        → payloads (D.disk disks.old centre).bytes (D.disk disks.old (centre + 16)).bytes ≡ Err n }
 
     // A crash at any moment of it leaves a log of the facts, or of these and the new boot, whether it is answered or refused, with each
     // area as at a moment of its own: where the other area is dead or older; and, of whatever areas these facts are read, where no

@@ -5,7 +5,7 @@ use Rattle.mdcc_logs.proofs.booting.boot_all.Goals as goal
 use Rattle.mdcc_logs.proofs.booting.boot_all.Goals.{in-Some+in_ok-node+in_ok-push, in_default}
 use Rattle.mdcc_logs.specs.Nodes.{AreStarted, IsNodeOf}
 use Rattle.mdcc_logs.specs.Starting.{AreBegun}
-use Rattle.mdcc_protocol.specs.Volatile.{nothing_kept}
+use Rattle.mdcc_protocol.specs.Volatile.{initial_volatile}
 use Rattle.mdcc_messages.specs.declared.facts.Fact.{Fact}
 
 pub loop-number-preserved : goal.loop-number-preserved
@@ -16,8 +16,8 @@ loop-number-preserved c = elim c.match-new.branch [
       let some : 1 ≤ n = omega arith in
       let next : n ≡ n + 1 - 1 = omega arith in
       let same : w.in-Some.centre ≡ n = w.in-Some.ensures.value in
-      let node : IsNodeOf w.in_ok-node.node cluster n (Fact.Booted 1 ∷ []) nothing_kept =
-      subst (λ (a : ℕ). IsNodeOf w.in_ok-node.node cluster a (Fact.Booted 1 ∷ []) nothing_kept) same w.in_ok-node.ensures.node in
+      let node : IsNodeOf w.in_ok-node.node cluster n (Fact.Booted 1 ∷ []) initial_volatile =
+      subst (λ (a : ℕ). IsNodeOf w.in_ok-node.node cluster a (Fact.Booted 1 ∷ []) initial_volatile) same w.in_ok-node.ensures.node in
       let one = one-started c.loop-number.nodes.items cluster (n - 1) n w.in_ok-node.node c.loop-number.invariant.started (omega (some, arith)) node in
       record {
         started = rw (w.nodes-is, w.in_ok-push.ensures.items) (subst (λ (k : ℕ). AreStarted (c.loop-number.nodes.items ++ w.in_ok-node.node ∷ []) cluster k) next one);

@@ -15,12 +15,14 @@ use Rattle.mdcc_restart.proofs.Places.{at_both}
 use Rattle.mdcc_restart.proofs.Roomy.{past_limit, roomy_log, roomy_more, same_log, within_limit}
 use Rattle.mdcc_restart.proofs.Starts.{after-crash, boot-refuses, open-refuses, refuses, same-payloads}
 use Rattle.mdcc_restart.proofs.Struck.{boot_leaves, left_read, left_struck, same_area, same_read, struck_as, struck_joined, struck_read}
+use Rattle.mdcc_restart.proofs.Unread.{no-log, of-no-log, open-unread}
 use Rattle.mdcc_restart.specs.Logged.{AreLogged, logged}
-use Rattle.mdcc_restart.specs.Restarting.{HasRoom, IsLogOf, KeepsLog, Restarts, next_boot}
+use Rattle.mdcc_restart.specs.Restarting.{HasRoom, IsLogOf, KeepsLog, Restarts}
 use Rattle.mdcc_restart.specs.Struck.{LeavesBoot, LeavesStruck}
 use Rattle.mdcc_restart.specs.declared.fault.RestartFault.{RestartFault}
 use Rattle.mdcc_rules.specs.declared.node.BootFault.{BootFault}
 use Rattle.mdcc_restart.proofs.restarting.restart.Goals as goal
+use Rattle.mdcc_rules.specs.Boot.{next_boot}
 
 -- ---- what comes of it
 
@@ -127,6 +129,44 @@ returns-in_err-append_fact-clause-refused g c all told told_other read =
     rw (p.1, p.2)
     (append-keeps g.D.Disks.disk g.D.Disks.may_leave c.args.disks.now all c.args.centre c.args.every c.open.new.disks c.append_fact.new.disks c.in_err-append_fact.field-0.0 was
     c.in_err-append_fact.ensures.full_keeps c.in_err-append_fact.ensures.memory_keeps (λ n bad. c.in_err-append_fact.ensures.a_log n bad at.0))
+
+-- ---- areas that give no log
+
+pub returns-in_err-log-clause-unread : goal.returns-in_err-log-clause-unread
+returns-in_err-log-clause-unread g c n told told_other read =
+    let p = err_from_is_err_and c.from_residual.result c.from_residual.ensures.1 in
+    rw (p.1, p.2)
+    (open-unread n c.args.centre g.D.Disks.disk c.args.disks.now c.open.new.disks c.in_err-log.field-0.0 read
+    (λ m is. c.in_err-log.ensures.not_a_log m is told told_other) c.in_err-log.ensures.not_a_log_keeps c.in_err-log.ensures.memory c.in_err-log.ensures.not_full)
+
+pub returns-in_err-node-clause-unread : goal.returns-in_err-node-clause-unread
+returns-in_err-node-clause-unread g c n told told_other read =
+    absurd (no-log (g.D.Disks.disk c.args.disks.now c.args.centre).bytes (g.D.Disks.disk c.args.disks.now (c.args.centre + 16)).bytes c.in_ok-log.payloads.items n (c.in_ok-log.ensures.payloads told told_other) read)
+
+pub returns-in_err-append_fact-clause-unread : goal.returns-in_err-append_fact-clause-unread
+returns-in_err-append_fact-clause-unread g c n told told_other read =
+    absurd (no-log (g.D.Disks.disk c.args.disks.now c.args.centre).bytes (g.D.Disks.disk c.args.disks.now (c.args.centre + 16)).bytes c.in_ok-log.payloads.items n (c.in_ok-log.ensures.payloads told told_other) read)
+
+pub returns-clause-unread : goal.returns-clause-unread
+returns-clause-unread g c n told told_other read =
+    absurd (no-log (g.D.Disks.disk c.args.disks.now c.args.centre).bytes (g.D.Disks.disk c.args.disks.now (c.args.centre + 16)).bytes c.in_ok-log.payloads.items n (c.in_ok-log.ensures.payloads told told_other) read)
+
+pub returns-in_err-log-clause-not_a_log : goal.returns-in_err-log-clause-not_a_log
+returns-in_err-log-clause-not_a_log g c n = λ h told told_other.
+    let p = err_from_is_err_and c.from_residual.result c.from_residual.ensures.1 in
+    let is = sym p.1 ∙ h in
+    let same : p.0 ≡ RestartFault.Log (LogFault.NotALog n) = cc in
+    let fault : c.in_err-log.field-0.0 ≡ LogFault.NotALog n = of-no-log n c.in_err-log.field-0.0 (sym p.2 ∙ same) in
+    c.in_err-log.ensures.not_a_log n (rw fault refl) told told_other
+
+pub returns-in_err-append_fact-clause-not_a_log : goal.returns-in_err-append_fact-clause-not_a_log
+returns-in_err-append_fact-clause-not_a_log g c n = λ h told told_other.
+    let p = err_from_is_err_and c.from_residual-in_err-append_fact.result c.from_residual-in_err-append_fact.ensures.1 in
+    let is = sym p.1 ∙ h in
+    let same : p.0 ≡ RestartFault.Log (LogFault.NotALog n) = cc in
+    let fault : c.in_err-append_fact.field-0.0 ≡ LogFault.NotALog n = of-no-log n c.in_err-append_fact.field-0.0 (sym p.2 ∙ same) in
+    let at = at_both (λ p. IsTrue (g.D.Disks.disk c.open.new.disks p).told) c.args.centre c.in_ok-log.log.centre c.in_ok-log.log.area c.in_ok-log.ensures.keeps.0 (c.open.ensures.others.told_one ∙ told) (c.open.ensures.others.told_two ∙ told_other) c.in_ok-log.ensures.range in
+    absurd (c.in_err-append_fact.ensures.a_log n (rw fault refl) at.0)
 
 -- ---- at any moment
 

@@ -2,12 +2,12 @@ use Rattle.std.proofs.Common.{◌≡◌, ◌-◌, ◌≤◌, Ok, ap, arith, refl
 use Rattle.mdcc_disks.specs.Memory.{disk_of, may_leave_of}
 use Rattle.mdcc_logs.proofs.Refusals.{on-err, same-may-have}
 use Rattle.mdcc_logs.proofs.Standing.{held-same}
-use Rattle.mdcc_logs.proofs.Starts.{durable-first, durable-second, full-log, none-stays, reads, restarted, room, start-may-have}
+use Rattle.mdcc_logs.proofs.Starts.{durable-first, durable-second, full-log, none-stays, none-stays-down, reads, restarted, room, start-may-have}
 use Rattle.mdcc_logs.proofs.logs.Logs.restart.Goals as goal
 use Rattle.mdcc_logs.specs.Starting.{OnNone, StartsOver}
 use Rattle.mdcc_logs.specs.declared.starting.Attempt.{Attempt}
 use Rattle.mdcc_restart.specs.Logged.{logged}
-use Rattle.mdcc_restart.specs.Restarting.{next_boot}
+use Rattle.mdcc_rules.specs.Boot.{next_boot}
 
 pub returns-in-Runs-clause-started : goal.returns-in-Runs-clause-started
 returns-in-Runs-clause-started c centres up facts stand logged fits few =
@@ -81,4 +81,26 @@ returns-in-NoRoom-clause-lack c centres up facts stand down =
     let its = stand.each a some (omega (c.requires.within, stand.as_many, arith)) in
     let read = reads c.args.self.now d a (up a) (facts a) its same in
     none-stays c.args.self.now _ a centres up facts stand some c.requires.within d same c.start.ensures.others down refl
+    (subst (λ (s : Attempt). OnNone (Ok s) (logged (facts a)) a d c.start.new.disks) c.in-NoRoom.is (c.in_ok-started.ensures.none (logged (facts a)) read.told_first read.told_second read.read))
+
+pub returns-in-Full-clause-lack_down : goal.returns-in-Full-clause-lack_down
+returns-in-Full-clause-lack_down c centres up facts stand =
+    let a = c.args.centre in
+    let d = c.reserve_start.new.disks in
+    let some : 1 ≤ a = omega arith in
+    let same = held-same c.args.self.now.disks d c.reserve_start.ensures in
+    let its = stand.each a some (omega (c.requires.within, stand.as_many, arith)) in
+    let read = reads c.args.self.now d a (up a) (facts a) its same in
+    none-stays-down c.args.self.now _ a centres up facts stand some c.requires.within d same c.start.ensures.others refl
+    (subst (λ (s : Attempt). OnNone (Ok s) (logged (facts a)) a d c.start.new.disks) c.in-Full.is (c.in_ok-started.ensures.none (logged (facts a)) read.told_first read.told_second read.read))
+
+pub returns-in-NoRoom-clause-lack_down : goal.returns-in-NoRoom-clause-lack_down
+returns-in-NoRoom-clause-lack_down c centres up facts stand =
+    let a = c.args.centre in
+    let d = c.reserve_start.new.disks in
+    let some : 1 ≤ a = omega arith in
+    let same = held-same c.args.self.now.disks d c.reserve_start.ensures in
+    let its = stand.each a some (omega (c.requires.within, stand.as_many, arith)) in
+    let read = reads c.args.self.now d a (up a) (facts a) its same in
+    none-stays-down c.args.self.now _ a centres up facts stand some c.requires.within d same c.start.ensures.others refl
     (subst (λ (s : Attempt). OnNone (Ok s) (logged (facts a)) a d c.start.new.disks) c.in-NoRoom.is (c.in_ok-started.ensures.none (logged (facts a)) read.told_first read.told_second read.read))
