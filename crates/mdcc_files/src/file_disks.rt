@@ -1,6 +1,8 @@
 //! Disks over files.
 ghost use Rattle.std.specs.Prelude.{◌≡◌, ◌≤◌, ◌<◌, [], length, option_map, replicate, slice_get, IfSome, Some};
+ghost use Rattle.std.specs.String.{string_bytes};
 ghost use Rattle.mdcc_base.specs.Causes.{Rose};
+ghost use Rattle.mdcc_files.specs.Names.{name_of};
 ghost use Rattle.mdcc_files.specs.Unspecified.{fault_at, unspecified_disk, Any, AnySince, one_moment, AnyByte, KeepsFaults};
 
 use mdcc_base::Failed;
@@ -16,15 +18,30 @@ struct OpenLog {
     file: File,
 }
 
-/// The files `mdcc-K.log` of the present folder, K from 1 to 9. The first call at a disk opens its file, creates it where it
-/// is not there, and takes an exclusive lock of it (flock(2)), which ends with this object or its process. Where another has
-/// the lock, a call fails and the file stays as it is. What a file contains after a crash is the system's promise alone.
+/// The files of the present folder that have the logs of the centres K, from 1 to 9: disk K is `mdcc-K.log` and disk 16 + K is
+/// `mdcc-K.alt`. The first call at a disk opens its file, creates it where it is not there, and takes an exclusive lock of it
+/// (flock(2)), which ends with this object or its process. Where another has the lock, a call fails and the file stays as it is.
+/// What a file contains after a crash is the system's promise alone.
 #[derive(Drop)]
 pub struct FileDisks<'a, R: Files<File = File>> {
     alloc: Global,
     files: &'a R,
     logs: Vec<OpenLog>,
-    faults: [u64; 10],
+    faults: [u64; 26],
+}
+
+// The name of the file of a disk, where there is such a disk.
+fn name_of(alloc: Global, place: u8) -> Option<String>
+    ensures { IfSome result (λ name. Some (string_bytes name) ≡ name_of place) }
+{
+    match place {
+        1..=9 => format!(in alloc; "mdcc-{place}.log").ok(),
+        17..=25 => {
+            let centre = place - 16;
+            format!(in alloc; "mdcc-{centre}.alt").ok()
+        }
+        _ => None,
+    }
 }
 
 // Opens and locks a file, and creates it where it is not there. The folder is synced at each opening, so that its name is
@@ -44,17 +61,17 @@ impl<'a, R: Files<File = File>> FileDisks<'a, R> {
     /// No file is open yet.
     pub fn new(alloc: Global, files: &'a R) -> Self
         ensures logs { result.logs.items ≡ [] }
-        ensures faults { result.faults ≡ replicate 10 0 }
+        ensures faults { result.faults ≡ replicate 26 0 }
     {
         FileDisks {
             alloc,
             files,
             logs: Vec::new(alloc),
-            faults: [0; 10],
+            faults: [0; 26],
         }
     }
 
-    // Counts a fault. A disk past 9 has no count.
+    // Counts a fault. A disk past 25 has no count.
     fn fail(&mut self, place: u8) -> Failed
         ensures rose { Rose (fault_at self.old.faults place) (fault_at self.new.faults place) }
         ensures later { fault_at self.old.faults place ≤ fault_at self.new.faults place }
@@ -76,10 +93,7 @@ impl<'a, R: Files<File = File>> FileDisks<'a, R> {
         if let Some(index) = self.logs.iter().position(|log| log.place == place) {
             return Some(index);
         }
-        if place == 0 || place > 9 {
-            return None;
-        }
-        let name = format!(in self.alloc; "mdcc-{place}.log").ok()?;
+        let name = name_of(self.alloc, place)?;
         let file = open_locked(self.files, name.as_str()).ok()?;
         self.logs.push(OpenLog { place, file }).ok()?;
         Some(self.logs.len() - 1)
