@@ -1,7 +1,6 @@
 -- Why a replay ends early, as the program keeps it.
-use Rattle.std.specs.Prelude.{Bool, false, true, Option, option_map}
+use Rattle.std.specs.Prelude.{Option, option_map}
 use Rattle.mdcc_language.specs.Errors.{ReplayFault, TooLong, AtHeader, AtLine, AtEvent}
-use Rattle.mdcc_language.specs.declared.world.EventFault.{EventFault}
 use Rattle.mdcc_replay.specs.declared.refusals.Refusal.{Refusal}
 
 abbrev pub fault_of : Refusal → ReplayFault
@@ -12,8 +11,3 @@ fault_of (Refusal.Event number fault) = AtEvent number fault
 
 abbrev pub faults_of : Option Refusal → Option ReplayFault
 faults_of refusal = option_map fault_of refusal
-
--- want of memory, which may come at any time
-abbrev pub is_replay_out_of_memory : EventFault → Bool
-is_replay_out_of_memory EventFault.Memory = true
-is_replay_out_of_memory _ = false

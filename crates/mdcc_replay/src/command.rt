@@ -26,8 +26,8 @@ fn own_line(status: u8) -> &'static str
     }
 }
 
-// Ends with a status that no input has.
-fn end<E: Sink>(status: u8, err: &mut E) -> u8
+/// Ends with a status that no input has.
+pub fn end<E: Sink>(status: u8, err: &mut E) -> u8
     ensures status { result ≡ status }
     ensures told { Tells (E.held err.old) (E.held err.new) (E.faults err.old) (E.faults err.new) (own_line status) }
 {

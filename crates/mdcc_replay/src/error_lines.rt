@@ -58,8 +58,8 @@ fn header_cause_text(cause: &HeaderCause) -> &'static str
     }
 }
 
-// The name of a cause.
-fn draft_fault_text(fault: &DraftFault) -> &'static str
+/// The name of a cause.
+pub fn draft_fault_text(fault: &DraftFault) -> &'static str
     ensures { result.now ≡ draft_fault_text fault.now }
 {
     match fault {

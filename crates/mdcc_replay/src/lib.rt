@@ -11,9 +11,10 @@ mod samples;
 pub mod simulation;
 mod writing;
 
-pub use command::{refuse_words, run_replay};
+pub use command::{end, refuse_words, run_replay};
+pub use error_lines::draft_fault_text;
 pub use refusals::Refusal;
 pub use reports::replay;
 pub use samples::run_sample;
 pub use simulation::Simulation;
-pub use writing::Failure;
+pub use writing::{Failure, tell, write_text};

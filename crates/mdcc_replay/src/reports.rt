@@ -11,9 +11,9 @@ ghost use Rattle.mdcc_simulation.specs.Replay.{lines_replayed, replay_of};
 ghost use Rattle.mdcc_language.specs.Report.{lines_text};
 ghost use Rattle.mdcc_simulation.specs.State.{World as AWorld};
 ghost use Rattle.mdcc_simulation.specs.Events.{after_event};
-ghost use Rattle.mdcc_replay.specs.Refusals.{is_replay_out_of_memory};
 ghost use Rattle.mdcc_replay.specs.Runs.{event_reported};
 ghost use Rattle.mdcc_replay.specs.Writing.{IsLeftBy, LeavesLast, Replayed, ReplayedTo, StandsLast, refusal_in};
+ghost use Rattle.mdcc_simulation.specs.Limits.{is_out_of_memory};
 
 use crate::lines::{behind, header_text, is_sched_memory, split_line};
 use crate::writing::{line_text, lines_text, write_text};
@@ -35,7 +35,7 @@ pub enum Ended<W: Drop> {
 
 // Whether it is want of memory.
 fn is_event_memory(fault: &EventFault) -> bool
-    ensures { result ≡ is_replay_out_of_memory fault.now }
+    ensures { result ≡ is_out_of_memory fault.now }
 {
     match fault {
         EventFault::Memory => true,
@@ -53,7 +53,7 @@ fn event_text<W: Simulation>(
     ensures ok { (w : AWorld) → W.stands world.old w → IfOk result (λ text.
         IsOkAnd (after_event w event.now) (λ h. (text.items ≡ lines_text h.lines) × W.stands world.new h.world)) }
     ensures err { (w : AWorld) → W.stands world.old w → IfErr result (λ fault.
-        OnFalse (is_replay_out_of_memory fault) (after_event w event.now ≡ Err fault)) }
+        OnFalse (is_out_of_memory fault) (after_event w event.now ≡ Err fault)) }
 {
     let mut lines = HeapList::new(alloc);
     world.take(event, &mut lines)?;

@@ -5,7 +5,7 @@ ghost use Rattle.mdcc_protocol.specs.IsCluster.{IsCluster};
 ghost use Rattle.mdcc_simulation.specs.State.{World as AWorld, first_world};
 ghost use Rattle.mdcc_simulation.specs.Runs.{end_line};
 ghost use Rattle.mdcc_simulation.specs.Events.{after_event};
-ghost use Rattle.mdcc_replay.specs.Refusals.{is_replay_out_of_memory};
+ghost use Rattle.mdcc_simulation.specs.Limits.{is_out_of_memory};
 
 use mdcc_base::{HeapList, Memory};
 use mdcc_language::{Event, EventFault, Line};
@@ -28,7 +28,7 @@ pub trait Simulation {
         ensures ok { (w : AWorld) → stands self.old w → OnOk result (IsOkAnd (after_event w event.now)
             (λ h. (lines.new ≡ lines.old ++ h.lines) × stands self.new h.world)) }
         ensures err { (w : AWorld) → stands self.old w → IfErr result (λ fault.
-            OnFalse (is_replay_out_of_memory fault) (after_event w event.now ≡ Err fault)) };
+            OnFalse (is_out_of_memory fault) (after_event w event.now ≡ Err fault)) };
 
     /// The last line of a report.
     fn last_line(&self) -> Line

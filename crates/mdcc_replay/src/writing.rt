@@ -53,7 +53,7 @@ impl From<AllocError> for Failure {
 }
 
 /// Writes a text, or a front of it where a write failed.
-pub(crate) fn write_text<O: Sink>(out: &mut O, text: &[u8]) -> Result<(), Failure>
+pub fn write_text<O: Sink>(out: &mut O, text: &[u8]) -> Result<(), Failure>
     ensures all { OnOk result (Appends (O.held out.old) (O.held out.new) text.now) }
     ensures front { OnErr result (Front (O.held out.old) (O.held out.new) text.now) }
     ensures later { O.faults out.old ≤ O.faults out.new }
@@ -64,7 +64,7 @@ pub(crate) fn write_text<O: Sink>(out: &mut O, text: &[u8]) -> Result<(), Failur
 }
 
 /// Writes a line on the error stream as far as that goes.
-pub(crate) fn tell<E: Sink>(err: &mut E, line: &[u8])
+pub fn tell<E: Sink>(err: &mut E, line: &[u8])
     ensures { Tells (E.held err.old) (E.held err.new) (E.faults err.old) (E.faults err.new) line.now }
 {
     let _ = write_all(err, line);

@@ -1,0 +1,49 @@
+-- What a failure is, by its status.
+use Rattle.std.proofs.Common.{◌≡◌, Err, Ok, Result, arith, inl, inr, refl, ℕ, ◌⊎◌}
+use Rattle.mdcc_areas.specs.declared.fault.LogFault.{LogFault}
+use Rattle.mdcc_base.specs.declared.source.ReadAllFault.{ReadAllFault}
+use Rattle.mdcc_config.specs.declared.faults.ConfigFault.{ConfigFault}
+use Rattle.mdcc_endings.specs.Endings.{status_after, status_of}
+use Rattle.mdcc_endings.specs.Readings.{IsEarly}
+use Rattle.mdcc_endings.specs.declared.fault.Failure.{Failure}
+use Rattle.mdcc_rules.specs.declared.node.BootFault.{BootFault}
+
+pub record Causes (failure : Failure) : Type 0 where
+  pub input : status_of failure ≡ 5 → failure ≡ Failure.Input ReadAllFault.Failed
+  pub disk : status_of failure ≡ 7 → (a : ℕ) × (failure ≡ Failure.Log a LogFault.DiskFault)
+  pub link : status_of failure ≡ 8 → failure ≡ Failure.Link
+  pub output : status_of failure ≡ 6 → failure ≡ Failure.Output
+  pub early : status_of failure ≡ 3 → IsEarly failure
+
+pub causes_of : (failure : Failure) → Causes failure
+causes_of (Failure.Input ReadAllFault.Failed) = record { input = λ _. refl; disk = λ h. absurd (omega arith); link = λ h. absurd (omega arith); output = λ h. absurd (omega arith); early = λ h. absurd (omega arith) }
+causes_of (Failure.Input ReadAllFault.TooLong) = record { input = λ h. absurd (omega arith); disk = λ h. absurd (omega arith); link = λ h. absurd (omega arith); output = λ h. absurd (omega arith); early = λ h. absurd (omega arith) }
+causes_of (Failure.Input ReadAllFault.Memory) = record { input = λ h. absurd (omega arith); disk = λ h. absurd (omega arith); link = λ h. absurd (omega arith); output = λ h. absurd (omega arith); early = λ h. absurd (omega arith) }
+causes_of (Failure.Config ConfigFault.Json) = record { input = λ h. absurd (omega arith); disk = λ h. absurd (omega arith); link = λ h. absurd (omega arith); output = λ h. absurd (omega arith); early = λ _. tt }
+causes_of (Failure.Config (ConfigFault.Member name)) = record { input = λ h. absurd (omega arith); disk = λ h. absurd (omega arith); link = λ h. absurd (omega arith); output = λ h. absurd (omega arith); early = λ _. tt }
+causes_of (Failure.Config (ConfigFault.Kind name)) = record { input = λ h. absurd (omega arith); disk = λ h. absurd (omega arith); link = λ h. absurd (omega arith); output = λ h. absurd (omega arith); early = λ _. tt }
+causes_of (Failure.Config (ConfigFault.Range name)) = record { input = λ h. absurd (omega arith); disk = λ h. absurd (omega arith); link = λ h. absurd (omega arith); output = λ h. absurd (omega arith); early = λ _. tt }
+causes_of (Failure.Config (ConfigFault.Quorums fault)) = record { input = λ h. absurd (omega arith); disk = λ h. absurd (omega arith); link = λ h. absurd (omega arith); output = λ h. absurd (omega arith); early = λ _. tt }
+causes_of (Failure.Config (ConfigFault.Schema fault)) = record { input = λ h. absurd (omega arith); disk = λ h. absurd (omega arith); link = λ h. absurd (omega arith); output = λ h. absurd (omega arith); early = λ _. tt }
+causes_of (Failure.Config (ConfigFault.Address centre)) = record { input = λ h. absurd (omega arith); disk = λ h. absurd (omega arith); link = λ h. absurd (omega arith); output = λ h. absurd (omega arith); early = λ _. tt }
+causes_of (Failure.Config ConfigFault.Memory) = record { input = λ h. absurd (omega arith); disk = λ h. absurd (omega arith); link = λ h. absurd (omega arith); output = λ h. absurd (omega arith); early = λ h. absurd (omega arith) }
+causes_of Failure.Centre = record { input = λ h. absurd (omega arith); disk = λ h. absurd (omega arith); link = λ h. absurd (omega arith); output = λ h. absurd (omega arith); early = λ _. tt }
+causes_of (Failure.Log centre LogFault.DiskFault) = record { input = λ h. absurd (omega arith); disk = λ _. (centre, refl); link = λ h. absurd (omega arith); output = λ h. absurd (omega arith); early = λ h. absurd (omega arith) }
+causes_of (Failure.Log centre (LogFault.NotALog offset)) = record { input = λ h. absurd (omega arith); disk = λ h. absurd (omega arith); link = λ h. absurd (omega arith); output = λ h. absurd (omega arith); early = λ h. absurd (omega arith) }
+causes_of (Failure.Log centre LogFault.LogFull) = record { input = λ h. absurd (omega arith); disk = λ h. absurd (omega arith); link = λ h. absurd (omega arith); output = λ h. absurd (omega arith); early = λ h. absurd (omega arith) }
+causes_of (Failure.Log centre LogFault.Memory) = record { input = λ h. absurd (omega arith); disk = λ h. absurd (omega arith); link = λ h. absurd (omega arith); output = λ h. absurd (omega arith); early = λ h. absurd (omega arith) }
+causes_of (Failure.Boot centre BootFault.Epochs) = record { input = λ h. absurd (omega arith); disk = λ h. absurd (omega arith); link = λ h. absurd (omega arith); output = λ h. absurd (omega arith); early = λ h. absurd (omega arith) }
+causes_of (Failure.Boot centre (BootFault.NotARun number)) = record { input = λ h. absurd (omega arith); disk = λ h. absurd (omega arith); link = λ h. absurd (omega arith); output = λ h. absurd (omega arith); early = λ h. absurd (omega arith) }
+causes_of (Failure.Boot centre (BootFault.Room needed cells)) = record { input = λ h. absurd (omega arith); disk = λ h. absurd (omega arith); link = λ h. absurd (omega arith); output = λ h. absurd (omega arith); early = λ h. absurd (omega arith) }
+causes_of (Failure.Boot centre BootFault.Memory) = record { input = λ h. absurd (omega arith); disk = λ h. absurd (omega arith); link = λ h. absurd (omega arith); output = λ h. absurd (omega arith); early = λ h. absurd (omega arith) }
+causes_of Failure.Link = record { input = λ h. absurd (omega arith); disk = λ h. absurd (omega arith); link = λ _. refl; output = λ h. absurd (omega arith); early = λ h. absurd (omega arith) }
+causes_of Failure.Serial = record { input = λ h. absurd (omega arith); disk = λ h. absurd (omega arith); link = λ h. absurd (omega arith); output = λ h. absurd (omega arith); early = λ h. absurd (omega arith) }
+causes_of Failure.Output = record { input = λ h. absurd (omega arith); disk = λ h. absurd (omega arith); link = λ h. absurd (omega arith); output = λ _. refl; early = λ h. absurd (omega arith) }
+causes_of Failure.Memory = record { input = λ h. absurd (omega arith); disk = λ h. absurd (omega arith); link = λ h. absurd (omega arith); output = λ h. absurd (omega arith); early = λ h. absurd (omega arith) }
+
+-- where a command ended at a status that is not want of memory, with what it failed
+pub failed_at : {T : Type 0} (done : Result T Failure) (status wanted : ℕ) → (status ≡ status_after done) ⊎ (status ≡ 10) → status ≡ wanted → (wanted ≡ 0 → ⊥) → (wanted ≡ 10 → ⊥)
+    → (failure : Failure) × (done ≡ Err failure) × (status_of failure ≡ wanted)
+failed_at (Ok done) status wanted (inl e) w zero ten = absurd (zero (omega arith))
+failed_at (Err failure) status wanted (inl e) w zero ten = (failure, refl, omega arith)
+failed_at done status wanted (inr e) w zero ten = absurd (ten (omega arith))
