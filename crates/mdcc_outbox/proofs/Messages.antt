@@ -1,19 +1,23 @@
 -- Messages that are sent one after another.
-use Rattle.std.proofs.Common.{◌≡◌, ℕ, zero, suc, ◌+◌, ◌≤◌, ◌<◌, true, false, List, [], ◌∷◌, ◌++◌, Some, None, Ok, Err, refl, sym, ◌∙◌, ap, arith, inl, inr, length, take, drop, get_or}
+use Rattle.std.proofs.Common.{◌≡◌, ℕ, zero, suc, ◌+◌, ◌≤◌, ◌<◌, ◌-◌, ◌^◌, Bool, true, false, cond, nat_lt, List, [], ◌∷◌, ◌++◌, Option, Some, None, Result, Ok, Err, refl, sym, ◌∙◌, ap, arith, inl, inr, length, take, drop, get_or, map, subst}
 use Rattle.std.proofs.lemmas.Bool.{cases_Bool, ltb-false}
 use Rattle.std.specs.Bool.{OnFalse}
+use Rattle.std.specs.List.{range_with_len}
+use Rattle.std.specs.Prelude.{IsErrOf, OnErr}
 use Rattle.std.proofs.lemmas.List.{append-nil, append_assoc}
 use Rattle.mdcc_base.specs.declared.outside.Address.{Address}
 use Rattle.mdcc_config.specs.declared.config.Config.{Config}
 use Rattle.mdcc_messages.specs.declared.messages.Envelope.{Envelope}
 use Rattle.mdcc_runs.specs.Acts.{Act}
-use Rattle.mdcc_frag.specs.Datagrams.{message_limit}
+use Rattle.mdcc_frag.specs.Datagrams.{count, datagram, message_limit}
+use Rattle.mdcc_frag.specs.declared.datagrams.FragHead.{FragHead}
 use Rattle.mdcc_messages.specs.Lengths.{message_length}
 use Rattle.mdcc_messages.specs.Spelling.{message_bytes}
 use Rattle.mdcc_runs.specs.Sending.{address_to, datagrams_sent, message_sent, message_sent_to, messages_sent, next_head}
 use Rattle.mdcc_spelling.proofs.Lengths.{length-message}
 use Rattle.mdcc_wire.specs.Encoding.{encoded, is_no_memory, is_too_long}
 use Rattle.mdcc_wire.specs.declared.encoding.EncodeFault.{EncodeFault}
+use Rattle.mdcc_outbox.specs.Sends.{IsPast, IsSending}
 use Rattle.mdcc_runs.specs.Sites.{Doing, Site, after_acts, and_then, doing}
 
 assoc : (acts : List Act) (middle : Doing) (end : Site → Doing)
@@ -90,3 +94,66 @@ is_long x is = elim (cases_Bool (is_too_long x)) [
 
 pub short_bytes : (x : Envelope) → is_too_long x ≡ false → length (message_bytes x) ≤ message_limit
 short_bytes x short = omega (ltb-false 2097152 (message_length x) short, length-message x, arith)
+
+-- ---- serials
+
+some_indices : (n : ℕ) → 1 ≤ n → (m : ℕ) × (n ≡ suc m)
+some_indices zero some = absurd (omega (some, arith))
+some_indices (suc m) some = (m, refl)
+
+pub datagrams_first : (head : FragHead) (to : Address) (bytes : List ℕ) → 1 ≤ length bytes → IsSending (datagrams_sent head to bytes)
+datagrams_first head to bytes some =
+    let many : 1 ≤ count (length bytes) = omega (some, arith) in
+    let next = some_indices (count (length bytes)) many in
+    subst (λ (n : ℕ). IsSending (map (λ index. Act.Send head.sender to (datagram head index bytes) (Ok tt)) (range_with_len 0 n))) (sym next.1) tt
+
+bytes_some : (x : Envelope) → 1 ≤ length (message_bytes x)
+bytes_some x = let e = length-message x in omega (e, arith)
+
+-- a message that is sent begins with a datagram
+pub sending_first : (config : Config) (site : Site) (x : Envelope) (to : Address) → address_to config x.to ≡ Some to → is_too_long x ≡ false → IsSending (message_sent config site x).acts
+sending_first config site x to there short =
+    subst (λ (d : Doing). IsSending d.acts) (sym (is_sent config site x to there short)) (datagrams_first (next_head site) to (message_bytes x) (bytes_some x))
+
+pub sending_past : (config : Config) (site : Site) (x : Envelope) (to : Address) → address_to config x.to ≡ Some to → is_too_long x ≡ false → site.sent ≡ 2 ^ 32 - 1 → IsPast (message_sent config site x).site
+sending_past config site x to there short last =
+    subst (λ (d : Doing). IsPast d.site) (sym (is_sent config site x to there short)) (let all : 2 ^ 32 ≤ site.sent + 1 = omega (last, arith) in all)
+
+sent_later : (site : Site) (x : Envelope) (to : Option Address) → site.sent ≤ (message_sent_to site x to).site.sent
+sent_later site x None = omega arith
+sent_later site x (Some to) = by_length (nat_lt message_limit (message_length x))
+  where
+    by_length : (long : Bool) → site.sent ≤ (cond long (doing (Act.Unsent ∷ []) site) (doing (datagrams_sent (next_head site) to (message_bytes x)) (record site { sent = site.sent + 1 }))).site.sent
+    by_length true = omega arith
+    by_length false = omega arith
+
+pub messages_later : (config : Config) (site : Site) (xs : List Envelope) → site.sent ≤ (messages_sent config site xs).site.sent
+messages_later config site [] = omega arith
+messages_later config site (x ∷ xs) =
+    let here = sent_later site x (address_to config x.to) in
+    let rest = messages_later config (message_sent config site x).site xs in
+    omega (here, rest, arith)
+
+pub sending_behind : (acts more : List Act) → IsSending acts → IsSending (acts ++ more)
+sending_behind (Act.Send from to bytes answer ∷ acts) more first = first
+sending_behind [] more first = absurd first
+sending_behind (Act.Bind at address ∷ acts) more first = absurd first
+sending_behind (Act.Receive at gave ∷ acts) more first = absurd first
+sending_behind (Act.Append centre fact ∷ acts) more first = absurd first
+sending_behind (Act.Print line ∷ acts) more first = absurd first
+sending_behind (Act.Stepped ∷ acts) more first = absurd first
+sending_behind (Act.Dropped ∷ acts) more first = absurd first
+sending_behind (Act.Unsent ∷ acts) more first = absurd first
+
+-- what is past at a message is so behind all
+pub past_behind : (config : Config) (site : Site) (xs : List Envelope) (x : Envelope) (ys : List Envelope)
+    → IsPast (message_sent config (messages_sent config site xs).site x).site → IsPast (messages_sent config site (xs ++ x ∷ ys)).site
+past_behind config site xs x ys past =
+    let later = messages_later config (message_sent config (messages_sent config site xs).site x).site ys in
+    subst (λ (d : Doing). IsPast d.site) (sym (messages_split config site xs (x ∷ ys))) (let all : 2 ^ 32 ≤ (messages_sent config (message_sent config (messages_sent config site xs).site x).site ys).site.sent = omega (past, later, arith) in all)
+
+-- ---- what holds at an error holds at that one
+
+pub at_error : {T E P : Type 0} (r : Result T E) (e : E) → OnErr r P → IsErrOf r e → P
+at_error (Ok x) e p is = absurd (cc)
+at_error (Err f) e p is = p

@@ -1,5 +1,5 @@
 -- What sending does.
-use Rattle.std.specs.Prelude.{List, Ok, Option, map, ℕ, ◌+◌, ◌++◌, ◌≡◌, ◌≤◌}
+use Rattle.std.specs.Prelude.{List, Ok, Option, map, ⊤, ℕ, ◌+◌, ◌++◌, ◌^◌, ◌∷◌, ◌≡◌, ◌≤◌}
 use Rattle.std.specs.List.{range_with_len}
 use Rattle.mdcc_base.specs.Causes.{Rose}
 use Rattle.mdcc_base.specs.declared.outside.Address.{Address}
@@ -17,6 +17,15 @@ pub record IsSenderOf (sender : Sender) (site : Site) : Type 0 where
   pub centre : sender.centre ≡ site.centre
   pub epoch : sender.epoch ≡ epoch_of site.node.facts
   pub sent : sender.sent ≡ site.sent
+
+-- a datagram comes first
+abbrev pub IsSending : List Act → Type 0
+IsSending (Act.Send from to bytes answer ∷ acts) = ⊤
+IsSending _ = ⊥
+
+-- a centre would send more messages in its epoch than there are serials
+abbrev pub IsPast : Site → Type 0
+IsPast site = 2 ^ 32 ≤ site.sent
 
 -- so many of the datagrams of a message, from the first on
 abbrev pub first_datagrams : FragHead → Address → List ℕ → ℕ → List Act

@@ -4,7 +4,7 @@ ghost use Rattle.std.specs.List.{AllByRecursion};
 ghost use Rattle.mdcc_config.specs.IsConfig.{IsConfig};
 ghost use Rattle.mdcc_frag.specs.Datagrams.{message_limit};
 ghost use Rattle.mdcc_messages.specs.Spelling.{message_bytes};
-ghost use Rattle.mdcc_outbox.specs.Sends.{Hands, IsSenderOf, Sends};
+ghost use Rattle.mdcc_outbox.specs.Sends.{Hands, IsPast, IsSenderOf, IsSending, Sends};
 ghost use Rattle.mdcc_outbox.specs.Shows.{counted};
 ghost use Rattle.mdcc_outbox.specs.declared.fault.SendFault.{SendFault as ASendFault};
 ghost use Rattle.mdcc_protocol.specs.Belongs.{is_centre};
@@ -147,6 +147,8 @@ impl Sender {
             → OnOk result (Sends L.calls L.lost L.faults (message_sent config.now site envelope.now).acts [] link.old link.new self.old.lost self.new.lost) }
         ensures next { (site : Site) → IsSenderOf self.old site → OnOk result (IsSenderOf self.new (message_sent config.now site envelope.now).site) }
         ensures last { IsErrOf result ASendFault.Serial → self.old.sent ≡ 2 ^ 32 - 1 }
+        ensures first { (site : Site) → IsSenderOf self.old site → IsErrOf result ASendFault.Serial → IsSending (message_sent config.now site envelope.now).acts }
+        ensures past { (site : Site) → IsSenderOf self.old site → IsErrOf result ASendFault.Serial → IsPast (message_sent config.now site envelope.now).site }
         ensures unsent { OnErr result (link.new ≡ link.old) }
         ensures same { OnErr result (self.new ≡ self.old) }
     {
@@ -181,6 +183,9 @@ impl Sender {
         ensures begun { (site : Site) → IsSenderOf self.old site
             → OnErr result ((rest : List Act) × Sends L.calls L.lost L.faults (messages_sent config.now site envelopes.now).acts rest link.old link.new self.old.lost self.new.lost) }
         ensures last { IsErrOf result ASendFault.Serial → self.new.sent ≡ 2 ^ 32 - 1 }
+        ensures serial { (site : Site) → IsSenderOf self.old site → IsErrOf result ASendFault.Serial
+            → (rest : List Act) × IsSending rest × Sends L.calls L.lost L.faults (messages_sent config.now site envelopes.now).acts rest link.old link.new self.old.lost self.new.lost }
+        ensures past { (site : Site) → IsSenderOf self.old site → IsErrOf result ASendFault.Serial → IsPast (messages_sent config.now site envelopes.now).site }
     {
         for envelope in envelopes {
             self.send(alloc, config, link, envelope)?;

@@ -1,6 +1,6 @@
 use Rattle.std.proofs.Common.{◌++◌, ◌≤◌, [], List, ℕ, sym, ◌∙◌, ap, subst, length}
 use Rattle.mdcc_messages.specs.Spelling.{message_bytes}
-use Rattle.mdcc_outbox.proofs.Messages.{exact_fault, is_long, not_long, short_bytes, too_long, without_address}
+use Rattle.mdcc_outbox.proofs.Messages.{at_error, exact_fault, is_long, not_long, sending_first, sending_past, short_bytes, too_long, without_address}
 use Rattle.mdcc_outbox.proofs.Sent.{one_unsent}
 use Rattle.mdcc_outbox.specs.Sends.{Sends}
 use Rattle.mdcc_outbox.specs.declared.sending.Sender.{Sender}
@@ -27,3 +27,12 @@ returns-in-Err-TooLong-clause-sent g c site is =
     subst (λ (d : Doing). Sends g.L.Link.calls g.L.Link.lost g.L.Link.faults d.acts [] c.args.link.now c.args.link.now c.args.self.now.lost c.lose-in-Err-TooLong.new.self.lost)
     (sym (too_long c.args.config.now site c.args.envelope.now c.in-Some.to (sym c.address_to.ensures ∙ c.in-Some.is) (is_long c.args.envelope.now exact)))
     (one_unsent g.L.Link.calls g.L.Link.lost g.L.Link.faults c.args.link.now c.args.self.now.lost c.lose-in-Err-TooLong.new.self.lost (ap (λ (s : Sender). s.lost) c.lose-in-Err-TooLong.ensures))
+
+pub returns-in-Ok-clause-first : goal.returns-in-Ok-clause-first
+returns-in-Ok-clause-first g c site is last =
+    sending_first c.args.config.now site c.args.envelope.now c.in-Some.to (sym c.address_to.ensures ∙ c.in-Some.is) (not_long c.args.envelope.now c.in-Ok.field-0 c.in-Ok.ensures.exact)
+
+pub returns-in-Ok-clause-past : goal.returns-in-Ok-clause-past
+returns-in-Ok-clause-past g c site is last =
+    sending_past c.args.config.now site c.args.envelope.now c.in-Some.to (sym c.address_to.ensures ∙ c.in-Some.is) (not_long c.args.envelope.now c.in-Ok.field-0 c.in-Ok.ensures.exact)
+    (sym is.sent ∙ at_error c.send_bytes.result _ c.send_bytes.ensures.last last)

@@ -1,0 +1,14 @@
+pub mod Acting
+pub mod Answered
+pub mod Drafted
+pub mod Going
+pub mod Joined
+pub mod Logged
+pub mod Noted
+pub mod Out
+pub mod Outlets
+pub mod Owns
+pub mod Parts
+pub mod Received
+pub mod Sent
+pub mod Turned

@@ -1,0 +1,283 @@
+-- What logging a fact does to the log of a centre.
+use Rattle.std.proofs.Common.{◌≡◌, ℕ, ◌+◌, ◌≤◌, ◌<◌, ◌⊎◌, inl, inr, List, [], ◌∷◌, ◌++◌, Some, None, Result, Ok, refl, sym, ◌∙◌, ap, subst, arith, true, IsTrue, ◌==◌}
+use Rattle.std.proofs.lemmas.Bool.{cases_eq}
+use Rattle.std.proofs.lemmas.Bool.Decides.{nat_tests}
+use Rattle.mdcc_areas.specs.Area.{AreaLog, generation_of, payloads}
+use Rattle.mdcc_areas.specs.AtRest.{IsAtRest}
+use Rattle.mdcc_areas.specs.Both.{KeepsBut, RoseAtOne}
+use Rattle.mdcc_areas.specs.Crash.{CurrentIsRead, IsCurrent, IsDead, IsIdle, IsOlder, ReadsAsEither, payloads_by}
+use Rattle.mdcc_areas.specs.Frames.{IsSettled, IsSpare, OpenAreas, other_of, place_of}
+use Rattle.mdcc_areas.specs.declared.fault.LogFault.{LogFault}
+use Rattle.mdcc_disks.specs.Disks.{Disk}
+use Rattle.mdcc_messages.specs.Spelling.{fact_bytes}
+use Rattle.mdcc_messages.specs.declared.facts.Fact.{Fact}
+use Rattle.mdcc_restart.specs.Logged.{logged}
+use Rattle.mdcc_site.specs.LogEffects.{FailsToLog, HasLogged, log_fault_of}
+use Rattle.mdcc_site.specs.Logs.{MayHaveFacts}
+use Rattle.mdcc_site.specs.Moments.{DiskPasses, KeepsOthers}
+use Rattle.mdcc_site.specs.SiteState.{HoldsLog, OpenLog}
+use Rattle.mdcc_site.specs.declared.fault.ServeFault.{ServeFault}
+
+pub same_is : (n : ℕ) → (n == n) ≡ true
+same_is n = grind (arith, nat_tests)
+
+-- ---- where the areas lie
+
+pub record Lies (log : OpenAreas) (area here there : ℕ) : Type 0 where
+  pub area_is : log.area ≡ area
+  pub here_is : place_of log.centre log.area ≡ here
+  pub there_is : place_of log.centre (other_of log.area) ≡ there
+
+pub at_places : (log : OpenAreas) (centre : ℕ) → log.area ≤ 1 → log.centre ≡ centre → Lies log 0 centre (centre + 16) ⊎ Lies log 1 (centre + 16) centre
+at_places log centre range of = elim (cases_eq log.area 0) [
+  | inl is ↦
+      let other : other_of log.area ≡ 1 = ap other_of is in
+      inl (record { area_is = is; here_is = omega (is, of, arith); there_is = omega (other, of, arith) })
+  | inr isnt ↦
+      let one : log.area ≡ 1 = only_one log.area range isnt in
+      let other : other_of log.area ≡ 0 = ap other_of one in
+      inr (record { area_is = one; here_is = omega (one, of, arith); there_is = omega (other, of, arith) })
+]
+  where
+    only_one : (n : ℕ) → n ≤ 1 → (n ≡ 0 → ⊥) → n ≡ 1
+    only_one n few isnt = elim (cases_eq n 1) [
+      | inl e ↦ e
+      | inr other ↦ absurd (isnt (omega (few, other, arith)))
+    ]
+
+module _ {D : Type 0} (disk : D → ℕ → Disk) (may_leave : D → ℕ → List ℕ → Type 0) where
+  -- ---- disks that nothing was done to
+
+  pub disks_same : (disks : D) → DiskPasses disk may_leave disks disks
+  disks_same disks = record { told = λ p. refl; faults = λ p. omega arith }
+
+  pub others_same : (centre : ℕ) (disks : D) → KeepsOthers disk may_leave centre disks disks
+  others_same centre disks = record { others = λ p one two. refl; crash = λ p one two c left. left }
+
+  -- ---- a log that is full, or for which there is no memory
+
+  pub unlogged : (disks : D) (log : OpenAreas) (centre : ℕ) (facts : List Fact) (fact : Fact) (fault : ServeFault) → OpenLog disk may_leave disks log centre facts
+      → (fault ≡ ServeFault.Memory) ⊎ (fault ≡ ServeFault.Log centre LogFault.LogFull)
+      → FailsToLog disk may_leave centre facts (Some fact) fault disks disks
+  unlogged disks log centre facts fact fault stands (inl is) = rw is (record {
+    comes = tt;
+    no_boot = tt;
+    cause = tt;
+    log = stands.left;
+    passes = disks_same disks;
+    others = others_same centre disks;
+  })
+  unlogged disks log centre facts fact fault stands (inr is) = rw is (record {
+    comes = refl;
+    no_boot = tt;
+    cause = tt;
+    log = stands.left;
+    passes = disks_same disks;
+    others = others_same centre disks;
+  })
+
+module _ {D : Type 0} (disk : D → ℕ → Disk) (may_leave : D → ℕ → List ℕ → Type 0) (current_is_read : CurrentIsRead) where
+  -- ---- what a crash leaves of a log at rest
+
+  idle_is : (log : OpenAreas) (bytes other : List ℕ) (area : AreaLog) → log.generation ≡ generation_of area.head → IsDead bytes ⊎ IsOlder log.generation bytes → other ≡ bytes → IsIdle area other
+  idle_is log bytes other area is (inl dead) same = inl (subst IsDead (sym same) dead)
+  idle_is log bytes other area is (inr older) same = inr (inl (subst (λ (n : ℕ). IsOlder n other) is (subst (IsOlder log.generation) (sym same) older)))
+
+  rested_by : (disks : D) (log : OpenAreas) (all : List (List ℕ)) → (rest : IsAtRest disk may_leave disks log all) → (current other : List ℕ)
+      → may_leave disks (place_of log.centre log.area) current → may_leave disks (place_of log.centre (other_of log.area)) other → payloads_by log.area current other ≡ Ok all
+  rested_by disks log all rest current other left left_other =
+      let same = rest.in_use.durable current left ∙ rest.in_use.file in
+      let idle = idle_is log (disk disks (place_of log.centre (other_of log.area))).bytes other rest.log rest.in_use.generation rest.spare.idle (rest.spare.durable other left_other) in
+      let is : IsCurrent log.area rest.log current = record { valid = rest.in_use.valid; file = inr ([], same) } in
+      current_is_read log.area rest.log current other is idle ∙ ap (λ (ps : List (List ℕ)). let ok : Result (List (List ℕ)) ℕ = Ok ps in ok) (sym rest.payloads_are)
+
+  pub rested : (disks : D) (log : OpenAreas) (centre : ℕ) (all : List (List ℕ)) → log.area ≤ 1 → log.centre ≡ centre → IsAtRest disk may_leave disks log all
+      → (first second : List ℕ) → may_leave disks centre first → may_leave disks (centre + 16) second → payloads first second ≡ Ok all
+  rested disks log centre all range of rest first second left left_second = elim (at_places log centre range of) [
+    | inl lies ↦
+        sym (ap (λ (n : ℕ). payloads_by n first second) lies.area_is)
+        ∙ rested_by disks log all rest first second (subst (λ (p : ℕ). may_leave disks p first) (sym lies.here_is) left) (subst (λ (p : ℕ). may_leave disks p second) (sym lies.there_is) left_second)
+    | inr lies ↦
+        sym (ap (λ (n : ℕ). payloads_by n second first) lies.area_is)
+        ∙ rested_by disks log all rest second first (subst (λ (p : ℕ). may_leave disks p second) (sym lies.here_is) left_second) (subst (λ (p : ℕ). may_leave disks p first) (sym lies.there_is) left)
+  ]
+
+  -- the areas of a log tell their bytes where its centre does
+  pub told_both : (disks : D) (log : OpenAreas) (centre : ℕ) (facts : List Fact) → OpenLog disk may_leave disks log centre facts → log.area ≤ 1
+      → IsTrue (disk disks centre).told → IsTrue (disk disks (place_of log.centre log.area)).told × IsTrue (disk disks (place_of log.centre (other_of log.area))).told
+  told_both disks log centre facts stands range told =
+      let other : IsTrue (disk disks (centre + 16)).told = subst IsTrue (sym stands.alike) told in
+      elim (at_places log centre range stands.of) [
+        | inl lies ↦ (subst (λ (p : ℕ). IsTrue (disk disks p).told) (sym lies.here_is) told, subst (λ (p : ℕ). IsTrue (disk disks p).told) (sym lies.there_is) other)
+        | inr lies ↦ (subst (λ (p : ℕ). IsTrue (disk disks p).told) (sym lies.here_is) other, subst (λ (p : ℕ). IsTrue (disk disks p).told) (sym lies.there_is) told)
+      ]
+
+  told_of : (disks : D) (log : OpenAreas) (centre : ℕ) (facts : List Fact) → OpenLog disk may_leave disks log centre facts → log.area ≤ 1
+      → (IsTrue (disk disks (place_of log.centre log.area)).told → IsTrue (disk disks centre).told) × (IsTrue (disk disks (place_of log.centre (other_of log.area))).told → IsTrue (disk disks centre).told)
+  told_of disks log centre facts stands range = elim (at_places log centre range stands.of) [
+    | inl lies ↦ (λ told. subst (λ (p : ℕ). IsTrue (disk disks p).told) lies.here_is told, λ told. subst IsTrue stands.alike (subst (λ (p : ℕ). IsTrue (disk disks p).told) lies.there_is told))
+    | inr lies ↦ (λ told. subst IsTrue stands.alike (subst (λ (p : ℕ). IsTrue (disk disks p).told) lies.here_is told), λ told. subst (λ (p : ℕ). IsTrue (disk disks p).told) lies.there_is told)
+  ]
+
+  -- what an append asks of the areas
+  pub settled_there : (disks : D) (log : OpenAreas) (centre : ℕ) (facts : List Fact) → OpenLog disk may_leave disks log centre facts → log.area ≤ 1
+      → IsTrue (disk disks (place_of log.centre log.area)).told
+      → IsSettled log (disk disks (place_of log.centre log.area)).bytes (may_leave disks (place_of log.centre log.area))
+  settled_there disks log centre facts stands range told =
+      let rest = stands.at_rest ((told_of disks log centre facts stands range).0 told) in (rest.log, rest.in_use)
+
+  pub spare_there : (disks : D) (log : OpenAreas) (centre : ℕ) (facts : List Fact) → OpenLog disk may_leave disks log centre facts → log.area ≤ 1
+      → IsTrue (disk disks (place_of log.centre (other_of log.area))).told
+      → IsSpare log (disk disks (place_of log.centre (other_of log.area))).bytes (may_leave disks (place_of log.centre (other_of log.area)))
+  spare_there disks log centre facts stands range told =
+      (stands.at_rest ((told_of disks log centre facts stands range).1 told)).spare
+
+  -- ---- an append
+
+  module _ (moment : D → ℕ) (left_since : D → ℕ → ℕ → List ℕ → Type 0) (old new : D) where
+    told_at : (one two : ℕ) → KeepsBut disk may_leave moment left_since old new one two → (p : ℕ) → (disk new p).told ≡ (disk old p).told
+    told_at one two keeps p = elim (cases_eq p one) [
+      | inl is ↦ rw is keeps.told_one
+      | inr isnt ↦ elim (cases_eq p two) [
+        | inl is ↦ rw is keeps.told_two
+        | inr isnt_two ↦ ap (λ (d : Disk). d.told) (keeps.others p isnt isnt_two)
+      ]
+    ]
+
+    faults_at : (one two : ℕ) → KeepsBut disk may_leave moment left_since old new one two → (p : ℕ) → (disk old p).faults ≤ (disk new p).faults
+    faults_at one two keeps p = elim (cases_eq p one) [
+      | inl is ↦ rw is keeps.faults_one
+      | inr isnt ↦ elim (cases_eq p two) [
+        | inl is ↦ rw is keeps.faults_two
+        | inr isnt_two ↦ (let same = ap (λ (d : Disk). d.faults) (keeps.others p isnt isnt_two) in omega (same, arith))
+      ]
+    ]
+
+    pub disks_pass : (one two : ℕ) → KeepsBut disk may_leave moment left_since old new one two → DiskPasses disk may_leave old new
+    disks_pass one two keeps = record { told = told_at one two keeps; faults = faults_at one two keeps }
+
+    module _ (log : OpenAreas) (centre : ℕ) (range : log.area ≤ 1) (of : log.centre ≡ centre)
+        (keeps : KeepsBut disk may_leave moment left_since old new (place_of log.centre log.area) (place_of log.centre (other_of log.area)))
+      where
+        pub others_keep : KeepsOthers disk may_leave centre old new
+        others_keep = elim (at_places log centre range of) [
+          | inl lies ↦ record {
+            others = λ p one two. keeps.others p (λ is. one (is ∙ lies.here_is)) (λ is. two (is ∙ lies.there_is));
+            crash = λ p one two. keeps.crash p (λ is. one (is ∙ lies.here_is)) (λ is. two (is ∙ lies.there_is));
+          }
+          | inr lies ↦ record {
+            others = λ p one two. keeps.others p (λ is. two (is ∙ lies.here_is)) (λ is. one (is ∙ lies.there_is));
+            crash = λ p one two. keeps.crash p (λ is. two (is ∙ lies.here_is)) (λ is. one (is ∙ lies.there_is));
+          }
+        ]
+
+        pub passes_then_told : (disk new (centre + 16)).told ≡ (disk new centre).told → (disk old (centre + 16)).told ≡ (disk old centre).told
+        passes_then_told alike = sym (told_at _ _ keeps (centre + 16)) ∙ (alike ∙ told_at _ _ keeps centre)
+
+        -- where a call of the disk failed
+        pub rose_there : RoseAtOne (disk old (place_of log.centre log.area)) (disk new (place_of log.centre log.area)) (disk old (place_of log.centre (other_of log.area))) (disk new (place_of log.centre (other_of log.area)))
+            → RoseAtOne (disk old centre) (disk new centre) (disk old (centre + 16)) (disk new (centre + 16))
+        rose_there rose = elim (at_places log centre range of) [
+          | inl lies ↦ rw (lies.here_is, lies.there_is) at rose
+          | inr lies ↦ turned (rw (lies.here_is, lies.there_is) at rose)
+        ]
+          where
+            turned : RoseAtOne (disk old (centre + 16)) (disk new (centre + 16)) (disk old centre) (disk new centre) → RoseAtOne (disk old centre) (disk new centre) (disk old (centre + 16)) (disk new (centre + 16))
+            turned (inl here) = inr here
+            turned (inr there) = inl there
+
+        -- the log has the new fact
+        pub appended_stands : (more : OpenAreas) (facts : List Fact) (fact : Fact) (payload : List ℕ) → payload ≡ fact_bytes fact → OpenLog disk may_leave old log centre facts
+            → ((all : List (List ℕ)) → IsTrue (disk old (place_of log.centre log.area)).told → IsTrue (disk old (place_of log.centre (other_of log.area))).told
+            → IsAtRest disk may_leave old log all → IsAtRest disk may_leave new more (all ++ payload ∷ []))
+            → more.tail < more.every → (more.centre ≡ log.centre) × (more.every ≡ log.every)
+            → HasLogged disk may_leave centre facts (Some fact) old new more
+        appended_stands more facts fact payload spells stands acknowledged few same = record {
+          stands = record {
+            open_log = record {
+              of = same.0 ∙ of;
+              every = same.1 ∙ stands.every;
+              alike = told_at _ _ keeps (centre + 16) ∙ (stands.alike ∙ sym (told_at _ _ keeps centre));
+              at_rest = λ told.
+                  let before = subst IsTrue (told_at _ _ keeps centre) told in
+                  let both = told_both old log centre facts stands range before in
+                  subst (λ (bytes : List ℕ). IsAtRest disk may_leave new more (logged facts ++ bytes ∷ [])) spells (acknowledged (logged facts) both.0 both.1 (stands.at_rest before));
+              left = λ told first second here there.
+                  let before = subst IsTrue (told_at _ _ keeps centre) told in
+                  let both = told_both old log centre facts stands range before in
+                  let rest = acknowledged (logged facts) both.0 both.1 (stands.at_rest before) in
+                  inl (rested new more centre (logged facts ++ payload ∷ []) rest.range (same.0 ∙ of) rest first second here there
+                  ∙ ap (λ (bytes : List ℕ). let ok : Result (List (List ℕ)) ℕ = Ok (logged facts ++ bytes ∷ []) in ok) spells);
+            };
+            few = (let every = same.1 ∙ stands.every in subst (λ (n : ℕ). more.tail < n) every few);
+          };
+          passes = disks_pass _ _ keeps;
+          others = others_keep;
+        }
+
+        -- whatever a crash leaves then, the log has its facts, or those and the new one
+        may_have : (facts : List Fact) (fact : Fact) (payload : List ℕ) → payload ≡ fact_bytes fact → OpenLog disk may_leave old log centre facts
+            → ((disks : D) (p t : ℕ) (c : List ℕ) → t ≤ moment disks → may_leave disks p c → left_since disks p t c)
+            → ((all : List (List ℕ)) (current spare : List ℕ) → IsTrue (disk old (place_of log.centre log.area)).told → IsTrue (disk old (place_of log.centre (other_of log.area))).told
+            → IsAtRest disk may_leave old log all
+            → left_since new (place_of log.centre log.area) (moment old) current → left_since new (place_of log.centre (other_of log.area)) (moment old) spare
+            → ReadsAsEither all payload (payloads_by log.area current spare))
+            → IsTrue (disk old centre).told → MayHaveFacts disk may_leave new centre facts (Some fact)
+        may_have facts fact payload spells stands counts_now reads told first second left left_second =
+            let both = told_both old log centre facts stands range told in
+            let since : (p : ℕ) (c : List ℕ) → may_leave new p c → left_since new p (moment old) c = λ p c has. counts_now new p (moment old) c keeps.later has in
+            elim (at_places log centre range of) [
+              | inl lies ↦ either first second (subst (λ (n : ℕ). ReadsAsEither (logged facts) payload (payloads_by n first second)) lies.area_is
+                  (reads (logged facts) first second both.0 both.1 (stands.at_rest told)
+                  (since _ first (subst (λ (p : ℕ). may_leave new p first) (sym lies.here_is) left)) (since _ second (subst (λ (p : ℕ). may_leave new p second) (sym lies.there_is) left_second))))
+              | inr lies ↦ either first second (subst (λ (n : ℕ). ReadsAsEither (logged facts) payload (payloads_by n second first)) lies.area_is
+                  (reads (logged facts) second first both.0 both.1 (stands.at_rest told)
+                  (since _ second (subst (λ (p : ℕ). may_leave new p second) (sym lies.here_is) left_second)) (since _ first (subst (λ (p : ℕ). may_leave new p first) (sym lies.there_is) left))))
+            ]
+          where
+            either : (one two : List ℕ) → ReadsAsEither (logged facts) payload (payloads one two) → (payloads one two ≡ Ok (logged facts)) ⊎ (payloads one two ≡ Ok (logged (fact ∷ facts)))
+            either one two (inl read) = inl read
+            either one two (inr read) = inr (read ∙ ap (λ (bytes : List ℕ). let ok : Result (List (List ℕ)) ℕ = Ok (logged facts ++ bytes ∷ []) in ok) spells)
+
+        pub append_fails : (fault : LogFault) (facts : List Fact) (fact : Fact) (payload : List ℕ) → payload ≡ fact_bytes fact → OpenLog disk may_leave old log centre facts
+            → ((disks : D) (p t : ℕ) (c : List ℕ) → t ≤ moment disks → may_leave disks p c → left_since disks p t c)
+            → ((all : List (List ℕ)) (current spare : List ℕ) → IsTrue (disk old (place_of log.centre log.area)).told → IsTrue (disk old (place_of log.centre (other_of log.area))).told
+            → IsAtRest disk may_leave old log all
+            → left_since new (place_of log.centre log.area) (moment old) current → left_since new (place_of log.centre (other_of log.area)) (moment old) spare
+            → ReadsAsEither all payload (payloads_by log.area current spare))
+            → (fault ≡ LogFault.DiskFault → RoseAtOne (disk old (place_of log.centre log.area)) (disk new (place_of log.centre log.area)) (disk old (place_of log.centre (other_of log.area))) (disk new (place_of log.centre (other_of log.area))))
+            → (fault ≡ LogFault.LogFull → new ≡ old) → ((n : ℕ) → fault ≡ LogFault.NotALog n → IsTrue (disk old (place_of log.centre log.area)).told → ⊥) → (fault ≡ LogFault.Memory → new ≡ old)
+            → FailsToLog disk may_leave centre facts (Some fact) (log_fault_of centre fault) old new
+        append_fails LogFault.DiskFault facts fact payload spells stands counts_now reads rose full a_log memory = record {
+          comes = refl;
+          no_boot = tt;
+          cause = rose_there (rose refl);
+          log = λ told. rw (same_is centre) (may_have facts fact payload spells stands counts_now reads told);
+          passes = disks_pass _ _ keeps;
+          others = others_keep;
+        }
+        append_fails LogFault.LogFull facts fact payload spells stands counts_now reads rose full a_log memory =
+            subst (λ (d : D). FailsToLog disk may_leave centre facts (Some fact) (ServeFault.Log centre LogFault.LogFull) old d) (sym (full refl)) (unlogged disk may_leave old log centre facts fact _ stands (inr refl))
+        append_fails LogFault.Memory facts fact payload spells stands counts_now reads rose full a_log memory =
+            subst (λ (d : D). FailsToLog disk may_leave centre facts (Some fact) ServeFault.Memory old d) (sym (memory refl)) (unlogged disk may_leave old log centre facts fact _ stands (inl refl))
+        append_fails (LogFault.NotALog n) facts fact payload spells stands counts_now reads rose full a_log memory = record {
+          comes = λ told. a_log n refl (told_both old log centre facts stands range told).0;
+          no_boot = tt;
+          cause = tt;
+          log = λ told. absurd (a_log n refl (told_both old log centre facts stands range told).0);
+          passes = disks_pass _ _ keeps;
+          others = others_keep;
+        }
+
+-- where a step has no fact
+pub nothing_logged : {D : Type 0} (disk : D → ℕ → Disk) (may_leave : D → ℕ → List ℕ → Type 0) (disks : D) (log : OpenAreas) (centre : ℕ) (facts : List Fact) → HoldsLog disk may_leave disks log centre facts
+    → HasLogged disk may_leave centre facts None disks disks log
+nothing_logged disk may_leave disks log centre facts stands = record {
+  stands = stands;
+  passes = record { told = λ p. refl; faults = λ p. omega arith };
+  others = record { others = λ p one two. refl; crash = λ p one two c left. left };
+}
+
+pub same_fault : {D : Type 0} (disk : D → ℕ → Disk) (may_leave : D → ℕ → List ℕ → Type 0) (centre : ℕ) (facts : List Fact) (fact : Fact) (result fault : ServeFault) (old new : D) → result ≡ fault
+    → FailsToLog disk may_leave centre facts (Some fact) fault old new → FailsToLog disk may_leave centre facts (Some fact) result old new
+same_fault disk may_leave centre facts fact result fault old new is fails = rw is fails

@@ -1,0 +1,130 @@
+-- What a centre notes beside what it does.
+use Rattle.std.proofs.Common.{◌≡◌, ℕ, [], Option, Some, None, Result, Bool, refl, sym, ◌∙◌, ap, subst}
+use Rattle.std.specs.Prelude.{IfSome}
+use Rattle.mdcc_base.specs.declared.identifiers.TxId.{TxId}
+use Rattle.mdcc_base.specs.declared.key.Key.{Key}
+use Rattle.mdcc_messages.specs.declared.messages.ClientAnswer.{ClientAnswer}
+use Rattle.mdcc_option.specs.declared.cluster.Cluster.{Cluster}
+use Rattle.mdcc_option.specs.declared.faults.BeginFault.{BeginFault}
+use Rattle.mdcc_rules.specs.Steps.{NodeStep}
+use Rattle.mdcc_rules.specs.declared.node.Answer.{Answer}
+use Rattle.mdcc_runs.specs.Clients.{Clients, known_of, with_begun}
+use Rattle.mdcc_runs.specs.Sending.{answer_to}
+use Rattle.mdcc_runs.specs.Sites.{Doing, Site}
+use Rattle.mdcc_runs.specs.Steps.{begin_noted, begin_told, end_told, ends_told, reading_told}
+use Rattle.mdcc_runs.specs.declared.clients.Begun.{Begun}
+use Rattle.mdcc_site.proofs.Going.{acts_then}
+use Rattle.mdcc_site.proofs.Joined.{others_none}
+use Rattle.mdcc_site.proofs.Parts.{moved}
+use Rattle.mdcc_site.specs.Moments.{Outside}
+use Rattle.mdcc_site.specs.SiteState.{CanBeSent, Goes, HasStepped, HoldsLog, Place, begun_in, place, refused_fault, refused_key}
+use Rattle.mdcc_site.specs.declared.fault.ServeFault.{ServeFault}
+use Rattle.mdcc_site.specs.declared.site.Site.{Site as TheSite}
+
+-- the sites differ in their clients alone
+pub record OnlyClients (site noted : Site) : Type 0 where
+  pub centre : noted.centre ≡ site.centre
+  pub node : noted.node ≡ site.node
+  pub sent : noted.sent ≡ site.sent
+  pub own : noted.own ≡ site.own
+  pub asked : noted.asked ≡ site.asked
+
+pub noted_only : (site : Site) (serial : ℕ) (answer : Option Answer) → OnlyClients site (begin_noted site serial answer)
+noted_only site serial None = record { centre = refl; node = refl; sent = refl; own = refl; asked = refl }
+noted_only site serial (Some (Answer.Begun tx)) = record { centre = refl; node = refl; sent = refl; own = refl; asked = refl }
+noted_only site serial (Some (Answer.Refused key fault)) = record { centre = refl; node = refl; sent = refl; own = refl; asked = refl }
+noted_only site serial (Some (Answer.Read reading)) = record { centre = refl; node = refl; sent = refl; own = refl; asked = refl }
+
+pub stepped_noted : (cluster : Cluster) (held new : TheSite) (site noted : Site) (made : NodeStep) → OnlyClients site noted → new ≡ record held { clients = new.clients } → new.clients ≡ noted.clients
+    → HasStepped cluster held site made → HasStepped cluster new noted made
+stepped_noted cluster held new site noted made only same clients st = subst (λ (h : TheSite). HasStepped cluster h noted made) (sym same) (record {
+  node = rw (only.centre, only.node) st.node;
+  kept = rw (only.centre, only.node) st.kept;
+  centre = st.centre ∙ sym only.centre;
+  sender = record {
+    centre = st.sender.centre ∙ sym only.centre;
+    epoch = rw only.node st.sender.epoch;
+    sent = st.sender.sent ∙ sym only.sent;
+  };
+  clients = clients;
+  own = st.own ∙ sym only.own;
+  asked = st.asked ∙ sym only.asked;
+  fact = st.fact;
+  sends = st.sends;
+})
+
+module _ {D L O : Type 0} (w : Outside D L O) where
+  -- what the log has is not of the clients
+  pub log_noted : (disks : D) (held new : TheSite) (site noted : Site) → noted.centre ≡ site.centre → noted.node ≡ site.node → new.log ≡ held.log
+      → HoldsLog w.disk w.may_leave disks held.log site.centre site.node.facts → HoldsLog w.disk w.may_leave disks new.log noted.centre noted.node.facts
+  log_noted disks held new site noted centre node same log = rw (centre, node, same) log
+
+  -- it does so from where nothing was done yet
+  pub goes_from : {T : Type 0} (cluster : Cluster) (did : Doing) (b : Place D L O) (r : Result T ServeFault) (site noted : Site) (disks : D) (held new : TheSite) (link : L) (out : O)
+      → noted.centre ≡ site.centre → noted.node ≡ site.node → new.steps ≡ held.steps → new.dropped ≡ held.dropped → new.sender.lost ≡ held.sender.lost
+      → Goes w cluster noted did r (place disks new link out) b → Goes w cluster site did r (place disks held link out) b
+  goes_from cluster did b r site noted disks held new link out centre node steps dropped lost goes =
+      acts_then w cluster site noted [] did (place disks held link out) (place disks new link out) b r centre (ap (λ n. n.facts) node) (moved w disks held new link out steps dropped lost) (others_none w site.centre disks) goes
+
+-- ---- what the client is told can be sent
+
+end_can : (centre : ℕ) (tx : TxId) (is_commit : Bool) (known : Option Begun) → IfSome (end_told centre tx is_commit known) CanBeSent
+end_can centre tx is_commit None = tt
+end_can centre tx is_commit (Some begun) = tt
+
+pub ends_can : (site : Site) (heard : Option (TxId × Bool)) → IfSome (ends_told site heard) CanBeSent
+ends_can site None = tt
+ends_can site (Some (tx, is_commit)) = end_can site.centre tx is_commit (known_of site.clients tx)
+
+pub reading_can : (centre serial : ℕ) (key : Key) (answer : Option Answer) → IfSome (reading_told centre serial key answer) CanBeSent
+reading_can centre serial key None = tt
+reading_can centre serial key (Some (Answer.Read reading)) = tt
+reading_can centre serial key (Some (Answer.Begun tx)) = tt
+reading_can centre serial key (Some (Answer.Refused other fault)) = tt
+
+pub begin_can : (centre serial : ℕ) (answer : Option Answer) → IfSome (begin_told centre serial answer) CanBeSent
+begin_can centre serial None = tt
+begin_can centre serial (Some (Answer.Read reading)) = tt
+begin_can centre serial (Some (Answer.Begun tx)) = tt
+begin_can centre serial (Some (Answer.Refused key fault)) = tt
+
+-- ---- a begin is noted by its transaction
+
+abbrev pub noted_by : Clients → ℕ → Option TxId → Clients
+noted_by clients serial None = clients
+noted_by clients serial (Some tx) = with_begun clients serial tx
+
+pub noted_clients : (site : Site) (serial : ℕ) (answer : Option Answer) (begun : Option TxId) → begun ≡ begun_in answer → (begin_noted site serial answer).clients ≡ noted_by site.clients serial begun
+noted_clients site serial None begun is = rw is refl
+noted_clients site serial (Some (Answer.Begun tx)) begun is = rw is refl
+noted_clients site serial (Some (Answer.Refused key fault)) begun is = rw is refl
+noted_clients site serial (Some (Answer.Read reading)) begun is = rw is refl
+
+-- ---- what the client is told of a begin
+
+pub told_begun : (centre serial : ℕ) (o : Option Answer) (tx : TxId) → begun_in o ≡ Some tx → begin_told centre serial o ≡ Some (answer_to centre serial (ClientAnswer.Begun tx))
+told_begun centre serial None tx e = absurd (cc)
+told_begun centre serial (Some (Answer.Begun other)) tx e = let same : other ≡ tx = cc in ap (λ (t : TxId). Some (answer_to centre serial (ClientAnswer.Begun t))) same
+told_begun centre serial (Some (Answer.Refused key fault)) tx e = absurd (cc)
+told_begun centre serial (Some (Answer.Read reading)) tx e = absurd (cc)
+
+pub told_refused : (centre serial : ℕ) (o : Option Answer) (key : Key) (fault : BeginFault) → refused_key o ≡ Some key → refused_fault o ≡ Some fault → begin_told centre serial o ≡ Some (answer_to centre serial (ClientAnswer.Refused key fault))
+told_refused centre serial None key fault e f = absurd (cc)
+told_refused centre serial (Some (Answer.Begun tx)) key fault e f = absurd (cc)
+told_refused centre serial (Some (Answer.Refused other why)) key fault e f =
+    let same : other ≡ key = cc in
+    let also : why ≡ fault = cc in
+    ap (λ (k : Key). Some (answer_to centre serial (ClientAnswer.Refused k why))) same ∙ ap (λ (w : BeginFault). Some (answer_to centre serial (ClientAnswer.Refused key w))) also
+told_refused centre serial (Some (Answer.Read reading)) key fault e f = absurd (cc)
+
+pub told_keyless : (centre serial : ℕ) (o : Option Answer) → begun_in o ≡ None → refused_key o ≡ None → begin_told centre serial o ≡ None
+told_keyless centre serial None e f = refl
+told_keyless centre serial (Some (Answer.Begun tx)) e f = absurd (cc)
+told_keyless centre serial (Some (Answer.Refused key fault)) e f = absurd (cc)
+told_keyless centre serial (Some (Answer.Read reading)) e f = refl
+
+pub told_faultless : (centre serial : ℕ) (o : Option Answer) → begun_in o ≡ None → refused_fault o ≡ None → begin_told centre serial o ≡ None
+told_faultless centre serial None e f = refl
+told_faultless centre serial (Some (Answer.Begun tx)) e f = absurd (cc)
+told_faultless centre serial (Some (Answer.Refused key fault)) e f = absurd (cc)
+told_faultless centre serial (Some (Answer.Read reading)) e f = refl

@@ -1,0 +1,121 @@
+-- Why a server ends before its last turn, and at which act.
+use Rattle.std.specs.Prelude.{Bool, Err, IsTrue, List, None, Option, Some, [], if◌then◌else◌, nat_le, ⊤, ℕ, ◌-◌, ◌==◌, ◌^◌, ◌∷◌, ◌≡◌, ◌≤◌}
+use Rattle.std.specs.List.{AllByRecursion, list_any}
+use Rattle.mdcc_option.specs.declared.cluster.Cluster.{Cluster}
+use Rattle.mdcc_protocol.specs.Facts.{epoch_of}
+use Rattle.mdcc_rules.specs.Boot.{boot_of}
+use Rattle.mdcc_rules.specs.declared.node.BootFault.{BootFault}
+use Rattle.mdcc_runs.specs.Servers.{Log}
+use Rattle.mdcc_runs.specs.Sites.{Site}
+use Rattle.mdcc_steps.specs.NodeInvariant.{payloads_of}
+use Rattle.mdcc_messages.specs.declared.facts.Fact.{Fact}
+use Rattle.mdcc_areas.specs.declared.fault.LogFault.{LogFault}
+use Rattle.mdcc_link.specs.Link.{LinkCall}
+use Rattle.mdcc_runs.specs.Acts.{Act, printed_by}
+use Rattle.mdcc_outbox.specs.Sends.{IsSending}
+use Rattle.mdcc_outbox.specs.Shows.{failed_call}
+use Rattle.mdcc_outbox.specs.declared.fault.PrintFault.{PrintFault}
+use Rattle.mdcc_outbox.specs.declared.fault.SendFault.{SendFault}
+use Rattle.mdcc_site.specs.declared.fault.ServeFault.{ServeFault}
+
+-- ---- of what else it is
+
+abbrev pub of_send : SendFault → ServeFault
+of_send SendFault.Serial = ServeFault.Serial
+of_send SendFault.Memory = ServeFault.Memory
+
+abbrev pub of_print : PrintFault → ServeFault
+of_print PrintFault.Output = ServeFault.Output
+of_print PrintFault.Memory = ServeFault.Memory
+
+-- ---- which act comes next
+
+abbrev pub IsLogging : ℕ → List Act → Type 0
+IsLogging a (Act.Append centre fact ∷ acts) = centre ≡ a
+IsLogging a _ = ⊥
+
+abbrev pub IsAtLink : List Act → Type 0
+IsAtLink (Act.Bind at address ∷ acts) = ⊤
+IsAtLink (Act.Receive at gave ∷ acts) = ⊤
+IsAtLink _ = ⊥
+
+abbrev pub IsPrinting : List Act → Type 0
+IsPrinting (Act.Print line ∷ acts) = ⊤
+IsPrinting _ = ⊥
+
+-- the act at which a fault comes; there may be no memory at any
+abbrev pub ComesAt : ServeFault → List Act → Type 0
+ComesAt (ServeFault.Disk a) rest = IsLogging a rest
+ComesAt (ServeFault.Log a LogFault.LogFull) rest = IsLogging a rest
+ComesAt (ServeFault.Log a fault) rest = ⊥
+ComesAt (ServeFault.Boot a fault) rest = IsLogging a rest
+ComesAt ServeFault.Link rest = IsAtLink rest
+ComesAt ServeFault.Output rest = IsPrinting rest
+ComesAt ServeFault.Serial rest = IsSending rest
+ComesAt ServeFault.Memory rest = ⊤
+
+-- ---- why a boot is refused, and when no serial is left
+
+-- the epochs are used up, or cells lack for these facts or their boot
+abbrev pub IsBootRefused : Cluster → List Fact → BootFault → Type 0
+IsBootRefused cluster facts BootFault.Epochs = 2 ^ 32 - 1 ≤ epoch_of facts
+IsBootRefused cluster facts (BootFault.Room needed all) = boot_of cluster (payloads_of facts) ≡ Err (BootFault.Room needed all)
+IsBootRefused cluster facts fault = ⊥
+
+-- where the boot of a centre is refused it is by its facts
+abbrev pub BootsRefused : Cluster → List Log → ServeFault → Type 0
+BootsRefused cluster logs (ServeFault.Boot a fault) = AllByRecursion (λ log. log.centre ≡ a → IsBootRefused cluster log.facts fault) logs
+BootsRefused cluster logs fault = ⊤
+
+-- it is no boot
+abbrev pub IsNoBoot : ServeFault → Type 0
+IsNoBoot (ServeFault.Boot a fault) = ⊥
+IsNoBoot fault = ⊤
+
+-- a centre would send more messages in its epoch than there are serials
+abbrev pub is_past_serials : List Site → Bool
+is_past_serials sites = list_any (λ site. nat_le (2 ^ 32) site.sent) sites
+
+abbrev pub SerialsEnd : List Site → ServeFault → Type 0
+SerialsEnd sites ServeFault.Serial = IsTrue (is_past_serials sites)
+SerialsEnd sites fault = ⊤
+
+-- ---- what it may leave
+
+-- the fact that is being appended at a centre
+abbrev pub next_fact : ℕ → List Act → Option Fact
+next_fact a (Act.Append centre fact ∷ acts) = if centre == a then Some fact else None
+next_fact a _ = None
+
+-- where a call of a disk failed, it may be in the log
+abbrev pub in_flight : ServeFault → ℕ → List Act → Option Fact
+in_flight (ServeFault.Disk a) centre rest = next_fact centre rest
+in_flight fault centre rest = None
+
+-- a boot opens the log: where a call of its disk failed then, or there was no memory, no byte is torn to 1
+abbrev pub IsSafeIn : (ℕ → Type 0) → List Act → Type 0
+IsSafeIn tears (Act.Append centre (Fact.Booted epoch) ∷ acts) = tears 1 → ⊥
+IsSafeIn tears _ = ⊤
+
+abbrev pub IsSafeAt : (ℕ → Type 0) → ServeFault → List Act → Type 0
+IsSafeAt tears (ServeFault.Disk a) rest = IsSafeIn tears rest
+IsSafeAt tears ServeFault.Memory rest = IsSafeIn tears rest
+IsSafeAt tears fault rest = ⊤
+
+-- where a call of the link failed, it is recorded
+abbrev pub failed_next : List Act → List LinkCall
+failed_next (act ∷ acts) = failed_call act
+failed_next [] = []
+
+abbrev pub failed_by : ServeFault → List Act → List LinkCall
+failed_by ServeFault.Link rest = failed_next rest
+failed_by fault rest = []
+
+-- where a write failed, a front of the line may be printed
+abbrev pub next_text : List Act → List ℕ
+next_text (act ∷ acts) = printed_by act
+next_text [] = []
+
+abbrev pub text_begun : ServeFault → List Act → List ℕ
+text_begun ServeFault.Output rest = next_text rest
+text_begun fault rest = []

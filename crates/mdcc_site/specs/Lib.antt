@@ -1,0 +1,6 @@
+pub mod Causes
+pub mod LogEffects
+pub mod Logs
+pub mod Moments
+pub mod Nodes
+pub mod SiteState

@@ -1,0 +1,39 @@
+-- What the acts of a server leave in the logs.
+use Rattle.std.specs.Prelude.{IsSomeAnd, List, Ok, Option, fold, length, ℕ, ◌+◌, ◌<◌, ◌∷◌, ◌≡◌, ◌⊎◌}
+use Rattle.mdcc_areas.specs.Area.{AreaLog, payloads, payloads_of, read_areas}
+use Rattle.mdcc_disks.specs.Disks.{Disk, Only}
+use Rattle.mdcc_messages.specs.declared.facts.Fact.{Fact}
+use Rattle.mdcc_restart.specs.Logged.{logged}
+use Rattle.mdcc_runs.specs.Acts.{Act, appended}
+
+-- the facts with these after them
+abbrev pub with_facts : List Fact → List Fact → List Fact
+with_facts facts more = fold (λ before fact. fact ∷ before) facts more
+
+-- the facts of a centre after these acts
+abbrev pub facts_after : ℕ → List Fact → List Act → List Fact
+facts_after centre facts acts = with_facts facts (appended centre acts)
+
+-- the log of a centre has these facts
+abbrev pub HasFacts : {D : Type 0} → (D → ℕ → Disk) → D → ℕ → List Fact → Type 0
+HasFacts disk disks centre facts = payloads (disk disks centre).bytes (disk disks (centre + 16)).bytes ≡ Ok (logged facts)
+
+-- after so many frames a checkpoint is due
+abbrev pub checkpoint_every : ℕ
+checkpoint_every = 1024
+
+module _ {D : Type 0} (disk : D → ℕ → Disk) (may_leave : D → ℕ → List ℕ → Type 0) (disks : D) (centre : ℕ) where
+  -- The log of a centre has these facts, all of them durable, and no checkpoint is due.
+  pub record KeepsFacts (facts : List Fact) : Type 0 where
+    pub log : AreaLog
+    pub read : read_areas (disk disks centre).bytes (disk disks (centre + 16)).bytes ≡ Ok log
+    pub facts_themselves : payloads_of log ≡ logged facts
+    pub short : length log.tail < checkpoint_every
+    pub durable : Only (disk disks centre).bytes (may_leave disks centre)
+    pub durable_other : Only (disk disks (centre + 16)).bytes (may_leave disks (centre + 16))
+
+  -- after a crash it has these facts, or these and one more
+  abbrev pub MayHaveFacts : List Fact → Option Fact → Type 0
+  MayHaveFacts facts next =
+      (first second : List ℕ) → may_leave disks centre first → may_leave disks (centre + 16) second
+      → (payloads first second ≡ Ok (logged facts)) ⊎ IsSomeAnd next (λ fact. payloads first second ≡ Ok (logged (fact ∷ facts)))

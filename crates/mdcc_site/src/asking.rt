@@ -1,0 +1,243 @@
+//! What a client asks of its node.
+ghost use Rattle.std.specs.Prelude.{◌≡◌, ◌+◌, IfErr, IfSome, List, OnOk, Ok, ℕ};
+ghost use Rattle.std.specs.Option.{option_map};
+ghost use Rattle.mdcc_base.specs.Key.{IsKey};
+ghost use Rattle.mdcc_config.specs.IsConfig.{IsConfig};
+ghost use Rattle.mdcc_messages.specs.WellFormed.{IsWellFormedBegin};
+ghost use Rattle.mdcc_option.specs.Transaction.{transaction_of};
+ghost use Rattle.mdcc_option.specs.declared.items.Part.{Part as APart};
+ghost use Rattle.mdcc_runs.specs.Clients.{known_of};
+ghost use Rattle.mdcc_runs.specs.Sites.{Site as ASite};
+ghost use Rattle.mdcc_runs.specs.Steps.{begin_made, begin_noted, begin_taken, begin_told, draft_taken, ended, known_told, read_taken, reading_told};
+ghost use Rattle.mdcc_site.specs.Moments.{outside};
+ghost use Rattle.mdcc_site.specs.SiteState.{Goes, IsServed, HoldsSite, begun_in, place, refused_fault, refused_key};
+ghost use Rattle.mdcc_site.specs.declared.fault.ServeFault.{ServeFault as AServeFault};
+ghost use Rattle.mdcc_rules.specs.declared.node.Input.{Input as AInput};
+ghost use Rattle.mdcc_runs.specs.Runs.{step_on};
+ghost use Rattle.mdcc_steps.specs.Inputs.{AreWellFormedParts};
+
+use crate::ServeFault;
+use crate::site::Site;
+use mdcc_base::{Centre, Key, Sink, TxId};
+use mdcc_config::Config;
+use mdcc_disks::Disks;
+use mdcc_link::Link;
+use mdcc_messages::{ClientAnswer, Envelope};
+use mdcc_node::{Answer, Input, blank};
+use mdcc_option::{BeginFault, Part, Transaction};
+use mdcc_outbox::answer_to;
+use std::alloc::Global;
+
+// What the client is told of a read.
+fn reading_told(centre: Centre, serial: u32, key: Key, answer: Option<Answer>) -> Option<Envelope>
+    ensures { result ≡ reading_told centre serial key answer }
+{
+    match answer {
+        Some(Answer::Read(reading)) => {
+            let answer = ClientAnswer::Read {
+                key,
+                token: reading.token,
+                item: reading.item,
+                due: reading.due,
+            };
+            Some(answer_to(centre, serial, answer))
+        }
+        _ => None,
+    }
+}
+
+// The transaction that an answer says was begun.
+fn begun_in(answer: &Option<Answer>) -> Option<TxId>
+    ensures { result ≡ begun_in answer.now }
+{
+    match answer {
+        Some(Answer::Begun(tx)) => Some(*tx),
+        _ => None,
+    }
+}
+
+// The key because of which an answer says that none was.
+fn refused_key(answer: &Option<Answer>) -> Option<Key>
+    ensures { result ≡ refused_key answer.now }
+{
+    match answer {
+        Some(Answer::Refused(key, _)) => Some(*key),
+        _ => None,
+    }
+}
+
+// And why.
+fn refused_fault(answer: Option<Answer>) -> Option<BeginFault>
+    ensures { result ≡ refused_fault answer }
+{
+    match answer {
+        Some(Answer::Refused(_, fault)) => Some(fault),
+        _ => None,
+    }
+}
+
+// What the client is told of a begin.
+#[tactic(auto, using(crate::proofs::Noted::told_begun, crate::proofs::Noted::told_refused, crate::proofs::Noted::told_keyless, crate::proofs::Noted::told_faultless))]
+fn begin_told(centre: Centre, serial: u32, answer: Option<Answer>) -> Option<Envelope>
+    ensures { result ≡ begin_told centre serial answer }
+{
+    if let Some(tx) = begun_in(&answer) {
+        return Some(answer_to(centre, serial, ClientAnswer::Begun(tx)));
+    }
+    let Some(key) = refused_key(&answer) else {
+        return None;
+    };
+    let Some(fault) = refused_fault(answer) else {
+        return None;
+    };
+    Some(answer_to(centre, serial, ClientAnswer::Refused(key, fault)))
+}
+
+// What the client is told where its transaction was begun before.
+fn known_told(tx: TxId, ended: Option<bool>) -> ClientAnswer
+    ensures { result ≡ known_told tx ended }
+{
+    match ended {
+        None => ClientAnswer::Begun(tx),
+        Some(is_commit) => ClientAnswer::Heard(tx, is_commit),
+    }
+}
+
+impl Site {
+    /// The client reads a key.
+    pub(crate) fn take_read<D: Disks, L: Link, O: Sink>(
+        &mut self,
+        alloc: Global,
+        config: &Config,
+        disks: &mut D,
+        link: &mut L,
+        out: &mut O,
+        serial: u32,
+        key: Key,
+    ) -> Result<(), ServeFault>
+        requires config { IsConfig config.now }
+        requires served { IsServed (outside D.disk D.may_leave L.calls L.lost L.faults O.held O.faults) config.now.cluster disks.old self.old }
+        requires key { IsKey key }
+        ensures { (site : ASite) → HoldsSite (outside D.disk D.may_leave L.calls L.lost L.faults O.held O.faults) config.now.cluster disks.old self.old site
+            → Goes (outside D.disk D.may_leave L.calls L.lost L.faults O.held O.faults) config.now.cluster site (read_taken config.now site serial key) result
+            (place disks.old self.old link.old out.old) (place disks.new self.new link.new out.new) }
+    {
+        let mut step = blank(alloc);
+        match self.act_on(&Input::Read(key), &mut step) {
+            Ok(()) => {
+                let reply = reading_told(self.centre, serial, key, step.answer.take());
+                self.step_out(alloc, config, disks, link, out, &step, &reply)
+            }
+            Err(fault) => self.refuse(fault),
+        }
+    }
+
+    // How a transaction ended that was begun here, where that was heard.
+    fn end_of(&self, tx: &TxId) -> Option<bool>
+        ensures { result ≡ ended (known_of self.now.clients tx.now) }
+    {
+        match self.clients.known_of(tx) {
+            Some(begun) => begun.ended,
+            None => None,
+        }
+    }
+
+    // Notes which transaction was begun for a serial.
+    fn note_begin(&mut self, serial: u32, answer: &Option<Answer>) -> Result<(), ServeFault>
+        ensures noted { (site : ASite) → self.old.clients ≡ site.clients → OnOk result (self.new.clients ≡ (begin_noted site serial answer.now).clients) }
+        ensures same { self.new ≡ record self.old { clients = self.new.clients } }
+        ensures memory { IfErr result (λ fault. fault ≡ AServeFault.Memory) }
+    {
+        match begun_in(answer) {
+            Some(tx) => {
+                self.clients.begin(serial, tx)?;
+                Ok(())
+            }
+            None => Ok(()),
+        }
+    }
+
+    // The client begins a transaction under a new serial.
+    fn begin<D: Disks, L: Link, O: Sink>(
+        &mut self,
+        alloc: Global,
+        config: &Config,
+        disks: &mut D,
+        link: &mut L,
+        out: &mut O,
+        serial: u32,
+        transaction: Transaction,
+    ) -> Result<(), ServeFault>
+        requires config { IsConfig config.now }
+        requires served { IsServed (outside D.disk D.may_leave L.calls L.lost L.faults O.held O.faults) config.now.cluster disks.old self.old }
+        requires parts { AreWellFormedParts transaction }
+        ensures { (site : ASite) → HoldsSite (outside D.disk D.may_leave L.calls L.lost L.faults O.held O.faults) config.now.cluster disks.old self.old site
+            → Goes (outside D.disk D.may_leave L.calls L.lost L.faults O.held O.faults) config.now.cluster site (begin_made config.now site serial (step_on config.now.cluster site.centre site.node (AInput.Begin transaction))) result
+            (place disks.old self.old link.old out.old) (place disks.new self.new link.new out.new) }
+    {
+        let mut step = blank(alloc);
+        match self.act_on(&Input::Begin(transaction), &mut step) {
+            Ok(()) => {
+                self.note_begin(serial, &step.answer)?;
+                let reply = begin_told(self.centre, serial, step.answer.take());
+                self.step_out(alloc, config, disks, link, out, &step, &reply)
+            }
+            Err(fault) => self.refuse(fault),
+        }
+    }
+
+    // The client begins what these parts make.
+    fn begin_draft<D: Disks, L: Link, O: Sink>(
+        &mut self,
+        alloc: Global,
+        config: &Config,
+        disks: &mut D,
+        link: &mut L,
+        out: &mut O,
+        serial: u32,
+        parts: &[Part],
+    ) -> Result<(), ServeFault>
+        requires config { IsConfig config.now }
+        requires served { IsServed (outside D.disk D.may_leave L.calls L.lost L.faults O.held O.faults) config.now.cluster disks.old self.old }
+        requires parts { IsWellFormedBegin serial parts.now }
+        ensures { (site : ASite) → HoldsSite (outside D.disk D.may_leave L.calls L.lost L.faults O.held O.faults) config.now.cluster disks.old self.old site
+            → Goes (outside D.disk D.may_leave L.calls L.lost L.faults O.held O.faults) config.now.cluster site (draft_taken config.now site serial (transaction_of config.now.cluster.schema parts.now)) result
+            (place disks.old self.old link.old out.old) (place disks.new self.new link.new out.new) }
+    {
+        match Transaction::new(&config.cluster.schema, parts) {
+            Ok(transaction) => self.begin(alloc, config, disks, link, out, serial, transaction),
+            Err(fault) => {
+                let answer = Some(answer_to(self.centre, serial, ClientAnswer::Draft(fault)));
+                self.send_all(alloc, config, link, answer.as_slice())
+            }
+        }
+    }
+
+    /// The client begins a transaction. What was begun under this serial is answered again.
+    pub(crate) fn take_begin<D: Disks, L: Link, O: Sink>(
+        &mut self,
+        alloc: Global,
+        config: &Config,
+        disks: &mut D,
+        link: &mut L,
+        out: &mut O,
+        serial: u32,
+        parts: &[Part],
+    ) -> Result<(), ServeFault>
+        requires config { IsConfig config.now }
+        requires served { IsServed (outside D.disk D.may_leave L.calls L.lost L.faults O.held O.faults) config.now.cluster disks.old self.old }
+        requires parts { IsWellFormedBegin serial parts.now }
+        ensures { (site : ASite) → HoldsSite (outside D.disk D.may_leave L.calls L.lost L.faults O.held O.faults) config.now.cluster disks.old self.old site
+            → Goes (outside D.disk D.may_leave L.calls L.lost L.faults O.held O.faults) config.now.cluster site (begin_taken config.now site serial parts.now) result
+            (place disks.old self.old link.old out.old) (place disks.new self.new link.new out.new) }
+    {
+        match self.clients.begun_for(serial) {
+            Some(tx) => {
+                let told = known_told(tx, self.end_of(&tx));
+                let answer = Some(answer_to(self.centre, serial, told));
+                self.send_all(alloc, config, link, answer.as_slice())
+            }
+            None => self.begin_draft(alloc, config, disks, link, out, serial, parts),
+        }
+    }
+}

@@ -1,0 +1,13 @@
+//! One centre that is served: its node over datagrams, with its log on disks and its lines at an output.
+#![tactic(auto)]
+
+mod asking;
+pub mod fault;
+pub mod logging;
+mod receiving;
+pub mod site;
+pub mod turning;
+
+pub use fault::ServeFault;
+pub use logging::{log_fact, log_fault};
+pub use site::{Site, print_line};
