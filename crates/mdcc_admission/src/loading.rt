@@ -7,7 +7,7 @@ ghost use Rattle.mdcc_messages.specs.Lengths.{fact_length};
 ghost use Rattle.mdcc_messages.specs.Reading.{fact_of};
 ghost use Rattle.mdcc_messages.specs.WellFormed.{IsWellFormedFact};
 ghost use Rattle.mdcc_messages.specs.declared.facts.Fact.{Fact as AFact};
-ghost use Rattle.mdcc_parts.specs.Reads.{is_memory as is_reading_memory};
+ghost use Rattle.mdcc_parts.specs.Reads.{is_wire_memory as is_reading_memory};
 ghost use Rattle.mdcc_spelling.specs.Laws.{AreBytes};
 
 use crate::admitted::is_admitted;

@@ -7,9 +7,9 @@ use Rattle.std.proofs.lemmas.List.Elements.{All-cons, All-head, All-nil, All-tai
 use Rattle.mdcc_option.specs.OneCopy.{amount_at}
 use Rattle.mdcc_protocol.specs.Marks.{Amounts}
 use Rattle.mdcc_escrow.specs.Sums.{AreBoundedSums, IsBoundedSum}
-use Rattle.mdcc_escrow.specs.Weights.{added, sums_with}
+use Rattle.mdcc_escrow.specs.Weights.{with_amount, sums_with}
 
-added-bounded : (size : ℕ) (sum : ℤ) → IsBoundedSum sum → IsBoundedSum (added size sum)
+added-bounded : (size : ℕ) (sum : ℤ) → IsBoundedSum sum → IsBoundedSum (with_amount size sum)
 added-bounded size sum h =
     elim (cases_Bool (int_lt (pos (2 ^ 96)) (sum +ℤ pos size))) [
       | inl above ↦ rw above (record { low = omega (arith, ints); high = omega (arith, ints) })
@@ -31,10 +31,10 @@ four a b c d h k l m =
 pub sums_with-bounded : (size : ℤ → ℕ) (amounts : Amounts) (sums : List ℤ) → AreBoundedSums sums → AreBoundedSums (sums_with size amounts sums)
 sums_with-bounded size amounts sums h =
     four
-    (added (size (amount_at 1 amounts)) (get_or sums 0 (pos 0)))
-    (added (size (amount_at 2 amounts)) (get_or sums 1 (pos 0)))
-    (added (size (amount_at 3 amounts)) (get_or sums 2 (pos 0)))
-    (added (size (amount_at 4 amounts)) (get_or sums 3 (pos 0)))
+    (with_amount (size (amount_at 1 amounts)) (get_or sums 0 (pos 0)))
+    (with_amount (size (amount_at 2 amounts)) (get_or sums 1 (pos 0)))
+    (with_amount (size (amount_at 3 amounts)) (get_or sums 2 (pos 0)))
+    (with_amount (size (amount_at 4 amounts)) (get_or sums 3 (pos 0)))
     (added-bounded (size (amount_at 1 amounts)) (get_or sums 0 (pos 0)) (sum_at-bounded sums 0 h))
     (added-bounded (size (amount_at 2 amounts)) (get_or sums 1 (pos 0)) (sum_at-bounded sums 1 h))
     (added-bounded (size (amount_at 3 amounts)) (get_or sums 2 (pos 0)) (sum_at-bounded sums 2 h))

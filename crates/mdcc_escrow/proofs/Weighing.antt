@@ -11,7 +11,7 @@ use Rattle.mdcc_struct.specs.Maps.{TxMap}
 use Rattle.mdcc_protocol.specs.Fit.{amounts_in, capped, capped_sum, decrease, has_tx, increase, load_of}
 use Rattle.mdcc_protocol.specs.Marks.{is_write}
 use Rattle.mdcc_protocol.specs.declared.fit.Load.{Load}
-use Rattle.mdcc_escrow.specs.Weights.{added, counted, no_load, with_live}
+use Rattle.mdcc_escrow.specs.Weights.{with_amount, counted, no_load, with_live}
 
 -- ---- one sum
 
@@ -30,7 +30,7 @@ counted-capped test a = capped-twice a (bit test) (2 ^ 32 - 1)
 capped_sum-pos : (n : ℕ) → capped_sum (pos n) ≡ pos (min n (2 ^ 96))
 capped_sum-pos n = grind (arith, nat_tests)
 
-added-capped : (size a : ℕ) → added size (pos (min a (2 ^ 96))) ≡ pos (min (a + size) (2 ^ 96))
+added-capped : (size a : ℕ) → with_amount size (pos (min a (2 ^ 96))) ≡ pos (min (a + size) (2 ^ 96))
 added-capped size a = capped_sum-pos (min a (2 ^ 96) + size) ∙ ap pos (capped-twice a size (2 ^ 96))
 
 -- ---- loads

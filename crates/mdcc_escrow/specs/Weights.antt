@@ -12,16 +12,16 @@ abbrev pub counted : Bool → ℕ → ℕ
 counted test count = min (count + (if test then 1 else 0)) (2 ^ 32 - 1)
 
 -- a size more, up to 2^96
-abbrev pub added : ℕ → ℤ → ℤ
-added size sum = capped_sum (sum +ℤ pos size)
+abbrev pub with_amount : ℕ → ℤ → ℤ
+with_amount size sum = capped_sum (sum +ℤ pos size)
 
 -- the sums with the sizes of an update's amounts
 abbrev pub sums_with : (ℤ → ℕ) → Amounts → List ℤ → List ℤ
 sums_with size amounts sums =
-    added (size (amount_at 1 amounts)) (get_or sums 0 (pos 0))
-    ∷ added (size (amount_at 2 amounts)) (get_or sums 1 (pos 0))
-    ∷ added (size (amount_at 3 amounts)) (get_or sums 2 (pos 0))
-    ∷ added (size (amount_at 4 amounts)) (get_or sums 3 (pos 0))
+    with_amount (size (amount_at 1 amounts)) (get_or sums 0 (pos 0))
+    ∷ with_amount (size (amount_at 2 amounts)) (get_or sums 1 (pos 0))
+    ∷ with_amount (size (amount_at 3 amounts)) (get_or sums 2 (pos 0))
+    ∷ with_amount (size (amount_at 4 amounts)) (get_or sums 3 (pos 0))
     ∷ []
 
 -- the load with one more live update

@@ -1,7 +1,7 @@
 //! What live choices weigh, one after the other.
 ghost use Rattle.std.specs.Prelude.{◌≡◌, ◌++◌, ◌∷◌, []};
 ghost use Rattle.mdcc_escrow.specs.Sums.{IsBoundedLoad};
-ghost use Rattle.mdcc_escrow.specs.Weights.{added, counted, sums_with, with_live};
+ghost use Rattle.mdcc_escrow.specs.Weights.{with_amount, counted, sums_with, with_live};
 ghost use Rattle.mdcc_option.specs.OneCopy.{amount_at};
 ghost use Rattle.mdcc_option.specs.declared.items.Update.{Update as Live};
 ghost use Rattle.mdcc_protocol.specs.Fit.{amounts_in, capped, decrease, has_tx, increase, load_of};
@@ -78,7 +78,7 @@ fn increase(amount: i64) -> u64
 
 // A size more, up to 2^96.
 fn added(size: u64, sum: i128) -> i128
-    ensures { result ≡ added size sum }
+    ensures { result ≡ with_amount size sum }
 {
     if SUM_LIMIT < sum {
         return SUM_LIMIT;

@@ -12,7 +12,6 @@ use Rattle.mdcc_language.specs.declared.events.Event.TheVariants.{Begin}
 use Rattle.mdcc_language.specs.declared.events.UpdateWord.{UpdateWord}
 use Rattle.mdcc_language.specs.declared.schedule.HeaderCause.{HeaderCause}
 use Rattle.mdcc_language.specs.declared.schedule.HeaderFault.{HeaderFault}
-use Rattle.mdcc_language.specs.declared.schedule.SchedCause.{SchedCause}
 use Rattle.mdcc_language.specs.declared.schedule.SchedFault.{SchedFault}
 use Rattle.mdcc_language.specs.Header.{header_of}
 use Rattle.mdcc_simulation.specs.Replay.{Output, output_of, replay_of}
@@ -42,9 +41,6 @@ begin_line_of word = event (Begin 1 (word ∷ []))
 
 abbrev pub skipped : Result (Option Event) SchedFault
 skipped = Ok None
-
-abbrev pub fault : {A : Type 0} → ℕ → SchedCause → Result A SchedFault
-fault column cause = Err (record { column = column; cause = cause })
 
 abbrev pub item : List ℕ → List ℤ → Item
 item body values = record { body = body; values = values }

@@ -6,8 +6,8 @@ ghost use Rattle.mdcc_language.specs.declared.events.Event.TheVariants.{Read, Be
 ghost use Rattle.mdcc_language.specs.declared.events.UpdateWord.TheVariants.{New, Set, Add, Keep};
 ghost use Rattle.mdcc_language.specs.declared.schedule.SchedCause.TheVariants.{Word, Number, Key, Range, Order};
 ghost use Rattle.mdcc_language.specs.Updates.{update_of};
-ghost use Rattle.mdcc_language.specs.Words.{number_of};
-ghost use Rattle.mdcc_examples.specs.Texts.{line, event, begin_line_of, skipped, fault, item};
+ghost use Rattle.mdcc_language.specs.Words.{number_of, refused};
+ghost use Rattle.mdcc_examples.specs.Texts.{line, event, begin_line_of, skipped, item};
 
 // ---- Each word
 
@@ -98,161 +98,161 @@ pub fn bare_comment()
 // ---- Words, separators
 
 pub fn unknown_word()
-    ensures { line (codes "tock 1\n") ≡ fault 1 Word }
+    ensures { line (codes "tock 1\n") ≡ refused 1 Word }
 {}
 
 pub fn longer_word()
-    ensures { line (codes "ticks 1\n") ≡ fault 1 Word }
+    ensures { line (codes "ticks 1\n") ≡ refused 1 Word }
 {}
 
 pub fn space_before()
-    ensures { line (codes " tick 1\n") ≡ fault 1 Word }
+    ensures { line (codes " tick 1\n") ≡ refused 1 Word }
 {}
 
 pub fn space_before_comment()
-    ensures { line (codes " # tick\n") ≡ fault 1 Word }
+    ensures { line (codes " # tick\n") ≡ refused 1 Word }
 {}
 
 pub fn missing_centre()
-    ensures { line (codes "tick\n") ≡ fault 5 Word }
+    ensures { line (codes "tick\n") ≡ refused 5 Word }
 {}
 
 pub fn missing_key()
-    ensures { line (codes "read 1\n") ≡ fault 7 Word }
+    ensures { line (codes "read 1\n") ≡ refused 7 Word }
 {}
 
 pub fn missing_update()
-    ensures { line (codes "begin 1\n") ≡ fault 8 Word }
+    ensures { line (codes "begin 1\n") ≡ refused 8 Word }
 {}
 
 pub fn missing_number()
-    ensures { line (codes "deliver\n") ≡ fault 8 Word }
+    ensures { line (codes "deliver\n") ≡ refused 8 Word }
 {}
 
 pub fn missing_image()
-    ensures { line (codes "stop 1 1\n") ≡ fault 9 Word }
+    ensures { line (codes "stop 1 1\n") ≡ refused 9 Word }
 {}
 
 pub fn space_for_a_word()
-    ensures { line (codes "tick \n") ≡ fault 6 Word }
+    ensures { line (codes "tick \n") ≡ refused 6 Word }
 {}
 
 pub fn two_spaces()
-    ensures { line (codes "tick  1\n") ≡ fault 6 Word }
+    ensures { line (codes "tick  1\n") ≡ refused 6 Word }
 {}
 
 pub fn two_spaces_in_a_list()
-    ensures { line (codes "deliver 1  2\n") ≡ fault 11 Word }
+    ensures { line (codes "deliver 1  2\n") ≡ refused 11 Word }
 {}
 
 pub fn two_spaces_before_an_update()
-    ensures { line (codes "begin 1 keep:1  keep:2\n") ≡ fault 16 Word }
+    ensures { line (codes "begin 1 keep:1  keep:2\n") ≡ refused 16 Word }
 {}
 
 pub fn space_at_the_end()
-    ensures { line (codes "tick 1 \n") ≡ fault 8 Word }
+    ensures { line (codes "tick 1 \n") ≡ refused 8 Word }
 {}
 
 pub fn space_at_the_end_of_a_list()
-    ensures { line (codes "deliver 1 \n") ≡ fault 11 Word }
+    ensures { line (codes "deliver 1 \n") ≡ refused 11 Word }
 {}
 
 pub fn space_behind_settle()
-    ensures { line (codes "settle \n") ≡ fault 8 Word }
+    ensures { line (codes "settle \n") ≡ refused 8 Word }
 {}
 
 pub fn superfluous_word()
-    ensures { line (codes "tick 1 2\n") ≡ fault 8 Word }
+    ensures { line (codes "tick 1 2\n") ≡ refused 8 Word }
 {}
 
 pub fn superfluous_key()
-    ensures { line (codes "read 1 a b\n") ≡ fault 10 Word }
+    ensures { line (codes "read 1 a b\n") ≡ refused 10 Word }
 {}
 
 pub fn superfluous_image()
-    ensures { line (codes "stop 1 1 kept kept\n") ≡ fault 15 Word }
+    ensures { line (codes "stop 1 1 kept kept\n") ≡ refused 15 Word }
 {}
 
 pub fn unknown_image()
-    ensures { line (codes "stop 1 1 gone\n") ≡ fault 10 Word }
+    ensures { line (codes "stop 1 1 gone\n") ≡ refused 10 Word }
 {}
 
 pub fn unknown_update()
-    ensures { line (codes "begin 1 old:1\n") ≡ fault 9 Word }
+    ensures { line (codes "begin 1 old:1\n") ≡ refused 9 Word }
 {}
 
 pub fn missing_colon()
-    ensures { line (codes "begin 1 new\n") ≡ fault 12 Word }
+    ensures { line (codes "begin 1 new\n") ≡ refused 12 Word }
 {}
 
 pub fn missing_second_colon()
-    ensures { line (codes "begin 1 new:a\n") ≡ fault 14 Word }
+    ensures { line (codes "begin 1 new:a\n") ≡ refused 14 Word }
 {}
 
 pub fn missing_third_colon()
-    ensures { line (codes "begin 1 new:a:-\n") ≡ fault 16 Word }
+    ensures { line (codes "begin 1 new:a:-\n") ≡ refused 16 Word }
 {}
 
 pub fn missing_colon_of_keep()
-    ensures { line (codes "begin 1 keep\n") ≡ fault 13 Word }
+    ensures { line (codes "begin 1 keep\n") ≡ refused 13 Word }
 {}
 
 pub fn missing_colon_of_add()
-    ensures { line (codes "begin 1 add:1\n") ≡ fault 14 Word }
+    ensures { line (codes "begin 1 add:1\n") ≡ refused 14 Word }
 {}
 
 pub fn missing_equals()
-    ensures { line (codes "begin 1 add:1:1\n") ≡ fault 16 Word }
+    ensures { line (codes "begin 1 add:1:1\n") ≡ refused 16 Word }
 {}
 
 pub fn missing_equals_in_a_list()
-    ensures { line (codes "begin 1 add:1:1=2,3,4=5\n") ≡ fault 20 Word }
+    ensures { line (codes "begin 1 add:1:1=2,3,4=5\n") ≡ refused 20 Word }
 {}
 
 pub fn part_too_much_of_keep()
-    ensures { line (codes "begin 1 keep:1:2\n") ≡ fault 16 Word }
+    ensures { line (codes "begin 1 keep:1:2\n") ≡ refused 16 Word }
 {}
 
 pub fn part_too_much_of_new()
-    ensures { line (codes "begin 1 new:a:-:1:2\n") ≡ fault 19 Word }
+    ensures { line (codes "begin 1 new:a:-:1:2\n") ≡ refused 19 Word }
 {}
 
 pub fn part_too_much_of_add()
-    ensures { line (codes "begin 1 add:1:1=2:3\n") ≡ fault 19 Word }
+    ensures { line (codes "begin 1 add:1:1=2:3\n") ≡ refused 19 Word }
 {}
 
 pub fn amount_too_much()
-    ensures { line (codes "begin 1 add:1:1=2=3\n") ≡ fault 19 Word }
+    ensures { line (codes "begin 1 add:1:1=2=3\n") ≡ refused 19 Word }
 {}
 
 pub fn empty_part_too_much()
-    ensures { line (codes "begin 1 keep:1:\n") ≡ fault 16 Word }
+    ensures { line (codes "begin 1 keep:1:\n") ≡ refused 16 Word }
 {}
 
 // ---- Line ends, and the longest line
 
 pub fn missing_line_end()
-    ensures { line (codes "tick 1") ≡ fault 7 Word }
+    ensures { line (codes "tick 1") ≡ refused 7 Word }
 {}
 
 pub fn missing_line_end_of_begin()
-    ensures { line (codes "begin 1 new:a:-:1") ≡ fault 18 Word }
+    ensures { line (codes "begin 1 new:a:-:1") ≡ refused 18 Word }
 {}
 
 pub fn missing_line_end_of_comment()
-    ensures { line (codes "# x") ≡ fault 4 Word }
+    ensures { line (codes "# x") ≡ refused 4 Word }
 {}
 
 pub fn nothing_at_all()
-    ensures { line (codes "") ≡ fault 1 Word }
+    ensures { line (codes "") ≡ refused 1 Word }
 {}
 
 pub fn missing_line_end_is_last()
-    ensures { line (codes "tick 6") ≡ fault 6 Range }
+    ensures { line (codes "tick 6") ≡ refused 6 Range }
 {}
 
 pub fn two_line_ends()
-    ensures { line (codes "tick 1\n\n") ≡ fault 8 Word }
+    ensures { line (codes "tick 1\n\n") ≡ refused 8 Word }
 {}
 
 pub fn longest_comment()
@@ -260,115 +260,115 @@ pub fn longest_comment()
 {}
 
 pub fn too_long_comment()
-    ensures { line (35 ∷ replicate 4096 120 ++ codes "\n") ≡ fault 4097 Range }
+    ensures { line (35 ∷ replicate 4096 120 ++ codes "\n") ≡ refused 4097 Range }
 {}
 
 pub fn too_long_behind_a_fault()
-    ensures { line (codes "tock " ++ replicate 4092 49 ++ codes "\n") ≡ fault 1 Word }
+    ensures { line (codes "tock " ++ replicate 4092 49 ++ codes "\n") ≡ refused 1 Word }
 {}
 
 pub fn too_long_number()
-    ensures { line (codes "deliver " ++ replicate 4089 49 ++ codes "\n") ≡ fault 9 Range }
+    ensures { line (codes "deliver " ++ replicate 4089 49 ++ codes "\n") ≡ refused 9 Range }
 {}
 
 pub fn too_long_without_a_fault()
-    ensures { line (codes "deliver" ++ flat_map (λ space. space ∷ codes "1") (replicate 2045 32) ++ codes "\n") ≡ fault 4097 Range }
+    ensures { line (codes "deliver" ++ flat_map (λ space. space ∷ codes "1") (replicate 2045 32) ++ codes "\n") ≡ refused 4097 Range }
 {}
 
 pub fn too_long_before_a_fault()
-    ensures { line (codes "deliver" ++ flat_map (λ space. space ∷ codes "1") (replicate 2045 32) ++ codes " x\n") ≡ fault 4097 Range }
+    ensures { line (codes "deliver" ++ flat_map (λ space. space ∷ codes "1") (replicate 2045 32) ++ codes " x\n") ≡ refused 4097 Range }
 {}
 
 pub fn too_long_without_end()
-    ensures { line (35 ∷ replicate 4096 120) ≡ fault 4097 Range }
+    ensures { line (35 ∷ replicate 4096 120) ≡ refused 4097 Range }
 {}
 
 pub fn longest_without_end()
-    ensures { line (35 ∷ replicate 4095 120) ≡ fault 4097 Word }
+    ensures { line (35 ∷ replicate 4095 120) ≡ refused 4097 Word }
 {}
 
 pub fn longest_line()
-    ensures { line (codes "tick 1" ++ replicate 4090 32 ++ codes "\n") ≡ fault 8 Word }
+    ensures { line (codes "tick 1" ++ replicate 4090 32 ++ codes "\n") ≡ refused 8 Word }
 {}
 
 // ---- Numbers
 
 pub fn no_number()
-    ensures { line (codes "tick x\n") ≡ fault 6 Number }
+    ensures { line (codes "tick x\n") ≡ refused 6 Number }
 {}
 
 pub fn leading_zero()
-    ensures { line (codes "tick 01\n") ≡ fault 6 Number }
+    ensures { line (codes "tick 01\n") ≡ refused 6 Number }
 {}
 
 pub fn leading_zeros()
-    ensures { line (codes "deliver 007\n") ≡ fault 9 Number }
+    ensures { line (codes "deliver 007\n") ≡ refused 9 Number }
 {}
 
 pub fn sign_of_a_centre()
-    ensures { line (codes "tick -1\n") ≡ fault 6 Number }
+    ensures { line (codes "tick -1\n") ≡ refused 6 Number }
 {}
 
 pub fn plus()
-    ensures { line (codes "tick +1\n") ≡ fault 6 Number }
+    ensures { line (codes "tick +1\n") ≡ refused 6 Number }
 {}
 
 pub fn later_number()
-    ensures { line (codes "deliver 1 2 3x\n") ≡ fault 13 Number }
+    ensures { line (codes "deliver 1 2 3x\n") ≡ refused 13 Number }
 {}
 
 pub fn minus_zero()
-    ensures { line (codes "begin 1 new:a:-:-0\n") ≡ fault 17 Number }
+    ensures { line (codes "begin 1 new:a:-:-0\n") ≡ refused 17 Number }
 {}
 
 pub fn minus_zeros()
-    ensures { line (codes "begin 1 new:a:-:-07\n") ≡ fault 17 Number }
+    ensures { line (codes "begin 1 new:a:-:-07\n") ≡ refused 17 Number }
 {}
 
 pub fn minus_alone()
-    ensures { line (codes "begin 1 new:a:-:-\n") ≡ fault 17 Number }
+    ensures { line (codes "begin 1 new:a:-:-\n") ≡ refused 17 Number }
 {}
 
 pub fn two_minuses()
-    ensures { line (codes "begin 1 new:a:-:--1\n") ≡ fault 17 Number }
+    ensures { line (codes "begin 1 new:a:-:--1\n") ≡ refused 17 Number }
 {}
 
 pub fn no_value()
-    ensures { line (codes "begin 1 new:a:-:\n") ≡ fault 17 Number }
+    ensures { line (codes "begin 1 new:a:-:\n") ≡ refused 17 Number }
 {}
 
 pub fn no_second_value()
-    ensures { line (codes "begin 1 new:a:-:1,\n") ≡ fault 19 Number }
+    ensures { line (codes "begin 1 new:a:-:1,\n") ≡ refused 19 Number }
 {}
 
 pub fn no_first_value()
-    ensures { line (codes "begin 1 new:a:-:,1\n") ≡ fault 17 Number }
+    ensures { line (codes "begin 1 new:a:-:,1\n") ≡ refused 17 Number }
 {}
 
 pub fn sign_of_an_attribute()
-    ensures { line (codes "begin 1 add:1:-1=2\n") ≡ fault 15 Number }
+    ensures { line (codes "begin 1 add:1:-1=2\n") ≡ refused 15 Number }
 {}
 
 pub fn no_amounts()
-    ensures { line (codes "begin 1 add:1:\n") ≡ fault 15 Number }
+    ensures { line (codes "begin 1 add:1:\n") ≡ refused 15 Number }
 {}
 
 pub fn no_amount()
-    ensures { line (codes "begin 1 add:1:1=\n") ≡ fault 17 Number }
+    ensures { line (codes "begin 1 add:1:1=\n") ≡ refused 17 Number }
 {}
 
 pub fn no_read()
-    ensures { line (codes "begin 1 keep:\n") ≡ fault 14 Number }
+    ensures { line (codes "begin 1 keep:\n") ≡ refused 14 Number }
 {}
 
 pub fn sign_of_a_read()
-    ensures { line (codes "begin 1 set:-1:-:2\n") ≡ fault 13 Number }
+    ensures { line (codes "begin 1 set:-1:-:2\n") ≡ refused 13 Number }
 {}
 
 // ---- Keys
 
 pub fn no_key()
-    ensures { line (codes "read 1 a+b\n") ≡ fault 8 Key }
+    ensures { line (codes "read 1 a+b\n") ≡ refused 8 Key }
 {}
 
 pub fn longest_key()
@@ -376,29 +376,29 @@ pub fn longest_key()
 {}
 
 pub fn too_long_key()
-    ensures { line (codes "read 1 " ++ replicate 33 107 ++ codes "\n") ≡ fault 8 Key }
+    ensures { line (codes "read 1 " ++ replicate 33 107 ++ codes "\n") ≡ refused 8 Key }
 {}
 
 pub fn empty_key()
-    ensures { line (codes "begin 1 new::-:1\n") ≡ fault 13 Key }
+    ensures { line (codes "begin 1 new::-:1\n") ≡ refused 13 Key }
 {}
 
 pub fn key_of_new()
-    ensures { line (codes "begin 1 new:a=b:-:1\n") ≡ fault 13 Key }
+    ensures { line (codes "begin 1 new:a=b:-:1\n") ≡ refused 13 Key }
 {}
 
 // ---- Ranges
 
 pub fn centre_zero()
-    ensures { line (codes "tick 0\n") ≡ fault 6 Range }
+    ensures { line (codes "tick 0\n") ≡ refused 6 Range }
 {}
 
 pub fn centre_above()
-    ensures { line (codes "tick 6\n") ≡ fault 6 Range }
+    ensures { line (codes "tick 6\n") ≡ refused 6 Range }
 {}
 
 pub fn message_zero()
-    ensures { line (codes "deliver 0\n") ≡ fault 9 Range }
+    ensures { line (codes "deliver 0\n") ≡ refused 9 Range }
 {}
 
 pub fn greatest_message()
@@ -406,7 +406,7 @@ pub fn greatest_message()
 {}
 
 pub fn message_above()
-    ensures { line (codes "deliver 4294967296\n") ≡ fault 9 Range }
+    ensures { line (codes "deliver 4294967296\n") ≡ refused 9 Range }
 {}
 
 pub fn greatest_read()
@@ -414,19 +414,19 @@ pub fn greatest_read()
 {}
 
 pub fn read_above()
-    ensures { line (codes "begin 1 keep:4294967296\n") ≡ fault 14 Range }
+    ensures { line (codes "begin 1 keep:4294967296\n") ≡ refused 14 Range }
 {}
 
 pub fn read_zero()
-    ensures { line (codes "begin 1 keep:0\n") ≡ fault 14 Range }
+    ensures { line (codes "begin 1 keep:0\n") ≡ refused 14 Range }
 {}
 
 pub fn call_zero()
-    ensures { line (codes "stop 1 0 kept\n") ≡ fault 8 Range }
+    ensures { line (codes "stop 1 0 kept\n") ≡ refused 8 Range }
 {}
 
 pub fn call_above()
-    ensures { line (codes "stop 1 5 kept\n") ≡ fault 8 Range }
+    ensures { line (codes "stop 1 5 kept\n") ≡ refused 8 Range }
 {}
 
 pub fn greatest_value()
@@ -434,7 +434,7 @@ pub fn greatest_value()
 {}
 
 pub fn value_above()
-    ensures { line (codes "begin 1 new:a:-:9223372036854775808\n") ≡ fault 17 Range }
+    ensures { line (codes "begin 1 new:a:-:9223372036854775808\n") ≡ refused 17 Range }
 {}
 
 pub fn least_value()
@@ -442,19 +442,19 @@ pub fn least_value()
 {}
 
 pub fn value_below()
-    ensures { line (codes "begin 1 new:a:-:-9223372036854775809\n") ≡ fault 17 Range }
+    ensures { line (codes "begin 1 new:a:-:-9223372036854775809\n") ≡ refused 17 Range }
 {}
 
 pub fn amount_above()
-    ensures { line (codes "begin 1 add:1:1=9223372036854775808\n") ≡ fault 17 Range }
+    ensures { line (codes "begin 1 add:1:1=9223372036854775808\n") ≡ refused 17 Range }
 {}
 
 pub fn attribute_zero()
-    ensures { line (codes "begin 1 add:1:0=1\n") ≡ fault 15 Range }
+    ensures { line (codes "begin 1 add:1:0=1\n") ≡ refused 15 Range }
 {}
 
 pub fn attribute_above()
-    ensures { line (codes "begin 1 add:1:5=1\n") ≡ fault 15 Range }
+    ensures { line (codes "begin 1 add:1:5=1\n") ≡ refused 15 Range }
 {}
 
 pub fn four_values()
@@ -462,35 +462,35 @@ pub fn four_values()
 {}
 
 pub fn fifth_value()
-    ensures { line (codes "begin 1 new:a:-:1,2,3,4,5\n") ≡ fault 25 Range }
+    ensures { line (codes "begin 1 new:a:-:1,2,3,4,5\n") ≡ refused 25 Range }
 {}
 
 pub fn fifth_value_is_none()
-    ensures { line (codes "begin 1 new:a:-:1,2,3,4,x\n") ≡ fault 25 Range }
+    ensures { line (codes "begin 1 new:a:-:1,2,3,4,x\n") ≡ refused 25 Range }
 {}
 
 pub fn fourth_value_is_first()
-    ensures { line (codes "begin 1 new:a:-:1,2,3,x,5\n") ≡ fault 23 Number }
+    ensures { line (codes "begin 1 new:a:-:1,2,3,x,5\n") ≡ refused 23 Number }
 {}
 
 pub fn fifth_amount()
-    ensures { line (codes "begin 1 add:1:1=1,2=2,3=3,4=4,5=5\n") ≡ fault 31 Range }
+    ensures { line (codes "begin 1 add:1:1=1,2=2,3=3,4=4,5=5\n") ≡ refused 31 Range }
 {}
 
 pub fn odd_body()
-    ensures { line (codes "begin 1 new:a:012:1\n") ≡ fault 15 Range }
+    ensures { line (codes "begin 1 new:a:012:1\n") ≡ refused 15 Range }
 {}
 
 pub fn upper_case_body()
-    ensures { line (codes "begin 1 new:a:0F:1\n") ≡ fault 15 Range }
+    ensures { line (codes "begin 1 new:a:0F:1\n") ≡ refused 15 Range }
 {}
 
 pub fn empty_body()
-    ensures { line (codes "begin 1 new:a::1\n") ≡ fault 15 Range }
+    ensures { line (codes "begin 1 new:a::1\n") ≡ refused 15 Range }
 {}
 
 pub fn no_hexadecimal_body()
-    ensures { line (codes "begin 1 new:a:0g:1\n") ≡ fault 15 Range }
+    ensures { line (codes "begin 1 new:a:0g:1\n") ≡ refused 15 Range }
 {}
 
 pub fn longest_body()
@@ -498,29 +498,29 @@ pub fn longest_body()
 {}
 
 pub fn too_long_body()
-    ensures { line (codes "begin 1 new:a:" ++ replicate 258 48 ++ codes ":1\n") ≡ fault 15 Range }
+    ensures { line (codes "begin 1 new:a:" ++ replicate 258 48 ++ codes ":1\n") ≡ refused 15 Range }
 {}
 
 // ---- Order, and the first fault
 
 pub fn centres_descend()
-    ensures { line (codes "settle 2 1\n") ≡ fault 10 Order }
+    ensures { line (codes "settle 2 1\n") ≡ refused 10 Order }
 {}
 
 pub fn centre_twice()
-    ensures { line (codes "settle 1 3 3\n") ≡ fault 12 Order }
+    ensures { line (codes "settle 1 3 3\n") ≡ refused 12 Order }
 {}
 
 pub fn range_before_order()
-    ensures { line (codes "settle 3 6\n") ≡ fault 10 Range }
+    ensures { line (codes "settle 3 6\n") ≡ refused 10 Range }
 {}
 
 pub fn first_fault()
-    ensures { line (codes "read 6 a+b\n") ≡ fault 6 Range }
+    ensures { line (codes "read 6 a+b\n") ≡ refused 6 Range }
 {}
 
 pub fn first_part()
-    ensures { line (codes "begin 1 new:+:0:x\n") ≡ fault 13 Key }
+    ensures { line (codes "begin 1 new:+:0:x\n") ≡ refused 13 Key }
 {}
 
 // ---- Single words
@@ -530,7 +530,7 @@ pub fn number_within()
 {}
 
 pub fn number_above()
-    ensures { number_of (codes "12") 5 (pos 0) (pos 11) ≡ fault 5 Range }
+    ensures { number_of (codes "12") 5 (pos 0) (pos 11) ≡ refused 5 Range }
 {}
 
 pub fn number_with_sign()
@@ -538,15 +538,15 @@ pub fn number_with_sign()
 {}
 
 pub fn number_without_sign()
-    ensures { number_of (codes "-3") 1 (pos 0) (pos 9) ≡ fault 1 Number }
+    ensures { number_of (codes "-3") 1 (pos 0) (pos 9) ≡ refused 1 Number }
 {}
 
 pub fn number_of_many_digits()
-    ensures { number_of (codes "340282366920938463463374607431768211456") 2 (pos 0) (pos 9) ≡ fault 2 Range }
+    ensures { number_of (codes "340282366920938463463374607431768211456") 2 (pos 0) (pos 9) ≡ refused 2 Range }
 {}
 
 pub fn empty_number()
-    ensures { number_of [] 3 (pos 0) (pos 9) ≡ fault 3 Number }
+    ensures { number_of [] 3 (pos 0) (pos 9) ≡ refused 3 Number }
 {}
 
 pub fn update_at_a_column()
@@ -554,9 +554,9 @@ pub fn update_at_a_column()
 {}
 
 pub fn update_fault_at_a_column()
-    ensures { update_of (codes "keep:x") 40 ≡ fault 45 Number }
+    ensures { update_of (codes "keep:x") 40 ≡ refused 45 Number }
 {}
 
 pub fn empty_update()
-    ensures { update_of [] 40 ≡ fault 40 Word }
+    ensures { update_of [] 40 ≡ refused 40 Word }
 {}

@@ -20,7 +20,7 @@ use Rattle.mdcc_messages.specs.declared.facts.Fact.{Fact}
 use Rattle.mdcc_protocol.specs.Facts.{deltas_from, last_ballot, marks_voted, votes_of, report_of}
 use Rattle.mdcc_protocol.specs.Stores.{is_above, mark_after}
 use Rattle.mdcc_facts.proofs.Walking.{beside, found-end, found-none, found-some, least_union, rest-next}
-use Rattle.mdcc_facts.specs.Walks.{each_kept, is_next, least_from, lower_passing, next_tx, rest_of}
+use Rattle.mdcc_facts.specs.Walks.{each_kept, is_next_tx, least_from, lower_passing, next_tx, rest_of}
 use Rattle.mdcc_fact_folds.specs.Chains.{Covers, is_delta_in, is_vote_in}
 use Rattle.mdcc_fact_folds.specs.Held.{ExecutedByJoin}
 use Rattle.mdcc_fact_folds.specs.Votes.{MarkAfterByWalks, least_above, mark_walks, older_mark, MarkBelowBySteps, marks_further}
@@ -194,7 +194,7 @@ module _ (keep : Fact → Bool) (key : Key) (version : ℕ) (covers : Covers kee
       ap (next_tx each_kept last)
       (votes-joined key version ballot facts
       ∙ joined-chain (marks_voted key version ballot) keep (λ fact left. no_marks key version ballot fact (left_out keep (is_vote_in key version) covers fact left)) facts)
-      ∙ sym (least-folded (marks_voted key version ballot) (is_next each_kept last) None (filter keep facts))
+      ∙ sym (least-folded (marks_voted key version ballot) (is_next_tx each_kept last) None (filter keep facts))
 
   after-ballot : (ballot : Ballot) (last : Option TxId)
       → beside ballot (find (λ e. is_above last e.0) (votes_of facts key version ballot))

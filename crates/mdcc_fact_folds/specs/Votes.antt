@@ -14,7 +14,7 @@ use Rattle.mdcc_protocol.specs.Facts.{ballot_voted, choice_known, choice_voted, 
 use Rattle.mdcc_messages.specs.declared.facts.Fact.{Fact}
 use Rattle.mdcc_protocol.specs.Stores.{mark_after, mark_below}
 use Rattle.mdcc_facts.specs.Listed.{are_voted_once}
-use Rattle.mdcc_facts.specs.Walks.{each_kept, is_next, least_from}
+use Rattle.mdcc_facts.specs.Walks.{each_kept, is_next_tx, least_from}
 use Rattle.mdcc_fact_folds.specs.Chains.{Covers, is_vote_in}
 
 -- of an older vote and a later one the later counts where its ballot is greater
@@ -119,7 +119,7 @@ MarkBelowInChain =
 
 -- the least transaction above the last one that the fact votes on at a ballot, or that was found before
 abbrev pub least_above : Key → ℕ → Ballot → Option TxId → Option TxId → Fact → Option TxId
-least_above key version ballot last found fact = least_from (is_next each_kept last) found (marks_voted key version ballot fact)
+least_above key version ballot last found fact = least_from (is_next_tx each_kept last) found (marks_voted key version ballot fact)
 
 -- a walk for the ballot, one for the transaction, and one for its mark
 abbrev pub mark_walks : Key → ℕ → Ballot → Option TxId → List Fact → Option (Ballot × TxId × Mark)

@@ -14,7 +14,7 @@ use Rattle.mdcc_struct.specs.Maps.{TxMap, are_ascending, union, value_of}
 use Rattle.mdcc_struct.proofs.Walks.{ascending-union, union-none}
 use Rattle.mdcc_protocol.specs.Facts.{last_ballot, live_and_void, live_from, marks_voted, report_of, votes_of, write_sets_from, write_sets_of}
 use Rattle.mdcc_messages.specs.declared.facts.Fact.{Fact}
-use Rattle.mdcc_facts.specs.Walks.{is_next, least_from, next_tx}
+use Rattle.mdcc_facts.specs.Walks.{is_next_tx, least_from, next_tx}
 use Rattle.mdcc_facts.proofs.Walking.{least_union, value_union}
 
 pub ascending-votes : (facts : List Fact) (key : Key) (version : ℕ) (ballot : Ballot) → are_ascending (votes_of facts key version ballot) ≡ true
@@ -56,21 +56,21 @@ module _ (facts : List Fact) (i : ℕ) (fact : Fact) (within : i < length facts)
 
   pub votes-next : (keep : TxId → Bool) (last : Option TxId) (key : Key) (version : ℕ) (ballot : Ballot) (least : Option TxId)
       → least ≡ next_tx keep last (votes_of (reverse (take i facts)) key version ballot)
-      → least_from (is_next keep last) least (marks_voted key version ballot fact) ≡ next_tx keep last (votes_of (reverse (take (i + 1) facts)) key version ballot)
+      → least_from (is_next_tx keep last) least (marks_voted key version ballot fact) ≡ next_tx keep last (votes_of (reverse (take (i + 1) facts)) key version ballot)
   votes-next keep last key version ballot least h =
-      rw (next_is, h) (least_union (is_next keep last) None (votes_of older key version ballot) (marks_voted key version ballot fact))
+      rw (next_is, h) (least_union (is_next_tx keep last) None (votes_of older key version ballot) (marks_voted key version ballot fact))
 
   pub live-next : (keep : TxId → Bool) (last : Option TxId) (key : Key) (version : ℕ) (least : Option TxId)
       → least ≡ next_tx keep last (live_and_void (reverse (take i facts)) key version)
-      → least_from (is_next keep last) least (live_from key version fact) ≡ next_tx keep last (live_and_void (reverse (take (i + 1) facts)) key version)
+      → least_from (is_next_tx keep last) least (live_from key version fact) ≡ next_tx keep last (live_and_void (reverse (take (i + 1) facts)) key version)
   live-next keep last key version least h =
-      rw (next_is, h) (least_union (is_next keep last) None (live_and_void older key version) (live_from key version fact))
+      rw (next_is, h) (least_union (is_next_tx keep last) None (live_and_void older key version) (live_from key version fact))
 
   pub write_sets-next : (keep : TxId → Bool) (last : Option TxId) (least : Option TxId)
       → least ≡ next_tx keep last (write_sets_of (reverse (take i facts)))
-      → least_from (is_next keep last) least (write_sets_from fact) ≡ next_tx keep last (write_sets_of (reverse (take (i + 1) facts)))
+      → least_from (is_next_tx keep last) least (write_sets_from fact) ≡ next_tx keep last (write_sets_of (reverse (take (i + 1) facts)))
   write_sets-next keep last least h =
-      rw (next_is, h) (least_union (is_next keep last) None (write_sets_of older) (write_sets_from fact))
+      rw (next_is, h) (least_union (is_next_tx keep last) None (write_sets_of older) (write_sets_from fact))
 
   pub write_sets-more : union (write_sets_of (reverse (take i facts))) (write_sets_from fact) ≡ write_sets_of (reverse (take (i + 1) facts))
   write_sets-more = ap write_sets_of (sym next_is)

@@ -13,7 +13,7 @@ use Rattle.mdcc_struct.proofs.Ordered.{IsBelow, ascending-tail, ascending-below}
 use Rattle.mdcc_struct.proofs.Walks.{ascending-filter, drop-get}
 use Rattle.mdcc_struct.proofs.Values.{filter-value, value_of-union}
 use Rattle.mdcc_protocol.specs.Stores.{is_above}
-use Rattle.mdcc_facts.specs.Walks.{each_kept, entry_list, is_lower, is_next, least_from, lower_passing, next_tx, rest_of}
+use Rattle.mdcc_facts.specs.Walks.{each_kept, entry_list, is_lower, is_next_tx, least_from, lower_passing, next_tx, rest_of}
 
 -- ---- the least transaction of a union
 
@@ -153,7 +153,7 @@ least-first test (e ∷ es) h =
     ]
 
 pub next-first : {X : Type 0} (keep : TxId → Bool) (last : Option TxId) (m : TxMap X) → are_ascending m ≡ true → next_tx keep last m ≡ first_tx (rest_of keep last m)
-next-first keep last m h = least-first (is_next keep last) m h
+next-first keep last m h = least-first (is_next_tx keep last) m h
 
 -- ---- what is left
 
@@ -188,7 +188,7 @@ pub rest-next : {X : Type 0} (keep : TxId → Bool) (last : Option TxId) (m : Tx
     → rest_of keep last m ≡ e ∷ es → rest_of keep (Some e.0) m ≡ es
 rest-next keep last [] e es h is = absurd (cc)
 rest-next keep last (x ∷ xs) e es h is =
-    elim (cases_Bool (is_next keep last x.0)) [
+    elim (cases_Bool (is_next_tx keep last x.0)) [
       | inl next ↦
           let parts = and_parts (is_above last x.0) (keep x.0) next in
           let now : x ∷ rest_of keep last xs ≡ e ∷ es = rw next at is in
@@ -200,7 +200,7 @@ rest-next keep last (x ∷ xs) e es h is =
           subst (λ y. rest_of keep (Some y.0) (x ∷ xs) ≡ es) same here
       | inr past ↦
           let now : rest_of keep last xs ≡ e ∷ es = rw past at is in
-          let below : tx_lt x.0 e.0 ≡ true = IsBelow-kept (λ y. is_next keep last y.0) x.0 xs e es (ascending-below x xs h) now in
+          let below : tx_lt x.0 e.0 ≡ true = IsBelow-kept (λ y. is_next_tx keep last y.0) x.0 xs e es (ascending-below x xs h) now in
           rw (tx_lt-not_back x.0 e.0 below) (rest-next keep last xs e es (ascending-tail x xs h) now)
     ]
 
@@ -210,7 +210,7 @@ pub rest-entry : {X : Type 0} (keep : TxId → Bool) (last : Option TxId) (m : T
 rest-entry {X = X} keep last m tx h next = go (rest_of keep last m) refl
   where
     p : TxId × X → Bool
-    p e = is_next keep last e.0
+    p e = is_next_tx keep last e.0
 
     go : (rest : TxMap X) → rest_of keep last m ≡ rest
         → (rest_of keep last m ≡ entry_list tx (value_of m tx) ++ rest_of keep (Some tx) m) × (length (rest_of keep (Some tx) m) < length (rest_of keep last m))
@@ -342,7 +342,7 @@ find-next last (e ∷ es) =
 next_entry : {X : Type 0} (last : Option TxId) (m : TxMap X) → are_ascending m ≡ true
     → find (λ e. is_above last e.0) m ≡ option_and_then (entry_in m) (next_tx each_kept last m)
 next_entry last m up =
-    find-next last m ∙ entry-at (λ e. is_next each_kept last e.0) m 0 up ∙ ap (option_and_then (entry_in m)) (sym (next-first each_kept last m up))
+    find-next last m ∙ entry-at (λ e. is_next_tx each_kept last e.0) m 0 up ∙ ap (option_and_then (entry_in m)) (sym (next-first each_kept last m up))
 
 module _ {X : Type 0} (last : Option TxId) (m : TxMap X) (up : are_ascending m ≡ true) where
   pub found-some : (tx : TxId) (x : X) → Some tx ≡ next_tx each_kept last m → Some x ≡ value_of m tx → Some (tx, x) ≡ find (λ e. is_above last e.0) m

@@ -37,12 +37,12 @@ pub record MayBeAdded (facts : List Fact) (fact : Fact) : Type 0 where
 
 -- ---- what the store answers
 
-abbrev pub is_memory : StoreFault → Bool
-is_memory StoreFault.Memory = true
-is_memory _ = false
+abbrev pub is_store_memory : StoreFault → Bool
+is_store_memory StoreFault.Memory = true
+is_store_memory _ = false
 
 -- a fact that needs more cells than are spare has no room, and one that would bring too many deltas is refused
-abbrev pub add_of : (spare needed : ℕ) → List Fact → Fact → Result (Unit {0}) StoreFault
-add_of spare needed facts fact =
+abbrev pub add_result : (spare needed : ℕ) → List Fact → Fact → Result (Unit {0}) StoreFault
+add_result spare needed facts fact =
     if nat_lt spare needed then Err (StoreFault.NoRoom needed spare)
     else (if is_crowding facts fact then Err StoreFault.Crowded else Ok tt)

@@ -26,16 +26,16 @@ least_from test found [] = found
 least_from test found (e ∷ es) = least_from test (lower_passing test found e.0) es
 
 -- kept, and above the last one
-abbrev pub is_next : (TxId → Bool) → Option TxId → TxId → Bool
-is_next keep last tx = is_above last tx && keep tx
+abbrev pub is_next_tx : (TxId → Bool) → Option TxId → TxId → Bool
+is_next_tx keep last tx = is_above last tx && keep tx
 
 -- the least kept transaction above the last one
 abbrev pub next_tx : {X : Type 0} → (TxId → Bool) → Option TxId → TxMap X → Option TxId
-next_tx keep last m = least_from (is_next keep last) None m
+next_tx keep last m = least_from (is_next_tx keep last) None m
 
 -- the kept entries above the last transaction
 abbrev pub rest_of : {X : Type 0} → (TxId → Bool) → Option TxId → TxMap X → TxMap X
-rest_of keep last m = filter (λ e. is_next keep last e.0) m
+rest_of keep last m = filter (λ e. is_next_tx keep last e.0) m
 
 -- the entry of a transaction, where it has a value
 abbrev pub entry_list : {X : Type 0} → TxId → Option X → TxMap X

@@ -1,6 +1,6 @@
 //! The live choices of an instance, in the order of their transactions.
 ghost use Rattle.std.specs.Prelude.{◌≡◌, filter_map, reverse};
-ghost use Rattle.mdcc_facts.specs.Walks.{adds_of, is_next, is_not_void, least_from, lower_passing, next_tx, pairs_of};
+ghost use Rattle.mdcc_facts.specs.Walks.{adds_of, is_next_tx, is_not_void, least_from, lower_passing, next_tx, pairs_of};
 ghost use Rattle.mdcc_protocol.specs.Facts.{delta_given, is_void, live_and_void, live_from, live_mark};
 ghost use Rattle.mdcc_struct.specs.Maps.{value_of};
 
@@ -25,7 +25,7 @@ fn is_void(facts: &[Fact], tx: &TxId) -> bool
 
 // The lower of two transactions, where the second is above the last one and not void.
 fn lower_live(facts: &[Fact], found: Option<TxId>, tx: &TxId, last: &Option<TxId>) -> Option<TxId>
-    ensures { result ≡ lower_passing (is_next (is_not_void (reverse facts.now)) last.now) found tx.now }
+    ensures { result ≡ lower_passing (is_next_tx (is_not_void (reverse facts.now)) last.now) found tx.now }
 {
     if is_above(last, tx) && is_lower(&found, tx) && !is_void(facts, tx) {
         Some(*tx)
@@ -41,7 +41,7 @@ fn least_accepted(
     options: &Options,
     last: &Option<TxId>,
 ) -> Option<TxId>
-    ensures { result ≡ least_from (is_next (is_not_void (reverse facts.now)) last.now) found (filter_map live_mark options.now) }
+    ensures { result ≡ least_from (is_next_tx (is_not_void (reverse facts.now)) last.now) found (filter_map live_mark options.now) }
 {
     let mut least = found;
     for place in 0..options.len() {
@@ -62,7 +62,7 @@ fn least_given(
     version: u64,
     last: &Option<TxId>,
 ) -> Option<TxId>
-    ensures { result ≡ least_from (is_next (is_not_void (reverse facts.now)) last.now) found (adds_of (filter_map (delta_given key.now version) choices.now)) }
+    ensures { result ≡ least_from (is_next_tx (is_not_void (reverse facts.now)) last.now) found (adds_of (filter_map (delta_given key.now version) choices.now)) }
 {
     let mut least = found;
     for choice in choices {
@@ -80,7 +80,7 @@ fn least_adopted(
     adds: &[Delta],
     last: &Option<TxId>,
 ) -> Option<TxId>
-    ensures { result ≡ least_from (is_next (is_not_void (reverse facts.now)) last.now) found (adds_of (pairs_of adds.now)) }
+    ensures { result ≡ least_from (is_next_tx (is_not_void (reverse facts.now)) last.now) found (adds_of (pairs_of adds.now)) }
 {
     let mut least = found;
     for delta in adds {
@@ -99,7 +99,7 @@ fn least_live(
     version: u64,
     last: &Option<TxId>,
 ) -> Option<TxId>
-    ensures { result ≡ least_from (is_next (is_not_void (reverse facts.now)) last.now) found (live_from key.now version fact.now) }
+    ensures { result ≡ least_from (is_next_tx (is_not_void (reverse facts.now)) last.now) found (live_from key.now version fact.now) }
 {
     match fact {
         Fact::Voted {

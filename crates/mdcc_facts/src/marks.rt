@@ -1,6 +1,6 @@
 //! The votes at one ballot, in the order of their transactions.
 ghost use Rattle.std.specs.Prelude.{◌≡◌, find, reverse};
-ghost use Rattle.mdcc_facts.specs.Walks.{each_kept, entry_list, is_next, least_from, lower_passing, next_tx};
+ghost use Rattle.mdcc_facts.specs.Walks.{each_kept, entry_list, is_next_tx, least_from, lower_passing, next_tx};
 ghost use Rattle.mdcc_facts.specs.Weights.{counted, with_mark};
 ghost use Rattle.mdcc_protocol.specs.Facts.{ballot_voted, last_ballot, marks_voted, votes_of};
 ghost use Rattle.mdcc_protocol.specs.Stores.{entries_at, is_above, mark_after, mark_below};
@@ -50,7 +50,7 @@ pub(crate) fn last_ballot(facts: &[Fact], key: &Key, version: u64, below: &Ballo
 
 // The lower of two transactions, where the second is above the last one.
 fn lower_next(found: Option<TxId>, tx: &TxId, last: &Option<TxId>) -> Option<TxId>
-    ensures { result ≡ lower_passing (is_next each_kept last.now) found tx.now }
+    ensures { result ≡ lower_passing (is_next_tx each_kept last.now) found tx.now }
 {
     if is_above(last, tx) && is_lower(&found, tx) {
         Some(*tx)
@@ -61,7 +61,7 @@ fn lower_next(found: Option<TxId>, tx: &TxId, last: &Option<TxId>) -> Option<TxI
 
 // The least of one transaction and those of marks that are above the last one.
 fn least_mark(found: Option<TxId>, options: &Options, last: &Option<TxId>) -> Option<TxId>
-    ensures { result ≡ least_from (is_next each_kept last.now) found options.now }
+    ensures { result ≡ least_from (is_next_tx each_kept last.now) found options.now }
 {
     let mut least = found;
     for place in 0..options.len() {

@@ -6,7 +6,7 @@ ghost use Rattle.mdcc_protocol.specs.Facts.{base_of, choice_known, current_of, e
 ghost use Rattle.mdcc_protocol.specs.News.{is_crowding};
 ghost use Rattle.mdcc_protocol.specs.Stores.{count_voted, delta_of, ended_of, entries_at, load_at, mark_after, mark_below, unresolved_at};
 ghost use Rattle.mdcc_struct.specs.Maps.{txs_of, value_of};
-ghost use Rattle.mdcc_facts.specs.Adding.{MayBeAdded, add_of, is_memory};
+ghost use Rattle.mdcc_facts.specs.Adding.{MayBeAdded, add_result, is_store_memory};
 
 use mdcc_base::{Ballot, HeapList, Key, Memory, TxId};
 use mdcc_messages::Fact;
@@ -30,7 +30,7 @@ pub trait FactStore {
     /// Adds a fact.
     fn add(&mut self, fact: &Fact) -> Result<(), StoreFault>
         requires { (facts : List AFact) → stands self.old facts → MayBeAdded facts fact.now }
-        ensures answer { (facts : List AFact) → stands self.old facts → GivesUnless is_memory result (add_of (room self.old) (cells_for self.old fact.now) facts fact.now) }
+        ensures answer { (facts : List AFact) → stands self.old facts → GivesUnless is_store_memory result (add_result (room self.old) (cells_for self.old fact.now) facts fact.now) }
         ensures ok { (facts : List AFact) → stands self.old facts → OnOk result (stands self.new (fact.now ∷ facts)) }
         ensures used { OnOk result (room self.new + cells_for self.old fact.now ≡ room self.old) }
         ensures err { (facts : List AFact) → stands self.old facts → OnErr result (stands self.new facts) }

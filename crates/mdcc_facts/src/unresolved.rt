@@ -1,6 +1,6 @@
 //! Transactions that a vote holds a choice of and whose outcome was not heard.
 ghost use Rattle.std.specs.Prelude.{◌≡◌, filter_map, option_map, reverse, slice_get};
-ghost use Rattle.mdcc_facts.specs.Walks.{is_next, is_not_heard, least_from, lower_passing, next_tx};
+ghost use Rattle.mdcc_facts.specs.Walks.{is_next_tx, is_not_heard, least_from, lower_passing, next_tx};
 ghost use Rattle.mdcc_protocol.specs.Facts.{unresolved_of, write_set_in, write_sets_from, write_sets_of};
 ghost use Rattle.mdcc_protocol.specs.Stores.{unresolved_at};
 ghost use Rattle.mdcc_struct.specs.Maps.{value_of};
@@ -19,7 +19,7 @@ fn lower_unheard(
     tx: &TxId,
     last: &Option<TxId>,
 ) -> Option<TxId>
-    ensures { result ≡ lower_passing (is_next (is_not_heard (reverse facts.now)) last.now) found tx.now }
+    ensures { result ≡ lower_passing (is_next_tx (is_not_heard (reverse facts.now)) last.now) found tx.now }
 {
     if is_above(last, tx) && is_lower(&found, tx) && !is_heard(facts, tx) {
         Some(*tx)
@@ -35,7 +35,7 @@ fn least_accepted(
     options: &Options,
     last: &Option<TxId>,
 ) -> Option<TxId>
-    ensures { result ≡ least_from (is_next (is_not_heard (reverse facts.now)) last.now) found (filter_map write_set_in options.now) }
+    ensures { result ≡ least_from (is_next_tx (is_not_heard (reverse facts.now)) last.now) found (filter_map write_set_in options.now) }
 {
     let mut least = found;
     for place in 0..options.len() {
@@ -55,7 +55,7 @@ fn least_unresolved(
     fact: &Fact,
     last: &Option<TxId>,
 ) -> Option<TxId>
-    ensures { result ≡ least_from (is_next (is_not_heard (reverse facts.now)) last.now) found (write_sets_from fact.now) }
+    ensures { result ≡ least_from (is_next_tx (is_not_heard (reverse facts.now)) last.now) found (write_sets_from fact.now) }
 {
     match fact {
         Fact::Voted {

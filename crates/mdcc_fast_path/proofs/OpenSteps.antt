@@ -49,6 +49,7 @@ use Rattle.mdcc_rules.specs.declared.node.StepFault.{StepFault}
 use Rattle.mdcc_trace_states.specs.Words.{Each, In}
 use Rattle.mdcc_trace_states.proofs.Lists.{Each-at, Each-from, Each-like, Each-map, In-filter}
 use Rattle.mdcc_trace_limits.proofs.RoundMessages.{led-of-plain}
+use Rattle.mdcc_rules.specs.Here.{here}
 
 -- ---- open before
 
@@ -170,7 +171,7 @@ acted-old manager (Some (ManagerAct.LeadHere choice)) = old-same manager.opened
 acts : (me : ℕ) (facts : List Fact) (volatile : Volatile) (r : Option ManagerAct × Managing) → AreOld volatile.manager.opened r.1.opened → IsKeeping volatile (acted_step me facts volatile r)
 acts me facts volatile (act, manager) h = sent volatile (with_manager volatile manager) _ h
 
-undecided : (cluster : Cluster) (me : ℕ) (facts : List Fact) (volatile : Volatile) (vote : Vote) → IsKeeping volatile (undecided_step cluster me facts volatile vote)
+undecided : (cluster : Cluster) (me : ℕ) (facts : List Fact) (volatile : Volatile) (vote : Vote) → IsKeeping volatile (undecided_step (here cluster me facts) volatile vote)
 undecided cluster me facts volatile vote =
     let taken : Managing = vote_taken cluster.quorums volatile.manager vote in
     let act = act_on_vote cluster.quorums taken vote (decision cluster.quorums taken vote.tx) in
@@ -179,7 +180,7 @@ undecided cluster me facts volatile vote =
     before : AreOld volatile.manager.opened (vote_taken cluster.quorums volatile.manager vote).opened
     before = taken-old cluster.quorums volatile.manager vote
 
-voted : (cluster : Cluster) (me : ℕ) (facts : List Fact) (volatile : Volatile) (vote : Vote) → IsKeeping volatile (voted_step cluster me facts volatile vote)
+voted : (cluster : Cluster) (me : ℕ) (facts : List Fact) (volatile : Volatile) (vote : Vote) → IsKeeping volatile (voted_step (here cluster me facts) volatile vote)
 voted cluster me facts volatile vote =
     elim (cases_Bool (is_heard facts vote.tx)) [
       | inl e ↦ rw e (done volatile volatile (same volatile))
@@ -189,15 +190,15 @@ voted cluster me facts volatile vote =
       ])
     ]
   where
-    opened : (o : Option Outcome) → IsKeeping volatile (opened_step cluster me facts volatile vote o)
+    opened : (o : Option Outcome) → IsKeeping volatile (opened_step (here cluster me facts) volatile vote o)
     opened (Some o) = heard volatile vote.tx o _
     opened None = undecided cluster me facts volatile vote
 
-    watched : (o : Option (TxId × Outcome)) → IsKeeping volatile (watched_step cluster me facts volatile vote o)
+    watched : (o : Option (TxId × Outcome)) → IsKeeping volatile (watched_step (here cluster me facts) volatile vote o)
     watched (Some d) = heard volatile d.0 d.1 _
     watched None = done volatile (with_recovery volatile (Recover.on_voted cluster.quorums facts volatile.recovery vote).1) (same volatile)
 
-escalated : (cluster : Cluster) (me : ℕ) (facts : List Fact) (volatile : Volatile) (a : ℕ) (k : Key) (t : TxId) (cause : Cause) → IsKeeping volatile (escalate_step cluster me facts volatile a k t cause)
+escalated : (cluster : Cluster) (me : ℕ) (facts : List Fact) (volatile : Volatile) (a : ℕ) (k : Key) (t : TxId) (cause : Cause) → IsKeeping volatile (escalate_step (here cluster me facts) volatile a k t cause)
 escalated cluster me facts volatile a k t cause = acts me facts volatile (Manager.on_escalate cluster.quorums volatile.manager a t k cause) old
   where
     old : AreOld volatile.manager.opened (Manager.on_escalate cluster.quorums volatile.manager a t k cause).1.opened
@@ -217,7 +218,7 @@ abbrev IsApartResult : Volatile → Result StepPart LeadFault → Type 0
 IsApartResult volatile (Ok part) = IsApart volatile part
 IsApartResult volatile (Err fault) = ⊤
 
-led : (cluster : Cluster) (me : ℕ) (facts : List Fact) (volatile : Volatile) (claim : Claim) → IsApartResult volatile (led_of cluster me facts volatile claim)
+led : (cluster : Cluster) (me : ℕ) (facts : List Fact) (volatile : Volatile) (claim : Claim) → IsApartResult volatile (led_of (here cluster me facts) volatile claim)
 led cluster me facts volatile claim = by_answer (lead cluster me (epoch_of facts) facts volatile.leader claim) refl
   where
     by_answer : (r : Result (LeadAnswer × Leading) LeadFault) → lead cluster me (epoch_of facts) facts volatile.leader claim ≡ r → IsApartResult volatile (led_by_answer cluster.quorums me volatile claim r)
@@ -239,13 +240,13 @@ apart-step volatile (Ok part) h = record {
   plain = h.plain;
 }
 
-claimed : (cluster : Cluster) (me : ℕ) (facts : List Fact) (volatile : Volatile) (s : ℕ) (choice : Choice) (o : Option Outcome) → IsKeepingResult volatile (lead_step_after cluster me facts volatile s choice o)
+claimed : (cluster : Cluster) (me : ℕ) (facts : List Fact) (volatile : Volatile) (s : ℕ) (choice : Choice) (o : Option Outcome) → IsKeepingResult volatile (lead_step_after (here cluster me facts) volatile s choice o)
 claimed cluster me facts volatile s choice (Some o) = sent volatile volatile _ (same volatile)
-claimed cluster me facts volatile s choice None = apart-step volatile (led_of cluster me facts volatile (claim_of_choice choice)) (led cluster me facts volatile (claim_of_choice choice))
+claimed cluster me facts volatile s choice None = apart-step volatile (led_of (here cluster me facts) volatile (claim_of_choice choice)) (led cluster me facts volatile (claim_of_choice choice))
 
 -- ---- messages
 
-message : (cluster : Cluster) (me : ℕ) (facts : List Fact) (volatile : Volatile) (s : ℕ) (m : Message) → IsKeepingResult volatile (message_step cluster me facts volatile s m)
+message : (cluster : Cluster) (me : ℕ) (facts : List Fact) (volatile : Volatile) (s : ℕ) (m : Message) → IsKeepingResult volatile (message_step (here cluster me facts) volatile s m)
 message cluster me facts volatile s (Message.Propose choice) = proposed me volatile s choice (on_propose cluster facts choice)
 message cluster me facts volatile s (Message.Voted k v b t m) = voted cluster me facts volatile _
 message cluster me facts volatile s (Message.Escalate k v t cause) = escalated cluster me facts volatile s k t cause
@@ -263,8 +264,8 @@ message cluster me facts volatile s (Message.ClientRead n k) = done volatile vol
 message cluster me facts volatile s (Message.ClientBegin n ps) = done volatile volatile (same volatile)
 message cluster me facts volatile s (Message.ClientAnswer n x) = done volatile volatile (same volatile)
 
-pub message-keeps : (cluster : Cluster) (me : ℕ) (facts : List Fact) (volatile : Volatile) (s : ℕ) (m : Message) → IsKeepingResult volatile (checked cluster facts (message_step cluster me facts volatile s m))
-message-keeps cluster me facts volatile s m = by_result (message_step cluster me facts volatile s m) (message cluster me facts volatile s m)
+pub message-keeps : (cluster : Cluster) (me : ℕ) (facts : List Fact) (volatile : Volatile) (s : ℕ) (m : Message) → IsKeepingResult volatile (checked cluster facts (message_step (here cluster me facts) volatile s m))
+message-keeps cluster me facts volatile s m = by_result (message_step (here cluster me facts) volatile s m) (message cluster me facts volatile s m)
   where
     roomy : (step : NodeStep) (o : Option Fact) → IsKeeping volatile step → IsKeepingResult volatile (with_room cluster facts step o)
     roomy step None h = h
@@ -305,35 +306,35 @@ fold-keeps before act (x ∷ xs) part one h =
 quiet-part : (volatile : Volatile) (sends : List Envelope) → IsApart volatile (only_sending volatile sends)
 quiet-part volatile sends = record { manager = refl; plain = λ es a. refl }
 
-claim-part : (cluster : Cluster) (me : ℕ) (facts : List Fact) (volatile : Volatile) (claim : Claim) → IsApart volatile (claim_led cluster me facts volatile claim)
-claim-part cluster me facts volatile claim = by_result (led_of cluster me facts volatile claim) (led cluster me facts volatile claim)
+claim-part : (cluster : Cluster) (me : ℕ) (facts : List Fact) (volatile : Volatile) (claim : Claim) → IsApart volatile (claim_led (here cluster me facts) volatile claim)
+claim-part cluster me facts volatile claim = by_result (led_of (here cluster me facts) volatile claim) (led cluster me facts volatile claim)
   where
     by_result : (r : Result StepPart LeadFault) → IsApartResult volatile r → IsApart volatile (led_or_left volatile r)
     by_result (Ok part) h = h
     by_result (Err fault) h = quiet-part volatile []
 
-manager-part : (cluster : Cluster) (me : ℕ) (facts : List Fact) (volatile : Volatile) (act : ManagerAct) → IsApart volatile (manager_act cluster me facts volatile act)
+manager-part : (cluster : Cluster) (me : ℕ) (facts : List Fact) (volatile : Volatile) (act : ManagerAct) → IsApart volatile (manager_act (here cluster me facts) volatile act)
 manager-part cluster me facts volatile (ManagerAct.Propose choice) = quiet-part volatile _
 manager-part cluster me facts volatile (ManagerAct.LeadHere choice) = claim-part cluster me facts volatile (claim_of_choice choice)
 manager-part cluster me facts volatile (ManagerAct.Lead leader choice) = quiet-part volatile []
 manager-part cluster me facts volatile (ManagerAct.Give centre key) = quiet-part volatile []
 manager-part cluster me facts volatile (ManagerAct.Decide tx outcome) = quiet-part volatile []
 
-recovery-part : (cluster : Cluster) (me : ℕ) (facts : List Fact) (volatile : Volatile) (act : RecoverAct) → IsApart volatile (recovery_act cluster me facts volatile act)
+recovery-part : (cluster : Cluster) (me : ℕ) (facts : List Fact) (volatile : Volatile) (act : RecoverAct) → IsApart volatile (recovery_act (here cluster me facts) volatile act)
 recovery-part cluster me facts volatile (RecoverAct.Ask t k v) = quiet-part volatile _
 recovery-part cluster me facts volatile (RecoverAct.LeadHere claim) = claim-part cluster me facts volatile claim
 
-pub tick-keeps : (cluster : Cluster) (me : ℕ) (facts : List Fact) (volatile : Volatile) → IsKeepingPart volatile.manager.opened (tick_parts cluster me facts volatile)
-tick-keeps cluster me facts volatile = second (manager_ticked cluster me facts volatile) first
+pub tick-keeps : (cluster : Cluster) (me : ℕ) (facts : List Fact) (volatile : Volatile) → IsKeepingPart volatile.manager.opened (tick_parts (here cluster me facts) volatile)
+tick-keeps cluster me facts volatile = second (manager_ticked (here cluster me facts) volatile) first
   where
-    first : IsKeepingPart volatile.manager.opened (manager_ticked cluster me facts volatile)
+    first : IsKeepingPart volatile.manager.opened (manager_ticked (here cluster me facts) volatile)
     first =
-        fold-keeps volatile.manager.opened (manager_act cluster me facts) (Manager.tick cluster.quorums volatile.manager).0 (only_sending (with_manager volatile (Manager.tick cluster.quorums volatile.manager).1) [])
+        fold-keeps volatile.manager.opened (manager_act (here cluster me facts)) (Manager.tick cluster.quorums volatile.manager).0 (only_sending (with_manager volatile (Manager.tick cluster.quorums volatile.manager).1) [])
         (λ v act. manager-part cluster me facts v act)
         (record { opened = old-map (ticked_transaction cluster.quorums volatile.manager.votes) volatile.manager.opened (λ u. (refl, refl)); plain = λ es a. refl })
 
-    second : (part : StepPart) → IsKeepingPart volatile.manager.opened part → IsKeepingPart volatile.manager.opened (recovery_ticked cluster me facts part)
+    second : (part : StepPart) → IsKeepingPart volatile.manager.opened part → IsKeepingPart volatile.manager.opened (recovery_ticked (here cluster me facts) part)
     second part h =
         let ticked = Recover.tick cluster.quorums facts part.after.recovery (txs_opened part.after.manager) in
-        fold-keeps volatile.manager.opened (recovery_act cluster me facts) ticked.0 (record part { after = with_recovery part.after ticked.1 }) (λ v act. recovery-part cluster me facts v act)
+        fold-keeps volatile.manager.opened (recovery_act (here cluster me facts)) ticked.0 (record part { after = with_recovery part.after ticked.1 }) (λ v act. recovery-part cluster me facts v act)
         (record { opened = h.opened; plain = h.plain })

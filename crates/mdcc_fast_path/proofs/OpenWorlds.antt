@@ -24,7 +24,7 @@ use Rattle.mdcc_messages.specs.declared.messages.Message.{Message}
 use Rattle.mdcc_protocol.specs.Belongs.{is_centre}
 use Rattle.mdcc_protocol.specs.Facts.{epoch_of, heard_of, outcome_in}
 use Rattle.mdcc_protocol.specs.IsCluster.{IsCluster}
-use Rattle.mdcc_protocol.specs.Manager.{begin_by, begin_fault}
+use Rattle.mdcc_protocol.specs.Manager.{begin_with, begin_fault}
 use Rattle.mdcc_protocol.specs.Volatile.{Undecided}
 use Rattle.mdcc_rules.specs.ManagerRules.{begin_step_by, proposals_sent}
 use Rattle.mdcc_rules.specs.Messages.{to_all, to_each}
@@ -52,6 +52,7 @@ use Rattle.mdcc_trace_limits.proofs.Walks.{IsWalk, envelopes, trace-reached}
 use Rattle.mdcc_worlds.specs.StepEffects.{ledger_with_fact}
 use Rattle.mdcc_round_trip.specs.Messages.{proposal_of}
 use Rattle.mdcc_fast_path.proofs.OpenSteps.{IsKeeping, IsKeepingResult, WasOpen, message-keeps, old-same, tick-keeps}
+use Rattle.mdcc_rules.specs.Here.{here}
 
 -- what is known of an open transaction of a centre
 pub record IsWell (cluster : Cluster) (es : List Entry) (messages : List Envelope) (a : ℕ) (t : Undecided) : Type 0 where
@@ -230,9 +231,9 @@ module _ (w : World) (a : ℕ) (up : IsUp IsSound w.cluster w.ledger a (centre_a
   message-well : (env : Envelope) → IsWellResult w a (step_at w a (Input.Message env))
   message-well env = pick _
     where
-      pick : (b : Bool) → IsWellResult w a (cond b (checked w.cluster (facts_of w.ledger a) (message_step w.cluster a (facts_of w.ledger a) (centre_at w a).volatile env.from env.message)) (Err StepFault.Foreign))
+      pick : (b : Bool) → IsWellResult w a (cond b (checked w.cluster (facts_of w.ledger a) (message_step (here w.cluster a (facts_of w.ledger a)) (centre_at w a).volatile env.from env.message)) (Err StepFault.Foreign))
       pick true =
-          keeping-result (checked w.cluster (facts_of w.ledger a) (message_step w.cluster a (facts_of w.ledger a) (centre_at w a).volatile env.from env.message))
+          keeping-result (checked w.cluster (facts_of w.ledger a) (message_step (here w.cluster a (facts_of w.ledger a)) (centre_at w a).volatile env.from env.message))
           (message-keeps w.cluster a (facts_of w.ledger a) (centre_at w a).volatile env.from env.message)
       pick false = tt
 
@@ -265,10 +266,10 @@ module _ (w : World) (a : ℕ) (up : IsUp IsSound w.cluster w.ledger a (centre_a
   begin-well parts good = by_fault (begin_fault (facts_of w.ledger a) (centre_at w a).volatile.manager parts) good
     where
       by_fault : (o : Option (Key × BeginFault))
-          → IsGood w.cluster IsSound w.ledger a (Ok (begin_step_by w.cluster a (facts_of w.ledger a) (centre_at w a).volatile parts (begin_by a (epoch_of (facts_of w.ledger a)) (centre_at w a).volatile.manager parts o)))
-          → IsWellResult w a (Ok (begin_step_by w.cluster a (facts_of w.ledger a) (centre_at w a).volatile parts (begin_by a (epoch_of (facts_of w.ledger a)) (centre_at w a).volatile.manager parts o)))
+          → IsGood w.cluster IsSound w.ledger a (Ok (begin_step_by (here w.cluster a (facts_of w.ledger a)) (centre_at w a).volatile parts (begin_with a (epoch_of (facts_of w.ledger a)) (centre_at w a).volatile.manager parts o)))
+          → IsWellResult w a (Ok (begin_step_by (here w.cluster a (facts_of w.ledger a)) (centre_at w a).volatile parts (begin_with a (epoch_of (facts_of w.ledger a)) (centre_at w a).volatile.manager parts o)))
       by_fault (Some fault) g =
-          keeping-result (Ok (begin_step_by w.cluster a (facts_of w.ledger a) (centre_at w a).volatile parts (begin_by a (epoch_of (facts_of w.ledger a)) (centre_at w a).volatile.manager parts (Some fault))))
+          keeping-result (Ok (begin_step_by (here w.cluster a (facts_of w.ledger a)) (centre_at w a).volatile parts (begin_with a (epoch_of (facts_of w.ledger a)) (centre_at w a).volatile.manager parts (Some fault))))
           (record { opened = old-same (centre_at w a).volatile.manager.opened; closes = λ tx o e. absurd (cc); plain = λ es b. refl })
       by_fault None g =
           let tx : TxId = record { centre = a; epoch = epoch_of (facts_of w.ledger a); seq = (centre_at w a).volatile.manager.seq + 1 } in

@@ -4,7 +4,7 @@ ghost use Rattle.mdcc_messages.specs.Lengths.{cells_needed};
 ghost use Rattle.mdcc_messages.specs.declared.facts.Fact.{Fact as AFact};
 ghost use Rattle.mdcc_protocol.specs.Facts.{epoch_of, heard_of, is_heard, promised_through};
 ghost use Rattle.mdcc_protocol.specs.Stores.{ended_of};
-ghost use Rattle.mdcc_facts.specs.Adding.{MayBeAdded, add_of};
+ghost use Rattle.mdcc_facts.specs.Adding.{MayBeAdded, add_result};
 ghost use Rattle.mdcc_fact_folds.specs.Promises.{next_epoch};
 ghost use Rattle.mdcc_fact_tables.specs.HeldVersions.{HoldsVersions, no_versions};
 ghost use Rattle.mdcc_fact_tables.specs.UnresolvedNumbers.{ListsUnresolved};
@@ -151,7 +151,7 @@ impl PoolFacts {
     /// Adds a fact. It takes no memory.
     pub fn add(&mut self, fact: &Fact) -> Result<(), StoreFault>
         requires { (facts : List AFact) → Represents self.old facts → MayBeAdded facts fact.now }
-        ensures answer { (facts : List AFact) → Represents self.old facts → result ≡ add_of self.old.cells.spare (cells_needed fact.now) facts fact.now }
+        ensures answer { (facts : List AFact) → Represents self.old facts → result ≡ add_result self.old.cells.spare (cells_needed fact.now) facts fact.now }
         ensures ok { (facts : List AFact) → Represents self.old facts → OnOk result (Represents self.new (fact.now ∷ facts)) }
         ensures used { OnOk result (self.new.cells.spare + cells_needed fact.now ≡ self.old.cells.spare) }
         ensures err { OnErr result (self.new ≡ self.old) }

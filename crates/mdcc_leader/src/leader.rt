@@ -10,7 +10,7 @@ ghost use Rattle.mdcc_leader.specs.Answers.{answered, is_lead_memory, left};
 ghost use Rattle.mdcc_leader.specs.Represents.{RepresentsLeading};
 ghost use Rattle.mdcc_messages.specs.declared.facts.Fact.{Fact as AFact};
 ghost use Rattle.mdcc_protocol.specs.Leader.{lead, led_anew, on_promise, on_refused};
-ghost use Rattle.mdcc_protocol.specs.Volatile.{Leading, nothing_kept};
+ghost use Rattle.mdcc_protocol.specs.Volatile.{Leading, initial_volatile};
 
 use crate::led::{Led, begin};
 use indexmap::IndexMap;
@@ -33,7 +33,7 @@ impl Leader {
     /// The leader of a centre at the start of one of its epochs.
     pub fn new(alloc: Global, centre: Centre, epoch: u32) -> Result<Leader, Memory>
         ensures { (quorums : Sizes) → AreQuorums quorums
-            → IsOkAnd result (λ leader. RepresentsLeading leader centre epoch quorums nothing_kept.leader) }
+            → IsOkAnd result (λ leader. RepresentsLeading leader centre epoch quorums initial_volatile.leader) }
     {
         Ok(Leader {
             alloc,

@@ -11,7 +11,7 @@ ghost use Rattle.mdcc_manager.specs.Begin.{is_begin_memory, tx_begun};
 ghost use Rattle.mdcc_manager.specs.Numbered.{are_numbered};
 ghost use Rattle.mdcc_manager.specs.Represents.{RepresentsManaging};
 ghost use Rattle.mdcc_protocol.specs.Learner.{is_learned};
-ghost use Rattle.mdcc_protocol.specs.Manager.{act_on_cause, act_on_vote, acted, after_act, begin, begun, choice_unled, decision, lead_act, on_escalate, on_voted, tick, vote_taken, would_decide};
+ghost use Rattle.mdcc_protocol.specs.Manager.{act_on_cause, act_on_vote, acted, after_act, begin, begun_transaction, choice_unled, decision, lead_act, on_escalate, on_voted, tick, vote_taken, would_decide};
 ghost use Rattle.mdcc_protocol.specs.Volatile.{Managing, is_open, manager_closed, txs_opened, with_led};
 ghost use Rattle.mdcc_protocol.specs.declared.manager.ManagerAct.{ManagerAct as AManagerAct};
 ghost use Rattle.mdcc_messages.specs.declared.facts.Fact.{Fact as AFact};
@@ -68,7 +68,7 @@ impl Manager {
             → S.stands store.now facts → RepresentsManaging self.old me epoch quorums managing
             → GivesUnless is_begin_memory result (tx_begun (begin me epoch facts managing transaction.now)) }
         ensures ok { (me epoch : ℕ) (quorums : Sizes) (managing : Managing) → RepresentsManaging self.old me epoch quorums managing
-            → OnOk result (RepresentsManaging self.new me epoch quorums (begun me epoch managing transaction.now).1) }
+            → OnOk result (RepresentsManaging self.new me epoch quorums (begun_transaction me epoch managing transaction.now).1) }
         ensures err { (me epoch : ℕ) (quorums : Sizes) (managing : Managing) → RepresentsManaging self.old me epoch quorums managing
             → OnErr result (RepresentsManaging self.new me epoch quorums managing) }
     {
@@ -88,9 +88,9 @@ impl Manager {
     fn open(&mut self, transaction: &Transaction) -> Result<TxId, Memory>
         requires { self.old.seq < 2 ^ 32 - 1 }
         ensures tx { (me epoch : ℕ) (quorums : Sizes) (managing : Managing) → RepresentsManaging self.old me epoch quorums managing
-            → IfOk result (λ tx. tx ≡ (begun me epoch managing transaction.now).0) }
+            → IfOk result (λ tx. tx ≡ (begun_transaction me epoch managing transaction.now).0) }
         ensures ok { (me epoch : ℕ) (quorums : Sizes) (managing : Managing) → RepresentsManaging self.old me epoch quorums managing
-            → OnOk result (RepresentsManaging self.new me epoch quorums (begun me epoch managing transaction.now).1) }
+            → OnOk result (RepresentsManaging self.new me epoch quorums (begun_transaction me epoch managing transaction.now).1) }
         ensures err { (me epoch : ℕ) (quorums : Sizes) (managing : Managing) → RepresentsManaging self.old me epoch quorums managing
             → OnErr result (RepresentsManaging self.new me epoch quorums managing) }
     {

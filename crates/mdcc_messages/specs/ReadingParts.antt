@@ -23,7 +23,7 @@ use Rattle.mdcc_struct.specs.Options.{Marks}
 use Rattle.mdcc_messages.specs.declared.wire.WireFault.{WireFault}
 use Rattle.mdcc_messages.specs.declared.wire.WireFault.TheVariants.{Truncated, Range, NotCanonical}
 use Rattle.mdcc_messages.specs.WellFormedParts.{is_written}
-use Rattle.mdcc_messages.specs.ReadingSteps.{◌>>=◌, u32_at, u64_at, i64_at, checked, free, same, behind, u8_within, u32_within, elements_at, list_at}
+use Rattle.mdcc_messages.specs.ReadingSteps.{◌>>=◌, u32_at, u64_at, i64_at, checked, free, same, fault_unless_after, u8_within, u32_within, elements_at, list_at}
 
 -- ---- keys, identifiers, ballots
 
@@ -77,7 +77,7 @@ item_at bytes at = do
 
 -- a transaction behind the last one of the list that begins at a place
 abbrev pub tx_behind : ℕ → List ℕ → Option TxId → ℕ → Result (TxId × ℕ) WireFault
-tx_behind part bytes last at = checked (behind tx_lt part last) (tx_at bytes at)
+tx_behind part bytes last at = checked (fault_unless_after tx_lt part last) (tx_at bytes at)
 
 abbrev pub seen_at : List ℕ → ℕ → Result (List TxId × ℕ) WireFault
 seen_at bytes at = list_at at 0 64 (tx_behind at bytes) (λ tx. tx) bytes at
@@ -88,7 +88,7 @@ not_zero part amount = if is_zero_amount (0, amount) then Some (Range part) else
 -- an attribute behind the last one, and its amount
 abbrev pub amount_behind : ℕ → List ℕ → Option ℕ → ℕ → Result ((ℕ × ℤ) × ℕ) WireFault
 amount_behind part bytes last at = do
-  attribute ← checked (behind nat_lt part last) (u8_within part 1 4 bytes at)
+  attribute ← checked (fault_unless_after nat_lt part last) (u8_within part 1 4 bytes at)
   amount ← checked (not_zero part) (i64_at bytes attribute.1)
   Ok ((attribute.0, amount.0), amount.1)
 
@@ -114,7 +114,7 @@ update_at bytes at = do
 -- a key behind the last one, its version and its update
 abbrev pub part_behind : ℕ → List ℕ → Option (List ℕ) → ℕ → Result (Part × ℕ) WireFault
 part_behind part bytes last at = do
-  key ← checked (behind key_lt part last) (key_at bytes at)
+  key ← checked (fault_unless_after key_lt part last) (key_at bytes at)
   version ← u64_at bytes key.1
   update ← update_at bytes version.1
   Ok (record { key = key.0; version = version.0; update = update.0 }, update.1)
@@ -134,7 +134,7 @@ delta_at bytes at = delta_behind at bytes None at
 -- a key behind the last one, and its version
 abbrev pub written_behind : ℕ → List ℕ → Option (List ℕ) → ℕ → Result ((List ℕ × ℕ) × ℕ) WireFault
 written_behind part bytes last at = do
-  key ← checked (behind key_lt part last) (key_at bytes at)
+  key ← checked (fault_unless_after key_lt part last) (key_at bytes at)
   version ← u64_at bytes key.1
   Ok ((key.0, version.0), version.1)
 
@@ -167,7 +167,7 @@ reject_behind part bytes last at = do
 
 abbrev pub accept_behind : ℕ → List ℕ → ℕ → List ℕ → Option TxId → ℕ → Result ((TxId × Mark) × ℕ) WireFault
 accept_behind part key version bytes last at = do
-  choice ← choice_checked (behind tx_lt part last) (same key_eq at key) (same nat_eq at version) bytes at
+  choice ← choice_checked (fault_unless_after tx_lt part last) (same key_eq at key) (same nat_eq at version) bytes at
   Ok ((choice.0.tx, Accept choice.0), choice.1)
 
 -- a mark in a part for this key and version, of a transaction behind the last one
@@ -186,7 +186,7 @@ options_at bytes at key version = do
 
 -- a choice of this transaction, for a key behind the last one
 abbrev pub choice_behind : ℕ → TxId → List ℕ → Option (List ℕ) → ℕ → Result (Choice × ℕ) WireFault
-choice_behind part tx bytes last at = choice_checked (same tx_eq at tx) (behind key_lt part last) free bytes at
+choice_behind part tx bytes last at = choice_checked (same tx_eq at tx) (fault_unless_after key_lt part last) free bytes at
 
 abbrev pub commit_at : List ℕ → ℕ → TxId → Result (Outcome × ℕ) WireFault
 commit_at bytes at tx = do

@@ -35,13 +35,13 @@ i64_at bytes at = do
 
 -- ---- what is asked of a value that was read
 
-abbrev pub unless : {X : Type 0} → Option WireFault → X → Result X WireFault
-unless None x = Ok x
-unless (Some fault) x = Err fault
+abbrev pub unless_fault : {X : Type 0} → Option WireFault → X → Result X WireFault
+unless_fault None x = Ok x
+unless_fault (Some fault) x = Err fault
 
 -- what was read, if the check finds no fault in it
 abbrev pub checked : {X : Type 0} → (X → Option WireFault) → Result (X × ℕ) WireFault → Result (X × ℕ) WireFault
-checked check (Ok x) = unless (check x.0) x
+checked check (Ok x) = unless_fault (check x.0) x
 checked check (Err fault) = Err fault
 
 abbrev pub free : {X : Type 0} → X → Option WireFault
@@ -60,8 +60,8 @@ is_after lt None x = true
 is_after lt (Some last) x = lt last x
 
 -- it stands behind the last one of the list that begins at a place
-abbrev pub behind : {X : Type 0} → (X → X → Bool) → ℕ → Option X → X → Option WireFault
-behind lt part last x = if is_after lt last x then None else Some (NotCanonical part)
+abbrev pub fault_unless_after : {X : Type 0} → (X → X → Bool) → ℕ → Option X → X → Option WireFault
+fault_unless_after lt part last x = if is_after lt last x then None else Some (NotCanonical part)
 
 abbrev pub u8_within : ℕ → ℕ → ℕ → List ℕ → ℕ → Result (ℕ × ℕ) WireFault
 u8_within part low high bytes at = checked (ranged part low high) (u8_at bytes at)

@@ -5,7 +5,7 @@ use Rattle.mdcc_base.specs.Unless.{GivesUnless}
 use Rattle.mdcc_messages.specs.declared.wire.WireFault.{WireFault}
 use Rattle.mdcc_messages.specs.declared.wire.WireFault.TheVariants.{Truncated, Trailing, Kind, Range, NotCanonical, Memory}
 use Rattle.mdcc_messages.specs.ReadingSteps.{◌>>=◌, elements_at}
-use Rattle.mdcc_parts.specs.Reads.{end_of, name_and_end, is_memory}
+use Rattle.mdcc_parts.specs.Reads.{end_of, name_and_end, is_wire_memory}
 
 -- what was read before, and what is still read
 abbrev pub with_front : {X : Type 0} → List X → Result (List X × ℕ) WireFault → Result (List X × ℕ) WireFault
@@ -118,7 +118,7 @@ module _ {X K : Type 0} {read : Option K → ℕ → Result (X × ℕ) WireFault
       sym one ∙ h.whole
 
 -- a fault that is told is told, want of memory or not
-pub unless_memory : {X : Type 0} (fault : WireFault) (expected : Result X WireFault) → Err fault ≡ expected → GivesUnless is_memory (Err fault) expected
+pub unless_memory : {X : Type 0} (fault : WireFault) (expected : Result X WireFault) → Err fault ≡ expected → GivesUnless is_wire_memory (Err fault) expected
 unless_memory Memory expected e = tt
 unless_memory (Truncated at) expected e = e
 unless_memory (Trailing at) expected e = e

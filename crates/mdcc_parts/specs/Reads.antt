@@ -27,10 +27,10 @@ name_and_end name_of read = do
   Ok (name_of x.0, x.1)
 
 -- want of memory
-abbrev pub is_memory : WireFault → Bool
-is_memory (Truncated at) = false
-is_memory (Trailing at) = false
-is_memory Kind = false
-is_memory (Range at) = false
-is_memory (NotCanonical at) = false
-is_memory Memory = true
+abbrev pub is_wire_memory : WireFault → Bool
+is_wire_memory (Truncated at) = false
+is_wire_memory (Trailing at) = false
+is_wire_memory Kind = false
+is_wire_memory (Range at) = false
+is_wire_memory (NotCanonical at) = false
+is_wire_memory Memory = true

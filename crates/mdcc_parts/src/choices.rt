@@ -3,7 +3,7 @@ ghost use Rattle.std.specs.Prelude.{◌≡◌, ◌≤◌, IsTrue, IfOk, None, na
 ghost use Rattle.mdcc_base.specs.Key.{key_eq, key_lt};
 ghost use Rattle.mdcc_base.specs.TxId.{tx_eq, tx_lt};
 ghost use Rattle.mdcc_option.specs.Equality.{written_eq};
-ghost use Rattle.mdcc_messages.specs.ReadingSteps.{checked, free, same, behind, is_after, elements_at};
+ghost use Rattle.mdcc_messages.specs.ReadingSteps.{checked, free, same, fault_unless_after, is_after, elements_at};
 ghost use Rattle.mdcc_messages.specs.ReadingParts.{written_behind, write_set_at, has_own, choice_checked, choice_at, choice_behind};
 ghost use Rattle.mdcc_messages.specs.WellFormedParts.{is_written};
 ghost use Rattle.mdcc_parts.specs.Reads.{choice_behind_version};
@@ -155,7 +155,7 @@ pub fn read_mark_choice(
     last: Option<TxId>,
     at: usize,
 ) -> Result<(Choice, usize), WireFault>
-    ensures exact { result ≡ choice_checked (behind tx_lt part last) (same key_eq at key.now) (same nat_eq at version) bytes.now at }
+    ensures exact { result ≡ choice_checked (fault_unless_after tx_lt part last) (same key_eq at key.now) (same nat_eq at version) bytes.now at }
     ensures follows { IfOk result (λ r. IsTrue (is_after tx_lt last r.0.tx)) }
 {
     let (tx, after) = read_tx_behind(part, bytes, last, at)?;

@@ -4,7 +4,7 @@ ghost use Rattle.mdcc_base.specs.Unless.{GivesUnless};
 ghost use Rattle.mdcc_messages.specs.ReadingSteps.{u64_at, checked, elements_at, list_at};
 ghost use Rattle.mdcc_messages.specs.ReadingParts.{delta_behind};
 ghost use Rattle.mdcc_messages.specs.Reading.{instance_at, at_least, heard_at, given_at};
-ghost use Rattle.mdcc_parts.specs.Reads.{end_of, is_memory};
+ghost use Rattle.mdcc_parts.specs.Reads.{end_of, is_wire_memory};
 
 use crate::identifiers::{read_key, read_tx};
 use crate::items::{read_delta_behind, read_item};
@@ -67,7 +67,7 @@ fn deltas_from(
     count: u8,
     at: usize,
 ) -> Result<(HeapList<Delta>, usize), WireFault>
-    ensures { GivesUnless is_memory result (elements_at (delta_behind part bytes.now) (λ delta. delta.tx) count None at) }
+    ensures { GivesUnless is_wire_memory result (elements_at (delta_behind part bytes.now) (λ delta. delta.tx) count None at) }
 {
     let mut deltas = HeapList::new(alloc);
     let mut last: Option<TxId> = None;
@@ -99,7 +99,7 @@ pub fn read_given(
     bytes: &[u8],
     at: usize,
 ) -> Result<((Key, u64, Item, HeapList<Delta>), usize), WireFault>
-    ensures { GivesUnless is_memory result (given_at bytes.now at) }
+    ensures { GivesUnless is_wire_memory result (given_at bytes.now at) }
 {
     let (key, after) = read_key(bytes, at)?;
     let (version, after) = read_at_least(1, bytes, after)?;

@@ -3,7 +3,7 @@ ghost use Rattle.std.specs.Prelude.{◌≡◌, ◌≤◌, ◌+◌, IsTrue, IfOk,
 ghost use Rattle.std.specs.List.{list_all};
 ghost use Rattle.mdcc_base.specs.Key.{is_key_byte, key_eq, key_lt};
 ghost use Rattle.mdcc_base.specs.TxId.{tx_eq, tx_lt};
-ghost use Rattle.mdcc_messages.specs.ReadingSteps.{u64_at, checked, same, behind, is_after};
+ghost use Rattle.mdcc_messages.specs.ReadingSteps.{u64_at, checked, same, fault_unless_after, is_after};
 ghost use Rattle.mdcc_messages.specs.ReadingParts.{key_by, key_at, tx_at, tx_behind, ballot_from, ballot_at, classic_at};
 
 use crate::numbers::{run_at, truncated, u8_within, u32_within, u64_at};
@@ -141,7 +141,7 @@ pub fn read_key_behind(
     last: Option<Key>,
     at: usize,
 ) -> Result<(Key, usize), WireFault>
-    ensures { result ≡ checked (behind key_lt part last) (key_at bytes.now at) }
+    ensures { result ≡ checked (fault_unless_after key_lt part last) (key_at bytes.now at) }
 {
     let (key, after) = read_key(bytes, at)?;
     match last {

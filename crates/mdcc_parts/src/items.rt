@@ -1,7 +1,7 @@
 //! Items, and what is done to them, read from bytes.
 ghost use Rattle.std.specs.Prelude.{◌≡◌, ◌≤◌, None, nat_lt, take, drop};
 ghost use Rattle.mdcc_base.specs.Key.{key_lt};
-ghost use Rattle.mdcc_messages.specs.ReadingSteps.{i64_at, checked, behind, u8_within, elements_at};
+ghost use Rattle.mdcc_messages.specs.ReadingSteps.{i64_at, checked, fault_unless_after, u8_within, elements_at};
 ghost use Rattle.mdcc_messages.specs.ReadingParts.{body_by, item_at, tx_behind, seen_at, not_zero, amount_behind, amounts_at, write_at, add_at, update_at, part_behind, delta_behind, delta_at};
 
 use crate::identifiers::{read_key_behind, read_tx_behind};
@@ -83,7 +83,7 @@ fn attribute_behind(
     last: Option<u8>,
     at: usize,
 ) -> Result<(u8, usize), WireFault>
-    ensures { result ≡ checked (behind nat_lt part last) (u8_within part 1 4 bytes.now at) }
+    ensures { result ≡ checked (fault_unless_after nat_lt part last) (u8_within part 1 4 bytes.now at) }
 {
     let (attribute, after) = u8_within(part, 1, 4, bytes, at)?;
     match last {

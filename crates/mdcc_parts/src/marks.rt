@@ -5,7 +5,7 @@ ghost use Rattle.mdcc_base.specs.Unless.{GivesUnless};
 ghost use Rattle.mdcc_struct.specs.Maps.{are_ascending};
 ghost use Rattle.mdcc_messages.specs.ReadingSteps.{is_after, elements_at};
 ghost use Rattle.mdcc_messages.specs.ReadingParts.{reject_behind, accept_behind, entry_behind, entry_at, options_at, choice_behind, commit_at, outcome_at, classic_cause_at, limit_cause_at, cause_by, cause_at};
-ghost use Rattle.mdcc_parts.specs.Reads.{end_of, name_and_end, is_memory};
+ghost use Rattle.mdcc_parts.specs.Reads.{end_of, name_and_end, is_wire_memory};
 
 use crate::choices::{read_choice_behind, read_mark_choice};
 use crate::identifiers::{read_classic, read_tx_behind};
@@ -151,7 +151,7 @@ fn entries_from(
     count: u32,
     at: usize,
 ) -> Result<(Options, usize), WireFault>
-    ensures { GivesUnless is_memory result (elements_at (entry_behind part key.now version bytes.now) (λ e. e.0) count None at) }
+    ensures { GivesUnless is_wire_memory result (elements_at (entry_behind part key.now version bytes.now) (λ e. e.0) count None at) }
 {
     let mut options = Options::new(alloc)?;
     let mut last: Option<TxId> = None;
@@ -174,7 +174,7 @@ pub fn read_options(
     key: &Key,
     version: u64,
 ) -> Result<(Options, usize), WireFault>
-    ensures exact { GivesUnless is_memory result (options_at bytes.now at key.now version) }
+    ensures exact { GivesUnless is_wire_memory result (options_at bytes.now at key.now version) }
     // A fault of the bytes is told before any memory is asked for.
     ensures faults_first { IsErr (options_at bytes.now at key.now version) → result ≡ options_at bytes.now at key.now version }
 {

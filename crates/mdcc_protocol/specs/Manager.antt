@@ -62,8 +62,8 @@ begin_fault facts manager parts =
     else (if nat_le 256 (length manager.opened) then Some (first_key parts, BeginFault.Busy) else None))
 
 -- the transaction has the next sequence number of the epoch, and is open
-abbrev pub begun : ℕ → ℕ → Managing → List Part → TxId × Managing
-begun me epoch manager parts =
+abbrev pub begun_transaction : ℕ → ℕ → Managing → List Part → TxId × Managing
+begun_transaction me epoch manager parts =
     let seq = manager.seq + 1 in
     let tx : TxId = record { centre = me; epoch = epoch; seq = seq } in (
       tx,
@@ -73,13 +73,13 @@ begun me epoch manager parts =
       },
     )
 
-abbrev pub begin_by : ℕ → ℕ → Managing → List Part → Option (Key × BeginFault) → Result (TxId × Managing) BeginFault
-begin_by me epoch manager parts (Some fault) = Err fault.1
-begin_by me epoch manager parts None = Ok (begun me epoch manager parts)
+abbrev pub begin_with : ℕ → ℕ → Managing → List Part → Option (Key × BeginFault) → Result (TxId × Managing) BeginFault
+begin_with me epoch manager parts (Some fault) = Err fault.1
+begin_with me epoch manager parts None = Ok (begun_transaction me epoch manager parts)
 
 -- what the manager of a centre answers in its epoch to parts in key order, and leaves
 abbrev pub begin : ℕ → ℕ → List Fact → Managing → List Part → Result (TxId × Managing) BeginFault
-begin me epoch facts manager parts = begin_by me epoch manager parts (begin_fault facts manager parts)
+begin me epoch facts manager parts = begin_with me epoch manager parts (begin_fault facts manager parts)
 
 -- ---- decisions
 

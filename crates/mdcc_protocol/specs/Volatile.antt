@@ -147,8 +147,8 @@ pub record Volatile : Type 0 where
   pub recovery : Recovering
 
 -- what a node keeps when it is booted
-abbrev pub nothing_kept : Volatile
-nothing_kept = record {
+abbrev pub initial_volatile : Volatile
+initial_volatile = record {
   manager = record { seq = 0; opened = []; votes = [] };
   leader = record { leads = []; refused_rounds = []; last_rounds = [] };
   recovery = record { counters = []; votes = [] };

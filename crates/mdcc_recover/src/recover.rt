@@ -5,7 +5,7 @@ ghost use Rattle.mdcc_base.specs.Sizes.{Sizes};
 ghost use Rattle.mdcc_messages.specs.declared.facts.Fact.{Fact as AFact};
 ghost use Rattle.mdcc_protocol.specs.Learner.{decision_of};
 ghost use Rattle.mdcc_protocol.specs.Recover.{acts_on, ask_of, claim_of_key, keys_led, keys_watched, on_voted, tick, watched_vote, would_decide};
-ghost use Rattle.mdcc_protocol.specs.Volatile.{Recovering, counter_of, is_watched, nothing_kept, recovery_closed};
+ghost use Rattle.mdcc_protocol.specs.Volatile.{Recovering, counter_of, is_watched, initial_volatile, recovery_closed};
 ghost use Rattle.mdcc_recover.specs.Represents.{RepresentsRecovering};
 
 use crate::counters::{Counters, count_tick, counter_in, forget, keep_counters, next_count};
@@ -32,7 +32,7 @@ impl Recover {
     /// A recovery that has seen no tick.
     pub fn new(alloc: Global) -> Result<Recover, Memory>
         ensures { (quorums : Sizes) → AreQuorums quorums
-            → IsOkAnd result (λ recover. RepresentsRecovering recover quorums nothing_kept.recovery) }
+            → IsOkAnd result (λ recover. RepresentsRecovering recover quorums initial_volatile.recovery) }
     {
         Ok(Recover {
             alloc,

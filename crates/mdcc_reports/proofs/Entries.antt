@@ -45,6 +45,7 @@ use Rattle.mdcc_rules.specs.TickRules.{claim_led, led_or_left, manager_act, mana
 use Rattle.mdcc_rules.specs.declared.node.Input.{Input}
 use Rattle.mdcc_rules.specs.declared.node.StepFault.{StepFault}
 use Rattle.mdcc_reports.proofs.Lists.{each-append}
+use Rattle.mdcc_rules.specs.Here.{here}
 
 -- an entry that is no centre's fact
 abbrev pub IsNoFact : Entry → Type 0
@@ -96,25 +97,25 @@ given volatile (Some fact) = tt
 
 -- ---- manager
 
-undecided : (cluster : Cluster) (me : ℕ) (facts : List Fact) (volatile : Volatile) (vote : Vote) → NoFacts (undecided_step cluster me facts volatile vote).entries
+undecided : (cluster : Cluster) (me : ℕ) (facts : List Fact) (volatile : Volatile) (vote : Vote) → NoFacts (undecided_step (here cluster me facts) volatile vote).entries
 undecided cluster me facts volatile vote = tt
 
-opened : (cluster : Cluster) (me : ℕ) (facts : List Fact) (volatile : Volatile) (vote : Vote) (o : Option Outcome) → NoFacts (opened_step cluster me facts volatile vote o).entries
+opened : (cluster : Cluster) (me : ℕ) (facts : List Fact) (volatile : Volatile) (vote : Vote) (o : Option Outcome) → NoFacts (opened_step (here cluster me facts) volatile vote o).entries
 opened cluster me facts volatile vote (Some outcome) = tt
 opened cluster me facts volatile vote None = undecided cluster me facts volatile vote
 
-watched : (cluster : Cluster) (me : ℕ) (facts : List Fact) (volatile : Volatile) (vote : Vote) (o : Option (TxId × Outcome)) → NoFacts (watched_step cluster me facts volatile vote o).entries
+watched : (cluster : Cluster) (me : ℕ) (facts : List Fact) (volatile : Volatile) (vote : Vote) (o : Option (TxId × Outcome)) → NoFacts (watched_step (here cluster me facts) volatile vote o).entries
 watched cluster me facts volatile vote (Some decided) = tt
 watched cluster me facts volatile vote None = tt
 
-voted : (cluster : Cluster) (me : ℕ) (facts : List Fact) (volatile : Volatile) (vote : Vote) → NoFacts (voted_step cluster me facts volatile vote).entries
+voted : (cluster : Cluster) (me : ℕ) (facts : List Fact) (volatile : Volatile) (vote : Vote) → NoFacts (voted_step (here cluster me facts) volatile vote).entries
 voted cluster me facts volatile vote =
     either (is_heard facts vote.tx) _ _ tt
     (either (is_open volatile.manager vote.tx) _ _
     (opened cluster me facts volatile vote (Manager.would_decide cluster.quorums volatile.manager vote))
     (watched cluster me facts volatile vote (Recover.would_decide cluster.quorums facts volatile.recovery vote)))
 
-begun : (cluster : Cluster) (me : ℕ) (facts : List Fact) (volatile : Volatile) (parts : List Part) (r : Result (TxId × Managing) BeginFault) → NoFacts (begin_step_by cluster me facts volatile parts r).entries
+begun : (cluster : Cluster) (me : ℕ) (facts : List Fact) (volatile : Volatile) (parts : List Part) (r : Result (TxId × Managing) BeginFault) → NoFacts (begin_step_by (here cluster me facts) volatile parts r).entries
 begun cluster me facts volatile parts (Err fault) = tt
 begun cluster me facts volatile parts (Ok (tx, manager)) = (tt, tt)
 
@@ -135,7 +136,7 @@ answered quorums me volatile claim (Ok (LeadAnswer.Accept version ballot options
     pick true = tt
     pick false = (tt, tt)
 
-led-here : (cluster : Cluster) (me : ℕ) (facts : List Fact) (volatile : Volatile) (claim : Claim) → LedNoFacts (led_of cluster me facts volatile claim)
+led-here : (cluster : Cluster) (me : ℕ) (facts : List Fact) (volatile : Volatile) (claim : Claim) → LedNoFacts (led_of (here cluster me facts) volatile claim)
 led-here cluster me facts volatile claim = answered cluster.quorums me volatile claim (lead cluster me (epoch_of facts) facts volatile.leader claim)
 
 promised : (quorums : Sizes) (me : ℕ) (volatile : Volatile) (key : Key) (r : Result (PromiseAnswer × Leading) LeadFault) → LedNoFacts (promised_by_answer quorums me volatile key r)
@@ -149,13 +150,13 @@ step-led : (r : Result StepPart LeadFault) → LedNoFacts r → BringsNoFacts (s
 step-led (Ok led) h = h
 step-led (Err fault) h = tt
 
-claimed : (cluster : Cluster) (me : ℕ) (facts : List Fact) (volatile : Volatile) (s : ℕ) (choice : Choice) (o : Option Outcome) → BringsNoFacts (lead_step_after cluster me facts volatile s choice o)
+claimed : (cluster : Cluster) (me : ℕ) (facts : List Fact) (volatile : Volatile) (s : ℕ) (choice : Choice) (o : Option Outcome) → BringsNoFacts (lead_step_after (here cluster me facts) volatile s choice o)
 claimed cluster me facts volatile s choice (Some outcome) = tt
-claimed cluster me facts volatile s choice None = step-led (led_of cluster me facts volatile _) (led-here cluster me facts volatile _)
+claimed cluster me facts volatile s choice None = step-led (led_of (here cluster me facts) volatile _) (led-here cluster me facts volatile _)
 
 -- ---- messages
 
-message : (cluster : Cluster) (me : ℕ) (facts : List Fact) (volatile : Volatile) (s : ℕ) (m : Message) → BringsNoFacts (message_step cluster me facts volatile s m)
+message : (cluster : Cluster) (me : ℕ) (facts : List Fact) (volatile : Volatile) (s : ℕ) (m : Message) → BringsNoFacts (message_step (here cluster me facts) volatile s m)
 message cluster me facts volatile s (Message.Propose choice) = proposed me volatile s choice (on_propose cluster facts choice)
 message cluster me facts volatile s (Message.Voted key version ballot tx mark) = voted cluster me facts volatile _
 message cluster me facts volatile s (Message.Escalate key version tx cause) = tt
@@ -191,44 +192,44 @@ folded act each [] before h = h
 folded act each (x ∷ xs) before h = folded act each xs (and_then act before x) (each-append IsNoFact (act before.after x).entries before.entries (each before.after x) h)
 
 module _ (cluster : Cluster) (me : ℕ) (facts : List Fact) where
-  claim : (volatile : Volatile) (c : Claim) → NoFacts (claim_led cluster me facts volatile c).entries
-  claim volatile c = by_led (led_of cluster me facts volatile c) (led-here cluster me facts volatile c)
+  claim : (volatile : Volatile) (c : Claim) → NoFacts (claim_led (here cluster me facts) volatile c).entries
+  claim volatile c = by_led (led_of (here cluster me facts) volatile c) (led-here cluster me facts volatile c)
     where
       by_led : (r : Result StepPart LeadFault) → LedNoFacts r → NoFacts (led_or_left volatile r).entries
       by_led (Ok led) h = h
       by_led (Err fault) h = tt
 
-  manager : (volatile : Volatile) (act : ManagerAct) → NoFacts (manager_act cluster me facts volatile act).entries
+  manager : (volatile : Volatile) (act : ManagerAct) → NoFacts (manager_act (here cluster me facts) volatile act).entries
   manager volatile (ManagerAct.Propose choice) = tt
   manager volatile (ManagerAct.LeadHere choice) = claim volatile _
   manager volatile (ManagerAct.Lead leader choice) = tt
   manager volatile (ManagerAct.Give centre key) = tt
   manager volatile (ManagerAct.Decide tx outcome) = tt
 
-  recovered : (volatile : Volatile) (act : RecoverAct) → NoFacts (recovery_act cluster me facts volatile act).entries
+  recovered : (volatile : Volatile) (act : RecoverAct) → NoFacts (recovery_act (here cluster me facts) volatile act).entries
   recovered volatile (RecoverAct.Ask tx key version) = tt
   recovered volatile (RecoverAct.LeadHere c) = claim volatile c
 
-  first : (volatile : Volatile) → NoFacts (manager_ticked cluster me facts volatile).entries
+  first : (volatile : Volatile) → NoFacts (manager_ticked (here cluster me facts) volatile).entries
   first volatile =
       let next = Manager.tick cluster.quorums volatile.manager in
-      folded (manager_act cluster me facts) manager next.0 (only_sending (with_manager volatile next.1) []) tt
+      folded (manager_act (here cluster me facts)) manager next.0 (only_sending (with_manager volatile next.1) []) tt
 
-  second : (part : StepPart) → NoFacts part.entries → NoFacts (recovery_ticked cluster me facts part).entries
+  second : (part : StepPart) → NoFacts part.entries → NoFacts (recovery_ticked (here cluster me facts) part).entries
   second part h =
       let next = Recover.tick cluster.quorums facts part.after.recovery (txs_opened part.after.manager) in
-      folded (recovery_act cluster me facts) recovered next.0 (record part { after = with_recovery part.after next.1 }) h
+      folded (recovery_act (here cluster me facts)) recovered next.0 (record part { after = with_recovery part.after next.1 }) h
 
-  tick : (volatile : Volatile) → NoFacts (tick_parts cluster me facts volatile).entries
-  tick volatile = second (manager_ticked cluster me facts volatile) (first volatile)
+  tick : (volatile : Volatile) → NoFacts (tick_parts (here cluster me facts) volatile).entries
+  tick volatile = second (manager_ticked (here cluster me facts) volatile) (first volatile)
 
   -- ---- steps
 
   -- a step's own entries have no fact
-  pub step-entries : (volatile : Volatile) (input : Input) → BringsNoFacts (step_of cluster me facts volatile input)
+  pub step-entries : (volatile : Volatile) (input : Input) → BringsNoFacts (step_of (here cluster me facts) volatile input)
   step-entries volatile (Input.Message envelope) =
       elim (cases_Bool (is_own_message cluster me envelope)) [
-        | inl e ↦ rw e (checked-message cluster facts (message_step cluster me facts volatile envelope.from envelope.message) (message cluster me facts volatile envelope.from envelope.message))
+        | inl e ↦ rw e (checked-message cluster facts (message_step (here cluster me facts) volatile envelope.from envelope.message) (message cluster me facts volatile envelope.from envelope.message))
         | inr e ↦ rw e tt
       ]
   step-entries volatile Input.Tick = tick volatile

@@ -15,7 +15,7 @@ use Rattle.mdcc_language.specs.Resolve.{resolve}
 use Rattle.mdcc_simulation.specs.State.{Happened, Site, World, after_lines, centre_at, counted_event, down, is_up_at, next_message, with_centre}
 use Rattle.mdcc_messages.specs.Mailbox.{Sent, numbered, with_delivered}
 use Rattle.mdcc_simulation.specs.Clients.{answer_in, begin_lines, after_begin, begun_by, parts_begun, read_happened}
-use Rattle.mdcc_simulation.specs.Limits.{cells_limit, if_up, is_limit, is_past_events, log_limit, most_events, step_limit, unless_limit, with_lines, within_events}
+use Rattle.mdcc_simulation.specs.Limits.{passed_cells_limit, if_up, is_limit, is_past_events, passed_log_limit, most_events, step_limit, unless_limit, with_lines, within_events}
 use Rattle.mdcc_simulation.specs.Deliveries.{deliver_line, after_message, after_deliveries, after_delivery_by, after_delivery, first_waiting, is_waiting_for, after_settle, settled_line, settled_of}
 use Rattle.mdcc_simulation.specs.Events.{after_event, happened_of, is_deliver}
 use Rattle.mdcc_simulation.specs.AppliedSteps.{fact_happened, input_happened, is_frame_kept, step_at, step_happened_by, step_stopped}
@@ -260,7 +260,7 @@ module _ (R : World → World → List Line → Type 0) (kept : IsKept R) where
 
   restart-kept : (w : World) (a : ℕ) → IsOpen w → OkKept R w (after_restart (counted_event w) a)
   restart-kept w a free =
-      unless-kept w (option_or (cells_limit (counted_event w) a (Fact.Booted (epoch_of (facts_of w.ledger a) + 1))) (log_limit (counted_event w) a (Fact.Booted (epoch_of (facts_of w.ledger a) + 1))))
+      unless-kept w (option_or (passed_cells_limit (counted_event w) a (Fact.Booted (epoch_of (facts_of w.ledger a) + 1))) (passed_log_limit (counted_event w) a (Fact.Booted (epoch_of (facts_of w.ledger a) + 1))))
       (restart_happened (counted_event w) a (epoch_of (facts_of w.ledger a) + 1))
       (told w (restart_happened (counted_event w) a (epoch_of (facts_of w.ledger a) + 1)).world _ refl (kept.boot w a (epoch_of (facts_of w.ledger a) + 1) free))
 

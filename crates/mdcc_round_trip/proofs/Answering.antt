@@ -1,5 +1,6 @@
 -- The votes are delivered one after the other: the centre hears the commit at the last of them.
-use Rattle.std.proofs.Common.{◌≡◌, ℕ, ◌+◌, ◌-◌, ◌≤◌, ◌<◌, ◌==◌, ◌&&◌, Bool, true, false, List, [], ◌∷◌, ◌++◌, refl, sym, ap, ◌∙◌, subst, inl, inr, arith, map, length, nat_le, append_assoc, append-nil, IsPermutation, Option, Some, None, Ok, Err}
+use Rattle.std.proofs.Common.{◌≡◌, ℕ, ◌+◌, ◌-◌, ◌≤◌, ◌<◌, ◌==◌, ◌&&◌, Bool, true, false, List, [], ◌∷◌, ◌++◌, refl, sym, ap, ◌∙◌, subst, inl, inr, arith, map, length, nat_le, append_assoc, append-nil, IsPermutation, Option, Some, None, Ok, Err, is_some}
+use Rattle.std.specs.Prelude.{if◌then◌else◌}
 use Rattle.std.specs.List.{AllByRecursion, list_any}
 use Rattle.std.proofs.lemmas.Bool.{and_left, and_parts, and_right, cases_Bool, leb-true, true≢false}
 use Rattle.std.proofs.lemmas.List.{get_or-set_same, length-set, map-append}
@@ -23,9 +24,10 @@ use Rattle.mdcc_protocol.specs.Learner.{collided, is_barred_by, with_vote}
 use Rattle.mdcc_protocol.specs.Manager
 use Rattle.mdcc_protocol.specs.Manager.{act_on_vote, acted, decision, vote_taken, would_decide}
 use Rattle.mdcc_protocol.specs.News.{is_crowding}
+use Rattle.mdcc_protocol.specs.Recover
 use Rattle.mdcc_protocol.specs.Volatile.{Managing, Undecided, Volatile, is_open, opened_of, with_manager}
 use Rattle.mdcc_protocol.specs.declared.votes.Vote.{Vote}
-use Rattle.mdcc_rules.specs.ManagerRules.{acted_step, decided_step, opened_step, undecided_step}
+use Rattle.mdcc_rules.specs.ManagerRules.{acted_step, decided_step, opened_step, undecided_step, voted_step, watched_step}
 use Rattle.mdcc_rules.specs.Node.{cells_spare, checked, is_without_room, step_of}
 use Rattle.mdcc_rules.specs.Steps.{NodeStep, nothing_done}
 use Rattle.mdcc_rules.specs.declared.node.Input.{Input}
@@ -41,6 +43,7 @@ use Rattle.mdcc_round_trip.proofs.Deciding.{IsIn, committed-with, each-in, of-ea
 use Rattle.mdcc_round_trip.proofs.Delivering.{Delivers, Name, counted, delivery-told, delivery_told, messages-after, name-more}
 use Rattle.mdcc_round_trip.proofs.Proposing.{NoneDropped, NoneHears, number-same, room-fits}
 use Rattle.mdcc_round_trip.proofs.Lists.{each-append, each-back, each-both, each-front, each-map, each-weaker, none-numbered, number-append}
+use Rattle.mdcc_rules.specs.Here.{here}
 
 -- ---- a vote that is counted
 
@@ -88,15 +91,23 @@ module _ (cluster : Cluster) (a : ℕ) (facts : List Fact) (volatile : Volatile)
   belonging : (tx_belongs cluster pair.0.tx ≡ true) × (update_belongs cluster pair.0.update ≡ true)
   belonging = and_parts (tx_belongs cluster pair.0.tx) (update_belongs cluster pair.0.update) belongs
 
-  pub vote-step : step_of cluster a facts volatile (Input.Message (vote_of_member a pair))
-      ≡ checked cluster facts (Ok (opened_step cluster a facts volatile (vote_counted pair) (would_decide cluster.quorums volatile.manager (vote_counted pair))))
-  vote-step = rw (number-same a, centre, belonging.0, belonging.1, unheard, open') refl
+  -- the vote's transaction is open, and was not heard
+  voted-open : voted_step (here cluster a facts) volatile (vote_counted pair) ≡ opened_step (here cluster a facts) volatile (vote_counted pair) (would_decide cluster.quorums volatile.manager (vote_counted pair))
+  voted-open =
+      ap (λ (heard : Option Outcome). if is_some heard then nothing_done volatile else (if is_open volatile.manager pair.0.tx
+      then opened_step (here cluster a facts) volatile (vote_counted pair) (would_decide cluster.quorums volatile.manager (vote_counted pair))
+      else watched_step (here cluster a facts) volatile (vote_counted pair) (Recover.would_decide cluster.quorums facts volatile.recovery (vote_counted pair)))) unheard
+      ∙ rw (opened-first volatile.manager t pair.0.tx open') refl
+
+  pub vote-step : step_of (here cluster a facts) volatile (Input.Message (vote_of_member a pair))
+      ≡ checked cluster facts (Ok (opened_step (here cluster a facts) volatile (vote_counted pair) (would_decide cluster.quorums volatile.manager (vote_counted pair))))
+  vote-step = rw (number-same a, centre, belonging.0, belonging.1) (ap (λ (step : NodeStep). checked cluster facts (Ok step)) voted-open)
 
 -- where it decides nothing and nothing has collided, it is taken and nothing is sent
 undecided-taken : (cluster : Cluster) (a : ℕ) (facts : List Fact) (volatile : Volatile) (pair : Choice × ℕ)
     → decision cluster.quorums (vote_taken cluster.quorums volatile.manager (vote_counted pair)) pair.0.tx ≡ None
     → collided cluster.quorums (vote_taken cluster.quorums volatile.manager (vote_counted pair)).votes pair.0.tx pair.0.key ≡ false
-    → undecided_step cluster a facts volatile (vote_counted pair) ≡ nothing_done (with_manager volatile (vote_taken cluster.quorums volatile.manager (vote_counted pair)))
+    → undecided_step (here cluster a facts) volatile (vote_counted pair) ≡ nothing_done (with_manager volatile (vote_taken cluster.quorums volatile.manager (vote_counted pair)))
 undecided-taken cluster a facts volatile pair none apart =
     ap (λ act. acted_step a facts volatile (acted (vote_taken cluster.quorums volatile.manager (vote_counted pair)) act)) acting
   where
@@ -164,9 +175,6 @@ module _ (w : World) (a : ℕ) (t : Undecided) (members : List ℕ) (order : Lis
   -- a vote at a world that has counted those before it
   module _ (before : List (Choice × ℕ)) (pair : Choice × ℕ) (after : List (Choice × ℕ)) (is : order ≡ before ++ pair ∷ after) (u : World) (c : Counted before u)
       (number : ℕ) (next : Happened) (named : message_at u number ≡ Some (vote_of_member a pair)) (answer : after_delivery u number ≡ Ok next) where
-    abbrev here : Volatile
-    here = (centre_at u a).volatile
-
     pair-is : IsVoted w.cluster t pair
     pair-is = at-split before pair after is
 
@@ -189,18 +197,18 @@ module _ (w : World) (a : ℕ) (t : Undecided) (members : List ℕ) (order : Lis
         ∙ ap (decision w.cluster.quorums (counting (centre_at w a).volatile.manager (before ++ pair ∷ []))) pair-is.own
 
     step-here : step_at (counted u number) a (Input.Message (vote_of_member a pair))
-        ≡ checked u.cluster (facts_of u.ledger a) (Ok (opened_step u.cluster a (facts_of u.ledger a) (centre_at u a).volatile (vote_counted pair) (would_decide u.cluster.quorums (centre_at u a).volatile.manager (vote_counted pair))))
+        ≡ checked u.cluster (facts_of u.ledger a) (Ok (opened_step (here u.cluster a (facts_of u.ledger a)) (centre_at u a).volatile (vote_counted pair) (would_decide u.cluster.quorums (centre_at u a).volatile.manager (vote_counted pair))))
     step-here =
         vote-step u.cluster a (facts_of u.ledger a) (centre_at u a).volatile t pair
         (subst (λ (k : Cluster). is_centre k pair.1 ≡ true) (sym c.cluster) pair-is.centre) (subst (λ (k : Cluster). choice_belongs k pair.0 ≡ true) (sym c.cluster) pair-is.belongs)
         unheard-here open-here
 
     told-by : (o : Option Outcome) → would_decide u.cluster.quorums (centre_at u a).volatile.manager (vote_counted pair) ≡ o
-        → next ≡ delivery_told number (input_happened (counted u number) a (checked u.cluster (facts_of u.ledger a) (Ok (opened_step u.cluster a (facts_of u.ledger a) (centre_at u a).volatile (vote_counted pair) o))))
+        → next ≡ delivery_told number (input_happened (counted u number) a (checked u.cluster (facts_of u.ledger a) (Ok (opened_step (here u.cluster a (facts_of u.ledger a)) (centre_at u a).volatile (vote_counted pair) o))))
     told-by o e =
         delivery-told u number (vote_of_member a pair) next named answer
         ∙ ap (λ r. delivery_told number (input_happened (counted u number) a r)) step-here
-        ∙ ap (λ d. delivery_told number (input_happened (counted u number) a (checked u.cluster (facts_of u.ledger a) (Ok (opened_step u.cluster a (facts_of u.ledger a) (centre_at u a).volatile (vote_counted pair) d))))) e
+        ∙ ap (λ d. delivery_told number (input_happened (counted u number) a (checked u.cluster (facts_of u.ledger a) (Ok (opened_step (here u.cluster a (facts_of u.ledger a)) (centre_at u a).volatile (vote_counted pair) d))))) e
 
     -- ---- one that decides nothing
 

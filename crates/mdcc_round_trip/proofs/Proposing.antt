@@ -20,7 +20,7 @@ use Rattle.mdcc_protocol.specs.Facts.{current_of, deltas_at, executed_of, heard_
 use Rattle.mdcc_protocol.specs.News.{is_crowding, keys_in}
 use Rattle.mdcc_protocol.specs.Volatile.{Volatile}
 use Rattle.mdcc_messages.specs.Lengths.{cells_needed, cells_used}
-use Rattle.mdcc_rules.specs.Node.{cells_spare, is_without_room, step_of}
+use Rattle.mdcc_rules.specs.Node.{cells_spare, checked, is_without_room, step_of}
 use Rattle.mdcc_rules.specs.declared.node.Input.{Input}
 use Rattle.mdcc_rules.specs.declared.node.StepFault.{StepFault}
 use Rattle.mdcc_simulation.specs.Deliveries.{after_delivery}
@@ -33,6 +33,9 @@ use Rattle.mdcc_round_trip.proofs.Apart.{key-same, key-true, of_both}
 use Rattle.mdcc_round_trip.proofs.Delivering.{Delivers, Name, counted, delivery-told, delivery_told, messages-after, name-more}
 use Rattle.mdcc_round_trip.proofs.Elsewhere.{answers-alike, or-none, voted-alike}
 use Rattle.mdcc_round_trip.proofs.Lists.{each-any, each-append, each-back, each-both, each-front, each-map, each-weaker, none-numbered}
+use Rattle.mdcc_rules.specs.Here.{here}
+use Rattle.mdcc_rules.specs.AcceptorRules.{proposed_step}
+use Rattle.mdcc_protocol.specs.declared.acceptor.ProposeAnswer.{ProposeAnswer}
 
 -- ---- one step
 
@@ -41,8 +44,9 @@ number-same n = eq-eqb n n refl
 
 proposal-step : (cluster : Cluster) (a : ℕ) (facts : List Fact) (volatile : Volatile) (pair : Choice × ℕ)
     → is_centre cluster a ≡ true → choice_belongs cluster pair.0 ≡ true → IsAccepted cluster facts pair.0
-    → step_of cluster pair.1 facts volatile (Input.Message (proposal_of a pair)) ≡ vote_if_roomy cluster facts volatile a pair
-proposal-step cluster a facts volatile pair centre belongs accepted = rw (number-same pair.1, centre, belongs, accepted) refl
+    → step_of (here cluster pair.1 facts) volatile (Input.Message (proposal_of a pair)) ≡ vote_if_roomy cluster facts volatile a pair
+proposal-step cluster a facts volatile pair centre belongs accepted =
+    rw (number-same pair.1, centre, belongs) (ap (λ (answer : ProposeAnswer). checked cluster facts (Ok (proposed_step pair.1 volatile a pair.0 answer))) accepted)
 
 any-alike : {X : Type 0} (p q : X → Bool) (xs : List X) → ((x : X) → p x ≡ q x) → list_any p xs ≡ list_any q xs
 any-alike p q [] h = refl

@@ -16,7 +16,7 @@ use Rattle.mdcc_rules.specs.Steps.{NodeStep}
 use Rattle.mdcc_rules.specs.declared.node.Input.{Input}
 use Rattle.mdcc_rules.specs.declared.node.StepFault.{StepFault}
 use Rattle.mdcc_simulation.specs.Deliveries.{deliver_line, after_deliveries, after_delivery_by, after_delivery}
-use Rattle.mdcc_simulation.specs.Limits.{bytes_limit, is_limit, is_past_events, limit_if, log_limit, most_events, step_limit, step_limit_by, unless_limit, with_lines, within_events}
+use Rattle.mdcc_simulation.specs.Limits.{passed_bytes_limit, is_limit, is_past_events, limit_if, passed_log_limit, most_events, step_limit, step_limit_by, unless_limit, with_lines, within_events}
 use Rattle.mdcc_simulation.specs.State.{Happened, Site, World, after_lines, booted, centre_at, is_up_at}
 use Rattle.mdcc_simulation.specs.AppliedSteps.{fact_happened, input_happened, step_at, step_happened_by}
 use Rattle.mdcc_round_trip.specs.Refusals.{GoesUp}
@@ -51,8 +51,8 @@ limit-step w a (Ok step) = by step.fact
     by : (o : Option Fact) → AreLimits (step_limit_by w a step o)
     by None = limit-if _ _ _
     by (Some fact) =
-        limit-or (log_limit w a fact) (cond (is_some (centre_at w a).stop) None (bytes_limit w step.sends)) (limit-if _ _ _)
-        (limit-unless_some (is_some (centre_at w a).stop) (bytes_limit w step.sends) (limit-if _ _ _))
+        limit-or (passed_log_limit w a fact) (cond (is_some (centre_at w a).stop) None (passed_bytes_limit w step.sends)) (limit-if _ _ _)
+        (limit-unless_some (is_some (centre_at w a).stop) (passed_bytes_limit w step.sends) (limit-if _ _ _))
 
 limit-unless : {X : Type 0} (o : Option EventFault) (x : X) (fault : EventFault) → AreLimits o → unless_limit o x ≡ Err fault → is_limit fault ≡ true
 limit-unless None x fault h e = absurd (cc)

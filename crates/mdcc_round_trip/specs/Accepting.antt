@@ -17,6 +17,7 @@ use Rattle.mdcc_rules.specs.declared.node.Input.{Input}
 use Rattle.mdcc_rules.specs.declared.node.StepFault.{StepFault}
 use Rattle.mdcc_round_trip.specs.Messages.{accepting_fact, proposal_of, vote_of_member}
 use Rattle.std.specs.Prelude.{[], ◌∷◌}
+use Rattle.mdcc_rules.specs.Here.{here}
 
 -- the acceptor gives a vote to accept the choice
 abbrev pub IsAccepted : Cluster → List Fact → Choice → Type 0
@@ -46,4 +47,4 @@ ProposalsGiveVotes =
     (cluster : Cluster) (a : ℕ) (facts : List Fact) (volatile : Volatile) (pair : Choice × ℕ)
     → is_centre cluster a ≡ true → choice_belongs cluster pair.0 ≡ true
     → IsAccepted cluster facts pair.0
-    → step_of cluster pair.1 facts volatile (Input.Message (proposal_of a pair)) ≡ vote_if_roomy cluster facts volatile a pair
+    → step_of (here cluster pair.1 facts) volatile (Input.Message (proposal_of a pair)) ≡ vote_if_roomy cluster facts volatile a pair

@@ -7,7 +7,6 @@ use Rattle.mdcc_base.specs.declared.key.Key.{Key}
 use Rattle.mdcc_option.specs.declared.choices.Choice.{Choice}
 use Rattle.mdcc_option.specs.declared.choices.Mark.{Mark}
 use Rattle.mdcc_option.specs.declared.choices.Outcome.{Outcome}
-use Rattle.mdcc_option.specs.declared.cluster.Cluster.{Cluster}
 use Rattle.mdcc_struct.specs.declared.options.Options.{Options}
 use Rattle.mdcc_protocol.specs.Acceptor.{new_marks, on_accept, on_prepare, on_propose}
 use Rattle.mdcc_protocol.specs.Facts.{heard_of, is_heard, report_of, vote_of}
@@ -21,6 +20,7 @@ use Rattle.mdcc_protocol.specs.declared.acceptor.ProposeAnswer.{ProposeAnswer}
 use Rattle.mdcc_messages.specs.declared.facts.Fact.{Fact}
 use Rattle.mdcc_messages.specs.declared.messages.Envelope.{Envelope}
 use Rattle.mdcc_messages.specs.declared.messages.Message.{Message}
+use Rattle.mdcc_rules.specs.Here.{Here}
 
 -- ---- proposals
 
@@ -37,8 +37,8 @@ proposed_step me volatile s choice (ProposeAnswer.Vote mark) =
     (to_one me s (Message.Voted choice.key choice.version fast_ballot choice.tx mark))
 
 -- a proposal from s
-abbrev pub propose_step : Cluster → ℕ → List Fact → Volatile → ℕ → Choice → NodeStep
-propose_step cluster me facts volatile s choice = proposed_step me volatile s choice (on_propose cluster facts choice)
+abbrev pub propose_step : Here → Volatile → ℕ → Choice → NodeStep
+propose_step here volatile s choice = proposed_step here.me volatile s choice (on_propose here.cluster here.facts choice)
 
 -- ---- promises
 

@@ -23,11 +23,15 @@ loaded_from cluster facts n (Some fact ∷ payloads) =
     else (if is_past_cells cluster facts fact then Err (room_fault cluster facts fact)
     else loaded_from cluster (fact ∷ facts) (n + 1) payloads)
 
+-- the boot of the next epoch
+abbrev pub next_boot : List Fact → Fact
+next_boot facts = Fact.Booted (epoch_of facts + 1)
+
 -- the next epoch begins
 abbrev pub booted_by : Cluster → Result (List Fact) BootFault → Result (List Fact) BootFault
 booted_by cluster (Err fault) = Err fault
 booted_by cluster (Ok facts) =
-    let fact = Fact.Booted (epoch_of facts + 1) in
+    let fact = next_boot facts in
     if nat_le (2 ^ 32 - 1) (epoch_of facts) then Err BootFault.Epochs
     else (if is_past_cells cluster facts fact then Err (room_fault cluster facts fact) else Ok (fact ∷ facts))
 

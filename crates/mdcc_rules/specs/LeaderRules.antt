@@ -6,14 +6,12 @@ use Rattle.mdcc_base.specs.declared.key.Key.{Key}
 use Rattle.mdcc_option.specs.declared.choices.Choice.{Choice}
 use Rattle.mdcc_option.specs.declared.choices.Claim.{Claim}
 use Rattle.mdcc_option.specs.declared.choices.Outcome.{Outcome}
-use Rattle.mdcc_option.specs.declared.cluster.Cluster.{Cluster}
 use Rattle.mdcc_protocol.specs.Facts.{epoch_of, heard_of}
 use Rattle.mdcc_protocol.specs.Leader.{claim_of_choice, is_marked, lead, on_promise, on_refused}
 use Rattle.mdcc_ledger.specs.Ledger.{Entry, Valued}
 use Rattle.mdcc_rules.specs.Messages.{to_all, to_one, to_others}
 use Rattle.mdcc_rules.specs.Steps.{NodeStep, StepPart, nothing_done, sending, step_of_part}
 use Rattle.mdcc_protocol.specs.Volatile.{Leading, Volatile, with_leader}
-use Rattle.mdcc_messages.specs.declared.facts.Fact.{Fact}
 use Rattle.mdcc_protocol.specs.declared.leader.LeadAnswer.{LeadAnswer}
 use Rattle.mdcc_protocol.specs.declared.leader.LeadFault.{LeadFault}
 use Rattle.mdcc_protocol.specs.declared.leader.Promise.{Promise}
@@ -21,6 +19,7 @@ use Rattle.mdcc_protocol.specs.declared.leader.PromiseAnswer.{PromiseAnswer}
 use Rattle.mdcc_messages.specs.declared.messages.Envelope.{Envelope}
 use Rattle.mdcc_messages.specs.declared.messages.Message.{Message}
 use Rattle.mdcc_rules.specs.declared.node.StepFault.{StepFault}
+use Rattle.mdcc_rules.specs.Here.{Here}
 
 abbrev pub lead_step_fault : LeadFault → StepFault
 lead_step_fault LeadFault.Exhausted = StepFault.Exhausted
@@ -53,17 +52,17 @@ led_by_answer quorums me volatile claim (Ok (answer, leader)) =
     Ok (record { after = with_leader volatile leader; entries = lead_entries me volatile.leader claim answer; sends = lead_sent quorums me claim answer })
 
 -- a claim is led here
-abbrev pub led_of : Cluster → ℕ → List Fact → Volatile → Claim → Result StepPart LeadFault
-led_of cluster me facts volatile claim = led_by_answer cluster.quorums me volatile claim (lead cluster me (epoch_of facts) facts volatile.leader claim)
+abbrev pub led_of : Here → Volatile → Claim → Result StepPart LeadFault
+led_of here volatile claim = led_by_answer here.cluster.quorums here.me volatile claim (lead here.cluster here.me (epoch_of here.facts) here.facts volatile.leader claim)
 
 -- by what was heard of the transaction
-abbrev pub lead_step_after : Cluster → ℕ → List Fact → Volatile → ℕ → Choice → Option Outcome → Result NodeStep StepFault
-lead_step_after cluster me facts volatile s choice (Some outcome) = Ok (sending volatile (to_one me s (Message.Outcome choice.tx outcome)))
-lead_step_after cluster me facts volatile s choice None = step_of_led (led_of cluster me facts volatile (claim_of_choice choice))
+abbrev pub lead_step_after : Here → Volatile → ℕ → Choice → Option Outcome → Result NodeStep StepFault
+lead_step_after here volatile s choice (Some outcome) = Ok (sending volatile (to_one here.me s (Message.Outcome choice.tx outcome)))
+lead_step_after here volatile s choice None = step_of_led (led_of here volatile (claim_of_choice choice))
 
 -- a manager at s asks for a mark
-abbrev pub lead_step : Cluster → ℕ → List Fact → Volatile → ℕ → Choice → Result NodeStep StepFault
-lead_step cluster me facts volatile s choice = lead_step_after cluster me facts volatile s choice (heard_of facts choice.tx)
+abbrev pub lead_step : Here → Volatile → ℕ → Choice → Result NodeStep StepFault
+lead_step here volatile s choice = lead_step_after here volatile s choice (heard_of here.facts choice.tx)
 
 -- ---- promises
 
@@ -83,9 +82,9 @@ promised_by_answer quorums me volatile key (Ok (answer, leader)) =
     Ok (record { after = with_leader volatile leader; entries = promise_entries me key answer; sends = promise_sent quorums me key answer })
 
 -- a promise came
-abbrev pub promise_step : Cluster → ℕ → List Fact → Volatile → ℕ → Promise → Result NodeStep StepFault
-promise_step cluster me facts volatile from promise =
-    step_of_led (promised_by_answer cluster.quorums me volatile promise.key (on_promise cluster facts volatile.leader from promise))
+abbrev pub promise_step : Here → Volatile → ℕ → Promise → Result NodeStep StepFault
+promise_step here volatile from promise =
+    step_of_led (promised_by_answer here.cluster.quorums here.me volatile promise.key (on_promise here.cluster here.facts volatile.leader from promise))
 
 -- a refusal came
 abbrev pub refused_step : Volatile → Key → Ballot → Ballot → NodeStep

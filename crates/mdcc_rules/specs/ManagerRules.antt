@@ -25,6 +25,7 @@ use Rattle.mdcc_messages.specs.declared.messages.Envelope.{Envelope}
 use Rattle.mdcc_messages.specs.declared.messages.Message.{Message}
 use Rattle.mdcc_rules.specs.declared.node.Answer.{Answer}
 use Rattle.mdcc_protocol.specs.declared.votes.Vote.{Vote}
+use Rattle.mdcc_rules.specs.Here.{Here}
 
 -- ---- begins
 
@@ -44,14 +45,14 @@ begun_step cluster me volatile parts (tx, manager) =
       after = with_manager volatile manager;
     }
 
-abbrev pub begin_step_by : Cluster → ℕ → List Fact → Volatile → List Part → Result (TxId × Managing) BeginFault → NodeStep
-begin_step_by cluster me facts volatile parts (Err fault) = answering volatile (Answer.Refused (key_refused facts parts) fault)
-begin_step_by cluster me facts volatile parts (Ok next) = begun_step cluster me volatile parts next
+abbrev pub begin_step_by : Here → Volatile → List Part → Result (TxId × Managing) BeginFault → NodeStep
+begin_step_by here volatile parts (Err fault) = answering volatile (Answer.Refused (key_refused here.facts parts) fault)
+begin_step_by here volatile parts (Ok next) = begun_step here.cluster here.me volatile parts next
 
 -- a client begins a transaction, whose parts stand in key order
-abbrev pub begin_step : Cluster → ℕ → List Fact → Volatile → List Part → NodeStep
-begin_step cluster me facts volatile parts =
-    begin_step_by cluster me facts volatile parts (Manager.begin me (epoch_of facts) facts volatile.manager parts)
+abbrev pub begin_step : Here → Volatile → List Part → NodeStep
+begin_step here volatile parts =
+    begin_step_by here volatile parts (Manager.begin here.me (epoch_of here.facts) here.facts volatile.manager parts)
 
 -- ---- acts
 
@@ -72,30 +73,30 @@ decided_step cluster me volatile tx outcome =
     adding (closed volatile tx) (Fact.Heard tx outcome) (to_others cluster.quorums me (Message.Outcome tx outcome))
 
 -- a vote on an open transaction that decides nothing
-abbrev pub undecided_step : Cluster → ℕ → List Fact → Volatile → Vote → NodeStep
-undecided_step cluster me facts volatile vote =
-    acted_step me facts volatile (Manager.on_voted cluster.quorums volatile.manager vote)
+abbrev pub undecided_step : Here → Volatile → Vote → NodeStep
+undecided_step here volatile vote =
+    acted_step here.me here.facts volatile (Manager.on_voted here.cluster.quorums volatile.manager vote)
 
 -- a vote that decides is not taken, since its transaction is closed
-abbrev pub opened_step : Cluster → ℕ → List Fact → Volatile → Vote → Option Outcome → NodeStep
-opened_step cluster me facts volatile vote (Some outcome) = decided_step cluster me volatile vote.tx outcome
-opened_step cluster me facts volatile vote None = undecided_step cluster me facts volatile vote
+abbrev pub opened_step : Here → Volatile → Vote → Option Outcome → NodeStep
+opened_step here volatile vote (Some outcome) = decided_step here.cluster here.me volatile vote.tx outcome
+opened_step here volatile vote None = undecided_step here volatile vote
 
 -- the same for a transaction that is watched, or neither open nor watched
-abbrev pub watched_step : Cluster → ℕ → List Fact → Volatile → Vote → Option (TxId × Outcome) → NodeStep
-watched_step cluster me facts volatile vote (Some decided) = decided_step cluster me volatile decided.0 decided.1
-watched_step cluster me facts volatile vote None =
-    nothing_done (with_recovery volatile (Recover.on_voted cluster.quorums facts volatile.recovery vote).1)
+abbrev pub watched_step : Here → Volatile → Vote → Option (TxId × Outcome) → NodeStep
+watched_step here volatile vote (Some decided) = decided_step here.cluster here.me volatile decided.0 decided.1
+watched_step here volatile vote None =
+    nothing_done (with_recovery volatile (Recover.on_voted here.cluster.quorums here.facts volatile.recovery vote).1)
 
 -- a vote came
-abbrev pub voted_step : Cluster → ℕ → List Fact → Volatile → Vote → NodeStep
-voted_step cluster me facts volatile vote =
-    if is_heard facts vote.tx then nothing_done volatile
+abbrev pub voted_step : Here → Volatile → Vote → NodeStep
+voted_step here volatile vote =
+    if is_heard here.facts vote.tx then nothing_done volatile
     else (if is_open volatile.manager vote.tx
-    then opened_step cluster me facts volatile vote (Manager.would_decide cluster.quorums volatile.manager vote)
-    else watched_step cluster me facts volatile vote (Recover.would_decide cluster.quorums facts volatile.recovery vote))
+    then opened_step here volatile vote (Manager.would_decide here.cluster.quorums volatile.manager vote)
+    else watched_step here volatile vote (Recover.would_decide here.cluster.quorums here.facts volatile.recovery vote))
 
 -- a centre a gives no vote
-abbrev pub escalate_step : Cluster → ℕ → List Fact → Volatile → ℕ → Key → TxId → Cause → NodeStep
-escalate_step cluster me facts volatile a key tx cause =
-    acted_step me facts volatile (Manager.on_escalate cluster.quorums volatile.manager a tx key cause)
+abbrev pub escalate_step : Here → Volatile → ℕ → Key → TxId → Cause → NodeStep
+escalate_step here volatile a key tx cause =
+    acted_step here.me here.facts volatile (Manager.on_escalate here.cluster.quorums volatile.manager a tx key cause)

@@ -18,25 +18,26 @@ use Rattle.mdcc_messages.specs.declared.messages.Message.{Message}
 use Rattle.mdcc_rules.specs.declared.node.Answer.{Answer}
 use Rattle.mdcc_rules.specs.declared.node.Input.{Input}
 use Rattle.mdcc_rules.specs.declared.node.StepFault.{StepFault}
+use Rattle.mdcc_rules.specs.Here.{Here}
 
 -- a message from s
-abbrev pub message_step : Cluster → ℕ → List Fact → Volatile → ℕ → Message → Result NodeStep StepFault
-message_step cluster me facts volatile s (Message.Propose choice) = Ok (propose_step cluster me facts volatile s choice)
-message_step cluster me facts volatile s (Message.Voted key version ballot tx mark) =
-    Ok (voted_step cluster me facts volatile (record { from = s; key = key; version = version; ballot = ballot; tx = tx; mark = mark }))
-message_step cluster me facts volatile s (Message.Escalate key version tx cause) = Ok (escalate_step cluster me facts volatile s key tx cause)
-message_step cluster me facts volatile s (Message.Lead choice) = lead_step cluster me facts volatile s choice
-message_step cluster me facts volatile s (Message.Prepare key version through ballot) = Ok (prepare_step me facts volatile s key version through ballot)
-message_step cluster me facts volatile s (Message.Promise key version through ballot reported votes) =
-    promise_step cluster me facts volatile s (record { key = key; version = version; through = through; ballot = ballot; reported = reported; votes = votes })
-message_step cluster me facts volatile s (Message.Accept key version ballot options) = Ok (accept_step me facts volatile s key version ballot options)
-message_step cluster me facts volatile s (Message.Refused key version ballot promised) = Ok (refused_step volatile key ballot promised)
-message_step cluster me facts volatile s (Message.Outcome tx outcome) = Ok (outcome_step facts volatile tx outcome)
-message_step cluster me facts volatile s (Message.Ask tx key version) = Ok (ask_step me facts volatile s tx key version)
-message_step cluster me facts volatile s (Message.SyncAsk key) = Ok (sync_ask_step me facts volatile s key)
-message_step cluster me facts volatile s (Message.SyncGive key version item adds) =
-    Ok (sync_give_step facts volatile (record { key = key; version = version; item = item; adds = adds }))
-message_step cluster me facts volatile s _ = Ok (nothing_done volatile)
+abbrev pub message_step : Here → Volatile → ℕ → Message → Result NodeStep StepFault
+message_step here volatile s (Message.Propose choice) = Ok (propose_step here volatile s choice)
+message_step here volatile s (Message.Voted key version ballot tx mark) =
+    Ok (voted_step here volatile (record { from = s; key = key; version = version; ballot = ballot; tx = tx; mark = mark }))
+message_step here volatile s (Message.Escalate key version tx cause) = Ok (escalate_step here volatile s key tx cause)
+message_step here volatile s (Message.Lead choice) = lead_step here volatile s choice
+message_step here volatile s (Message.Prepare key version through ballot) = Ok (prepare_step here.me here.facts volatile s key version through ballot)
+message_step here volatile s (Message.Promise key version through ballot reported votes) =
+    promise_step here volatile s (record { key = key; version = version; through = through; ballot = ballot; reported = reported; votes = votes })
+message_step here volatile s (Message.Accept key version ballot options) = Ok (accept_step here.me here.facts volatile s key version ballot options)
+message_step here volatile s (Message.Refused key version ballot promised) = Ok (refused_step volatile key ballot promised)
+message_step here volatile s (Message.Outcome tx outcome) = Ok (outcome_step here.facts volatile tx outcome)
+message_step here volatile s (Message.Ask tx key version) = Ok (ask_step here.me here.facts volatile s tx key version)
+message_step here volatile s (Message.SyncAsk key) = Ok (sync_ask_step here.me here.facts volatile s key)
+message_step here volatile s (Message.SyncGive key version item adds) =
+    Ok (sync_give_step here.facts volatile (record { key = key; version = version; item = item; adds = adds }))
+message_step here volatile s _ = Ok (nothing_done volatile)
 
 -- ---- room
 
@@ -67,11 +68,11 @@ is_own_message cluster me envelope =
     envelope.to == me && is_centre cluster envelope.from && message_belongs cluster envelope.message
 
 -- what an input does at a node
-abbrev pub step_of : Cluster → ℕ → List Fact → Volatile → Input → Result NodeStep StepFault
-step_of cluster me facts volatile (Input.Message envelope) =
-    if is_own_message cluster me envelope
-    then checked cluster facts (message_step cluster me facts volatile envelope.from envelope.message)
+abbrev pub step_of : Here → Volatile → Input → Result NodeStep StepFault
+step_of here volatile (Input.Message envelope) =
+    if is_own_message here.cluster here.me envelope
+    then checked here.cluster here.facts (message_step here volatile envelope.from envelope.message)
     else Err StepFault.Foreign
-step_of cluster me facts volatile Input.Tick = Ok (tick_step cluster me facts volatile)
-step_of cluster me facts volatile (Input.Read key) = Ok (answering volatile (Answer.Read (Visible.read facts key)))
-step_of cluster me facts volatile (Input.Begin parts) = Ok (begin_step cluster me facts volatile parts)
+step_of here volatile Input.Tick = Ok (tick_step here volatile)
+step_of here volatile (Input.Read key) = Ok (answering volatile (Answer.Read (Visible.read here.facts key)))
+step_of here volatile (Input.Begin parts) = Ok (begin_step here volatile parts)

@@ -1,5 +1,5 @@
 -- What one input does to a node.
-use Rattle.std.specs.Prelude.{Bool, List, None, Option, Some, [], ◌++◌}
+use Rattle.std.specs.Prelude.{Bool, List, None, Option, Some, [], ◌++◌, ◌∷◌}
 use Rattle.mdcc_base.specs.declared.identifiers.TxId.{TxId}
 use Rattle.mdcc_ledger.specs.Ledger.{Entry}
 use Rattle.mdcc_protocol.specs.Marks.{is_commit}
@@ -67,3 +67,8 @@ abbrev pub store_step_fault : StoreFault → StepFault
 store_step_fault (StoreFault.NoRoom needed spare) = StepFault.NoRoom needed spare
 store_step_fault StoreFault.Crowded = StepFault.Crowded
 store_step_fault StoreFault.Memory = StepFault.Memory
+
+-- the facts with a new one, where there is one
+abbrev pub with_new : List Fact → Option Fact → List Fact
+with_new facts None = facts
+with_new facts (Some fact) = fact ∷ facts

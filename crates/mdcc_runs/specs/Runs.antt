@@ -6,10 +6,11 @@ use Rattle.mdcc_messages.specs.declared.messages.Envelope.{Envelope}
 use Rattle.mdcc_option.specs.declared.cluster.Cluster.{Cluster}
 use Rattle.mdcc_protocol.specs.Volatile.{Volatile}
 use Rattle.mdcc_rules.specs.Node.{step_of}
-use Rattle.mdcc_rules.specs.Steps.{NodeStep, heard_by}
+use Rattle.mdcc_rules.specs.Steps.{NodeStep, heard_by, with_new}
 use Rattle.mdcc_rules.specs.declared.node.Answer.{Answer}
 use Rattle.mdcc_rules.specs.declared.node.Input.{Input}
 use Rattle.mdcc_rules.specs.declared.node.StepFault.{StepFault}
+use Rattle.mdcc_rules.specs.Here.{here}
 
 -- ---- one input
 
@@ -20,11 +21,7 @@ pub record NodeState : Type 0 where
 
 -- what an input makes it do, or why it is refused
 abbrev pub step_on : Cluster → ℕ → NodeState → Input → Result NodeStep StepFault
-step_on cluster me node input = step_of cluster me node.facts node.volatile input
-
-abbrev pub with_new : List Fact → Option Fact → List Fact
-with_new facts None = facts
-with_new facts (Some fact) = fact ∷ facts
+step_on cluster me node input = step_of (here cluster me node.facts) node.volatile input
 
 -- the node afterwards: a refused input changes nothing
 abbrev pub after_step : NodeState → Result NodeStep StepFault → NodeState

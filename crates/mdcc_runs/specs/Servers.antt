@@ -5,12 +5,13 @@ use Rattle.mdcc_config.specs.IsConfig.{address_above}
 use Rattle.mdcc_config.specs.declared.config.Config.{Config}
 use Rattle.mdcc_messages.specs.declared.facts.Fact.{Fact}
 use Rattle.mdcc_protocol.specs.Facts.{epoch_of}
-use Rattle.mdcc_protocol.specs.Volatile.{nothing_kept}
+use Rattle.mdcc_protocol.specs.Volatile.{initial_volatile}
 use Rattle.mdcc_runs.specs.Acts.{Act}
 use Rattle.mdcc_runs.specs.Clients.{no_clients}
 use Rattle.mdcc_runs.specs.Sites.{Site}
 use Rattle.mdcc_runs.specs.Turns.{Given, turn_of}
 use Rattle.mdcc_runs.specs.declared.lines.ServerLine.{ServerLine}
+use Rattle.mdcc_rules.specs.Boot.{next_boot}
 
 -- all that was done, and the centres afterwards, ascending
 pub record Server : Type 0 where
@@ -27,14 +28,11 @@ pub record Log : Type 0 where
   pub centre : ℕ
   pub facts : List Fact
 
-abbrev pub boot_after : List Fact → Fact
-boot_after facts = Fact.Booted (epoch_of facts + 1)
-
 -- the centre with its boot
 abbrev pub site_of : Log → Site
 site_of log = record {
   centre = log.centre;
-  node = record { facts = boot_after log.facts ∷ log.facts; volatile = nothing_kept };
+  node = record { facts = next_boot log.facts ∷ log.facts; volatile = initial_volatile };
   sent = 0;
   clients = no_clients;
   own = [];
@@ -43,7 +41,7 @@ site_of log = record {
 
 -- one centre after the other appends its boot
 abbrev pub starts : List Log → Server
-starts logs = record { acts = map (λ log. Act.Append log.centre (boot_after log.facts)) logs; sites = map site_of logs }
+starts logs = record { acts = map (λ log. Act.Append log.centre (next_boot log.facts)) logs; sites = map site_of logs }
 
 -- ---- its endpoints
 

@@ -13,6 +13,7 @@ use Rattle.mdcc_rules.specs.declared.node.Input.{Input}
 use Rattle.mdcc_rules.specs.declared.node.StepFault.{StepFault}
 use Rattle.mdcc_messages.specs.Mailbox.{unsent}
 use Rattle.mdcc_simulation.specs.State.{World, down, centre_at, with_centre, Happened}
+use Rattle.mdcc_rules.specs.Here.{here}
 
 -- the lines of the outcomes that an entry brings
 abbrev pub chosen_lines : Sizes → Entry → List Entry → List Line
@@ -75,4 +76,4 @@ input_happened w a (Err fault) = record { world = w; lines = [] }
 
 -- the step of a centre on an input
 abbrev pub step_at : World → ℕ → Input → Result NodeStep StepFault
-step_at w a input = step_of w.cluster a (facts_of w.ledger a) (centre_at w a).volatile input
+step_at w a input = step_of (here w.cluster a (facts_of w.ledger a)) (centre_at w a).volatile input

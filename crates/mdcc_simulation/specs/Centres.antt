@@ -9,7 +9,7 @@ use Rattle.mdcc_language.specs.declared.lines.Line.{Line}
 use Rattle.mdcc_rules.specs.declared.node.Input.{Input}
 use Rattle.mdcc_language.specs.declared.world.EventFault.{EventFault}
 use Rattle.mdcc_simulation.specs.State.{World, booted, down, centre_at, with_centre, next_message, Happened}
-use Rattle.mdcc_simulation.specs.Limits.{log_limit, cells_limit, unless_limit, input_applied, with_lines}
+use Rattle.mdcc_simulation.specs.Limits.{passed_log_limit, passed_cells_limit, unless_limit, input_applied, with_lines}
 
 abbrev pub tick_line : ℕ → World → List Line
 tick_line a w = Line.Tick a (next_message w) ∷ []
@@ -32,7 +32,7 @@ restart_happened w a epoch = record {
 abbrev pub after_restart : World → ℕ → Result Happened EventFault
 after_restart w a =
     let epoch = epoch_of (facts_of w.ledger a) + 1 in
-    unless_limit (option_or (cells_limit w a (Fact.Booted epoch)) (log_limit w a (Fact.Booted epoch))) (restart_happened w a epoch)
+    unless_limit (option_or (passed_cells_limit w a (Fact.Booted epoch)) (passed_log_limit w a (Fact.Booted epoch))) (restart_happened w a epoch)
 
 -- a stop line: the next append will stop
 abbrev pub stop_happened : World → ℕ → ℕ → Image → Happened

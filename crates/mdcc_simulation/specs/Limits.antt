@@ -29,28 +29,28 @@ abbrev pub limit_if : Bool → LimitName → ℕ → Option EventFault
 limit_if is_passed name number = if is_passed then Some (EventFault.Limit name number) else None
 
 -- one fact more in the log of a centre would pass its limit
-abbrev pub log_limit : World → ℕ → Fact → Option EventFault
-log_limit w a fact =
+abbrev pub passed_log_limit : World → ℕ → Fact → Option EventFault
+passed_log_limit w a fact =
     limit_if (nat_lt most_log (log_length (fact ∷ facts_of w.ledger a))) LimitName.Log most_log
 
 -- these messages would pass the limit of bytes
-abbrev pub bytes_limit : World → List Envelope → Option EventFault
-bytes_limit w sends =
+abbrev pub passed_bytes_limit : World → List Envelope → Option EventFault
+passed_bytes_limit w sends =
     limit_if (nat_lt most_bytes (w.bytes + messages_length sends)) LimitName.Bytes most_bytes
 
 -- the limit that a step would pass; one whose append stops sends nothing
 abbrev pub step_limit_by : World → ℕ → NodeStep → Option Fact → Option EventFault
-step_limit_by w a step None = bytes_limit w step.sends
+step_limit_by w a step None = passed_bytes_limit w step.sends
 step_limit_by w a step (Some fact) =
-    option_or (log_limit w a fact) (if is_some (centre_at w a).stop then None else bytes_limit w step.sends)
+    option_or (passed_log_limit w a fact) (if is_some (centre_at w a).stop then None else passed_bytes_limit w step.sends)
 
 abbrev pub step_limit : World → ℕ → Result NodeStep StepFault → Option EventFault
 step_limit w a (Ok step) = step_limit_by w a step step.fact
 step_limit w a (Err fault) = None
 
 -- one boot more at a centre would pass the cells of its node: the number that is needed
-abbrev pub cells_limit : World → ℕ → Fact → Option EventFault
-cells_limit w a fact =
+abbrev pub passed_cells_limit : World → ℕ → Fact → Option EventFault
+passed_cells_limit w a fact =
     let facts = facts_of w.ledger a in
     limit_if (is_past_cells w.cluster facts fact) LimitName.Cells (cells_used facts + cells_needed fact)
 
@@ -88,3 +88,8 @@ input_applied w a input = input_limited w a (step_at w a input)
 abbrev pub with_lines : (World → List Line) → Result Happened EventFault → Result Happened EventFault
 with_lines lines (Ok h) = Ok (after_lines (lines h.world) h)
 with_lines lines (Err fault) = Err fault
+
+-- a refusal that may come at any time
+abbrev pub is_out_of_memory : EventFault → Bool
+is_out_of_memory EventFault.Memory = true
+is_out_of_memory _ = false

@@ -4,7 +4,7 @@ use Rattle.mdcc_option.specs.declared.cluster.Cluster.{Cluster}
 use Rattle.mdcc_option.specs.declared.items.Known.{Known}
 use Rattle.mdcc_protocol.specs.Belongs.{is_centre}
 use Rattle.mdcc_ledger.specs.Ledger.{Added, Entry}
-use Rattle.mdcc_protocol.specs.Volatile.{Volatile, nothing_kept}
+use Rattle.mdcc_protocol.specs.Volatile.{Volatile, initial_volatile}
 use Rattle.mdcc_messages.specs.declared.facts.Fact.{Fact}
 use Rattle.mdcc_base.specs.declared.outside.Image.{Image}
 use Rattle.mdcc_language.specs.declared.lines.Line.{Line}
@@ -27,10 +27,10 @@ pub record World : Type 0 where
   pub centres : List Site
 
 abbrev pub booted : Site
-booted = record { is_up = true; stop = None; volatile = nothing_kept }
+booted = record { is_up = true; stop = None; volatile = initial_volatile }
 
 abbrev pub down : Site
-down = record { is_up = false; stop = None; volatile = nothing_kept }
+down = record { is_up = false; stop = None; volatile = initial_volatile }
 
 -- the first n centres booted for the first time
 abbrev pub booted_to : ℕ → List Entry

@@ -20,7 +20,7 @@ use Rattle.mdcc_messages.specs.declared.wire.WireFault.{WireFault}
 use Rattle.mdcc_messages.specs.declared.wire.WireFault.TheVariants.{NotCanonical}
 use Rattle.mdcc_messages.specs.Bytes.{u8_bytes, u32_bytes, u64_bytes, counted}
 use Rattle.mdcc_messages.specs.SpelledParts.{key_bytes, tx_bytes, update_bytes, write_set_bytes, choice_bytes, entry_bytes, options_bytes, outcome_bytes}
-use Rattle.mdcc_messages.specs.ReadingSteps.{◌>>=◌, u32_at, u64_at, checked, free, same, is_after, behind, u8_within, elements_at, list_at}
+use Rattle.mdcc_messages.specs.ReadingSteps.{◌>>=◌, u32_at, u64_at, checked, free, same, is_after, fault_unless_after, u8_within, elements_at, list_at}
 use Rattle.mdcc_messages.specs.ReadingParts.{key_at, tx_at, tx_behind, update_at, write_set_at, has_own, choice_checked, choice_at, reject_behind, accept_behind, entry_behind, options_at, choice_behind, commit_at, outcome_at}
 use Rattle.mdcc_messages.specs.WellFormedParts.{is_ascending_by, is_written, IsWellFormedChoice, IsWellFormedWithin, IsWellFormedEntry, IsWellFormedOptions, IsWellFormedOf, IsWellFormedOutcome}
 use Rattle.mdcc_spelling.proofs.Places.{IsAt, IsBytes, apart, apart-5, end-2, end-5}
@@ -115,13 +115,13 @@ EntryFits key version e = IsWellFormedEntry key version e.0 e.1
 
 module _ (part : ℕ) (key : List ℕ) (version : ℕ) (bytes : List ℕ) where
   abbrev checks_choice : Option TxId → ℕ → Result (Choice × ℕ) WireFault
-  checks_choice last at = choice_checked (behind tx_lt part last) (same key_eq at key) (same nat_eq at version) bytes at
+  checks_choice last at = choice_checked (fault_unless_after tx_lt part last) (same key_eq at key) (same nat_eq at version) bytes at
 
   accept_again : (last : Option TxId) (at : ℕ) (tx : TxId) (choice : Choice) → IsWellFormedWithin key version tx choice → is_after tx_lt last tx ≡ true
       → IsAt bytes at (choice_bytes choice) → accept_behind part key version bytes last at ≡ Ok ((tx, Accept choice), at + length (choice_bytes choice))
   accept_again last at tx choice w after h =
       let behind_it : is_after tx_lt last choice.tx ≡ true = subst (λ t. is_after tx_lt last t ≡ true) (sym w.same_tx) after in
-      let read = checked_choice_again (behind tx_lt part last) (same key_eq at key) (same nat_eq at version) bytes at choice w.choice_itself (record {
+      let read = checked_choice_again (fault_unless_after tx_lt part last) (same key_eq at key) (same nat_eq at version) bytes at choice w.choice_itself (record {
         tx = behind_passes tx_lt part last choice.tx behind_it;
         key = same_passes key_eq at key choice.key ((Decides-key choice.key key).1 w.same_key);
         version = same_passes nat_eq at version choice.version ((Decides-eqb choice.version version).1 w.same_version);
@@ -155,7 +155,7 @@ module _ (part : ℕ) (key : List ℕ) (version : ℕ) (bytes : List ℕ) where
       → accept_behind part key version bytes last middle ≡ Ok x → EntryTaken last at x
   accept_takes h last at middle x tag e =
       let a = bind_ok (checks_choice last middle) (λ choice. done ((choice.0.tx, Accept choice.0), choice.1)) x e in
-      let c = checked_choice_takes (behind tx_lt part last) (same key_eq middle key) (same nat_eq middle version) bytes middle h a.0 a.1 in
+      let c = checked_choice_takes (fault_unless_after tx_lt part last) (same key_eq middle key) (same nat_eq middle version) bytes middle h a.0 a.1 in
       subst (EntryTaken last at) (ok_is ((a.0.0.tx, Accept a.0.0), a.0.1) x a.2) (
         Reads-then bytes at (u8_bytes 1) middle (choice_bytes a.0.0) a.0.1 tag c.reads,
         record {
@@ -226,7 +226,7 @@ options_take bytes at key version x h e =
 
 choice_behind_again : (part : ℕ) (tx : TxId) (bytes : List ℕ) → ReadsAgain bytes key_lt (choice_behind part tx bytes) (λ choice. choice.key) choice_bytes (IsWellFormedOf tx)
 choice_behind_again part tx bytes last at choice w after h =
-    checked_choice_again (same tx_eq at tx) (behind key_lt part last) free bytes at choice w.choice_itself (record {
+    checked_choice_again (same tx_eq at tx) (fault_unless_after key_lt part last) free bytes at choice w.choice_itself (record {
       tx = same_passes tx_eq at tx choice.tx ((Decides-tx choice.tx tx).1 w.same_tx);
       key = behind_passes key_lt part last choice.key after;
       version = refl;
@@ -234,7 +234,7 @@ choice_behind_again part tx bytes last at choice w after h =
 
 choice_behind_takes : (part : ℕ) (tx : TxId) (bytes : List ℕ) → IsBytes bytes → Takes bytes key_lt (choice_behind part tx bytes) (λ choice. choice.key) choice_bytes (IsWellFormedOf tx)
 choice_behind_takes part tx bytes h last at x e =
-    let c = checked_choice_takes (same tx_eq at tx) (behind key_lt part last) free bytes at h x e in (
+    let c = checked_choice_takes (same tx_eq at tx) (fault_unless_after key_lt part last) free bytes at h x e in (
       c.reads,
       record { choice_itself = c.fits; same_tx = (Decides-tx x.0.tx tx).0 (same_true tx_eq at tx x.0.tx c.passes.tx) },
       behind_true key_lt part last x.0.key c.passes.key,

@@ -20,7 +20,7 @@ use Rattle.mdcc_messages.specs.declared.wire.WireFault.{WireFault}
 use Rattle.mdcc_messages.specs.declared.wire.WireFault.TheVariants.{Truncated, Range}
 use Rattle.mdcc_messages.specs.Bytes.{u8_bytes, u64_bytes, i64_bytes, counted}
 use Rattle.mdcc_messages.specs.SpelledParts.{key_bytes, tx_bytes, item_bytes, seen_bytes, amount_bytes, amounts_bytes, update_bytes, part_bytes, delta_bytes, written_bytes, write_set_bytes}
-use Rattle.mdcc_messages.specs.ReadingSteps.{◌>>=◌, u64_at, i64_at, checked, is_after, behind, u8_within, list_at}
+use Rattle.mdcc_messages.specs.ReadingSteps.{◌>>=◌, u64_at, i64_at, checked, is_after, fault_unless_after, u8_within, list_at}
 use Rattle.mdcc_messages.specs.ReadingParts.{key_at, tx_at, body_by, item_at, tx_behind, seen_at, not_zero, amount_behind, amounts_at, write_at, add_at, update_at, part_behind, delta_behind, written_behind, write_set_at}
 use Rattle.mdcc_messages.specs.WellFormedParts.{IsWellFormedTx, IsWellFormedItem, IsWellFormedSeen, IsWellFormedAmount, IsWellFormedAmounts, IsWellFormedUpdate, IsWellFormedPart, IsWellFormedDelta, IsWellFormedWritten, IsWellFormedWriteSet}
 use Rattle.mdcc_spelling.proofs.Places.{IsAt, IsBytes, IsBytes-at, apart, apart-3, end-2, end-3, taken, stands}
@@ -119,7 +119,7 @@ tx_behind_again part bytes last at tx t after h = rw (tx_again bytes at tx t h, 
 
 pub tx_behind_takes : (part : ℕ) (bytes : List ℕ) → IsBytes bytes → Takes bytes tx_lt (tx_behind part bytes) (λ tx. tx) tx_bytes IsWellFormedTx
 tx_behind_takes part bytes h last at x e =
-    let c = checked_ok (behind tx_lt part last) (tx_at bytes at) x e in
+    let c = checked_ok (fault_unless_after tx_lt part last) (tx_at bytes at) x e in
     let t = tx_takes bytes at x h c.1 in
     (t.reads, t.fits, behind_true tx_lt part last x.0 c.0)
 
@@ -150,9 +150,9 @@ amount_again part bytes last at amount w after h =
 
 amount_takes : (part : ℕ) (bytes : List ℕ) → IsBytes bytes → Takes bytes nat_lt (amount_behind part bytes) (λ amount. amount.0) amount_bytes IsWellFormedAmount
 amount_takes part bytes h last at x e =
-    let a = bind_ok (checked (behind nat_lt part last) (u8_within part 1 4 bytes at)) (λ attribute. checked (not_zero part) (i64_at bytes attribute.1) >>= λ amount. done ((attribute.0, amount.0), amount.1)) x e in
+    let a = bind_ok (checked (fault_unless_after nat_lt part last) (u8_within part 1 4 bytes at)) (λ attribute. checked (not_zero part) (i64_at bytes attribute.1) >>= λ amount. done ((attribute.0, amount.0), amount.1)) x e in
     let b = bind_ok (checked (not_zero part) (i64_at bytes a.0.1)) (λ amount. done ((a.0.0, amount.0), amount.1)) x a.2 in
-    let a' = checked_ok (behind nat_lt part last) (u8_within part 1 4 bytes at) a.0 a.1 in
+    let a' = checked_ok (fault_unless_after nat_lt part last) (u8_within part 1 4 bytes at) a.0 a.1 in
     let b' = checked_ok (not_zero part) (i64_at bytes a.0.1) b.0 b.1 in
     let attribute = u8_within_takes part 1 4 bytes at a.0 h a'.1 in
     let z = i64_takes bytes a.0.1 b.0 h b'.1 in
@@ -243,10 +243,10 @@ part_again part bytes last at x w after h =
 
 pub part_takes : (part : ℕ) (bytes : List ℕ) → IsBytes bytes → Takes bytes key_lt (part_behind part bytes) (λ p. p.key) part_bytes IsWellFormedPart
 part_takes part bytes h last at x e =
-    let a = bind_ok (checked (behind key_lt part last) (key_at bytes at)) (λ key. u64_at bytes key.1 >>= λ version. update_at bytes version.1 >>= λ update. done (record { key = key.0; version = version.0; update = update.0 }, update.1)) x e in
+    let a = bind_ok (checked (fault_unless_after key_lt part last) (key_at bytes at)) (λ key. u64_at bytes key.1 >>= λ version. update_at bytes version.1 >>= λ update. done (record { key = key.0; version = version.0; update = update.0 }, update.1)) x e in
     let b = bind_ok (u64_at bytes a.0.1) (λ version. update_at bytes version.1 >>= λ update. done (record { key = a.0.0; version = version.0; update = update.0 }, update.1)) x a.2 in
     let c = bind_ok (update_at bytes b.0.1) (λ update. done (record { key = a.0.0; version = b.0.0; update = update.0 }, update.1)) x b.2 in
-    let a' = checked_ok (behind key_lt part last) (key_at bytes at) a.0 a.1 in
+    let a' = checked_ok (fault_unless_after key_lt part last) (key_at bytes at) a.0 a.1 in
     let key = key_takes bytes at a.0 h a'.1 in
     let version = u64_takes bytes a.0.1 b.0 h b.1 in
     let update = update_takes bytes b.0.1 c.0 h c.1 in
@@ -289,9 +289,9 @@ written_again part bytes last at x w after h =
 
 written_takes : (part : ℕ) (bytes : List ℕ) → IsBytes bytes → Takes bytes key_lt (written_behind part bytes) (λ written. written.0) written_bytes IsWellFormedWritten
 written_takes part bytes h last at x e =
-    let a = bind_ok (checked (behind key_lt part last) (key_at bytes at)) (λ key. u64_at bytes key.1 >>= λ version. done ((key.0, version.0), version.1)) x e in
+    let a = bind_ok (checked (fault_unless_after key_lt part last) (key_at bytes at)) (λ key. u64_at bytes key.1 >>= λ version. done ((key.0, version.0), version.1)) x e in
     let b = bind_ok (u64_at bytes a.0.1) (λ version. done ((a.0.0, version.0), version.1)) x a.2 in
-    let a' = checked_ok (behind key_lt part last) (key_at bytes at) a.0 a.1 in
+    let a' = checked_ok (fault_unless_after key_lt part last) (key_at bytes at) a.0 a.1 in
     let key = key_takes bytes at a.0 h a'.1 in
     let version = u64_takes bytes a.0.1 b.0 h b.1 in
     let made : (List ℕ × ℕ) × ℕ = ((a.0.0, b.0.0), b.0.1) in

@@ -6,7 +6,7 @@ use Rattle.std.proofs.lemmas.Bool.{and_parts}
 use Rattle.mdcc_messages.specs.declared.wire.WireFault.{WireFault}
 use Rattle.mdcc_messages.specs.declared.wire.WireFault.TheVariants.{NotCanonical}
 use Rattle.mdcc_messages.specs.Bytes.{u8_bytes, counted}
-use Rattle.mdcc_messages.specs.ReadingSteps.{◌>>=◌, is_after, behind, u8_within, elements_at, list_at}
+use Rattle.mdcc_messages.specs.ReadingSteps.{◌>>=◌, is_after, fault_unless_after, u8_within, elements_at, list_at}
 use Rattle.mdcc_messages.specs.WellFormedParts.{is_ascending_by}
 use Rattle.mdcc_spelling.proofs.Places.{IsAt, IsBytes, apart, together, nothing}
 use Rattle.mdcc_spelling.proofs.Steps.{ok_is, bind_ok, none_found}
@@ -122,8 +122,8 @@ ascends lt name_of last (x ∷ []) h = refl
 ascends lt name_of last (x ∷ y ∷ ys) h = rw (h.1.0, ascends lt name_of (Some (name_of x)) (y ∷ ys) h.1) refl
 
 -- an element that stands behind the last one
-pub behind_passes : {K : Type 0} (lt : K → K → Bool) (part : ℕ) (last : Option K) (x : K) → is_after lt last x ≡ true → behind lt part last x ≡ None
+pub behind_passes : {K : Type 0} (lt : K → K → Bool) (part : ℕ) (last : Option K) (x : K) → is_after lt last x ≡ true → fault_unless_after lt part last x ≡ None
 behind_passes lt part last x h = rw h refl
 
-pub behind_true : {K : Type 0} (lt : K → K → Bool) (part : ℕ) (last : Option K) (x : K) → behind lt part last x ≡ None → is_after lt last x ≡ true
+pub behind_true : {K : Type 0} (lt : K → K → Bool) (part : ℕ) (last : Option K) (x : K) → fault_unless_after lt part last x ≡ None → is_after lt last x ≡ true
 behind_true lt part last x h = none_found (is_after lt last x) (NotCanonical part) h

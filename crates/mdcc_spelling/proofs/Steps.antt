@@ -1,7 +1,7 @@
 -- Steps of a reading: what follows from an answer, and what makes one.
 use Rattle.std.proofs.Common.{◌≡◌, ℕ, Bool, true, false, cond, Result, Ok, Err, Option, Some, None, refl, sym, ap, ◌∙◌}
 use Rattle.mdcc_messages.specs.declared.wire.WireFault.{WireFault}
-use Rattle.mdcc_messages.specs.ReadingSteps.{◌>>=◌, checked, unless}
+use Rattle.mdcc_messages.specs.ReadingSteps.{◌>>=◌, checked, unless_fault}
 
 abbrev pub done : {X : Type 0} → X → Result X WireFault
 done x = Ok x
@@ -28,7 +28,7 @@ none_found false fault e = absurd cc
 pub checked_ok : {X : Type 0} (check : X → Option WireFault) (r : Result (X × ℕ) WireFault) (x : X × ℕ) → checked check r ≡ Ok x → (check x.0 ≡ None) × (r ≡ Ok x)
 checked_ok {X = X} check (Ok y) x e = passed (check y.0) y x e refl
   where
-    passed : (found : Option WireFault) (y x : X × ℕ) → unless found y ≡ Ok x → check y.0 ≡ found → (check x.0 ≡ None) × (done y ≡ done x)
+    passed : (found : Option WireFault) (y x : X × ℕ) → unless_fault found y ≡ Ok x → check y.0 ≡ found → (check x.0 ≡ None) × (done y ≡ done x)
     passed None y x e is = let same = ok_is y x e in (ap (λ z. check z.0) (sym same) ∙ is, e)
     passed (Some fault) y x e is = absurd cc
 checked_ok check (Err fault) x e = absurd cc

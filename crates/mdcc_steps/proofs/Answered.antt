@@ -18,7 +18,7 @@ use Rattle.mdcc_option.specs.declared.items.Token.{Token}
 use Rattle.mdcc_option.specs.declared.items.Update.{Update}
 use Rattle.mdcc_struct.specs.Maps.{TxMap, are_ascending, txs_of}
 use Rattle.mdcc_protocol.specs.Facts.{base_of, current_of, epoch_of, executed_of, token_of}
-use Rattle.mdcc_protocol.specs.Manager.{add_fault, begin_by, begin_fault, first_key, part_begin_fault, parts_begin_fault, update_begin_fault}
+use Rattle.mdcc_protocol.specs.Manager.{add_fault, begin_with, begin_fault, first_key, part_begin_fault, parts_begin_fault, update_begin_fault}
 use Rattle.mdcc_rules.specs.ManagerRules.{begin_step_by}
 use Rattle.mdcc_protocol.specs.Marks.{Amounts}
 use Rattle.mdcc_rules.specs.Node.{checked, is_own_message, message_step, step_of}
@@ -45,6 +45,7 @@ use Rattle.mdcc_steps.proofs.Quiet.{IsQuiet, quiet-message}
 use Rattle.mdcc_steps.proofs.Sending.{centre-range}
 use Rattle.mdcc_steps.proofs.Stepping.{on_made}
 use Rattle.mdcc_steps.proofs.Told.{IsWellFormedDeltaAt, base-told, current-fits, deltas-ascending, deltas-told}
+use Rattle.mdcc_rules.specs.Here.{here}
 
 -- ---- reads
 
@@ -142,16 +143,16 @@ quiet-answered : (o : Option Answer) → o ≡ None → HoldsIn IsWellFormedGive
 quiet-answered o e = rw e tt
 
 begin-answered : (cluster : Cluster) (me : ℕ) (facts : List Fact) (volatile : Volatile) (parts : List Part) (fault : Option (Key × BeginFault)) → IsInRange 1 9 me → AreNodeFacts cluster facts → AreWellFormedParts parts
-    → begin_fault facts volatile.manager parts ≡ fault → HoldsIn IsRefusal fault → IsAnswered (begin_step_by cluster me facts volatile parts (begin_by me (epoch_of facts) volatile.manager parts fault))
+    → begin_fault facts volatile.manager parts ≡ fault → HoldsIn IsRefusal fault → IsAnswered (begin_step_by (here cluster me facts) volatile parts (begin_with me (epoch_of facts) volatile.manager parts fault))
 begin-answered cluster me facts volatile parts (Some fault) of_me known w e h =
     (key-refused (parts_begin_fault facts parts) (first_key parts) (first-key parts w.count.0 w.each) (parts-refusal cluster facts parts known w.each), h.1)
 begin-answered cluster me facts volatile parts None of_me known w e h = begun-tx cluster me facts volatile of_me known parts e
 
 answered-step : (cluster : Cluster) (me : ℕ) (facts : List Fact) (volatile : Volatile) (input : Input) → IsInRange 1 9 me → AreNodeFacts cluster facts → IsWellFormedInput input
-    → OnStep IsAnswered (step_of cluster me facts volatile input)
+    → OnStep IsAnswered (step_of (here cluster me facts) volatile input)
 answered-step cluster me facts volatile (Input.Message envelope) of_me known w =
-    cond_both (is_own_message cluster me envelope) (checked cluster facts (message_step cluster me facts volatile envelope.from envelope.message)) (Err StepFault.Foreign) (OnStep IsAnswered)
-    (λ e. on_checked IsQuiet IsAnswered cluster facts (message_step cluster me facts volatile envelope.from envelope.message) (λ step h room. quiet-answered step.answer h)
+    cond_both (is_own_message cluster me envelope) (checked cluster facts (message_step (here cluster me facts) volatile envelope.from envelope.message)) (Err StepFault.Foreign) (OnStep IsAnswered)
+    (λ e. on_checked IsQuiet IsAnswered cluster facts (message_step (here cluster me facts) volatile envelope.from envelope.message) (λ step h room. quiet-answered step.answer h)
     (quiet-message cluster me facts volatile envelope.from envelope.message)) (λ e. tt)
 answered-step cluster me facts volatile Input.Tick of_me known w = tt
 answered-step cluster me facts volatile (Input.Read key) of_me known w =
@@ -167,7 +168,7 @@ answer-at : (o : Option Answer) (answer : Answer) → HoldsIn IsWellFormedGivenA
 answer-at o answer h e = rw e at h
 
 pub answer-formed : (cluster : Cluster) (me : ℕ) (facts : List Fact) (volatile : Volatile) (input : Input) (step : NodeStep) (answer : Answer)
-    → IsNode cluster me facts volatile → IsWellFormedInput input → step_of cluster me facts volatile input ≡ Ok step → step.answer ≡ Some answer → IsWellFormedGivenAnswer answer
+    → IsNode cluster me facts volatile → IsWellFormedInput input → step_of (here cluster me facts) volatile input ≡ Ok step → step.answer ≡ Some answer → IsWellFormedGivenAnswer answer
 answer-formed cluster me facts volatile input step answer node w made is =
     answer-at step.answer answer
     (on_made IsAnswered _ step (answered-step cluster me facts volatile input (centre-range cluster me node.cluster_itself.quorums node.centre) node.facts_themselves w) made) is

@@ -11,7 +11,7 @@ use Rattle.mdcc_rules.specs.Boot.{boot_of, booted_by, is_past_cells, loaded_from
 use Rattle.mdcc_protocol.specs.Facts.{epoch_of}
 use Rattle.mdcc_protocol.specs.IsCluster.{IsCluster}
 use Rattle.mdcc_messages.specs.Lengths.{cells_needed, cells_used}
-use Rattle.mdcc_protocol.specs.Volatile.{nothing_kept}
+use Rattle.mdcc_protocol.specs.Volatile.{initial_volatile}
 use Rattle.mdcc_messages.specs.WellFormed.{IsWellFormedFact}
 use Rattle.mdcc_messages.specs.declared.facts.Fact.{Fact}
 use Rattle.mdcc_rules.specs.declared.node.BootFault.{BootFault}
@@ -76,7 +76,7 @@ booted-facts cluster facts result h e =
     })
 
 pub boot-node : (cluster : Cluster) (me : ℕ) (payloads : List (Option Fact)) (facts : List Fact) → IsCluster cluster → is_centre cluster me ≡ true
-    → AllByRecursion IsPayload payloads → boot_of cluster payloads ≡ Ok facts → IsNode cluster me facts nothing_kept
+    → AllByRecursion IsPayload payloads → boot_of cluster payloads ≡ Ok facts → IsNode cluster me facts initial_volatile
 boot-node cluster me payloads facts w of_me payloads_formed e = record {
   cluster_itself = w;
   centre = of_me;

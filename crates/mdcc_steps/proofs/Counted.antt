@@ -24,7 +24,7 @@ use Rattle.mdcc_protocol.specs.Leader.{claim_of_choice, lead, on_promise}
 use Rattle.mdcc_rules.specs.LeaderRules.{lead_step_after, led_by_answer, promised_by_answer, step_of_led}
 use Rattle.mdcc_protocol.specs.Learner.{is_learned, with_vote}
 use Rattle.mdcc_protocol.specs.Manager
-use Rattle.mdcc_protocol.specs.Manager.{act_on_cause, act_on_vote, acted, after_act, begin_by, begin_fault, vote_taken}
+use Rattle.mdcc_protocol.specs.Manager.{act_on_cause, act_on_vote, acted, after_act, begin_with, begin_fault, vote_taken}
 use Rattle.mdcc_rules.specs.ManagerRules.{acted_step, begin_step_by, escalate_step, opened_step, undecided_step, voted_step, watched_step}
 use Rattle.mdcc_rules.specs.Node.{checked, is_own_message, message_step, step_of}
 use Rattle.mdcc_protocol.specs.Recover
@@ -50,6 +50,7 @@ use Rattle.mdcc_protocol.specs.declared.votes.Vote.{Vote}
 use Rattle.mdcc_steps.proofs.Allowing.{OnStep, on_checked}
 use Rattle.mdcc_steps.proofs.Decided.{each-with_vote}
 use Rattle.mdcc_steps.proofs.Each.{each-kept}
+use Rattle.mdcc_rules.specs.Here.{here}
 
 -- the state after one thing and another
 pub after-fold : {X : Type 0} (P : Volatile → Type 0) (act : Volatile → X → StepPart) (each : (v : Volatile) (x : X) → P v → P (act v x).after)
@@ -93,13 +94,13 @@ module _ (P : Vote → Type 0) where
     votes-proposed s choice (ProposeAnswer.Vote mark) = all
     votes-proposed s choice (ProposeAnswer.Escalate cause) = all
 
-    votes-undecided : (vote : Vote) → P vote → AreAllAfter (undecided_step cluster me facts volatile vote)
+    votes-undecided : (vote : Vote) → P vote → AreAllAfter (undecided_step (here cluster me facts) volatile vote)
     votes-undecided vote k =
         let taken = vote_taken cluster.quorums volatile.manager vote in
         let h = votes-taken cluster.quorums volatile.manager vote all.0 k in
         (votes-acted taken (act_on_vote cluster.quorums taken vote (Manager.decision cluster.quorums taken vote.tx)) h, all.1)
 
-    votes-opened : (vote : Vote) → P vote → (o : Option Outcome) → AreAllAfter (opened_step cluster me facts volatile vote o)
+    votes-opened : (vote : Vote) → P vote → (o : Option Outcome) → AreAllAfter (opened_step (here cluster me facts) volatile vote o)
     votes-opened vote k (Some outcome) = votes-closed volatile vote.tx all
     votes-opened vote k None = votes-undecided vote k
 
@@ -107,21 +108,21 @@ module _ (P : Vote → Type 0) where
     votes-recovered vote k None = all.1
     votes-recovered vote k (Some keys) = each-with_vote P cluster.quorums volatile.recovery.votes vote all.1 k
 
-    votes-watched : (vote : Vote) → P vote → (o : Option (TxId × Outcome)) → AreAllAfter (watched_step cluster me facts volatile vote o)
+    votes-watched : (vote : Vote) → P vote → (o : Option (TxId × Outcome)) → AreAllAfter (watched_step (here cluster me facts) volatile vote o)
     votes-watched vote k (Some decided) = votes-closed volatile decided.0 all
     votes-watched vote k None = (all.0, votes-recovered vote k (keys_watched facts volatile.recovery vote.tx))
 
-    votes-voted : (vote : Vote) → P vote → AreAllAfter (voted_step cluster me facts volatile vote)
+    votes-voted : (vote : Vote) → P vote → AreAllAfter (voted_step (here cluster me facts) volatile vote)
     votes-voted vote k =
         cond_both (is_heard facts vote.tx) (nothing_done volatile) _ AreAllAfter (λ e. all) (λ e.
         cond_both (is_open volatile.manager vote.tx)
-        (opened_step cluster me facts volatile vote (Manager.would_decide cluster.quorums volatile.manager vote))
-        (watched_step cluster me facts volatile vote (Recover.would_decide cluster.quorums facts volatile.recovery vote))
+        (opened_step (here cluster me facts) volatile vote (Manager.would_decide cluster.quorums volatile.manager vote))
+        (watched_step (here cluster me facts) volatile vote (Recover.would_decide cluster.quorums facts volatile.recovery vote))
         AreAllAfter
         (λ f. votes-opened vote k (Manager.would_decide cluster.quorums volatile.manager vote))
         (λ f. votes-watched vote k (Recover.would_decide cluster.quorums facts volatile.recovery vote)))
 
-    votes-escalate : (s : ℕ) (key : Key) (tx : TxId) (cause : Cause) → AreAllAfter (escalate_step cluster me facts volatile s key tx cause)
+    votes-escalate : (s : ℕ) (key : Key) (tx : TxId) (cause : Cause) → AreAllAfter (escalate_step (here cluster me facts) volatile s key tx cause)
     votes-escalate s key tx cause =
         cond_both (is_open volatile.manager tx && not (is_learned cluster.quorums volatile.manager.votes tx key))
         (acted volatile.manager (act_on_cause cluster.quorums volatile.manager s tx key cause)) (None, volatile.manager)
@@ -140,7 +141,7 @@ module _ (P : Vote → Type 0) where
     votes-promised key (Ok answer) = all
     votes-promised key (Err fault) = tt
 
-    votes-lead : (s : ℕ) (choice : Choice) (o : Option Outcome) → OnStep AreAllAfter (lead_step_after cluster me facts volatile s choice o)
+    votes-lead : (s : ℕ) (choice : Choice) (o : Option Outcome) → OnStep AreAllAfter (lead_step_after (here cluster me facts) volatile s choice o)
     votes-lead s choice (Some outcome) = all
     votes-lead s choice None = votes-led (claim_of_choice choice) (lead cluster me (epoch_of facts) facts volatile.leader (claim_of_choice choice))
 
@@ -165,7 +166,7 @@ module _ (P : Vote → Type 0) where
     votes-given None = all
     votes-given (Some fact) = all
 
-    pub votes-message : (s : ℕ) (message : Message) → HoldsOfVote s message → OnStep AreAllAfter (message_step cluster me facts volatile s message)
+    pub votes-message : (s : ℕ) (message : Message) → HoldsOfVote s message → OnStep AreAllAfter (message_step (here cluster me facts) volatile s message)
     votes-message s (Message.Propose choice) k = votes-proposed s choice (on_propose cluster facts choice)
     votes-message s (Message.Voted key version ballot tx mark) k =
         votes-voted (record { from = s; key = key; version = version; ballot = ballot; tx = tx; mark = mark }) k
@@ -186,7 +187,7 @@ module _ (P : Vote → Type 0) where
     votes-message s (Message.ClientAnswer serial answer) k = all
 
     votes-begin : (parts : List Part) (fault : Option (Key × BeginFault))
-        → AreAllAfter (begin_step_by cluster me facts volatile parts (begin_by me (epoch_of facts) volatile.manager parts fault))
+        → AreAllAfter (begin_step_by (here cluster me facts) volatile parts (begin_with me (epoch_of facts) volatile.manager parts fault))
     votes-begin parts (Some fault) = all
     votes-begin parts None = all
 
@@ -196,33 +197,33 @@ module _ (P : Vote → Type 0) where
     votes-led_or_left volatile claim (Ok answer) h = h
     votes-led_or_left volatile claim (Err fault) h = h
 
-    votes-claim_led : (volatile : Volatile) (claim : Claim) → AreAll volatile → AreAll (claim_led cluster me facts volatile claim).after
+    votes-claim_led : (volatile : Volatile) (claim : Claim) → AreAll volatile → AreAll (claim_led (here cluster me facts) volatile claim).after
     votes-claim_led volatile claim h = votes-led_or_left volatile claim (lead cluster me (epoch_of facts) facts volatile.leader claim) h
 
-    votes-manager_act : (volatile : Volatile) (act : ManagerAct) → AreAll volatile → AreAll (manager_act cluster me facts volatile act).after
+    votes-manager_act : (volatile : Volatile) (act : ManagerAct) → AreAll volatile → AreAll (manager_act (here cluster me facts) volatile act).after
     votes-manager_act volatile (ManagerAct.Propose choice) h = h
     votes-manager_act volatile (ManagerAct.LeadHere choice) h = votes-claim_led volatile (claim_of_choice choice) h
     votes-manager_act volatile (ManagerAct.Lead leader choice) h = h
     votes-manager_act volatile (ManagerAct.Decide tx outcome) h = h
     votes-manager_act volatile (ManagerAct.Give centre key) h = h
 
-    votes-recovery_act : (volatile : Volatile) (act : RecoverAct) → AreAll volatile → AreAll (recovery_act cluster me facts volatile act).after
+    votes-recovery_act : (volatile : Volatile) (act : RecoverAct) → AreAll volatile → AreAll (recovery_act (here cluster me facts) volatile act).after
     votes-recovery_act volatile (RecoverAct.Ask tx key version) h = h
     votes-recovery_act volatile (RecoverAct.LeadHere claim) h = votes-claim_led volatile claim h
 
-    votes-manager_ticked : (volatile : Volatile) → AreAll volatile → AreAll (manager_ticked cluster me facts volatile).after
+    votes-manager_ticked : (volatile : Volatile) → AreAll volatile → AreAll (manager_ticked (here cluster me facts) volatile).after
     votes-manager_ticked volatile h =
         let next = Manager.tick cluster.quorums volatile.manager in
-        after-fold AreAll (manager_act cluster me facts) votes-manager_act next.0 (only_sending (with_manager volatile next.1) []) h
+        after-fold AreAll (manager_act (here cluster me facts)) votes-manager_act next.0 (only_sending (with_manager volatile next.1) []) h
 
-    votes-recovery_ticked : (first : StepPart) → AreAll first.after → AreAll (recovery_ticked cluster me facts first).after
+    votes-recovery_ticked : (first : StepPart) → AreAll first.after → AreAll (recovery_ticked (here cluster me facts) first).after
     votes-recovery_ticked first h =
         let next = Recover.tick cluster.quorums facts first.after.recovery (txs_opened first.after.manager) in
-        after-fold AreAll (recovery_act cluster me facts) votes-recovery_act next.0 (record first { after = with_recovery first.after next.1 }) h
+        after-fold AreAll (recovery_act (here cluster me facts)) votes-recovery_act next.0 (record first { after = with_recovery first.after next.1 }) h
 
-    pub votes-tick : (volatile : Volatile) → AreAll volatile → AreAllAfter (tick_step cluster me facts volatile)
+    pub votes-tick : (volatile : Volatile) → AreAll volatile → AreAllAfter (tick_step (here cluster me facts) volatile)
     votes-tick volatile h =
-        let first = manager_ticked cluster me facts volatile in
+        let first = manager_ticked (here cluster me facts) volatile in
         let k : AreAll first.after = votes-manager_ticked volatile h in
         votes-recovery_ticked first k
 
@@ -232,10 +233,10 @@ module _ (P : Vote → Type 0) where
     HoldsOfInput _ = Unit {0}
 
     -- after any step
-    pub votes-step : (volatile : Volatile) → AreAll volatile → (input : Input) → HoldsOfInput input → OnStep AreAllAfter (step_of cluster me facts volatile input)
+    pub votes-step : (volatile : Volatile) → AreAll volatile → (input : Input) → HoldsOfInput input → OnStep AreAllAfter (step_of (here cluster me facts) volatile input)
     votes-step volatile h (Input.Message envelope) own =
-        cond_both (is_own_message cluster me envelope) (checked cluster facts (message_step cluster me facts volatile envelope.from envelope.message)) (Err StepFault.Foreign) (OnStep AreAllAfter)
-        (λ e. on_checked AreAllAfter AreAllAfter cluster facts (message_step cluster me facts volatile envelope.from envelope.message) (λ step g k. g)
+        cond_both (is_own_message cluster me envelope) (checked cluster facts (message_step (here cluster me facts) volatile envelope.from envelope.message)) (Err StepFault.Foreign) (OnStep AreAllAfter)
+        (λ e. on_checked AreAllAfter AreAllAfter cluster facts (message_step (here cluster me facts) volatile envelope.from envelope.message) (λ step g k. g)
         (votes-message cluster me facts volatile h envelope.from envelope.message (own (and_parts _ _ e).1)))
         (λ e. tt)
     votes-step volatile h Input.Tick own = votes-tick volatile h

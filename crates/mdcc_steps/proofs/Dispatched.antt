@@ -24,7 +24,7 @@ use Rattle.mdcc_protocol.specs.Manager.{begin_fault}
 use Rattle.mdcc_rules.specs.ManagerRules.{begin_step}
 use Rattle.mdcc_protocol.specs.News.{is_news}
 use Rattle.mdcc_rules.specs.Node.{checked, is_own_message, message_step, step_of}
-use Rattle.mdcc_rules.specs.Steps.{NodeStep, nothing_done}
+use Rattle.mdcc_rules.specs.Steps.{NodeStep, nothing_done, with_new}
 use Rattle.mdcc_rules.specs.SyncRules.{outcome_step, outcome_step_by, sync_give_step, sync_give_step_by}
 use Rattle.mdcc_rules.specs.TickRules.{tick_step}
 use Rattle.mdcc_protocol.specs.Volatile.{Volatile}
@@ -38,7 +38,7 @@ use Rattle.mdcc_messages.specs.declared.messages.Message.{Message}
 use Rattle.mdcc_rules.specs.declared.node.Input.{Input}
 use Rattle.mdcc_rules.specs.declared.node.StepFault.{StepFault}
 use Rattle.mdcc_protocol.specs.declared.visible.Give.{Give}
-use Rattle.mdcc_steps.specs.NodeInvariant.{IsNode, with_new}
+use Rattle.mdcc_steps.specs.NodeInvariant.{IsNode}
 use Rattle.mdcc_steps.specs.Inputs.{AreWellFormedParts, IsWellFormedInput}
 use Rattle.mdcc_steps.specs.WellFormedVolatile.{AreNodeFacts, IsWellFormedLead, IsWellFormedOpen, IsWellFormedVolatile, IsWellFormedVoteKept}
 use Rattle.mdcc_steps.proofs.Allowing.{OnStep, on_checked}
@@ -53,6 +53,7 @@ use Rattle.mdcc_steps.proofs.Sending.{HasRoomIn, IsGoodSent, centre-range, sent-
 use Rattle.mdcc_steps.proofs.Stepping.{booted-more, made-allowed, on_made, some_epoch, votes-stay}
 use Rattle.mdcc_steps.proofs.Ticked.{formed-tick}
 use Rattle.mdcc_steps.proofs.Told.{IsWellFormedVoteAt, heard-told, vote-told}
+use Rattle.mdcc_rules.specs.Here.{here}
 
 -- a choice and the answer to its proposal
 abbrev IsFormedMessageOf : Choice → ProposeAnswer → Type 0
@@ -110,7 +111,7 @@ module _ (cluster : Cluster) (me : ℕ) (facts : List Fact) (volatile : Volatile
           (tt, sent-one me s (Message.Voted key version vote.0 tx vote.1) tt of_me h (record { instance = w; ballot_itself = b.0; entry = b.1 }), kept.opened, kept.leads)
       by_answer None a None b = nothing
 
-  formed-message : (s : ℕ) (message : Message) → IsInRange 1 9 s → IsWellFormedMessage message → HasRoomFor message → OnStep IsFormed (message_step cluster me facts volatile s message)
+  formed-message : (s : ℕ) (message : Message) → IsInRange 1 9 s → IsWellFormedMessage message → HasRoomFor message → OnStep IsFormed (message_step (here cluster me facts) volatile s message)
   formed-message s (Message.Propose choice) h w room =
       formed-proposed s choice (on_propose cluster facts choice) h (w, formed-answer cluster facts choice w known.well_formed)
   formed-message s (Message.Voted key version ballot tx mark) h w room =
@@ -153,29 +154,29 @@ module _ (cluster : Cluster) (me : ℕ) (facts : List Fact) (volatile : Volatile
   room-for room (Message.ClientAnswer serial answer) = tt
 
   -- what is added and kept needs no room
-  pub kept-message : (s : ℕ) (message : Message) → IsInRange 1 9 s → IsWellFormedMessage message → OnStep IsFormedKept (message_step cluster me facts volatile s message)
-  kept-message s (Message.Propose choice) h w = kept-part (message_step cluster me facts volatile s (Message.Propose choice)) (formed-message s (Message.Propose choice) h w tt)
-  kept-message s (Message.Voted key version ballot tx mark) h w = kept-part (message_step cluster me facts volatile s (Message.Voted key version ballot tx mark)) (formed-message s (Message.Voted key version ballot tx mark) h w tt)
-  kept-message s (Message.Escalate key version tx cause) h w = kept-part (message_step cluster me facts volatile s (Message.Escalate key version tx cause)) (formed-message s (Message.Escalate key version tx cause) h w tt)
-  kept-message s (Message.Lead choice) h w = kept-part (message_step cluster me facts volatile s (Message.Lead choice)) (formed-message s (Message.Lead choice) h w tt)
+  pub kept-message : (s : ℕ) (message : Message) → IsInRange 1 9 s → IsWellFormedMessage message → OnStep IsFormedKept (message_step (here cluster me facts) volatile s message)
+  kept-message s (Message.Propose choice) h w = kept-part (message_step (here cluster me facts) volatile s (Message.Propose choice)) (formed-message s (Message.Propose choice) h w tt)
+  kept-message s (Message.Voted key version ballot tx mark) h w = kept-part (message_step (here cluster me facts) volatile s (Message.Voted key version ballot tx mark)) (formed-message s (Message.Voted key version ballot tx mark) h w tt)
+  kept-message s (Message.Escalate key version tx cause) h w = kept-part (message_step (here cluster me facts) volatile s (Message.Escalate key version tx cause)) (formed-message s (Message.Escalate key version tx cause) h w tt)
+  kept-message s (Message.Lead choice) h w = kept-part (message_step (here cluster me facts) volatile s (Message.Lead choice)) (formed-message s (Message.Lead choice) h w tt)
   kept-message s (Message.Prepare key version through ballot) h w =
       prepare-kept cluster me facts volatile of_me known kept s key version through ballot w.instance (w.not_below, w.through_fits) w.classic
-  kept-message s (Message.Promise key version through ballot reported votes) h w = kept-part (message_step cluster me facts volatile s (Message.Promise key version through ballot reported votes)) (formed-message s (Message.Promise key version through ballot reported votes) h w tt)
-  kept-message s (Message.Accept key version ballot options) h w = kept-part (message_step cluster me facts volatile s (Message.Accept key version ballot options)) (formed-message s (Message.Accept key version ballot options) h w tt)
-  kept-message s (Message.Refused key version ballot promised) h w = kept-part (message_step cluster me facts volatile s (Message.Refused key version ballot promised)) (formed-message s (Message.Refused key version ballot promised) h w tt)
-  kept-message s (Message.Outcome tx outcome) h w = kept-part (message_step cluster me facts volatile s (Message.Outcome tx outcome)) (formed-message s (Message.Outcome tx outcome) h w tt)
-  kept-message s (Message.Ask tx key version) h w = kept-part (message_step cluster me facts volatile s (Message.Ask tx key version)) (formed-message s (Message.Ask tx key version) h w tt)
-  kept-message s (Message.SyncAsk key) h w = kept-part (message_step cluster me facts volatile s (Message.SyncAsk key)) (formed-message s (Message.SyncAsk key) h w tt)
-  kept-message s (Message.SyncGive key version item adds) h w = kept-part (message_step cluster me facts volatile s (Message.SyncGive key version item adds)) (formed-message s (Message.SyncGive key version item adds) h w tt)
-  kept-message s (Message.ClientRead serial key) h w = kept-part (message_step cluster me facts volatile s (Message.ClientRead serial key)) (formed-message s (Message.ClientRead serial key) h w tt)
-  kept-message s (Message.ClientBegin serial parts) h w = kept-part (message_step cluster me facts volatile s (Message.ClientBegin serial parts)) (formed-message s (Message.ClientBegin serial parts) h w tt)
-  kept-message s (Message.ClientAnswer serial answer) h w = kept-part (message_step cluster me facts volatile s (Message.ClientAnswer serial answer)) (formed-message s (Message.ClientAnswer serial answer) h w tt)
+  kept-message s (Message.Promise key version through ballot reported votes) h w = kept-part (message_step (here cluster me facts) volatile s (Message.Promise key version through ballot reported votes)) (formed-message s (Message.Promise key version through ballot reported votes) h w tt)
+  kept-message s (Message.Accept key version ballot options) h w = kept-part (message_step (here cluster me facts) volatile s (Message.Accept key version ballot options)) (formed-message s (Message.Accept key version ballot options) h w tt)
+  kept-message s (Message.Refused key version ballot promised) h w = kept-part (message_step (here cluster me facts) volatile s (Message.Refused key version ballot promised)) (formed-message s (Message.Refused key version ballot promised) h w tt)
+  kept-message s (Message.Outcome tx outcome) h w = kept-part (message_step (here cluster me facts) volatile s (Message.Outcome tx outcome)) (formed-message s (Message.Outcome tx outcome) h w tt)
+  kept-message s (Message.Ask tx key version) h w = kept-part (message_step (here cluster me facts) volatile s (Message.Ask tx key version)) (formed-message s (Message.Ask tx key version) h w tt)
+  kept-message s (Message.SyncAsk key) h w = kept-part (message_step (here cluster me facts) volatile s (Message.SyncAsk key)) (formed-message s (Message.SyncAsk key) h w tt)
+  kept-message s (Message.SyncGive key version item adds) h w = kept-part (message_step (here cluster me facts) volatile s (Message.SyncGive key version item adds)) (formed-message s (Message.SyncGive key version item adds) h w tt)
+  kept-message s (Message.ClientRead serial key) h w = kept-part (message_step (here cluster me facts) volatile s (Message.ClientRead serial key)) (formed-message s (Message.ClientRead serial key) h w tt)
+  kept-message s (Message.ClientBegin serial parts) h w = kept-part (message_step (here cluster me facts) volatile s (Message.ClientBegin serial parts)) (formed-message s (Message.ClientBegin serial parts) h w tt)
+  kept-message s (Message.ClientAnswer serial answer) h w = kept-part (message_step (here cluster me facts) volatile s (Message.ClientAnswer serial answer)) (formed-message s (Message.ClientAnswer serial answer) h w tt)
 
-  formed-tick-step : IsFormed (tick_step cluster me facts volatile)
+  formed-tick-step : IsFormed (tick_step (here cluster me facts) volatile)
   formed-tick-step =
       let t = formed-tick cluster me facts sizes of_me known.well_formed (led-here cluster me facts sizes of_me known) volatile kept in (tt, t.1, t.0.opened, t.0.leads)
 
-  formed-begin : (parts : List Part) → AreWellFormedParts parts → IsFormed (begin_step cluster me facts volatile parts)
+  formed-begin : (parts : List Part) → AreWellFormedParts parts → IsFormed (begin_step (here cluster me facts) volatile parts)
   formed-begin parts w = begin-formed cluster me facts volatile sizes of_me known kept parts (begin_fault facts volatile.manager parts) refl w
 
   -- an own message comes from a centre
@@ -184,25 +185,25 @@ module _ (cluster : Cluster) (me : ℕ) (facts : List Fact) (volatile : Volatile
       let own = and_parts (envelope.to == me && is_centre cluster envelope.from) (message_belongs cluster envelope.message) e in
       centre-range cluster envelope.from sizes (and_parts (envelope.to == me) (is_centre cluster envelope.from) own.0).1
 
-  pub formed-step : (input : Input) → IsWellFormedInput input → HasRoom → OnStep IsFormed (step_of cluster me facts volatile input)
+  pub formed-step : (input : Input) → IsWellFormedInput input → HasRoom → OnStep IsFormed (step_of (here cluster me facts) volatile input)
   formed-step (Input.Message envelope) w room =
-      cond_both (is_own_message cluster me envelope) (checked cluster facts (message_step cluster me facts volatile envelope.from envelope.message)) (Err StepFault.Foreign) (OnStep IsFormed)
-      (λ e. on_checked IsFormed IsFormed cluster facts (message_step cluster me facts volatile envelope.from envelope.message) (λ step h room. h)
+      cond_both (is_own_message cluster me envelope) (checked cluster facts (message_step (here cluster me facts) volatile envelope.from envelope.message)) (Err StepFault.Foreign) (OnStep IsFormed)
+      (λ e. on_checked IsFormed IsFormed cluster facts (message_step (here cluster me facts) volatile envelope.from envelope.message) (λ step h room. h)
       (formed-message envelope.from envelope.message (own-from envelope e) w.message (room-for room envelope.message)))
       (λ e. tt)
   formed-step Input.Tick w room = formed-tick-step
   formed-step (Input.Read key) w room = (tt, tt, kept.opened, kept.leads)
   formed-step (Input.Begin parts) w room = formed-begin parts w
 
-  pub kept-step : (input : Input) → IsWellFormedInput input → OnStep IsFormedKept (step_of cluster me facts volatile input)
+  pub kept-step : (input : Input) → IsWellFormedInput input → OnStep IsFormedKept (step_of (here cluster me facts) volatile input)
   kept-step (Input.Message envelope) w =
-      cond_both (is_own_message cluster me envelope) (checked cluster facts (message_step cluster me facts volatile envelope.from envelope.message)) (Err StepFault.Foreign) (OnStep IsFormedKept)
-      (λ e. on_checked IsFormedKept IsFormedKept cluster facts (message_step cluster me facts volatile envelope.from envelope.message) (λ step h room. h)
+      cond_both (is_own_message cluster me envelope) (checked cluster facts (message_step (here cluster me facts) volatile envelope.from envelope.message)) (Err StepFault.Foreign) (OnStep IsFormedKept)
+      (λ e. on_checked IsFormedKept IsFormedKept cluster facts (message_step (here cluster me facts) volatile envelope.from envelope.message) (λ step h room. h)
       (kept-message envelope.from envelope.message (own-from envelope e) w.message))
       (λ e. tt)
-  kept-step Input.Tick w = kept-part (Ok (tick_step cluster me facts volatile)) formed-tick-step
+  kept-step Input.Tick w = kept-part (Ok (tick_step (here cluster me facts) volatile)) formed-tick-step
   kept-step (Input.Read key) w = (tt, kept.opened, kept.leads)
-  kept-step (Input.Begin parts) w = kept-part (Ok (begin_step cluster me facts volatile parts)) (formed-begin parts w)
+  kept-step (Input.Begin parts) w = kept-part (Ok (begin_step (here cluster me facts) volatile parts)) (formed-begin parts w)
 
 -- ---- a node stays one
 
@@ -230,7 +231,7 @@ input-formed cluster me facts (Input.Read key) w = tt
 input-formed cluster me facts (Input.Begin parts) w = tt
 
 module _ (cluster : Cluster) (me : ℕ) (facts : List Fact) (volatile : Volatile) (input : Input) (step : NodeStep)
-    (node : IsNode cluster me facts volatile) (w : IsWellFormedInput input) (made : step_of cluster me facts volatile input ≡ Ok step) where
+    (node : IsNode cluster me facts volatile) (w : IsWellFormedInput input) (made : step_of (here cluster me facts) volatile input ≡ Ok step) where
   of_me : IsInRange 1 9 me
   of_me = centre-range cluster me node.cluster_itself.quorums node.centre
 
@@ -276,7 +277,7 @@ module _ (cluster : Cluster) (me : ℕ) (facts : List Fact) (volatile : Volatile
 -- what a message brings is well-formed, also where the store has no room for it
 pub brought-formed : (cluster : Cluster) (me : ℕ) (facts : List Fact) (volatile : Volatile) (s : ℕ) (message : Message) (step : NodeStep) (fact : Fact)
     → IsNode cluster me facts volatile → is_centre cluster s ≡ true → IsWellFormedMessage message
-    → message_step cluster me facts volatile s message ≡ Ok step → step.fact ≡ Some fact → IsWellFormedFact fact
+    → message_step (here cluster me facts) volatile s message ≡ Ok step → step.fact ≡ Some fact → IsWellFormedFact fact
 brought-formed cluster me facts volatile s message step fact node from w made is =
     let sizes = node.cluster_itself.quorums in
     let kept = kept-message cluster me facts volatile sizes (centre-range cluster me sizes node.centre) node.facts_themselves node.volatile_itself s message (centre-range cluster s sizes from) w in

@@ -20,7 +20,7 @@ use Rattle.mdcc_option.specs.declared.items.Part.{Part}
 use Rattle.mdcc_protocol.specs.Facts.{epoch_of, is_heard}
 use Rattle.mdcc_protocol.specs.Learner.{collided, is_learned, with_vote}
 use Rattle.mdcc_protocol.specs.Manager
-use Rattle.mdcc_protocol.specs.Manager.{act_on_cause, act_on_vote, acted, begin_by, begin_fault, choice_at, choice_unled, lead_act, parts_begin_fault, vote_taken}
+use Rattle.mdcc_protocol.specs.Manager.{act_on_cause, act_on_vote, acted, begin_with, begin_fault, choice_at, choice_unled, lead_act, parts_begin_fault, vote_taken}
 use Rattle.mdcc_rules.specs.ManagerRules.{acted_step, begin_step_by, decided_step, escalate_step, opened_step, undecided_step, voted_step, watched_step}
 use Rattle.mdcc_rules.specs.Messages.{to_all}
 use Rattle.mdcc_protocol.specs.Recover
@@ -41,6 +41,7 @@ use Rattle.mdcc_steps.proofs.Opened.{choices-formed, epoch-fits, opened-changed}
 use Rattle.mdcc_steps.proofs.Outcomes.{entry-tx, formed-open, formed-watched}
 use Rattle.mdcc_steps.proofs.Proposed.{holds-find}
 use Rattle.mdcc_steps.proofs.Sending.{IsGoodSent, each-flat_map, home-range, sent-all, sent-give, sent-one, sent-others}
+use Rattle.mdcc_rules.specs.Here.{here}
 
 -- the new fact, the messages, the open transactions and the leads that a step leaves
 abbrev pub IsFormed : NodeStep → Type 0
@@ -113,7 +114,7 @@ module _ (cluster : Cluster) (me : ℕ) (facts : List Fact) (volatile : Volatile
   cause-formed s tx key (Cause.Limit quantity) h k w = lead-formed (home_of cluster.quorums key) (choice_unled volatile.manager tx key) (home-range cluster.quorums key sizes) (unled-formed volatile.manager tx key kept.opened)
   cause-formed s tx key Cause.Full h k w = lead-formed (home_of cluster.quorums key) (choice_unled volatile.manager tx key) (home-range cluster.quorums key sizes) (unled-formed volatile.manager tx key kept.opened)
 
-  pub escalate-formed : (s : ℕ) (key : Key) (tx : TxId) (cause : Cause) → IsInRange 1 9 s → IsKey key → IsWellFormedCause cause → IsFormed (escalate_step cluster me facts volatile s key tx cause)
+  pub escalate-formed : (s : ℕ) (key : Key) (tx : TxId) (cause : Cause) → IsInRange 1 9 s → IsKey key → IsWellFormedCause cause → IsFormed (escalate_step (here cluster me facts) volatile s key tx cause)
   escalate-formed s key tx cause h k w =
       cond_both (is_open volatile.manager tx && not (is_learned cluster.quorums volatile.manager.votes tx key))
       (acted volatile.manager (act_on_cause cluster.quorums volatile.manager s tx key cause)) (None, volatile.manager)
@@ -137,32 +138,32 @@ module _ (cluster : Cluster) (me : ℕ) (facts : List Fact) (volatile : Volatile
       cond_both (collided cluster.quorums manager.votes vote.tx vote.key) (lead_act (home_of cluster.quorums vote.key) (choice_unled manager vote.tx vote.key)) None IsFormedAct
       (λ e. lead-formed (home_of cluster.quorums vote.key) (choice_unled manager vote.tx vote.key) (home-range cluster.quorums vote.key sizes) (unled-formed manager vote.tx vote.key h)) (λ e. tt)
 
-  undecided-formed : (vote : Vote) → IsFormed (undecided_step cluster me facts volatile vote)
+  undecided-formed : (vote : Vote) → IsFormed (undecided_step (here cluster me facts) volatile vote)
   undecided-formed vote =
       let taken = vote_taken cluster.quorums volatile.manager vote in
       let o = Manager.decision cluster.quorums taken vote.tx in
       acted-formed taken (act_on_vote cluster.quorums taken vote o) (taken-opened vote) (vote-act taken vote o (taken-opened vote))
 
   opened-formed : (vote : Vote) (o : Option Outcome) → IsWellFormedVoteKept vote → Manager.would_decide cluster.quorums volatile.manager vote ≡ o → is_open volatile.manager vote.tx ≡ true
-      → IsFormed (opened_step cluster me facts volatile vote o)
+      → IsFormed (opened_step (here cluster me facts) volatile vote o)
   opened-formed vote None w e open_here = undecided-formed vote
   opened-formed vote (Some outcome) w e open_here =
       decided-formed vote.tx outcome (formed-open cluster.quorums volatile.manager vote.tx outcome (entry-tx vote.key vote.version vote.tx vote.mark w.entry) kept.opened
       (open-decided IsWellFormedVoteKept cluster.quorums volatile.manager vote outcome kept.votes w open_here e))
 
   watched-formed : (vote : Vote) (o : Option (TxId × Outcome)) → IsWellFormedVoteKept vote → Recover.would_decide cluster.quorums facts volatile.recovery vote ≡ o
-      → IsFormed (watched_step cluster me facts volatile vote o)
+      → IsFormed (watched_step (here cluster me facts) volatile vote o)
   watched-formed vote None w e = nothing-formed
   watched-formed vote (Some decided) w e =
       decided-formed decided.0 decided.1 (formed-watched cluster.quorums facts volatile.recovery vote.tx decided (entry-tx vote.key vote.version vote.tx vote.mark w.entry) known.well_formed
       (watched-decided IsWellFormedVoteKept cluster.quorums facts volatile.recovery vote decided kept.watched w e))
 
-  pub voted-formed : (vote : Vote) → IsWellFormedVoteKept vote → IsFormed (voted_step cluster me facts volatile vote)
+  pub voted-formed : (vote : Vote) → IsWellFormedVoteKept vote → IsFormed (voted_step (here cluster me facts) volatile vote)
   voted-formed vote w =
       cond_both (is_heard facts vote.tx) (nothing_done volatile) _ IsFormed (λ e. nothing-formed) (λ e.
       cond_both (is_open volatile.manager vote.tx)
-      (opened_step cluster me facts volatile vote (Manager.would_decide cluster.quorums volatile.manager vote))
-      (watched_step cluster me facts volatile vote (Recover.would_decide cluster.quorums facts volatile.recovery vote))
+      (opened_step (here cluster me facts) volatile vote (Manager.would_decide cluster.quorums volatile.manager vote))
+      (watched_step (here cluster me facts) volatile vote (Recover.would_decide cluster.quorums facts volatile.recovery vote))
       IsFormed
       (λ f. opened-formed vote (Manager.would_decide cluster.quorums volatile.manager vote) w refl f)
       (λ f. watched-formed vote (Recover.would_decide cluster.quorums facts volatile.recovery vote) w refl))
@@ -170,7 +171,7 @@ module _ (cluster : Cluster) (me : ℕ) (facts : List Fact) (volatile : Volatile
   -- ---- begins
 
   pub begin-formed : (parts : List Part) (fault : Option (Key × BeginFault)) → begin_fault facts volatile.manager parts ≡ fault → AreWellFormedParts parts
-      → IsFormed (begin_step_by cluster me facts volatile parts (begin_by me (epoch_of facts) volatile.manager parts fault))
+      → IsFormed (begin_step_by (here cluster me facts) volatile parts (begin_with me (epoch_of facts) volatile.manager parts fault))
   begin-formed parts (Some fault) e w = nothing-formed
   begin-formed parts None e w =
       let tx : TxId = record { centre = me; epoch = epoch_of facts; seq = volatile.manager.seq + 1 } in

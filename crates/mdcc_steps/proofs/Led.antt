@@ -33,6 +33,7 @@ use Rattle.mdcc_steps.proofs.Opened.{epoch-fits}
 use Rattle.mdcc_steps.proofs.Sending.{IsGoodSent, sent-all, sent-one, sent-others}
 use Rattle.mdcc_steps.proofs.Ticked.{IsFormedTicked}
 use Rattle.mdcc_steps.proofs.Told.{heard-told}
+use Rattle.mdcc_rules.specs.Here.{here}
 
 module _ (cluster : Cluster) (me : ℕ) (facts : List Fact) (sizes : AreQuorums cluster.quorums) (of_me : IsInRange 1 9 me) (known : AreNodeFacts cluster facts) where
   sent-lead : (claim : Claim) (answer : LeadAnswer) → IsFormedClaim claim → IsFormedLeadAnswer claim.key answer → AllByRecursion IsGoodSent (lead_sent cluster.quorums me claim answer)
@@ -53,7 +54,7 @@ module _ (cluster : Cluster) (me : ℕ) (facts : List Fact) (sizes : AreQuorums 
   of_epoch : IsInRange 1 (2 ^ 32 - 1) (epoch_of facts)
   of_epoch = epoch-fits facts known.well_formed (ltb-true 0 (epoch_of facts) known.booted)
 
-  claim-part : (volatile : Volatile) (claim : Claim) → IsWellFormedVolatile volatile → IsFormedClaim claim → OnOkOf IsFormedTicked (led_of cluster me facts volatile claim)
+  claim-part : (volatile : Volatile) (claim : Claim) → IsWellFormedVolatile volatile → IsFormedClaim claim → OnOkOf IsFormedTicked (led_of (here cluster me facts) volatile claim)
   claim-part volatile claim kept w =
       led-part volatile claim (lead cluster me (epoch_of facts) facts volatile.leader claim) kept w
       (led-formed cluster me (epoch_of facts) facts volatile.leader claim of_me of_epoch kept.leads w)
@@ -64,8 +65,8 @@ module _ (cluster : Cluster) (me : ℕ) (facts : List Fact) (sizes : AreQuorums 
   left-formed volatile (Err fault) kept h = (kept, tt)
   left-formed volatile (Ok part) kept h = h
 
-  pub led-here : (volatile : Volatile) (claim : Claim) → IsWellFormedVolatile volatile → IsFormedClaim claim → IsFormedTicked (claim_led cluster me facts volatile claim)
-  led-here volatile claim kept w = left-formed volatile (led_of cluster me facts volatile claim) kept (claim-part volatile claim kept w)
+  pub led-here : (volatile : Volatile) (claim : Claim) → IsWellFormedVolatile volatile → IsFormedClaim claim → IsFormedTicked (claim_led (here cluster me facts) volatile claim)
+  led-here volatile claim kept w = left-formed volatile (led_of (here cluster me facts) volatile claim) kept (claim-part volatile claim kept w)
 
   -- ---- messages
 
@@ -75,12 +76,12 @@ module _ (cluster : Cluster) (me : ℕ) (facts : List Fact) (sizes : AreQuorums 
     part-step (Ok part) h = (tt, h.1, h.0.opened, h.0.leads)
 
     lead-by : (s : ℕ) (choice : Choice) (o : Option Outcome) → IsInRange 1 9 s → IsWellFormedChoice choice → HoldsIn (IsWellFormedHeard choice.tx) o
-        → OnStep IsFormed (lead_step_after cluster me facts volatile s choice o)
+        → OnStep IsFormed (lead_step_after (here cluster me facts) volatile s choice o)
     lead-by s choice (Some outcome) of_s w h = (tt, sent-one me s (Message.Outcome choice.tx outcome) tt of_me of_s h, kept.opened, kept.leads)
     lead-by s choice None of_s w h =
-        part-step (led_of cluster me facts volatile (claim_of_choice choice)) (claim-part volatile (claim_of_choice choice) kept (formed-choice choice w))
+        part-step (led_of (here cluster me facts) volatile (claim_of_choice choice)) (claim-part volatile (claim_of_choice choice) kept (formed-choice choice w))
 
-    pub lead-step-formed : (s : ℕ) (choice : Choice) → IsInRange 1 9 s → IsWellFormedChoice choice → OnStep IsFormed (lead_step cluster me facts volatile s choice)
+    pub lead-step-formed : (s : ℕ) (choice : Choice) → IsInRange 1 9 s → IsWellFormedChoice choice → OnStep IsFormed (lead_step (here cluster me facts) volatile s choice)
     lead-step-formed s choice of_s w = lead-by s choice (heard_of facts choice.tx) of_s w (heard-told facts choice.tx known.well_formed)
 
     sent-promised : (key : Key) (answer : PromiseAnswer) → IsFormedPromiseAnswer key answer → AllByRecursion IsGoodSent (promise_sent cluster.quorums me key answer)
@@ -94,7 +95,7 @@ module _ (cluster : Cluster) (me : ℕ) (facts : List Fact) (sizes : AreQuorums 
     promised-part key (Err fault) h = tt
     promised-part key (Ok (answer, leader)) h = (leads-kept volatile leader kept h.1, sent-promised key answer h.0)
 
-    pub promise-step-formed : (from : ℕ) (promise : Promise) → IsFormedPromise promise → OnStep IsFormed (promise_step cluster me facts volatile from promise)
+    pub promise-step-formed : (from : ℕ) (promise : Promise) → IsFormedPromise promise → OnStep IsFormed (promise_step (here cluster me facts) volatile from promise)
     promise-step-formed from promise w =
         part-step (promised_by_answer cluster.quorums me volatile promise.key (on_promise cluster facts volatile.leader from promise))
         (promised-part promise.key (on_promise cluster facts volatile.leader from promise) (promised-formed cluster facts volatile.leader from promise kept.leads w))

@@ -20,6 +20,7 @@ use Rattle.mdcc_protocol.specs.declared.acceptor.ProposeAnswer.{ProposeAnswer}
 use Rattle.mdcc_messages.specs.declared.facts.Fact.{Fact}
 use Rattle.mdcc_protocol.specs.declared.fit.Fit.{Fit}
 use Rattle.mdcc_steps.proofs.Allowing.{IsAllowedIf}
+use Rattle.mdcc_rules.specs.Here.{here}
 
 -- a mark that is voted accepts this choice, or rejects
 abbrev pub IsOwn : Choice → ProposeAnswer → Type 0
@@ -95,7 +96,7 @@ module _ (cluster : Cluster) (me : ℕ) (facts : List Fact) (volatile : Volatile
           → answer_to_new cluster facts choice ≡ ProposeAnswer.Escalate (Cause.Classic (promise_of facts choice.key choice.version))
       classic e f = rw (e, f) refl
 
-  pub propose-allowed : IsAllowedIf cluster facts (propose_step cluster me facts volatile s choice).fact
+  pub propose-allowed : IsAllowedIf cluster facts (propose_step (here cluster me facts) volatile s choice).fact
   propose-allowed = by_answer (heard_of facts choice.tx) refl (vote_of facts choice.key choice.version choice.tx) refl
     where
       by_answer : (o : Option Outcome) → heard_of facts choice.tx ≡ o → (x : Option (Ballot × Mark)) → vote_of facts choice.key choice.version choice.tx ≡ x

@@ -34,6 +34,7 @@ use Rattle.mdcc_protocol.specs.declared.manager.ManagerAct.{ManagerAct}
 use Rattle.mdcc_messages.specs.declared.messages.Message.{Message}
 use Rattle.mdcc_protocol.specs.declared.votes.Vote.{Vote}
 use Rattle.mdcc_steps.proofs.Allowing.{OnStep}
+use Rattle.mdcc_rules.specs.Here.{here}
 
 abbrev pub IsQuiet : NodeStep → Type 0
 IsQuiet step = step.answer ≡ None
@@ -45,28 +46,28 @@ module _ (cluster : Cluster) (me : ℕ) (facts : List Fact) (volatile : Volatile
   quiet-proposed s choice (ProposeAnswer.Vote mark) = refl
   quiet-proposed s choice (ProposeAnswer.Escalate cause) = refl
 
-  quiet-undecided : (vote : Vote) → IsQuiet (undecided_step cluster me facts volatile vote)
+  quiet-undecided : (vote : Vote) → IsQuiet (undecided_step (here cluster me facts) volatile vote)
   quiet-undecided vote = refl
 
-  quiet-opened : (vote : Vote) (o : Option Outcome) → IsQuiet (opened_step cluster me facts volatile vote o)
+  quiet-opened : (vote : Vote) (o : Option Outcome) → IsQuiet (opened_step (here cluster me facts) volatile vote o)
   quiet-opened vote (Some outcome) = refl
   quiet-opened vote None = quiet-undecided vote
 
-  quiet-watched : (vote : Vote) (o : Option (TxId × Outcome)) → IsQuiet (watched_step cluster me facts volatile vote o)
+  quiet-watched : (vote : Vote) (o : Option (TxId × Outcome)) → IsQuiet (watched_step (here cluster me facts) volatile vote o)
   quiet-watched vote (Some decided) = refl
   quiet-watched vote None = refl
 
-  quiet-voted : (vote : Vote) → IsQuiet (voted_step cluster me facts volatile vote)
+  quiet-voted : (vote : Vote) → IsQuiet (voted_step (here cluster me facts) volatile vote)
   quiet-voted vote =
       cond_both (is_heard facts vote.tx) (nothing_done volatile) _ IsQuiet (λ e. refl) (λ e.
       cond_both (is_open volatile.manager vote.tx)
-      (opened_step cluster me facts volatile vote (Manager.would_decide cluster.quorums volatile.manager vote))
-      (watched_step cluster me facts volatile vote (Recover.would_decide cluster.quorums facts volatile.recovery vote))
+      (opened_step (here cluster me facts) volatile vote (Manager.would_decide cluster.quorums volatile.manager vote))
+      (watched_step (here cluster me facts) volatile vote (Recover.would_decide cluster.quorums facts volatile.recovery vote))
       IsQuiet
       (λ f. quiet-opened vote (Manager.would_decide cluster.quorums volatile.manager vote))
       (λ f. quiet-watched vote (Recover.would_decide cluster.quorums facts volatile.recovery vote)))
 
-  quiet-escalate : (s : ℕ) (key : Key) (tx : TxId) (cause : Cause) → IsQuiet (escalate_step cluster me facts volatile s key tx cause)
+  quiet-escalate : (s : ℕ) (key : Key) (tx : TxId) (cause : Cause) → IsQuiet (escalate_step (here cluster me facts) volatile s key tx cause)
   quiet-escalate s key tx cause =
       cond_both (is_open volatile.manager tx && not (is_learned cluster.quorums volatile.manager.votes tx key))
       (acted volatile.manager (act_on_cause cluster.quorums volatile.manager s tx key cause)) (None, volatile.manager)
@@ -80,9 +81,9 @@ module _ (cluster : Cluster) (me : ℕ) (facts : List Fact) (volatile : Volatile
   quiet-led (Ok led) = refl
   quiet-led (Err fault) = tt
 
-  quiet-lead : (s : ℕ) (choice : Choice) (o : Option Outcome) → OnStep IsQuiet (lead_step_after cluster me facts volatile s choice o)
+  quiet-lead : (s : ℕ) (choice : Choice) (o : Option Outcome) → OnStep IsQuiet (lead_step_after (here cluster me facts) volatile s choice o)
   quiet-lead s choice (Some outcome) = refl
-  quiet-lead s choice None = quiet-led (led_of cluster me facts volatile (claim_of_choice choice))
+  quiet-lead s choice None = quiet-led (led_of (here cluster me facts) volatile (claim_of_choice choice))
 
   quiet-prepared : (l : ℕ) (key : Key) (version : ℕ) (ballot : Ballot) (answer : PrepareAnswer) → IsQuiet (prepared_step me facts volatile l key version ballot answer)
   quiet-prepared l key version ballot (PrepareAnswer.Refused promise) = refl
@@ -104,7 +105,7 @@ module _ (cluster : Cluster) (me : ℕ) (facts : List Fact) (volatile : Volatile
   quiet-given None = refl
   quiet-given (Some fact) = refl
 
-  pub quiet-message : (s : ℕ) (message : Message) → OnStep IsQuiet (message_step cluster me facts volatile s message)
+  pub quiet-message : (s : ℕ) (message : Message) → OnStep IsQuiet (message_step (here cluster me facts) volatile s message)
   quiet-message s (Message.Propose choice) = quiet-proposed s choice (on_propose cluster facts choice)
   quiet-message s (Message.Voted key version ballot tx mark) =
       quiet-voted (record { from = s; key = key; version = version; ballot = ballot; tx = tx; mark = mark })

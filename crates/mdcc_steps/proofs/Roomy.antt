@@ -7,18 +7,18 @@ use Rattle.mdcc_option.specs.declared.faults.BeginFault.{BeginFault}
 use Rattle.mdcc_option.specs.declared.items.Part.{Part}
 use Rattle.mdcc_protocol.specs.Facts.{epoch_of}
 use Rattle.mdcc_messages.specs.Lengths.{cells_needed, cells_used}
-use Rattle.mdcc_protocol.specs.Manager.{begin_by, begin_fault}
+use Rattle.mdcc_protocol.specs.Manager.{begin_with, begin_fault}
 use Rattle.mdcc_rules.specs.ManagerRules.{begin_step_by}
 use Rattle.mdcc_protocol.specs.News.{is_crowding}
 use Rattle.mdcc_rules.specs.Node.{cells_spare, checked, is_own_message, is_without_room, message_step, step_of, with_room}
-use Rattle.mdcc_rules.specs.Steps.{NodeStep}
+use Rattle.mdcc_rules.specs.Steps.{NodeStep, with_new}
 use Rattle.mdcc_protocol.specs.Volatile.{Volatile}
 use Rattle.mdcc_messages.specs.declared.facts.Fact.{Fact}
 use Rattle.mdcc_rules.specs.declared.node.Input.{Input}
 use Rattle.mdcc_rules.specs.declared.node.StepFault.{StepFault}
-use Rattle.mdcc_steps.specs.NodeInvariant.{with_new}
 use Rattle.mdcc_steps.proofs.Allowing.{OnStep}
 use Rattle.mdcc_steps.proofs.Stepping.{on_made}
+use Rattle.mdcc_rules.specs.Here.{here}
 
 module _ (cluster : Cluster) (me : ℕ) (facts : List Fact) (volatile : Volatile) (before : cells_used facts ≤ cluster.cells) where
   abbrev pub IsWithin : NodeStep → Type 0
@@ -41,19 +41,19 @@ module _ (cluster : Cluster) (me : ℕ) (facts : List Fact) (volatile : Volatile
   within-checked (Err fault) = tt
   within-checked (Ok step) = within-room step step.fact refl
 
-  within-begun : (parts : List Part) (fault : Option (Key × BeginFault)) → IsWithin (begin_step_by cluster me facts volatile parts (begin_by me (epoch_of facts) volatile.manager parts fault))
+  within-begun : (parts : List Part) (fault : Option (Key × BeginFault)) → IsWithin (begin_step_by (here cluster me facts) volatile parts (begin_with me (epoch_of facts) volatile.manager parts fault))
   within-begun parts (Some fault) = before
   within-begun parts None = before
 
-  within : (input : Input) → OnStep IsWithin (step_of cluster me facts volatile input)
+  within : (input : Input) → OnStep IsWithin (step_of (here cluster me facts) volatile input)
   within (Input.Message envelope) =
-      cond_both (is_own_message cluster me envelope) (checked cluster facts (message_step cluster me facts volatile envelope.from envelope.message)) (Err StepFault.Foreign) (OnStep IsWithin)
-      (λ e. within-checked (message_step cluster me facts volatile envelope.from envelope.message)) (λ e. tt)
+      cond_both (is_own_message cluster me envelope) (checked cluster facts (message_step (here cluster me facts) volatile envelope.from envelope.message)) (Err StepFault.Foreign) (OnStep IsWithin)
+      (λ e. within-checked (message_step (here cluster me facts) volatile envelope.from envelope.message)) (λ e. tt)
   within Input.Tick = before
   within (Input.Read key) = before
   within (Input.Begin parts) = within-begun parts (begin_fault facts volatile.manager parts)
 
 pub room-stays : (cluster : Cluster) (me : ℕ) (facts : List Fact) (volatile : Volatile) (input : Input) (step : NodeStep) → cells_used facts ≤ cluster.cells
-    → step_of cluster me facts volatile input ≡ Ok step → cells_used (with_new facts step.fact) ≤ cluster.cells
+    → step_of (here cluster me facts) volatile input ≡ Ok step → cells_used (with_new facts step.fact) ≤ cluster.cells
 room-stays cluster me facts volatile input step before made =
     on_made (IsWithin cluster me facts volatile before) _ step (within cluster me facts volatile before input) made

@@ -28,7 +28,7 @@ use Rattle.mdcc_protocol.specs.declared.leader.LeadFault.{LeadFault}
 use Rattle.mdcc_messages.specs.declared.messages.Envelope.{Envelope}
 use Rattle.mdcc_messages.specs.Lengths.{choice_length, delta_length, entry_length, fact_length, message_length, offered_length}
 use Rattle.mdcc_protocol.specs.Manager
-use Rattle.mdcc_protocol.specs.Manager.{begin_by, begin_fault}
+use Rattle.mdcc_protocol.specs.Manager.{begin_with, begin_fault}
 use Rattle.mdcc_rules.specs.ManagerRules.{begin_step_by, opened_step, undecided_step, voted_step, watched_step}
 use Rattle.mdcc_protocol.specs.News.{is_news}
 use Rattle.mdcc_rules.specs.Node.{checked, is_own_message, message_step, step_of}
@@ -56,6 +56,7 @@ use Rattle.mdcc_steps.proofs.Structuring.{crowded-few}
 use Rattle.mdcc_protocol.specs.Marks.{accepts_in, rejects_in}
 use Rattle.mdcc_steps.proofs.Held.{HoldsIn, holds-at}
 use Rattle.mdcc_steps.proofs.Stepping.{on_made}
+use Rattle.mdcc_rules.specs.Here.{here}
 
 -- ---- the longest fact
 
@@ -128,9 +129,9 @@ module _ (cluster : Cluster) (me : ℕ) (facts : List Fact) (volatile : Volatile
   single-led (Ok part) = tt
   single-led (Err fault) = tt
 
-  single-lead : (s : ℕ) (choice : Choice) (o : Option Outcome) → OnStep IsSingle (lead_step_after cluster me facts volatile s choice o)
+  single-lead : (s : ℕ) (choice : Choice) (o : Option Outcome) → OnStep IsSingle (lead_step_after (here cluster me facts) volatile s choice o)
   single-lead s choice (Some outcome) = tt
-  single-lead s choice None = single-led (led_of cluster me facts volatile (claim_of_choice choice))
+  single-lead s choice None = single-led (led_of (here cluster me facts) volatile (claim_of_choice choice))
 
   single-prepared : (s : ℕ) (key : Key) (version : ℕ) (ballot : Ballot) (answer : PrepareAnswer) → IsSingle (prepared_step me facts volatile s key version ballot answer)
   single-prepared s key version ballot (PrepareAnswer.Refused promise) = tt
@@ -156,23 +157,23 @@ module _ (cluster : Cluster) (me : ℕ) (facts : List Fact) (volatile : Volatile
   single-proposed s choice (ProposeAnswer.Vote mark) = omega arith
   single-proposed s choice (ProposeAnswer.Escalate cause) = tt
 
-  single-undecided : (vote : Vote) → IsSingle (undecided_step cluster me facts volatile vote)
+  single-undecided : (vote : Vote) → IsSingle (undecided_step (here cluster me facts) volatile vote)
   single-undecided vote = tt
 
-  single-opened : (vote : Vote) (o : Option Outcome) → IsSingle (opened_step cluster me facts volatile vote o)
+  single-opened : (vote : Vote) (o : Option Outcome) → IsSingle (opened_step (here cluster me facts) volatile vote o)
   single-opened vote (Some outcome) = tt
   single-opened vote None = single-undecided vote
 
-  single-watched : (vote : Vote) (o : Option (TxId × Outcome)) → IsSingle (watched_step cluster me facts volatile vote o)
+  single-watched : (vote : Vote) (o : Option (TxId × Outcome)) → IsSingle (watched_step (here cluster me facts) volatile vote o)
   single-watched vote (Some decided) = tt
   single-watched vote None = tt
 
-  single-voted : (vote : Vote) → IsSingle (voted_step cluster me facts volatile vote)
+  single-voted : (vote : Vote) → IsSingle (voted_step (here cluster me facts) volatile vote)
   single-voted vote =
       cond_both (is_heard facts vote.tx) (nothing_done volatile) _ IsSingle (λ e. tt) (λ e.
       cond_both (is_open volatile.manager vote.tx)
-      (opened_step cluster me facts volatile vote (Manager.would_decide cluster.quorums volatile.manager vote))
-      (watched_step cluster me facts volatile vote (Recover.would_decide cluster.quorums facts volatile.recovery vote))
+      (opened_step (here cluster me facts) volatile vote (Manager.would_decide cluster.quorums volatile.manager vote))
+      (watched_step (here cluster me facts) volatile vote (Recover.would_decide cluster.quorums facts volatile.recovery vote))
       IsSingle
       (λ f. single-opened vote (Manager.would_decide cluster.quorums volatile.manager vote))
       (λ f. single-watched vote (Recover.would_decide cluster.quorums facts volatile.recovery vote)))
@@ -191,11 +192,11 @@ module _ (cluster : Cluster) (me : ℕ) (facts : List Fact) (volatile : Volatile
       cond_both (is_news facts give.key give.version give.adds) (Some (Fact.Adopted give.key give.version give.item give.adds)) None (λ (o : Option Fact). IsSingle (sync_give_step_by volatile o))
       (λ e. tt) (λ e. tt)
 
-  single-begin : (parts : List Part) (fault : Option (Key × BeginFault)) → IsSingle (begin_step_by cluster me facts volatile parts (begin_by me (epoch_of facts) volatile.manager parts fault))
+  single-begin : (parts : List Part) (fault : Option (Key × BeginFault)) → IsSingle (begin_step_by (here cluster me facts) volatile parts (begin_with me (epoch_of facts) volatile.manager parts fault))
   single-begin parts (Some fault) = tt
   single-begin parts None = tt
 
-  single-message : (s : ℕ) (message : Message) → (is_accept_message message ≡ false) → OnStep IsSingle (message_step cluster me facts volatile s message)
+  single-message : (s : ℕ) (message : Message) → (is_accept_message message ≡ false) → OnStep IsSingle (message_step (here cluster me facts) volatile s message)
   single-message s (Message.Propose choice) e = single-proposed s choice (on_propose cluster facts choice)
   single-message s (Message.Voted key version ballot tx mark) e =
       single-voted (record { from = s; key = key; version = version; ballot = ballot; tx = tx; mark = mark })
@@ -213,13 +214,13 @@ module _ (cluster : Cluster) (me : ℕ) (facts : List Fact) (volatile : Volatile
   single-message s (Message.ClientBegin serial parts) e = tt
   single-message s (Message.ClientAnswer serial answer) e = tt
 
-  pub brief-message : (s : ℕ) (envelope : Envelope) → OnStep (IsBriefStep (accept_length envelope.message)) (message_step cluster me facts volatile s envelope.message)
+  pub brief-message : (s : ℕ) (envelope : Envelope) → OnStep (IsBriefStep (accept_length envelope.message)) (message_step (here cluster me facts) volatile s envelope.message)
   brief-message s envelope = by_message envelope.message refl
     where
-      other : (message : Message) → is_accept_message message ≡ false → OnStep (IsBriefStep (accept_length envelope.message)) (message_step cluster me facts volatile s message)
-      other message e = on-brief (accept_length envelope.message) (message_step cluster me facts volatile s message) (single-message s message e)
+      other : (message : Message) → is_accept_message message ≡ false → OnStep (IsBriefStep (accept_length envelope.message)) (message_step (here cluster me facts) volatile s message)
+      other message e = on-brief (accept_length envelope.message) (message_step (here cluster me facts) volatile s message) (single-message s message e)
 
-      by_message : (message : Message) → envelope.message ≡ message → OnStep (IsBriefStep (accept_length envelope.message)) (message_step cluster me facts volatile s message)
+      by_message : (message : Message) → envelope.message ≡ message → OnStep (IsBriefStep (accept_length envelope.message)) (message_step (here cluster me facts) volatile s message)
       by_message (Message.Accept key version ballot options) e =
           rw e (brief-accepted s envelope.from envelope.to key version ballot options (on_accept facts key version ballot options))
       by_message (Message.Propose choice) e = other (Message.Propose choice) refl
@@ -237,15 +238,15 @@ module _ (cluster : Cluster) (me : ℕ) (facts : List Fact) (volatile : Volatile
       by_message (Message.ClientBegin serial parts) e = other (Message.ClientBegin serial parts) refl
       by_message (Message.ClientAnswer serial answer) e = other (Message.ClientAnswer serial answer) refl
 
-  brief-step : (input : Input) → OnStep (IsBriefStep (accept_length_in input)) (step_of cluster me facts volatile input)
+  brief-step : (input : Input) → OnStep (IsBriefStep (accept_length_in input)) (step_of (here cluster me facts) volatile input)
   brief-step (Input.Message envelope) =
-      cond_both (is_own_message cluster me envelope) (checked cluster facts (message_step cluster me facts volatile envelope.from envelope.message)) (Err StepFault.Foreign) (OnStep (IsBriefStep (accept_length envelope.message)))
-      (λ e. on_checked (IsBriefStep (accept_length envelope.message)) (IsBriefStep (accept_length envelope.message)) cluster facts (message_step cluster me facts volatile envelope.from envelope.message) (λ step h room. h)
+      cond_both (is_own_message cluster me envelope) (checked cluster facts (message_step (here cluster me facts) volatile envelope.from envelope.message)) (Err StepFault.Foreign) (OnStep (IsBriefStep (accept_length envelope.message)))
+      (λ e. on_checked (IsBriefStep (accept_length envelope.message)) (IsBriefStep (accept_length envelope.message)) cluster facts (message_step (here cluster me facts) volatile envelope.from envelope.message) (λ step h room. h)
       (brief-message envelope.from envelope))
       (λ e. tt)
   brief-step Input.Tick = tt
   brief-step (Input.Read key) = tt
-  brief-step (Input.Begin parts) = brief 0 (begin_step_by cluster me facts volatile parts (begin_by me (epoch_of facts) volatile.manager parts (begin_fault facts volatile.manager parts))).fact (single-begin parts (begin_fault facts volatile.manager parts))
+  brief-step (Input.Begin parts) = brief 0 (begin_step_by (here cluster me facts) volatile parts (begin_with me (epoch_of facts) volatile.manager parts (begin_fault facts volatile.manager parts))).fact (single-begin parts (begin_fault facts volatile.manager parts))
 
 -- ---- the fact that a step adds
 
@@ -258,7 +259,7 @@ within n m h k = omega arith
 pub fact-short : (cluster : Cluster) (me : ℕ) (facts : List Fact) (volatile : Volatile) (input : Input) (step : NodeStep) (fact : Fact)
     → accept_length_in input ≤ 2097152
     → IsNode cluster me facts volatile → IsWellFormedInput input
-    → step_of cluster me facts volatile input ≡ Ok step → step.fact ≡ Some fact
+    → step_of (here cluster me facts) volatile input ≡ Ok step → step.fact ≡ Some fact
     → fact_length fact ≤ 2097152
 fact-short cluster me facts volatile input step fact few node w made is =
     let formed = fact-formed cluster me facts volatile input step node w made fact is in
@@ -271,7 +272,7 @@ fact-short cluster me facts volatile input step fact few node w made is =
 pub brought-fits : (cluster : Cluster) (me : ℕ) (facts : List Fact) (volatile : Volatile) (s : ℕ) (message : Message) (step : NodeStep) (fact : Fact)
     → accept_length message ≤ 2097152
     → IsNode cluster me facts volatile → is_centre cluster s ≡ true → IsWellFormedMessage message
-    → message_step cluster me facts volatile s message ≡ Ok step → step.fact ≡ Some fact
+    → message_step (here cluster me facts) volatile s message ≡ Ok step → step.fact ≡ Some fact
     → IsWellFormedFact fact × (fact_length fact ≤ 2097152)
 brought-fits cluster me facts volatile s message step fact few node from w made is =
     let formed = brought-formed cluster me facts volatile s message step fact node from w made is in
@@ -317,6 +318,6 @@ sent-short e h = by_message e.message h.0.message h.1
 
 pub sends-short : (cluster : Cluster) (me : ℕ) (facts : List Fact) (volatile : Volatile) (input : Input) (step : NodeStep)
     → HasRoom facts → IsNode cluster me facts volatile → IsWellFormedInput input
-    → step_of cluster me facts volatile input ≡ Ok step → AllByRecursion (λ e. accept_length e.message ≤ 1474618) step.sends
+    → step_of (here cluster me facts) volatile input ≡ Ok step → AllByRecursion (λ e. accept_length e.message ≤ 1474618) step.sends
 sends-short cluster me facts volatile input step room node w made =
     each-weaker IsGoodSent (λ e. accept_length e.message ≤ 1474618) step.sends sent-short (sends-good cluster me facts volatile input step node w made room)

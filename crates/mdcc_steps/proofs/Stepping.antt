@@ -18,7 +18,7 @@ use Rattle.mdcc_protocol.specs.Belongs.{adds_belong, ballot_belongs, fact_belong
 use Rattle.mdcc_protocol.specs.Facts.{epoch_of, heard_of, vote_of}
 use Rattle.mdcc_protocol.specs.Leader.{claim_of_choice}
 use Rattle.mdcc_rules.specs.LeaderRules.{lead_step_after, led_of, step_of_led}
-use Rattle.mdcc_protocol.specs.Manager.{begin_by, begin_fault}
+use Rattle.mdcc_protocol.specs.Manager.{begin_with, begin_fault}
 use Rattle.mdcc_rules.specs.ManagerRules.{begin_step_by}
 use Rattle.mdcc_protocol.specs.News.{is_crowding}
 use Rattle.mdcc_rules.specs.Node.{checked, is_own_message, message_step, step_of}
@@ -37,6 +37,7 @@ use Rattle.mdcc_steps.proofs.Allowing.{IsAllowedIf, OnStep, on_checked}
 use Rattle.mdcc_steps.proofs.Counted.{HoldsOfInput, HoldsOfVote, votes-step}
 use Rattle.mdcc_steps.proofs.Proposing.{propose-allowed}
 use Rattle.mdcc_steps.proofs.Voting.{voted-allowed}
+use Rattle.mdcc_rules.specs.Here.{here}
 
 module _ (cluster : Cluster) (me : ℕ) (facts : List Fact) (volatile : Volatile) (booted : nat_lt 0 (epoch_of facts) ≡ true) (votes : AreVotesOf cluster volatile) where
   abbrev pub IsFair : NodeStep → Type 0
@@ -46,9 +47,9 @@ module _ (cluster : Cluster) (me : ℕ) (facts : List Fact) (volatile : Volatile
   fair-led (Ok led) = tt
   fair-led (Err fault) = tt
 
-  fair-lead : (s : ℕ) (choice : Choice) (o : Option Outcome) → OnStep IsFair (lead_step_after cluster me facts volatile s choice o)
+  fair-lead : (s : ℕ) (choice : Choice) (o : Option Outcome) → OnStep IsFair (lead_step_after (here cluster me facts) volatile s choice o)
   fair-lead s choice (Some outcome) = tt
-  fair-lead s choice None = fair-led (led_of cluster me facts volatile (claim_of_choice choice))
+  fair-lead s choice None = fair-led (led_of (here cluster me facts) volatile (claim_of_choice choice))
 
   fair-asked : (s : ℕ) (tx : TxId) (key : Key) (version : ℕ) (o : Option Outcome) (vote : Option (Ballot × Mark)) → IsFair (ask_step_by me volatile s tx key version o vote)
   fair-asked s tx key version (Some outcome) vote = tt
@@ -56,12 +57,12 @@ module _ (cluster : Cluster) (me : ℕ) (facts : List Fact) (volatile : Volatile
   fair-asked s tx key version None None = tt
 
   fair-begin : (parts : List Part) (fault : Option (Key × BeginFault))
-      → IsFair (begin_step_by cluster me facts volatile parts (begin_by me (epoch_of facts) volatile.manager parts fault))
+      → IsFair (begin_step_by (here cluster me facts) volatile parts (begin_with me (epoch_of facts) volatile.manager parts fault))
   fair-begin parts (Some fault) = tt
   fair-begin parts None = tt
 
   fair-message : (s : ℕ) (message : Message) → message_belongs cluster message ≡ true → IsWellFormedMessage message
-      → OnStep IsFair (message_step cluster me facts volatile s message)
+      → OnStep IsFair (message_step (here cluster me facts) volatile s message)
   fair-message s (Message.Propose choice) h w = propose-allowed cluster me facts volatile s choice booted h
   fair-message s (Message.Voted key version ballot tx mark) h w =
       let parts = and_parts (ballot_belongs cluster ballot && tx_belongs cluster tx) (mark_belongs cluster mark) h in
@@ -97,10 +98,10 @@ module _ (cluster : Cluster) (me : ℕ) (facts : List Fact) (volatile : Volatile
   allowed-room None h room fact e = absurd (cc)
   allowed-room (Some new) h room fact e = let same : new ≡ fact = cc in rw (← same) (h (room new refl))
 
-  pub step-allowed : (input : Input) → IsWellFormedInput input → OnStep IsAllowedAfter (step_of cluster me facts volatile input)
+  pub step-allowed : (input : Input) → IsWellFormedInput input → OnStep IsAllowedAfter (step_of (here cluster me facts) volatile input)
   step-allowed (Input.Message envelope) w =
-      cond_both (is_own_message cluster me envelope) (checked cluster facts (message_step cluster me facts volatile envelope.from envelope.message)) (Err StepFault.Foreign) (OnStep IsAllowedAfter)
-      (λ e. on_checked IsFair IsAllowedAfter cluster facts (message_step cluster me facts volatile envelope.from envelope.message) (λ step h room. allowed-room step.fact h room)
+      cond_both (is_own_message cluster me envelope) (checked cluster facts (message_step (here cluster me facts) volatile envelope.from envelope.message)) (Err StepFault.Foreign) (OnStep IsAllowedAfter)
+      (λ e. on_checked IsFair IsAllowedAfter cluster facts (message_step (here cluster me facts) volatile envelope.from envelope.message) (λ step h room. allowed-room step.fact h room)
       (fair-message envelope.from envelope.message (and_parts _ _ e).1 w.message))
       (λ e. tt)
   step-allowed Input.Tick w = λ fact e. absurd (cc)
@@ -108,7 +109,7 @@ module _ (cluster : Cluster) (me : ℕ) (facts : List Fact) (volatile : Volatile
   step-allowed (Input.Begin parts) w = allowed-room _ (fair-begin parts (begin_fault facts volatile.manager parts)) (begun-room parts (begin_fault facts volatile.manager parts))
     where
       begun-room : (parts : List Part) (fault : Option (Key × BeginFault)) (fact : Fact)
-          → (begin_step_by cluster me facts volatile parts (begin_by me (epoch_of facts) volatile.manager parts fault)).fact ≡ Some fact → is_crowding facts fact ≡ false
+          → (begin_step_by (here cluster me facts) volatile parts (begin_with me (epoch_of facts) volatile.manager parts fault)).fact ≡ Some fact → is_crowding facts fact ≡ false
       begun-room parts (Some fault) fact e = absurd (cc)
       begun-room parts None fact e = absurd (cc)
 
@@ -141,7 +142,7 @@ vote-told cluster me facts (Input.Begin parts) = tt
 
 -- the counted votes stay of the cluster
 pub votes-stay : (cluster : Cluster) (me : ℕ) (facts : List Fact) (volatile : Volatile) (input : Input) (step : NodeStep) → AreVotesOf cluster volatile
-    → step_of cluster me facts volatile input ≡ Ok step → AreVotesOf cluster step.after
+    → step_of (here cluster me facts) volatile input ≡ Ok step → AreVotesOf cluster step.after
 votes-stay cluster me facts volatile input step votes e =
     let h = on_made _ _ step (votes-step (IsVoteOf cluster) cluster me facts volatile (votes.manager, votes.recovery) input (vote-told cluster me facts input)) e in
     record { manager = h.0; recovery = h.1 }
@@ -157,7 +158,7 @@ booted-more facts (Fact.Adopted key version item adds) h some = h
 
 pub made-allowed : (cluster : Cluster) (me : ℕ) (facts : List Fact) (volatile : Volatile) (input : Input) (step : NodeStep) (fact : Fact)
     → nat_lt 0 (epoch_of facts) ≡ true → AreVotesOf cluster volatile → IsWellFormedInput input
-    → step_of cluster me facts volatile input ≡ Ok step → step.fact ≡ Some fact → is_allowed_fact cluster facts fact ≡ true
+    → step_of (here cluster me facts) volatile input ≡ Ok step → step.fact ≡ Some fact → is_allowed_fact cluster facts fact ≡ true
 made-allowed cluster me facts volatile input step fact booted votes w made is =
     on_made (IsAllowedAfter cluster me facts volatile booted votes) _ step (step-allowed cluster me facts volatile booted votes input w) made fact is
 

@@ -32,6 +32,7 @@ use Rattle.mdcc_steps.proofs.Claims.{IsFormedClaim, formed-choice, formed-key}
 use Rattle.mdcc_steps.proofs.Each.{each-append, each-kept, each-map, each-weaker}
 use Rattle.mdcc_steps.proofs.Sending.{IsGoodSent, each-flat_map, sent-all}
 use Rattle.mdcc_steps.proofs.Told.{IsWellFormedSetAt, unresolved-told}
+use Rattle.mdcc_rules.specs.Here.{here}
 
 -- what is left and sent
 abbrev pub IsFormedTicked : StepPart → Type 0
@@ -77,22 +78,22 @@ formed-acts_on quorums facts recovery (tx, set) votes known w =
     (λ f. tt))
 
 module _ (cluster : Cluster) (me : ℕ) (facts : List Fact) (sizes : AreQuorums cluster.quorums) (of_me : IsInRange 1 9 me) (known : AllByRecursion IsWellFormedFact facts)
-    (led : (volatile : Volatile) (claim : Claim) → IsWellFormedVolatile volatile → IsFormedClaim claim → IsFormedTicked (claim_led cluster me facts volatile claim)) where
-  formed-manager_act : (volatile : Volatile) (act : ManagerAct) → IsWellFormedVolatile volatile → IsFormedManagerAct act → IsFormedTicked (manager_act cluster me facts volatile act)
+    (led : (volatile : Volatile) (claim : Claim) → IsWellFormedVolatile volatile → IsFormedClaim claim → IsFormedTicked (claim_led (here cluster me facts) volatile claim)) where
+  formed-manager_act : (volatile : Volatile) (act : ManagerAct) → IsWellFormedVolatile volatile → IsFormedManagerAct act → IsFormedTicked (manager_act (here cluster me facts) volatile act)
   formed-manager_act volatile (ManagerAct.Propose choice) h w = (h, sent-all cluster.quorums me (Message.Propose choice) tt sizes of_me w)
   formed-manager_act volatile (ManagerAct.LeadHere choice) h w = led volatile (claim_of_choice choice) h (formed-choice choice w)
   formed-manager_act volatile (ManagerAct.Lead leader choice) h w = (h, tt)
   formed-manager_act volatile (ManagerAct.Decide tx outcome) h w = (h, tt)
   formed-manager_act volatile (ManagerAct.Give centre key) h w = (h, tt)
 
-  formed-recovery_act : (volatile : Volatile) (act : RecoverAct) → IsWellFormedVolatile volatile → IsFormedRecoverAct act → IsFormedTicked (recovery_act cluster me facts volatile act)
+  formed-recovery_act : (volatile : Volatile) (act : RecoverAct) → IsWellFormedVolatile volatile → IsFormedRecoverAct act → IsFormedTicked (recovery_act (here cluster me facts) volatile act)
   formed-recovery_act volatile (RecoverAct.Ask tx key version) h w = (h, sent-all cluster.quorums me (Message.Ask tx key version) tt sizes of_me w)
   formed-recovery_act volatile (RecoverAct.LeadHere claim) h w = led volatile claim h w
 
-  formed-manager_ticked : (volatile : Volatile) → IsWellFormedVolatile volatile → IsFormedTicked (manager_ticked cluster me facts volatile)
+  formed-manager_ticked : (volatile : Volatile) → IsWellFormedVolatile volatile → IsFormedTicked (manager_ticked (here cluster me facts) volatile)
   formed-manager_ticked volatile h =
       let next = Manager.tick cluster.quorums volatile.manager in
-      formed-fold IsFormedManagerAct (manager_act cluster me facts) formed-manager_act next.0 (only_sending (with_manager volatile next.1) [])
+      formed-fold IsFormedManagerAct (manager_act (here cluster me facts)) formed-manager_act next.0 (only_sending (with_manager volatile next.1) [])
       (each-flat_map IsWellFormedOpen IsFormedManagerAct (acts_at cluster.quorums volatile.manager.votes) volatile.manager.opened (formed-acts_at cluster.quorums volatile.manager.votes) h.opened) (
         record {
           opened = each-map IsWellFormedOpen (ticked_transaction cluster.quorums volatile.manager.votes) volatile.manager.opened h.opened;
@@ -103,18 +104,18 @@ module _ (cluster : Cluster) (me : ℕ) (facts : List Fact) (sizes : AreQuorums 
         tt,
       )
 
-  formed-recovery_ticked : (first : StepPart) → IsFormedTicked first → IsFormedTicked (recovery_ticked cluster me facts first)
+  formed-recovery_ticked : (first : StepPart) → IsFormedTicked first → IsFormedTicked (recovery_ticked (here cluster me facts) first)
   formed-recovery_ticked first h =
       let opened = txs_opened first.after.manager in
       let next = Recover.tick cluster.quorums facts first.after.recovery opened in
-      formed-fold IsFormedRecoverAct (recovery_act cluster me facts) formed-recovery_act next.0 (record first { after = with_recovery first.after next.1 })
+      formed-fold IsFormedRecoverAct (recovery_act (here cluster me facts)) formed-recovery_act next.0 (record first { after = with_recovery first.after next.1 })
       (each-flat_map IsWellFormedSetAt IsFormedRecoverAct (acts_on cluster.quorums facts first.after.recovery) (dangling facts opened)
       (λ e w. formed-acts_on cluster.quorums facts first.after.recovery e h.0.watched known w)
       (each-kept IsWellFormedSetAt (λ e. not (has_tx opened e.0)) (unresolved_of facts) (unresolved-told facts known)))
       (record { opened = h.0.opened; votes = h.0.votes; watched = h.0.watched; leads = h.0.leads }, h.1)
 
-  pub formed-tick : (volatile : Volatile) → IsWellFormedVolatile volatile → IsFormedTicked (tick_parts cluster me facts volatile)
+  pub formed-tick : (volatile : Volatile) → IsWellFormedVolatile volatile → IsFormedTicked (tick_parts (here cluster me facts) volatile)
   formed-tick volatile h =
-      let first = manager_ticked cluster me facts volatile in
+      let first = manager_ticked (here cluster me facts) volatile in
       let k : IsFormedTicked first = formed-manager_ticked volatile h in
       formed-recovery_ticked first k

@@ -17,32 +17,33 @@ use Rattle.mdcc_steps.specs.AddedFacts.{AreVotesOf, IsVoteOf}
 use Rattle.mdcc_steps.proofs.Adding.{heard-allowed}
 use Rattle.mdcc_steps.proofs.Allowing.{IsAllowedIf}
 use Rattle.mdcc_steps.proofs.Deciding.{decided-belongs, open-decided, watched-decided}
+use Rattle.mdcc_rules.specs.Here.{here}
 
 module _ (cluster : Cluster) (me : ℕ) (facts : List Fact) (volatile : Volatile) (vote : Vote)
     (booted : nat_lt 0 (epoch_of facts) ≡ true) (votes : AreVotesOf cluster volatile) (of_tx : tx_belongs cluster vote.tx ≡ true) (of_mark : IsVoteOf cluster vote) where
-  undecided-allowed : IsAllowedIf cluster facts (undecided_step cluster me facts volatile vote).fact
+  undecided-allowed : IsAllowedIf cluster facts (undecided_step (here cluster me facts) volatile vote).fact
   undecided-allowed = tt
 
   open-allowed : (o : Option Outcome) → Manager.would_decide cluster.quorums volatile.manager vote ≡ o → is_heard facts vote.tx ≡ false → is_open volatile.manager vote.tx ≡ true
-      → IsAllowedIf cluster facts (opened_step cluster me facts volatile vote o).fact
+      → IsAllowedIf cluster facts (opened_step (here cluster me facts) volatile vote o).fact
   open-allowed None e unheard open_here = undecided-allowed
   open-allowed (Some outcome) e unheard open_here =
       let d = open-decided (IsVoteOf cluster) cluster.quorums volatile.manager vote outcome votes.manager of_mark open_here e in
       heard-allowed cluster facts vote.tx outcome booted of_tx (decided-belongs cluster cluster.quorums vote.tx _ outcome d.by) unheard
 
   watched-allowed : (o : Option (TxId × Outcome)) → Recover.would_decide cluster.quorums facts volatile.recovery vote ≡ o → is_heard facts vote.tx ≡ false
-      → IsAllowedIf cluster facts (watched_step cluster me facts volatile vote o).fact
+      → IsAllowedIf cluster facts (watched_step (here cluster me facts) volatile vote o).fact
   watched-allowed None e unheard = tt
   watched-allowed (Some decided) e unheard =
       let d = watched-decided (IsVoteOf cluster) cluster.quorums facts volatile.recovery vote decided votes.recovery of_mark e in
       rw d.same (heard-allowed cluster facts vote.tx decided.1 booted of_tx (decided-belongs cluster cluster.quorums vote.tx _ decided.1 d.by) unheard)
 
-  pub voted-allowed : IsAllowedIf cluster facts (voted_step cluster me facts volatile vote).fact
+  pub voted-allowed : IsAllowedIf cluster facts (voted_step (here cluster me facts) volatile vote).fact
   voted-allowed =
       cond_both (is_heard facts vote.tx) (nothing_done volatile) _ (λ (step : NodeStep). IsAllowedIf cluster facts step.fact) (λ e. tt) (λ e.
       cond_both (is_open volatile.manager vote.tx)
-      (opened_step cluster me facts volatile vote (Manager.would_decide cluster.quorums volatile.manager vote))
-      (watched_step cluster me facts volatile vote (Recover.would_decide cluster.quorums facts volatile.recovery vote))
+      (opened_step (here cluster me facts) volatile vote (Manager.would_decide cluster.quorums volatile.manager vote))
+      (watched_step (here cluster me facts) volatile vote (Recover.would_decide cluster.quorums facts volatile.recovery vote))
       (λ (step : NodeStep). IsAllowedIf cluster facts step.fact)
       (λ f. open-allowed (Manager.would_decide cluster.quorums volatile.manager vote) refl e f)
       (λ f. watched-allowed (Recover.would_decide cluster.quorums facts volatile.recovery vote) refl e))

@@ -7,11 +7,12 @@ use Rattle.mdcc_protocol.specs.Belongs.{mark_belongs}
 use Rattle.mdcc_protocol.specs.Facts.{epoch_of}
 use Rattle.mdcc_rules.specs.Node.{step_of}
 use Rattle.mdcc_rules.specs.Steps.{NodeStep}
-use Rattle.mdcc_protocol.specs.Volatile.{Volatile, nothing_kept}
+use Rattle.mdcc_protocol.specs.Volatile.{Volatile, initial_volatile}
 use Rattle.mdcc_messages.specs.declared.facts.Fact.{Fact}
 use Rattle.mdcc_rules.specs.declared.node.Input.{Input}
 use Rattle.mdcc_protocol.specs.declared.votes.Vote.{Vote}
 use Rattle.mdcc_steps.specs.Inputs.{IsWellFormedInput}
+use Rattle.mdcc_rules.specs.Here.{here}
 
 -- the vote's mark is of the cluster
 abbrev pub IsVoteOf : Cluster → Vote → Type 0
@@ -31,7 +32,7 @@ abbrev pub AddedFactIsAllowed : Type 0
 AddedFactIsAllowed =
     (cluster : Cluster) (me : ℕ) (facts : List Fact) (volatile : Volatile) (input : Input) (step : NodeStep) (fact : Fact)
     → IsBooted facts → AreVotesOf cluster volatile → IsWellFormedInput input
-    → step_of cluster me facts volatile input ≡ Ok step → step.fact ≡ Some fact
+    → step_of (here cluster me facts) volatile input ≡ Ok step → step.fact ≡ Some fact
     → IsTrue (is_allowed_fact cluster facts fact)
 
 -- so facts that are allowed in turn stay so
@@ -40,7 +41,7 @@ FactsStayAllowed =
     (cluster : Cluster) (me : ℕ) (facts : List Fact) (volatile : Volatile) (input : Input) (step : NodeStep) (fact : Fact)
     → IsTrue (are_allowed_facts cluster facts)
     → IsBooted facts → AreVotesOf cluster volatile → IsWellFormedInput input
-    → step_of cluster me facts volatile input ≡ Ok step → step.fact ≡ Some fact
+    → step_of (here cluster me facts) volatile input ≡ Ok step → step.fact ≡ Some fact
     → IsTrue (are_allowed_facts cluster (fact ∷ facts))
 
 -- and the node stays booted
@@ -48,17 +49,17 @@ abbrev pub NodeStaysBooted : Type 0
 NodeStaysBooted =
     (cluster : Cluster) (me : ℕ) (facts : List Fact) (volatile : Volatile) (input : Input) (step : NodeStep) (fact : Fact)
     → IsBooted facts → AreVotesOf cluster volatile → IsWellFormedInput input
-    → step_of cluster me facts volatile input ≡ Ok step → step.fact ≡ Some fact
+    → step_of (here cluster me facts) volatile input ≡ Ok step → step.fact ≡ Some fact
     → IsBooted (fact ∷ facts)
 
 -- no vote is counted after a boot
 abbrev pub NoVotesAtBoot : Type 0
-NoVotesAtBoot = (cluster : Cluster) → AreVotesOf cluster nothing_kept
+NoVotesAtBoot = (cluster : Cluster) → AreVotesOf cluster initial_volatile
 
 -- the counted votes stay of the cluster
 abbrev pub VotesStayOf : Type 0
 VotesStayOf =
     (cluster : Cluster) (me : ℕ) (facts : List Fact) (volatile : Volatile) (input : Input) (step : NodeStep)
     → AreVotesOf cluster volatile
-    → step_of cluster me facts volatile input ≡ Ok step
+    → step_of (here cluster me facts) volatile input ≡ Ok step
     → AreVotesOf cluster step.after

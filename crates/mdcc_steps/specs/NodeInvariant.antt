@@ -1,6 +1,6 @@
 -- What a node adds, keeps and sends is well-formed.
 use Rattle.std.specs.List.{AllByRecursion}
-use Rattle.std.specs.Prelude.{IsTrue, List, None, Ok, Option, Some, [], ℕ, ◌+◌, ◌++◌, ◌∷◌, ◌≡◌, ◌≤◌, ◌<◌, ◌^◌}
+use Rattle.std.specs.Prelude.{IsTrue, List, Ok, Option, Some, [], ℕ, ◌+◌, ◌++◌, ◌∷◌, ◌≡◌, ◌≤◌, ◌<◌, ◌^◌}
 use Rattle.mdcc_option.specs.declared.cluster.Cluster.{Cluster}
 use Rattle.mdcc_ledger.specs.BootTest.{are_allowed_facts}
 use Rattle.mdcc_protocol.specs.Belongs.{is_centre}
@@ -9,8 +9,8 @@ use Rattle.mdcc_protocol.specs.IsCluster.{IsCluster}
 use Rattle.mdcc_base.specs.Counts.{sum_over}
 use Rattle.mdcc_messages.specs.Lengths.{body_length, cells_used, fact_length, log_length}
 use Rattle.mdcc_rules.specs.Node.{message_step, step_of}
-use Rattle.mdcc_rules.specs.Steps.{NodeStep}
-use Rattle.mdcc_protocol.specs.Volatile.{Volatile, nothing_kept}
+use Rattle.mdcc_rules.specs.Steps.{NodeStep, with_new}
+use Rattle.mdcc_protocol.specs.Volatile.{Volatile, initial_volatile}
 use Rattle.mdcc_messages.specs.WellFormed.{IsWellFormedEnvelope, IsWellFormedFact, IsWellFormedMessage}
 use Rattle.mdcc_messages.specs.declared.facts.Fact.{Fact}
 use Rattle.mdcc_messages.specs.declared.messages.Message.{Message}
@@ -18,6 +18,7 @@ use Rattle.mdcc_rules.specs.declared.node.Input.{Input}
 use Rattle.mdcc_steps.specs.AddedFacts.{AreVotesOf}
 use Rattle.mdcc_steps.specs.Inputs.{IsWellFormedInput}
 use Rattle.mdcc_steps.specs.WellFormedVolatile.{AreNodeFacts, IsWellFormedVolatile}
+use Rattle.mdcc_rules.specs.Here.{here}
 
 -- what holds of a node at every moment
 pub record IsNode (cluster : Cluster) (me : ℕ) (facts : List Fact) (volatile : Volatile) : Type 0 where
@@ -32,7 +33,7 @@ abbrev pub AddedFactIsWellFormed : Type 0
 AddedFactIsWellFormed =
     (cluster : Cluster) (me : ℕ) (facts : List Fact) (volatile : Volatile) (input : Input) (step : NodeStep) (fact : Fact)
     → IsNode cluster me facts volatile → IsWellFormedInput input
-    → step_of cluster me facts volatile input ≡ Ok step → step.fact ≡ Some fact
+    → step_of (here cluster me facts) volatile input ≡ Ok step → step.fact ≡ Some fact
     → IsWellFormedFact fact
 
 -- the facts have fewer than 2^32 bytes, so the votes that a promise reports are fewer than 2^32
@@ -52,20 +53,15 @@ SendsAreWellFormed =
     (cluster : Cluster) (me : ℕ) (facts : List Fact) (volatile : Volatile) (input : Input) (step : NodeStep)
     → HasRoom facts
     → IsNode cluster me facts volatile → IsWellFormedInput input
-    → step_of cluster me facts volatile input ≡ Ok step
+    → step_of (here cluster me facts) volatile input ≡ Ok step
     → AllByRecursion IsWellFormedEnvelope step.sends
-
--- a node's facts with a new one
-abbrev pub with_new : List Fact → Option Fact → List Fact
-with_new facts None = facts
-with_new facts (Some fact) = fact ∷ facts
 
 -- and a node stays one
 abbrev pub NodeStays : Type 0
 NodeStays =
     (cluster : Cluster) (me : ℕ) (facts : List Fact) (volatile : Volatile) (input : Input) (step : NodeStep)
     → IsNode cluster me facts volatile → IsWellFormedInput input
-    → step_of cluster me facts volatile input ≡ Ok step
+    → step_of (here cluster me facts) volatile input ≡ Ok step
     → IsNode cluster me (with_new facts step.fact) step.after
 
 -- the facts stay within the cells of the cluster
@@ -73,7 +69,7 @@ abbrev pub RoomStays : Type 0
 RoomStays =
     (cluster : Cluster) (me : ℕ) (facts : List Fact) (volatile : Volatile) (input : Input) (step : NodeStep)
     → cells_used facts ≤ cluster.cells
-    → step_of cluster me facts volatile input ≡ Ok step
+    → step_of (here cluster me facts) volatile input ≡ Ok step
     → cells_used (with_new facts step.fact) ≤ cluster.cells
 
 -- a node is one after a boot from well-formed facts
@@ -83,7 +79,7 @@ BootGivesNode =
     → IsCluster cluster → IsTrue (is_centre cluster me)
     → AllByRecursion (λ payload. (fact : Fact) → payload ≡ Some fact → IsWellFormedFact fact) payloads
     → boot_of cluster payloads ≡ Ok facts
-    → IsNode cluster me facts nothing_kept
+    → IsNode cluster me facts initial_volatile
 
 -- and its facts lie within the cells
 abbrev pub BootKeepsRoom : Type 0
@@ -120,7 +116,7 @@ AddedFactIsShort =
     (cluster : Cluster) (me : ℕ) (facts : List Fact) (volatile : Volatile) (input : Input) (step : NodeStep) (fact : Fact)
     → accept_length_in input ≤ 2097152
     → IsNode cluster me facts volatile → IsWellFormedInput input
-    → step_of cluster me facts volatile input ≡ Ok step → step.fact ≡ Some fact
+    → step_of (here cluster me facts) volatile input ≡ Ok step → step.fact ≡ Some fact
     → fact_length fact ≤ 2097152
 
 -- so it is of the fact that a message brings, also where the store has no room for it
@@ -129,7 +125,7 @@ BroughtFactFits =
     (cluster : Cluster) (me : ℕ) (facts : List Fact) (volatile : Volatile) (s : ℕ) (message : Message) (step : NodeStep) (fact : Fact)
     → accept_length message ≤ 2097152
     → IsNode cluster me facts volatile → IsTrue (is_centre cluster s) → IsWellFormedMessage message
-    → message_step cluster me facts volatile s message ≡ Ok step → step.fact ≡ Some fact
+    → message_step (here cluster me facts) volatile s message ≡ Ok step → step.fact ≡ Some fact
     → IsWellFormedFact fact × (fact_length fact ≤ 2097152)
 
 -- each Accept that a step sends has at most 1,474,618 bytes: it has at most 1,024 accepted and 32,768 rejected marks
@@ -138,5 +134,5 @@ StructuresHaveRoom =
     (cluster : Cluster) (me : ℕ) (facts : List Fact) (volatile : Volatile) (input : Input) (step : NodeStep)
     → HasRoom facts
     → IsNode cluster me facts volatile → IsWellFormedInput input
-    → step_of cluster me facts volatile input ≡ Ok step
+    → step_of (here cluster me facts) volatile input ≡ Ok step
     → AllByRecursion (λ e. accept_length e.message ≤ 1474618) step.sends

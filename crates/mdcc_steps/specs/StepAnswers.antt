@@ -12,6 +12,7 @@ use Rattle.mdcc_rules.specs.declared.node.Answer.{Answer}
 use Rattle.mdcc_rules.specs.declared.node.Input.{Input}
 use Rattle.mdcc_steps.specs.NodeInvariant.{IsNode}
 use Rattle.mdcc_steps.specs.Inputs.{IsWellFormedInput}
+use Rattle.mdcc_rules.specs.Here.{here}
 
 -- what a read shows, the transaction that was begun, or the key and cause of a refusal
 abbrev pub IsWellFormedGivenAnswer : Answer → Type 0
@@ -24,5 +25,5 @@ abbrev pub AnswerIsWellFormed : Type 0
 AnswerIsWellFormed =
     (cluster : Cluster) (me : ℕ) (facts : List Fact) (volatile : Volatile) (input : Input) (step : NodeStep) (answer : Answer)
     → IsNode cluster me facts volatile → IsWellFormedInput input
-    → step_of cluster me facts volatile input ≡ Ok step → step.answer ≡ Some answer
+    → step_of (here cluster me facts) volatile input ≡ Ok step → step.answer ≡ Some answer
     → IsWellFormedGivenAnswer answer

@@ -5,9 +5,9 @@ use Rattle.mdcc_struct.specs.Options.{Marks}
 use Rattle.mdcc_struct.specs.declared.options.JoinFault.{JoinFault}
 use Rattle.mdcc_struct.specs.declared.options.JoinFault.TheVariants.{Differ, Memory}
 
-abbrev pub is_memory : JoinFault → Bool
-is_memory (Differ tx) = false
-is_memory Memory = true
+abbrev pub is_join_memory : JoinFault → Bool
+is_join_memory (Differ tx) = false
+is_join_memory Memory = true
 
 -- the join, or the transaction at which the marks differ
 abbrev pub joined_by : Result Marks TxId → Result Marks JoinFault

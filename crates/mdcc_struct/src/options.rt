@@ -4,7 +4,7 @@ ghost use Rattle.std.specs.Option.{option_copied};
 ghost use Rattle.mdcc_base.specs.TxId.{tx_lt};
 ghost use Rattle.mdcc_base.specs.Unless.{GivesUnless};
 ghost use Rattle.mdcc_struct.specs.Fields.{mark_in, kept, kept_place};
-ghost use Rattle.mdcc_struct.specs.Joined.{is_memory, joined_by};
+ghost use Rattle.mdcc_struct.specs.Joined.{is_join_memory, joined_by};
 ghost use Rattle.mdcc_struct.specs.Maps.{value_of, inserted, union, are_ascending};
 ghost use Rattle.mdcc_struct.specs.Options.{accepts_in, rejects_in, is_mark, is_other_mark, meet_of, differing, join_of, extends};
 ghost use Rattle.mdcc_struct.specs.Places.{place_of};
@@ -233,7 +233,7 @@ impl Options {
 
     /// The entries of both, where their marks agree.
     pub fn join(&self, alloc: Global, other: &Options) -> Result<Options, JoinFault>
-        ensures { GivesUnless is_memory result (joined_by (join_of self.now other.now)) }
+        ensures { GivesUnless is_join_memory result (joined_by (join_of self.now other.now)) }
     {
         if let Some(tx) = self.differing(other) {
             return Err(JoinFault::Differ(tx));

@@ -40,6 +40,7 @@ use Rattle.mdcc_trace.proofs.Structuring.{GoodLed, IsRight, IsWell, found-new, o
 use Rattle.mdcc_protocol.specs.declared.leader.LeadFault.{LeadFault}
 use Rattle.mdcc_protocol.specs.declared.leader.LeadAnswer.{LeadAnswer}
 use Rattle.mdcc_trace_states.specs.Steps.{IsUp}
+use Rattle.mdcc_rules.specs.Here.{here}
 
 distinct-filter : (t : Counted → Bool) (ps : List Counted) → are_distinct (map (λ (p : Counted). p.from) ps) ≡ true → are_distinct (map (λ (p : Counted). p.from) (filter t ps)) ≡ true
 distinct-filter t [] h = refl
@@ -305,7 +306,7 @@ module _ (also : List Entry → Type 0) (well : IsWell also) (cluster : Cluster)
   cond-good true r s f h = f refl
   cond-good false r s f h = h refl
 
-  pub led-good : FineLed (led_of cluster a (facts_of es a) volatile claim)
+  pub led-good : FineLed (led_of (here cluster a (facts_of es a)) volatile claim)
   led-good =
       elim (cases_Bool (nat_lt (current_of (facts_of es a) claim.key) claim.version)) [
         | inl e ↦ rw e (sends-good also cluster es a volatile volatile (to_others cluster.quorums a (Message.SyncAsk claim.key)) up up.keeps (stands-each cluster es a (Message.SyncAsk claim.key) _ up.centre tt), refl)

@@ -59,6 +59,7 @@ use Rattle.mdcc_protocol.specs.declared.leader.LeadFault.{LeadFault}
 use Rattle.mdcc_protocol.specs.declared.votes.Vote.{Vote}
 use Rattle.mdcc_trace_rules.specs.Closed.{HasSet}
 use Rattle.mdcc_trace_states.specs.Steps.{AreGood, IsFair, IsUp}
+use Rattle.mdcc_rules.specs.Here.{here}
 
 -- the law that the rules of classic ballots rest on
 abbrev pub OneMarkLaw : Type 0
@@ -113,16 +114,16 @@ key-claim cluster es a facts recovery t ws (k, n) legal sound same votes set i =
     by_case (Some d) e c g = let h : Some d ≡ Some c = rw e at g in received-choice cluster es recovery.votes k n t c legal sound votes (e ∙ h)
 
 recover-part : (law : OneMarkLaw) (cluster : Cluster) (es : List Entry) (a : ℕ) (facts : List Fact) (recovery : Recovering) (v : Volatile) (e : TxId × List (Key × ℕ)) (act : RecoverAct) → IsUp IsSound cluster es a v → facts_of es a ≡ facts → AreVotes cluster es recovery.votes →
-    value_of (write_sets_of facts) e.0 ≡ Some e.1 → IsRecoverAct facts recovery e act → IsGoodPart IsSound cluster es a (recovery_act cluster a facts v act)
+    value_of (write_sets_of facts) e.0 ≡ Some e.1 → IsRecoverAct facts recovery e act → IsGoodPart IsSound cluster es a (recovery_act (here cluster a facts) v act)
 recover-part law cluster es a facts recovery v e (RecoverAct.Ask t k n) up same votes found is =
-    let here : value_of (write_sets_of (facts_of es a)) e.0 ≡ Some e.1 = subst (λ z. value_of (write_sets_of z) e.0 ≡ Some e.1) (sym same) found in
-    let set = (sound-well law).shut.sets cluster es a e.0 e.1 up.legal up.more here in
+    let known : value_of (write_sets_of (facts_of es a)) e.0 ≡ Some e.1 = subst (λ z. value_of (write_sets_of z) e.0 ≡ Some e.1) (sym same) found in
+    let set = (sound-well law).shut.sets cluster es a e.0 e.1 up.legal up.more known in
     let own : tx_belongs cluster e.0 ≡ true = begun-in cluster es e.0 set.choice up.legal set.begun in
     sent-part IsSound cluster es a v v (to_all cluster.quorums a (Message.Ask t k n)) up up.keeps (stands-each cluster es a (Message.Ask t k n) (all_centres cluster.quorums) up.centre (subst (λ z. tx_belongs cluster z ≡ true) (sym is) own))
 recover-part law cluster es a facts recovery v e (RecoverAct.LeadHere claim) up same votes found is =
-    let here : value_of (write_sets_of (facts_of es a)) e.0 ≡ Some e.1 = subst (λ z. value_of (write_sets_of z) e.0 ≡ Some e.1) (sym same) found in
-    let set = (sound-well law).shut.sets cluster es a e.0 e.1 up.legal up.more here in
-    subst (λ z. IsGoodPart IsSound cluster es a (claim_led cluster a facts v z)) (sym is.2)
+    let known : value_of (write_sets_of (facts_of es a)) e.0 ≡ Some e.1 = subst (λ z. value_of (write_sets_of z) e.0 ≡ Some e.1) (sym same) found in
+    let set = (sound-well law).shut.sets cluster es a e.0 e.1 up.legal up.more known in
+    subst (λ z. IsGoodPart IsSound cluster es a (claim_led (here cluster a facts) v z)) (sym is.2)
     (claim-part IsSound (sound-well law) cluster es a facts v (claim_of_key facts recovery e.0 is.0) up same (key-claim cluster es a facts recovery e.0 e.1 is.0 up.legal up.more same votes set is.1))
 
 -- an act for a transaction whose write set the node knows
@@ -141,9 +142,9 @@ known-acts cluster facts recovery opened =
         once-value (write_sets_of facts) e (once-sets facts) k.0
 
 second-part : (law : OneMarkLaw) (cluster : Cluster) (es : List Entry) (a : ℕ) (v : Volatile) (first : StepPart) → IsUp IsSound cluster es a v → IsGoodPart IsSound cluster es a first →
-    IsGoodPart IsSound cluster es a (recovery_ticked cluster a (facts_of es a) first)
+    IsGoodPart IsSound cluster es a (recovery_ticked (here cluster a (facts_of es a)) first)
 second-part law cluster es a v first up h =
-    fold-good IsSound cluster (first.entries ++ es) es a (recovery_act cluster a (facts_of es a)) (flat_map (acts_on cluster.quorums (facts_of es a) recovery) txs)
+    fold-good IsSound cluster (first.entries ++ es) es a (recovery_act (here cluster a (facts_of es a))) (flat_map (acts_on cluster.quorums (facts_of es a) recovery) txs)
     (record first { after = with_recovery first.after after }) v up start (IsTail-same (first.entries ++ es))
     (λ act i new w u s tail.
     let k = Each-at (IsKnownAct (facts_of es a) recovery) (flat_map (acts_on cluster.quorums (facts_of es a) recovery) txs) act (known-acts cluster (facts_of es a) recovery (txs_opened first.after.manager)) i in
@@ -171,9 +172,9 @@ second-part law cluster es a v first up h =
       still = h.still;
     }
 
-tick-part : (law : OneMarkLaw) (cluster : Cluster) (es : List Entry) (a : ℕ) (v : Volatile) → IsUp IsSound cluster es a v → IsGoodPart IsSound cluster es a (tick_parts cluster a (facts_of es a) v)
+tick-part : (law : OneMarkLaw) (cluster : Cluster) (es : List Entry) (a : ℕ) (v : Volatile) → IsUp IsSound cluster es a v → IsGoodPart IsSound cluster es a (tick_parts (here cluster a (facts_of es a)) v)
 tick-part law cluster es a v up =
-    second-part law cluster es a v (manager_ticked cluster a (facts_of es a) v) up (manager-part IsSound (sound-well law) cluster es a v up)
+    second-part law cluster es a v (manager_ticked (here cluster a (facts_of es a)) v) up (manager-part IsSound (sound-well law) cluster es a v up)
 
 -- ---- messages
 
@@ -188,14 +189,14 @@ module _ (law : OneMarkLaw) (cluster : Cluster) (es : List Entry) (a : ℕ) (vol
   led-step (Ok part) g = λ room. g.0
   led-step (Err fault) g = tt
 
-  lead-good : (s : ℕ) (choice : Choice) (o : Option Outcome) → heard_of (facts_of es a) choice.tx ≡ o → IsClaim es choice.key choice.version (choice.tx, Some choice) → Roomy (lead_step_after cluster a (facts_of es a) volatile s choice o)
+  lead-good : (s : ℕ) (choice : Choice) (o : Option Outcome) → heard_of (facts_of es a) choice.tx ≡ o → IsClaim es choice.key choice.version (choice.tx, Some choice) → Roomy (lead_step_after (here cluster a (facts_of es a)) volatile s choice o)
   lead-good s choice (Some o) e claim = λ room.
       let w = was-outcome cluster es a choice.tx o up.legal e in
       sends-good IsSound cluster es a volatile volatile _ up up.keeps (record { from = up.centre; old = w.old; tail = w.tail; says = w.outcome }, tt)
-  lead-good s choice None e claim = led-step (led_of cluster a (facts_of es a) volatile (claim_of_choice choice)) (led-good IsSound (sound-well law) cluster es a volatile up (claim_of_choice choice) claim)
+  lead-good s choice None e claim = led-step (led_of (here cluster a (facts_of es a)) volatile (claim_of_choice choice)) (led-good IsSound (sound-well law) cluster es a volatile up (claim_of_choice choice) claim)
 
   pub message-good : (env : Envelope) (message : Message) → env.message ≡ message → TrueWhenSent cluster es env → is_centre cluster env.from ≡ true → message_belongs cluster message ≡ true →
-      Roomy (message_step cluster a (facts_of es a) volatile env.from message)
+      Roomy (message_step (here cluster a (facts_of es a)) volatile env.from message)
   message-good env (Message.Propose choice) e h from belongs =
       let said = subst (λ z. Says cluster h.old env.from z) e h.says in
       λ room. propose-good IsSound (sound-well law).shut cluster es a volatile up env.from choice (is_begun-tail cluster h.old es choice up.legal h.tail said) belongs
@@ -239,12 +240,12 @@ module _ (law : OneMarkLaw) (cluster : Cluster) (es : List Entry) (a : ℕ) (vol
   message-good env (Message.ClientBegin n ps) e h from belongs = nothing
   message-good env (Message.ClientAnswer n x) e h from belongs = nothing
 
-  received-good : (env : Envelope) → TrueWhenSent cluster es env → IsGood cluster IsSound es a (step_of cluster a (facts_of es a) volatile (Input.Message env))
+  received-good : (env : Envelope) → TrueWhenSent cluster es env → IsGood cluster IsSound es a (step_of (here cluster a (facts_of es a)) volatile (Input.Message env))
   received-good env h =
       elim (cases_Bool (env.to == a && is_centre cluster env.from && message_belongs cluster env.message)) [
         | inl e ↦
             let p = and_parts (env.to == a && is_centre cluster env.from) (message_belongs cluster env.message) e in
-            rw e (checked-good IsSound cluster es a (message_step cluster a (facts_of es a) volatile env.from env.message)
+            rw e (checked-good IsSound cluster es a (message_step (here cluster a (facts_of es a)) volatile env.from env.message)
             (message-good env env.message refl h (and_parts (env.to == a) (is_centre cluster env.from) p.0).1 p.1))
         | inr e ↦ rw e tt
       ]
@@ -257,7 +258,7 @@ full-good law = record {
   boot = λ cluster es a n legal h. (sound-well law).shut.more cluster (Added a (Fact.Booted n)) es legal tt h;
 }
   where
-    by_input : (cluster : Cluster) (es : List Entry) (a : ℕ) (volatile : Volatile) → IsUp IsSound cluster es a volatile → (input : Input) → IsFair cluster es input → IsGood cluster IsSound es a (step_of cluster a (facts_of es a) volatile input)
+    by_input : (cluster : Cluster) (es : List Entry) (a : ℕ) (volatile : Volatile) → IsUp IsSound cluster es a volatile → (input : Input) → IsFair cluster es input → IsGood cluster IsSound es a (step_of (here cluster a (facts_of es a)) volatile input)
     by_input cluster es a volatile up (Input.Message env) fair = received-good law cluster es a volatile up env fair
     by_input cluster es a volatile up Input.Tick fair = (tick-part law cluster es a volatile up).good
     by_input cluster es a volatile up (Input.Read key) fair = nothing-good IsSound cluster es a volatile volatile up up.keeps

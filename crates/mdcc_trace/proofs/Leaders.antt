@@ -30,6 +30,7 @@ use Rattle.mdcc_protocol.specs.declared.manager.ManagerAct.{ManagerAct}
 use Rattle.mdcc_protocol.specs.declared.leader.LeadFault.{LeadFault}
 use Rattle.mdcc_protocol.specs.Manager.{act_at, acts_at, choices_unlearned, is_odd, ticked_transaction}
 use Rattle.mdcc_trace_states.specs.Steps.{IsUp}
+use Rattle.mdcc_rules.specs.Here.{here}
 
 -- a begun choice makes a claim
 pub choice-claim : (es : List Entry) (c : Choice) → is_begun es c ≡ true → IsClaim es c.key c.version (c.tx, Some c)
@@ -42,9 +43,9 @@ choice-claim es c h =
 
 -- a claim that is led here
 pub claim-part : (also : List Entry → Type 0) (well : IsWell also) (cluster : Cluster) (es : List Entry) (a : ℕ) (facts : List Fact) (v : Volatile) (claim : Claim) → IsUp also cluster es a v → facts_of es a ≡ facts → IsClaim es claim.key claim.version (claim.tx, claim.choice) →
-    IsGoodPart also cluster es a (claim_led cluster a facts v claim)
+    IsGoodPart also cluster es a (claim_led (here cluster a facts) v claim)
 claim-part also well cluster es a facts v claim up same said =
-    subst (λ z. IsGoodPart also cluster es a (claim_led cluster a z v claim)) same (part (led_of cluster a (facts_of es a) v claim) (led-good also well cluster es a v up claim said))
+    subst (λ z. IsGoodPart also cluster es a (claim_led (here cluster a z) v claim)) same (part (led_of (here cluster a (facts_of es a)) v claim) (led-good also well cluster es a v up claim said))
   where
     part : (r : Result StepPart LeadFault) → GoodLed also well cluster es a v up r → IsGoodPart also cluster es a (led_or_left v r)
     part (Ok step) g = record { good = g.0; still = g.1 }
@@ -64,7 +65,7 @@ act-more cluster new es (ManagerAct.Lead l c) legal h = tt
 act-more cluster new es (ManagerAct.Give b k) legal h = tt
 
 act-part : (also : List Entry → Type 0) (well : IsWell also) (cluster : Cluster) (es : List Entry) (a : ℕ) (facts : List Fact) (v : Volatile) (act : ManagerAct) → IsUp also cluster es a v → facts_of es a ≡ facts → IsManagerAct es act →
-    IsGoodPart also cluster es a (manager_act cluster a facts v act)
+    IsGoodPart also cluster es a (manager_act (here cluster a facts) v act)
 act-part also well cluster es a facts v (ManagerAct.Propose c) up same begun =
     sent-part also cluster es a v v (to_all cluster.quorums a (Message.Propose c)) up up.keeps (stands-each cluster es a (Message.Propose c) (all_centres cluster.quorums) up.centre begun)
 act-part also well cluster es a facts v (ManagerAct.LeadHere c) up same begun = claim-part also well cluster es a facts v (claim_of_choice c) up same (choice-claim es c begun)
@@ -86,9 +87,9 @@ acts-begun also well cluster es a v up t h =
     (λ c i. act-begun es (next_count t.ticks) c (begun-choice also well.shut cluster es a v up t c h (In-filter (λ (c : Choice). not (is_learned cluster.quorums v.manager.votes t.tx c.key)) t.choices c i).0)))
 
 -- the first half of a tick
-pub manager-part : (also : List Entry → Type 0) (well : IsWell also) (cluster : Cluster) (es : List Entry) (a : ℕ) (v : Volatile) → IsUp also cluster es a v → IsGoodPart also cluster es a (manager_ticked cluster a (facts_of es a) v)
+pub manager-part : (also : List Entry → Type 0) (well : IsWell also) (cluster : Cluster) (es : List Entry) (a : ℕ) (v : Volatile) → IsUp also cluster es a v → IsGoodPart also cluster es a (manager_ticked (here cluster a (facts_of es a)) v)
 manager-part also well cluster es a v up =
-    fold-good also cluster es es a (manager_act cluster a (facts_of es a)) (flat_map (acts_at cluster.quorums v.manager.votes) v.manager.opened) (only_sending (with_manager v after) []) v up
+    fold-good also cluster es es a (manager_act (here cluster a (facts_of es a))) (flat_map (acts_at cluster.quorums v.manager.votes) v.manager.opened) (only_sending (with_manager v after) []) v up
     (sent-part also cluster es a v (with_manager v after) [] up keeps tt) (IsTail-same es)
     (λ act i new w u s tail. act-part also well cluster (new ++ es) a (facts_of es a) w act u s
     (act-more cluster new es act u.legal (Each-at (IsManagerAct es) (flat_map (acts_at cluster.quorums v.manager.votes) v.manager.opened) act begun i)))

@@ -47,6 +47,7 @@ use Rattle.mdcc_trace.proofs.Sound.{sound-well}
 use Rattle.mdcc_trace.proofs.Structuring.{GoodLed, promise-good}
 use Rattle.mdcc_trace_answers.specs.Answered.{IsAnswered, IsRefusedForRoom}
 use Rattle.mdcc_trace_answers.proofs.Crowding.{not-crowding}
+use Rattle.mdcc_rules.specs.Here.{here}
 
 -- ---- structures
 
@@ -128,7 +129,7 @@ module _ (cluster : Cluster) (es : List Entry) (a : ℕ) (volatile : Volatile) (
   led-answered (Ok (answer, after)) claim f = tt
   led-answered (Err fault) claim f = absurd (f fault refl)
 
-  claimed-answered : (s : ℕ) (choice : Choice) (o : Option Outcome) → IsAnswered (lead_step_after cluster a (facts_of es a) volatile s choice o)
+  claimed-answered : (s : ℕ) (choice : Choice) (o : Option Outcome) → IsAnswered (lead_step_after (here cluster a (facts_of es a)) volatile s choice o)
   claimed-answered s choice (Some o) = tt
   claimed-answered s choice None =
       led-answered (lead cluster a (epoch_of (facts_of es a)) (facts_of es a) volatile.leader (claim_of_choice choice)) (claim_of_choice choice)
@@ -140,7 +141,7 @@ module _ (cluster : Cluster) (es : List Entry) (a : ℕ) (volatile : Volatile) (
   promised-answered k (Err LeadFault.Crowded) f g = absurd (g refl)
   promised-answered k (Err LeadFault.Memory) f g = let bad = f LeadFault.Memory refl in absurd (cc)
 
-  message-answered : (env : Envelope) (message : Message) → env.message ≡ message → TrueWhenSent cluster es env → IsAnswered (message_step cluster a (facts_of es a) volatile env.from message)
+  message-answered : (env : Envelope) (message : Message) → env.message ≡ message → TrueWhenSent cluster es env → IsAnswered (message_step (here cluster a (facts_of es a)) volatile env.from message)
   message-answered env (Message.Propose choice) e h = tt
   message-answered env (Message.Voted k v b t m) e h = tt
   message-answered env (Message.Escalate k v t cause) e h = tt
@@ -180,17 +181,17 @@ module _ (cluster : Cluster) (es : List Entry) (a : ℕ) (volatile : Volatile) (
         | inr e ↦ rw e (let few : is_crowding (facts_of es a) fact ≡ false = not-crowding cluster es a fact ledger g.1.legal.1.2 in rw few tt)
       ]
 
-  pub envelope-answered : (env : Envelope) → env.to ≡ a → IsBackedMessage cluster es env → IsAnswered (step_of cluster a (facts_of es a) volatile (Input.Message env))
+  pub envelope-answered : (env : Envelope) → env.to ≡ a → IsBackedMessage cluster es env → IsAnswered (step_of (here cluster a (facts_of es a)) volatile (Input.Message env))
   envelope-answered env to h =
-      rw own (by_result (message_step cluster a (facts_of es a) volatile env.from env.message) refl)
+      rw own (by_result (message_step (here cluster a (facts_of es a)) volatile env.from env.message) refl)
     where
       own : (env.to == a && is_centre cluster env.from && message_belongs cluster env.message) ≡ true
       own = and_from (env.to == a && is_centre cluster env.from) (message_belongs cluster env.message) (and_from (env.to == a) (is_centre cluster env.from) (eq-eqb env.to a to) h.sent.from) h.belongs
 
-      answered : IsAnswered (message_step cluster a (facts_of es a) volatile env.from env.message)
+      answered : IsAnswered (message_step (here cluster a (facts_of es a)) volatile env.from env.message)
       answered = message-answered env env.message refl h.sent
 
-      by_result : (r : Result NodeStep StepFault) → message_step cluster a (facts_of es a) volatile env.from env.message ≡ r → IsAnswered (checked cluster (facts_of es a) r)
+      by_result : (r : Result NodeStep StepFault) → message_step (here cluster a (facts_of es a)) volatile env.from env.message ≡ r → IsAnswered (checked cluster (facts_of es a) r)
       by_result (Err fault) e = let g : IsRefusedForRoom fault = subst IsAnswered e answered in g
       by_result (Ok step) e =
           room-answered step step.fact

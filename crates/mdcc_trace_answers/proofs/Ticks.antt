@@ -40,6 +40,7 @@ use Rattle.mdcc_trace_limits.proofs.Rounds.{calm-reached, rounds-within}
 use Rattle.mdcc_trace_limits.proofs.Small.{acts-few, flat-few, is_begin, opened_in, recover-few}
 use Rattle.mdcc_trace_answers.specs.Ticks.{AreClaimsLed, AreDanglingLed, AreOpenLed, InTurn, IsDanglingLed, IsLed, IsOpenLed}
 use Rattle.mdcc_trace_answers.proofs.Answers.{lead-fault}
+use Rattle.mdcc_rules.specs.Here.{here}
 
 -- the rounds of all keys are within a number: in facts, and at a leader
 abbrev AreFacts : ℕ → List Fact → Type 0
@@ -67,8 +68,8 @@ module _ (cluster : Cluster) (me : ℕ) (facts : List Fact) where
       by_answer (Ok (answer, leader)) e = (record { after = with_leader volatile leader; entries = lead_entries me volatile.leader claim answer; sends = lead_sent cluster.quorums me claim answer }, refl)
       by_answer (Err fault) e = absurd (lead-fault cluster me (epoch_of facts) facts volatile.leader claim fault low e)
 
-  claim-rounds : (volatile : Volatile) (claim : Claim) (r : ℕ) → AreFacts r facts → IsLeader r volatile.leader → IsLeader (r + 1) (claim_led cluster me facts volatile claim).after.leader
-  claim-rounds volatile claim r f l key = by_case (led_of cluster me facts volatile claim) (led-round key r cluster me facts volatile claim (f key) (l key))
+  claim-rounds : (volatile : Volatile) (claim : Claim) (r : ℕ) → AreFacts r facts → IsLeader r volatile.leader → IsLeader (r + 1) (claim_led (here cluster me facts) volatile claim).after.leader
+  claim-rounds volatile claim r f l key = by_case (led_of (here cluster me facts) volatile claim) (led-round key r cluster me facts volatile claim (f key) (l key))
     where
       more : raised key claim.key r ≤ r + 1
       more = elim (cases_Bool (key_eq claim.key key)) [ inl e ↦ rw e (omega arith) | inr e ↦ rw e (omega arith) ]
@@ -90,14 +91,14 @@ module _ (cluster : Cluster) (me : ℕ) (facts : List Fact) where
   higher : (volatile : Volatile) (r : ℕ) → IsLeader r volatile.leader → IsLeader (r + 1) volatile.leader
   higher volatile r l = λ key. leader-more key r (r + 1) volatile.leader (omega arith) (l key)
 
-  open-taken : IsTaken (IsOpenLed cluster me facts) (manager_act cluster me facts)
+  open-taken : IsTaken (IsOpenLed cluster me facts) (manager_act (here cluster me facts))
   open-taken volatile (ManagerAct.LeadHere choice) r few f l = (claim-led volatile (claim_of_choice choice) r few f l, claim-rounds volatile (claim_of_choice choice) r f l)
   open-taken volatile (ManagerAct.Propose choice) r few f l = (tt, higher volatile r l)
   open-taken volatile (ManagerAct.Lead leader choice) r few f l = (tt, higher volatile r l)
   open-taken volatile (ManagerAct.Give centre key) r few f l = (tt, higher volatile r l)
   open-taken volatile (ManagerAct.Decide tx outcome) r few f l = (tt, higher volatile r l)
 
-  dangling-taken : IsTaken (IsDanglingLed cluster me facts) (recovery_act cluster me facts)
+  dangling-taken : IsTaken (IsDanglingLed cluster me facts) (recovery_act (here cluster me facts))
   dangling-taken volatile (RecoverAct.LeadHere claim) r few f l = (claim-led volatile claim r few f l, claim-rounds volatile claim r f l)
   dangling-taken volatile (RecoverAct.Ask tx key version) r few f l = (tt, higher volatile r l)
 
@@ -134,11 +135,11 @@ module _ (w : World) (a : ℕ) (up : IsUp IsSound w.cluster w.ledger a (centre_a
           let m = acts-few w.cluster.quorums v.manager.votes t in
           omega (arith, n, m)
 
-  opened-led : AreOpenLed w.cluster a facts v (Manager.tick w.cluster.quorums v.manager) × IsLeader 3770102048 (manager_ticked w.cluster a facts v).after.leader
+  opened-led : AreOpenLed w.cluster a facts v (Manager.tick w.cluster.quorums v.manager) × IsLeader 3770102048 (manager_ticked (here w.cluster a facts) v).after.leader
   opened-led =
       let start : StepPart = only_sending (with_manager v (Manager.tick w.cluster.quorums v.manager).1) [] in
-      let all = in-turn w.cluster a facts (IsOpenLed w.cluster a facts) (manager_act w.cluster a facts) acts 3770100000 start (open-taken w.cluster a facts) (small (length acts) acts-within) f l in
-      (all.0, λ key. leader-more key (3770100000 + length acts) 3770102048 (manager_ticked w.cluster a facts v).after.leader (within (length acts) acts-within) (all.1 key))
+      let all = in-turn w.cluster a facts (IsOpenLed w.cluster a facts) (manager_act (here w.cluster a facts)) acts 3770100000 start (open-taken w.cluster a facts) (small (length acts) acts-within) f l in
+      (all.0, λ key. leader-more key (3770100000 + length acts) 3770102048 (manager_ticked (here w.cluster a facts) v).after.leader (within (length acts) acts-within) (all.1 key))
     where
       small : (n : ℕ) → n ≤ 2048 → 3770100000 + n < 2 ^ 32
       small n h = omega (arith, h)
@@ -159,7 +160,7 @@ module _ (w : World) (a : ℕ) (up : IsUp IsSound w.cluster w.ledger a (centre_a
   dangling-led first k =
       let recovery : Recovering = (Recover.tick w.cluster.quorums facts first.after.recovery (txs_opened first.after.manager)).1 in
       let all = flat_map (acts_on w.cluster.quorums facts first.after.recovery) (dangling facts (txs_opened first.after.manager)) in
-      (in-turn w.cluster a facts (IsDanglingLed w.cluster a facts) (recovery_act w.cluster a facts) all 3770102048 (record first { after = with_recovery first.after recovery }) (dangling-taken w.cluster a facts)
+      (in-turn w.cluster a facts (IsDanglingLed w.cluster a facts) (recovery_act (here w.cluster a facts)) all 3770102048 (record first { after = with_recovery first.after recovery }) (dangling-taken w.cluster a facts)
       (small (length all) (dangling-within first.after.recovery (txs_opened first.after.manager))) (λ key version. let g = f key version in omega (arith, g)) k).0
     where
       small : (n : ℕ) → n ≤ 800000 → 3770102048 + n < 2 ^ 32

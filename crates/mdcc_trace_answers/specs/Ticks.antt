@@ -12,10 +12,11 @@ use Rattle.mdcc_protocol.specs.declared.recover.RecoverAct.{RecoverAct}
 use Rattle.mdcc_rules.specs.LeaderRules.{led_of}
 use Rattle.mdcc_rules.specs.Steps.{StepPart, and_then, only_sending}
 use Rattle.mdcc_rules.specs.TickRules.{manager_act, manager_ticked, recovery_act}
+use Rattle.mdcc_rules.specs.Here.{here}
 
 -- the leader does not refuse the claim
 abbrev pub IsLed : Cluster → ℕ → List Fact → Volatile → Claim → Type 0
-IsLed cluster me facts volatile claim = (part : StepPart) × (led_of cluster me facts volatile claim ≡ Ok part)
+IsLed cluster me facts volatile claim = (part : StepPart) × (led_of (here cluster me facts) volatile claim ≡ Ok part)
 
 -- so it is with the claim of an act for an open transaction
 abbrev pub IsOpenLed : Cluster → ℕ → List Fact → Volatile → ManagerAct → Type 0
@@ -34,14 +35,14 @@ InTurn P act before (x ∷ xs) = P before.after x × InTurn P act (and_then act 
 
 abbrev pub AreOpenLed : Cluster → ℕ → List Fact → Volatile → List ManagerAct × Managing → Type 0
 AreOpenLed cluster me facts volatile (acts, manager) =
-    InTurn (IsOpenLed cluster me facts) (manager_act cluster me facts) (only_sending (with_manager volatile manager) []) acts
+    InTurn (IsOpenLed cluster me facts) (manager_act (here cluster me facts)) (only_sending (with_manager volatile manager) []) acts
 
 abbrev pub AreDanglingLed : Cluster → ℕ → List Fact → StepPart → List RecoverAct × Recovering → Type 0
 AreDanglingLed cluster me facts first (acts, recovery) =
-    InTurn (IsDanglingLed cluster me facts) (recovery_act cluster me facts) (record first { after = with_recovery first.after recovery }) acts
+    InTurn (IsDanglingLed cluster me facts) (recovery_act (here cluster me facts)) (record first { after = with_recovery first.after recovery }) acts
 
 -- a tick leads all claims of its two halves: those of the second over what the first one leaves
 pub record AreClaimsLed (cluster : Cluster) (me : ℕ) (facts : List Fact) (volatile : Volatile) : Type 0 where
   pub opened : AreOpenLed cluster me facts volatile (Manager.tick cluster.quorums volatile.manager)
-  pub dangling : (first : StepPart) → first ≡ manager_ticked cluster me facts volatile
+  pub dangling : (first : StepPart) → first ≡ manager_ticked (here cluster me facts) volatile
       → AreDanglingLed cluster me facts first (Recover.tick cluster.quorums facts first.after.recovery (txs_opened first.after.manager))

@@ -46,6 +46,7 @@ use Rattle.mdcc_protocol.specs.declared.visible.Give.{Give}
 use Rattle.mdcc_protocol.specs.declared.votes.Vote.{Vote}
 use Rattle.mdcc_trace_rules.proofs.Begins.{Each-flat_map}
 use Rattle.mdcc_trace_limits.proofs.RoundSteps.{AreRoundFacts, AreRoundSends, IsRound, IsRoundFact, IsRoundLeader, IsRoundLed, each-round, leader-more, led-round, promise-round, promised-round, raised, refused-round, sends-more, voted-round}
+use Rattle.mdcc_rules.specs.Here.{here}
 
 -- ---- single steps
 
@@ -149,22 +150,22 @@ acted-fine key r me facts volatile (act, manager) l = sending-round key r (with_
 decided-fine : (key : Key) (r : ℕ) (cluster : Cluster) (me : ℕ) (volatile : Volatile) (t : TxId) (o : Outcome) → IsRoundLeader key r volatile.leader → IsRoundStep key r (decided_step cluster me volatile t o)
 decided-fine key r cluster me volatile t o l = adding-round key r (closed volatile t) _ _ (heard-round key r t o) l (each-round key r me (Message.Outcome t o) _ tt)
 
-voted-fine : (key : Key) (r : ℕ) (cluster : Cluster) (me : ℕ) (facts : List Fact) (volatile : Volatile) (vote : Vote) → IsRoundLeader key r volatile.leader → IsRoundStep key r (voted_step cluster me facts volatile vote)
+voted-fine : (key : Key) (r : ℕ) (cluster : Cluster) (me : ℕ) (facts : List Fact) (volatile : Volatile) (vote : Vote) → IsRoundLeader key r volatile.leader → IsRoundStep key r (voted_step (here cluster me facts) volatile vote)
 voted-fine key r cluster me facts volatile vote l =
     elim (cases_Bool (is_heard facts vote.tx)) [
       | inl e ↦ rw e (done-round key r volatile l)
       | inr e ↦ rw e (elim (cases_Bool (is_open volatile.manager vote.tx)) [ inl f ↦ rw f (opened _) | inr f ↦ rw f (watched _) ])
     ]
   where
-    undecided : IsRoundStep key r (undecided_step cluster me facts volatile vote)
+    undecided : IsRoundStep key r (undecided_step (here cluster me facts) volatile vote)
     undecided =
         acted-fine key r me facts volatile (Manager.on_voted cluster.quorums volatile.manager vote) l
 
-    opened : (o : Option Outcome) → IsRoundStep key r (opened_step cluster me facts volatile vote o)
+    opened : (o : Option Outcome) → IsRoundStep key r (opened_step (here cluster me facts) volatile vote o)
     opened (Some o) = decided-fine key r cluster me volatile vote.tx o l
     opened None = undecided
 
-    watched : (o : Option (TxId × Outcome)) → IsRoundStep key r (watched_step cluster me facts volatile vote o)
+    watched : (o : Option (TxId × Outcome)) → IsRoundStep key r (watched_step (here cluster me facts) volatile vote o)
     watched (Some d) = decided-fine key r cluster me volatile d.0 d.1 l
     watched None = done-round key r (with_recovery volatile (Recover.on_voted cluster.quorums facts volatile.recovery vote).1) l
 
@@ -190,7 +191,7 @@ led-plain quorums me volatile claim (Ok (answer, after)) es a led e =
     by_answer LeadAnswer.Left = refl
     by_answer (LeadAnswer.Accept v b os) = pick (is_marked volatile.leader claim) claim.key v b os
 
-pub led-of-plain : (cluster : Cluster) (me : ℕ) (facts : List Fact) (volatile : Volatile) (claim : Claim) (es : List Entry) (a : ℕ) (led : StepPart) → led_of cluster me facts volatile claim ≡ Ok led → facts_of (led.entries ++ es) a ≡ facts_of es a
+pub led-of-plain : (cluster : Cluster) (me : ℕ) (facts : List Fact) (volatile : Volatile) (claim : Claim) (es : List Entry) (a : ℕ) (led : StepPart) → led_of (here cluster me facts) volatile claim ≡ Ok led → facts_of (led.entries ++ es) a ≡ facts_of es a
 led-of-plain cluster me facts volatile claim es a led e = led-plain cluster.quorums me volatile claim (lead cluster me (epoch_of facts) facts volatile.leader claim) es a led e
 
 promised-plain : (quorums : Sizes) (me : ℕ) (volatile : Volatile) (k : Key) (x : Result (PromiseAnswer × Leading) LeadFault) (es : List Entry) (a : ℕ) (led : StepPart) → promised_by_answer quorums me volatile k x ≡ Ok led → facts_of (led.entries ++ es) a ≡ facts_of es a
@@ -213,23 +214,23 @@ result-more key r s (Ok step) h g = step-more key r s step h g
 result-more key r s (Err fault) h g = tt
 
 lead-fine : (key : Key) (r : ℕ) (cluster : Cluster) (me : ℕ) (facts : List Fact) (volatile : Volatile) (s : ℕ) (choice : Choice) (o : Option Outcome) → AreRoundFacts key r facts → IsRoundLeader key r volatile.leader →
-    IsRoundResult key (r + 1) (lead_step_after cluster me facts volatile s choice o)
+    IsRoundResult key (r + 1) (lead_step_after (here cluster me facts) volatile s choice o)
 lead-fine key r cluster me facts volatile s choice (Some o) f l = sending-round key (r + 1) volatile _ (leader-more key r (r + 1) volatile.leader (omega arith) l) (tt, tt)
 lead-fine key r cluster me facts volatile s choice None f l =
-    result-more key (raised key choice.key r) (r + 1) (step_of_led (led_of cluster me facts volatile (claim_of_choice choice))) (raised-most key choice.key r)
-    (led-fine key (raised key choice.key r) volatile (led_of cluster me facts volatile (claim_of_choice choice)) (λ es a led e. led-of-plain cluster me facts volatile (claim_of_choice choice) es a led e)
+    result-more key (raised key choice.key r) (r + 1) (step_of_led (led_of (here cluster me facts) volatile (claim_of_choice choice))) (raised-most key choice.key r)
+    (led-fine key (raised key choice.key r) volatile (led_of (here cluster me facts) volatile (claim_of_choice choice)) (λ es a led e. led-of-plain cluster me facts volatile (claim_of_choice choice) es a led e)
     (led-round key r cluster me facts volatile (claim_of_choice choice) f l))
 
 -- ---- messages
 
 message-fine : (key : Key) (r : ℕ) (cluster : Cluster) (me : ℕ) (facts : List Fact) (volatile : Volatile) (s : ℕ) (m : Message) → AreRoundFacts key r facts → IsRoundLeader key r volatile.leader → IsRound key r m →
-    IsRoundResult key (r + 1) (message_step cluster me facts volatile s m)
+    IsRoundResult key (r + 1) (message_step (here cluster me facts) volatile s m)
 message-fine key r cluster me facts volatile s m f l h = by_message m h
   where
     more : (step : NodeStep) → IsRoundStep key r step → IsRoundStep key (r + 1) step
     more step g = step-more key r (r + 1) step (omega arith) g
 
-    by_message : (m : Message) → IsRound key r m → IsRoundResult key (r + 1) (message_step cluster me facts volatile s m)
+    by_message : (m : Message) → IsRound key r m → IsRoundResult key (r + 1) (message_step (here cluster me facts) volatile s m)
     by_message (Message.Propose choice) h = more _ (proposed-fine key r me volatile s choice (on_propose cluster facts choice) l)
     by_message (Message.Voted k v b t x) h = more _ (voted-fine key r cluster me facts volatile _ l)
     by_message (Message.Escalate k v t cause) h = more _ (acted-fine key r me facts volatile (Manager.on_escalate cluster.quorums volatile.manager s t k cause) l)
@@ -251,8 +252,8 @@ message-fine key r cluster me facts volatile s m f l h = by_message m h
     by_message (Message.ClientAnswer n x) h = more _ (done-round key r volatile l)
 
 pub checked-fine : (key : Key) (r : ℕ) (cluster : Cluster) (me : ℕ) (facts : List Fact) (volatile : Volatile) (s : ℕ) (m : Message) → AreRoundFacts key r facts → IsRoundLeader key r volatile.leader → IsRound key r m →
-    IsRoundResult key (r + 1) (checked cluster facts (message_step cluster me facts volatile s m))
-checked-fine key r cluster me facts volatile s m f l h = by_case (message_step cluster me facts volatile s m) (message-fine key r cluster me facts volatile s m f l h)
+    IsRoundResult key (r + 1) (checked cluster facts (message_step (here cluster me facts) volatile s m))
+checked-fine key r cluster me facts volatile s m f l h = by_case (message_step (here cluster me facts) volatile s m) (message-fine key r cluster me facts volatile s m f l h)
   where
     room : (step : NodeStep) (o : Option Fact) → IsRoundStep key (r + 1) step → IsRoundResult key (r + 1) (with_room cluster facts step o)
     room step None g = g

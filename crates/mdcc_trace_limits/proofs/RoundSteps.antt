@@ -32,6 +32,7 @@ use Rattle.mdcc_trace_states.specs.Words.{Each, In}
 use Rattle.mdcc_trace_states.proofs.Lists.{Each-at, Each-filter, Each-like}
 use Rattle.mdcc_trace_states.proofs.Tests.{Decides-key}
 use Rattle.mdcc_trace.proofs.Leading.{lead-in, number-grows, number-other, number-same}
+use Rattle.mdcc_rules.specs.Here.{here}
 
 -- ---- messages and facts
 
@@ -255,7 +256,7 @@ module _ (key : Key) (r : ℕ) (cluster : Cluster) (me epoch : ℕ) (facts : Lis
       by_lead (Some x) e = found-round x e
 
 -- a claim that is led raises the rounds of its own key by one at most, and of no other key
-pub led-round : (key : Key) (r : ℕ) (cluster : Cluster) (me : ℕ) (facts : List Fact) (volatile : Volatile) (claim : Claim) → AreRoundFacts key r facts → IsRoundLeader key r volatile.leader → IsRoundLed key (raised key claim.key r) (led_of cluster me facts volatile claim)
+pub led-round : (key : Key) (r : ℕ) (cluster : Cluster) (me : ℕ) (facts : List Fact) (volatile : Volatile) (claim : Claim) → AreRoundFacts key r facts → IsRoundLeader key r volatile.leader → IsRoundLed key (raised key claim.key r) (led_of (here cluster me facts) volatile claim)
 led-round key r cluster me facts volatile claim f l =
     answer-led key (raised key claim.key r) cluster.quorums me volatile claim (lead cluster me (epoch_of facts) facts volatile.leader claim) (lead-round key r cluster me (epoch_of facts) facts volatile.leader claim f l)
 

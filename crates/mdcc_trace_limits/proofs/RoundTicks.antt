@@ -44,6 +44,7 @@ use Rattle.mdcc_trace_limits.proofs.Begun.{dangling-few, dangling-set}
 use Rattle.mdcc_trace_limits.proofs.RoundMessages.{led-of-plain}
 use Rattle.mdcc_trace_limits.proofs.RoundSteps.{AreRoundFacts, AreRoundSends, IsRoundLeader, IsRoundLed, each-round, leader-more, led-round, raised, sends-more}
 use Rattle.mdcc_trace_limits.proofs.Small.{is_begin, number-append, opened_in}
+use Rattle.mdcc_rules.specs.Here.{here}
 
 -- ---- claims on a key
 
@@ -176,8 +177,8 @@ fold-round {X = X} key facts act on (x ∷ xs) r before f g h = raise (fold-roun
 ticked-round : (key : Key) (r : ℕ) (volatile : Volatile) (sends : List Envelope) → IsRoundLeader key r volatile.leader → AreRoundSends key r sends → IsRoundTick key r (only_sending volatile sends)
 ticked-round key r volatile sends l s = record { leader = l; sends = s; plain = λ es a. refl }
 
-claim-round : (key : Key) (r : ℕ) (cluster : Cluster) (me : ℕ) (facts : List Fact) (volatile : Volatile) (claim : Claim) → AreRoundFacts key r facts → IsRoundLeader key r volatile.leader → IsRoundTick key (raised key claim.key r) (claim_led cluster me facts volatile claim)
-claim-round key r cluster me facts volatile claim f l = by_case (led_of cluster me facts volatile claim) refl (led-round key r cluster me facts volatile claim f l)
+claim-round : (key : Key) (r : ℕ) (cluster : Cluster) (me : ℕ) (facts : List Fact) (volatile : Volatile) (claim : Claim) → AreRoundFacts key r facts → IsRoundLeader key r volatile.leader → IsRoundTick key (raised key claim.key r) (claim_led (here cluster me facts) volatile claim)
+claim-round key r cluster me facts volatile claim f l = by_case (led_of (here cluster me facts) volatile claim) refl (led-round key r cluster me facts volatile claim f l)
   where
     least : r ≤ raised key claim.key r
     least = elim (cases_Bool (key_eq claim.key key)) [ inl e ↦ rw e (omega arith) | inr e ↦ rw e (omega arith) ]
@@ -185,12 +186,12 @@ claim-round key r cluster me facts volatile claim f l = by_case (led_of cluster 
     left : IsRoundTick key (raised key claim.key r) (only_sending volatile [])
     left = ticked-round key (raised key claim.key r) volatile [] (leader-more key r (raised key claim.key r) volatile.leader least l) tt
 
-    by_case : (x : Result StepPart LeadFault) → led_of cluster me facts volatile claim ≡ x → IsRoundLed key (raised key claim.key r) x → IsRoundTick key (raised key claim.key r) (led_or_left volatile x)
+    by_case : (x : Result StepPart LeadFault) → led_of (here cluster me facts) volatile claim ≡ x → IsRoundLed key (raised key claim.key r) x → IsRoundTick key (raised key claim.key r) (led_or_left volatile x)
     by_case (Ok led) e h = record { leader = h.0; sends = h.1; plain = λ es a. led-of-plain cluster me facts volatile claim es a led e }
     by_case (Err fault) e h = left
 
 manager-act-round : (key : Key) (cluster : Cluster) (me : ℕ) (facts : List Fact) (volatile : Volatile) (act : ManagerAct) (r : ℕ) → AreRoundFacts key r facts → IsRoundLeader key r volatile.leader →
-    IsRoundTick key (risen (manages_key key act) r) (manager_act cluster me facts volatile act)
+    IsRoundTick key (risen (manages_key key act) r) (manager_act (here cluster me facts) volatile act)
 manager-act-round key cluster me facts volatile (ManagerAct.Propose choice) r f l = ticked-round key r volatile _ l (each-round key r me (Message.Propose choice) (all_centres cluster.quorums) tt)
 manager-act-round key cluster me facts volatile (ManagerAct.LeadHere choice) r f l = claim-round key r cluster me facts volatile (claim_of_choice choice) f l
 manager-act-round key cluster me facts volatile (ManagerAct.Lead leader choice) r f l = ticked-round key r volatile [] l tt
@@ -198,17 +199,17 @@ manager-act-round key cluster me facts volatile (ManagerAct.Give centre k) r f l
 manager-act-round key cluster me facts volatile (ManagerAct.Decide tx outcome) r f l = ticked-round key r volatile [] l tt
 
 recovery-act-round : (key : Key) (cluster : Cluster) (me : ℕ) (facts : List Fact) (volatile : Volatile) (act : RecoverAct) (r : ℕ) → AreRoundFacts key r facts → IsRoundLeader key r volatile.leader →
-    IsRoundTick key (risen (recovers_key key act) r) (recovery_act cluster me facts volatile act)
+    IsRoundTick key (risen (recovers_key key act) r) (recovery_act (here cluster me facts) volatile act)
 recovery-act-round key cluster me facts volatile (RecoverAct.Ask t k v) r f l = ticked-round key r volatile _ l (each-round key r me (Message.Ask t k v) (all_centres cluster.quorums) tt)
 recovery-act-round key cluster me facts volatile (RecoverAct.LeadHere claim) r f l = claim-round key r cluster me facts volatile claim f l
 
 -- ---- the tick
 
 pub tick-round : (key : Key) (r : ℕ) (w : World) (a : ℕ) → IsUp IsSound w.cluster w.ledger a (centre_at w a).volatile → AreRoundFacts key r (facts_of w.ledger a) → IsRoundLeader key r (centre_at w a).volatile.leader →
-    IsRoundTick key (r + (opened_in (centre_at w a).volatile + number_of is_begin w.ledger)) (tick_parts w.cluster a (facts_of w.ledger a) (centre_at w a).volatile)
+    IsRoundTick key (r + (opened_in (centre_at w a).volatile + number_of is_begin w.ledger)) (tick_parts (here w.cluster a (facts_of w.ledger a)) (centre_at w a).volatile)
 tick-round key r w a up f l =
-    raise ((r + opened_in v) + number_of is_begin w.ledger) (r + (opened_in v + number_of is_begin w.ledger)) (tick_parts cluster a facts v) (omega arith)
-    (second (r + opened_in v) (manager_ticked cluster a facts v) (omega arith) first)
+    raise ((r + opened_in v) + number_of is_begin w.ledger) (r + (opened_in v + number_of is_begin w.ledger)) (tick_parts (here cluster a facts) v) (omega arith)
+    (second (r + opened_in v) (manager_ticked (here cluster a facts) v) (omega arith) first)
   where
     v : Volatile
     v = (centre_at w a).volatile
@@ -231,19 +232,19 @@ tick-round key r w a up f l =
         (Each-like (IsOpened w.ledger) (λ (t : Undecided). number_of (manages_key key) (acts_at cluster.quorums v.manager.votes t) ≤ 1) v.manager.opened
         (λ t o. acts-key key cluster.quorums v.manager.votes t (subst (λ z. number_of (λ (c : Choice). key_eq c.key key) z ≤ 1) o.choices (begun-key cluster w.ledger t.tx key up.legal))) up.keeps.manager.opened)
 
-    first : IsRoundTick key (r + opened_in v) (manager_ticked cluster a facts v)
+    first : IsRoundTick key (r + opened_in v) (manager_ticked (here cluster a facts) v)
     first =
-        raise (r + number_of (manages_key key) acts) (r + opened_in v) (manager_ticked cluster a facts v) (few (number_of (manages_key key) acts) acts-few)
-        (fold-round key facts (manager_act cluster a facts) (manages_key key) acts r (only_sending (with_manager v (Manager.tick cluster.quorums v.manager).1) [])
+        raise (r + number_of (manages_key key) acts) (r + opened_in v) (manager_ticked (here cluster a facts) v) (few (number_of (manages_key key) acts) acts-few)
+        (fold-round key facts (manager_act (here cluster a facts)) (manages_key key) acts r (only_sending (with_manager v (Manager.tick cluster.quorums v.manager).1) [])
         (λ u x s g k. manager-act-round key cluster a facts u x s g k) f (ticked-round key r (with_manager v (Manager.tick cluster.quorums v.manager).1) [] l tt))
       where
         few : (n : ℕ) → n ≤ opened_in v → r + n ≤ r + opened_in v
         few n h = omega (arith, h)
 
-    second : (s : ℕ) (p : StepPart) → r ≤ s → IsRoundTick key s p → IsRoundTick key (s + number_of is_begin w.ledger) (recovery_ticked cluster a facts p)
+    second : (s : ℕ) (p : StepPart) → r ≤ s → IsRoundTick key s p → IsRoundTick key (s + number_of is_begin w.ledger) (recovery_ticked (here cluster a facts) p)
     second s p h k =
-        raise (s + number_of (recovers_key key) after) (s + number_of is_begin w.ledger) (recovery_ticked cluster a facts p) (few (number_of (recovers_key key) after) after-few)
-        (fold-round key facts (recovery_act cluster a facts) (recovers_key key) after s (record p { after = with_recovery p.after (record recovery { counters = fold counted_tick recovery.counters (dangling facts (txs_opened p.after.manager)) }) })
+        raise (s + number_of (recovers_key key) after) (s + number_of is_begin w.ledger) (recovery_ticked (here cluster a facts) p) (few (number_of (recovers_key key) after) after-few)
+        (fold-round key facts (recovery_act (here cluster a facts)) (recovers_key key) after s (record p { after = with_recovery p.after (record recovery { counters = fold counted_tick recovery.counters (dangling facts (txs_opened p.after.manager)) }) })
         (λ u x n g j. recovery-act-round key cluster a facts u x n g j) (facts-more key r s facts h f) (record { leader = k.leader; sends = k.sends; plain = k.plain }))
       where
         recovery : Recovering

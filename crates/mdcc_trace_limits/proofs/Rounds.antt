@@ -16,7 +16,7 @@ use Rattle.mdcc_protocol.specs.Facts.{epoch_of, promise_of}
 use Rattle.mdcc_protocol.specs.IsCluster.{IsCluster}
 use Rattle.mdcc_protocol.specs.Leader.{next_round}
 use Rattle.mdcc_ledger.specs.Ledger.{Added, Entry, facts_of}
-use Rattle.mdcc_protocol.specs.Manager.{begin_by, begin_fault}
+use Rattle.mdcc_protocol.specs.Manager.{begin_with, begin_fault}
 use Rattle.mdcc_rules.specs.ManagerRules.{begin_step_by, proposals_sent}
 use Rattle.mdcc_rules.specs.Messages.{to_all}
 use Rattle.mdcc_rules.specs.Node.{checked, message_step}
@@ -50,6 +50,7 @@ use Rattle.mdcc_trace_limits.proofs.RoundTicks.{tick-round}
 use Rattle.mdcc_trace_limits.proofs.Short.{IsShort, short-walk}
 use Rattle.mdcc_trace_limits.proofs.Small.{is_begin, opened_in}
 use Rattle.mdcc_trace_limits.proofs.Walks.{IsReached, IsSentInput, IsWalk, envelopes, others_in, ticks_in, trace-reached}
+use Rattle.mdcc_rules.specs.Here.{here}
 
 -- the rounds of a key within a number: in facts, at leaders, and in messages
 pub record IsRoundWorld (key : Key) (r : ℕ) (w : World) : Type 0 where
@@ -132,18 +133,18 @@ message-round : (key : Key) (r : ℕ) (w : World) (a : ℕ) (envelope : Envelope
     IsRoundResult key (r + 1) (step_at w a (Input.Message envelope))
 message-round key r w a envelope f l m = pick _
   where
-    pick : (b : Bool) → IsRoundResult key (r + 1) (cond b (checked w.cluster (facts_of w.ledger a) (message_step w.cluster a (facts_of w.ledger a) (centre_at w a).volatile envelope.from envelope.message)) (Err StepFault.Foreign))
+    pick : (b : Bool) → IsRoundResult key (r + 1) (cond b (checked w.cluster (facts_of w.ledger a) (message_step (here w.cluster a (facts_of w.ledger a)) (centre_at w a).volatile envelope.from envelope.message)) (Err StepFault.Foreign))
     pick true = checked-fine key r w.cluster a (facts_of w.ledger a) (centre_at w a).volatile envelope.from envelope.message f l m
     pick false = tt
 
 begin-round : (key : Key) (r : ℕ) (cluster : Cluster) (me : ℕ) (facts : List Fact) (volatile : Volatile) (parts : List Part) → IsRoundLeader key r volatile.leader →
-    IsRoundStep key r (begin_step_by cluster me facts volatile parts (begin_by me (epoch_of facts) volatile.manager parts (begin_fault facts volatile.manager parts)))
+    IsRoundStep key r (begin_step_by (here cluster me facts) volatile parts (begin_with me (epoch_of facts) volatile.manager parts (begin_fault facts volatile.manager parts)))
 begin-round key r cluster me facts volatile parts l = by_fault (begin_fault facts volatile.manager parts)
   where
     sends : (choices : List Choice) → AreRoundSends key r (proposals_sent cluster.quorums me choices)
     sends choices = Each-flat_map (λ (env : Envelope). IsRound key r env.message) (λ (choice : Choice). to_all cluster.quorums me (Message.Propose choice)) choices (λ c i. each-round key r me (Message.Propose c) (all_centres cluster.quorums) tt)
 
-    by_fault : (o : Option (Key × BeginFault)) → IsRoundStep key r (begin_step_by cluster me facts volatile parts (begin_by me (epoch_of facts) volatile.manager parts o))
+    by_fault : (o : Option (Key × BeginFault)) → IsRoundStep key r (begin_step_by (here cluster me facts) volatile parts (begin_with me (epoch_of facts) volatile.manager parts o))
     by_fault (Some fault) = record { fact = λ f e. absurd (cc); leader = l; sends = tt; plain = λ es a. refl }
     by_fault None = record { fact = λ f e. absurd (cc); leader = l; sends = sends _; plain = λ es a. refl }
 

@@ -18,7 +18,7 @@ use Rattle.mdcc_protocol.specs.Facts.{epoch_of}
 use Rattle.mdcc_protocol.specs.IsCluster.{IsCluster}
 use Rattle.mdcc_ledger.specs.Ledger.{choices_begun, facts_of}
 use Rattle.mdcc_protocol.specs.Manager
-use Rattle.mdcc_protocol.specs.Manager.{acts_at, begin_by, begin_fault, parts_begin_fault, ticked_transaction}
+use Rattle.mdcc_protocol.specs.Manager.{acts_at, begin_with, begin_fault, parts_begin_fault, ticked_transaction}
 use Rattle.mdcc_rules.specs.ManagerRules.{begin_step_by}
 use Rattle.mdcc_rules.specs.Node.{checked, message_step, step_of}
 use Rattle.mdcc_protocol.specs.Recover.{acts_on, counted_tick, dangling}
@@ -46,6 +46,7 @@ use Rattle.mdcc_trace.proofs.Laws.{all-good}
 use Rattle.mdcc_trace_limits.proofs.Begun.{begun-few, dangling-few, dangling-keys}
 use Rattle.mdcc_trace_limits.proofs.Small.{IsSmallResult, IsTickSmall, acts-few, checked-small, facts_in, flat-few, fold-small, is_begin, length-both, manager-act-small, map-length, number-append, opened_in, recover-few, recovery-act-small, ticked-small}
 use Rattle.mdcc_trace_limits.proofs.Walks.{IsReached, IsWalk, others_in, ticks_in, trace-reached}
+use Rattle.mdcc_rules.specs.Here.{here}
 
 -- no centre has more than 256 transactions open
 abbrev pub AreFew : World → Type 0
@@ -123,24 +124,24 @@ small-taken : (volatile : Volatile) (r : Result NodeStep StepFault) → opened_i
 small-taken volatile (Ok step) few h = record { weight = h.weight; begun = omega (arith, h.begun); few = omega (arith, h.opened, few) }
 small-taken volatile (Err fault) few h = tt
 
-message-taken : (cluster : Cluster) (me : ℕ) (facts : List Fact) (volatile : Volatile) (envelope : Envelope) → opened_in volatile ≤ 256 → IsTakenResult 1 0 (step_of cluster me facts volatile (Input.Message envelope))
+message-taken : (cluster : Cluster) (me : ℕ) (facts : List Fact) (volatile : Volatile) (envelope : Envelope) → opened_in volatile ≤ 256 → IsTakenResult 1 0 (step_of (here cluster me facts) volatile (Input.Message envelope))
 message-taken cluster me facts volatile envelope few = pick _
   where
-    pick : (b : Bool) → IsTakenResult 1 0 (cond b (checked cluster facts (message_step cluster me facts volatile envelope.from envelope.message)) (Err StepFault.Foreign))
-    pick true = small-taken volatile (checked cluster facts (message_step cluster me facts volatile envelope.from envelope.message)) few (checked-small cluster me facts volatile envelope.from envelope.message)
+    pick : (b : Bool) → IsTakenResult 1 0 (cond b (checked cluster facts (message_step (here cluster me facts) volatile envelope.from envelope.message)) (Err StepFault.Foreign))
+    pick true = small-taken volatile (checked cluster facts (message_step (here cluster me facts) volatile envelope.from envelope.message)) few (checked-small cluster me facts volatile envelope.from envelope.message)
     pick false = tt
 
 one-more : (ts : List Undecided) (t : Undecided) → length ts < 256 → length (ts ++ t ∷ []) ≤ 256
 one-more ts t h = let l = length-both ts (t ∷ []) in omega (arith, h, l)
 
-begin-taken : (cluster : Cluster) (me : ℕ) (facts : List Fact) (volatile : Volatile) (parts : List Part) → opened_in volatile ≤ 256 → IsTaken 1 1 (begin_step_by cluster me facts volatile parts (begin_by me (epoch_of facts) volatile.manager parts (begin_fault facts volatile.manager parts)))
+begin-taken : (cluster : Cluster) (me : ℕ) (facts : List Fact) (volatile : Volatile) (parts : List Part) → opened_in volatile ≤ 256 → IsTaken 1 1 (begin_step_by (here cluster me facts) volatile parts (begin_with me (epoch_of facts) volatile.manager parts (begin_fault facts volatile.manager parts)))
 begin-taken cluster me facts volatile parts few = by_parts (parts_begin_fault facts parts) (nat_le (2 ^ 32 - 1) volatile.manager.seq) (nat_le 256 (length volatile.manager.opened)) refl
   where
-    refused : (fault : Key × BeginFault) → IsTaken 1 1 (begin_step_by cluster me facts volatile parts (begin_by me (epoch_of facts) volatile.manager parts (Some fault)))
+    refused : (fault : Key × BeginFault) → IsTaken 1 1 (begin_step_by (here cluster me facts) volatile parts (begin_with me (epoch_of facts) volatile.manager parts (Some fault)))
     refused fault = record { weight = omega arith; begun = omega arith; few = few }
 
     by_parts : (o : Option (Key × BeginFault)) (x y : Bool) → nat_le 256 (length volatile.manager.opened) ≡ y →
-        IsTaken 1 1 (begin_step_by cluster me facts volatile parts (begin_by me (epoch_of facts) volatile.manager parts (option_or o (cond x (Some (Manager.first_key parts, BeginFault.Sequence)) (cond y (Some (Manager.first_key parts, BeginFault.Busy)) None)))))
+        IsTaken 1 1 (begin_step_by (here cluster me facts) volatile parts (begin_with me (epoch_of facts) volatile.manager parts (option_or o (cond x (Some (Manager.first_key parts, BeginFault.Sequence)) (cond y (Some (Manager.first_key parts, BeginFault.Busy)) None)))))
     by_parts (Some fault) x y e = refused fault
     by_parts None true y e = refused (Manager.first_key parts, BeginFault.Sequence)
     by_parts None false true e = refused (Manager.first_key parts, BeginFault.Busy)
@@ -151,8 +152,8 @@ begin-taken cluster me facts volatile parts few = by_parts (parts_begin_fault fa
 -- ---- ticks
 
 tick-small : (w : World) (a : ℕ) → IsUp IsSound w.cluster w.ledger a (centre_at w a).volatile →
-    IsTickSmall (8 * opened_in (centre_at w a).volatile + 8 * number_of is_begin w.ledger) (opened_in (centre_at w a).volatile) (tick_parts w.cluster a (facts_of w.ledger a) (centre_at w a).volatile)
-tick-small w a up = second (8 * opened_in v) (manager_ticked cluster a facts v) first
+    IsTickSmall (8 * opened_in (centre_at w a).volatile + 8 * number_of is_begin w.ledger) (opened_in (centre_at w a).volatile) (tick_parts (here w.cluster a (facts_of w.ledger a)) (centre_at w a).volatile)
+tick-small w a up = second (8 * opened_in v) (manager_ticked (here cluster a facts) v) first
   where
     v : Volatile
     v = (centre_at w a).volatile
@@ -171,16 +172,16 @@ tick-small w a up = second (8 * opened_in v) (manager_ticked cluster a facts v) 
         few : (t : Undecided) (o : IsOpened w.ledger t) → length (choices_begun w.ledger t.tx) ≤ 8 → length (acts_at cluster.quorums v.manager.votes t) ≤ length t.choices → length (acts_at cluster.quorums v.manager.votes t) ≤ 8
         few t o x y = let e : length (choices_begun w.ledger t.tx) ≡ length t.choices = ap (λ z. length z) o.choices in omega (arith, x, y, e)
 
-    first : IsTickSmall (8 * opened_in v) (opened_in v) (manager_ticked cluster a facts v)
+    first : IsTickSmall (8 * opened_in v) (opened_in v) (manager_ticked (here cluster a facts) v)
     first =
         let acts = flat-few (acts_at cluster.quorums v.manager.votes) 8 v.manager.opened choices in
         let after : Managing = (Manager.tick cluster.quorums v.manager).1 in
         let same : opened_in (with_manager v after) ≡ opened_in v = map-length (ticked_transaction cluster.quorums v.manager.votes) v.manager.opened in
-        let all = fold-small (manager_act cluster a facts) (flat_map (acts_at cluster.quorums v.manager.votes) v.manager.opened) 0 (opened_in v) (only_sending (with_manager v after) [])
+        let all = fold-small (manager_act (here cluster a facts)) (flat_map (acts_at cluster.quorums v.manager.votes) v.manager.opened) 0 (opened_in v) (only_sending (with_manager v after) [])
         (λ u x h. manager-act-small cluster a facts (opened_in v) u x h) (ticked-small (with_manager v after) [] 0 (opened_in v) (omega (arith, same))) in
         record { weight = omega (arith, all.weight, acts); begun = all.begun; few = all.few }
 
-    second : (n : ℕ) (p : StepPart) → IsTickSmall n (opened_in v) p → IsTickSmall (n + 8 * number_of is_begin w.ledger) (opened_in v) (recovery_ticked cluster a facts p)
+    second : (n : ℕ) (p : StepPart) → IsTickSmall n (opened_in v) p → IsTickSmall (n + 8 * number_of is_begin w.ledger) (opened_in v) (recovery_ticked (here cluster a facts) p)
     second n p h =
         let txs : TxMap (List (Key × ℕ)) = dangling facts (txs_opened p.after.manager) in
         let recovery : Recovering = p.after.recovery in
@@ -188,7 +189,7 @@ tick-small w a up = second (8 * opened_in v) (manager_ticked cluster a facts v) 
         (λ e g. let r = recover-few cluster.quorums facts recovery e in omega (arith, g, r)) (dangling-keys cluster w.ledger a (txs_opened p.after.manager) up.legal up.more) in
         let acts = flat-few (acts_on cluster.quorums facts recovery) 8 (dangling facts (txs_opened p.after.manager)) keys in
         let few = dangling-few cluster w.ledger a (txs_opened p.after.manager) up.legal up.more in
-        let all = fold-small (recovery_act cluster a facts) (flat_map (acts_on cluster.quorums facts recovery) (dangling facts (txs_opened p.after.manager))) n (opened_in v)
+        let all = fold-small (recovery_act (here cluster a facts)) (flat_map (acts_on cluster.quorums facts recovery) (dangling facts (txs_opened p.after.manager))) n (opened_in v)
         (record p { after = with_recovery p.after (record recovery { counters = fold counted_tick recovery.counters txs }) })
         (λ u x k. recovery-act-small cluster a facts (opened_in v) u x k) (record { weight = h.weight; begun = h.begun; few = h.few }) in
         record { weight = omega (arith, all.weight, acts, few); begun = all.begun; few = all.few }

@@ -49,6 +49,7 @@ use Rattle.mdcc_rules.specs.declared.node.StepFault.{StepFault}
 use Rattle.mdcc_protocol.specs.declared.recover.RecoverAct.{RecoverAct}
 use Rattle.mdcc_protocol.specs.declared.votes.Vote.{Vote}
 use Rattle.mdcc_trace_states.specs.Words.{Each}
+use Rattle.mdcc_rules.specs.Here.{here}
 
 abbrev pub is_begin : Entry → Bool
 is_begin (Entry.Begun a tx choices) = true
@@ -146,7 +147,7 @@ acted-small me facts volatile (act, manager) h = sending-small volatile (with_ma
 decided-small : (cluster : Cluster) (me : ℕ) (volatile : Volatile) (t : TxId) (o : Outcome) → IsSmall volatile (decided_step cluster me volatile t o)
 decided-small cluster me volatile t o = adding-small volatile (closed volatile t) _ _ (closed-few volatile t)
 
-undecided-small : (cluster : Cluster) (me : ℕ) (facts : List Fact) (volatile : Volatile) (vote : Vote) → IsSmall volatile (undecided_step cluster me facts volatile vote)
+undecided-small : (cluster : Cluster) (me : ℕ) (facts : List Fact) (volatile : Volatile) (vote : Vote) → IsSmall volatile (undecided_step (here cluster me facts) volatile vote)
 undecided-small cluster me facts volatile vote =
     acted-small me facts volatile (Manager.on_voted cluster.quorums volatile.manager vote) (few (acted-few (vote_taken cluster.quorums volatile.manager vote) act) taken)
   where
@@ -159,15 +160,15 @@ undecided-small cluster me facts volatile vote =
     few : {x y z : ℕ} → x ≡ y → y ≡ z → x ≤ z
     few e f = omega (arith, e, f)
 
-opened-small : (cluster : Cluster) (me : ℕ) (facts : List Fact) (volatile : Volatile) (vote : Vote) (o : Option Outcome) → IsSmall volatile (opened_step cluster me facts volatile vote o)
+opened-small : (cluster : Cluster) (me : ℕ) (facts : List Fact) (volatile : Volatile) (vote : Vote) (o : Option Outcome) → IsSmall volatile (opened_step (here cluster me facts) volatile vote o)
 opened-small cluster me facts volatile vote (Some o) = decided-small cluster me volatile vote.tx o
 opened-small cluster me facts volatile vote None = undecided-small cluster me facts volatile vote
 
-watched-small : (cluster : Cluster) (me : ℕ) (facts : List Fact) (volatile : Volatile) (vote : Vote) (o : Option (TxId × Outcome)) → IsSmall volatile (watched_step cluster me facts volatile vote o)
+watched-small : (cluster : Cluster) (me : ℕ) (facts : List Fact) (volatile : Volatile) (vote : Vote) (o : Option (TxId × Outcome)) → IsSmall volatile (watched_step (here cluster me facts) volatile vote o)
 watched-small cluster me facts volatile vote (Some d) = decided-small cluster me volatile d.0 d.1
 watched-small cluster me facts volatile vote None = done-small volatile (with_recovery volatile (Recover.on_voted cluster.quorums facts volatile.recovery vote).1) (same volatile)
 
-voted-small : (cluster : Cluster) (me : ℕ) (facts : List Fact) (volatile : Volatile) (vote : Vote) → IsSmall volatile (voted_step cluster me facts volatile vote)
+voted-small : (cluster : Cluster) (me : ℕ) (facts : List Fact) (volatile : Volatile) (vote : Vote) → IsSmall volatile (voted_step (here cluster me facts) volatile vote)
 voted-small cluster me facts volatile vote =
     elim (cases_Bool (is_heard facts vote.tx)) [
       | inl e ↦ rw e (done-small volatile volatile (same volatile))
@@ -177,7 +178,7 @@ voted-small cluster me facts volatile vote =
       ])
     ]
 
-escalate-small : (cluster : Cluster) (me : ℕ) (facts : List Fact) (volatile : Volatile) (a : ℕ) (k : Key) (t : TxId) (cause : Cause) → IsSmall volatile (escalate_step cluster me facts volatile a k t cause)
+escalate-small : (cluster : Cluster) (me : ℕ) (facts : List Fact) (volatile : Volatile) (a : ℕ) (k : Key) (t : TxId) (cause : Cause) → IsSmall volatile (escalate_step (here cluster me facts) volatile a k t cause)
 escalate-small cluster me facts volatile a k t cause = acted-small me facts volatile (Manager.on_escalate cluster.quorums volatile.manager a t k cause) few
   where
     few : length (Manager.on_escalate cluster.quorums volatile.manager a t k cause).1.opened ≤ opened_in volatile
@@ -203,7 +204,7 @@ answered-small quorums me volatile claim (Ok (LeadAnswer.Accept v b os, after)) 
     pick true = (omega arith, refl)
     pick false = (omega arith, refl)
 
-pub led-small : (cluster : Cluster) (me : ℕ) (facts : List Fact) (volatile : Volatile) (claim : Claim) → IsSmallLed volatile (led_of cluster me facts volatile claim)
+pub led-small : (cluster : Cluster) (me : ℕ) (facts : List Fact) (volatile : Volatile) (claim : Claim) → IsSmallLed volatile (led_of (here cluster me facts) volatile claim)
 led-small cluster me facts volatile claim = answered-small cluster.quorums me volatile claim (lead cluster me (epoch_of facts) facts volatile.leader claim)
 
 promised-small : (quorums : Sizes) (me : ℕ) (volatile : Volatile) (k : Key) (r : Result (PromiseAnswer × Leading) LeadFault) → IsSmallLed volatile (promised_by_answer quorums me volatile k r)
@@ -217,13 +218,13 @@ step-small : (volatile : Volatile) (r : Result StepPart LeadFault) → IsSmallLe
 step-small volatile (Ok part) h = record { weight = omega (arith, h.0); begun = h.1; opened = h.2 }
 step-small volatile (Err fault) h = tt
 
-lead-small : (cluster : Cluster) (me : ℕ) (facts : List Fact) (volatile : Volatile) (s : ℕ) (choice : Choice) (o : Option Outcome) → IsSmallResult volatile (lead_step_after cluster me facts volatile s choice o)
+lead-small : (cluster : Cluster) (me : ℕ) (facts : List Fact) (volatile : Volatile) (s : ℕ) (choice : Choice) (o : Option Outcome) → IsSmallResult volatile (lead_step_after (here cluster me facts) volatile s choice o)
 lead-small cluster me facts volatile s choice (Some o) = sending-small volatile volatile _ (same volatile)
-lead-small cluster me facts volatile s choice None = step-small volatile (led_of cluster me facts volatile (claim_of_choice choice)) (led-small cluster me facts volatile (claim_of_choice choice))
+lead-small cluster me facts volatile s choice None = step-small volatile (led_of (here cluster me facts) volatile (claim_of_choice choice)) (led-small cluster me facts volatile (claim_of_choice choice))
 
 -- ---- messages
 
-message-small : (cluster : Cluster) (me : ℕ) (facts : List Fact) (volatile : Volatile) (s : ℕ) (m : Message) → IsSmallResult volatile (message_step cluster me facts volatile s m)
+message-small : (cluster : Cluster) (me : ℕ) (facts : List Fact) (volatile : Volatile) (s : ℕ) (m : Message) → IsSmallResult volatile (message_step (here cluster me facts) volatile s m)
 message-small cluster me facts volatile s (Message.Propose choice) = proposed-small me volatile s choice (on_propose cluster facts choice)
 message-small cluster me facts volatile s (Message.Voted k v b t m) = voted-small cluster me facts volatile _
 message-small cluster me facts volatile s (Message.Escalate k v t cause) = escalate-small cluster me facts volatile s k t cause
@@ -248,8 +249,8 @@ room-small cluster facts volatile step (Some fact) h =
       | inr e ↦ rw e (elim (cases_Bool (is_crowding facts fact)) [ inl f ↦ rw f tt | inr f ↦ rw f h ])
     ]
 
-pub checked-small : (cluster : Cluster) (me : ℕ) (facts : List Fact) (volatile : Volatile) (s : ℕ) (m : Message) → IsSmallResult volatile (checked cluster facts (message_step cluster me facts volatile s m))
-checked-small cluster me facts volatile s m = by_case (message_step cluster me facts volatile s m) (message-small cluster me facts volatile s m)
+pub checked-small : (cluster : Cluster) (me : ℕ) (facts : List Fact) (volatile : Volatile) (s : ℕ) (m : Message) → IsSmallResult volatile (checked cluster facts (message_step (here cluster me facts) volatile s m))
+checked-small cluster me facts volatile s m = by_case (message_step (here cluster me facts) volatile s m) (message-small cluster me facts volatile s m)
   where
     by_case : (r : Result NodeStep StepFault) → IsSmallResult volatile r → IsSmallResult volatile (checked cluster facts r)
     by_case (Ok step) h = room-small cluster facts volatile step step.fact h
@@ -292,22 +293,22 @@ fold-small {X = X} act (x ∷ xs) n opened before f h = more (fold-small act xs 
 pub ticked-small : (volatile : Volatile) (sends : List Envelope) (n opened : ℕ) → opened_in volatile ≤ opened → IsTickSmall n opened (only_sending volatile sends)
 ticked-small volatile sends n opened h = record { weight = omega arith; begun = refl; few = h }
 
-claim-small : (cluster : Cluster) (me : ℕ) (facts : List Fact) (volatile : Volatile) (claim : Claim) (opened : ℕ) → opened_in volatile ≤ opened → IsTickSmall 1 opened (claim_led cluster me facts volatile claim)
+claim-small : (cluster : Cluster) (me : ℕ) (facts : List Fact) (volatile : Volatile) (claim : Claim) (opened : ℕ) → opened_in volatile ≤ opened → IsTickSmall 1 opened (claim_led (here cluster me facts) volatile claim)
 claim-small cluster me facts volatile claim opened h =
-    by_case (led_of cluster me facts volatile claim) (led-small cluster me facts volatile claim)
+    by_case (led_of (here cluster me facts) volatile claim) (led-small cluster me facts volatile claim)
   where
     by_case : (r : Result StepPart LeadFault) → IsSmallLed volatile r → IsTickSmall 1 opened (led_or_left volatile r)
     by_case (Ok part) g = record { weight = g.0; begun = g.1; few = omega (arith, h, g.2) }
     by_case (Err fault) g = ticked-small volatile [] 1 opened h
 
-pub manager-act-small : (cluster : Cluster) (me : ℕ) (facts : List Fact) (opened : ℕ) (volatile : Volatile) (act : ManagerAct) → opened_in volatile ≤ opened → IsTickSmall 1 opened (manager_act cluster me facts volatile act)
+pub manager-act-small : (cluster : Cluster) (me : ℕ) (facts : List Fact) (opened : ℕ) (volatile : Volatile) (act : ManagerAct) → opened_in volatile ≤ opened → IsTickSmall 1 opened (manager_act (here cluster me facts) volatile act)
 manager-act-small cluster me facts opened volatile (ManagerAct.Propose choice) h = ticked-small volatile _ 1 opened h
 manager-act-small cluster me facts opened volatile (ManagerAct.LeadHere choice) h = claim-small cluster me facts volatile (claim_of_choice choice) opened h
 manager-act-small cluster me facts opened volatile (ManagerAct.Lead leader choice) h = ticked-small volatile [] 1 opened h
 manager-act-small cluster me facts opened volatile (ManagerAct.Give centre key) h = ticked-small volatile [] 1 opened h
 manager-act-small cluster me facts opened volatile (ManagerAct.Decide tx outcome) h = ticked-small volatile [] 1 opened h
 
-pub recovery-act-small : (cluster : Cluster) (me : ℕ) (facts : List Fact) (opened : ℕ) (volatile : Volatile) (act : RecoverAct) → opened_in volatile ≤ opened → IsTickSmall 1 opened (recovery_act cluster me facts volatile act)
+pub recovery-act-small : (cluster : Cluster) (me : ℕ) (facts : List Fact) (opened : ℕ) (volatile : Volatile) (act : RecoverAct) → opened_in volatile ≤ opened → IsTickSmall 1 opened (recovery_act (here cluster me facts) volatile act)
 recovery-act-small cluster me facts opened volatile (RecoverAct.Ask t k v) h = ticked-small volatile _ 1 opened h
 recovery-act-small cluster me facts opened volatile (RecoverAct.LeadHere claim) h = claim-small cluster me facts volatile claim opened h
 

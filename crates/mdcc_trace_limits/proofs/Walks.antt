@@ -18,7 +18,7 @@ use Rattle.mdcc_rules.specs.Steps.{NodeStep}
 use Rattle.mdcc_simulation.specs.State.{Happened, World, after_lines, centre_at, counted_event, down, first_world, is_up_at, with_centre}
 use Rattle.mdcc_messages.specs.Mailbox.{Sent, numbered, with_delivered}
 use Rattle.mdcc_simulation.specs.Clients.{answer_in, begin_lines, after_begin, begun_by, parts_begun}
-use Rattle.mdcc_simulation.specs.Limits.{cells_limit, if_up, input_applied, is_limit, is_past_events, log_limit, most_events, step_limit, unless_limit, with_lines, within_events}
+use Rattle.mdcc_simulation.specs.Limits.{passed_cells_limit, if_up, input_applied, is_limit, is_past_events, passed_log_limit, most_events, step_limit, unless_limit, with_lines, within_events}
 use Rattle.mdcc_simulation.specs.Deliveries.{deliver_line, after_message, after_deliveries, after_delivery_by, after_delivery, first_waiting, settled_line, settled_of}
 use Rattle.mdcc_simulation.specs.Events.{after_event, happened_of}
 use Rattle.mdcc_simulation.specs.AppliedSteps.{fact_happened, input_happened, is_frame_kept, step_at, step_happened_by, step_stopped}
@@ -278,7 +278,7 @@ module _ (cluster : Cluster) (P : ℕ → ℕ → World → Type 0) (walk : IsWa
   restart-reached : (w : World) (a : ℕ) → Holds IsSound cluster w → is_centre w.cluster a ≡ true → Reached 1 w → OkReached P (after_restart w a)
   restart-reached w a h here c =
       unless-reached
-      (option_or (cells_limit w a (Fact.Booted (epoch_of (facts_of w.ledger a) + 1))) (log_limit w a (Fact.Booted (epoch_of (facts_of w.ledger a) + 1))))
+      (option_or (passed_cells_limit w a (Fact.Booted (epoch_of (facts_of w.ledger a) + 1))) (passed_log_limit w a (Fact.Booted (epoch_of (facts_of w.ledger a) + 1))))
       (restart_happened w a (epoch_of (facts_of w.ledger a) + 1))
       (record { ticks = c.ticks; others = c.others + 1; is = walk.restart c.ticks c.others w a (epoch_of (facts_of w.ledger a) + 1) h here c.is; within = omega (arith, c.within); few = c.few })
 

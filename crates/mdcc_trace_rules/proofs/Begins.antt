@@ -21,7 +21,7 @@ use Rattle.mdcc_messages.specs.declared.messages.Envelope.{Envelope}
 use Rattle.mdcc_messages.specs.declared.messages.Message.{Message}
 use Rattle.mdcc_rules.specs.Messages.{to_all, to_each}
 use Rattle.mdcc_protocol.specs.Manager
-use Rattle.mdcc_protocol.specs.Manager.{begin_by, begin_fault, parts_begin_fault}
+use Rattle.mdcc_protocol.specs.Manager.{begin_with, begin_fault, parts_begin_fault}
 use Rattle.mdcc_rules.specs.ManagerRules.{begin_step, begin_step_by, begun_step}
 use Rattle.mdcc_protocol.specs.Volatile.{Volatile}
 use Rattle.mdcc_trace_states.specs.Words.{Each, In}
@@ -36,6 +36,7 @@ use Rattle.mdcc_trace_states.proofs.Led.{Leads-more}
 use Rattle.mdcc_trace_states.proofs.Sorting.{choices_of-some, choices_of-tx, part_in-choices}
 use Rattle.mdcc_trace_rules.specs.Closed.{IsClosed}
 use Rattle.mdcc_trace_states.specs.Steps.{IsTransaction, IsUp}
+use Rattle.mdcc_rules.specs.Here.{here}
 
 pub stands-each : (cluster : Cluster) (es : List Entry) (a : ℕ) (message : Message) (centres : List ℕ) → is_centre cluster a ≡ true → Says cluster es a message → Each (TrueWhenSent cluster es) (to_each centres a message)
 stands-each cluster es a message [] here h = tt
@@ -60,7 +61,7 @@ no-fault (Some z) y h = absurd (cc)
 
 pub begun-good : (also : List Entry → Type 0) → IsClosed also → (cluster : Cluster) (es : List Entry) (a : ℕ) (volatile : Volatile) (ps : List Part) → IsUp also cluster es a volatile →
     IsTransaction cluster.schema ps → parts_begin_fault (facts_of es a) ps ≡ None →
-    IsGoodStep cluster also es a (begun_step cluster a volatile ps (Manager.begun a (epoch_of (facts_of es a)) volatile.manager ps)).entries (begun_step cluster a volatile ps (Manager.begun a (epoch_of (facts_of es a)) volatile.manager ps)).sends (begun_step cluster a volatile ps (Manager.begun a (epoch_of (facts_of es a)) volatile.manager ps)).after
+    IsGoodStep cluster also es a (begun_step cluster a volatile ps (Manager.begun_transaction a (epoch_of (facts_of es a)) volatile.manager ps)).entries (begun_step cluster a volatile ps (Manager.begun_transaction a (epoch_of (facts_of es a)) volatile.manager ps)).sends (begun_step cluster a volatile ps (Manager.begun_transaction a (epoch_of (facts_of es a)) volatile.manager ps)).after
 begun-good also closed cluster es a volatile ps up draft held = record {
   own = (refl, tt);
   legal = legal;
@@ -117,14 +118,14 @@ begun-good also closed cluster es a volatile ps up draft held = record {
         (Each-like (IsOpened es) (IsOpened new) volatile.manager.opened (λ t g. IsOpened-more cluster (Entry.Begun a tx choices) es t legal g) up.keeps.manager.opened)
         (record { choices = here; some_choice = choices_of-some tx ps draft.some_part }, tt)
 
-    manager : Manages cluster new a (Manager.begun a (epoch_of (facts_of es a)) volatile.manager ps).1
+    manager : Manages cluster new a (Manager.begun_transaction a (epoch_of (facts_of es a)) volatile.manager ps).1
     manager = record { seq = ap (λ n. n + 1) up.keeps.manager.seq ∙ sym counted; opened = opened; votes = AreVotes-more cluster (Entry.Begun a tx choices) es volatile.manager.votes up.keeps.manager.votes }
 
 pub begin-good : (also : List Entry → Type 0) → IsClosed also → (cluster : Cluster) (es : List Entry) (a : ℕ) (volatile : Volatile) (ps : List Part) → IsUp also cluster es a volatile →
-    IsTransaction cluster.schema ps → IsGood cluster also es a (Ok (begin_step cluster a (facts_of es a) volatile ps))
+    IsTransaction cluster.schema ps → IsGood cluster also es a (Ok (begin_step (here cluster a (facts_of es a)) volatile ps))
 begin-good also closed cluster es a volatile ps up draft = by_case (begin_fault (facts_of es a) volatile.manager ps) refl
   where
     by_case : (o : Option (Key × BeginFault)) → begin_fault (facts_of es a) volatile.manager ps ≡ o →
-        IsGood cluster also es a (Ok (begin_step_by cluster a (facts_of es a) volatile ps (begin_by a (epoch_of (facts_of es a)) volatile.manager ps o)))
+        IsGood cluster also es a (Ok (begin_step_by (here cluster a (facts_of es a)) volatile ps (begin_with a (epoch_of (facts_of es a)) volatile.manager ps o)))
     by_case (Some fault) e = nothing-good also cluster es a volatile volatile up up.keeps
     by_case None e = begun-good also closed cluster es a volatile ps up draft (no-fault (parts_begin_fault (facts_of es a) ps) _ e)

@@ -46,6 +46,7 @@ use Rattle.mdcc_trace_rules.proofs.Begins.{sends-good}
 use Rattle.mdcc_trace_rules.proofs.Votings.{unvoted, vote-given, was-outcome}
 use Rattle.mdcc_trace_rules.specs.Closed.{IsClosed}
 use Rattle.mdcc_trace_states.specs.Steps.{IsUp}
+use Rattle.mdcc_rules.specs.Here.{here}
 
 -- ---- what a vote can be
 
@@ -188,7 +189,7 @@ module _ (also : List Entry → Type 0) (closed : IsClosed also) (cluster : Clus
           answer_to_new cluster (facts_of es a) choice ≡ ProposeAnswer.Escalate (Cause.Classic (promise_of (facts_of es a) choice.key choice.version))
       classic e f = rw e (rw f refl)
 
-  pub propose-good : IsGoodBy cluster also es a (propose_step cluster a (facts_of es a) volatile s choice) (propose_step cluster a (facts_of es a) volatile s choice).fact
+  pub propose-good : IsGoodBy cluster also es a (propose_step (here cluster a (facts_of es a)) volatile s choice) (propose_step (here cluster a (facts_of es a)) volatile s choice).fact
   propose-good = by_case (heard_of (facts_of es a) choice.tx) refl (vote_of (facts_of es a) choice.key choice.version choice.tx) refl
     where
       by_case : (o : Option Outcome) → heard_of (facts_of es a) choice.tx ≡ o → (x : Option (Ballot × Mark)) → vote_of (facts_of es a) choice.key choice.version choice.tx ≡ x → GoodAnswer (answer_after cluster (facts_of es a) choice o x)

@@ -52,6 +52,7 @@ use Rattle.mdcc_trace_states.proofs.Tests.{may-add}
 use Rattle.mdcc_protocol.specs.declared.manager.ManagerAct.{ManagerAct}
 use Rattle.mdcc_trace_rules.specs.Closed.{IsClosed}
 use Rattle.mdcc_trace_states.specs.Steps.{IsUp}
+use Rattle.mdcc_rules.specs.Here.{here}
 
 pub each-map-same : (P : Undecided → Type 0) (f : Undecided → Undecided) (ts : List Undecided) → ((t : Undecided) → P t → P (f t)) → Each P ts → Each P (map f ts)
 each-map-same P f [] h g = tt
@@ -167,7 +168,7 @@ module _ (also : List Entry → Type 0) (shut : IsClosed also) (cluster : Cluste
   acted-by true p q f h = f refl
   acted-by false p q f h = h refl
 
-  pub escalate-good : (s : ℕ) (k : Key) (t : TxId) (cause : Cause) → Good (escalate_step cluster a (facts_of es a) volatile s k t cause)
+  pub escalate-good : (s : ℕ) (k : Key) (t : TxId) (cause : Cause) → Good (escalate_step (here cluster a (facts_of es a)) volatile s k t cause)
   escalate-good s k t cause =
       acted-by (is_open volatile.manager t && not (is_learned cluster.quorums volatile.manager.votes t k)) (acted volatile.manager (act_on_cause cluster.quorums volatile.manager s t k cause)) (None, volatile.manager)
       (λ e. by_cause cause) (λ e. nothing-good also cluster es a volatile (with_manager volatile volatile.manager) up (managed volatile.manager up.keeps.manager))
@@ -227,7 +228,7 @@ module _ (also : List Entry → Type 0) (shut : IsClosed also) (cluster : Cluste
       by_test true = lead-good m (home_of cluster.quorums vote.key) vote.tx vote.key manages
       by_test false = nothing-good also cluster es a volatile (with_manager volatile m) up (managed m manages)
 
-  undecided-good : (vote : Vote) → IsGiven cluster es vote → decision cluster.quorums (vote_taken cluster.quorums volatile.manager vote) vote.tx ≡ None → Good (undecided_step cluster a (facts_of es a) volatile vote)
+  undecided-good : (vote : Vote) → IsGiven cluster es vote → decision cluster.quorums (vote_taken cluster.quorums volatile.manager vote) vote.tx ≡ None → Good (undecided_step (here cluster a (facts_of es a)) volatile vote)
   undecided-good vote given e =
       subst (λ z. Good (acted_step a (facts_of es a) volatile (acted taken (act_on_vote cluster.quorums taken vote z)))) (sym e) (collided-good taken vote manages)
     where
@@ -237,8 +238,8 @@ module _ (also : List Entry → Type 0) (shut : IsClosed also) (cluster : Cluste
       manages : Manages cluster es a taken
       manages = taken-manages vote given
 
-  opened-good : (vote : Vote) (o : Option Outcome) → would_decide cluster.quorums volatile.manager vote ≡ o → IsGiven cluster es vote → is_heard (facts_of es a) vote.tx ≡ false → HasRoom (opened_step cluster a (facts_of es a) volatile vote o) →
-      Good (opened_step cluster a (facts_of es a) volatile vote o)
+  opened-good : (vote : Vote) (o : Option Outcome) → would_decide cluster.quorums volatile.manager vote ≡ o → IsGiven cluster es vote → is_heard (facts_of es a) vote.tx ≡ false → HasRoom (opened_step (here cluster a (facts_of es a)) volatile vote o) →
+      Good (opened_step (here cluster a (facts_of es a)) volatile vote o)
   opened-good vote (Some o) e given unheard room =
       let d = decision-is (vote_taken cluster.quorums volatile.manager vote) vote.tx o (taken-manages vote given) e in
       decided-good vote.tx o d.0 unheard given.tx d.1 (room (Fact.Heard vote.tx o) refl d.0)
@@ -265,11 +266,11 @@ module _ (also : List Entry → Type 0) (shut : IsClosed also) (cluster : Cluste
   watched_told (Some d, recovery) = decided_step cluster a volatile d.0 d.1
   watched_told (None, recovery) = nothing_done (with_recovery volatile recovery)
 
-  told-by : (vote : Vote) (r : Option (TxId × Outcome) × Recovering) → Recover.on_voted cluster.quorums (facts_of es a) volatile.recovery vote ≡ r → watched_step cluster a (facts_of es a) volatile vote r.0 ≡ watched_told r
+  told-by : (vote : Vote) (r : Option (TxId × Outcome) × Recovering) → Recover.on_voted cluster.quorums (facts_of es a) volatile.recovery vote ≡ r → watched_step (here cluster a (facts_of es a)) volatile vote r.0 ≡ watched_told r
   told-by vote (Some d, recovery) e = refl
   told-by vote (None, recovery) e = ap (λ (z : Option (TxId × Outcome) × Recovering). nothing_done (with_recovery volatile z.1)) e
 
-  watched-is : (vote : Vote) → watched_step cluster a (facts_of es a) volatile vote (Recover.would_decide cluster.quorums (facts_of es a) volatile.recovery vote) ≡
+  watched-is : (vote : Vote) → watched_step (here cluster a (facts_of es a)) volatile vote (Recover.would_decide cluster.quorums (facts_of es a) volatile.recovery vote) ≡
       watched_told (Recover.on_voted cluster.quorums (facts_of es a) volatile.recovery vote)
   watched-is vote = told-by vote (Recover.on_voted cluster.quorums (facts_of es a) volatile.recovery vote) refl
 
@@ -293,7 +294,7 @@ module _ (also : List Entry → Type 0) (shut : IsClosed also) (cluster : Cluste
           decided-good vote.tx o is unheard given.tx (decision-belongs cluster es after.votes vote.tx keys o votes d) (r (Fact.Heard vote.tx o) refl is)
       by_case None d r = nothing-good also cluster es a volatile (with_recovery volatile after) up (record { manager = up.keeps.manager; recovery = votes; leader = up.keeps.leader })
 
-  pub voted-good : (vote : Vote) → IsGiven cluster es vote → HasRoom (voted_step cluster a (facts_of es a) volatile vote) → Good (voted_step cluster a (facts_of es a) volatile vote)
+  pub voted-good : (vote : Vote) → IsGiven cluster es vote → HasRoom (voted_step (here cluster a (facts_of es a)) volatile vote) → Good (voted_step (here cluster a (facts_of es a)) volatile vote)
   voted-good vote given room =
       elim (cases_Bool (is_heard (facts_of es a) vote.tx)) [
         | inl e ↦ rw e (nothing-good also cluster es a volatile volatile up up.keeps)
@@ -303,8 +304,8 @@ module _ (also : List Entry → Type 0) (shut : IsClosed also) (cluster : Cluste
         ]
       ]
     where
-      opened : is_heard (facts_of es a) vote.tx ≡ false → is_open volatile.manager vote.tx ≡ true → voted_step cluster a (facts_of es a) volatile vote ≡
-          opened_step cluster a (facts_of es a) volatile vote (would_decide cluster.quorums volatile.manager vote)
+      opened : is_heard (facts_of es a) vote.tx ≡ false → is_open volatile.manager vote.tx ≡ true → voted_step (here cluster a (facts_of es a)) volatile vote ≡
+          opened_step (here cluster a (facts_of es a)) volatile vote (would_decide cluster.quorums volatile.manager vote)
       opened e f = pick2 (is_heard (facts_of es a) vote.tx) (is_open volatile.manager vote.tx) e f _ _ _
         where
           pick2 : (x y : Bool) → x ≡ false → y ≡ true → (p q r : NodeStep) → cond x p (cond y q r) ≡ q
@@ -312,7 +313,7 @@ module _ (also : List Entry → Type 0) (shut : IsClosed also) (cluster : Cluste
           pick2 false true e f p q r = refl
           pick2 false false e f p q r = absurd (cc)
 
-      watched : is_heard (facts_of es a) vote.tx ≡ false → is_open volatile.manager vote.tx ≡ false → voted_step cluster a (facts_of es a) volatile vote ≡
+      watched : is_heard (facts_of es a) vote.tx ≡ false → is_open volatile.manager vote.tx ≡ false → voted_step (here cluster a (facts_of es a)) volatile vote ≡
           watched_told (on_voted_by cluster.quorums volatile.recovery vote (keys_watched (facts_of es a) volatile.recovery vote.tx))
       watched e f = pick3 (is_heard (facts_of es a) vote.tx) (is_open volatile.manager vote.tx) e f _ _ _ ∙ watched-is vote
         where

@@ -14,7 +14,7 @@ use Rattle.mdcc_ledger.specs.AllowedLedgers.{IsAllowed, seqs_begun}
 use Rattle.mdcc_ledger.specs.BootTest.{is_allowed_kind}
 use Rattle.mdcc_ledger.specs.AllowedFacts.{is_booted}
 use Rattle.mdcc_protocol.specs.Belongs.{fact_belongs, is_centre}
-use Rattle.mdcc_protocol.specs.Volatile.{nothing_kept}
+use Rattle.mdcc_protocol.specs.Volatile.{initial_volatile}
 use Rattle.mdcc_simulation.specs.State.{World, booted, booted_to, first_world}
 use Rattle.mdcc_simulation.specs.Centres.{restart_happened}
 use Rattle.mdcc_trace_states.specs.VolatileInvariant.{ArePlaced, AreVotes, IsCentre, Keeps}
@@ -85,7 +85,7 @@ boot-placed cluster es a n legal h = ArePlaced-fact cluster a (Fact.Booted n) es
 nothing-given : (cluster : Cluster) (es : List Entry) → AreVotes cluster es []
 nothing-given cluster es = record { each = tt; apart = tt }
 
-pub keeps-nothing : (cluster : Cluster) (es : List Entry) (a : ℕ) → ((k : Key) (v r : ℕ) → structure_valued es k v (record { round = r; epoch = epoch_of (facts_of es a); centre = a }) ≡ None) → 0 ≡ seqs_begun es a (epoch_of (facts_of es a)) → Keeps cluster es a nothing_kept
+pub keeps-nothing : (cluster : Cluster) (es : List Entry) (a : ℕ) → ((k : Key) (v r : ℕ) → structure_valued es k v (record { round = r; epoch = epoch_of (facts_of es a); centre = a }) ≡ None) → 0 ≡ seqs_begun es a (epoch_of (facts_of es a)) → Keeps cluster es a initial_volatile
 keeps-nothing cluster es a new h = record {
   manager = record { seq = h; opened = tt; votes = nothing-given cluster es };
   recovery = nothing-given cluster es;

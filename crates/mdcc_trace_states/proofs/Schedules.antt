@@ -13,7 +13,7 @@ use Rattle.mdcc_language.specs.declared.world.EventFault.{EventFault}
 use Rattle.mdcc_language.specs.declared.lines.Line.{Line}
 use Rattle.mdcc_simulation.specs.State.{Happened, World, after_lines, centre_at, counted_event, first_world, is_up_at}
 use Rattle.mdcc_simulation.specs.Clients.{answer_in, begin_lines, after_begin, begun_by, parts_begun}
-use Rattle.mdcc_simulation.specs.Limits.{cells_limit, input_applied, log_limit, most_events, step_limit}
+use Rattle.mdcc_simulation.specs.Limits.{passed_cells_limit, input_applied, passed_log_limit, most_events, step_limit}
 use Rattle.mdcc_simulation.specs.Events.{after_event, happened_of, is_deliver}
 use Rattle.mdcc_simulation.specs.AppliedSteps.{input_happened, step_at}
 use Rattle.mdcc_simulation.specs.Centres.{restart_happened, after_restart, tick_line, after_tick}
@@ -56,7 +56,7 @@ module _ (also : List Entry → Type 0) (cluster : Cluster) (good : AreGood also
   restart-of-holds : (w : World) (a : ℕ) → Holds also cluster w → is_centre w.cluster a ≡ true → OkHolds also cluster (after_restart w a)
   restart-of-holds w a h here =
       unless-holds also cluster
-      (option_or (cells_limit w a (Fact.Booted (epoch_of (facts_of w.ledger a) + 1))) (log_limit w a (Fact.Booted (epoch_of (facts_of w.ledger a) + 1))))
+      (option_or (passed_cells_limit w a (Fact.Booted (epoch_of (facts_of w.ledger a) + 1))) (passed_log_limit w a (Fact.Booted (epoch_of (facts_of w.ledger a) + 1))))
       (restart_happened w a (epoch_of (facts_of w.ledger a) + 1)) (restart-holds also cluster good w a h here)
 
   happened-holds : (w : World) (event : Event) → Holds also cluster w → OkHolds also cluster (happened_of w event)

@@ -17,6 +17,7 @@ use Rattle.mdcc_rules.specs.declared.node.Input.{Input}
 use Rattle.mdcc_trace_states.specs.Invariant.{IsGood}
 use Rattle.mdcc_trace_states.specs.VolatileInvariant.{ArePlaced, Keeps}
 use Rattle.mdcc_trace_states.specs.MessageMeaning.{TrueWhenSent}
+use Rattle.mdcc_rules.specs.Here.{here}
 
 -- parts in key order that a schema takes as they stand
 pub record IsTransaction (schema : Schema) (ps : List Part) : Type 0 where
@@ -44,6 +45,6 @@ pub record IsUp (also : List Entry → Type 0) (cluster : Cluster) (es : List En
 -- what has to be shown of the nodes: each step on a fair input is good; and what else is known holds of the empty ledger and stays at a boot
 pub record AreGood (also : List Entry → Type 0) : Type 0 where
   pub step : (cluster : Cluster) (es : List Entry) (a : ℕ) (volatile : Volatile) (input : Input) → IsUp also cluster es a volatile → IsFair cluster es input →
-      IsGood cluster also es a (step_of cluster a (facts_of es a) volatile input)
+      IsGood cluster also es a (step_of (here cluster a (facts_of es a)) volatile input)
   pub none : also []
   pub boot : (cluster : Cluster) (es : List Entry) (a n : ℕ) → IsAllowed cluster (Added a (Fact.Booted n) ∷ es) → also es → also (Added a (Fact.Booted n) ∷ es)

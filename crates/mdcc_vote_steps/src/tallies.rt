@@ -3,7 +3,7 @@ ghost use Rattle.std.specs.Prelude.{◌≡◌, ◌+◌, ◌-◌, ◌^◌, is_som
 ghost use Rattle.mdcc_base.specs.Counts.{number_of};
 ghost use Rattle.mdcc_struct.specs.Maps.{value_of};
 ghost use Rattle.mdcc_protocol.specs.Stores.{is_above};
-ghost use Rattle.mdcc_facts.specs.Walks.{each_kept, is_lower, is_next, least_from, lower_passing};
+ghost use Rattle.mdcc_facts.specs.Walks.{each_kept, is_lower, is_next_tx, least_from, lower_passing};
 ghost use Rattle.mdcc_vote_steps.specs.Steps.{count_step, least_step};
 
 use crate::tags::{Tags, tags_at};
@@ -54,7 +54,7 @@ fn is_lower(found: &Option<TxId>, tx: &TxId) -> bool
 
 // The lower of two transactions, where the second is above the last one.
 fn lower_next(found: Option<TxId>, tx: &TxId, last: &Option<TxId>) -> Option<TxId>
-    ensures { result ≡ lower_passing (is_next each_kept last.now) found tx.now }
+    ensures { result ≡ lower_passing (is_next_tx each_kept last.now) found tx.now }
 {
     if is_above(last, tx) && is_lower(&found, tx) {
         Some(*tx)
@@ -65,7 +65,7 @@ fn lower_next(found: Option<TxId>, tx: &TxId, last: &Option<TxId>) -> Option<TxI
 
 // The least of one transaction and those of marks that are above the last one.
 fn least_from(tags: &mut Tags<'_>, last: &Option<TxId>, found: Option<TxId>) -> Option<TxId>
-    ensures { result ≡ least_from (is_next each_kept last.now) found tags.old }
+    ensures { result ≡ least_from (is_next_tx each_kept last.now) found tags.old }
 {
     let mut least = found;
     while let Some((tx, _)) = tags.next() {

@@ -8,7 +8,7 @@ use Rattle.mdcc_messages.specs.declared.messages.Message.{Message}
 use Rattle.mdcc_messages.specs.declared.messages.Message.TheVariants as messages
 use Rattle.mdcc_messages.specs.declared.wire.WireFault.{WireFault}
 use Rattle.mdcc_messages.specs.declared.wire.WireFault.TheVariants.{Truncated, Trailing, Kind}
-use Rattle.mdcc_messages.specs.ReadingSteps.{◌>>=◌, u8_at, u32_at, u64_at, checked, unless, list_at}
+use Rattle.mdcc_messages.specs.ReadingSteps.{◌>>=◌, u8_at, u32_at, u64_at, checked, unless_fault, list_at}
 use Rattle.mdcc_base.specs.declared.identifiers.Ballot.{Ballot}
 use Rattle.mdcc_struct.specs.Options.{Marks}
 use Rattle.mdcc_messages.specs.ReadingParts.{key_at, tx_at, ballot_at, classic_at, part_behind, choice_at, entry_at, options_at, cause_at}
@@ -43,7 +43,7 @@ none_found false fault e = absurd cc
 checked_ok : {X : Type 0} (check : X → Option WireFault) (r : Result (X × ℕ) WireFault) (x : X × ℕ) → checked check r ≡ Ok x → (check x.0 ≡ None) × (r ≡ Ok x)
 checked_ok {X = X} check (Ok y) x e = passed (check y.0) y x e refl
   where
-    passed : (found : Option WireFault) (y x : X × ℕ) → unless found y ≡ Ok x → check y.0 ≡ found → (check x.0 ≡ None) × (done y ≡ done x)
+    passed : (found : Option WireFault) (y x : X × ℕ) → unless_fault found y ≡ Ok x → check y.0 ≡ found → (check x.0 ≡ None) × (done y ≡ done x)
     passed None y x e is = let same = ok_is y x e in (ap (λ z. check z.0) (sym same) ∙ is, e)
     passed (Some fault) y x e is = absurd cc
 checked_ok check (Err fault) x e = absurd cc

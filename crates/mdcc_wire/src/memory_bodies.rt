@@ -1,7 +1,7 @@
 //! The bodies of messages that take memory, checked and read from bytes.
 ghost use Rattle.std.specs.Prelude.{◌≡◌};
 ghost use Rattle.mdcc_base.specs.Unless.{GivesUnless};
-ghost use Rattle.mdcc_parts.specs.Reads.{end_of, is_memory};
+ghost use Rattle.mdcc_parts.specs.Reads.{end_of, is_wire_memory};
 ghost use Rattle.mdcc_wire.specs.Views.{placed};
 ghost use Rattle.mdcc_messages.specs.Reading.{promise_at, accept_at, sync_give_at, body_at};
 
@@ -19,7 +19,7 @@ fn promise_into(
     at: usize,
     into: &mut Message,
 ) -> Result<usize, WireFault>
-    ensures { GivesUnless is_memory (placed result into.new) (promise_at bytes.now at) }
+    ensures { GivesUnless is_wire_memory (placed result into.new) (promise_at bytes.now at) }
 {
     let ((key, version), after) = read_instance(bytes, at)?;
     let (through, after) = read_at_least(version, bytes, after)?;
@@ -56,7 +56,7 @@ fn accept_into(
     at: usize,
     into: &mut Message,
 ) -> Result<usize, WireFault>
-    ensures { GivesUnless is_memory (placed result into.new) (accept_at bytes.now at) }
+    ensures { GivesUnless is_wire_memory (placed result into.new) (accept_at bytes.now at) }
 {
     let ((key, version), after) = read_instance(bytes, at)?;
     let (ballot, after) = read_classic(bytes, after)?;
@@ -87,7 +87,7 @@ fn sync_give_into(
     at: usize,
     into: &mut Message,
 ) -> Result<usize, WireFault>
-    ensures { GivesUnless is_memory (placed result into.new) (sync_give_at bytes.now at) }
+    ensures { GivesUnless is_wire_memory (placed result into.new) (sync_give_at bytes.now at) }
 {
     let ((key, version, item, adds), after) = read_given(alloc, bytes, at)?;
     *into = Message::SyncGive {
@@ -115,7 +115,7 @@ pub fn read_body(
     at: usize,
     into: &mut Message,
 ) -> Result<usize, WireFault>
-    ensures { GivesUnless is_memory (placed result into.new) (body_at kind bytes.now at) }
+    ensures { GivesUnless is_wire_memory (placed result into.new) (body_at kind bytes.now at) }
 {
     match kind {
         6 => promise_into(alloc, bytes, at, into),

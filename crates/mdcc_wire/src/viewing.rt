@@ -1,7 +1,7 @@
 //! Views of messages: bytes that were found to spell one.
 ghost use Rattle.std.specs.Prelude.{◌≡◌, Ok, IfOk, IsOk, OnOk};
 ghost use Rattle.mdcc_base.specs.Unless.{GivesUnless};
-ghost use Rattle.mdcc_parts.specs.Reads.{is_memory};
+ghost use Rattle.mdcc_parts.specs.Reads.{is_wire_memory};
 ghost use Rattle.mdcc_messages.specs.ReadingSteps.{checked, u8_at};
 ghost use Rattle.mdcc_messages.specs.Reading.{known, endpoint, view_of};
 ghost use Rattle.mdcc_messages.specs.Spelling.{kind_of};
@@ -106,7 +106,7 @@ pub fn view(bytes: &[u8]) -> Result<Viewed<'_>, WireFault>
 
 // Reads the message that the bytes spell into a place.
 fn read_envelope(alloc: Global, bytes: &[u8], into: &mut Envelope) -> Result<(), WireFault>
-    ensures { GivesUnless is_memory (placed_whole result into.new) (view_of bytes.now) }
+    ensures { GivesUnless is_wire_memory (placed_whole result into.new) (view_of bytes.now) }
 {
     let (_format, after) = known_at(1, bytes, 0)?;
     let (kind, after) = known_at(15, bytes, after)?;

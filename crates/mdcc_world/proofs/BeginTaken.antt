@@ -24,15 +24,16 @@ use Rattle.mdcc_rules.specs.declared.node.StepFault.{StepFault}
 use Rattle.mdcc_world.proofs.Took.{ok-given}
 use Rattle.mdcc_world.specs.Represents.{entries_of_step}
 use Rattle.mdcc_world.specs.Report.{begun_entries, begun_tx, lines_begun}
+use Rattle.mdcc_rules.specs.Here.{here}
 
 -- a begin tells its entry by its answer
 entries-by : (cluster : Cluster) (me : ℕ) (facts : List Fact) (volatile : Volatile) (parts : List Part) (r : Result (TxId × Managing) BeginFault)
-    → (begin_step_by cluster me facts volatile parts r).entries ≡ begun_entries me parts (begun_tx (begin_step_by cluster me facts volatile parts r).answer)
+    → (begin_step_by (here cluster me facts) volatile parts r).entries ≡ begun_entries me parts (begun_tx (begin_step_by (here cluster me facts) volatile parts r).answer)
 entries-by cluster me facts volatile parts (Err fault) = refl
 entries-by cluster me facts volatile parts (Ok (tx, manager)) = refl
 
 entries-are : (cluster : Cluster) (me : ℕ) (facts : List Fact) (volatile : Volatile) (parts : List Part)
-    → (begin_step cluster me facts volatile parts).entries ≡ begun_entries me parts (begun_tx (begin_step cluster me facts volatile parts).answer)
+    → (begin_step (here cluster me facts) volatile parts).entries ≡ begun_entries me parts (begun_tx (begin_step (here cluster me facts) volatile parts).answer)
 entries-are cluster me facts volatile parts = entries-by cluster me facts volatile parts (Manager.begin me (epoch_of facts) facts volatile.manager parts)
 
 -- so what is counted by the answer is what the step tells
@@ -41,7 +42,7 @@ pub begun-counted : (decisions : Decisions) (w : World) (a : ℕ) (parts : List 
     → RepresentsLedger decisions w.cluster.quorums (begun_entries a parts (begun_tx step.answer) ++ w.ledger)
     → RepresentsLedger decisions w.cluster.quorums (entries_of_step (step_at (counted_event w) a (Input.Begin parts)) ++ w.ledger)
 begun-counted decisions w a parts step itself counted =
-    let s = begin_step w.cluster a (facts_of w.ledger a) (centre_at w a).volatile parts in
+    let s = begin_step (here w.cluster a (facts_of w.ledger a)) (centre_at w a).volatile parts in
     let same : step ≡ step_given s = cc in
     let answer : step.answer ≡ s.answer = ap (λ (x : Step). x.answer) same in
     let are = entries-are w.cluster a (facts_of w.ledger a) (centre_at w a).volatile parts in

@@ -15,7 +15,7 @@ use Rattle.mdcc_protocol.specs.Facts.{epoch_of}
 use Rattle.mdcc_ledger.specs.Ledger.{Added, facts_of}
 use Rattle.mdcc_messages.specs.Lengths.{cells_used, log_length}
 use Rattle.mdcc_option.specs.declared.cluster.Cluster.{Cluster}
-use Rattle.mdcc_protocol.specs.Volatile.{Volatile, nothing_kept}
+use Rattle.mdcc_protocol.specs.Volatile.{Volatile, initial_volatile}
 use Rattle.mdcc_simulation.specs.State.{Site, World, booted, centre_at, counted_event, down, is_up_at}
 use Rattle.mdcc_simulation.specs.Centres.{crash_happened, restart_happened, stop_happened}
 use Rattle.mdcc_simulation.specs.Limits.{most_log}
@@ -209,7 +209,7 @@ has-armed world new w a call image before lines like up many nine rest reported 
 -- ---- a restart
 
 restarted-nodes : (nodes : List (Node CentreStore)) (node : Node CentreStore) (w : World) (a epoch : ℕ) → IsWorld w → is_centre w.cluster a ≡ true → NodesRepresent nodes w
-    → IsNodeOf node w.cluster a (Fact.Booted epoch ∷ facts_of w.ledger a) nothing_kept
+    → IsNodeOf node w.cluster a (Fact.Booted epoch ∷ facts_of w.ledger a) initial_volatile
     → NodesRepresent (set nodes (a - 1) node) (restart_happened w a epoch).world
 restarted-nodes nodes node w a epoch world centre stand is = record {
   as_many = length-set nodes (a - 1) node ∙ stand.as_many;
@@ -248,7 +248,7 @@ restart-within w a fits room =
     rw (roomy, room) refl
 
 -- a node of these facts and the new boot has cells for them
-boot-fits : (node : Node CentreStore) (cluster : Cluster) (a epoch : ℕ) (facts : List Fact) → IsNodeOf node cluster a (Fact.Booted epoch ∷ facts) nothing_kept → cells_with_boot facts ≤ cluster.cells
+boot-fits : (node : Node CentreStore) (cluster : Cluster) (a epoch : ℕ) (facts : List Fact) → IsNodeOf node cluster a (Fact.Booted epoch ∷ facts) initial_volatile → cells_with_boot facts ≤ cluster.cells
 boot-fits node cluster a epoch facts is = let all = is.spare in least (spare_of node.store) (cells_used facts) cluster.cells all
   where
     least : (spare used all : ℕ) → spare + (1 + used) ≡ all → used + 1 ≤ all
@@ -263,7 +263,7 @@ pub has-restarted : (world new : TheWorld) (kept : Logs) (w : World) (a epoch : 
     → length world.stops ≡ 9
     → new.nodes.items ≡ set world.nodes.items (a - 1) node
     → epoch ≡ restart_epoch w a
-    → IsNodeOf node w.cluster a (Fact.Booted epoch ∷ facts_of w.ledger a) nothing_kept
+    → IsNodeOf node w.cluster a (Fact.Booted epoch ∷ facts_of w.ledger a) initial_volatile
     → LogsRepresent kept w.cluster.quorums.centres (with_up (is_up_at w) a true) (with_fact_at (facts_of w.ledger) a (Fact.Booted epoch))
     → nat_lt most_log (log_length (Fact.Booted epoch ∷ facts_of w.ledger a)) ≡ false
     → lines ≡ before ++ Line.Restart a epoch ∷ []

@@ -12,10 +12,10 @@ use Rattle.mdcc_messages.specs.declared.messages.Envelope.{Envelope}
 use Rattle.mdcc_simulation.specs.Deliveries.{after_message, after_deliveries, after_delivery, first_waiting, settled_line, settled_of}
 use Rattle.mdcc_simulation.specs.Events.{after_event}
 use Rattle.mdcc_simulation.specs.Left.{deliveries_before, left_of, settled_before}
-use Rattle.mdcc_simulation.specs.Limits.{is_limit, is_past_events, most_events, within_events}
+use Rattle.mdcc_simulation.specs.Limits.{is_limit, is_past_events, most_events, within_events, is_out_of_memory}
 use Rattle.mdcc_simulation.specs.State.{Happened, World, after_lines, counted_event}
 use Rattle.mdcc_world.specs.CutShort.{IsCutShort, first_lines, lines_by, lines_of}
-use Rattle.mdcc_world.specs.Faults.{OnMemory, is_event_out_of_memory}
+use Rattle.mdcc_world.specs.Faults.{OnMemory}
 use Rattle.mdcc_world.specs.Limited.{lines_reported, unless_full}
 use Rattle.mdcc_world.specs.declared.world.World.{World as TheWorld}
 use Rattle.mdcc_worlds.proofs.Counts.{limit-open}
@@ -297,8 +297,8 @@ always : (b : Bool) {P : Type 0} → P → OnTrue b P
 always true p = p
 always false p = tt
 
-pub memory-always : (fault : EventFault) {P : Type 0} → P → OnTrue (is_event_out_of_memory fault) P
-memory-always fault p = always (is_event_out_of_memory fault) p
+pub memory-always : (fault : EventFault) {P : Type 0} → P → OnTrue (is_out_of_memory fault) P
+memory-always fault p = always (is_out_of_memory fault) p
 
 pub memory-any : {T : Type 0} (r : Result T EventFault) {P : Type 0} → P → OnMemory r P
 memory-any (Ok x) p = tt

@@ -4,7 +4,7 @@ use Rattle.std.specs.Bool.{OnFalse, OnTrue}
 use Rattle.mdcc_simulation.specs.State.{Happened, World, after_lines}
 use Rattle.mdcc_simulation.specs.Left.{deliveries_before}
 use Rattle.mdcc_simulation.specs.Deliveries.{after_deliveries, after_delivery}
-use Rattle.mdcc_simulation.specs.Limits.{is_limit}
+use Rattle.mdcc_simulation.specs.Limits.{is_limit, is_out_of_memory}
 use Rattle.mdcc_language.specs.declared.events.Event.{Event}
 use Rattle.mdcc_language.specs.declared.lines.Line.{Line}
 use Rattle.mdcc_language.specs.declared.world.EventFault.{EventFault}
@@ -12,7 +12,7 @@ use Rattle.mdcc_world.proofs.CutShort.{deliver-cut, of-last}
 use Rattle.mdcc_world.proofs.Happened.{fault-then, happened-then, has-come}
 use Rattle.mdcc_world.proofs.Limited.{limit-with}
 use Rattle.mdcc_world.specs.CutShort.{IsCutShort}
-use Rattle.mdcc_world.specs.Faults.{OnRefusal, is_event_out_of_memory}
+use Rattle.mdcc_world.specs.Faults.{OnRefusal}
 use Rattle.mdcc_world.specs.Represents.{HasHappened, Happens, IsLike}
 use Rattle.mdcc_world.specs.declared.world.World.{World as TheWorld}
 use Rattle.mdcc_worlds.proofs.Delivers.{delivering-begins, delivering-goes_on, delivering-refused}
@@ -45,8 +45,8 @@ both true b f p q = tt
 both false true f p q = tt
 both false false f p q = f p q
 
-pub refusal-and : (fault : EventFault) {P Q R : Type 0} → (P → Q → R) → OnRefusal {T = Unit {0}} (Err fault) P → OnFalse (is_event_out_of_memory fault) Q → OnRefusal {T = Unit {0}} (Err fault) R
-refusal-and fault f p q = both (is_event_out_of_memory fault) (is_limit fault) f p q
+pub refusal-and : (fault : EventFault) {P Q R : Type 0} → (P → Q → R) → OnRefusal {T = Unit {0}} (Err fault) P → OnFalse (is_out_of_memory fault) Q → OnRefusal {T = Unit {0}} (Err fault) R
+refusal-and fault f p q = both (is_out_of_memory fault) (is_limit fault) f p q
 
 module _ (world : TheWorld) (before lines : List Line) (w : World) (whole left : List ℕ) (has : HasDelivered world before lines w whole left) where
   pub delivers-go_on : (new : TheWorld) (after : List Line) (number : ℕ) (rest : List ℕ) → left ≡ number ∷ rest
@@ -66,15 +66,15 @@ module _ (world : TheWorld) (before lines : List Line) (w : World) (whole left :
       }
 
   pub delivers-refused : (number : ℕ) (rest : List ℕ) (fault : EventFault) → left ≡ number ∷ rest
-      → ((v : World) → IsLike world v → OnFalse (is_event_out_of_memory fault) (after_delivery v number ≡ Err fault))
-      → OnFalse (is_event_out_of_memory fault) (after_deliveries whole (unmoved w) ≡ Err fault)
+      → ((v : World) → IsLike world v → OnFalse (is_out_of_memory fault) (after_delivery v number ≡ Err fault))
+      → OnFalse (is_out_of_memory fault) (after_deliveries whole (unmoved w) ≡ Err fault)
   delivers-refused number rest fault first closed =
-      fault-then (is_event_out_of_memory fault) (λ (e : after_delivery has.reached.world number ≡ Err fault).
+      fault-then (is_out_of_memory fault) (λ (e : after_delivery has.reached.world number ≡ Err fault).
       (delivering-refused w whole left rest number has.reached fault first has.so_far e).0)
       (closed has.reached.world has.happened.like)
 
   pub delivers-left : (new : TheWorld) (after : List Line) (number : ℕ) (rest : List ℕ) (fault : EventFault) → left ≡ number ∷ rest
-      → ((v : World) → IsLike world v → OnFalse (is_event_out_of_memory fault) (after_delivery v number ≡ Err fault))
+      → ((v : World) → IsLike world v → OnFalse (is_out_of_memory fault) (after_delivery v number ≡ Err fault))
       → OnRefusal {T = Unit {0}} (Err fault) ((new ≡ world) × (after ≡ lines))
       → OnRefusal {T = Unit {0}} (Err fault) (HasHappened new before after (deliveries_before whole (unmoved w)))
   delivers-left new after number rest fault first closed kept =
@@ -84,7 +84,7 @@ module _ (world : TheWorld) (before lines : List Line) (w : World) (whole left :
       kept (closed has.reached.world has.happened.like)
 
   pub delivers-limited : (after : List Line) (number : ℕ) (rest : List ℕ) (fault : EventFault) → left ≡ number ∷ rest
-      → ((v : World) → IsLike world v → OnFalse (is_event_out_of_memory fault) (after_delivery v number ≡ Err fault))
+      → ((v : World) → IsLike world v → OnFalse (is_out_of_memory fault) (after_delivery v number ≡ Err fault))
       → after ≡ lines
       → OnTrue (is_limit fault) (after ≡ before ++ (deliveries_before whole (unmoved w)).lines)
   delivers-limited after number rest fault first closed same =

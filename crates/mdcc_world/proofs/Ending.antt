@@ -5,9 +5,9 @@ use Rattle.std.specs.Prelude.{IfErr, IsOkAnd, OnOk}
 use Rattle.mdcc_simulation.specs.State.{Happened}
 use Rattle.mdcc_language.specs.declared.lines.Line.{Line}
 use Rattle.mdcc_language.specs.declared.world.EventFault.{EventFault}
-use Rattle.mdcc_world.specs.Faults.{is_event_out_of_memory}
 use Rattle.mdcc_world.specs.Represents.{Happens, RepresentsWorld}
 use Rattle.mdcc_world.specs.declared.world.World.{World as TheWorld}
+use Rattle.mdcc_simulation.specs.Limits.{is_out_of_memory}
 
 pub happened-ok : (result : Result (Unit {0}) EventFault) (expected : Result Happened EventFault) (world : TheWorld) (before after : List Line)
     → Happens world before after result expected → OnOk result (world.events ≤ 100000)
@@ -19,6 +19,6 @@ happened-ok (Ok x) (Err fault) world before after happens few = absurd happens
 happened-ok (Err fault) expected world before after happens few = tt
 
 pub happened-err : (result : Result (Unit {0}) EventFault) (expected : Result Happened EventFault) (world : TheWorld) (before after : List Line)
-    → Happens world before after result expected → IfErr result (λ fault. OnFalse (is_event_out_of_memory fault) (expected ≡ Err fault))
+    → Happens world before after result expected → IfErr result (λ fault. OnFalse (is_out_of_memory fault) (expected ≡ Err fault))
 happened-err (Ok x) expected world before after happens = tt
 happened-err (Err fault) expected world before after happens = happens

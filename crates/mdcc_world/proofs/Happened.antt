@@ -4,10 +4,10 @@ use Rattle.std.specs.Bool.{OnFalse}
 use Rattle.std.specs.Prelude.{IfErr, IsErrAnd, OnOk}
 use Rattle.mdcc_simulation.specs.State.{Happened, World, after_lines, counted_event, next_message}
 use Rattle.mdcc_messages.specs.Mailbox.{Sent}
-use Rattle.mdcc_simulation.specs.Limits.{unless_limit, with_lines}
+use Rattle.mdcc_simulation.specs.Limits.{unless_limit, with_lines, is_out_of_memory}
 use Rattle.mdcc_language.specs.declared.lines.Line.{Line}
 use Rattle.mdcc_language.specs.declared.world.EventFault.{EventFault}
-use Rattle.mdcc_world.specs.Faults.{OnRefusal, is_free, is_event_out_of_memory}
+use Rattle.mdcc_world.specs.Faults.{OnRefusal, is_free}
 use Rattle.mdcc_world.specs.Represents.{HasHappened, Happens, IsLike}
 use Rattle.mdcc_world.specs.declared.world.World.{World as TheWorld}
 use Rattle.mdcc_worlds.proofs.Stays.{counted-stays}
@@ -48,7 +48,7 @@ memory-happens (Err (EventFault.Limit name n)) world before after expected h = a
 memory-happens (Err EventFault.Memory) world before after expected h = tt
 
 -- a fault that is want of memory says nothing
-pub memory-free : (fault : EventFault) (expected : Result Happened EventFault) → fault ≡ EventFault.Memory → OnFalse (is_event_out_of_memory fault) (expected ≡ Err fault)
+pub memory-free : (fault : EventFault) (expected : Result Happened EventFault) → fault ≡ EventFault.Memory → OnFalse (is_out_of_memory fault) (expected ≡ Err fault)
 memory-free fault expected e = rw e tt
 
 -- what comes about has happened
@@ -74,9 +74,9 @@ opened result world before after expected may r is none happens =
 
 -- and what is not is refused
 pub refused-is : (expected : Result Happened EventFault) (may : Result (Unit {0}) EventFault) (r : Result Happened EventFault) (fault : EventFault)
-    → expected ≡ if_open may r → Err fault ≡ may → OnFalse (is_event_out_of_memory fault) (expected ≡ Err fault)
+    → expected ≡ if_open may r → Err fault ≡ may → OnFalse (is_out_of_memory fault) (expected ≡ Err fault)
 refused-is expected may r fault is none =
-    any-fault (is_event_out_of_memory fault) (is ∙ ap (λ (o : Result (Unit {0}) EventFault). if_open o r) (sym none))
+    any-fault (is_out_of_memory fault) (is ∙ ap (λ (o : Result (Unit {0}) EventFault). if_open o r) (sym none))
 
 -- ---- limits
 
@@ -107,8 +107,8 @@ reported-happens world before after reported first line (Ok h) one is put = reco
 reported-happens world before after reported first line (Err fault) one is put = absurd one
 
 pub reported-refused : (fault : EventFault) (line : World → List Line) (expected : Result Happened EventFault)
-    → OnFalse (is_event_out_of_memory fault) (expected ≡ Err fault) → OnFalse (is_event_out_of_memory fault) (with_lines line expected ≡ Err fault)
-reported-refused fault line expected refused = fault-then (is_event_out_of_memory fault) (λ (e : expected ≡ Err fault). ap (with_lines line) e) refused
+    → OnFalse (is_out_of_memory fault) (expected ≡ Err fault) → OnFalse (is_out_of_memory fault) (with_lines line expected ≡ Err fault)
+reported-refused fault line expected refused = fault-then (is_out_of_memory fault) (λ (e : expected ≡ Err fault). ap (with_lines line) e) refused
 
 -- the number of the next message
 pub next-is : (world : TheWorld) (w : World) (next : ℕ) → IsLike world w → next ≡ length world.network + 1 → next ≡ next_message w

@@ -2,14 +2,13 @@
 use Rattle.std.proofs.Common.{◌≡◌, ◌++◌, [], Bool, true, false, List, Result, Ok, Err, append-nil, sym, ◌∙◌}
 use Rattle.std.specs.Prelude.{OnErr}
 use Rattle.std.specs.Bool.{OnFalse, OnTrue}
-use Rattle.mdcc_simulation.specs.Limits.{is_limit}
+use Rattle.mdcc_simulation.specs.Limits.{is_limit, is_out_of_memory}
 use Rattle.mdcc_language.specs.declared.lines.Line.{Line}
 use Rattle.mdcc_language.specs.declared.world.EventFault.{EventFault}
-use Rattle.mdcc_world.specs.Faults.{is_event_out_of_memory}
 use Rattle.mdcc_world.specs.Limited.{OnLimit}
 
 -- a limit is no want of memory
-pub limit-with : (fault : EventFault) {P Q : Type 0} → (P → Q) → OnFalse (is_event_out_of_memory fault) P → OnTrue (is_limit fault) Q
+pub limit-with : (fault : EventFault) {P Q : Type 0} → (P → Q) → OnFalse (is_out_of_memory fault) P → OnTrue (is_limit fault) Q
 limit-with (EventFault.NoMessage n) f p = tt
 limit-with (EventFault.Down a) f p = tt
 limit-with (EventFault.Up a) f p = tt

@@ -7,7 +7,7 @@ use Rattle.mdcc_ledger.specs.Ledger.{facts_of}
 use Rattle.mdcc_messages.specs.Lengths.{fact_length, log_length}
 use Rattle.mdcc_messages.specs.WellFormed.{IsWellFormedEnvelope, IsWellFormedFact}
 use Rattle.mdcc_simulation.specs.State.{World, centre_at, is_up_at}
-use Rattle.mdcc_simulation.specs.Limits.{log_limit, most_log}
+use Rattle.mdcc_simulation.specs.Limits.{passed_log_limit, most_log}
 use Rattle.mdcc_simulation.specs.AppliedSteps.{step_at}
 use Rattle.mdcc_rules.specs.Steps.{NodeStep, step_given}
 use Rattle.mdcc_messages.specs.declared.facts.Fact.{Fact}
@@ -31,10 +31,10 @@ use Rattle.mdcc_worlds.proofs.Stays.{log-few, some-centre}
 abbrev full : EventFault
 full = EventFault.Limit LimitName.Log most_log
 
-pub log-full : (w : World) (a : ℕ) (fact : Fact) (b : Bool) → b ≡ nat_lt most_log (log_length (fact ∷ facts_of w.ledger a)) → b ≡ true → Err full ≡ may_be (log_limit w a fact)
+pub log-full : (w : World) (a : ℕ) (fact : Fact) (b : Bool) → b ≡ nat_lt most_log (log_length (fact ∷ facts_of w.ledger a)) → b ≡ true → Err full ≡ may_be (passed_log_limit w a fact)
 log-full w a fact b is e = let passed : nat_lt most_log (log_length (fact ∷ facts_of w.ledger a)) ≡ true = sym is ∙ e in rw passed refl
 
-pub log-room : (w : World) (a : ℕ) (fact : Fact) (b : Bool) → b ≡ nat_lt most_log (log_length (fact ∷ facts_of w.ledger a)) → b ≡ false → clear ≡ may_be (log_limit w a fact)
+pub log-room : (w : World) (a : ℕ) (fact : Fact) (b : Bool) → b ≡ nat_lt most_log (log_length (fact ∷ facts_of w.ledger a)) → b ≡ false → clear ≡ may_be (passed_log_limit w a fact)
 log-room w a fact b is e = let within : nat_lt most_log (log_length (fact ∷ facts_of w.ledger a)) ≡ false = sym is ∙ e in rw within refl
 
 -- a centre has a log

@@ -11,13 +11,13 @@ use Rattle.mdcc_base.specs.declared.key.Key.{Key}
 use Rattle.mdcc_base.specs.declared.outside.Image.{Image}
 use Rattle.mdcc_node.specs.StepPlans.{written}
 use Rattle.mdcc_node.specs.NodeHistory.{IsRunning}
-use Rattle.mdcc_node.specs.StepAnswers.{UnlessMemory, facts_left, is_step_memory, volatile_left, with_new}
+use Rattle.mdcc_node.specs.StepAnswers.{UnlessMemory, facts_left, is_step_memory, volatile_left}
 use Rattle.mdcc_node.specs.declared.node.Node.{Node}
 use Rattle.mdcc_option.specs.declared.cluster.Cluster.{Cluster}
 use Rattle.mdcc_protocol.specs.Belongs.{is_centre}
 use Rattle.mdcc_protocol.specs.Volatile.{Volatile}
 use Rattle.mdcc_ledger.specs.Ledger.{facts_of}
-use Rattle.mdcc_rules.specs.Steps.{NodeStep}
+use Rattle.mdcc_rules.specs.Steps.{NodeStep, with_new}
 use Rattle.mdcc_simulation.specs.State.{Happened, Site, World, booted, centre_at, down, first_world, is_up_at, with_centre}
 use Rattle.mdcc_simulation.specs.AppliedSteps.{input_happened, is_frame_kept, step_at, step_happened_by, step_stopped}
 use Rattle.mdcc_messages.specs.declared.facts.Fact.{Fact}
@@ -26,7 +26,6 @@ use Rattle.mdcc_rules.specs.declared.node.Answer.{Answer}
 use Rattle.mdcc_rules.specs.declared.node.Input.{Input}
 use Rattle.mdcc_rules.specs.declared.node.Step.{Step}
 use Rattle.mdcc_rules.specs.declared.node.StepFault.{StepFault}
-use Rattle.mdcc_steps.specs.NodeInvariant.{with_new as with_new_fact}
 use Rattle.mdcc_steps.specs.Inputs.{IsWellFormedInput}
 use Rattle.mdcc_worlds.proofs.Begins.{first-facts, first-site}
 use Rattle.mdcc_worlds.proofs.Stays.{by-none, by-some, each-put, facts-here, facts-there, facts-with, refused-same, site-here, site-other, site-same, site-there}
@@ -61,10 +60,6 @@ node-there {X = X} xs i x within is = slice_get-get_or xs i x within ∙ ap (λ 
 pub centre-there : (cluster : Cluster) (place : ℕ) → place < cluster.quorums.centres → is_centre cluster (place + 1) ≡ true
 centre-there cluster place within =
     and_from (nat_le 1 (place + 1)) (nat_le (place + 1) cluster.quorums.centres) (le-leb 1 (place + 1) (omega arith)) (le-leb (place + 1) cluster.quorums.centres (omega (within, arith)))
-
-same-new : (facts : List Fact) (o : Option Fact) → with_new facts o ≡ with_new_fact facts o
-same-new facts None = refl
-same-new facts (Some fact) = refl
 
 other-next : (i j : ℕ) → (i == j) ≡ false → ((i + 1) == (j + 1)) ≡ false
 other-next i j other = elim (cases_Bool ((i + 1) == (j + 1))) [
@@ -111,7 +106,7 @@ module _ (nodes : List (Node CentreStore)) (w : World) (place : ℕ) (node : Nod
     each = λ j x at up. elim (set-get nodes place j node x at) [
       | inl here ↦
           rw (here.0, ← here.1, facts-here w (place + 1) step world centre-here stays, site-here w (place + 1) step world centre-here stays)
-          (subst (λ (facts : List Fact). IsNodeOf node w.cluster (place + 1) facts step.after) (same-new (facts_of w.ledger (place + 1)) step.fact) after)
+          after
       | inr there ↦
           let other = other-next place j there.0 in
           let site = site-there w (place + 1) step world centre-here stays (j + 1) (omega arith) other in

@@ -8,15 +8,16 @@ use Rattle.mdcc_messages.specs.declared.facts.Fact.{Fact}
 use Rattle.mdcc_node.proofs.Rooms.{counted_steps}
 use Rattle.mdcc_node.specs.MethodEffects.{Spends, cells_taken}
 use Rattle.mdcc_node.specs.Represents.{RepresentsCentre}
-use Rattle.mdcc_node.specs.StepAnswers.{UnlessMemory, facts_left, step_result, is_step_memory, room_of, step_by, volatile_left, with_new}
+use Rattle.mdcc_node.specs.StepAnswers.{UnlessMemory, facts_left, step_result, is_step_memory, room_of, step_by, volatile_left}
 use Rattle.mdcc_node.specs.declared.node.Node.{Node}
 use Rattle.mdcc_option.specs.declared.cluster.Cluster.{Cluster}
 use Rattle.mdcc_protocol.specs.Volatile.{Volatile}
 use Rattle.mdcc_rules.specs.Node.{step_of}
-use Rattle.mdcc_rules.specs.Steps.{NodeStep, step_given}
+use Rattle.mdcc_rules.specs.Steps.{NodeStep, step_given, with_new}
 use Rattle.mdcc_rules.specs.declared.node.Input.{Input}
 use Rattle.mdcc_rules.specs.declared.node.Step.{Step}
 use Rattle.mdcc_rules.specs.declared.node.StepFault.{StepFault}
+use Rattle.mdcc_rules.specs.Here.{here}
 
 -- what is spare is what the facts leave
 left-over : (spare used all : ℕ) → spare + used ≡ all → spare ≡ all - used
@@ -24,7 +25,7 @@ left-over spare used all e = omega (e, arith)
 
 module _ (node : Node CentreStore) (cluster : Cluster) (me : ℕ) (facts : List Fact) (volatile : Volatile) (is : IsNodeOf node cluster me facts volatile) where
   -- its step is the one of the definitions
-  pub step-roomy : (input : Input) → step_by (room_of spare_of needed_in node.store) cluster me facts volatile input ≡ step_of cluster me facts volatile input
+  pub step-roomy : (input : Input) → step_by (room_of spare_of needed_in node.store) cluster me facts volatile input ≡ step_of (here cluster me facts) volatile input
   step-roomy input =
       counted_steps (room_of spare_of needed_in node.store) cluster me facts volatile input (left-over (spare_of node.store) (cells_used facts) cluster.cells is.spare) (λ fact. refl)
 

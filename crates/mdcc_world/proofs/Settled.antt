@@ -11,7 +11,7 @@ use Rattle.mdcc_simulation.specs.State.{Happened, World, after_lines, is_up_at, 
 use Rattle.mdcc_simulation.specs.Events.{after_event}
 use Rattle.mdcc_simulation.specs.Deliveries.{after_message, first_waiting}
 use Rattle.mdcc_simulation.specs.Left.{left_of, settled_before}
-use Rattle.mdcc_simulation.specs.Limits.{is_limit, most_events}
+use Rattle.mdcc_simulation.specs.Limits.{is_limit, most_events, is_out_of_memory}
 use Rattle.mdcc_language.specs.declared.events.Event.{Event}
 use Rattle.mdcc_language.specs.declared.lines.Line.{Line}
 use Rattle.mdcc_messages.specs.declared.messages.Envelope.{Envelope}
@@ -21,7 +21,6 @@ use Rattle.mdcc_world.proofs.CutShort.{BeginsWith, before-last, before-next, set
 use Rattle.mdcc_world.proofs.Happened.{fault-then, happened-then, has-come}
 use Rattle.mdcc_world.proofs.Limited.{limit-with}
 use Rattle.mdcc_world.proofs.Next.{message_of, next-is, with_number}
-use Rattle.mdcc_world.specs.Faults.{is_event_out_of_memory}
 use Rattle.mdcc_world.specs.CutShort.{IsCutShort, lines_by}
 use Rattle.mdcc_world.specs.Limited.{lines_reported}
 use Rattle.mdcc_world.specs.SettleEnd.{AreAsked, EndsAfter, HasSettled, IsNext, is_listed_centre}
@@ -165,18 +164,18 @@ module _ (world : TheWorld) (before lines : List Line) (w : World) (listed : Lis
       }
 
   pub settle-breaks : (number : ℕ) (fault : EventFault) → IsNext has.reached.world listed (Some number) → world.events < 100000 → w.events < 100000
-      → OnFalse (is_event_out_of_memory fault) (after_numbered_message has.reached.world number ≡ Err fault)
-      → OnFalse (is_event_out_of_memory fault) (after_event w (Event.Settle listed) ≡ Err fault)
+      → OnFalse (is_out_of_memory fault) (after_numbered_message has.reached.world number ≡ Err fault)
+      → OnFalse (is_out_of_memory fault) (after_event w (Event.Settle listed) ≡ Err fault)
   settle-breaks number fault next few begun refused =
       let waits = some-waits has.reached.world listed number next in
       let events = has.happened.like.records.events in
-      fault-then (is_event_out_of_memory fault) (λ (e : after_numbered_message has.reached.world number ≡ Err fault).
+      fault-then (is_out_of_memory fault) (λ (e : after_numbered_message has.reached.world number ≡ Err fault).
       settling-breaks w listed has.reached deliveries waits.next fault has.so_far waits.waits (omega (events, few, arith)) begun
       (ap (λ (n : ℕ). after_numbered_message has.reached.world n) waits.numbers ∙ e)) refused
 
   -- the lines where the next delivery would pass a limit
   pub settle-limited : (after : List Line) (number : ℕ) (fault : EventFault) → IsNext has.reached.world listed (Some number) → world.events < 100000
-      → OnFalse (is_event_out_of_memory fault) (after_numbered_message has.reached.world number ≡ Err fault) → after ≡ lines
+      → OnFalse (is_out_of_memory fault) (after_numbered_message has.reached.world number ≡ Err fault) → after ≡ lines
       → OnTrue (is_limit fault) (after ≡ before ++ (left_of w (Event.Settle listed)).lines)
   settle-limited after number fault next few refused same =
       let waits = some-waits has.reached.world listed number next in

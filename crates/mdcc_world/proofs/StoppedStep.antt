@@ -7,7 +7,6 @@ use Rattle.mdcc_base.specs.Sizes.{Sizes}
 use Rattle.mdcc_base.specs.declared.outside.Image.{Image}
 use Rattle.mdcc_ledger.specs.Ledger.{Added, Entry, facts_of}
 use Rattle.mdcc_logs.specs.Represents.{LogsRepresent, with_fact_at, with_up}
-use Rattle.mdcc_logs.specs.Stopping as logs
 use Rattle.mdcc_messages.specs.declared.facts.Fact.{Fact}
 use Rattle.mdcc_language.specs.declared.lines.Line.{Line}
 use Rattle.mdcc_language.specs.declared.world.EventFault.{EventFault}
@@ -25,7 +24,7 @@ use Rattle.mdcc_rules.specs.declared.node.Input.{Input}
 use Rattle.mdcc_rules.specs.declared.node.Step.{Step}
 use Rattle.mdcc_rules.specs.declared.node.StepFault.{StepFault}
 use Rattle.mdcc_simulation.specs.State.{Happened, World, centre_at, down, is_up_at, with_centre}
-use Rattle.mdcc_simulation.specs.Limits.{input_limited, log_limit, unless_limit}
+use Rattle.mdcc_simulation.specs.Limits.{input_limited, passed_log_limit, unless_limit, is_out_of_memory}
 use Rattle.mdcc_simulation.specs.AppliedSteps.{chosen_lines, fact_happened, input_happened, is_frame_kept, step_at, step_happened_by, step_stopped}
 use Rattle.mdcc_worlds.proofs.Events.{input-is}
 use Rattle.mdcc_worlds.proofs.Staying.{limited-stays}
@@ -36,33 +35,29 @@ use Rattle.mdcc_worlds.specs.StepEffects.{step_reported, reported_by, reported_s
 use Rattle.mdcc_world.proofs.Crashed.{open-set, stops-set, ups-set}
 use Rattle.mdcc_world.proofs.Happened.{any-fault, limited, may_be}
 use Rattle.mdcc_world.proofs.Took.{logs-same, ok-given, valued-uncounted}
-use Rattle.mdcc_world.specs.Faults.{is_event_out_of_memory}
 use Rattle.mdcc_world.specs.StepOutputs.{facts_with}
 use Rattle.mdcc_world.specs.NodeRuns.{HasRun}
 use Rattle.mdcc_world.specs.Nodes.{NodesRepresent}
 use Rattle.mdcc_world.specs.Represents.{Happens, IsLike, entries_of_step}
-use Rattle.mdcc_world.specs.StoppedAppend.{kept_entries, kept_facts, kept_lines}
+use Rattle.mdcc_world.specs.StoppedAppend.{kept_entries, kept_lines}
 use Rattle.mdcc_world.specs.declared.world.World.{World as TheWorld}
+use Rattle.mdcc_logs.specs.Stopping.{stopped_facts}
+use Rattle.mdcc_rules.specs.Here.{here}
 
 -- ---- the logs say the same
 
-same-kept : (call : ℕ) (image : Image) → logs.is_frame_kept call image ≡ is_frame_kept call image
-same-kept call Image.Lost = refl
-same-kept call Image.Kept = refl
-same-kept call Image.Torn = refl
-
 pub kept-facts : (facts : ℕ → List Fact) (a : ℕ) (fact : Fact) (place call : ℕ) (image : Image) → is_frame_kept place image ≡ is_frame_kept call image
-    → logs.stopped_facts facts a fact place image ≡ kept_facts facts a fact call image
-kept-facts facts a fact place call image same = ap (λ (b : Bool). if b then with_fact_at facts a fact else facts) (same-kept place image ∙ same)
+    → stopped_facts facts a fact place image ≡ stopped_facts facts a fact call image
+kept-facts facts a fact place call image same = ap (λ (b : Bool). if b then with_fact_at facts a fact else facts) same
 
 -- ---- a begin adds no fact
 
 no-fact : (cluster : Cluster) (me : ℕ) (facts : List Fact) (volatile : Volatile) (parts : List Part) (r : Result (TxId × Managing) BeginFault)
-    → (begin_step_by cluster me facts volatile parts r).fact ≡ None
+    → (begin_step_by (here cluster me facts) volatile parts r).fact ≡ None
 no-fact cluster me facts volatile parts (Err fault) = refl
 no-fact cluster me facts volatile parts (Ok (tx, manager)) = refl
 
-begin-adds_none : (cluster : Cluster) (me : ℕ) (facts : List Fact) (volatile : Volatile) (parts : List Part) → (begin_step cluster me facts volatile parts).fact ≡ None
+begin-adds_none : (cluster : Cluster) (me : ℕ) (facts : List Fact) (volatile : Volatile) (parts : List Part) → (begin_step (here cluster me facts) volatile parts).fact ≡ None
 begin-adds_none cluster me facts volatile parts = no-fact cluster me facts volatile parts (Manager.begin me (epoch_of facts) facts volatile.manager parts)
 
 -- ---- what a step stands on
@@ -89,7 +84,7 @@ module _ (world : TheWorld) (w : World) (a : ℕ) (input : Input) (step : Step) 
       by_input (Input.Message envelope) e k = refl
       by_input (Input.Read key) e k = refl
       by_input (Input.Begin parts) e k =
-          let same : begin_step w.cluster a (facts_of w.ledger a) (centre_at w a).volatile parts ≡ s = cc in
+          let same : begin_step (here w.cluster a (facts_of w.ledger a)) (centre_at w a).volatile parts ≡ s = cc in
           let none : s.fact ≡ None = ap (λ (x : NodeStep). x.fact) (sym same) ∙ begin-adds_none w.cluster a (facts_of w.ledger a) (centre_at w a).volatile parts in
           let bad : Some fact ≡ None = sym fact-is ∙ none in
           absurd (cc)
@@ -116,11 +111,11 @@ module _ (world : TheWorld) (w : World) (a : ℕ) (input : Input) (step : Step) 
         ∙ ap (reported_by w a s (Some fact)) stop-here
 
     -- the limit of the log refuses it
-    pub stop-refused : (fault : EventFault) → Err fault ≡ may_be (log_limit w a fact)
-        → OnFalse (is_event_out_of_memory fault) (input_limited w a (step_at w a input) ≡ Err fault)
+    pub stop-refused : (fault : EventFault) → Err fault ≡ may_be (passed_log_limit w a fact)
+        → OnFalse (is_out_of_memory fault) (input_limited w a (step_at w a input) ≡ Err fault)
     stop-refused fault closed =
-        any-fault (is_event_out_of_memory fault)
-        (comes ∙ ap (λ (o : Option EventFault). unless_limit o (step_stopped w a fact (call, image))) (limited (log_limit w a fact) fault closed))
+        any-fault (is_out_of_memory fault)
+        (comes ∙ ap (λ (o : Option EventFault). unless_limit o (step_stopped w a fact (call, image))) (limited (passed_log_limit w a fact) fault closed))
 
     module _ (new : TheWorld)
         (rest : new ≡ record world { up = set world.up (a - 1) false; stops = set world.stops (a - 1) None; logs = new.logs; decisions = new.decisions })
@@ -157,8 +152,8 @@ module _ (world : TheWorld) (w : World) (a : ℕ) (input : Input) (step : Step) 
           facts-down None b = refl
           facts-down (Some new) b = refl
 
-      pub step-stops : (before lines : List Line) → log_limit w a fact ≡ None
-          → LogsRepresent new.logs w.cluster.quorums.centres (with_up (is_up_at w) a false) (kept_facts (facts_of w.ledger) a fact call image)
+      pub step-stops : (before lines : List Line) → passed_log_limit w a fact ≡ None
+          → LogsRepresent new.logs w.cluster.quorums.centres (with_up (is_up_at w) a false) (stopped_facts (facts_of w.ledger) a fact call image)
           → ((quorums : Sizes) (entries : List Entry) → RepresentsLedger world.decisions quorums entries → RepresentsLedger new.decisions quorums (kept_entries a fact call image entries))
           → ((quorums : Sizes) (entries : List Entry) → RepresentsLedger world.decisions quorums entries
           → lines ≡ (before ++ Line.Stopped a ∷ []) ++ kept_lines quorums a fact call image entries)

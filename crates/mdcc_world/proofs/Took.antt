@@ -21,7 +21,7 @@ use Rattle.mdcc_rules.specs.Steps.{NodeStep, step_given}
 use Rattle.mdcc_simulation.specs.State.{Happened, Site, World, booted_to, centre_at, is_up_at}
 use Rattle.mdcc_messages.specs.Mailbox.{Sent, unsent}
 use Rattle.mdcc_simulation.specs.AppliedSteps.{chosen_lines, input_happened, step_at, step_happened, step_happened_by}
-use Rattle.mdcc_simulation.specs.Limits.{input_limited, unless_limit}
+use Rattle.mdcc_simulation.specs.Limits.{input_limited, unless_limit, is_out_of_memory}
 use Rattle.mdcc_messages.specs.declared.facts.Fact.{Fact}
 use Rattle.mdcc_language.specs.declared.lines.Line.{Line}
 use Rattle.mdcc_messages.specs.declared.messages.Envelope.{Envelope}
@@ -39,7 +39,6 @@ use Rattle.mdcc_worlds.specs.StepSends.{IsValuedBy, StaysWithin, is_begin}
 use Rattle.mdcc_worlds.specs.WorldInvariant.{IsWorld}
 use Rattle.mdcc_worlds.specs.StepEffects.{chosen_line, limit_passed, step_lines, step_reported, after_whole_step, reported_by, reported_whole, ledger_with_fact, world_after_step}
 use Rattle.mdcc_world.proofs.Happened.{any-fault, limited, may_be}
-use Rattle.mdcc_world.specs.Faults.{is_event_out_of_memory}
 use Rattle.mdcc_world.specs.StepOutputs.{facts_with}
 use Rattle.mdcc_world.specs.NodeRuns.{HasRun}
 use Rattle.mdcc_world.specs.Nodes.{NodesRepresent, StopsRepresent, UpsRepresent}
@@ -237,10 +236,10 @@ module _ (world : TheWorld) (w : World) (a : ℕ) (input : Input) (step : Step) 
 
   -- a limit that would be passed refuses it
   pub step-refused : (fault : EventFault) → Err fault ≡ may_be (limit_passed w a step.fact step.sends)
-      → OnFalse (is_event_out_of_memory fault) (input_limited w a (step_at w a input) ≡ Err fault)
+      → OnFalse (is_out_of_memory fault) (input_limited w a (step_at w a input) ≡ Err fault)
   step-refused fault stopped =
       let passed : limit_passed w a s.fact s.sends ≡ Some fault = sym limit-is ∙ limited (limit_passed w a step.fact step.sends) fault stopped in
-      any-fault (is_event_out_of_memory fault) (comes ∙ ap (λ (o : Option EventFault). unless_limit o (after_whole_step w a s)) passed)
+      any-fault (is_out_of_memory fault) (comes ∙ ap (λ (o : Option EventFault). unless_limit o (after_whole_step w a s)) passed)
 
   pub step-taken : (new : TheWorld) (before lines : List Line)
       → new ≡ record world { logs = new.logs; network = new.network; bytes = new.bytes; decisions = new.decisions }

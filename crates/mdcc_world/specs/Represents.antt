@@ -16,10 +16,10 @@ use Rattle.mdcc_rules.specs.declared.node.StepFault.{StepFault}
 use Rattle.mdcc_language.specs.declared.world.EventFault.{EventFault}
 use Rattle.mdcc_steps.specs.NodeInvariant.{accept_length_in}
 use Rattle.mdcc_steps.specs.Inputs.{IsWellFormedInput}
-use Rattle.mdcc_world.specs.Faults.{is_event_out_of_memory}
 use Rattle.mdcc_world.specs.Nodes.{NodesRepresent, StopsRepresent, UpsRepresent}
 use Rattle.mdcc_world.specs.declared.world.World.{World as TheWorld}
 use Rattle.mdcc_worlds.specs.WorldInvariant.{IsWorld}
+use Rattle.mdcc_simulation.specs.Limits.{is_out_of_memory}
 
 -- its cluster, its messages and their bytes, the reads that were made, the number of events, which centres are up, and where a stop is
 -- armed
@@ -82,7 +82,7 @@ IsLikeSome world = (w : World) × IsLike world w
 abbrev pub ComesAs : {T : Type 0} → (Happened → Type 0) → Result T EventFault → Result Happened EventFault → Type 0
 ComesAs P (Ok x) (Ok h) = P h
 ComesAs P (Ok x) (Err fault) = ⊥
-ComesAs P (Err fault) expected = OnFalse (is_event_out_of_memory fault) (expected ≡ Err fault)
+ComesAs P (Err fault) expected = OnFalse (is_out_of_memory fault) (expected ≡ Err fault)
 
 abbrev pub Happens : {T : Type 0} → TheWorld → List Line → List Line → Result T EventFault → Result Happened EventFault → Type 0
 Happens world before after result expected = ComesAs (HasHappened world before after) result expected

@@ -7,11 +7,10 @@ use Rattle.mdcc_simulation.specs.State.{Happened, World, counted_event, is_up_at
 use Rattle.mdcc_simulation.specs.Deliveries.{first_waiting}
 use Rattle.mdcc_simulation.specs.Events.{after_event}
 use Rattle.mdcc_simulation.specs.Left.{settled_before}
-use Rattle.mdcc_simulation.specs.Limits.{most_events}
+use Rattle.mdcc_simulation.specs.Limits.{most_events, is_out_of_memory}
 use Rattle.mdcc_language.specs.declared.events.Event.{Event}
 use Rattle.mdcc_language.specs.declared.lines.Line.{Line}
 use Rattle.mdcc_language.specs.declared.world.EventFault.{EventFault}
-use Rattle.mdcc_world.specs.Faults.{is_event_out_of_memory}
 use Rattle.mdcc_world.specs.Represents.{HasHappened}
 use Rattle.mdcc_world.specs.declared.world.World.{World as TheWorld}
 use Rattle.mdcc_worlds.specs.SettleProgress.{IsSettling, settle_reported, settle_ended}
@@ -48,4 +47,4 @@ pub record EndsAfter (world : TheWorld) (before after : List Line) (w : World) (
 -- so a settle ends, by how many messages it delivered, or it is refused as the line is to be
 abbrev pub SettlesTo : TheWorld → List Line → List Line → World → List ℕ → Result ℕ EventFault → Type 0
 SettlesTo world before after w listed (Ok deliveries) = EndsAfter world before after w listed deliveries
-SettlesTo world before after w listed (Err fault) = OnFalse (is_event_out_of_memory fault) (after_event w (Event.Settle listed) ≡ Err fault)
+SettlesTo world before after w listed (Err fault) = OnFalse (is_out_of_memory fault) (after_event w (Event.Settle listed) ≡ Err fault)

@@ -3,7 +3,6 @@ use Rattle.std.specs.Prelude.{◌≡◌, ◌⊎◌, ◌∷◌, [], List, None, O
 use Rattle.mdcc_base.specs.Sizes.{Sizes}
 use Rattle.mdcc_base.specs.declared.outside.Image.{Image}
 use Rattle.mdcc_language.specs.declared.lines.Line.{Line}
-use Rattle.mdcc_logs.specs.Represents.{with_fact_at}
 use Rattle.mdcc_ledger.specs.Ledger.{Added, Entry}
 use Rattle.mdcc_messages.specs.declared.facts.Fact.{Fact}
 use Rattle.mdcc_simulation.specs.State.{World, centre_at}
@@ -16,9 +15,6 @@ IsWhole w a fact = (fact ≡ None) ⊎ ((centre_at w a).stop ≡ None)
 -- the fact counts where its frame is in the image
 abbrev pub kept_entries : ℕ → Fact → ℕ → Image → List Entry → List Entry
 kept_entries a fact call image entries = if is_frame_kept call image then Added a fact ∷ entries else entries
-
-abbrev pub kept_facts : (ℕ → List Fact) → ℕ → Fact → ℕ → Image → ℕ → List Fact
-kept_facts facts a fact call image = if is_frame_kept call image then with_fact_at facts a fact else facts
 
 abbrev pub kept_lines : Sizes → ℕ → Fact → ℕ → Image → List Entry → List Line
 kept_lines quorums a fact call image entries = if is_frame_kept call image then chosen_lines quorums (Added a fact) entries else []

@@ -6,8 +6,9 @@ ghost use Rattle.mdcc_simulation.specs.Events.{after_event};
 ghost use Rattle.mdcc_simulation.specs.Left.{left_of};
 ghost use Rattle.mdcc_world.specs.Limited.{OnLimit, lines_reported};
 ghost use Rattle.mdcc_world.specs.CutShort.{IsCutShort};
-ghost use Rattle.mdcc_world.specs.Faults.{OnMemory, OnRefusal, is_event_out_of_memory};
+ghost use Rattle.mdcc_world.specs.Faults.{OnMemory, OnRefusal};
 ghost use Rattle.mdcc_world.specs.Represents.{Happens, HasHappened, IsLike, IsLikeSome, RepresentsWorld};
+ghost use Rattle.mdcc_simulation.specs.Limits.{is_out_of_memory};
 
 use crate::world::World;
 use mdcc_base::HeapList;
@@ -50,7 +51,7 @@ impl World {
         ensures ok { (w : AWorld) → RepresentsWorld self.old w
             → OnOk result (IsOkAnd (after_event w event.now) (λ h. (lines.new ≡ lines.old ++ h.lines) × RepresentsWorld self.new h.world)) }
         ensures err { (w : AWorld) → RepresentsWorld self.old w
-            → IfErr result (λ fault. OnFalse (is_event_out_of_memory fault) (after_event w event.now ≡ Err fault)) }
+            → IfErr result (λ fault. OnFalse (is_out_of_memory fault) (after_event w event.now ≡ Err fault)) }
         ensures left { (w : AWorld) → RepresentsWorld self.old w
             → OnRefusal result (HasHappened self.new lines.old lines.new (left_of w event.now)) }
         ensures stands { (w : AWorld) → RepresentsWorld self.old w

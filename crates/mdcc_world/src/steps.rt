@@ -6,10 +6,10 @@ ghost use Rattle.mdcc_language.specs.declared.lines.Line.{Line as ALine};
 ghost use Rattle.mdcc_logs.specs.Represents.{LogsRepresent, with_up};
 ghost use Rattle.mdcc_outcomes.specs.Represents.{RepresentsLedger};
 ghost use Rattle.mdcc_ledger.specs.Ledger.{Entry};
-ghost use Rattle.mdcc_messages.specs.Lengths.{fact_length, messages_length};
+ghost use Rattle.mdcc_messages.specs.Lengths.{messages_length};
 ghost use Rattle.mdcc_messages.specs.WellFormed.{IsWellFormedFact};
 ghost use Rattle.mdcc_simulation.specs.State.{World as AWorld};
-ghost use Rattle.mdcc_simulation.specs.Limits.{bytes_limit, input_limited, log_limit, unless_limit};
+ghost use Rattle.mdcc_simulation.specs.Limits.{passed_bytes_limit, input_limited, passed_log_limit, unless_limit};
 ghost use Rattle.mdcc_simulation.specs.AppliedSteps.{is_frame_kept, step_at};
 ghost use Rattle.mdcc_messages.specs.Mailbox.{unsent};
 ghost use Rattle.mdcc_messages.specs.declared.facts.Fact.{Fact as AFact};
@@ -19,8 +19,9 @@ ghost use Rattle.mdcc_world.specs.StepOutputs.{Measures, IsFormed, IsFramed, May
 ghost use Rattle.mdcc_node.specs.StepPlans.{written};
 ghost use Rattle.mdcc_world.specs.NodeRuns.{HasRun, HasRunSome};
 ghost use Rattle.mdcc_world.specs.Represents.{Happens};
-ghost use Rattle.mdcc_world.specs.StoppedAppend.{IsWhole, kept_entries, kept_facts, kept_lines};
+ghost use Rattle.mdcc_world.specs.StoppedAppend.{IsWhole, kept_entries, kept_lines};
 ghost use Rattle.mdcc_worlds.specs.StepEffects.{limit_passed, step_lines, ledger_with_fact};
+ghost use Rattle.mdcc_logs.specs.Stopping.{stopped_facts};
 
 use crate::commits::{count_kept, persist_then_send, push_dropped, report_fact};
 use crate::world::World;
@@ -47,8 +48,7 @@ impl World {
     fn at_log_limit(&self, centre: Centre, fact: &Fact) -> Result<(), EventFault>
         requires within { centre ≤ length self.now.logs.open.items }
         requires formed { IsWellFormedFact fact.now }
-        requires short { fact_length fact.now ≤ 2097152 }
-        ensures limit { (w : AWorld) → Measures self.now w centre → result ≡ unless_limit (log_limit w centre fact.now) tt }
+        ensures limit { (w : AWorld) → Measures self.now w centre → result ≡ unless_limit (passed_log_limit w centre fact.now) tt }
         ensures free { IfErr result (λ fault. is_free fault ≡ true) }
     {
         if self.logs.is_full(centre, fact) {
@@ -59,7 +59,7 @@ impl World {
 
     // Why messages are not sent.
     fn at_bytes_limit(&self, batch: &MessageBatch) -> Result<(), EventFault>
-        ensures limit { (w : AWorld) (a : ℕ) → Measures self.now w a → result ≡ unless_limit (bytes_limit w batch.now) tt }
+        ensures limit { (w : AWorld) (a : ℕ) → Measures self.now w a → result ≡ unless_limit (passed_bytes_limit w batch.now) tt }
         ensures free { IfErr result (λ fault. is_free fault ≡ true) }
         ensures few { OnOk result (self.now.bytes + messages_length batch.now < 2 ^ 64) }
     {
@@ -169,7 +169,7 @@ impl World {
         ensures down { self.new.up ≡ set self.old.up (centre - 1) false }
         ensures stops { self.new.stops ≡ set self.old.stops (centre - 1) None }
         ensures logs { (centres : ℕ) (up : ℕ → Bool) (facts : ℕ → List AFact) → LogsRepresent self.old.logs centres up facts → up centre ≡ true
-            → OnOk result (LogsRepresent self.new.logs centres (with_up up centre false) (kept_facts facts centre fact.now call image)) }
+            → OnOk result (LogsRepresent self.new.logs centres (with_up up centre false) (stopped_facts facts centre fact.now call image)) }
         ensures ledger { (quorums : Sizes) (entries : List Entry) → RepresentsLedger self.old.decisions quorums entries
             → OnOk result (RepresentsLedger self.new.decisions quorums (kept_entries centre fact.now call image entries)) }
         ensures lines { (quorums : Sizes) (entries : List Entry) → RepresentsLedger self.old.decisions quorums entries

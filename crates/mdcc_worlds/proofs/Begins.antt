@@ -6,7 +6,7 @@ use Rattle.mdcc_option.specs.declared.cluster.Cluster.{Cluster}
 use Rattle.mdcc_protocol.specs.Belongs.{is_centre}
 use Rattle.mdcc_protocol.specs.IsCluster.{IsCluster}
 use Rattle.mdcc_ledger.specs.Ledger.{facts_of}
-use Rattle.mdcc_protocol.specs.Volatile.{nothing_kept}
+use Rattle.mdcc_protocol.specs.Volatile.{initial_volatile}
 use Rattle.mdcc_simulation.specs.State.{booted, booted_to, centre_at, first_world}
 use Rattle.mdcc_messages.specs.declared.facts.Fact.{Fact}
 use Rattle.mdcc_rules.specs.Boot.{is_past_cells, room_fault}
@@ -44,7 +44,7 @@ first-site cluster a h =
     let both = some-centre cluster a h in
     get_or-replicate cluster.quorums.centres (a - 1) booted booted (omega (both.0, both.1, arith))
 
-pub first-node : (cluster : Cluster) (a : ℕ) → IsCluster cluster → is_centre cluster a ≡ true → IsNode cluster a (Fact.Booted 1 ∷ []) nothing_kept
+pub first-node : (cluster : Cluster) (a : ℕ) → IsCluster cluster → is_centre cluster a ≡ true → IsNode cluster a (Fact.Booted 1 ∷ []) initial_volatile
 first-node cluster a itself h = boot-node cluster a [] (Fact.Booted 1 ∷ []) itself h tt (by_room (is_past_cells cluster [] (Fact.Booted 1)) (le-ltb cluster.cells 1 itself.some_cells))
   where
     by_room : (b : Bool) → b ≡ false → (if b then Err (room_fault cluster [] (Fact.Booted 1)) else Ok (Fact.Booted 1 ∷ [])) ≡ Ok (Fact.Booted 1 ∷ [])

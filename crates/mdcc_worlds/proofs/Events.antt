@@ -14,7 +14,7 @@ use Rattle.mdcc_rules.specs.Steps.{NodeStep}
 use Rattle.mdcc_simulation.specs.State.{Happened, World, centre_at, counted_event, is_up_at}
 use Rattle.mdcc_messages.specs.Mailbox.{Sent, numbered}
 use Rattle.mdcc_simulation.specs.Clients.{answer_in, begin_lines, after_begin, begun_by, no_item, parts_begun, read_happened}
-use Rattle.mdcc_simulation.specs.Limits.{bytes_limit, cells_limit, input_limited, input_applied, is_limit, is_past_events, limit_if, log_limit, step_limit, step_limit_by, unless_limit, with_lines, within_events}
+use Rattle.mdcc_simulation.specs.Limits.{passed_bytes_limit, passed_cells_limit, input_limited, input_applied, is_limit, is_past_events, limit_if, passed_log_limit, step_limit, step_limit_by, unless_limit, with_lines, within_events}
 use Rattle.mdcc_simulation.specs.Centres.{crash_happened, restart_happened, after_restart, stop_happened, tick_line}
 use Rattle.mdcc_simulation.specs.Deliveries.{deliver_line, after_message, after_delivery}
 use Rattle.mdcc_simulation.specs.Events.{after_event}
@@ -65,7 +65,7 @@ lines-limited : (lines : World → List Line) (r : Result Happened EventFault) �
 lines-limited lines (Ok h) k = tt
 lines-limited lines (Err fault) k = k
 
-log-limited : (w : World) (a : ℕ) (fact : Fact) → IsLimit (log_limit w a fact)
+log-limited : (w : World) (a : ℕ) (fact : Fact) → IsLimit (passed_log_limit w a fact)
 log-limited w a fact = limit-if _ LimitName.Log _
 
 step-limited : (w : World) (a : ℕ) (r : Result NodeStep StepFault) → IsLimit (step_limit w a r)
@@ -75,8 +75,8 @@ step-limited w a (Ok step) = by_fact step.fact
     by_fact : (o : Option Fact) → IsLimit (step_limit_by w a step o)
     by_fact None = limit-if _ LimitName.Bytes _
     by_fact (Some fact) =
-        limit-or (log_limit w a fact) (if is_some (centre_at w a).stop then None else bytes_limit w step.sends) (log-limited w a fact)
-        (cond_both (is_some (centre_at w a).stop) None (bytes_limit w step.sends) IsLimit (λ e. tt) (λ e. limit-if _ LimitName.Bytes _))
+        limit-or (passed_log_limit w a fact) (if is_some (centre_at w a).stop then None else passed_bytes_limit w step.sends) (log-limited w a fact)
+        (cond_both (is_some (centre_at w a).stop) None (passed_bytes_limit w step.sends) IsLimit (λ e. tt) (λ e. limit-if _ LimitName.Bytes _))
 
 -- an input is refused by a limit only
 pub input-limits : (w : World) (a : ℕ) (r : Result NodeStep StepFault) → OnlyLimits (input_limited w a r)
@@ -102,10 +102,10 @@ input-is w a (Ok step) = by_fact step.fact refl (centre_at w a).stop refl
         → unless_limit (step_limit_by w a step o) (step_happened_by w a step o) ≡ reported_by w a step o stop
     by_fact None e stop k = rw (by-none w a step e) (ap (λ (o : Option Fact). unless_limit (limit_passed w a o step.sends) (after_whole_step w a step)) (sym e))
     by_fact (Some fact) e None k =
-        ap (λ (o : Option (ℕ × Image)). unless_limit (option_or (log_limit w a fact) (if is_some o then None else bytes_limit w step.sends)) (step_happened_by w a step (Some fact))) k
-        ∙ ap (λ (h : Happened). unless_limit (option_or (log_limit w a fact) (bytes_limit w step.sends)) h) (by-some w a step fact e k)
+        ap (λ (o : Option (ℕ × Image)). unless_limit (option_or (passed_log_limit w a fact) (if is_some o then None else passed_bytes_limit w step.sends)) (step_happened_by w a step (Some fact))) k
+        ∙ ap (λ (h : Happened). unless_limit (option_or (passed_log_limit w a fact) (passed_bytes_limit w step.sends)) h) (by-some w a step fact e k)
         ∙ ap (λ (o : Option Fact). unless_limit (limit_passed w a o step.sends) (after_whole_step w a step)) (sym e)
-    by_fact (Some fact) e (Some stop) k = rw k (ap (λ (o : Option EventFault). unless_limit o (step_stopped w a fact stop)) (or-none (log_limit w a fact)))
+    by_fact (Some fact) e (Some stop) k = rw k (ap (λ (o : Option EventFault). unless_limit o (step_stopped w a fact stop)) (or-none (passed_log_limit w a fact)))
 
 -- ---- events at a centre
 
@@ -142,8 +142,8 @@ restart-is w a = by_up (is_up_at w a) (is_centre w.cluster a)
 
     only : OnlyLimits (restarted w a)
     only =
-        unless-limited (option_or (cells_limit w a boot) (log_limit w a boot)) (restart_happened (counted_event w) a (restart_epoch w a))
-        (limit-or (cells_limit w a boot) (log_limit w a boot) (limit-if _ LimitName.Cells _) (log-limited w a boot))
+        unless-limited (option_or (passed_cells_limit w a boot) (passed_log_limit w a boot)) (restart_happened (counted_event w) a (restart_epoch w a))
+        (limit-or (passed_cells_limit w a boot) (passed_log_limit w a boot) (limit-if _ LimitName.Cells _) (log-limited w a boot))
 
     by_up : (b c : Bool) → within_events w (if b then Err (EventFault.Up a) else (if c then after_restart (counted_event w) a else Err (EventFault.Down a)))
         ≡ if_open (if b then Err (EventFault.Up a) else (if c then at_limit w else Err (EventFault.Down a))) (restarted w a)

@@ -13,7 +13,7 @@ use Rattle.mdcc_option.specs.declared.items.Part.{Part}
 use Rattle.mdcc_protocol.specs.Belongs.{is_centre}
 use Rattle.mdcc_ledger.specs.Ledger.{facts_of}
 use Rattle.mdcc_messages.specs.Lengths.{cells_needed, cells_used, log_length}
-use Rattle.mdcc_rules.specs.Steps.{NodeStep}
+use Rattle.mdcc_rules.specs.Steps.{NodeStep, with_new}
 use Rattle.mdcc_rules.specs.declared.node.StepFault.{StepFault}
 use Rattle.mdcc_language.specs.Resolve.{resolve}
 use Rattle.mdcc_simulation.specs.State.{Happened, World, after_lines, centre_at, counted_event, is_up_at}
@@ -23,7 +23,7 @@ use Rattle.mdcc_simulation.specs.Centres.{crash_happened, restart_happened, stop
 use Rattle.mdcc_simulation.specs.Deliveries.{deliver_line, after_deliveries, after_delivery, first_waiting, settled_line, settled_of}
 use Rattle.mdcc_simulation.specs.Events.{after_event}
 use Rattle.mdcc_simulation.specs.AppliedSteps.{input_happened, step_at}
-use Rattle.mdcc_simulation.specs.Limits.{bytes_limit, cells_limit, input_applied, is_limit, is_past_events, limit_if, log_limit, most_events, most_log, step_limit, step_limit_by, unless_limit, with_lines, within_events}
+use Rattle.mdcc_simulation.specs.Limits.{passed_bytes_limit, passed_cells_limit, input_applied, is_limit, is_past_events, limit_if, passed_log_limit, most_events, most_log, step_limit, step_limit_by, unless_limit, with_lines, within_events}
 use Rattle.mdcc_language.specs.declared.events.Event.{Event}
 use Rattle.mdcc_language.specs.declared.events.UpdateWord.{UpdateWord}
 use Rattle.mdcc_messages.specs.declared.facts.Fact.{Fact}
@@ -33,7 +33,6 @@ use Rattle.mdcc_rules.specs.declared.node.Input.{Input}
 use Rattle.mdcc_language.specs.declared.schedule.ResolveFault.{ResolveFault}
 use Rattle.mdcc_language.specs.declared.world.EventFault.{EventFault}
 use Rattle.mdcc_language.specs.declared.world.LimitName.{LimitName}
-use Rattle.mdcc_steps.specs.NodeInvariant.{with_new}
 use Rattle.mdcc_steps.specs.Inputs.{IsWellFormedInput}
 use Rattle.mdcc_worlds.proofs.Counts.{delivery-events, limited-events, open-few, unless-happened}
 use Rattle.mdcc_worlds.proofs.Delivers.{next-of, refused-of}
@@ -65,13 +64,13 @@ limit-open true name number e = absurd (cc)
 limit-open false name number e = refl
 
 -- a log that its limit does not refuse is within it
-log-open : (w : World) (a : ℕ) (fact : Fact) → log_limit w a fact ≡ None → log_length (fact ∷ facts_of w.ledger a) ≤ most_log
+log-open : (w : World) (a : ℕ) (fact : Fact) → passed_log_limit w a fact ≡ None → log_length (fact ∷ facts_of w.ledger a) ≤ most_log
 log-open w a fact e =
     let clear = limit-open (nat_lt most_log (log_length (fact ∷ facts_of w.ledger a))) LimitName.Log most_log e in
     ltb-false most_log (log_length (fact ∷ facts_of w.ledger a)) clear
 
 -- nor does a boot that the cells do not refuse pass them
-cells-open : (w : World) (a : ℕ) (fact : Fact) → cells_limit w a fact ≡ None → cells_used (fact ∷ facts_of w.ledger a) ≤ w.cluster.cells
+cells-open : (w : World) (a : ℕ) (fact : Fact) → passed_cells_limit w a fact ≡ None → cells_used (fact ∷ facts_of w.ledger a) ≤ w.cluster.cells
 cells-open w a fact e =
     let facts = facts_of w.ledger a in
     let clear = limit-open (nat_lt w.cluster.cells (cells_used facts + cells_needed fact)) LimitName.Cells (cells_used facts + cells_needed fact) e in
@@ -86,7 +85,7 @@ log-kept w a r stands centre e step is = by_fact step.fact (subst (λ (x : Resul
   where
     by_fact : (o : Option Fact) → step_limit_by w a step o ≡ None → log_length (with_new (facts_of w.ledger a) o) ≤ most_log
     by_fact None k = stands.logs a centre
-    by_fact (Some fact) k = log-open w a fact (either-open (log_limit w a fact) (if is_some (centre_at w a).stop then None else bytes_limit w step.sends) k)
+    by_fact (Some fact) k = log-open w a fact (either-open (passed_log_limit w a fact) (if is_some (centre_at w a).stop then None else passed_bytes_limit w step.sends) k)
 
 -- an input that no limit refuses
 pub limited-stays : (w : World) (a : ℕ) (input : Input) (h : Happened) → IsWorld w → is_centre w.cluster a ≡ true → IsWellFormedInput input
@@ -103,11 +102,11 @@ pub restarted-stays : (w : World) (a : ℕ) (h : Happened) → IsWorld w → is_
 restarted-stays w a h stands centre few e =
     let boot = Fact.Booted (restart_epoch w a) in
     let after = restart_happened (counted_event w) a (restart_epoch w a) in
-    let limit = option_or (cells_limit w a boot) (log_limit w a boot) in
+    let limit = option_or (passed_cells_limit w a boot) (passed_log_limit w a boot) in
     let same = unless-happened limit after h e in
     let none = unless-open limit after h e in
-    let clear = other-open (cells_limit w a boot) (log_limit w a boot) none in
-    let roomy = either-open (cells_limit w a boot) (log_limit w a boot) none in
+    let clear = other-open (passed_cells_limit w a boot) (passed_log_limit w a boot) none in
+    let roomy = either-open (passed_cells_limit w a boot) (passed_log_limit w a boot) none in
     subst (λ (x : Happened). IsWorld x.world) same (restart-stays w a stands centre few (log-open w a boot clear) (cells-open w a boot roomy))
   where
     other-open : (o p : Option EventFault) → option_or o p ≡ None → p ≡ None
@@ -235,7 +234,7 @@ restart-between w a h between e =
     let few = there.1 in
     let boot = Fact.Booted (restart_epoch w a) in
     let after = restart_happened (counted_event w) a (restart_epoch w a) in
-    let same = unless-happened (option_or (cells_limit w a boot) (log_limit w a boot)) after h both.1 in
+    let same = unless-happened (option_or (passed_cells_limit w a boot) (passed_log_limit w a boot)) after h both.1 in
     let itself : IsWorld after.world =
     subst (λ (x : Happened). IsWorld x.world) (sym same) (restarted-stays w a h between.itself there.0 few both.1) in
     subst (λ (x : Happened). IsBetween x.world) same

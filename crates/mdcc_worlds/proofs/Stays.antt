@@ -12,9 +12,9 @@ use Rattle.mdcc_protocol.specs.Belongs.{is_centre}
 use Rattle.mdcc_rules.specs.Boot.{booted_by, is_past_cells}
 use Rattle.mdcc_protocol.specs.Facts.{epoch_of}
 use Rattle.mdcc_ledger.specs.Ledger.{Entry, facts_of}
-use Rattle.mdcc_rules.specs.Steps.{NodeStep, answering}
+use Rattle.mdcc_rules.specs.Steps.{NodeStep, answering, with_new}
 use Rattle.mdcc_protocol.specs.Visible
-use Rattle.mdcc_protocol.specs.Volatile.{Volatile, nothing_kept}
+use Rattle.mdcc_protocol.specs.Volatile.{Volatile, initial_volatile}
 use Rattle.mdcc_messages.specs.Lengths.{cells_needed, cells_used, log_length}
 use Rattle.mdcc_messages.specs.WellFormed.{IsWellFormedEnvelope, IsWellFormedFact}
 use Rattle.mdcc_messages.specs.Mailbox.{Sent, unsent, with_delivered}
@@ -35,7 +35,7 @@ use Rattle.mdcc_steps.proofs.Cells.{few-logged}
 use Rattle.mdcc_steps.proofs.Dispatched.{node-stays, sends-formed}
 use Rattle.mdcc_steps.proofs.Each.{each-append}
 use Rattle.mdcc_steps.proofs.Shortness.{sends-short}
-use Rattle.mdcc_steps.specs.NodeInvariant.{HasRoom, IsNode, accept_length, payloads_of, with_new}
+use Rattle.mdcc_steps.specs.NodeInvariant.{HasRoom, IsNode, accept_length, payloads_of}
 use Rattle.mdcc_steps.specs.Inputs.{IsWellFormedInput}
 use Rattle.mdcc_worlds.proofs.Within.{LeavesEpoch, made-epoch, made-stays}
 use Rattle.mdcc_worlds.specs.StepSends.{GoesWithin, StaysWithin}
@@ -107,7 +107,7 @@ refused-same w a StepFault.Exhausted = refl
 refused-same w a StepFault.Memory = refl
 
 -- a node keeps its facts where it loses all else
-node-lost : (cluster : Cluster) (a : ℕ) (facts : List Fact) (volatile : Volatile) → IsNode cluster a facts volatile → IsNode cluster a facts nothing_kept
+node-lost : (cluster : Cluster) (a : ℕ) (facts : List Fact) (volatile : Volatile) → IsNode cluster a facts volatile → IsNode cluster a facts initial_volatile
 node-lost cluster a facts volatile node = record {
   cluster_itself = node.cluster_itself;
   centre = node.centre;
@@ -180,7 +180,7 @@ module _ (w : World) (a : ℕ) (step : NodeStep) (stands : IsWorld w) (centre : 
 -- ---- a step whose append stops
 
 -- a centre goes down with a new fact, or without one
-down-stays : (w : World) (a : ℕ) (new : Option Fact) → IsWorld w → is_centre w.cluster a ≡ true → IsNode w.cluster a (with_new (facts_of w.ledger a) new) nothing_kept
+down-stays : (w : World) (a : ℕ) (new : Option Fact) → IsWorld w → is_centre w.cluster a ≡ true → IsNode w.cluster a (with_new (facts_of w.ledger a) new) initial_volatile
     → LeavesEpoch new → log_length (with_new (facts_of w.ledger a) new) ≤ most_log → cells_used (with_new (facts_of w.ledger a) new) ≤ w.cluster.cells
     → IsWorld (record (with_centre w a down) { ledger = ledger_with_fact a new w.ledger })
 down-stays w a new stands centre node epoch log cells = record {
@@ -350,7 +350,7 @@ booted-next : (cluster : Cluster) (facts : List Fact) → nat_le (2 ^ 32 - 1) (e
 booted-next cluster facts e fits = rw (e, fits) refl
 
 restarted-node : (cluster : Cluster) (a : ℕ) (facts : List Fact) (volatile : Volatile) → IsNode cluster a facts volatile → epoch_of facts < 2 ^ 32 - 1
-    → cells_used (Fact.Booted (epoch_of facts + 1) ∷ facts) ≤ cluster.cells → IsNode cluster a (Fact.Booted (epoch_of facts + 1) ∷ facts) nothing_kept
+    → cells_used (Fact.Booted (epoch_of facts + 1) ∷ facts) ≤ cluster.cells → IsNode cluster a (Fact.Booted (epoch_of facts + 1) ∷ facts) initial_volatile
 restarted-node cluster a facts volatile node below cells =
     boot-node cluster a (payloads_of facts) (Fact.Booted (epoch_of facts + 1) ∷ facts) node.cluster_itself node.centre (payloads-formed facts node.facts_themselves.well_formed)
     (boot-reads cluster facts node.facts_themselves.allowed (less (cells_needed (Fact.Booted (epoch_of facts + 1))) (cells_used facts) cluster.cells cells)

@@ -33,7 +33,7 @@ use Rattle.mdcc_rules.specs.Node.{checked, is_own_message, message_step, step_of
 use Rattle.mdcc_ledger.specs.Ledger.{Added, Begun, Entry, Valued}
 use Rattle.mdcc_protocol.specs.News.{is_news}
 use Rattle.mdcc_protocol.specs.Recover
-use Rattle.mdcc_rules.specs.Steps.{NodeStep, StepPart, and_then, nothing_done, only_sending}
+use Rattle.mdcc_rules.specs.Steps.{NodeStep, StepPart, and_then, nothing_done, only_sending, with_new}
 use Rattle.mdcc_rules.specs.SyncRules.{give_sent_by, outcome_step_by, sync_give_step_by}
 use Rattle.mdcc_rules.specs.TickRules.{claim_led, led_or_left, manager_act, manager_ticked, recovery_act, recovery_ticked, tick_parts, tick_step}
 use Rattle.mdcc_protocol.specs.Visible.{on_outcome, on_sync_ask, on_sync_give}
@@ -56,13 +56,13 @@ use Rattle.mdcc_rules.specs.declared.node.StepFault.{StepFault}
 use Rattle.mdcc_protocol.specs.declared.recover.RecoverAct.{RecoverAct}
 use Rattle.mdcc_protocol.specs.declared.visible.Give.{Give}
 use Rattle.mdcc_protocol.specs.declared.votes.Vote.{Vote}
-use Rattle.mdcc_steps.specs.NodeInvariant.{with_new}
 use Rattle.mdcc_steps.specs.Inputs.{IsWellFormedInput}
 use Rattle.mdcc_steps.proofs.Allowing.{OnStep, on_checked}
 use Rattle.mdcc_steps.proofs.Each.{all-each, each-append, each-kept}
 use Rattle.mdcc_steps.proofs.Sending.{each-flat_map}
 use Rattle.mdcc_steps.proofs.Stepping.{on_made}
 use Rattle.mdcc_worlds.specs.StepSends.{GoesWithin, IsValuedBy, StaysWithin, TellNoFact, is_begin}
+use Rattle.mdcc_rules.specs.Here.{here}
 
 -- a new fact begins no epoch
 abbrev pub LeavesEpoch : Option Fact → Type 0
@@ -170,26 +170,26 @@ module _ (cluster : Cluster) (me : ℕ) (facts : List Fact) (volatile : Volatile
       cond_both (collided cluster.quorums manager.votes vote.tx vote.key) (lead_act (home_of cluster.quorums vote.key) (choice_unled manager vote.tx vote.key)) None ActsWithin
       (λ e. lead-within (home_of cluster.quorums vote.key) (home-within vote.key) (choice_unled manager vote.tx vote.key)) (λ e. tt)
 
-  undecided : (vote : Vote) → IsQuiet cluster me (undecided_step cluster me facts volatile vote)
+  undecided : (vote : Vote) → IsQuiet cluster me (undecided_step (here cluster me facts) volatile vote)
   undecided vote =
       let taken = vote_taken cluster.quorums volatile.manager vote in
       let act = act_on_vote cluster.quorums taken vote (Manager.decision cluster.quorums taken vote.tx) in
       (tt, act-within act (vote-act taken vote (Manager.decision cluster.quorums taken vote.tx)), λ facts. refl)
 
-  opened : (vote : Vote) (o : Option Outcome) → IsQuiet cluster me (opened_step cluster me facts volatile vote o)
+  opened : (vote : Vote) (o : Option Outcome) → IsQuiet cluster me (opened_step (here cluster me facts) volatile vote o)
   opened vote (Some outcome) = decided vote.tx outcome
   opened vote None = undecided vote
 
-  watched : (vote : Vote) (o : Option (TxId × Outcome)) → IsQuiet cluster me (watched_step cluster me facts volatile vote o)
+  watched : (vote : Vote) (o : Option (TxId × Outcome)) → IsQuiet cluster me (watched_step (here cluster me facts) volatile vote o)
   watched vote (Some d) = decided d.0 d.1
   watched vote None = (tt, tt, λ facts. refl)
 
-  voted : (vote : Vote) → IsQuiet cluster me (voted_step cluster me facts volatile vote)
+  voted : (vote : Vote) → IsQuiet cluster me (voted_step (here cluster me facts) volatile vote)
   voted vote =
       cond_both (is_heard facts vote.tx) (nothing_done volatile) _ (IsQuiet cluster me) (λ e. nothing) (λ e.
       cond_both (is_open volatile.manager vote.tx)
-      (opened_step cluster me facts volatile vote (Manager.would_decide cluster.quorums volatile.manager vote))
-      (watched_step cluster me facts volatile vote (Recover.would_decide cluster.quorums facts volatile.recovery vote))
+      (opened_step (here cluster me facts) volatile vote (Manager.would_decide cluster.quorums volatile.manager vote))
+      (watched_step (here cluster me facts) volatile vote (Recover.would_decide cluster.quorums facts volatile.recovery vote))
       (IsQuiet cluster me)
       (λ f. opened vote (Manager.would_decide cluster.quorums volatile.manager vote))
       (λ f. watched vote (Recover.would_decide cluster.quorums facts volatile.recovery vote)))
@@ -216,7 +216,7 @@ module _ (cluster : Cluster) (me : ℕ) (facts : List Fact) (volatile : Volatile
   cause-act s tx key Cause.Full h w b = lead-within (home_of cluster.quorums key) (home-within key) (choice_unled volatile.manager tx key)
 
   escalated : (s : ℕ) (tx : TxId) (key : Key) (cause : Cause) → is_centre cluster s ≡ true → IsWellFormedCause cause → cause_belongs cluster cause ≡ true
-      → IsQuiet cluster me (escalate_step cluster me facts volatile s key tx cause)
+      → IsQuiet cluster me (escalate_step (here cluster me facts) volatile s key tx cause)
   escalated s tx key cause h w b =
       cond_both (is_open volatile.manager tx && not (is_learned cluster.quorums volatile.manager.votes tx key))
       (acted volatile.manager (act_on_cause cluster.quorums volatile.manager s tx key cause)) (None, volatile.manager)
@@ -252,16 +252,16 @@ module _ (cluster : Cluster) (me : ℕ) (facts : List Fact) (volatile : Volatile
   led-quiet v claim (Err fault) = tt
   led-quiet v claim (Ok (answer, after)) = (led-entries v.leader claim answer, led-sent claim answer)
 
-  led-here : (v : Volatile) (claim : Claim) → IsQuietLed cluster me (led_of cluster me facts v claim)
+  led-here : (v : Volatile) (claim : Claim) → IsQuietLed cluster me (led_of (here cluster me facts) v claim)
   led-here v claim = led-quiet v claim (lead cluster me (epoch_of facts) facts v.leader claim)
 
   step-led : (r : Result StepPart LeadFault) → IsQuietLed cluster me r → OnStep (IsQuiet cluster me) (step_of_led r)
   step-led (Ok part) h = (h.0, h.1, λ facts. refl)
   step-led (Err fault) h = tt
 
-  claimed : (s : ℕ) (choice : Choice) → is_centre cluster s ≡ true → (o : Option Outcome) → OnStep (IsQuiet cluster me) (lead_step_after cluster me facts volatile s choice o)
+  claimed : (s : ℕ) (choice : Choice) → is_centre cluster s ≡ true → (o : Option Outcome) → OnStep (IsQuiet cluster me) (lead_step_after (here cluster me facts) volatile s choice o)
   claimed s choice h (Some outcome) = (tt, (h, tt), λ facts. refl)
-  claimed s choice h None = step-led (led_of cluster me facts volatile (claim_of_choice choice)) (led-here volatile (claim_of_choice choice))
+  claimed s choice h None = step-led (led_of (here cluster me facts) volatile (claim_of_choice choice)) (led-here volatile (claim_of_choice choice))
 
   promised : (key : Key) (r : Result (PromiseAnswer × Leading) LeadFault) → IsQuietLed cluster me (promised_by_answer cluster.quorums me volatile key r)
   promised key (Err fault) = tt
@@ -318,7 +318,7 @@ module _ (cluster : Cluster) (me : ℕ) (facts : List Fact) (volatile : Volatile
   -- ---- each message
 
   message-quiet : (s : ℕ) (message : Message) → is_centre cluster s ≡ true → message_belongs cluster message ≡ true → IsWellFormedMessage message
-      → OnStep (IsQuiet cluster me) (message_step cluster me facts volatile s message)
+      → OnStep (IsQuiet cluster me) (message_step (here cluster me facts) volatile s message)
   message-quiet s (Message.Propose choice) h b w = proposed s choice (on_propose cluster facts choice) h
   message-quiet s (Message.Voted key version ballot tx mark) h b w =
       voted (record { from = s; key = key; version = version; ballot = ballot; tx = tx; mark = mark })
@@ -343,12 +343,12 @@ module _ (cluster : Cluster) (me : ℕ) (facts : List Fact) (volatile : Volatile
   message-quiet s (Message.ClientBegin serial parts) h b w = nothing
   message-quiet s (Message.ClientAnswer serial answer) h b w = nothing
 
-  pub envelope-quiet : (envelope : Envelope) → IsWellFormedMessage envelope.message → OnStep (IsQuiet cluster me) (step_of cluster me facts volatile (Input.Message envelope))
+  pub envelope-quiet : (envelope : Envelope) → IsWellFormedMessage envelope.message → OnStep (IsQuiet cluster me) (step_of (here cluster me facts) volatile (Input.Message envelope))
   envelope-quiet envelope w =
-      cond_both (is_own_message cluster me envelope) (checked cluster facts (message_step cluster me facts volatile envelope.from envelope.message)) (Err StepFault.Foreign) (OnStep (IsQuiet cluster me))
+      cond_both (is_own_message cluster me envelope) (checked cluster facts (message_step (here cluster me facts) volatile envelope.from envelope.message)) (Err StepFault.Foreign) (OnStep (IsQuiet cluster me))
       (λ e.
       let own = and_parts (envelope.to == me && is_centre cluster envelope.from) (message_belongs cluster envelope.message) e in
-      on_checked (IsQuiet cluster me) (IsQuiet cluster me) cluster facts (message_step cluster me facts volatile envelope.from envelope.message) (λ step h room. h)
+      on_checked (IsQuiet cluster me) (IsQuiet cluster me) cluster facts (message_step (here cluster me facts) volatile envelope.from envelope.message) (λ step h room. h)
       (message-quiet envelope.from envelope.message (and_parts (envelope.to == me) (is_centre cluster envelope.from) own.0).1 own.1 w))
       (λ e. tt)
 
@@ -358,38 +358,38 @@ module _ (cluster : Cluster) (me : ℕ) (facts : List Fact) (volatile : Volatile
   claim-part v (Ok part) h = h
   claim-part v (Err fault) h = (tt, tt)
 
-  claim-quiet : (v : Volatile) (claim : Claim) → IsQuietPart cluster me (claim_led cluster me facts v claim)
-  claim-quiet v claim = claim-part v (led_of cluster me facts v claim) (led-here v claim)
+  claim-quiet : (v : Volatile) (claim : Claim) → IsQuietPart cluster me (claim_led (here cluster me facts) v claim)
+  claim-quiet v claim = claim-part v (led_of (here cluster me facts) v claim) (led-here v claim)
 
-  manager-quiet : (v : Volatile) (act : ManagerAct) → IsQuietPart cluster me (manager_act cluster me facts v act)
+  manager-quiet : (v : Volatile) (act : ManagerAct) → IsQuietPart cluster me (manager_act (here cluster me facts) v act)
   manager-quiet v (ManagerAct.Propose choice) = (tt, each-within (all_centres cluster.quorums) (Message.Propose choice) all-within)
   manager-quiet v (ManagerAct.LeadHere choice) = claim-quiet v (claim_of_choice choice)
   manager-quiet v (ManagerAct.Lead leader choice) = (tt, tt)
   manager-quiet v (ManagerAct.Decide tx outcome) = (tt, tt)
   manager-quiet v (ManagerAct.Give centre key) = (tt, tt)
 
-  recovery-quiet : (v : Volatile) (act : RecoverAct) → IsQuietPart cluster me (recovery_act cluster me facts v act)
+  recovery-quiet : (v : Volatile) (act : RecoverAct) → IsQuietPart cluster me (recovery_act (here cluster me facts) v act)
   recovery-quiet v (RecoverAct.Ask tx key version) = (tt, each-within (all_centres cluster.quorums) (Message.Ask tx key version) all-within)
   recovery-quiet v (RecoverAct.LeadHere claim) = claim-quiet v claim
 
-  managed-quiet : IsQuietPart cluster me (manager_ticked cluster me facts volatile)
+  managed-quiet : IsQuietPart cluster me (manager_ticked (here cluster me facts) volatile)
   managed-quiet =
       let next = Manager.tick cluster.quorums volatile.manager in
-      parts-quiet cluster me (manager_act cluster me facts) manager-quiet next.0 (only_sending (with_manager volatile next.1) []) (tt, tt)
+      parts-quiet cluster me (manager_act (here cluster me facts)) manager-quiet next.0 (only_sending (with_manager volatile next.1) []) (tt, tt)
 
-  recovered-quiet : (first : StepPart) → IsQuietPart cluster me first → IsQuietPart cluster me (recovery_ticked cluster me facts first)
+  recovered-quiet : (first : StepPart) → IsQuietPart cluster me first → IsQuietPart cluster me (recovery_ticked (here cluster me facts) first)
   recovered-quiet first h =
       let next = Recover.tick cluster.quorums facts first.after.recovery (txs_opened first.after.manager) in
-      parts-quiet cluster me (recovery_act cluster me facts) recovery-quiet next.0 (record first { after = with_recovery first.after next.1 }) h
+      parts-quiet cluster me (recovery_act (here cluster me facts)) recovery-quiet next.0 (record first { after = with_recovery first.after next.1 }) h
 
-  tick-quiet : IsQuiet cluster me (tick_step cluster me facts volatile)
+  tick-quiet : IsQuiet cluster me (tick_step (here cluster me facts) volatile)
   tick-quiet = (all.0, all.1, λ facts. refl)
     where
-      all : IsQuietPart cluster me (tick_parts cluster me facts volatile)
-      all = recovered-quiet (manager_ticked cluster me facts volatile) managed-quiet
+      all : IsQuietPart cluster me (tick_parts (here cluster me facts) volatile)
+      all = recovered-quiet (manager_ticked (here cluster me facts) volatile) managed-quiet
 
   -- what is no begin
-  pub step-quiet : (input : Input) → IsWellFormedInput input → is_begin input ≡ false → OnStep (IsQuiet cluster me) (step_of cluster me facts volatile input)
+  pub step-quiet : (input : Input) → IsWellFormedInput input → is_begin input ≡ false → OnStep (IsQuiet cluster me) (step_of (here cluster me facts) volatile input)
   step-quiet (Input.Message envelope) w other = envelope-quiet envelope w.message
   step-quiet Input.Tick w other = tick-quiet
   step-quiet (Input.Read key) w other = (tt, tt, λ facts. refl)
@@ -397,7 +397,7 @@ module _ (cluster : Cluster) (me : ℕ) (facts : List Fact) (volatile : Volatile
 
   -- ---- a begin, and every step
 
-  begun-within : (parts : List Part) (r : Result (TxId × Managing) BeginFault) → IsStaying cluster (begin_step_by cluster me facts volatile parts r)
+  begun-within : (parts : List Part) (r : Result (TxId × Managing) BeginFault) → IsStaying cluster (begin_step_by (here cluster me facts) volatile parts r)
   begun-within parts (Err fault) = (record { entries = λ ledger a. refl; sends = tt }, λ facts. refl)
   begun-within parts (Ok (tx, manager)) = (
     record {
@@ -416,24 +416,24 @@ module _ (cluster : Cluster) (me : ℕ) (facts : List Fact) (volatile : Volatile
   on_stays (Ok step) h = quiet-stays cluster me step h
   on_stays (Err fault) h = tt
 
-  pub step-stays : (input : Input) → IsWellFormedInput input → OnStep (IsStaying cluster) (step_of cluster me facts volatile input)
-  step-stays (Input.Message envelope) w = on_stays (step_of cluster me facts volatile (Input.Message envelope)) (envelope-quiet envelope w.message)
-  step-stays Input.Tick w = quiet-stays cluster me (tick_step cluster me facts volatile) tick-quiet
+  pub step-stays : (input : Input) → IsWellFormedInput input → OnStep (IsStaying cluster) (step_of (here cluster me facts) volatile input)
+  step-stays (Input.Message envelope) w = on_stays (step_of (here cluster me facts) volatile (Input.Message envelope)) (envelope-quiet envelope w.message)
+  step-stays Input.Tick w = quiet-stays cluster me (tick_step (here cluster me facts) volatile) tick-quiet
   step-stays (Input.Read key) w = (record { entries = λ ledger a. refl; sends = tt }, λ facts. refl)
   step-stays (Input.Begin parts) w = begun-within parts (Manager.begin me (epoch_of facts) facts volatile.manager parts)
 
 pub made-stays : (cluster : Cluster) (me : ℕ) (facts : List Fact) (volatile : Volatile) (input : Input) (step : NodeStep)
-    → AreQuorums cluster.quorums → IsWellFormedInput input → step_of cluster me facts volatile input ≡ Ok step → StaysWithin cluster step
+    → AreQuorums cluster.quorums → IsWellFormedInput input → step_of (here cluster me facts) volatile input ≡ Ok step → StaysWithin cluster step
 made-stays cluster me facts volatile input step sizes w made =
     (on_made (IsStaying cluster) _ step (step-stays cluster me facts volatile sizes input w) made).0
 
 -- the fact of a step begins no epoch
 pub made-epoch : (cluster : Cluster) (me : ℕ) (facts : List Fact) (volatile : Volatile) (input : Input) (step : NodeStep)
-    → AreQuorums cluster.quorums → IsWellFormedInput input → step_of cluster me facts volatile input ≡ Ok step → LeavesEpoch step.fact
+    → AreQuorums cluster.quorums → IsWellFormedInput input → step_of (here cluster me facts) volatile input ≡ Ok step → LeavesEpoch step.fact
 made-epoch cluster me facts volatile input step sizes w made =
     (on_made (IsStaying cluster) _ step (step-stays cluster me facts volatile sizes input w) made).1
 
 pub made-quiet : (cluster : Cluster) (me : ℕ) (facts : List Fact) (volatile : Volatile) (input : Input) (step : NodeStep)
-    → AreQuorums cluster.quorums → IsWellFormedInput input → is_begin input ≡ false → step_of cluster me facts volatile input ≡ Ok step → AllByRecursion (IsValuedBy me) step.entries
+    → AreQuorums cluster.quorums → IsWellFormedInput input → is_begin input ≡ false → step_of (here cluster me facts) volatile input ≡ Ok step → AllByRecursion (IsValuedBy me) step.entries
 made-quiet cluster me facts volatile input step sizes w other made =
     (on_made (IsQuiet cluster me) _ step (step-quiet cluster me facts volatile sizes input w other) made).0

@@ -9,7 +9,7 @@ use Rattle.mdcc_ledger.specs.Ledger.{facts_of}
 use Rattle.mdcc_simulation.specs.State.{Happened, World, counted_event, is_up_at}
 use Rattle.mdcc_simulation.specs.Centres.{crash_happened, restart_happened, stop_happened, tick_line}
 use Rattle.mdcc_simulation.specs.Events.{after_event}
-use Rattle.mdcc_simulation.specs.Limits.{cells_limit, input_applied, is_past_events, limit_if, log_limit, most_events, unless_limit, with_lines}
+use Rattle.mdcc_simulation.specs.Limits.{passed_cells_limit, input_applied, is_past_events, limit_if, passed_log_limit, most_events, unless_limit, with_lines}
 use Rattle.mdcc_simulation.specs.Clients.{read_happened}
 use Rattle.mdcc_language.specs.declared.events.Event.{Event}
 use Rattle.mdcc_messages.specs.declared.facts.Fact.{Fact}
@@ -46,7 +46,7 @@ restart_epoch w a = epoch_of (facts_of w.ledger a) + 1
 abbrev pub restarted : World → ℕ → Result Happened EventFault
 restarted w a =
     let boot = Fact.Booted (restart_epoch w a) in
-    unless_limit (option_or (cells_limit w a boot) (log_limit w a boot)) (restart_happened (counted_event w) a (restart_epoch w a))
+    unless_limit (option_or (passed_cells_limit w a boot) (passed_log_limit w a boot)) (restart_happened (counted_event w) a (restart_epoch w a))
 
 -- a read line is this
 abbrev pub ReadsHappen : Type 0

@@ -7,7 +7,7 @@ use Rattle.mdcc_base.specs.declared.outside.Image.{Image}
 use Rattle.mdcc_ledger.specs.Ledger.{Added, Entry}
 use Rattle.mdcc_rules.specs.Steps.{NodeStep}
 use Rattle.mdcc_simulation.specs.State.{Happened, World, centre_at}
-use Rattle.mdcc_simulation.specs.Limits.{bytes_limit, input_limited, log_limit, unless_limit}
+use Rattle.mdcc_simulation.specs.Limits.{passed_bytes_limit, input_limited, passed_log_limit, unless_limit}
 use Rattle.mdcc_simulation.specs.AppliedSteps.{chosen_lines, heard_lines, input_happened, step_stopped, step_applied}
 use Rattle.mdcc_messages.specs.declared.facts.Fact.{Fact}
 use Rattle.mdcc_language.specs.declared.lines.Line.{Line}
@@ -45,8 +45,8 @@ after_whole_step w a step = record {
 
 -- the limit that a step would pass whose append does not stop
 abbrev pub limit_passed : World → ℕ → Option Fact → List Envelope → Option EventFault
-limit_passed w a None sends = bytes_limit w sends
-limit_passed w a (Some fact) sends = option_or (log_limit w a fact) (bytes_limit w sends)
+limit_passed w a None sends = passed_bytes_limit w sends
+limit_passed w a (Some fact) sends = option_or (passed_log_limit w a fact) (passed_bytes_limit w sends)
 
 -- what comes of it
 abbrev pub reported_whole : World → ℕ → NodeStep → Result Happened EventFault
@@ -54,7 +54,7 @@ reported_whole w a step = unless_limit (limit_passed w a step.fact step.sends) (
 
 -- what comes of a step whose append stops: it sends nothing, so that the limit of the log alone is asked
 abbrev pub reported_stopped : World → ℕ → Fact → ℕ × Image → Result Happened EventFault
-reported_stopped w a fact stop = unless_limit (log_limit w a fact) (step_stopped w a fact stop)
+reported_stopped w a fact stop = unless_limit (passed_log_limit w a fact) (step_stopped w a fact stop)
 
 -- what comes of a step with this fact, where one is, at a centre where a stop is armed or none
 abbrev pub reported_by : World → ℕ → NodeStep → Option Fact → Option (ℕ × Image) → Result Happened EventFault

@@ -12,6 +12,7 @@ use Rattle.mdcc_messages.specs.declared.facts.Fact.{Fact}
 use Rattle.mdcc_messages.specs.declared.messages.Envelope.{Envelope}
 use Rattle.mdcc_rules.specs.declared.node.Input.{Input}
 use Rattle.mdcc_steps.specs.Inputs.{IsWellFormedInput}
+use Rattle.mdcc_rules.specs.Here.{here}
 
 -- a message goes to a centre of the cluster
 abbrev pub GoesWithin : Cluster → Envelope → Type 0
@@ -31,7 +32,7 @@ abbrev pub StepsStayWithin : Type 0
 StepsStayWithin =
     (cluster : Cluster) (me : ℕ) (facts : List Fact) (volatile : Volatile) (input : Input) (step : NodeStep)
     → AreQuorums cluster.quorums → IsWellFormedInput input
-    → step_of cluster me facts volatile input ≡ Ok step
+    → step_of (here cluster me facts) volatile input ≡ Ok step
     → StaysWithin cluster step
 
 -- a structure that a centre sent
@@ -49,5 +50,5 @@ abbrev pub OthersBeginNothing : Type 0
 OthersBeginNothing =
     (cluster : Cluster) (me : ℕ) (facts : List Fact) (volatile : Volatile) (input : Input) (step : NodeStep)
     → AreQuorums cluster.quorums → IsWellFormedInput input → is_begin input ≡ false
-    → step_of cluster me facts volatile input ≡ Ok step
+    → step_of (here cluster me facts) volatile input ≡ Ok step
     → AllByRecursion (IsValuedBy me) step.entries

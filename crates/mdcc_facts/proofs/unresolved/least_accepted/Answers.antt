@@ -1,6 +1,6 @@
 use Rattle.std.proofs.Common.{◌∙◌, sym, reverse}
 use Rattle.mdcc_option.specs.declared.choices.Choice.{Choice}
-use Rattle.mdcc_facts.specs.Walks.{is_next, is_not_heard}
+use Rattle.mdcc_facts.specs.Walks.{is_next_tx, is_not_heard}
 use Rattle.mdcc_facts.proofs.Marked.{least-accept, least-reject}
 use Rattle.mdcc_facts.proofs.unresolved.least_accepted.Goals.{in-Accept, in_default}
 use Rattle.mdcc_facts.proofs.unresolved.least_accepted.Goals as goal
@@ -9,7 +9,7 @@ pub loop-place-preserved : goal.loop-place-preserved
 loop-place-preserved c =
     let options = c.args.options.now in
     let i = c.loop-place.place in
-    let test = is_next (is_not_heard (reverse c.args.facts.now)) c.args.last.now in
+    let test = is_next_tx (is_not_heard (reverse c.args.facts.now)) c.args.last.now in
     let least = c.loop-place.least in
     elim c.match-mark.branch [
       | in-Accept w ↦

@@ -1,13 +1,13 @@
 use Rattle.std.proofs.Common.{◌∙◌, reverse}
 use Rattle.std.specs.Prelude.{filter_map}
 use Rattle.mdcc_protocol.specs.Facts.{write_set_in}
-use Rattle.mdcc_facts.specs.Walks.{is_next, is_not_heard}
+use Rattle.mdcc_facts.specs.Walks.{is_next_tx, is_not_heard}
 use Rattle.mdcc_facts.proofs.Marked.{least-offered}
 use Rattle.mdcc_facts.proofs.unresolved.least_unresolved.Goals as goal
 
 pub returns-in-Some : goal.returns-in-Some
 returns-in-Some c =
-    let test = is_next (is_not_heard (reverse c.args.facts.now)) c.args.last.now in
+    let test = is_next_tx (is_not_heard (reverse c.args.facts.now)) c.args.last.now in
     let choice = c.in-Some.choice in
     rw (c.in-Voted.is, c.in-Some.is)
     (c.lower_unheard.ensures

@@ -9,7 +9,7 @@ use Rattle.mdcc_base.specs.declared.outside.Image.{Image}
 use Rattle.mdcc_ledger.specs.Ledger.{facts_of}
 use Rattle.mdcc_simulation.specs.State.{is_up_at}
 use Rattle.std.specs.Prelude.{set}
-use Rattle.mdcc_protocol.specs.Volatile.{nothing_kept}
+use Rattle.mdcc_protocol.specs.Volatile.{initial_volatile}
 use Rattle.mdcc_messages.specs.declared.facts.Fact.{Fact}
 use Rattle.mdcc_restart.specs.Logged.{AreLogged}
 use Rattle.mdcc_world.proofs.Crashed.{has-restarted, may-restart, more-epochs, restart-cells, restart-limit}
@@ -42,7 +42,7 @@ returns-in_ok-push-in-Node-clause-happens c w like =
     let started : HasStarted c.in-Node.node c.in-Node.epoch c.restart.new.self world.cluster w.cluster.quorums.centres (with_up (is_up_at w) a true) a (facts_of w.ledger) =
     subst (λ (s : Started). Starts (Ok s) c.restart.new.self world.cluster w.cluster.quorums.centres (with_up (is_up_at w) a true) a (facts_of w.ledger)) c.in-Node.is
     (c.in_ok-node.ensures.started w.cluster.quorums.centres (is_up_at w) (facts_of w.ledger) like.logs logged fits (more-epochs w a like.records.itself centre early)) in
-    let node : IsNodeOf c.in-Node.node w.cluster a (Fact.Booted c.in-Node.epoch ∷ facts_of w.ledger a) nothing_kept = rw (← like.records.cluster) started.node_of in
+    let node : IsNodeOf c.in-Node.node w.cluster a (Fact.Booted c.in-Node.epoch ∷ facts_of w.ledger a) initial_volatile = rw (← like.records.cluster) started.node_of in
     let rest = c.rise.ensures.rest
     ∙ ap (λ (ups : List Bool). record world { nodes = c.rise.new.self.nodes; up = ups; stops = c.rise.new.self.stops; logs = c.restart.new.self; events = world.events + 1 }) c.rise.ensures.up
     ∙ ap (λ (stops : List (Option (ℕ × Image))). record world { nodes = c.rise.new.self.nodes; up = set world.up (a - 1) true; stops = stops; logs = c.restart.new.self; events = world.events + 1 }) c.rise.ensures.stops in

@@ -2,10 +2,10 @@ use Rattle.std.proofs.Common.{◌-◌, ◌∙◌, Bool, List, Option, ap, arith,
 use Rattle.std.specs.Prelude.{set}
 use Rattle.mdcc_base.specs.declared.outside.Image.{Image}
 use Rattle.mdcc_ledger.specs.Ledger.{facts_of}
-use Rattle.mdcc_simulation.specs.Limits.{log_limit}
+use Rattle.mdcc_simulation.specs.Limits.{passed_log_limit}
 use Rattle.mdcc_simulation.specs.State.{is_up_at}
 use Rattle.mdcc_world.proofs.Happened.{residual, unlimited}
-use Rattle.mdcc_world.proofs.Limits.{fact-may, log-there, step-formed, step-measures, step-short}
+use Rattle.mdcc_world.proofs.Limits.{fact-may, log-there, step-formed, step-measures}
 use Rattle.mdcc_world.proofs.StoppedStep.{step-stops, stop-refused}
 use Rattle.mdcc_world.proofs.world.World.stop_step.Goals as goal
 
@@ -17,10 +17,6 @@ at_log_limit-requires-clause-within c =
 pub at_log_limit-requires-clause-formed : goal.at_log_limit-requires-clause-formed
 at_log_limit-requires-clause-formed c =
     step-formed c.args.self.now c.requires.some.0 c.args.centre c.requires.some.1 c.args.step.now c.requires.some.2 c.args.fact.now c.requires.fact
-
-pub at_log_limit-requires-clause-short : goal.at_log_limit-requires-clause-short
-at_log_limit-requires-clause-short c =
-    step-short c.args.self.now c.requires.some.0 c.args.centre c.requires.some.1 c.args.step.now c.requires.some.2 c.args.fact.now c.requires.fact
 
 pub returns-in_err-at_log_limit-clause-happens : goal.returns-in_err-at_log_limit-clause-happens
 returns-in_err-at_log_limit-clause-happens c w input made =
@@ -49,7 +45,7 @@ returns-clause-happens c w input made =
     let fact = c.args.fact.now in
     let new = c.stop_append.new.self in
     let stopped = c.in_ok-stop_append.ensures in
-    let within = unlimited (log_limit w a fact) (c.in_ok-at_log_limit.ensures.limit w (step-measures world w a input step made)) in
+    let within = unlimited (passed_log_limit w a fact) (c.in_ok-at_log_limit.ensures.limit w (step-measures world w a input step made)) in
     let rest = c.stop_append.ensures.rest
     ∙ ap (λ (ups : List Bool). record world { up = ups; stops = new.stops; logs = new.logs; decisions = new.decisions }) c.stop_append.ensures.down
     ∙ ap (λ (stops : List (Option (ℕ × Image))). record world { up = set world.up (a - 1) false; stops = stops; logs = new.logs; decisions = new.decisions }) c.stop_append.ensures.stops in
