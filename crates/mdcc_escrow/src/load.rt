@@ -2,7 +2,6 @@
 ghost use Rattle.std.specs.Prelude.{◌≡◌, ◌++◌, ◌∷◌, []};
 ghost use Rattle.mdcc_escrow.specs.Sums.{IsBoundedLoad};
 ghost use Rattle.mdcc_escrow.specs.Weights.{with_amount, counted, sums_with, with_live};
-ghost use Rattle.mdcc_option.specs.OneCopy.{amount_at};
 ghost use Rattle.mdcc_option.specs.declared.items.Update.{Update as Live};
 ghost use Rattle.mdcc_protocol.specs.Fit.{amounts_in, capped, decrease, has_tx, increase, load_of};
 ghost use Rattle.mdcc_protocol.specs.Marks.{is_write};
@@ -10,7 +9,7 @@ ghost use Rattle.mdcc_struct.specs.Maps.{TxMap};
 
 use crate::Load;
 use mdcc_base::TxId;
-use mdcc_option::Update;
+use mdcc_option::{Update, amount_at};
 
 /// What nothing weighs.
 pub const NO_LOAD: Load = Load {
@@ -48,18 +47,6 @@ fn has_tx(txs: &[TxId], tx: &TxId) -> bool
         }
     }
     false
-}
-
-// The amount that is added at an attribute, 0 where it is not named.
-fn amount_at(attribute: u8, amounts: &[(u8, i64)]) -> i64
-    ensures { result ≡ amount_at attribute amounts.now }
-{
-    for amount in amounts {
-        if amount.0 == attribute {
-            return amount.1;
-        }
-    }
-    0
 }
 
 // How much an amount takes from an attribute.

@@ -34,8 +34,8 @@ impl Model for HeldItem {
 // The values of an item before they are bounded.
 type Sums = BoundedList<i128, 4>;
 
-// The amount that is added at an attribute, 0 where it is not named.
-fn amount_at(attribute: usize, amounts: &[(u8, i64)]) -> i64
+/// The amount that is added at an attribute, by its number from 1; 0 where it is not named.
+pub fn amount_at(attribute: usize, amounts: &[(u8, i64)]) -> i64
     ensures { result ≡ amount_at attribute amounts.now }
 {
     for amount in amounts {
@@ -46,8 +46,8 @@ fn amount_at(attribute: usize, amounts: &[(u8, i64)]) -> i64
     0
 }
 
-// The value of the attribute at a place: the base value plus the amounts of the deltas.
-fn value_after(deltas: &[Delta], place: usize, base: i64) -> i128
+/// The value of the attribute at a place, from 0, of an item whose base has this value there, after these deltas.
+pub fn value_after(deltas: &[Delta], place: usize, base: i64) -> i128
     requires few { length deltas.now ≤ 64 }
     requires within { place < 4 }
     ensures value { result ≡ value_after deltas.now (place, base) }
@@ -95,8 +95,8 @@ fn values_with(held: &HeldItem, delta: &Delta) -> Sums
     sums
 }
 
-// A value that is read stops at the ends of 64 bits.
-fn read_value(value: i128) -> i64
+/// The value as a reader sees it: it stops at the ends of 64 bits.
+pub fn read_value(value: i128) -> i64
     ensures { result ≡ read_value value }
 {
     if value < i128::from(i64::MIN) {

@@ -16,6 +16,7 @@ mod update;
 pub use choices::{Cause, Choice, Claim, Mark, Outcome};
 pub use cluster::{Cluster, FastLimit};
 pub use faults::{BeginFault, DraftFault};
+pub use held::{amount_at, read_value, value_after};
 pub use items::{Amounts, Body, Delta, Item, Known, Part, Seen, Token, Update, Values, WriteSet};
 pub use one_copy::{Applied, OneCopy};
 pub use schema::{Schema, SchemaFault};

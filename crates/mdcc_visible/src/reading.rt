@@ -1,6 +1,5 @@
 //! What a read shows of a key.
 ghost use Rattle.std.specs.Prelude.{◌≡◌, ◌*◌, ◌^◌, ◌<◌, ◌≤◌, ◌≤ℤ◌, List, length, neg_ℤ, option_map, pos};
-ghost use Rattle.mdcc_option.specs.OneCopy.{amount_at, read_value, value_after};
 ghost use Rattle.mdcc_messages.specs.declared.facts.Fact.{Fact as AFact};
 ghost use Rattle.mdcc_protocol.specs.Facts.{base_of, executed_of, token_of};
 ghost use Rattle.mdcc_protocol.specs.Visible.{item_read, read, rebase_due};
@@ -9,46 +8,8 @@ ghost use Rattle.mdcc_visible.specs.Deltas.{item_shown, value_shown};
 use crate::deltas::executed_deltas;
 use mdcc_base::{BoundedList, Key, Plain};
 use mdcc_facts::FactStore;
-use mdcc_option::{Delta, Item, Token};
+use mdcc_option::{Delta, Item, Token, read_value, value_after};
 use mdcc_protocol::Reading;
-
-// The amount that is added at an attribute, 0 where it is not named.
-fn amount_at(attribute: usize, amounts: &[(u8, i64)]) -> i64
-    ensures { result ≡ amount_at attribute amounts.now }
-{
-    for amount in amounts {
-        if usize::from(amount.0) == attribute {
-            return amount.1;
-        }
-    }
-    0
-}
-
-// The value of the attribute at a place: the base value plus the amounts of the deltas.
-fn value_after(deltas: &[Delta], place: usize, base: i64) -> i128
-    requires few { length deltas.now ≤ 64 }
-    requires within { place < 4 }
-    ensures { result ≡ value_after deltas.now (place, base) }
-{
-    let mut value = i128::from(base);
-    for delta in deltas {
-        value += i128::from(amount_at(place + 1, delta.amounts.as_slice()));
-    }
-    value
-}
-
-// A value that is read stops at the ends of 64 bits.
-fn read_value(value: i128) -> i64
-    ensures { result ≡ read_value value }
-{
-    if value < i128::from(i64::MIN) {
-        i64::MIN
-    } else if i128::from(i64::MAX) < value {
-        i64::MAX
-    } else {
-        value as i64
-    }
-}
 
 // The value of the attribute at a place, as it is read.
 fn value_shown(deltas: &[Delta], place: usize, base: i64) -> i64
