@@ -1,13 +1,8 @@
 -- Facts whose encodings are stored, the newest first.
 use Rattle.std.specs.Prelude.{◌≡◌, ◌++◌, ◌∷◌, [], List, ⊤, ℕ}
-use Rattle.mdcc_messages.specs.Spelling.{fact_bytes}
+use Rattle.mdcc_messages.specs.Spelling.{encodings_of}
 use Rattle.mdcc_messages.specs.WellFormed.{IsWellFormedFact}
 use Rattle.mdcc_messages.specs.declared.facts.Fact.{Fact}
-
--- the encodings of facts, the oldest first, so that each stands at its number
-abbrev pub encodings_of : List Fact → List (List ℕ)
-encodings_of [] = []
-encodings_of (fact ∷ facts) = encodings_of facts ++ fact_bytes fact ∷ []
 
 abbrev pub AreWellFormed : List Fact → Type 0
 AreWellFormed [] = ⊤

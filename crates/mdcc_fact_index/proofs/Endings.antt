@@ -12,7 +12,7 @@ use Rattle.mdcc_struct.proofs.Order.{tx_eq-sym}
 use Rattle.mdcc_struct.specs.Maps.{value_of}
 use Rattle.mdcc_messages.specs.Lengths.{fact_length}
 use Rattle.mdcc_messages.specs.SpelledParts.{heard_bytes}
-use Rattle.mdcc_messages.specs.Spelling.{fact_bytes}
+use Rattle.mdcc_messages.specs.Spelling.{fact_bytes, encodings_of}
 use Rattle.mdcc_messages.specs.WellFormed.{IsWellFormedFact}
 use Rattle.mdcc_messages.specs.declared.facts.Fact.{Fact}
 use Rattle.mdcc_protocol.specs.Facts.{deltas_from, heard_of, is_heard, outcome_in}
@@ -21,15 +21,16 @@ use Rattle.mdcc_protocol.specs.Stores.{ended_of}
 use Rattle.mdcc_spelling.proofs.Common.{heard_again}
 use Rattle.mdcc_spelling.proofs.Lengths.{length-fact}
 use Rattle.mdcc_chains.specs.Walks.{last_in, walk}
-use Rattle.mdcc_fact_cells.specs.Holding.{AreWellFormed, encodings_of, Holds}
-use Rattle.mdcc_fact_index.specs.Heard.{given_by, heard_by, heard_numbers, heard_txs, is_commit_spelled, number_found, number_in, numbers_by, outcome_read, outcome_spelled, AreHeard, AreNumbersBelow, HeardTxs}
+use Rattle.mdcc_fact_cells.specs.Holding.{AreWellFormed, Holds}
+use Rattle.mdcc_fact_index.specs.Heard.{given_by, heard_numbers, heard_txs, is_commit_spelled, number_found, number_in, numbers_by, outcome_read, outcome_spelled, AreHeard, AreNumbersBelow, HeardTxs}
 use Rattle.mdcc_fact_tables.specs.UnresolvedNumbers.{TellsHeard}
 use Rattle.mdcc_fact_index.proofs.Entered.{encodings-length}
 use Rattle.mdcc_fact_index.proofs.Short.{heard-short}
+use Rattle.mdcc_fact_folds.specs.Entered.{heard_in}
 
 -- ---- lengths
 
-length-numbers_by : (fact : Fact) (number : ℕ) → length (numbers_by fact number) ≡ length (heard_by fact)
+length-numbers_by : (fact : Fact) (number : ℕ) → length (numbers_by fact number) ≡ length (heard_in fact)
 length-numbers_by (Fact.Heard tx outcome) number = refl
 length-numbers_by (Fact.Booted epoch) number = refl
 length-numbers_by (Fact.Promised key low high ballot) number = refl
@@ -42,7 +43,7 @@ numbers-alike (fact ∷ facts) =
     omega (
       arith,
       length-append (heard_numbers facts) (numbers_by fact (length facts)),
-      length-append (heard_by fact) (heard_txs facts),
+      length-append (heard_in fact) (heard_txs facts),
       length-numbers_by fact (length facts),
       numbers-alike facts,
     )
@@ -260,14 +261,14 @@ answer-added encodings index facts key version tx number result holds kept is re
 
 -- ---- one more fact
 
-pub heard-more : (old new : HeardTxs) (facts : List Fact) (fact : Fact) (number : ℕ) → new.txs.keys ≡ heard_by fact ++ old.txs.keys → new.numbers ≡ old.numbers ++ numbers_by fact number
+pub heard-more : (old new : HeardTxs) (facts : List Fact) (fact : Fact) (number : ℕ) → new.txs.keys ≡ heard_in fact ++ old.txs.keys → new.numbers ≡ old.numbers ++ numbers_by fact number
     → AreHeard old facts → number ≡ length facts → AreHeard new (fact ∷ facts)
 heard-more old new facts fact number txs numbers kept number-is = record {
-  txs_are = txs ∙ ap (λ keys. heard_by fact ++ keys) kept.txs_are;
+  txs_are = txs ∙ ap (λ keys. heard_in fact ++ keys) kept.txs_are;
   numbers_are = numbers ∙ ap (λ ns. ns ++ numbers_by fact number) kept.numbers_are ∙ ap (λ n. heard_numbers facts ++ numbers_by fact n) number-is;
 }
 
-pub length-heard : (fact : Fact) → length (heard_by fact) ≤ 1
+pub length-heard : (fact : Fact) → length (heard_in fact) ≤ 1
 length-heard (Fact.Heard tx outcome) = omega arith
 length-heard (Fact.Booted epoch) = omega arith
 length-heard (Fact.Promised key low high ballot) = omega arith

@@ -9,13 +9,13 @@ use Rattle.std.proofs.lemmas.List.{get_or_append_left, get_or_at, length-append}
 use Rattle.std.proofs.lemmas.List.Folds.{fold-map, list_all-map}
 use Rattle.mdcc_base.specs.Key.{key_eq}
 use Rattle.mdcc_base.specs.declared.key.Key.{Key}
-use Rattle.mdcc_messages.specs.Spelling.{fact_bytes}
+use Rattle.mdcc_messages.specs.Spelling.{fact_bytes, encodings_of}
 use Rattle.mdcc_messages.specs.WellFormed.{IsWellFormedFact}
 use Rattle.mdcc_messages.specs.declared.facts.Fact.{Fact}
 use Rattle.mdcc_chains.specs.Keys.{instance_eq}
 use Rattle.mdcc_chains.specs.Walks.{entry_at}
 use Rattle.mdcc_chains.proofs.Filtered.{entry-skip}
-use Rattle.mdcc_fact_cells.specs.Holding.{AreWellFormed, Holds, encodings_of}
+use Rattle.mdcc_fact_cells.specs.Holding.{AreWellFormed, Holds}
 use Rattle.mdcc_fact_folds.specs.Chains.{is_of_instance}
 use Rattle.mdcc_fact_folds.specs.Entered.{entered, found_by, instances_in, is_instance}
 use Rattle.mdcc_fact_folds.specs.Live.{is_ordered}

@@ -13,18 +13,14 @@ use Rattle.mdcc_struct.specs.Maps.{TxMap}
 use Rattle.mdcc_base.specs.declared.key.Key.{Key}
 use Rattle.mdcc_chains.specs.Keyed.{Keyed}
 use Rattle.mdcc_chains.specs.Walks.{last_in, walk}
+use Rattle.mdcc_fact_folds.specs.Entered.{heard_in}
 
 -- ---- what is found by transaction
-
--- the transaction of which a fact says how it ended
-abbrev pub heard_by : Fact → List TxId
-heard_by (Fact.Heard tx outcome) = tx ∷ []
-heard_by _ = []
 
 -- those of all facts, the newest first
 abbrev pub heard_txs : List Fact → List TxId
 heard_txs [] = []
-heard_txs (fact ∷ facts) = heard_by fact ++ heard_txs facts
+heard_txs (fact ∷ facts) = heard_in fact ++ heard_txs facts
 
 -- a fact's number, the number of the older ones, once for each of its transactions
 abbrev pub numbers_by : Fact → ℕ → List ℕ

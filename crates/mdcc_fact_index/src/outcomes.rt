@@ -5,7 +5,8 @@ ghost use Rattle.mdcc_messages.specs.declared.facts.Fact.{Fact as AFact};
 ghost use Rattle.mdcc_protocol.specs.Facts.{heard_of};
 ghost use Rattle.mdcc_protocol.specs.Stores.{ended_of};
 ghost use Rattle.mdcc_fact_cells.specs.Holding.{Holds};
-ghost use Rattle.mdcc_fact_index.specs.Heard.{AreHeard, AreNumbersBelow, ended_told, given_by, heard_by, is_commit_spelled, number_found, numbers_by, outcome_spelled};
+ghost use Rattle.mdcc_fact_index.specs.Heard.{AreHeard, AreNumbersBelow, ended_told, given_by, is_commit_spelled, number_found, numbers_by, outcome_spelled};
+ghost use Rattle.mdcc_fact_folds.specs.Entered.{heard_in};
 
 use crate::commits::outcome_in;
 use mdcc_base::{Key, Memory, TxId};
@@ -100,7 +101,7 @@ impl OutcomeIndex {
     // Enters a fact that says how a transaction ended.
     fn enter(&mut self, fact: &Fact, number: u32)
         requires { length self.old.txs.keys < self.old.txs.room }
-        ensures txs { self.new.txs.keys ≡ heard_by fact.now ++ self.old.txs.keys }
+        ensures txs { self.new.txs.keys ≡ heard_in fact.now ++ self.old.txs.keys }
         ensures room { self.new.txs.room ≡ self.old.txs.room }
         ensures numbers { self.new.numbers ≡ self.old.numbers ++ numbers_by fact.now number }
     {

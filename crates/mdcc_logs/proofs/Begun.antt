@@ -17,8 +17,9 @@ use Rattle.mdcc_logs.specs.Starting.{AreBegun, first_facts}
 use Rattle.mdcc_logs.specs.declared.logs.Logs.{Logs}
 use Rattle.mdcc_option.specs.declared.cluster.Cluster.{Cluster}
 use Rattle.mdcc_messages.specs.declared.facts.Fact.{Fact}
-use Rattle.mdcc_restart.specs.Logged.{AreLogged, logged}
+use Rattle.mdcc_restart.specs.Logged.{AreLogged}
 use Rattle.mdcc_restart.specs.Restarting.{HasRoom, IsLogOf as IsReadAs}
+use Rattle.mdcc_messages.specs.Spelling.{encodings_of}
 
 -- ---- empty disks
 

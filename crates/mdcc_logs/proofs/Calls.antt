@@ -23,14 +23,13 @@ use Rattle.mdcc_logs.proofs.Standing.{AreSame, IsDurableAt, IsKept, IsSame, both
 use Rattle.mdcc_logs.specs.Represents.{IsLogOf, IsOpenAt, LogsRepresent, MayHave, checkpoint_every, log_at, with_fact_at, with_up}
 use Rattle.mdcc_logs.specs.declared.logs.Logs.{Logs}
 use Rattle.mdcc_messages.specs.Lengths.{fact_length, log_length}
-use Rattle.mdcc_messages.specs.Spelling.{fact_bytes}
+use Rattle.mdcc_messages.specs.Spelling.{fact_bytes, encodings_of}
 use Rattle.mdcc_messages.specs.declared.facts.Fact.{Fact}
 use Rattle.mdcc_restart.proofs.Logged.{logged-length}
 use Rattle.mdcc_restart.proofs.Others.{but_areas}
 use Rattle.mdcc_restart.proofs.Places.{at_both, from_places}
 use Rattle.mdcc_restart.proofs.Roomy.{roomy_more, same_log}
 use Rattle.mdcc_restart.proofs.Struck.{rest_areas}
-use Rattle.mdcc_restart.specs.Logged.{logged}
 
 -- ---- a crash
 
@@ -102,7 +101,7 @@ pub settled-there : (logs : Logs) (d : AllMemory) (a : ℕ) (log : OpenAreas) �
 settled-there logs d a log are some few is same =
     let stand = are.3 in
     let its = (stand.each a some (omega (few, stand.as_many, arith))).open are.4 in
-    let rest = rests logs.disks d a (log_at logs a) (logged (are.2 a)) its.centre (same-areas logs.disks d same a) its.at_rest in
+    let rest = rests logs.disks d a (log_at logs a) (encodings_of (are.2 a)) its.centre (same-areas logs.disks d same a) its.at_rest in
     subst (λ (l : OpenAreas). IsSettled l (disk_of d (place_of l.centre l.area)).bytes (may_leave_of d (place_of l.centre l.area))
     × IsSpare l (disk_of d (place_of l.centre (other_of l.area))).bytes (may_leave_of d (place_of l.centre (other_of l.area)))) (sym is)
     ((rest.log, rest.in_use), rest.spare)
@@ -115,10 +114,10 @@ module _ (old new : Logs) (a centres : ℕ) (up : ℕ → Bool) (facts : ℕ →
   pub centre-is : log.centre ≡ a
   centre-is = ap (λ (l : OpenAreas). l.centre) is ∙ (its.open running).centre
 
-  pub rest-there : IsAtRest disk_of may_leave_of d log (logged (facts a))
+  pub rest-there : IsAtRest disk_of may_leave_of d log (encodings_of (facts a))
   rest-there =
-      subst (λ (l : OpenAreas). IsAtRest disk_of may_leave_of d l (logged (facts a))) (sym is)
-      (rests old.disks d a (log_at old a) (logged (facts a)) (its.open running).centre (same-areas old.disks d same a) (its.open running).at_rest)
+      subst (λ (l : OpenAreas). IsAtRest disk_of may_leave_of d l (encodings_of (facts a))) (sym is)
+      (rests old.disks d a (log_at old a) (encodings_of (facts a)) (its.open running).centre (same-areas old.disks d same a) (its.open running).at_rest)
 
   pub told-there : IsTrue (disk_of d (place_of log.centre log.area)).told × IsTrue (disk_of d (place_of log.centre (other_of log.area))).told
   told-there = at_both (λ p. IsTrue (disk_of d p).told) a log.centre log.area centre-is ((same a).there ∙ its.there) ((same (a + 16)).there ∙ its.there_other) rest-there.range
@@ -126,7 +125,7 @@ module _ (old new : Logs) (a centres : ℕ) (up : ℕ → Bool) (facts : ℕ →
   -- its log is the one that is read
   pub roomy-there : IsRoomyLog rest-there.log
   roomy-there =
-      let read = (rest_areas disk_of may_leave_of d log a (logged (facts a)) centre-is rest-there).log_is in
+      let read = (rest_areas disk_of may_leave_of d log a (encodings_of (facts a)) centre-is rest-there).log_is in
       let was = ap (λ (bytes : List ℕ). read_areas bytes (disk_of d (a + 16)).bytes) (same a).bytes ∙ ap (λ (bytes : List ℕ). read_areas (disk_of old.disks a).bytes bytes) (same (a + 16)).bytes ∙ its.read in
       subst IsRoomyLog (same_log its.log rest-there.log (sym was ∙ read)) its.roomy
 
@@ -141,7 +140,7 @@ module _ (old new : Logs) (a centres : ℕ) (up : ℕ → Bool) (facts : ℕ →
     beside p first second = both-same old.disks d new.disks p (same p) (elsewhere d new.disks a (a + 16) p keeps-areas first second)
 
     pub appended : more.centre ≡ log.centre → more.every ≡ log.every → more.tail < more.every → HasGrown log more
-        → IsAtRest disk_of may_leave_of new.disks more (logged (facts a) ++ fact_bytes fact ∷ []) → LogsRepresent new centres up (with_fact_at facts a fact)
+        → IsAtRest disk_of may_leave_of new.disks more (encodings_of (facts a) ++ fact_bytes fact ∷ []) → LogsRepresent new centres up (with_fact_at facts a fact)
     appended centre every tail grown rest =
         let every_is : more.every ≡ checkpoint_every = every ∙ ap (λ (l : OpenAreas). l.every) is ∙ (its.open running).every in
         put old new a more fact centres up up facts stand some few items (others-same old.disks new.disks a its.range beside) (λ b other. refl)
@@ -156,16 +155,16 @@ module _ (old new : Logs) (a centres : ℕ) (up : ℕ → Bool) (facts : ℕ →
 
     -- or what a crash leaves of it
     pub may-have : ((current other : List ℕ) → left_since_of new.disks (place_of log.centre log.area) (moment_of d) current → left_since_of new.disks (place_of log.centre (other_of log.area)) (moment_of d) other
-        → ReadsAsEither (logged (facts a)) (fact_bytes fact) (payloads_by log.area current other)) → MayHave new centres up a facts fact
+        → ReadsAsEither (encodings_of (facts a)) (fact_bytes fact) (payloads_by log.area current other)) → MayHave new centres up a facts fact
     may-have reads =
         leaves-here old new a centres up facts stand some few fact (keeps-areas.told_one ∙ (same a).there) (keeps-areas.told_two ∙ (same (a + 16)).there) beside (log-there old new a more some items)
-        (from_places (λ n p q. (current other : List ℕ) → left_since_of new.disks p (moment_of d) current → left_since_of new.disks q (moment_of d) other → ReadsAsEither (logged (facts a)) (fact_bytes fact) (payloads_by n current other))
-        ((first second : List ℕ) → may_leave_of new.disks a first → may_leave_of new.disks (a + 16) second → ReadsAsEither (logged (facts a)) (fact_bytes fact) (payloads first second)) a
+        (from_places (λ n p q. (current other : List ℕ) → left_since_of new.disks p (moment_of d) current → left_since_of new.disks q (moment_of d) other → ReadsAsEither (encodings_of (facts a)) (fact_bytes fact) (payloads_by n current other))
+        ((first second : List ℕ) → may_leave_of new.disks a first → may_leave_of new.disks (a + 16) second → ReadsAsEither (encodings_of (facts a)) (fact_bytes fact) (payloads first second)) a
         (λ has first second now now_other. has first second (counts_now_of new.disks a (moment_of d) first keeps-areas.later now) (counts_now_of new.disks (a + 16) (moment_of d) second keeps-areas.later now_other))
         (λ has first second now now_other. has second first (counts_now_of new.disks (a + 16) (moment_of d) second keeps-areas.later now_other) (counts_now_of new.disks a (moment_of d) first keeps-areas.later now))
         log.area rest-there.range
         (subst (λ (n : ℕ). (current other : List ℕ) → left_since_of new.disks (place_of n log.area) (moment_of d) current → left_since_of new.disks (place_of n (other_of log.area)) (moment_of d) other
-        → ReadsAsEither (logged (facts a)) (fact_bytes fact) (payloads_by log.area current other)) centre-is reads))
+        → ReadsAsEither (encodings_of (facts a)) (fact_bytes fact) (payloads_by log.area current other)) centre-is reads))
 
   -- ---- a full log
 

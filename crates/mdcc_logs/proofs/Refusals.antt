@@ -6,9 +6,8 @@ use Rattle.mdcc_disks.specs.Memory.{AllMemory, disk_of, is_there, may_leave_of}
 use Rattle.mdcc_logs.proofs.Standing.{AreSame, IsSame, log-same, log-stays, others-same, same-areas}
 use Rattle.mdcc_logs.specs.Represents.{IsLogOf, LogsRepresent, MayHave, log_at}
 use Rattle.mdcc_logs.specs.declared.logs.Logs.{Logs}
-use Rattle.mdcc_messages.specs.Spelling.{fact_bytes}
+use Rattle.mdcc_messages.specs.Spelling.{fact_bytes, encodings_of}
 use Rattle.mdcc_messages.specs.declared.facts.Fact.{Fact}
-use Rattle.mdcc_restart.specs.Logged.{logged}
 
 pub on-err : {T E : Type 0} {P : Type 0} (result : Result T E) → P → OnErr result P
 on-err (Ok x) p = tt
@@ -21,8 +20,8 @@ ok_of l = Ok l
 pub its-payloads : (first second : List ℕ) (log : AreaLog) (all : List (List ℕ)) → read_areas first second ≡ Ok log → payloads_of log ≡ all → payloads first second ≡ Ok all
 its-payloads first second log all read are = ap payloads_in read ∙ ap (λ (l : List (List ℕ)). Ok l) are
 
-pub log-payloads : (logs : Logs) (a : ℕ) (is_up : Bool) (facts : List Fact) → IsLogOf logs a is_up facts → payloads (disk_of logs.disks a).bytes (disk_of logs.disks (a + 16)).bytes ≡ Ok (logged facts)
-log-payloads logs a is_up facts its = its-payloads (disk_of logs.disks a).bytes (disk_of logs.disks (a + 16)).bytes its.log (logged facts) its.read its.payloads_are
+pub log-payloads : (logs : Logs) (a : ℕ) (is_up : Bool) (facts : List Fact) → IsLogOf logs a is_up facts → payloads (disk_of logs.disks a).bytes (disk_of logs.disks (a + 16)).bytes ≡ Ok (encodings_of facts)
+log-payloads logs a is_up facts its = its-payloads (disk_of logs.disks a).bytes (disk_of logs.disks (a + 16)).bytes its.log (encodings_of facts) its.read its.payloads_are
 
 module _ (old new : Logs) (a centres : ℕ) (up : ℕ → Bool) (facts : ℕ → List Fact) (stand : LogsRepresent old centres up facts) (some : 1 ≤ a) (few : a ≤ length old.open.items) where
   pub one : IsLogOf old a (up a) (facts a)
@@ -32,7 +31,7 @@ module _ (old new : Logs) (a centres : ℕ) (up : ℕ → Bool) (facts : ℕ →
   pub leaves-here : (fact : Fact) → is_there new.disks a ≡ is_there old.disks a → is_there new.disks (a + 16) ≡ is_there old.disks (a + 16)
       → ((p : ℕ) → p ≢ a → p ≢ a + 16 → IsSame old.disks new.disks p)
       → ((b : ℕ) → 1 ≤ b → b ≢ a → log_at new b ≡ log_at old b)
-      → ((first second : List ℕ) → may_leave_of new.disks a first → may_leave_of new.disks (a + 16) second → ReadsAsEither (logged (facts a)) (fact_bytes fact) (payloads first second))
+      → ((first second : List ℕ) → may_leave_of new.disks a first → may_leave_of new.disks (a + 16) second → ReadsAsEither (encodings_of (facts a)) (fact_bytes fact) (payloads first second))
       → MayHave new centres up a facts fact
   leaves-here fact there there_other same logs left = record {
     there = there ∙ one.there;

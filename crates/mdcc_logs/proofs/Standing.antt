@@ -14,10 +14,10 @@ use Rattle.mdcc_disks.specs.Memory.{AllMemory, KeepsPlaces, at_place, disk_of, i
 use Rattle.mdcc_restart.proofs.Places.{at_both, from_both}
 use Rattle.mdcc_restart.proofs.Roomy.{roomy_read}
 use Rattle.mdcc_restart.proofs.Struck.{rest_areas}
-use Rattle.mdcc_restart.specs.Logged.{logged}
 use Rattle.mdcc_logs.specs.Represents.{HoldSame, IsLogOf, LogsRepresent, checkpoint_every, log_at, no_log, with_fact_at}
 use Rattle.mdcc_logs.specs.declared.logs.Logs.{Logs}
 use Rattle.mdcc_messages.specs.declared.facts.Fact.{Fact}
+use Rattle.mdcc_messages.specs.Spelling.{encodings_of}
 
 -- ---- a disk that gives the same
 
@@ -126,7 +126,7 @@ log-stays old new a is_up facts log same stands = record {
   «open» = λ yes. let was = stands.open yes in record {
     centre = ap (λ (l : OpenAreas). l.centre) log ∙ was.centre;
     every = ap (λ (l : OpenAreas). l.every) log ∙ was.every;
-    at_rest = subst (λ (l : OpenAreas). IsAtRest disk_of may_leave_of new.disks l (logged facts)) (sym log) (rests old.disks new.disks a (log_at old a) (logged facts) was.centre same was.at_rest);
+    at_rest = subst (λ (l : OpenAreas). IsAtRest disk_of may_leave_of new.disks l (encodings_of facts)) (sym log) (rests old.disks new.disks a (log_at old a) (encodings_of facts) was.centre same was.at_rest);
   };
 }
 
@@ -137,7 +137,7 @@ IsDurableAt disks p = Only (disk_of disks p).bytes (may_leave_of disks p)
 -- an open log whose bytes are all durable
 pub log-at-rest : (logs : Logs) (a : ℕ) (frames : OpenAreas) (is_up : Bool) (facts : List Fact) → a ≤ 9 → is_there logs.disks a ≡ true → is_there logs.disks (a + 16) ≡ true
     → log_at logs a ≡ frames → frames.centre ≡ a → frames.every ≡ checkpoint_every → frames.tail < checkpoint_every → IsRoomy frames.generation frames.tail frames.count
-    → IsAtRest disk_of may_leave_of logs.disks frames (logged facts) → IsLogOf logs a is_up facts
+    → IsAtRest disk_of may_leave_of logs.disks frames (encodings_of facts) → IsLogOf logs a is_up facts
 log-at-rest logs a frames is_up facts range there there_other is centre every few roomy rest =
     let durable = from_both (IsDurableAt logs.disks) a frames.centre frames.area centre rest.range rest.in_use.durable rest.spare.durable in
     record {
@@ -145,7 +145,7 @@ log-at-rest logs a frames is_up facts range there there_other is centre every fe
       there = there;
       there_other = there_other;
       log = rest.log;
-      read = (rest_areas disk_of may_leave_of logs.disks frames a (logged facts) centre rest).log_is;
+      read = (rest_areas disk_of may_leave_of logs.disks frames a (encodings_of facts) centre rest).log_is;
       payloads_are = sym rest.payloads_are;
       roomy = roomy_read frames rest.log (disk_of logs.disks (place_of frames.centre frames.area)).bytes (may_leave_of logs.disks (place_of frames.centre frames.area)) rest.in_use roomy;
       durable = durable.0;
@@ -154,7 +154,7 @@ log-at-rest logs a frames is_up facts range there there_other is centre every fe
       «open» = λ yes. record {
         centre = ap (λ (l : OpenAreas). l.centre) is ∙ centre;
         every = ap (λ (l : OpenAreas). l.every) is ∙ every;
-        at_rest = subst (λ (l : OpenAreas). IsAtRest disk_of may_leave_of logs.disks l (logged facts)) (sym is) rest;
+        at_rest = subst (λ (l : OpenAreas). IsAtRest disk_of may_leave_of logs.disks l (encodings_of facts)) (sym is) rest;
       };
     }
 
@@ -216,7 +216,7 @@ pub record IsKept (disks : AllMemory) (a : ℕ) (frames : OpenAreas) (facts : Li
   pub every : frames.every ≡ checkpoint_every
   pub few : frames.tail < checkpoint_every
   pub roomy : IsRoomy frames.generation frames.tail frames.count
-  pub at_rest : IsAtRest disk_of may_leave_of disks frames (logged facts)
+  pub at_rest : IsAtRest disk_of may_leave_of disks frames (encodings_of facts)
 
 -- the log of a centre is another one, with one fact more
 pub put : (old new : Logs) (a : ℕ) (log : OpenAreas) (fact : Fact) (centres : ℕ) (up now : ℕ → Bool) (facts : ℕ → List Fact) → LogsRepresent old centres up facts

@@ -29,9 +29,9 @@ use Rattle.mdcc_option.specs.declared.cluster.Cluster.{Cluster}
 use Rattle.mdcc_messages.specs.Lengths.{cells_needed, cells_used, log_length}
 use Rattle.mdcc_protocol.specs.Facts.{epoch_of}
 use Rattle.mdcc_protocol.specs.Volatile.{initial_volatile}
-use Rattle.mdcc_messages.specs.Spelling.{fact_bytes}
+use Rattle.mdcc_messages.specs.Spelling.{fact_bytes, encodings_of}
 use Rattle.mdcc_messages.specs.declared.facts.Fact.{Fact}
-use Rattle.mdcc_restart.specs.Logged.{AreLogged, logged}
+use Rattle.mdcc_restart.specs.Logged.{AreLogged}
 use Rattle.mdcc_restart.specs.Restarting.{HasRoom, IsAsBefore, IsLogOf as IsReadAs, IsRefused, KeepsLog, Runs, booted_over, size_with_boot}
 use Rattle.mdcc_restart.specs.declared.fault.RestartFault.{RestartFault}
 use Rattle.mdcc_restart.specs.declared.restarting.Restarted.{Restarted}
@@ -132,7 +132,7 @@ module _ (logs : Logs) (d : AllMemory) (a : ℕ) (is_up : Bool) (facts : List Fa
   reads = record {
     told_first = (same a).there ∙ its.there;
     told_second = (same (a + 16)).there ∙ its.there_other;
-    read = its-payloads (disk_of d a).bytes (disk_of d (a + 16)).bytes its.log (logged facts) read-same its.payloads_are;
+    read = its-payloads (disk_of d a).bytes (disk_of d (a + 16)).bytes its.log (encodings_of facts) read-same its.payloads_are;
   }
 
   pub room : HasRoom checkpoint_every (disk_of d a) (disk_of d (a + 16))
@@ -178,7 +178,7 @@ module _ (old new : Logs) (a centres : ℕ) (up : ℕ → Bool) (facts : ℕ →
               every = runs.every_is;
               few = runs.few;
               roomy = runs.roomy roomy;
-              at_rest = subst (λ (fact : Fact). IsAtRest disk_of may_leave_of new.disks centre.log (logged (fact ∷ facts a))) next runs.at_rest;
+              at_rest = subst (λ (fact : Fact). IsAtRest disk_of may_leave_of new.disks centre.log (encodings_of (fact ∷ facts a))) next runs.at_rest;
             });
         room = subst (λ (fact : Fact). nat_lt log_limit (log_length (fact ∷ facts a)) ≡ false) next (roomy-log (facts a) runs.within);
       }
@@ -186,12 +186,12 @@ module _ (old new : Logs) (a centres : ℕ) (up : ℕ → Bool) (facts : ℕ →
   -- ---- a start for which the log or the node has no room
 
   pub none-stays-as : (now : ℕ → Bool) → now a ≡ false → ((b : ℕ) → b ≢ a → now b ≡ up b) → new.open.items ≡ old.open.items
-      → IsAsBefore (logged (facts a)) a checkpoint_every disk_of may_leave_of d new.disks → LogsRepresent new centres now facts
+      → IsAsBefore (encodings_of (facts a)) a checkpoint_every disk_of may_leave_of d new.disks → LogsRepresent new centres now facts
   none-stays-as now down others items was =
       let rest = was.at_rest in
       let durable = from_both (λ p. Only (disk_of new.disks p).bytes (may_leave_of new.disks p)) a was.frames.centre was.frames.area was.place rest.range rest.in_use.durable rest.spare.durable in
       let roomy = was.room (room old d a (up a) (facts a) its same) in
-      let read = (rest_areas disk_of may_leave_of new.disks was.frames a (logged (facts a)) was.place rest).log_is in
+      let read = (rest_areas disk_of may_leave_of new.disks was.frames a (encodings_of (facts a)) was.place rest).log_is in
       logs-with old new a centres up now facts facts stand (ap length items) (λ b first other. log-same old new items b)
       (others-same old.disks new.disks a its.range beside) others (λ b other. refl)
       (record {
@@ -208,16 +208,16 @@ module _ (old new : Logs) (a centres : ℕ) (up : ℕ → Bool) (facts : ℕ →
         «open» = λ yes. absurd (false≢true (sym down ∙ yes));
       })
 
-  pub none-stays : up a ≡ false → new.open.items ≡ old.open.items → IsAsBefore (logged (facts a)) a checkpoint_every disk_of may_leave_of d new.disks → LogsRepresent new centres up facts
+  pub none-stays : up a ≡ false → new.open.items ≡ old.open.items → IsAsBefore (encodings_of (facts a)) a checkpoint_every disk_of may_leave_of d new.disks → LogsRepresent new centres up facts
   none-stays down items was = none-stays-as up down (λ b other. refl) items was
 
-  pub none-stays-down : new.open.items ≡ old.open.items → IsAsBefore (logged (facts a)) a checkpoint_every disk_of may_leave_of d new.disks → LogsRepresent new centres (with_up up a false) facts
+  pub none-stays-down : new.open.items ≡ old.open.items → IsAsBefore (encodings_of (facts a)) a checkpoint_every disk_of may_leave_of d new.disks → LogsRepresent new centres (with_up up a false) facts
   none-stays-down items was = none-stays-as (with_up up a false) (cond-here a false (up a)) (λ b other. cond-there a b false (up b) other) items was
 
   -- ---- a start that found no memory
 
   pub start-may-have : ((first second : List ℕ) → left_since_of new.disks a (moment_of d) first → left_since_of new.disks (a + 16) (moment_of d) second
-      → ReadsAsEither (logged (facts a)) (fact_bytes (next_boot (facts a))) (payloads first second)) → ((b : ℕ) → 1 ≤ b → b ≢ a → log_at new b ≡ log_at old b)
+      → ReadsAsEither (encodings_of (facts a)) (fact_bytes (next_boot (facts a))) (payloads first second)) → ((b : ℕ) → 1 ≤ b → b ≢ a → log_at new b ≡ log_at old b)
       → MayHave new centres up a facts (next_boot (facts a))
   start-may-have reads logs =
       leaves-here old new a centres up facts stand some few (next_boot (facts a)) (keeps.told_one ∙ (same a).there) (keeps.told_two ∙ (same (a + 16)).there) beside logs

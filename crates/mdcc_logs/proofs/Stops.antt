@@ -23,11 +23,10 @@ use Rattle.mdcc_logs.proofs.Standing.{IsDurableAt, IsSame, both-same, cond-here,
 use Rattle.mdcc_logs.specs.Represents.{IsLogOf, LogsRepresent, MayHave, log_at, with_fact_at, with_up}
 use Rattle.mdcc_logs.specs.Stopping.{HoldBut, IsStruck, stopped_at, stopped_facts}
 use Rattle.mdcc_logs.specs.declared.logs.Logs.{Logs}
-use Rattle.mdcc_messages.specs.Spelling.{fact_bytes}
+use Rattle.mdcc_messages.specs.Spelling.{fact_bytes, encodings_of}
 use Rattle.mdcc_messages.specs.declared.facts.Fact.{Fact}
 use Rattle.mdcc_restart.proofs.Places.{at_both, by_places, from_both, from_places}
 use Rattle.mdcc_restart.proofs.Struck.{IsRead, idle_loses, seen_first, seen_second}
-use Rattle.mdcc_restart.specs.Logged.{logged}
 use Rattle.mdcc_simulation.specs.AppliedSteps.{is_frame_kept}
 
 -- all is durable
@@ -43,8 +42,8 @@ other-area (suc (suc n)) range = absurd (omega (range, arith))
 -- ---- the facts after it
 
 stopped-logged : (facts : ℕ → List Fact) (a : ℕ) (fact : Fact) (kept : Bool)
-    → logged (cond kept (with_fact_at facts a fact) facts a) ≡ cond kept (logged (facts a) ++ fact_bytes fact ∷ []) (logged (facts a))
-stopped-logged facts a fact true = ap logged (cond-here a (fact ∷ facts a) (facts a))
+    → encodings_of (cond kept (with_fact_at facts a fact) facts a) ≡ cond kept (encodings_of (facts a) ++ fact_bytes fact ∷ []) (encodings_of (facts a))
+stopped-logged facts a fact true = ap encodings_of (cond-here a (fact ∷ facts a) (facts a))
 stopped-logged facts a fact false = refl
 
 stopped-others : (facts : ℕ → List Fact) (a : ℕ) (fact : Fact) (kept : Bool) (b : ℕ) → b ≢ a → cond kept (with_fact_at facts a fact) facts b ≡ facts b
@@ -86,7 +85,7 @@ module _ (old : Logs) (a centres : ℕ) (up : ℕ → Bool) (facts : ℕ → Lis
   its : IsLogOf old a (up a) (facts a)
   its = stand.each a some (omega (few, stand.as_many, arith))
 
-  abbrev pub rest : IsAtRest disk_of may_leave_of d log (logged (facts a))
+  abbrev pub rest : IsAtRest disk_of may_leave_of d log (encodings_of (facts a))
   rest = rest-there old old a centres up facts stand running some few d log is same
 
   abbrev place : ℕ
@@ -142,17 +141,17 @@ module _ (old : Logs) (a centres : ℕ) (up : ℕ → Bool) (facts : ℕ → Lis
           subst (IsIdle rest.log) (sym stands)
           (⊎_elim (λ (dead : IsDead (disk_of d other).bytes). inl dead) (λ (older : IsOlder log.generation (disk_of d other).bytes). inr (inl (subst (λ (n : ℕ). IsOlder n (disk_of d other).bytes) used.generation older))) spare.idle)
 
-      reads-either : (current spared : List ℕ) → may_leave_of new.disks place current → may_leave_of new.disks other spared → ReadsAsEither (logged (facts a)) (fact_bytes fact) (payloads_by log.area current spared)
+      reads-either : (current spared : List ℕ) → may_leave_of new.disks place current → may_leave_of new.disks other spared → ReadsAsEither (encodings_of (facts a)) (fact_bytes fact) (payloads_by log.area current spared)
       reads-either current spared now now_other =
-          subst (λ (p : List ℕ). ReadsAsEither (logged (facts a)) p (payloads_by log.area current spared)) bytes
+          subst (λ (p : List ℕ). ReadsAsEither (encodings_of (facts a)) p (payloads_by log.area current spared)) bytes
           (subst (λ (ps : List (List ℕ)). ReadsAsEither ps payload (payloads_by log.area current spared)) (sym rest.payloads_are)
           (between_is_read log.area rest.log payload current spared (between current now) (idle spared now_other)))
 
       pub unwritten : MayHave new centres up a facts fact
       unwritten =
           leaves-here old new a centres up facts stand some few fact (counted a) (counted (a + 16)) elsewhere-same (λ b first apart. log-same old new items b)
-          (from_places (λ n p q. (current spared : List ℕ) → may_leave_of new.disks p current → may_leave_of new.disks q spared → ReadsAsEither (logged (facts a)) (fact_bytes fact) (payloads_by n current spared))
-          ((first second : List ℕ) → may_leave_of new.disks a first → may_leave_of new.disks (a + 16) second → ReadsAsEither (logged (facts a)) (fact_bytes fact) (payloads first second)) a
+          (from_places (λ n p q. (current spared : List ℕ) → may_leave_of new.disks p current → may_leave_of new.disks q spared → ReadsAsEither (encodings_of (facts a)) (fact_bytes fact) (payloads_by n current spared))
+          ((first second : List ℕ) → may_leave_of new.disks a first → may_leave_of new.disks (a + 16) second → ReadsAsEither (encodings_of (facts a)) (fact_bytes fact) (payloads first second)) a
           (λ has. has) (λ has first second now now_other. has second first now_other now) log.area rest.range reads-either)
 
     -- the calls were made up to the one that stopped, and both areas crashed
@@ -211,11 +210,11 @@ module _ (old : Logs) (a centres : ℕ) (up : ℕ → Bool) (facts : ℕ → Lis
           log.area rest.range seen loses
           (front_is_read log.area after ends.gate ends.rest (disk_of new.disks place).bytes valid ends.shut ends.file)
 
-      payloads-are : payloads_of after ≡ logged (stopped_facts facts a fact call image a)
+      payloads-are : payloads_of after ≡ encodings_of (stopped_facts facts a fact call image a)
       payloads-are =
           stopped-payloads kept rest.log payload
           ∙ ap (λ (ps : List (List ℕ)). cond kept (ps ++ payload ∷ []) ps) (sym rest.payloads_are)
-          ∙ ap (λ (p : List ℕ). cond kept (logged (facts a) ++ p ∷ []) (logged (facts a))) bytes
+          ∙ ap (λ (p : List ℕ). cond kept (encodings_of (facts a) ++ p ∷ []) (encodings_of (facts a))) bytes
           ∙ sym (stopped-logged facts a fact kept)
 
       durables : IsDurableAt new.disks a × IsDurableAt new.disks (a + 16)

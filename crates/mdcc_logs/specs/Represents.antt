@@ -8,8 +8,7 @@ use Rattle.mdcc_areas.specs.Room.{IsRoomyLog}
 use Rattle.mdcc_areas.specs.declared.area.Spare.TheVariants as spares
 use Rattle.mdcc_disks.specs.Disks.{Only}
 use Rattle.mdcc_disks.specs.Memory.{AllMemory, at_place, disk_of, is_there, may_leave_of, standing}
-use Rattle.mdcc_messages.specs.Spelling.{fact_bytes}
-use Rattle.mdcc_restart.specs.Logged.{logged}
+use Rattle.mdcc_messages.specs.Spelling.{fact_bytes, encodings_of}
 use Rattle.mdcc_logs.specs.declared.logs.Logs.{Logs}
 use Rattle.mdcc_messages.specs.declared.facts.Fact.{Fact}
 
@@ -29,7 +28,7 @@ log_at logs a = get_or logs.open.items (a - 1) no_log
 pub record IsOpenLogOf (logs : Logs) (a : ℕ) (facts : List Fact) : Type 0 where
   pub centre : (log_at logs a).centre ≡ a
   pub every : (log_at logs a).every ≡ checkpoint_every
-  pub at_rest : IsAtRest disk_of may_leave_of logs.disks (log_at logs a) (logged facts)
+  pub at_rest : IsAtRest disk_of may_leave_of logs.disks (log_at logs a) (encodings_of facts)
 
 -- Of the areas of a centre these facts are read, and a crash leaves them as they are. Their log takes no more bytes than one of version
 -- 1 would, with generations left. Where the centre is up, its log is open, and no checkpoint is due.
@@ -39,7 +38,7 @@ pub record IsLogOf (logs : Logs) (a : ℕ) (is_up : Bool) (facts : List Fact) : 
   pub there_other : is_there logs.disks (a + 16) ≡ true
   pub log : AreaLog
   pub read : read_areas (disk_of logs.disks a).bytes (disk_of logs.disks (a + 16)).bytes ≡ Ok log
-  pub payloads_are : payloads_of log ≡ logged facts
+  pub payloads_are : payloads_of log ≡ encodings_of facts
   pub roomy : IsRoomyLog log
   pub durable : Only (disk_of logs.disks a).bytes (may_leave_of logs.disks a)
   pub durable_other : Only (disk_of logs.disks (a + 16)).bytes (may_leave_of logs.disks (a + 16))
@@ -69,7 +68,7 @@ pub record MayHave (logs : Logs) (centres : ℕ) (up : ℕ → Bool) (a : ℕ) (
   pub there : is_there logs.disks a ≡ true
   pub there_other : is_there logs.disks (a + 16) ≡ true
   pub left : (first second : List ℕ) → may_leave_of logs.disks a first → may_leave_of logs.disks (a + 16) second
-      → ReadsAsEither (logged (facts a)) (fact_bytes fact) (payloads first second)
+      → ReadsAsEither (encodings_of (facts a)) (fact_bytes fact) (payloads first second)
   pub others : (b : ℕ) → 1 ≤ b → b ≤ centres → b ≢ a → IsLogOf logs b (up b) (facts b)
 
 -- the disks hold what they held

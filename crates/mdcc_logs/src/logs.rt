@@ -16,7 +16,7 @@ ghost use Rattle.mdcc_messages.specs.Lengths.{cells_used, fact_length, log_lengt
 ghost use Rattle.mdcc_messages.specs.Spelling.{fact_bytes};
 ghost use Rattle.mdcc_messages.specs.WellFormed.{IsWellFormedFact};
 ghost use Rattle.mdcc_messages.specs.declared.facts.Fact.{Fact as AFact};
-ghost use Rattle.mdcc_restart.specs.Logged.{AreLogged, logged};
+ghost use Rattle.mdcc_restart.specs.Logged.{AreLogged};
 ghost use Rattle.mdcc_rules.specs.Boot.{next_boot};
 
 use crate::rooms::{reserve_append, reserve_start};

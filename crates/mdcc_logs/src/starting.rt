@@ -10,9 +10,9 @@ ghost use Rattle.mdcc_logs.specs.Starting.{OnNone, StartsOver, lacking};
 ghost use Rattle.mdcc_protocol.specs.Belongs.{is_centre};
 ghost use Rattle.mdcc_protocol.specs.Facts.{epoch_of};
 ghost use Rattle.mdcc_messages.specs.Lengths.{cells_used};
-ghost use Rattle.mdcc_messages.specs.Spelling.{fact_bytes};
+ghost use Rattle.mdcc_messages.specs.Spelling.{fact_bytes, encodings_of};
 ghost use Rattle.mdcc_messages.specs.declared.facts.Fact.{Fact as AFact};
-ghost use Rattle.mdcc_restart.specs.Logged.{AreLogged, logged};
+ghost use Rattle.mdcc_restart.specs.Logged.{AreLogged};
 ghost use Rattle.mdcc_restart.specs.Restarting.{HasRoom, IsLogOf};
 ghost use Rattle.mdcc_rules.specs.Boot.{next_boot};
 
@@ -83,7 +83,7 @@ pub(crate) fn start(
         → Only (disk_of disks.old centre).bytes (may_leave_of disks.old centre)
         → Only (disk_of disks.old (centre + 16)).bytes (may_leave_of disks.old (centre + 16))
         → left_since_of disks.new centre (moment_of disks.old) first → left_since_of disks.new (centre + 16) (moment_of disks.old) second
-        → ReadsAsEither (logged facts) (fact_bytes (next_boot facts)) (payloads first second) }
+        → ReadsAsEither (encodings_of facts) (fact_bytes (next_boot facts)) (payloads first second) }
     ensures others { KeepsBut disk_of may_leave_of moment_of left_since_of disks.old disks.new centre (centre + 16) }
 {
     let store = CentreFacts::new(alloc, cluster.cells)?;

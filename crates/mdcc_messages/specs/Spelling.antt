@@ -1,5 +1,5 @@
 -- The bytes of messages and of facts.
-use Rattle.std.specs.Prelude.{ℕ, List, ◌++◌, Option, Some, None}
+use Rattle.std.specs.Prelude.{ℕ, List, ◌++◌, ◌∷◌, [], Option, Some, None}
 use Rattle.mdcc_option.specs.declared.choices.Choice.{Choice}
 use Rattle.mdcc_messages.specs.declared.messages.Envelope.{Envelope}
 use Rattle.mdcc_messages.specs.declared.messages.Message.{Message}
@@ -76,3 +76,8 @@ fact_bytes (facts.Voted key version ballot options offered) =
     ++ options_bytes options ++ offered_bytes offered
 fact_bytes (facts.Heard tx outcome) = u8_bytes 4 ++ heard_bytes tx outcome
 fact_bytes (facts.Adopted key version item adds) = u8_bytes 5 ++ given_bytes key version item adds
+
+-- the encodings of facts, the oldest first
+abbrev pub encodings_of : List Fact → List (List ℕ)
+encodings_of [] = []
+encodings_of (fact ∷ older) = encodings_of older ++ fact_bytes fact ∷ []

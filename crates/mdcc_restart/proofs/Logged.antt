@@ -8,20 +8,19 @@ use Rattle.mdcc_base.specs.Counts.{sum_over}
 use Rattle.mdcc_log.specs.Log.{frame_bytes, log_bytes, log_mark}
 use Rattle.mdcc_spelling.proofs.Lengths.{length-fact}
 use Rattle.mdcc_messages.specs.Lengths.{frame_length, log_length}
-use Rattle.mdcc_messages.specs.Spelling.{fact_bytes}
+use Rattle.mdcc_messages.specs.Spelling.{fact_bytes, encodings_of}
 use Rattle.mdcc_messages.specs.WellFormed.{IsWellFormedFact}
 use Rattle.mdcc_messages.specs.declared.facts.Fact.{Fact}
-use Rattle.mdcc_restart.specs.Logged.{logged}
 use Rattle.mdcc_spelling.proofs.Whole.{fact_again}
 use Rattle.mdcc_steps.specs.NodeInvariant.{payloads_of}
 
 -- ---- what is read of them
 
 -- of the payloads of well-formed facts these facts are read
-pub payloads-read : (facts : List Fact) → AllByRecursion IsWellFormedFact facts → map fact_read (logged facts) ≡ payloads_of facts
+pub payloads-read : (facts : List Fact) → AllByRecursion IsWellFormedFact facts → map fact_read (encodings_of facts) ≡ payloads_of facts
 payloads-read [] w = refl
 payloads-read (fact ∷ facts) w =
-    map-append fact_read (logged facts) (fact_bytes fact ∷ [])
+    map-append fact_read (encodings_of facts) (fact_bytes fact ∷ [])
     ∙ ap (λ front. front ++ fact_read (fact_bytes fact) ∷ []) (payloads-read facts w.1)
     ∙ ap (λ read. payloads_of facts ++ fact_in read ∷ []) (fact_again fact w.0)
 
@@ -37,17 +36,17 @@ length-more payloads payload =
     ap (λ bytes. length bytes) (flat_map-append frame_bytes payloads (payload ∷ []))
     ∙ omega (arith, length-append (flat_map frame_bytes payloads) (flat_map frame_bytes (payload ∷ [])), length-single payload)
 
-length-frames : (facts : List Fact) → length (flat_map frame_bytes (logged facts)) ≡ sum_over frame_length facts
+length-frames : (facts : List Fact) → length (flat_map frame_bytes (encodings_of facts)) ≡ sum_over frame_length facts
 length-frames [] = refl
-length-frames (fact ∷ facts) = omega (arith, length-more (logged facts) (fact_bytes fact), length-fact fact, length-frames facts)
+length-frames (fact ∷ facts) = omega (arith, length-more (encodings_of facts) (fact_bytes fact), length-fact fact, length-frames facts)
 
 length-log_bytes : (payloads : List (List ℕ)) → length (log_bytes payloads) ≡ 9 + length (flat_map frame_bytes payloads)
 length-log_bytes payloads =
     omega (arith, length-append (log_mark ++ flat_map frame_bytes payloads) (0 ∷ []), length-append log_mark (flat_map frame_bytes payloads))
 
 -- the log of facts has the bytes that their lengths tell
-pub logged-length : (facts : List Fact) → length (log_bytes (logged facts)) ≡ log_length facts
-logged-length facts = omega (arith, length-log_bytes (logged facts), length-frames facts)
+pub logged-length : (facts : List Fact) → length (log_bytes (encodings_of facts)) ≡ log_length facts
+logged-length facts = omega (arith, length-log_bytes (encodings_of facts), length-frames facts)
 
 -- one payload more takes its own bytes and five
 pub log-grows : (payloads : List (List ℕ)) (payload : List ℕ) → length (log_bytes (payloads ++ payload ∷ [])) ≡ length (log_bytes payloads) + (length payload + 5)

@@ -8,8 +8,8 @@ use Rattle.mdcc_areas.specs.Room.{HasGrown, IsFull, IsRoomy, IsRoomyLog}
 use Rattle.mdcc_log.specs.Log.{log_bytes, log_limit}
 use Rattle.mdcc_messages.specs.declared.facts.Fact.{Fact}
 use Rattle.mdcc_restart.proofs.Starts.{lies-past, lies-within}
-use Rattle.mdcc_restart.specs.Logged.{logged}
 use Rattle.mdcc_restart.specs.Restarting.{HasRoom, size_with_boot}
+use Rattle.mdcc_messages.specs.Spelling.{encodings_of}
 
 pub same_log : (one two : AreaLog) → (let ok : Result AreaLog ℕ = Ok one in ok) ≡ Ok two → one ≡ two
 same_log one two e = cc
@@ -34,7 +34,7 @@ module _ (frames : OpenAreas) (log : AreaLog) (bytes : List ℕ) (may_leave : Li
   pub roomy_more : (new : OpenAreas) → IsRoomyLog log → 17 ≤ frames.every → HasGrown frames new → IsRoomy new.generation new.tail new.count
   roomy_more new roomy often grown = roomy_grows frames new (roomy_frames roomy) often grown
 
-  module _ (facts : List Fact) (all : List (List ℕ)) (five : ℕ) (are : all ≡ payloads_of log) (is : all ≡ logged facts) (five_is : five ≡ 5) where
+  module _ (facts : List Fact) (all : List (List ℕ)) (five : ℕ) (are : all ≡ payloads_of log) (is : all ≡ encodings_of facts) (five_is : five ≡ 5) where
     pub past_limit : IsRoomyLog log → 17 ≤ frames.every → IsFull frames five → log_limit < size_with_boot facts
     past_limit roomy often full =
         lies-past facts all five is five_is

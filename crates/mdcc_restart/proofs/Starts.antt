@@ -14,14 +14,14 @@ use Rattle.mdcc_node.specs.declared.node.Node.{Node}
 use Rattle.mdcc_option.specs.declared.cluster.Cluster.{Cluster}
 use Rattle.mdcc_ledger.specs.BootTest.{are_allowed_facts, is_allowed_fact}
 use Rattle.mdcc_protocol.specs.Facts.{epoch_of}
-use Rattle.mdcc_messages.specs.Spelling.{fact_bytes}
+use Rattle.mdcc_messages.specs.Spelling.{fact_bytes, encodings_of}
 use Rattle.mdcc_protocol.specs.Volatile.{initial_volatile}
 use Rattle.mdcc_messages.specs.declared.facts.Fact.{Fact}
 use Rattle.mdcc_rules.specs.declared.node.BootFault.{BootFault}
 use Rattle.mdcc_restart.proofs.Loaded.{own-boots}
 use Rattle.mdcc_restart.proofs.Logged.{log-grows, payloads-read}
 use Rattle.mdcc_restart.specs.Faults.{of_boot, of_log}
-use Rattle.mdcc_restart.specs.Logged.{AreLogged, logged}
+use Rattle.mdcc_restart.specs.Logged.{AreLogged}
 use Rattle.mdcc_restart.specs.declared.fault.RestartFault.{RestartFault}
 use Rattle.mdcc_restart.specs.Restarting.{BootsNode, IsLogOf, IsRefused, booted_over, size_with_boot}
 use Rattle.mdcc_rules.specs.Boot.{next_boot}
@@ -29,7 +29,7 @@ use Rattle.mdcc_rules.specs.Boot.{next_boot}
 -- ---- the boot
 
 module _ {S : Type 0} (stands : S → List Fact → Type 0) (room : S → ℕ) (cells_for : S → Fact → ℕ) (cells : Cells) (cluster : Cluster) (me : ℕ) (facts : List Fact) (payloads : List (List ℕ))
-    (is : payloads ≡ logged facts) (are : AreLogged cluster facts) where
+    (is : payloads ≡ encodings_of facts) (are : AreLogged cluster facts) where
   -- the payloads are read as the facts
   read-over : boot_by cells cluster (map fact_read payloads) ≡ booted_over cells cluster facts
   read-over = ap (λ read. boot_by cells cluster (map fact_read read)) is ∙ ap (boot_by cells cluster) (payloads-read facts are.well_formed)
@@ -117,11 +117,11 @@ boot-length (Fact.Heard tx outcome) payload boot e = absurd boot
 boot-length (Fact.Adopted key version item adds) payload boot e = absurd boot
 
 -- the boot takes ten bytes
-boot-size : (facts : List Fact) → size_with_boot facts ≡ length (log_bytes (logged facts)) + 10
-boot-size facts = log-grows (logged facts) (fact_bytes (next_boot facts))
+boot-size : (facts : List Fact) → size_with_boot facts ≡ length (log_bytes (encodings_of facts)) + 10
+boot-size facts = log-grows (encodings_of facts) (fact_bytes (next_boot facts))
 
 -- why the log was not opened
-pub open-refuses : {T : Type 0} (cells : Cells) (cluster : Cluster) (facts : List Fact) (roomy : Type 0) (fault : LogFault) (first second : List ℕ) → payloads first second ≡ Ok (logged facts)
+pub open-refuses : {T : Type 0} (cells : Cells) (cluster : Cluster) (facts : List Fact) (roomy : Type 0) (fault : LogFault) (first second : List ℕ) → payloads first second ≡ Ok (encodings_of facts)
     → ((n : ℕ) → IsErrOf {T = T} (Err fault) (LogFault.NotALog n) → payloads first second ≡ Err n)
     → (IsErrOf {T = T} (Err fault) LogFault.LogFull → ⊥)
     → IsRefused cells cluster facts roomy (of_log fault)
@@ -141,12 +141,12 @@ refuses cells cluster facts roomy LogFault.LogFull boots full not_a_log = (boots
 refuses cells cluster facts roomy LogFault.Memory boots full not_a_log = tt
 
 -- the new boot would not lie within the limit
-pub lies-past : (facts : List Fact) (all : List (List ℕ)) (five : ℕ) → all ≡ logged facts → five ≡ 5 → log_limit < length (log_bytes all) + (five + 5) → log_limit < size_with_boot facts
+pub lies-past : (facts : List Fact) (all : List (List ℕ)) (five : ℕ) → all ≡ encodings_of facts → five ≡ 5 → log_limit < length (log_bytes all) + (five + 5) → log_limit < size_with_boot facts
 lies-past facts all five is five_is past =
     omega (arith, boot-size facts, five_is, past, ap (λ (ps : List (List ℕ)). length (log_bytes ps)) is)
 
 -- it lies within the limit
-pub lies-within : (facts : List Fact) (all : List (List ℕ)) (five : ℕ) → all ≡ logged facts → five ≡ 5 → (log_limit < length (log_bytes all) + (five + 5) → ⊥) → size_with_boot facts ≤ log_limit
+pub lies-within : (facts : List Fact) (all : List (List ℕ)) (five : ℕ) → all ≡ encodings_of facts → five ≡ 5 → (log_limit < length (log_bytes all) + (five + 5) → ⊥) → size_with_boot facts ≤ log_limit
 lies-within facts all five is five_is full =
     least (size_with_boot facts) log_limit (λ more. full (omega (arith, boot-size facts, five_is, more, ap (λ (ps : List (List ℕ)). length (log_bytes ps)) is)))
   where
@@ -162,7 +162,7 @@ older cluster facts fact are = record { allowed = (and_parts (are_allowed_facts 
 -- what is read after a crash of an append is the facts with the new one or without
 pub after-crash : (Q : List Fact → Type 0) (cluster : Cluster) (facts : List Fact) (fact : Fact) (first second : Disk)
     → ((fs : List Fact) → AreLogged cluster fs → IsLogOf fs first second → Q fs)
-    → AreLogged cluster (fact ∷ facts) → IsTrue first.told → IsTrue second.told → ReadsAsEither (logged facts) (fact_bytes fact) (payloads first.bytes second.bytes)
+    → AreLogged cluster (fact ∷ facts) → IsTrue first.told → IsTrue second.told → ReadsAsEither (encodings_of facts) (fact_bytes fact) (payloads first.bytes second.bytes)
     → Q facts ⊎ Q (fact ∷ facts)
 after-crash Q cluster facts fact first second each are told_first told_second either =
     elim either [

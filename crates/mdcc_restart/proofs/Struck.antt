@@ -11,10 +11,9 @@ use Rattle.mdcc_areas.specs.AtRest.{IsAtRest, MayBeDue}
 use Rattle.mdcc_areas.specs.Crash.{IsCurrent, IsDead, IsIdle, IsLog, IsOlder, ReadsAsEither, payloads_by}
 use Rattle.mdcc_areas.specs.Frames.{OpenAreas, appended, other_of, place_of}
 use Rattle.mdcc_areas.specs.Opening.{MayOpenAs}
-use Rattle.mdcc_messages.specs.Spelling.{fact_bytes}
+use Rattle.mdcc_messages.specs.Spelling.{fact_bytes, encodings_of}
 use Rattle.mdcc_messages.specs.declared.facts.Fact.{Fact}
 use Rattle.mdcc_restart.proofs.Places.{by_places, from_places, of_both}
-use Rattle.mdcc_restart.specs.Logged.{logged}
 use Rattle.mdcc_restart.specs.Struck.{IsLeft, IsStruck, LeavesBoot, LeavesStruck}
 use Rattle.mdcc_rules.specs.Boot.{next_boot}
 
@@ -75,8 +74,8 @@ module _ {D : Type 0} (disk : D → ℕ → Disk) (may_leave : D → ℕ → Lis
 
   -- or of what a crash of an append left
   pub struck_read : (as_read : (disks : D) (p : ℕ) → IsTrue (disk disks p).told → may_leave disks p (disk disks p).bytes) (old : D) (centre area : ℕ) (log : AreaLog) (facts : List Fact) (payload : List ℕ)
-      → IsTrue (disk old centre).told → IsTrue (disk old (centre + 16)).told → IsStruck (may_leave old) centre area log payload → payloads_of log ≡ logged facts
-      → ReadsAsEither (logged facts) payload (payloads (disk old centre).bytes (disk old (centre + 16)).bytes)
+      → IsTrue (disk old centre).told → IsTrue (disk old (centre + 16)).told → IsStruck (may_leave old) centre area log payload → payloads_of log ≡ encodings_of facts
+      → ReadsAsEither (encodings_of facts) payload (payloads (disk old centre).bytes (disk old (centre + 16)).bytes)
   struck_read as_read old centre area log facts payload told told_other struck is =
       let here = of_both (λ p q. IsTrue (disk old p).told) centre told told_other area struck.range in
       let there = of_both (λ p q. IsTrue (disk old q).told) centre told_other told area struck.range in
@@ -118,7 +117,7 @@ module _ {D : Type 0} (moment : D → ℕ) (left_since : D → ℕ → ℕ → L
   struck_joined old mid new centre area log payload first second = record { current = both first.current second.current; other = both first.other second.other }
 
   -- while the next boot is appended
-  pub boot_leaves : (mid new : D) (centre centre' area : ℕ) (log : AreaLog) (facts : List Fact) (payload : List ℕ) → centre' ≡ centre → area ≤ 1 → payloads_of log ≡ logged facts → payload ≡ fact_bytes (next_boot facts)
+  pub boot_leaves : (mid new : D) (centre centre' area : ℕ) (log : AreaLog) (facts : List Fact) (payload : List ℕ) → centre' ≡ centre → area ≤ 1 → payloads_of log ≡ encodings_of facts → payload ≡ fact_bytes (next_boot facts)
       → LeavesOnly moment left_since mid new (place_of centre' area) (MayBeDue area log payload)
       → LeavesOnly moment left_since mid new (place_of centre' (other_of area)) (IsIdle (appended log payload))
       → LeavesBoot moment left_since mid new centre facts

@@ -17,10 +17,10 @@ use Rattle.mdcc_protocol.specs.Volatile.{initial_volatile}
 use Rattle.mdcc_messages.specs.declared.facts.Fact.{Fact}
 use Rattle.mdcc_rules.specs.declared.node.BootFault.{BootFault}
 use Rattle.mdcc_steps.specs.NodeInvariant.{payloads_of}
-use Rattle.mdcc_restart.specs.Logged.{logged}
 use Rattle.mdcc_restart.specs.declared.fault.RestartFault.{RestartFault}
 use Rattle.mdcc_restart.specs.declared.restarting.Restarted.{Restarted}
 use Rattle.mdcc_rules.specs.Boot.{next_boot}
+use Rattle.mdcc_messages.specs.Spelling.{encodings_of}
 
 -- ---- what stands before it
 
@@ -28,7 +28,7 @@ use Rattle.mdcc_rules.specs.Boot.{next_boot}
 pub record IsLogOf (facts : List Fact) (first second : Disk) : Type 0 where
   pub told_first : IsTrue first.told
   pub told_second : IsTrue second.told
-  pub read : payloads first.bytes second.bytes ≡ Ok (logged facts)
+  pub read : payloads first.bytes second.bytes ≡ Ok (encodings_of facts)
 
 -- The log in its two areas takes no more bytes than one of version 1 would, with generations left, and a checkpoint is due after 17
 -- frames or more.
@@ -42,7 +42,7 @@ pub record HasRoom (every : ℕ) (first second : Disk) : Type 0 where
 
 -- how many bytes the log has with it
 abbrev pub size_with_boot : List Fact → ℕ
-size_with_boot facts = length (log_bytes (logged (next_boot facts ∷ facts)))
+size_with_boot facts = length (log_bytes (encodings_of (next_boot facts ∷ facts)))
 
 -- what a boot makes of these facts over an empty store with these cells: they and the new boot, or why there is no node
 abbrev pub booted_over : Cells → Cluster → List Fact → Result (List Fact) BootFault
@@ -58,7 +58,7 @@ pub record Runs {S D : Type 0} (stands : S → List Fact → Type 0) (room : S �
   pub place : centre.log.centre ≡ me
   pub every_is : centre.log.every ≡ every
   pub few : centre.log.tail < every
-  pub at_rest : IsAtRest disk may_leave new centre.log (logged (next_boot facts ∷ facts))
+  pub at_rest : IsAtRest disk may_leave new centre.log (encodings_of (next_boot facts ∷ facts))
   pub within : size_with_boot facts ≤ log_limit
   pub roomy : HasRoom every (disk old me) (disk old (me + 16)) → IsRoomy centre.log.generation centre.log.tail centre.log.count
 

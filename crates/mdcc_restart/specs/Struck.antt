@@ -5,9 +5,8 @@ use Rattle.mdcc_areas.specs.AtRest.{MayBeDue}
 use Rattle.mdcc_areas.specs.Crash.{IsCurrent, IsDead, IsIdle, IsOlder}
 use Rattle.mdcc_areas.specs.Frames.{appended, other_of, place_of}
 use Rattle.mdcc_disks.specs.Disks.{LeavesOnly, Within}
-use Rattle.mdcc_messages.specs.Spelling.{fact_bytes}
+use Rattle.mdcc_messages.specs.Spelling.{fact_bytes, encodings_of}
 use Rattle.mdcc_messages.specs.declared.facts.Fact.{Fact}
-use Rattle.mdcc_restart.specs.Logged.{logged}
 use Rattle.mdcc_rules.specs.Boot.{next_boot}
 
 -- ---- a crash now
@@ -37,7 +36,7 @@ module _ {D : Type 0} (moment : D → ℕ) (left_since : D → ℕ → ℕ → L
     pub area : ℕ
     pub log : AreaLog
     pub range : area ≤ 1
-    pub payloads_are : payloads_of log ≡ logged facts
+    pub payloads_are : payloads_of log ≡ encodings_of facts
     pub struck : LeavesStruck old new centre area log (fact_bytes (next_boot facts))
 
   -- The disks were so in between: up to then the log was opened, and from then on the next boot was appended to it, with this fact

@@ -8,9 +8,9 @@ ghost use Rattle.mdcc_areas.specs.Crash.{ReadsAsEither};
 ghost use Rattle.mdcc_disks.specs.Disks.{Only};
 ghost use Rattle.mdcc_node.specs.BootEffects.{IsBoot};
 ghost use Rattle.mdcc_protocol.specs.Belongs.{is_centre};
-ghost use Rattle.mdcc_messages.specs.Spelling.{fact_bytes};
+ghost use Rattle.mdcc_messages.specs.Spelling.{fact_bytes, encodings_of};
 ghost use Rattle.mdcc_messages.specs.declared.facts.Fact.{Fact as AFact};
-ghost use Rattle.mdcc_restart.specs.Logged.{AreLogged, logged};
+ghost use Rattle.mdcc_restart.specs.Logged.{AreLogged};
 ghost use Rattle.mdcc_restart.specs.Restarting.{BootsNode, IsLogOf, IsUnread, KeepsLog, Restarts};
 ghost use Rattle.mdcc_restart.specs.Struck.{IsLeft, IsStruck, LeavesFactAndBoot, LeavesStruck};
 ghost use Rattle.mdcc_rules.specs.Boot.{next_boot};
@@ -46,7 +46,7 @@ fn boot_node<S: FactStore + Drop>(
     requires empty { S.stands store [] }
     requires short { AreShort payloads.now }
     ensures node { (cells : Cells) (facts : List AFact) → Holds S.stands S.room S.cells_for cells store [] → AreLogged cluster facts
-        → payloads.now ≡ logged facts → BootsNode S.stands S.room cells result cluster centre facts }
+        → payloads.now ≡ encodings_of facts → BootsNode S.stands S.room cells result cluster centre facts }
     ensures fact { IfOk result (λ r. IsBoot r.1) }
     ensures short { IfOk result (λ r. length (fact_bytes r.1) ≡ 5) }
     ensures no_log { (fault : LogFault) → IsErrOf result (RestartFault.Log fault) → ⊥ }
@@ -83,7 +83,7 @@ pub fn restart<D: Disks, S: FactStore + Drop>(
     // without it.
     ensures after_crash { (cells : Cells) (facts : List AFact) (fact : AFact) → Holds S.stands S.room S.cells_for cells store [] → AreLogged cluster (fact ∷ facts)
         → IsTrue (D.disk disks.old centre).told → IsTrue (D.disk disks.old (centre + 16)).told
-        → ReadsAsEither (logged facts) (fact_bytes fact) (payloads (D.disk disks.old centre).bytes (D.disk disks.old (centre + 16)).bytes)
+        → ReadsAsEither (encodings_of facts) (fact_bytes fact) (payloads (D.disk disks.old centre).bytes (D.disk disks.old (centre + 16)).bytes)
         → Restarts S.stands S.room cells result cluster centre every facts D.disk D.may_leave disks.old disks.new
         ⊎ Restarts S.stands S.room cells result cluster centre every (fact ∷ facts) D.disk D.may_leave disks.old disks.new }
 
@@ -110,21 +110,21 @@ pub fn restart<D: Disks, S: FactStore + Drop>(
     // byte is torn to 1.
     ensures any_moment { (cells : Cells) (facts : List AFact) (area : ℕ) (log : AreaLog) → Holds S.stands S.room S.cells_for cells store [] → AreLogged cluster facts
         → IsTrue (D.disk disks.old centre).told → IsTrue (D.disk disks.old (centre + 16)).told
-        → IsLeft (D.may_leave disks.old) centre area log → payloads_of log ≡ logged facts
+        → IsLeft (D.may_leave disks.old) centre area log → payloads_of log ≡ encodings_of facts
         → LeavesStruck D.moment D.left_since disks.old disks.new centre area log (fact_bytes (next_boot facts)) }
     ensures any_moment_same { (cells : Cells) (facts : List AFact) (current other : List ℕ) → Holds S.stands S.room S.cells_for cells store [] → AreLogged cluster facts
         → IsLogOf facts (D.disk disks.old centre) (D.disk disks.old (centre + 16)) → (D.tears 1 → ⊥)
         → Only (D.disk disks.old centre).bytes (D.may_leave disks.old centre)
         → Only (D.disk disks.old (centre + 16)).bytes (D.may_leave disks.old (centre + 16))
         → D.left_since disks.new centre (D.moment disks.old) current → D.left_since disks.new (centre + 16) (D.moment disks.old) other
-        → ReadsAsEither (logged facts) (fact_bytes (next_boot facts)) (payloads current other) }
+        → ReadsAsEither (encodings_of facts) (fact_bytes (next_boot facts)) (payloads current other) }
 
     // So it is after a crash at any moment of an append and of the checkpoint behind it, with both areas struck at one moment: it
     // leaves what that crash did, or from some moment on a log of the facts, with the fact that was being added or without, and then the
     // new boot or not.
     ensures any_moment_between { (cells : Cells) (facts : List AFact) (fact : AFact) (area : ℕ) (log : AreaLog) → Holds S.stands S.room S.cells_for cells store [] → AreLogged cluster (fact ∷ facts)
         → IsTrue (D.disk disks.old centre).told → IsTrue (D.disk disks.old (centre + 16)).told
-        → IsStruck (D.may_leave disks.old) centre area log (fact_bytes fact) → payloads_of log ≡ logged facts
+        → IsStruck (D.may_leave disks.old) centre area log (fact_bytes fact) → payloads_of log ≡ encodings_of facts
         → LeavesFactAndBoot D.moment D.left_since disks.old disks.new centre area log facts fact }
     ensures others { KeepsBut D.disk D.may_leave D.moment D.left_since disks.old disks.new centre (centre + 16) }
     ensures disk_fault { IsErrOf result (RestartFault.Log LogFault.DiskFault)

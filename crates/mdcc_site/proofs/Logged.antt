@@ -9,9 +9,8 @@ use Rattle.mdcc_areas.specs.Crash.{CurrentIsRead, IsCurrent, IsDead, IsIdle, IsO
 use Rattle.mdcc_areas.specs.Frames.{IsSettled, IsSpare, OpenAreas, other_of, place_of}
 use Rattle.mdcc_areas.specs.declared.fault.LogFault.{LogFault}
 use Rattle.mdcc_disks.specs.Disks.{Disk}
-use Rattle.mdcc_messages.specs.Spelling.{fact_bytes}
+use Rattle.mdcc_messages.specs.Spelling.{fact_bytes, encodings_of}
 use Rattle.mdcc_messages.specs.declared.facts.Fact.{Fact}
-use Rattle.mdcc_restart.specs.Logged.{logged}
 use Rattle.mdcc_site.specs.LogEffects.{FailsToLog, HasLogged, log_fault_of}
 use Rattle.mdcc_site.specs.Logs.{MayHaveFacts}
 use Rattle.mdcc_site.specs.Moments.{DiskPasses, KeepsOthers}
@@ -201,13 +200,13 @@ module _ {D : Type 0} (disk : D → ℕ → Disk) (may_leave : D → ℕ → Lis
               at_rest = λ told.
                   let before = subst IsTrue (told_at _ _ keeps centre) told in
                   let both = told_both old log centre facts stands range before in
-                  subst (λ (bytes : List ℕ). IsAtRest disk may_leave new more (logged facts ++ bytes ∷ [])) spells (acknowledged (logged facts) both.0 both.1 (stands.at_rest before));
+                  subst (λ (bytes : List ℕ). IsAtRest disk may_leave new more (encodings_of facts ++ bytes ∷ [])) spells (acknowledged (encodings_of facts) both.0 both.1 (stands.at_rest before));
               left = λ told first second here there.
                   let before = subst IsTrue (told_at _ _ keeps centre) told in
                   let both = told_both old log centre facts stands range before in
-                  let rest = acknowledged (logged facts) both.0 both.1 (stands.at_rest before) in
-                  inl (rested new more centre (logged facts ++ payload ∷ []) rest.range (same.0 ∙ of) rest first second here there
-                  ∙ ap (λ (bytes : List ℕ). let ok : Result (List (List ℕ)) ℕ = Ok (logged facts ++ bytes ∷ []) in ok) spells);
+                  let rest = acknowledged (encodings_of facts) both.0 both.1 (stands.at_rest before) in
+                  inl (rested new more centre (encodings_of facts ++ payload ∷ []) rest.range (same.0 ∙ of) rest first second here there
+                  ∙ ap (λ (bytes : List ℕ). let ok : Result (List (List ℕ)) ℕ = Ok (encodings_of facts ++ bytes ∷ []) in ok) spells);
             };
             few = (let every = same.1 ∙ stands.every in subst (λ (n : ℕ). more.tail < n) every few);
           };
@@ -227,17 +226,17 @@ module _ {D : Type 0} (disk : D → ℕ → Disk) (may_leave : D → ℕ → Lis
             let both = told_both old log centre facts stands range told in
             let since : (p : ℕ) (c : List ℕ) → may_leave new p c → left_since new p (moment old) c = λ p c has. counts_now new p (moment old) c keeps.later has in
             elim (at_places log centre range of) [
-              | inl lies ↦ either first second (subst (λ (n : ℕ). ReadsAsEither (logged facts) payload (payloads_by n first second)) lies.area_is
-                  (reads (logged facts) first second both.0 both.1 (stands.at_rest told)
+              | inl lies ↦ either first second (subst (λ (n : ℕ). ReadsAsEither (encodings_of facts) payload (payloads_by n first second)) lies.area_is
+                  (reads (encodings_of facts) first second both.0 both.1 (stands.at_rest told)
                   (since _ first (subst (λ (p : ℕ). may_leave new p first) (sym lies.here_is) left)) (since _ second (subst (λ (p : ℕ). may_leave new p second) (sym lies.there_is) left_second))))
-              | inr lies ↦ either first second (subst (λ (n : ℕ). ReadsAsEither (logged facts) payload (payloads_by n second first)) lies.area_is
-                  (reads (logged facts) second first both.0 both.1 (stands.at_rest told)
+              | inr lies ↦ either first second (subst (λ (n : ℕ). ReadsAsEither (encodings_of facts) payload (payloads_by n second first)) lies.area_is
+                  (reads (encodings_of facts) second first both.0 both.1 (stands.at_rest told)
                   (since _ second (subst (λ (p : ℕ). may_leave new p second) (sym lies.here_is) left_second)) (since _ first (subst (λ (p : ℕ). may_leave new p first) (sym lies.there_is) left))))
             ]
           where
-            either : (one two : List ℕ) → ReadsAsEither (logged facts) payload (payloads one two) → (payloads one two ≡ Ok (logged facts)) ⊎ (payloads one two ≡ Ok (logged (fact ∷ facts)))
+            either : (one two : List ℕ) → ReadsAsEither (encodings_of facts) payload (payloads one two) → (payloads one two ≡ Ok (encodings_of facts)) ⊎ (payloads one two ≡ Ok (encodings_of (fact ∷ facts)))
             either one two (inl read) = inl read
-            either one two (inr read) = inr (read ∙ ap (λ (bytes : List ℕ). let ok : Result (List (List ℕ)) ℕ = Ok (logged facts ++ bytes ∷ []) in ok) spells)
+            either one two (inr read) = inr (read ∙ ap (λ (bytes : List ℕ). let ok : Result (List (List ℕ)) ℕ = Ok (encodings_of facts ++ bytes ∷ []) in ok) spells)
 
         pub append_fails : (fault : LogFault) (facts : List Fact) (fact : Fact) (payload : List ℕ) → payload ≡ fact_bytes fact → OpenLog disk may_leave old log centre facts
             → ((disks : D) (p t : ℕ) (c : List ℕ) → t ≤ moment disks → may_leave disks p c → left_since disks p t c)

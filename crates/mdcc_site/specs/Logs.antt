@@ -3,8 +3,8 @@ use Rattle.std.specs.Prelude.{IsSomeAnd, List, Ok, Option, fold, length, ℕ, �
 use Rattle.mdcc_areas.specs.Area.{AreaLog, payloads, payloads_of, read_areas}
 use Rattle.mdcc_disks.specs.Disks.{Disk, Only}
 use Rattle.mdcc_messages.specs.declared.facts.Fact.{Fact}
-use Rattle.mdcc_restart.specs.Logged.{logged}
 use Rattle.mdcc_runs.specs.Acts.{Act, appended}
+use Rattle.mdcc_messages.specs.Spelling.{encodings_of}
 
 -- the facts with these after them
 abbrev pub with_facts : List Fact → List Fact → List Fact
@@ -16,7 +16,7 @@ facts_after centre facts acts = with_facts facts (appended centre acts)
 
 -- the log of a centre has these facts
 abbrev pub HasFacts : {D : Type 0} → (D → ℕ → Disk) → D → ℕ → List Fact → Type 0
-HasFacts disk disks centre facts = payloads (disk disks centre).bytes (disk disks (centre + 16)).bytes ≡ Ok (logged facts)
+HasFacts disk disks centre facts = payloads (disk disks centre).bytes (disk disks (centre + 16)).bytes ≡ Ok (encodings_of facts)
 
 -- after so many frames a checkpoint is due
 abbrev pub checkpoint_every : ℕ
@@ -27,7 +27,7 @@ module _ {D : Type 0} (disk : D → ℕ → Disk) (may_leave : D → ℕ → Lis
   pub record KeepsFacts (facts : List Fact) : Type 0 where
     pub log : AreaLog
     pub read : read_areas (disk disks centre).bytes (disk disks (centre + 16)).bytes ≡ Ok log
-    pub facts_themselves : payloads_of log ≡ logged facts
+    pub facts_themselves : payloads_of log ≡ encodings_of facts
     pub short : length log.tail < checkpoint_every
     pub durable : Only (disk disks centre).bytes (may_leave disks centre)
     pub durable_other : Only (disk disks (centre + 16)).bytes (may_leave disks (centre + 16))
@@ -36,4 +36,4 @@ module _ {D : Type 0} (disk : D → ℕ → Disk) (may_leave : D → ℕ → Lis
   abbrev pub MayHaveFacts : List Fact → Option Fact → Type 0
   MayHaveFacts facts next =
       (first second : List ℕ) → may_leave disks centre first → may_leave disks (centre + 16) second
-      → (payloads first second ≡ Ok (logged facts)) ⊎ IsSomeAnd next (λ fact. payloads first second ≡ Ok (logged (fact ∷ facts)))
+      → (payloads first second ≡ Ok (encodings_of facts)) ⊎ IsSomeAnd next (λ fact. payloads first second ≡ Ok (encodings_of (fact ∷ facts)))

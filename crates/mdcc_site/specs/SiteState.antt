@@ -21,7 +21,6 @@ use Rattle.mdcc_outbox.specs.Sends.{IsSenderOf, IsSending, Sends}
 use Rattle.mdcc_outbox.specs.Shows.{counted}
 use Rattle.mdcc_outbox.specs.declared.sending.Sender.{Sender}
 use Rattle.mdcc_protocol.specs.Facts.{epoch_of}
-use Rattle.mdcc_restart.specs.Logged.{logged}
 use Rattle.mdcc_rules.specs.Steps.{NodeStep, step_given, with_new}
 use Rattle.mdcc_rules.specs.declared.node.Answer.{Answer}
 use Rattle.mdcc_rules.specs.declared.node.Step.{Step}
@@ -36,6 +35,7 @@ use Rattle.mdcc_site.specs.declared.fault.ServeFault.{ServeFault}
 use Rattle.mdcc_site.specs.declared.site.Site.{Site as TheSite}
 use Rattle.mdcc_steps.specs.NodeInvariant.{IsNode}
 use Rattle.mdcc_wire.specs.Counts.{HasCounts}
+use Rattle.mdcc_messages.specs.Spelling.{encodings_of}
 
 -- ---- its log
 
@@ -45,7 +45,7 @@ module _ {D : Type 0} (disk : D → ℕ → Disk) (may_leave : D → ℕ → Lis
     pub of : log.centre ≡ centre
     pub every : log.every ≡ checkpoint_every
     pub alike : (disk disks (centre + 16)).told ≡ (disk disks centre).told
-    pub at_rest : IsTrue (disk disks centre).told → IsAtRest disk may_leave disks log (logged facts)
+    pub at_rest : IsTrue (disk disks centre).told → IsAtRest disk may_leave disks log (encodings_of facts)
     -- whatever a crash leaves of it
     pub left : IsTrue (disk disks centre).told → MayHaveFacts disk may_leave disks centre facts None
 

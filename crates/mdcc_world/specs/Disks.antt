@@ -5,7 +5,7 @@ use Rattle.mdcc_disks.specs.Memory.{AllMemory, disk_of}
 use Rattle.mdcc_protocol.specs.Belongs.{is_centre}
 use Rattle.mdcc_ledger.specs.Ledger.{facts_of}
 use Rattle.mdcc_simulation.specs.State.{World, is_up_at}
-use Rattle.mdcc_restart.specs.Logged.{logged}
+use Rattle.mdcc_messages.specs.Spelling.{encodings_of}
 
 -- the frames of the current area of a centre, those after its last checkpoint, are so few
 abbrev pub HasShortTail : List ℕ → List ℕ → Type 0
@@ -14,7 +14,7 @@ HasShortTail first second = (log : AreaLog) × ((read_areas first second ≡ Ok 
 -- For each centre the payloads of its two areas are the encodings of its facts in the ledger, in order; and where it is up, the tail of
 -- its current area has fewer than 1,024 frames.
 pub record ShowsLog (first second : List ℕ) (w : World) (a : ℕ) : Type 0 where
-  pub has : payloads first second ≡ Ok (logged (facts_of w.ledger a))
+  pub has : payloads first second ≡ Ok (encodings_of (facts_of w.ledger a))
   pub tail : is_up_at w a ≡ true → HasShortTail first second
 
 abbrev pub DisksShow : AllMemory → World → Type 0

@@ -6,7 +6,7 @@ use Rattle.mdcc_areas.specs.AtRest.{IsAtRest}
 use Rattle.mdcc_areas.specs.Crash.{ReadsAsEither}
 use Rattle.mdcc_areas.specs.Frames.{appended, place_of}
 use Rattle.mdcc_areas.specs.declared.fault.LogFault.{LogFault}
-use Rattle.mdcc_messages.specs.Spelling.{fact_bytes}
+use Rattle.mdcc_messages.specs.Spelling.{fact_bytes, encodings_of}
 use Rattle.mdcc_messages.specs.declared.facts.Fact.{Fact}
 use Rattle.mdcc_restart.proofs.Kept.{append-keeps, each-fault, open-keeps, opened-before, rest-keeps}
 use Rattle.mdcc_restart.proofs.Named.{no-boot-memory, no-log-memory, of-disk}
@@ -16,7 +16,7 @@ use Rattle.mdcc_restart.proofs.Roomy.{past_limit, roomy_log, roomy_more, same_lo
 use Rattle.mdcc_restart.proofs.Starts.{after-crash, boot-refuses, open-refuses, refuses, same-payloads}
 use Rattle.mdcc_restart.proofs.Struck.{boot_leaves, left_read, left_struck, same_area, same_read, struck_as, struck_joined, struck_read}
 use Rattle.mdcc_restart.proofs.Unread.{no-log, of-no-log, open-unread}
-use Rattle.mdcc_restart.specs.Logged.{AreLogged, logged}
+use Rattle.mdcc_restart.specs.Logged.{AreLogged}
 use Rattle.mdcc_restart.specs.Restarting.{HasRoom, IsLogOf, KeepsLog, Restarts}
 use Rattle.mdcc_restart.specs.Struck.{LeavesBoot, LeavesStruck}
 use Rattle.mdcc_restart.specs.declared.fault.RestartFault.{RestartFault}
@@ -41,7 +41,7 @@ returns-in_err-log-clause-after_crash g c cells facts fact holds are told told_o
 pub returns-in_err-node-clause-restarts : goal.returns-in_err-node-clause-restarts
 returns-in_err-node-clause-restarts g c cells facts holds are log =
     let p = err_from_is_err_and c.from_residual-in_err-node.result c.from_residual-in_err-node.ensures.1 in
-    let is = same-payloads (g.D.Disks.disk c.args.disks.now c.args.centre).bytes (g.D.Disks.disk c.args.disks.now (c.args.centre + 16)).bytes c.in_ok-log.payloads.items (logged facts) (c.in_ok-log.ensures.payloads log.told_first log.told_second) log.read in
+    let is = same-payloads (g.D.Disks.disk c.args.disks.now c.args.centre).bytes (g.D.Disks.disk c.args.disks.now (c.args.centre + 16)).bytes c.in_ok-log.payloads.items (encodings_of facts) (c.in_ok-log.ensures.payloads log.told_first log.told_second) log.read in
     let refused = c.in_err-node.ensures.node cells facts holds are (c.as_slice.ensures.value ∙ is) in
     rw (p.1, p.2) (boot-refuses g.S.FactStore.stands g.S.FactStore.room cells c.args.cluster c.args.centre facts c.in_err-node.field-0.0 (HasRoom c.args.every (g.D.Disks.disk c.args.disks.now c.args.centre) (g.D.Disks.disk c.args.disks.now (c.args.centre + 16))) refused)
 
@@ -53,7 +53,7 @@ returns-in_err-node-clause-after_crash g c cells facts fact holds are told told_
 pub returns-in_err-append_fact-clause-restarts : goal.returns-in_err-append_fact-clause-restarts
 returns-in_err-append_fact-clause-restarts g c cells facts holds are log =
     let p = err_from_is_err_and c.from_residual-in_err-append_fact.result c.from_residual-in_err-append_fact.ensures.1 in
-    let is = same-payloads (g.D.Disks.disk c.args.disks.now c.args.centre).bytes (g.D.Disks.disk c.args.disks.now (c.args.centre + 16)).bytes c.in_ok-log.payloads.items (logged facts) (c.in_ok-log.ensures.payloads log.told_first log.told_second) log.read in
+    let is = same-payloads (g.D.Disks.disk c.args.disks.now c.args.centre).bytes (g.D.Disks.disk c.args.disks.now (c.args.centre + 16)).bytes c.in_ok-log.payloads.items (encodings_of facts) (c.in_ok-log.ensures.payloads log.told_first log.told_second) log.read in
     let booted = c.in_ok-node.ensures.node cells facts holds are (c.as_slice.ensures.value ∙ is) in
     let rest = c.in_ok-log.ensures.at_rest log.told_first log.told_second in
     let opened = c.in_ok-log.ensures.opened log.told_first log.told_second in
@@ -71,13 +71,13 @@ returns-in_err-append_fact-clause-after_crash g c cells facts fact holds are tol
 
 pub returns-clause-restarts : goal.returns-clause-restarts
 returns-clause-restarts g c cells facts holds are log =
-    let is = same-payloads (g.D.Disks.disk c.args.disks.now c.args.centre).bytes (g.D.Disks.disk c.args.disks.now (c.args.centre + 16)).bytes c.in_ok-log.payloads.items (logged facts) (c.in_ok-log.ensures.payloads log.told_first log.told_second) log.read in
+    let is = same-payloads (g.D.Disks.disk c.args.disks.now c.args.centre).bytes (g.D.Disks.disk c.args.disks.now (c.args.centre + 16)).bytes c.in_ok-log.payloads.items (encodings_of facts) (c.in_ok-log.ensures.payloads log.told_first log.told_second) log.read in
     let booted = c.in_ok-node.ensures.node cells facts holds are (c.as_slice.ensures.value ∙ is) in
     let rest = c.in_ok-log.ensures.at_rest log.told_first log.told_second in
     let opened = c.in_ok-log.ensures.opened log.told_first log.told_second in
     let told = at_both (λ p. IsTrue (g.D.Disks.disk c.open.new.disks p).told) c.args.centre c.in_ok-log.log.centre c.in_ok-log.log.area c.in_ok-log.ensures.keeps.0 (c.open.ensures.others.told_one ∙ log.told_first) (c.open.ensures.others.told_two ∙ log.told_second) c.in_ok-log.ensures.range in
     let bytes = ap fact_bytes booted.2 in
-    let more = ap (λ (payloads : List (List ℕ)). payloads ++ fact_bytes c.in_ok-node.boot ∷ []) is ∙ ap (λ (payload : List ℕ). logged facts ++ payload ∷ []) bytes in
+    let more = ap (λ (payloads : List (List ℕ)). payloads ++ fact_bytes c.in_ok-node.boot ∷ []) is ∙ ap (λ (payload : List ℕ). encodings_of facts ++ payload ∷ []) bytes in
     let epoch = c.epoch-epoch.ensures c.args.cluster c.args.centre _ _ booted.1 in
     let every_is = c.append_fact.ensures.keeps.1 ∙ c.in_ok-log.ensures.keeps.1 in
     record {
@@ -188,7 +188,7 @@ returns-in_err-log-clause-any_moment_between g c cells facts fact area log holds
 
 pub returns-in_err-log-clause-any_moment_same : goal.returns-in_err-log-clause-any_moment_same
 returns-in_err-log-clause-any_moment_same g c cells facts current other holds are log never only only_other left left_other =
-    inl (c.open.ensures.any_moment_same (logged facts) current other never log.told_first log.told_second only only_other log.read left left_other)
+    inl (c.open.ensures.any_moment_same (encodings_of facts) current other never log.told_first log.told_second only only_other log.read left left_other)
 
 pub returns-in_err-node-clause-any_moment : goal.returns-in_err-node-clause-any_moment
 returns-in_err-node-clause-any_moment g c cells facts area log holds are told told_other left is =
@@ -208,7 +208,7 @@ returns-in_err-node-clause-any_moment_between g c cells facts fact area log hold
 
 pub returns-in_err-node-clause-any_moment_same : goal.returns-in_err-node-clause-any_moment_same
 returns-in_err-node-clause-any_moment_same g c cells facts current other holds are log never only only_other left left_other =
-    inl (c.open.ensures.any_moment_same (logged facts) current other never log.told_first log.told_second only only_other log.read left left_other)
+    inl (c.open.ensures.any_moment_same (encodings_of facts) current other never log.told_first log.told_second only only_other log.read left left_other)
 
 pub returns-in_err-append_fact-clause-any_moment : goal.returns-in_err-append_fact-clause-any_moment
 returns-in_err-append_fact-clause-any_moment g c cells facts area log holds are told told_other left is =
@@ -236,7 +236,7 @@ returns-in_err-append_fact-clause-any_moment_same g c cells facts current other 
     let opened = c.in_ok-log.ensures.opened told told_other in
     let due = c.append_fact.ensures.any_moment opened.log at.0 at.1 opened.in_use in
     let idle = c.append_fact.ensures.any_moment_other opened.log at.0 at.1 opened.in_use opened.spare in
-    let is = same-payloads (g.D.Disks.disk c.args.disks.now c.args.centre).bytes (g.D.Disks.disk c.args.disks.now (c.args.centre + 16)).bytes c.in_ok-log.payloads.items (logged facts) (c.in_ok-log.ensures.payloads log.told_first log.told_second) log.read in
+    let is = same-payloads (g.D.Disks.disk c.args.disks.now c.args.centre).bytes (g.D.Disks.disk c.args.disks.now (c.args.centre + 16)).bytes c.in_ok-log.payloads.items (encodings_of facts) (c.in_ok-log.ensures.payloads log.told_first log.told_second) log.read in
     let booted = c.in_ok-node.ensures.node cells facts holds are (c.as_slice.ensures.value ∙ is) in
     let boot = fact_bytes (next_boot facts) in
     let struck = struck_as g.D.Disks.moment g.D.Disks.left_since c.open.new.disks c.append_fact.new.disks c.args.centre c.in_ok-log.log.area c.in_ok-log.log.centre c.in_ok-log.log.area opened.log opened.log boot (fact_bytes c.in_ok-node.boot) c.in_ok-log.ensures.keeps.0 refl refl (ap fact_bytes booted.2) due idle in
@@ -259,7 +259,7 @@ returns-in_err-append_fact-clause-any_moment_between g c cells facts fact area l
       opening = opening;
       booting = after-crash (LeavesBoot g.D.Disks.moment g.D.Disks.left_since c.open.new.disks c.append_fact.new.disks c.args.centre) c.args.cluster facts fact (g.D.Disks.disk c.args.disks.now c.args.centre) (g.D.Disks.disk c.args.disks.now (c.args.centre + 16))
           (λ fs of_cluster found.
-          (let same = same-payloads (g.D.Disks.disk c.args.disks.now c.args.centre).bytes (g.D.Disks.disk c.args.disks.now (c.args.centre + 16)).bytes c.in_ok-log.payloads.items (logged fs) (c.in_ok-log.ensures.payloads told told_other) found.read in
+          (let same = same-payloads (g.D.Disks.disk c.args.disks.now c.args.centre).bytes (g.D.Disks.disk c.args.disks.now (c.args.centre + 16)).bytes c.in_ok-log.payloads.items (encodings_of fs) (c.in_ok-log.ensures.payloads told told_other) found.read in
           let booted = c.in_ok-node.ensures.node cells fs holds of_cluster (c.as_slice.ensures.value ∙ same) in
           boot_leaves g.D.Disks.moment g.D.Disks.left_since c.open.new.disks c.append_fact.new.disks c.args.centre c.in_ok-log.log.centre c.in_ok-log.log.area opened.log fs (fact_bytes c.in_ok-node.boot) c.in_ok-log.ensures.keeps.0 c.in_ok-log.ensures.range (sym opened.payloads_are ∙ same) (ap fact_bytes booted.2) due idle))
           are told told_other (struck_read g.D.Disks.disk g.D.Disks.may_leave g.met.D.Disks.as_read c.args.disks.now c.args.centre area log facts (fact_bytes fact) told told_other struck is);
@@ -291,7 +291,7 @@ returns-clause-any_moment_same g c cells facts current other holds are log never
     let opened = c.in_ok-log.ensures.opened told told_other in
     let due = c.append_fact.ensures.any_moment opened.log at.0 at.1 opened.in_use in
     let idle = c.append_fact.ensures.any_moment_other opened.log at.0 at.1 opened.in_use opened.spare in
-    let is = same-payloads (g.D.Disks.disk c.args.disks.now c.args.centre).bytes (g.D.Disks.disk c.args.disks.now (c.args.centre + 16)).bytes c.in_ok-log.payloads.items (logged facts) (c.in_ok-log.ensures.payloads log.told_first log.told_second) log.read in
+    let is = same-payloads (g.D.Disks.disk c.args.disks.now c.args.centre).bytes (g.D.Disks.disk c.args.disks.now (c.args.centre + 16)).bytes c.in_ok-log.payloads.items (encodings_of facts) (c.in_ok-log.ensures.payloads log.told_first log.told_second) log.read in
     let booted = c.in_ok-node.ensures.node cells facts holds are (c.as_slice.ensures.value ∙ is) in
     let boot = fact_bytes (next_boot facts) in
     let struck = struck_as g.D.Disks.moment g.D.Disks.left_since c.open.new.disks c.append_fact.new.disks c.args.centre c.in_ok-log.log.area c.in_ok-log.log.centre c.in_ok-log.log.area opened.log opened.log boot (fact_bytes c.in_ok-node.boot) c.in_ok-log.ensures.keeps.0 refl refl (ap fact_bytes booted.2) due idle in
@@ -314,7 +314,7 @@ returns-clause-any_moment_between g c cells facts fact area log holds are told t
       opening = opening;
       booting = after-crash (LeavesBoot g.D.Disks.moment g.D.Disks.left_since c.open.new.disks c.append_fact.new.disks c.args.centre) c.args.cluster facts fact (g.D.Disks.disk c.args.disks.now c.args.centre) (g.D.Disks.disk c.args.disks.now (c.args.centre + 16))
           (λ fs of_cluster found.
-          (let same = same-payloads (g.D.Disks.disk c.args.disks.now c.args.centre).bytes (g.D.Disks.disk c.args.disks.now (c.args.centre + 16)).bytes c.in_ok-log.payloads.items (logged fs) (c.in_ok-log.ensures.payloads told told_other) found.read in
+          (let same = same-payloads (g.D.Disks.disk c.args.disks.now c.args.centre).bytes (g.D.Disks.disk c.args.disks.now (c.args.centre + 16)).bytes c.in_ok-log.payloads.items (encodings_of fs) (c.in_ok-log.ensures.payloads told told_other) found.read in
           let booted = c.in_ok-node.ensures.node cells fs holds of_cluster (c.as_slice.ensures.value ∙ same) in
           boot_leaves g.D.Disks.moment g.D.Disks.left_since c.open.new.disks c.append_fact.new.disks c.args.centre c.in_ok-log.log.centre c.in_ok-log.log.area opened.log fs (fact_bytes c.in_ok-node.boot) c.in_ok-log.ensures.keeps.0 c.in_ok-log.ensures.range (sym opened.payloads_are ∙ same) (ap fact_bytes booted.2) due idle))
           are told told_other (struck_read g.D.Disks.disk g.D.Disks.may_leave g.met.D.Disks.as_read c.args.disks.now c.args.centre area log facts (fact_bytes fact) told told_other struck is);

@@ -1,7 +1,8 @@
 use Rattle.std.proofs.Common.{◌+◌, sym, ap, length, arith, length-append, subst}
-use Rattle.mdcc_fact_index.specs.Heard.{AreNumbersBelow, heard_by}
+use Rattle.mdcc_fact_index.specs.Heard.{AreNumbersBelow}
 use Rattle.mdcc_fact_index.proofs.Endings.{below-by, heard-more, length-heard}
 use Rattle.mdcc_fact_index.proofs.outcomes.OutcomeIndex.add.Goals as goal
+use Rattle.mdcc_fact_folds.specs.Entered.{heard_in}
 
 pub returns-clause-heard : goal.returns-clause-heard
 returns-clause-heard c facts = heard-more _ _ facts c.args.fact.now c.args.number c.enter.ensures.txs c.enter.ensures.numbers
@@ -11,4 +12,4 @@ returns-clause-below c below =
     subst (AreNumbersBelow (c.args.number + 1)) (sym c.enter.ensures.numbers) (below-by c.args.fact.now _ c.args.number below)
 
 pub returns-clause-few : goal.returns-clause-few
-returns-clause-few c = omega (arith, ap length c.enter.ensures.txs, length-append (heard_by c.args.fact.now) c.args.self.now.txs.keys, length-heard c.args.fact.now)
+returns-clause-few c = omega (arith, ap length c.enter.ensures.txs, length-append (heard_in c.args.fact.now) c.args.self.now.txs.keys, length-heard c.args.fact.now)

@@ -4,8 +4,8 @@ use Rattle.mdcc_logs.proofs.Made.{on-ok-three}
 use Rattle.mdcc_logs.proofs.Refusals.{on-err, same-may-have}
 use Rattle.mdcc_logs.proofs.Standing.{held-same, log-is}
 use Rattle.mdcc_logs.proofs.logs.Logs.append.Goals as goal
-use Rattle.mdcc_restart.specs.Logged.{logged}
 use Rattle.mdcc_spelling.proofs.Lengths.{length-fact}
+use Rattle.mdcc_messages.specs.Spelling.{encodings_of}
 
 pub append-requires-clause-short : goal.append-requires-clause-short
 append-requires-clause-short c = omega (length-fact c.args.fact.now, c.requires.short, arith)
@@ -45,7 +45,7 @@ returns-clause-appended c centres up facts stand running =
     let same = held-same c.args.self.now.disks d c.reserve_append.ensures in
     let told = told-there c.args.self.now c.args.self.now a centres up facts stand running some c.requires.within d log is same in
     on-ok-three _ _ _ _ c.append.result
-    (c.append.ensures.acknowledged (logged (facts a)) told.0 told.1 (rest-there c.args.self.now c.args.self.now a centres up facts stand running some c.requires.within d log is same))
+    (c.append.ensures.acknowledged (encodings_of (facts a)) told.0 told.1 (rest-there c.args.self.now c.args.self.now a centres up facts stand running some c.requires.within d log is same))
     c.append.ensures.few c.append.ensures.grown
     (λ rest few grown. appended c.args.self.now _ a centres up facts stand running some c.requires.within d log is same c.append.new.log c.args.fact.now
     (ap (λ (n : ℕ). set c.args.self.now.open.items (n - 1) c.append.new.log) place) c.append.ensures.others
@@ -65,4 +65,4 @@ returns-clause-refused c centres up facts stand running =
     on-err c.append.result
     (may-have c.args.self.now _ a centres up facts stand running some c.requires.within d log is same c.append.new.log c.args.fact.now
     (ap (λ (n : ℕ). set c.args.self.now.open.items (n - 1) c.append.new.log) place) c.append.ensures.others
-    (λ current spare left left_other. c.append.ensures.any_moment_reads (logged (facts a)) current spare told.0 told.1 rest left left_other))
+    (λ current spare left left_other. c.append.ensures.any_moment_reads (encodings_of (facts a)) current spare told.0 told.1 rest left left_other))

@@ -6,11 +6,11 @@ use Rattle.mdcc_logs.proofs.Starts.{durable-first, durable-second, full-log, non
 use Rattle.mdcc_logs.proofs.logs.Logs.restart.Goals as goal
 use Rattle.mdcc_logs.specs.Starting.{OnNone, StartsOver}
 use Rattle.mdcc_logs.specs.declared.starting.Attempt.{Attempt}
-use Rattle.mdcc_restart.specs.Logged.{logged}
 use Rattle.mdcc_rules.specs.Boot.{next_boot}
+use Rattle.mdcc_messages.specs.Spelling.{encodings_of}
 
 pub returns-in-Runs-clause-started : goal.returns-in-Runs-clause-started
-returns-in-Runs-clause-started c centres up facts stand logged fits few =
+returns-in-Runs-clause-started c centres up facts stand encodings_of fits few =
     let a = c.args.centre in
     let d = c.reserve_start.new.disks in
     let some : 1 ≤ a = omega arith in
@@ -18,30 +18,30 @@ returns-in-Runs-clause-started c centres up facts stand logged fits few =
     let its = stand.each a some (omega (c.requires.within, stand.as_many, arith)) in
     let roomy = room c.args.self.now d a (up a) (facts a) its same in
     let runs = subst (λ (s : Attempt). StartsOver (Ok s) c.args.cluster.now a (facts a) d c.start.new.disks) c.in-Runs.is
-    (c.in_ok-started.ensures.starts (facts a) logged fits (reads c.args.self.now d a (up a) (facts a) its same) roomy few) in
+    (c.in_ok-started.ensures.starts (facts a) encodings_of fits (reads c.args.self.now d a (up a) (facts a) its same) roomy few) in
     restarted c.args.self.now _ a centres up facts stand some c.requires.within d same c.start.ensures.others d c.in-Runs.started c.args.cluster.now
     (ap (λ (n : ℕ). set c.args.self.now.open.items (n - 1) c.in-Runs.started.log) (c.from-index.ensures ∙ c.number.ensures.value)) roomy runs
 
 pub returns-in-Full-clause-started : goal.returns-in-Full-clause-started
-returns-in-Full-clause-started c centres up facts stand logged fits few =
+returns-in-Full-clause-started c centres up facts stand encodings_of fits few =
     let a = c.args.centre in
     let d = c.reserve_start.new.disks in
     let some : 1 ≤ a = omega arith in
     let same = held-same c.args.self.now.disks d c.reserve_start.ensures in
     let its = stand.each a some (omega (c.requires.within, stand.as_many, arith)) in
     let over = subst (λ (s : Attempt). StartsOver (Ok s) c.args.cluster.now a (facts a) d c.start.new.disks) c.in-Full.is
-    (c.in_ok-started.ensures.starts (facts a) logged fits (reads c.args.self.now d a (up a) (facts a) its same) (room c.args.self.now d a (up a) (facts a) its same) few) in
+    (c.in_ok-started.ensures.starts (facts a) encodings_of fits (reads c.args.self.now d a (up a) (facts a) its same) (room c.args.self.now d a (up a) (facts a) its same) few) in
     (over.0, full-log (facts a) over.1)
 
 pub returns-in-NoRoom-clause-started : goal.returns-in-NoRoom-clause-started
-returns-in-NoRoom-clause-started c centres up facts stand logged fits few =
+returns-in-NoRoom-clause-started c centres up facts stand encodings_of fits few =
     let a = c.args.centre in
     let d = c.reserve_start.new.disks in
     let some : 1 ≤ a = omega arith in
     let same = held-same c.args.self.now.disks d c.reserve_start.ensures in
     let its = stand.each a some (omega (c.requires.within, stand.as_many, arith)) in
     subst (λ (s : Attempt). StartsOver (Ok s) c.args.cluster.now a (facts a) d c.start.new.disks) c.in-NoRoom.is
-    (c.in_ok-started.ensures.starts (facts a) logged fits (reads c.args.self.now d a (up a) (facts a) its same) (room c.args.self.now d a (up a) (facts a) its same) few)
+    (c.in_ok-started.ensures.starts (facts a) encodings_of fits (reads c.args.self.now d a (up a) (facts a) its same) (room c.args.self.now d a (up a) (facts a) its same) few)
 
 pub returns-in_err-reserve_start-clause-refused : goal.returns-in_err-reserve_start-clause-refused
 returns-in_err-reserve_start-clause-refused c centres up facts stand of_cluster =
@@ -70,7 +70,7 @@ returns-in-Full-clause-lack c centres up facts stand down =
     let its = stand.each a some (omega (c.requires.within, stand.as_many, arith)) in
     let read = reads c.args.self.now d a (up a) (facts a) its same in
     none-stays c.args.self.now _ a centres up facts stand some c.requires.within d same c.start.ensures.others down refl
-    (subst (λ (s : Attempt). OnNone (Ok s) (logged (facts a)) a d c.start.new.disks) c.in-Full.is (c.in_ok-started.ensures.none (logged (facts a)) read.told_first read.told_second read.read))
+    (subst (λ (s : Attempt). OnNone (Ok s) (encodings_of (facts a)) a d c.start.new.disks) c.in-Full.is (c.in_ok-started.ensures.none (encodings_of (facts a)) read.told_first read.told_second read.read))
 
 pub returns-in-NoRoom-clause-lack : goal.returns-in-NoRoom-clause-lack
 returns-in-NoRoom-clause-lack c centres up facts stand down =
@@ -81,7 +81,7 @@ returns-in-NoRoom-clause-lack c centres up facts stand down =
     let its = stand.each a some (omega (c.requires.within, stand.as_many, arith)) in
     let read = reads c.args.self.now d a (up a) (facts a) its same in
     none-stays c.args.self.now _ a centres up facts stand some c.requires.within d same c.start.ensures.others down refl
-    (subst (λ (s : Attempt). OnNone (Ok s) (logged (facts a)) a d c.start.new.disks) c.in-NoRoom.is (c.in_ok-started.ensures.none (logged (facts a)) read.told_first read.told_second read.read))
+    (subst (λ (s : Attempt). OnNone (Ok s) (encodings_of (facts a)) a d c.start.new.disks) c.in-NoRoom.is (c.in_ok-started.ensures.none (encodings_of (facts a)) read.told_first read.told_second read.read))
 
 pub returns-in-Full-clause-lack_down : goal.returns-in-Full-clause-lack_down
 returns-in-Full-clause-lack_down c centres up facts stand =
@@ -92,7 +92,7 @@ returns-in-Full-clause-lack_down c centres up facts stand =
     let its = stand.each a some (omega (c.requires.within, stand.as_many, arith)) in
     let read = reads c.args.self.now d a (up a) (facts a) its same in
     none-stays-down c.args.self.now _ a centres up facts stand some c.requires.within d same c.start.ensures.others refl
-    (subst (λ (s : Attempt). OnNone (Ok s) (logged (facts a)) a d c.start.new.disks) c.in-Full.is (c.in_ok-started.ensures.none (logged (facts a)) read.told_first read.told_second read.read))
+    (subst (λ (s : Attempt). OnNone (Ok s) (encodings_of (facts a)) a d c.start.new.disks) c.in-Full.is (c.in_ok-started.ensures.none (encodings_of (facts a)) read.told_first read.told_second read.read))
 
 pub returns-in-NoRoom-clause-lack_down : goal.returns-in-NoRoom-clause-lack_down
 returns-in-NoRoom-clause-lack_down c centres up facts stand =
@@ -103,4 +103,4 @@ returns-in-NoRoom-clause-lack_down c centres up facts stand =
     let its = stand.each a some (omega (c.requires.within, stand.as_many, arith)) in
     let read = reads c.args.self.now d a (up a) (facts a) its same in
     none-stays-down c.args.self.now _ a centres up facts stand some c.requires.within d same c.start.ensures.others refl
-    (subst (λ (s : Attempt). OnNone (Ok s) (logged (facts a)) a d c.start.new.disks) c.in-NoRoom.is (c.in_ok-started.ensures.none (logged (facts a)) read.told_first read.told_second read.read))
+    (subst (λ (s : Attempt). OnNone (Ok s) (encodings_of (facts a)) a d c.start.new.disks) c.in-NoRoom.is (c.in_ok-started.ensures.none (encodings_of (facts a)) read.told_first read.told_second read.read))
