@@ -94,7 +94,7 @@ module _ (world : TheWorld) (w : World) (number : ℕ) (envelope : Envelope) (li
   counted-nodes = record { as_many = like.nodes.as_many; each = like.nodes.each }
 
   made-there : (new : TheWorld) (made : Result Step StepFault)
-      → new ≡ record world { nodes = new.nodes; network = new.network; events = world.events + 1 }
+      → new ≡ record world { nodes = new.nodes; network = new.network; events = world.events + 1; envelope = new.envelope }
       → new.network ≡ with_delivered world.network (number - 1)
       → made ≡ step_result (step_at (message_counted w number) envelope.to (Input.Message envelope))
       → NodesRepresent new.nodes.items (input_happened (message_counted w number) envelope.to (step_at (message_counted w number) envelope.to (Input.Message envelope))).world
@@ -128,7 +128,7 @@ module _ (world : TheWorld) (w : World) (number : ℕ) (envelope : Envelope) (li
 
   -- the centre that the code finds is the one to which the message goes
   pub message-made : (new : TheWorld) (a : ℕ) (made : Result Step StepFault) → a ≡ envelope.to
-      → new ≡ record world { nodes = new.nodes; network = new.network; events = world.events + 1 }
+      → new ≡ record world { nodes = new.nodes; network = new.network; events = world.events + 1; envelope = new.envelope }
       → new.network ≡ with_delivered world.network (number - 1)
       → made ≡ step_result (step_at (message_counted w number) a (Input.Message envelope))
       → NodesRepresent new.nodes.items (input_happened (message_counted w number) a (step_at (message_counted w number) a (Input.Message envelope))).world

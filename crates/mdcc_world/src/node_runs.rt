@@ -16,7 +16,6 @@ ghost use Rattle.mdcc_worlds.specs.DeliveryProgress.{at_message};
 use crate::nodes::{act_on, receive};
 use crate::world::World;
 use mdcc_base::{Centre, Memory, TxId};
-use mdcc_mail::empty_envelope;
 use mdcc_option::Transaction;
 use mdcc_outcomes::Decisions;
 use mdcc_rules::{Answer, Input, Step, StepFault};
@@ -117,15 +116,17 @@ impl World {
             → IfOk result (λ r. HasRunMessage self.new w number r.0 (written r.1 step.new)) }
         ensures few { self.new.events ≤ self.old.events + 1 }
     {
-        let mut envelope = empty_envelope();
-        if !self.network.read_into(self.alloc, number, &mut envelope)? {
+        if !self
+            .network
+            .read_into(self.alloc, number, &mut self.envelope)?
+        {
             return Err(Memory);
         }
-        let Some(centre) = Centre::new(envelope.to) else {
+        let Some(centre) = Centre::new(self.envelope.to) else {
             return Err(Memory);
         };
         self.events += 1;
-        let made = receive(&mut self.nodes, centre, &envelope, step)?;
+        let made = receive(&mut self.nodes, centre, &self.envelope, step)?;
         self.network.deliver(number);
         Ok((centre, made))
     }

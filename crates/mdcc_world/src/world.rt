@@ -12,7 +12,8 @@ use mdcc_base::{Centre, HeapList, Image, Memory};
 use mdcc_disks::MemoryDisks;
 use mdcc_language::{EventFault, LimitName, Line};
 use mdcc_logs::{CentreFacts, Logs, boot_all};
-use mdcc_mail::Network;
+use mdcc_mail::{Network, empty_envelope};
+use mdcc_messages::Envelope;
 use mdcc_node::Node;
 use mdcc_option::{Cluster, Known};
 use mdcc_outcomes::Decisions;
@@ -37,6 +38,8 @@ pub struct World {
     pub(crate) decisions: Decisions,
     pub(crate) reads: HeapList<Option<Known>>,
     pub(crate) events: u32,
+    // The message that is delivered, decoded in place.
+    pub(crate) envelope: Envelope,
 }
 
 // The first so many centres are up.
@@ -78,6 +81,7 @@ impl World {
             decisions,
             reads: HeapList::new(alloc),
             events: 0,
+            envelope: empty_envelope(),
         })
     }
 
