@@ -1,0 +1,12 @@
+pub mod Booted
+pub mod Bound
+pub mod Ended
+pub mod Kept
+pub mod Opened
+pub mod Quiet
+pub mod Ready
+pub mod Repeated
+pub mod Rounds
+pub mod Started
+pub mod Together
+pub mod Totals

@@ -1,0 +1,552 @@
+-- Several centres, each with its turn.
+use Rattle.std.proofs.Common.{◌≡◌, ◌≢◌, ℕ, ◌+◌, ◌^◌, ◌≤◌, ◌<◌, Bool, true, false, List, [], ◌∷◌, ◌++◌, Option, None, Ok, Err, length, refl, sym, ◌∙◌, ap, subst, arith, IsTrue, append-nil, append_assoc, get_or, length-append, replicate, set}
+use Rattle.std.proofs.Math.Seq.{get_or-append_seam, set-append_seam}
+use Rattle.std.proofs.lemmas.Bool.{le-leb}
+use Rattle.std.proofs.lemmas.List.{length-replicate}
+use Rattle.std.specs.List.{AllByRecursion}
+use Rattle.std.specs.Prelude.{nat_le, ◌||◌}
+use Rattle.mdcc_base.specs.Counts.{sum_over}
+use Rattle.mdcc_config.specs.declared.config.Config.{Config}
+use Rattle.mdcc_messages.specs.declared.facts.Fact.{Fact}
+use Rattle.mdcc_option.specs.declared.cluster.Cluster.{Cluster}
+use Rattle.mdcc_outbox.proofs.Recorded.{sum_append}
+use Rattle.mdcc_link.specs.Link.{LinkCall}
+use Rattle.mdcc_runs.specs.Acts.{Act, appended, but_answers, dropped_in, lost_in, steps_in}
+use Rattle.mdcc_runs.specs.Servers.{Server, turns_of}
+use Rattle.mdcc_runs.specs.Sites.{Site}
+use Rattle.mdcc_runs.specs.Turns.{Given, turn_of}
+use Rattle.mdcc_serve.proofs.Kept.{apart, facts_kept, facts_or_more, site_kept}
+use Rattle.mdcc_serve.specs.Centres.{AllFinish, AllLogs, AllStop, AllTold, Ascend, HoldSites, IsServedAt, Places, TurnsAt, all_seen, places}
+use Rattle.mdcc_site.proofs.Going.{comes_under}
+use Rattle.mdcc_site.proofs.Joined.{appended_append, appended_answers, broke_more, did_broke, did_nothing, did_then, facts_expected, facts_then, flight_more}
+use Rattle.mdcc_site.proofs.Owns.{turn_owns}
+use Rattle.mdcc_site.specs.Causes.{SerialsEnd, in_flight, is_past_serials}
+use Rattle.mdcc_site.specs.Logs.{MayHaveFacts, facts_after, with_facts}
+use Rattle.mdcc_site.specs.Moments.{Adds, Broke, Caused, Did, DiskPasses, KeepsOthers, Leaves, MayComeAt, Moment, Outside, Passes}
+use Rattle.mdcc_site.specs.SiteState.{Finishes, HoldsSite, OnSerial, SiteLog, Stops, place, seen}
+use Rattle.mdcc_site.specs.declared.fault.ServeFault.{ServeFault}
+use Rattle.mdcc_site.specs.declared.site.Site.{Site as TheSite}
+
+-- ---- some of them first
+
+-- the first have their turn, and then the others
+turns_joined : (config : Config) (front back : List Site) (given more : List Given) → length front ≡ length given
+    → turns_of config (front ++ back) (given ++ more)
+    ≡ record { acts = (turns_of config front given).acts ++ (turns_of config back more).acts; sites = (turns_of config front given).sites ++ (turns_of config back more).sites }
+turns_joined config [] back [] more same = refl
+turns_joined config (site ∷ front) back (g ∷ given) more same =
+    let ih = turns_joined config front back given more (omega (same, arith)) in
+    let first = turn_of config site g in
+    ap (λ (rest : Server). let server : Server = record { acts = first.acts ++ rest.acts; sites = first.site ∷ rest.sites } in server) ih
+    ∙ ap (λ (acts : List Act). let server : Server = record { acts = acts; sites = first.site ∷ ((turns_of config front given).sites ++ (turns_of config back more).sites) } in server)
+    (sym (append_assoc first.acts (turns_of config front given).acts (turns_of config back more).acts))
+turns_joined config [] back (g ∷ given) more same = absurd (omega (same, arith))
+turns_joined config (site ∷ front) back [] more same = absurd (omega (same, arith))
+
+-- ---- counts
+
+counts_one : (f : TheSite → ℕ) (n : ℕ) (xs ys : List TheSite) (old new : TheSite) → Adds n (f old) (f new) → Adds n (sum_over f (xs ++ old ∷ ys)) (sum_over f (xs ++ new ∷ ys))
+counts_one f n xs ys old new adds =
+    let a = sum_append f xs (old ∷ ys) in
+    let b = sum_append f xs (new ∷ ys) in
+    omega (a, b, adds, arith)
+
+-- ---- lists
+
+each_by : {P Q : Site → Type 0} (xs : List Site) → AllByRecursion P xs → ((x : Site) → P x → Q x) → AllByRecursion Q xs
+each_by [] h f = tt
+each_by (x ∷ xs) h f = (f x h.0, each_by xs h.1 f)
+
+each_both : (P Q : Site → Type 0) (xs : List Site) → AllByRecursion P xs → AllByRecursion Q xs → AllByRecursion (λ x. P x × Q x) xs
+each_both P Q [] h k = tt
+each_both P Q (x ∷ xs) h k = ((h.0, k.0), each_both P Q xs h.1 k.1)
+
+each_front : (P : Site → Type 0) (xs ys : List Site) → AllByRecursion P (xs ++ ys) → AllByRecursion P xs
+each_front P [] ys h = tt
+each_front P (x ∷ xs) ys h = (h.0, each_front P xs ys h.1)
+
+each_back : (P : Site → Type 0) (xs ys : List Site) → AllByRecursion P (xs ++ ys) → AllByRecursion P ys
+each_back P [] ys h = h
+each_back P (x ∷ xs) ys h = each_back P xs ys h.1
+
+each_join : (P : Site → Type 0) (xs ys : List Site) → AllByRecursion P xs → AllByRecursion P ys → AllByRecursion P (xs ++ ys)
+each_join P [] ys h k = k
+each_join P (x ∷ xs) ys h k = (h.0, each_join P xs ys h.1 k)
+
+front_none : {A : Type 0} (xs ys : List A) → xs ++ ys ≡ [] → xs ≡ []
+front_none [] ys e = refl
+front_none (x ∷ xs) ys e = absurd (cc)
+
+pub now_past : (sent : ℕ) (later : Bool) → 2 ^ 32 ≤ sent → IsTrue (nat_le (2 ^ 32) sent || later)
+now_past sent later past = ap (λ (b : Bool). b || later) (le-leb (2 ^ 32) sent past)
+
+pub later_past : (b : Bool) (sites : List Site) → IsTrue (is_past_serials sites) → IsTrue (b || is_past_serials sites)
+later_past true sites past = refl
+later_past false sites past = past
+
+any_past : (xs : List Site) (x : Site) (ys : List Site) → 2 ^ 32 ≤ x.sent → IsTrue (is_past_serials (xs ++ x ∷ ys))
+any_past [] x ys past = now_past x.sent (is_past_serials ys) past
+any_past (y ∷ xs) x ys past = later_past (nat_le (2 ^ 32) y.sent) (xs ++ x ∷ ys) (any_past xs x ys past)
+
+-- a turn leaves how many they are, and their numbers
+pub turned_long : (config : Config) (sites : List Site) (given : List Given) → length (turns_of config sites given).sites ≡ length sites
+turned_long config [] [] = refl
+turned_long config [] (g ∷ given) = refl
+turned_long config (site ∷ sites) [] = refl
+turned_long config (site ∷ sites) (g ∷ given) = let e = turned_long config sites given in omega (e, arith)
+
+pub ascend_turned : (config : Config) (n : ℕ) (sites : List Site) (given : List Given) → Ascend n sites → Ascend n (turns_of config sites given).sites
+ascend_turned config n [] [] ascend = tt
+ascend_turned config n [] (g ∷ given) ascend = tt
+ascend_turned config n (site ∷ sites) [] ascend = ascend
+ascend_turned config n (site ∷ sites) (g ∷ given) ascend =
+    let e = (turn_owns config site g).centre in (
+      subst (λ (m : ℕ). n < m) (sym e) ascend.0,
+      subst (λ (m : ℕ). m ≤ 9) (sym e) ascend.1,
+      subst (λ (m : ℕ). Ascend m (turns_of config sites given).sites) (sym e) (ascend_turned config site.centre sites given ascend.2),
+    )
+
+module _ {D L O : Type 0} (w : Outside D L O) where
+  -- what one centre did, seen of all
+  module _ (xs ys : List TheSite) (disks new_disks : D) (held new : TheSite) (link new_link : L) (out new_out : O) where
+    abbrev here : Places D L O
+    here = places disks (xs ++ held ∷ ys) link out
+
+    abbrev there : Places D L O
+    there = places new_disks (xs ++ new ∷ ys) new_link new_out
+
+    passes_all : Passes w (seen (place disks held link out)) (seen (place new_disks new new_link new_out)) → Passes w (all_seen here) (all_seen there)
+    passes_all passes = record { told = passes.told; faults = passes.faults; sends = passes.sends; receives = passes.receives; writes = passes.writes }
+
+    leaves_all : {acts : List Act} {failed : List LinkCall} {text : List ℕ} → Leaves w acts failed text (seen (place disks held link out)) (seen (place new_disks new new_link new_out))
+        → Leaves w acts failed text (all_seen here) (all_seen there)
+    leaves_all {acts = acts} left = record {
+      link = left.link;
+      output = left.output;
+      failed_sends = left.failed_sends;
+      steps = counts_one (λ h. h.steps) (steps_in acts) xs ys held new left.steps;
+      dropped = counts_one (λ h. h.dropped) (dropped_in acts) xs ys held new left.dropped;
+      lost_told = counts_one (λ h. h.sender.lost) (lost_in acts) xs ys held new left.lost_told;
+    }
+
+    did_all : {expected : List Act} → Did w expected (seen (place disks held link out)) (seen (place new_disks new new_link new_out)) → Did w expected (all_seen here) (all_seen there)
+    did_all did = record { acts = did.acts; are = did.are; left = leaves_all did.left; passes = passes_all did.passes }
+
+    caused_all : (fault : ServeFault) → Caused w fault (seen (place disks held link out)) (seen (place new_disks new new_link new_out)) → Caused w fault (all_seen here) (all_seen there)
+    caused_all (ServeFault.Disk a) cause = cause
+    caused_all (ServeFault.Log a fault) cause = tt
+    caused_all (ServeFault.Boot a fault) cause = tt
+    caused_all ServeFault.Link cause = cause
+    caused_all ServeFault.Output cause = cause
+    caused_all ServeFault.Serial cause = tt
+    caused_all ServeFault.Memory cause = tt
+
+    -- with what was to be done
+    broke_all : {Told : Type 0} {P : List Act → List Act → Type 0} {expected : List Act} {fault : ServeFault}
+        → Broke w Told P expected fault (seen (place disks held link out)) (seen (place new_disks new new_link new_out))
+        → Broke w Told (λ acts rest. P acts rest × (but_answers acts ++ rest ≡ expected) × MayComeAt Told fault rest) expected fault (all_seen here) (all_seen there)
+    broke_all {fault = fault} broke = record {
+      acts = broke.acts;
+      rest = broke.rest;
+      are = broke.are;
+      comes = broke.comes;
+      printed_more = broke.printed_more;
+      left = leaves_all broke.left;
+      passes = passes_all broke.passes;
+      cause = caused_all fault broke.cause;
+      logs = (broke.logs, broke.are, broke.comes);
+    }
+
+  -- ---- the others
+
+  -- these are other centres
+  abbrev pub Elsewhere : ℕ → List Site → Type 0
+  Elsewhere b sites = AllByRecursion (λ site. (site.centre ≤ 9) × (site.centre ≢ b)) sites
+
+  pub hold_kept : (cluster : Cluster) (old new : D) (b : ℕ) (held : List TheSite) (sites : List Site) → b ≤ 9 → Elsewhere b sites → KeepsOthers w.disk w.may_leave b old new → DiskPasses w.disk w.may_leave old new
+      → HoldSites w cluster old held sites → HoldSites w cluster new held sites
+  hold_kept cluster old new b [] [] most other keeps passes hold = tt
+  hold_kept cluster old new b (h ∷ held) (site ∷ sites) most other keeps passes hold =
+      (site_kept w cluster old new h site b (apart site.centre b other.0.0 most other.0.1) keeps passes hold.0, hold_kept cluster old new b held sites most other.1 keeps passes hold.1)
+  hold_kept cluster old new b [] (site ∷ sites) most other keeps passes hold = absurd hold
+  hold_kept cluster old new b (h ∷ held) [] most other keeps passes hold = absurd hold
+
+  -- one of them
+  pub record OneOf (cluster : Cluster) (disks : D) (held : List TheSite) (front : List Site) (site : Site) (back : List Site) : Type 0 where
+    pub before : List TheSite
+    pub one : TheSite
+    pub after : List TheSite
+    pub are : held ≡ before ++ one ∷ after
+    pub many : length before ≡ length front
+    pub hold_front : HoldSites w cluster disks before front
+    pub holds : HoldsSite w cluster disks one site
+    pub hold_back : HoldSites w cluster disks after back
+
+  pub hold_split : (cluster : Cluster) (disks : D) (held : List TheSite) (front : List Site) (site : Site) (back : List Site) → HoldSites w cluster disks held (front ++ site ∷ back) → OneOf cluster disks held front site back
+  hold_split cluster disks (h ∷ held) [] site back hold = record { before = []; one = h; after = held; are = refl; many = refl; hold_front = tt; holds = hold.0; hold_back = hold.1 }
+  hold_split cluster disks [] [] site back hold = absurd hold
+  hold_split cluster disks (h ∷ held) (first ∷ front) site back hold =
+      let rest = hold_split cluster disks held front site back hold.1 in
+      record {
+        before = h ∷ rest.before;
+        one = rest.one;
+        after = rest.after;
+        are = ap (λ (hs : List TheSite). h ∷ hs) rest.are;
+        many = (let e = rest.many in omega (e, arith));
+        hold_front = (hold.0, rest.hold_front);
+        holds = rest.holds;
+        hold_back = rest.hold_back;
+      }
+  hold_split cluster disks [] (first ∷ front) site back hold = absurd hold
+
+  pub hold_join : (cluster : Cluster) (disks : D) (before : List TheSite) (one : TheSite) (after : List TheSite) (front : List Site) (site : Site) (back : List Site)
+      → HoldSites w cluster disks before front → HoldsSite w cluster disks one site → HoldSites w cluster disks after back → HoldSites w cluster disks (before ++ one ∷ after) (front ++ site ∷ back)
+  hold_join cluster disks [] one after [] site back first holds last = (holds, last)
+  hold_join cluster disks (h ∷ before) one after (s ∷ front) site back first holds last = (first.0, hold_join cluster disks before one after front site back first.1 holds last)
+  hold_join cluster disks [] one after (s ∷ front) site back first holds last = absurd first
+  hold_join cluster disks (h ∷ before) one after [] site back first holds last = absurd first
+
+  -- ---- those that had their turn
+
+  turned_elsewhere : (config : Config) (b : ℕ) (front : List Site) (given : List Given) → length front ≡ length given → Elsewhere b front → Elsewhere b (turns_of config front given).sites
+  turned_elsewhere config b [] given same other = tt
+  turned_elsewhere config b (site ∷ front) (g ∷ given) same other =
+      let e = (turn_owns config site g).centre in
+      (subst (λ (n : ℕ). (n ≤ 9) × (n ≢ b)) (sym e) other.0, turned_elsewhere config b front given (omega (same, arith)) other.1)
+  turned_elsewhere config b (site ∷ front) [] same other = absurd (omega (same, arith))
+
+  pub ascend_later : (n m : ℕ) (sites : List Site) → m ≤ n → Ascend n sites → Elsewhere m sites
+  ascend_later n m [] later ascend = tt
+  ascend_later n m (site ∷ sites) later ascend =
+      let low = ascend.0 in
+      ((ascend.1, λ same. absurd (omega (low, later, same, arith))), ascend_later site.centre m sites (omega (low, later, arith)) ascend.2)
+
+  ascend_front : (n : ℕ) (front : List Site) (site : Site) (back : List Site) → Ascend n (front ++ site ∷ back) → (n < site.centre) × Elsewhere site.centre front
+  ascend_front n [] site back ascend = (ascend.0, tt)
+  ascend_front n (first ∷ front) site back ascend =
+      let rest = ascend_front first.centre front site back ascend.2 in
+      let low = ascend.0 in
+      let high = rest.0 in
+      (omega (low, high, arith), ((ascend.1, λ same. absurd (omega (high, same, arith))), rest.1))
+
+  ascend_back : (n : ℕ) (front : List Site) (site : Site) (back : List Site) → Ascend n (front ++ site ∷ back) → (site.centre ≤ 9) × Elsewhere site.centre back
+  ascend_back n [] site back ascend = (ascend.1, ascend_later site.centre site.centre back (omega arith) ascend.2)
+  ascend_back n (first ∷ front) site back ascend = ascend_back first.centre front site back ascend.2
+
+  -- another centre's log is not written to
+  pub quiet_turns : (config : Config) (b : ℕ) (front : List Site) (given : List Given) → length front ≡ length given → Elsewhere b front → appended b (turns_of config front given).acts ≡ []
+  quiet_turns config b [] given same other = refl
+  quiet_turns config b (site ∷ front) (g ∷ given) same other =
+      appended_append b (turn_of config site g).acts (turns_of config front given).acts
+      ∙ (ap (λ (fs : List Fact). fs ++ appended b (turns_of config front given).acts) ((turn_owns config site g).others b (λ is. other.0.1 (sym is)))
+      ∙ quiet_turns config b front given (omega (same, arith)) other.1)
+  quiet_turns config b (site ∷ front) [] same other = absurd (omega (same, arith))
+
+  -- whatever a crash leaves, the log of a centre has its facts and those that were appended
+  abbrev pub HasLog : D → D → List Act → Site → Type 0
+  HasLog old new acts site = IsTrue (w.disk old site.centre).told → MayHaveFacts w.disk w.may_leave new site.centre (facts_after site.centre site.node.facts acts) None
+
+  hold_logs : (cluster : Cluster) (disks : D) (held : List TheSite) (sites : List Site) → HoldSites w cluster disks held sites → AllByRecursion (HasLog disks disks []) sites
+  hold_logs cluster disks [] [] hold = tt
+  hold_logs cluster disks (h ∷ held) (site ∷ sites) hold = (hold.0.log.open_log.left, hold_logs cluster disks held sites hold.1)
+  hold_logs cluster disks [] (site ∷ sites) hold = absurd hold
+  hold_logs cluster disks (h ∷ held) [] hold = absurd hold
+
+  -- where others append
+  log_elsewhere : (old mid new : D) (b : ℕ) (first acts : List Act) (next : Option Fact) (site : Site) → b ≤ 9 → (site.centre ≤ 9) × (site.centre ≢ b) → KeepsOthers w.disk w.may_leave b mid new → appended site.centre acts ≡ []
+      → HasLog old mid first site → IsTrue (w.disk old site.centre).told → MayHaveFacts w.disk w.may_leave new site.centre (facts_after site.centre site.node.facts (first ++ acts)) next
+  log_elsewhere old mid new b first acts next site most other keeps quiet has told =
+      facts_or_more w.disk w.may_leave new site.centre (facts_after site.centre site.node.facts (first ++ acts)) next
+      (subst (λ (fs : List Fact). MayHaveFacts w.disk w.may_leave new site.centre fs None)
+      (sym (facts_then site.centre site.node.facts first acts ∙ ap (with_facts (facts_after site.centre site.node.facts first)) quiet))
+      (facts_kept w.disk w.may_leave mid new site.centre b (facts_after site.centre site.node.facts first) None (apart site.centre b other.0 most other.1) keeps (has told)))
+
+  -- after the turns of the first ones
+  pub record HaveTurned (config : Config) (cluster : Cluster) (start now : Places D L O) (served : List Site) (index : ℕ) : Type 0 where
+    pub front : List Site
+    pub back : List Site
+    pub given : List Given
+    pub are : served ≡ front ++ back
+    pub many : length front ≡ index
+    pub as_many : length given ≡ index
+    pub did : Did w (turns_of config front given).acts (all_seen start) (all_seen now)
+    pub hold : HoldSites w cluster now.disks now.held ((turns_of config front given).sites ++ back)
+    pub logs : AllByRecursion (HasLog start.disks now.disks (turns_of config front given).acts) served
+
+  hold_long : (cluster : Cluster) (disks : D) (held : List TheSite) (sites : List Site) → HoldSites w cluster disks held sites → length held ≡ length sites
+  hold_long cluster disks [] [] hold = refl
+  hold_long cluster disks (h ∷ held) (site ∷ sites) hold = let e = hold_long cluster disks held sites hold.1 in omega (e, arith)
+  hold_long cluster disks [] (site ∷ sites) hold = absurd hold
+  hold_long cluster disks (h ∷ held) [] hold = absurd hold
+
+  -- where one is left
+  pub some_back : (config : Config) (cluster : Cluster) (start now : Places D L O) (served : List Site) (index : ℕ) → (turned : HaveTurned config cluster start now served index) → index < length now.held
+      → (site : Site) × (back : List Site) × (turned.back ≡ site ∷ back)
+  some_back config cluster start now served index turned within = by_back turned.back refl
+    where
+      by_back : (back : List Site) → turned.back ≡ back → (site : Site) × (rest : List Site) × (turned.back ≡ site ∷ rest)
+      by_back (site ∷ rest) is = (site, rest, is)
+      by_back [] is =
+          let a = hold_long cluster now.disks now.held ((turns_of config turned.front turned.given).sites ++ turned.back) turned.hold in
+          let b = length-append (turns_of config turned.front turned.given).sites turned.back in
+          let c = turned_long config turned.front turned.given in
+          let d = turned.many in
+          let e : length turned.back ≡ 0 = ap (λ (sites : List Site). length sites) is in
+          absurd (omega (a, b, c, d, e, within, arith))
+
+  -- none is left
+  pub all_turned : (config : Config) (cluster : Cluster) (start now : Places D L O) (served : List Site) (index : ℕ) → (turned : HaveTurned config cluster start now served index) → length now.held ≤ index
+      → (length turned.given ≡ length served) × AllFinish w cluster (turns_of config served turned.given) start now
+  all_turned config cluster start now served index turned over = (
+    (let e = turned.many in let f = turned.as_many in let g : length served ≡ length turned.front = ap (λ (sites : List Site). length sites) front_is in omega (e, f, g, arith)),
+    subst (λ (sites : List Site). AllFinish w cluster (turns_of config sites turned.given) start now) (sym front_is) (record { did = turned.did; stand = subst (λ (sites : List Site). HoldSites w cluster now.disks now.held sites) whole turned.hold }),
+  )
+    where
+      by_back : (back : List Site) → turned.back ≡ back → turned.back ≡ []
+      by_back [] is = is
+      by_back (site ∷ rest) is =
+          let a = hold_long cluster now.disks now.held ((turns_of config turned.front turned.given).sites ++ turned.back) turned.hold in
+          let b = length-append (turns_of config turned.front turned.given).sites turned.back in
+          let c = turned_long config turned.front turned.given in
+          let d = turned.many in
+          let e : length turned.back ≡ length (site ∷ rest) = ap (λ (sites : List Site). length sites) is in
+          absurd (omega (a, b, c, d, e, over, arith))
+
+      none : turned.back ≡ []
+      none = by_back turned.back refl
+
+      front_is : served ≡ turned.front
+      front_is = turned.are ∙ (ap (λ (sites : List Site). turned.front ++ sites) none ∙ append-nil turned.front)
+
+      whole : (turns_of config turned.front turned.given).sites ++ turned.back ≡ (turns_of config turned.front turned.given).sites
+      whole = ap (λ (sites : List Site). (turns_of config turned.front turned.given).sites ++ sites) none ∙ append-nil (turns_of config turned.front turned.given).sites
+
+  disks_pass : (old new : Moment D L O) → Passes w old new → DiskPasses w.disk w.may_leave old.disks new.disks
+  disks_pass old new passes = record { told = passes.told; faults = passes.faults }
+
+  pub none_turned : (config : Config) (cluster : Cluster) (start : Places D L O) (served : List Site) → HoldSites w cluster start.disks start.held served → HaveTurned config cluster start start served 0
+  none_turned config cluster start served hold = record { front = []; back = served; given = []; are = refl; many = refl; as_many = refl; did = did_nothing w (all_seen start); hold = hold; logs = hold_logs cluster start.disks start.held served hold }
+
+  -- one more
+  module _ (config : Config) (cluster : Cluster) (start : Places D L O) (served : List Site) (ascend : Ascend 0 served) (index : ℕ) (disks : D) (held : List TheSite) (link : L) (out : O)
+      (turned : HaveTurned config cluster start (places disks held link out) served index)
+      (site : Site) (back : List Site) (are : turned.back ≡ site ∷ back)
+    where
+      whole : served ≡ turned.front ++ site ∷ back
+      whole = turned.are ∙ ap (λ (sites : List Site). turned.front ++ sites) are
+
+      same_length : length turned.front ≡ length turned.given
+      same_length = turned.many ∙ sym turned.as_many
+
+      pub ours : OneOf cluster disks held (turns_of config turned.front turned.given).sites site back
+      ours = hold_split cluster disks held (turns_of config turned.front turned.given).sites site back
+          (subst (λ (sites : List Site). HoldSites w cluster disks held ((turns_of config turned.front turned.given).sites ++ sites)) are turned.hold)
+
+      index_is : index ≡ length ours.before
+      index_is = let a = ours.many in let b = turned_long config turned.front turned.given in let c = turned.many in omega (a, b, c, arith)
+
+      -- it is where the index says
+      pub one_at : (d : TheSite) → get_or held index d ≡ ours.one
+      one_at d =
+          ap (λ (hs : List TheSite). get_or hs index d) ours.are
+          ∙ (ap (λ (n : ℕ). get_or (ours.before ++ ours.one ∷ ours.after) n d) index_is ∙ get_or-append_seam ours.before ours.one ours.after d)
+
+      pub set_at : (new : TheSite) → set held index new ≡ ours.before ++ new ∷ ours.after
+      set_at new =
+          ap (λ (hs : List TheSite). set hs index new) ours.are
+          ∙ (ap (λ (n : ℕ). set (ours.before ++ ours.one ∷ ours.after) n new) index_is ∙ set-append_seam ours.before ours.one ours.after new)
+
+      abbrev first_acts : List Act
+      first_acts = (turns_of config turned.front turned.given).acts
+
+      low : site.centre ≤ 9
+      low = (ascend_back 0 turned.front site back (subst (Ascend 0) whole ascend)).0
+
+      pub one_turned : (given : Given) (new_disks : D) (new : TheSite) (new_link : L) (new_out : O)
+          → Finishes w cluster site (turn_of config site given) (place disks ours.one link out) (place new_disks new new_link new_out)
+          → HaveTurned config cluster start (places new_disks (ours.before ++ new ∷ ours.after) new_link new_out) served (index + 1)
+      one_turned given new_disks new new_link new_out one = record {
+        front = turned.front ++ site ∷ [];
+        back = back;
+        given = turned.given ++ given ∷ [];
+        are = whole ∙ sym (append_assoc turned.front (site ∷ []) back);
+        many = (let e = length-append turned.front (site ∷ []) in let f = turned.many in omega (e, f, arith));
+        as_many = (let e = length-append turned.given (given ∷ []) in let f = turned.as_many in omega (e, f, arith));
+        did = subst (λ (acts : List Act). Did w acts (all_seen start) (all_seen (places new_disks (ours.before ++ new ∷ ours.after) new_link new_out))) (sym acts_are)
+            (did_then w turned.did (subst (λ (hs : List TheSite). Did w (turn_of config site given).acts (all_seen (places disks hs link out)) (all_seen (places new_disks (ours.before ++ new ∷ ours.after) new_link new_out))) (sym ours.are)
+            (did_all ours.before ours.after disks new_disks ours.one new link new_link out new_out one.did)));
+        hold = subst (λ (sites : List Site). HoldSites w cluster new_disks (ours.before ++ new ∷ ours.after) sites) (sym sites_are)
+            (hold_join cluster new_disks ours.before new ours.after (turns_of config turned.front turned.given).sites (turn_of config site given).site back
+            (hold_kept cluster disks new_disks site.centre ours.before (turns_of config turned.front turned.given).sites low front_other one.others passes ours.hold_front) one.stands
+            (hold_kept cluster disks new_disks site.centre ours.after back low back_other one.others passes ours.hold_back));
+        logs = logs;
+      }
+        where
+          passes : DiskPasses w.disk w.may_leave disks new_disks
+          passes = record { told = one.did.passes.told; faults = one.did.passes.faults }
+
+          front_other : Elsewhere site.centre (turns_of config turned.front turned.given).sites
+          front_other = turned_elsewhere config site.centre turned.front turned.given same_length (ascend_front 0 turned.front site back (subst (Ascend 0) whole ascend)).1
+
+          back_other : Elsewhere site.centre back
+          back_other = (ascend_back 0 turned.front site back (subst (Ascend 0) whole ascend)).1
+
+          joined : turns_of config (turned.front ++ site ∷ []) (turned.given ++ given ∷ [])
+              ≡ record { acts = (turns_of config turned.front turned.given).acts ++ ((turn_of config site given).acts ++ []); sites = (turns_of config turned.front turned.given).sites ++ (turn_of config site given).site ∷ [] }
+          joined = turns_joined config turned.front (site ∷ []) turned.given (given ∷ []) same_length
+
+          acts_are : (turns_of config (turned.front ++ site ∷ []) (turned.given ++ given ∷ [])).acts ≡ (turns_of config turned.front turned.given).acts ++ (turn_of config site given).acts
+          acts_are = ap (λ (s : Server). s.acts) joined ∙ ap (λ (acts : List Act). (turns_of config turned.front turned.given).acts ++ acts) (append-nil (turn_of config site given).acts)
+
+          sites_are : (turns_of config (turned.front ++ site ∷ []) (turned.given ++ given ∷ [])).sites ++ back ≡ (turns_of config turned.front turned.given).sites ++ (turn_of config site given).site ∷ back
+          sites_are = ap (λ (s : Server). s.sites ++ back) joined ∙ append_assoc (turns_of config turned.front turned.given).sites ((turn_of config site given).site ∷ []) back
+
+          elsewhere : (s : Site) → (HasLog start.disks disks first_acts s) × ((s.centre ≤ 9) × (s.centre ≢ site.centre)) → HasLog start.disks new_disks (first_acts ++ (turn_of config site given).acts) s
+          elsewhere s h told = log_elsewhere start.disks disks new_disks site.centre first_acts (turn_of config site given).acts None s low h.1 one.others ((turn_owns config site given).others s.centre h.1.1) h.0 told
+
+          itself : HasLog start.disks new_disks (first_acts ++ (turn_of config site given).acts) site
+          itself told =
+              let owns = turn_owns config site given in
+              let now : IsTrue (w.disk new_disks site.centre).told = subst IsTrue (sym (passes.told site.centre ∙ turned.did.passes.told site.centre)) told in
+              let has = one.stands.log.open_log.left (subst (λ (n : ℕ). IsTrue (w.disk new_disks n).told) (sym owns.centre) now) in
+              let quiet = quiet_turns config site.centre turned.front turned.given same_length (ascend_front 0 turned.front site back (subst (Ascend 0) whole ascend)).1 in
+              subst (λ (fs : List Fact). MayHaveFacts w.disk w.may_leave new_disks site.centre fs None)
+              (owns.facts ∙ sym (facts_then site.centre site.node.facts first_acts (turn_of config site given).acts ∙ ap (λ (fs : List Fact). facts_after site.centre (with_facts site.node.facts fs) (turn_of config site given).acts) quiet))
+              (subst (λ (n : ℕ). MayHaveFacts w.disk w.may_leave new_disks n (turn_of config site given).site.node.facts None) owns.centre has)
+
+          before : AllByRecursion (HasLog start.disks disks first_acts) (turned.front ++ site ∷ back)
+          before = subst (λ (sites : List Site). AllByRecursion (HasLog start.disks disks first_acts) sites) whole turned.logs
+
+          logs : AllByRecursion (HasLog start.disks new_disks (turns_of config (turned.front ++ site ∷ []) (turned.given ++ given ∷ [])).acts) served
+          logs =
+              subst (λ (acts : List Act). AllByRecursion (HasLog start.disks new_disks acts) served) (sym acts_are)
+              (subst (λ (sites : List Site). AllByRecursion (HasLog start.disks new_disks (first_acts ++ (turn_of config site given).acts)) sites) (sym whole)
+              (each_join _ turned.front (site ∷ back)
+              (each_by turned.front (each_both _ _ turned.front (each_front _ turned.front (site ∷ back) before) (ascend_front 0 turned.front site back (subst (Ascend 0) whole ascend)).1) elsewhere)
+              (itself, each_by back (each_both _ _ back (each_back _ turned.front (site ∷ back) before).1 back_other) elsewhere)))
+
+      -- what its log has then, of what it was to do
+      abbrev pub SiteDoes : Given → ServeFault → D → List Act → List Act → Type 0
+      SiteDoes given fault new_disks acts rest = SiteLog w site fault disks new_disks acts rest × (but_answers acts ++ rest ≡ (turn_of config site given).acts) × MayComeAt (IsTrue (w.disk disks site.centre).told) fault rest
+
+      -- the turn ended before, whatever is given in those that were to come
+      pub one_stopped : (given : Given) (more : List Given) (fault : ServeFault) (new_disks : D) (new : TheSite) (new_link : L) (new_out : O)
+          → Stops w site (turn_of config site given) fault (place disks ours.one link out) (place new_disks new new_link new_out)
+          → AllStop w served (turns_of config served (turned.given ++ given ∷ more)) fault start (places new_disks (ours.before ++ new ∷ ours.after) new_link new_out)
+      one_stopped given more fault new_disks new new_link new_out one =
+          subst (λ (server : Server). AllStop w served server fault start (places new_disks (ours.before ++ new ∷ ours.after) new_link new_out)) (sym joined) (record {
+            broke = subst (λ (acts : List Act). Broke w (AllTold w start.disks served) (AllLogs w served fault start.disks new_disks) acts fault (all_seen start) (all_seen (places new_disks (ours.before ++ new ∷ ours.after) new_link new_out)))
+                (append_assoc first_acts (turn_of config site given).acts (turns_of config back more).acts)
+                (broke_more w (turns_of config back more).acts weaker (did_broke w here logs turned.did
+                (subst (λ (hs : List TheSite). Broke w (IsTrue (w.disk disks site.centre).told) (SiteDoes given fault new_disks) (turn_of config site given).acts fault (all_seen (places disks hs link out)) (all_seen (places new_disks (ours.before ++ new ∷ ours.after) new_link new_out))) (sym ours.are)
+                (broke_all ours.before ours.after disks new_disks ours.one new link new_link out new_out one.broke))));
+            serials = serials fault one.serials;
+            no_boot = one.no_boot;
+          })
+        where
+          joined : turns_of config served (turned.given ++ given ∷ more)
+              ≡ record { acts = first_acts ++ ((turn_of config site given).acts ++ (turns_of config back more).acts); sites = (turns_of config turned.front turned.given).sites ++ (turn_of config site given).site ∷ (turns_of config back more).sites }
+          joined = ap (λ (sites : List Site). turns_of config sites (turned.given ++ given ∷ more)) whole ∙ turns_joined config turned.front (site ∷ back) turned.given (given ∷ more) same_length
+
+          here : (rest : List Act) → MayComeAt (IsTrue (w.disk disks site.centre).told) fault rest → MayComeAt (AllTold w start.disks served) fault rest
+          here rest comes = comes_under fault rest (λ (all : AllTold w start.disks served). subst IsTrue (sym (turned.did.passes.told site.centre)) (each_back _ turned.front (site ∷ back) (subst (λ (sites : List Site). AllTold w start.disks sites) whole all)).0) comes
+
+          weaker : (acts rest : List Act) → MayComeAt (AllTold w start.disks served) fault rest → AllLogs w served fault start.disks new_disks acts rest → AllLogs w served fault start.disks new_disks acts (rest ++ (turns_of config back more).acts)
+          weaker acts rest comes all = each_by served all (λ s has told. subst (λ (o : Option Fact). MayHaveFacts w.disk w.may_leave new_disks s.centre (facts_after s.centre s.node.facts acts) o)
+              (sym (flight_more (AllTold w start.disks served) fault s.centre rest (turns_of config back more).acts comes)) (has told))
+
+          serials : (f : ServeFault) → OnSerial f (turn_of config site given).site.sent → SerialsEnd ((turns_of config turned.front turned.given).sites ++ (turn_of config site given).site ∷ (turns_of config back more).sites) f
+          serials (ServeFault.Disk a) past = tt
+          serials (ServeFault.Log a why) past = tt
+          serials (ServeFault.Boot a why) past = tt
+          serials ServeFault.Link past = tt
+          serials ServeFault.Output past = tt
+          serials ServeFault.Serial past = any_past (turns_of config turned.front turned.given).sites (turn_of config site given).site (turns_of config back more).sites past
+          serials ServeFault.Memory past = tt
+
+          other_sites : Elsewhere site.centre turned.front × Elsewhere site.centre back
+          other_sites = ((ascend_front 0 turned.front site back (subst (Ascend 0) whole ascend)).1, (ascend_back 0 turned.front site back (subst (Ascend 0) whole ascend)).1)
+
+          logs : (before acts rest : List Act) → but_answers before ≡ first_acts → SiteDoes given fault new_disks acts rest → AllLogs w served fault start.disks new_disks (before ++ acts) rest
+          logs before acts rest are q =
+              subst (λ (sites : List Site). AllLogs w sites fault start.disks new_disks (before ++ acts) rest) (sym whole)
+              (each_join _ turned.front (site ∷ back)
+              (each_by turned.front (each_both _ _ turned.front (each_front _ turned.front (site ∷ back) had) other_sites.0) elsewhere)
+              (itself, each_by back (each_both _ _ back (each_back _ turned.front (site ∷ back) had).1 other_sites.1) elsewhere))
+            where
+              had : AllByRecursion (HasLog start.disks disks first_acts) (turned.front ++ site ∷ back)
+              had = subst (λ (sites : List Site). AllByRecursion (HasLog start.disks disks first_acts) sites) whole turned.logs
+
+              same_facts : (c : ℕ) (facts : List Fact) → facts_after c facts (first_acts ++ acts) ≡ facts_after c facts (before ++ acts)
+              same_facts c facts =
+                  facts_then c facts first_acts acts
+                  ∙ (ap (λ (fs : List Fact). facts_after c fs acts) (sym (facts_expected c facts before first_acts are)) ∙ sym (facts_then c facts before acts))
+
+              silent : (c : ℕ) → c ≢ site.centre → appended c acts ≡ []
+              silent c other =
+                  sym (appended_answers c acts)
+                  ∙ front_none (appended c (but_answers acts)) (appended c rest) (sym (appended_append c (but_answers acts) rest) ∙ (ap (appended c) q.1 ∙ (turn_owns config site given).others c other))
+
+              elsewhere : (s : Site) → (HasLog start.disks disks first_acts s) × ((s.centre ≤ 9) × (s.centre ≢ site.centre))
+                  → IsTrue (w.disk start.disks s.centre).told → MayHaveFacts w.disk w.may_leave new_disks s.centre (facts_after s.centre s.node.facts (before ++ acts)) (in_flight fault s.centre rest)
+              elsewhere s h told =
+                  subst (λ (fs : List Fact). MayHaveFacts w.disk w.may_leave new_disks s.centre fs (in_flight fault s.centre rest)) (same_facts s.centre s.node.facts)
+                  (log_elsewhere start.disks disks new_disks site.centre first_acts acts (in_flight fault s.centre rest) s low h.1 one.others (silent s.centre h.1.1) h.0 told)
+
+              itself : IsTrue (w.disk start.disks site.centre).told → MayHaveFacts w.disk w.may_leave new_disks site.centre (facts_after site.centre site.node.facts (before ++ acts)) (in_flight fault site.centre rest)
+              itself told =
+                  let quiet = quiet_turns config site.centre turned.front turned.given same_length other_sites.0 in
+                  subst (λ (fs : List Fact). MayHaveFacts w.disk w.may_leave new_disks site.centre fs (in_flight fault site.centre rest))
+                  (sym (facts_then site.centre site.node.facts first_acts acts ∙ ap (λ (fs : List Fact). facts_after site.centre (with_facts site.node.facts fs) acts) quiet) ∙ same_facts site.centre site.node.facts)
+                  (q.0 (subst IsTrue (sym (turned.did.passes.told site.centre)) told))
+
+  -- ---- the next one, where it is held
+
+  module _ (config : Config) (start now new : Places D L O) (served : List Site) (index : ℕ) (ascend : Ascend 0 served) (turned : HaveTurned config config.cluster start now served index) (within : index < length now.held) where
+    next_site : (site : Site) × (back : List Site) × (turned.back ≡ site ∷ back)
+    next_site = some_back config config.cluster start now served index turned within
+
+    abbrev next_one : OneOf config.cluster now.disks now.held (turns_of config turned.front turned.given).sites next_site.0 next_site.1
+    next_one = ours config config.cluster start served ascend index now.disks now.held now.link now.out turned next_site.0 next_site.1 next_site.2
+
+    next_at : (d : TheSite) → get_or now.held index d ≡ next_one.one
+    next_at d = one_at config config.cluster start served ascend index now.disks now.held now.link now.out turned next_site.0 next_site.1 next_site.2 d
+
+    pub next_served : IsServedAt w config.cluster now.disks now.held index
+    next_served = record { one = next_one.one; is = next_at; served = record { site = next_site.0; stands = next_one.holds } }
+
+    -- what is held then
+    held_then : (next : TheSite) → new.held ≡ set now.held index next → new.held ≡ next_one.before ++ next ∷ next_one.after
+    held_then next is =
+        is ∙ set_at config config.cluster start served ascend index now.disks now.held now.link now.out turned next_site.0 next_site.1 next_site.2 next
+
+    pub next_turned : (done : Unit {0}) → ((one : TheSite) (site : Site) → ((d : TheSite) → get_or now.held index d ≡ one) → HoldsSite w config.cluster now.disks one site → TurnsAt w config one site index (Ok done) now new)
+        → HaveTurned config config.cluster start new served (index + 1)
+    next_turned done each =
+        let turn : TurnsAt w config next_one.one next_site.0 index (Ok done) now new = each next_one.one next_site.0 next_at next_one.holds in
+        subst (λ (hs : List TheSite). HaveTurned config config.cluster start (places new.disks hs new.link new.out) served (index + 1)) (sym (held_then turn.next turn.held))
+        (one_turned config config.cluster start served ascend index now.disks now.held now.link now.out turned next_site.0 next_site.1 next_site.2 turn.given new.disks turn.next new.link new.out turn.goes)
+
+    -- it ended before, whatever is given in the turns that were to come
+    pub next_stopped : (fault : ServeFault)
+        → ((one : TheSite) (site : Site) → ((d : TheSite) → get_or now.held index d ≡ one) → HoldsSite w config.cluster now.disks one site → TurnsAt w config one site index (Err fault) now new)
+        → (given : List Given) × (length given ≡ length served) × AllStop w served (turns_of config served given) fault start new
+    next_stopped fault each =
+        let turn : TurnsAt w config next_one.one next_site.0 index (Err fault) now new = each next_one.one next_site.0 next_at next_one.holds in
+        let more : List Given = replicate (length next_site.1) turn.given in
+        let long : length (turned.given ++ turn.given ∷ more) ≡ length served = given_long turn.given in
+        let stop : AllStop w served (turns_of config served (turned.given ++ turn.given ∷ more)) fault start new =
+        subst (λ (hs : List TheSite). AllStop w served (turns_of config served (turned.given ++ turn.given ∷ more)) fault start (places new.disks hs new.link new.out)) (sym (held_then turn.next turn.held))
+        (one_stopped config config.cluster start served ascend index now.disks now.held now.link now.out turned next_site.0 next_site.1 next_site.2 turn.given more fault new.disks turn.next new.link new.out turn.goes) in
+        (turned.given ++ turn.given ∷ more, long, stop)
+      where
+        given_long : (given : Given) → length (turned.given ++ given ∷ replicate (length next_site.1) given) ≡ length served
+        given_long given =
+            let a = length-append turned.given (given ∷ replicate (length next_site.1) given) in
+            let b = length-replicate (length next_site.1) given in
+            let c = length-append turned.front (next_site.0 ∷ next_site.1) in
+            let d : length served ≡ length (turned.front ++ next_site.0 ∷ next_site.1) =
+            ap (λ (sites : List Site). length sites) (turned.are ∙ ap (λ (sites : List Site). turned.front ++ sites) next_site.2) in
+            let e = turned.many in
+            let f = turned.as_many in
+            omega (a, b, c, d, e, f, arith)

@@ -1,0 +1,18 @@
+use Rattle.std.proofs.Common.{subst, sym}
+use Rattle.mdcc_serve.proofs.Booted.{cells_of, empty_store, gives_node, gives_none}
+use Rattle.mdcc_serve.specs.Starts.{GivesNone}
+use Rattle.mdcc_site.specs.declared.fault.ServeFault.{ServeFault}
+use Rattle.mdcc_serve.proofs.booting.boot_node.Goals as goal
+
+pub returns-in-Ok-clause-boots : goal.returns-in-Ok-clause-boots
+returns-in-Ok-clause-boots c =
+    gives_node c.facts_have_one_spelling.ensures c.facts_read_are_well_formed.ensures c.boots_within_cells.ensures c.boots_give_nodes.ensures.node c.args.cluster c.requires.cluster c.args.centre c.requires.among
+    c.args.payloads.now c.are_all_bytes.ensures c.requires.short c.in-Ok.booted
+    (c.in-Ok.ensures.boots (cells_of c.args.cluster) (empty_store c.args.store c.args.cluster c.requires.empty c.requires.spare))
+
+pub returns-in-Err-clause-fails : goal.returns-in-Err-clause-fails
+returns-in-Err-clause-fails c =
+    subst (λ (f : ServeFault). GivesNone c.args.cluster c.args.centre c.args.payloads.now f) (sym c.boot_fault.ensures)
+    (gives_none c.facts_have_one_spelling.ensures c.facts_read_are_well_formed.ensures c.boots_within_cells.ensures c.boots_give_nodes.ensures.node c.args.cluster c.requires.cluster c.args.centre c.requires.among
+    c.args.payloads.now c.are_all_bytes.ensures c.requires.short c.in-Err.fault
+    (c.in-Err.ensures.boots (cells_of c.args.cluster) (empty_store c.args.store c.args.cluster c.requires.empty c.requires.spare)))

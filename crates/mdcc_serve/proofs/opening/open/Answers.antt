@@ -1,0 +1,58 @@
+use Rattle.std.proofs.Common.{◌≡◌, ◌+◌, ◌≤◌, List, Err, arith, length, rules, subst, sym}
+use Rattle.std.specs.List.{AllByRecursion}
+use Rattle.mdcc_serve.proofs.Ready.{bind_fails, held_among, opens_all, start_fails, tell_fails}
+use Rattle.mdcc_serve.specs.Openings.{BindsAll, BindsSome, LinesSome, binds_of_all, boots_told}
+use Rattle.mdcc_site.specs.Moments.{outside}
+use Rattle.mdcc_site.specs.SiteState.{PrintsAll}
+use Rattle.mdcc_site.specs.declared.site.Site.{Site}
+use Rattle.mdcc_serve.proofs.opening.open.Goals as goal
+
+pub returns-in_err-sites-clause-fails : goal.returns-in_err-sites-clause-fails
+returns-in_err-sites-clause-fails g c =
+    let w = outside g.D.Disks.disk g.D.Disks.may_leave g.L.Link.calls g.L.Link.lost g.L.Link.faults g.O.Sink.held g.O.Sink.faults in
+    let e : c.from_residual.result ≡ Err c.in_err-sites.field-0.0 = search rules in
+    rw e (start_fails w g.D.Disks.tears c.args.config.now c.args.first c.args.last c.in_err-sites.field-0.0 c.args.disks.now c.start_all.new.disks c.args.link.now c.args.out.now c.requires.order c.in_err-sites.ensures.fails)
+
+pub bind_all-requires-clause-among : goal.bind_all-requires-clause-among
+bind_all-requires-clause-among g c =
+    let config = c.args.config.now in
+    let held = c.in_ok-sites.sites.items in
+    let started = c.in_ok-sites.ensures.starts in
+    let many : length held + c.args.first ≡ c.args.last + 1 = c.in_ok-sites.ensures.as_many in
+    let among : c.args.last ≤ config.cluster.quorums.centres = c.requires.among in
+    subst (λ (sites : List Site). AllByRecursion (λ (site : Site). site.centre ≤ config.cluster.quorums.centres) sites) (sym c.as_slice.ensures.value)
+    (held_among g.D.Disks.disk g.D.Disks.may_leave config.cluster c.start_all.new.disks c.args.first config.cluster.quorums.centres held started.logs started.each started.follow (omega (many, among, arith)))
+
+pub returns-in_err-bind_all-clause-fails : goal.returns-in_err-bind_all-clause-fails
+returns-in_err-bind_all-clause-fails g c =
+    let w = outside g.D.Disks.disk g.D.Disks.may_leave g.L.Link.calls g.L.Link.lost g.L.Link.faults g.O.Sink.held g.O.Sink.faults in
+    let config = c.args.config.now in
+    let among : c.args.last ≤ config.cluster.quorums.centres = c.requires.among in
+    let nine : config.cluster.quorums.centres ≤ 9 = c.requires.config.quorums.nine_centres in
+    let e : c.from_residual-in_err-bind_all.result ≡ Err c.in_err-bind_all.field-0.0 = search rules in
+    rw e (bind_fails w g.D.Disks.tears config c.args.first c.args.last c.in_ok-sites.sites.items c.args.disks.now c.start_all.new.disks c.args.link.now c.args.out.now
+    c.in_ok-sites.ensures.starts c.in_ok-sites.ensures.as_many c.requires.some (omega (among, nine, arith)) c.in_err-bind_all.field-0.0 c.bind_all.new.link
+    (subst (λ (sites : List Site). BindsSome g.L.Link.calls g.L.Link.lost g.L.Link.faults (binds_of_all config sites) c.in_err-bind_all.field-0.0 c.args.link.now c.bind_all.new.link) c.as_slice.ensures.value c.in_err-bind_all.ensures))
+
+pub returns-in_err-tell_boots-clause-fails : goal.returns-in_err-tell_boots-clause-fails
+returns-in_err-tell_boots-clause-fails g c =
+    let w = outside g.D.Disks.disk g.D.Disks.may_leave g.L.Link.calls g.L.Link.lost g.L.Link.faults g.O.Sink.held g.O.Sink.faults in
+    let config = c.args.config.now in
+    let among : c.args.last ≤ config.cluster.quorums.centres = c.requires.among in
+    let nine : config.cluster.quorums.centres ≤ 9 = c.requires.config.quorums.nine_centres in
+    let e : c.from_residual-in_err-tell_boots.result ≡ Err c.in_err-tell_boots.field-0.0 = search rules in
+    rw e (tell_fails w g.D.Disks.tears config c.args.first c.args.last c.in_ok-sites.sites.items c.args.disks.now c.start_all.new.disks c.args.link.now c.args.out.now
+    c.in_ok-sites.ensures.starts c.in_ok-sites.ensures.as_many c.requires.some (omega (among, nine, arith)) c.in_err-tell_boots.field-0.0 c.bind_all.new.link c.tell_boots.new.out
+    (subst (λ (sites : List Site). BindsAll g.L.Link.calls g.L.Link.lost g.L.Link.faults (binds_of_all config sites) c.args.link.now c.bind_all.new.link) c.as_slice.ensures.value c.in_ok-bind_all.ensures)
+    (subst (λ (sites : List Site). LinesSome g.O.Sink.held g.O.Sink.faults (boots_told sites) c.in_err-tell_boots.field-0.0 c.args.out.now c.tell_boots.new.out) c.as_slice-2.ensures.value c.in_err-tell_boots.ensures))
+
+pub returns-clause-opens : goal.returns-clause-opens
+returns-clause-opens g c =
+    let w = outside g.D.Disks.disk g.D.Disks.may_leave g.L.Link.calls g.L.Link.lost g.L.Link.faults g.O.Sink.held g.O.Sink.faults in
+    let config = c.args.config.now in
+    let among : c.args.last ≤ config.cluster.quorums.centres = c.requires.among in
+    let nine : config.cluster.quorums.centres ≤ 9 = c.requires.config.quorums.nine_centres in
+    opens_all w g.D.Disks.tears config c.args.first c.args.last c.in_ok-sites.sites.items c.args.disks.now c.start_all.new.disks c.args.link.now c.args.out.now
+    c.in_ok-sites.ensures.starts c.in_ok-sites.ensures.as_many c.requires.some (omega (among, nine, arith)) c.bind_all.new.link c.tell_boots.new.out
+    (subst (λ (sites : List Site). BindsAll g.L.Link.calls g.L.Link.lost g.L.Link.faults (binds_of_all config sites) c.args.link.now c.bind_all.new.link) c.as_slice.ensures.value c.in_ok-bind_all.ensures)
+    (subst (λ (sites : List Site). PrintsAll g.O.Sink.held g.O.Sink.faults (boots_told sites) c.args.out.now c.tell_boots.new.out) c.as_slice-2.ensures.value c.in_ok-tell_boots.ensures)

@@ -1,0 +1,35 @@
+use Rattle.std.proofs.Common.{◌≡◌, [], arith, length}
+use Rattle.std.proofs.lemmas.Result.{IfErr-at_err}
+use Rattle.mdcc_serve.proofs.Ended.{follow_range, many_range}
+use Rattle.mdcc_serve.specs.Centres.{all_seen, places}
+use Rattle.mdcc_site.specs.Moments.{Caused, outside}
+use Rattle.mdcc_site.specs.declared.fault.ServeFault.{ServeFault}
+use Rattle.mdcc_serve.proofs.serve.serve_cluster.Goals as goal
+
+pub serve-requires-clause-order : goal.serve-requires-clause-order
+serve-requires-clause-order g c = let some = c.requires.config.quorums.some_centre in let value = c.centres-last.ensures.value in omega (some, value, arith)
+
+pub serve-requires-clause-alike : goal.serve-requires-clause-alike
+serve-requires-clause-alike g c a low high = let value = c.centres-last.ensures.value in c.requires.alike a low (omega (value, high, arith))
+
+pub returns-clause-serves : goal.returns-clause-serves
+returns-clause-serves g c logs numbers are =
+    let centres = c.args.config.now.cluster.quorums.centres in
+    let many : length logs ≡ centres = many_range 1 centres logs numbers in
+    let value = c.centres-last.ensures.value in
+    c.serve.ensures.serves logs (follow_range 1 centres logs numbers) (omega (many, value, arith)) are
+
+pub returns-clause-disk : goal.returns-clause-disk
+returns-clause-disk g c a ended =
+    let w = outside g.D.Disks.disk g.D.Disks.may_leave g.L.Link.calls g.L.Link.lost g.L.Link.faults g.O.Sink.held g.O.Sink.faults in
+    IfErr-at_err (λ (fault : ServeFault). Caused w fault (all_seen (places c.args.disks.now [] c.args.link.now c.args.out.now)) (all_seen (places c.serve.new.disks [] c.serve.new.link c.serve.new.out))) ended c.serve.ensures.causes
+
+pub returns-clause-link : goal.returns-clause-link
+returns-clause-link g c ended =
+    let w = outside g.D.Disks.disk g.D.Disks.may_leave g.L.Link.calls g.L.Link.lost g.L.Link.faults g.O.Sink.held g.O.Sink.faults in
+    IfErr-at_err (λ (fault : ServeFault). Caused w fault (all_seen (places c.args.disks.now [] c.args.link.now c.args.out.now)) (all_seen (places c.serve.new.disks [] c.serve.new.link c.serve.new.out))) ended c.serve.ensures.causes
+
+pub returns-clause-output : goal.returns-clause-output
+returns-clause-output g c ended =
+    let w = outside g.D.Disks.disk g.D.Disks.may_leave g.L.Link.calls g.L.Link.lost g.L.Link.faults g.O.Sink.held g.O.Sink.faults in
+    IfErr-at_err (λ (fault : ServeFault). Caused w fault (all_seen (places c.args.disks.now [] c.args.link.now c.args.out.now)) (all_seen (places c.serve.new.disks [] c.serve.new.link c.serve.new.out))) ended c.serve.ensures.causes

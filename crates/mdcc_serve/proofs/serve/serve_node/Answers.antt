@@ -1,0 +1,31 @@
+use Rattle.std.proofs.Common.{◌≡◌, ◌∙◌, ◌+◌, ◌∷◌, [], ℕ, arith, subst, sym}
+use Rattle.std.proofs.lemmas.Result.{IfErr-at_err}
+use Rattle.mdcc_serve.specs.Centres.{all_seen, places}
+use Rattle.mdcc_site.specs.Moments.{Caused, outside}
+use Rattle.mdcc_site.specs.declared.fault.ServeFault.{ServeFault}
+use Rattle.mdcc_serve.proofs.serve.serve_node.Goals as goal
+
+pub serve-requires-clause-alike : goal.serve-requires-clause-alike
+serve-requires-clause-alike g c a low high =
+    let value = c.number-first.ensures.value in
+    let is : c.args.centre ≡ a = omega (value, low, high, arith) in
+    subst (λ (n : ℕ). (g.D.Disks.disk c.args.disks.now (n + 16)).told ≡ (g.D.Disks.disk c.args.disks.now n).told) is c.requires.alike
+
+pub returns-clause-serves : goal.returns-clause-serves
+returns-clause-serves g c log of is =
+    c.serve.ensures.serves (log ∷ []) (of ∙ sym c.number-first.ensures.value, tt) (omega arith) (is, tt)
+
+pub returns-clause-disk : goal.returns-clause-disk
+returns-clause-disk g c a ended =
+    let w = outside g.D.Disks.disk g.D.Disks.may_leave g.L.Link.calls g.L.Link.lost g.L.Link.faults g.O.Sink.held g.O.Sink.faults in
+    IfErr-at_err (λ (fault : ServeFault). Caused w fault (all_seen (places c.args.disks.now [] c.args.link.now c.args.out.now)) (all_seen (places c.serve.new.disks [] c.serve.new.link c.serve.new.out))) ended c.serve.ensures.causes
+
+pub returns-clause-link : goal.returns-clause-link
+returns-clause-link g c ended =
+    let w = outside g.D.Disks.disk g.D.Disks.may_leave g.L.Link.calls g.L.Link.lost g.L.Link.faults g.O.Sink.held g.O.Sink.faults in
+    IfErr-at_err (λ (fault : ServeFault). Caused w fault (all_seen (places c.args.disks.now [] c.args.link.now c.args.out.now)) (all_seen (places c.serve.new.disks [] c.serve.new.link c.serve.new.out))) ended c.serve.ensures.causes
+
+pub returns-clause-output : goal.returns-clause-output
+returns-clause-output g c ended =
+    let w = outside g.D.Disks.disk g.D.Disks.may_leave g.L.Link.calls g.L.Link.lost g.L.Link.faults g.O.Sink.held g.O.Sink.faults in
+    IfErr-at_err (λ (fault : ServeFault). Caused w fault (all_seen (places c.args.disks.now [] c.args.link.now c.args.out.now)) (all_seen (places c.serve.new.disks [] c.serve.new.link c.serve.new.out))) ended c.serve.ensures.causes

@@ -1,0 +1,39 @@
+use Rattle.std.proofs.Common.{◌∙◌, ◌∷◌, ℕ, List, ap, refl, rules, subst, sym}
+use Rattle.std.proofs.lemmas.Result.{err_from_is_err_and}
+use Rattle.mdcc_messages.specs.declared.facts.Fact.{Fact}
+use Rattle.mdcc_runs.specs.Servers.{Log}
+use Rattle.mdcc_serve.proofs.Started.{boot_unlogged, keeps_on, passes_on}
+use Rattle.mdcc_site.specs.SiteState.{HoldsLog}
+use Rattle.mdcc_serve.proofs.starting.start.Goals as goal
+
+pub returns-in_err-log_fact-clause-fails : goal.returns-in_err-log_fact-clause-fails
+returns-in_err-log_fact-clause-fails g c =
+    let p = err_from_is_err_and c.from_residual-in_err-log_fact.result c.from_residual-in_err-log_fact.ensures.1 in
+    let booted = c.in_ok-node.ensures.boots in
+    rw (p.1, p.2) (boot_unlogged g.D.Disks.disk g.D.Disks.may_leave g.D.Disks.tears c.args.config.now.cluster c.args.centre c.in_ok-node.node c.in_ok-node.log c.in_ok-node.boot c.in_err-log_fact.field-0.0
+    c.args.disks.now c.boot.new.disks c.log_fact.new.disks booted (c.in_err-log_fact.ensures booted.facts booted.open_log))
+
+pub returns-clause-starts : goal.returns-clause-starts
+returns-clause-starts g c =
+    let booted = c.in_ok-node.ensures.boots in
+    let logged = c.in_ok-log_fact.ensures booted.facts booted.open_log in
+    record {
+      log = record { centre = c.args.centre; facts = booted.facts };
+      of = refl;
+      itself = record {
+        node = booted.itself;
+        kept = booted.kept;
+        centre = refl;
+        sender = record { centre = refl; epoch = c.epoch-epoch.ensures c.args.config.now.cluster c.args.centre _ _ booted.itself.itself; sent = refl };
+        clients = search rules;
+        own = c.in_ok-own.ensures;
+        asked = c.in_ok-asked.ensures;
+      };
+      holds = subst (λ (fact : Fact). HoldsLog g.D.Disks.disk g.D.Disks.may_leave c.log_fact.new.disks c.log_fact.new.log c.args.centre (fact ∷ booted.facts)) booted.boot_is logged.stands;
+      fresh = record { steps = refl; dropped = refl; lost = refl };
+      passes = passes_on g.D.Disks.disk g.D.Disks.may_leave booted.passes logged.passes;
+      others = keeps_on g.D.Disks.disk g.D.Disks.may_leave booted.others logged.others;
+      over = λ before of is.
+          ap (λ (n : ℕ). let l : Log = record { centre = n; facts = booted.facts } in l) (sym of)
+          ∙ ap (λ (fs : List Fact). let l : Log = record { centre = before.centre; facts = fs } in l) (booted.over before of is);
+    }

@@ -1,0 +1,52 @@
+use Rattle.std.proofs.Common.{◌≡◌, ◌+◌, ◌-◌, ◌≤◌, ◌∷◌, ◌++◌, [], List, Err, arith, inl, inr, length, length-append, rules, subst, sym}
+use Rattle.mdcc_serve.proofs.Together.{keep_stops, none_started, one_started, start_stops}
+use Rattle.mdcc_serve.specs.Starts.{FailToStart, HaveStarted}
+use Rattle.mdcc_site.specs.declared.fault.ServeFault.{ServeFault}
+use Rattle.mdcc_site.specs.declared.site.Site.{Site}
+use Rattle.mdcc_serve.proofs.starting.start_all.Goals as goal
+
+pub loop-number-init : goal.loop-number-init
+loop-number-init g c =
+    let none : c.new-sites.result.items ≡ [] = search rules in
+    record {
+      started = subst (λ (held : List Site). HaveStarted g.D.Disks.disk g.D.Disks.may_leave c.args.config.now.cluster c.args.first held c.args.disks.now c.args.disks.now) (sym none)
+          (none_started g.D.Disks.disk g.D.Disks.may_leave c.args.config.now.cluster c.args.first c.args.disks.now);
+      many = rw none (omega arith);
+    }
+
+pub loop-number-preserved : goal.loop-number-preserved
+loop-number-preserved g c =
+    let before = c.loop-number.invariant in
+    let many : c.args.first + length c.loop-number.sites.items ≡ c.loop-number.number = before.many in
+    let next = c.in_ok-start_next.ensures.starts in
+    let more = length-append c.loop-number.sites.items (next.0 ∷ []) in
+    let nine : c.args.config.now.cluster.quorums.centres ≤ 9 = c.requires.config.quorums.nine_centres in
+    let among : c.args.last ≤ c.args.config.now.cluster.quorums.centres = c.requires.among in
+    record {
+      started = subst (λ (held : List Site). HaveStarted g.D.Disks.disk g.D.Disks.may_leave c.args.config.now.cluster c.args.first held c.args.disks.now c.start_next.new.disks) (sym {A = List Site} next.1)
+          (one_started g.D.Disks.disk g.D.Disks.may_leave c.args.config.now.cluster c.args.first c.loop-number.number c.loop-number.sites.items c.args.disks.now c.loop-number.disks c.start_next.new.disks
+          c.requires.some (sym many) (omega (nine, among, arith)) before.started next.0 next.2);
+      many = rw next.1 (omega (more, many, arith));
+    }
+
+pub returns-in_err-start_next-clause-fails : goal.returns-in_err-start_next-clause-fails
+returns-in_err-start_next-clause-fails g c =
+    let before = c.loop-number.invariant in
+    let many : c.args.first + length c.loop-number.sites.items ≡ c.loop-number.number = before.many in
+    let nine : c.args.config.now.cluster.quorums.centres ≤ 9 = c.requires.config.quorums.nine_centres in
+    let among : c.args.last ≤ c.args.config.now.cluster.quorums.centres = c.requires.among in
+    let fault = c.in_err-start_next.field-0.0 in
+    let count = c.args.last + 1 - c.args.first in
+    let e : c.from_residual.result ≡ Err fault = search rules in
+    rw e (elim c.in_err-start_next.ensures.fails [
+      | inl fails ↦
+          start_stops g.D.Disks.disk g.D.Disks.may_leave c.args.config.now.cluster c.args.first c.loop-number.number c.loop-number.sites.items c.args.disks.now c.loop-number.disks c.start_next.new.disks
+          c.requires.some (sym many) (omega (nine, among, arith)) before.started g.D.Disks.tears count fault (omega (many, arith)) (omega (nine, among, arith)) fails
+      | inr lacks ↦
+          let more = length-append c.loop-number.sites.items (lacks.1 ∷ []) in
+          let started = one_started g.D.Disks.disk g.D.Disks.may_leave c.args.config.now.cluster c.args.first c.loop-number.number c.loop-number.sites.items c.args.disks.now c.loop-number.disks c.start_next.new.disks
+          c.requires.some (sym many) (omega (nine, among, arith)) before.started lacks.1 lacks.2 in
+          subst (λ (f : ServeFault). FailToStart g.D.Disks.disk g.D.Disks.may_leave g.D.Disks.tears c.args.config.now.cluster c.args.first count f c.args.disks.now c.start_next.new.disks) (sym lacks.0)
+          (keep_stops g.D.Disks.disk g.D.Disks.may_leave c.args.config.now.cluster c.args.first count (c.loop-number.sites.items ++ lacks.1 ∷ []) c.args.disks.now c.start_next.new.disks g.D.Disks.tears started
+          (omega (more, many, arith)) (omega (nine, among, arith)))
+    ])

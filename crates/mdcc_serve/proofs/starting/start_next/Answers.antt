@@ -1,0 +1,22 @@
+use Rattle.std.proofs.Common.{◌≡◌, ℕ, inr, refl, rules, subst}
+use Rattle.std.proofs.lemmas.Result.{err_from_is_err_and}
+use Rattle.mdcc_serve.specs.Starts.{HasStarted}
+use Rattle.mdcc_serve.proofs.starting.start_next.Goals as goal
+
+pub returns-in_err-push-clause-fails : goal.returns-in_err-push-clause-fails
+returns-in_err-push-clause-fails g c =
+    let same : c.unwrap-centre.result ≡ c.args.number = search rules in
+    let p = err_from_is_err_and c.from_residual-in_err-push.result c.from_residual-in_err-push.ensures.1 in
+    rw (p.1, p.2) (inr (
+      refl,
+      c.in_ok-site.site,
+      subst (λ (n : ℕ). HasStarted g.D.Disks.disk g.D.Disks.may_leave c.args.config.now.cluster n c.in_ok-site.site c.args.disks.now c.start.new.disks) same c.in_ok-site.ensures.starts,
+    ))
+
+pub returns-clause-starts : goal.returns-clause-starts
+returns-clause-starts g c =
+    let same : c.unwrap-centre.result ≡ c.args.number = search rules in (
+      c.in_ok-site.site,
+      c.in_ok-push.ensures.items,
+      subst (λ (n : ℕ). HasStarted g.D.Disks.disk g.D.Disks.may_leave c.args.config.now.cluster n c.in_ok-site.site c.args.disks.now c.start.new.disks) same c.in_ok-site.ensures.starts,
+    )

@@ -1,0 +1,6 @@
+pub mod Centres
+pub mod Ends
+pub mod Openings
+pub mod Serving
+pub mod Starts
+pub mod Totals

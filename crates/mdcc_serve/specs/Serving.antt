@@ -1,0 +1,96 @@
+-- What a server does from its start to its last turn, and what is seen of it where it ends before.
+use Rattle.std.specs.Io.KnownBytes.{Appends}
+use Rattle.std.specs.List.{AllByRecursion}
+use Rattle.std.specs.Prelude.{Err, IsTrue, List, Ok, Option, Result, [], length, take, ℕ, ◌+◌, ◌++◌, ◌<◌, ◌^◌, ◌∷◌, ◌≡◌, ◌≤◌}
+use Rattle.mdcc_base.specs.Causes.{Rose}
+use Rattle.mdcc_config.specs.declared.config.Config.{Config}
+use Rattle.mdcc_disks.specs.Disks.{Disk, Only}
+use Rattle.mdcc_link.specs.Link.{LinkCall}
+use Rattle.mdcc_option.specs.declared.cluster.Cluster.{Cluster}
+use Rattle.mdcc_restart.specs.Logged.{AreLogged}
+use Rattle.mdcc_runs.specs.Acts.{Act, but_answers, dropped_in, lost_in, printed, steps_in}
+use Rattle.mdcc_runs.specs.Servers.{Log, served}
+use Rattle.mdcc_runs.specs.Sites.{Site}
+use Rattle.mdcc_runs.specs.Turns.{Given}
+use Rattle.mdcc_runs.specs.declared.lines.ServerLine.{ServerLine}
+use Rattle.mdcc_site.specs.Causes.{BootsRefused, ComesAt, IsSafeAt, SerialsEnd, failed_by, in_flight, text_begun}
+use Rattle.mdcc_outbox.specs.Shows.{Records, calls_of, counted, failed_in}
+use Rattle.mdcc_site.specs.Logs.{HasFacts, KeepsFacts, MayHaveFacts, facts_after}
+use Rattle.mdcc_site.specs.declared.fault.ServeFault.{ServeFault}
+use Rattle.mdcc_serve.specs.declared.served.Served.{Served}
+
+-- ---- the acts
+
+abbrev pub done_line : ℕ → List Act → ServerLine
+done_line turns acts = ServerLine.Done turns (counted (steps_in acts)) (counted (dropped_in acts)) (counted (lost_in acts))
+
+-- The acts of a server over these logs, for what its receives gave in each of so many turns, whatever the link answered to sends,
+-- with the last line.
+pub record IsRun (config : Config) (logs : List Log) (turns : ℕ) (acts : List Act) : Type 0 where
+  pub given : List (List Given)
+  pub turns_made : length given ≡ turns
+  pub each : AllByRecursion (λ turn. length turn ≡ length logs) given
+  pub ran : List Act
+  pub runs : but_answers ran ≡ (served config logs given).acts
+  pub whole : acts ≡ ran ++ Act.Print (done_line turns ran) ∷ []
+
+-- no message had a serial above the last one
+abbrev pub HasSerials : Site → Type 0
+HasSerials site = site.sent < 2 ^ 32
+
+-- ---- the logs before
+
+-- the log of a centre that tells its bytes, with facts that it may have added
+pub record IsLogOf {D : Type 0} (disk : D → ℕ → Disk) (cluster : Cluster) (disks : D) (log : Log) : Type 0 where
+  pub told : IsTrue (disk disks log.centre).told
+  pub told_other : IsTrue (disk disks (log.centre + 16)).told
+  pub has : HasFacts disk disks log.centre log.facts
+  pub allowed : AreLogged cluster log.facts
+
+abbrev pub AreLogsOf : {D : Type 0} → (D → ℕ → Disk) → Cluster → D → List Log → Type 0
+AreLogsOf disk cluster disks logs = AllByRecursion (IsLogOf disk cluster disks) logs
+
+-- ---- what it left
+
+-- A crash before it leaves the log as it is.
+pub record IsDurable {D : Type 0} (disk : D → ℕ → Disk) (may_leave : D → ℕ → List ℕ → Type 0) (disks : D) (log : Log) : Type 0 where
+  pub first : Only (disk disks log.centre).bytes (may_leave disks log.centre)
+  pub second : Only (disk disks (log.centre + 16)).bytes (may_leave disks (log.centre + 16))
+
+module _ {D L O : Type 0} (disk : D → ℕ → Disk) (may_leave : D → ℕ → List ℕ → Type 0) (tears : ℕ → Type 0) (calls : L → Option (List LinkCall)) (lost : L → ℕ) (held : O → Option (List ℕ)) where
+  -- what the acts, a call of the link that failed and a prefix of a line left at link and output
+  pub record Leaves (acts : List Act) (failed : List LinkCall) (text : List ℕ) (link_old link_new : L) (out_old out_new : O) : Type 0 where
+    pub link : Records (calls_of acts ++ failed) (calls link_old) (calls link_new)
+    pub output : Appends (held out_old) (held out_new) (printed acts ++ text)
+    -- a send fails only where the link's count rose
+    pub failed_sends : 1 ≤ failed_in acts → Rose (lost link_old) (lost link_new)
+
+  -- All turns were made.
+  pub record Serves (config : Config) (logs : List Log) (turns : ℕ) (result : Served) (disks : D) (link_old link_new : L) (out_old out_new : O) : Type 0 where
+    pub acts : List Act
+    pub run : IsRun config logs turns acts
+    pub left : Leaves acts [] [] link_old link_new out_old out_new
+    pub kept : AllByRecursion (λ site. KeepsFacts disk may_leave disks site.centre site.node.facts) (served config logs run.given).sites
+    pub serials : AllByRecursion HasSerials (served config logs run.given).sites
+    pub turns_told : result.turns ≡ turns
+    pub steps_told : result.steps ≡ counted (steps_in acts)
+    pub dropped_told : result.dropped ≡ counted (dropped_in acts)
+    pub lost_told : result.lost ≡ counted (lost_in acts)
+
+  -- It ended before: a prefix of the acts was done, and this is what comes next. A log that was durable has the facts that were
+  -- appended, or where its disk failed perhaps the one that was being appended too, whatever a crash leaves of it; at a boot, where the
+  -- log is opened, so it is on disks that tear no byte to 1.
+  pub record BreaksOff (config : Config) (logs : List Log) (turns : ℕ) (fault : ServeFault) (disks_old disks : D) (link_old link_new : L) (out_old out_new : O) : Type 0 where
+    pub acts : List Act
+    pub rest : List Act
+    pub run : IsRun config logs turns (acts ++ rest)
+    pub comes : ComesAt fault rest
+    pub boots : BootsRefused config.cluster logs fault
+    pub serials : SerialsEnd (served config logs run.given).sites fault
+    pub printed_more : ℕ
+    pub left : Leaves acts (failed_by fault rest) (take printed_more (text_begun fault rest)) link_old link_new out_old out_new
+    pub kept : AllByRecursion (IsDurable disk may_leave disks_old) logs → IsSafeAt tears fault rest → AllByRecursion (λ log. MayHaveFacts disk may_leave disks log.centre (facts_after log.centre log.facts acts) (in_flight fault log.centre rest)) logs
+
+  abbrev pub ServesOrBreaksOff : Config → List Log → ℕ → Result Served ServeFault → D → D → L → L → O → O → Type 0
+  ServesOrBreaksOff config logs turns (Ok result) disks_old disks link_old link_new out_old out_new = Serves config logs turns result disks link_old link_new out_old out_new
+  ServesOrBreaksOff config logs turns (Err fault) disks_old disks link_old link_new out_old out_new = BreaksOff config logs turns fault disks_old disks link_old link_new out_old out_new
