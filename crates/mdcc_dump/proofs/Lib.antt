@@ -1,0 +1,5 @@
+pub mod Dumped
+pub mod Ended
+pub mod Facts
+pub mod Printed
+pub mod Refused

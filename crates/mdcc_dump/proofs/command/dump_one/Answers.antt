@@ -1,0 +1,89 @@
+use Rattle.std.proofs.Common.{◌≡◌, ◌+◌, ◌∙◌, Err, refl, subst, sym, true, ℕ}
+use Rattle.std.proofs.lemmas.Result.{err_from_is_err_and}
+use Rattle.mdcc_areas.specs.Both.{RoseAtOne}
+use Rattle.mdcc_areas.specs.declared.fault.LogFault.{LogFault}
+use Rattle.mdcc_base.specs.declared.source.ReadAllFault.{ReadAllFault}
+use Rattle.mdcc_dump.proofs.Ended.{disk_dumped, dumped_runs, no_centre_runs, no_input, no_link, not_early, output_dumped, unread_runs}
+use Rattle.mdcc_dump.specs.Commands.{DumpsOne, Untouched}
+use Rattle.mdcc_endings.specs.Readings.{IsOfInput}
+use Rattle.mdcc_endings.specs.declared.fault.Failure.{Failure}
+use Rattle.mdcc_protocol.specs.Belongs.{is_centre}
+use Rattle.mdcc_dump.proofs.command.dump_one.Goals as goal
+
+-- ---- no configuration
+
+pub returns-in_err-config-clause-runs : goal.returns-in_err-config-clause-runs
+returns-in_err-config-clause-runs g c =
+    let p = err_from_is_err_and c.from_residual.result c.from_residual.ensures.1 in
+    let e : c.from_residual.result ≡ Err c.in_err-config.field-0.0 = cc (p.1, p.2) in
+    unread_runs g.D.Disks.disk g.O.Sink.held c.args.disks.now c.args.disks.now c.args.out.now c.args.out.now (g.S.Source.left c.args.source.now) c.args.number c.in_err-config.field-0.0 c.from_residual.result e c.in_err-config.ensures.config
+
+pub returns-in_err-config-clause-early : goal.returns-in_err-config-clause-early
+returns-in_err-config-clause-early g c =
+    let p = err_from_is_err_and c.from_residual.result c.from_residual.ensures.1 in
+    rw p.1 (λ early. record { disks = refl; output = refl })
+
+pub returns-in_err-config-clause-link : goal.returns-in_err-config-clause-link
+returns-in_err-config-clause-link g c = λ h.
+    let p = err_from_is_err_and c.from_residual.result c.from_residual.ensures.1 in
+    let same : c.in_err-config.field-0.0 ≡ Failure.Link = cc (p.1, p.2, h) in
+    subst (λ (f : Failure). IsOfInput f) same c.in_err-config.ensures.of_input
+
+pub returns-in_err-config-clause-input : goal.returns-in_err-config-clause-input
+returns-in_err-config-clause-input g c = λ h.
+    let p = err_from_is_err_and c.from_residual.result c.from_residual.ensures.1 in
+    let same : c.in_err-config.field-0.0 ≡ Failure.Input ReadAllFault.Failed = cc (p.1, p.2, h) in
+    c.in_err-config.ensures.failed (rw same refl)
+
+pub returns-in_err-config-clause-disk : goal.returns-in_err-config-clause-disk
+returns-in_err-config-clause-disk g c a = λ h.
+    let p = err_from_is_err_and c.from_residual.result c.from_residual.ensures.1 in
+    let same : c.in_err-config.field-0.0 ≡ Failure.Log a LogFault.DiskFault = cc (p.1, p.2, h) in
+    absurd (subst (λ (f : Failure). IsOfInput f) same c.in_err-config.ensures.of_input)
+
+pub returns-in_err-config-clause-output : goal.returns-in_err-config-clause-output
+returns-in_err-config-clause-output g c = λ h.
+    let p = err_from_is_err_and c.from_residual.result c.from_residual.ensures.1 in
+    let same : c.in_err-config.field-0.0 ≡ Failure.Output = cc (p.1, p.2, h) in
+    absurd (subst (λ (f : Failure). IsOfInput f) same c.in_err-config.ensures.of_input)
+
+-- ---- no such centre
+
+pub returns-in_default-clause-runs : goal.returns-in_default-clause-runs
+returns-in_default-clause-runs g c =
+    no_centre_runs g.D.Disks.disk g.O.Sink.held c.args.disks.now c.args.disks.now c.args.out.now c.args.out.now (g.S.Source.left c.args.source.now) c.args.number c.in_ok-config.config
+    (c.centre_of.ensures.none c.in_default.is) c.in_ok-config.ensures.config
+
+-- ---- a dump
+
+pub returns-clause-runs : goal.returns-clause-runs
+returns-clause-runs g c =
+    let one : DumpsOne g.D.Disks.disk g.O.Sink.held c.args.disks.now c.dump.new.disks c.args.out.now c.dump.new.out c.in_ok-config.config c.in-Some.centre c.as_done.result = record {
+      result = c.dump.result;
+      is = c.as_done.ensures;
+      dumps = λ all told told_other read. (c.dump.ensures.dumps all told told_other read, c.dump.ensures.keeps all told told_other read);
+      unread = c.dump.ensures.unread;
+      causes = c.dump.ensures.causes;
+    } in
+    dumped_runs g.D.Disks.disk g.O.Sink.held c.args.disks.now c.dump.new.disks c.args.out.now c.dump.new.out (g.S.Source.left c.args.source.now) c.in-Some.centre c.args.number c.in_ok-config.config c.as_done.result
+    c.in-Some.ensures.some.0 c.in-Some.ensures.some.1 one c.in_ok-config.ensures.config
+
+pub returns-clause-early : goal.returns-clause-early
+returns-clause-early g c = not_early (Untouched c.args.disks.now c.dump.new.disks c.args.out.now c.dump.new.out) c.in-Some.centre c.dump.result c.as_done.result c.as_done.ensures
+
+pub returns-clause-link : goal.returns-clause-link
+returns-clause-link g c = λ h. no_link c.in-Some.centre c.dump.result (sym c.as_done.ensures ∙ h)
+
+pub returns-clause-input : goal.returns-clause-input
+returns-clause-input g c = λ h. absurd (no_input c.in-Some.centre c.dump.result (sym c.as_done.ensures ∙ h))
+
+pub returns-clause-disk : goal.returns-clause-disk
+returns-clause-disk g c a = λ h.
+    let it = disk_dumped c.in-Some.centre a c.dump.result (sym c.as_done.ensures ∙ h) in
+    subst (λ (n : ℕ). RoseAtOne (g.D.Disks.disk c.args.disks.now n) (g.D.Disks.disk c.dump.new.disks n) (g.D.Disks.disk c.args.disks.now (n + 16)) (g.D.Disks.disk c.dump.new.disks (n + 16))) it.0 (c.dump.ensures.disk it.1)
+
+pub returns-clause-output : goal.returns-clause-output
+returns-clause-output g c = λ h. c.dump.ensures.output (output_dumped c.in-Some.centre c.dump.result (sym c.as_done.ensures ∙ h))
+
+pub dump-requires : goal.dump-requires
+dump-requires g c = subst (λ (n : ℕ). is_centre c.in_ok-config.config.cluster n ≡ true) (sym c.in-Some.ensures.some.0) c.in-Some.ensures.some.1

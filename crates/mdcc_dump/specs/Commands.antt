@@ -1,0 +1,60 @@
+-- What the command that prints the facts of a log does.
+use Rattle.std.specs.Prelude.{Err, IfErr, IfSome, IsTrue, List, MatchBool, Ok, Option, Result, ℕ, ◌+◌, ◌≡◌}
+use Rattle.mdcc_areas.specs.Area.{payloads}
+use Rattle.mdcc_config.specs.declared.config.Config.{Config}
+use Rattle.mdcc_disks.specs.Disks.{Disk}
+use Rattle.mdcc_dump.specs.Dumps.{IsDumped, IsUnopened, KeepsLog, MayFail}
+use Rattle.mdcc_dump.specs.declared.fault.DumpFault.{DumpFault}
+use Rattle.mdcc_endings.specs.Endings.{Ends}
+use Rattle.mdcc_endings.specs.Readings.{GivesConfig}
+use Rattle.mdcc_endings.specs.declared.fault.Failure.{Failure}
+use Rattle.mdcc_protocol.specs.Belongs.{is_centre}
+use Rattle.mdcc_restart.specs.declared.fault.RestartFault.{RestartFault}
+
+-- a fault at this centre as a command has it
+abbrev pub of_dump : ℕ → DumpFault → Failure
+of_dump centre (DumpFault.Log (RestartFault.Log fault)) = Failure.Log centre fault
+of_dump centre (DumpFault.Log (RestartFault.Boot fault)) = Failure.Boot centre fault
+of_dump centre (DumpFault.Log RestartFault.Memory) = Failure.Memory
+of_dump centre DumpFault.Output = Failure.Output
+of_dump centre DumpFault.Memory = Failure.Memory
+
+abbrev pub as_done : ℕ → Result (Unit {0}) DumpFault → Result (Unit {0}) Failure
+as_done centre (Ok done) = Ok tt
+as_done centre (Err fault) = Err (of_dump centre fault)
+
+module _ {D O : Type 0} (disk : D → ℕ → Disk) (held : O → Option (List ℕ)) (disks_old disks_new : D) (out_old out_new : O) where
+  -- The dump of this centre: over areas that tell their bytes it prints the facts of their log, which it leaves as it is, or refuses them.
+  pub record DumpsOne (config : Config) (centre : ℕ) (dumped : Result (Unit {0}) Failure) : Type 0 where
+    pub result : Result (Unit {0}) DumpFault
+    pub is : dumped ≡ as_done centre result
+    pub dumps : (all : List (List ℕ)) → IsTrue (disk disks_old centre).told → IsTrue (disk disks_old (centre + 16)).told
+        → payloads (disk disks_old centre).bytes (disk disks_old (centre + 16)).bytes ≡ Ok all
+        → IsDumped config.cluster all result (held out_old) (held out_new)
+        × KeepsLog result (payloads (disk disks_new centre).bytes (disk disks_new (centre + 16)).bytes ≡ Ok all)
+    pub unread : (n : ℕ) → IsTrue (disk disks_old centre).told → IsTrue (disk disks_old (centre + 16)).told
+        → payloads (disk disks_old centre).bytes (disk disks_old (centre + 16)).bytes ≡ Err n
+        → IsUnopened n centre disk disks_old disks_new result (held out_old) (held out_new)
+    pub causes : IfErr result (MayFail (held out_old) (held out_new))
+
+  -- by what the input was read as
+  abbrev pub Dumps : Result Config Failure → ℕ → Result (Unit {0}) Failure → Type 0
+  Dumps (Ok config) centre dumped = MatchBool (is_centre config.cluster centre) (DumpsOne config centre dumped) (dumped ≡ Err Failure.Centre)
+  Dumps (Err failure) centre dumped = dumped ≡ Err failure
+
+  -- `dump K`
+  pub record RunsDump (input : List ℕ) (centre : ℕ) (dumped : Result (Unit {0}) Failure) : Type 0 where
+    pub read : Result Config Failure
+    pub gives : GivesConfig input read
+    pub dumps : Dumps read centre dumped
+
+  -- The command ended as its dump did.
+  pub record DoesDump (left : Option (List ℕ)) (centre status : ℕ) (err_before err_after : Option (List ℕ)) (faults_before faults_after : ℕ) : Type 0 where
+    pub dumped : Result (Unit {0}) Failure
+    pub ends : Ends dumped status err_before err_after faults_before faults_after
+    pub runs : IfSome left (λ input. RunsDump input centre dumped)
+
+-- nothing was done at the disks, and nothing printed
+pub record Untouched {D O : Type 0} (disks_old disks_new : D) (out_old out_new : O) : Type 0 where
+  pub disks : disks_new ≡ disks_old
+  pub output : out_new ≡ out_old

@@ -1,0 +1,48 @@
+//! Why the facts of a log were not printed.
+ghost use Rattle.std.specs.Prelude.{◌≡◌};
+ghost use Rattle.mdcc_dump.specs.Dumps.{of_restart, of_writing};
+ghost use Rattle.mdcc_dump.specs.declared.fault.DumpFault.TheVariants as faults;
+
+use mdcc_replay::Failure;
+use mdcc_restart::RestartFault;
+use std::alloc::AllocError;
+
+#[derive(Clone, Copy, Debug, PartialEq, Eq)]
+pub enum DumpFault {
+    /// The log was not opened, or gives no node.
+    Log(RestartFault),
+    /// A write to the output failed.
+    Output,
+    /// There was no memory.
+    Memory,
+}
+
+impl From<RestartFault> for DumpFault {
+    ghost from_gives = { λ fault e. e ≡ of_restart fault };
+
+    fn from(fault: RestartFault) -> DumpFault {
+        match fault {
+            RestartFault::Memory => DumpFault::Memory,
+            fault => DumpFault::Log(fault),
+        }
+    }
+}
+
+impl From<Failure> for DumpFault {
+    ghost from_gives = { λ failure e. e ≡ of_writing failure };
+
+    fn from(failure: Failure) -> DumpFault {
+        match failure {
+            Failure::Output => DumpFault::Output,
+            Failure::Memory => DumpFault::Memory,
+        }
+    }
+}
+
+impl From<AllocError> for DumpFault {
+    ghost from_gives = { λ _ e. e ≡ faults.Memory };
+
+    fn from(_: AllocError) -> DumpFault {
+        DumpFault::Memory
+    }
+}

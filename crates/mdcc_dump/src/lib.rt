@@ -1,0 +1,12 @@
+//! A look into the log of a centre: its facts as lines.
+#![tactic(auto)]
+
+pub mod command;
+pub mod dumping;
+pub mod fault;
+mod lines;
+mod opening;
+
+pub use command::run_dump;
+pub use dumping::dump;
+pub use fault::DumpFault;
