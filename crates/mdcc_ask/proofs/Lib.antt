@@ -1,0 +1,7 @@
+pub mod Caused
+pub mod Doings
+pub mod Ended
+pub mod Few
+pub mod Replied
+pub mod Seen
+pub mod Turns

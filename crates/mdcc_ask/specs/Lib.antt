@@ -1,0 +1,7 @@
+pub mod Answers
+pub mod Asking
+pub mod Commands
+pub mod Effects
+pub mod Orders
+pub mod Requests
+pub mod Texts
