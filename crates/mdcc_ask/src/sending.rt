@@ -1,43 +1,15 @@
 //! How a client sends its request.
-ghost use Rattle.std.specs.Prelude.{◌≡◌, ◌≤◌, ◌∷◌, [], Ok, length};
+ghost use Rattle.std.specs.Prelude.{◌≡◌, ◌≤◌, length};
 ghost use Rattle.mdcc_ask.specs.Requests.{is_open, sends, sends_again, sends_if};
 ghost use Rattle.mdcc_config.specs.IsConfig.{IsConfig};
-ghost use Rattle.mdcc_frag.specs.Datagrams.{message_limit};
 ghost use Rattle.mdcc_outbox.specs.Sends.{Hands};
-ghost use Rattle.mdcc_runs.specs.Acts.{Act};
-ghost use Rattle.mdcc_runs.specs.Sending.{datagrams_sent};
 
 use crate::Order;
 use crate::client::{Client, Phase};
-use mdcc_base::Address;
 use mdcc_config::Config;
-use mdcc_frag::{FragHead, count, split};
+use mdcc_frag::FragHead;
 use mdcc_link::Link;
-
-// Hands a datagram to the link, and answers how many sends failed: one or none.
-fn send_one<L: Link>(link: &mut L, from: u8, to: Address, bytes: &[u8]) -> u64
-    ensures handed { Hands L.calls L.lost L.faults (Act.Send from to bytes.now (Ok tt) ∷ []) link.old link.new result }
-    ensures one { result ≤ 1 }
-{
-    match link.send(from, to, bytes) {
-        Ok(()) => 0,
-        Err(_) => 1,
-    }
-}
-
-// Hands the datagrams of a message to the link, and answers how many sends failed.
-fn send_datagrams<L: Link>(link: &mut L, head: FragHead, to: Address, message: &[u8]) -> u64
-    requires { length message.now ≤ message_limit }
-    ensures { Hands L.calls L.lost L.faults (datagrams_sent head to message.now) link.old link.new result }
-{
-    let mut failed = 0;
-    let mut datagram = [0u8; 1400];
-    for index in 0..count(message.len()) {
-        let size = split(message, head, index, &mut datagram);
-        failed += send_one(link, head.sender, to, &datagram[..size]);
-    }
-    failed
-}
+use mdcc_outbox::send_datagrams;
 
 impl Client {
     // Whether its request is open.

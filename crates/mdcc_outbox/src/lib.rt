@@ -9,4 +9,4 @@ pub mod sending;
 pub use clients::Clients;
 pub use fault::{PrintFault, SendFault};
 pub use lines::print;
-pub use sending::{Sender, answer_to};
+pub use sending::{Sender, answer_to, send_datagrams};

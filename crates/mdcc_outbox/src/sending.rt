@@ -69,8 +69,8 @@ fn send_one<L: Link>(link: &mut L, from: u8, to: Address, bytes: &[u8]) -> u64
     }
 }
 
-// Hands the datagrams of a message to the link, and answers how many sends failed.
-fn send_datagrams<L: Link>(link: &mut L, head: FragHead, to: Address, message: &[u8]) -> u64
+/// Hands the datagrams of a message to the link, and answers how many sends failed. Such a datagram is lost.
+pub fn send_datagrams<L: Link>(link: &mut L, head: FragHead, to: Address, message: &[u8]) -> u64
     requires { length message.now ≤ message_limit }
     ensures { Hands L.calls L.lost L.faults (datagrams_sent head to message.now) link.old link.new result }
 {
