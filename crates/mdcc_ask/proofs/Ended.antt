@@ -1,7 +1,6 @@
 -- How the command ends, by what its client did.
-use Rattle.std.proofs.Common.{◌≡◌, ◌==◌, ◌&&◌, ◌⊎◌, Bool, Err, IfErr, IfSome, IsErrOf, IsTrue, List, None, Ok, Option, Result, Some, false, inl, inr, refl, subst, sym, true, ℕ}
-use Rattle.std.specs.Prelude.{MatchBool, is_err}
-use Rattle.std.proofs.lemmas.Bool.{and_parts, eqb-true}
+use Rattle.std.proofs.Common.{◌≡◌, Bool, Err, IfErr, IfSome, IsErrOf, List, None, Ok, Option, Result, Some, false, refl, subst, sym, true, ℕ}
+use Rattle.std.specs.Prelude.{MatchBool}
 use Rattle.mdcc_areas.specs.declared.fault.LogFault.{LogFault}
 use Rattle.mdcc_ask.specs.Asking.{asked}
 use Rattle.mdcc_ask.specs.Commands.{AsksOne, RunsAsk, as_done, order_of}
@@ -11,8 +10,6 @@ use Rattle.mdcc_ask.specs.declared.order.Order.{Order}
 use Rattle.mdcc_base.specs.declared.source.ReadAllFault.{ReadAllFault}
 use Rattle.mdcc_cli.specs.declared.question.Question.{Question}
 use Rattle.mdcc_config.specs.declared.config.Config.{Config}
-use Rattle.mdcc_endings.proofs.Causes.{failed_at}
-use Rattle.mdcc_endings.specs.Endings.{status_after, status_of}
 use Rattle.mdcc_endings.specs.Readings.{GivesConfig, IsEarly}
 use Rattle.mdcc_endings.specs.declared.fault.Failure.{Failure}
 use Rattle.mdcc_link.specs.Link.{LinkCall}
@@ -92,15 +89,6 @@ module _ {L O : Type 0} (calls : L → Option (List LinkCall)) (held : O → Opt
       }
 
 -- ---- the end of the command
-
-widened : (done : Result (Unit {0}) Failure) (status : ℕ) → (status ≡ status_after done) ⊎ IsTrue (is_err done && status == 10) → (status ≡ status_after done) ⊎ (status ≡ 10)
-widened done status (inl e) = inl e
-widened done status (inr h) = inr (eqb-true status 10 (and_parts (is_err done) (status == 10) h).1)
-
--- where a command ended at a status that is not want of memory, with what it failed
-pub ended_at : (done : Result (Unit {0}) Failure) (status wanted : ℕ) → (status ≡ status_after done) ⊎ IsTrue (is_err done && status == 10) → status ≡ wanted → (wanted ≡ 0 → ⊥) → (wanted ≡ 10 → ⊥)
-    → (failure : Failure) × (done ≡ Err failure) × (status_of failure ≡ wanted)
-ended_at done status wanted is at some enough = failed_at done status wanted (widened done status is) at some enough
 
 pub input_early : (failure : Failure) → failure ≡ Failure.Input ReadAllFault.Failed → IsEarly failure
 input_early failure e = subst (λ (f : Failure). IsEarly f) (sym e) tt

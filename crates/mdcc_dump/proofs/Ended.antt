@@ -1,15 +1,12 @@
 -- How the command ends, by what its dump did.
-use Rattle.std.proofs.Common.{◌≡◌, ◌==◌, ◌&&◌, ◌⊎◌, Bool, Err, IfErr, IfSome, IsErrOf, IsTrue, List, None, Ok, Option, Result, Some, false, inl, inr, refl, subst, sym, true, ℕ}
-use Rattle.std.specs.Prelude.{MatchBool, is_err}
-use Rattle.std.proofs.lemmas.Bool.{and_parts, eqb-true}
+use Rattle.std.proofs.Common.{◌≡◌, Bool, Err, IfErr, IfSome, IsErrOf, List, None, Ok, Option, Result, Some, false, refl, subst, sym, true, ℕ}
+use Rattle.std.specs.Prelude.{MatchBool}
 use Rattle.mdcc_areas.specs.declared.fault.LogFault.{LogFault}
 use Rattle.mdcc_base.specs.declared.source.ReadAllFault.{ReadAllFault}
 use Rattle.mdcc_config.specs.declared.config.Config.{Config}
 use Rattle.mdcc_disks.specs.Disks.{Disk}
 use Rattle.mdcc_dump.specs.Commands.{DumpsOne, RunsDump, as_done}
 use Rattle.mdcc_dump.specs.declared.fault.DumpFault.{DumpFault}
-use Rattle.mdcc_endings.proofs.Causes.{failed_at}
-use Rattle.mdcc_endings.specs.Endings.{status_after, status_of}
 use Rattle.mdcc_endings.specs.Readings.{GivesConfig, IsEarly}
 use Rattle.mdcc_endings.specs.declared.fault.Failure.{Failure}
 use Rattle.mdcc_protocol.specs.Belongs.{is_centre}
@@ -101,15 +98,6 @@ module _ {D O : Type 0} (disk : D → ℕ → Disk) (held : O → Option (List �
       record { read = Ok config; gives = gives; dumps = at_true (is_centre config.cluster number) (DumpsOne disk held disks_old disks_new out_old out_new config number done) _ there its }
 
 -- ---- the end of the command
-
-widened : (done : Result (Unit {0}) Failure) (status : ℕ) → (status ≡ status_after done) ⊎ IsTrue (is_err done && status == 10) → (status ≡ status_after done) ⊎ (status ≡ 10)
-widened done status (inl e) = inl e
-widened done status (inr h) = inr (eqb-true status 10 (and_parts (is_err done) (status == 10) h).1)
-
--- where a command ended at a status that is not want of memory, with what it failed
-pub ended_at : (done : Result (Unit {0}) Failure) (status wanted : ℕ) → (status ≡ status_after done) ⊎ IsTrue (is_err done && status == 10) → status ≡ wanted → (wanted ≡ 0 → ⊥) → (wanted ≡ 10 → ⊥)
-    → (failure : Failure) × (done ≡ Err failure) × (status_of failure ≡ wanted)
-ended_at done status wanted is at some enough = failed_at done status wanted (widened done status is) at some enough
 
 pub input_early : (failure : Failure) → failure ≡ Failure.Input ReadAllFault.Failed → IsEarly failure
 input_early failure e = subst (λ (f : Failure). IsEarly f) (sym e) tt

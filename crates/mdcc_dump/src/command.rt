@@ -56,7 +56,7 @@ fn dump_one<S: Source, D: Disks, O: Sink>(
     ensures link { IsErrOf result AFailure.Link → ⊥ }
     ensures input { IsErrOf result (AFailure.Input AReadAllFault.Failed) → Rose (S.faults source.old) (S.faults source.new) }
     ensures disk { (a : ℕ) → IsErrOf result (AFailure.Log a ALogFault.DiskFault)
-        → RoseAtOne (D.disk disks.old a) (D.disk disks.new a) (D.disk disks.old (a + 16)) (D.disk disks.new (a + 16)) }
+        → RoseAtOne (D.disk disks.old number) (D.disk disks.new number) (D.disk disks.old (number + 16)) (D.disk disks.new (number + 16)) }
     ensures output { IsErrOf result AFailure.Output → Rose (O.faults out.old) (O.faults out.new) }
 {
     let config = config_from(alloc, source)?;
@@ -83,7 +83,8 @@ pub fn run_dump<S: Source, O: Sink, E: Sink, D: Disks>(
     ensures refused { result ≡ 3 → Untouched disks.old disks.new out.old out.new }
     ensures unread { result ≡ 5 → Untouched disks.old disks.new out.old out.new }
     ensures input { result ≡ 5 → Rose (S.faults source.old) (S.faults source.new) }
-    ensures disk { result ≡ 7 → (a : ℕ) × RoseAtOne (D.disk disks.old a) (D.disk disks.new a) (D.disk disks.old (a + 16)) (D.disk disks.new (a + 16)) }
+    ensures disk { result ≡ 7
+        → RoseAtOne (D.disk disks.old centre) (D.disk disks.new centre) (D.disk disks.old (centre + 16)) (D.disk disks.new (centre + 16)) }
     ensures link { result ≡ 8 → ⊥ }
     ensures output { result ≡ 6 → Rose (O.faults out.old) (O.faults out.new) }
 {

@@ -1,5 +1,7 @@
 -- What a failure is, by its status.
-use Rattle.std.proofs.Common.{◌≡◌, Err, Ok, Result, arith, inl, inr, refl, ℕ, ◌⊎◌}
+use Rattle.std.proofs.Common.{◌≡◌, ◌&&◌, ◌==◌, Err, IsTrue, Ok, Result, arith, inl, inr, refl, ℕ, ◌⊎◌}
+use Rattle.std.proofs.lemmas.Bool.{and_parts, eqb-true}
+use Rattle.std.specs.Prelude.{is_err}
 use Rattle.mdcc_areas.specs.declared.fault.LogFault.{LogFault}
 use Rattle.mdcc_base.specs.declared.source.ReadAllFault.{ReadAllFault}
 use Rattle.mdcc_config.specs.declared.faults.ConfigFault.{ConfigFault}
@@ -42,8 +44,10 @@ causes_of Failure.Output = record { input = λ h. absurd (omega arith); disk = �
 causes_of Failure.Memory = record { input = λ h. absurd (omega arith); disk = λ h. absurd (omega arith); link = λ h. absurd (omega arith); output = λ h. absurd (omega arith); early = λ h. absurd (omega arith) }
 
 -- where a command ended at a status that is not want of memory, with what it failed
-pub failed_at : {T : Type 0} (done : Result T Failure) (status wanted : ℕ) → (status ≡ status_after done) ⊎ (status ≡ 10) → status ≡ wanted → (wanted ≡ 0 → ⊥) → (wanted ≡ 10 → ⊥)
+pub failed_at : {T : Type 0} (done : Result T Failure) (status wanted : ℕ) → (status ≡ status_after done) ⊎ IsTrue (is_err done && status == 10) → status ≡ wanted → (wanted ≡ 0 → ⊥) → (wanted ≡ 10 → ⊥)
     → (failure : Failure) × (done ≡ Err failure) × (status_of failure ≡ wanted)
 failed_at (Ok done) status wanted (inl e) w zero ten = absurd (zero (omega arith))
 failed_at (Err failure) status wanted (inl e) w zero ten = (failure, refl, omega arith)
-failed_at done status wanted (inr e) w zero ten = absurd (ten (omega arith))
+failed_at done status wanted (inr h) w zero ten =
+    let e : status ≡ 10 = eqb-true status 10 (and_parts (is_err done) (status == 10) h).1 in
+    absurd (ten (omega arith))

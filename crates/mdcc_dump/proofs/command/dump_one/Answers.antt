@@ -80,7 +80,7 @@ returns-clause-input g c = λ h. absurd (no_input c.in-Some.centre c.dump.result
 pub returns-clause-disk : goal.returns-clause-disk
 returns-clause-disk g c a = λ h.
     let it = disk_dumped c.in-Some.centre a c.dump.result (sym c.as_done.ensures ∙ h) in
-    subst (λ (n : ℕ). RoseAtOne (g.D.Disks.disk c.args.disks.now n) (g.D.Disks.disk c.dump.new.disks n) (g.D.Disks.disk c.args.disks.now (n + 16)) (g.D.Disks.disk c.dump.new.disks (n + 16))) it.0 (c.dump.ensures.disk it.1)
+    subst (λ (n : ℕ). RoseAtOne (g.D.Disks.disk c.args.disks.now n) (g.D.Disks.disk c.dump.new.disks n) (g.D.Disks.disk c.args.disks.now (n + 16)) (g.D.Disks.disk c.dump.new.disks (n + 16))) c.in-Some.ensures.some.0 (c.dump.ensures.disk it.1)
 
 pub returns-clause-output : goal.returns-clause-output
 returns-clause-output g c = λ h. c.dump.ensures.output (output_dumped c.in-Some.centre c.dump.result (sym c.as_done.ensures ∙ h))
