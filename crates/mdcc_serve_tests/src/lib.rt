@@ -1,0 +1,11 @@
+//! Tests of servers over disks, a link and an output in memory.
+#![tactic(auto)]
+
+#[cfg(test)]
+mod faults;
+#[cfg(test)]
+mod hostile;
+#[cfg(test)]
+mod made;
+#[cfg(test)]
+mod rows;
