@@ -1,0 +1,51 @@
+use Rattle.std.proofs.Common.{◌≡◌, Err, arith}
+use Rattle.std.proofs.lemmas.Result.{IfErr-at_err}
+use Rattle.mdcc_areas.specs.declared.fault.LogFault.{LogFault}
+use Rattle.mdcc_base.specs.declared.source.ReadAllFault.{ReadAllFault}
+use Rattle.mdcc_endings.proofs.Causes.{causes_of, failed_at}
+use Rattle.mdcc_endings.specs.Readings.{IsEarly}
+use Rattle.mdcc_endings.specs.declared.fault.Failure.{Failure}
+use Rattle.mdcc_servers.proofs.Served.{input_early}
+use Rattle.mdcc_servers.specs.Commands.{Untouched}
+use Rattle.mdcc_servers.proofs.commands.run_node.Goals as goal
+
+pub returns-clause-does : goal.returns-clause-does
+returns-clause-does g c = record { served = c.serve_one-served.result; ends = c.finish.ensures.ends; runs = c.serve_one-served.ensures.runs }
+
+pub returns-clause-refused : goal.returns-clause-refused
+returns-clause-refused g c = λ at.
+    let failed = failed_at c.serve_one-served.result c.finish.result 3 c.finish.ensures.ends.status_is at (λ h. absurd (omega arith)) (λ h. absurd (omega arith)) in
+    IfErr-at_err (λ (failure : Failure). IsEarly failure → Untouched c.args.disks.now c.serve_one-served.new.disks c.args.link.now c.serve_one-served.new.link c.args.out.now c.serve_one-served.new.out) failed.1 c.serve_one-served.ensures.early ((causes_of failed.0).early failed.2)
+
+pub returns-clause-unread : goal.returns-clause-unread
+returns-clause-unread g c = λ at.
+    let failed = failed_at c.serve_one-served.result c.finish.result 5 c.finish.ensures.ends.status_is at (λ h. absurd (omega arith)) (λ h. absurd (omega arith)) in
+    IfErr-at_err (λ (failure : Failure). IsEarly failure → Untouched c.args.disks.now c.serve_one-served.new.disks c.args.link.now c.serve_one-served.new.link c.args.out.now c.serve_one-served.new.out) failed.1 c.serve_one-served.ensures.early (input_early failed.0 ((causes_of failed.0).input failed.2))
+
+pub returns-clause-input : goal.returns-clause-input
+returns-clause-input g c = λ at.
+    let failed = failed_at c.serve_one-served.result c.finish.result 5 c.finish.ensures.ends.status_is at (λ h. absurd (omega arith)) (λ h. absurd (omega arith)) in
+    let cause = (causes_of failed.0).input failed.2 in
+    let e : c.serve_one-served.result ≡ Err (Failure.Input ReadAllFault.Failed) = cc (failed.1, cause) in
+    c.serve_one-served.ensures.input e
+
+pub returns-clause-link : goal.returns-clause-link
+returns-clause-link g c = λ at.
+    let failed = failed_at c.serve_one-served.result c.finish.result 8 c.finish.ensures.ends.status_is at (λ h. absurd (omega arith)) (λ h. absurd (omega arith)) in
+    let cause = (causes_of failed.0).link failed.2 in
+    let e : c.serve_one-served.result ≡ Err Failure.Link = cc (failed.1, cause) in
+    c.serve_one-served.ensures.link e
+
+pub returns-clause-output : goal.returns-clause-output
+returns-clause-output g c = λ at.
+    let failed = failed_at c.serve_one-served.result c.finish.result 6 c.finish.ensures.ends.status_is at (λ h. absurd (omega arith)) (λ h. absurd (omega arith)) in
+    let cause = (causes_of failed.0).output failed.2 in
+    let e : c.serve_one-served.result ≡ Err Failure.Output = cc (failed.1, cause) in
+    c.serve_one-served.ensures.output e
+
+pub returns-clause-disk : goal.returns-clause-disk
+returns-clause-disk g c = λ at.
+    let failed = failed_at c.serve_one-served.result c.finish.result 7 c.finish.ensures.ends.status_is at (λ h. absurd (omega arith)) (λ h. absurd (omega arith)) in
+    let cause = (causes_of failed.0).disk failed.2 in
+    let e : c.serve_one-served.result ≡ Err (Failure.Log cause.0 LogFault.DiskFault) = cc (failed.1, cause.1) in
+    (cause.0, c.serve_one-served.ensures.disk cause.0 e)

@@ -1,0 +1,33 @@
+use Rattle.std.proofs.Common.{◌≡◌, ◌+◌, ◌∙◌, Err, List, refl, subst, sym, ℕ}
+use Rattle.mdcc_config.specs.declared.config.Config.{Config}
+use Rattle.mdcc_endings.specs.declared.fault.Failure.{Failure}
+use Rattle.mdcc_protocol.specs.Belongs.{is_centre}
+use Rattle.mdcc_servers.proofs.Served.{at_false, at_true, disk_served, link_served, no_input, none_early, output_served}
+use Rattle.mdcc_servers.specs.Commands.{ServesOne, Untouched}
+use Rattle.mdcc_servers.proofs.serving.serve_number.Goals as goal
+
+pub returns-in_default-clause-serves : goal.returns-in_default-clause-serves
+returns-in_default-clause-serves g c = at_false (is_centre c.args.config.now.cluster c.args.number) _ _ (c.centre_of.ensures.none c.in_default.is) refl
+
+pub returns-clause-serves : goal.returns-clause-serves
+returns-clause-serves g c =
+    let serves : (number : ℕ) → Type 0 = λ number.
+    ServesOne g.D.Disks.disk g.D.Disks.may_leave g.D.Disks.tears g.L.Link.calls g.L.Link.lost g.O.Sink.held c.args.disks.now c.serve_node.new.disks c.args.link.now c.serve_node.new.link c.args.out.now
+    c.serve_node.new.out c.args.config.now number c.args.turns c.as_served.result in
+    at_true (is_centre c.args.config.now.cluster c.args.number) _ _ c.in-Some.ensures.some.1
+    (subst serves c.in-Some.ensures.some.0 (record { result = c.serve_node.result; is = c.as_served.ensures; serves = c.serve_node.ensures.serves }))
+
+pub returns-clause-early : goal.returns-clause-early
+returns-clause-early g c = rw c.as_served.ensures (none_early (Untouched c.args.disks.now c.serve_node.new.disks c.args.link.now c.serve_node.new.link c.args.out.now c.serve_node.new.out) c.serve_node.result)
+
+pub returns-clause-read : goal.returns-clause-read
+returns-clause-read g c = λ h. no_input c.serve_node.result (sym c.as_served.ensures ∙ h)
+
+pub returns-clause-disk : goal.returns-clause-disk
+returns-clause-disk g c a = λ h. c.serve_node.ensures.disk a (disk_served a c.serve_node.result (sym c.as_served.ensures ∙ h))
+
+pub returns-clause-link : goal.returns-clause-link
+returns-clause-link g c = λ h. c.serve_node.ensures.link (link_served c.serve_node.result (sym c.as_served.ensures ∙ h))
+
+pub returns-clause-output : goal.returns-clause-output
+returns-clause-output g c = λ h. c.serve_node.ensures.output (output_served c.serve_node.result (sym c.as_served.ensures ∙ h))

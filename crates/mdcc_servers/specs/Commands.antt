@@ -1,0 +1,99 @@
+-- What the commands that serve nodes do.
+use Rattle.std.specs.List.{range_with_len}
+use Rattle.std.specs.Prelude.{Err, IfSome, List, MatchBool, Ok, Option, Result, [], map, ℕ, ◌+◌, ◌≡◌, ◌∷◌, ◌≤◌}
+use Rattle.mdcc_areas.specs.declared.fault.LogFault.{LogFault}
+use Rattle.mdcc_config.specs.declared.config.Config.{Config}
+use Rattle.mdcc_disks.specs.Disks.{Disk}
+use Rattle.mdcc_link.specs.Link.{LinkCall}
+use Rattle.mdcc_protocol.specs.Belongs.{is_centre}
+use Rattle.mdcc_runs.specs.Servers.{Log}
+use Rattle.mdcc_serve.specs.Serving.{AreLogsOf, IsLogOf, ServesOrBreaksOff}
+use Rattle.mdcc_site.specs.declared.fault.ServeFault.{ServeFault}
+use Rattle.mdcc_serve.specs.declared.served.Served.{Served}
+use Rattle.mdcc_endings.specs.Endings.{Ends}
+use Rattle.mdcc_endings.specs.Readings.{GivesConfig}
+use Rattle.mdcc_endings.specs.declared.fault.Failure.{Failure}
+
+-- both areas of each log tell their bytes, or neither does
+abbrev pub AreAlike : {D : Type 0} → (D → ℕ → Disk) → D → Type 0
+AreAlike disk disks = (a : ℕ) → 1 ≤ a → a ≤ 9 → (disk disks (a + 16)).told ≡ (disk disks a).told
+
+-- nothing was done at disks, link and output
+pub record Untouched {D L O : Type 0} (disks_old disks_new : D) (link_old link_new : L) (out_old out_new : O) : Type 0 where
+  pub disks : disks_new ≡ disks_old
+  pub link : link_new ≡ link_old
+  pub output : out_new ≡ out_old
+
+-- why a log is refused: it is none, or full
+abbrev pub log_failure : ℕ → LogFault → Failure
+log_failure a (LogFault.NotALog offset) = Failure.Log a (LogFault.NotALog offset)
+log_failure a fault = Failure.Log a LogFault.LogFull
+
+-- a fault as a command has it
+abbrev pub failure_of : ServeFault → Failure
+failure_of (ServeFault.Disk a) = Failure.Log a LogFault.DiskFault
+failure_of ServeFault.Link = Failure.Link
+failure_of ServeFault.Output = Failure.Output
+failure_of (ServeFault.Log a fault) = log_failure a fault
+failure_of (ServeFault.Boot a fault) = Failure.Boot a fault
+failure_of ServeFault.Serial = Failure.Serial
+failure_of ServeFault.Memory = Failure.Memory
+
+abbrev pub as_served : Result Served ServeFault → Result Served Failure
+as_served (Ok served) = Ok served
+as_served (Err fault) = Err (failure_of fault)
+
+module _ {D L O : Type 0} (disk : D → ℕ → Disk) (may_leave : D → ℕ → List ℕ → Type 0) (tears : ℕ → Type 0) (calls : L → Option (List LinkCall)) (lost : L → ℕ) (held : O → Option (List ℕ)) (disks_old disks_new : D) (link_old link_new : L) (out_old out_new : O) where
+  -- ---- one centre
+
+  -- what the server of this centre did over a log of its that tells its bytes
+  pub record ServesOne (config : Config) (centre turns : ℕ) (served : Result Served Failure) : Type 0 where
+    pub result : Result Served ServeFault
+    pub is : served ≡ as_served result
+    pub serves : (log : Log) → log.centre ≡ centre → IsLogOf disk config.cluster disks_old log
+        → ServesOrBreaksOff disk may_leave tears calls lost held config (log ∷ []) turns result disks_old disks_new link_old link_new out_old out_new
+
+  -- by what the input was read as
+  abbrev pub ServesNode : Result Config Failure → ℕ → ℕ → Result Served Failure → Type 0
+  ServesNode (Ok config) centre turns served =
+      MatchBool (is_centre config.cluster centre) (ServesOne config centre turns served) (served ≡ Err Failure.Centre)
+  ServesNode (Err failure) centre turns served = served ≡ Err failure
+
+  -- `node K TURNS`
+  pub record RunsNode (input : List ℕ) (centre turns : ℕ) (served : Result Served Failure) : Type 0 where
+    pub read : Result Config Failure
+    pub gives : GivesConfig input read
+    pub serves : ServesNode read centre turns served
+
+  -- The command ended as its server did.
+  pub record DoesNode (left : Option (List ℕ)) (centre turns status : ℕ) (err_before err_after : Option (List ℕ)) (faults_before faults_after : ℕ) : Type 0 where
+    pub served : Result Served Failure
+    pub ends : Ends served status err_before err_after faults_before faults_after
+    pub runs : IfSome left (λ input. RunsNode input centre turns served)
+
+  -- ---- all centres
+
+  -- what the server of all centres did over logs that tell their bytes
+  pub record ServesAll (config : Config) (turns : ℕ) (served : Result Served Failure) : Type 0 where
+    pub result : Result Served ServeFault
+    pub is : served ≡ as_served result
+    pub serves : (logs : List Log) → map (λ log. log.centre) logs ≡ range_with_len 1 config.cluster.quorums.centres
+        → AreLogsOf disk config.cluster disks_old logs
+        → ServesOrBreaksOff disk may_leave tears calls lost held config logs turns result disks_old disks_new link_old link_new out_old out_new
+
+  -- by what the input was read as
+  abbrev pub ServesCluster : Result Config Failure → ℕ → Result Served Failure → Type 0
+  ServesCluster (Ok config) turns served = ServesAll config turns served
+  ServesCluster (Err failure) turns served = served ≡ Err failure
+
+  -- `cluster TURNS`
+  pub record RunsCluster (input : List ℕ) (turns : ℕ) (served : Result Served Failure) : Type 0 where
+    pub read : Result Config Failure
+    pub gives : GivesConfig input read
+    pub serves : ServesCluster read turns served
+
+  -- The command ended as its server did.
+  pub record DoesCluster (left : Option (List ℕ)) (turns status : ℕ) (err_before err_after : Option (List ℕ)) (faults_before faults_after : ℕ) : Type 0 where
+    pub served : Result Served Failure
+    pub ends : Ends served status err_before err_after faults_before faults_after
+    pub runs : IfSome left (λ input. RunsCluster input turns served)
