@@ -1,5 +1,5 @@
 //! What a client sends and prints.
-use crate::made::{answer, first_tx, key_a, put, run_over, sent};
+use crate::made::{first_tx, key_a, put, run_over, sent};
 use mdcc_base::BoundedList;
 use mdcc_link::MemoryLink;
 use mdcc_messages::ClientAnswer;
@@ -28,9 +28,10 @@ fn new_link(alloc: Global) -> Option<MemoryLink> {
 #[test]
 fn a_read_is_answered(rt: HostRuntime) -> Result<(), Fail> {
     let alloc = rt.alloc();
-    let mut link = new_link(alloc).unwrap();
-    assert!(rt; put(alloc, &mut link, 1, &answer(7, nothing_held().unwrap())));
-    let ran = run_over(alloc, &["ask", "1", "3", "7", "read:a"], &mut link).unwrap();
+    let mut link = new_link(alloc).ok_or("a link")?;
+    let held = nothing_held().ok_or("an answer")?;
+    assert!(rt; put(alloc, &mut link, 1, 7, held));
+    let ran = run_over(alloc, &["ask", "1", "3", "7", "read:a"], &mut link).ok_or("a question")?;
     assert!(rt; ran.is("read 1 at 1 a version 0 none\n", "", 0));
     assert_eq!(rt; sent(&link), 1);
     Ok(())
@@ -39,8 +40,8 @@ fn a_read_is_answered(rt: HostRuntime) -> Result<(), Fail> {
 #[test]
 fn nothing_answers(rt: HostRuntime) -> Result<(), Fail> {
     let alloc = rt.alloc();
-    let mut link = new_link(alloc).unwrap();
-    let ran = run_over(alloc, &["ask", "1", "3", "7", "read:a"], &mut link).unwrap();
+    let mut link = new_link(alloc).ok_or("a link")?;
+    let ran = run_over(alloc, &["ask", "1", "3", "7", "read:a"], &mut link).ok_or("a question")?;
     assert!(rt; ran.is("unanswered\n", "", 0));
     assert_eq!(rt; sent(&link), 4);
     Ok(())
@@ -50,9 +51,10 @@ fn nothing_answers(rt: HostRuntime) -> Result<(), Fail> {
 #[test]
 fn an_answer_of_another_serial_is_none(rt: HostRuntime) -> Result<(), Fail> {
     let alloc = rt.alloc();
-    let mut link = new_link(alloc).unwrap();
-    assert!(rt; put(alloc, &mut link, 1, &answer(8, nothing_held().unwrap())));
-    let ran = run_over(alloc, &["ask", "1", "3", "7", "read:a"], &mut link).unwrap();
+    let mut link = new_link(alloc).ok_or("a link")?;
+    let held = nothing_held().ok_or("an answer")?;
+    assert!(rt; put(alloc, &mut link, 1, 8, held));
+    let ran = run_over(alloc, &["ask", "1", "3", "7", "read:a"], &mut link).ok_or("a question")?;
     assert!(rt; ran.is("unanswered\n", "", 0));
     assert_eq!(rt; sent(&link), 3);
     Ok(())
@@ -62,23 +64,16 @@ fn an_answer_of_another_serial_is_none(rt: HostRuntime) -> Result<(), Fail> {
 #[test]
 fn a_begin_is_heard(rt: HostRuntime) -> Result<(), Fail> {
     let alloc = rt.alloc();
-    let tx = first_tx().unwrap();
-    let mut link = new_link(alloc).unwrap();
-    assert!(rt; put(alloc, &mut link, 1, &answer(7, ClientAnswer::Begun(tx))));
+    let tx = first_tx().ok_or("a transaction")?;
+    let mut link = new_link(alloc).ok_or("a link")?;
+    assert!(rt; put(alloc, &mut link, 1, 7, ClientAnswer::Begun(tx)));
     let words = ["ask", "1", "3", "7", "new:a:-:10"];
-    let ran = run_over(alloc, &words, &mut link).unwrap();
+    let ran = run_over(alloc, &words, &mut link).ok_or("a question")?;
     assert!(rt; ran.is("begin 1.1.1\nunanswered\n", "", 0));
     assert_eq!(rt; sent(&link), 1);
-    assert!(rt;
-        put(
-            alloc,
-            &mut link,
-            2,
-            &answer(8, ClientAnswer::Heard(tx, true))
-        )
-    );
+    assert!(rt; put(alloc, &mut link, 2, 8, ClientAnswer::Heard(tx, true)));
     let words = ["ask", "1", "3", "8", "new:a:-:10"];
-    let ran = run_over(alloc, &words, &mut link).unwrap();
+    let ran = run_over(alloc, &words, &mut link).ok_or("a question")?;
     assert!(rt; ran.is("begin 1.1.1\nheard 1 1.1.1 commit\n", "", 0));
     Ok(())
 }
@@ -87,10 +82,11 @@ fn a_begin_is_heard(rt: HostRuntime) -> Result<(), Fail> {
 #[test]
 fn what_makes_no_transaction(rt: HostRuntime) -> Result<(), Fail> {
     let alloc = rt.alloc();
-    let mut link = new_link(alloc).unwrap();
-    assert!(rt; put(alloc, &mut link, 1, &answer(7, nothing_held().unwrap())));
+    let mut link = new_link(alloc).ok_or("a link")?;
+    let held = nothing_held().ok_or("an answer")?;
+    assert!(rt; put(alloc, &mut link, 1, 7, held));
     let words = ["ask", "1", "3", "7", "read:a", "keep:1"];
-    let ran = run_over(alloc, &words, &mut link).unwrap();
+    let ran = run_over(alloc, &words, &mut link).ok_or("a question")?;
     assert!(rt;
         ran.is(
             "read 1 at 1 a version 0 none\nbegin refused noitem a\n",
@@ -100,7 +96,7 @@ fn what_makes_no_transaction(rt: HostRuntime) -> Result<(), Fail> {
     );
     assert_eq!(rt; sent(&link), 1);
     let words = ["ask", "1", "3", "8", "new:a:-:1", "new:a:-:2"];
-    let ran = run_over(alloc, &words, &mut link).unwrap();
+    let ran = run_over(alloc, &words, &mut link).ok_or("a question")?;
     assert!(rt; ran.is("begin refused RepeatedKey\n", "", 0));
     assert_eq!(rt; sent(&link), 1);
     Ok(())

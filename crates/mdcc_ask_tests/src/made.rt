@@ -38,15 +38,6 @@ pub(crate) fn words_of(alloc: Global, words: &[&str]) -> Result<Vec<String>, Mem
     Ok(all)
 }
 
-/// An answer of centre 1 to its client.
-pub(crate) fn answer(serial: u32, answer: ClientAnswer) -> Envelope {
-    Envelope {
-        from: 1,
-        to: 17,
-        message: Message::ClientAnswer { serial, answer },
-    }
-}
-
 /// The transaction 1.1.1.
 pub(crate) fn first_tx() -> Option<TxId> {
     Some(TxId {
@@ -61,16 +52,27 @@ pub(crate) fn key_a() -> Option<Key> {
     Key::new(b"a")
 }
 
-/// Lets the datagram of a short message wait at the endpoint of the client of centre 1.
-pub(crate) fn put(alloc: Global, link: &mut MemoryLink, serial: u32, envelope: &Envelope) -> bool {
+/// Lets an answer of centre 1 wait at the endpoint of its client, as the message of a serial.
+pub(crate) fn put(
+    alloc: Global,
+    link: &mut MemoryLink,
+    message_serial: u32,
+    serial: u32,
+    answer: ClientAnswer,
+) -> bool {
+    let envelope = Envelope {
+        from: 1,
+        to: 17,
+        message: Message::ClientAnswer { serial, answer },
+    };
     let mut bytes = Vec::new(alloc);
-    if encode(envelope, &mut bytes).is_err() || bytes.len() > 1383 || bytes.is_empty() {
+    if encode(&envelope, &mut bytes).is_err() || bytes.len() > 1383 || bytes.is_empty() {
         return false;
     }
     let head = FragHead {
-        sender: envelope.from,
+        sender: 1,
         epoch: 1,
-        serial,
+        serial: message_serial,
     };
     let mut datagram = [0u8; 1400];
     let size = split(&bytes, head, 0, &mut datagram);
@@ -90,14 +92,12 @@ pub(crate) fn run_over(alloc: Global, words: &[&str], link: &mut MemoryLink) -> 
     Some(Ran { status, out, err })
 }
 
-/// How many datagrams were sent.
+/// How many datagrams were sent, of the first hundred.
 pub(crate) fn sent(link: &MemoryLink) -> usize {
-    let mut count = 0;
-    for _turn in 0..100 {
-        if link.sent(count).is_none() {
-            return count;
+    for place in 0..100usize {
+        if link.sent(place).is_none() {
+            return place;
         }
-        count += 1;
     }
-    count
+    100
 }
