@@ -6,6 +6,8 @@ mod streams;
 use crate::streams::{Reading, Writing};
 use mdcc_base::{Sink, write_all};
 use mdcc_command::run;
+use mdcc_files::FileDisks;
+use mdcc_link::UdpLink;
 use std::env;
 use std::io::ErrorKind;
 use std::process::ExitCode;
@@ -36,5 +38,15 @@ fn main(rt: HostRuntime) -> ExitCode {
             }
         }
     }
-    ExitCode::from(run(rt.alloc(), &words, &mut source, &mut out, &mut err))
+    let mut disks = FileDisks::new(rt.alloc(), &rt);
+    let mut link = UdpLink::new(rt.alloc(), &rt);
+    ExitCode::from(run(
+        rt.alloc(),
+        &words,
+        &mut source,
+        &mut out,
+        &mut err,
+        &mut disks,
+        &mut link,
+    ))
 }

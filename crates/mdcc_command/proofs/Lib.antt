@@ -1,3 +1,3 @@
 pub mod Known
 pub mod Printed
-pub mod Slices
+pub mod NoMemory

@@ -1,2 +1,3 @@
 pub mod Commands
 pub mod Prints
+pub mod Statuses

@@ -3,6 +3,5 @@
 
 mod command;
 mod simulation;
-mod words;
 
 pub use command::run;

@@ -8,4 +8,6 @@ mod replays;
 #[cfg(test)]
 mod restarts;
 #[cfg(test)]
+mod runs;
+#[cfg(test)]
 mod samples;

@@ -1,7 +1,7 @@
 //! Whole replays over objects in memory.
 use crate::replay_rows::{self as rows, REPORT, Row, SCHEDULE};
+use crate::runs::run_with_words;
 use mdcc_base::{MemorySink, MemorySource};
-use mdcc_command::run;
 use std::alloc::Global;
 use std::process::Abort;
 use std::test::Fail;
@@ -28,7 +28,7 @@ fn run_on(alloc: Global, word: &str, input: &str, scripts: &Scripts) -> Result<R
     let mut source = MemorySource::new(alloc, input.as_bytes(), scripts.reads)?;
     let mut out = MemorySink::new(alloc, scripts.writes)?;
     let mut err = MemorySink::new(alloc, scripts.error_writes)?;
-    let status = run(alloc, &words, &mut source, &mut out, &mut err);
+    let status = run_with_words(alloc, &words, &mut source, &mut out, &mut err).ok_or("disks")?;
     Ok(Ran { status, out, err })
 }
 

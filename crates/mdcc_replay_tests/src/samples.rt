@@ -1,6 +1,6 @@
 //! The command `sample`, and words that are those of no command, over objects in memory.
+use crate::runs::run_with_words;
 use mdcc_base::{Memory, MemorySink, MemorySource};
-use mdcc_command::run;
 use std::alloc::Global;
 
 // What a run wrote and answered.
@@ -48,7 +48,7 @@ fn run_with(alloc: Global, words: &[&str]) -> Result<Ran, Memory> {
     let mut source = MemorySource::new(alloc, b"", &[1])?;
     let mut out = MemorySink::new(alloc, &[])?;
     let mut err = MemorySink::new(alloc, &[])?;
-    let status = run(alloc, &words, &mut source, &mut out, &mut err);
+    let status = run_with_words(alloc, &words, &mut source, &mut out, &mut err).ok_or(Memory)?;
     Ok(Ran { status, out, err })
 }
 
