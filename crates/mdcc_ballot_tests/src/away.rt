@@ -2,8 +2,8 @@
 //! up key by key, where a proposal or a leader's structure shows it that it is behind. All numbers are worked by hand from the rules.
 ghost use Rattle.std.specs.Prelude.{◌<◌};
 
+use crate::runs::run_with_words;
 use mdcc_base::{MemorySink, MemorySource};
-use mdcc_command::run;
 use std::alloc::AllocError;
 use std::test::Fail;
 
@@ -349,7 +349,9 @@ fn a_centre_that_missed_forty_transactions_catches_up(rt: HostRuntime) -> Result
     let mut source = MemorySource::new(rt.alloc(), texts.schedule.as_bytes(), &[])?;
     let mut out = MemorySink::new(rt.alloc(), &[])?;
     let mut err = MemorySink::new(rt.alloc(), &[])?;
-    let status = run(rt.alloc(), &words, &mut source, &mut out, &mut err);
+    let status = run_with_words(rt.alloc(), &words, &mut source, &mut out, &mut err).ok_or(
+        "disks",
+    )?;
     assert!(rt; out.bytes() == texts.report.as_bytes());
     assert!(rt; err.bytes().is_empty() && status == 0);
     Ok(())

@@ -1,8 +1,8 @@
 //! Whole replays in which the votes at the fast ballot are not the end.
 use crate::ballot_rows::{FIRST_FORCED, RANGE, Row, SECOND_FORCED};
+use crate::runs::run_with_words;
 use crate::whole_rows::{CAUGHT_UP, DANGLING, LED, STOCK};
 use mdcc_base::{MemorySink, MemorySource};
-use mdcc_command::run;
 use std::alloc::Global;
 use std::process::Abort;
 use std::test::Fail;
@@ -14,7 +14,7 @@ fn check(rt: &impl Abort, alloc: Global, row: &Row) -> Result<(), Fail> {
     let mut source = MemorySource::new(alloc, row.schedule.as_bytes(), &[])?;
     let mut out = MemorySink::new(alloc, &[])?;
     let mut err = MemorySink::new(alloc, &[])?;
-    let status = run(alloc, &words, &mut source, &mut out, &mut err);
+    let status = run_with_words(alloc, &words, &mut source, &mut out, &mut err).ok_or("disks")?;
     assert!(rt; out.bytes() == row.report.as_bytes());
     assert!(rt; err.bytes().is_empty() && status == 0);
     Ok(())

@@ -1,6 +1,6 @@
 //! Whole replays of one centre whose node has few cells. The boot needs one, the vote of 68 bytes two, and the outcome one.
+use crate::runs::run_with_words;
 use mdcc_base::{MemorySink, MemorySource};
-use mdcc_command::run;
 use std::alloc::Global;
 use std::process::Abort;
 use std::test::Fail;
@@ -96,7 +96,7 @@ fn check(
     let mut source = MemorySource::new(alloc, schedule.as_bytes(), &[])?;
     let mut out = MemorySink::new(alloc, &[])?;
     let mut err = MemorySink::new(alloc, &[])?;
-    let status = run(alloc, &words, &mut source, &mut out, &mut err);
+    let status = run_with_words(alloc, &words, &mut source, &mut out, &mut err).ok_or("disks")?;
     assert!(rt; out.bytes() == report.as_bytes());
     assert!(rt; err.bytes() == error.as_bytes() && status == expected);
     Ok(())

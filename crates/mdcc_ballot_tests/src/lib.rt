@@ -13,6 +13,8 @@ mod cells;
 #[cfg(test)]
 mod moments;
 #[cfg(test)]
+mod runs;
+#[cfg(test)]
 mod stop_rows;
 #[cfg(test)]
 mod stops;

@@ -1,7 +1,7 @@
 //! A manager that dies at each of five moments of an insert: another centre finishes what was voted. The
 //! numbers of messages and the ends are worked by hand from the rules.
+use crate::runs::run_with_words;
 use mdcc_base::{MemorySink, MemorySource};
-use mdcc_command::run;
 use std::alloc::Global;
 use std::test::Fail;
 
@@ -22,7 +22,7 @@ fn ends_so(alloc: Global, lines: &str, end: &str) -> Result<bool, Fail> {
     let mut source = MemorySource::new(alloc, schedule.as_bytes(), &[])?;
     let mut out = MemorySink::new(alloc, &[])?;
     let mut err = MemorySink::new(alloc, &[])?;
-    let status = run(alloc, &words, &mut source, &mut out, &mut err);
+    let status = run_with_words(alloc, &words, &mut source, &mut out, &mut err).ok_or("disks")?;
     Ok(status == 0 && out.bytes().ends_with(end.as_bytes()))
 }
 

@@ -1,7 +1,7 @@
 //! Whole replays in which an append stops inside one of its four device calls.
+use crate::runs::run_with_words;
 use crate::stop_rows::{AFTER, BEFORE, REPORT_BEFORE, REPORT_KEPT, REPORT_LOST};
 use mdcc_base::{MemorySink, MemorySource};
-use mdcc_command::run;
 use std::alloc::Global;
 use std::process::Abort;
 use std::test::Fail;
@@ -23,7 +23,7 @@ fn check(rt: &impl Abort, alloc: Global, stop: &str, after: &str) -> Result<(), 
     let mut source = MemorySource::new(alloc, schedule.as_bytes(), &[])?;
     let mut out = MemorySink::new(alloc, &[])?;
     let mut err = MemorySink::new(alloc, &[])?;
-    let status = run(alloc, &words, &mut source, &mut out, &mut err);
+    let status = run_with_words(alloc, &words, &mut source, &mut out, &mut err).ok_or("disks")?;
     assert!(rt; out.bytes() == report.as_bytes());
     assert!(rt; err.bytes().is_empty() && status == 0);
     Ok(())
