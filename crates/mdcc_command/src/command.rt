@@ -107,12 +107,14 @@ fn run_command<S: Source, O: Sink, E: Sink, D: Disks, L: Link>(
 ///
 /// With `replay` it reads the whole input, a schedule, and writes the report to `out`. With
 /// `sample SEED ITEMS ORDERS` it reads nothing, makes the schedule of a web shop by these numbers,
-/// replays it, and writes two lines to `out`. With `node K TURNS` it reads a configuration and serves
-/// centre K of it for so many turns, with its log on the disks K and 16 + K; with `cluster TURNS` it
-/// serves all centres. Where it ends early it writes one line to `err`, that of the status. Status 3 is
-/// a header or a configuration that is refused, 4 a line or its event, 9 a log that is none, 11 a
-/// limit, 12 the end of the epochs; 2 other words, 5 a read that failed, 6 a write to `out`, 7 a disk,
-/// 8 the link, 10 want of memory. A write to `err` that fails changes no status.
+/// replays it, and writes two lines to `out`. The others read a configuration: `node K TURNS` serves
+/// centre K of it for so many turns, with its log on the disks K and 16 + K; `cluster TURNS` serves all
+/// centres; `ask K TURNS SERIAL WORD..` is a client of centre K; `dump K` writes the facts in its log.
+///
+/// Where it ends early it writes one line to `err`, that of the status. Status 3 is a header or a
+/// configuration that is refused, 4 a line or its event, 9 a log that is none, 11 a limit, 12 the end
+/// of the epochs; 2 other words, 5 a read that failed, 6 a write to `out`, 7 a disk, 8 the link, 10 out
+/// of memory. A write to `err` that fails changes no status.
 pub fn run<S: Source, O: Sink, E: Sink, D: Disks, L: Link>(
     alloc: Global,
     words: &[String],
