@@ -117,7 +117,7 @@ parse_stop cluster line = (do
   start ← word_after 4 line
   centre ← parse_centre cluster (word_at start line) (start + 1)
   next ← word_after (word_end start line) line
-  call ← natural_of (word_at next line) (next + 1) 1 4
+  call ← natural_of (word_at next line) (next + 1) 1 11
   last ← word_after (word_end next line) line
   image ← parse_image (word_at last line) (last + 1)
   _ ← end_at (word_end last line) line 1

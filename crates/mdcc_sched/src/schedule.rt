@@ -136,7 +136,7 @@ fn parse_stop(cluster: &Cluster, line: &[u8]) -> Result<Event, TextFault>
     let start = word_after(4, line)?;
     let centre = parse_centre(cluster, word_at(start, line), start + 1)?;
     let next = word_after(word_end(start, line), line)?;
-    let call = natural_of(word_at(next, line), next + 1, 1, 4)?;
+    let call = natural_of(word_at(next, line), next + 1, 1, 11)?;
     let last = word_after(word_end(next, line), line)?;
     let image = parse_image(word_at(last, line), last + 1)?;
     end_at(word_end(last, line), line, 1)?;

@@ -1,5 +1,5 @@
 -- What becomes of a step of one node: it counts whole, or its append stops and nothing of it but its fact may count.
-use Rattle.std.specs.Prelude.{Bool, Err, List, None, Ok, Option, Result, Some, [], false, if◌then◌else◌, map, nat_le, ℕ, ◌++◌, ◌+◌, ◌∷◌}
+use Rattle.std.specs.Prelude.{Bool, Err, List, None, Ok, Option, Result, Some, [], if◌then◌else◌, map, ℕ, ◌++◌, ◌+◌, ◌∷◌}
 use Rattle.mdcc_base.specs.Sizes.{Sizes}
 use Rattle.mdcc_ledger.specs.Ledger.{Added, Entry, facts_of, new_outcomes}
 use Rattle.mdcc_messages.specs.Lengths.{messages_length}
@@ -13,6 +13,7 @@ use Rattle.mdcc_rules.specs.declared.node.Input.{Input}
 use Rattle.mdcc_rules.specs.declared.node.StepFault.{StepFault}
 use Rattle.mdcc_messages.specs.Mailbox.{unsent}
 use Rattle.mdcc_simulation.specs.State.{World, down, centre_at, with_centre, Happened}
+use Rattle.mdcc_simulation.specs.Checkpoints.{is_frame_kept, striking_at, tail_after, tail_stopped}
 use Rattle.mdcc_rules.specs.Here.{here}
 
 -- the lines of the outcomes that an entry brings
@@ -24,10 +25,10 @@ abbrev pub heard_lines : ℕ → Fact → List Line
 heard_lines a (Fact.Heard tx outcome) = Line.Heard a tx (is_commit outcome) ∷ []
 heard_lines a _ = []
 
--- the step is taken whole, its fact apart
-abbrev pub step_applied : World → ℕ → NodeStep → World
-step_applied w a step =
-    record (with_centre w a (record (centre_at w a) { volatile = step.after })) {
+-- the step is taken whole, its fact apart; the tail of the log has this many frames afterwards
+abbrev pub step_applied : World → ℕ → ℕ → NodeStep → World
+step_applied w a tail step =
+    record (with_centre w a (record (centre_at w a) { tail = tail; volatile = step.after })) {
       ledger = step.entries ++ w.ledger;
       sent = w.sent ++ map unsent step.sends;
       bytes = w.bytes + messages_length step.sends;
@@ -35,21 +36,16 @@ step_applied w a step =
 
 abbrev pub fact_applied : World → ℕ → NodeStep → Fact → Happened
 fact_applied w a step fact =
-    let after = step_applied w a step in
+    let after = step_applied w a (tail_after (centre_at w a).tail) step in
     record {
       world = record after { ledger = Added a fact ∷ after.ledger };
       lines = chosen_lines w.cluster.quorums (Added a fact) after.ledger ++ heard_lines a fact;
     }
 
--- whether a frame is there after a stop inside a device call of its append
-abbrev pub is_frame_kept : ℕ → Image → Bool
-is_frame_kept call Image.Kept = nat_le 3 call
-is_frame_kept call _ = false
-
--- the append stops: nothing is sent, and the fact counts where its frame is in the image
+-- the append, or the checkpoint after it, stops: nothing is sent, and the fact counts where its frame is in the image
 abbrev pub step_stopped : World → ℕ → Fact → ℕ × Image → Happened
 step_stopped w a fact stop =
-    let after = with_centre w a down in
+    let after = with_centre w a (down (tail_stopped (centre_at w a).tail stop.0 stop.1)) in
     if is_frame_kept stop.0 stop.1
     then record {
       world = record after { ledger = Added a fact ∷ w.ledger };
@@ -62,8 +58,8 @@ fact_happened w a step fact None = fact_applied w a step fact
 fact_happened w a step fact (Some stop) = step_stopped w a fact stop
 
 abbrev pub step_happened_by : World → ℕ → NodeStep → Option Fact → Happened
-step_happened_by w a step None = record { world = step_applied w a step; lines = [] }
-step_happened_by w a step (Some fact) = fact_happened w a step fact (centre_at w a).stop
+step_happened_by w a step None = record { world = step_applied w a (centre_at w a).tail step; lines = [] }
+step_happened_by w a step (Some fact) = fact_happened w a step fact (striking_at w a)
 
 abbrev pub step_happened : World → ℕ → NodeStep → Happened
 step_happened w a step = step_happened_by w a step step.fact

@@ -9,6 +9,7 @@ use Rattle.mdcc_language.specs.declared.lines.Line.{Line}
 use Rattle.mdcc_rules.specs.declared.node.Input.{Input}
 use Rattle.mdcc_language.specs.declared.world.EventFault.{EventFault}
 use Rattle.mdcc_simulation.specs.State.{World, booted, down, centre_at, with_centre, next_message, Happened}
+use Rattle.mdcc_simulation.specs.Checkpoints.{tail_after}
 use Rattle.mdcc_simulation.specs.Limits.{passed_log_limit, passed_cells_limit, unless_limit, input_applied, with_lines}
 
 abbrev pub tick_line : ℕ → World → List Line
@@ -20,11 +21,11 @@ after_tick w a = with_lines (tick_line a) (input_applied w a Input.Tick)
 
 -- a crash line: all but the log is lost
 abbrev pub crash_happened : World → ℕ → Happened
-crash_happened w a = record { world = with_centre w a down; lines = Line.Crash a ∷ [] }
+crash_happened w a = record { world = with_centre w a (down (centre_at w a).tail); lines = Line.Crash a ∷ [] }
 
 abbrev pub restart_happened : World → ℕ → ℕ → Happened
 restart_happened w a epoch = record {
-  world = record (with_centre w a booted) { ledger = Added a (Fact.Booted epoch) ∷ w.ledger };
+  world = record (with_centre w a (record booted { tail = tail_after (centre_at w a).tail })) { ledger = Added a (Fact.Booted epoch) ∷ w.ledger };
   lines = Line.Restart a epoch ∷ [];
 }
 
@@ -34,7 +35,7 @@ after_restart w a =
     let epoch = epoch_of (facts_of w.ledger a) + 1 in
     unless_limit (option_or (passed_cells_limit w a (Fact.Booted epoch)) (passed_log_limit w a (Fact.Booted epoch))) (restart_happened w a epoch)
 
--- a stop line: the next append will stop
+-- a stop line: the next append, or from call 5 on the next checkpoint, will stop
 abbrev pub stop_happened : World → ℕ → ℕ → Image → Happened
 stop_happened w a call image = record {
   world = with_centre w a (record (centre_at w a) { stop = Some (call, image) });

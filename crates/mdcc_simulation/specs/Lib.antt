@@ -1,4 +1,5 @@
 pub mod Centres
+pub mod Checkpoints
 pub mod Clients
 pub mod Deliveries
 pub mod Events

@@ -12,7 +12,8 @@ use Rattle.mdcc_rules.specs.declared.node.Input.{Input}
 use Rattle.mdcc_rules.specs.declared.node.StepFault.{StepFault}
 use Rattle.mdcc_language.specs.declared.world.EventFault.{EventFault}
 use Rattle.mdcc_language.specs.declared.world.LimitName.{LimitName}
-use Rattle.mdcc_simulation.specs.State.{World, centre_at, is_up_at, Happened, after_lines}
+use Rattle.mdcc_simulation.specs.State.{World, is_up_at, Happened, after_lines}
+use Rattle.mdcc_simulation.specs.Checkpoints.{striking_at}
 use Rattle.mdcc_simulation.specs.AppliedSteps.{input_happened, step_at}
 
 -- how many events a replay has at most, how many bytes of messages, and how many bytes a log
@@ -42,7 +43,7 @@ passed_bytes_limit w sends =
 abbrev pub step_limit_by : World → ℕ → NodeStep → Option Fact → Option EventFault
 step_limit_by w a step None = passed_bytes_limit w step.sends
 step_limit_by w a step (Some fact) =
-    option_or (passed_log_limit w a fact) (if is_some (centre_at w a).stop then None else passed_bytes_limit w step.sends)
+    option_or (passed_log_limit w a fact) (if is_some (striking_at w a) then None else passed_bytes_limit w step.sends)
 
 abbrev pub step_limit : World → ℕ → Result NodeStep StepFault → Option EventFault
 step_limit w a (Ok step) = step_limit_by w a step step.fact

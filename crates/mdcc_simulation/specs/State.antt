@@ -10,10 +10,12 @@ use Rattle.mdcc_base.specs.declared.outside.Image.{Image}
 use Rattle.mdcc_language.specs.declared.lines.Line.{Line}
 use Rattle.mdcc_messages.specs.Mailbox.{Sent}
 
--- a centre: whether it is up, the call and the image of an armed stop, and what it loses in a crash
+-- a centre: whether it is up, the call and the image of an armed stop, how many frames the tail of its log has, and what it loses
+-- in a crash
 pub record Site : Type 0 where
   pub is_up : Bool
   pub stop : Option (ℕ × Image)
+  pub tail : ℕ
   pub volatile : Volatile
 
 -- the ledger, the messages sent and their bytes, the reads made, the number of events, and the centres in order
@@ -26,11 +28,13 @@ pub record World : Type 0 where
   pub events : ℕ
   pub centres : List Site
 
+-- booted for the first time: its log has the frame of that boot alone
 abbrev pub booted : Site
-booted = record { is_up = true; stop = None; volatile = initial_volatile }
+booted = record { is_up = true; stop = None; tail = 1; volatile = initial_volatile }
 
-abbrev pub down : Site
-down = record { is_up = false; stop = None; volatile = initial_volatile }
+-- down, with this many frames in the tail of its log
+abbrev pub down : ℕ → Site
+down tail = record { is_up = false; stop = None; tail = tail; volatile = initial_volatile }
 
 -- the first n centres booted for the first time
 abbrev pub booted_to : ℕ → List Entry
