@@ -15,7 +15,8 @@ use Rattle.mdcc_ledger.specs.BootTest.{is_allowed_kind}
 use Rattle.mdcc_ledger.specs.AllowedFacts.{is_booted}
 use Rattle.mdcc_protocol.specs.Belongs.{fact_belongs, is_centre}
 use Rattle.mdcc_protocol.specs.Volatile.{initial_volatile}
-use Rattle.mdcc_simulation.specs.State.{World, booted, booted_to, first_world}
+use Rattle.mdcc_simulation.specs.State.{World, booted, booted_to, centre_at, first_world}
+use Rattle.mdcc_simulation.specs.Checkpoints.{tail_after}
 use Rattle.mdcc_simulation.specs.Centres.{restart_happened}
 use Rattle.mdcc_trace_states.specs.VolatileInvariant.{ArePlaced, AreVotes, IsCentre, Keeps}
 use Rattle.mdcc_trace_states.specs.Invariant.{Holds}
@@ -96,7 +97,7 @@ pub restart-holds : (also : List Entry → Type 0) (cluster : Cluster) → AreGo
 restart-holds also cluster good w a h here =
     let n : ℕ = epoch_of (facts_of w.ledger a) + 1 in
     let legal = boot-legal w.cluster w.ledger a h.legal here in
-    moved-holds also cluster w a booted (Added a (Fact.Booted (epoch_of (facts_of w.ledger a) + 1)) ∷ []) w.sent w.bytes h here (refl, tt) legal
+    moved-holds also cluster w a (record booted { tail = tail_after (centre_at w a).tail }) (Added a (Fact.Booted (epoch_of (facts_of w.ledger a) + 1)) ∷ []) w.sent w.bytes h here (refl, tt) legal
     (boot-placed w.cluster w.ledger a (epoch_of (facts_of w.ledger a) + 1) legal h.placed) (good.boot w.cluster w.ledger a (epoch_of (facts_of w.ledger a) + 1) legal h.more)
     (Each-like (λ s. TrueWhenSent w.cluster w.ledger s.envelope) (λ s. TrueWhenSent w.cluster (Added a (Fact.Booted (epoch_of (facts_of w.ledger a) + 1)) ∷ w.ledger) s.envelope) w.sent
     (λ s g. true-more w.cluster (Added a (Fact.Booted (epoch_of (facts_of w.ledger a) + 1)) ∷ []) w.ledger s.envelope g) h.sent)

@@ -67,7 +67,7 @@ module _ (also : List Entry → Type 0) (cluster : Cluster) (good : AreGood also
       settled-line also cluster (settled_of (most_events - w.events) listed (record { world = w; lines = Line.Settle listed ∷ [] }) 0)
       (settled-holds also cluster good (most_events - w.events) listed (record { world = w; lines = Line.Settle listed ∷ [] }) 0 h)
   happened-holds w (Event.Tick a) h = up-holds also cluster w a (after_tick w a) (λ up. lines-hold also cluster (tick_line a) (input_applied w a Input.Tick) (limited-holds w a Input.Tick h up tt))
-  happened-holds w (Event.Crash a) h = up-holds also cluster w a _ (λ up. down-holds also cluster w a [] h (is-up also cluster w a h up).centre tt h.legal h.placed h.more)
+  happened-holds w (Event.Crash a) h = up-holds also cluster w a _ (λ up. down-holds also cluster w a (centre_at w a).tail [] h (is-up also cluster w a h up).centre tt h.legal h.placed h.more)
   happened-holds w (Event.Restart a) h =
       elim (cases_Bool (is_up_at w a)) [
         | inl e ↦ rw e tt
@@ -75,7 +75,7 @@ module _ (also : List Entry → Type 0) (cluster : Cluster) (good : AreGood also
       ]
   happened-holds w (Event.Stop a call image) h =
       up-holds also cluster w a _ (λ up. let here = (is-up also cluster w a h up).centre in
-      moved-holds also cluster w a (record { is_up = (centre_at w a).is_up; stop = Some (call, image); volatile = (centre_at w a).volatile }) [] w.sent w.bytes h here tt h.legal h.placed h.more h.sent
+      moved-holds also cluster w a (record { is_up = (centre_at w a).is_up; stop = Some (call, image); tail = (centre_at w a).tail; volatile = (centre_at w a).volatile }) [] w.sent w.bytes h here tt h.legal h.placed h.more h.sent
       (record { booted = (h.centres a here).booted; keeps = (h.centres a here).keeps }))
 
   pub event-good : (w : World) (event : Event) → Holds also cluster w → OkHolds also cluster (after_event w event)

@@ -15,7 +15,8 @@ use Rattle.mdcc_rules.specs.declared.node.StepFault.{StepFault}
 use Rattle.mdcc_protocol.specs.Volatile.{Volatile}
 use Rattle.mdcc_messages.specs.Mailbox.{Sent, unsent}
 use Rattle.mdcc_simulation.specs.State.{Site, World, booted, centre_at, down}
-use Rattle.mdcc_simulation.specs.AppliedSteps.{fact_happened, fact_applied, input_happened, is_frame_kept, step_happened_by, step_stopped}
+use Rattle.mdcc_simulation.specs.AppliedSteps.{fact_happened, fact_applied, input_happened, step_happened_by, step_stopped}
+use Rattle.mdcc_simulation.specs.Checkpoints.{is_frame_kept, striking_at, tail_after}
 use Rattle.mdcc_trace_states.specs.Words.{Each}
 use Rattle.mdcc_trace_states.specs.VolatileInvariant.{ArePlaced, IsCentre}
 use Rattle.mdcc_trace_states.specs.Invariant.{Holds, IsGood, IsGoodBy, IsGoodStep, IsOf}
@@ -71,34 +72,34 @@ sent-more : (cluster : Cluster) (new es : List Entry) (sent : List Sent) → Eac
 sent-more cluster new es sent h = Each-like (λ (s : Sent). TrueWhenSent cluster es s.envelope) (λ (s : Sent). TrueWhenSent cluster (new ++ es) s.envelope) sent (λ s g. true-more cluster new es s.envelope g) h
 
 -- a good step, with the new entries that it makes
-pub good-holds : (also : List Entry → Type 0) (cluster : Cluster) (w : World) (a : ℕ) (new : List Entry) (sends : List Envelope) (after : Volatile) (stop : Option (ℕ × Image)) (up : Bool) (bytes : ℕ) → Holds also cluster w → is_centre w.cluster a ≡ true →
-    IsGoodStep w.cluster also w.ledger a new sends after → Holds also cluster (moved w a (record { is_up = up; stop = stop; volatile = after }) new (w.sent ++ map unsent sends) bytes)
-good-holds also cluster w a new sends after stop up bytes h here g =
-    moved-holds also cluster w a (record { is_up = up; stop = stop; volatile = after }) new (w.sent ++ map unsent sends) bytes h here g.own g.legal g.placed g.more
+pub good-holds : (also : List Entry → Type 0) (cluster : Cluster) (w : World) (a : ℕ) (new : List Entry) (sends : List Envelope) (after : Volatile) (stop : Option (ℕ × Image)) (up : Bool) (tail bytes : ℕ) → Holds also cluster w → is_centre w.cluster a ≡ true →
+    IsGoodStep w.cluster also w.ledger a new sends after → Holds also cluster (moved w a (record { is_up = up; stop = stop; tail = tail; volatile = after }) new (w.sent ++ map unsent sends) bytes)
+good-holds also cluster w a new sends after stop up tail bytes h here g =
+    moved-holds also cluster w a (record { is_up = up; stop = stop; tail = tail; volatile = after }) new (w.sent ++ map unsent sends) bytes h here g.own g.legal g.placed g.more
     (Each-append (λ (s : Sent). TrueWhenSent w.cluster (new ++ w.ledger) s.envelope) w.sent (map unsent sends) (sent-more w.cluster new w.ledger w.sent h.sent)
     (Each-map (λ (s : Sent). TrueWhenSent w.cluster (new ++ w.ledger) s.envelope) unsent sends g.stand))
     (record { booted = epoch-aboves w.cluster new w.ledger a g.legal (h.centres a here).booted; keeps = λ u. g.keeps })
 
 -- a centre goes down, with or without its new fact
-pub down-holds : (also : List Entry → Type 0) (cluster : Cluster) (w : World) (a : ℕ) (new : List Entry) → Holds also cluster w → is_centre w.cluster a ≡ true →
-    Each (IsOf a) new → IsAllowed w.cluster (new ++ w.ledger) → ArePlaced (new ++ w.ledger) → also (new ++ w.ledger) → Holds also cluster (moved w a down new w.sent w.bytes)
-down-holds also cluster w a new h here own legal placed more =
-    moved-holds also cluster w a down new w.sent w.bytes h here own legal placed more (sent-more w.cluster new w.ledger w.sent h.sent)
+pub down-holds : (also : List Entry → Type 0) (cluster : Cluster) (w : World) (a tail : ℕ) (new : List Entry) → Holds also cluster w → is_centre w.cluster a ≡ true →
+    Each (IsOf a) new → IsAllowed w.cluster (new ++ w.ledger) → ArePlaced (new ++ w.ledger) → also (new ++ w.ledger) → Holds also cluster (moved w a (down tail) new w.sent w.bytes)
+down-holds also cluster w a tail new h here own legal placed more =
+    moved-holds also cluster w a (down tail) new w.sent w.bytes h here own legal placed more (sent-more w.cluster new w.ledger w.sent h.sent)
     (record { booted = epoch-aboves w.cluster new w.ledger a legal (h.centres a here).booted; keeps = λ u. absurd (true≢false (sym u)) })
 
 stopped-holds : (also : List Entry → Type 0) (cluster : Cluster) (w : World) (a : ℕ) (step : NodeStep) (fact : Fact) (stop : ℕ × Image) → Holds also cluster w → is_centre w.cluster a ≡ true →
     IsGoodStep w.cluster also w.ledger a (Added a fact ∷ []) step.sends step.after → Holds also cluster (step_stopped w a fact stop).world
 stopped-holds also cluster w a step fact stop h here g =
     elim (cases_Bool (is_frame_kept stop.0 stop.1)) [
-      | inl e ↦ rw e (down-holds also cluster w a (Added a fact ∷ []) h here g.own g.legal g.placed g.more)
-      | inr e ↦ rw e (down-holds also cluster w a [] h here tt h.legal h.placed h.more)
+      | inl e ↦ rw e (down-holds also cluster w a _ (Added a fact ∷ []) h here g.own g.legal g.placed g.more)
+      | inr e ↦ rw e (down-holds also cluster w a _ [] h here tt h.legal h.placed h.more)
     ]
 
 taken-holds : (also : List Entry → Type 0) (cluster : Cluster) (w : World) (a : ℕ) (step : NodeStep) (fact : Fact) → Holds also cluster w → is_centre w.cluster a ≡ true → step.entries ≡ [] →
     IsGoodStep w.cluster also w.ledger a (Added a fact ∷ []) step.sends step.after → Holds also cluster (fact_applied w a step fact).world
 taken-holds also cluster w a step fact h here none g =
-    subst (λ (z : List Entry). Holds also cluster (moved w a (record { is_up = (centre_at w a).is_up; stop = (centre_at w a).stop; volatile = step.after }) (Added a fact ∷ z) (w.sent ++ map unsent step.sends) (w.bytes + messages_length step.sends)))
-    (sym none) (good-holds also cluster w a (Added a fact ∷ []) step.sends step.after (centre_at w a).stop (centre_at w a).is_up (w.bytes + messages_length step.sends) h here g)
+    subst (λ (z : List Entry). Holds also cluster (moved w a (record { is_up = (centre_at w a).is_up; stop = (centre_at w a).stop; tail = tail_after (centre_at w a).tail; volatile = step.after }) (Added a fact ∷ z) (w.sent ++ map unsent step.sends) (w.bytes + messages_length step.sends)))
+    (sym none) (good-holds also cluster w a (Added a fact ∷ []) step.sends step.after (centre_at w a).stop (centre_at w a).is_up (tail_after (centre_at w a).tail) (w.bytes + messages_length step.sends) h here g)
 
 fact-holds : (also : List Entry → Type 0) (cluster : Cluster) (w : World) (a : ℕ) (step : NodeStep) (fact : Fact) (stop : Option (ℕ × Image)) → Holds also cluster w → is_centre w.cluster a ≡ true → step.entries ≡ [] →
     IsGoodStep w.cluster also w.ledger a (Added a fact ∷ []) step.sends step.after → Holds also cluster (fact_happened w a step fact stop).world
@@ -107,8 +108,8 @@ fact-holds also cluster w a step fact (Some stop) h here none g = stopped-holds 
 
 step-holds : (also : List Entry → Type 0) (cluster : Cluster) (w : World) (a : ℕ) (step : NodeStep) (fact : Option Fact) → Holds also cluster w → is_centre w.cluster a ≡ true →
     IsGoodBy w.cluster also w.ledger a step fact → Holds also cluster (step_happened_by w a step fact).world
-step-holds also cluster w a step None h here g = good-holds also cluster w a step.entries step.sends step.after (centre_at w a).stop (centre_at w a).is_up (w.bytes + messages_length step.sends) h here g
-step-holds also cluster w a step (Some fact) h here g = fact-holds also cluster w a step fact (centre_at w a).stop h here g.0 g.1
+step-holds also cluster w a step None h here g = good-holds also cluster w a step.entries step.sends step.after (centre_at w a).stop (centre_at w a).is_up (centre_at w a).tail (w.bytes + messages_length step.sends) h here g
+step-holds also cluster w a step (Some fact) h here g = fact-holds also cluster w a step fact (striking_at w a) h here g.0 g.1
 
 pub input-holds : (also : List Entry → Type 0) (cluster : Cluster) (w : World) (a : ℕ) (result : Result NodeStep StepFault) → Holds also cluster w → is_centre w.cluster a ≡ true →
     IsGood w.cluster also w.ledger a result → Holds also cluster (input_happened w a result).world

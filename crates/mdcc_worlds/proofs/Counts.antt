@@ -3,9 +3,10 @@ use Rattle.std.proofs.Common.{◌≡◌, ℕ, ◌+◌, ◌≤◌, ◌<◌, Bool,
 use Rattle.std.proofs.lemmas.Bool.{cases_Bool, le-leb, leb-false, leb-true}
 use Rattle.mdcc_base.specs.declared.outside.Image.{Image}
 use Rattle.mdcc_rules.specs.Steps.{NodeStep}
-use Rattle.mdcc_simulation.specs.State.{Happened, World, centre_at}
+use Rattle.mdcc_simulation.specs.State.{Happened, World}
 use Rattle.mdcc_messages.specs.Mailbox.{Sent, numbered}
-use Rattle.mdcc_simulation.specs.AppliedSteps.{fact_happened, input_happened, is_frame_kept, step_at, step_happened_by}
+use Rattle.mdcc_simulation.specs.AppliedSteps.{fact_happened, input_happened, step_at, step_happened_by}
+use Rattle.mdcc_simulation.specs.Checkpoints.{is_frame_kept, striking_at}
 use Rattle.mdcc_simulation.specs.Limits.{input_limited, is_past_events, limit_if, most_events, step_limit, unless_limit}
 use Rattle.mdcc_messages.specs.declared.facts.Fact.{Fact}
 use Rattle.mdcc_rules.specs.declared.node.Input.{Input}
@@ -55,7 +56,7 @@ happened-events w a (Ok step) = by_fact step.fact
 
     by_fact : (o : Option Fact) → (step_happened_by w a step o).world.events ≡ w.events
     by_fact None = refl
-    by_fact (Some fact) = by_stop fact (centre_at w a).stop
+    by_fact (Some fact) = by_stop fact (striking_at w a)
 
 -- what happens where no limit is passed
 pub unless-happened : (o : Option EventFault) (h after : Happened) → unless_limit o h ≡ Ok after → h ≡ after

@@ -19,6 +19,7 @@ use Rattle.mdcc_simulation.specs.Centres.{crash_happened, restart_happened, afte
 use Rattle.mdcc_simulation.specs.Deliveries.{deliver_line, after_message, after_delivery}
 use Rattle.mdcc_simulation.specs.Events.{after_event}
 use Rattle.mdcc_simulation.specs.AppliedSteps.{step_at, step_happened_by, step_stopped}
+use Rattle.mdcc_simulation.specs.Checkpoints.{striking_at}
 use Rattle.mdcc_simulation.specs.Deliveries as deliveries
 use Rattle.mdcc_simulation.specs.Limits as limits
 use Rattle.mdcc_simulation.specs.AppliedSteps as stepping
@@ -75,8 +76,8 @@ step-limited w a (Ok step) = by_fact step.fact
     by_fact : (o : Option Fact) → IsLimit (step_limit_by w a step o)
     by_fact None = limit-if _ LimitName.Bytes _
     by_fact (Some fact) =
-        limit-or (passed_log_limit w a fact) (if is_some (centre_at w a).stop then None else passed_bytes_limit w step.sends) (log-limited w a fact)
-        (cond_both (is_some (centre_at w a).stop) None (passed_bytes_limit w step.sends) IsLimit (λ e. tt) (λ e. limit-if _ LimitName.Bytes _))
+        limit-or (passed_log_limit w a fact) (if is_some (striking_at w a) then None else passed_bytes_limit w step.sends) (log-limited w a fact)
+        (cond_both (is_some (striking_at w a)) None (passed_bytes_limit w step.sends) IsLimit (λ e. tt) (λ e. limit-if _ LimitName.Bytes _))
 
 -- an input is refused by a limit only
 pub input-limits : (w : World) (a : ℕ) (r : Result NodeStep StepFault) → OnlyLimits (input_limited w a r)
@@ -92,13 +93,13 @@ open-is w (Err fault) only = elim (cases_Bool (is_past_events w)) [ inl e ↦ rw
 -- an input comes to its step, where no limit is passed
 pub input-is : (w : World) (a : ℕ) (result : Result NodeStep StepFault) → input_limited w a result ≡ step_reported w a result
 input-is w a (Err fault) = refl
-input-is w a (Ok step) = by_fact step.fact refl (centre_at w a).stop refl
+input-is w a (Ok step) = by_fact step.fact refl (striking_at w a) refl
   where
     or-none : (o : Option EventFault) → option_or o None ≡ o
     or-none None = refl
     or-none (Some fault) = refl
 
-    by_fact : (o : Option Fact) → step.fact ≡ o → (stop : Option (ℕ × Image)) → (centre_at w a).stop ≡ stop
+    by_fact : (o : Option Fact) → step.fact ≡ o → (stop : Option (ℕ × Image)) → striking_at w a ≡ stop
         → unless_limit (step_limit_by w a step o) (step_happened_by w a step o) ≡ reported_by w a step o stop
     by_fact None e stop k = rw (by-none w a step e) (ap (λ (o : Option Fact). unless_limit (limit_passed w a o step.sends) (after_whole_step w a step)) (sym e))
     by_fact (Some fact) e None k =

@@ -23,6 +23,7 @@ use Rattle.mdcc_simulation.specs.Centres.{crash_happened, restart_happened, stop
 use Rattle.mdcc_simulation.specs.Deliveries.{deliver_line, after_deliveries, after_delivery, first_waiting, settled_line, settled_of}
 use Rattle.mdcc_simulation.specs.Events.{after_event}
 use Rattle.mdcc_simulation.specs.AppliedSteps.{input_happened, step_at}
+use Rattle.mdcc_simulation.specs.Checkpoints.{striking_at}
 use Rattle.mdcc_simulation.specs.Limits.{passed_bytes_limit, passed_cells_limit, input_applied, is_limit, is_past_events, limit_if, passed_log_limit, most_events, most_log, step_limit, step_limit_by, unless_limit, with_lines, within_events}
 use Rattle.mdcc_language.specs.declared.events.Event.{Event}
 use Rattle.mdcc_language.specs.declared.events.UpdateWord.{UpdateWord}
@@ -85,7 +86,7 @@ log-kept w a r stands centre e step is = by_fact step.fact (subst (λ (x : Resul
   where
     by_fact : (o : Option Fact) → step_limit_by w a step o ≡ None → log_length (with_new (facts_of w.ledger a) o) ≤ most_log
     by_fact None k = stands.logs a centre
-    by_fact (Some fact) k = log-open w a fact (either-open (passed_log_limit w a fact) (if is_some (centre_at w a).stop then None else passed_bytes_limit w step.sends) k)
+    by_fact (Some fact) k = log-open w a fact (either-open (passed_log_limit w a fact) (if is_some (striking_at w a) then None else passed_bytes_limit w step.sends) k)
 
 -- an input that no limit refuses
 pub limited-stays : (w : World) (a : ℕ) (input : Input) (h : Happened) → IsWorld w → is_centre w.cluster a ≡ true → IsWellFormedInput input

@@ -20,7 +20,8 @@ use Rattle.mdcc_messages.specs.WellFormed.{IsWellFormedEnvelope, IsWellFormedFac
 use Rattle.mdcc_messages.specs.Mailbox.{Sent, unsent, with_delivered}
 use Rattle.mdcc_simulation.specs.State.{Happened, Site, World, booted, centre_at, counted_event, down, with_centre}
 use Rattle.mdcc_simulation.specs.Centres.{crash_happened, restart_happened, stop_happened}
-use Rattle.mdcc_simulation.specs.AppliedSteps.{fact_happened, input_happened, is_frame_kept, step_at, step_happened_by, step_stopped}
+use Rattle.mdcc_simulation.specs.AppliedSteps.{fact_happened, input_happened, step_at, step_happened_by, step_stopped}
+use Rattle.mdcc_simulation.specs.Checkpoints.{is_frame_kept, striking_at, tail_after}
 use Rattle.mdcc_simulation.specs.Clients.{known_of_reading, read_happened}
 use Rattle.mdcc_simulation.specs.Limits.{most_events, most_log}
 use Rattle.mdcc_messages.specs.declared.facts.Fact.{Fact}
@@ -40,7 +41,7 @@ use Rattle.mdcc_steps.specs.Inputs.{IsWellFormedInput}
 use Rattle.mdcc_worlds.proofs.Within.{LeavesEpoch, made-epoch, made-stays}
 use Rattle.mdcc_worlds.specs.StepSends.{GoesWithin, StaysWithin}
 use Rattle.mdcc_worlds.specs.WorldInvariant.{IsWellFormedKnown, IsSentWithin, IsWorld}
-use Rattle.mdcc_worlds.specs.StepEffects.{after_whole_step, ledger_with_fact, world_after_step}
+use Rattle.mdcc_worlds.specs.StepEffects.{after_whole_step, ledger_with_fact, tail_with_fact, world_after_step}
 
 -- ---- centres
 
@@ -92,8 +93,8 @@ each-put w a site new P stands centre others here b some = elim (cases_Bool (a =
 pub by-none : (w : World) (a : ℕ) (step : NodeStep) → step.fact ≡ None → step_happened_by w a step None ≡ after_whole_step w a step
 by-none w a step e = rw e refl
 
--- and where no stop is armed
-pub by-some : (w : World) (a : ℕ) (step : NodeStep) (fact : Fact) → step.fact ≡ Some fact → (centre_at w a).stop ≡ None → step_happened_by w a step (Some fact) ≡ after_whole_step w a step
+-- and where no stop strikes
+pub by-some : (w : World) (a : ℕ) (step : NodeStep) (fact : Fact) → step.fact ≡ Some fact → striking_at w a ≡ None → step_happened_by w a step (Some fact) ≡ after_whole_step w a step
 by-some w a step fact e unstopped =
     let rest : fact_happened w a step fact None ≡ after_whole_step w a step = rw e refl in
     ap (fact_happened w a step fact) unstopped ∙ rest
@@ -130,18 +131,19 @@ each-sent cluster (e ∷ es) h k s =
     below : (n : ℕ) → n ≤ 1474618 → n ≤ 2097152
     below n h = omega (h, arith)
 
-module _ (w : World) (a : ℕ) (step : NodeStep) (stands : IsWorld w) (centre : is_centre w.cluster a ≡ true) (stays : StaysWithin w.cluster step) where
-  site : Site
-  site = record (centre_at w a) { volatile = step.after }
+-- the centre of a step after it
+abbrev pub site_with : World → ℕ → NodeStep → Site
+site_with w a step = record (centre_at w a) { tail = tail_with_fact w a step.fact; volatile = step.after }
 
+module _ (w : World) (a : ℕ) (step : NodeStep) (stands : IsWorld w) (centre : is_centre w.cluster a ≡ true) (stays : StaysWithin w.cluster step) where
   few : a ≤ length w.centres
   few = rw stands.sites (some-centre w.cluster a centre).1
 
-  pub site-here : centre_at (world_after_step w a step) a ≡ record (centre_at w a) { volatile = step.after }
-  site-here = site-same w.centres a (record (centre_at w a) { volatile = step.after }) (some-centre w.cluster a centre).0 few
+  pub site-here : centre_at (world_after_step w a step) a ≡ site_with w a step
+  site-here = site-same w.centres a (site_with w a step) (some-centre w.cluster a centre).0 few
 
   pub site-there : (b : ℕ) → 1 ≤ b → (a == b) ≡ false → centre_at (world_after_step w a step) b ≡ centre_at w b
-  site-there b some other = site-other w.centres a b (record (centre_at w a) { volatile = step.after }) (some-centre w.cluster a centre).0 some other
+  site-there b some other = site-other w.centres a b (site_with w a step) (some-centre w.cluster a centre).0 some other
 
   pub facts-here : facts_of (world_after_step w a step).ledger a ≡ with_new (facts_of w.ledger a) step.fact
   facts-here =
@@ -153,7 +155,7 @@ module _ (w : World) (a : ℕ) (step : NodeStep) (stands : IsWorld w) (centre : 
 
   -- what holds of each centre with its facts holds after the step
   pub each-stays : (P : ℕ → List Fact → Site → Type 0) → ((b : ℕ) → 1 ≤ b → (a == b) ≡ false → P b (facts_of w.ledger b) (centre_at w b))
-      → P a (with_new (facts_of w.ledger a) step.fact) (record (centre_at w a) { volatile = step.after })
+      → P a (with_new (facts_of w.ledger a) step.fact) (site_with w a step)
       → (b : ℕ) → 1 ≤ b → P b (facts_of (world_after_step w a step).ledger b) (centre_at (world_after_step w a step) b)
   each-stays P others here b some = elim (cases_Bool (a == b)) [
     | inl e ↦
@@ -167,7 +169,7 @@ module _ (w : World) (a : ℕ) (step : NodeStep) (stands : IsWorld w) (centre : 
       → IsWorld (world_after_step w a step)
   world-stays node epoch formed short log cells = record {
     cluster_itself = stands.cluster_itself;
-    sites = length-set w.centres (a - 1) (record (centre_at w a) { volatile = step.after }) ∙ stands.sites;
+    sites = length-set w.centres (a - 1) (site_with w a step) ∙ stands.sites;
     nodes = λ b h. each-stays (λ b facts s. is_centre w.cluster b ≡ true → IsNode w.cluster b facts s.volatile) (λ b some e h. stands.nodes b h) (λ h. node) b (some-centre w.cluster b h).0 h;
     logs = λ b h. each-stays (λ b facts s. is_centre w.cluster b ≡ true → log_length facts ≤ most_log) (λ b some e h. stands.logs b h) (λ h. log) b (some-centre w.cluster b h).0 h;
     cells = λ b h. each-stays (λ b facts s. is_centre w.cluster b ≡ true → cells_used facts ≤ w.cluster.cells) (λ b some e h. stands.cells b h) (λ h. cells) b (some-centre w.cluster b h).0 h;
@@ -180,16 +182,16 @@ module _ (w : World) (a : ℕ) (step : NodeStep) (stands : IsWorld w) (centre : 
 -- ---- a step whose append stops
 
 -- a centre goes down with a new fact, or without one
-down-stays : (w : World) (a : ℕ) (new : Option Fact) → IsWorld w → is_centre w.cluster a ≡ true → IsNode w.cluster a (with_new (facts_of w.ledger a) new) initial_volatile
+down-stays : (w : World) (a tail : ℕ) (new : Option Fact) → IsWorld w → is_centre w.cluster a ≡ true → IsNode w.cluster a (with_new (facts_of w.ledger a) new) initial_volatile
     → LeavesEpoch new → log_length (with_new (facts_of w.ledger a) new) ≤ most_log → cells_used (with_new (facts_of w.ledger a) new) ≤ w.cluster.cells
-    → IsWorld (record (with_centre w a down) { ledger = ledger_with_fact a new w.ledger })
-down-stays w a new stands centre node epoch log cells = record {
+    → IsWorld (record (with_centre w a (down tail)) { ledger = ledger_with_fact a new w.ledger })
+down-stays w a tail new stands centre node epoch log cells = record {
   cluster_itself = stands.cluster_itself;
-  sites = length-set w.centres (a - 1) down ∙ stands.sites;
-  nodes = λ b h. each-put w a down new (λ b facts s. is_centre w.cluster b ≡ true → IsNode w.cluster b facts s.volatile) stands centre stands.nodes (λ h. node) b (some-centre w.cluster b h).0 h;
-  logs = λ b h. each-put w a down new (λ b facts s. is_centre w.cluster b ≡ true → log_length facts ≤ most_log) stands centre stands.logs (λ h. log) b (some-centre w.cluster b h).0 h;
-  cells = λ b h. each-put w a down new (λ b facts s. is_centre w.cluster b ≡ true → cells_used facts ≤ w.cluster.cells) stands centre stands.cells (λ h. cells) b (some-centre w.cluster b h).0 h;
-  epochs = λ b h. each-put w a down new (λ b facts s. is_centre w.cluster b ≡ true → epoch_of facts ≤ w.events + 1) stands centre stands.epochs
+  sites = length-set w.centres (a - 1) (down tail) ∙ stands.sites;
+  nodes = λ b h. each-put w a (down tail) new (λ b facts s. is_centre w.cluster b ≡ true → IsNode w.cluster b facts s.volatile) stands centre stands.nodes (λ h. node) b (some-centre w.cluster b h).0 h;
+  logs = λ b h. each-put w a (down tail) new (λ b facts s. is_centre w.cluster b ≡ true → log_length facts ≤ most_log) stands centre stands.logs (λ h. log) b (some-centre w.cluster b h).0 h;
+  cells = λ b h. each-put w a (down tail) new (λ b facts s. is_centre w.cluster b ≡ true → cells_used facts ≤ w.cluster.cells) stands centre stands.cells (λ h. cells) b (some-centre w.cluster b h).0 h;
+  epochs = λ b h. each-put w a (down tail) new (λ b facts s. is_centre w.cluster b ≡ true → epoch_of facts ≤ w.events + 1) stands centre stands.epochs
       (λ h. rw (epoch (facts_of w.ledger a)) (stands.epochs a h)) b (some-centre w.cluster b h).0 h;
   sent = stands.sent;
   reads = stands.reads;
@@ -200,10 +202,10 @@ pub stopped-stays : (w : World) (a : ℕ) (fact : Fact) (stop : ℕ × Image) �
     → cells_used (fact ∷ facts_of w.ledger a) ≤ w.cluster.cells
     → IsWorld (step_stopped w a fact stop).world
 stopped-stays w a fact stop stands centre after node epoch log cells = elim (cases_Bool (is_frame_kept stop.0 stop.1)) [
-  | inl e ↦ rw e (down-stays w a (Some fact) stands centre (node-lost w.cluster a (fact ∷ facts_of w.ledger a) after node) epoch log cells)
+  | inl e ↦ rw e (down-stays w a _ (Some fact) stands centre (node-lost w.cluster a (fact ∷ facts_of w.ledger a) after node) epoch log cells)
   | inr e ↦
       rw e
-      (down-stays w a None stands centre (node-lost w.cluster a (facts_of w.ledger a) (centre_at w a).volatile (stands.nodes a centre)) (λ facts. refl) (stands.logs a centre) (stands.cells a centre))
+      (down-stays w a _ None stands centre (node-lost w.cluster a (facts_of w.ledger a) (centre_at w a).volatile (stands.nodes a centre)) (λ facts. refl) (stands.logs a centre) (stands.cells a centre))
 ]
 
 -- ---- an input
@@ -222,7 +224,7 @@ input-stays w a input keeps stands centre formed = by_result (step_at w a input)
   where
     by_fact : (step : NodeStep) → IsNode w.cluster a (with_new (facts_of w.ledger a) step.fact) step.after → LeavesEpoch step.fact
         → log_length (with_new (facts_of w.ledger a) step.fact) ≤ most_log → cells_used (with_new (facts_of w.ledger a) step.fact) ≤ w.cluster.cells → IsWorld (world_after_step w a step)
-        → (o : Option Fact) → step.fact ≡ o → (stop : Option (ℕ × Image)) → (centre_at w a).stop ≡ stop → IsWorld (step_happened_by w a step o).world
+        → (o : Option Fact) → step.fact ≡ o → (stop : Option (ℕ × Image)) → striking_at w a ≡ stop → IsWorld (step_happened_by w a step o).world
     by_fact step node epoch log cells whole None e stop k = subst (λ (x : Happened). IsWorld x.world) (sym (by-none w a step e)) whole
     by_fact step node epoch log cells whole (Some fact) e None k = subst (λ (x : Happened). IsWorld x.world) (sym (by-some w a step fact e k)) whole
     by_fact step node epoch log cells whole (Some fact) e (Some stop) k =
@@ -242,7 +244,7 @@ input-stays w a input keeps stands centre formed = by_result (step_at w a input)
         let stays = node-stays w.cluster a (facts_of w.ledger a) (centre_at w a).volatile input step node formed e in
         let epoch = made-epoch w.cluster a (facts_of w.ledger a) (centre_at w a).volatile input step stands.cluster_itself.quorums formed e in
         let cells = room-stays w.cluster a (facts_of w.ledger a) (centre_at w a).volatile input step (stands.cells a centre) e in
-        by_fact step stays epoch (keeps step e) cells (world-stays w a step stands centre within stays epoch sends short (keeps step e) cells) step.fact refl (centre_at w a).stop refl
+        by_fact step stays epoch (keeps step e) cells (world-stays w a step stands centre within stays epoch sends short (keeps step e) cells) step.fact refl (striking_at w a) refl
 
 -- ---- a delivery
 
@@ -307,8 +309,8 @@ read-stays w a key stands centre is =
 pub crash-stays : (w : World) (a : ℕ) → IsWorld w → is_centre w.cluster a ≡ true → IsWorld (crash_happened w a).world
 crash-stays w a stands centre = record {
   cluster_itself = stands.cluster_itself;
-  sites = length-set w.centres (a - 1) down ∙ stands.sites;
-  nodes = λ b h. each-put w a down None (λ b facts s. is_centre w.cluster b ≡ true → IsNode w.cluster b facts s.volatile) stands centre stands.nodes
+  sites = length-set w.centres (a - 1) (down (centre_at w a).tail) ∙ stands.sites;
+  nodes = λ b h. each-put w a (down (centre_at w a).tail) None (λ b facts s. is_centre w.cluster b ≡ true → IsNode w.cluster b facts s.volatile) stands centre stands.nodes
       (λ h. node-lost w.cluster a (facts_of w.ledger a) (centre_at w a).volatile (stands.nodes a h)) b (some-centre w.cluster b h).0 h;
   logs = stands.logs;
   cells = stands.cells;
@@ -365,13 +367,13 @@ pub restart-stays : (w : World) (a : ℕ) → IsWorld w → is_centre w.cluster 
     → IsWorld (restart_happened (counted_event w) a (epoch_of (facts_of w.ledger a) + 1)).world
 restart-stays w a stands centre few log cells = record {
   cluster_itself = stands.cluster_itself;
-  sites = length-set w.centres (a - 1) booted ∙ stands.sites;
-  nodes = λ b h. each-put w a booted (Some fact) (λ b facts s. is_centre w.cluster b ≡ true → IsNode w.cluster b facts s.volatile) stands centre stands.nodes
+  sites = length-set w.centres (a - 1) site ∙ stands.sites;
+  nodes = λ b h. each-put w a site (Some fact) (λ b facts s. is_centre w.cluster b ≡ true → IsNode w.cluster b facts s.volatile) stands centre stands.nodes
       (λ h. restarted-node w.cluster a (facts_of w.ledger a) (centre_at w a).volatile (stands.nodes a h) (below-last (epoch_of (facts_of w.ledger a)) w.events (stands.epochs a h) few) cells)
       b (some-centre w.cluster b h).0 h;
-  logs = λ b h. each-put w a booted (Some fact) (λ b facts s. is_centre w.cluster b ≡ true → log_length facts ≤ most_log) stands centre stands.logs (λ h. log) b (some-centre w.cluster b h).0 h;
-  cells = λ b h. each-put w a booted (Some fact) (λ b facts s. is_centre w.cluster b ≡ true → cells_used facts ≤ w.cluster.cells) stands centre stands.cells (λ h. cells) b (some-centre w.cluster b h).0 h;
-  epochs = λ b h. each-put w a booted (Some fact) (λ b facts s. is_centre w.cluster b ≡ true → epoch_of facts ≤ w.events + 1 + 1) stands centre
+  logs = λ b h. each-put w a site (Some fact) (λ b facts s. is_centre w.cluster b ≡ true → log_length facts ≤ most_log) stands centre stands.logs (λ h. log) b (some-centre w.cluster b h).0 h;
+  cells = λ b h. each-put w a site (Some fact) (λ b facts s. is_centre w.cluster b ≡ true → cells_used facts ≤ w.cluster.cells) stands centre stands.cells (λ h. cells) b (some-centre w.cluster b h).0 h;
+  epochs = λ b h. each-put w a site (Some fact) (λ b facts s. is_centre w.cluster b ≡ true → epoch_of facts ≤ w.events + 1 + 1) stands centre
       (λ b h. later (epoch_of (facts_of w.ledger b)) w.events (stands.epochs b h)) (λ h. next (epoch_of (facts_of w.ledger a)) w.events (stands.epochs a h)) b (some-centre w.cluster b h).0 h;
   sent = stands.sent;
   reads = stands.reads;
@@ -379,6 +381,9 @@ restart-stays w a stands centre few log cells = record {
   where
     fact : Fact
     fact = Fact.Booted (epoch_of (facts_of w.ledger a) + 1)
+
+    site : Site
+    site = record booted { tail = tail_after (centre_at w a).tail }
 
     later : (epoch events : ℕ) → epoch ≤ events + 1 → epoch ≤ events + 1 + 1
     later epoch events h = omega (h, arith)

@@ -9,6 +9,7 @@ use Rattle.mdcc_rules.specs.Steps.{NodeStep}
 use Rattle.mdcc_simulation.specs.State.{Happened, World, centre_at}
 use Rattle.mdcc_simulation.specs.Limits.{passed_bytes_limit, input_limited, passed_log_limit, unless_limit}
 use Rattle.mdcc_simulation.specs.AppliedSteps.{chosen_lines, heard_lines, input_happened, step_stopped, step_applied}
+use Rattle.mdcc_simulation.specs.Checkpoints.{striking_at, tail_after}
 use Rattle.mdcc_messages.specs.declared.facts.Fact.{Fact}
 use Rattle.mdcc_language.specs.declared.lines.Line.{Line}
 use Rattle.mdcc_messages.specs.declared.messages.Envelope.{Envelope}
@@ -33,9 +34,14 @@ step_lines quorums a (Some fact) entries = fact_lines quorums a fact entries
 abbrev pub chosen_line : TxId × Bool → Line
 chosen_line ending = Line.Chosen ending.0 ending.1
 
+-- the frames of the tail of the log of a centre after a step with this fact, where one is
+abbrev pub tail_with_fact : World → ℕ → Option Fact → ℕ
+tail_with_fact w a None = (centre_at w a).tail
+tail_with_fact w a (Some fact) = tail_after (centre_at w a).tail
+
 -- the world after a step
 abbrev pub world_after_step : World → ℕ → NodeStep → World
-world_after_step w a step = record (step_applied w a step) { ledger = ledger_with_fact a step.fact (step.entries ++ w.ledger) }
+world_after_step w a step = record (step_applied w a (tail_with_fact w a step.fact) step) { ledger = ledger_with_fact a step.fact (step.entries ++ w.ledger) }
 
 abbrev pub after_whole_step : World → ℕ → NodeStep → Happened
 after_whole_step w a step = record {
@@ -43,7 +49,7 @@ after_whole_step w a step = record {
   lines = step_lines w.cluster.quorums a step.fact (step.entries ++ w.ledger);
 }
 
--- the limit that a step would pass whose append does not stop
+-- the limit that a step would pass that no stop strikes
 abbrev pub limit_passed : World → ℕ → Option Fact → List Envelope → Option EventFault
 limit_passed w a None sends = passed_bytes_limit w sends
 limit_passed w a (Some fact) sends = option_or (passed_log_limit w a fact) (passed_bytes_limit w sends)
@@ -52,11 +58,11 @@ limit_passed w a (Some fact) sends = option_or (passed_log_limit w a fact) (pass
 abbrev pub reported_whole : World → ℕ → NodeStep → Result Happened EventFault
 reported_whole w a step = unless_limit (limit_passed w a step.fact step.sends) (after_whole_step w a step)
 
--- what comes of a step whose append stops: it sends nothing, so that the limit of the log alone is asked
+-- what comes of a step that a stop strikes: it sends nothing, so that the limit of the log alone is asked
 abbrev pub reported_stopped : World → ℕ → Fact → ℕ × Image → Result Happened EventFault
 reported_stopped w a fact stop = unless_limit (passed_log_limit w a fact) (step_stopped w a fact stop)
 
--- what comes of a step with this fact, where one is, at a centre where a stop is armed or none
+-- what comes of a step with this fact, where one is, that a stop strikes or none
 abbrev pub reported_by : World → ℕ → NodeStep → Option Fact → Option (ℕ × Image) → Result Happened EventFault
 reported_by w a step None stop = reported_whole w a step
 reported_by w a step (Some fact) None = reported_whole w a step
@@ -64,7 +70,7 @@ reported_by w a step (Some fact) (Some stop) = reported_stopped w a fact stop
 
 -- what comes of a step
 abbrev pub step_reported : World → ℕ → Result NodeStep StepFault → Result Happened EventFault
-step_reported w a (Ok step) = reported_by w a step step.fact (centre_at w a).stop
+step_reported w a (Ok step) = reported_by w a step step.fact (striking_at w a)
 step_reported w a (Err fault) = Ok (input_happened w a (Err fault))
 
 -- an input comes to this
