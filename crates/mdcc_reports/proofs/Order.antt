@@ -11,7 +11,8 @@ use Rattle.mdcc_protocol.specs.Marks.{is_commit}
 use Rattle.mdcc_rules.specs.Steps.{NodeStep}
 use Rattle.mdcc_rules.specs.declared.node.StepFault.{StepFault}
 use Rattle.mdcc_simulation.specs.State.{World, centre_at}
-use Rattle.mdcc_simulation.specs.AppliedSteps.{chosen_lines, fact_happened, heard_lines, input_happened, is_frame_kept, step_at, step_happened_by, step_stopped}
+use Rattle.mdcc_simulation.specs.AppliedSteps.{chosen_lines, fact_happened, heard_lines, input_happened, step_at, step_happened_by, step_stopped}
+use Rattle.mdcc_simulation.specs.Checkpoints.{is_frame_kept, striking_at}
 use Rattle.mdcc_simulation.specs.Runs.{run_of}
 use Rattle.mdcc_language.specs.declared.events.Event.{Event}
 use Rattle.mdcc_language.specs.declared.lines.Line.{Line}
@@ -104,7 +105,7 @@ order-input w a (Ok step) h = by_fact step.fact
 
     by_fact : (o : Option Fact) → InOrder w (step_happened_by w a step o).world (step_happened_by w a step o).lines
     by_fact None = nothing-new w.cluster.quorums step.entries w.ledger h ∙ none-told w
-    by_fact (Some fact) = by_stop fact (centre_at w a).stop
+    by_fact (Some fact) = by_stop fact (striking_at w a)
 
 order-kept : IsKept InOrder
 order-kept = record {

@@ -10,8 +10,9 @@ use Rattle.mdcc_option.specs.declared.choices.Outcome.{Outcome}
 use Rattle.mdcc_ledger.specs.Ledger.{Added, Entry, new_outcomes}
 use Rattle.mdcc_protocol.specs.Marks.{is_commit}
 use Rattle.mdcc_rules.specs.Steps.{NodeStep}
-use Rattle.mdcc_simulation.specs.State.{World, centre_at}
-use Rattle.mdcc_simulation.specs.AppliedSteps.{chosen_lines, fact_happened, heard_lines, input_happened, is_frame_kept, step_happened_by, step_stopped}
+use Rattle.mdcc_simulation.specs.State.{World}
+use Rattle.mdcc_simulation.specs.AppliedSteps.{chosen_lines, fact_happened, heard_lines, input_happened, step_happened_by, step_stopped}
+use Rattle.mdcc_simulation.specs.Checkpoints.{is_frame_kept, striking_at}
 use Rattle.mdcc_simulation.specs.Runs.{run_of}
 use Rattle.mdcc_language.specs.declared.events.Event.{Event}
 use Rattle.mdcc_messages.specs.declared.facts.Fact.{Fact}
@@ -117,7 +118,7 @@ told-input w a (Ok step) = by_fact step.fact
 
     by_fact : (o : Option Fact) → Told w (step_happened_by w a step o).world (step_happened_by w a step o).lines
     by_fact None = (record { same = refl; later = step.entries; parts = refl }, tt)
-    by_fact (Some fact) = by_stop fact (centre_at w a).stop
+    by_fact (Some fact) = by_stop fact (striking_at w a)
 
 told-both : (v w x : World) (ls ks : List Line) → Told v w ls → Told w x ks → Told v x (ls ++ ks)
 told-both v w x ls ks g h = (

@@ -18,7 +18,8 @@ use Rattle.mdcc_simulation.specs.Clients.{answer_in, begin_lines, after_begin, b
 use Rattle.mdcc_simulation.specs.Limits.{passed_cells_limit, if_up, is_limit, is_past_events, passed_log_limit, most_events, step_limit, unless_limit, with_lines, within_events}
 use Rattle.mdcc_simulation.specs.Deliveries.{deliver_line, after_message, after_deliveries, after_delivery_by, after_delivery, first_waiting, is_waiting_for, after_settle, settled_line, settled_of}
 use Rattle.mdcc_simulation.specs.Events.{after_event, happened_of, is_deliver}
-use Rattle.mdcc_simulation.specs.AppliedSteps.{fact_happened, input_happened, is_frame_kept, step_at, step_happened_by, step_stopped}
+use Rattle.mdcc_simulation.specs.AppliedSteps.{fact_happened, input_happened, step_at, step_happened_by, step_stopped}
+use Rattle.mdcc_simulation.specs.Checkpoints.{is_frame_kept, striking_at}
 use Rattle.mdcc_simulation.specs.Centres.{restart_happened, after_restart, tick_line, after_tick}
 use Rattle.mdcc_simulation.specs.Runs.{run_from, run_of}
 use Rattle.mdcc_language.specs.declared.events.Event.{Event}
@@ -93,7 +94,7 @@ input-events w a (Ok step) = by_fact step.fact
 
     by_fact : (o : Option Fact) → (step_happened_by w a step o).world.events ≡ w.events
     by_fact None = refl
-    by_fact (Some fact) = by_stop fact (centre_at w a).stop
+    by_fact (Some fact) = by_stop fact (striking_at w a)
 
 -- a delivery counts one
 delivered-events : (w : World) (number : ℕ) (envelope : Envelope) (after : Happened) → after_message w number envelope ≡ Ok after → after.world.events ≡ w.events + 1
@@ -272,7 +273,7 @@ module _ (R : World → World → List Line → Type 0) (kept : IsKept R) where
   happened-kept w (Event.Tick a) single free =
       up-kept (counted_event w) w a (after_tick (counted_event w) a)
       (λ up. lines-kept w (tick_line a) _ (λ x. (refl, tt)) (taken-kept w w.sent a Input.Tick free up))
-  happened-kept w (Event.Crash a) single free = up-kept (counted_event w) w a _ (λ up. told w (with_centre (counted_event w) a down) _ refl (kept.site w a down free))
+  happened-kept w (Event.Crash a) single free = up-kept (counted_event w) w a _ (λ up. told w (with_centre (counted_event w) a (down (centre_at w a).tail)) _ refl (kept.site w a (down (centre_at w a).tail) free))
   happened-kept w (Event.Restart a) single free =
       elim (cases_Bool (is_up_at w a)) [
         | inl e ↦ rw e tt

@@ -35,6 +35,7 @@ use Rattle.mdcc_rules.specs.declared.node.StepFault.{StepFault}
 use Rattle.mdcc_simulation.specs.Deliveries.{after_delivery}
 use Rattle.mdcc_simulation.specs.State.{Happened, Site, World, booted, centre_at, next_message}
 use Rattle.mdcc_simulation.specs.AppliedSteps.{fact_happened, fact_applied, input_happened, step_at, step_applied}
+use Rattle.mdcc_simulation.specs.Checkpoints.{striking}
 use Rattle.mdcc_round_trip.specs.Deciding.{AreChoicesOf, IsFastQuorum, counting}
 use Rattle.mdcc_round_trip.specs.Messages.{each_with, vote_counted, vote_of_member}
 use Rattle.mdcc_round_trip.specs.RoundTrips.{IsUndecidedAt, is_dropped, is_hearing, message_at, messages_of}
@@ -217,7 +218,7 @@ module _ (w : World) (a : ℕ) (t : Undecided) (members : List ℕ) (order : Lis
 
     abbrev quiet_after : Happened
     quiet_after = record {
-      world = step_applied (counted u number) a (nothing_done (with_manager (centre_at u a).volatile (vote_taken u.cluster.quorums (centre_at u a).volatile.manager (vote_counted pair))));
+      world = step_applied (counted u number) a (centre_at u a).tail (nothing_done (with_manager (centre_at u a).volatile (vote_taken u.cluster.quorums (centre_at u a).volatile.manager (vote_counted pair))));
       lines = [];
     }
 
@@ -297,7 +298,7 @@ module _ (w : World) (a : ℕ) (t : Undecided) (members : List ℕ) (order : Lis
           → next.lines ≡ Line.Deliver number (next_message (fact_applied (counted u number) a last_step fact).world) ∷ Line.Heard a pair.0.tx true ∷ []
       last-lines e =
           ap (λ (x : Happened). x.lines) whole
-          ∙ rw (e, uncrowded-here) (ap (λ stop. (delivery_told number (fact_happened (counted u number) a last_step fact stop)).lines) c.unstopped)
+          ∙ rw (e, uncrowded-here) (ap (λ stop. (delivery_told number (fact_happened (counted u number) a last_step fact stop)).lines) (ap (striking (centre_at u a).tail) c.unstopped))
 
   -- the last line of all is the commit that the centre hears
   pub all-voted : (numbers : List ℕ) (before after : List (Choice × ℕ)) (u v : World) (lines : List Line) → order ≡ before ++ after → 1 ≤ length after → Counted before u

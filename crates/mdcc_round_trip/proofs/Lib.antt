@@ -6,6 +6,7 @@ pub mod Counting
 pub mod Deciding
 pub mod Delivering
 pub mod Proposing
+pub mod Alike
 pub mod Answering
 pub mod Roomy
 pub mod Trips

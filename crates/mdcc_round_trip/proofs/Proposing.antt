@@ -1,13 +1,14 @@
 -- The proposals are delivered one after the other: each gives a vote, whatever their order.
-use Rattle.std.proofs.Common.{◌≡◌, ℕ, ◌+◌, ◌-◌, ◌≤◌, ◌==◌, Bool, true, false, cond, List, [], ◌∷◌, ◌++◌, refl, sym, ap, ◌∙◌, subst, inl, inr, arith, map, length, max, nat_lt, append_assoc, append-nil, get_or, Some, None, Ok, Err}
+use Rattle.std.proofs.Common.{◌≡◌, ℕ, ◌+◌, ◌-◌, ◌≤◌, ◌==◌, Bool, true, false, cond, List, [], ◌∷◌, ◌++◌, refl, sym, ap, ◌∙◌, subst, inl, inr, arith, map, length, max, nat_lt, append_assoc, append-nil, Option, Some, None, Ok, Err}
 use Rattle.std.specs.List.{AllByRecursion, list_any}
 use Rattle.std.proofs.Math.Nat.{max-zero}
 use Rattle.std.proofs.lemmas.Bool.{cases_Bool, eq-eqb, eqb-true, le-ltb, true≢false}
-use Rattle.std.proofs.lemmas.List.{set-get_or}
+use Rattle.std.proofs.Math.Seq.{map-set_same}
 use Rattle.mdcc_base.specs.Counts.{number_of}
 use Rattle.mdcc_base.specs.Key.{key_eq}
 use Rattle.mdcc_base.specs.declared.identifiers.TxId.{TxId}
 use Rattle.mdcc_base.specs.declared.key.Key.{Key}
+use Rattle.mdcc_base.specs.declared.outside.Image.{Image}
 use Rattle.mdcc_option.specs.declared.choices.Choice.{Choice}
 use Rattle.mdcc_option.specs.declared.choices.Mark.{Mark}
 use Rattle.mdcc_option.specs.declared.cluster.Cluster.{Cluster}
@@ -24,11 +25,13 @@ use Rattle.mdcc_rules.specs.Node.{cells_spare, checked, is_without_room, step_of
 use Rattle.mdcc_rules.specs.declared.node.Input.{Input}
 use Rattle.mdcc_rules.specs.declared.node.StepFault.{StepFault}
 use Rattle.mdcc_simulation.specs.Deliveries.{after_delivery}
-use Rattle.mdcc_simulation.specs.State.{Happened, Site, World, booted, centre_at}
+use Rattle.mdcc_simulation.specs.State.{Happened, World, booted, centre_at}
+use Rattle.mdcc_simulation.specs.Checkpoints.{striking, tail_after}
 use Rattle.mdcc_simulation.specs.AppliedSteps.{chosen_lines, fact_happened, fact_applied, input_happened}
 use Rattle.mdcc_round_trip.specs.Accepting.{IsAccepted, vote_if_roomy, vote_step}
 use Rattle.mdcc_round_trip.specs.Messages.{accepting_fact, proposal_of, vote_of_member}
 use Rattle.mdcc_round_trip.specs.RoundTrips.{is_dropped, is_hearing, message_at, messages_of}
+use Rattle.mdcc_round_trip.proofs.Alike.{alike-at, bare}
 use Rattle.mdcc_round_trip.proofs.Apart.{key-same, key-true, of_both}
 use Rattle.mdcc_round_trip.proofs.Delivering.{Delivers, Name, counted, delivery-told, delivery_told, messages-after, name-more}
 use Rattle.mdcc_round_trip.proofs.Elsewhere.{answers-alike, or-none, voted-alike}
@@ -70,7 +73,7 @@ room-fits cluster facts fact h =
 
 pub record After (w v : World) (sends : List Envelope) : Type 0 where
   pub cluster : v.cluster ≡ w.cluster
-  pub centres : v.centres ≡ w.centres
+  pub centres : map bare v.centres ≡ map bare w.centres
   pub messages : messages_of v ≡ messages_of w ++ sends
   pub heard : (b : ℕ) (tx : TxId) → heard_of (facts_of v.ledger b) tx ≡ heard_of (facts_of w.ledger b) tx
   pub crowding : (b : ℕ) (fact : Fact) → is_crowding (facts_of v.ledger b) fact ≡ is_crowding (facts_of w.ledger b) fact
@@ -91,7 +94,7 @@ module _ (a : ℕ) (tx : TxId) where
   -- one proposal that was delivered
   pub record Proposed (w : World) (pair : Choice × ℕ) (next : Happened) : Type 0 where
     pub cluster : next.world.cluster ≡ w.cluster
-    pub centres : next.world.centres ≡ w.centres
+    pub centres : map bare next.world.centres ≡ map bare w.centres
     pub messages : messages_of next.world ≡ messages_of w ++ vote_of_member a pair ∷ []
     pub ledger : next.world.ledger ≡ Added pair.1 (accepting_fact pair.0) ∷ w.ledger
     pub quiet : NoneHears a tx next.lines
@@ -123,10 +126,12 @@ module _ (a : ℕ) (tx : TxId) where
         let step = vote_step (centre_at w pair.1).volatile a pair in
         let fact = accepting_fact pair.0 in
         let is : next ≡ delivery_told number (fact_applied (counted w number) pair.1 step fact) =
-        told ∙ rw e (ap (λ stop. delivery_told number (fact_happened (counted w number) pair.1 step fact stop)) h.unstopped) in
+        told ∙ rw e (ap (λ stop. delivery_told number (fact_happened (counted w number) pair.1 step fact stop)) (ap (striking (centre_at w pair.1).tail) h.unstopped)) in
         record {
           cluster = ap (λ (x : Happened). x.world.cluster) is;
-          centres = ap (λ (x : Happened). x.world.centres) is ∙ set-get_or w.centres (pair.1 - 1) booted;
+          centres =
+              ap (λ (x : Happened). map bare x.world.centres) is
+              ∙ map-set_same bare w.centres (pair.1 - 1) (record (centre_at w pair.1) { tail = tail_after (centre_at w pair.1).tail }) booted refl;
           messages = ap (λ (x : Happened). messages_of x.world) is ∙ messages-after w.sent (number - 1) (vote_of_member a pair ∷ []);
           ledger = ap (λ (x : Happened). x.world.ledger) is;
           quiet = subst (λ (x : Happened). NoneHears a tx x.lines) (sym is) (
@@ -145,7 +150,7 @@ module _ (a : ℕ) (tx : TxId) where
   pub still : (w : World) (pair : Choice × ℕ) (next : Happened) → Proposed w pair next → (other : Choice × ℕ) → Accepts w other → of_both pair.0.key pair.1 other ≡ false → Accepts next.world other
   still w pair next d other h differ = record {
     belongs = subst (λ (c : Cluster). choice_belongs c other.0 ≡ true) (sym d.cluster) h.belongs;
-    unstopped = subst (λ (cs : List Site). (get_or cs (other.1 - 1) booted).stop ≡ None) (sym d.centres) h.unstopped;
+    unstopped = ap (λ (p : Bool × (Option (ℕ × Image) × Volatile)). p.1.0) (alike-at next.world w d.centres other.1) ∙ h.unstopped;
     accepted =
         subst (λ (c : Cluster). IsAccepted c (facts_of next.world.ledger other.1) other.0) (sym d.cluster)
         (subst (λ (es : List Entry). IsAccepted w.cluster (facts_of es other.1) other.0) (sym d.ledger) (by (pair.1 == other.1) refl));
@@ -202,7 +207,7 @@ module _ (a : ℕ) (tx : TxId) where
   all-proposed [] [] w v lines centre name accept once d roomy = (
     record {
       cluster = ap (λ (x : World). x.cluster) (sym d.0);
-      centres = ap (λ (x : World). x.centres) (sym d.0);
+      centres = ap (λ (x : World). map bare x.centres) (sym d.0);
       messages = ap messages_of (sym d.0) ∙ sym (append-nil (messages_of w));
       heard = λ b tx'. ap (λ (x : World). heard_of (facts_of x.ledger b) tx') (sym d.0);
       crowding = λ b fact. ap (λ (x : World). is_crowding (facts_of x.ledger b) fact) (sym d.0);

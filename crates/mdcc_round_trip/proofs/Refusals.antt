@@ -19,6 +19,7 @@ use Rattle.mdcc_simulation.specs.Deliveries.{deliver_line, after_deliveries, aft
 use Rattle.mdcc_simulation.specs.Limits.{passed_bytes_limit, is_limit, is_past_events, limit_if, passed_log_limit, most_events, step_limit, step_limit_by, unless_limit, with_lines, within_events}
 use Rattle.mdcc_simulation.specs.State.{Happened, Site, World, after_lines, booted, centre_at, is_up_at}
 use Rattle.mdcc_simulation.specs.AppliedSteps.{fact_happened, input_happened, step_at, step_happened_by}
+use Rattle.mdcc_simulation.specs.Checkpoints.{striking, striking_at, tail_after}
 use Rattle.mdcc_round_trip.specs.Refusals.{GoesUp}
 use Rattle.mdcc_round_trip.specs.RoundTrips.{message_at, messages_of}
 use Rattle.mdcc_round_trip.proofs.Delivering.{Name, counted, delivery-told, messages-after, name-more, named}
@@ -51,8 +52,8 @@ limit-step w a (Ok step) = by step.fact
     by : (o : Option Fact) → AreLimits (step_limit_by w a step o)
     by None = limit-if _ _ _
     by (Some fact) =
-        limit-or (passed_log_limit w a fact) (cond (is_some (centre_at w a).stop) None (passed_bytes_limit w step.sends)) (limit-if _ _ _)
-        (limit-unless_some (is_some (centre_at w a).stop) (passed_bytes_limit w step.sends) (limit-if _ _ _))
+        limit-or (passed_log_limit w a fact) (cond (is_some (striking_at w a)) None (passed_bytes_limit w step.sends)) (limit-if _ _ _)
+        (limit-unless_some (is_some (striking_at w a)) (passed_bytes_limit w step.sends) (limit-if _ _ _))
 
 limit-unless : {X : Type 0} (o : Option EventFault) (x : X) (fault : EventFault) → AreLimits o → unless_limit o x ≡ Err fault → is_limit fault ≡ true
 limit-unless None x fault h e = absurd (cc)
@@ -113,9 +114,9 @@ left-by w number a (Ok step) free = by step.fact
       sends = step.sends;
       messages = messages-after w.sent (number - 1) step.sends;
     }
-    by (Some fact) = subst (λ stop. Leaves w (fact_happened (counted w number) a step fact stop).world) (sym free) (record {
+    by (Some fact) = subst (λ stop. Leaves w (fact_happened (counted w number) a step fact stop).world) (sym (ap (striking (centre_at w a).tail) free)) (record {
       cluster = refl;
-      centres = map-set_same standing w.centres (a - 1) (record (centre_at w a) { volatile = step.after }) booted refl;
+      centres = map-set_same standing w.centres (a - 1) (record (centre_at w a) { tail = tail_after (centre_at w a).tail; volatile = step.after }) booted refl;
       sends = step.sends;
       messages = messages-after w.sent (number - 1) step.sends;
     })

@@ -1,9 +1,10 @@
 -- One round trip, put together.
-use Rattle.std.proofs.Common.{◌≡◌, ℕ, ◌+◌, ◌-◌, ◌≤◌, ◌==◌, true, false, List, [], ◌∷◌, ◌++◌, refl, sym, ap, ◌∙◌, subst, arith, map, length, get_or, None}
+use Rattle.std.proofs.Common.{◌≡◌, ℕ, ◌+◌, ◌≤◌, ◌==◌, Bool, true, false, List, [], ◌∷◌, ◌++◌, Option, refl, sym, ap, ◌∙◌, subst, arith, map, length}
 use Rattle.std.specs.List.{AllByRecursion}
 use Rattle.std.proofs.lemmas.List.Sorted.{length_permutation}
 use Rattle.mdcc_base.specs.AreQuorums.{AreQuorums}
 use Rattle.mdcc_base.specs.Counts.{number_of}
+use Rattle.mdcc_base.specs.declared.outside.Image.{Image}
 use Rattle.mdcc_messages.specs.Lengths.{cells_needed, cells_used}
 use Rattle.mdcc_option.specs.declared.choices.Choice.{Choice}
 use Rattle.mdcc_option.specs.declared.cluster.Cluster.{Cluster}
@@ -12,13 +13,14 @@ use Rattle.mdcc_ledger.specs.Ledger.{facts_of}
 use Rattle.mdcc_language.specs.declared.lines.Line.{Line}
 use Rattle.mdcc_messages.specs.declared.facts.Fact.{Fact}
 use Rattle.mdcc_protocol.specs.Belongs.{choice_belongs, is_centre}
-use Rattle.mdcc_protocol.specs.Volatile.{Undecided}
-use Rattle.mdcc_simulation.specs.State.{Happened, Site, World, booted}
+use Rattle.mdcc_protocol.specs.Volatile.{Undecided, Volatile}
+use Rattle.mdcc_simulation.specs.State.{Happened, World}
 use Rattle.mdcc_round_trip.specs.Accepting.{IsAccepted}
 use Rattle.mdcc_round_trip.specs.Cells.{HaveCells, cells_of_votes}
 use Rattle.mdcc_round_trip.specs.Deciding.{IsFastQuorum, IsUncounted}
 use Rattle.mdcc_round_trip.specs.Messages.{each_with, proposal_of, vote_of_member}
 use Rattle.mdcc_round_trip.specs.RoundTrips.{AcceptsEach, AreDelivered, EndsWithCommit, IsReady, IsRoundTrip, IsUndecidedAt, is_dropped, is_hearing, messages_of}
+use Rattle.mdcc_round_trip.proofs.Alike.{alike-at, as-many}
 use Rattle.mdcc_round_trip.proofs.Answering.{IsVoted, all-kept, all-voted, nothing-counted}
 use Rattle.mdcc_round_trip.proofs.Apart.{apart-once, each-pair, one_member, ordered-once}
 use Rattle.mdcc_round_trip.proofs.Deciding.{IsIn, in-each}
@@ -88,8 +90,8 @@ module _ (w : World) (a : ℕ) (t : Undecided) (members : List ℕ) (first secon
         let h = ready.undecided in
         record {
           centre = subst (λ (c : Cluster). is_centre c a ≡ true) (sym after.cluster) h.centre;
-          unstopped = subst (λ (cs : List Site). (get_or cs (a - 1) booted).stop ≡ None) (sym after.centres) h.unstopped;
-          uncounted = subst (λ (cs : List Site). IsUncounted (get_or cs (a - 1) booted).volatile.manager t) (sym after.centres) h.uncounted;
+          unstopped = ap (λ (p : Bool × (Option (ℕ × Image) × Volatile)). p.1.0) (alike-at first.world w after.centres a) ∙ h.unstopped;
+          uncounted = subst (λ (p : Bool × (Option (ℕ × Image) × Volatile)). IsUncounted p.1.1.manager t) (sym (alike-at first.world w after.centres a)) h.uncounted;
           unheard = after.heard a t.tx ∙ h.unheard;
           uncrowded = after.crowding a (Fact.Heard t.tx (Outcome.Commit t.choices)) ∙ h.uncrowded;
         }
@@ -112,7 +114,7 @@ module _ (w : World) (a : ℕ) (t : Undecided) (members : List ℕ) (first secon
       committing =
           let after = after-asking.0 in
           let are = subst (λ (c : Cluster). AreQuorums c.quorums) (sym after.cluster) ready.quorums in
-          let sites = ap length after.centres ∙ ready.sites ∙ ap (λ (c : Cluster). c.quorums.centres) (sym after.cluster) in
+          let sites = as-many first.world w after.centres ∙ ready.sites ∙ ap (λ (c : Cluster). c.quorums.centres) (sym after.cluster) in
           let quorum = subst (λ (c : Cluster). IsFastQuorum c.quorums members) (sym after.cluster) ready.quorum in
           let voted = subst (λ (c : Cluster). AllByRecursion (IsVoted c t) trip.answered) (sym after.cluster) voting in
           let once = ordered-once t.choices members trip.answered trip.answers_each ready.choices.apart ready.quorum.apart in
@@ -136,7 +138,7 @@ module _ (w : World) (a : ℕ) (t : Undecided) (members : List ℕ) (first secon
     answers-kept room =
         let after = after-asking.0 in
         let are = subst (λ (c : Cluster). AreQuorums c.quorums) (sym after.cluster) ready.quorums in
-        let sites = ap length after.centres ∙ ready.sites ∙ ap (λ (c : Cluster). c.quorums.centres) (sym after.cluster) in
+        let sites = as-many first.world w after.centres ∙ ready.sites ∙ ap (λ (c : Cluster). c.quorums.centres) (sym after.cluster) in
         let quorum = subst (λ (c : Cluster). IsFastQuorum c.quorums members) (sym after.cluster) ready.quorum in
         let voted = subst (λ (c : Cluster). AllByRecursion (IsVoted c t) trip.answered) (sym after.cluster) voting in
         let once = ordered-once t.choices members trip.answered trip.answers_each ready.choices.apart ready.quorum.apart in

@@ -24,7 +24,8 @@ use Rattle.mdcc_rules.specs.Steps.{NodeStep}
 use Rattle.mdcc_protocol.specs.Volatile.{Volatile, number_at}
 use Rattle.mdcc_messages.specs.Mailbox.{Sent, unsent}
 use Rattle.mdcc_simulation.specs.State.{Site, World, booted, booted_to, centre_at, down, first_world}
-use Rattle.mdcc_simulation.specs.AppliedSteps.{fact_happened, input_happened, is_frame_kept, step_at, step_happened_by, step_stopped}
+use Rattle.mdcc_simulation.specs.AppliedSteps.{fact_happened, input_happened, step_at, step_happened_by, step_stopped}
+use Rattle.mdcc_simulation.specs.Checkpoints.{is_frame_kept, striking_at, tail_after}
 use Rattle.mdcc_simulation.specs.Centres.{restart_happened}
 use Rattle.mdcc_simulation.specs.Runs.{run_of}
 use Rattle.mdcc_language.specs.declared.events.Event.{Event}
@@ -109,8 +110,8 @@ happened-round key r w a step h here g s = by_fact step.fact refl
     stopped : (fact : Fact) (stop : ℕ × Image) → IsRoundFact key r fact → IsRoundWorld key r (step_stopped w a fact stop).world
     stopped fact stop f =
         elim (cases_Bool (is_frame_kept stop.0 stop.1)) [
-          | inl e ↦ rw e (record { facts = fact-added key r a fact w.ledger g.facts f; leaders = leaders-set key r w a down h here (nothing-known key r) g.leaders; sent = g.sent })
-          | inr e ↦ rw e (record { facts = g.facts; leaders = leaders-set key r w a down h here (nothing-known key r) g.leaders; sent = g.sent })
+          | inl e ↦ rw e (record { facts = fact-added key r a fact w.ledger g.facts f; leaders = leaders-set key r w a (down _) h here (nothing-known key r) g.leaders; sent = g.sent })
+          | inr e ↦ rw e (record { facts = g.facts; leaders = leaders-set key r w a (down _) h here (nothing-known key r) g.leaders; sent = g.sent })
         ]
 
     by_stop : (fact : Fact) (o : Option (ℕ × Image)) → IsRoundFact key r fact → IsRoundWorld key r (fact_happened w a step fact o).world
@@ -119,7 +120,7 @@ happened-round key r w a step h here g s = by_fact step.fact refl
 
     by_fact : (o : Option Fact) → step.fact ≡ o → IsRoundWorld key r (step_happened_by w a step o).world
     by_fact None e = record { facts = plain; leaders = leaders-set key r w a _ h here s.leader g.leaders; sent = sent }
-    by_fact (Some fact) e = by_stop fact (centre_at w a).stop (s.fact fact e)
+    by_fact (Some fact) e = by_stop fact (striking_at w a) (s.fact fact e)
 
 input-round : (key : Key) (r : ℕ) (w : World) (a : ℕ) (x : Result NodeStep StepFault) → Holds IsSound w.cluster w → is_centre w.cluster a ≡ true → IsRoundWorld key r w → IsRoundResult key r x → IsRoundWorld key r (input_happened w a x).world
 input-round key r w a (Ok step) h here g s = happened-round key r w a step h here g s
@@ -187,9 +188,9 @@ calm-walk cluster sizes = record {
   };
   events = λ t d w m p. record { short = short.events t d w m p.short; rounds = λ key. record { facts = (p.rounds key).facts; leaders = (p.rounds key).leaders; sent = (p.rounds key).sent } };
   reads = λ t d w rs p. record { short = short.reads t d w rs p.short; rounds = λ key. record { facts = (p.rounds key).facts; leaders = (p.rounds key).leaders; sent = (p.rounds key).sent } };
-  crash = λ t d w a h here p. record {
-    short = short.crash t d w a h here p.short;
-    rounds = λ key. record { facts = (p.rounds key).facts; leaders = leaders-set key (most_rounds t d) w a down (again w h) here (nothing-known key (most_rounds t d)) (p.rounds key).leaders; sent = (p.rounds key).sent };
+  crash = λ t d w a tail h here p. record {
+    short = short.crash t d w a tail h here p.short;
+    rounds = λ key. record { facts = (p.rounds key).facts; leaders = leaders-set key (most_rounds t d) w a (down tail) (again w h) here (nothing-known key (most_rounds t d)) (p.rounds key).leaders; sent = (p.rounds key).sent };
   };
   stop = λ t d w a s h here p. record {
     short = short.stop t d w a s h here p.short;
@@ -198,7 +199,7 @@ calm-walk cluster sizes = record {
   restart = λ t d w a n h here p. record {
     short = short.restart t d w a n h here p.short;
     rounds = λ key. world-more key (most_rounds t d) (most_rounds t (d + 1)) (restart_happened w a n).world (calm-restart t d)
-        (record { facts = fact-added key (most_rounds t d) a (Fact.Booted n) w.ledger (p.rounds key).facts (λ v. omega arith); leaders = leaders-set key (most_rounds t d) w a booted (again w h) here (nothing-known key (most_rounds t d)) (p.rounds key).leaders; sent = (p.rounds key).sent });
+        (record { facts = fact-added key (most_rounds t d) a (Fact.Booted n) w.ledger (p.rounds key).facts (λ v. omega arith); leaders = leaders-set key (most_rounds t d) w a (record booted { tail = tail_after (centre_at w a).tail }) (again w h) here (nothing-known key (most_rounds t d)) (p.rounds key).leaders; sent = (p.rounds key).sent });
   };
   input = λ t d w a input h up fair known p. record {
     short = short.input t d w a input h up fair known p.short;

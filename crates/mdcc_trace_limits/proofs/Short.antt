@@ -26,7 +26,8 @@ use Rattle.mdcc_rules.specs.Steps.{NodeStep, StepPart, only_sending}
 use Rattle.mdcc_rules.specs.TickRules.{manager_act, manager_ticked, recovery_act, recovery_ticked, tick_parts}
 use Rattle.mdcc_protocol.specs.Volatile.{Managing, Recovering, Undecided, Volatile, txs_opened, with_manager, with_recovery}
 use Rattle.mdcc_simulation.specs.State.{Site, World, booted, booted_to, centre_at, down, first_world, is_up_at}
-use Rattle.mdcc_simulation.specs.AppliedSteps.{fact_happened, input_happened, is_frame_kept, step_at, step_happened_by, step_stopped}
+use Rattle.mdcc_simulation.specs.AppliedSteps.{fact_happened, input_happened, step_at, step_happened_by, step_stopped}
+use Rattle.mdcc_simulation.specs.Checkpoints.{is_frame_kept, striking_at, tail_after}
 use Rattle.mdcc_simulation.specs.Runs.{run_of}
 use Rattle.mdcc_language.specs.declared.events.Event.{Event}
 use Rattle.mdcc_messages.specs.declared.facts.Fact.{Fact}
@@ -94,8 +95,8 @@ happened-grown n m w a step h here few taken = by_fact step.fact taken.weight
     stopped : (fact : Fact) (stop : ℕ × Image) → 1 ≤ n → IsGrown n m w (step_stopped w a fact stop).world
     stopped fact stop some =
         elim (cases_Bool (is_frame_kept stop.0 stop.1)) [
-          | inl e ↦ rw e (record { begun = omega arith; few = few-set w a down h here (omega arith) few; short = omega (arith, some) })
-          | inr e ↦ rw e (record { begun = omega arith; few = few-set w a down h here (omega arith) few; short = omega arith })
+          | inl e ↦ rw e (record { begun = omega arith; few = few-set w a (down _) h here (omega arith) few; short = omega (arith, some) })
+          | inr e ↦ rw e (record { begun = omega arith; few = few-set w a (down _) h here (omega arith) few; short = omega arith })
         ]
 
     by_stop : (fact : Fact) (o : Option (ℕ × Image)) → length step.entries + 1 ≤ n → IsGrown n m w (fact_happened w a step fact o).world
@@ -104,7 +105,7 @@ happened-grown n m w a step h here few taken = by_fact step.fact taken.weight
 
     by_fact : (o : Option Fact) → length step.entries + facts_in o ≤ n → IsGrown n m w (step_happened_by w a step o).world
     by_fact None g = record { begun = number; few = few-set w a _ h here taken.few few; short = omega (arith, long, g) }
-    by_fact (Some fact) g = by_stop fact (centre_at w a).stop g
+    by_fact (Some fact) g = by_stop fact (striking_at w a) g
 
 abbrev pub IsTakenResult : ℕ → ℕ → Result NodeStep StepFault → Type 0
 IsTakenResult n m (Ok step) = IsTaken n m step
@@ -228,11 +229,11 @@ short-walk cluster sizes = record {
   delivered_at = λ t d w n m p. record { begun = p.begun; few = p.few; short = p.short };
   events = λ t d w m p. record { begun = p.begun; few = p.few; short = p.short };
   reads = λ t d w rs p. record { begun = p.begun; few = p.few; short = p.short };
-  crash = λ t d w a h here p. record { begun = p.begun; few = few-set w a down (again w h) here (omega arith) p.few; short = p.short };
+  crash = λ t d w a tail h here p. record { begun = p.begun; few = few-set w a (down tail) (again w h) here (omega arith) p.few; short = p.short };
   stop = λ t d w a s h here p. record { begun = p.begun; few = few-set w a _ (again w h) here (p.few a here) p.few; short = p.short };
   restart = λ t d w a n h here p. record {
     begun = boot-more (number_of is_begin w.ledger) d p.begun;
-    few = few-set w a booted (again w h) here (omega arith) p.few;
+    few = few-set w a (record booted { tail = tail_after (centre_at w a).tail }) (again w h) here (omega arith) p.few;
     short = restart-room t d (length w.ledger) p.short;
   };
   input = λ t d w a input h up fair known p. input-short t d w a input (again w h) (up-again w a h up) fair p;

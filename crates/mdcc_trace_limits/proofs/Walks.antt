@@ -21,7 +21,8 @@ use Rattle.mdcc_simulation.specs.Clients.{answer_in, begin_lines, after_begin, b
 use Rattle.mdcc_simulation.specs.Limits.{passed_cells_limit, if_up, input_applied, is_limit, is_past_events, passed_log_limit, most_events, step_limit, unless_limit, with_lines, within_events}
 use Rattle.mdcc_simulation.specs.Deliveries.{deliver_line, after_message, after_deliveries, after_delivery_by, after_delivery, first_waiting, settled_line, settled_of}
 use Rattle.mdcc_simulation.specs.Events.{after_event, happened_of}
-use Rattle.mdcc_simulation.specs.AppliedSteps.{fact_happened, input_happened, is_frame_kept, step_at, step_happened_by, step_stopped}
+use Rattle.mdcc_simulation.specs.AppliedSteps.{fact_happened, input_happened, step_at, step_happened_by, step_stopped}
+use Rattle.mdcc_simulation.specs.Checkpoints.{is_frame_kept, striking_at}
 use Rattle.mdcc_simulation.specs.Centres.{restart_happened, after_restart, tick_line, after_tick}
 use Rattle.mdcc_simulation.specs.Runs.{run_from, run_of}
 use Rattle.mdcc_language.specs.declared.events.Event.{Event}
@@ -68,7 +69,7 @@ pub record IsWalk (cluster : Cluster) (P : ℕ → ℕ → World → Type 0) : T
   pub delivered_at : (t d : ℕ) (w : World) (n m : ℕ) → P t d w → P t d (record w { sent = with_delivered w.sent n; events = m })
   pub events : (t d : ℕ) (w : World) (m : ℕ) → P t d w → P t d (record w { events = m })
   pub reads : (t d : ℕ) (w : World) (reads : List Known) → P t d w → P t d (record w { reads = reads })
-  pub crash : (t d : ℕ) (w : World) (a : ℕ) → Holds IsSound cluster w → is_centre w.cluster a ≡ true → P t d w → P t d (with_centre w a down)
+  pub crash : (t d : ℕ) (w : World) (a tail : ℕ) → Holds IsSound cluster w → is_centre w.cluster a ≡ true → P t d w → P t d (with_centre w a (down tail))
   pub stop : (t d : ℕ) (w : World) (a : ℕ) (stop : Option (ℕ × Image)) → Holds IsSound cluster w → is_centre w.cluster a ≡ true → P t d w → P t d (with_centre w a (record (centre_at w a) { stop = stop }))
   pub restart : (t d : ℕ) (w : World) (a n : ℕ) → Holds IsSound cluster w → is_centre w.cluster a ≡ true → P t d w → P t (d + 1) (restart_happened w a n).world
   pub input : (t d : ℕ) (w : World) (a : ℕ) (input : Input) → Holds IsSound cluster w → is_up_at w a ≡ true → IsFair w.cluster w.ledger input → IsSentInput w input → P t d w →
@@ -113,7 +114,7 @@ input-events w a (Ok step) = by_fact step.fact
 
     by_fact : (o : Option Fact) → (step_happened_by w a step o).world.events ≡ w.events
     by_fact None = refl
-    by_fact (Some fact) = by_stop fact (centre_at w a).stop
+    by_fact (Some fact) = by_stop fact (striking_at w a)
 
 one-step : (input : Input) → ticks_in input + others_in input ≡ 1
 one-step (Input.Message envelope) = refl
@@ -293,7 +294,7 @@ module _ (cluster : Cluster) (P : ℕ → ℕ → World → Type 0) (walk : IsWa
       settled-end (settled_of (most_events - w.events) listed (record { world = w; lines = Line.Settle listed ∷ [] }) 0)
       (settled (most_events - w.events) listed (record { world = w; lines = Line.Settle listed ∷ [] }) 0 (left-few most_events w.events c.few) h (loosen w c))
   happened-reached w (Event.Tick a) h c = up-reached w a (after_tick w a) (λ up. lines-reached (tick_line a) (input_applied w a Input.Tick) (taken w a Input.Tick h up tt tt c))
-  happened-reached w (Event.Crash a) h c = up-reached w a _ (λ up. same-reached w (with_centre w a down) c refl (λ t d. walk.crash t d w a h (is-up IsSound cluster w a h up).centre))
+  happened-reached w (Event.Crash a) h c = up-reached w a _ (λ up. same-reached w (with_centre w a (down (centre_at w a).tail)) c refl (λ t d. walk.crash t d w a (centre_at w a).tail h (is-up IsSound cluster w a h up).centre))
   happened-reached w (Event.Restart a) h c =
       elim (cases_Bool (is_up_at w a)) [
         | inl e ↦ rw e tt
