@@ -1,11 +1,12 @@
 -- The fast path of every trace: what a round trip needs is known of each of its states.
-use Rattle.std.proofs.Common.{◌==◌, List, None, get_or, ◌&&◌, Some, [], ap, arith, false, inl, inr, map, refl, subst, sym, true, ℕ, ◌++◌, ◌-◌, ◌<◌, ◌∙◌, ◌∷◌, ◌≡◌, ◌≤◌, ◌^◌}
+use Rattle.std.proofs.Common.{◌==◌, Bool, List, None, Option, ◌&&◌, Some, [], ap, arith, false, inl, inr, map, refl, subst, sym, true, ℕ, ◌++◌, ◌-◌, ◌<◌, ◌∙◌, ◌∷◌, ◌≡◌, ◌≤◌, ◌^◌}
 use Rattle.std.specs.List.{AllByRecursion}
 use Rattle.std.specs.List.Sorted.{IsPermutation}
 use Rattle.std.specs.Prelude.{length, option_map, slice_get, suc, zero}
 use Rattle.std.proofs.lemmas.Bool.{cases_Bool}
 use Rattle.std.proofs.lemmas.List.Sorted.{IsPermutation-sym}
 use Rattle.mdcc_base.specs.Key.{key_eq, key_lt}
+use Rattle.mdcc_base.specs.declared.outside.Image.{Image}
 use Rattle.mdcc_base.specs.TxId.{tx_eq}
 use Rattle.mdcc_option.specs.Parts.{are_ascending}
 use Rattle.mdcc_option.specs.declared.choices.Choice.{Choice}
@@ -23,8 +24,8 @@ use Rattle.mdcc_protocol.specs.Belongs.{choice_belongs, is_centre}
 use Rattle.mdcc_protocol.specs.Facts.{heard_of}
 use Rattle.mdcc_protocol.specs.IsCluster.{IsCluster}
 use Rattle.mdcc_protocol.specs.News.{is_crowding}
-use Rattle.mdcc_protocol.specs.Volatile.{Undecided, opened_of}
-use Rattle.mdcc_simulation.specs.State.{Happened, Site, World, booted, centre_at, is_up_at}
+use Rattle.mdcc_protocol.specs.Volatile.{Undecided, Volatile, opened_of}
+use Rattle.mdcc_simulation.specs.State.{Happened, World, centre_at, is_up_at}
 use Rattle.mdcc_trace_states.specs.VolatileInvariant.{IsOpened}
 use Rattle.mdcc_trace_states.specs.Sound.{IsSound}
 use Rattle.mdcc_trace_states.specs.MessageMeaning.{IsBackedMessage}
@@ -46,6 +47,7 @@ use Rattle.mdcc_round_trip.specs.Cells.{HaveCells}
 use Rattle.mdcc_round_trip.specs.Deciding.{AreApart, AreChoicesOf, IsFastQuorum, have_one_key}
 use Rattle.mdcc_round_trip.specs.Messages.{each_with, proposal_of, vote_of_member}
 use Rattle.mdcc_round_trip.specs.RoundTrips.{AcceptsEach, AreDelivered, AreNumbersOf, EndsWithCommit, IsReady, IsRoundTrip, is_dropped, message_at, messages_of}
+use Rattle.mdcc_round_trip.proofs.Alike.{alike-at}
 use Rattle.mdcc_round_trip.proofs.Apart.{apart-once, each-pair, one_member, ordered-once}
 use Rattle.mdcc_round_trip.proofs.Delivering.{Delivers, named, unrolled}
 use Rattle.mdcc_round_trip.proofs.Lists.{each-front, each-permuted, each-weaker}
@@ -255,7 +257,7 @@ module _ (cluster : Cluster) (is : IsCluster cluster) (events : List Event)
     up-there =
         let after = after-asking.0 in
         subst (λ (c : Cluster). (is_centre c a && (centre_at first.world a).is_up) ≡ true) (sym after.cluster)
-        (subst (λ (cs : List Site). (is_centre w.cluster a && (get_or cs (a - 1) booted).is_up) ≡ true) (sym after.centres) untaken.up)
+        (subst (λ (p : Bool × (Option (ℕ × Image) × Volatile)). (is_centre w.cluster a && p.0) ≡ true) (sym (alike-at first.world w after.centres a)) untaken.up)
 
     uncrowded : is_crowding (facts_of w.ledger a) commit ≡ false
     uncrowded =
@@ -263,7 +265,7 @@ module _ (cluster : Cluster) (is : IsCluster cluster) (events : List Event)
         let there = next-state cluster events (Event.Deliver ask.proposals) first ask.proposed in
         let up-then = subst (λ (z : World). is_up_at z a ≡ true → IsUp IsSound z.cluster z.ledger a (centre_at z a).volatile) there.1 (is-up IsSound cluster (state_after cluster there.0) a (holds cluster is there.0)) up-there in
         let among : In t (centre_at first.world a).volatile.manager.opened =
-        subst (λ (cs : List Site). In t (get_or cs (a - 1) booted).volatile.manager.opened) (sym after.centres) (open-in w a t untaken.uncounted.opened) in
+        subst (λ (p : Bool × (Option (ℕ × Image) × Volatile)). In t p.1.1.manager.opened) (sym (alike-at first.world w after.centres a)) (open-in w a t untaken.uncounted.opened) in
         let still = Each-at (IsOpened first.world.ledger) (centre_at first.world a).volatile.manager.opened t up-then.keeps.manager.opened among in
         sym (after.crowding a commit) ∙ uncrowded-there first.world there.0 there.1 after.messages still.choices
 

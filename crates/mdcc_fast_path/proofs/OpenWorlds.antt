@@ -34,7 +34,8 @@ use Rattle.mdcc_rules.specs.declared.node.Input.{Input}
 use Rattle.mdcc_rules.specs.declared.node.StepFault.{StepFault}
 use Rattle.mdcc_simulation.specs.Runs.{run_of}
 use Rattle.mdcc_simulation.specs.State.{Site, World, booted, booted_to, centre_at, down, first_world}
-use Rattle.mdcc_simulation.specs.AppliedSteps.{fact_happened, input_happened, is_frame_kept, step_at, step_happened_by, step_stopped}
+use Rattle.mdcc_simulation.specs.AppliedSteps.{fact_happened, input_happened, step_at, step_happened_by, step_stopped}
+use Rattle.mdcc_simulation.specs.Checkpoints.{is_frame_kept, striking_at, tail_after}
 use Rattle.mdcc_trace_states.specs.Invariant.{Holds, IsGood}
 use Rattle.mdcc_trace_states.specs.Sound.{IsSound}
 use Rattle.mdcc_trace_states.specs.Steps.{IsFair, IsUp}
@@ -190,13 +191,13 @@ happened-well w a step h here plain own all = by_fact step.fact own
     stopped : (fact : Fact) (stop : ℕ × Image) → IsWellWorld (step_stopped w a fact stop).world
     stopped fact stop =
         elim (cases_Bool (is_frame_kept stop.0 stop.1)) [
-          | inl e ↦ rw e (set-well w a down (Added a fact ∷ w.ledger) (envelopes w.sent) h here (λ b f. facts-other b a fact w.ledger f) (λ env i. i) tt all)
-          | inr e ↦ rw e (set-well w a down w.ledger (envelopes w.sent) h here (λ b f. refl) (λ env i. i) tt all)
+          | inl e ↦ rw e (set-well w a (down _) (Added a fact ∷ w.ledger) (envelopes w.sent) h here (λ b f. facts-other b a fact w.ledger f) (λ env i. i) tt all)
+          | inr e ↦ rw e (set-well w a (down _) w.ledger (envelopes w.sent) h here (λ b f. refl) (λ env i. i) tt all)
         ]
 
     by_stop : (fact : Fact) (o : Option (ℕ × Image)) → IsWellStep w a step (Some fact) → IsWellWorld (fact_happened w a step fact o).world
     by_stop fact None k =
-        set-well w a (record (centre_at w a) { volatile = step.after }) (Added a fact ∷ (step.entries ++ w.ledger)) (envelopes (w.sent ++ map unsent step.sends)) h here
+        set-well w a (record (centre_at w a) { tail = tail_after (centre_at w a).tail; volatile = step.after }) (Added a fact ∷ (step.entries ++ w.ledger)) (envelopes (w.sent ++ map unsent step.sends)) h here
         (λ b f. facts-other b a fact (step.entries ++ w.ledger) f ∙ plain w.ledger b) (λ env i. in-more w.sent (map unsent step.sends) env i) k all
     by_stop fact (Some stop) k = stopped fact stop
 
@@ -204,7 +205,7 @@ happened-well w a step h here plain own all = by_fact step.fact own
     by_fact None k =
         set-well w a (record (centre_at w a) { volatile = step.after }) (step.entries ++ w.ledger) (envelopes (w.sent ++ map unsent step.sends)) h here
         (λ b f. plain w.ledger b) (λ env i. in-more w.sent (map unsent step.sends) env i) k all
-    by_fact (Some fact) k = by_stop fact (centre_at w a).stop k
+    by_fact (Some fact) k = by_stop fact (striking_at w a) k
 
 abbrev pub IsWellResult : World → ℕ → Result NodeStep StepFault → Type 0
 IsWellResult w a (Ok step) = IsWellStep w a step step.fact × ((es : List Entry) (b : ℕ) → facts_of (step.entries ++ es) b ≡ facts_of es b)
@@ -289,9 +290,9 @@ well-walk cluster = record {
   delivered_at = λ t d w n m p. subst (λ ms. AreWell w.cluster w.ledger ms w.centres) (sym (delivered-same w.sent n)) p;
   events = λ t d w m p. p;
   reads = λ t d w rs p. p;
-  crash = λ t d w a h here p. set-well w a down w.ledger (envelopes w.sent) (again w h) here (λ b f. refl) (λ env i. i) tt p;
+  crash = λ t d w a tail h here p. set-well w a (down tail) w.ledger (envelopes w.sent) (again w h) here (λ b f. refl) (λ env i. i) tt p;
   stop = λ t d w a s h here p. set-well w a (record (centre_at w a) { stop = s }) w.ledger (envelopes w.sent) (again w h) here (λ b f. refl) (λ env i. i) (p a here) p;
-  restart = λ t d w a n h here p. set-well w a booted (Added a (Fact.Booted n) ∷ w.ledger) (envelopes w.sent) (again w h) here (λ b f. facts-other b a (Fact.Booted n) w.ledger f) (λ env i. i) tt p;
+  restart = λ t d w a n h here p. set-well w a (record booted { tail = tail_after (centre_at w a).tail }) (Added a (Fact.Booted n) ∷ w.ledger) (envelopes w.sent) (again w h) here (λ b f. facts-other b a (Fact.Booted n) w.ledger f) (λ env i. i) tt p;
   input = λ t d w a input h up fair known p. by_input w a input h (is-up IsSound cluster w a h up) fair p;
 }
   where

@@ -233,17 +233,17 @@ stop_spelled cluster line event h b e =
     let start = bind_ok (word_after 4 line) _ event e in
     let centre = bind_ok (parse_centre cluster (word_at start.0 line) (start.0 + 1)) _ event start.2 in
     let next = bind_ok (word_after (word_end start.0 line) line) _ event centre.2 in
-    let call = bind_ok (natural_of (word_at next.0 line) (next.0 + 1) 1 4) _ event next.2 in
+    let call = bind_ok (natural_of (word_at next.0 line) (next.0 + 1) 1 11) _ event next.2 in
     let place = bind_ok (word_after (word_end next.0 line) line) _ event call.2 in
     let image = bind_ok (parse_image (word_at place.0 line) (place.0 + 1)) _ event place.2 in
     let end = bind_ok (end_at (word_end place.0 line) line 1) _ event image.2 in
     let same = read_event (Stop centre.0 call.0 image.0) event end.2 in
-    let few : 4 < 2 ^ 64 = lit< tt in
+    let few : 11 < 2 ^ 64 = lit< tt in
     let last : drop place.0 line ≡ image_text image.0 =
     part_seam 32 place.0 line ∙ (λ i. image_spelled (word_at place.0 line) (place.0 + 1) image.0 image.1 i ++ end_ok (word_end place.0 line) line 1 end.0 end.1 i) ∙ append-nil (image_text image.0) in
     let middle : drop next.0 line ≡ decimal call.0 ++ (32 ∷ image_text image.0) =
     part_seam 32 next.0 line
-    ∙ (λ i. natural_spelled (word_at next.0 line) (next.0 + 1) 1 4 call.0 few call.1 i ++ spaced (word_end next.0 line) line place.0 place.1 i)
+    ∙ (λ i. natural_spelled (word_at next.0 line) (next.0 + 1) 1 11 call.0 few call.1 i ++ spaced (word_end next.0 line) line place.0 place.1 i)
     ∙ ap (λ rest. decimal call.0 ++ (32 ∷ rest)) last in
     begun (codes "stop") line b
     ∙ ap (λ rest. codes "stop" ++ rest) (spaced 4 line start.0 start.1)
