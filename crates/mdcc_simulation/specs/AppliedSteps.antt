@@ -1,5 +1,5 @@
 -- What becomes of a step of one node: it counts whole, or its append stops and nothing of it but its fact may count.
-use Rattle.std.specs.Prelude.{Bool, Err, List, None, Ok, Option, Result, Some, [], if◌then◌else◌, map, ℕ, ◌++◌, ◌+◌, ◌∷◌}
+use Rattle.std.specs.Prelude.{Err, List, None, Ok, Option, Result, Some, [], if◌then◌else◌, map, ℕ, ◌++◌, ◌+◌, ◌∷◌}
 use Rattle.mdcc_base.specs.Sizes.{Sizes}
 use Rattle.mdcc_ledger.specs.Ledger.{Added, Entry, facts_of, new_outcomes}
 use Rattle.mdcc_messages.specs.Lengths.{messages_length}

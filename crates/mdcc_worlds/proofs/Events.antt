@@ -11,7 +11,7 @@ use Rattle.mdcc_option.specs.declared.items.Part.{Part}
 use Rattle.mdcc_protocol.specs.Belongs.{is_centre}
 use Rattle.mdcc_language.specs.Resolve.{resolve}
 use Rattle.mdcc_rules.specs.Steps.{NodeStep}
-use Rattle.mdcc_simulation.specs.State.{Happened, World, centre_at, counted_event, is_up_at}
+use Rattle.mdcc_simulation.specs.State.{Happened, World, counted_event, is_up_at}
 use Rattle.mdcc_messages.specs.Mailbox.{Sent, numbered}
 use Rattle.mdcc_simulation.specs.Clients.{answer_in, begin_lines, after_begin, begun_by, no_item, parts_begun, read_happened}
 use Rattle.mdcc_simulation.specs.Limits.{passed_bytes_limit, passed_cells_limit, input_limited, input_applied, is_limit, is_past_events, limit_if, passed_log_limit, step_limit, step_limit_by, unless_limit, with_lines, within_events}
