@@ -3,6 +3,7 @@
 
 pub mod adds;
 pub mod bytes;
+pub mod checkpoints;
 pub mod collisions;
 pub mod crashes;
 pub mod dangling;

@@ -425,8 +425,12 @@ pub fn call_zero()
     ensures { line (codes "stop 1 0 kept\n") ≡ refused 8 Range }
 {}
 
+pub fn greatest_call()
+    ensures { line (codes "stop 1 11 kept\n") ≡ event (Stop 1 11 Kept) }
+{}
+
 pub fn call_above()
-    ensures { line (codes "stop 1 5 kept\n") ≡ refused 8 Range }
+    ensures { line (codes "stop 1 12 kept\n") ≡ refused 8 Range }
 {}
 
 pub fn greatest_value()

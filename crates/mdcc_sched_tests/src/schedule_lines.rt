@@ -179,6 +179,8 @@ fn stops(rt: HostRuntime) {
     assert!(rt; is_stop(&rt, alloc, "stop 1 1 lost\n", 1, 1, Image::Lost));
     assert!(rt; is_stop(&rt, alloc, "stop 2 3 kept\n", 2, 3, Image::Kept));
     assert!(rt; is_stop(&rt, alloc, "stop 5 4 torn\n", 5, 4, Image::Torn));
+    assert!(rt; is_stop(&rt, alloc, "stop 1 5 lost\n", 1, 5, Image::Lost));
+    assert!(rt; is_stop(&rt, alloc, "stop 1 11 kept\n", 1, 11, Image::Kept));
 }
 
 #[test]
