@@ -72,12 +72,12 @@ second_taken first second area g other_area (Second some seen) (None other) = el
 second_taken first second area g other_area (Second some seen) (Less h less copy) =
     decided first second true false true _ _ _ seen.copy copy.not_log copy.copy refl copy.generation seen.generation ∙ newer_second h g less
 
-first_passed : (first second : List ℕ) (g h : ℕ) → Seen 0 g first → g < h → SeenCopy h second → taken first second ≡ Ok 1
+pub first_passed : (first second : List ℕ) (g h : ℕ) → Seen 0 g first → g < h → SeenCopy h second → taken first second ≡ Ok 1
 first_passed first second g h (Short at zero_is few) more copy = decided first second true false false _ _ _ copy.copy (short_no_log first few) (short_no_copy first few) refl refl copy.generation
 first_passed first second g h (First at zero_is log) more copy = decided first second true true _ _ _ _ copy.copy log refl refl refl copy.generation ∙ newer_second 0 h (omega (arith, zero_is, more))
 first_passed first second g h (Second some seen) more copy = decided first second true false true _ _ _ copy.copy seen.not_log seen.copy refl seen.generation copy.generation ∙ newer_second g h more
 
-second_passed : (first second : List ℕ) (area g h : ℕ) → 0 < area → Seen area g second → g < h → SeenCopy h first → taken first second ≡ Ok 0
+pub second_passed : (first second : List ℕ) (area g h : ℕ) → 0 < area → Seen area g second → g < h → SeenCopy h first → taken first second ≡ Ok 0
 second_passed first second area g h other_area (Short at zero_is few) more copy = absurd (omega (arith, at, other_area))
 second_passed first second area g h other_area (First at zero_is log) more copy = absurd (omega (arith, at, other_area))
 second_passed first second area g h other_area (Second some seen) more copy = decided first second true false true _ _ _ seen.copy copy.not_log copy.copy refl copy.generation seen.generation ∙ newer_first h g more
@@ -107,7 +107,7 @@ first_seen area tail e bytes at stands = elim (cases_lt 9 (length bytes)) [
   | inr short ↦ Short at refl short
 ]
 
-second_seen : (area gate g : ℕ) (rs : List (List ℕ)) (e bytes : List ℕ) → gate ≡ 1 → 0 < g → g < 2 ^ 64 → bytes ≡ area_mark ++ gate ∷ (copy_body g rs ++ e) → SeenCopy g bytes
+pub second_seen : (area gate g : ℕ) (rs : List (List ℕ)) (e bytes : List ℕ) → gate ≡ 1 → 0 < g → g < 2 ^ 64 → bytes ≡ area_mark ++ gate ∷ (copy_body g rs ++ e) → SeenCopy g bytes
 second_seen area gate g rs e bytes opened some fits stands =
     let long : 25 ≤ length bytes = omega (arith, ap (λ (l : List ℕ). length l) stands, copy_long gate g rs e) in
     let marked : is_second bytes ≡ true = ap is_second stands in
@@ -183,7 +183,7 @@ pub record TakenCopy (log : AreaLog) (bytes : List ℕ) : Type 0 where
   pub stands : bytes ≡ front_of (packed log) ++ 0 ∷ []
   pub long : 9 < length bytes
 
-copy_valid : (area : ℕ) (log : AreaLog) (bytes : List ℕ) → IsCopy log bytes → IsLog area (packed log)
+pub copy_valid : (area : ℕ) (log : AreaLog) (bytes : List ℕ) → IsCopy log bytes → IsLog area (packed log)
 copy_valid area log bytes copy = record { head = (omega arith, (copy.generation, (copy.count, copy.short))); short = tt }
 
 copy_other : (log : AreaLog) (bytes : List ℕ) → IsCopy log bytes → Other (generation_of log.head) bytes ⊎ TakenCopy log bytes

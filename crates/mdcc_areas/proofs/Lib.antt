@@ -12,6 +12,8 @@ mod Idles
 mod Joined
 mod Keeps
 mod Loads
+pub mod LogReads
+pub mod Memories
 mod OpenStays
 mod Opened
 mod Opens
@@ -23,6 +25,7 @@ mod Repairs
 pub mod Rooms
 mod Settles
 mod Stands
+pub mod Stopped
 mod Takes
 mod Theorems
 mod Uses

@@ -1,6 +1,6 @@
 pub mod Append
-pub mod AtRest
 pub mod Area
+pub mod AtRest
 pub mod Both
 pub mod Checkpoint
 pub mod Copying
@@ -14,3 +14,5 @@ pub mod Reading
 pub mod Repair
 pub mod Room
 pub mod Settling
+pub mod Stopping
+pub mod Tails

@@ -33,8 +33,8 @@ pub struct Part {
     pub count: u64,
 }
 
-// Writes a closed area gate, where none stands.
-fn write_shut<D: Disks>(disks: &mut D, place: u8, spare: Spare) -> Result<(), Failed>
+/// Writes a closed area gate, where none stands. It is not durable yet.
+pub fn write_shut<D: Disks>(disks: &mut D, place: u8, spare: Spare) -> Result<(), Failed>
     requires spare { IsTrue (D.disk disks.old place).told → spare ≡ spare_of (D.disk disks.old place).bytes }
     requires durable { IsTrue (D.disk disks.old place).told
         → Only (D.disk disks.old place).bytes (D.may_leave disks.old place) }

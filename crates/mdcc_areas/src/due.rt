@@ -9,6 +9,7 @@ ghost use Rattle.mdcc_areas.specs.Both.{KeepsBut, IsOnlyRead, RoseAtOne};
 ghost use Rattle.mdcc_areas.specs.Crash.{IsBetween, IsCurrent, IsIdle, ReadsAsEither, payloads_by};
 ghost use Rattle.mdcc_areas.specs.Room.{HasGrown, IsCopyFull};
 ghost use Rattle.mdcc_areas.specs.Frames.{IsInUse, IsSpare, IsSettled, appended, packed, place_of, other_of};
+ghost use Rattle.mdcc_areas.specs.Tails.{tail_after};
 
 use crate::{Frames, LogFault};
 use mdcc_disks::Disks;
@@ -29,6 +30,7 @@ impl Frames {
             → OnOk result (IsAtRest D.disk D.may_leave disks.new self.new (all ++ payload.now ∷ [])) }
         ensures few { OnOk result (self.new.tail < self.new.every) }
         ensures grown { OnOk result (HasGrown self.old self.new) }
+        ensures tail { OnOk result (self.new.tail ≡ tail_after self.old.every self.old.tail) }
         ensures keeps { (self.new.centre ≡ self.old.centre) × (self.new.every ≡ self.old.every) }
 
         // What a crash at any moment of it leaves of each area.

@@ -28,17 +28,17 @@ use std::marker::Model;
 /// The open log of a centre.
 #[derive(Drop)]
 pub struct Frames {
-    centre: u8,
-    area: u8,
-    every: u32,
-    generation: u64,
-    count: u64,
-    start: u64,
-    tail: u64,
-    body: u64,
-    size: u64,
-    spare: Spare,
-    buffer: Vec<u8>,
+    pub(crate) centre: u8,
+    pub(crate) area: u8,
+    pub(crate) every: u32,
+    pub(crate) generation: u64,
+    pub(crate) count: u64,
+    pub(crate) start: u64,
+    pub(crate) tail: u64,
+    pub(crate) body: u64,
+    pub(crate) size: u64,
+    pub(crate) spare: Spare,
+    pub(crate) buffer: Vec<u8>,
 }
 
 impl Model for Frames {
@@ -64,7 +64,7 @@ impl Model for Frames {
     ghost invariant = { AreOpen };
 }
 
-fn place_of(centre: u8, area: u8) -> u8
+pub(crate) fn place_of(centre: u8, area: u8) -> u8
     requires centre { centre ≤ 9 }
     requires area { area ≤ 1 }
     ensures { result ≡ place_of centre area }
@@ -397,7 +397,7 @@ impl Frames {
 }
 
 // The area that this one is not.
-fn other_of(area: u8) -> u8
+pub(crate) fn other_of(area: u8) -> u8
     ensures value { result ≡ other_of area }
     ensures range { result ≤ 1 }
 {
@@ -405,7 +405,7 @@ fn other_of(area: u8) -> u8
 }
 
 // How many bytes stand before the records.
-fn head_size(generation: u64) -> u64
+pub(crate) fn head_size(generation: u64) -> u64
     ensures { result ≡ head_size generation }
 {
     if generation == 0 { 8 } else { 25 }

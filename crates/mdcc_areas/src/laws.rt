@@ -3,6 +3,8 @@ ghost use Rattle.mdcc_areas.specs.Crash.{CurrentIsRead, BetweenIsRead};
 ghost use Rattle.mdcc_areas.specs.Examples.{ExamplesAreRead};
 ghost use Rattle.mdcc_areas.specs.Room.{RoomyGrows};
 ghost use Rattle.mdcc_areas.specs.Kept.{CurrentStays, BetweenStays, IdleStays, OtherIsSpare, CheckpointIsRead, DueIsRead};
+ghost use Rattle.mdcc_areas.specs.Stopping.{StoppedIsRead, StoppedIsRoomy};
+ghost use Rattle.mdcc_areas.specs.Tails.{CopyIsRead, LogIsRead};
 
 /// The payloads of the area in use are read, whatever a crash left of the other.
 pub fn current_is_read()
@@ -52,4 +54,24 @@ pub fn examples_are_read()
 /// A log that takes no more than one of version 1, with generations left, stays so with each payload.
 pub fn roomy_grows()
     ensures { RoomyGrows }
+{}
+
+/// The log of the area in use is read, where the other area is not taken next to it.
+pub fn log_is_read()
+    ensures { LogIsRead }
+{}
+
+/// A whole copy of it in the other area is read in its place: with the same payloads, and no tail.
+pub fn copy_is_read()
+    ensures { CopyIsRead }
+{}
+
+/// After a crash in a checkpoint the copy is read exactly where it counts as made, and else the log that was copied.
+pub fn stopped_is_read()
+    ensures { StoppedIsRead }
+{}
+
+/// A log that takes no more than one of version 1, with generations left, stays so where a checkpoint stops.
+pub fn stopped_is_roomy()
+    ensures { StoppedIsRoomy }
 {}

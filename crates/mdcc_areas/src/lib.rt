@@ -13,11 +13,13 @@ mod opening;
 mod reading;
 mod repair;
 mod steps;
+pub mod stopping;
 
 pub use area::Spare;
 pub use fault::LogFault;
 pub use frames::Frames;
 pub use laws::{
-    between_is_read, between_stays, checkpoint_is_read, current_is_read, current_stays,
-    due_is_read, examples_are_read, idle_stays, other_is_spare, roomy_grows,
+    between_is_read, between_stays, checkpoint_is_read, copy_is_read, current_is_read,
+    current_stays, due_is_read, examples_are_read, idle_stays, log_is_read, other_is_spare,
+    roomy_grows, stopped_is_read, stopped_is_roomy,
 };

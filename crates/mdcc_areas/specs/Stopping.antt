@@ -1,0 +1,45 @@
+-- A checkpoint that stops inside one of its device calls.
+use Rattle.std.specs.Prelude.{◌≡◌, ◌⊎◌, ℕ, ◌+◌, ◌^◌, ◌<◌, ◌≤◌, Bool, false, nat_le, List, length, if◌then◌else◌, Ok}
+use Rattle.mdcc_base.specs.declared.outside.Image.{Image}
+use Rattle.mdcc_disks.specs.Contents.{Contents, image_of}
+use Rattle.mdcc_areas.specs.Area.{AreaLog, generation_of, payloads_of}
+use Rattle.mdcc_areas.specs.Checkpoint.{copy_of}
+use Rattle.mdcc_areas.specs.Copying.{IsShut, MayShut}
+use Rattle.mdcc_areas.specs.Crash.{IsCurrent}
+use Rattle.mdcc_areas.specs.Frames.{appended, packed}
+use Rattle.mdcc_areas.specs.Room.{IsRoomyLog}
+use Rattle.mdcc_areas.specs.Tails.{IsPassedOver, read_by}
+
+-- what a crash may leave of the other area before its area gate is opened
+abbrev pub MayBegin : List ℕ → List ℕ → Type 0
+MayBegin bytes c = MayShut bytes c ⊎ IsShut c
+
+-- whether a checkpoint counts that stops in this call, 1 to 7, where this image is left
+abbrev pub is_copy_kept : ℕ → Image → Bool
+is_copy_kept call Image.Kept = nat_le 6 call
+is_copy_kept call _ = false
+
+-- the log then: its payloads are the same, and it has no tail or the one that it had
+abbrev pub stopped_log : ℕ → Image → AreaLog → AreaLog
+stopped_log call image log = if is_copy_kept call image then packed log else log
+
+-- a copy whose area gate was opened since the last sync
+abbrev pub opening_copy : ℕ → List (List ℕ) → Contents
+opening_copy generation records = record { kept = copy_of 1 generation records; lost = copy_of 0 generation records; torn = copy_of 165 generation records }
+
+-- What the disk of the other area holds, where a checkpoint of this log stopped in this call: until the area gate is written, no image is
+-- taken next to the log.
+pub record IsStoppedCopy (call : ℕ) (log : AreaLog) (contents : Contents) : Type 0 where
+  pub generation : generation_of log.head + 1 < 2 ^ 64
+  pub count : length (payloads_of log) < 2 ^ 64
+  pub early : call < 6 → (image : Image) → IsPassedOver (generation_of log.head) (image_of image contents)
+  pub late : 6 ≤ call → contents ≡ opening_copy (generation_of log.head + 1) (payloads_of log)
+
+-- what is read after the crash
+abbrev pub StoppedIsRead : Type 0
+StoppedIsRead = (area call : ℕ) (image : Image) (log : AreaLog) (current : List ℕ) (contents : Contents) → IsCurrent area log current → IsStoppedCopy call log contents
+    → read_by area current (image_of image contents) ≡ Ok (stopped_log call image log)
+
+-- A log that takes no more than one of version 1, with generations left, stays so where a payload was appended and then a checkpoint stopped.
+abbrev pub StoppedIsRoomy : Type 0
+StoppedIsRoomy = (every call : ℕ) (image : Image) (log : AreaLog) (payload : List ℕ) → IsRoomyLog log → 17 ≤ every → every ≤ length log.tail + 1 → IsRoomyLog (stopped_log call image (appended log payload))
