@@ -1,9 +1,9 @@
 -- What a crash leaves where nothing was appended, and what is read of it.
-use Rattle.std.proofs.Common.{◌≡◌, inl, inr, ⊎_elim, ℕ, List, [], ◌∷◌, ◌++◌, OnOk, Result, Ok, Err, sym, subst}
+use Rattle.std.proofs.Common.{◌≡◌, inl, inr, ⊎_elim, ℕ, List, [], OnOk, Result, Ok, Err, sym, subst}
 use Rattle.mdcc_disks.specs.Disks.{Disk, LeavesOnly}
 use Rattle.mdcc_log.proofs.Moments.{started}
 use Rattle.mdcc_areas.proofs.Dues.{mixed_read}
-use Rattle.mdcc_areas.specs.Area.{AreaLog, generation_of, payloads_of}
+use Rattle.mdcc_areas.specs.Area.{AreaLog, generation_of}
 use Rattle.mdcc_areas.specs.AtRest.{IsAtRest, MayBeDue}
 use Rattle.mdcc_areas.specs.Crash.{IsCurrent, IsDead, IsIdle, IsOlder, ReadsAsEither, payloads_by}
 use Rattle.mdcc_areas.specs.Frames.{IsInUse, IsSpare, OpenAreas, appended, other_of, place_of}

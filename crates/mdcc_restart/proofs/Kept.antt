@@ -2,7 +2,7 @@
 use Rattle.std.proofs.Common.{◌≡◌, inl, inr, ⊎_elim, ℕ, ◌+◌, ◌≤◌, List, [], IfErr, IsErrOf, Result, Err, Ok, refl, sym, ◌∙◌, ap, subst}
 use Rattle.mdcc_disks.specs.Disks.{Disk}
 use Rattle.mdcc_areas.proofs.Choice.{current_is_read}
-use Rattle.mdcc_areas.specs.Area.{payloads, payloads_of}
+use Rattle.mdcc_areas.specs.Area.{payloads}
 use Rattle.mdcc_areas.specs.AtRest.{IsAtRest}
 use Rattle.mdcc_areas.specs.Crash.{IsCurrent, IsIdle, IsOlder, payloads_by}
 use Rattle.mdcc_areas.specs.Frames.{OpenAreas, other_of, place_of}
@@ -66,6 +66,7 @@ module _ {D : Type 0} (disk : D → ℕ → Disk) (may_leave : D → ℕ → Lis
             roomy = roomy_log every (disk old me) (disk old (me + 16)) opened.log opened.read room;
             often = room.often;
           };
+          same = λ log read. (rest_areas disk may_leave new frames me all place rest).log_is ∙ sym opened.read ∙ read;
         }
 
     -- and nothing was written since

@@ -1,6 +1,5 @@
 -- What a restart leaves of all other places, and which faults it counts.
-use Rattle.std.proofs.Common.{◌≡◌, ◌⊎◌, inl, inr, ⊎_elim, ℕ, ◌+◌, ◌≤◌, List, sym, ◌∙◌, arith}
-use Rattle.mdcc_base.specs.Causes.{Rose}
+use Rattle.std.proofs.Common.{◌≡◌, inl, inr, ⊎_elim, ℕ, ◌+◌, ◌≤◌, List, ◌∙◌, arith}
 use Rattle.mdcc_disks.specs.Disks.{Disk}
 use Rattle.mdcc_areas.specs.Both.{KeepsBut, RoseAtOne}
 use Rattle.mdcc_areas.specs.Frames.{other_of, place_of}

@@ -1,5 +1,5 @@
 -- Both areas of a centre.
-use Rattle.std.proofs.Common.{◌≡◌, ℕ, zero, suc, ◌+◌, ◌≤◌, sym, ◌∙◌, subst, arith}
+use Rattle.std.proofs.Common.{◌≡◌, ℕ, zero, suc, ◌+◌, ◌≤◌, sym, subst, arith}
 use Rattle.mdcc_areas.specs.Frames.{other_of, place_of}
 
 pub by_area : (P : ℕ → Type 0) → P 0 → P 1 → (area : ℕ) → area ≤ 1 → P area

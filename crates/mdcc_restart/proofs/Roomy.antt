@@ -1,8 +1,8 @@
 -- Whether the next boot lies within the limit of its log.
-use Rattle.std.proofs.Common.{◌≡◌, ℕ, ◌+◌, ◌<◌, ◌≤◌, List, Ok, Result, length, refl, sym, ◌∙◌, ap, subst}
+use Rattle.std.proofs.Common.{◌≡◌, ℕ, ◌+◌, ◌<◌, ◌≤◌, List, Ok, Result, length, sym, ◌∙◌, subst}
 use Rattle.mdcc_disks.specs.Disks.{Disk}
 use Rattle.mdcc_areas.proofs.Rooms.{full_by_length, roomy_grows}
-use Rattle.mdcc_areas.specs.Area.{AreaLog, generation_of, payloads_of, read_areas}
+use Rattle.mdcc_areas.specs.Area.{AreaLog, payloads_of, read_areas}
 use Rattle.mdcc_areas.specs.Frames.{IsInUse, OpenAreas}
 use Rattle.mdcc_areas.specs.Room.{HasGrown, IsFull, IsRoomy, IsRoomyLog}
 use Rattle.mdcc_log.specs.Log.{log_bytes, log_limit}

@@ -1,7 +1,7 @@
 -- What a crash at any moment of a restart leaves of the two areas.
-use Rattle.std.proofs.Common.{◌≡◌, ◌⊎◌, inl, inr, ⊎_elim, ℕ, zero, suc, ◌+◌, ◌≤◌, List, ◌∷◌, ◌++◌, [], Ok, Result, refl, sym, ◌∙◌, ap, subst, arith}
+use Rattle.std.proofs.Common.{◌≡◌, ◌⊎◌, inl, inr, ⊎_elim, ℕ, ◌+◌, ◌≤◌, List, [], Ok, Result, refl, ◌∙◌, ap, subst, arith}
 use Rattle.std.specs.Prelude.{IsTrue}
-use Rattle.mdcc_disks.specs.Disks.{Disk, LeavesOnly, Only, Within}
+use Rattle.mdcc_disks.specs.Disks.{Disk, LeavesOnly, Only}
 use Rattle.mdcc_log.proofs.Moments.{both}
 use Rattle.mdcc_areas.proofs.Choice.{Other, Seen, current_read, current_seen, dead_other, first_taken, older_other, second_taken}
 use Rattle.mdcc_areas.proofs.Dues.{mixed_read}

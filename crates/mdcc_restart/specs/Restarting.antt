@@ -1,5 +1,5 @@
 -- What comes of a restart over a log of facts.
-use Rattle.std.specs.Prelude.{Err, IsTrue, List, Ok, Result, length, ℕ, ◌+◌, ◌-◌, ◌<◌, ◌^◌, ◌∷◌, ◌≡◌, ◌≤◌, ◌⊎◌, ⊤}
+use Rattle.std.specs.Prelude.{Err, IsTrue, List, Ok, Result, length, ℕ, ◌+◌, ◌-◌, ◌<◌, ◌^◌, ◌∷◌, ◌≡◌, ◌≤◌, ⊤}
 use Rattle.mdcc_admission.specs.Loading.{Cells, boot_by}
 use Rattle.mdcc_base.specs.Counts.{sum_over}
 use Rattle.mdcc_disks.specs.Disks.{Disk}
@@ -77,12 +77,13 @@ Restarts stands room cells (Err fault) cluster me every facts disk may_leave old
 
 -- ---- what stands on its disks
 
--- A log of these payloads is at rest, and has room where it had it.
+-- A log of these payloads is at rest, and has room where it had it: the same log is read, with as many frames behind its records.
 pub record IsAsBefore {D : Type 0} (all : List (List ℕ)) (me every : ℕ) (disk : D → ℕ → Disk) (may_leave : D → ℕ → List ℕ → Type 0) (old new : D) : Type 0 where
   pub frames : OpenAreas
   pub place : frames.centre ≡ me
   pub at_rest : IsAtRest disk may_leave new frames all
   pub room : HasRoom every (disk old me) (disk old (me + 16)) → HasRoom every (disk new me) (disk new (me + 16))
+  pub same : (log : AreaLog) → read_areas (disk old me).bytes (disk old (me + 16)).bytes ≡ Ok log → read_areas (disk new me).bytes (disk new (me + 16)).bytes ≡ Ok log
 
 -- What stands after a refusal: the log of the same payloads, all of it durable where it was opened. After a fault of a disk
 -- a part of what was being written may stand, as after a crash.

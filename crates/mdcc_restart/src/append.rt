@@ -6,6 +6,7 @@ ghost use Rattle.mdcc_areas.specs.Both.{KeepsBut, RoseAtOne};
 ghost use Rattle.mdcc_areas.specs.Crash.{IsIdle, ReadsAsEither, payloads_by};
 ghost use Rattle.mdcc_areas.specs.Frames.{IsInUse, IsSettled, IsSpare, appended, other_of, place_of};
 ghost use Rattle.mdcc_areas.specs.Room.{HasGrown, IsFull};
+ghost use Rattle.mdcc_areas.specs.Tails.{tail_after};
 ghost use Rattle.mdcc_disks.specs.Disks.{LeavesOnly};
 ghost use Rattle.mdcc_journal.specs.Counts.{HasCounts};
 ghost use Rattle.mdcc_log.specs.Log.{payload_limit};
@@ -49,6 +50,7 @@ pub fn append_fact<D: Disks>(
         → OnOk result (IsAtRest D.disk D.may_leave disks.new log.new (all ++ fact_bytes fact.now ∷ [])) }
     ensures few { OnOk result (log.new.tail < log.new.every) }
     ensures grown { OnOk result (HasGrown log.old log.new) }
+    ensures tail { OnOk result (log.new.tail ≡ tail_after log.old.every log.old.tail) }
     ensures keeps { (log.new.centre ≡ log.old.centre) × (log.new.every ≡ log.old.every) }
 
     // What a crash at any moment of it leaves of each area.

@@ -1,10 +1,11 @@
 //! The start of a centre.
 ghost use Rattle.std.specs.Prelude.{◌≡◌, ◌≤◌, ◌<◌, ◌+◌, ◌⊎◌, ◌∷◌, [], List, Err, IfErr, IfOk, IsErrAnd, IsErrOf, IsTrue, Ok, length, true, ℕ};
 ghost use Rattle.mdcc_admission.specs.Loading.{AreShort, Cells, Holds};
-ghost use Rattle.mdcc_areas.specs.Area.{AreaLog, payloads, payloads_of};
+ghost use Rattle.mdcc_areas.specs.Area.{AreaLog, payloads, payloads_of, read_areas};
 ghost use Rattle.mdcc_areas.specs.AtRest.{IsAtRest};
 ghost use Rattle.mdcc_areas.specs.Both.{KeepsBut, RoseAtOne};
 ghost use Rattle.mdcc_areas.specs.Crash.{ReadsAsEither};
+ghost use Rattle.mdcc_areas.specs.Tails.{tail_after};
 ghost use Rattle.mdcc_disks.specs.Disks.{Only};
 ghost use Rattle.mdcc_node.specs.BootEffects.{IsBoot};
 ghost use Rattle.mdcc_protocol.specs.Belongs.{is_centre};
@@ -91,6 +92,11 @@ pub fn restart<D: Disks, S: FactStore + Drop>(
     ensures at_rest { IsTrue (D.disk disks.old centre).told → IsTrue (D.disk disks.old (centre + 16)).told
         → IfOk result (λ r. (all : List (List ℕ)) × IsAtRest D.disk D.may_leave disks.new r.log all) }
     ensures log { IfOk result (λ r. (r.log.centre ≡ centre) × ((r.log.every ≡ every) × (r.log.tail < every))) }
+
+    // The new boot is one frame more behind the log that was read, where no checkpoint was due with it.
+    ensures tail { (log : AreaLog) → IsTrue (D.disk disks.old centre).told → IsTrue (D.disk disks.old (centre + 16)).told
+        → read_areas (D.disk disks.old centre).bytes (D.disk disks.old (centre + 16)).bytes ≡ Ok log
+        → IfOk result (λ r. r.log.tail ≡ tail_after every (length log.tail)) }
 
     // A refusal leaves the log as it was: its payloads are read again.
     ensures refused { (all : List (List ℕ)) → IsTrue (D.disk disks.old centre).told → IsTrue (D.disk disks.old (centre + 16)).told

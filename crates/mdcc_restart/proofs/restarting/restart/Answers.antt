@@ -1,13 +1,13 @@
-use Rattle.std.proofs.Common.{◌≡◌, ◌+◌, ◌++◌, ◌∷◌, ◌≤◌, ◌<◌, [], List, ℕ, Ok, inl, inr, refl, sym, ◌∙◌, ap, length, subst, rules}
+use Rattle.std.proofs.Common.{◌≡◌, ◌+◌, ◌++◌, ◌∷◌, ◌≤◌, ◌<◌, [], List, ℕ, Ok, inl, inr, refl, sym, ◌∙◌, ap, length, subst}
 use Rattle.std.specs.Prelude.{IsTrue}
 use Rattle.std.proofs.lemmas.Result.{err_from_is_err_and}
-use Rattle.mdcc_areas.specs.Area.{payloads, payloads_of}
+use Rattle.mdcc_areas.specs.Area.{AreaLog, payloads, payloads_of}
 use Rattle.mdcc_areas.specs.AtRest.{IsAtRest}
 use Rattle.mdcc_areas.specs.Crash.{ReadsAsEither}
 use Rattle.mdcc_areas.specs.Frames.{appended, place_of}
+use Rattle.mdcc_areas.specs.Tails.{tail_after}
 use Rattle.mdcc_areas.specs.declared.fault.LogFault.{LogFault}
 use Rattle.mdcc_messages.specs.Spelling.{fact_bytes, encodings_of}
-use Rattle.mdcc_messages.specs.declared.facts.Fact.{Fact}
 use Rattle.mdcc_restart.proofs.Kept.{append-keeps, each-fault, open-keeps, opened-before, rest-keeps}
 use Rattle.mdcc_restart.proofs.Named.{no-boot-memory, no-log-memory, of-disk}
 use Rattle.mdcc_restart.proofs.Others.{but_areas, but_joined, rose_areas}
@@ -16,8 +16,7 @@ use Rattle.mdcc_restart.proofs.Roomy.{past_limit, roomy_log, roomy_more, same_lo
 use Rattle.mdcc_restart.proofs.Starts.{after-crash, boot-refuses, open-refuses, refuses, same-payloads}
 use Rattle.mdcc_restart.proofs.Struck.{boot_leaves, left_read, left_struck, same_area, same_read, struck_as, struck_joined, struck_read}
 use Rattle.mdcc_restart.proofs.Unread.{no-log, of-no-log, open-unread}
-use Rattle.mdcc_restart.specs.Logged.{AreLogged}
-use Rattle.mdcc_restart.specs.Restarting.{HasRoom, IsLogOf, KeepsLog, Restarts}
+use Rattle.mdcc_restart.specs.Restarting.{HasRoom, KeepsLog, Restarts}
 use Rattle.mdcc_restart.specs.Struck.{LeavesBoot, LeavesStruck}
 use Rattle.mdcc_restart.specs.declared.fault.RestartFault.{RestartFault}
 use Rattle.mdcc_rules.specs.declared.node.BootFault.{BootFault}
@@ -355,3 +354,11 @@ returns-in_err-append_fact-clause-boot_memory g c = λ h.
     let is = sym p.1 ∙ h in
     let same : p.0 ≡ RestartFault.Boot BootFault.Memory = cc in
     no-boot-memory c.in_err-append_fact.field-0.0 (sym p.2 ∙ same)
+
+-- ---- how many frames stand behind the records then
+
+pub returns-clause-tail : goal.returns-clause-tail
+returns-clause-tail g c log told told_other read =
+    let opened = c.in_ok-log.ensures.opened told told_other in
+    let same : opened.log ≡ log = same_log opened.log log (sym opened.read ∙ read) in
+    c.in_ok-append_fact.ensures.tail ∙ ap (λ (n : ℕ). tail_after n c.in_ok-log.log.tail) c.in_ok-log.ensures.keeps.1 ∙ ap (λ (n : ℕ). tail_after c.args.every n) opened.in_use.tail ∙ ap (λ (l : AreaLog). tail_after c.args.every (length l.tail)) same
