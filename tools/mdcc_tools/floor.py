@@ -1,6 +1,7 @@
-"""What the disk costs: a small write that is made durable, and an append as a log makes it, with a gate."""
+"""What the disk and the link cost: a small write that is made durable, an append as a log makes it, with a gate, and a round trip."""
 import multiprocessing
 import os
+import socket
 import tempfile
 import time
 
@@ -60,6 +61,39 @@ def disk_times(folder, others, count=300):
     return written, appended, shared
 
 
-def floor_of(appended):
-    """What a commit costs at least: two appends one after the other."""
-    return 2 * percentile(appended, 0.5)
+def bound_socket():
+    bound = socket.socket(socket.AF_INET, socket.SOCK_DGRAM)
+    bound.bind(("127.0.0.1", 0))
+    return bound
+
+
+def echo(bound):
+    """Sends back what comes, until it is ended."""
+    while True:
+        data, address = bound.recvfrom(2048)
+        bound.sendto(data, address)
+
+
+def round_trip_times(count=2000):
+    """Times, ascending, in seconds, of a datagram to another process on this machine and back."""
+    far, near = bound_socket(), bound_socket()
+    near.settimeout(5)
+    process = multiprocessing.Process(target=echo, args=(far,), daemon=True)
+    process.start()
+
+    def trip(_):
+        near.sendto(DATA, far.getsockname())
+        near.recv(2048)
+
+    try:
+        return times_of(count, trip)
+    finally:
+        process.terminate()
+        process.join()
+        far.close()
+        near.close()
+
+
+def floor_of(appended, trips):
+    """What a commit costs at least: two appends one after the other, which are four syncs, and a round trip."""
+    return 2 * percentile(appended, 0.5) + percentile(trips, 0.5)

@@ -1,11 +1,47 @@
-"""Datagrams that are sent to do harm: such as no node may take for a message, and well-formed ones that say what is not so."""
+"""Datagrams that are sent to do harm: such as no node may take for a message, and well-formed ones that say what is not so. And how
+many of them a node counts as dropped."""
 from collections import Counter
 
 from . import messages
-from .datagrams import HEAD, PIECE, piece_in, pieces_of, split
+from .datagrams import DROPPED, HEAD, PIECE, WHOLE, Joiner, piece_in, pieces_of, split
 from .parts import Refused
 
 RANDOM, CUT, LENGTHENED, CHANGED, PARTIAL = "random bytes", "cut", "lengthened", "with a byte changed", "pieces of unfinished messages"
+
+
+# A piece of a message whose other piece is never sent: a node takes it as often as it comes, and neither drops it nor does anything.
+IDLE_PIECE = HEAD.pack(1, 1, 0, PIECE + 1, 1, 2) + b"\0"
+
+
+class Drops:
+    """How many of the datagrams that were sent a node counts as dropped: `certain` of them at least, where none is lost on the way, and
+    `possible` more at most, which are messages for it that its step may refuse."""
+
+    def __init__(self):
+        self.joiners = Joiner(), Joiner()
+        self.certain = self.possible = 0
+
+    def note(self, datagram, is_asked):
+        joined = self.joiners[is_asked].join(datagram)
+        if joined[0] == DROPPED:
+            self.certain += 1
+        elif joined[0] == WHOLE:
+            if self.is_for_step(joined[1], is_asked):
+                self.possible += 1
+            else:
+                self.certain += 1
+
+    def is_for_step(self, message, is_asked):
+        """Whether it is a message of a kind that comes to this endpoint."""
+        try:
+            _, _, kind, _ = messages.decode(message)
+        except Refused:
+            return False
+        return (kind in (messages.CLIENT_READ, messages.CLIENT_BEGIN)) if is_asked else kind < messages.CLIENT_READ
+
+    def agree(self, dropped, lost):
+        """Whether a node may have dropped so many, where so many datagrams were lost on the way to it."""
+        return self.certain - lost <= dropped <= self.certain + self.possible
 
 
 class Unfinished:

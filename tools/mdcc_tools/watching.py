@@ -4,11 +4,21 @@ import time
 from .processes import memory_of
 
 
-def lost_at(port):
-    """How many datagrams the system dropped at the socket that is bound to this port, since its buffer was full."""
+def rows_at(port):
+    """What the system says of the sockets that are bound to this port."""
     with open("/proc/net/udp") as table:
         rows = [line.split() for line in table.readlines()[1:]]
-    return sum(int(row[-1]) for row in rows if int(row[1].split(":")[1], 16) == port)
+    return [row for row in rows if int(row[1].split(":")[1], 16) == port]
+
+
+def lost_at(port):
+    """How many datagrams the system dropped at the socket that is bound to this port, since its buffer was full."""
+    return sum(int(row[-1]) for row in rows_at(port))
+
+
+def waiting_at(port):
+    """How many bytes wait in its buffer, with what the system takes for each datagram."""
+    return sum(int(row[4].split(":")[1], 16) for row in rows_at(port))
 
 
 class Watch:
