@@ -25,6 +25,7 @@ mod Repairs
 pub mod Rooms
 mod Settles
 mod Stands
+mod StopCalls
 pub mod Stopped
 mod Takes
 mod Theorems

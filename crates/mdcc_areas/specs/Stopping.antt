@@ -1,18 +1,32 @@
 -- A checkpoint that stops inside one of its device calls.
-use Rattle.std.specs.Prelude.{◌≡◌, ◌⊎◌, ℕ, ◌+◌, ◌^◌, ◌<◌, ◌≤◌, Bool, false, nat_le, List, length, if◌then◌else◌, Ok}
+use Rattle.std.specs.Prelude.{◌≡◌, ◌⊎◌, ℕ, ◌+◌, ◌^◌, ◌<◌, ◌≤◌, Bool, false, nat_le, nat_lt, List, [], ◌∷◌, ◌++◌, length, if◌then◌else◌, Ok}
 use Rattle.mdcc_base.specs.declared.outside.Image.{Image}
 use Rattle.mdcc_disks.specs.Contents.{Contents, image_of}
+use Rattle.mdcc_disks.specs.Disks.{DiskCall}
+use Rattle.mdcc_disks.specs.Disks.DiskCall.{Write, Cut, Sync}
+use Rattle.mdcc_areas.specs.declared.area.Spare.{Spare}
 use Rattle.mdcc_areas.specs.Area.{AreaLog, generation_of, payloads_of}
 use Rattle.mdcc_areas.specs.Checkpoint.{copy_of}
 use Rattle.mdcc_areas.specs.Copying.{IsShut, MayShut}
 use Rattle.mdcc_areas.specs.Crash.{IsCurrent}
-use Rattle.mdcc_areas.specs.Frames.{appended, packed}
+use Rattle.mdcc_areas.specs.Frames.{appended, packed, shut_calls, mark_calls, body_calls}
 use Rattle.mdcc_areas.specs.Room.{IsRoomyLog}
 use Rattle.mdcc_areas.specs.Tails.{IsPassedOver, read_by}
 
 -- what a crash may leave of the other area before its area gate is opened
 abbrev pub MayBegin : List ℕ → List ℕ → Type 0
 MayBegin bytes c = MayShut bytes c ⊎ IsShut c
+
+-- the calls of a checkpoint before its copy is made durable
+abbrev pub laid_calls : Spare → ℕ → List (List ℕ) → List DiskCall
+laid_calls spare generation records = shut_calls spare ++ Sync ∷ Cut 9 ∷ (mark_calls spare ++ body_calls generation records)
+
+-- the calls of one that stops in this call, 1 to 7: up to that one, but for a sync that stops
+abbrev pub stopped_calls : ℕ → Spare → ℕ → List (List ℕ) → List DiskCall
+stopped_calls call spare generation records =
+    if nat_lt call 3 then shut_calls spare
+    else (if nat_lt call 4 then shut_calls spare ++ Sync ∷ Cut 9 ∷ []
+    else (if nat_lt call 6 then laid_calls spare generation records else laid_calls spare generation records ++ Sync ∷ Write 8 (1 ∷ []) ∷ []))
 
 -- whether a checkpoint counts that stops in this call, 1 to 7, where this image is left
 abbrev pub is_copy_kept : ℕ → Image → Bool

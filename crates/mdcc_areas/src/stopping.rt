@@ -2,7 +2,9 @@
 ghost use Rattle.std.specs.Prelude.{◌≡◌, ◌≢◌, ◌⊎◌, ◌≤◌, ◌<◌, ◌+◌, ◌-◌, ◌^◌, ◌∷◌, ◌++◌, [], List, ℕ, length, vec_capacity, IsTrue, OnOk, IsErrOf};
 ghost use Rattle.mdcc_base.specs.Causes.{HasCause};
 ghost use Rattle.mdcc_disks.specs.Disks.{Only, KeepsOthers, LeavesOnly, Within};
+ghost use Rattle.mdcc_disks.specs.Disks.DiskCall.{Write, Sync};
 ghost use Rattle.mdcc_disks.specs.Memory.{at_place, disk_of, left_since_of, may_leave_of, moment_of, standing};
+ghost use Rattle.mdcc_log.specs.Frames.{with_calls};
 ghost use Rattle.mdcc_log.specs.Log.{log_limit, payload_limit};
 ghost use Rattle.mdcc_areas.specs.Area.{AreaLog, area_bytes, generation_of, payloads_of};
 ghost use Rattle.mdcc_areas.specs.AtRest.{IsAtRest};
@@ -12,7 +14,7 @@ ghost use Rattle.mdcc_areas.specs.Copying.{IsShut};
 ghost use Rattle.mdcc_areas.specs.Crash.{IsIdle, ReadsAsEither, payloads_by};
 ghost use Rattle.mdcc_areas.specs.Frames.{IsInUse, IsSettled, IsSpare, appended, other_of, place_of, spare_of};
 ghost use Rattle.mdcc_areas.specs.Room.{IsCopyFull};
-ghost use Rattle.mdcc_areas.specs.Stopping.{IsStoppedCopy, MayBegin, opening_copy};
+ghost use Rattle.mdcc_areas.specs.Stopping.{IsStoppedCopy, MayBegin, laid_calls, opening_copy, stopped_calls};
 
 use crate::area::Spare;
 use crate::checkpoint::{Whole, write_body};
@@ -33,6 +35,8 @@ fn shut_until<D: Disks>(disks: &mut D, place: u8, spare: Spare, call: u8) -> Res
         → LeavesOnly D.moment D.left_since disks.old disks.new place (MayBegin (D.disk disks.old place).bytes) }
     ensures others { KeepsOthers D.disk D.may_leave D.moment D.left_since disks.old disks.new place }
     ensures cause { HasCause (D.disk disks.old place).faults (D.disk disks.new place).faults result }
+    ensures all_calls { (generation : ℕ) (records : List (List ℕ)) → call < 4 → OnOk result ((D.disk disks.new place).calls
+        ≡ with_calls (stopped_calls call spare generation records) (D.disk disks.old place).calls) }
 {
     if call < 3 {
         return write_shut(disks, place, spare);
@@ -73,6 +77,9 @@ fn lay_copy<D: Disks>(
     ensures a_log { (n : ℕ) → IsErrOf result (LogFault.NotALog n) → IsTrue (D.disk disks.old whole.place).told → ⊥ }
     ensures not_full { IsErrOf result LogFault.LogFull → ⊥ }
     ensures memory { IsErrOf result LogFault.Memory → ⊥ }
+    ensures all_calls { (log : AreaLog) → IsTrue (D.disk disks.old whole.place).told
+        → StandsAs whole log (D.disk disks.old whole.place).bytes
+        → OnOk result ((D.disk disks.new place).calls ≡ with_calls (laid_calls spare generation (payloads_of log)) (D.disk disks.old place).calls) }
 {
     shut_area(disks, place, spare)?;
     clear_area(disks, place, spare)?;
@@ -90,6 +97,8 @@ fn open_copy(disks: &mut MemoryDisks, place: u8) -> Result<(), Failed>
         → LeavesOnly moment_of left_since_of disks.old disks.new place (MayOpen (disk_of disks.old place).bytes) }
     ensures others { KeepsOthers disk_of may_leave_of moment_of left_since_of disks.old disks.new place }
     ensures cause { HasCause (disk_of disks.old place).faults (disk_of disks.new place).faults result }
+    ensures all_calls { OnOk result ((disk_of disks.new place).calls
+        ≡ with_calls (Sync ∷ Write 8 (1 ∷ []) ∷ []) (disk_of disks.old place).calls) }
 {
     disks.sync(place)?;
     disks.write_at(place, 8, &[1])
@@ -130,6 +139,10 @@ fn fill_until(
     ensures a_log { (n : ℕ) → IsErrOf result (LogFault.NotALog n) → IsTrue (disk_of disks.old whole.place).told → ⊥ }
     ensures not_full { IsErrOf result LogFault.LogFull → ⊥ }
     ensures memory { IsErrOf result LogFault.Memory → ⊥ }
+    ensures all_calls { (log : AreaLog) → IsTrue (disk_of disks.old whole.place).told
+        → StandsAs whole log (disk_of disks.old whole.place).bytes
+        → 4 ≤ call → OnOk result ((disk_of disks.new place).calls
+        ≡ with_calls (stopped_calls call spare generation (payloads_of log)) (disk_of disks.old place).calls) }
 {
     lay_copy(disks, whole, generation, place, spare, buffer)?;
     if call < 6 {
@@ -174,6 +187,10 @@ fn copy_until(
     ensures a_log { (n : ℕ) → IsErrOf result (LogFault.NotALog n) → IsTrue (disk_of disks.old whole.place).told → ⊥ }
     ensures not_full { IsErrOf result LogFault.LogFull → ⊥ }
     ensures memory { IsErrOf result LogFault.Memory → ⊥ }
+    ensures all_calls { (log : AreaLog) → IsTrue (disk_of disks.old whole.place).told
+        → StandsAs whole log (disk_of disks.old whole.place).bytes
+        → OnOk result ((disk_of disks.new place).calls
+        ≡ with_calls (stopped_calls call spare generation (payloads_of log)) (disk_of disks.old place).calls) }
 {
     if call < 4 {
         shut_until(disks, place, spare, call)?;
@@ -197,6 +214,11 @@ impl Frames {
             (log : AreaLog) → IsTrue (disk_of disks.old place).told → IsTrue (disk_of disks.old other).told
             → IsInUse self.old log (disk_of disks.old place).bytes (may_leave_of disks.old place)
             → OnOk result (IsStoppedCopy call log (standing (at_place disks.new other))) }
+        ensures all_calls { let place = place_of self.old.centre self.old.area in let other = place_of self.old.centre (other_of self.old.area) in
+            (log : AreaLog) → IsTrue (disk_of disks.old place).told
+            → IsInUse self.old log (disk_of disks.old place).bytes (may_leave_of disks.old place)
+            → OnOk result ((disk_of disks.new other).calls
+            ≡ with_calls (stopped_calls call self.old.spare (self.old.generation + 1) (payloads_of log)) (disk_of disks.old other).calls) }
         ensures keeps { self.new ≡ self.old }
 
         // The area in use stands, and opening gives all payloads after a crash at any moment of it.
@@ -266,6 +288,11 @@ impl Frames {
             (log : AreaLog) → IsTrue (disk_of disks.old place).told → IsTrue (disk_of disks.old other).told
             → IsInUse self.old log (disk_of disks.old place).bytes (may_leave_of disks.old place)
             → OnOk result (IsStoppedCopy call (appended log payload.now) (standing (at_place disks.new other))) }
+        ensures all_calls { let place = place_of self.old.centre self.old.area in let other = place_of self.old.centre (other_of self.old.area) in
+            (log : AreaLog) → IsTrue (disk_of disks.old place).told
+            → IsInUse self.old log (disk_of disks.old place).bytes (may_leave_of disks.old place)
+            → OnOk result ((disk_of disks.new other).calls
+            ≡ with_calls (stopped_calls call self.old.spare (self.old.generation + 1) (payloads_of (appended log payload.now))) (disk_of disks.old other).calls) }
         ensures keeps { (self.new.centre ≡ self.old.centre) × ((self.new.every ≡ self.old.every) × (self.new.area ≡ self.old.area)) }
 
         // Opening after a crash at any moment of it gives the payloads from before it, or those and the new one.

@@ -29,3 +29,6 @@ returns-then-call-lt4-clause-others c = but_two disk_of may_leave_of moment_of l
 
 pub returns-then-call-lt4-clause-late : goal.returns-then-call-lt4-clause-late
 returns-then-call-lt4-clause-late c log told there stands late = absurd (omega (arith, late, c.if-call-lt4.true))
+
+pub returns-clause-all_calls : goal.returns-clause-all_calls
+returns-clause-all_calls c log told stands = c.fill_until.ensures.all_calls log told stands (omega (arith, c.if-call-lt4.false))

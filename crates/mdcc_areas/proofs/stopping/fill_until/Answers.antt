@@ -1,4 +1,4 @@
-use Rattle.std.proofs.Common.{sym, ◌∙◌, arith}
+use Rattle.std.proofs.Common.{ap, List, sym, ◌∙◌, arith}
 use Rattle.mdcc_disks.specs.Memory.{disk_of, left_since_of, may_leave_of, moment_of, only_now_of}
 use Rattle.mdcc_log.proofs.Moments.{weakened, both}
 use Rattle.mdcc_areas.specs.Area.{payloads_of}
@@ -6,6 +6,13 @@ use Rattle.mdcc_areas.specs.Checkpoint.{MayCopy}
 use Rattle.mdcc_areas.proofs.Around.{opened_copy}
 use Rattle.mdcc_areas.proofs.Joined.{read_joined, read_beside, but_joined, but_two}
 use Rattle.mdcc_areas.proofs.Stopped.{begun_copy}
+use Rattle.std.proofs.Common.{◌∷◌, []}
+use Rattle.mdcc_disks.specs.Disks.{DiskCall}
+use Rattle.mdcc_disks.specs.Disks.DiskCall.{Write, Sync}
+use Rattle.mdcc_log.specs.Frames.{with_calls}
+use Rattle.mdcc_areas.specs.Stopping.{laid_calls}
+use Rattle.mdcc_areas.proofs.ReadCalls.{all_both}
+use Rattle.mdcc_areas.proofs.StopCalls.{calls_laid, calls_opened}
 use Rattle.mdcc_areas.proofs.stopping.fill_until.Goals as goal
 
 pub returns-in_err-lay_copy-clause-any_moment : goal.returns-in_err-lay_copy-clause-any_moment
@@ -68,3 +75,14 @@ open_copy-requires-clause-long c told = c.in_ok-lay_copy.ensures.long (sym c.lay
 
 pub open_copy-requires-clause-shut : goal.open_copy-requires-clause-shut
 open_copy-requires-clause-shut c told = c.in_ok-lay_copy.ensures.shut (sym c.lay_copy.ensures.others.told_two ∙ told)
+
+pub returns-then-call-lt6-clause-all_calls : goal.returns-then-call-lt6-clause-all_calls
+returns-then-call-lt6-clause-all_calls c log told stands some =
+    c.in_ok-lay_copy.ensures.all_calls log told stands
+    ∙ ap (λ (l : List DiskCall). with_calls l (disk_of c.args.disks.now c.args.place).calls) (sym (calls_laid c.args.call c.args.spare c.args.generation (payloads_of log) some c.if-call-lt6.true))
+
+pub returns-clause-all_calls : goal.returns-clause-all_calls
+returns-clause-all_calls c log told stands some =
+    all_both (laid_calls c.args.spare c.args.generation (payloads_of log)) (Sync ∷ Write 8 (1 ∷ []) ∷ []) (disk_of c.args.disks.now c.args.place).calls (disk_of c.lay_copy.new.disks c.args.place).calls (disk_of c.open_copy.new.disks c.args.place).calls
+    (c.in_ok-lay_copy.ensures.all_calls log told stands) c.in_ok-open_copy.ensures.all_calls
+    ∙ ap (λ (l : List DiskCall). with_calls l (disk_of c.args.disks.now c.args.place).calls) (sym (calls_opened c.args.call c.args.spare c.args.generation (payloads_of log) (omega (arith, c.if-call-lt6.false))))

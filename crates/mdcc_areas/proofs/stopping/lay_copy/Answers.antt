@@ -7,6 +7,12 @@ use Rattle.mdcc_areas.specs.Checkpoint.{StandsAs}
 use Rattle.mdcc_areas.specs.Stopping.{MayBegin}
 use Rattle.mdcc_areas.proofs.Around.{shut_as}
 use Rattle.mdcc_areas.proofs.Joined.{read_joined, read_beside, but_joined, but_two}
+use Rattle.std.proofs.Common.{append_assoc}
+use Rattle.mdcc_disks.specs.Disks.{DiskCall}
+use Rattle.mdcc_disks.specs.Disks.DiskCall.{Cut, Sync}
+use Rattle.mdcc_log.specs.Frames.{with_calls}
+use Rattle.mdcc_areas.specs.Frames.{shut_calls, mark_calls, body_calls}
+use Rattle.mdcc_areas.proofs.ReadCalls.{all_both}
 use Rattle.mdcc_areas.proofs.stopping.lay_copy.Goals as goal
 
 pub clear_area-requires : goal.clear_area-requires
@@ -95,3 +101,13 @@ returns-in_err-write_body-clause-others g c = but_joined g.D.Disks.disk g.D.Disk
 
 pub returns-clause-others : goal.returns-clause-others
 returns-clause-others g c = but_joined g.D.Disks.disk g.D.Disks.may_leave g.D.Disks.moment g.D.Disks.left_since g.met.D.Disks.only_now c.args.disks.now c.clear_area.new.disks c.write_body.new.disks c.args.whole.place c.args.place (but_joined g.D.Disks.disk g.D.Disks.may_leave g.D.Disks.moment g.D.Disks.left_since g.met.D.Disks.only_now c.args.disks.now c.shut_area.new.disks c.clear_area.new.disks c.args.whole.place c.args.place (but_two g.D.Disks.disk g.D.Disks.may_leave g.D.Disks.moment g.D.Disks.left_since g.met.D.Disks.only_now c.args.disks.now c.shut_area.new.disks c.args.whole.place c.args.place c.requires.apart c.shut_area.ensures.others c.shut_area.ensures.cause.later) (but_two g.D.Disks.disk g.D.Disks.may_leave g.D.Disks.moment g.D.Disks.left_since g.met.D.Disks.only_now c.shut_area.new.disks c.clear_area.new.disks c.args.whole.place c.args.place c.requires.apart c.clear_area.ensures.others c.clear_area.ensures.cause.later)) c.write_body.ensures.others
+
+pub returns-clause-all_calls : goal.returns-clause-all_calls
+returns-clause-all_calls g c log told stands =
+    let same = c.clear_area.ensures.others.others c.args.whole.place c.requires.apart ∙ c.shut_area.ensures.others.others c.args.whole.place c.requires.apart in
+    let stands_mid = subst (λ d. StandsAs c.args.whole log d.bytes) (sym same) stands in
+    let told_mid : IsTrue (g.D.Disks.disk c.clear_area.new.disks c.args.whole.place).told = ap (λ d. d.told) same ∙ told in
+    let behind = (Cut 9 ∷ mark_calls c.args.spare) ++ body_calls c.args.generation (payloads_of log) in
+    all_both (shut_calls c.args.spare ++ Sync ∷ []) behind _ _ _ c.in_ok-shut_area.ensures.all_calls
+    (all_both (Cut 9 ∷ mark_calls c.args.spare) (body_calls c.args.generation (payloads_of log)) _ _ _ c.in_ok-clear_area.ensures.all_calls (c.in_ok-write_body.ensures.all_calls log told_mid stands_mid))
+    ∙ ap (λ (l : List DiskCall). with_calls l (g.D.Disks.disk c.args.disks.now c.args.place).calls) (append_assoc (shut_calls c.args.spare) (Sync ∷ []) behind)

@@ -9,6 +9,7 @@ use Rattle.mdcc_log.proofs.Moments.{one_call, both}
 use Rattle.mdcc_areas.specs.Checkpoint.{MayOpen}
 use Rattle.mdcc_areas.proofs.Gates.{gate_torn}
 use Rattle.mdcc_areas.proofs.Memories.{call_made}
+use Rattle.mdcc_areas.proofs.ReadCalls.{all_where}
 use Rattle.mdcc_areas.proofs.stopping.open_copy.Goals as goal
 
 pub returns-clause-opened : goal.returns-clause-opened
@@ -39,3 +40,7 @@ returns-clause-any_moment c told =
           (subst (λ (l : List ℕ). IsTorn tears_of 8 (1 ∷ []) l x) (c.in_ok-sync.ensures.durable told (c.write_at.ensures.crash x now).0 (c.write_at.ensures.crash x now).1) (c.write_at.ensures.crash x now).2),
     )) in
     both {old = c.args.disks.now} {mid = c.sync.new.self} {new = c.write_at.new.self} first second
+
+pub returns-clause-all_calls : goal.returns-clause-all_calls
+returns-clause-all_calls c =
+    all_where (Sync ∷ []) (Write 8 (1 ∷ []) ∷ []) (disk_of c.args.disks.now c.args.place).calls (disk_of c.sync.new.self c.args.place).calls (disk_of c.write_at.new.self c.args.place).calls c.write_at.result c.in_ok-sync.ensures.call.calls.ok c.write_at.ensures.call.calls.ok

@@ -1,10 +1,13 @@
-use Rattle.std.proofs.Common.{◌≡◌, ◌≢◌, ℕ, List, OnOk, IsTrue, sym, ◌∙◌, ap, subst}
-use Rattle.mdcc_disks.specs.Disks.{Disk}
+use Rattle.std.proofs.Common.{◌+◌, ◌≡◌, ◌≢◌, ℕ, List, OnOk, IsTrue, sym, ◌∙◌, ap, subst}
+use Rattle.std.proofs.Common.{Option}
+use Rattle.mdcc_disks.specs.Disks.{Disk, DiskCall}
+use Rattle.mdcc_log.specs.Frames.{with_calls}
+use Rattle.mdcc_areas.specs.Area.{payloads_of}
 use Rattle.mdcc_disks.specs.Memory.{at_place, disk_of, left_since_of, may_leave_of, moment_of, only_now_of, standing}
 use Rattle.mdcc_areas.specs.Both.{IsOnlyRead, KeepsBut, RoseAtOne}
 use Rattle.mdcc_areas.specs.Crash.{IsCurrent, ReadsAsEither, payloads_by}
 use Rattle.mdcc_areas.specs.Frames.{OpenAreas, IsInUse, IsSpare, appended, place_of, other_of}
-use Rattle.mdcc_areas.specs.Stopping.{IsStoppedCopy}
+use Rattle.mdcc_areas.specs.Stopping.{IsStoppedCopy, stopped_calls}
 use Rattle.mdcc_areas.proofs.Dues.{apart_areas, append_reads, due_reads}
 use Rattle.mdcc_log.proofs.Moments.{weakened}
 use Rattle.mdcc_areas.proofs.Joined.{but_joined, but_one, fault_later}
@@ -90,3 +93,17 @@ checkpoint_until-requires-clause-spare c told =
     let spare = c.requires.spare (sym (ap (λ (d : Disk). d.told) same) ∙ told_mid) in
     subst (λ (q : ℕ). IsSpare c.append.new.self (disk_of c.append.new.disks q).bytes (may_leave_of c.append.new.disks q)) (sym there)
     (still_spare c.args.self.now c.append.new.self _ _ _ _ spare (ap (λ (f : OpenAreas). f.generation) keeps) (ap (λ (f : OpenAreas). f.spare) keeps) (ap (λ (d : Disk). d.bytes) same) (c.append.ensures.others.crash other apart))
+
+pub returns-clause-all_calls : goal.returns-clause-all_calls
+returns-clause-all_calls c log told uses =
+    let keeps = c.in_ok-append.ensures.keeps in
+    let here : place_of c.append.new.self.centre c.append.new.self.area ≡ (place_of c.args.self.now.centre c.args.self.now.area) = ap (λ (f : OpenAreas). place_of f.centre f.area) keeps in
+    let used = subst (λ (q : ℕ). IsInUse c.append.new.self (appended log c.args.payload.now) (disk_of c.append.new.disks q).bytes (may_leave_of c.append.new.disks q)) (sym here) (c.in_ok-append.ensures.acknowledged log told uses) in
+    let told_here : IsTrue (disk_of c.append.new.disks (place_of c.append.new.self.centre c.append.new.self.area)).told = subst (λ (q : ℕ). IsTrue (disk_of c.append.new.disks q).told) (sym here) (c.append.ensures.others.told ∙ told) in
+    let other = place_of c.args.self.now.centre (other_of c.args.self.now.area) in
+    let apart : other ≢ place_of c.args.self.now.centre c.args.self.now.area = λ same. apart_areas c.args.self.now.centre c.args.self.now.area (sym same) in
+    let all = payloads_of (appended log c.args.payload.now) in
+    let made = c.checkpoint_until.ensures.all_calls (appended log c.args.payload.now) told_here used in
+    subst (λ (o : Option (List DiskCall)). OnOk c.checkpoint_until.result ((disk_of c.checkpoint_until.new.disks other).calls ≡ with_calls (stopped_calls c.args.call c.args.self.now.spare (c.args.self.now.generation + 1) all) o))
+    (ap (λ (d : Disk). d.calls) (c.append.ensures.others.others other apart))
+    (subst (λ (f : OpenAreas). OnOk c.checkpoint_until.result ((disk_of c.checkpoint_until.new.disks (place_of f.centre (other_of f.area))).calls ≡ with_calls (stopped_calls c.args.call f.spare (f.generation + 1) all) (disk_of c.append.new.disks (place_of f.centre (other_of f.area))).calls)) keeps made)

@@ -9,7 +9,9 @@ use Rattle.mdcc_areas.specs.Both.{IsOnlyRead}
 use Rattle.mdcc_areas.specs.Checkpoint.{head_size}
 use Rattle.mdcc_areas.specs.Crash.{IsDead, IsIdle, IsOlder}
 use Rattle.mdcc_areas.specs.Frames.{OpenAreas, IsInUse, place_of, other_of, spare_of}
-use Rattle.mdcc_areas.specs.Stopping.{opening_copy}
+use Rattle.mdcc_log.specs.Frames.{with_calls}
+use Rattle.mdcc_areas.specs.declared.area.Spare.{Spare}
+use Rattle.mdcc_areas.specs.Stopping.{opening_copy, stopped_calls}
 use Rattle.mdcc_areas.specs.Tails.{IsPassedOver}
 use Rattle.mdcc_areas.proofs.Joined.{nothing_read}
 use Rattle.mdcc_areas.proofs.Stopped.{begun_left, stopped_copy}
@@ -93,3 +95,16 @@ returns-clause-reads c =
 
 pub returns-then-self-clause-reads : goal.returns-then-self-clause-reads
 returns-then-self-clause-reads c = nothing_read disk_of may_leave_of moment_of left_since_of only_now_of c.args.disks.now (place_of c.args.self.now.centre c.args.self.now.area)
+
+pub returns-clause-all_calls : goal.returns-clause-all_calls
+returns-clause-all_calls c log told uses =
+    let at : c.place_of-place.result ≡ place_of c.args.self.now.centre c.args.self.now.area = c.place_of-place.ensures ∙ ap (λ (v : OpenAreas). place_of v.centre v.area) c.self.view_is in
+    let at_other : c.place_of-other.result ≡ place_of c.args.self.now.centre (other_of c.args.self.now.area) = c.place_of-other.ensures ∙ ap (λ (n : ℕ). place_of c.self.inside.centre n) c.other_of-area.ensures.value ∙ ap (λ (v : OpenAreas). place_of v.centre (other_of v.area)) c.self.view_is in
+    let generation : c.self.inside.generation ≡ c.args.self.now.generation = ap (λ (v : OpenAreas). v.generation) c.self.view_is in
+    let told_there = subst (λ (n : ℕ). IsTrue (disk_of c.args.disks.now n).told) (sym at) told in
+    let uses_there = subst (λ (n : ℕ). IsInUse c.args.self.now log (disk_of c.args.disks.now n).bytes (may_leave_of c.args.disks.now n)) (sym at) uses in
+    let here = place_of c.args.self.now.centre (other_of c.args.self.now.area) in
+    let made = c.copy_until.ensures.all_calls log told_there (stands_as _ uses_there (c.head_size-head.ensures ∙ ap (λ (v : OpenAreas). head_size v.generation) c.self.view_is) (ap (λ (v : OpenAreas). v.start) c.self.view_is) (ap (λ (v : OpenAreas). v.size - 1) c.self.view_is) (ap (λ (v : OpenAreas). v.count) c.self.view_is) (ap (λ (v : OpenAreas). v.tail) c.self.view_is) (ap (λ (v : OpenAreas). v.body) c.self.view_is)) in
+    subst (λ (x : Spare). OnOk c.copy_until.result ((disk_of c.copy_until.new.disks here).calls ≡ with_calls (stopped_calls c.args.call x (c.args.self.now.generation + 1) (payloads_of log)) (disk_of c.args.disks.now here).calls)) (ap (λ (v : OpenAreas). v.spare) c.self.view_is)
+    (subst (λ (n : ℕ). OnOk c.copy_until.result ((disk_of c.copy_until.new.disks here).calls ≡ with_calls (stopped_calls c.args.call c.self.inside.spare (n + 1) (payloads_of log)) (disk_of c.args.disks.now here).calls)) generation
+    (subst (λ (n : ℕ). OnOk c.copy_until.result ((disk_of c.copy_until.new.disks n).calls ≡ with_calls (stopped_calls c.args.call c.self.inside.spare (c.self.inside.generation + 1) (payloads_of log)) (disk_of c.args.disks.now n).calls)) at_other made))
