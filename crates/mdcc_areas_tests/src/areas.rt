@@ -110,6 +110,54 @@ fn each_keeps_all(alloc: Global) -> bool {
     true
 }
 
+// Opens the log so many times, and appends a payload each time, with a checkpoint behind it.
+fn append_some(alloc: Global, disks: &mut MemoryDisks, turns: u8) -> Result<(), LogFault> {
+    for turn in 0..turns {
+        let (mut log, _payloads) = Frames::open(alloc, disks, Centre::default(), 1)?;
+        log.append_due(disks, [turn].as_slice())?;
+    }
+    Ok(())
+}
+
+// Opens it once more, and appends a payload, where the checkpoint behind it stops in this call.
+fn stop(alloc: Global, disks: &mut MemoryDisks, turn: u8, call: u8) -> Result<(), LogFault> {
+    let (mut log, _payloads) = Frames::open(alloc, disks, Centre::default(), 1)?;
+    log.append_due_until(disks, [turn].as_slice(), call)
+}
+
+// Whether all payloads are read where the checkpoint behind the last stops in this call and then the disks crash, and whether
+// the copy counts, so that no frame is left, just where its area gate was written and is kept.
+fn stops_well(alloc: Global, turns: u8, call: u8, image: Image) -> bool {
+    let Ok(mut disks) = MemoryDisks::new(alloc, 17, &[]) else {
+        return false;
+    };
+    let appended = append_some(alloc, &mut disks, turns).is_ok();
+    if !appended || stop(alloc, &mut disks, turns, call).is_err() {
+        return false;
+    }
+    disks.crash(1, image);
+    disks.crash(17, image);
+    let Ok((log, payloads)) = Frames::open(alloc, &mut disks, Centre::default(), 1) else {
+        return false;
+    };
+    let counts = call >= 6 && image == Image::Kept;
+    are_first(payloads.as_slice(), usize::from(turns) + 1) && log.due() != counts
+}
+
+// Whether that is so for each call and each image, over an area that is empty, one of version 1, and one of version 2.
+fn each_stops_well(alloc: Global) -> bool {
+    for turns in 0..3 {
+        for call in 1..8 {
+            for image in IMAGES {
+                if !stops_well(alloc, turns, call, image) {
+                    return false;
+                }
+            }
+        }
+    }
+    true
+}
+
 #[test]
 fn a_checkpoint_writes_35_bytes(rt: HostRuntime) -> Result<(), Fail> {
     assert!(rt; writes_35_bytes(rt.alloc()));
@@ -125,5 +173,11 @@ fn a_log_of_version_1_opens(rt: HostRuntime) -> Result<(), Fail> {
 #[test]
 fn each_call_may_fail_and_crash(rt: HostRuntime) -> Result<(), Fail> {
     assert!(rt; each_keeps_all(rt.alloc()));
+    Ok(())
+}
+
+#[test]
+fn each_call_of_a_checkpoint_may_stop(rt: HostRuntime) -> Result<(), Fail> {
+    assert!(rt; each_stops_well(rt.alloc()));
     Ok(())
 }
