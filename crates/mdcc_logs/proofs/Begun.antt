@@ -1,5 +1,5 @@
 -- One centre more that is booted for the first time.
-use Rattle.std.proofs.Common.{◌≡◌, ◌≢◌, ◌+◌, ◌-◌, ◌≤◌, ◌<◌, ◌∷◌, ◌++◌, [], List, None, Option, ap, arith, get_or, inl, inr, length, nat_le, refl, subst, suc, sym, true, zero, ℕ, ◌∙◌}
+use Rattle.std.proofs.Common.{◌≡◌, ◌≢◌, ◌+◌, ◌-◌, ◌≤◌, ◌<◌, ◌∷◌, ◌++◌, [], List, None, Ok, Option, ap, arith, get_or, inl, inr, length, nat_le, refl, subst, suc, sym, true, zero, ℕ, ◌∙◌}
 use Rattle.std.proofs.lemmas.Bool.{and_from, le-leb}
 use Rattle.std.proofs.lemmas.Bool.Decides.{eqb_tells}
 use Rattle.std.proofs.lemmas.List.{get_or-append_right, get_or_append_left}
@@ -12,14 +12,15 @@ use Rattle.mdcc_disks.specs.History.{Event, replayed}
 use Rattle.mdcc_disks.specs.Memory.{AllMemory, AreNew, IsNewMemory, Place, at_place, disk_of, left_since_of, may_leave_of, moment_of, is_there, no_place, standing}
 use Rattle.mdcc_logs.proofs.Nodes.{length-more}
 use Rattle.mdcc_logs.proofs.Standing.{AreSame, IsKept, IsSame, both-same, elsewhere, log-at-rest, log-stays, others-same}
-use Rattle.mdcc_logs.specs.Represents.{IsLogOf, checkpoint_every, log_at, no_log}
+use Rattle.mdcc_logs.proofs.Tails.{tail-open, tail-same}
+use Rattle.mdcc_logs.specs.Represents.{IsLogOf, log_at, no_log}
 use Rattle.mdcc_logs.specs.Starting.{AreBegun, first_facts}
+use Rattle.mdcc_logs.specs.Tails.{tail_at}
 use Rattle.mdcc_logs.specs.declared.logs.Logs.{Logs}
 use Rattle.mdcc_option.specs.declared.cluster.Cluster.{Cluster}
-use Rattle.mdcc_messages.specs.declared.facts.Fact.{Fact}
 use Rattle.mdcc_restart.specs.Logged.{AreLogged}
 use Rattle.mdcc_restart.specs.Restarting.{HasRoom, IsLogOf as IsReadAs}
-use Rattle.mdcc_messages.specs.Spelling.{encodings_of}
+use Rattle.mdcc_simulation.specs.Checkpoints.{checkpoint_every}
 
 -- ---- empty disks
 
@@ -38,6 +39,7 @@ none-there disks centres p counted some few = and_from (nat_le 1 p) (nat_le p di
 pub none-begun : (logs : Logs) (centres : ℕ) (script : List ℕ) → IsNewMemory (centres + 16) script logs.disks → logs.open.items ≡ [] → AreBegun logs centres 0
 none-begun logs centres script new none = record {
   stand = record { as_many = ap length none; each = λ a some few. absurd (omega (some, few, arith)) };
+  tails = λ a some few. absurd (omega (some, few, arith));
   there = λ a some few. none-there logs.disks centres a new.counted (omega (some, arith)) (omega (few, arith));
   there_other = λ a some few. none-there logs.disks centres (a + 16) new.counted (omega (some, arith)) (omega (few, arith));
   empty = λ a some few. let new_place = new-at logs.disks.places a new.new in new-empty (at_place logs.disks a) new_place.0 new_place.1;
@@ -63,10 +65,13 @@ module _ (logs : Logs) (d : AllMemory) (centres count a : ℕ) (begun : AreBegun
     read = ap (λ (bytes : List ℕ). payloads bytes (disk_of d (a + 16)).bytes) empty-here ∙ ap (λ (bytes : List ℕ). payloads [] bytes) empty-there;
   }
 
+  pub none-fresh : read_areas (disk_of d a).bytes (disk_of d (a + 16)).bytes ≡ Ok fresh
+  none-fresh = ap (λ (bytes : List ℕ). read_areas bytes (disk_of d (a + 16)).bytes) empty-here ∙ ap (λ (bytes : List ℕ). read_areas [] bytes) empty-there
+
   pub none-room : HasRoom checkpoint_every (disk_of d a) (disk_of d (a + 16))
   none-room = record {
     log = fresh;
-    read = ap (λ (bytes : List ℕ). read_areas bytes (disk_of d (a + 16)).bytes) empty-here ∙ ap (λ (bytes : List ℕ). read_areas [] bytes) empty-there;
+    read = none-fresh;
     roomy = record { generations = omega arith; frames = omega arith; records = inl refl };
     often = omega arith;
   }
@@ -75,8 +80,8 @@ module _ (logs : Logs) (d : AllMemory) (centres count a : ℕ) (begun : AreBegun
 
 pub next-begun : (old new : Logs) (d : AllMemory) (centres count a : ℕ) (log : OpenAreas) → AreBegun old centres count → a ≡ count + 1 → a ≤ centres → centres ≤ 9
     → ((p : ℕ) → IsSame old.disks d p) → KeepsBut disk_of may_leave_of moment_of left_since_of d new.disks a (a + 16) → new.open.items ≡ old.open.items ++ log ∷ []
-    → IsKept new.disks a log (first_facts a) → AreBegun new centres a
-next-begun old new d centres count a log begun next few most same keeps items kept =
+    → IsKept new.disks a log (first_facts a) → log.tail ≡ 1 → AreBegun new centres a
+next-begun old new d centres count a log begun next few most same keeps items kept one =
     let beside : (p : ℕ) → p ≢ a → p ≢ a + 16 → IsSame old.disks new.disks p = λ p first second. both-same old.disks d new.disks p (same p) (elsewhere d new.disks a (a + 16) p keeps first second) in
     let others : (b : ℕ) → b ≤ 9 → b ≢ a → AreSame old.disks new.disks b = others-same old.disks new.disks a (omega (few, most, arith)) beside in
     let before : length old.open.items ≡ a - 1 = begun.stand.as_many ∙ omega (next, arith) in
@@ -99,6 +104,10 @@ next-begun old new d centres count a log begun next few most same keeps items ke
               log-stays old new b true (first_facts b) log_there (others b was.range other.1) was
         ];
       };
+      tails = λ b some late. elim (eqb_tells b a) [
+        | inl is ↦ subst (λ (n : ℕ). tail_at new n ≡ 1) (sym is.1) (tail-open new a (first_facts a) (here.open refl) ∙ ap (λ (l : OpenAreas). l.tail) log_here ∙ one)
+        | inr other ↦ tail-same old new b (others b (omega (late, few, most, arith)) other.1) ∙ begun.tails b some (omega (other.1, late, next, arith))
+      ];
       there = λ b more late. (others b (omega (late, most, arith)) (λ is. absurd (omega (is, more, arith)))).first.there ∙ begun.there b (omega (next, more, arith)) late;
       there_other = λ b more late. (others b (omega (late, most, arith)) (λ is. absurd (omega (is, more, arith)))).second.there ∙ begun.there_other b (omega (next, more, arith)) late;
       empty = λ b more late. (others b (omega (late, most, arith)) (λ is. absurd (omega (is, more, arith)))).first.bytes ∙ begun.empty b (omega (next, more, arith)) late;

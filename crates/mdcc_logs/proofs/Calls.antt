@@ -1,9 +1,8 @@
 -- Logs that stand after an append and after a crash, and when a log is full.
-use Rattle.std.proofs.Common.{◌≡◌, ◌≢◌, ◌↔◌, ◌⊎◌, ◌+◌, ◌-◌, ◌<◌, ◌≤◌, ◌&&◌, ◌∷◌, ◌++◌, [], Bool, List, OnOk, OnErr, Result, Ok, Err, ap, arith, inl, inr, length, false, nat_le, nat_lt, refl, set, subst, sym, true, ℕ, ◌∙◌}
+use Rattle.std.proofs.Common.{◌≡◌, ◌≢◌, ◌↔◌, ◌+◌, ◌-◌, ◌<◌, ◌≤◌, ◌∷◌, ◌++◌, [], Bool, List, ap, arith, inl, inr, length, false, nat_lt, refl, set, subst, sym, true, ℕ, ◌∙◌}
 use Rattle.std.specs.Prelude.{IsTrue}
 use Rattle.std.proofs.lemmas.Bool.{false≢true}
 use Rattle.std.proofs.lemmas.Bool.Decides.{eqb_tells, nat_tests}
-use Rattle.mdcc_base.specs.declared.faults.Memory.{Memory}
 use Rattle.mdcc_base.specs.declared.outside.Image.{Image}
 use Rattle.mdcc_base.specs.declared.outside.Image.TheVariants.{Kept, Lost, Torn}
 use Rattle.mdcc_areas.proofs.Rooms.{full_by_length}
@@ -12,15 +11,16 @@ use Rattle.mdcc_areas.specs.AtRest.{IsAtRest}
 use Rattle.mdcc_areas.specs.Both.{KeepsBut}
 use Rattle.mdcc_areas.specs.Crash.{ReadsAsEither, payloads_by}
 use Rattle.mdcc_areas.specs.Frames.{IsSettled, IsSpare, OpenAreas, other_of, place_of}
-use Rattle.mdcc_areas.specs.Room.{HasGrown, IsFull, IsRoomy, IsRoomyLog}
+use Rattle.mdcc_areas.specs.Room.{HasGrown, IsFull, IsRoomyLog}
 use Rattle.mdcc_disks.specs.Contents.{Contents, IsImage, durable, image_of}
-use Rattle.mdcc_disks.specs.Disks.{Only}
-use Rattle.mdcc_disks.specs.Memory.{AllMemory, CrashLeaves, IsBut, KeepsPlaces, at_place, counts_now_of, crashed, disk_of, is_there, left_since_of, may_leave_of, moment_of, standing}
+use Rattle.mdcc_disks.specs.Memory.{AllMemory, CrashLeaves, IsBut, KeepsPlaces, at_place, counts_now_of, crashed, disk_of, left_since_of, may_leave_of, moment_of, standing}
 use Rattle.mdcc_log.specs.Log.{log_bytes, log_limit}
 use Rattle.mdcc_logs.proofs.Payloads.{log-more}
-use Rattle.mdcc_logs.proofs.Refusals.{leaves-here, one}
-use Rattle.mdcc_logs.proofs.Standing.{AreSame, IsDurableAt, IsKept, IsSame, both-areas, both-same, cond-here, cond-there, elsewhere, log-same, log-stays, log-there, logs-with, others-same, put, rests, same-areas, standing-same, there-same}
-use Rattle.mdcc_logs.specs.Represents.{IsLogOf, IsOpenAt, LogsRepresent, MayHave, checkpoint_every, log_at, with_fact_at, with_up}
+use Rattle.mdcc_logs.proofs.Refusals.{leaves-here}
+use Rattle.mdcc_logs.proofs.Standing.{IsDurableAt, IsSame, both-same, cond-here, cond-there, elsewhere, log-here, log-same, log-stays, log-there, logs-with, others-same, put, rests, same-areas, standing-same, there-same}
+use Rattle.mdcc_logs.specs.Represents.{IsLogOf, IsOpenAt, LogsRepresent, MayHave, log_at, with_fact_at, with_up}
+use Rattle.mdcc_logs.proofs.Tails.{due-next, has-tail, tail-grown, tail-open, tail-read}
+use Rattle.mdcc_logs.specs.Tails.{HasTail, tail_at}
 use Rattle.mdcc_logs.specs.declared.logs.Logs.{Logs}
 use Rattle.mdcc_messages.specs.Lengths.{fact_length, log_length}
 use Rattle.mdcc_messages.specs.Spelling.{fact_bytes, encodings_of}
@@ -30,6 +30,7 @@ use Rattle.mdcc_restart.proofs.Others.{but_areas}
 use Rattle.mdcc_restart.proofs.Places.{at_both, from_places}
 use Rattle.mdcc_restart.proofs.Roomy.{roomy_more, same_log}
 use Rattle.mdcc_restart.proofs.Struck.{rest_areas}
+use Rattle.mdcc_simulation.specs.Checkpoints.{checkpoint_every, is_due_after, tail_after}
 
 -- ---- a crash
 
@@ -77,15 +78,21 @@ is-down logs a down was facts is its = record {
   «open» = λ yes. absurd (false≢true (sym is ∙ yes));
 }
 
-pub crash-stays : CrashLeaves → (old new : Logs) (mid : AllMemory) (a centres : ℕ) (up : ℕ → Bool) (facts : ℕ → List Fact) → 1 ≤ a → a ≤ length old.open.items
-    → new.open.items ≡ old.open.items → KeepsPlaces a old.disks mid → IsBut (crashed Lost (at_place old.disks a)) (at_place mid a)
-    → KeepsPlaces (a + 16) mid new.disks → IsBut (crashed Lost (at_place mid (a + 16))) (at_place new.disks (a + 16))
-    → LogsRepresent old centres up facts → LogsRepresent new centres (with_up up a false) facts
-crash-stays leaves old new mid a centres up facts some few items keeps but keeps_other but_other stand =
+pub crash-same : CrashLeaves → (old : Logs) (mid new : AllMemory) (a centres : ℕ) (up : ℕ → Bool) (facts : ℕ → List Fact) → 1 ≤ a → a ≤ length old.open.items
+    → KeepsPlaces a old.disks mid → IsBut (crashed Lost (at_place old.disks a)) (at_place mid a)
+    → KeepsPlaces (a + 16) mid new → IsBut (crashed Lost (at_place mid (a + 16))) (at_place new (a + 16))
+    → LogsRepresent old centres up facts → (p : ℕ) → IsSame old.disks new p
+crash-same leaves old mid new a centres up facts some few keeps but keeps_other but_other stand p =
     let its = stand.each a some (omega (few, stand.as_many, arith)) in
     let first = one-crash leaves old.disks mid a keeps but its.durable in
-    let second = one-crash leaves mid new.disks (a + 16) keeps_other but_other (stays-durable old.disks mid (a + 16) (first (a + 16)) its.durable_other) in
-    let same : (p : ℕ) → IsSame old.disks new.disks p = λ p. both-same old.disks mid new.disks p (first p) (second p) in
+    let second = one-crash leaves mid new (a + 16) keeps_other but_other (stays-durable old.disks mid (a + 16) (first (a + 16)) its.durable_other) in
+    both-same old.disks mid new p (first p) (second p)
+
+pub crash-stays : (old new : Logs) (a centres : ℕ) (up : ℕ → Bool) (facts : ℕ → List Fact) → 1 ≤ a → a ≤ length old.open.items
+    → new.open.items ≡ old.open.items → ((p : ℕ) → IsSame old.disks new.disks p)
+    → LogsRepresent old centres up facts → LogsRepresent new centres (with_up up a false) facts
+crash-stays old new a centres up facts some few items same stand =
+    let its = stand.each a some (omega (few, stand.as_many, arith)) in
     let here = log-stays old new a (up a) (facts a) (log-same old new items a) (same-areas old.disks new.disks same a) its in
     logs-with old new a centres up (with_up up a false) facts facts stand (ap length items)
     (λ b first other. log-same old new items b) (λ b high other. same-areas old.disks new.disks same b) (λ b other. cond-there a b false (up b) other) (λ b other. refl)
@@ -129,8 +136,21 @@ module _ (old new : Logs) (a centres : ℕ) (up : ℕ → Bool) (facts : ℕ →
       let was = ap (λ (bytes : List ℕ). read_areas bytes (disk_of d (a + 16)).bytes) (same a).bytes ∙ ap (λ (bytes : List ℕ). read_areas (disk_of old.disks a).bytes bytes) (same (a + 16)).bytes ∙ its.read in
       subst IsRoomyLog (same_log its.log rest-there.log (sym was ∙ read)) its.roomy
 
-  often : 17 ≤ log.every
-  often = subst (λ (n : ℕ). 17 ≤ n) (sym (ap (λ (l : OpenAreas). l.every) is ∙ (its.open running).every)) (omega arith)
+  pub tail-there : tail_at old a ≡ length rest-there.log.tail
+  tail-there =
+      let read = (rest_areas disk_of may_leave_of d log a (encodings_of (facts a)) centre-is rest-there).log_is in
+      let was = ap (λ (bytes : List ℕ). read_areas bytes (disk_of old.disks (a + 16)).bytes) (sym (same a).bytes) ∙ ap (λ (bytes : List ℕ). read_areas (disk_of d a).bytes bytes) (sym (same (a + 16)).bytes) in
+      tail-read old a rest-there.log (was ∙ read)
+
+  pub every-is : log.every ≡ checkpoint_every
+  every-is = ap (λ (l : OpenAreas). l.every) is ∙ (its.open running).every
+
+  pub often : 17 ≤ log.every
+  often = subst (λ (n : ℕ). 17 ≤ n) (sym every-is) (omega arith)
+
+  -- whether a checkpoint is due next
+  pub due-there : (due : Bool) → (IsTrue due ↔ (log.every ≤ log.tail + 1)) → due ≡ is_due_after (tail_at old a)
+  due-there due tells = due-next due log.every log.tail every-is tells.0 tells.1 ∙ ap is_due_after (rest-there.in_use.tail ∙ sym tail-there)
 
   module _ (more : OpenAreas) (fact : Fact) (items : new.open.items ≡ set old.open.items (a - 1) more) (keeps : KeepsBut disk_of may_leave_of moment_of left_since_of d new.disks (place_of log.centre log.area) (place_of log.centre (other_of log.area))) where
     keeps-areas : KeepsBut disk_of may_leave_of moment_of left_since_of d new.disks a (a + 16)
@@ -142,7 +162,7 @@ module _ (old new : Logs) (a centres : ℕ) (up : ℕ → Bool) (facts : ℕ →
     pub appended : more.centre ≡ log.centre → more.every ≡ log.every → more.tail < more.every → HasGrown log more
         → IsAtRest disk_of may_leave_of new.disks more (encodings_of (facts a) ++ fact_bytes fact ∷ []) → LogsRepresent new centres up (with_fact_at facts a fact)
     appended centre every tail grown rest =
-        let every_is : more.every ≡ checkpoint_every = every ∙ ap (λ (l : OpenAreas). l.every) is ∙ (its.open running).every in
+        let every_is : more.every ≡ checkpoint_every = every ∙ every-is in
         put old new a more fact centres up up facts stand some few items (others-same old.disks new.disks a its.range beside) (λ b other. refl)
         (keeps-areas.told_one ∙ (same a).there ∙ its.there) (keeps-areas.told_two ∙ (same (a + 16)).there ∙ its.there_other)
         (record {
@@ -152,6 +172,15 @@ module _ (old new : Logs) (a centres : ℕ) (up : ℕ → Bool) (facts : ℕ →
           roomy = roomy_more log rest-there.log (disk_of d (place_of log.centre log.area)).bytes (may_leave_of d (place_of log.centre log.area)) rest-there.in_use more roomy-there often grown;
           at_rest = rest;
         })
+
+    pub tail-appended : more.every ≡ log.every → more.tail < more.every → HasGrown log more → LogsRepresent new centres up (with_fact_at facts a fact) → HasTail old new a (tail_after (tail_at old a))
+    tail-appended every tail grown stands =
+        let here = stands.each a some (omega (few, stand.as_many, arith)) in
+        has-tail old new a (tail_after (tail_at old a)) (others-same old.disks new.disks a its.range beside)
+        (tail-open new a (with_fact_at facts a fact a) (here.open running)
+        ∙ ap (λ (l : OpenAreas). l.tail) (log-here old new a more some few items)
+        ∙ tail-grown log more grown every-is every tail
+        ∙ ap tail_after (rest-there.in_use.tail ∙ sym tail-there))
 
     -- or what a crash leaves of it
     pub may-have : ((current other : List ℕ) → left_since_of new.disks (place_of log.centre log.area) (moment_of d) current → left_since_of new.disks (place_of log.centre (other_of log.area)) (moment_of d) other

@@ -1,5 +1,6 @@
 mod Begun
 mod Calls
+mod Copied
 mod Made
 mod Nodes
 mod Payloads
@@ -8,3 +9,4 @@ mod Stages
 mod Standing
 mod Starts
 mod Stops
+mod Tails

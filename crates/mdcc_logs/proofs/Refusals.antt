@@ -1,9 +1,9 @@
 -- What stands of the logs where a fact was perhaps not appended.
-use Rattle.std.proofs.Common.{◌≡◌, ◌≢◌, ◌+◌, ◌-◌, ◌≤◌, [], Bool, List, OnErr, Result, Ok, Err, ap, arith, inl, length, refl, set, subst, sym, true, ℕ, ◌∙◌}
+use Rattle.std.proofs.Common.{◌≡◌, ◌≢◌, ◌+◌, ◌≤◌, Bool, List, OnErr, Result, Ok, Err, ap, arith, inl, length, ℕ, ◌∙◌}
 use Rattle.mdcc_areas.specs.Area.{AreaLog, payloads, payloads_in, payloads_of, read_areas}
 use Rattle.mdcc_areas.specs.Crash.{ReadsAsEither}
-use Rattle.mdcc_disks.specs.Memory.{AllMemory, disk_of, is_there, may_leave_of}
-use Rattle.mdcc_logs.proofs.Standing.{AreSame, IsSame, log-same, log-stays, others-same, same-areas}
+use Rattle.mdcc_disks.specs.Memory.{disk_of, is_there, may_leave_of}
+use Rattle.mdcc_logs.proofs.Standing.{IsSame, log-same, log-stays, others-same}
 use Rattle.mdcc_logs.specs.Represents.{IsLogOf, LogsRepresent, MayHave, log_at}
 use Rattle.mdcc_logs.specs.declared.logs.Logs.{Logs}
 use Rattle.mdcc_messages.specs.Spelling.{fact_bytes, encodings_of}

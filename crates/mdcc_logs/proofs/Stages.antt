@@ -1,5 +1,5 @@
 -- What the device calls of an append leave of an area, one after another.
-use Rattle.std.proofs.Common.{◌≡◌, ◌≢◌, ◌+◌, ◌-◌, ◌≤◌, ◌<◌, ◌∷◌, ◌++◌, ◌⊎◌, [], Bool, List, Ok, ap, arith, cond, drop, false, inl, inr, length, refl, replicate, subst, suc, sym, true, zero, ℕ, ◌∙◌, append_assoc, length-append}
+use Rattle.std.proofs.Common.{◌≡◌, ◌≢◌, ◌+◌, ◌-◌, ◌≤◌, ◌<◌, ◌∷◌, ◌++◌, ◌⊎◌, [], Bool, List, ap, arith, cond, drop, false, inl, inr, length, refl, replicate, subst, suc, sym, true, zero, ℕ, ◌∙◌, append_assoc, length-append}
 use Rattle.std.proofs.lemmas.List.{drop_at, take_at}
 use Rattle.mdcc_base.specs.declared.outside.Image.{Image}
 use Rattle.mdcc_base.specs.declared.outside.Image.TheVariants.{Kept, Lost, Torn}
@@ -14,7 +14,7 @@ use Rattle.mdcc_areas.specs.Frames.{appended}
 use Rattle.mdcc_log.specs.Frames.{append_calls}
 use Rattle.mdcc_log.specs.Log.{frame_body}
 use Rattle.mdcc_logs.specs.Stopping.{stopped_at}
-use Rattle.mdcc_simulation.specs.AppliedSteps.{is_frame_kept}
+use Rattle.mdcc_simulation.specs.Checkpoints.{is_frame_kept}
 
 end-over : (old bytes : List ℕ) → overwritten (length old) bytes old ≡ old ++ bytes
 end-over old bytes = end_written old bytes (overwritten (length old) bytes old) refl

@@ -1,8 +1,8 @@
 -- Logs that stand after calls of the disks.
-use Rattle.std.proofs.Common.{◌≡◌, ◌≢◌, ◌⊎◌, inl, inr, ⊎_elim, ◌+◌, ◌-◌, ◌≤◌, ◌<◌, ◌==◌, ◌&&◌, ◌∷◌, Bool, List, Ok, Result, ap, arith, cond, get_or, length, nat_le, refl, set, subst, sym, true, ℕ, ◌∙◌}
+use Rattle.std.proofs.Common.{◌≡◌, ◌≢◌, ◌⊎◌, inl, inr, ◌+◌, ◌-◌, ◌≤◌, ◌<◌, ◌==◌, ◌&&◌, ◌∷◌, Bool, List, ap, arith, cond, get_or, length, nat_le, refl, set, subst, sym, true, ℕ, ◌∙◌}
 use Rattle.std.proofs.lemmas.Bool.Decides.{eqb_tells}
 use Rattle.std.proofs.lemmas.List.{get_or-set_other, get_or-set_same, get_or_read, length-set}
-use Rattle.mdcc_areas.specs.Area.{AreaLog, payloads_of, read_areas}
+use Rattle.mdcc_areas.specs.Area.{AreaLog, read_areas}
 use Rattle.mdcc_areas.specs.AtRest.{IsAtRest}
 use Rattle.mdcc_areas.specs.Both.{KeepsBut}
 use Rattle.mdcc_areas.specs.Crash.{IsDead, IsOlder}
@@ -10,14 +10,15 @@ use Rattle.mdcc_areas.specs.Frames.{IsInUse, IsSpare, OpenAreas, other_of, place
 use Rattle.mdcc_areas.specs.Room.{IsRoomy}
 use Rattle.mdcc_disks.specs.Contents.{Contents, IsImage}
 use Rattle.mdcc_disks.specs.Disks.{Only, Within}
-use Rattle.mdcc_disks.specs.Memory.{AllMemory, KeepsPlaces, at_place, disk_of, is_there, left_since_of, may_leave_of, moment_of, standing}
+use Rattle.mdcc_disks.specs.Memory.{AllMemory, at_place, disk_of, is_there, left_since_of, may_leave_of, moment_of, standing}
 use Rattle.mdcc_restart.proofs.Places.{at_both, from_both}
 use Rattle.mdcc_restart.proofs.Roomy.{roomy_read}
 use Rattle.mdcc_restart.proofs.Struck.{rest_areas}
-use Rattle.mdcc_logs.specs.Represents.{HoldSame, IsLogOf, LogsRepresent, checkpoint_every, log_at, no_log, with_fact_at}
+use Rattle.mdcc_logs.specs.Represents.{HoldSame, IsLogOf, LogsRepresent, log_at, no_log, with_fact_at}
 use Rattle.mdcc_logs.specs.declared.logs.Logs.{Logs}
 use Rattle.mdcc_messages.specs.declared.facts.Fact.{Fact}
 use Rattle.mdcc_messages.specs.Spelling.{encodings_of}
+use Rattle.mdcc_simulation.specs.Checkpoints.{checkpoint_every}
 
 -- ---- a disk that gives the same
 

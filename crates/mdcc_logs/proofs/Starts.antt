@@ -7,8 +7,9 @@ use Rattle.mdcc_admission.proofs.Alike.{counted_boots}
 use Rattle.mdcc_admission.specs.Loading.{Holds}
 use Rattle.mdcc_disks.specs.Contents.{tears_of}
 use Rattle.mdcc_areas.specs.AtRest.{IsAtRest}
-use Rattle.mdcc_areas.specs.Area.{payloads, read_areas}
+use Rattle.mdcc_areas.specs.Area.{AreaLog, payloads, read_areas}
 use Rattle.mdcc_areas.specs.Both.{KeepsBut}
+use Rattle.mdcc_areas.specs.Frames.{OpenAreas}
 use Rattle.mdcc_areas.specs.Crash.{ReadsAsEither}
 use Rattle.mdcc_areas.specs.declared.fault.LogFault.{LogFault}
 use Rattle.mdcc_disks.specs.Disks.{Only}
@@ -20,10 +21,12 @@ use Rattle.mdcc_restart.proofs.Roomy.{roomy_log}
 use Rattle.mdcc_restart.proofs.Struck.{rest_areas}
 use Rattle.mdcc_logs.proofs.Calls.{stays-durable}
 use Rattle.mdcc_logs.proofs.Refusals.{its-payloads, leaves-here, one}
-use Rattle.mdcc_logs.proofs.Standing.{IsKept, IsSame, both-same, cond-here, cond-there, elsewhere, log-same, logs-with, others-same, put}
+use Rattle.mdcc_logs.proofs.Standing.{IsSame, both-same, cond-here, cond-there, elsewhere, log-here, log-same, logs-with, others-same, put}
+use Rattle.mdcc_logs.proofs.Tails.{has-tail, tail-open, tail-read}
 use Rattle.mdcc_logs.specs.Nodes.{CentreStore, IsNodeOf, are_stored, needed_in, spare_of}
-use Rattle.mdcc_logs.specs.Represents.{IsLogOf, LogsRepresent, MayHave, checkpoint_every, log_at, with_up}
-use Rattle.mdcc_logs.specs.Starting.{HasStarted, OnNone, StartsOver, cells_of, cells_with_boot, lacking}
+use Rattle.mdcc_logs.specs.Represents.{IsLogOf, LogsRepresent, MayHave, log_at, with_up}
+use Rattle.mdcc_logs.specs.Starting.{HasStarted, OnNone, RunsWithTail, StartsOver, cells_of, cells_with_boot, lacking}
+use Rattle.mdcc_logs.specs.Tails.{HasTail, tail_at}
 use Rattle.mdcc_logs.specs.declared.logs.Logs.{Logs}
 use Rattle.mdcc_option.specs.declared.cluster.Cluster.{Cluster}
 use Rattle.mdcc_messages.specs.Lengths.{cells_needed, cells_used, log_length}
@@ -40,6 +43,7 @@ use Rattle.mdcc_rules.specs.declared.node.BootFault.{BootFault}
 use Rattle.mdcc_steps.proofs.Booting.{boot-reads}
 use Rattle.mdcc_steps.proofs.Each.{each-append}
 use Rattle.mdcc_steps.specs.NodeInvariant.{payloads_of}
+use Rattle.mdcc_simulation.specs.Checkpoints.{checkpoint_every, tail_after}
 
 -- ---- the cells of a centre
 
@@ -109,6 +113,18 @@ lacking-kept all me old new (RestartFault.Boot BootFault.Epochs) h = tt
 lacking-kept all me old new (RestartFault.Boot BootFault.Memory) h = tt
 lacking-kept all me old new RestartFault.Memory h = tt
 
+-- none runs
+pub lacking-tail : (fault : RestartFault) (tail : ℕ) → RunsWithTail (lacking fault) tail
+lacking-tail (RestartFault.Log LogFault.LogFull) tail = tt
+lacking-tail (RestartFault.Log LogFault.DiskFault) tail = tt
+lacking-tail (RestartFault.Log LogFault.Memory) tail = tt
+lacking-tail (RestartFault.Log (LogFault.NotALog n)) tail = tt
+lacking-tail (RestartFault.Boot (BootFault.Room needed total)) tail = tt
+lacking-tail (RestartFault.Boot (BootFault.NotARun n)) tail = tt
+lacking-tail (RestartFault.Boot BootFault.Epochs) tail = tt
+lacking-tail (RestartFault.Boot BootFault.Memory) tail = tt
+lacking-tail RestartFault.Memory tail = tt
+
 -- ---- a disk in memory tears no byte to 1
 
 pub no-gate-is-torn-open : tears_of 1 → ⊥
@@ -125,7 +141,7 @@ roomy-log facts short = le-ltb log_limit (log_length (next_boot facts ∷ facts)
 -- ---- the log of a centre is read
 
 module _ (logs : Logs) (d : AllMemory) (a : ℕ) (is_up : Bool) (facts : List Fact) (its : IsLogOf logs a is_up facts) (same : (p : ℕ) → IsSame logs.disks d p) where
-  read-same : read_areas (disk_of d a).bytes (disk_of d (a + 16)).bytes ≡ Ok its.log
+  pub read-same : read_areas (disk_of d a).bytes (disk_of d (a + 16)).bytes ≡ Ok its.log
   read-same = ap (λ (bytes : List ℕ). read_areas bytes (disk_of d (a + 16)).bytes) (same a).bytes ∙ ap (λ (bytes : List ℕ). read_areas (disk_of logs.disks a).bytes bytes) (same (a + 16)).bytes ∙ its.read
 
   pub reads : IsReadAs facts (disk_of d a) (disk_of d (a + 16))
@@ -183,7 +199,20 @@ module _ (old new : Logs) (a centres : ℕ) (up : ℕ → Bool) (facts : ℕ →
         room = subst (λ (fact : Fact). nat_lt log_limit (log_length (fact ∷ facts a)) ≡ false) next (roomy-log (facts a) runs.within);
       }
 
+  pub restarted-tail : (more : ℕ → List Fact) (log : OpenAreas) (was : AreaLog) → read_areas (disk_of old.disks a).bytes (disk_of old.disks (a + 16)).bytes ≡ Ok was → new.open.items ≡ set old.open.items (a - 1) log → LogsRepresent new centres (with_up up a true) more
+      → log.tail ≡ tail_after (length was.tail) → HasTail old new a (tail_after (tail_at old a))
+  restarted-tail more log was read items stands tail =
+      let here = stands.each a some (omega (few, stand.as_many, arith)) in
+      has-tail old new a (tail_after (tail_at old a)) (others-same old.disks new.disks a its.range beside)
+      (tail-open new a (more a) (here.open (cond-here a true (up a))) ∙ ap (λ (l : OpenAreas). l.tail) (log-here old new a log some few items) ∙ tail
+      ∙ ap tail_after (sym (tail-read old a was read)))
+
   -- ---- a start for which the log or the node has no room
+
+  pub none-tail : IsAsBefore (encodings_of (facts a)) a checkpoint_every disk_of may_leave_of d new.disks → HasTail old new a (tail_at old a)
+  none-tail was =
+      has-tail old new a (tail_at old a) (others-same old.disks new.disks a its.range beside)
+      (tail-read new a its.log (was.same its.log (read-same old d a (up a) (facts a) its same)) ∙ sym (tail-read old a its.log its.read))
 
   pub none-stays-as : (now : ℕ → Bool) → now a ≡ false → ((b : ℕ) → b ≢ a → now b ≡ up b) → new.open.items ≡ old.open.items
       → IsAsBefore (encodings_of (facts a)) a checkpoint_every disk_of may_leave_of d new.disks → LogsRepresent new centres now facts

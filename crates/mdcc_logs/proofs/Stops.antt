@@ -1,5 +1,5 @@
 -- What an append that stops makes of the logs.
-use Rattle.std.proofs.Common.{◌≡◌, ◌≢◌, ◌⊎◌, ⊎_elim, ◌+◌, ◌-◌, ◌*◌, ◌≤◌, ◌∷◌, ◌++◌, [], Bool, List, Ok, Result, ap, arith, cond, false, inl, inr, length, length-append, refl, subst, suc, sym, true, zero, ℕ, ◌∙◌}
+use Rattle.std.proofs.Common.{◌≡◌, ◌≢◌, ◌⊎◌, ⊎_elim, ◌+◌, ◌-◌, ◌≤◌, ◌∷◌, ◌++◌, [], Bool, List, Ok, ap, arith, cond, false, inl, inr, length, length-append, refl, subst, suc, sym, true, zero, ℕ, ◌∙◌}
 use Rattle.std.proofs.lemmas.Bool.{false≢true}
 use Rattle.mdcc_base.specs.declared.outside.Image.{Image}
 use Rattle.mdcc_areas.proofs.Choice.{Other, Seen, appended_payloads, between_is_read, front_is_read, front_seen}
@@ -15,22 +15,24 @@ use Rattle.mdcc_disks.specs.Memory.{AllMemory, at_place, disk_of, is_there, may_
 use Rattle.mdcc_log.proofs.LogRead.{short_more}
 use Rattle.mdcc_log.specs.Frames.{append_calls}
 use Rattle.mdcc_log.specs.Log.{payload_limit}
-use Rattle.mdcc_logs.proofs.Calls.{centre-is, crash-here, rest-there, roomy-there, stays-durable}
+use Rattle.mdcc_logs.proofs.Calls.{centre-is, crash-here, rest-there, roomy-there, stays-durable, tail-there}
 use Rattle.mdcc_logs.proofs.Made.{all-durable}
 use Rattle.mdcc_logs.proofs.Refusals.{leaves-here}
 use Rattle.mdcc_logs.proofs.Stages.{EndsShut, shut_end, stop-ends}
 use Rattle.mdcc_logs.proofs.Standing.{IsDurableAt, IsSame, both-same, cond-here, cond-there, log-same, logs-with, others-same, standing-same, there-same}
+use Rattle.mdcc_logs.proofs.Tails.{early-copy, has-tail, tail-read}
 use Rattle.mdcc_logs.specs.Represents.{IsLogOf, LogsRepresent, MayHave, log_at, with_fact_at, with_up}
 use Rattle.mdcc_logs.specs.Stopping.{HoldBut, IsStruck, stopped_at, stopped_facts}
+use Rattle.mdcc_logs.specs.Tails.{HasTail, tail_at}
 use Rattle.mdcc_logs.specs.declared.logs.Logs.{Logs}
 use Rattle.mdcc_messages.specs.Spelling.{fact_bytes, encodings_of}
 use Rattle.mdcc_messages.specs.declared.facts.Fact.{Fact}
-use Rattle.mdcc_restart.proofs.Places.{at_both, by_places, from_both, from_places}
+use Rattle.mdcc_restart.proofs.Places.{by_places, from_both, from_places}
 use Rattle.mdcc_restart.proofs.Struck.{IsRead, idle_loses, seen_first, seen_second}
-use Rattle.mdcc_simulation.specs.AppliedSteps.{is_frame_kept}
+use Rattle.mdcc_simulation.specs.Checkpoints.{is_frame_kept, tail_stopped}
 
 -- all is durable
-only-these : (contents : Contents) (bytes : List ℕ) → contents ≡ durable bytes → Only contents.kept (IsImage contents)
+pub only-these : (contents : Contents) (bytes : List ℕ) → contents ≡ durable bytes → Only contents.kept (IsImage contents)
 only-these contents bytes is = subst (λ (c : Contents). Only c.kept (IsImage c)) (sym is) (λ c left. elim left [ inl same ↦ same | inr more ↦ elim more [ inl same ↦ same | inr same ↦ same ] ])
 
 -- the area that the code names
@@ -77,6 +79,10 @@ stopped-roomy true log payload roomy =
       records = ⊎_elim (λ none. inl none) (λ some. inr (omega (some, count, tail, arith))) roomy.records;
     }
 stopped-roomy false log payload roomy = roomy
+
+stopped-tail : (kept : Bool) (log : AreaLog) (payload : List ℕ) → length (stopped-log kept log payload).tail ≡ cond kept (length log.tail + 1) (length log.tail)
+stopped-tail true log payload = length-append log.tail (payload ∷ [])
+stopped-tail false log payload = refl
 
 -- ---- a strike
 
@@ -246,3 +252,10 @@ module _ (old : Logs) (a centres : ℕ) (up : ℕ → Bool) (facts : ℕ → Lis
           (λ b apart. cond-there a b false (up b) apart)
           (λ b apart. stopped-others facts a fact kept b apart)
           (subst (λ (u : Bool). IsLogOf new a u (stopped_facts facts a fact call image a)) (sym (cond-here a false (up a))) here)
+
+      pub frame-tail : HasTail old new a (tail_stopped (tail_at old a) call image)
+      frame-tail =
+          has-tail old new a (tail_stopped (tail_at old a) call image) (others-same old.disks new.disks a its.range elsewhere-same)
+          (tail-read new a after taken.log_is ∙ stopped-tail kept rest.log payload
+          ∙ ap (λ (n : ℕ). cond kept (n + 1) n) (sym (tail-there old old a centres up facts stand running some few d log is same))
+          ∙ ap (λ (b : Bool). cond b 0 (cond kept (tail_at old a + 1) (tail_at old a))) (sym (early-copy call image last)))

@@ -2,3 +2,4 @@ pub mod Nodes
 pub mod Represents
 pub mod Starting
 pub mod Stopping
+pub mod Tails

@@ -1,5 +1,5 @@
 -- Which facts of its centres the logs have.
-use Rattle.std.specs.Prelude.{◌≡◌, ◌≢◌, ◌≤◌, ◌<◌, ◌+◌, ◌-◌, ◌==◌, ◌∷◌, Bool, List, Ok, Result, get_or, if◌then◌else◌, length, true, ℕ}
+use Rattle.std.specs.Prelude.{◌≡◌, ◌≢◌, ◌≤◌, ◌<◌, ◌+◌, ◌-◌, ◌==◌, ◌∷◌, Bool, List, Ok, get_or, if◌then◌else◌, length, true, ℕ}
 use Rattle.mdcc_areas.specs.Area.{AreaLog, payloads, payloads_of, read_areas}
 use Rattle.mdcc_areas.specs.AtRest.{IsAtRest}
 use Rattle.mdcc_areas.specs.Crash.{ReadsAsEither}
@@ -11,10 +11,7 @@ use Rattle.mdcc_disks.specs.Memory.{AllMemory, at_place, disk_of, is_there, may_
 use Rattle.mdcc_messages.specs.Spelling.{fact_bytes, encodings_of}
 use Rattle.mdcc_logs.specs.declared.logs.Logs.{Logs}
 use Rattle.mdcc_messages.specs.declared.facts.Fact.{Fact}
-
--- after so many frames a checkpoint is due
-abbrev pub checkpoint_every : ℕ
-checkpoint_every = 1024
+use Rattle.mdcc_simulation.specs.Checkpoints.{checkpoint_every}
 
 -- the log of no centre
 abbrev pub no_log : OpenAreas

@@ -6,7 +6,8 @@ use Rattle.mdcc_areas.specs.declared.fault.LogFault.{LogFault}
 use Rattle.mdcc_disks.specs.Memory.{AllMemory, disk_of, is_there, may_leave_of}
 use Rattle.mdcc_log.specs.Log.{log_limit}
 use Rattle.mdcc_logs.specs.Nodes.{CentreStore, IsNodeOf, are_stored, spare_of}
-use Rattle.mdcc_logs.specs.Represents.{LogsRepresent, checkpoint_every, with_fact_at}
+use Rattle.mdcc_logs.specs.Represents.{LogsRepresent, with_fact_at}
+use Rattle.mdcc_logs.specs.Tails.{tail_at}
 use Rattle.mdcc_logs.specs.declared.logs.Logs.{Logs}
 use Rattle.mdcc_logs.specs.declared.starting.Attempt.{Attempt}
 use Rattle.mdcc_logs.specs.declared.starting.Started.{Started}
@@ -20,6 +21,7 @@ use Rattle.mdcc_restart.specs.Restarting.{IsAsBefore, Runs, size_with_boot}
 use Rattle.mdcc_restart.specs.declared.fault.RestartFault.{RestartFault}
 use Rattle.mdcc_rules.specs.declared.node.BootFault.{BootFault}
 use Rattle.mdcc_rules.specs.Boot.{next_boot}
+use Rattle.mdcc_simulation.specs.Checkpoints.{checkpoint_every, tail_after}
 
 -- ---- over the disk of a centre
 
@@ -50,6 +52,11 @@ OnNone (Ok (Attempt.Runs centre)) all me old new = ⊤
 OnNone (Ok _) all me old new = IsAsBefore all me checkpoint_every disk_of may_leave_of old new
 OnNone (Err fault) all me old new = ⊤
 
+-- the tail of the log of a centre that runs has the frame of its boot more, or none where a checkpoint was due with it
+abbrev pub RunsWithTail : Result Attempt Memory → ℕ → Type 0
+RunsWithTail (Ok (Attempt.Runs centre)) tail = centre.log.tail ≡ tail_after tail
+RunsWithTail _ tail = ⊤
+
 -- ---- among the centres
 
 -- The node of a centre has its facts and the boot of the next epoch, and so has its log, which lies within the limit; then these centres are up.
@@ -79,9 +86,11 @@ OnLack (Err fault) P = ⊤
 abbrev pub first_facts : ℕ → List Fact
 first_facts a = Fact.Booted 1 ∷ []
 
--- So many of the centres have booted for the first time, and the areas of the others are empty.
+-- So many of the centres have booted for the first time, so that the tails of their logs have one frame, and the areas of the others
+-- are empty.
 pub record AreBegun (logs : Logs) (centres count : ℕ) : Type 0 where
   pub stand : LogsRepresent logs count (λ a. true) first_facts
+  pub tails : (a : ℕ) → 1 ≤ a → a ≤ count → tail_at logs a ≡ 1
   pub there : (a : ℕ) → count < a → a ≤ centres → is_there logs.disks a ≡ true
   pub there_other : (a : ℕ) → count < a → a ≤ centres → is_there logs.disks (a + 16) ≡ true
   pub empty : (a : ℕ) → count < a → a ≤ centres → (disk_of logs.disks a).bytes ≡ []

@@ -8,7 +8,7 @@ use Rattle.mdcc_log.specs.Frames.{append_calls}
 use Rattle.mdcc_logs.specs.Represents.{with_fact_at}
 use Rattle.mdcc_messages.specs.Spelling.{fact_bytes}
 use Rattle.mdcc_messages.specs.declared.facts.Fact.{Fact}
-use Rattle.mdcc_simulation.specs.AppliedSteps.{is_frame_kept}
+use Rattle.mdcc_simulation.specs.Checkpoints.{is_frame_kept}
 
 -- the facts after it
 abbrev pub stopped_facts : (ℕ → List Fact) → ℕ → Fact → ℕ → Image → ℕ → List Fact

@@ -1,8 +1,9 @@
 //! The first boot of all centres.
-ghost use Rattle.std.specs.Prelude.{◌≡◌, ◌≤◌, ◌-◌, ◌∷◌, [], IfOk, OnOk, length, true};
+ghost use Rattle.std.specs.Prelude.{◌≡◌, ◌≤◌, ◌-◌, ◌∷◌, [], IfOk, OnOk, length, true, ℕ};
 ghost use Rattle.mdcc_logs.specs.Nodes.{AreStarted, IsNodeOf};
 ghost use Rattle.mdcc_logs.specs.Represents.{LogsRepresent};
 ghost use Rattle.mdcc_logs.specs.Starting.{AreBegun, first_facts};
+ghost use Rattle.mdcc_logs.specs.Tails.{tail_at};
 ghost use Rattle.mdcc_protocol.specs.Belongs.{is_centre};
 ghost use Rattle.mdcc_protocol.specs.IsCluster.{IsCluster};
 ghost use Rattle.mdcc_protocol.specs.Volatile.{initial_volatile};
@@ -57,6 +58,7 @@ pub fn boot_all(alloc: Global, cluster: &Cluster) -> Result<(Vec<Node<CentreFact
     requires { IsCluster cluster.now }
     ensures nodes { IfOk result (λ r. AreStarted r.0.items cluster.now cluster.now.quorums.centres) }
     ensures logs { IfOk result (λ r. LogsRepresent r.1 cluster.now.quorums.centres (λ a. true) first_facts) }
+    ensures tails { IfOk result (λ r. (a : ℕ) → 1 ≤ a → a ≤ cluster.now.quorums.centres → tail_at r.1 a ≡ 1) }
 {
     let mut logs = none_begun(alloc, cluster)?;
     let mut nodes = Vec::new(alloc);

@@ -2,6 +2,7 @@
 #![tactic(auto)]
 
 pub mod booting;
+mod copying;
 pub mod logs;
 mod rooms;
 pub mod starting;

@@ -16,8 +16,10 @@ ghost use Rattle.mdcc_messages.specs.Lengths.{cells_used, fact_length, log_lengt
 ghost use Rattle.mdcc_messages.specs.Spelling.{fact_bytes};
 ghost use Rattle.mdcc_messages.specs.WellFormed.{IsWellFormedFact};
 ghost use Rattle.mdcc_messages.specs.declared.facts.Fact.{Fact as AFact};
+ghost use Rattle.mdcc_logs.specs.Tails.{HasTail, StartsWithTail, tail_at};
 ghost use Rattle.mdcc_restart.specs.Logged.{AreLogged};
 ghost use Rattle.mdcc_rules.specs.Boot.{next_boot};
+ghost use Rattle.mdcc_simulation.specs.Checkpoints.{is_due_after, tail_after};
 
 use crate::rooms::{reserve_append, reserve_start};
 use crate::starting::{Attempt, Started, start};
@@ -93,6 +95,15 @@ impl Logs {
         self.open[usize::from(centre.number()) - 1].is_full(fact_length(fact) as u64)
     }
 
+    /// Whether a checkpoint is due right after the next append to the log of a centre.
+    pub fn is_due_next(&self, centre: Centre) -> bool
+        requires within { centre ≤ length self.now.open.items }
+        ensures { (centres : ℕ) (up : ℕ → Bool) (facts : ℕ → List AFact) → LogsRepresent self.now centres up facts → up centre ≡ true
+            → result ≡ is_due_after (tail_at self.now centre) }
+    {
+        self.open[usize::from(centre.number()) - 1].is_due_next()
+    }
+
     /// Makes a fact durable at the end of a centre's log, and then the checkpoint that is due. The log is asked first whether it is full: a
     /// full one is refused as well. After a refusal the log of the centre has the fact or not, and has to be opened again.
     pub fn append(&mut self, alloc: Global, centre: Centre, fact: &Fact) -> Result<(), Memory>
@@ -103,6 +114,8 @@ impl Logs {
         ensures as_many { length self.new.open.items ≡ length self.old.open.items }
         ensures appended { (centres : ℕ) (up : ℕ → Bool) (facts : ℕ → List AFact) → LogsRepresent self.old centres up facts → up centre ≡ true
             → OnOk result (LogsRepresent self.new centres up (with_fact_at facts centre fact.now)) }
+        ensures tail { (centres : ℕ) (up : ℕ → Bool) (facts : ℕ → List AFact) → LogsRepresent self.old centres up facts → up centre ≡ true
+            → OnOk result (HasTail self.old self.new centre (tail_after (tail_at self.old centre))) }
         ensures refused { (centres : ℕ) (up : ℕ → Bool) (facts : ℕ → List AFact) → LogsRepresent self.old centres up facts → up centre ≡ true
             → OnErr result (MayHave self.new centres up centre facts fact.now) }
     {
@@ -121,6 +134,8 @@ impl Logs {
         ensures crashed_other { IsBut (crashed Image.Lost (at_place self.old.disks (centre + 16))) (at_place self.new.disks (centre + 16)) }
         ensures kept { (centres : ℕ) (up : ℕ → Bool) (facts : ℕ → List AFact) → LogsRepresent self.old centres up facts → up centre ≡ true
             → LogsRepresent self.new centres (with_up up centre false) facts }
+        ensures tail { (centres : ℕ) (up : ℕ → Bool) (facts : ℕ → List AFact) → LogsRepresent self.old centres up facts → up centre ≡ true
+            → HasTail self.old self.new centre (tail_at self.old centre) }
     {
         crash_leaves_the_image();
         let place = centre.number();
@@ -143,6 +158,9 @@ impl Logs {
         ensures started { (centres : ℕ) (up : ℕ → Bool) (facts : ℕ → List AFact) → LogsRepresent self.old centres up facts
             → AreLogged cluster.now (facts centre) → cells_used (facts centre) ≤ cluster.now.cells → epoch_of (facts centre) < 2 ^ 32 - 1
             → Starts result self.new cluster.now centres (with_up up centre true) centre facts }
+        ensures tail { (centres : ℕ) (up : ℕ → Bool) (facts : ℕ → List AFact) → LogsRepresent self.old centres up facts
+            → AreLogged cluster.now (facts centre) → cells_used (facts centre) ≤ cluster.now.cells → epoch_of (facts centre) < 2 ^ 32 - 1
+            → StartsWithTail result self.old self.new centre }
         ensures lack { (centres : ℕ) (up : ℕ → Bool) (facts : ℕ → List AFact) → LogsRepresent self.old centres up facts → up centre ≡ false
             → OnLack result (LogsRepresent self.new centres up facts) }
         ensures lack_down { (centres : ℕ) (up : ℕ → Bool) (facts : ℕ → List AFact) → LogsRepresent self.old centres up facts

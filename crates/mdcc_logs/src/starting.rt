@@ -1,12 +1,11 @@
 //! The start of one centre.
-ghost use Rattle.std.specs.Prelude.{◌≡◌, ◌<◌, ◌≤◌, ◌-◌, ◌+◌, ◌^◌, IsTrue, List, Ok, true, ℕ};
-ghost use Rattle.mdcc_areas.specs.Area.{payloads};
+ghost use Rattle.std.specs.Prelude.{◌≡◌, ◌<◌, ◌≤◌, ◌-◌, ◌+◌, ◌^◌, IsTrue, List, Ok, length, true, ℕ};
+ghost use Rattle.mdcc_areas.specs.Area.{AreaLog, payloads, read_areas};
 ghost use Rattle.mdcc_areas.specs.Both.{KeepsBut};
 ghost use Rattle.mdcc_areas.specs.Crash.{ReadsAsEither};
 ghost use Rattle.mdcc_disks.specs.Disks.{Only};
 ghost use Rattle.mdcc_disks.specs.Memory.{disk_of, may_leave_of, moment_of, left_since_of};
-ghost use Rattle.mdcc_logs.specs.Represents.{checkpoint_every};
-ghost use Rattle.mdcc_logs.specs.Starting.{OnNone, StartsOver, lacking};
+ghost use Rattle.mdcc_logs.specs.Starting.{OnNone, RunsWithTail, StartsOver, lacking};
 ghost use Rattle.mdcc_protocol.specs.Belongs.{is_centre};
 ghost use Rattle.mdcc_protocol.specs.Facts.{epoch_of};
 ghost use Rattle.mdcc_messages.specs.Lengths.{cells_used};
@@ -15,6 +14,7 @@ ghost use Rattle.mdcc_messages.specs.declared.facts.Fact.{Fact as AFact};
 ghost use Rattle.mdcc_restart.specs.Logged.{AreLogged};
 ghost use Rattle.mdcc_restart.specs.Restarting.{HasRoom, IsLogOf};
 ghost use Rattle.mdcc_rules.specs.Boot.{next_boot};
+ghost use Rattle.mdcc_simulation.specs.Checkpoints.{checkpoint_every};
 
 use mdcc_areas::LogFault;
 use mdcc_base::{Centre, Memory, Plain};
@@ -76,6 +76,8 @@ pub(crate) fn start(
         → IsLogOf facts (disk_of disks.old centre) (disk_of disks.old (centre + 16))
         → HasRoom checkpoint_every (disk_of disks.old centre) (disk_of disks.old (centre + 16)) → epoch_of facts < 2 ^ 32 - 1
         → StartsOver result cluster.now centre facts disks.old disks.new }
+    ensures tail { (area_log : AreaLog) → IsTrue (disk_of disks.old centre).told → IsTrue (disk_of disks.old (centre + 16)).told
+        → read_areas (disk_of disks.old centre).bytes (disk_of disks.old (centre + 16)).bytes ≡ Ok area_log → RunsWithTail result (length area_log.tail) }
     ensures none { (all : List (List ℕ)) → IsTrue (disk_of disks.old centre).told → IsTrue (disk_of disks.old (centre + 16)).told
         → payloads (disk_of disks.old centre).bytes (disk_of disks.old (centre + 16)).bytes ≡ Ok all → OnNone result all centre disks.old disks.new }
     ensures any_moment { (facts : List AFact) (first second : List ℕ) → AreLogged cluster.now facts

@@ -1,4 +1,4 @@
-//! Appends that stop inside a device call.
+//! Appends that stop inside a device call of their own, or of the checkpoint behind them.
 ghost use Rattle.std.specs.Prelude.{◌≡◌, ◌≢◌, ◌≤◌, ◌-◌, ◌∷◌, ◌++◌, ◌⊎◌, [], Bool, IfOk, IsTrue, List, OnErr, OnOk, false, length, true, ℕ};
 ghost use Rattle.mdcc_areas.specs.Append.{MayAppend};
 ghost use Rattle.mdcc_areas.specs.Frames.{other_of, place_of};
@@ -10,9 +10,11 @@ ghost use Rattle.mdcc_log.specs.Frames.{append_calls};
 ghost use Rattle.mdcc_log.specs.Log.{frame_body};
 ghost use Rattle.mdcc_logs.specs.Represents.{IsOpenAt, LogsRepresent, MayHave, log_at, with_up};
 ghost use Rattle.mdcc_logs.specs.Stopping.{HoldBut, IsStruck, stopped_at, stopped_facts};
+ghost use Rattle.mdcc_logs.specs.Tails.{HasTail, tail_at};
 ghost use Rattle.mdcc_messages.specs.Lengths.{fact_length};
 ghost use Rattle.mdcc_messages.specs.WellFormed.{IsWellFormedFact};
 ghost use Rattle.mdcc_messages.specs.declared.facts.Fact.{Fact as AFact};
+ghost use Rattle.mdcc_simulation.specs.Checkpoints.{is_due_after, tail_stopped};
 
 use crate::Logs;
 use crate::rooms::reserve_append;
@@ -111,11 +113,8 @@ fn strike(
 }
 
 impl Logs {
-    /// A centre stops inside a device call, 1 to 4, of the append of a fact, and its disks are left with this image of what was
-    /// written since the last sync. The fact counts where its gate was written, in call 3 or 4, and the image is kept; else what
-    /// was written stands behind the last gate of the area in use, and a start cuts it off. The log is asked first whether it is full, as
-    /// before an append. After a refusal, for want of memory, the log of the centre has the fact or not, and has to be opened again.
-    pub fn stop_append(
+    // A centre stops inside one of the four calls of the append of a fact.
+    fn stop_frame(
         &mut self,
         alloc: Global,
         centre: Centre,
@@ -138,6 +137,8 @@ impl Logs {
         ensures struck_other { let place = place_of centre (other_of (log_at self.old centre).area) in
             (centres : ℕ) (up : ℕ → Bool) (facts : ℕ → List AFact) → LogsRepresent self.old centres up facts → up centre ≡ true
             → OnOk result ((disk_of self.new.disks place).bytes ≡ (disk_of self.old.disks place).bytes) }
+        ensures tail { (centres : ℕ) (up : ℕ → Bool) (facts : ℕ → List AFact) → LogsRepresent self.old centres up facts → up centre ≡ true
+            → OnOk result (HasTail self.old self.new centre (tail_stopped (tail_at self.old centre) call image)) }
         ensures refused { (centres : ℕ) (up : ℕ → Bool) (facts : ℕ → List AFact) → LogsRepresent self.old centres up facts → up centre ≡ true
             → OnErr result (MayHave self.new centres up centre facts fact.now) }
     {
@@ -164,5 +165,46 @@ impl Logs {
             Ok(()) => Ok(()),
             Err(_) => Err(Memory),
         }
+    }
+
+    /// A centre stops inside a device call: of the append of a fact, 1 to 4, or of the checkpoint that is due right after it, 5 to 11.
+    /// Its disks are left with this image of what was written since the last sync. In an append the fact counts where its gate was
+    /// written, in call 3 or 4, and the image is kept; else what was written stands behind the last gate of the area in use, and a
+    /// start cuts it off. In a checkpoint the fact counts, since its frame is durable, and the checkpoint counts as made where the gate
+    /// of the copy was written, in call 10 or 11, and the image is kept. The log is asked first whether it is full, as before an append.
+    /// After a refusal, for want of memory, the log of the centre has the fact or not, and has to be opened again.
+    pub fn stop_append(
+        &mut self,
+        alloc: Global,
+        centre: Centre,
+        fact: &Fact,
+        call: u8,
+        image: Image,
+    ) -> Result<(), Memory>
+        requires within { centre ≤ length self.old.open.items }
+        requires formed { IsWellFormedFact fact.now }
+        requires short { fact_length fact.now ≤ 2097152 }
+        requires stand { IsOpenAt self.old centre }
+        requires first { 1 ≤ call }
+        requires last { call ≤ 11 }
+        requires due { 5 ≤ call → is_due_after (tail_at self.old centre) ≡ true }
+        ensures as_many { length self.new.open.items ≡ length self.old.open.items }
+        ensures stopped { (centres : ℕ) (up : ℕ → Bool) (facts : ℕ → List AFact) → LogsRepresent self.old centres up facts → up centre ≡ true
+            → OnOk result (LogsRepresent self.new centres (with_up up centre false) (stopped_facts facts centre fact.now call image)) }
+        ensures struck { let place = place_of centre (log_at self.old centre).area in
+            (centres : ℕ) (up : ℕ → Bool) (facts : ℕ → List AFact) → LogsRepresent self.old centres up facts → up centre ≡ true → call ≤ 4
+            → OnOk result (IsStruck fact.now call image (disk_of self.old.disks place).bytes (disk_of self.new.disks place).bytes) }
+        ensures struck_other { let place = place_of centre (other_of (log_at self.old centre).area) in
+            (centres : ℕ) (up : ℕ → Bool) (facts : ℕ → List AFact) → LogsRepresent self.old centres up facts → up centre ≡ true → call ≤ 4
+            → OnOk result ((disk_of self.new.disks place).bytes ≡ (disk_of self.old.disks place).bytes) }
+        ensures tail { (centres : ℕ) (up : ℕ → Bool) (facts : ℕ → List AFact) → LogsRepresent self.old centres up facts → up centre ≡ true
+            → OnOk result (HasTail self.old self.new centre (tail_stopped (tail_at self.old centre) call image)) }
+        ensures refused { (centres : ℕ) (up : ℕ → Bool) (facts : ℕ → List AFact) → LogsRepresent self.old centres up facts → up centre ≡ true
+            → OnErr result (MayHave self.new centres up centre facts fact.now) }
+    {
+        if call > 4 {
+            return self.stop_copy(alloc, centre, fact, call, image);
+        }
+        self.stop_frame(alloc, centre, fact, call, image)
     }
 }

@@ -1,15 +1,16 @@
 use Rattle.std.proofs.Common.{◌≡◌, ◌+◌, ◌-◌, ◌≤◌, [], Ok, arith, subst}
 use Rattle.std.specs.Prelude.{nat_le}
 use Rattle.std.proofs.lemmas.Bool.{and_parts, leb-true}
+use Rattle.mdcc_areas.specs.Area.{fresh}
 use Rattle.mdcc_disks.specs.Memory.{disk_of, may_leave_of}
-use Rattle.mdcc_logs.proofs.Begun.{next-begun, none-logged, none-read, none-room}
+use Rattle.mdcc_logs.proofs.Begun.{next-begun, none-fresh, none-logged, none-read, none-room}
 use Rattle.mdcc_logs.proofs.Standing.{held-same}
 use Rattle.mdcc_logs.proofs.booting.boot.Goals as goal
 use Rattle.mdcc_logs.specs.Nodes.{are_stored, spare_of}
-use Rattle.mdcc_logs.specs.Represents.{checkpoint_every}
-use Rattle.mdcc_logs.specs.Starting.{StartsOver, cells_of}
+use Rattle.mdcc_logs.specs.Starting.{RunsWithTail, StartsOver, cells_of}
 use Rattle.mdcc_logs.specs.declared.starting.Attempt.{Attempt}
 use Rattle.mdcc_restart.specs.Restarting.{Runs}
+use Rattle.mdcc_simulation.specs.Checkpoints.{checkpoint_every}
 
 -- the centre runs, with no facts but its boot
 runs : (c : goal.In_ok-push-in-Runs) → Runs are_stored spare_of (cells_of c.args.cluster.now) c.in-Runs.started c.args.cluster.now c.args.centre checkpoint_every [] disk_of may_leave_of c.reserve_first.new.disks c.start.new.disks
@@ -38,6 +39,9 @@ returns-in_ok-push-in-Runs-clause-begun c =
     let few : a ≤ centres = leb-true a centres (and_parts (nat_le 1 a) (nat_le a centres) c.requires.among).1 in
     let same = held-same c.args.logs.now.disks c.reserve_first.new.disks c.reserve_first.ensures in
     let room = none-room c.args.logs.now c.reserve_first.new.disks centres (a - 1) a c.requires.begun (omega (some, arith)) few same in
+    let read = none-read c.args.logs.now c.reserve_first.new.disks centres (a - 1) a c.requires.begun (omega (some, arith)) few same in
+    let tail = subst (λ (s : Attempt). RunsWithTail (Ok s) 0) c.in-Runs.is (c.in_ok-started.ensures.tail fresh read.told_first read.told_second
+    (none-fresh c.args.logs.now c.reserve_first.new.disks centres (a - 1) a c.requires.begun (omega (some, arith)) few same)) in
     next-begun c.args.logs.now _ c.reserve_first.new.disks centres (a - 1) a c.in-Runs.started.log c.requires.begun next few c.requires.most
     same c.start.ensures.others c.in_ok-push-in-Runs.ensures.items
-    (record { centre = (runs c).place; every = (runs c).every_is; few = (runs c).few; roomy = (runs c).roomy room; at_rest = (runs c).at_rest })
+    (record { centre = (runs c).place; every = (runs c).every_is; few = (runs c).few; roomy = (runs c).roomy room; at_rest = (runs c).at_rest }) tail

@@ -31,3 +31,9 @@ returns-clause-logs c =
     let centres = c.args.cluster.now.quorums.centres in
     let all : c.loop-number.number - 1 ≡ centres = omega (c.loop-number-test.false, c.loop-number.auto.number-end (omega arith), c.centres-number-end.ensures.value, arith) in
     (subst (λ (k : ℕ). AreBegun c.loop-number.logs centres k) all c.loop-number.invariant.begun).stand
+
+pub returns-clause-tails : goal.returns-clause-tails
+returns-clause-tails c =
+    let centres = c.args.cluster.now.quorums.centres in
+    let all : c.loop-number.number - 1 ≡ centres = omega (c.loop-number-test.false, c.loop-number.auto.number-end (omega arith), c.centres-number-end.ensures.value, arith) in
+    (subst (λ (k : ℕ). AreBegun c.loop-number.logs centres k) all c.loop-number.invariant.begun).tails

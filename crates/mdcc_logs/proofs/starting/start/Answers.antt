@@ -1,14 +1,15 @@
-use Rattle.std.proofs.Common.{◌≡◌, ◌<◌, ◌+◌, ◌^◌, ◌∙◌, List, ℕ, ap, arith, inl, sym, subst}
+use Rattle.std.proofs.Common.{◌≡◌, ◌<◌, ◌+◌, ◌^◌, ◌∙◌, List, ℕ, ap, arith, inl, length, sym, subst}
 use Rattle.mdcc_areas.specs.Area.{payloads}
 use Rattle.mdcc_disks.specs.Memory.{disk_of, may_leave_of, only_now_of}
-use Rattle.mdcc_logs.proofs.Starts.{empty-store, lacking-kept, lacking-over, no-gate-is-torn-open}
+use Rattle.mdcc_logs.proofs.Starts.{empty-store, lacking-kept, lacking-over, lacking-tail, no-gate-is-torn-open}
+use Rattle.mdcc_logs.proofs.Tails.{tail-alike}
 use Rattle.mdcc_logs.proofs.starting.start.Goals as goal
 use Rattle.mdcc_logs.specs.Nodes.{are_stored, spare_of}
-use Rattle.mdcc_logs.specs.Represents.{checkpoint_every}
 use Rattle.mdcc_logs.specs.Starting.{cells_of}
 use Rattle.mdcc_option.specs.declared.cluster.Cluster.{Cluster}
 use Rattle.mdcc_restart.specs.Logged.{AreLogged}
 use Rattle.mdcc_restart.specs.Restarting.{HasRoom, IsRefused, Runs}
+use Rattle.mdcc_simulation.specs.Checkpoints.{checkpoint_every}
 
 pub returns-in-Ok-clause-starts : goal.returns-in-Ok-clause-starts
 returns-in-Ok-clause-starts c facts logged fits is room early =
@@ -29,6 +30,12 @@ returns-in-Err-clause-starts c facts logged fits is room early =
     (lacking-over cluster facts logged few fits early c.args.centre c.args.disks.now c.restart.new.disks roomy c.in-Err.fault room
     (subst (λ (of : Cluster). IsRefused (cells_of cluster) of facts roomy c.in-Err.fault) same
     (c.in-Err.ensures.restarts (cells_of cluster) facts (empty-store c.in_ok-store.store cluster c.in_ok-store.ensures.empty c.in_ok-store.ensures.spare) was is)))
+
+pub returns-in-Ok-clause-tail : goal.returns-in-Ok-clause-tail
+returns-in-Ok-clause-tail c area_log told told_other read = c.in-Ok.ensures.tail area_log told told_other read ∙ tail-alike (length area_log.tail)
+
+pub returns-in-Err-clause-tail : goal.returns-in-Err-clause-tail
+returns-in-Err-clause-tail c area_log told told_other read = rw c.lacking.ensures (lacking-tail c.in-Err.fault (length area_log.tail))
 
 pub returns-in-Err-clause-none : goal.returns-in-Err-clause-none
 returns-in-Err-clause-none c all told told_other read =

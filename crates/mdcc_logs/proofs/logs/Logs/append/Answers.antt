@@ -1,5 +1,5 @@
-use Rattle.std.proofs.Common.{◌≡◌, ◌-◌, ◌≤◌, ap, arith, length, refl, set, ◌∙◌, ℕ}
-use Rattle.mdcc_logs.proofs.Calls.{appended, may-have, rest-there, settled-there, told-there}
+use Rattle.std.proofs.Common.{◌≡◌, ◌-◌, ◌≤◌, ap, arith, refl, set, ◌∙◌, ℕ}
+use Rattle.mdcc_logs.proofs.Calls.{appended, may-have, rest-there, settled-there, tail-appended, told-there}
 use Rattle.mdcc_logs.proofs.Made.{on-ok-three}
 use Rattle.mdcc_logs.proofs.Refusals.{on-err, same-may-have}
 use Rattle.mdcc_logs.proofs.Standing.{held-same, log-is}
@@ -50,6 +50,20 @@ returns-clause-appended c centres up facts stand running =
     (λ rest few grown. appended c.args.self.now _ a centres up facts stand running some c.requires.within d log is same c.append.new.log c.args.fact.now
     (ap (λ (n : ℕ). set c.args.self.now.open.items (n - 1) c.append.new.log) place) c.append.ensures.others
     c.append.ensures.keeps.0 c.append.ensures.keeps.1 few grown rest)
+
+pub returns-clause-tail : goal.returns-clause-tail
+returns-clause-tail c centres up facts stand running =
+    let a = c.args.centre in
+    let d = c.reserve_append.new.disks in
+    let log = c.index_mut.result.now in
+    let place : c.from-index.result ≡ a = c.from-index.ensures ∙ c.number.ensures.value in
+    let some : 1 ≤ a = omega arith in
+    let is = log-is c.args.self.now c.from-index.result a log place some c.requires.within c.index_mut.ensures.value in
+    let same = held-same c.args.self.now.disks d c.reserve_append.ensures in
+    on-ok-three _ _ _ _ c.append.result (returns-clause-appended c centres up facts stand running) c.append.ensures.few c.append.ensures.grown
+    (λ stands few grown. tail-appended c.args.self.now _ a centres up facts stand running some c.requires.within d log is same c.append.new.log c.args.fact.now
+    (ap (λ (n : ℕ). set c.args.self.now.open.items (n - 1) c.append.new.log) place) c.append.ensures.others
+    c.append.ensures.keeps.1 few grown stands)
 
 pub returns-clause-refused : goal.returns-clause-refused
 returns-clause-refused c centres up facts stand running =

@@ -1,13 +1,14 @@
-use Rattle.std.proofs.Common.{◌≡◌, ◌-◌, ◌≤◌, Ok, ap, arith, refl, set, subst, ℕ, ◌∙◌}
-use Rattle.mdcc_disks.specs.Memory.{disk_of, may_leave_of}
+use Rattle.std.proofs.Common.{◌-◌, ◌≤◌, Ok, ap, arith, length, refl, set, subst, ℕ, ◌∙◌}
 use Rattle.mdcc_logs.proofs.Refusals.{on-err, same-may-have}
 use Rattle.mdcc_logs.proofs.Standing.{held-same}
-use Rattle.mdcc_logs.proofs.Starts.{durable-first, durable-second, full-log, none-stays, none-stays-down, reads, restarted, room, start-may-have}
+use Rattle.mdcc_logs.proofs.Starts.{durable-first, durable-second, full-log, none-stays, none-stays-down, none-tail, read-same, reads, restarted, restarted-tail, room, start-may-have}
 use Rattle.mdcc_logs.proofs.logs.Logs.restart.Goals as goal
-use Rattle.mdcc_logs.specs.Starting.{OnNone, StartsOver}
+use Rattle.mdcc_logs.specs.Represents.{with_fact_at}
+use Rattle.mdcc_logs.specs.Starting.{OnNone, RunsWithTail, StartsOver}
 use Rattle.mdcc_logs.specs.declared.starting.Attempt.{Attempt}
 use Rattle.mdcc_rules.specs.Boot.{next_boot}
 use Rattle.mdcc_messages.specs.Spelling.{encodings_of}
+use Rattle.mdcc_messages.specs.declared.facts.Fact.{Fact as AFact}
 
 pub returns-in-Runs-clause-started : goal.returns-in-Runs-clause-started
 returns-in-Runs-clause-started c centres up facts stand encodings_of fits few =
@@ -103,4 +104,40 @@ returns-in-NoRoom-clause-lack_down c centres up facts stand =
     let its = stand.each a some (omega (c.requires.within, stand.as_many, arith)) in
     let read = reads c.args.self.now d a (up a) (facts a) its same in
     none-stays-down c.args.self.now _ a centres up facts stand some c.requires.within d same c.start.ensures.others refl
+    (subst (λ (s : Attempt). OnNone (Ok s) (encodings_of (facts a)) a d c.start.new.disks) c.in-NoRoom.is (c.in_ok-started.ensures.none (encodings_of (facts a)) read.told_first read.told_second read.read))
+
+pub returns-in-Runs-clause-tail : goal.returns-in-Runs-clause-tail
+returns-in-Runs-clause-tail c centres up facts stand logged fits few =
+    let a = c.args.centre in
+    let d = c.reserve_start.new.disks in
+    let some : 1 ≤ a = omega arith in
+    let same = held-same c.args.self.now.disks d c.reserve_start.ensures in
+    let its = stand.each a some (omega (c.requires.within, stand.as_many, arith)) in
+    let read = reads c.args.self.now d a (up a) (facts a) its same in
+    let started = returns-in-Runs-clause-started c centres up facts stand logged fits few in
+    restarted-tail c.args.self.now _ a centres up facts stand some c.requires.within d same c.start.ensures.others (with_fact_at facts a (AFact.Booted c.in-Runs.started.epoch)) c.in-Runs.started.log its.log its.read
+    (ap (λ (n : ℕ). set c.args.self.now.open.items (n - 1) c.in-Runs.started.log) (c.from-index.ensures ∙ c.number.ensures.value)) started.stand
+    (subst (λ (s : Attempt). RunsWithTail (Ok s) (length its.log.tail)) c.in-Runs.is
+    (c.in_ok-started.ensures.tail its.log read.told_first read.told_second (read-same c.args.self.now d a (up a) (facts a) its same)))
+
+pub returns-in-Full-clause-tail : goal.returns-in-Full-clause-tail
+returns-in-Full-clause-tail c centres up facts stand logged fits few =
+    let a = c.args.centre in
+    let d = c.reserve_start.new.disks in
+    let some : 1 ≤ a = omega arith in
+    let same = held-same c.args.self.now.disks d c.reserve_start.ensures in
+    let its = stand.each a some (omega (c.requires.within, stand.as_many, arith)) in
+    let read = reads c.args.self.now d a (up a) (facts a) its same in
+    none-tail c.args.self.now _ a centres up facts stand some c.requires.within d same c.start.ensures.others
+    (subst (λ (s : Attempt). OnNone (Ok s) (encodings_of (facts a)) a d c.start.new.disks) c.in-Full.is (c.in_ok-started.ensures.none (encodings_of (facts a)) read.told_first read.told_second read.read))
+
+pub returns-in-NoRoom-clause-tail : goal.returns-in-NoRoom-clause-tail
+returns-in-NoRoom-clause-tail c centres up facts stand logged fits few =
+    let a = c.args.centre in
+    let d = c.reserve_start.new.disks in
+    let some : 1 ≤ a = omega arith in
+    let same = held-same c.args.self.now.disks d c.reserve_start.ensures in
+    let its = stand.each a some (omega (c.requires.within, stand.as_many, arith)) in
+    let read = reads c.args.self.now d a (up a) (facts a) its same in
+    none-tail c.args.self.now _ a centres up facts stand some c.requires.within d same c.start.ensures.others
     (subst (λ (s : Attempt). OnNone (Ok s) (encodings_of (facts a)) a d c.start.new.disks) c.in-NoRoom.is (c.in_ok-started.ensures.none (encodings_of (facts a)) read.told_first read.told_second read.read))
