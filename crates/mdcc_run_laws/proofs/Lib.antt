@@ -1,0 +1,10 @@
+pub mod Seen
+pub mod Joined
+pub mod Stepped
+pub mod Turned
+pub mod Refused
+pub mod Tables
+pub mod Joining
+pub mod Came
+pub mod Same
+pub mod Asked

@@ -1,0 +1,79 @@
+-- What a centre did is also the run without the inputs that are refused.
+use Rattle.std.proofs.Common.{◌≡◌, ℕ, List, [], ◌∷◌, ◌++◌, Result, Ok, Err, refl, sym, ◌∙◌, ap, subst, map, length}
+use Rattle.mdcc_config.specs.declared.config.Config.{Config}
+use Rattle.mdcc_option.specs.declared.cluster.Cluster.{Cluster}
+use Rattle.mdcc_rules.specs.Steps.{NodeStep, heard_by}
+use Rattle.mdcc_rules.specs.declared.node.Input.{Input}
+use Rattle.mdcc_rules.specs.declared.node.StepFault.{StepFault}
+use Rattle.mdcc_run_laws.proofs.Seen.{shows_as}
+use Rattle.mdcc_run_laws.proofs.Turned.{turns_are_runs}
+use Rattle.mdcc_run_laws.specs.Inputs.{inputs_in, turns}
+use Rattle.mdcc_run_laws.specs.Laws.{IsRunWithout}
+use Rattle.mdcc_run_laws.specs.Told.{Mail, Tells, between_centres, heard_line, mail_of, node_after}
+use Rattle.mdcc_runs.proofs.Refused.{run_without}
+use Rattle.mdcc_runs.specs.Runs.{NodeState, after_step, in_steps, inputs_taken, listed, run_of, step_on, taken_by}
+use Rattle.mdcc_runs.specs.Sites.{Doing, Site}
+use Rattle.mdcc_runs.specs.Turns.{Given}
+
+-- the steps alone
+abbrev taken : List (Result NodeStep StepFault) → List (Result NodeStep StepFault)
+taken [] = []
+taken (Ok step ∷ made) = Ok step ∷ taken made
+taken (Err fault ∷ made) = taken made
+
+steps_taken : {X : Type 0} (part : NodeStep → List X) (made : List (Result NodeStep StepFault)) → in_steps part made ≡ in_steps part (taken made)
+steps_taken part [] = refl
+steps_taken part (Ok step ∷ made) = ap (λ xs. part step ++ xs) (steps_taken part made)
+steps_taken part (Err fault ∷ made) = steps_taken part made
+
+mail_taken : (node : NodeState) (made : List (Result NodeStep StepFault)) → mail_of node made ≡ mail_of node (taken made)
+mail_taken node [] = refl
+mail_taken node (Ok step ∷ made) =
+    let next = after_step node (Ok step) in
+    ap (λ (xs : List Mail). map (λ envelope. (next, envelope)) step.sends ++ xs) (mail_taken next made)
+mail_taken node (Err fault ∷ made) = mail_taken node made
+
+node_taken : (node : NodeState) (made : List (Result NodeStep StepFault)) → node_after node made ≡ node_after node (taken made)
+node_taken node [] = refl
+node_taken node (Ok step ∷ made) = node_taken (after_step node (Ok step)) made
+node_taken node (Err fault ∷ made) = node_taken node made
+
+tells_taken : {config : Config} {centre : ℕ} {node : NodeState} {sent : ℕ} {made : List (Result NodeStep StepFault)} {did : Doing}
+    → Tells config centre node sent made did → Tells config centre node sent (taken made) did
+tells_taken {centre = centre} {node = node} {made = made} one = record {
+  mail = one.mail;
+  shows = shows_as one.shows (steps_taken (λ step. listed step.fact) made)
+      (ap (map (heard_line centre)) (steps_taken (λ step. listed (heard_by step.fact)) made)) refl (ap length (steps_taken (λ step. step ∷ []) made));
+  messages = one.messages ∙ ap between_centres (mail_taken node made);
+  centre_is = one.centre_is;
+  node_is = one.node_is ∙ node_taken node made;
+  sent_is = one.sent_is;
+}
+
+-- the run over what is not refused has just these
+run_taken : (cluster : Cluster) (me : ℕ) (node : NodeState) (inputs : List Input)
+    → taken (run_of cluster me node inputs) ≡ run_of cluster me node (inputs_taken cluster me node inputs)
+run_taken cluster me node [] = refl
+run_taken cluster me node (input ∷ inputs) = by_made (step_on cluster me node input) refl (λ next. run_taken cluster me next inputs)
+  where
+    by_made : (made : Result NodeStep StepFault) → step_on cluster me node input ≡ made
+        → ((next : NodeState) → taken (run_of cluster me next inputs) ≡ run_of cluster me next (inputs_taken cluster me next inputs))
+        → taken (made ∷ run_of cluster me (after_step node made) inputs)
+        ≡ run_of cluster me node (taken_by input made (inputs_taken cluster me (after_step node made) inputs))
+    by_made (Err fault) e more = more node
+    by_made (Ok step) e more = rw e (ap (λ xs. Ok step ∷ xs) (more (after_step node (Ok step))))
+
+pub turns_run_without : (config : Config) (site : Site) (given : List Given)
+    → IsRunWithout config site (inputs_taken config.cluster site.centre site.node (inputs_in config site given)) (turns config site given)
+turns_run_without config site given =
+    let inputs = inputs_in config site given in
+    let run = turns_are_runs config site given in
+    let without = run_without config.cluster site.centre site.node inputs in
+    record {
+      run = record {
+        tells = subst (λ (made : List (Result NodeStep StepFault)). Tells config site.centre site.node site.sent made (turns config site given))
+            (run_taken config.cluster site.centre site.node inputs) (tells_taken run.tells);
+        node = run.node ∙ sym without.end;
+      };
+      none = without.none;
+    }

@@ -1,0 +1,260 @@
+-- Turns without the datagrams that are dropped are as good.
+use Rattle.std.proofs.Common.{◌≡◌, ℕ, Bool, true, false, cond, not, ◌&&◌, is_none, List, [], ◌∷◌, ◌++◌, if◌then◌else◌, Option, Some, None, Result, Ok, Err, refl, sym, ◌∙◌, ap, ap₂, subst, ◌==◌, length}
+use Rattle.std.proofs.lemmas.List.Elements.{filter-append}
+use Rattle.mdcc_config.specs.declared.config.Config.{Config}
+use Rattle.mdcc_frag.specs.Joining.{Entry, Step, entry_of, join, missing_piece, others, step, take_piece, take_read}
+use Rattle.mdcc_frag.specs.Partial.{PartialMessage, is_held, is_whole, nothing_of, with_piece}
+use Rattle.mdcc_frag.specs.Reading.{payload, piece_in}
+use Rattle.mdcc_frag.specs.declared.joined.Joined.{Joined}
+use Rattle.mdcc_frag.specs.declared.joined.Joined.TheVariants as joined
+use Rattle.mdcc_frag.specs.declared.joined.Joined.TheVariants.{Dropped, Kept, Repeated, Whole}
+use Rattle.mdcc_frag.specs.declared.reading.DropCause.{DropCause}
+use Rattle.mdcc_frag.specs.declared.reading.DropCause.TheVariants.{Disagrees}
+use Rattle.mdcc_frag.specs.declared.reading.Piece.{Piece}
+use Rattle.mdcc_rules.specs.declared.node.Input.{Input}
+use Rattle.mdcc_run_laws.proofs.Tables.{own_holds}
+use Rattle.mdcc_run_laws.specs.Inputs.{asked_input, asked_inputs, inputs_in, own_input, own_inputs, turn_inputs, turns}
+use Rattle.mdcc_run_laws.specs.Without.{AreAsGood, given_kept, is_work, kept, kept_by, turn_kept, without_dropped, work_in}
+use Rattle.mdcc_runs.specs.Acts.{Act}
+use Rattle.mdcc_runs.specs.Arrivals.{arrival_of}
+use Rattle.mdcc_runs.specs.Sites.{Doing, Site, after_acts, and_then, idle}
+use Rattle.mdcc_runs.specs.Steps.{dropped, input_taken}
+use Rattle.mdcc_runs.specs.Turns.{Given, asked_arrived, asked_received, asked_taken, is_silent, own_arrived, own_received, own_taken, turn_of}
+
+-- ---- what is dropped leaves the table
+
+abbrev Leaves : List Entry → Step → Type 0
+Leaves entries made = (cause : DropCause) → made.answer ≡ Dropped cause → made.entries ≡ entries
+
+arrived_leaves : (message : PartialMessage) (without rest entries : List Entry) (all : Bool) → Leaves entries (if all then step (Whole message.bytes) without else step Kept rest)
+arrived_leaves message without rest entries true cause is = absurd (cc)
+arrived_leaves message without rest entries false cause is = absurd (cc)
+
+known_leaves : (piece : Piece) (found : List ℕ) (entry : Entry) (entries : List Entry) (same held : Bool)
+    → Leaves entries (if same then (if held then step Repeated (entry ∷ others piece entries) else missing_piece piece found entry (others piece entries)) else step (Dropped Disagrees) entries)
+known_leaves piece found entry entries true true cause is = absurd (cc)
+known_leaves piece found entry entries true false cause is =
+    arrived_leaves (with_piece piece.index found entry.1) (others piece entries) ((entry.0, with_piece piece.index found entry.1) ∷ others piece entries) entries
+    (is_whole (with_piece piece.index found entry.1)) cause is
+known_leaves piece found entry entries false held cause is = refl
+
+taken_leaves : (piece : Piece) (found : List ℕ) (entries : List Entry) (o : Option Entry) → Leaves entries (take_piece piece found entries o)
+taken_leaves piece found entries None cause is = arrived_leaves (with_piece piece.index found (nothing_of piece.total)) entries _ entries _ cause is
+taken_leaves piece found entries (Some entry) cause is =
+    known_leaves piece found entry entries (length (entry.1).bytes == piece.total) (is_held piece.index entry.1) cause is
+
+read_leaves : (found : List ℕ) (entries : List Entry) (read : Result Piece DropCause) → Leaves entries (take_read read found entries)
+read_leaves found entries (Ok piece) cause is = taken_leaves piece found entries (entry_of piece entries) cause is
+read_leaves found entries (Err fault) cause is = refl
+
+pub dropped_leaves : (datagram : List ℕ) (entries : List Entry) → Leaves entries (join datagram entries)
+dropped_leaves datagram entries = read_leaves (payload datagram) entries (piece_in datagram)
+
+-- ---- one receive
+
+-- both do the same work, come to the same centre, and bring the same inputs
+record Alike (one other : Doing) (inputs others : List Input) : Type 0 where
+  site : one.site ≡ other.site
+  work : work_in one.acts ≡ work_in other.acts
+  inputs_are : inputs ≡ others
+
+own_dropped : (config : Config) (site : Site) (bytes : List ℕ) (cause : DropCause) → (join bytes site.own).answer ≡ Dropped cause → own_taken config site (Some bytes) ≡ dropped site
+own_dropped config site bytes cause is =
+    ap (λ (answer : Joined). own_arrived config (record site { own = (join bytes site.own).entries }) (arrival_of answer)) is
+    ∙ ap (λ (table : List Entry). dropped (record site { own = table })) (dropped_leaves bytes site.own cause is)
+
+own_alike : (config : Config) (site : Site) (gave : Option (List ℕ))
+    → Alike (own_received config site (kept site.own gave)) (own_received config site gave) (own_inputs site (kept site.own gave)) (own_inputs site gave)
+own_alike config site None = record { site = refl; work = refl; inputs_are = refl }
+own_alike config site (Some bytes) = by_answer (join bytes site.own).answer refl
+  where
+    by_answer : (answer : Joined) → (join bytes site.own).answer ≡ answer
+        → Alike (own_received config site (kept_by answer bytes)) (own_received config site (Some bytes)) (own_inputs site (kept_by answer bytes)) (own_inputs site (Some bytes))
+    by_answer (joined.Whole whole) is = record { site = refl; work = refl; inputs_are = refl }
+    by_answer joined.Kept is = record { site = refl; work = refl; inputs_are = refl }
+    by_answer joined.Repeated is = record { site = refl; work = refl; inputs_are = refl }
+    by_answer (joined.Dropped cause) is =
+        let same = own_dropped config site bytes cause is in
+        record {
+          site = sym (ap (λ (did : Doing). did.site) same);
+          work = sym (ap (λ (did : Doing). work_in did.acts) same);
+          inputs_are = sym (ap (λ (answer : Joined). own_input (arrival_of answer)) is);
+        }
+
+asked_dropped : (config : Config) (site : Site) (bytes : List ℕ) (cause : DropCause) → (join bytes site.asked).answer ≡ Dropped cause → asked_taken config site (Some bytes) ≡ dropped site
+asked_dropped config site bytes cause is =
+    ap (λ (answer : Joined). asked_arrived config (record site { asked = (join bytes site.asked).entries }) (arrival_of answer)) is
+    ∙ ap (λ (table : List Entry). dropped (record site { asked = table })) (dropped_leaves bytes site.asked cause is)
+
+asked_alike : (config : Config) (site : Site) (gave : Option (List ℕ))
+    → Alike (asked_received config site (kept site.asked gave)) (asked_received config site gave) (asked_inputs config site (kept site.asked gave)) (asked_inputs config site gave)
+asked_alike config site None = record { site = refl; work = refl; inputs_are = refl }
+asked_alike config site (Some bytes) = by_answer (join bytes site.asked).answer refl
+  where
+    by_answer : (answer : Joined) → (join bytes site.asked).answer ≡ answer
+        → Alike (asked_received config site (kept_by answer bytes)) (asked_received config site (Some bytes)) (asked_inputs config site (kept_by answer bytes)) (asked_inputs config site (Some bytes))
+    by_answer (joined.Whole whole) is = record { site = refl; work = refl; inputs_are = refl }
+    by_answer joined.Kept is = record { site = refl; work = refl; inputs_are = refl }
+    by_answer joined.Repeated is = record { site = refl; work = refl; inputs_are = refl }
+    by_answer (joined.Dropped cause) is =
+        let same = asked_dropped config site bytes cause is in
+        record {
+          site = sym (ap (λ (did : Doing). did.site) same);
+          work = sym (ap (λ (did : Doing). work_in did.acts) same);
+          inputs_are = sym (ap (λ (answer : Joined). asked_input config site (arrival_of answer)) is);
+        }
+
+-- ---- one after the other
+
+alike_then : (first other : Doing) (second third : Doing) (xs xs' ys ys' : List Input) → Alike first other xs xs' → Alike second third ys ys'
+    → Alike (after_acts first.acts second) (after_acts other.acts third) (xs ++ ys) (xs' ++ ys')
+alike_then first other second third xs xs' ys ys' one two = record {
+  site = two.site;
+  work = filter-append is_work first.acts second.acts
+      ∙ (ap₂ (λ (x y : List Act). x ++ y) one.work two.work ∙ sym (filter-append is_work other.acts third.acts));
+  inputs_are = ap₂ (λ (x y : List Input). x ++ y) one.inputs_are two.inputs_are;
+}
+
+-- both receives of a turn, and their inputs
+abbrev both : Config → Site → Given → Doing
+both config site given = and_then (own_received config site given.own) (λ next. asked_received config next given.asked)
+
+abbrev both_inputs : Config → Site → Given → List Input
+both_inputs config site given = own_inputs site given.own ++ asked_inputs config (own_received config site given.own).site given.asked
+
+both_alike : (config : Config) (site : Site) (given : Given)
+    → Alike (both config site (given_kept site given)) (both config site given) (both_inputs config site (given_kept site given)) (both_inputs config site given)
+both_alike config site given =
+    let left = given_kept site given in
+    let first = own_received config site left.own in
+    let other = own_received config site given.own in
+    let own = own_alike config site given.own in
+    let goal : Site → List Entry → Type 0 = λ s t. Alike (asked_received config s (kept t given.asked)) (asked_received config other.site given.asked)
+    (asked_inputs config s (kept t given.asked)) (asked_inputs config other.site given.asked) in
+    let asked : goal first.site site.asked =
+    subst (λ (s : Site). goal s site.asked) (sym own.site)
+    (subst (goal other.site) (own_holds config site given.own).asked_is (asked_alike config other.site given.asked)) in
+    alike_then first other (asked_received config first.site left.asked) (asked_received config other.site given.asked)
+    (own_inputs site left.own) (own_inputs site given.own) (asked_inputs config first.site left.asked) (asked_inputs config other.site given.asked) own asked
+
+-- ---- turns
+
+abbrev tick_by : Config → Bool → Site → Doing
+tick_by config silent site = cond silent (input_taken config site Input.Tick) (idle site)
+
+abbrev tick_inputs : Bool → List Input
+tick_inputs silent = cond silent (Input.Tick ∷ []) []
+
+-- both turns are silent or none is
+turn_alike : (config : Config) (site : Site) (given : Given) (silent : Bool)
+    → (let left = given_kept site given in
+    Alike (and_then (both config site left) (tick_by config silent)) (and_then (both config site given) (tick_by config silent))
+    (both_inputs config site left ++ tick_inputs silent) (both_inputs config site given ++ tick_inputs silent))
+turn_alike config site given silent =
+    let left = given_kept site given in
+    let receives = both_alike config site given in
+    let first = both config site left in
+    let other = both config site given in
+    let ticks : Alike (tick_by config silent first.site) (tick_by config silent other.site) (tick_inputs silent) (tick_inputs silent) =
+    subst (λ (s : Site). Alike (tick_by config silent first.site) (tick_by config silent s) (tick_inputs silent) (tick_inputs silent)) receives.site
+    (record { site = refl; work = refl; inputs_are = refl }) in
+    alike_then first other (tick_by config silent first.site) (tick_by config silent other.site)
+    (both_inputs config site left) (both_inputs config site given) (tick_inputs silent) (tick_inputs silent) receives ticks
+
+-- a turn in which nothing came is silent without what was dropped too
+silent_kept : (site : Site) (own asked : Option (List ℕ)) → (is_none own && is_none asked) ≡ true
+    → (is_none (kept site.own own) && is_none (kept site.asked asked)) ≡ true
+silent_kept site None None is = refl
+silent_kept site None (Some bytes) is = absurd (cc)
+silent_kept site (Some bytes) asked is = absurd (cc)
+
+-- a silent turn does no work before time passes
+silent_both : (config : Config) (site : Site) (own asked : Option (List ℕ)) → (is_none own && is_none asked) ≡ true
+    → (let given : Given = record { own = own; asked = asked } in Alike (both config site given) (idle site) (both_inputs config site given) [])
+silent_both config site None None is = record { site = refl; work = refl; inputs_are = refl }
+silent_both config site None (Some bytes) is = absurd (cc)
+silent_both config site (Some bytes) asked is = absurd (cc)
+
+-- a turn that stays
+kept_good : (config : Config) (site : Site) (given left : Given) (more without : List Given)
+    → Alike (turn_of config site left) (turn_of config site given) (turn_inputs config site left) (turn_inputs config site given)
+    → AreAsGood config (turn_of config site given).site more without → AreAsGood config site (given ∷ more) (left ∷ without)
+kept_good config site given left more without turn rest =
+    let next = (turn_of config site given).site in
+    let after = (turn_of config site left).site in
+    record {
+      inputs = ap₂ (λ (x y : List Input). x ++ y) turn.inputs_are (ap (λ (s : Site). inputs_in config s without) turn.site ∙ rest.inputs);
+      work = filter-append is_work (turn_of config site left).acts (turns config after without).acts
+          ∙ (ap₂ (λ (x y : List Act). x ++ y) turn.work (ap (λ (s : Site). work_in (turns config s without).acts) turn.site ∙ rest.work)
+          ∙ sym (filter-append is_work (turn_of config site given).acts (turns config next more).acts));
+      end = ap (λ (s : Site). (turns config s without).site) turn.site ∙ rest.end;
+    }
+
+-- a turn that is left out
+left_good : (config : Config) (site : Site) (given : Given) (more without : List Given)
+    → Alike (turn_of config site given) (idle site) (turn_inputs config site given) []
+    → AreAsGood config (turn_of config site given).site more without → AreAsGood config site (given ∷ more) without
+left_good config site given more without turn rest =
+    let next = (turn_of config site given).site in
+    record {
+      inputs = ap (λ (s : Site). inputs_in config s without) (sym turn.site)
+          ∙ (rest.inputs ∙ ap (λ (x : List Input). x ++ inputs_in config next more) (sym turn.inputs_are));
+      work = ap (λ (s : Site). work_in (turns config s without).acts) (sym turn.site)
+          ∙ (rest.work ∙ (ap (λ (x : List Act). x ++ work_in (turns config next more).acts) (sym turn.work)
+          ∙ sym (filter-append is_work (turn_of config site given).acts (turns config next more).acts)));
+      end = ap (λ (s : Site). (turns config s without).site) (sym turn.site) ∙ rest.end;
+    }
+
+alike_joined : (one other third : Doing) (xs ys zs : List Input) → Alike one other xs ys → Alike other third ys zs → Alike one third xs zs
+alike_joined one other third xs ys zs a b =
+    record { site = a.site ∙ b.site; work = a.work ∙ b.work; inputs_are = a.inputs_are ∙ b.inputs_are }
+
+alike_back : (one other : Doing) (xs ys : List Input) → Alike one other xs ys → Alike other one ys xs
+alike_back one other xs ys a = record { site = sym a.site; work = sym a.work; inputs_are = sym a.inputs_are }
+
+module _ (config : Config) (site : Site) (given : Given) (more without : List Given) (rest : AreAsGood config (turn_of config site given).site more without) where
+  abbrev left : Given
+  left = given_kept site given
+
+  -- the turn, by whether it is silent
+  abbrev turned : Given → Bool → Doing
+  turned one silent = and_then (both config site one) (tick_by config silent)
+
+  abbrev brought : Given → Bool → List Input
+  brought one silent = both_inputs config site one ++ tick_inputs silent
+
+  stays : (silent : Bool) → is_silent given ≡ silent → is_silent left ≡ silent → AreAsGood config site (given ∷ more) (left ∷ without)
+  stays silent here there =
+      let same : Alike (turned left (is_silent left)) (turned given (is_silent given)) (brought left (is_silent left)) (brought given (is_silent given)) =
+      subst (λ (b : Bool). Alike (turned left b) (turned given (is_silent given)) (brought left b) (brought given (is_silent given))) (sym there)
+      (subst (λ (b : Bool). Alike (turned left silent) (turned given b) (brought left silent) (brought given b)) (sym here) (turn_alike config site given silent)) in
+      kept_good config site given left more without same rest
+
+  goes : is_silent given ≡ false → is_silent left ≡ true → AreAsGood config site (given ∷ more) without
+  goes here there =
+      let none : Alike (both config site left) (idle site) (both_inputs config site left) [] = silent_both config site left.own left.asked there in
+      let receives : Alike (both config site given) (idle site) (both_inputs config site given) [] =
+      alike_joined (both config site given) (both config site left) (idle site) (both_inputs config site given) (both_inputs config site left) []
+      (alike_back (both config site left) (both config site given) (both_inputs config site left) (both_inputs config site given) (both_alike config site given)) none in
+      let first = both config site given in
+      let whole : Alike (turned given false) (idle site) (brought given false) [] =
+      alike_then first (idle site) (idle first.site) (idle site) (both_inputs config site given) [] [] [] receives
+      (record { site = receives.site; work = refl; inputs_are = refl }) in
+      let same : Alike (turned given (is_silent given)) (idle site) (brought given (is_silent given)) [] =
+      subst (λ (b : Bool). Alike (turned given b) (idle site) (brought given b) []) (sym here) whole in
+      left_good config site given more without same rest
+
+  by_silence : (s k : Bool) → is_silent given ≡ s → is_silent left ≡ k → AreAsGood config site (given ∷ more) (if k && not s then without else (left ∷ without))
+  by_silence true true here there = stays true here there
+  by_silence false false here there = stays false here there
+  by_silence false true here there = goes here there
+  by_silence true false here there = let no = silent_kept site given.own given.asked here in absurd (cc)
+
+  turn_good : AreAsGood config site (given ∷ more) (turn_kept given (given_kept site given) without)
+  turn_good = by_silence (is_silent given) (is_silent left) refl refl
+
+pub turns_as_good : (config : Config) (site : Site) (given : List Given) → AreAsGood config site given (without_dropped config site given)
+turns_as_good config site [] = record { inputs = refl; work = refl; end = refl }
+turns_as_good config site (one ∷ given) =
+    let next = (turn_of config site one).site in
+    turn_good config site one given (without_dropped config next given) (turns_as_good config next given)

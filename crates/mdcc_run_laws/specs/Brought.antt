@@ -1,0 +1,83 @@
+-- From which datagrams an input comes.
+use Rattle.std.specs.List.{AllByRecursion}
+use Rattle.std.specs.Prelude.{Contains, List, Ok, false, flat_map, ⊤, ℕ, ℤ, ◌++◌, ◌<◌, ◌^◌, ◌∷◌, ◌≡◌, ◌≤◌}
+use Rattle.mdcc_base.specs.declared.key.Key.{Key}
+use Rattle.mdcc_frag.specs.Datagrams.{message_limit}
+use Rattle.mdcc_frag.specs.Joining.{Entry, join}
+use Rattle.mdcc_frag.specs.declared.joined.Joined.TheVariants.{Whole}
+use Rattle.mdcc_frag_laws.specs.Laws.{table_after}
+use Rattle.mdcc_messages.specs.Lengths.{message_length}
+use Rattle.mdcc_messages.specs.Spelling.{message_bytes}
+use Rattle.mdcc_messages.specs.WellFormed.{IsWellFormedEnvelope}
+use Rattle.mdcc_messages.specs.declared.messages.Envelope.{Envelope}
+use Rattle.mdcc_messages.specs.declared.messages.Message.{Message}
+use Rattle.mdcc_option.specs.Transaction.{transaction_of}
+use Rattle.mdcc_option.specs.declared.items.Part.{Part}
+use Rattle.mdcc_rules.specs.declared.node.Input.{Input}
+use Rattle.mdcc_runs.specs.Arrivals.{is_for_client}
+use Rattle.mdcc_runs.specs.Runs.{listed}
+use Rattle.mdcc_runs.specs.Turns.{Given}
+
+-- ---- bytes
+
+abbrev pub AreBytes : List ℕ → Type 0
+AreBytes bytes = AllByRecursion (λ b. b < 2 ^ 8) bytes
+
+-- the messages of which some pieces came have bytes
+abbrev pub HoldsBytes : List Entry → Type 0
+HoldsBytes table = (entry : Entry) → Contains table entry → AreBytes (entry.1).bytes
+
+-- ---- datagrams
+
+-- those that came at its own endpoint in these turns, and those at its client's
+abbrev pub own_datagrams : List Given → List (List ℕ)
+own_datagrams given = flat_map (λ turn. listed turn.own) given
+
+abbrev pub asked_datagrams : List Given → List (List ℕ)
+asked_datagrams given = flat_map (λ turn. listed turn.asked) given
+
+-- One of these datagrams makes these bytes whole, by the pieces before it.
+pub record IsJoined (table : List Entry) (datagrams : List (List ℕ)) (bytes : List ℕ) : Type 0 where
+  pub before : List (List ℕ)
+  pub last : List ℕ
+  pub after : List (List ℕ)
+  pub are : datagrams ≡ before ++ last ∷ after
+  pub whole : (join last (table_after before table)).answer ≡ Whole bytes
+
+-- a well-formed message, no longer than one may be, that they spell
+pub record IsMessageIn (table : List Entry) (datagrams : List (List ℕ)) (envelope : Envelope) : Type 0 where
+  pub well_formed : IsWellFormedEnvelope envelope
+  pub short : message_length envelope ≤ message_limit
+  pub joined : IsJoined table datagrams (message_bytes envelope)
+
+-- ---- inputs
+
+-- a message that is an input came in datagrams, and does not go between a node and its client
+abbrev pub BringsMessage : List Entry → List (List ℕ) → Input → Type 0
+BringsMessage table datagrams (Input.Message envelope) = IsMessageIn table datagrams envelope × (is_for_client envelope.message ≡ false)
+BringsMessage table datagrams Input.Tick = ⊤
+BringsMessage table datagrams (Input.Read key) = ⊤
+BringsMessage table datagrams (Input.Begin parts) = ⊤
+
+-- the request for a read
+pub record AsksRead (table : List Entry) (datagrams : List (List ℕ)) (key : Key) : Type 0 where
+  pub envelope : Envelope
+  pub serial : ℕ
+  pub is : envelope.message ≡ Message.ClientRead serial key
+  pub came : IsMessageIn table datagrams envelope
+
+-- the request for a begin, whose parts make the transaction
+pub record AsksBegin (schema : List (ℤ × ℤ)) (table : List Entry) (datagrams : List (List ℕ)) (parts : List Part) : Type 0 where
+  pub envelope : Envelope
+  pub serial : ℕ
+  pub asked : List Part
+  pub is : envelope.message ≡ Message.ClientBegin serial asked
+  pub makes : transaction_of schema asked ≡ Ok parts
+  pub came : IsMessageIn table datagrams envelope
+
+-- a read or a begin that is an input was asked for in datagrams
+abbrev pub BringsRequest : List (ℤ × ℤ) → List Entry → List (List ℕ) → Input → Type 0
+BringsRequest schema table datagrams (Input.Message envelope) = ⊤
+BringsRequest schema table datagrams Input.Tick = ⊤
+BringsRequest schema table datagrams (Input.Read key) = AsksRead table datagrams key
+BringsRequest schema table datagrams (Input.Begin parts) = AsksBegin schema table datagrams parts

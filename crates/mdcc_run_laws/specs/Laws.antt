@@ -1,0 +1,56 @@
+-- What is proved of the runs of nodes that are served.
+use Rattle.std.specs.List.{AllByRecursion}
+use Rattle.std.specs.Prelude.{List, [], ℕ, ◌≡◌}
+use Rattle.mdcc_config.specs.declared.config.Config.{Config}
+use Rattle.mdcc_frag.specs.Joining.{Entry, join}
+use Rattle.mdcc_frag.specs.declared.joined.Joined.TheVariants.{Dropped}
+use Rattle.mdcc_frag.specs.declared.reading.DropCause.{DropCause}
+use Rattle.mdcc_run_laws.specs.Brought.{AreBytes, BringsMessage, BringsRequest, HoldsBytes, asked_datagrams, own_datagrams}
+use Rattle.mdcc_run_laws.specs.Inputs.{inputs_in, turns}
+use Rattle.mdcc_run_laws.specs.Told.{Tells}
+use Rattle.mdcc_run_laws.specs.Without.{AreAsGood, without_dropped}
+use Rattle.mdcc_rules.specs.declared.node.Input.{Input}
+use Rattle.mdcc_runs.specs.Runs.{after_run, inputs_taken, refusals, run_of}
+use Rattle.mdcc_runs.specs.Sites.{Doing, Site}
+use Rattle.mdcc_runs.specs.Turns.{Given}
+
+-- ---- what datagrams bring
+
+abbrev pub DatagramsBringMessages : Type 0
+DatagramsBringMessages =
+    (config : Config) (site : Site) (given : List Given) → HoldsBytes site.own → AllByRecursion AreBytes (own_datagrams given)
+    → AllByRecursion (BringsMessage site.own (own_datagrams given)) (inputs_in config site given)
+
+abbrev pub DatagramsBringRequests : Type 0
+DatagramsBringRequests =
+    (config : Config) (site : Site) (given : List Given) → HoldsBytes site.asked → AllByRecursion AreBytes (asked_datagrams given)
+    → AllByRecursion (BringsRequest config.cluster.schema site.asked (asked_datagrams given)) (inputs_in config site given)
+
+-- ---- what is dropped
+
+abbrev pub DroppedLeavesTable : Type 0
+DroppedLeavesTable =
+    (datagram : List ℕ) (table : List Entry) (cause : DropCause) → (join datagram table).answer ≡ Dropped cause → (join datagram table).entries ≡ table
+
+abbrev pub DroppedPiecesAreAsNone : Type 0
+DroppedPiecesAreAsNone = (config : Config) (site : Site) (given : List Given) → AreAsGood config site given (without_dropped config site given)
+
+-- ---- runs
+
+-- What was done is the run of the centre's node over these inputs.
+pub record IsRunOver (config : Config) (site : Site) (inputs : List Input) (did : Doing) : Type 0 where
+  pub tells : Tells config site.centre site.node site.sent (run_of config.cluster site.centre site.node inputs) did
+  pub node : did.site.node ≡ after_run config.cluster site.centre site.node inputs
+
+abbrev pub TurnsAreRuns : Type 0
+TurnsAreRuns = (config : Config) (site : Site) (given : List Given) → IsRunOver config site (inputs_in config site given) (turns config site given)
+
+-- And it is the run over those that are not refused, of which none is refused then.
+pub record IsRunWithout (config : Config) (site : Site) (taken : List Input) (did : Doing) : Type 0 where
+  pub run : IsRunOver config site taken did
+  pub none : refusals (run_of config.cluster site.centre site.node taken) ≡ []
+
+abbrev pub TurnsAreRunsWithoutRefused : Type 0
+TurnsAreRunsWithoutRefused =
+    (config : Config) (site : Site) (given : List Given)
+    → IsRunWithout config site (inputs_taken config.cluster site.centre site.node (inputs_in config site given)) (turns config site given)

@@ -1,0 +1,5 @@
+pub mod Brought
+pub mod Inputs
+pub mod Laws
+pub mod Told
+pub mod Without

@@ -1,0 +1,31 @@
+//! What datagrams bring to a node, and what a server makes of it.
+ghost use Rattle.mdcc_run_laws.specs.Laws.{DatagramsBringMessages, DatagramsBringRequests, DroppedLeavesTable, DroppedPiecesAreAsNone, TurnsAreRuns, TurnsAreRunsWithoutRefused};
+
+/// Whatever bytes come at a centre's endpoint: a message that is an input of its node is well-formed, and spelled by bytes that pieces
+/// which came made whole.
+pub fn datagrams_bring_messages()
+    ensures { DatagramsBringMessages }
+{}
+
+/// Whatever bytes come at its client's endpoint: a read or a begin that is an input of its node was asked by a well-formed request that
+/// pieces which came there made whole.
+pub fn datagrams_at_the_clients_endpoint_bring_requests()
+    ensures { DatagramsBringRequests }
+{}
+
+/// A piece that is dropped is as good as none: the messages of which some pieces came are the same, and the inputs, and all that a
+/// server does but for receiving and counting it.
+pub fn dropped_pieces_change_nothing()
+    ensures table { DroppedLeavesTable }
+    ensures turns { DroppedPiecesAreAsNone }
+{}
+
+/// What a centre does in its turns is the run of its node over the inputs that its receives gave.
+pub fn turns_run_by_inputs()
+    ensures { TurnsAreRuns }
+{}
+
+/// And it is the run over those of them that are not refused.
+pub fn turns_run_without_refused()
+    ensures { TurnsAreRunsWithoutRefused }
+{}

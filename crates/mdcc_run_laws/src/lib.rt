@@ -1,0 +1,10 @@
+//! Theorems about the runs of nodes that are served: which inputs datagrams bring, that what a server does is the run of its nodes over
+//! these inputs, and that what is dropped or refused is as good as none.
+#![tactic(auto)]
+
+pub mod laws;
+
+pub use laws::{
+    datagrams_at_the_clients_endpoint_bring_requests, datagrams_bring_messages,
+    dropped_pieces_change_nothing, turns_run_by_inputs, turns_run_without_refused,
+};
