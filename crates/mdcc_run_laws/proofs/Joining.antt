@@ -152,7 +152,7 @@ length_overwritten offset piece bytes within =
 
 -- ---- lengths and bytes
 
-piece_long : (piece : Piece) (found : List ℕ) (there : PartialMessage) → LiesIn piece (length found) → length there.bytes ≡ piece.total
+pub piece_long : (piece : Piece) (found : List ℕ) (there : PartialMessage) → LiesIn piece (length found) → length there.bytes ≡ piece.total
     → length (with_piece piece.index found there).bytes ≡ piece.total
 piece_long piece found there lies long =
     let e = length_overwritten (1383 * piece.index) found there.bytes (let w = lies.within in omega (w, long, arith)) in

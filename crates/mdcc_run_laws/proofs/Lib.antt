@@ -8,3 +8,4 @@ pub mod Joining
 pub mod Came
 pub mod Same
 pub mod Asked
+pub mod Pieces

@@ -1,9 +1,11 @@
 -- From which datagrams an input comes.
 use Rattle.std.specs.List.{AllByRecursion}
-use Rattle.std.specs.Prelude.{Contains, List, Ok, false, flat_map, ⊤, ℕ, ℤ, ◌++◌, ◌<◌, ◌^◌, ◌∷◌, ◌≡◌, ◌≤◌}
+use Rattle.std.specs.Prelude.{Contains, List, Ok, false, flat_map, ⊤, ℕ, ℤ, ◌++◌, ◌<◌, ◌^◌, ◌∷◌, ◌≡◌, ◌≤◌, length}
 use Rattle.mdcc_base.specs.declared.key.Key.{Key}
-use Rattle.mdcc_frag.specs.Datagrams.{message_limit}
+use Rattle.mdcc_frag.specs.Datagrams.{count, message_limit, piece_of}
 use Rattle.mdcc_frag.specs.Joining.{Entry, join}
+use Rattle.mdcc_frag.specs.Reading.{payload, piece_in}
+use Rattle.mdcc_frag.specs.declared.datagrams.FragHead.{FragHead}
 use Rattle.mdcc_frag.specs.declared.joined.Joined.TheVariants.{Whole}
 use Rattle.mdcc_frag_laws.specs.Laws.{table_after}
 use Rattle.mdcc_messages.specs.Lengths.{message_length}
@@ -43,6 +45,20 @@ pub record IsJoined (table : List Entry) (datagrams : List (List ℕ)) (bytes : 
   pub after : List (List ℕ)
   pub are : datagrams ≡ before ++ last ∷ after
   pub whole : (join last (table_after before table)).answer ≡ Whole bytes
+
+-- The piece of this index of these bytes, under this head, is that of one of these datagrams.
+pub record HasPiece (datagrams : List (List ℕ)) (head : FragHead) (bytes : List ℕ) (index : ℕ) : Type 0 where
+  pub before : List (List ℕ)
+  pub datagram : List ℕ
+  pub after : List (List ℕ)
+  pub are : datagrams ≡ before ++ datagram ∷ after
+  pub read : piece_in datagram ≡ Ok (record { head = head; total = length bytes; index = index })
+  pub has : payload datagram ≡ piece_of index bytes
+
+-- These bytes came piece by piece, all pieces under one head.
+pub record CameInPieces (datagrams : List (List ℕ)) (bytes : List ℕ) : Type 0 where
+  pub head : FragHead
+  pub pieces : (index : ℕ) → index < count (length bytes) → HasPiece datagrams head bytes index
 
 -- a well-formed message, no longer than one may be, that they spell
 pub record IsMessageIn (table : List Entry) (datagrams : List (List ℕ)) (envelope : Envelope) : Type 0 where

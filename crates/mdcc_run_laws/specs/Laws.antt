@@ -1,11 +1,12 @@
 -- What is proved of the runs of nodes that are served.
 use Rattle.std.specs.List.{AllByRecursion}
-use Rattle.std.specs.Prelude.{List, [], ℕ, ◌≡◌}
+use Rattle.std.specs.Prelude.{List, [], ℕ, ◌++◌, ◌∷◌, ◌≡◌}
 use Rattle.mdcc_config.specs.declared.config.Config.{Config}
 use Rattle.mdcc_frag.specs.Joining.{Entry, join}
-use Rattle.mdcc_frag.specs.declared.joined.Joined.TheVariants.{Dropped}
+use Rattle.mdcc_frag.specs.declared.joined.Joined.TheVariants.{Dropped, Whole}
 use Rattle.mdcc_frag.specs.declared.reading.DropCause.{DropCause}
-use Rattle.mdcc_run_laws.specs.Brought.{AreBytes, BringsMessage, BringsRequest, HoldsBytes, asked_datagrams, own_datagrams}
+use Rattle.mdcc_frag_laws.specs.Laws.{table_after}
+use Rattle.mdcc_run_laws.specs.Brought.{AreBytes, BringsMessage, BringsRequest, CameInPieces, HoldsBytes, asked_datagrams, own_datagrams}
 use Rattle.mdcc_run_laws.specs.Inputs.{inputs_in, turns}
 use Rattle.mdcc_run_laws.specs.Told.{Tells}
 use Rattle.mdcc_run_laws.specs.Without.{AreAsGood, without_dropped}
@@ -25,6 +26,11 @@ abbrev pub DatagramsBringRequests : Type 0
 DatagramsBringRequests =
     (config : Config) (site : Site) (given : List Given) → HoldsBytes site.asked → AllByRecursion AreBytes (asked_datagrams given)
     → AllByRecursion (BringsRequest config.cluster.schema site.asked (asked_datagrams given)) (inputs_in config site given)
+
+-- where no piece came before these datagrams
+abbrev pub WholeCameInPieces : Type 0
+WholeCameInPieces =
+    (before : List (List ℕ)) (last bytes : List ℕ) → (join last (table_after before [])).answer ≡ Whole bytes → CameInPieces (before ++ last ∷ []) bytes
 
 -- ---- what is dropped
 

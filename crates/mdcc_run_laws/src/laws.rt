@@ -1,5 +1,5 @@
 //! What datagrams bring to a node, and what a server makes of it.
-ghost use Rattle.mdcc_run_laws.specs.Laws.{DatagramsBringMessages, DatagramsBringRequests, DroppedLeavesTable, DroppedPiecesAreAsNone, TurnsAreRuns, TurnsAreRunsWithoutRefused};
+ghost use Rattle.mdcc_run_laws.specs.Laws.{DatagramsBringMessages, DatagramsBringRequests, DroppedLeavesTable, DroppedPiecesAreAsNone, TurnsAreRuns, TurnsAreRunsWithoutRefused, WholeCameInPieces};
 
 /// Whatever bytes come at a centre's endpoint: a message that is an input of its node is well-formed, and spelled by bytes that pieces
 /// which came made whole.
@@ -11,6 +11,12 @@ pub fn datagrams_bring_messages()
 /// pieces which came there made whole.
 pub fn datagrams_at_the_clients_endpoint_bring_requests()
     ensures { DatagramsBringRequests }
+{}
+
+/// Bytes that datagrams make whole came in these datagrams, each of their pieces under the same head: the endpoint that sent it, its epoch
+/// and the serial of the message.
+pub fn whole_messages_came_in_pieces()
+    ensures { WholeCameInPieces }
 {}
 
 /// A piece that is dropped is as good as none: the messages of which some pieces came are the same, and the inputs, and all that a
