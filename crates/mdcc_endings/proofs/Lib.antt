@@ -1,2 +1,4 @@
+pub mod Accepted
 pub mod Causes
+pub mod LogEnds
 pub mod StatusLines

@@ -1,2 +1,4 @@
+pub mod Completions
 pub mod Endings
+pub mod Logs
 pub mod Readings
