@@ -1,10 +1,10 @@
 -- What becomes of an input that is a configuration.
-use Rattle.std.proofs.Common.{◌≡◌, ◌⊎◌, ◌<◌, ◌&&◌, ◌==◌, Bool, Err, IsTrue, List, Ok, Result, arith, false, true, inl, inr, refl, sym, ◌∙◌, ap, ℕ}
+use Rattle.std.proofs.Common.{◌≡◌, ◌⊎◌, ◌&&◌, ◌==◌, Bool, Err, IsTrue, List, Ok, Result, arith, false, true, inl, inr, refl, sym, ◌∙◌, ap, ℕ}
 use Rattle.std.proofs.lemmas.Bool.{and_parts, eqb-true}
 use Rattle.std.specs.Bool.{OnFalse}
 use Rattle.std.specs.Prelude.{MatchBool, is_err}
 use Rattle.mdcc_base.specs.declared.source.ReadAllFault.{ReadAllFault}
-use Rattle.mdcc_config.specs.Configuration.{config_of, is_config_memory}
+use Rattle.mdcc_config.specs.Configuration.{is_config_memory}
 use Rattle.mdcc_config.specs.declared.config.Config.{Config}
 use Rattle.mdcc_config.specs.declared.faults.ConfigFault.{ConfigFault}
 use Rattle.mdcc_endings.specs.Endings.{status_after, status_of}

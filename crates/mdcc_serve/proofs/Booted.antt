@@ -4,6 +4,7 @@ use Rattle.std.specs.List.{AllByRecursion}
 use Rattle.std.proofs.lemmas.Bool.{cases_Bool}
 use Rattle.mdcc_admission.specs.Boots.{BootsWithinCells}
 use Rattle.mdcc_admission.specs.Loading.{AreShort, Cells, Holds, boot_by, fact_in, fact_read, is_past, loaded_by, next_by, past_fault}
+use Rattle.mdcc_endings.specs.Logs.{cells_of}
 use Rattle.mdcc_ledger.specs.BootTest.{is_allowed_fact}
 use Rattle.mdcc_site.specs.Nodes.{CentreStore, IsNodeOf, are_stored, needed_in, spare_of}
 use Rattle.mdcc_messages.specs.Lengths.{cells_needed, fact_length}
@@ -28,10 +29,6 @@ use Rattle.mdcc_serve.specs.Starts.{GivesNode, GivesNone, boot_fault_of}
 use Rattle.mdcc_spelling.proofs.Lengths.{length-fact}
 use Rattle.mdcc_spelling.specs.Laws.{AreBytes, FactsHaveOneSpelling, FactsReadAreWellFormed}
 use Rattle.mdcc_steps.specs.NodeInvariant.{BootGivesNode, payloads_of}
-
--- the cells of an empty store, and those that a fact needs
-abbrev pub cells_of : Cluster → Cells
-cells_of cluster = record { total = cluster.cells; needed = cells_needed }
 
 pub empty_store : (store : CentreStore) (cluster : Cluster) → are_stored store [] → spare_of store ≡ cluster.cells → Holds are_stored spare_of needed_in (cells_of cluster) store []
 empty_store store cluster empty spare = record { list = empty; spare = omega (spare, arith); needs = λ s fact. refl; counted = refl }

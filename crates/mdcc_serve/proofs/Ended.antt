@@ -37,11 +37,12 @@ use Rattle.mdcc_serve.specs.Starts.{Follow}
 use Rattle.mdcc_serve.specs.Totals.{counts_of, done_of}
 use Rattle.mdcc_serve.specs.declared.served.Served.{Served}
 use Rattle.mdcc_site.proofs.Going.{comes_under}
-use Rattle.mdcc_site.proofs.Joined.{broke_more, caused_later, comes_more, did_broke, did_then, facts_expected, facts_then, failed_more, leaves_then, none_added, passes_then, text_more}
+use Rattle.mdcc_site.proofs.Joined.{broke_more, caused_later, comes_more, did_broke, did_then, facts_expected, facts_then, failed_more, full_more, leaves_then, none_added, passes_then, text_more}
 use Rattle.mdcc_site.proofs.Owns.{turn_owns}
 use Rattle.mdcc_site.specs.Causes.{BootsRefused, ComesAt, IsNoBoot, SerialsEnd, failed_by, in_flight, text_begun}
 use Rattle.mdcc_site.specs.Logs.{KeepsFacts, MayHaveFacts, checkpoint_every, facts_after}
 use Rattle.mdcc_site.specs.Moments.{Adds, Broke, Caused, Did, Leaves, Moment, Outside, Passes}
+use Rattle.mdcc_site.specs.Room.{OnFull}
 use Rattle.mdcc_site.specs.SiteState.{HoldsLog, PrintsAll, PrintsSome}
 use Rattle.mdcc_site.specs.declared.fault.ServeFault.{ServeFault}
 use Rattle.mdcc_site.specs.declared.site.Site.{Site as TheSite}
@@ -313,6 +314,7 @@ module _ {D L O : Type 0} (w : Outside D L O) where
         };
         comes = comes_told ⊤ fault (broke.rest ++ more) tt (comes_more ⊤ fault broke.rest more broke.comes);
         boots = boots;
+        full = full_more w.disk w.may_leave new.disks ⊤ fault broke.rest more broke.comes broke.full;
         serials = serials;
         printed_more = broke.printed_more;
         left = record {
@@ -431,6 +433,10 @@ module _ {D L O : Type 0} (w : Outside D L O) where
                 | inl none ↦ subst IsNoBoot (sym none.0) tt
                 | inr failed ↦ subst IsNoBoot (sym failed.0) tt
               ]);
+              full = elim prints.comes [
+                | inl none ↦ subst (λ (f : ServeFault). OnFull w.disk w.may_leave new.disks f (Act.Print (done_line turns ran.acts) ∷ [])) (sym none.0) tt
+                | inr failed ↦ subst (λ (f : ServeFault). OnFull w.disk w.may_leave new.disks f (Act.Print (done_line turns ran.acts) ∷ [])) (sym failed.0) tt
+              ];
               serials = elim prints.comes [
                 | inl none ↦ subst (λ (f : ServeFault). SerialsEnd (served config logs given).sites f) (sym none.0) tt
                 | inr failed ↦ subst (λ (f : ServeFault). SerialsEnd (served config logs given).sites f) (sym failed.0) tt

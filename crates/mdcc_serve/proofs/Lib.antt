@@ -5,6 +5,7 @@ pub mod Kept
 pub mod Opened
 pub mod Quiet
 pub mod Ready
+pub mod Refused
 pub mod Repeated
 pub mod Rounds
 pub mod Started

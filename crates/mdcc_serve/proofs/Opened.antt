@@ -91,7 +91,7 @@ module _ {D : Type 0} (disk : D → ℕ → Disk) (may_leave : D → ℕ → Lis
       cause = tt;
       passes = disks_same disk may_leave disks;
       others = others_same disk may_leave centre disks;
-      over = λ log of is. record { comes = tt; boots = tt; kept = λ durable safe. durable_has disks log None durable is.has };
+      over = λ log of is. record { comes = tt; boots = tt; full = tt; kept = λ durable safe. durable_has disks log None durable is.has };
     }
 
     -- ---- it is not opened
@@ -120,14 +120,14 @@ module _ {D : Type 0} (disk : D → ℕ → Disk) (may_leave : D → ℕ → Lis
           cause = rose refl;
           passes = passes;
           others = others;
-          over = λ log of is. record { comes = of; boots = tt; kept = λ durable safe. kept_opening log _ of is durable safe };
+          over = λ log of is. record { comes = of; boots = tt; full = tt; kept = λ durable safe. kept_opening log _ of is durable safe };
         }
         open_fails LogFault.Memory rose full a_log = record {
           of = tt;
           cause = tt;
           passes = passes;
           others = others;
-          over = λ log of is. record { comes = tt; boots = tt; kept = λ durable safe. kept_opening log None of is durable safe };
+          over = λ log of is. record { comes = tt; boots = tt; full = tt; kept = λ durable safe. kept_opening log None of is durable safe };
         }
         open_fails LogFault.LogFull rose full a_log = absurd (full refl)
         open_fails (LogFault.NotALog n) rose full a_log = record {
@@ -163,7 +163,7 @@ module _ {D : Type 0} (disk : D → ℕ → Disk) (may_leave : D → ℕ → Lis
           cause = tt;
           passes = opened.passes;
           others = opened.others;
-          over = λ before of log_is. record { comes = tt; boots = tt; kept = λ durable safe. kept before of log_is };
+          over = λ before of log_is. record { comes = tt; boots = tt; full = tt; kept = λ durable safe. kept before of log_is };
         })
         by_none fault (inr why) = subst (λ (f : ServeFault). FailsToStart disk may_leave tears cluster centre f old new) (sym why.1) (record {
           of = refl;
@@ -173,6 +173,7 @@ module _ {D : Type 0} (disk : D → ℕ → Disk) (may_leave : D → ℕ → Lis
           over = λ before of log_is. record {
             comes = of;
             boots = (λ same. why.2 before.facts log_is.allowed (same_facts before of log_is), tt);
+            full = tt;
             kept = λ durable safe. kept before of log_is;
           };
         })

@@ -26,11 +26,12 @@ use Rattle.mdcc_serve.specs.Centres.{Ascend, HoldSites, all_seen, places}
 use Rattle.mdcc_serve.specs.Openings.{BindsAll, BindsSome, FailsToOpen, HasOpened, KeepLogs, LinesSome, StopsOpening, binds_of, binds_of_all, boots_told}
 use Rattle.mdcc_serve.specs.Serving.{AreLogsOf}
 use Rattle.mdcc_serve.specs.Starts.{AreHeld, FailToStart, Follow, HaveStarted, IsOfStart}
-use Rattle.mdcc_site.proofs.Joined.{broke_more, comes_more, did_broke, did_then, facts_expected, facts_then, flight_more, none_added, none_written}
+use Rattle.mdcc_site.proofs.Joined.{broke_more, comes_more, did_broke, did_then, facts_expected, facts_then, flight_more, full_more, none_added, none_written}
 use Rattle.mdcc_site.specs.Causes.{ComesAt, IsNoBoot, IsSafeAt, IsSafeIn, SerialsEnd, failed_by, failed_next, in_flight, text_begun}
 use Rattle.mdcc_site.specs.LogEffects.{CausedOn}
 use Rattle.mdcc_site.specs.Logs.{MayHaveFacts, facts_after, with_facts}
 use Rattle.mdcc_site.specs.Moments.{Adds, Broke, Caused, Did, DiskPasses, Leaves, MayComeAt, Moment, Outside, Passes}
+use Rattle.mdcc_site.specs.Room.{OnFull}
 use Rattle.mdcc_site.specs.SiteState.{PrintsAll}
 use Rattle.mdcc_site.specs.declared.fault.ServeFault.{ServeFault}
 use Rattle.mdcc_site.specs.declared.site.Site.{Site as TheSite}
@@ -241,6 +242,7 @@ module _ {D L O : Type 0} (w : Outside D L O) where
     left = plain_leaves stop.done (failed_next stop.rest) [] disks disks link new_link out out done.plain stop.recorded (none_printed out (printed stop.done) done.prints);
     passes = link_passed disks link new_link out stop.sends stop.later;
     cause = stop.rose;
+    full = tt;
     logs = done.appends;
   })
     where
@@ -259,6 +261,7 @@ module _ {D L O : Type 0} (w : Outside D L O) where
         (none_called link (calls_of stop.done) (failed_by fault stop.rest) done.calls none_failed) stop.printed_some;
     passes = out_passed disks link out new_out stop.later;
     cause = cause;
+    full = full;
     logs = done.appends;
   }
     where
@@ -269,6 +272,12 @@ module _ {D L O : Type 0} (w : Outside D L O) where
       comes = elim stop.comes [
         | inl is ↦ subst (λ (f : ServeFault). MayComeAt ⊤ f stop.rest) (sym is) tt
         | inr failed ↦ subst (λ (f : ServeFault). MayComeAt ⊤ f stop.rest) (sym failed.0) failed.1
+      ]
+
+      full : OnFull w.disk w.may_leave disks fault stop.rest
+      full = elim stop.comes [
+        | inl is ↦ subst (λ (f : ServeFault). OnFull w.disk w.may_leave disks f stop.rest) (sym is) tt
+        | inr failed ↦ subst (λ (f : ServeFault). OnFull w.disk w.may_leave disks f stop.rest) (sym failed.0) tt
       ]
 
       none_failed : failed_by fault stop.rest ≡ []
@@ -327,6 +336,7 @@ module _ {D L O : Type 0} (w : Outside D L O) where
                 (none_printed out (printed (starts stop.done).acts) boots.prints);
             passes = disks_passed old new link out fails.passes;
             cause = start_caused fault fails.at old new link out fails.of fails.cause;
+            full = full_more w.disk w.may_leave new ⊤ fault (starts stop.left).acts more comes stop.full;
             logs = keep_more tears logs fault old new (starts stop.done).acts (starts stop.left).acts more comes stop.kept;
           };
           boots = stop.boots;
@@ -392,6 +402,7 @@ module _ {D L O : Type 0} (w : Outside D L O) where
                 left = broke.left;
                 passes = broke.passes;
                 cause = broke.cause;
+                full = broke.full;
                 logs = kept fault broke.acts broke.rest broke.logs (subst (λ (ls : List Log). AreLogsOf w.disk config.cluster old ls) (sym same) are);
               };
               boots = none_refused config.cluster started.logs fault no_boot;

@@ -154,6 +154,7 @@ module _ {D L O : Type 0} (w : Outside D L O) where
       left = leaves_all broke.left;
       passes = passes_all broke.passes;
       cause = caused_all fault broke.cause;
+      full = broke.full;
       logs = (broke.logs, broke.are, broke.comes);
     }
 

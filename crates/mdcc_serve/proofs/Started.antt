@@ -16,6 +16,7 @@ use Rattle.mdcc_site.specs.Causes.{BootsRefused, ComesAt, IsNoBoot, in_flight}
 use Rattle.mdcc_site.specs.LogEffects.{CausedOn, FailsToLog}
 use Rattle.mdcc_site.specs.Logs.{MayHaveFacts}
 use Rattle.mdcc_site.specs.Moments.{DiskPasses, KeepsOthers, MayComeAt}
+use Rattle.mdcc_site.specs.Room.{OnFull}
 use Rattle.mdcc_site.specs.declared.fault.ServeFault.{ServeFault}
 
 -- where the bytes are known a log is one
@@ -83,6 +84,7 @@ module _ {D : Type 0} (disk : D → ℕ → Disk) (may_leave : D → ℕ → Lis
         record {
           comes = subst (λ (rest : List Act). ComesAt fault rest) next (comes_told (IsTrue (disk mid centre).told) fault (Act.Append centre boot ∷ []) told fails.comes);
           boots = none_refused cluster (before ∷ []) fault fails.no_boot;
+          full = subst (λ (rest : List Act). OnFull disk may_leave new fault rest) next fails.full;
           kept = λ durable safe.
               subst (λ (rest : List Act). MayHaveFacts disk may_leave new before.centre before.facts (in_flight fault before.centre rest)) next
               (subst (λ (n : ℕ). MayHaveFacts disk may_leave new n before.facts (in_flight fault n (Act.Append centre boot ∷ []))) (sym of)

@@ -21,6 +21,7 @@ use Rattle.mdcc_site.proofs.Logged.{disks_same, same_is}
 use Rattle.mdcc_site.specs.Causes.{BootsRefused, ComesAt, IsBootRefused, IsSafeAt, in_flight}
 use Rattle.mdcc_site.specs.Logs.{MayHaveFacts, facts_after, with_facts}
 use Rattle.mdcc_site.specs.Moments.{DiskPasses, KeepsOthers}
+use Rattle.mdcc_site.specs.Room.{OnFull}
 use Rattle.mdcc_site.specs.SiteState.{HoldsLog}
 use Rattle.mdcc_site.specs.declared.fault.ServeFault.{ServeFault}
 use Rattle.mdcc_site.specs.declared.site.Site.{Site as TheSite}
@@ -97,6 +98,18 @@ comes_first ServeFault.Link l more comes = absurd comes
 comes_first ServeFault.Output l more comes = absurd comes
 comes_first ServeFault.Serial l more comes = absurd comes
 comes_first ServeFault.Memory l more comes = tt
+
+full_first : {D : Type 0} (disk : D → ℕ → Disk) (may_leave : D → ℕ → List ℕ → Type 0) (disks : D) (fault : ServeFault) (l : Log) (more : List Log) → OnFull disk may_leave disks fault (starting l) → OnFull disk may_leave disks fault (starts (l ∷ more)).acts
+full_first disk may_leave disks (ServeFault.Disk a) l more full = tt
+full_first disk may_leave disks (ServeFault.Log a LogFault.LogFull) l more full = full
+full_first disk may_leave disks (ServeFault.Log a LogFault.DiskFault) l more full = tt
+full_first disk may_leave disks (ServeFault.Log a LogFault.Memory) l more full = tt
+full_first disk may_leave disks (ServeFault.Log a (LogFault.NotALog offset)) l more full = tt
+full_first disk may_leave disks (ServeFault.Boot a fault) l more full = tt
+full_first disk may_leave disks ServeFault.Link l more full = tt
+full_first disk may_leave disks ServeFault.Output l more full = tt
+full_first disk may_leave disks ServeFault.Serial l more full = tt
+full_first disk may_leave disks ServeFault.Memory l more full = tt
 
 safe_first : (tears : ℕ → Type 0) (fault : ServeFault) (l : Log) (more : List Log) → IsSafeAt tears fault (starts (l ∷ more)).acts → IsSafeAt tears fault (starting l)
 safe_first tears (ServeFault.Disk a) l more safe = safe
@@ -346,6 +359,7 @@ module _ {D : Type 0} (disk : D → ℕ → Disk) (may_leave : D → ℕ → Lis
                 are = split;
                 comes = comes_first fault l rest own.comes;
                 boots = boots logs are fault refl;
+                full = full_first disk may_leave new fault l rest own.full;
                 kept = λ durable safe.
                     subst (λ (xs : List Log). AllByRecursion (λ log. MayHaveFacts disk may_leave new log.centre (facts_after log.centre log.facts (starts started.logs).acts) (in_flight fault log.centre (starts (l ∷ rest)).acts)) xs) (sym split)
                     (kept l rest of (subst (λ (xs : List Log). Follow first xs) split follow) (ap (λ (xs : List Log). length xs) (sym split) ∙ long) own each (subst (λ (xs : List Log). AllByRecursion (IsDurable disk may_leave old) xs) split durable) safe);
@@ -368,6 +382,7 @@ module _ {D : Type 0} (disk : D → ℕ → Disk) (may_leave : D → ℕ → Lis
           are = front.1;
           comes = tt;
           boots = tt;
+          full = tt;
           kept = λ durable safe.
               each_by _ _ logs (each_both _ _ logs (each_both _ _ logs are durable) (follow_front first logs [] (subst (λ (xs : List Log). Follow first xs) (sym (append-nil logs)) follow)))
               (λ log h. facts_or_more disk may_leave new log.centre (facts_after log.centre log.facts (starts started.logs).acts) None (started.kept log (let high = h.1 in omega (high, long, most, arith)) h.0.0 h.0.1));

@@ -16,6 +16,7 @@ use Rattle.mdcc_runs.specs.declared.lines.ServerLine.{ServerLine}
 use Rattle.mdcc_site.specs.Causes.{BootsRefused, ComesAt, IsSafeAt, SerialsEnd, failed_by, in_flight, text_begun}
 use Rattle.mdcc_outbox.specs.Shows.{Records, calls_of, counted, failed_in}
 use Rattle.mdcc_site.specs.Logs.{HasFacts, KeepsFacts, MayHaveFacts, facts_after}
+use Rattle.mdcc_site.specs.Room.{OnFull}
 use Rattle.mdcc_site.specs.declared.fault.ServeFault.{ServeFault}
 use Rattle.mdcc_serve.specs.declared.served.Served.{Served}
 
@@ -86,6 +87,8 @@ module _ {D L O : Type 0} (disk : D → ℕ → Disk) (may_leave : D → ℕ →
     pub run : IsRun config logs turns (acts ++ rest)
     pub comes : ComesAt fault rest
     pub boots : BootsRefused config.cluster logs fault
+    -- a log is said to be full only where it has no room for the fact that comes next
+    pub full : OnFull disk may_leave disks fault rest
     pub serials : SerialsEnd (served config logs run.given).sites fault
     pub printed_more : ℕ
     pub left : Leaves acts (failed_by fault rest) (take printed_more (text_begun fault rest)) link_old link_new out_old out_new

@@ -22,6 +22,7 @@ use Rattle.mdcc_site.specs.Causes.{BootsRefused, ComesAt, IsBootRefused, IsSafeA
 use Rattle.mdcc_site.specs.LogEffects.{CausedOn}
 use Rattle.mdcc_site.specs.Logs.{MayHaveFacts, checkpoint_every, facts_after}
 use Rattle.mdcc_site.specs.Moments.{DiskPasses, KeepsOthers}
+use Rattle.mdcc_site.specs.Room.{OnFull}
 use Rattle.mdcc_site.specs.SiteState.{HoldsLog, IsSite, OpenLog}
 use Rattle.mdcc_site.specs.declared.fault.ServeFault.{ServeFault}
 use Rattle.mdcc_site.specs.declared.site.Site.{Site as TheSite}
@@ -108,6 +109,7 @@ module _ {D : Type 0} (disk : D → ℕ → Disk) (may_leave : D → ℕ → Lis
     pub record StopsOver (cluster : Cluster) (log : Log) (fault : ServeFault) (old new : D) : Type 0 where
       pub comes : ComesAt fault (starting log)
       pub boots : BootsRefused cluster (log ∷ []) fault
+      pub full : OnFull disk may_leave new fault (starting log)
       pub kept : IsDurable disk may_leave old log → IsSafeAt tears fault (starting log) → MayHaveFacts disk may_leave new log.centre log.facts (in_flight fault log.centre (starting log))
 
     -- It ended before.
@@ -161,6 +163,7 @@ module _ {D : Type 0} (disk : D → ℕ → Disk) (may_leave : D → ℕ → Lis
       pub are : logs ≡ done ++ left
       pub comes : ComesAt fault (starts left).acts
       pub boots : BootsRefused cluster logs fault
+      pub full : OnFull disk may_leave new fault (starts left).acts
       pub kept : AllByRecursion (IsDurable disk may_leave old) logs → IsSafeAt tears fault (starts left).acts
           → AllByRecursion (λ log. MayHaveFacts disk may_leave new log.centre (facts_after log.centre log.facts (starts done).acts) (in_flight fault log.centre (starts left).acts)) logs
 

@@ -1,12 +1,14 @@
 //! A log is opened, and the node of its centre booted.
 ghost use Rattle.std.specs.List.{AllByRecursion};
-ghost use Rattle.std.specs.Prelude.{◌≡◌, ◌≤◌, ◌+◌, [], IfErr, IfOk, true};
+ghost use Rattle.std.specs.Prelude.{◌≡◌, ◌≤◌, ◌+◌, [], IfErr, IfOk, IsTrue, OnOk, is_ok, true};
 ghost use Rattle.mdcc_admission.specs.Loading.{AreShort};
 ghost use Rattle.mdcc_config.specs.IsConfig.{IsConfig};
+ghost use Rattle.mdcc_endings.specs.Logs.{booted};
 ghost use Rattle.mdcc_index.specs.Stores.{Represents};
 ghost use Rattle.mdcc_option.specs.declared.cluster.Cluster.{Cluster as ACluster};
 ghost use Rattle.mdcc_protocol.specs.Belongs.{is_centre};
 ghost use Rattle.mdcc_protocol.specs.IsCluster.{IsCluster};
+ghost use Rattle.mdcc_serve.specs.Refusals.{BootsAt, SaysAt, SaysBooting};
 ghost use Rattle.mdcc_serve.specs.Starts.{FailsToStart, GivesNode, GivesNone, IsBooted, IsOpened, boot_fault_of};
 ghost use Rattle.mdcc_spelling.specs.Laws.{AreBytes};
 
@@ -61,6 +63,7 @@ fn open_log<D: Disks>(
     requires alike { (D.disk disks.old (centre + 16)).told ≡ (D.disk disks.old centre).told }
     ensures opens { IfOk result (λ r. IsOpened D.disk D.may_leave centre r.0 r.1.items disks.old disks.new) }
     ensures fails { (cluster : ACluster) → IfErr result (λ fault. FailsToStart D.disk D.may_leave D.tears cluster centre fault disks.old disks.new) }
+    ensures says { (cluster : ACluster) → IfErr result (SaysAt D.disk cluster disks.old centre) }
 {
     match Frames::open(alloc, disks, centre, CHECKPOINT_EVERY) {
         Ok(opened) => Ok(opened),
@@ -83,6 +86,8 @@ fn boot_node(
     requires short { AreShort payloads.now }
     ensures boots { IfOk result (λ r. GivesNode cluster centre payloads.now r.0 r.1) }
     ensures fails { IfErr result (GivesNone cluster centre payloads.now) }
+    ensures node { OnOk result (IsTrue (is_ok (booted cluster payloads.now))) }
+    ensures says { IfErr result (SaysBooting cluster centre payloads.now) }
 {
     boots_give_nodes();
     boots_within_cells();
@@ -107,6 +112,8 @@ pub(crate) fn boot<D: Disks>(
     requires alike { (D.disk disks.old (centre + 16)).told ≡ (D.disk disks.old centre).told }
     ensures boots { IfOk result (λ r. IsBooted D.disk D.may_leave config.now.cluster centre r.0 r.1 r.2 disks.old disks.new) }
     ensures fails { IfErr result (λ fault. FailsToStart D.disk D.may_leave D.tears config.now.cluster centre fault disks.old disks.new) }
+    ensures node { OnOk result (BootsAt D.disk config.now.cluster disks.old centre) }
+    ensures says { IfErr result (SaysAt D.disk config.now.cluster disks.old centre) }
 {
     current_is_read();
     let store = PoolFacts::new(alloc, config.cluster.cells)?;

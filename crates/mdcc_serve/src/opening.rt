@@ -5,6 +5,7 @@ ghost use Rattle.mdcc_config.specs.IsConfig.{IsConfig};
 ghost use Rattle.mdcc_runs.specs.Acts.{Act};
 ghost use Rattle.mdcc_serve.specs.Centres.{places};
 ghost use Rattle.mdcc_serve.specs.Openings.{Binds, FailsToOpen, HasOpened, Lines, binds_of, binds_of_all, boots_told};
+ghost use Rattle.mdcc_serve.specs.Refusals.{SaysOfLogs};
 ghost use Rattle.mdcc_site.specs.Moments.{outside};
 
 use crate::starting::start_all;
@@ -79,6 +80,7 @@ pub(crate) fn open<D: Disks, L: Link, O: Sink>(
         (places disks.old [] link.old out.old) (places disks.new held.items link.new out.new)) }
     ensures fails { IfErr result (λ fault. FailsToOpen (outside D.disk D.may_leave L.calls L.lost L.faults O.held O.faults) D.tears config.now first last fault
         (places disks.old [] link.old out.old) (places disks.new [] link.new out.new)) }
+    ensures logs { SaysOfLogs D.disk config.now.cluster disks.old first (last + 1) result }
 {
     let sites = start_all(alloc, config, first, last, disks)?;
     bind_all(config, sites.as_slice(), link)?;

@@ -10,6 +10,7 @@ ghost use Rattle.mdcc_runs.specs.Sites.{Site as ASite};
 ghost use Rattle.mdcc_runs.specs.Turns.{Given};
 ghost use Rattle.mdcc_serve.specs.Centres.{AllServed, Ascend, HoldSites, all_seen, places};
 ghost use Rattle.mdcc_serve.specs.Ends.{AllEnd, SerialsFit};
+ghost use Rattle.mdcc_serve.specs.Refusals.{MayServe, SaysOfLogs};
 ghost use Rattle.mdcc_serve.specs.Serving.{AreLogsOf, IsLogOf, ServesOrBreaksOff};
 ghost use Rattle.mdcc_serve.specs.Starts.{Follow};
 ghost use Rattle.mdcc_serve.specs.Totals.{counts_of, done_of, with_counts};
@@ -129,6 +130,7 @@ fn serve<D: Disks, L: Link, O: Sink>(
         → ServesOrBreaksOff D.disk D.may_leave D.tears L.calls L.lost O.held config.now logs turns result disks.old disks.new link.old link.new out.old out.new }
     ensures causes { IfErr result (λ fault. Caused (outside D.disk D.may_leave L.calls L.lost L.faults O.held O.faults) fault
         (all_seen (places disks.old [] link.old out.old)) (all_seen (places disks.new [] link.new out.new))) }
+    ensures logs { SaysOfLogs D.disk config.now.cluster disks.old first (last + 1) result }
 {
     let mut sites = open(alloc, config, first, last, disks, link, out)?;
     serve_sites(alloc, config, &mut sites, turns, disks, link, out)
@@ -153,6 +155,10 @@ pub fn serve_node<D: Disks, L: Link, O: Sink>(
     // so many turns and else a prefix.
     ensures serves { (log : Log) → log.centre ≡ centre → IsLogOf D.disk config.now.cluster disks.old log
         → ServesOrBreaksOff D.disk D.may_leave D.tears L.calls L.lost O.held config.now (log ∷ []) turns result disks.old disks.new link.old link.new out.old out.new }
+
+    // A log is refused just where no node boots from it, unless something else comes before.
+    ensures logs { SaysOfLogs D.disk config.now.cluster disks.old centre (centre + 1) result }
+    ensures may { IfErr result MayServe }
 
     // A fault of a disk, the link or the output comes only where its count rose.
     ensures disk { (a : ℕ) → IsErrOf result (AServeFault.Disk a)
@@ -181,6 +187,10 @@ pub fn serve_cluster<D: Disks, L: Link, O: Sink>(
     ensures serves { (logs : List Log) → map (λ log. log.centre) logs ≡ range_with_len 1 config.now.cluster.quorums.centres
         → AreLogsOf D.disk config.now.cluster disks.old logs
         → ServesOrBreaksOff D.disk D.may_leave D.tears L.calls L.lost O.held config.now logs turns result disks.old disks.new link.old link.new out.old out.new }
+
+    // The first log is refused from which no node boots, and no other, unless something else comes before.
+    ensures logs { SaysOfLogs D.disk config.now.cluster disks.old 1 (config.now.cluster.quorums.centres + 1) result }
+    ensures may { IfErr result MayServe }
 
     // A fault of a disk, the link or the output comes only where its count rose.
     ensures disk { (a : ℕ) → IsErrOf result (AServeFault.Disk a)

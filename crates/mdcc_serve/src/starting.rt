@@ -1,6 +1,7 @@
 //! The start of a centre, and of several.
 ghost use Rattle.std.specs.Prelude.{◌≡◌, ◌≤◌, ◌+◌, ◌++◌, ◌-◌, ◌∷◌, ◌⊎◌, [], IfErr, IfOk, OnOk, length, ℕ};
 ghost use Rattle.mdcc_config.specs.IsConfig.{IsConfig};
+ghost use Rattle.mdcc_serve.specs.Refusals.{AllBoot, BootsAt, SaysAt, StartEnds};
 ghost use Rattle.mdcc_serve.specs.Starts.{FailToStart, FailsToStart, HasStarted, HaveStarted};
 ghost use Rattle.mdcc_site.specs.declared.fault.ServeFault.{ServeFault as AServeFault};
 ghost use Rattle.mdcc_site.specs.declared.site.Site.{Site as ASite};
@@ -26,6 +27,8 @@ fn start<D: Disks>(
     requires alike { (D.disk disks.old (centre + 16)).told ≡ (D.disk disks.old centre).told }
     ensures starts { IfOk result (λ held. HasStarted D.disk D.may_leave config.now.cluster centre held disks.old disks.new) }
     ensures fails { IfErr result (λ fault. FailsToStart D.disk D.may_leave D.tears config.now.cluster centre fault disks.old disks.new) }
+    ensures node { OnOk result (BootsAt D.disk config.now.cluster disks.old centre) }
+    ensures says { IfErr result (SaysAt D.disk config.now.cluster disks.old centre) }
 {
     let own = Joiner::new(alloc)?;
     let asked = Joiner::new(alloc)?;
@@ -66,6 +69,8 @@ fn start_next<D: Disks>(
     ensures starts { OnOk result ((held : ASite) × (sites.new.items ≡ sites.old.items ++ held ∷ []) × HasStarted D.disk D.may_leave config.now.cluster number held disks.old disks.new) }
     ensures fails { IfErr result (λ fault. FailsToStart D.disk D.may_leave D.tears config.now.cluster number fault disks.old disks.new
         ⊎ ((fault ≡ AServeFault.Memory) × (held : ASite) × HasStarted D.disk D.may_leave config.now.cluster number held disks.old disks.new)) }
+    ensures node { OnOk result (BootsAt D.disk config.now.cluster disks.old number) }
+    ensures says { IfErr result (SaysAt D.disk config.now.cluster disks.old number) }
 {
     let centre = Centre::new(number).unwrap();
     let site = start(alloc, config, centre, disks)?;
@@ -89,6 +94,8 @@ pub(crate) fn start_all<D: Disks>(
     ensures starts { IfOk result (λ held. HaveStarted D.disk D.may_leave config.now.cluster first held.items disks.old disks.new) }
     ensures as_many { IfOk result (λ held. length held.items + first ≡ last + 1) }
     ensures fails { IfErr result (λ fault. FailToStart D.disk D.may_leave D.tears config.now.cluster first (last + 1 - first) fault disks.old disks.new) }
+    ensures nodes { OnOk result (AllBoot D.disk config.now.cluster disks.old first (last + 1)) }
+    ensures ends { IfErr result (StartEnds D.disk config.now.cluster disks.old first (last + 1)) }
 {
     let mut sites = Vec::new(alloc);
     for number in first..last + 1 {

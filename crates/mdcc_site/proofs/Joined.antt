@@ -3,6 +3,7 @@ use Rattle.std.proofs.Common.{◌≡◌, ℕ, ◌+◌, List, [], ◌∷◌, ◌+
 use Rattle.std.specs.Io.KnownBytes.{Appends}
 use Rattle.std.proofs.lemmas.Grind.{flat_map-append}
 use Rattle.mdcc_areas.specs.declared.fault.LogFault.{LogFault}
+use Rattle.mdcc_disks.specs.Disks.{Disk}
 use Rattle.mdcc_link.specs.Link.{LinkCall}
 use Rattle.mdcc_messages.specs.declared.facts.Fact.{Fact}
 use Rattle.mdcc_outbox.proofs.Handed.{either_some, rose_before, rose_later}
@@ -13,6 +14,7 @@ use Rattle.mdcc_runs.specs.Acts.{Act, appended, appended_by, but_answer, but_ans
 use Rattle.mdcc_site.specs.Causes.{IsAtLink, IsLogging, IsPrinting, failed_by, failed_next, in_flight, next_fact, next_text, text_begun}
 use Rattle.mdcc_site.specs.Logs.{facts_after, with_facts}
 use Rattle.mdcc_site.specs.Moments.{Adds, Broke, Caused, Did, KeepsOthers, Leaves, MayComeAt, Moment, Outside, Passes}
+use Rattle.mdcc_site.specs.Room.{LacksRoom, OnFull}
 use Rattle.mdcc_site.specs.declared.fault.ServeFault.{ServeFault}
 
 -- ---- lists of acts
@@ -174,6 +176,30 @@ flight_more Told ServeFault.Output b rest more comes = refl
 flight_more Told ServeFault.Serial b rest more comes = refl
 flight_more Told ServeFault.Memory b rest more comes = refl
 
+finds_more : {D : Type 0} (disk : D → ℕ → Disk) (may_leave : D → ℕ → List ℕ → Type 0) (disks : D) (a : ℕ) (rest more : List Act) → IsLogging a rest → LacksRoom disk may_leave disks rest → LacksRoom disk may_leave disks (rest ++ more)
+finds_more disk may_leave disks a (Act.Append centre fact ∷ rest) more comes lacks = lacks
+finds_more disk may_leave disks a [] more comes lacks = absurd comes
+finds_more disk may_leave disks a (Act.Bind at address ∷ rest) more comes lacks = absurd comes
+finds_more disk may_leave disks a (Act.Receive at gave ∷ rest) more comes lacks = absurd comes
+finds_more disk may_leave disks a (Act.Send from to bytes answer ∷ rest) more comes lacks = absurd comes
+finds_more disk may_leave disks a (Act.Print line ∷ rest) more comes lacks = absurd comes
+finds_more disk may_leave disks a (Act.Stepped ∷ rest) more comes lacks = absurd comes
+finds_more disk may_leave disks a (Act.Dropped ∷ rest) more comes lacks = absurd comes
+finds_more disk may_leave disks a (Act.Unsent ∷ rest) more comes lacks = absurd comes
+
+pub full_more : {D : Type 0} (disk : D → ℕ → Disk) (may_leave : D → ℕ → List ℕ → Type 0) (disks : D) (Told : Type 0) (fault : ServeFault) (rest more : List Act) → MayComeAt Told fault rest
+    → OnFull disk may_leave disks fault rest → OnFull disk may_leave disks fault (rest ++ more)
+full_more disk may_leave disks Told (ServeFault.Disk a) rest more comes full = tt
+full_more disk may_leave disks Told (ServeFault.Log a LogFault.LogFull) rest more comes full = finds_more disk may_leave disks a rest more comes full
+full_more disk may_leave disks Told (ServeFault.Log a LogFault.DiskFault) rest more comes full = tt
+full_more disk may_leave disks Told (ServeFault.Log a (LogFault.NotALog offset)) rest more comes full = tt
+full_more disk may_leave disks Told (ServeFault.Log a LogFault.Memory) rest more comes full = tt
+full_more disk may_leave disks Told (ServeFault.Boot a fault) rest more comes full = tt
+full_more disk may_leave disks Told ServeFault.Link rest more comes full = tt
+full_more disk may_leave disks Told ServeFault.Output rest more comes full = tt
+full_more disk may_leave disks Told ServeFault.Serial rest more comes full = tt
+full_more disk may_leave disks Told ServeFault.Memory rest more comes full = tt
+
 -- ---- bytes and counts
 
 pub none_written : (o : Option (List ℕ)) → Appends o o []
@@ -294,6 +320,7 @@ module _ {D L O : Type 0} (w : Outside D L O) where
     left = leaves_then one.left one.passes two.left two.passes;
     passes = passes_then one.passes two.passes;
     cause = caused_later fault old mid new one.passes two.cause;
+    full = two.full;
     logs = logs one.acts two.acts two.rest one.are two.logs;
   }
 
@@ -310,5 +337,6 @@ module _ {D L O : Type 0} (w : Outside D L O) where
     left = rw (failed_more Told fault one.rest more one.comes, text_more Told fault one.rest more one.comes) one.left;
     passes = one.passes;
     cause = one.cause;
+    full = full_more w.disk w.may_leave new.disks Told fault one.rest more one.comes one.full;
     logs = logs one.acts one.rest one.comes one.logs;
   }

@@ -1,5 +1,5 @@
 -- What logging a fact does to the log of a centre.
-use Rattle.std.proofs.Common.{◌≡◌, ℕ, ◌+◌, ◌≤◌, ◌<◌, ◌⊎◌, inl, inr, List, [], ◌∷◌, ◌++◌, Some, None, Result, Ok, refl, sym, ◌∙◌, ap, subst, arith, true, IsTrue, ◌==◌}
+use Rattle.std.proofs.Common.{◌≡◌, ℕ, ◌+◌, ◌≤◌, ◌<◌, ◌⊎◌, inl, inr, List, [], ◌∷◌, ◌++◌, length, Some, None, Result, Ok, refl, sym, ◌∙◌, ap, subst, arith, true, IsTrue, ◌==◌}
 use Rattle.std.proofs.lemmas.Bool.{cases_eq}
 use Rattle.std.proofs.lemmas.Bool.Decides.{nat_tests}
 use Rattle.mdcc_areas.specs.Area.{AreaLog, generation_of, payloads}
@@ -7,6 +7,7 @@ use Rattle.mdcc_areas.specs.AtRest.{IsAtRest}
 use Rattle.mdcc_areas.specs.Both.{KeepsBut, RoseAtOne}
 use Rattle.mdcc_areas.specs.Crash.{CurrentIsRead, IsCurrent, IsDead, IsIdle, IsOlder, ReadsAsEither, payloads_by}
 use Rattle.mdcc_areas.specs.Frames.{IsSettled, IsSpare, OpenAreas, other_of, place_of}
+use Rattle.mdcc_areas.specs.Room.{IsFull}
 use Rattle.mdcc_areas.specs.declared.fault.LogFault.{LogFault}
 use Rattle.mdcc_disks.specs.Disks.{Disk}
 use Rattle.mdcc_messages.specs.Spelling.{fact_bytes, encodings_of}
@@ -56,20 +57,22 @@ module _ {D : Type 0} (disk : D → ℕ → Disk) (may_leave : D → ℕ → Lis
   -- ---- a log that is full, or for which there is no memory
 
   pub unlogged : (disks : D) (log : OpenAreas) (centre : ℕ) (facts : List Fact) (fact : Fact) (fault : ServeFault) → OpenLog disk may_leave disks log centre facts
-      → (fault ≡ ServeFault.Memory) ⊎ (fault ≡ ServeFault.Log centre LogFault.LogFull)
+      → (fault ≡ ServeFault.Memory) ⊎ ((fault ≡ ServeFault.Log centre LogFault.LogFull) × IsFull log (length (fact_bytes fact)))
       → FailsToLog disk may_leave centre facts (Some fact) fault disks disks
   unlogged disks log centre facts fact fault stands (inl is) = rw is (record {
     comes = tt;
     no_boot = tt;
     cause = tt;
+    full = tt;
     log = stands.left;
     passes = disks_same disks;
     others = others_same centre disks;
   })
-  unlogged disks log centre facts fact fault stands (inr is) = rw is (record {
+  unlogged disks log centre facts fact fault stands (inr is) = rw is.0 (record {
     comes = refl;
     no_boot = tt;
     cause = tt;
+    full = λ told. record { facts = facts; log = log; of = stands.of; every = stands.every; at_rest = stands.at_rest told; full = is.1 };
     log = stands.left;
     passes = disks_same disks;
     others = others_same centre disks;
@@ -246,23 +249,26 @@ module _ {D : Type 0} (disk : D → ℕ → Disk) (may_leave : D → ℕ → Lis
             → ReadsAsEither all payload (payloads_by log.area current spare))
             → (fault ≡ LogFault.DiskFault → RoseAtOne (disk old (place_of log.centre log.area)) (disk new (place_of log.centre log.area)) (disk old (place_of log.centre (other_of log.area))) (disk new (place_of log.centre (other_of log.area))))
             → (fault ≡ LogFault.LogFull → new ≡ old) → ((n : ℕ) → fault ≡ LogFault.NotALog n → IsTrue (disk old (place_of log.centre log.area)).told → ⊥) → (fault ≡ LogFault.Memory → new ≡ old)
+            → (fault ≡ LogFault.LogFull → IsFull log (length (fact_bytes fact)))
             → FailsToLog disk may_leave centre facts (Some fact) (log_fault_of centre fault) old new
-        append_fails LogFault.DiskFault facts fact payload spells stands counts_now reads rose full a_log memory = record {
+        append_fails LogFault.DiskFault facts fact payload spells stands counts_now reads rose full a_log memory lacks = record {
           comes = refl;
           no_boot = tt;
           cause = rose_there (rose refl);
+          full = tt;
           log = λ told. rw (same_is centre) (may_have facts fact payload spells stands counts_now reads told);
           passes = disks_pass _ _ keeps;
           others = others_keep;
         }
-        append_fails LogFault.LogFull facts fact payload spells stands counts_now reads rose full a_log memory =
-            subst (λ (d : D). FailsToLog disk may_leave centre facts (Some fact) (ServeFault.Log centre LogFault.LogFull) old d) (sym (full refl)) (unlogged disk may_leave old log centre facts fact _ stands (inr refl))
-        append_fails LogFault.Memory facts fact payload spells stands counts_now reads rose full a_log memory =
+        append_fails LogFault.LogFull facts fact payload spells stands counts_now reads rose full a_log memory lacks =
+            subst (λ (d : D). FailsToLog disk may_leave centre facts (Some fact) (ServeFault.Log centre LogFault.LogFull) old d) (sym (full refl)) (unlogged disk may_leave old log centre facts fact _ stands (inr (refl, lacks refl)))
+        append_fails LogFault.Memory facts fact payload spells stands counts_now reads rose full a_log memory lacks =
             subst (λ (d : D). FailsToLog disk may_leave centre facts (Some fact) ServeFault.Memory old d) (sym (memory refl)) (unlogged disk may_leave old log centre facts fact _ stands (inl refl))
-        append_fails (LogFault.NotALog n) facts fact payload spells stands counts_now reads rose full a_log memory = record {
+        append_fails (LogFault.NotALog n) facts fact payload spells stands counts_now reads rose full a_log memory lacks = record {
           comes = λ told. a_log n refl (told_both old log centre facts stands range told).0;
           no_boot = tt;
           cause = tt;
+          full = tt;
           log = λ told. absurd (a_log n refl (told_both old log centre facts stands range told).0);
           passes = disks_pass _ _ keeps;
           others = others_keep;

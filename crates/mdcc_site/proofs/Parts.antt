@@ -121,6 +121,7 @@ module _ {D L O : Type 0} (w : Outside D L O) where
       left = leaves_nothing disks held new link out steps dropped lost;
       passes = passes_here disks held new link out;
       cause = tt;
+      full = tt;
       logs = left;
     };
     others = others_none w site.centre disks;
@@ -237,6 +238,7 @@ module _ {D L O : Type 0} (w : Outside D L O) where
           };
           passes = record { told = λ p. refl; faults = λ p. omega arith; sends = omega arith; receives = omega arith; writes = prints.later };
           cause = is.2;
+          full = tt;
           logs = left;
         };
         others = others_none w site.centre disks;
@@ -334,6 +336,7 @@ module _ {D L O : Type 0} (w : Outside D L O) where
             };
             passes = passes_logged fails.passes;
             cause = caused_logging (IsTrue (w.disk disks site.centre).told) fault fails.comes fails.cause;
+            full = fails.full;
             logs = fails.log;
           };
           others = fails.others;

@@ -21,6 +21,7 @@ use Rattle.mdcc_site.proofs.Joined.{appended_answers, appended_append, dropped_a
 use Rattle.mdcc_site.specs.Causes.{IsNoBoot, failed_by, in_flight, text_begun}
 use Rattle.mdcc_site.specs.Logs.{MayHaveFacts}
 use Rattle.mdcc_site.specs.Moments.{Caused, Leaves, MayComeAt, Outside, Passes}
+use Rattle.mdcc_site.specs.Room.{OnFull}
 use Rattle.mdcc_site.specs.SiteState.{Finishes, IsSite, Place, SendsAll, SendsSome, HoldsSite, Stops, place, seen}
 use Rattle.mdcc_site.specs.declared.fault.ServeFault.{ServeFault}
 use Rattle.mdcc_site.specs.declared.site.Site.{Site as TheSite}
@@ -204,6 +205,10 @@ module _ {D L O : Type 0} (w : Outside D L O) where
     caused_sent fault rest (inl is) = rw is tt
     caused_sent fault rest (inr is) = rw is.0 tt
 
+    full_sent : (fault : ServeFault) (rest : List Act) → (fault ≡ ServeFault.Memory) ⊎ ((fault ≡ ServeFault.Serial) × IsSending rest) → OnFull w.disk w.may_leave disks fault rest
+    full_sent fault rest (inl is) = rw is tt
+    full_sent fault rest (inr is) = rw is.0 tt
+
     no_boot_sent : (fault : ServeFault) (rest : List Act) → (fault ≡ ServeFault.Memory) ⊎ ((fault ≡ ServeFault.Serial) × IsSending rest) → IsNoBoot fault
     no_boot_sent fault rest (inl is) = rw is tt
     no_boot_sent fault rest (inr is) = rw is.0 tt
@@ -221,6 +226,7 @@ module _ {D L O : Type 0} (w : Outside D L O) where
         left = rw (comes_sent (Unit {0}) fault some.rest some.comes).1 (leaves_sent some.rest some.sent);
         passes = passes_sent some.rest some.sent;
         cause = caused_sent fault some.rest some.comes;
+        full = full_sent fault some.rest some.comes;
         logs = λ told.
             rw (
               (comes_sent (Unit {0}) fault some.rest some.comes).3 site.centre,

@@ -71,6 +71,7 @@ module _ {D L O : Type 0} (w : Outside D L O) where
         };
         passes = passes_received;
         cause = rose;
+        full = tt;
         logs = left;
       };
       others = others_none w site.centre disks;

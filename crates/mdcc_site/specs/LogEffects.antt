@@ -9,6 +9,7 @@ use Rattle.mdcc_runs.specs.Steps.{fact_logged}
 use Rattle.mdcc_site.specs.Causes.{IsNoBoot, in_flight}
 use Rattle.mdcc_site.specs.Logs.{MayHaveFacts}
 use Rattle.mdcc_site.specs.Moments.{DiskPasses, KeepsOthers, MayComeAt}
+use Rattle.mdcc_site.specs.Room.{OnFull}
 use Rattle.mdcc_site.specs.SiteState.{HoldsLog}
 use Rattle.mdcc_site.specs.declared.fault.ServeFault.{ServeFault}
 use Rattle.mdcc_rules.specs.Steps.{with_new}
@@ -33,6 +34,7 @@ module _ {D : Type 0} (disk : D → ℕ → Disk) (may_leave : D → ℕ → Lis
     pub comes : MayComeAt (IsTrue (disk old centre).told) fault (fact_logged centre fact)
     pub no_boot : IsNoBoot fault
     pub cause : CausedOn fault old new
+    pub full : OnFull disk may_leave new fault (fact_logged centre fact)
     pub log : IsTrue (disk old centre).told → MayHaveFacts disk may_leave new centre facts (in_flight fault centre (fact_logged centre fact))
     pub passes : DiskPasses disk may_leave old new
     pub others : KeepsOthers disk may_leave centre old new

@@ -9,6 +9,7 @@ use Rattle.mdcc_link.specs.Link.{LinkCall}
 use Rattle.mdcc_outbox.specs.Shows.{Records, calls_of, counted, failed_in}
 use Rattle.mdcc_runs.specs.Acts.{Act, but_answers, dropped_in, lost_in, printed, steps_in}
 use Rattle.mdcc_site.specs.Causes.{ComesAt, failed_by, text_begun}
+use Rattle.mdcc_site.specs.Room.{OnFull}
 use Rattle.mdcc_site.specs.declared.fault.ServeFault.{ServeFault}
 
 -- what is known of the disks, the link and the output
@@ -110,4 +111,5 @@ module _ {D L O : Type 0} (w : Outside D L O) where
     pub left : Leaves acts (failed_by fault rest) (take printed_more (text_begun fault rest)) old new
     pub passes : Passes old new
     pub cause : Caused fault old new
+    pub full : OnFull w.disk w.may_leave new.disks fault rest
     pub logs : Logs acts rest

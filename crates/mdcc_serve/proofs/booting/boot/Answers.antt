@@ -1,5 +1,5 @@
 use Rattle.std.proofs.Common.{◌≡◌, ◌+◌, ◌≤◌, ℕ, List, Err, IsTrue, arith, rules, subst, sym, true}
-use Rattle.std.specs.Prelude.{nat_le}
+use Rattle.std.specs.Prelude.{nat_le, is_ok}
 use Rattle.std.proofs.lemmas.Bool.{and_from, le-leb}
 use Rattle.std.proofs.lemmas.Result.{err_from_is_err_and}
 use Rattle.mdcc_areas.specs.Area.{payloads}
@@ -9,6 +9,9 @@ use Rattle.mdcc_protocol.specs.Belongs.{is_centre}
 use Rattle.mdcc_protocol.specs.IsCluster.{IsCluster}
 use Rattle.mdcc_serve.proofs.Opened.{boot_fails, its_payloads, log_opened, same_lists, start_lacks}
 use Rattle.mdcc_serve.specs.Starts.{GivesNode, GivesNone}
+use Rattle.mdcc_serve.proofs.Refused.{booting_says, node_boots}
+use Rattle.mdcc_endings.specs.Logs.{booted}
+use Rattle.mdcc_serve.specs.Refusals.{SaysBooting}
 use Rattle.mdcc_serve.proofs.booting.boot.Goals as goal
 
 pub boot_node-requires-clause-cluster : goal.boot_node-requires-clause-cluster
@@ -57,3 +60,23 @@ returns-clause-boots g c =
           (same_lists (payloads (g.D.Disks.disk c.args.disks.now c.args.centre).bytes (g.D.Disks.disk c.args.disks.now (c.args.centre + 16)).bytes) c.in_ok-log.payloads.items (encodings_of before.facts)
           (opened.read (subst (λ (n : ℕ). IsTrue (g.D.Disks.disk c.args.disks.now n).told) of is.told)) (its_payloads g.D.Disks.disk c.args.disks.now before c.args.centre of is.has));
     }
+
+-- ---- what is said of its log
+
+pub returns-in_err-log-clause-says : goal.returns-in_err-log-clause-says
+returns-in_err-log-clause-says g c =
+    let e : c.from_residual-in_err-log.result ≡ Err c.in_err-log.field-0.0 = search rules in
+    rw e (c.in_err-log.ensures.says c.args.config.now.cluster)
+
+pub returns-in_err-node-clause-says : goal.returns-in_err-node-clause-says
+returns-in_err-node-clause-says g c =
+    let e : c.from_residual-in_err-node.result ≡ Err c.in_err-node.field-0.0 = search rules in
+    rw e (booting_says g.D.Disks.disk c.args.config.now.cluster c.args.disks.now c.args.centre c.in_ok-log.payloads.items c.in_err-node.field-0.0 c.in_ok-log.ensures.opens.read
+    (subst (λ (ps : List (List ℕ)). SaysBooting c.args.config.now.cluster c.args.centre ps c.in_err-node.field-0.0) c.as_slice.ensures.value
+    (subst (λ (cluster : Cluster). SaysBooting cluster c.args.centre c.as_slice.result.now c.in_err-node.field-0.0) c.copy-cluster.ensures c.in_err-node.ensures.says)))
+
+pub returns-clause-node : goal.returns-clause-node
+returns-clause-node g c =
+    node_boots g.D.Disks.disk c.args.config.now.cluster c.args.disks.now c.args.centre c.in_ok-log.payloads.items c.in_ok-log.ensures.opens.read
+    (subst (λ (ps : List (List ℕ)). IsTrue (is_ok (booted c.args.config.now.cluster ps))) c.as_slice.ensures.value
+    (subst (λ (cluster : Cluster). IsTrue (is_ok (booted cluster c.as_slice.result.now))) c.copy-cluster.ensures c.in_ok-node.ensures.node))

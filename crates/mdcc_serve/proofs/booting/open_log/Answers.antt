@@ -3,6 +3,8 @@ use Rattle.mdcc_areas.specs.declared.fault.LogFault.{LogFault}
 use Rattle.mdcc_serve.proofs.Opened.{but_others, but_passes, open_fails}
 use Rattle.mdcc_serve.specs.Starts.{FailsToStart}
 use Rattle.mdcc_site.specs.declared.fault.ServeFault.{ServeFault}
+use Rattle.mdcc_serve.proofs.Refused.{opening_says}
+use Rattle.mdcc_serve.specs.Refusals.{SaysAt}
 use Rattle.mdcc_serve.proofs.booting.open_log.Goals as goal
 
 err-of : {T : Type 0} {fault other : LogFault} → fault ≡ other → ◌≡◌ {A = Result T LogFault} (Err fault) (Err other)
@@ -31,3 +33,8 @@ returns-in-Err-clause-fails g c cluster =
     (g.met.D.Disks.counts_now c.open.new.disks c.args.centre (g.D.Disks.moment c.args.disks.now) current c.open.ensures.others.later left)
     (g.met.D.Disks.counts_now c.open.new.disks (c.args.centre + 16) (g.D.Disks.moment c.args.disks.now) other c.open.ensures.others.later left_other))
     c.in-Err.fault (λ is. c.in-Err.ensures.disk_fault (err-of is)) (λ is. c.in-Err.ensures.not_full (err-of is)) (λ n is. c.in-Err.ensures.not_a_log n (err-of is)))
+
+pub returns-in-Err-clause-says : goal.returns-in-Err-clause-says
+returns-in-Err-clause-says g c cluster =
+    subst (λ (f : ServeFault). SaysAt g.D.Disks.disk cluster c.args.disks.now c.args.centre f) (sym c.log_fault.ensures)
+    (opening_says g.D.Disks.disk cluster c.args.disks.now c.args.centre c.in-Err.fault (λ is. c.in-Err.ensures.not_full (err-of is)) (λ n is. c.in-Err.ensures.not_a_log n (err-of is)))

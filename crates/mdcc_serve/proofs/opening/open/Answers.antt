@@ -1,10 +1,11 @@
-use Rattle.std.proofs.Common.{◌≡◌, ◌+◌, ◌≤◌, List, Err, arith, length, rules, subst, sym}
+use Rattle.std.proofs.Common.{◌≡◌, ◌+◌, ◌≤◌, List, Err, arith, length, rules, subst, sym, inl, inr}
 use Rattle.std.specs.List.{AllByRecursion}
 use Rattle.mdcc_serve.proofs.Ready.{bind_fails, held_among, opens_all, start_fails, tell_fails}
 use Rattle.mdcc_serve.specs.Openings.{BindsAll, BindsSome, LinesSome, binds_of_all, boots_told}
 use Rattle.mdcc_site.specs.Moments.{outside}
 use Rattle.mdcc_site.specs.SiteState.{PrintsAll}
 use Rattle.mdcc_site.specs.declared.site.Site.{Site}
+use Rattle.mdcc_serve.proofs.Refused.{binding_ends, telling_ends}
 use Rattle.mdcc_serve.proofs.opening.open.Goals as goal
 
 pub returns-in_err-sites-clause-fails : goal.returns-in_err-sites-clause-fails
@@ -56,3 +57,25 @@ returns-clause-opens g c =
     c.in_ok-sites.ensures.starts c.in_ok-sites.ensures.as_many c.requires.some (omega (among, nine, arith)) c.bind_all.new.link c.tell_boots.new.out
     (subst (λ (sites : List Site). BindsAll g.L.Link.calls g.L.Link.lost g.L.Link.faults (binds_of_all config sites) c.args.link.now c.bind_all.new.link) c.as_slice.ensures.value c.in_ok-bind_all.ensures)
     (subst (λ (sites : List Site). PrintsAll g.O.Sink.held g.O.Sink.faults (boots_told sites) c.args.out.now c.tell_boots.new.out) c.as_slice-2.ensures.value c.in_ok-tell_boots.ensures)
+
+-- ---- what is said of their logs
+
+pub returns-in_err-sites-clause-logs : goal.returns-in_err-sites-clause-logs
+returns-in_err-sites-clause-logs g c =
+    let e : c.from_residual.result ≡ Err c.in_err-sites.field-0.0 = search rules in
+    rw e (inl c.in_err-sites.ensures.ends)
+
+pub returns-in_err-bind_all-clause-logs : goal.returns-in_err-bind_all-clause-logs
+returns-in_err-bind_all-clause-logs g c =
+    let e : c.from_residual-in_err-bind_all.result ≡ Err c.in_err-bind_all.field-0.0 = search rules in
+    rw e (inr (binding_ends g.D.Disks.disk c.args.config.now.cluster c.args.disks.now g.L.Link.calls g.L.Link.lost g.L.Link.faults (binds_of_all c.args.config.now c.as_slice.result.now) c.in_err-bind_all.field-0.0
+    c.args.link.now c.bind_all.new.link c.args.first (c.args.last + 1) c.in_ok-sites.ensures.nodes c.in_err-bind_all.ensures))
+
+pub returns-in_err-tell_boots-clause-logs : goal.returns-in_err-tell_boots-clause-logs
+returns-in_err-tell_boots-clause-logs g c =
+    let e : c.from_residual-in_err-tell_boots.result ≡ Err c.in_err-tell_boots.field-0.0 = search rules in
+    rw e (inr (telling_ends g.D.Disks.disk c.args.config.now.cluster c.args.disks.now g.O.Sink.held g.O.Sink.faults (boots_told c.as_slice-2.result.now) c.in_err-tell_boots.field-0.0
+    c.args.out.now c.tell_boots.new.out c.args.first (c.args.last + 1) c.in_ok-sites.ensures.nodes c.in_err-tell_boots.ensures))
+
+pub returns-clause-logs : goal.returns-clause-logs
+returns-clause-logs g c = c.in_ok-sites.ensures.nodes

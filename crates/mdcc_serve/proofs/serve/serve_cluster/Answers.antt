@@ -1,9 +1,11 @@
-use Rattle.std.proofs.Common.{◌≡◌, [], arith, length}
+use Rattle.std.proofs.Common.{◌≡◌, [], arith, length, ℕ, ◌+◌, subst}
 use Rattle.std.proofs.lemmas.Result.{IfErr-at_err}
 use Rattle.mdcc_serve.proofs.Ended.{follow_range, many_range}
 use Rattle.mdcc_serve.specs.Centres.{all_seen, places}
 use Rattle.mdcc_site.specs.Moments.{Caused, outside}
 use Rattle.mdcc_site.specs.declared.fault.ServeFault.{ServeFault}
+use Rattle.mdcc_serve.proofs.Refused.{logs_may}
+use Rattle.mdcc_serve.specs.Refusals.{SaysOfLogs}
 use Rattle.mdcc_serve.proofs.serve.serve_cluster.Goals as goal
 
 pub serve-requires-clause-order : goal.serve-requires-clause-order
@@ -33,3 +35,11 @@ pub returns-clause-output : goal.returns-clause-output
 returns-clause-output g c ended =
     let w = outside g.D.Disks.disk g.D.Disks.may_leave g.L.Link.calls g.L.Link.lost g.L.Link.faults g.O.Sink.held g.O.Sink.faults in
     IfErr-at_err (λ (fault : ServeFault). Caused w fault (all_seen (places c.args.disks.now [] c.args.link.now c.args.out.now)) (all_seen (places c.serve.new.disks [] c.serve.new.link c.serve.new.out))) ended c.serve.ensures.causes
+
+pub returns-clause-logs : goal.returns-clause-logs
+returns-clause-logs g c =
+    subst (λ (n : ℕ). SaysOfLogs g.D.Disks.disk c.args.config.now.cluster c.args.disks.now 1 (n + 1) c.serve.result) c.centres-last.ensures.value c.serve.ensures.logs
+
+pub returns-clause-may : goal.returns-clause-may
+returns-clause-may g c =
+    logs_may g.D.Disks.disk c.args.config.now.cluster c.args.disks.now 1 (c.centres-last.result + 1) c.serve.result c.serve.ensures.logs

@@ -1,9 +1,10 @@
-use Rattle.std.proofs.Common.{◌∙◌, ◌∷◌, ℕ, List, ap, refl, rules, subst, sym}
+use Rattle.std.proofs.Common.{◌∙◌, ◌∷◌, ℕ, List, ap, refl, rules, subst, sym, IsTrue}
 use Rattle.std.proofs.lemmas.Result.{err_from_is_err_and}
 use Rattle.mdcc_messages.specs.declared.facts.Fact.{Fact}
 use Rattle.mdcc_runs.specs.Servers.{Log}
 use Rattle.mdcc_serve.proofs.Started.{boot_unlogged, keeps_on, passes_on}
 use Rattle.mdcc_site.specs.SiteState.{HoldsLog}
+use Rattle.mdcc_serve.proofs.Refused.{logging_says}
 use Rattle.mdcc_serve.proofs.starting.start.Goals as goal
 
 pub returns-in_err-log_fact-clause-fails : goal.returns-in_err-log_fact-clause-fails
@@ -37,3 +38,16 @@ returns-clause-starts g c =
           ap (λ (n : ℕ). let l : Log = record { centre = n; facts = booted.facts } in l) (sym of)
           ∙ ap (λ (fs : List Fact). let l : Log = record { centre = before.centre; facts = fs } in l) (booted.over before of is);
     }
+
+-- ---- what is said of its log
+
+pub returns-in_err-log_fact-clause-says : goal.returns-in_err-log_fact-clause-says
+returns-in_err-log_fact-clause-says g c =
+    let p = err_from_is_err_and c.from_residual-in_err-log_fact.result c.from_residual-in_err-log_fact.ensures.1 in
+    let booted = c.in_ok-node.ensures.boots in
+    let fails = c.in_err-log_fact.ensures booted.facts booted.open_log in
+    rw (p.1, p.2) (logging_says g.D.Disks.disk c.args.config.now.cluster c.args.disks.now (IsTrue (g.D.Disks.disk c.boot.new.disks c.args.centre).told) c.args.centre c.in_ok-node.boot c.in_err-log_fact.field-0.0
+    (λ told. subst IsTrue (sym (booted.passes.told c.args.centre)) told.first) c.in_ok-node.ensures.node fails.comes fails.no_boot)
+
+pub returns-clause-node : goal.returns-clause-node
+returns-clause-node g c = c.in_ok-node.ensures.node

@@ -1,8 +1,10 @@
-use Rattle.std.proofs.Common.{◌≡◌, ◌+◌, ◌-◌, ◌≤◌, ◌∷◌, ◌++◌, [], List, Err, arith, inl, inr, length, length-append, rules, subst, sym}
+use Rattle.std.proofs.Common.{◌≡◌, ◌+◌, ◌-◌, ◌≤◌, ◌∷◌, ◌++◌, [], List, Err, arith, inl, inr, length, length-append, rules, subst, sym, ℕ}
 use Rattle.mdcc_serve.proofs.Together.{keep_stops, none_started, one_started, start_stops}
 use Rattle.mdcc_serve.specs.Starts.{FailToStart, HaveStarted}
 use Rattle.mdcc_site.specs.declared.fault.ServeFault.{ServeFault}
 use Rattle.mdcc_site.specs.declared.site.Site.{Site}
+use Rattle.mdcc_serve.proofs.Refused.{boots_still, none_boot, one_boots, says_still}
+use Rattle.mdcc_serve.specs.Refusals.{AllBoot}
 use Rattle.mdcc_serve.proofs.starting.start_all.Goals as goal
 
 pub loop-number-init : goal.loop-number-init
@@ -11,6 +13,7 @@ loop-number-init g c =
     record {
       started = subst (λ (held : List Site). HaveStarted g.D.Disks.disk g.D.Disks.may_leave c.args.config.now.cluster c.args.first held c.args.disks.now c.args.disks.now) (sym none)
           (none_started g.D.Disks.disk g.D.Disks.may_leave c.args.config.now.cluster c.args.first c.args.disks.now);
+      nodes = none_boot g.D.Disks.disk c.args.config.now.cluster c.args.disks.now c.args.first;
       many = rw none (omega arith);
     }
 
@@ -26,6 +29,9 @@ loop-number-preserved g c =
       started = subst (λ (held : List Site). HaveStarted g.D.Disks.disk g.D.Disks.may_leave c.args.config.now.cluster c.args.first held c.args.disks.now c.start_next.new.disks) (sym {A = List Site} next.1)
           (one_started g.D.Disks.disk g.D.Disks.may_leave c.args.config.now.cluster c.args.first c.loop-number.number c.loop-number.sites.items c.args.disks.now c.loop-number.disks c.start_next.new.disks
           c.requires.some (sym many) (omega (nine, among, arith)) before.started next.0 next.2);
+      nodes = one_boots g.D.Disks.disk c.args.config.now.cluster c.args.disks.now c.args.first c.loop-number.number before.nodes
+          (boots_still g.D.Disks.disk c.args.config.now.cluster c.args.disks.now g.D.Disks.may_leave c.loop-number.disks c.loop-number.number
+          (before.started.later c.loop-number.number (omega (many, arith)) (omega (nine, among, arith))) c.in_ok-start_next.ensures.node);
       many = rw next.1 (omega (more, many, arith));
     }
 
@@ -50,3 +56,27 @@ returns-in_err-start_next-clause-fails g c =
           (keep_stops g.D.Disks.disk g.D.Disks.may_leave c.args.config.now.cluster c.args.first count (c.loop-number.sites.items ++ lacks.1 ∷ []) c.args.disks.now c.start_next.new.disks g.D.Disks.tears started
           (omega (more, many, arith)) (omega (nine, among, arith)))
     ])
+
+-- ---- what is said of their logs
+
+pub returns-in_err-start_next-clause-ends : goal.returns-in_err-start_next-clause-ends
+returns-in_err-start_next-clause-ends g c =
+    let before = c.loop-number.invariant in
+    let many : c.args.first + length c.loop-number.sites.items ≡ c.loop-number.number = before.many in
+    let nine : c.args.config.now.cluster.quorums.centres ≤ 9 = c.requires.config.quorums.nine_centres in
+    let among : c.args.last ≤ c.args.config.now.cluster.quorums.centres = c.requires.among in
+    let fault = c.in_err-start_next.field-0.0 in
+    let e : c.from_residual.result ≡ Err fault = search rules in
+    rw e (record {
+      at = c.loop-number.number;
+      from = omega (many, arith);
+      to = omega arith;
+      before = before.nodes;
+      says = says_still g.D.Disks.disk c.args.config.now.cluster c.args.disks.now g.D.Disks.may_leave c.loop-number.disks c.loop-number.number
+          (before.started.later c.loop-number.number (omega (many, arith)) (omega (nine, among, arith))) fault c.in_err-start_next.ensures.says;
+    })
+
+pub returns-clause-nodes : goal.returns-clause-nodes
+returns-clause-nodes g c =
+    let whole : c.loop-number.number ≡ c.args.last + 1 = omega arith in
+    subst (λ (n : ℕ). AllBoot g.D.Disks.disk c.args.config.now.cluster c.args.disks.now c.args.first n) whole c.loop-number.invariant.nodes

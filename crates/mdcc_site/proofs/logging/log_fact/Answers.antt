@@ -43,4 +43,4 @@ returns-in-Err g c facts stands =
     refl stands g.met.D.Disks.counts_now c.append_fact.ensures.any_moment_reads
     (λ is. c.in-Err.ensures.disk_fault (err-of is))
     (λ is. c.in-Err.ensures.full_keeps (err-of is))
-    (λ n is. c.in-Err.ensures.a_log n (err-of is)) (λ is. c.in-Err.ensures.memory_keeps (err-of is)))
+    (λ n is. c.in-Err.ensures.a_log n (err-of is)) (λ is. c.in-Err.ensures.memory_keeps (err-of is)) (λ is. c.in-Err.ensures.full (err-of is)))
