@@ -9,3 +9,4 @@ pub mod Came
 pub mod Same
 pub mod Asked
 pub mod Pieces
+pub mod Centres

@@ -83,7 +83,7 @@ ticked_runs config given site = by_silence (is_silent given)
     by_silence true = input_tells config site Input.Tick
     by_silence false = idle_tells config site
 
-turn_runs : (config : Config) (site : Site) (given : Given) → RunsOn config site (turn_inputs config site given) (turn_of config site given)
+pub turn_runs : (config : Config) (site : Site) (given : Given) → RunsOn config site (turn_inputs config site given) (turn_of config site given)
 turn_runs config site given =
     let own = own_received config site given.own in
     let asked = asked_received config own.site given.asked in

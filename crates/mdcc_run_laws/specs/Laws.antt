@@ -1,17 +1,19 @@
 -- What is proved of the runs of nodes that are served.
 use Rattle.std.specs.List.{AllByRecursion}
-use Rattle.std.specs.Prelude.{List, [], ℕ, ◌++◌, ◌∷◌, ◌≡◌}
+use Rattle.std.specs.Prelude.{List, [], length, ℕ, ◌++◌, ◌∷◌, ◌≡◌, ◌≢◌}
 use Rattle.mdcc_config.specs.declared.config.Config.{Config}
 use Rattle.mdcc_frag.specs.Joining.{Entry, join}
 use Rattle.mdcc_frag.specs.declared.joined.Joined.TheVariants.{Dropped, Whole}
 use Rattle.mdcc_frag.specs.declared.reading.DropCause.{DropCause}
 use Rattle.mdcc_frag_laws.specs.Laws.{table_after}
 use Rattle.mdcc_run_laws.specs.Brought.{AreBytes, BringsMessage, BringsRequest, CameInPieces, HoldsBytes, asked_datagrams, own_datagrams}
+use Rattle.mdcc_run_laws.specs.Centres.{DoesItsTurns}
 use Rattle.mdcc_run_laws.specs.Inputs.{inputs_in, turns}
 use Rattle.mdcc_run_laws.specs.Told.{Tells}
 use Rattle.mdcc_run_laws.specs.Without.{AreAsGood, without_dropped}
 use Rattle.mdcc_rules.specs.declared.node.Input.{Input}
 use Rattle.mdcc_runs.specs.Runs.{after_run, inputs_taken, refusals, run_of}
+use Rattle.mdcc_runs.specs.Servers.{Log, served}
 use Rattle.mdcc_runs.specs.Sites.{Doing, Site}
 use Rattle.mdcc_runs.specs.Turns.{Given}
 
@@ -60,3 +62,13 @@ abbrev pub TurnsAreRunsWithoutRefused : Type 0
 TurnsAreRunsWithoutRefused =
     (config : Config) (site : Site) (given : List Given)
     → IsRunWithout config site (inputs_taken config.cluster site.centre site.node (inputs_in config site given)) (turns config site given)
+
+-- ---- servers
+
+-- each turn has what the receives of each centre gave, and no other centre has its number
+abbrev pub CentresDoTheirTurns : Type 0
+CentresDoTheirTurns =
+    (config : Config) (front : List Log) (log : Log) (back : List Log) (given : List (List Given))
+    → AllByRecursion (λ turn. length turn ≡ length (front ++ log ∷ back)) given
+    → AllByRecursion (λ other. other.centre ≢ log.centre) front → AllByRecursion (λ other. other.centre ≢ log.centre) back
+    → DoesItsTurns config (length front) log given (served config (front ++ log ∷ back) given)

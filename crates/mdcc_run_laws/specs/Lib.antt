@@ -1,4 +1,5 @@
 pub mod Brought
+pub mod Centres
 pub mod Inputs
 pub mod Laws
 pub mod Told

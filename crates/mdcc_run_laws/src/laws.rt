@@ -1,5 +1,5 @@
 //! What datagrams bring to a node, and what a server makes of it.
-ghost use Rattle.mdcc_run_laws.specs.Laws.{DatagramsBringMessages, DatagramsBringRequests, DroppedLeavesTable, DroppedPiecesAreAsNone, TurnsAreRuns, TurnsAreRunsWithoutRefused, WholeCameInPieces};
+ghost use Rattle.mdcc_run_laws.specs.Laws.{CentresDoTheirTurns, DatagramsBringMessages, DatagramsBringRequests, DroppedLeavesTable, DroppedPiecesAreAsNone, TurnsAreRuns, TurnsAreRunsWithoutRefused, WholeCameInPieces};
 
 /// Whatever bytes come at a centre's endpoint: a message that is an input of its node is well-formed, and spelled by bytes that pieces
 /// which came made whole.
@@ -34,4 +34,9 @@ pub fn turns_run_by_inputs()
 /// And it is the run over those of them that are not refused.
 pub fn turns_run_without_refused()
     ensures { TurnsAreRunsWithoutRefused }
+{}
+
+/// Each centre of a server does its own turns, whatever the others do between them.
+pub fn centres_do_their_turns()
+    ensures { CentresDoTheirTurns }
 {}

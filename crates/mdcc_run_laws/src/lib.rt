@@ -5,7 +5,7 @@
 pub mod laws;
 
 pub use laws::{
-    datagrams_at_the_clients_endpoint_bring_requests, datagrams_bring_messages,
-    dropped_pieces_change_nothing, turns_run_by_inputs, turns_run_without_refused,
-    whole_messages_came_in_pieces,
+    centres_do_their_turns, datagrams_at_the_clients_endpoint_bring_requests,
+    datagrams_bring_messages, dropped_pieces_change_nothing, turns_run_by_inputs,
+    turns_run_without_refused, whole_messages_came_in_pieces,
 };
