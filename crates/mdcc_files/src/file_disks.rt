@@ -5,22 +5,24 @@ ghost use Rattle.mdcc_base.specs.Causes.{Rose};
 ghost use Rattle.mdcc_files.specs.Names.{name_of};
 ghost use Rattle.mdcc_files.specs.Unspecified.{fault_at, unspecified_disk, Any, AnySince, one_moment, AnyByte, KeepsFaults};
 
+use crate::log_file::LogFile;
 use mdcc_base::Failed;
 use mdcc_disks::Disks;
 use std::alloc::Global;
 use std::fs::{File, Files, OpenOptions};
 use std::io;
-use std::os::unix::fs::FileExt;
 
 #[derive(Drop)]
 struct OpenLog {
     place: u8,
-    file: File,
+    file: LogFile,
 }
 
 /// The files of the present folder that have the logs of the centres K, from 1 to 9: disk K is `mdcc-K.log` and disk 16 + K is
 /// `mdcc-K.alt`. The first call at a disk opens its file, creates it where it is not there, and takes an exclusive lock of it
 /// (flock(2)), which ends with this object or its process. Where another has the lock, a call fails and the file stays as it is.
+/// A block of 64 KiB of each open file is in memory. Small writes are handed to the file together, all of them before a sync; one
+/// that the file did not take fails the call that handed it over.
 /// What a file contains after a crash is the system's promise alone.
 #[derive(Drop)]
 pub struct FileDisks<'a, R: Files<File = File>> {
@@ -95,6 +97,7 @@ impl<'a, R: Files<File = File>> FileDisks<'a, R> {
         }
         let name = name_of(self.alloc, place)?;
         let file = open_locked(self.files, name.as_str()).ok()?;
+        let file = LogFile::new(self.alloc, file).ok()?;
         self.logs.push(OpenLog { place, file }).ok()?;
         Some(self.logs.len() - 1)
     }
@@ -119,8 +122,8 @@ impl<'a, R: Files<File = File>> Disks for FileDisks<'a, R> {
 
     fn length(&mut self, place: u8) -> Result<u64, Failed> {
         if let Some(index) = self.opened(place) {
-            if let Ok(metadata) = self.logs[index].file.metadata() {
-                return Ok(metadata.len());
+            if let Ok(size) = self.logs[index].file.length() {
+                return Ok(size);
             }
         }
         Err(self.fail(place))
@@ -128,7 +131,7 @@ impl<'a, R: Files<File = File>> Disks for FileDisks<'a, R> {
 
     fn read(&mut self, place: u8, offset: u64, into: &mut [u8]) -> Result<usize, Failed> {
         if let Some(index) = self.opened(place) {
-            if let Ok(count) = self.logs[index].file.read_at(into, offset) {
+            if let Ok(count) = self.logs[index].file.read(offset, into) {
                 // At or past the end there is nothing to read.
                 if count > 0 || into.is_empty() {
                     return Ok(count);
@@ -140,7 +143,7 @@ impl<'a, R: Files<File = File>> Disks for FileDisks<'a, R> {
 
     fn write_at(&mut self, place: u8, offset: u64, bytes: &[u8]) -> Result<(), Failed> {
         if let Some(index) = self.opened(place) {
-            if self.logs[index].file.write_all_at(bytes, offset).is_ok() {
+            if self.logs[index].file.write_at(offset, bytes).is_ok() {
                 return Ok(());
             }
         }
@@ -149,7 +152,7 @@ impl<'a, R: Files<File = File>> Disks for FileDisks<'a, R> {
 
     fn cut(&mut self, place: u8, size: u64) -> Result<(), Failed> {
         if let Some(index) = self.opened(place) {
-            if self.logs[index].file.set_len(size).is_ok() {
+            if self.logs[index].file.cut(size).is_ok() {
                 return Ok(());
             }
         }
@@ -158,7 +161,7 @@ impl<'a, R: Files<File = File>> Disks for FileDisks<'a, R> {
 
     fn sync(&mut self, place: u8) -> Result<(), Failed> {
         if let Some(index) = self.opened(place) {
-            if self.logs[index].file.sync_data().is_ok() {
+            if self.logs[index].file.sync().is_ok() {
                 return Ok(());
             }
         }

@@ -2,5 +2,6 @@
 #![tactic(auto)]
 
 pub mod file_disks;
+mod log_file;
 
 pub use file_disks::FileDisks;
