@@ -1,2 +1,4 @@
+pub mod Completed
 pub mod Known
+pub mod Refused
 pub mod Served

@@ -11,6 +11,8 @@ use Rattle.mdcc_serve.specs.Serving.{AreLogsOf, IsLogOf, ServesOrBreaksOff}
 use Rattle.mdcc_site.specs.declared.fault.ServeFault.{ServeFault}
 use Rattle.mdcc_serve.specs.declared.served.Served.{Served}
 use Rattle.mdcc_endings.specs.Endings.{Ends}
+use Rattle.mdcc_endings.specs.Logs.{IsTold, SaysLogs, node_at}
+use Rattle.mdcc_option.specs.declared.cluster.Cluster.{Cluster}
 use Rattle.mdcc_endings.specs.Readings.{GivesConfig}
 use Rattle.mdcc_endings.specs.declared.fault.Failure.{Failure}
 
@@ -18,23 +20,22 @@ use Rattle.mdcc_endings.specs.declared.fault.Failure.{Failure}
 abbrev pub AreAlike : {D : Type 0} → (D → ℕ → Disk) → D → Type 0
 AreAlike disk disks = (a : ℕ) → 1 ≤ a → a ≤ 9 → (disk disks (a + 16)).told ≡ (disk disks a).told
 
+-- both areas of each centre tell their bytes
+abbrev pub AllAreTold : {D : Type 0} → (D → ℕ → Disk) → Cluster → D → Type 0
+AllAreTold disk cluster disks = (a : ℕ) → 1 ≤ a → a ≤ cluster.quorums.centres → IsTold disk disks a
+
 -- nothing was done at disks, link and output
 pub record Untouched {D L O : Type 0} (disks_old disks_new : D) (link_old link_new : L) (out_old out_new : O) : Type 0 where
   pub disks : disks_new ≡ disks_old
   pub link : link_new ≡ link_old
   pub output : out_new ≡ out_old
 
--- why a log is refused: it is none, or full
-abbrev pub log_failure : ℕ → LogFault → Failure
-log_failure a (LogFault.NotALog offset) = Failure.Log a (LogFault.NotALog offset)
-log_failure a fault = Failure.Log a LogFault.LogFull
-
 -- a fault as a command has it
 abbrev pub failure_of : ServeFault → Failure
 failure_of (ServeFault.Disk a) = Failure.Log a LogFault.DiskFault
 failure_of ServeFault.Link = Failure.Link
 failure_of ServeFault.Output = Failure.Output
-failure_of (ServeFault.Log a fault) = log_failure a fault
+failure_of (ServeFault.Log a fault) = Failure.Log a fault
 failure_of (ServeFault.Boot a fault) = Failure.Boot a fault
 failure_of ServeFault.Serial = Failure.Serial
 failure_of ServeFault.Memory = Failure.Memory
@@ -52,6 +53,8 @@ module _ {D L O : Type 0} (disk : D → ℕ → Disk) (may_leave : D → ℕ →
     pub is : served ≡ as_served result
     pub serves : (log : Log) → log.centre ≡ centre → IsLogOf disk config.cluster disks_old log
         → ServesOrBreaksOff disk may_leave tears calls lost held config (log ∷ []) turns result disks_old disks_new link_old link_new out_old out_new
+    -- whatever its disks tell, its log is refused just where no node boots from it
+    pub logs : IsTold disk disks_old centre → SaysLogs (node_at disk config.cluster disks_old) centre centre served
 
   -- by what the input was read as
   abbrev pub ServesNode : Result Config Failure → ℕ → ℕ → Result Served Failure → Type 0
@@ -80,6 +83,8 @@ module _ {D L O : Type 0} (disk : D → ℕ → Disk) (may_leave : D → ℕ →
     pub serves : (logs : List Log) → map (λ log. log.centre) logs ≡ range_with_len 1 config.cluster.quorums.centres
         → AreLogsOf disk config.cluster disks_old logs
         → ServesOrBreaksOff disk may_leave tears calls lost held config logs turns result disks_old disks_new link_old link_new out_old out_new
+    -- whatever their disks tell, the first log is refused from which no node boots
+    pub logs : AllAreTold disk config.cluster disks_old → SaysLogs (node_at disk config.cluster disks_old) 1 config.cluster.quorums.centres served
 
   -- by what the input was read as
   abbrev pub ServesCluster : Result Config Failure → ℕ → Result Served Failure → Type 0

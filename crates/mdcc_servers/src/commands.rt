@@ -7,6 +7,8 @@ ghost use Rattle.mdcc_base.specs.Causes.{Rose};
 ghost use Rattle.mdcc_replay.specs.Runs.{is_own, own_line};
 ghost use Rattle.mdcc_replay.specs.Writing.{Tells};
 ghost use Rattle.mdcc_servers.specs.Commands.{AreAlike, DoesCluster, DoesNode, Untouched};
+ghost use Rattle.mdcc_servers.specs.Completions.{ClusterCompletes, ClusterEndsByLogs, NodeCompletes, NodeEndsByLog};
+ghost use Rattle.mdcc_endings.specs.Completions.{IsStill};
 ghost use Rattle.mdcc_endings.specs.Endings.{is_ending};
 
 use crate::serving::{serve_all, serve_one};
@@ -39,6 +41,12 @@ pub fn run_node<S: Source, O: Sink, E: Sink, D: Disks, L: Link>(
     ensures disk { result ≡ 7 → (a : ℕ) × RoseAtOne (D.disk disks.old a) (D.disk disks.new a) (D.disk disks.old (a + 16)) (D.disk disks.new (a + 16)) }
     ensures link { result ≡ 8 → Rose (L.faults link.old) (L.faults link.new) }
     ensures output { result ≡ 6 → Rose (O.faults out.old) (O.faults out.new) }
+
+    // Over an accepted configuration: the status by the log of the centre, and where nothing failed.
+    ensures logs { NodeEndsByLog D.disk disks.old (S.left source.old) centre result }
+    ensures completes { IsStill (S.faults source.old) (S.faults source.new) → IsStill (O.faults out.old) (O.faults out.new)
+        → IsStill (L.faults link.old) (L.faults link.new) → ((p : ℕ) → IsStill (D.disk disks.old p).faults (D.disk disks.new p).faults)
+        → NodeCompletes D.disk D.may_leave D.tears L.calls L.lost O.held disks.old disks.new link.old link.new out.old out.new (S.left source.old) centre turns result }
 {
     let served = serve_one(alloc, centre, turns, source, disks, link, out);
     finish(alloc, &served, err)
@@ -66,6 +74,12 @@ pub fn run_cluster<S: Source, O: Sink, E: Sink, D: Disks, L: Link>(
     ensures disk { result ≡ 7 → (a : ℕ) × RoseAtOne (D.disk disks.old a) (D.disk disks.new a) (D.disk disks.old (a + 16)) (D.disk disks.new (a + 16)) }
     ensures link { result ≡ 8 → Rose (L.faults link.old) (L.faults link.new) }
     ensures output { result ≡ 6 → Rose (O.faults out.old) (O.faults out.new) }
+
+    // Over an accepted configuration: the status by the logs, and where nothing failed.
+    ensures logs { ClusterEndsByLogs D.disk disks.old (S.left source.old) result }
+    ensures completes { IsStill (S.faults source.old) (S.faults source.new) → IsStill (O.faults out.old) (O.faults out.new)
+        → IsStill (L.faults link.old) (L.faults link.new) → ((p : ℕ) → IsStill (D.disk disks.old p).faults (D.disk disks.new p).faults)
+        → ClusterCompletes D.disk D.may_leave D.tears L.calls L.lost O.held disks.old disks.new link.old link.new out.old out.new (S.left source.old) turns result }
 {
     let served = serve_all(alloc, turns, source, disks, link, out);
     finish(alloc, &served, err)

@@ -6,27 +6,17 @@ ghost use Rattle.mdcc_base.specs.declared.source.ReadAllFault.{ReadAllFault as A
 ghost use Rattle.mdcc_areas.specs.declared.fault.LogFault.{LogFault as ALogFault};
 ghost use Rattle.mdcc_config.specs.IsConfig.{IsConfig};
 ghost use Rattle.mdcc_endings.specs.Readings.{IsEarly};
-ghost use Rattle.mdcc_servers.specs.Commands.{AreAlike, RunsCluster, RunsNode, ServesCluster, ServesNode, Untouched, as_served, failure_of, log_failure};
+ghost use Rattle.mdcc_servers.specs.Commands.{AreAlike, RunsCluster, RunsNode, ServesCluster, ServesNode, Untouched, as_served, failure_of};
 ghost use Rattle.mdcc_endings.specs.declared.fault.Failure.{Failure as AFailure};
 
 use mdcc_areas::LogFault;
-use mdcc_base::{Centre, Sink, Source};
+use mdcc_base::{Sink, Source};
 use mdcc_config::Config;
 use mdcc_disks::Disks;
 use mdcc_endings::{Failure, centre_of, config_from};
 use mdcc_link::Link;
 use mdcc_serve::{ServeFault, Served, serve_cluster, serve_node};
 use std::alloc::Global;
-
-// Why a log is refused: it is none, or full.
-fn log_failure(centre: Centre, fault: &LogFault) -> Failure
-    ensures { result ≡ log_failure centre fault.now }
-{
-    match fault {
-        LogFault::NotALog(offset) => Failure::Log(centre, LogFault::NotALog(*offset)),
-        _ => Failure::Log(centre, LogFault::LogFull),
-    }
-}
 
 // A fault as a command has it.
 fn failure_of(fault: &ServeFault) -> Failure
@@ -36,7 +26,7 @@ fn failure_of(fault: &ServeFault) -> Failure
         ServeFault::Disk(centre) => Failure::Log(*centre, LogFault::DiskFault),
         ServeFault::Link => Failure::Link,
         ServeFault::Output => Failure::Output,
-        ServeFault::Log(centre, fault) => log_failure(*centre, fault),
+        ServeFault::Log(centre, fault) => Failure::Log(*centre, *fault),
         ServeFault::Boot(centre, fault) => Failure::Boot(*centre, *fault),
         ServeFault::Serial => Failure::Serial,
         ServeFault::Memory => Failure::Memory,

@@ -5,6 +5,7 @@ use Rattle.mdcc_base.specs.declared.source.ReadAllFault.{ReadAllFault}
 use Rattle.mdcc_endings.proofs.Causes.{causes_of, failed_at}
 use Rattle.mdcc_endings.specs.Readings.{IsEarly}
 use Rattle.mdcc_endings.specs.declared.fault.Failure.{Failure}
+use Rattle.mdcc_servers.proofs.Completed.{node_completes, node_ends, still_disks}
 use Rattle.mdcc_servers.proofs.Served.{input_early}
 use Rattle.mdcc_servers.specs.Commands.{Untouched}
 use Rattle.mdcc_servers.proofs.commands.run_node.Goals as goal
@@ -49,3 +50,20 @@ returns-clause-disk g c = λ at.
     let cause = (causes_of failed.0).disk failed.2 in
     let e : c.serve_one-served.result ≡ Err (Failure.Log cause.0 LogFault.DiskFault) = cc (failed.1, cause.1) in
     (cause.0, c.serve_one-served.ensures.disk cause.0 e)
+
+-- ---- over an accepted configuration
+
+pub returns-clause-logs : goal.returns-clause-logs
+returns-clause-logs g c =
+    node_ends g.D.Disks.disk g.D.Disks.may_leave g.D.Disks.tears g.L.Link.calls g.L.Link.lost g.O.Sink.held c.args.disks.now c.serve_one-served.new.disks c.args.link.now c.serve_one-served.new.link c.args.out.now c.serve_one-served.new.out
+    c.serve_one-served.result c.finish.result c.finish.ensures.ends.status_is (g.S.Source.left c.args.source.now) c.args.centre c.args.turns c.serve_one-served.ensures.runs
+
+pub returns-clause-completes : goal.returns-clause-completes
+returns-clause-completes g c = λ source output link disks.
+    node_completes g.D.Disks.disk g.D.Disks.may_leave g.D.Disks.tears g.L.Link.calls g.L.Link.lost g.O.Sink.held c.args.disks.now c.serve_one-served.new.disks c.args.link.now c.serve_one-served.new.link c.args.out.now c.serve_one-served.new.out
+    c.serve_one-served.result c.finish.result c.finish.ensures.ends.status_is
+    (λ e. source (c.serve_one-served.ensures.input e))
+    (λ a e. still_disks g.D.Disks.disk c.args.disks.now c.serve_one-served.new.disks a disks (c.serve_one-served.ensures.disk a e))
+    (λ e. link (c.serve_one-served.ensures.link e))
+    (λ e. output (c.serve_one-served.ensures.output e))
+    (g.S.Source.left c.args.source.now) c.args.centre c.args.turns c.serve_one-served.ensures.runs

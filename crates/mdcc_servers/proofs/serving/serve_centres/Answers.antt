@@ -1,22 +1,28 @@
 use Rattle.std.proofs.Common.{◌≡◌, ◌∙◌, Err, sym}
+use Rattle.mdcc_servers.proofs.Refused.{says_served}
 use Rattle.mdcc_servers.proofs.Served.{disk_served, link_served, no_input, none_early, output_served}
 use Rattle.mdcc_servers.specs.Commands.{Untouched}
 use Rattle.mdcc_servers.proofs.serving.serve_centres.Goals as goal
 
 pub returns-clause-serves : goal.returns-clause-serves
-returns-clause-serves g c = record { result = c.serve_cluster.result; is = c.as_served.ensures; serves = c.serve_cluster.ensures.serves }
+returns-clause-serves g c = record {
+  result = c.serve_cluster.result;
+  is = c.as_served.ensures;
+  serves = c.serve_cluster.ensures.serves;
+  logs = λ told. says_served g.D.Disks.disk c.args.config.now.cluster c.args.disks.now 1 c.args.config.now.cluster.quorums.centres told c.serve_cluster.result c.as_served.result c.as_served.ensures c.serve_cluster.ensures.logs;
+}
 
 pub returns-clause-early : goal.returns-clause-early
-returns-clause-early g c = rw c.as_served.ensures (none_early (Untouched c.args.disks.now c.serve_cluster.new.disks c.args.link.now c.serve_cluster.new.link c.args.out.now c.serve_cluster.new.out) c.serve_cluster.result)
+returns-clause-early g c = rw c.as_served.ensures (none_early (Untouched c.args.disks.now c.serve_cluster.new.disks c.args.link.now c.serve_cluster.new.link c.args.out.now c.serve_cluster.new.out) c.serve_cluster.result c.serve_cluster.ensures.may)
 
 pub returns-clause-read : goal.returns-clause-read
-returns-clause-read g c = λ h. no_input c.serve_cluster.result (sym c.as_served.ensures ∙ h)
+returns-clause-read g c = λ h. no_input c.serve_cluster.result c.serve_cluster.ensures.may (sym c.as_served.ensures ∙ h)
 
 pub returns-clause-disk : goal.returns-clause-disk
-returns-clause-disk g c a = λ h. c.serve_cluster.ensures.disk a (disk_served a c.serve_cluster.result (sym c.as_served.ensures ∙ h))
+returns-clause-disk g c a = λ h. c.serve_cluster.ensures.disk a (disk_served a c.serve_cluster.result c.serve_cluster.ensures.may (sym c.as_served.ensures ∙ h))
 
 pub returns-clause-link : goal.returns-clause-link
-returns-clause-link g c = λ h. c.serve_cluster.ensures.link (link_served c.serve_cluster.result (sym c.as_served.ensures ∙ h))
+returns-clause-link g c = λ h. c.serve_cluster.ensures.link (link_served c.serve_cluster.result c.serve_cluster.ensures.may (sym c.as_served.ensures ∙ h))
 
 pub returns-clause-output : goal.returns-clause-output
-returns-clause-output g c = λ h. c.serve_cluster.ensures.output (output_served c.serve_cluster.result (sym c.as_served.ensures ∙ h))
+returns-clause-output g c = λ h. c.serve_cluster.ensures.output (output_served c.serve_cluster.result c.serve_cluster.ensures.may (sym c.as_served.ensures ∙ h))

@@ -2,6 +2,7 @@ use Rattle.std.proofs.Common.{◌≡◌, ◌+◌, ◌∙◌, Err, List, refl, su
 use Rattle.mdcc_config.specs.declared.config.Config.{Config}
 use Rattle.mdcc_endings.specs.declared.fault.Failure.{Failure}
 use Rattle.mdcc_protocol.specs.Belongs.{is_centre}
+use Rattle.mdcc_servers.proofs.Refused.{says_served, told_alone}
 use Rattle.mdcc_servers.proofs.Served.{at_false, at_true, disk_served, link_served, no_input, none_early, output_served}
 use Rattle.mdcc_servers.specs.Commands.{ServesOne, Untouched}
 use Rattle.mdcc_servers.proofs.serving.serve_number.Goals as goal
@@ -15,19 +16,25 @@ returns-clause-serves g c =
     ServesOne g.D.Disks.disk g.D.Disks.may_leave g.D.Disks.tears g.L.Link.calls g.L.Link.lost g.O.Sink.held c.args.disks.now c.serve_node.new.disks c.args.link.now c.serve_node.new.link c.args.out.now
     c.serve_node.new.out c.args.config.now number c.args.turns c.as_served.result in
     at_true (is_centre c.args.config.now.cluster c.args.number) _ _ c.in-Some.ensures.some.1
-    (subst serves c.in-Some.ensures.some.0 (record { result = c.serve_node.result; is = c.as_served.ensures; serves = c.serve_node.ensures.serves }))
+    (subst serves c.in-Some.ensures.some.0 (record {
+      result = c.serve_node.result;
+      is = c.as_served.ensures;
+      serves = c.serve_node.ensures.serves;
+      logs = λ told. says_served g.D.Disks.disk c.args.config.now.cluster c.args.disks.now c.in-Some.centre c.in-Some.centre (told_alone g.D.Disks.disk c.args.disks.now c.in-Some.centre told)
+          c.serve_node.result c.as_served.result c.as_served.ensures c.serve_node.ensures.logs;
+    }))
 
 pub returns-clause-early : goal.returns-clause-early
-returns-clause-early g c = rw c.as_served.ensures (none_early (Untouched c.args.disks.now c.serve_node.new.disks c.args.link.now c.serve_node.new.link c.args.out.now c.serve_node.new.out) c.serve_node.result)
+returns-clause-early g c = rw c.as_served.ensures (none_early (Untouched c.args.disks.now c.serve_node.new.disks c.args.link.now c.serve_node.new.link c.args.out.now c.serve_node.new.out) c.serve_node.result c.serve_node.ensures.may)
 
 pub returns-clause-read : goal.returns-clause-read
-returns-clause-read g c = λ h. no_input c.serve_node.result (sym c.as_served.ensures ∙ h)
+returns-clause-read g c = λ h. no_input c.serve_node.result c.serve_node.ensures.may (sym c.as_served.ensures ∙ h)
 
 pub returns-clause-disk : goal.returns-clause-disk
-returns-clause-disk g c a = λ h. c.serve_node.ensures.disk a (disk_served a c.serve_node.result (sym c.as_served.ensures ∙ h))
+returns-clause-disk g c a = λ h. c.serve_node.ensures.disk a (disk_served a c.serve_node.result c.serve_node.ensures.may (sym c.as_served.ensures ∙ h))
 
 pub returns-clause-link : goal.returns-clause-link
-returns-clause-link g c = λ h. c.serve_node.ensures.link (link_served c.serve_node.result (sym c.as_served.ensures ∙ h))
+returns-clause-link g c = λ h. c.serve_node.ensures.link (link_served c.serve_node.result c.serve_node.ensures.may (sym c.as_served.ensures ∙ h))
 
 pub returns-clause-output : goal.returns-clause-output
-returns-clause-output g c = λ h. c.serve_node.ensures.output (output_served c.serve_node.result (sym c.as_served.ensures ∙ h))
+returns-clause-output g c = λ h. c.serve_node.ensures.output (output_served c.serve_node.result c.serve_node.ensures.may (sym c.as_served.ensures ∙ h))
