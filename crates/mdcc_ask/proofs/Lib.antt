@@ -1,4 +1,5 @@
 pub mod Caused
+pub mod Completed
 pub mod Doings
 pub mod Ended
 pub mod Few

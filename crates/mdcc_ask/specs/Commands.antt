@@ -1,13 +1,14 @@
 -- What the command that asks a centre does.
-use Rattle.std.specs.Prelude.{Err, IfSome, List, MatchBool, Ok, Option, Result, ℕ, ◌≡◌}
+use Rattle.std.specs.Prelude.{Err, IfSome, List, MatchBool, Ok, Option, Result, Some, true, ℕ, ◌≡◌}
 use Rattle.mdcc_ask.specs.Asking.{asked}
 use Rattle.mdcc_ask.specs.Effects.{Asks}
 use Rattle.mdcc_ask.specs.declared.fault.AskFault.{AskFault}
 use Rattle.mdcc_ask.specs.declared.order.Order.{Order}
 use Rattle.mdcc_cli.specs.declared.question.Question.{Question}
 use Rattle.mdcc_config.specs.declared.config.Config.{Config}
+use Rattle.mdcc_endings.specs.Completions.{CompletesAs}
 use Rattle.mdcc_endings.specs.Endings.{Ends}
-use Rattle.mdcc_endings.specs.Readings.{GivesConfig}
+use Rattle.mdcc_endings.specs.Readings.{GivesConfig, IsRead}
 use Rattle.mdcc_endings.specs.declared.fault.Failure.{Failure}
 use Rattle.mdcc_link.specs.Link.{LinkCall}
 use Rattle.mdcc_protocol.specs.Belongs.{is_centre}
@@ -49,6 +50,12 @@ module _ {L O : Type 0} (calls : L → Option (List LinkCall)) (held : O → Opt
     pub done : Result (Unit {0}) Failure
     pub ends : Ends done status err_before err_after faults_before faults_after
     pub runs : IfSome left (λ input. RunsAsk input question done)
+
+  -- Over an accepted configuration with its centre: it asked all, and said so where the turns were over first. It has no limit.
+  abbrev pub AskCompletes : Option (List ℕ) → Question → ℕ → Type 0
+  AskCompletes left question status =
+      (input : List ℕ) (config : Config) → left ≡ Some input → IsRead input (Ok config) → is_centre config.cluster question.centre ≡ true
+      → CompletesAs status (Asks calls held (asked config (order_of question)) question.turns (Ok tt) link_old link_new out_old out_new) ⊥
 
 -- nothing was done at the link, and nothing printed
 pub record Untouched {L O : Type 0} (link_old link_new : L) (out_old out_new : O) : Type 0 where

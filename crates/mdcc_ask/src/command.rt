@@ -3,10 +3,11 @@ ghost use Rattle.std.specs.Prelude.{◌≡◌, [], IfErr, IfSome, IsErrOf, IsTru
 ghost use Rattle.std.specs.Bool.{OnTrue};
 ghost use Rattle.std.specs.Io.KnownBytes.{Appends};
 ghost use Rattle.mdcc_areas.specs.declared.fault.LogFault.{LogFault as ALogFault};
-ghost use Rattle.mdcc_ask.specs.Commands.{DoesAsk, RunsAsk, Untouched, as_done, of_ask};
+ghost use Rattle.mdcc_ask.specs.Commands.{AskCompletes, DoesAsk, RunsAsk, Untouched, as_done, of_ask};
 ghost use Rattle.mdcc_base.specs.Causes.{Rose};
 ghost use Rattle.mdcc_base.specs.declared.source.ReadAllFault.{ReadAllFault as AReadAllFault};
 ghost use Rattle.mdcc_cli.specs.Asks.{IsQuestion};
+ghost use Rattle.mdcc_endings.specs.Completions.{IsStill};
 ghost use Rattle.mdcc_endings.specs.Endings.{is_ending};
 ghost use Rattle.mdcc_endings.specs.Readings.{IsEarly};
 ghost use Rattle.mdcc_endings.specs.declared.fault.Failure.{Failure as AFailure};
@@ -91,6 +92,10 @@ pub fn run_ask<S: Source, O: Sink, E: Sink, L: Link>(
     ensures disk { result ≡ 7 → ⊥ }
     ensures link { result ≡ 8 → Rose (L.faults link.old) (L.faults link.new) }
     ensures output { result ≡ 6 → Rose (O.faults out.old) (O.faults out.new) }
+
+    // Over an accepted configuration, where nothing failed.
+    ensures completes { IsStill (S.faults source.old) (S.faults source.new) → IsStill (O.faults out.old) (O.faults out.new) → IsStill (L.faults link.old) (L.faults link.new)
+        → AskCompletes L.calls O.held link.old link.new out.old out.new (S.left source.old) question result }
 {
     let done = ask_one(alloc, question, source, link, out);
     finish(alloc, &done, err)

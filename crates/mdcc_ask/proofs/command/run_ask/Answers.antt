@@ -2,6 +2,7 @@ use Rattle.std.proofs.Common.{◌≡◌, Err, arith}
 use Rattle.std.proofs.lemmas.Result.{IfErr-at_err}
 use Rattle.mdcc_areas.specs.declared.fault.LogFault.{LogFault}
 use Rattle.mdcc_base.specs.declared.source.ReadAllFault.{ReadAllFault}
+use Rattle.mdcc_ask.proofs.Completed.{ask_completes}
 use Rattle.mdcc_ask.proofs.Ended.{input_early}
 use Rattle.mdcc_ask.specs.Commands.{Untouched}
 use Rattle.mdcc_endings.proofs.Causes.{causes_of, failed_at}
@@ -49,3 +50,11 @@ returns-clause-output g c = λ at.
     let cause = (causes_of failed.0).output failed.2 in
     let e : c.ask_one-done.result ≡ Err Failure.Output = cc (failed.1, cause) in
     c.ask_one-done.ensures.output e
+
+-- ---- over an accepted configuration
+
+pub returns-clause-completes : goal.returns-clause-completes
+returns-clause-completes g c = λ source output link.
+    ask_completes g.L.Link.calls g.O.Sink.held c.args.link.now c.ask_one-done.new.link c.args.out.now c.ask_one-done.new.out c.ask_one-done.result c.finish.result c.finish.ensures.ends.status_is
+    (λ e. source (c.ask_one-done.ensures.input e)) (λ e. link (c.ask_one-done.ensures.link e)) (λ e. output (c.ask_one-done.ensures.output e))
+    (g.S.Source.left c.args.source.now) c.args.question c.ask_one-done.ensures.runs
