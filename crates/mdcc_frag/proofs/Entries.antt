@@ -1,7 +1,9 @@
 -- The entry of a message, and what is asked of it.
-use Rattle.std.proofs.Common.{◌≡◌, ℕ, ◌==◌, length, take, Bool, true, false, List, [], ◌∷◌, if◌then◌else◌, Option, Some, None, option_map, refl, sym, ◌∙◌, ap, subst}
+use Rattle.std.proofs.Common.{◌≡◌, ℕ, ◌+◌, ◌*◌, ◌==◌, arith, append-nil, length, take, drop, replicate, slice_set, ◌++◌, Bool, true, false, List, [], ◌∷◌, if◌then◌else◌, Option, Some, None, option_map, refl, sym, ◌∙◌, ap, subst}
+use Rattle.std.specs.List.{list_all}
 use Rattle.std.specs.Option.{option_map_or}
 use Rattle.std.specs.Map.{lookup, lookup_entry, set_value}
+use Rattle.std.proofs.lemmas.List.{drop_all, length-replicate}
 use Rattle.lru.specs.LruCache.{LruCache, lru_cache, put_entries, promoted}
 use Rattle.lru.proofs.CallerLemmas.{Contains-lookup_entry}
 use Rattle.mdcc_frag.specs.declared.datagrams.FragHead.{FragHead}
@@ -9,7 +11,9 @@ use Rattle.mdcc_frag.specs.declared.reading.Piece.{Piece}
 use Rattle.mdcc_frag.specs.declared.joined.NextStep.TheVariants.{Begin, Disagree, Repeat, Advance}
 use Rattle.mdcc_frag.specs.declared.joined.Joined.TheVariants.{Whole, Kept, Repeated, Dropped}
 use Rattle.mdcc_frag.specs.declared.reading.DropCause.TheVariants.{Disagrees}
-use Rattle.mdcc_frag.specs.Partial.{PartialMessage, nothing_of, with_piece, is_held, is_whole}
+use Rattle.mdcc_frag.specs.Datagrams.{count}
+use Rattle.mdcc_frag.specs.Reading.{FitsIn}
+use Rattle.mdcc_frag.specs.Partial.{PartialMessage, nothing_of, overwritten, with_piece, is_held, is_whole}
 use Rattle.mdcc_frag.specs.Joining.{Entry, Step, IsTaken, same_head, arrived, step, entry_of, message_of, others, take_piece, known_step, next_step, first_piece, missing_piece}
 
 -- the value that is found is that of the entry that is found
@@ -174,3 +178,23 @@ disagree_is piece bytes entries (Some e) h = sym (disagree_chosen _ _ _ _ _ h)
 pub disagreed : (piece : Piece) (bytes : List ℕ) (entries : List Entry) → next_step piece (message_of piece entries) ≡ Disagree →
     step (Dropped Disagrees) entries ≡ take_piece piece bytes entries (entry_of piece entries)
 disagreed piece bytes entries h = disagree_is piece bytes entries (entry_of piece entries) (rw (← message_of_entry piece entries) h)
+
+-- ---- a piece that is a whole message
+
+over_all : (offset total : ℕ) (piece : List ℕ) → offset ≡ 0 → length piece ≡ total → overwritten offset piece (replicate total 0) ≡ piece
+over_all offset total piece first all =
+    let behind : drop (0 + length piece) (replicate total 0) ≡ [] = drop_all (0 + length piece) (replicate total 0) (omega (arith, length-replicate {A = ℕ} total 0, all)) in
+    rw first (ap (λ (rest : List ℕ). piece ++ rest) behind ∙ append-nil piece)
+
+all_of_one : (count index : ℕ) → count ≡ 1 → index ≡ 0 → list_all (λ came. came) (slice_set (replicate count false) index true) ≡ true
+all_of_one count index one first = rw one (rw first refl)
+
+pub first_alone : (piece : Piece) (bytes : List ℕ) (entries : List Entry) → message_of piece entries ≡ None → FitsIn piece (length bytes) →
+    length bytes ≡ piece.total → step (Whole bytes) entries ≡ take_piece piece bytes entries (entry_of piece entries)
+first_alone piece bytes entries absent fits all =
+    let message = with_piece piece.index bytes (nothing_of piece.total) in
+    let first : piece.index ≡ 0 = omega (arith, fits.within, fits.some, all) in
+    let one : count piece.total ≡ 1 = omega (arith, fits.most, fits.some, all) in
+    let is : message.bytes ≡ bytes = over_all (1383 * piece.index) piece.total bytes (omega (arith, first)) all in
+    ap (λ (b : List ℕ). step (Whole b) entries) (sym is)
+    ∙ first_whole piece bytes entries message absent refl (all_of_one (count piece.total) piece.index one first)

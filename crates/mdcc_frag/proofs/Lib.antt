@@ -1,2 +1,4 @@
 pub mod LaidOut
 pub mod Entries
+pub mod Arrived
+pub mod Taken

@@ -2,3 +2,4 @@ pub mod Datagrams
 pub mod Reading
 pub mod Partial
 pub mod Joining
+pub mod Arrivals

@@ -50,9 +50,10 @@ piece_in bytes =
     then (if fits (piece_at bytes) (u16_at 15 bytes) (length (payload bytes)) then Ok (piece_at bytes) else Err Count)
     else Err Header
 
--- The message has such a piece, which lies in it.
+-- The message has such a piece, which lies in it and in a datagram.
 pub record FitsIn (piece : Piece) (size : ℕ) : Type 0 where
   pub some : 1 ≤ piece.total
   pub short : piece.total ≤ message_limit
   pub index : piece.index < count piece.total
   pub within : 1383 * piece.index + size ≤ piece.total
+  pub most : size ≤ 1383

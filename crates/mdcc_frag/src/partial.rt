@@ -1,53 +1,65 @@
 //! A message of which some pieces came.
-ghost use Rattle.std.specs.Prelude.{◌≡◌, ◌≤◌, ◌<◌, ◌+◌, ◌*◌, ◌++◌, length, take, drop, IfOk};
-ghost use Rattle.std.specs.List.{list_all};
+ghost use Rattle.std.specs.Prelude.{◌≡◌, ◌≤◌, ◌<◌, ◌+◌, ◌*◌, ◌++◌, length, take, drop, vec_len, vec_capacity, true, false, IfOk};
 ghost use Rattle.mdcc_frag.specs.Datagrams.{message_limit, count};
 ghost use Rattle.mdcc_frag.specs.Partial.{nothing_of, overwritten, with_piece, is_held, is_whole};
+ghost use Rattle.mdcc_frag.specs.Arrivals.{placed, are_laid};
 
 use crate::datagrams::count;
 use mdcc_base::HeapList;
 use std::alloc::{AllocError, Global};
 use std::marker::Model;
 
-/// A message of which some pieces came. It has room for all of them.
+/// Which piece came, and how many bytes it has.
+#[derive(Clone, Copy)]
+pub struct Arrival {
+    pub index: u16,
+    pub size: u16,
+}
+
+/// A message of which some pieces came. It has room for all of them, and keeps them in the order in which they came, so that
+/// nothing is written for a piece that did not come.
 #[derive(Drop)]
 pub struct Partial {
-    bytes: Vec<u8>,
+    total: usize,
+    pieces: Vec<u8>,
+    arrivals: Vec<Arrival>,
     held: Vec<bool>,
 }
 
 impl Model for Partial {
-    ghost use Rattle.std.specs.Prelude.{◌≡◌, length};
-    ghost use Rattle.mdcc_frag.specs.Datagrams.{count};
     ghost use Rattle.mdcc_frag.specs.Partial.{PartialMessage};
+    ghost use Rattle.mdcc_frag.specs.Arrivals.{message_in, ArePieces};
 
     ghost Value = { PartialMessage };
 
-    ghost view = { λ p. record { bytes = p.bytes.items; held = p.held.items } };
+    ghost view = { message_in };
 
-    ghost invariant = { λ p. length p.held.items ≡ count (length p.bytes.items) };
+    ghost invariant = { ArePieces };
 }
 
 // Writes these bytes in place of as many from the offset on.
-fn overwrite(bytes: &mut [u8], offset: usize, piece: &[u8])
-    requires { offset + length piece.now ≤ length bytes.old }
-    ensures { bytes.new ≡ overwritten offset piece.now bytes.old }
+fn overwrite(bytes: &mut Vec<u8>, offset: usize, piece: &[u8])
+    requires { offset + length piece.now ≤ vec_len bytes.old }
+    ensures items { bytes.new.items ≡ overwritten offset piece.now bytes.old.items }
+    ensures len { vec_len bytes.new ≡ vec_len bytes.old }
+    ensures room { vec_capacity bytes.old ≤ vec_capacity bytes.new }
 {
-    let (_, rest) = bytes.split_at_mut(offset);
-    let (part, _) = rest.split_at_mut(piece.len());
-    part.copy_from_slice(piece);
+    let end = offset + piece.len();
+    bytes[offset..end].copy_from_slice(piece);
 }
 
-// Whether each of them is set.
-fn are_all(flags: &[bool]) -> bool
-    ensures { result ≡ list_all (λ flag. flag) flags.now }
+// Writes the pieces that came over these bytes.
+fn place(arrivals: &[Arrival], pieces: &[u8], bytes: &mut Vec<u8>)
+    requires { are_laid (vec_len bytes.old) arrivals.now (length pieces.now) ≡ true }
+    ensures items { bytes.new.items ≡ placed arrivals.now pieces.now bytes.old.items }
+    ensures room { vec_capacity bytes.old ≤ vec_capacity bytes.new }
 {
-    for flag in flags {
-        if !*flag {
-            return false;
-        }
+    let mut rest = pieces;
+    for arrival in arrivals {
+        let (piece, behind) = rest.split_at(arrival.size as usize);
+        overwrite(bytes, 1383 * arrival.index as usize, piece);
+        rest = behind;
     }
-    true
 }
 
 impl Partial {
@@ -56,16 +68,23 @@ impl Partial {
         requires { total ≤ message_limit }
         ensures { IfOk result (λ partial. partial ≡ nothing_of total) }
     {
-        let bytes = Vec::from_elem(alloc, 0u8, total)?;
-        let held = Vec::from_elem(alloc, false, count(total) as usize)?;
-        Ok(Partial { bytes, held })
+        let count = count(total) as usize;
+        let pieces = Vec::with_capacity(alloc, 1383 * count)?;
+        let arrivals = Vec::with_capacity(alloc, count)?;
+        let held = Vec::from_elem(alloc, false, count)?;
+        Ok(Partial {
+            total,
+            pieces,
+            arrivals,
+            held,
+        })
     }
 
     /// How many bytes the message has.
     pub fn total(&self) -> usize
         ensures { result ≡ length self.now.bytes }
     {
-        self.bytes.len()
+        self.total
     }
 
     /// Whether the piece of this index came.
@@ -78,13 +97,17 @@ impl Partial {
         }
     }
 
-    /// Takes the piece of this index.
+    /// Takes the piece of this index, which did not come yet.
     pub fn take(&mut self, index: u16, piece: &[u8])
         requires index { index < count (length self.old.bytes) }
+        requires missing { is_held index self.old ≡ false }
         requires within { 1383 * index + length piece.now ≤ length self.old.bytes }
+        requires short { length piece.now ≤ 1383 }
         ensures { self.new ≡ with_piece index piece.now self.old }
     {
-        overwrite(&mut self.bytes, 1383 * index as usize, piece);
+        let size = piece.len() as u16;
+        self.arrivals.push_reserved(Arrival { index, size });
+        let _written = self.pieces.extend_from_slice(piece).is_ok();
         self.held[index as usize] = true;
     }
 
@@ -92,14 +115,26 @@ impl Partial {
     pub fn is_whole(&self) -> bool
         ensures { result ≡ is_whole self.now }
     {
-        are_all(&self.held)
+        self.arrivals.len() == self.held.len()
     }
 
-    /// The bytes of the message.
-    pub fn into_bytes(self) -> HeapList<u8>
-        ensures { result ≡ self.bytes }
+    /// The bytes of the message, which are put together in the other buffer.
+    pub fn into_bytes(self, scratch: &mut Vec<u8>) -> HeapList<u8>
+        requires { message_limit ≤ vec_capacity scratch.old }
+        ensures bytes { result ≡ self.bytes }
+        ensures room { message_limit ≤ vec_capacity scratch.new }
     {
-        let Partial { bytes, held: _ } = self;
-        HeapList::from_vec(bytes)
+        let Partial {
+            total,
+            mut pieces,
+            arrivals,
+            held: _,
+        } = self;
+        scratch.clear();
+        let _cleared = scratch.resize(total, 0).is_ok();
+        place(&arrivals, &pieces, scratch);
+        pieces.clear();
+        let _copied = pieces.extend_from_slice(scratch).is_ok();
+        HeapList::from_vec(pieces)
     }
 }

@@ -16,7 +16,7 @@ unreachable-requires c =
 
 pub returns-clause-taken : goal.returns-clause-taken
 returns-clause-taken c =
-    ap (λ bytes. step (Whole bytes) c.pop.new.self.entries) c.into_bytes.ensures
+    ap (λ bytes. step (Whole bytes) c.pop.new.self.entries) c.into_bytes.ensures.bytes
     ∙ ap (λ table. step (Whole c.in-Some.partial.bytes) table.entries) c.in-Some.ensures.entries
     ∙ advance_whole c.args.piece.now c.args.bytes.now c.args.table.now.entries c.take_missing.new.table.entries c.take_missing.result
     c.in-Some.partial c.requires.missing c.take_missing.ensures.taken c.if-not-take_missing.false c.in-Some.ensures.value

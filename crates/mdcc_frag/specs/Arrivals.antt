@@ -1,0 +1,43 @@
+-- The pieces of a message in the order in which they came.
+use Rattle.std.specs.Prelude.{◌≡◌, ◌≤◌, ℕ, ◌+◌, ◌-◌, ◌*◌, Bool, true, cond, ◌&&◌, nat_eq, nat_le, List, [], ◌∷◌, length, take, drop, replicate, vec_capacity}
+use Rattle.std.specs.List.{sum_by}
+use Rattle.mdcc_frag.specs.declared.partial.Arrival.{Arrival}
+use Rattle.mdcc_frag.specs.declared.partial.Partial.TheInside.{Inside}
+use Rattle.mdcc_frag.specs.Datagrams.{message_limit, count}
+use Rattle.mdcc_frag.specs.Partial.{PartialMessage, overwritten}
+
+-- the bytes with the pieces that came written over them
+abbrev pub placed : List Arrival → List ℕ → List ℕ → List ℕ
+placed [] pieces bytes = bytes
+placed (arrival ∷ arrivals) pieces bytes =
+    placed arrivals (drop arrival.size pieces) (overwritten (1383 * arrival.index) (take arrival.size pieces) bytes)
+
+-- so many bytes are the pieces that came, each of which lies in a message of this length
+abbrev pub are_laid : ℕ → List Arrival → ℕ → Bool
+are_laid total [] size = nat_eq size 0
+are_laid total (arrival ∷ arrivals) size =
+    nat_le arrival.size size && (nat_le (1383 * arrival.index + arrival.size) total && are_laid total arrivals (size - arrival.size))
+
+-- how many pieces did not come
+abbrev pub absent : Bool → ℕ
+absent came = cond came 0 1
+
+abbrev pub missing : List Bool → ℕ
+missing held = sum_by (λ came. absent came) held
+
+-- the message: zeros, with the pieces that came
+abbrev pub message_in : Inside → PartialMessage
+message_in p = record {
+  bytes = placed p.arrivals.items p.pieces.items (replicate p.total 0);
+  held = p.held.items;
+}
+
+-- There is room for the pieces that did not come yet, and for the message.
+pub record ArePieces (p : Inside) : Type 0 where
+  pub short : p.total ≤ message_limit
+  pub flags : length p.held.items ≡ count p.total
+  pub came : missing p.held.items + length p.arrivals.items ≡ length p.held.items
+  pub laid : are_laid p.total p.arrivals.items (length p.pieces.items) ≡ true
+  pub slots : length p.held.items ≤ vec_capacity p.arrivals
+  pub room : 1383 * missing p.held.items + length p.pieces.items ≤ vec_capacity p.pieces
+  pub fits : p.total ≤ vec_capacity p.pieces
