@@ -74,6 +74,7 @@ has-read world new w a key known before lines like up key_itself shown nodes res
         decisions = rw rest like.decisions;
         nodes = record { as_many = nodes.as_many; each = nodes.each };
         logs = rw rest like.logs;
+        tails = rw rest like.tails;
       };
       lines = reported ∙ ap (λ (n : ℕ). before ++ Line.Read n a known ∷ []) number ∙ ap (λ (k : Known). before ++ Line.Read (length w.reads + 1) a k ∷ []) shown;
     }
@@ -106,6 +107,7 @@ made-counted world new w a input made like up formed short rest decisions itself
     short = short;
     decisions = decisions;
     logs = rw rest like.logs;
+    tails = rw rest like.tails;
     step_itself = itself;
   };
   nodes = nodes;

@@ -1,5 +1,5 @@
 -- A centre crashes, or starts again.
-use Rattle.std.proofs.Common.{◌≡◌, ℕ, ◌+◌, ◌-◌, ◌≤◌, ◌<◌, ◌^◌, ◌==◌, ◌&&◌, Bool, true, false, List, [], ◌∷◌, ◌++◌, refl, sym, ap, ◌∙◌, subst, inl, inr, None, Option, Some, Ok, Err, arith, length, get_or, nat_lt}
+use Rattle.std.proofs.Common.{◌≡◌, ℕ, ◌+◌, ◌-◌, ◌≢◌, ◌≤◌, ◌<◌, ◌^◌, ◌==◌, ◌&&◌, Bool, true, false, List, [], ◌∷◌, ◌++◌, refl, sym, ap, ◌∙◌, subst, inl, inr, None, Option, Some, Ok, Err, arith, length, get_or, nat_lt}
 use Rattle.std.specs.Prelude.{set}
 use Rattle.std.proofs.lemmas.Bool.{cases_Bool, eqb-true, eq-eqb, le-ltb, lt-ltb}
 use Rattle.std.proofs.lemmas.List.{get_or-set_other, get_or-set_same, length-set}
@@ -8,6 +8,7 @@ use Rattle.mdcc_logs.specs.Nodes.{CentreStore, IsNodeOf, spare_of}
 use Rattle.mdcc_logs.proofs.Refusals.{log-payloads}
 use Rattle.mdcc_logs.specs.Represents.{LogsRepresent, with_fact_at, with_up}
 use Rattle.mdcc_logs.specs.Starting.{cells_with_boot}
+use Rattle.mdcc_logs.specs.Tails.{HasTail, tail_at}
 use Rattle.mdcc_logs.specs.declared.logs.Logs.{Logs}
 use Rattle.mdcc_node.specs.declared.node.Node.{Node}
 use Rattle.mdcc_protocol.specs.Belongs.{is_centre}
@@ -17,6 +18,7 @@ use Rattle.mdcc_messages.specs.Lengths.{cells_used, log_length}
 use Rattle.mdcc_option.specs.declared.cluster.Cluster.{Cluster}
 use Rattle.mdcc_protocol.specs.Volatile.{Volatile, initial_volatile}
 use Rattle.mdcc_simulation.specs.State.{Site, World, booted, centre_at, counted_event, down, is_up_at}
+use Rattle.mdcc_simulation.specs.Checkpoints.{tail_after}
 use Rattle.mdcc_simulation.specs.Centres.{crash_happened, restart_happened, stop_happened}
 use Rattle.mdcc_simulation.specs.Limits.{most_log}
 use Rattle.mdcc_messages.specs.declared.facts.Fact.{Fact}
@@ -28,7 +30,7 @@ use Rattle.mdcc_world.proofs.Counted.{up-centre}
 use Rattle.mdcc_world.proofs.NodesStay.{set-get}
 use Rattle.mdcc_world.proofs.Took.{booted-counted, logs-same}
 use Rattle.mdcc_world.specs.Disks.{DisksShow}
-use Rattle.mdcc_world.specs.Nodes.{NodesRepresent, StopsRepresent, UpsRepresent}
+use Rattle.mdcc_world.specs.Nodes.{NodesRepresent, StopsRepresent, TailsRepresent, UpsRepresent}
 use Rattle.mdcc_world.specs.Represents.{HasHappened, Happens, IsLike}
 use Rattle.mdcc_world.specs.declared.world.World.{World as TheWorld}
 use Rattle.mdcc_worlds.proofs.Staying.{restarted-stays}
@@ -86,6 +88,21 @@ module _ (w : World) (a : ℕ) (site : Site) (world : IsWorld w) (centre : is_ce
         there ∙ stand b here ∙ ap (λ (s : Site). s.stop) (sym (site-elsewhere b positive e))
   ]
 
+  -- how long the tails are
+  pub tails-set : (old new : Logs) (tail : ℕ) → HasTail old new a tail → tail ≡ site.tail → TailsRepresent old w
+      → (b : ℕ) → is_centre w.cluster b ≡ true → tail_at new b ≡ (get_or (set w.centres (a - 1) site) (b - 1) booted).tail
+  tails-set old new tail has is stand b here = elim (cases_Bool (a == b)) [
+    | inl e ↦
+        let same : a ≡ b = eqb-true a b e in
+        subst (λ (n : ℕ). tail_at new n ≡ (get_or (set w.centres (a - 1) site) (n - 1) booted).tail) same (has.here ∙ is ∙ ap (λ (s : Site). s.tail) (sym site-at))
+    | inr e ↦
+        let both = some-centre w.cluster b here in
+        let nine = world.cluster_itself.quorums.nine_centres in
+        let low : b ≤ 9 = omega (both.1, nine, arith) in
+        let apart : b ≢ a = λ f. (let clash : true ≡ false = sym (eq-eqb a b (sym f)) ∙ e in absurd (cc)) in
+        has.others b low apart ∙ stand b here ∙ ap (λ (s : Site). s.tail) (sym (site-elsewhere b both.0 e))
+  ]
+
   -- which logs are open
   pub open-set : (up : Bool) → site.is_up ≡ up → (b : ℕ) → 1 ≤ b
       → with_up (is_up_at w) a up b ≡ (is_centre w.cluster b && (get_or (set w.centres (a - 1) site) (b - 1) booted).is_up)
@@ -95,6 +112,10 @@ module _ (w : World) (a : ℕ) (site : Site) (world : IsWorld w) (centre : is_ce
         rw e (subst (λ (n : ℕ). up ≡ (is_centre w.cluster n && (get_or (set w.centres (a - 1) site) (n - 1) booted).is_up)) same (rw (site-at, centre) (sym is)))
     | inr e ↦ rw e (ap (λ (s : Site). is_centre w.cluster b && s.is_up) (sym (site-elsewhere b positive e)))
   ]
+
+-- the logs are the same
+tails-kept : (logs : Logs) (a : ℕ) → HasTail logs logs a (tail_at logs a)
+tails-kept logs a = record { here = refl; others = λ b low other. refl }
 
 other-place : (a j : ℕ) → 1 ≤ a → ((a - 1) == j) ≡ false → (a == (j + 1)) ≡ false
 other-place a j some other = elim (cases_Bool (a == (j + 1))) [
@@ -115,24 +136,29 @@ crashed-nodes nodes w a world centre stand = record {
   each = λ j node at up. elim (cases_Bool (a == (j + 1))) [
     | inl e ↦
         let same : a ≡ j + 1 = eqb-true a (j + 1) e in
-        let here : get_or (set w.centres (a - 1) down) (j + 1 - 1) booted ≡ down = subst (λ (n : ℕ). get_or (set w.centres (a - 1) down) (n - 1) booted ≡ down) same (site-at w a down world centre) in
+        let here : get_or (set w.centres (a - 1) site) (j + 1 - 1) booted ≡ site = subst (λ (n : ℕ). get_or (set w.centres (a - 1) site) (n - 1) booted ≡ site) same (site-at w a site world centre) in
         let bad : false ≡ true = ap (λ (s : Site). s.is_up) (sym here) ∙ up in
         absurd (cc)
     | inr e ↦
-        let there = site-elsewhere w a down world centre (j + 1) (omega arith) e in
+        let there = site-elsewhere w a site world centre (j + 1) (omega arith) e in
         rw there (stand.each j node at (ap (λ (s : Site). s.is_up) (sym there) ∙ up))
   ];
 }
+  where
+    site : Site
+    site = down (centre_at w a).tail
 
 pub has-crashed : (world new : TheWorld) (w : World) (a : ℕ) (before lines : List Line) → IsLike world w → is_up_at w a ≡ true
     → length world.up ≡ 9 → a ≤ 9
     → new ≡ record world { up = set world.up (a - 1) false; stops = set world.stops (a - 1) None; logs = new.logs; events = world.events + 1 }
     → length world.stops ≡ 9
     → LogsRepresent new.logs w.cluster.quorums.centres (with_up (is_up_at w) a false) (facts_of w.ledger)
+    → HasTail world.logs new.logs a (tail_at world.logs a)
     → lines ≡ before ++ Line.Crash a ∷ []
     → HasHappened new before lines (crash_happened (counted_event w) a)
-has-crashed world new w a before lines like up many nine rest armed logs reported =
+has-crashed world new w a before lines like up many nine rest armed logs tail reported =
     let centre = up-centre w a up in
+    let site = down (centre_at w a).tail in
     let counted = counted-stays w like.records.itself in
     let few = like.records.few_reads in
     let nodes : NodesRepresent world.nodes.items (counted_event w) = record { as_many = like.nodes.as_many; each = like.nodes.each } in
@@ -146,13 +172,14 @@ has-crashed world new w a before lines like up many nine rest armed logs reporte
           reads = ap (λ (x : TheWorld). x.reads) rest ∙ like.records.reads;
           few_reads = omega (few, arith);
           events = ap (λ (x : TheWorld). x.events) rest ∙ ap (λ (n : ℕ). n + 1) like.records.events;
-          ups = rw rest (ups-set (counted_event w) a down counted centre world.up false many nine refl like.records.ups);
-          stops = rw rest (stops-set (counted_event w) a down counted centre world.stops None (omega (armed, nine, arith)) refl like.records.stops);
+          ups = rw rest (ups-set (counted_event w) a site counted centre world.up false many nine refl like.records.ups);
+          stops = rw rest (stops-set (counted_event w) a site counted centre world.stops None (omega (armed, nine, arith)) refl like.records.stops);
         };
         decisions = rw rest like.decisions;
         nodes = rw rest (crashed-nodes world.nodes.items (counted_event w) a counted centre nodes);
         logs = logs-same new.logs w.cluster.quorums.centres (with_up (is_up_at w) a false) (is_up_at (crash_happened (counted_event w) a).world) (facts_of w.ledger) (facts_of w.ledger)
-            (λ b some few. open-set (counted_event w) a down counted centre false refl b some) (λ b some few. refl) logs;
+            (λ b some few. open-set (counted_event w) a site counted centre false refl b some) (λ b some few. refl) logs;
+        tails = tails-set (counted_event w) a site counted centre world.logs new.logs (tail_at world.logs a) tail (like.tails a centre) like.tails;
       };
       lines = reported;
     }
@@ -202,6 +229,8 @@ has-armed world new w a call image before lines like up many nine rest reported 
         nodes = rw rest (armed-nodes world.nodes.items (counted_event w) a call image counted centre nodes);
         logs = rw rest (logs-same world.logs w.cluster.quorums.centres (is_up_at w) (is_up_at (stop_happened (counted_event w) a call image).world) (facts_of w.ledger) (facts_of w.ledger)
             (λ b some within. armed-up (counted_event w) a call image counted centre b some) (λ b some within. refl) like.logs);
+        tails = rw rest (tails-set (counted_event w) a (record (centre_at w a) { stop = Some (call, image) }) counted centre world.logs world.logs (tail_at world.logs a)
+            (tails-kept world.logs a) (like.tails a centre) like.tails);
       };
       lines = reported;
     }
@@ -218,14 +247,17 @@ restarted-nodes nodes node w a epoch world centre stand is = record {
         let some = (some-centre w.cluster a centre).0 in
         let place : j + 1 ≡ a = (let e = here.0 in omega (e, some, arith)) in
         let same : (a == a) ≡ true = eq-eqb a a refl in
-        rw (place, ← here.1, same, site-at w a booted world centre) is
+        rw (place, ← here.1, same, site-at w a site world centre) is
     | inr there ↦
         let some = (some-centre w.cluster a centre).0 in
         let other = other-place a j some there.0 in
-        let site = site-elsewhere w a booted world centre (j + 1) (omega arith) other in
-        rw (other, site) (stand.each j x there.1 (ap (λ (s : Site). s.is_up) (sym site) ∙ up))
+        let elsewhere = site-elsewhere w a site world centre (j + 1) (omega arith) other in
+        rw (other, elsewhere) (stand.each j x there.1 (ap (λ (s : Site). s.is_up) (sym elsewhere) ∙ up))
   ];
 }
+  where
+    site : Site
+    site = record booted { tail = tail_after (centre_at w a).tail }
 
 -- the limit of its log, where its cells suffice
 pub restart-limit : (w : World) (a : ℕ) → cells_with_boot (facts_of w.ledger a) ≤ w.cluster.cells → nat_lt most_log (log_length (Fact.Booted (restart_epoch w a) ∷ facts_of w.ledger a)) ≡ true
@@ -266,9 +298,11 @@ pub has-restarted : (world new : TheWorld) (kept : Logs) (w : World) (a epoch : 
     → IsNodeOf node w.cluster a (Fact.Booted epoch ∷ facts_of w.ledger a) initial_volatile
     → LogsRepresent kept w.cluster.quorums.centres (with_up (is_up_at w) a true) (with_fact_at (facts_of w.ledger) a (Fact.Booted epoch))
     → nat_lt most_log (log_length (Fact.Booted epoch ∷ facts_of w.ledger a)) ≡ false
+    → HasTail world.logs kept a (tail_after (tail_at world.logs a))
     → lines ≡ before ++ Line.Restart a epoch ∷ []
     → Happens {T = Unit {0}} new before lines (Ok tt) (restarted w a)
-has-restarted world new kept w a epoch node before lines like centre early many nine rest armed nodes same is logs room reported =
+has-restarted world new kept w a epoch node before lines like centre early many nine rest armed nodes same is logs room tail reported =
+    let site = record booted { tail = tail_after (centre_at w a).tail } in
     let counted = counted-stays w like.records.itself in
     let few = like.records.few_reads in
     let standing : NodesRepresent world.nodes.items (counted_event w) = record { as_many = like.nodes.as_many; each = like.nodes.each } in
@@ -277,13 +311,13 @@ has-restarted world new kept w a epoch node before lines like centre early many 
     ∙ ap (λ (n : ℕ). Ok (restart_happened (counted_event w) a n)) (sym same) in
     let itself : IsWorld (restart_happened (counted_event w) a epoch).world =
     restarted-stays w a (restart_happened (counted_event w) a epoch) like.records.itself centre early within in
-    let ups : UpsRepresent (set world.up (a - 1) true) (restart_happened (counted_event w) a epoch).world = ups-set (counted_event w) a booted counted centre world.up true many nine refl like.records.ups in
+    let ups : UpsRepresent (set world.up (a - 1) true) (restart_happened (counted_event w) a epoch).world = ups-set (counted_event w) a site counted centre world.up true many nine refl like.records.ups in
     let stops : StopsRepresent (set world.stops (a - 1) None) (restart_happened (counted_event w) a epoch).world =
-    stops-set (counted_event w) a booted counted centre world.stops None (omega (armed, nine, arith)) refl like.records.stops in
+    stops-set (counted_event w) a site counted centre world.stops None (omega (armed, nine, arith)) refl like.records.stops in
     let standing-logs : LogsRepresent kept w.cluster.quorums.centres (is_up_at (restart_happened (counted_event w) a epoch).world) (facts_of (Added a (Fact.Booted epoch) ∷ w.ledger)) =
     logs-same kept w.cluster.quorums.centres (with_up (is_up_at w) a true) (is_up_at (restart_happened (counted_event w) a epoch).world)
     (with_fact_at (facts_of w.ledger) a (Fact.Booted epoch)) (facts_of (Added a (Fact.Booted epoch) ∷ w.ledger))
-    (λ b some within. open-set (counted_event w) a booted counted centre true refl b some) (λ b some within. facts-restarted w a epoch b) logs in
+    (λ b some within. open-set (counted_event w) a site counted centre true refl b some) (λ b some within. facts-restarted w a epoch b) logs in
     rw within (record {
       like = record {
         records = record {
@@ -300,6 +334,8 @@ has-restarted world new kept w a epoch node before lines like centre early many 
         decisions = rw (ap (λ (x : TheWorld). x.decisions) rest) (booted-counted world.decisions w.cluster.quorums w.ledger a epoch like.decisions);
         nodes = rw nodes (restarted-nodes world.nodes.items node (counted_event w) a epoch counted centre standing is);
         logs = rw (ap (λ (x : TheWorld). x.logs) rest) standing-logs;
+        tails = rw (ap (λ (x : TheWorld). x.logs) rest)
+            (tails-set (counted_event w) a site counted centre world.logs kept (tail_after (tail_at world.logs a)) tail (ap tail_after (like.tails a centre)) like.tails);
       };
       lines = reported;
     })

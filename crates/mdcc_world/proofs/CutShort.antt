@@ -22,7 +22,7 @@ use Rattle.mdcc_worlds.proofs.Counts.{limit-open}
 use Rattle.mdcc_worlds.proofs.Delivers.{next-of, refused-of}
 use Rattle.mdcc_worlds.proofs.Events.{open-is}
 use Rattle.mdcc_worlds.specs.DeliveryProgress.{unmoved}
-use Rattle.mdcc_worlds.specs.EventEffects.{at_limit, if_open}
+use Rattle.mdcc_worlds.specs.EventEffects.{if_open}
 use Rattle.mdcc_worlds.specs.SettleProgress.{IsSettling, settle_reported, settle_ended, settle_from}
 
 -- lines begin with these

@@ -121,6 +121,7 @@ module _ (world : TheWorld) (w : World) (number : ℕ) (envelope : Envelope) (li
           short = sent-short;
           decisions = rw rest (input-counted world.decisions after envelope.to (Input.Message envelope) counted-world sent-formed refl like.decisions);
           logs = rw rest like.logs;
+          tails = rw rest like.tails;
           step_itself = itself;
         };
         nodes = nodes;

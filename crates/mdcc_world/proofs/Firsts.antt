@@ -3,6 +3,7 @@ use Rattle.std.proofs.Common.{◌≡◌, ℕ, ◌-◌, ◌≤◌, ◌&&◌, Bool
 use Rattle.std.proofs.lemmas.Bool.{and_from, cases_Bool, le-leb}
 use Rattle.mdcc_base.specs.declared.outside.Image.{Image}
 use Rattle.mdcc_logs.specs.Represents.{LogsRepresent}
+use Rattle.mdcc_logs.specs.Tails.{tail_at}
 use Rattle.mdcc_logs.specs.declared.logs.Logs.{Logs}
 use Rattle.mdcc_option.specs.declared.cluster.Cluster.{Cluster}
 use Rattle.mdcc_protocol.specs.Belongs.{is_centre}
@@ -10,8 +11,9 @@ use Rattle.mdcc_ledger.specs.Ledger.{facts_of}
 use Rattle.mdcc_simulation.specs.State.{Site, booted_to, centre_at, first_world, is_up_at}
 use Rattle.mdcc_messages.specs.declared.facts.Fact.{Fact}
 use Rattle.mdcc_worlds.proofs.Begins.{first-facts, first-site}
+use Rattle.mdcc_worlds.proofs.Stays.{some-centre}
 use Rattle.mdcc_world.proofs.Took.{logs-same}
-use Rattle.mdcc_world.specs.Nodes.{StopsRepresent, UpsRepresent}
+use Rattle.mdcc_world.specs.Nodes.{StopsRepresent, TailsRepresent, UpsRepresent}
 
 within-is : (cluster : Cluster) (a : ℕ) → 1 ≤ a → is_centre cluster a ≡ nat_le a cluster.quorums.centres
 within-is cluster a some = ap (λ (b : Bool). b && nat_le a cluster.quorums.centres) (le-leb 1 a some)
@@ -38,7 +40,13 @@ none-armed (suc n) (suc k) = none-armed n k
 pub first-stops : (stops : List (Option (ℕ × Image))) (cluster : Cluster) → ((a : ℕ) → get_or stops (a - 1) None ≡ None) → StopsRepresent stops (first_world cluster)
 first-stops stops cluster none a here = none a ∙ ap (λ (s : Site). s.stop) (sym (first-site cluster a here))
 
--- and each log has the first boot
+-- each log has one frame
+pub first-tails : (logs : Logs) (cluster : Cluster) → ((a : ℕ) → 1 ≤ a → a ≤ cluster.quorums.centres → tail_at logs a ≡ 1) → TailsRepresent logs (first_world cluster)
+first-tails logs cluster are a here =
+    let both = some-centre cluster a here in
+    are a both.0 both.1 ∙ ap (λ (s : Site). s.tail) (sym (first-site cluster a here))
+
+-- and that is the first boot
 pub first-logs : (logs : Logs) (cluster : Cluster) → LogsRepresent logs cluster.quorums.centres (λ a. true) (λ a. Fact.Booted 1 ∷ [])
     → LogsRepresent logs cluster.quorums.centres (is_up_at (first_world cluster)) (facts_of (first_world cluster).ledger)
 first-logs logs cluster stand =

@@ -132,6 +132,7 @@ like-counted world w like = record {
   decisions = like.decisions;
   nodes = record { as_many = like.nodes.as_many; each = like.nodes.each };
   logs = like.logs;
+  tails = like.tails;
 }
 
 pub like-network : (world : TheWorld) (network : List Sent) (w : World) → network ≡ world.network → IsLike world w → IsLike (record world { network = network }) w
@@ -150,6 +151,7 @@ like-network world network w kept like = record {
   decisions = like.decisions;
   nodes = like.nodes;
   logs = like.logs;
+  tails = like.tails;
 }
 
 -- ---- calls that pass on what was made

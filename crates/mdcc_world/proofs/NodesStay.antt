@@ -19,7 +19,7 @@ use Rattle.mdcc_protocol.specs.Volatile.{Volatile}
 use Rattle.mdcc_ledger.specs.Ledger.{facts_of}
 use Rattle.mdcc_rules.specs.Steps.{NodeStep, with_new}
 use Rattle.mdcc_simulation.specs.State.{Happened, Site, World, booted, centre_at, down, first_world, is_up_at, with_centre}
-use Rattle.mdcc_simulation.specs.AppliedSteps.{input_happened, is_frame_kept, step_at, step_happened_by, step_stopped}
+use Rattle.mdcc_simulation.specs.AppliedSteps.{input_happened, step_at, step_happened_by, step_stopped}
 use Rattle.mdcc_messages.specs.declared.facts.Fact.{Fact}
 use Rattle.mdcc_protocol.specs.declared.visible.Reading.{Reading}
 use Rattle.mdcc_rules.specs.declared.node.Answer.{Answer}
@@ -35,6 +35,7 @@ use Rattle.mdcc_world.specs.Nodes.{NodesRepresent, RunsAt, is_memory_run}
 use Rattle.mdcc_worlds.specs.StepSends.{StaysWithin}
 use Rattle.mdcc_worlds.specs.WorldInvariant.{IsWorld}
 use Rattle.mdcc_worlds.specs.StepEffects.{ledger_with_fact, world_after_step}
+use Rattle.mdcc_simulation.specs.Checkpoints.{is_frame_kept, striking_at}
 
 -- ---- places
 
@@ -117,20 +118,20 @@ module _ (nodes : List (Node CentreStore)) (w : World) (place : ℕ) (node : Nod
   }
 
   -- its centre is down, and its node counts for nothing
-  gone : (o : Option Fact) → NodesRepresent (set nodes place node) (record (with_centre w (place + 1) down) { ledger = ledger_with_fact (place + 1) o w.ledger })
-  gone o = record {
+  gone : (tail : ℕ) (o : Option Fact) → NodesRepresent (set nodes place node) (record (with_centre w (place + 1) (down tail)) { ledger = ledger_with_fact (place + 1) o w.ledger })
+  gone tail o = record {
     as_many = length-set nodes place node ∙ standing.as_many;
     each = λ j x at up. elim (set-get nodes place j node x at) [
       | inl here ↦
           let few : place + 1 ≤ length w.centres = omega (within, standing.as_many, world.sites, arith) in
-          let here_down : get_or (set w.centres (place + 1 - 1) down) (place + 1 - 1) booted ≡ down = site-same w.centres (place + 1) down (omega arith) few in
-          let there : (get_or (set w.centres (place + 1 - 1) down) (place + 1 - 1) booted).is_up ≡ true =
-          subst (λ (n : ℕ). (get_or (set w.centres (place + 1 - 1) down) (n + 1 - 1) booted).is_up ≡ true) here.0 up in
+          let here_down : get_or (set w.centres (place + 1 - 1) (down tail)) (place + 1 - 1) booted ≡ down tail = site-same w.centres (place + 1) (down tail) (omega arith) few in
+          let there : (get_or (set w.centres (place + 1 - 1) (down tail)) (place + 1 - 1) booted).is_up ≡ true =
+          subst (λ (n : ℕ). (get_or (set w.centres (place + 1 - 1) (down tail)) (n + 1 - 1) booted).is_up ≡ true) here.0 up in
           let bad : false ≡ true = ap (λ (s : Site). s.is_up) (sym here_down) ∙ there in
           absurd (cc)
       | inr there ↦
           let other = other-next place j there.0 in
-          let site = site-other w.centres (place + 1) (j + 1) down (omega arith) (omega arith) other in
+          let site = site-other w.centres (place + 1) (j + 1) (down tail) (omega arith) (omega arith) other in
           let facts : facts_of (ledger_with_fact (place + 1) o w.ledger) (j + 1) ≡ facts_of w.ledger (j + 1) = facts-with (place + 1) (j + 1) o w.ledger ∙ rw other refl in
           rw (facts, site) (standing.each j x there.1 (ap (λ (s : Site). s.is_up) (sym site) ∙ up))
     ];
@@ -138,8 +139,8 @@ module _ (nodes : List (Node CentreStore)) (w : World) (place : ℕ) (node : Nod
 
   stopped : (fact : Fact) (stop : ℕ × Image) → NodesRepresent (set nodes place node) (step_stopped w (place + 1) fact stop).world
   stopped fact stop = elim (cases_Bool (is_frame_kept stop.0 stop.1)) [
-    | inl e ↦ rw e (gone (Some fact))
-    | inr e ↦ rw e (gone None)
+    | inl e ↦ rw e (gone _ (Some fact))
+    | inr e ↦ rw e (gone _ None)
   ]
 
   pub nodes-stay : (input : Input) → IsWellFormedInput input → (r : Result NodeStep StepFault) → step_at w (place + 1) input ≡ r
@@ -149,10 +150,10 @@ module _ (nodes : List (Node CentreStore)) (w : World) (place : ℕ) (node : Nod
   nodes-stay input formed (Ok step) e after =
       by_fact step
       (made step (made-stays w.cluster (place + 1) (facts_of w.ledger (place + 1)) (centre_at w (place + 1)).volatile input step world.cluster_itself.quorums formed e) after)
-      step.fact refl (centre_at w (place + 1)).stop refl
+      step.fact refl (striking_at w (place + 1)) refl
     where
       by_fact : (step : NodeStep) → NodesRepresent (set nodes place node) (world_after_step w (place + 1) step) → (o : Option Fact) → step.fact ≡ o
-          → (stop : Option (ℕ × Image)) → (centre_at w (place + 1)).stop ≡ stop → NodesRepresent (set nodes place node) (step_happened_by w (place + 1) step o).world
+          → (stop : Option (ℕ × Image)) → striking_at w (place + 1) ≡ stop → NodesRepresent (set nodes place node) (step_happened_by w (place + 1) step o).world
       by_fact step whole None e stop k = subst (λ (x : Happened). NodesRepresent (set nodes place node) x.world) (sym (by-none w (place + 1) step e)) whole
       by_fact step whole (Some fact) e None k = subst (λ (x : Happened). NodesRepresent (set nodes place node) x.world) (sym (by-some w (place + 1) step fact e k)) whole
       by_fact step whole (Some fact) e (Some stop) k = rw k (stopped fact stop)

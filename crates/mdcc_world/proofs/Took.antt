@@ -1,12 +1,13 @@
 -- What a step brings is taken.
-use Rattle.std.proofs.Common.{◌≡◌, ℕ, zero, suc, ◌+◌, ◌≤◌, ◌==◌, ◌&&◌, Bool, true, false, List, [], ◌∷◌, ◌++◌, refl, sym, ap, ◌∙◌, subst, inl, inr, Option, Some, None, Result, Ok, Err, map, append-nil}
+use Rattle.std.proofs.Common.{◌≡◌, ℕ, zero, suc, ◌+◌, ◌≢◌, ◌≤◌, ◌==◌, ◌&&◌, Bool, true, false, List, [], ◌∷◌, ◌++◌, refl, sym, ap, ◌∙◌, subst, inl, inr, Option, Some, None, Result, Ok, Err, map, append-nil, arith}
 use Rattle.std.specs.Bool.{OnFalse}
 use Rattle.std.specs.List.{AllByRecursion}
-use Rattle.std.proofs.lemmas.Bool.{cases_Bool, eqb-true}
+use Rattle.std.proofs.lemmas.Bool.{cases_Bool, eq-eqb, eqb-true}
 use Rattle.mdcc_base.specs.Sizes.{Sizes}
 use Rattle.mdcc_base.specs.declared.faults.Memory.{Memory}
 use Rattle.mdcc_base.specs.declared.outside.Image.{Image}
 use Rattle.mdcc_logs.specs.Represents.{IsLogOf, LogsRepresent}
+use Rattle.mdcc_logs.specs.Tails.{HasTail, tail_at}
 use Rattle.mdcc_logs.specs.declared.logs.Logs.{Logs}
 use Rattle.mdcc_node.specs.StepAnswers.{step_result}
 use Rattle.mdcc_outcomes.specs.Decided.{entry_decisions}
@@ -21,6 +22,7 @@ use Rattle.mdcc_rules.specs.Steps.{NodeStep, step_given}
 use Rattle.mdcc_simulation.specs.State.{Happened, Site, World, booted_to, centre_at, is_up_at}
 use Rattle.mdcc_messages.specs.Mailbox.{Sent, unsent}
 use Rattle.mdcc_simulation.specs.AppliedSteps.{chosen_lines, input_happened, step_at, step_happened, step_happened_by}
+use Rattle.mdcc_simulation.specs.Checkpoints.{striking_at}
 use Rattle.mdcc_simulation.specs.Limits.{input_limited, unless_limit, is_out_of_memory}
 use Rattle.mdcc_messages.specs.declared.facts.Fact.{Fact}
 use Rattle.mdcc_language.specs.declared.lines.Line.{Line}
@@ -37,11 +39,11 @@ use Rattle.mdcc_worlds.proofs.Stays.{by-none, by-some, refused-same, site-here, 
 use Rattle.mdcc_worlds.proofs.Within.{made-quiet, made-stays}
 use Rattle.mdcc_worlds.specs.StepSends.{IsValuedBy, StaysWithin, is_begin}
 use Rattle.mdcc_worlds.specs.WorldInvariant.{IsWorld}
-use Rattle.mdcc_worlds.specs.StepEffects.{chosen_line, limit_passed, step_lines, step_reported, after_whole_step, reported_by, reported_whole, ledger_with_fact, world_after_step}
+use Rattle.mdcc_worlds.specs.StepEffects.{chosen_line, limit_passed, step_lines, step_reported, after_whole_step, reported_by, reported_whole, ledger_with_fact, tail_with_fact, world_after_step}
 use Rattle.mdcc_world.proofs.Happened.{any-fault, limited, may_be}
-use Rattle.mdcc_world.specs.StepOutputs.{facts_with}
+use Rattle.mdcc_world.specs.StepOutputs.{facts_with, tail_with}
 use Rattle.mdcc_world.specs.NodeRuns.{HasRun}
-use Rattle.mdcc_world.specs.Nodes.{NodesRepresent, StopsRepresent, UpsRepresent}
+use Rattle.mdcc_world.specs.Nodes.{NodesRepresent, StopsRepresent, TailsRepresent, UpsRepresent}
 use Rattle.mdcc_world.specs.Represents.{Happens, entries_of_step}
 use Rattle.mdcc_world.specs.StoppedAppend.{IsWhole}
 use Rattle.mdcc_world.specs.Report.{dropped_lines}
@@ -181,9 +183,28 @@ module _ (w : World) (a : ℕ) (step : NodeStep) (world : IsWorld w) (centre : i
     | inr e ↦ ap (λ (s : Site). s.stop) (sym (site-there w a step world centre stays b (some-centre w.cluster b here).0 e))
   ]
 
+  -- how long the tails are
+  pub tails-taken : (old new : Logs) → HasTail old new a (tail_with (tail_at old a) step.fact) → TailsRepresent old w → TailsRepresent new (world_after_step w a step)
+  tails-taken old new has stand b here = elim (cases_Bool (a == b)) [
+    | inl e ↦
+        let same : a ≡ b = eqb-true a b e in
+        subst (λ (n : ℕ). tail_at new n ≡ (centre_at (world_after_step w a step) n).tail) same
+        (has.here ∙ ap (λ (n : ℕ). tail_with n step.fact) (stand a centre) ∙ tail-is step.fact ∙ ap (λ (s : Site). s.tail) (sym (site-here w a step world centre stays)))
+    | inr e ↦
+        let both = some-centre w.cluster b here in
+        let nine = world.cluster_itself.quorums.nine_centres in
+        let low : b ≤ 9 = omega (both.1, nine, arith) in
+        let apart : b ≢ a = λ f. (let clash : true ≡ false = sym (eq-eqb a b (sym f)) ∙ e in absurd (cc)) in
+        has.others b low apart ∙ stand b here ∙ ap (λ (s : Site). s.tail) (sym (site-there w a step world centre stays b both.0 e))
+  ]
+    where
+      tail-is : (o : Option Fact) → tail_with (centre_at w a).tail o ≡ tail_with_fact w a o
+      tail-is None = refl
+      tail-is (Some fact) = refl
+
 -- ---- what is taken
 
--- a step that does not stop
+-- a step that no stop strikes
 pub whole-happened : (w : World) (a : ℕ) (step : NodeStep) → IsWhole w a step.fact → step_happened w a step ≡ after_whole_step w a step
 whole-happened w a step (inl none) = ap (step_happened_by w a step) none ∙ by-none w a step none
 whole-happened w a step (inr unstopped) = by_fact step.fact refl
@@ -192,8 +213,8 @@ whole-happened w a step (inr unstopped) = by_fact step.fact refl
     by_fact None e = by-none w a step e
     by_fact (Some fact) e = by-some w a step fact e unstopped
 
-pub whole-reported : (w : World) (a : ℕ) (step : NodeStep) → IsWhole w a step.fact → reported_by w a step step.fact (centre_at w a).stop ≡ reported_whole w a step
-whole-reported w a step (inl none) = ap (λ (o : Option Fact). reported_by w a step o (centre_at w a).stop) none
+pub whole-reported : (w : World) (a : ℕ) (step : NodeStep) → IsWhole w a step.fact → reported_by w a step step.fact (striking_at w a) ≡ reported_whole w a step
+whole-reported w a step (inl none) = ap (λ (o : Option Fact). reported_by w a step o (striking_at w a)) none
 whole-reported w a step (inr unstopped) = ap (reported_by w a step step.fact) unstopped ∙ by_fact step.fact
   where
     by_fact : (o : Option Fact) → reported_by w a step o None ≡ reported_whole w a step
@@ -246,10 +267,11 @@ module _ (world : TheWorld) (w : World) (a : ℕ) (input : Input) (step : Step) 
       → limit_passed w a step.fact step.sends ≡ None
       → new.network ≡ world.network ++ map unsent step.sends → new.bytes ≡ world.bytes + messages_length step.sends
       → LogsRepresent new.logs w.cluster.quorums.centres (is_up_at w) (facts_with (facts_of w.ledger) a step.fact)
+      → HasTail world.logs new.logs a (tail_with (tail_at world.logs a) step.fact)
       → ((quorums : Sizes) (entries : List Entry) → RepresentsLedger world.decisions quorums entries → RepresentsLedger new.decisions quorums (ledger_with_fact a step.fact entries))
       → ((quorums : Sizes) (entries : List Entry) → RepresentsLedger world.decisions quorums entries → lines ≡ before ++ step_lines quorums a step.fact entries)
       → Happens {T = Unit {0}} new before lines (Ok tt) (input_limited w a (step_at w a input))
-  step-taken new before lines rest within network bytes logs ledger reported =
+  step-taken new before lines rest within network bytes logs tail ledger reported =
       let records = made.before.records in
       let clear : limit_passed w a s.fact s.sends ≡ None = sym limit-is ∙ within in
       let is : input_limited w a result ≡ Ok (after_whole_step w a s) = comes ∙ ap (λ (o : Option EventFault). unless_limit o (after_whole_step w a s)) clear in
@@ -276,6 +298,8 @@ module _ (world : TheWorld) (w : World) (a : ℕ) (input : Input) (step : Step) 
           nodes = nodes;
           logs = logs-same new.logs w.cluster.quorums.centres (is_up_at w) (is_up_at (world_after_step w a s)) (facts_with (facts_of w.ledger) a s.fact) (facts_of (world_after_step w a s).ledger)
               (λ b some within. up-taken w a s world-is made.before.centre step-stays b some) (λ b some within. facts-taken w a s world-is made.before.centre step-stays b) kept;
+          tails = tails-taken w a s world-is made.before.centre step-stays world.logs new.logs
+              (subst (λ (o : Option Fact). HasTail world.logs new.logs a (tail_with (tail_at world.logs a) o)) fact-is tail) made.before.tails;
         };
         lines = reported w.cluster.quorums (s.entries ++ w.ledger) here ∙ ap (λ (o : Option Fact). before ++ step_lines w.cluster.quorums a o (s.entries ++ w.ledger)) fact-is;
       })
@@ -298,6 +322,7 @@ step-left world w a input fault made before lines reported =
         decisions = here;
         nodes = subst (λ (x : World). NodesRepresent world.nodes.items x) same made.nodes;
         logs = made.before.logs;
+        tails = made.before.tails;
       });
       lines = reported ∙ ap (λ (more : List Line). before ++ more) (sym (refused-lines w a fault));
     })

@@ -2,6 +2,8 @@
 use Rattle.std.specs.Prelude.{◌≡◌, ◌+◌, ◌-◌, ◌≤◌, Bool, Err, List, None, Ok, Option, Result, Some, false, get_or, length, slice_get, true, ℕ}
 use Rattle.mdcc_base.specs.declared.outside.Image.{Image}
 use Rattle.mdcc_logs.specs.Nodes.{CentreStore, IsNodeOf}
+use Rattle.mdcc_logs.specs.Tails.{tail_at}
+use Rattle.mdcc_logs.specs.declared.logs.Logs.{Logs}
 use Rattle.mdcc_node.specs.StepAnswers.{is_step_memory}
 use Rattle.mdcc_node.specs.declared.node.Node.{Node}
 use Rattle.mdcc_protocol.specs.Belongs.{is_centre}
@@ -28,9 +30,13 @@ pub record RunsAt (nodes : List (Node CentreStore)) (a : ℕ) : Type 0 where
 abbrev pub UpsRepresent : List Bool → World → Type 0
 UpsRepresent ups w = (a : ℕ) → 1 ≤ a → a ≤ 9 → get_or ups (a - 1) false ≡ is_up_at w a
 
--- where a stop is armed: inside which device call of the next append, and with which image
+-- where a stop is armed: inside which device call of an append or of the checkpoint behind it, and with which image
 abbrev pub StopsRepresent : List (Option (ℕ × Image)) → World → Type 0
 StopsRepresent stops w = (a : ℕ) → is_centre w.cluster a ≡ true → get_or stops (a - 1) None ≡ (centre_at w a).stop
+
+-- how many frames the tail of the log of each centre has, whether it is up or down
+abbrev pub TailsRepresent : Logs → World → Type 0
+TailsRepresent logs w = (a : ℕ) → is_centre w.cluster a ≡ true → tail_at logs a ≡ (centre_at w a).tail
 
 -- whether there was no memory for an input
 abbrev pub is_memory_run : {T : Type 0} → Result T StepFault → Bool

@@ -16,7 +16,7 @@ use Rattle.mdcc_rules.specs.declared.node.StepFault.{StepFault}
 use Rattle.mdcc_language.specs.declared.world.EventFault.{EventFault}
 use Rattle.mdcc_steps.specs.NodeInvariant.{accept_length_in}
 use Rattle.mdcc_steps.specs.Inputs.{IsWellFormedInput}
-use Rattle.mdcc_world.specs.Nodes.{NodesRepresent, StopsRepresent, UpsRepresent}
+use Rattle.mdcc_world.specs.Nodes.{NodesRepresent, StopsRepresent, TailsRepresent, UpsRepresent}
 use Rattle.mdcc_world.specs.declared.world.World.{World as TheWorld}
 use Rattle.mdcc_worlds.specs.WorldInvariant.{IsWorld}
 use Rattle.mdcc_simulation.specs.Limits.{is_out_of_memory}
@@ -34,12 +34,14 @@ pub record RecordsRepresent (world : TheWorld) (w : World) : Type 0 where
   pub ups : UpsRepresent world.up w
   pub stops : StopsRepresent world.stops w
 
--- with these go the votes that were counted, the nodes, and the logs: on the disk of each centre stand its facts of the ledger
+-- with these go the votes that were counted, the nodes, and the logs: on the disks of each centre stand its facts of the ledger, and
+-- the tail of its log has as many frames
 pub record IsLike (world : TheWorld) (w : World) : Type 0 where
   pub records : RecordsRepresent world w
   pub decisions : RepresentsLedger world.decisions w.cluster.quorums w.ledger
   pub nodes : NodesRepresent world.nodes.items w
   pub logs : LogsRepresent world.logs w.cluster.quorums.centres (is_up_at w) (facts_of w.ledger)
+  pub tails : TailsRepresent world.logs w
 
 -- and there were no more events than there may be
 pub record RepresentsWorld (world : TheWorld) (w : World) : Type 0 where
@@ -60,6 +62,7 @@ pub record IsBeforeStep (world : TheWorld) (w : World) (a : ℕ) (input : Input)
   pub short : accept_length_in input ≤ 2097152
   pub decisions : RepresentsLedger world.decisions w.cluster.quorums (entries_of_step (step_at w a input) ++ w.ledger)
   pub logs : LogsRepresent world.logs w.cluster.quorums.centres (is_up_at w) (facts_of w.ledger)
+  pub tails : TailsRepresent world.logs w
   pub step_itself : made ≡ step_result (step_at w a input)
 
 -- and after it
@@ -67,6 +70,7 @@ pub record IsAfterStep (world : TheWorld) (before after : List Line) (h : Happen
   pub records : RecordsRepresent world h.world
   pub decisions : RepresentsLedger world.decisions h.world.cluster.quorums h.world.ledger
   pub logs : LogsRepresent world.logs h.world.cluster.quorums.centres (is_up_at h.world) (facts_of h.world.ledger)
+  pub tails : TailsRepresent world.logs h.world
   pub lines : after ≡ before ++ h.lines
 
 -- the world stands for what happened, and its lines stand behind the others

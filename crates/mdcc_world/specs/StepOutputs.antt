@@ -7,12 +7,18 @@ use Rattle.mdcc_messages.specs.Lengths.{fact_length}
 use Rattle.mdcc_messages.specs.WellFormed.{IsWellFormedFact}
 use Rattle.mdcc_simulation.specs.State.{World, is_up_at}
 use Rattle.mdcc_messages.specs.declared.facts.Fact.{Fact}
+use Rattle.mdcc_simulation.specs.Checkpoints.{tail_after}
 use Rattle.mdcc_world.specs.declared.world.World.{World as TheWorld}
 
 -- the facts of all centres with a new one of a centre, where there is one
 abbrev pub facts_with : (ℕ → List Fact) → ℕ → Option Fact → ℕ → List Fact
 facts_with facts a None = facts
 facts_with facts a (Some fact) = with_fact_at facts a fact
+
+-- the frames of the tail of a log with a new fact, where there is one
+abbrev pub tail_with : ℕ → Option Fact → ℕ
+tail_with tail None = tail
+tail_with tail (Some fact) = tail_after tail
 
 -- a fact that may be appended to the log of a centre
 pub record MayAppendFact (logs : Logs) (a : ℕ) (fact : Fact) : Type 0 where

@@ -1,16 +1,17 @@
--- What an append that stops leaves.
+-- What a stop in an append, or in the checkpoint behind it, leaves.
 use Rattle.std.specs.Prelude.{◌≡◌, ◌⊎◌, ◌∷◌, [], List, None, Option, if◌then◌else◌, ℕ}
 use Rattle.mdcc_base.specs.Sizes.{Sizes}
 use Rattle.mdcc_base.specs.declared.outside.Image.{Image}
 use Rattle.mdcc_language.specs.declared.lines.Line.{Line}
 use Rattle.mdcc_ledger.specs.Ledger.{Added, Entry}
 use Rattle.mdcc_messages.specs.declared.facts.Fact.{Fact}
-use Rattle.mdcc_simulation.specs.State.{World, centre_at}
-use Rattle.mdcc_simulation.specs.AppliedSteps.{chosen_lines, is_frame_kept}
+use Rattle.mdcc_simulation.specs.State.{World}
+use Rattle.mdcc_simulation.specs.AppliedSteps.{chosen_lines}
+use Rattle.mdcc_simulation.specs.Checkpoints.{is_frame_kept, striking_at}
 
--- a step is taken whole where it has no fact, and where no stop is armed
+-- a step is taken whole where it has no fact, and where no stop strikes
 abbrev pub IsWhole : World → ℕ → Option Fact → Type 0
-IsWhole w a fact = (fact ≡ None) ⊎ ((centre_at w a).stop ≡ None)
+IsWhole w a fact = (fact ≡ None) ⊎ (striking_at w a ≡ None)
 
 -- the fact counts where its frame is in the image
 abbrev pub kept_entries : ℕ → Fact → ℕ → Image → List Entry → List Entry

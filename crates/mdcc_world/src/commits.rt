@@ -2,16 +2,18 @@
 ghost use Rattle.std.specs.Prelude.{◌≡◌, ◌≤◌, ◌++◌, ◌∷◌, Bool, List, OnErr, OnOk, false, length, map, true, ℕ};
 ghost use Rattle.mdcc_base.specs.Sizes.{Sizes};
 ghost use Rattle.mdcc_logs.specs.Represents.{LogsRepresent};
+ghost use Rattle.mdcc_logs.specs.Tails.{HasTail, tail_at};
 ghost use Rattle.mdcc_outcomes.specs.Represents.{RepresentsLedger};
 ghost use Rattle.mdcc_ledger.specs.Ledger.{Added, Entry};
 ghost use Rattle.mdcc_protocol.specs.Marks.{is_commit};
-ghost use Rattle.mdcc_simulation.specs.AppliedSteps.{chosen_lines, heard_lines, is_frame_kept};
+ghost use Rattle.mdcc_simulation.specs.AppliedSteps.{chosen_lines, heard_lines};
 ghost use Rattle.mdcc_messages.specs.Mailbox.{unsent};
 ghost use Rattle.mdcc_messages.specs.declared.facts.Fact.{Fact as AFact};
-ghost use Rattle.mdcc_world.specs.StepOutputs.{IsFramed, facts_with};
+ghost use Rattle.mdcc_world.specs.StepOutputs.{IsFramed, facts_with, tail_with};
 ghost use Rattle.mdcc_world.specs.StoppedAppend.{kept_entries, kept_lines};
 ghost use Rattle.mdcc_world.specs.Report.{dropped_lines};
 ghost use Rattle.mdcc_worlds.specs.StepEffects.{chosen_line, fact_lines, step_lines, ledger_with_fact};
+ghost use Rattle.mdcc_simulation.specs.Checkpoints.{is_frame_kept};
 
 use mdcc_base::{Centre, HeapList, Image, Memory, TxId};
 use mdcc_language::Line;
@@ -81,17 +83,17 @@ fn count_fact(
     Ok(())
 }
 
-// Whether the frame of a fact is there after a stop inside a device call of its append.
+// Whether the frame of a fact is there after a stop: from the third call on where it is kept, and in the checkpoint behind it always.
 fn is_frame_kept(call: u8, image: Image) -> bool
     ensures { result ≡ is_frame_kept call image }
 {
     match image {
         Image::Kept => call >= 3,
-        _ => false,
+        _ => call >= 5,
     }
 }
 
-/// The fact of a step whose append stopped counts where its frame is in the image.
+/// The fact of a step that was struck counts where its frame is in the image.
 pub(crate) fn count_kept(
     decisions: &mut Decisions,
     centre: Centre,
@@ -159,8 +161,10 @@ fn append_fact(
 ) -> Result<(), Memory>
     requires within { centre ≤ length logs.old.open.items }
     requires framed { IsFramed logs.old centre fact.now }
-    ensures { (centres : ℕ) (up : ℕ → Bool) (facts : ℕ → List AFact) → LogsRepresent logs.old centres up facts → up centre ≡ true
+    ensures logs { (centres : ℕ) (up : ℕ → Bool) (facts : ℕ → List AFact) → LogsRepresent logs.old centres up facts → up centre ≡ true
         → OnOk result (LogsRepresent logs.new centres up (facts_with facts centre fact.now)) }
+    ensures tail { (centres : ℕ) (up : ℕ → Bool) (facts : ℕ → List AFact) → LogsRepresent logs.old centres up facts → up centre ≡ true
+        → OnOk result (HasTail logs.old logs.new centre (tail_with (tail_at logs.old centre) fact.now)) }
 {
     match fact {
         Some(fact) => logs.append(alloc, centre, fact),
@@ -182,6 +186,8 @@ pub(crate) fn persist_then_send(
     requires framed { IsFramed logs.old centre fact.now }
     ensures logs { (centres : ℕ) (up : ℕ → Bool) (facts : ℕ → List AFact) → LogsRepresent logs.old centres up facts → up centre ≡ true
         → OnOk result (LogsRepresent logs.new centres up (facts_with facts centre fact.now)) }
+    ensures tail { (centres : ℕ) (up : ℕ → Bool) (facts : ℕ → List AFact) → LogsRepresent logs.old centres up facts → up centre ≡ true
+        → OnOk result (HasTail logs.old logs.new centre (tail_with (tail_at logs.old centre) fact.now)) }
     ensures sent { OnOk result (network.new ≡ network.old ++ map unsent batch) }
     ensures unsent { OnErr result (network.new ≡ network.old) }
 {

@@ -4,24 +4,26 @@ ghost use Rattle.mdcc_base.specs.Sizes.{Sizes};
 ghost use Rattle.mdcc_base.specs.declared.outside.Image.{Image as AnImage};
 ghost use Rattle.mdcc_language.specs.declared.lines.Line.{Line as ALine};
 ghost use Rattle.mdcc_logs.specs.Represents.{LogsRepresent, with_up};
+ghost use Rattle.mdcc_logs.specs.Tails.{HasTail, tail_at};
 ghost use Rattle.mdcc_outcomes.specs.Represents.{RepresentsLedger};
 ghost use Rattle.mdcc_ledger.specs.Ledger.{Entry};
 ghost use Rattle.mdcc_messages.specs.Lengths.{messages_length};
 ghost use Rattle.mdcc_messages.specs.WellFormed.{IsWellFormedFact};
 ghost use Rattle.mdcc_simulation.specs.State.{World as AWorld};
 ghost use Rattle.mdcc_simulation.specs.Limits.{passed_bytes_limit, input_limited, passed_log_limit, unless_limit};
-ghost use Rattle.mdcc_simulation.specs.AppliedSteps.{is_frame_kept, step_at};
+ghost use Rattle.mdcc_simulation.specs.AppliedSteps.{step_at};
 ghost use Rattle.mdcc_messages.specs.Mailbox.{unsent};
 ghost use Rattle.mdcc_messages.specs.declared.facts.Fact.{Fact as AFact};
 ghost use Rattle.mdcc_rules.specs.declared.node.Input.{Input as AInput};
 ghost use Rattle.mdcc_world.specs.Faults.{is_free};
-ghost use Rattle.mdcc_world.specs.StepOutputs.{Measures, IsFormed, IsFramed, MayAppendFact, facts_with};
+ghost use Rattle.mdcc_world.specs.StepOutputs.{Measures, IsFormed, IsFramed, MayAppendFact, facts_with, tail_with};
 ghost use Rattle.mdcc_node.specs.StepPlans.{written};
 ghost use Rattle.mdcc_world.specs.NodeRuns.{HasRun, HasRunSome};
 ghost use Rattle.mdcc_world.specs.Represents.{Happens};
 ghost use Rattle.mdcc_world.specs.StoppedAppend.{IsWhole, kept_entries, kept_lines};
 ghost use Rattle.mdcc_worlds.specs.StepEffects.{limit_passed, step_lines, ledger_with_fact};
 ghost use Rattle.mdcc_logs.specs.Stopping.{stopped_facts};
+ghost use Rattle.mdcc_simulation.specs.Checkpoints.{is_checkpoint_kept, is_due_after, is_frame_kept, striking_at, tail_stopped};
 
 use crate::commits::{count_kept, persist_then_send, push_dropped, report_fact};
 use crate::world::World;
@@ -32,12 +34,14 @@ use mdcc_mail::MessageBatch;
 use mdcc_messages::Fact;
 use mdcc_rules::{Step, StepFault};
 
-// The device call of an append in which a stop of this number falls: an append has four.
+// The device call in which a stop of this number falls: an append has four, and the checkpoint behind it seven.
 fn in_append(call: u8) -> u8
-    ensures within { (1 ≤ result) × (result ≤ 4) }
+    ensures within { (1 ≤ result) × (result ≤ 11) }
+    ensures late { 5 ≤ result → 5 ≤ call }
     ensures kept { (image : AnImage) → is_frame_kept result image ≡ is_frame_kept call image }
+    ensures copied { (image : AnImage) → is_checkpoint_kept result image ≡ is_checkpoint_kept call image }
 {
-    call.clamp(1, 4)
+    call.clamp(1, 11)
 }
 
 // How many bytes of messages there may be.
@@ -102,6 +106,8 @@ impl World {
         ensures rest { self.new ≡ record self.old { logs = self.new.logs; network = self.new.network; bytes = self.new.bytes; decisions = self.new.decisions } }
         ensures logs { (centres : ℕ) (up : ℕ → Bool) (facts : ℕ → List AFact) → LogsRepresent self.old.logs centres up facts → up centre ≡ true
             → OnOk result (LogsRepresent self.new.logs centres up (facts_with facts centre fact.now)) }
+        ensures tail { (centres : ℕ) (up : ℕ → Bool) (facts : ℕ → List AFact) → LogsRepresent self.old.logs centres up facts → up centre ≡ true
+            → OnOk result (HasTail self.old.logs self.new.logs centre (tail_with (tail_at self.old.logs centre) fact.now)) }
         ensures sent { OnOk result (self.new.network ≡ self.old.network ++ map unsent batch) }
         ensures bytes { OnOk result (self.new.bytes ≡ self.old.bytes + messages_length batch) }
         ensures ledger { (quorums : Sizes) (entries : List Entry) → RepresentsLedger self.old.decisions quorums entries
@@ -154,7 +160,7 @@ impl World {
         self.commit_checked(centre, step, batch, lines)
     }
 
-    // The append of a fact stops, and its centre goes down with nothing sent.
+    // The append of a fact stops, or the checkpoint behind it, and its centre goes down with nothing sent.
     fn stop_append(
         &mut self,
         centre: Centre,
@@ -165,11 +171,14 @@ impl World {
     ) -> Result<(), Memory>
         requires within { centre ≤ length self.old.logs.open.items }
         requires framed { MayAppendFact self.old.logs centre fact.now }
+        requires due { 5 ≤ call → is_due_after (tail_at self.old.logs centre) ≡ true }
         ensures rest { self.new ≡ record self.old { up = self.new.up; stops = self.new.stops; logs = self.new.logs; decisions = self.new.decisions } }
         ensures down { self.new.up ≡ set self.old.up (centre - 1) false }
         ensures stops { self.new.stops ≡ set self.old.stops (centre - 1) None }
         ensures logs { (centres : ℕ) (up : ℕ → Bool) (facts : ℕ → List AFact) → LogsRepresent self.old.logs centres up facts → up centre ≡ true
             → OnOk result (LogsRepresent self.new.logs centres (with_up up centre false) (stopped_facts facts centre fact.now call image)) }
+        ensures tail { (centres : ℕ) (up : ℕ → Bool) (facts : ℕ → List AFact) → LogsRepresent self.old.logs centres up facts → up centre ≡ true
+            → OnOk result (HasTail self.old.logs self.new.logs centre (tail_stopped (tail_at self.old.logs centre) call image)) }
         ensures ledger { (quorums : Sizes) (entries : List Entry) → RepresentsLedger self.old.decisions quorums entries
             → OnOk result (RepresentsLedger self.new.decisions quorums (kept_entries centre fact.now call image entries)) }
         ensures lines { (quorums : Sizes) (entries : List Entry) → RepresentsLedger self.old.decisions quorums entries
@@ -193,7 +202,7 @@ impl World {
     ) -> Result<(), EventFault>
         requires some { HasRunSome self.old centre (Ok step.now) }
         requires fact { step.now.fact ≡ Some fact.now }
-        requires armed { get_or self.old.stops (centre - 1) None ≡ Some stop }
+        requires strikes { (w : AWorld) (input : AInput) → HasRun self.old w centre input (Ok step.now) → striking_at w centre ≡ Some stop }
         ensures happens { (w : AWorld) (input : AInput) → HasRun self.old w centre input (Ok step.now)
             → Happens self.new lines.old lines.new result (input_limited w centre (step_at w centre input)) }
         ensures free { IfErr result (λ fault. is_free fault ≡ true) }
@@ -219,7 +228,7 @@ impl World {
         ensures free { IfErr result (λ fault. is_free fault ≡ true) }
         ensures events { self.new.events ≡ self.old.events }
     {
-        match self.stop_at(centre) {
+        match self.striking_at(centre) {
             Some(stop) => self.stop_step(centre, step, fact, stop, lines),
             None => self.commit_step(centre, step, lines),
         }

@@ -1,10 +1,15 @@
-//! Appends that stop: the stop is armed, and the next step that brings a fact takes its centre down.
-ghost use Rattle.std.specs.Prelude.{◌≡◌, ◌≤◌, ◌<◌, ◌+◌, ◌-◌, IfErr, None, OnErr, OnOk, Some, get_or, length, true};
+//! Appends and checkpoints that stop: the stop is armed, and a later step that brings a fact takes its centre down.
+ghost use Rattle.std.specs.Prelude.{◌≡◌, ◌≤◌, ◌<◌, ◌+◌, ◌-◌, IfErr, None, OnErr, OnOk, Result as AResult, get_or, length, true};
 ghost use Rattle.mdcc_language.specs.declared.events.Event.{Event as AEvent};
 ghost use Rattle.mdcc_simulation.specs.Centres.{stop_happened};
 ghost use Rattle.mdcc_simulation.specs.Events.{after_event};
 ghost use Rattle.mdcc_simulation.specs.State.{World as AWorld, counted_event, is_up_at};
+ghost use Rattle.mdcc_rules.specs.declared.node.Input.{Input as AInput};
+ghost use Rattle.mdcc_rules.specs.declared.node.Step.{Step as AStep};
+ghost use Rattle.mdcc_rules.specs.declared.node.StepFault.{StepFault as AStepFault};
+ghost use Rattle.mdcc_simulation.specs.Checkpoints.{striking_at};
 ghost use Rattle.mdcc_world.specs.Faults.{OnRefusal};
+ghost use Rattle.mdcc_world.specs.NodeRuns.{HasRun};
 ghost use Rattle.mdcc_world.specs.Represents.{Happens, HasHappened, IsLike, IsLikeSome};
 
 use crate::world::World;
@@ -13,10 +18,27 @@ use mdcc_language::{EventFault, Line};
 
 impl World {
     // The stop that is armed at a centre.
-    pub(crate) fn stop_at(&self, centre: Centre) -> Option<(u8, Image)>
+    fn stop_at(&self, centre: Centre) -> Option<(u8, Image)>
         ensures { result ≡ get_or self.now.stops (centre - 1) None }
     {
         self.stops[usize::from(centre.number()) - 1]
+    }
+
+    // The same, where it strikes in the next append: inside that, or inside the checkpoint that is due then.
+    pub(crate) fn striking_at(&self, centre: Centre) -> Option<(u8, Image)>
+        requires within { centre ≤ length self.now.logs.open.items }
+        ensures { (w : AWorld) (input : AInput) (made : AResult AStep AStepFault) → HasRun self.now w centre input made → result ≡ striking_at w centre }
+    {
+        let Some(stop) = self.stop_at(centre) else {
+            return None;
+        };
+        if stop.0 <= 4 {
+            return Some(stop);
+        }
+        if self.logs.is_due_next(centre) {
+            return Some(stop);
+        }
+        None
     }
 
     // A stop is armed at a centre, in place of an earlier one, which is an event.

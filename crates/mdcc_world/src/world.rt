@@ -24,7 +24,8 @@ pub(crate) const MOST_EVENTS: u32 = 100_000;
 
 /// The nodes of a cluster with their logs, all messages between them as bytes, and the reads that
 /// were made. The node of a centre that is down counts for nothing; its log is what it starts from.
-/// Where a stop is armed, the next append of its centre stops inside the device call of that number.
+/// Where a stop is armed, the next append of its centre stops inside the device call of that number, or, from 5 on, the next
+/// checkpoint behind an append.
 #[derive(Drop)]
 pub struct World {
     pub(crate) alloc: Global,

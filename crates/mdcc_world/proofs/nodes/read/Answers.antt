@@ -1,6 +1,5 @@
 use Rattle.std.proofs.Common.{◌≡◌, Ok, refl}
 use Rattle.std.proofs.lemmas.Bool.{and_parts}
-use Rattle.mdcc_node.specs.StepPlans.{written}
 use Rattle.mdcc_node.specs.StepAnswers.{step_result}
 use Rattle.mdcc_rules.specs.declared.node.Input.{Input}
 use Rattle.mdcc_simulation.specs.AppliedSteps.{step_at}

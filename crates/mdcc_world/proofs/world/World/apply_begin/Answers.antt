@@ -4,7 +4,7 @@ use Rattle.mdcc_simulation.specs.Limits.{input_limited}
 use Rattle.mdcc_simulation.specs.AppliedSteps.{step_at}
 use Rattle.mdcc_language.specs.declared.lines.Line.{Line}
 use Rattle.mdcc_world.proofs.BeginTaken.{begin-line}
-use Rattle.mdcc_world.proofs.Happened.{next-is, residual, reported-happens, reported-refused, reported-result}
+use Rattle.mdcc_world.proofs.Happened.{memory-is-free, next-is, residual, reported-happens, reported-refused, reported-result}
 use Rattle.mdcc_world.specs.Represents.{Happens}
 use Rattle.mdcc_world.specs.Report.{lines_begun}
 use Rattle.mdcc_world.proofs.world.World.apply_begin.Goals as goal
@@ -28,3 +28,6 @@ returns-clause-happens c w input made =
     reported-result c.report_begun.result c.apply_step.new.self c.args.lines.now c.report_begun.new.lines (after_begin_step w a r) c.report_begun.ensures.ok c.report_begun.ensures.memory
     (λ put. reported-happens c.apply_step.new.self c.args.lines.now c.report_begun.new.lines c.apply_step.new.lines (lines_begun step.answer c.next_message.result) (begin_lines (answer_in r)) expected one
     (λ v like. begin-line step r v c.next_message.result made.before.step_itself (next-is c.apply_step.new.self v c.next_message.result like c.next_message.ensures)) put)
+
+pub returns-clause-free : goal.returns-clause-free
+returns-clause-free c = memory-is-free c.report_begun.result c.report_begun.ensures.memory

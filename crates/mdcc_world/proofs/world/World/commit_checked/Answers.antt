@@ -48,4 +48,5 @@ returns-clause-happens c w input made whole =
     (c.in_ok-commit_outputs.ensures.sent ∙ ap (λ (xs : List Envelope). world.network ++ map unsent xs) written)
     (c.in_ok-commit_outputs.ensures.bytes ∙ ap (λ (xs : List Envelope). world.bytes + messages_length xs) written)
     (c.in_ok-commit_outputs.ensures.logs w.cluster.quorums.centres (is_up_at w) (facts_of w.ledger) made.before.logs made.before.up)
+    (c.in_ok-commit_outputs.ensures.tail w.cluster.quorums.centres (is_up_at w) (facts_of w.ledger) made.before.logs made.before.up)
     c.in_ok-commit_outputs.ensures.ledger c.in_ok-commit_outputs.ensures.lines

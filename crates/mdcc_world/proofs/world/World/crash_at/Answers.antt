@@ -1,7 +1,8 @@
-use Rattle.std.proofs.Common.{◌+◌, ◌-◌, ◌∙◌, Bool, List, Option, ap, arith, false, ℕ}
+use Rattle.std.proofs.Common.{◌+◌, ◌-◌, ◌∙◌, Bool, List, Option, ap, arith, false, subst, ℕ}
 use Rattle.std.specs.Prelude.{set}
 use Rattle.mdcc_base.specs.declared.outside.Image.{Image}
 use Rattle.mdcc_logs.specs.Represents.{LogsRepresent}
+use Rattle.mdcc_logs.specs.Tails.{HasTail, tail_at}
 use Rattle.mdcc_world.specs.declared.world.World.{World as TheWorld}
 use Rattle.mdcc_ledger.specs.Ledger.{facts_of}
 use Rattle.mdcc_simulation.specs.State.{is_up_at}
@@ -27,4 +28,5 @@ returns-clause-happened c w like =
     ∙ ap (λ (stops : List (Option (ℕ × Image))). record world { up = set world.up (a - 1) false; stops = stops; logs = logs; events = world.events + 1 }) c.fall.ensures.stops in
     let before : LogsRepresent c.fall.new.self.logs w.cluster.quorums.centres (is_up_at w) (facts_of w.ledger) = rw c.fall.ensures.rest like.logs in
     has-crashed world _ w a c.args.lines.now c.push.new.self like up (omega arith) (omega arith) rest (omega arith)
-    (c.crash.ensures.kept w.cluster.quorums.centres (is_up_at w) (facts_of w.ledger) before up) c.in_ok-push.ensures.ok
+    (c.crash.ensures.kept w.cluster.quorums.centres (is_up_at w) (facts_of w.ledger) before up)
+    (subst (λ (x : TheWorld). HasTail x.logs logs a (tail_at x.logs a)) c.fall.ensures.rest (c.crash.ensures.tail w.cluster.quorums.centres (is_up_at w) (facts_of w.ledger) before up)) c.in_ok-push.ensures.ok

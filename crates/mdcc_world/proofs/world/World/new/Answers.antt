@@ -1,5 +1,5 @@
 use Rattle.std.proofs.Common.{[], ◌-◌, None, arith, refl, replicate}
-use Rattle.mdcc_world.proofs.Firsts.{first-logs, first-stops, first-ups, none-armed}
+use Rattle.mdcc_world.proofs.Firsts.{first-logs, first-stops, first-tails, first-ups, none-armed}
 use Rattle.mdcc_world.proofs.NodesStay.{first-nodes}
 use Rattle.mdcc_world.proofs.Took.{first-counted, value-of}
 use Rattle.mdcc_worlds.proofs.Begins.{first-stands}
@@ -24,6 +24,7 @@ returns c =
         decisions = first-counted c.in_ok-decisions.decisions cluster.quorums cluster.quorums.centres c.in_ok-decisions.ensures;
         nodes = first-nodes c.in_ok-nodes.nodes.items cluster c.in_ok-nodes.ensures.nodes;
         logs = first-logs c.in_ok-nodes.logs cluster c.in_ok-nodes.ensures.logs;
+        tails = first-tails c.in_ok-nodes.logs cluster c.in_ok-nodes.ensures.tails;
       };
       few = omega arith;
     }

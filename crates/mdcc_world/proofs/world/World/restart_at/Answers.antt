@@ -2,6 +2,7 @@ use Rattle.std.proofs.Common.{◌<◌, ◌≤◌, ◌+◌, ◌-◌, ◌∷◌, B
 use Rattle.mdcc_logs.specs.Nodes.{IsNodeOf}
 use Rattle.mdcc_logs.specs.Represents.{with_up}
 use Rattle.mdcc_logs.specs.Starting.{HasStarted, Starts}
+use Rattle.mdcc_logs.specs.Tails.{HasTail, StartsWithTail, tail_at}
 use Rattle.mdcc_logs.specs.declared.starting.Started.{Started}
 use Rattle.mdcc_option.specs.declared.cluster.Cluster.{Cluster}
 use Rattle.mdcc_messages.specs.Lengths.{cells_used}
@@ -12,6 +13,7 @@ use Rattle.std.specs.Prelude.{set}
 use Rattle.mdcc_protocol.specs.Volatile.{initial_volatile}
 use Rattle.mdcc_messages.specs.declared.facts.Fact.{Fact}
 use Rattle.mdcc_restart.specs.Logged.{AreLogged}
+use Rattle.mdcc_simulation.specs.Checkpoints.{tail_after}
 use Rattle.mdcc_world.proofs.Crashed.{has-restarted, may-restart, more-epochs, restart-cells, restart-limit}
 use Rattle.mdcc_worlds.proofs.Stays.{some-centre}
 use Rattle.mdcc_world.proofs.world.World.restart_at.Goals as goal
@@ -43,11 +45,14 @@ returns-in_ok-push-in-Node-clause-happens c w like =
     subst (λ (s : Started). Starts (Ok s) c.restart.new.self world.cluster w.cluster.quorums.centres (with_up (is_up_at w) a true) a (facts_of w.ledger)) c.in-Node.is
     (c.in_ok-node.ensures.started w.cluster.quorums.centres (is_up_at w) (facts_of w.ledger) like.logs logged fits (more-epochs w a like.records.itself centre early)) in
     let node : IsNodeOf c.in-Node.node w.cluster a (Fact.Booted c.in-Node.epoch ∷ facts_of w.ledger a) initial_volatile = rw (← like.records.cluster) started.node_of in
+    let tail : HasTail world.logs c.restart.new.self a (tail_after (tail_at world.logs a)) =
+    subst (λ (s : Started). StartsWithTail (Ok s) world.logs c.restart.new.self a) c.in-Node.is
+    (c.in_ok-node.ensures.tail w.cluster.quorums.centres (is_up_at w) (facts_of w.ledger) like.logs logged fits (more-epochs w a like.records.itself centre early)) in
     let rest = c.rise.ensures.rest
     ∙ ap (λ (ups : List Bool). record world { nodes = c.rise.new.self.nodes; up = ups; stops = c.rise.new.self.stops; logs = c.restart.new.self; events = world.events + 1 }) c.rise.ensures.up
     ∙ ap (λ (stops : List (Option (ℕ × Image))). record world { nodes = c.rise.new.self.nodes; up = set world.up (a - 1) true; stops = stops; logs = c.restart.new.self; events = world.events + 1 }) c.rise.ensures.stops in
     has-restarted world c.rise.new.self c.restart.new.self w a c.in-Node.epoch c.in-Node.node c.args.lines.now c.push.new.self like centre early
-    (omega arith) (omega arith) rest (omega arith) c.rise.ensures.nodes started.next node started.stand started.room c.in_ok-push-in-Node.ensures.ok
+    (omega arith) (omega arith) rest (omega arith) c.rise.ensures.nodes started.next node started.stand started.room tail c.in_ok-push-in-Node.ensures.ok
 
 pub returns-in-Full-clause-happens : goal.returns-in-Full-clause-happens
 returns-in-Full-clause-happens c w like =

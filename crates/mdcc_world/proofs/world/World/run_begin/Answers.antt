@@ -1,4 +1,4 @@
-use Rattle.std.proofs.Common.{◌≡◌, ◌∙◌, Ok, arith, length, refl, sym}
+use Rattle.std.proofs.Common.{◌≡◌, Ok, arith, length, refl}
 use Rattle.std.proofs.lemmas.List.{with_items_is}
 use Rattle.std.specs.Vec.{with_items}
 use Rattle.mdcc_simulation.specs.State.{counted_event}

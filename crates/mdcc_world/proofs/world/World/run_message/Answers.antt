@@ -1,4 +1,4 @@
-use Rattle.std.proofs.Common.{◌≡◌, ◌∙◌, arith, length, refl, sym, true}
+use Rattle.std.proofs.Common.{◌≡◌, arith, length, refl, true}
 use Rattle.std.proofs.lemmas.List.{with_items_is}
 use Rattle.std.specs.Vec.{with_items}
 use Rattle.mdcc_node.specs.StepPlans.{written}

@@ -3,10 +3,10 @@ use Rattle.std.specs.Prelude.{set}
 use Rattle.mdcc_base.specs.declared.outside.Image.{Image}
 use Rattle.mdcc_ledger.specs.Ledger.{facts_of}
 use Rattle.mdcc_simulation.specs.Limits.{passed_log_limit}
-use Rattle.mdcc_simulation.specs.State.{is_up_at}
+use Rattle.mdcc_simulation.specs.State.{centre_at, is_up_at}
 use Rattle.mdcc_world.proofs.Happened.{residual, unlimited}
 use Rattle.mdcc_world.proofs.Limits.{fact-may, log-there, step-formed, step-measures}
-use Rattle.mdcc_world.proofs.StoppedStep.{step-stops, stop-refused}
+use Rattle.mdcc_world.proofs.StoppedStep.{step-stops, stop-refused, struck-due}
 use Rattle.mdcc_world.proofs.world.World.stop_step.Goals as goal
 
 pub at_log_limit-requires-clause-within : goal.at_log_limit-requires-clause-within
@@ -25,7 +25,7 @@ returns-in_err-at_log_limit-clause-happens c w input made =
     let step = c.args.step.now in
     let fault = c.in_err-at_log_limit.field-0.0 in
     rw (residual c.from_residual.result fault c.from_residual.ensures.1)
-    (stop-refused world w a input step made c.args.fact.now c.requires.fact c.args.stop.0 c.args.stop.1 c.requires.armed fault
+    (stop-refused world w a input step made c.args.fact.now c.requires.fact c.args.stop.0 c.args.stop.1 (c.requires.strikes w input made) fault
     (c.in_err-at_log_limit.ensures.limit w (step-measures world w a input step made)))
 
 pub stop_append-requires-clause-within : goal.stop_append-requires-clause-within
@@ -36,6 +36,14 @@ stop_append-requires-clause-within c =
 pub stop_append-requires-clause-framed : goal.stop_append-requires-clause-framed
 stop_append-requires-clause-framed c =
     fact-may c.args.self.now c.requires.some.0 c.args.centre c.requires.some.1 c.args.step.now c.requires.some.2 c.args.fact.now c.requires.fact
+
+pub stop_append-requires-clause-due : goal.stop_append-requires-clause-due
+stop_append-requires-clause-due c late =
+    let w = c.requires.some.0 in
+    let a = c.args.centre in
+    let made = c.requires.some.2 in
+    rw (made.before.tails a made.before.centre)
+    (struck-due (centre_at w a).tail (centre_at w a).stop c.args.stop.0 c.args.stop.1 (c.requires.strikes w c.requires.some.1 made) late)
 
 pub returns-clause-happens : goal.returns-clause-happens
 returns-clause-happens c w input made =
@@ -49,5 +57,6 @@ returns-clause-happens c w input made =
     let rest = c.stop_append.ensures.rest
     ∙ ap (λ (ups : List Bool). record world { up = ups; stops = new.stops; logs = new.logs; decisions = new.decisions }) c.stop_append.ensures.down
     ∙ ap (λ (stops : List (Option (ℕ × Image))). record world { up = set world.up (a - 1) false; stops = stops; logs = new.logs; decisions = new.decisions }) c.stop_append.ensures.stops in
-    step-stops world w a input step made fact c.requires.fact c.args.stop.0 c.args.stop.1 c.requires.armed new rest (omega arith) (omega arith) (omega arith)
-    c.args.lines.now c.stop_append.new.lines within (stopped.logs w.cluster.quorums.centres (is_up_at w) (facts_of w.ledger) made.before.logs made.before.up) stopped.ledger stopped.lines
+    step-stops world w a input step made fact c.requires.fact c.args.stop.0 c.args.stop.1 (c.requires.strikes w input made) new rest (omega arith) (omega arith) (omega arith)
+    c.args.lines.now c.stop_append.new.lines within (stopped.logs w.cluster.quorums.centres (is_up_at w) (facts_of w.ledger) made.before.logs made.before.up)
+    (stopped.tail w.cluster.quorums.centres (is_up_at w) (facts_of w.ledger) made.before.logs made.before.up) stopped.ledger stopped.lines
