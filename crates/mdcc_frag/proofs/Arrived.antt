@@ -1,6 +1,6 @@
 -- The pieces of a message that came, and one more of them.
-use Rattle.std.proofs.Common.{◌≡◌, ◌≤◌, ◌<◌, ℕ, suc, add-one, ◌+◌, ◌-◌, ◌*◌, Bool, true, false, ◌&&◌, nat_eq, nat_le, List, [], ◌∷◌, ◌++◌, length, get_or, set, take, drop, replicate, refl, sym, ◌∙◌, ap, arith, length-append, length-drop, drop-cons}
-use Rattle.std.specs.List.{list_all, sum_by}
+use Rattle.std.proofs.Common.{◌≡◌, ◌≤◌, ◌<◌, ℕ, suc, add-one, ◌+◌, ◌-◌, ◌*◌, Bool, true, false, ◌&&◌, nat_eq, List, [], ◌∷◌, ◌++◌, length, get_or, set, take, drop, refl, sym, ◌∙◌, ap, arith, length-drop, drop-cons}
+use Rattle.std.specs.List.{list_all}
 use Rattle.std.proofs.lemmas.Bool.{eqb-true, eq-eqb, leb-true, le-leb}
 use Rattle.std.proofs.lemmas.Bool.Decides.{nat_tests}
 use Rattle.std.proofs.lemmas.Grind.{common_steps}
@@ -66,7 +66,7 @@ placed_more total (first ∷ others) arrival pieces piece bytes laid size =
     let front : take first.size (pieces ++ piece) ≡ take first.size pieces = take-append-le first.size pieces piece there in
     let behind : drop first.size (pieces ++ piece) ≡ drop first.size pieces ++ piece = drop-append-le first.size pieces piece there in
     let rest : are_laid total others (length (drop first.size pieces)) ≡ true =
-        ap (are_laid total others) (length-drop first.size pieces) ∙ part.behind in
+    ap (are_laid total others) (length-drop first.size pieces) ∙ part.behind in
     ap (λ p. placed (others ++ arrival ∷ []) p (overwritten (1383 * first.index) (take first.size (pieces ++ piece)) bytes)) behind
     ∙ ap (λ p. placed (others ++ arrival ∷ []) (drop first.size pieces ++ piece) (overwritten (1383 * first.index) p bytes)) front
     ∙ placed_more total others arrival (drop first.size pieces) piece (overwritten (1383 * first.index) (take first.size pieces) bytes) rest size
@@ -84,7 +84,7 @@ length_placed total (first ∷ others) pieces bytes laid size =
     let there = part.there in
     let all : length (take first.size pieces) ≡ first.size = grind (arith, common_steps, there) in
     let rest : are_laid total others (length (drop first.size pieces)) ≡ true =
-        ap (are_laid total others) (length-drop first.size pieces) ∙ part.behind in
+    ap (are_laid total others) (length-drop first.size pieces) ∙ part.behind in
     length_placed total others (drop first.size pieces) (overwritten (1383 * first.index) (take first.size pieces) bytes) rest
     (length_over (1383 * first.index) (take first.size pieces) bytes (omega (arith, part.within)) ∙ size)
 

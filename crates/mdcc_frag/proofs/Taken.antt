@@ -1,5 +1,5 @@
 -- What a message is when one more piece came.
-use Rattle.std.proofs.Common.{◌≡◌, ◌≤◌, ◌<◌, ℕ, ◌+◌, ◌-◌, ◌*◌, nat_eq, Bool, true, false, List, [], ◌∷◌, ◌++◌, length, set, replicate, refl, sym, ◌∙◌, ap, arith, vec_capacity, length-append}
+use Rattle.std.proofs.Common.{◌≡◌, ◌≤◌, ◌<◌, ℕ, ◌+◌, ◌*◌, nat_eq, Bool, true, false, List, [], ◌∷◌, ◌++◌, length, set, replicate, sym, ◌∙◌, ap, arith, vec_capacity, length-append}
 use Rattle.std.proofs.lemmas.Bool.Decides.{nat_tests}
 use Rattle.std.proofs.lemmas.List.{length-replicate, length-set}
 use Rattle.mdcc_frag.specs.declared.partial.Arrival.{Arrival}
@@ -39,7 +39,7 @@ laid_with p m arrival piece are same size within =
     let total : length m.bytes ≡ p.total = ap (λ (n : PartialMessage). length n.bytes) same ∙ length_in p are in
     let more = laid_more p.total p.arrivals.items arrival (length p.pieces.items) are.laid (omega (arith, size, total, within)) in
     let all : length (p.pieces.items ++ piece) ≡ length p.pieces.items + arrival.size =
-        length-append p.pieces.items piece ∙ ap (λ n. length p.pieces.items + n) (sym size) in
+    length-append p.pieces.items piece ∙ ap (λ n. length p.pieces.items + n) (sym size) in
     ap (are_laid p.total (p.arrivals.items ++ arrival ∷ [])) all ∙ more
 
 -- all came where as many came as there are
@@ -88,7 +88,7 @@ pub message_with : (p q : Inside) (m : PartialMessage) (arrival : Arrival) (piec
 message_with p q m arrival piece are same new =
     let pack : List ℕ → List Bool → PartialMessage = λ bytes held. record { bytes = bytes; held = held } in
     let bytes : placed q.arrivals.items q.pieces.items (replicate q.total 0) ≡ overwritten (1383 * arrival.index) piece m.bytes =
-        rw new.total (rw new.arrivals (rw new.pieces (bytes_with p m arrival piece are same new.size))) in
+    rw new.total (rw new.arrivals (rw new.pieces (bytes_with p m arrival piece are same new.size))) in
     let held : q.held.items ≡ set m.held arrival.index true =
-        new.held ∙ ap (λ (n : PartialMessage). set n.held arrival.index true) (sym same) in
+    new.held ∙ ap (λ (n : PartialMessage). set n.held arrival.index true) (sym same) in
     ap (λ (b : List ℕ). pack b q.held.items) bytes ∙ ap (pack (overwritten (1383 * arrival.index) piece m.bytes)) held

@@ -22,6 +22,6 @@ returns-in-Ok-clause-taken c =
 pub returns-then-bytes-piece-clause-taken : goal.returns-then-bytes-piece-clause-taken
 returns-then-bytes-piece-clause-taken c =
     let copied : c.extend_from_slice.new.self.items ≡ c.args.bytes.now =
-        grind (arith, common_steps, c.in_ok-extend_from_slice.ensures.items, c.new-whole.ensures.items) in
+    grind (arith, common_steps, c.in_ok-extend_from_slice.ensures.items, c.new-whole.ensures.items) in
     ap (λ (bytes : List ℕ). step (Whole bytes) c.args.table.now.entries) (c.from_vec.ensures ∙ copied)
     ∙ first_alone c.args.piece.now c.args.bytes.now c.args.table.now.entries c.requires.first c.requires.fits (omega (arith, c.if-bytes-piece.true))

@@ -7,5 +7,5 @@ abbrev pub invariant-loop-arrival : goal.invariant-loop-arrival
 invariant-loop-arrival l = record {
   laid : are_laid (vec_len l.bytes) (drop l.arrival-index l.arrivals) (length l.rest) ≡ true;
   same : placed (drop l.arrival-index l.arrivals) l.rest l.bytes.items ≡ placed l.arrivals l.pieces l.initial.bytes.items;
-  room : vec_capacity l.initial.bytes ≤ vec_capacity l.bytes
+  room : vec_capacity l.initial.bytes ≤ vec_capacity l.bytes;
 }

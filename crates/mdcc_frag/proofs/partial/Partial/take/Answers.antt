@@ -1,7 +1,7 @@
-use Rattle.std.proofs.Common.{◌≡◌, ◌++◌, length, true, arith, sym, refl}
+use Rattle.std.proofs.Common.{length, true, arith, sym, refl}
 use Rattle.std.specs.Vec.{with_item}
 use Rattle.std.proofs.lemmas.Grind.{common_steps}
-use Rattle.mdcc_frag.proofs.Taken.{IsWith, is_missing, pieces_with, message_with}
+use Rattle.mdcc_frag.proofs.Taken.{is_missing, pieces_with, message_with}
 use Rattle.mdcc_frag.specs.declared.partial.Arrival.{Arrival}
 use Rattle.mdcc_frag.proofs.partial.Partial.take.Goals as goal
 
