@@ -1,5 +1,5 @@
 //! Appends and checkpoints that stop: the stop is armed, and a later step that brings a fact takes its centre down.
-ghost use Rattle.std.specs.Prelude.{◌≡◌, ◌≤◌, ◌<◌, ◌+◌, ◌-◌, IfErr, None, OnErr, OnOk, Result as AResult, get_or, length, true};
+ghost use Rattle.std.specs.Prelude.{◌≡◌, ◌≤◌, ◌<◌, ◌+◌, ◌-◌, IfErr, OnErr, OnOk, Result as AResult, length, true};
 ghost use Rattle.mdcc_language.specs.declared.events.Event.{Event as AEvent};
 ghost use Rattle.mdcc_simulation.specs.Centres.{stop_happened};
 ghost use Rattle.mdcc_simulation.specs.Events.{after_event};
@@ -17,19 +17,12 @@ use mdcc_base::{Centre, HeapList, Image, Memory};
 use mdcc_language::{EventFault, Line};
 
 impl World {
-    // The stop that is armed at a centre.
-    fn stop_at(&self, centre: Centre) -> Option<(u8, Image)>
-        ensures { result ≡ get_or self.now.stops (centre - 1) None }
-    {
-        self.stops[usize::from(centre.number()) - 1]
-    }
-
-    // The same, where it strikes in the next append: inside that, or inside the checkpoint that is due then.
+    // The stop that is armed at a centre, where it strikes in the next append: inside that, or inside the checkpoint that is due then.
     pub(crate) fn striking_at(&self, centre: Centre) -> Option<(u8, Image)>
         requires within { centre ≤ length self.now.logs.open.items }
         ensures { (w : AWorld) (input : AInput) (made : AResult AStep AStepFault) → HasRun self.now w centre input made → result ≡ striking_at w centre }
     {
-        let Some(stop) = self.stop_at(centre) else {
+        let Some(stop) = self.stops[usize::from(centre.number()) - 1] else {
             return None;
         };
         if stop.0 <= 4 {
