@@ -1,5 +1,6 @@
 -- Runs one after another, and what is done in them.
-use Rattle.std.proofs.Common.{◌≡◌, ℕ, List, [], ◌∷◌, ◌++◌, Result, Ok, Err, refl, sym, ◌∙◌, ap, ap₂, subst, append_assoc, map, length, length-append, arith}
+use Rattle.std.proofs.Common.{◌≡◌, ℕ, List, [], ◌∷◌, ◌++◌, Result, Ok, Err, refl, sym, ◌∙◌, ap, ap₂, subst, append_assoc, map, length, length-append, arith, inl, inr}
+use Rattle.std.specs.List.{AllByRecursion}
 use Rattle.std.proofs.lemmas.List.{map-append}
 use Rattle.std.proofs.lemmas.List.Elements.{filter-append}
 use Rattle.mdcc_config.specs.declared.config.Config.{Config}
@@ -8,7 +9,7 @@ use Rattle.mdcc_rules.specs.Steps.{NodeStep, heard_by}
 use Rattle.mdcc_rules.specs.declared.node.Input.{Input}
 use Rattle.mdcc_rules.specs.declared.node.StepFault.{StepFault}
 use Rattle.mdcc_run_laws.proofs.Seen.{acts_joined, sent_joined, shows_as, shows_then}
-use Rattle.mdcc_run_laws.specs.Told.{Mail, Shows, Tells, between_centres, heard_line, is_for_centre, mail_of, node_after, sent_after, steps_made}
+use Rattle.mdcc_run_laws.specs.Told.{IsOneOf, IsOwed, Mail, Shows, Tells, between_centres, heard_line, is_for_centre, mail_of, node_after, sent_after, steps_made}
 use Rattle.mdcc_runs.specs.Acts.{Act}
 use Rattle.mdcc_runs.specs.Runs.{NodeState, after_run, after_step, in_steps, listed, outcomes_heard, run_of, step_on}
 use Rattle.mdcc_runs.specs.Sites.{Doing, after_acts}
@@ -45,6 +46,39 @@ pub node_after_run : (cluster : Cluster) (me : ℕ) (node : NodeState) (inputs :
 node_after_run cluster me node [] = refl
 node_after_run cluster me node (x ∷ inputs) = node_after_run cluster me (after_step node (step_on cluster me node x)) inputs
 
+-- ---- messages that are owed
+
+one_of_left : (xs ys : List Mail) (next : Mail) → IsOneOf xs next → IsOneOf (xs ++ ys) next
+one_of_left [] ys next is = absurd is
+one_of_left (x ∷ xs) ys next (inl e) = inl e
+one_of_left (x ∷ xs) ys next (inr is) = inr (one_of_left xs ys next is)
+
+one_of_right : (xs ys : List Mail) (next : Mail) → IsOneOf ys next → IsOneOf (xs ++ ys) next
+one_of_right [] ys next is = is
+one_of_right (x ∷ xs) ys next is = inr (one_of_right xs ys next is)
+
+owed_left : (centre : ℕ) (xs ys : List Mail) (next : Mail) → IsOwed centre xs next → IsOwed centre (xs ++ ys) next
+owed_left centre xs ys next (inl is) = inl (one_of_left xs ys next is)
+owed_left centre xs ys next (inr is) = inr is
+
+owed_right : (centre : ℕ) (xs ys : List Mail) (next : Mail) → IsOwed centre ys next → IsOwed centre (xs ++ ys) next
+owed_right centre xs ys next (inl is) = inl (one_of_right xs ys next is)
+owed_right centre xs ys next (inr is) = inr is
+
+pub all_owed : (P Q : Mail → Type 0) (xs : List Mail) → ((x : Mail) → P x → Q x) → AllByRecursion P xs → AllByRecursion Q xs
+all_owed P Q [] so all = tt
+all_owed P Q (x ∷ xs) so all = (so x all.0, all_owed P Q xs so all.1)
+
+pub both_owed : (P : Mail → Type 0) (xs ys : List Mail) → AllByRecursion P xs → AllByRecursion P ys → AllByRecursion P (xs ++ ys)
+both_owed P [] ys one two = two
+both_owed P (x ∷ xs) ys one two = (one.0, both_owed P xs ys one.1 two)
+
+-- each of them is one of them
+pub each_owed : (centre : ℕ) (xs : List Mail) → AllByRecursion (IsOwed centre xs) xs
+each_owed centre [] = tt
+each_owed centre (x ∷ xs) =
+    (inl (inl refl), all_owed (IsOwed centre xs) (IsOwed centre (x ∷ xs)) xs (λ next is. owed_right centre (x ∷ []) xs next is) (each_owed centre xs))
+
 -- ---- what is done in them
 
 -- the same of another node and count, where they are equal
@@ -70,6 +104,12 @@ tells_then {config = config} {centre = centre} {node = node} {sent = sent} {xs =
           ∙ ap₂ (λ (x y : List Mail). x ++ y) one.messages two.messages
           ∙ sym (filter-append is_for_centre (mail_of node xs) (mail_of (node_after node xs) ys))
           ∙ ap between_centres (sym (mail_of_joined node xs ys));
+      owed = subst (λ (mail : List Mail). AllByRecursion (IsOwed centre mail) (one.mail ++ two.mail)) (sym (mail_of_joined node xs ys))
+          (both_owed (IsOwed centre (mail_of node xs ++ mail_of (node_after node xs) ys)) one.mail two.mail
+          (all_owed (IsOwed centre (mail_of node xs)) (IsOwed centre (mail_of node xs ++ mail_of (node_after node xs) ys)) one.mail
+          (owed_left centre (mail_of node xs) (mail_of (node_after node xs) ys)) one.owed)
+          (all_owed (IsOwed centre (mail_of (node_after node xs) ys)) (IsOwed centre (mail_of node xs ++ mail_of (node_after node xs) ys)) two.mail
+          (owed_right centre (mail_of node xs) (mail_of (node_after node xs) ys)) two.owed));
       centre_is = two.centre_is;
       node_is = two.node_is ∙ sym (node_joined node xs ys);
       sent_is = two.sent_is ∙ sym (sent_joined config centre sent one.mail two.mail);
@@ -82,6 +122,7 @@ tells_after shows one = record {
   mail = one.mail;
   shows = shows_as (shows_then shows one.shows) refl refl refl (omega arith);
   messages = one.messages;
+  owed = one.owed;
   centre_is = one.centre_is;
   node_is = one.node_is;
   sent_is = one.sent_is;

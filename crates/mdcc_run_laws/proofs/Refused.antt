@@ -1,4 +1,5 @@
 -- What a centre did is also the run without the inputs that are refused.
+use Rattle.std.specs.List.{AllByRecursion}
 use Rattle.std.proofs.Common.{◌≡◌, ℕ, List, [], ◌∷◌, ◌++◌, Result, Ok, Err, refl, sym, ◌∙◌, ap, subst, map, length}
 use Rattle.mdcc_config.specs.declared.config.Config.{Config}
 use Rattle.mdcc_option.specs.declared.cluster.Cluster.{Cluster}
@@ -9,7 +10,7 @@ use Rattle.mdcc_run_laws.proofs.Seen.{shows_as}
 use Rattle.mdcc_run_laws.proofs.Turned.{turns_are_runs}
 use Rattle.mdcc_run_laws.specs.Inputs.{inputs_in, turns}
 use Rattle.mdcc_run_laws.specs.Laws.{IsRunWithout}
-use Rattle.mdcc_run_laws.specs.Told.{Mail, Tells, between_centres, heard_line, mail_of, node_after}
+use Rattle.mdcc_run_laws.specs.Told.{IsOwed, Mail, Tells, between_centres, heard_line, mail_of, node_after}
 use Rattle.mdcc_runs.proofs.Refused.{run_without}
 use Rattle.mdcc_runs.specs.Runs.{NodeState, after_step, in_steps, inputs_taken, listed, run_of, step_on, taken_by}
 use Rattle.mdcc_runs.specs.Sites.{Doing, Site}
@@ -45,6 +46,7 @@ tells_taken {centre = centre} {node = node} {made = made} one = record {
   shows = shows_as one.shows (steps_taken (λ step. listed step.fact) made)
       (ap (map (heard_line centre)) (steps_taken (λ step. listed (heard_by step.fact)) made)) refl (ap length (steps_taken (λ step. step ∷ []) made));
   messages = one.messages ∙ ap between_centres (mail_taken node made);
+  owed = subst (λ (mail : List Mail). AllByRecursion (IsOwed centre mail) one.mail) (mail_taken node made) one.owed;
   centre_is = one.centre_is;
   node_is = one.node_is ∙ node_taken node made;
   sent_is = one.sent_is;

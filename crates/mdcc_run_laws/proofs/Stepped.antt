@@ -1,5 +1,7 @@
 -- What a step of a centre's node is seen by, and what is taken of a message, a tick or a request.
-use Rattle.std.proofs.Common.{◌≡◌, ℕ, Bool, List, [], ◌∷◌, ◌++◌, Option, Some, None, Result, Ok, Err, refl, sym, ◌∙◌, ap, append-nil, map}
+use Rattle.std.proofs.Common.{◌≡◌, ℕ, Bool, List, [], ◌∷◌, ◌++◌, Option, Some, None, Result, Ok, Err, refl, sym, ◌∙◌, ap, append-nil, map, inr, subst}
+use Rattle.std.specs.List.{AllByRecursion}
+use Rattle.mdcc_run_laws.proofs.Joined.{both_owed, each_owed}
 use Rattle.std.proofs.lemmas.List.{map-append}
 use Rattle.std.proofs.lemmas.List.Elements.{filter-append}
 use Rattle.mdcc_base.specs.declared.identifiers.TxId.{TxId}
@@ -16,7 +18,7 @@ use Rattle.mdcc_rules.specs.declared.node.Input.{Input}
 use Rattle.mdcc_rules.specs.declared.node.StepFault.{StepFault}
 use Rattle.mdcc_run_laws.proofs.Seen.{sends_all, shows_as, shows_dropped, shows_heard, shows_logged, shows_none, shows_stepped, shows_then}
 use Rattle.mdcc_run_laws.specs.Inputs.{begin_input}
-use Rattle.mdcc_run_laws.specs.Told.{Mail, Tells, between_centres, is_for_centre, lines_in, sends_in}
+use Rattle.mdcc_run_laws.specs.Told.{IsOwed, Mail, Tells, between_centres, is_for_centre, lines_in, sends_in}
 use Rattle.mdcc_runs.specs.Acts.{Act, appended, steps_in}
 use Rattle.mdcc_runs.specs.Clients.{begun_for, known_of, with_end}
 use Rattle.mdcc_runs.specs.Runs.{NodeState, after_step, listed, run_of, step_on}
@@ -32,13 +34,13 @@ TellsOf config site made did = Tells config site.centre site.node site.sent made
 -- ---- without a step
 
 pub idle_tells : (config : Config) (site : Site) → TellsOf config site [] (idle site)
-idle_tells config site = record { mail = []; shows = shows_none site.centre; messages = refl; centre_is = refl; node_is = refl; sent_is = refl }
+idle_tells config site = record { mail = []; shows = shows_none site.centre; messages = refl; owed = tt; centre_is = refl; node_is = refl; sent_is = refl }
 
 pub dropped_tells : (config : Config) (site : Site) → TellsOf config site [] (dropped site)
-dropped_tells config site = record { mail = []; shows = shows_dropped site.centre; messages = refl; centre_is = refl; node_is = refl; sent_is = refl }
+dropped_tells config site = record { mail = []; shows = shows_dropped site.centre; messages = refl; owed = tt; centre_is = refl; node_is = refl; sent_is = refl }
 
 refused_tells : (config : Config) (site : Site) (fault : StepFault) → TellsOf config site (Err fault ∷ []) (dropped site)
-refused_tells config site fault = record { mail = []; shows = shows_dropped site.centre; messages = refl; centre_is = refl; node_is = refl; sent_is = refl }
+refused_tells config site fault = record { mail = []; shows = shows_dropped site.centre; messages = refl; owed = tt; centre_is = refl; node_is = refl; sent_is = refl }
 
 -- an answer to the client
 answer_tells : (config : Config) (site : Site) (serial : ℕ) (answer : ClientAnswer) → TellsOf config site [] (message_sent config site (answer_to site.centre serial answer))
@@ -55,6 +57,7 @@ answer_tells config site serial answer =
         steps_are = sym (ap steps_in (append-nil acts)) ∙ one.shows.steps_are;
       };
       messages = refl;
+      owed = (inr (record { serial = serial; answer = answer; is = refl }), tt);
       centre_is = one.centre;
       node_is = one.node;
       sent_is = one.sent;
@@ -63,10 +66,18 @@ answer_tells config site serial answer =
 -- ---- with a step
 
 -- at most one message, and that to the client
-abbrev IsAnswer : Option Envelope → Type 0
-IsAnswer reply = (node : NodeState) → between_centres (map (λ x. (node, x)) (listed reply)) ≡ []
+abbrev IsAnswer : ℕ → Option Envelope → Type 0
+IsAnswer centre reply =
+    (node : NodeState) (mail : List Mail)
+    → (between_centres (map (λ x. (node, x)) (listed reply)) ≡ []) × AllByRecursion (IsOwed centre mail) (map (λ x. (node, x)) (listed reply))
 
-step_tells : (config : Config) (site : Site) (step : NodeStep) (reply : Option Envelope) → IsAnswer reply
+none_answers : (centre : ℕ) → IsAnswer centre None
+none_answers centre node mail = (refl, tt)
+
+some_answers : (centre serial : ℕ) (answer : ClientAnswer) → IsAnswer centre (Some (answer_to centre serial answer))
+some_answers centre serial answer node mail = (refl, (inr (record { serial = serial; answer = answer; is = refl }), tt))
+
+step_tells : (config : Config) (site : Site) (step : NodeStep) (reply : Option Envelope) → IsAnswer site.centre reply
     → TellsOf config site (Ok step ∷ []) (stepped (step_out config site step reply))
 step_tells config site step reply answers =
     let next = after_step site.node (Ok step) in
@@ -81,8 +92,13 @@ step_tells config site step reply answers =
           refl refl (append-nil acts ∙ sent.acts) refl;
       messages = ap between_centres (map-append post step.sends (listed reply))
           ∙ filter-append is_for_centre (map post step.sends) (map post (listed reply))
-          ∙ ap (λ (xs : List Mail). between_centres (map post step.sends) ++ xs) (answers next)
+          ∙ ap (λ (xs : List Mail). between_centres (map post step.sends) ++ xs) (answers next []).0
           ∙ sym (filter-append is_for_centre (map post step.sends) []);
+      owed = subst (AllByRecursion (IsOwed site.centre (map post step.sends ++ []))) (sym (map-append post step.sends (listed reply)))
+          (both_owed (IsOwed site.centre (map post step.sends ++ [])) (map post step.sends) (map post (listed reply))
+          (subst (λ (mail : List Mail). AllByRecursion (IsOwed site.centre mail) (map post step.sends)) (sym (append-nil (map post step.sends)))
+          (each_owed site.centre (map post step.sends)))
+          (answers next (map post step.sends ++ [])).1);
       centre_is = sent.centre;
       node_is = sent.node;
       sent_is = sent.sent;
@@ -90,13 +106,13 @@ step_tells config site step reply answers =
 
 -- ---- messages and ticks
 
-end_answers : (centre : ℕ) (tx : TxId) (is_commit : Bool) (begun : Option Begun) → IsAnswer (end_told centre tx is_commit begun)
-end_answers centre tx is_commit None node = refl
-end_answers centre tx is_commit (Some begun) node = refl
+end_answers : (centre : ℕ) (tx : TxId) (is_commit : Bool) (begun : Option Begun) → IsAnswer centre (end_told centre tx is_commit begun)
+end_answers centre tx is_commit None = none_answers centre
+end_answers centre tx is_commit (Some begun) = some_answers centre begun.serial (ClientAnswer.Heard tx is_commit)
 
-ends_answer : (site : Site) (heard : Option (TxId × Bool)) → IsAnswer (ends_told site heard)
-ends_answer site None node = refl
-ends_answer site (Some (tx, is_commit)) node = end_answers site.centre tx is_commit (known_of site.clients tx) node
+ends_answer : (site : Site) (heard : Option (TxId × Bool)) → IsAnswer site.centre (ends_told site heard)
+ends_answer site None = none_answers site.centre
+ends_answer site (Some (tx, is_commit)) = end_answers site.centre tx is_commit (known_of site.clients tx)
 
 made_tells : (config : Config) (site : Site) (made : Result NodeStep StepFault) → TellsOf config site (made ∷ []) (input_made config site made)
 made_tells config site (Err fault) = refused_tells config site fault
@@ -110,11 +126,11 @@ input_tells config site input = made_tells config site (step_on config.cluster s
 
 -- ---- reads
 
-reading_answers : (centre serial : ℕ) (key : Key) (answer : Option Answer) → IsAnswer (reading_told centre serial key answer)
-reading_answers centre serial key None node = refl
-reading_answers centre serial key (Some (Answer.Read reading)) node = refl
-reading_answers centre serial key (Some (Answer.Begun tx)) node = refl
-reading_answers centre serial key (Some (Answer.Refused other fault)) node = refl
+reading_answers : (centre serial : ℕ) (key : Key) (answer : Option Answer) → IsAnswer centre (reading_told centre serial key answer)
+reading_answers centre serial key None = none_answers centre
+reading_answers centre serial key (Some (Answer.Read reading)) = some_answers centre serial (ClientAnswer.Read key reading.token reading.item reading.due)
+reading_answers centre serial key (Some (Answer.Begun tx)) = none_answers centre
+reading_answers centre serial key (Some (Answer.Refused other fault)) = none_answers centre
 
 read_made_tells : (config : Config) (site : Site) (serial : ℕ) (key : Key) (made : Result NodeStep StepFault) → TellsOf config site (made ∷ []) (read_made config site serial key made)
 read_made_tells config site serial key (Err fault) = refused_tells config site fault
@@ -127,14 +143,14 @@ read_tells config site serial key = read_made_tells config site serial key (step
 
 -- ---- begins
 
-begin_answers : (centre serial : ℕ) (answer : Option Answer) → IsAnswer (begin_told centre serial answer)
-begin_answers centre serial None node = refl
-begin_answers centre serial (Some (Answer.Read reading)) node = refl
-begin_answers centre serial (Some (Answer.Begun tx)) node = refl
-begin_answers centre serial (Some (Answer.Refused key fault)) node = refl
+begin_answers : (centre serial : ℕ) (answer : Option Answer) → IsAnswer centre (begin_told centre serial answer)
+begin_answers centre serial None = none_answers centre
+begin_answers centre serial (Some (Answer.Read reading)) = none_answers centre
+begin_answers centre serial (Some (Answer.Begun tx)) = some_answers centre serial (ClientAnswer.Begun tx)
+begin_answers centre serial (Some (Answer.Refused key fault)) = some_answers centre serial (ClientAnswer.Refused key fault)
 
 -- what is noted of it is not seen
-noted_tells : (config : Config) (site : Site) (serial : ℕ) (step : NodeStep) (reply : Option Envelope) (answer : Option Answer) → IsAnswer reply
+noted_tells : (config : Config) (site : Site) (serial : ℕ) (step : NodeStep) (reply : Option Envelope) (answer : Option Answer) → IsAnswer site.centre reply
     → TellsOf config site (Ok step ∷ []) (stepped (step_out config (begin_noted site serial answer) step reply))
 noted_tells config site serial step reply None answers = step_tells config (begin_noted site serial None) step reply answers
 noted_tells config site serial step reply (Some (Answer.Read reading)) answers = step_tells config (begin_noted site serial (Some (Answer.Read reading))) step reply answers

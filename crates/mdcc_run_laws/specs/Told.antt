@@ -1,8 +1,10 @@
 -- What is seen of a centre's acts, and when they are those of a run of its node.
-use Rattle.std.specs.Prelude.{Bool, List, Ok, Err, Result, [], filter, flat_map, fold, length, map, not, ℕ, ◌++◌, ◌∷◌, ◌≡◌, ◌≢◌}
+use Rattle.std.specs.Prelude.{Bool, List, Ok, Err, Result, [], filter, flat_map, fold, length, map, not, ℕ, ◌++◌, ◌∷◌, ◌≡◌, ◌≢◌, ◌⊎◌}
+use Rattle.std.specs.List.{AllByRecursion}
 use Rattle.mdcc_base.specs.declared.identifiers.TxId.{TxId}
 use Rattle.mdcc_config.specs.declared.config.Config.{Config}
 use Rattle.mdcc_messages.specs.declared.facts.Fact.{Fact}
+use Rattle.mdcc_messages.specs.declared.messages.ClientAnswer.{ClientAnswer}
 use Rattle.mdcc_messages.specs.declared.messages.Envelope.{Envelope}
 use Rattle.mdcc_rules.specs.Steps.{NodeStep}
 use Rattle.mdcc_rules.specs.declared.node.StepFault.{StepFault}
@@ -10,7 +12,7 @@ use Rattle.mdcc_runs.specs.Acts.{Act, appended, steps_in}
 use Rattle.mdcc_runs.specs.Arrivals.{is_for_client}
 use Rattle.mdcc_runs.specs.Clients.{no_clients}
 use Rattle.mdcc_runs.specs.Runs.{NodeState, after_step, facts_added, in_steps, outcomes_heard}
-use Rattle.mdcc_runs.specs.Sending.{message_sent}
+use Rattle.mdcc_runs.specs.Sending.{answer_to, message_sent}
 use Rattle.mdcc_runs.specs.Sites.{Doing, Site}
 use Rattle.mdcc_runs.specs.declared.lines.ServerLine.{ServerLine}
 
@@ -70,6 +72,21 @@ is_for_centre next = not (is_for_client (next.1).message)
 abbrev pub between_centres : List Mail → List Mail
 between_centres mail = filter is_for_centre mail
 
+-- it is one of these
+abbrev pub IsOneOf : List Mail → Mail → Type 0
+IsOneOf [] next = ⊥
+IsOneOf (one ∷ mail) next = (next ≡ one) ⊎ IsOneOf mail next
+
+-- an answer to the client of a centre
+pub record IsAnswerOf (centre : ℕ) (envelope : Envelope) : Type 0 where
+  pub serial : ℕ
+  pub answer : ClientAnswer
+  pub is : envelope ≡ answer_to centre serial answer
+
+-- it is one of these, or an answer to the client
+abbrev pub IsOwed : ℕ → List Mail → Mail → Type 0
+IsOwed centre mail next = IsOneOf mail next ⊎ IsAnswerOf centre next.1
+
 -- ---- of runs
 
 abbrev pub node_after : NodeState → List (Result NodeStep StepFault) → NodeState
@@ -93,6 +110,7 @@ pub record Tells (config : Config) (centre : ℕ) (node : NodeState) (sent : ℕ
   pub mail : List Mail
   pub shows : Shows centre did.acts (facts_added made) (map (heard_line centre) (outcomes_heard made)) (mail_acts config centre sent mail) (length (steps_made made))
   pub messages : between_centres mail ≡ between_centres (mail_of node made)
+  pub owed : AllByRecursion (IsOwed centre (mail_of node made)) mail
   pub centre_is : did.site.centre ≡ centre
   pub node_is : did.site.node ≡ node_after node made
   pub sent_is : did.site.sent ≡ sent_after config centre sent mail
