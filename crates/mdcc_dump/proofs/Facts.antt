@@ -2,7 +2,8 @@
 use Rattle.std.proofs.Common.{◌≡◌, ◌+◌, ◌∷◌, ◌∙◌, [], Bool, Err, IsTrue, List, None, Ok, Option, Result, Some, ap, cond, false, is_some, map, not, refl, sym, true, ℕ, zero, suc}
 use Rattle.std.specs.Prelude.{slice_get}
 use Rattle.mdcc_admission.specs.Loading.{Cells, fact_read, is_past, loaded_by, next_by, past_fault}
-use Rattle.mdcc_dump.specs.Dumps.{AreFacts, booted, cells_of}
+use Rattle.mdcc_dump.specs.Dumps.{AreFacts}
+use Rattle.mdcc_endings.specs.Logs.{booted, cells_of}
 use Rattle.mdcc_ledger.specs.BootTest.{is_allowed_fact}
 use Rattle.mdcc_messages.specs.declared.facts.Fact.{Fact}
 use Rattle.mdcc_option.specs.declared.cluster.Cluster.{Cluster}

@@ -4,7 +4,8 @@ use Rattle.std.specs.Bool.{OnFalse}
 use Rattle.mdcc_admission.specs.Loading.{Holds, boot_by, fact_read, is_boot_memory}
 use Rattle.mdcc_areas.specs.Area.{payloads}
 use Rattle.mdcc_areas.specs.declared.fault.LogFault.{LogFault}
-use Rattle.mdcc_dump.specs.Dumps.{IsRefused, Keeps, MayOpen, booted, cells_of}
+use Rattle.mdcc_dump.specs.Dumps.{IsRefused, Keeps, MayOpen}
+use Rattle.mdcc_endings.specs.Logs.{booted, cells_of}
 use Rattle.mdcc_index.specs.Stores.{Represents, Store}
 use Rattle.mdcc_messages.specs.Lengths.{cells_needed}
 use Rattle.mdcc_messages.specs.declared.facts.Fact.{Fact}

@@ -1,15 +1,23 @@
 -- What the command that prints the facts of a log does.
-use Rattle.std.specs.Prelude.{Err, IfErr, IfSome, IsTrue, List, MatchBool, Ok, Option, Result, ℕ, ◌+◌, ◌≡◌}
+use Rattle.std.specs.Io.KnownBytes.{Appends}
+use Rattle.std.specs.Prelude.{Err, IfErr, IfSome, IsTrue, List, MatchBool, Ok, Option, Result, Some, true, ℕ, ◌+◌, ◌-◌, ◌<◌, ◌^◌, ◌≡◌}
 use Rattle.mdcc_areas.specs.Area.{payloads}
 use Rattle.mdcc_config.specs.declared.config.Config.{Config}
 use Rattle.mdcc_disks.specs.Disks.{Disk}
-use Rattle.mdcc_dump.specs.Dumps.{IsDumped, IsUnopened, KeepsLog, MayFail}
+use Rattle.mdcc_dump.specs.Dumps.{IsDumped, IsUnopened, KeepsLog, MayFail, dump_text}
 use Rattle.mdcc_dump.specs.declared.fault.DumpFault.{DumpFault}
+use Rattle.mdcc_endings.specs.Completions.{CompletesAs}
 use Rattle.mdcc_endings.specs.Endings.{Ends}
-use Rattle.mdcc_endings.specs.Readings.{GivesConfig}
+use Rattle.mdcc_endings.specs.Logs.{EndsByLogs, IsTold, SaysLogs, booted, node_at}
+use Rattle.mdcc_endings.specs.Readings.{GivesConfig, IsRead}
 use Rattle.mdcc_endings.specs.declared.fault.Failure.{Failure}
+use Rattle.mdcc_messages.specs.Spelling.{encodings_of}
+use Rattle.mdcc_messages.specs.declared.facts.Fact.{Fact}
 use Rattle.mdcc_protocol.specs.Belongs.{is_centre}
+use Rattle.mdcc_protocol.specs.Facts.{epoch_of}
+use Rattle.mdcc_restart.specs.Logged.{AreLogged}
 use Rattle.mdcc_restart.specs.declared.fault.RestartFault.{RestartFault}
+use Rattle.mdcc_rules.specs.declared.node.BootFault.{BootFault}
 
 -- a fault at this centre as a command has it
 abbrev pub of_dump : ℕ → DumpFault → Failure
@@ -36,6 +44,8 @@ module _ {D O : Type 0} (disk : D → ℕ → Disk) (held : O → Option (List �
         → payloads (disk disks_old centre).bytes (disk disks_old (centre + 16)).bytes ≡ Err n
         → IsUnopened n centre disk disks_old disks_new result (held out_old) (held out_new)
     pub causes : IfErr result (MayFail (held out_old) (held out_new))
+    -- the log is refused just where no node boots from it
+    pub logs : IsTold disk disks_old centre → SaysLogs (node_at disk config.cluster disks_old) centre centre dumped
 
   -- by what the input was read as
   abbrev pub Dumps : Result Config Failure → ℕ → Result (Unit {0}) Failure → Type 0
@@ -53,6 +63,21 @@ module _ {D O : Type 0} (disk : D → ℕ → Disk) (held : O → Option (List �
     pub dumped : Result (Unit {0}) Failure
     pub ends : Ends dumped status err_before err_after faults_before faults_after
     pub runs : IfSome left (λ input. RunsDump input centre dumped)
+
+  -- ---- over an accepted configuration with this centre, whose disks tell their bytes
+
+  -- the status by its log
+  abbrev pub DumpEndsByLog : Option (List ℕ) → ℕ → ℕ → Type 0
+  DumpEndsByLog left centre status =
+      (input : List ℕ) (config : Config) → left ≡ Some input → IsRead input (Ok config) → is_centre config.cluster centre ≡ true → IsTold disk disks_old centre
+      → EndsByLogs (node_at disk config.cluster disks_old) centre centre status
+
+  -- Where nothing failed, of an allowed log with an epoch below the last: all its facts were printed, or its node has too few cells.
+  abbrev pub DumpCompletes : Option (List ℕ) → ℕ → ℕ → Type 0
+  DumpCompletes left centre status =
+      (input : List ℕ) (config : Config) (facts : List Fact) → left ≡ Some input → IsRead input (Ok config) → is_centre config.cluster centre ≡ true → IsTold disk disks_old centre
+      → payloads (disk disks_old centre).bytes (disk disks_old (centre + 16)).bytes ≡ Ok (encodings_of facts) → AreLogged config.cluster facts → epoch_of facts < 2 ^ 32 - 1
+      → CompletesAs status (Appends (held out_old) (held out_new) (dump_text (encodings_of facts))) ((needed : ℕ) × (cells : ℕ) × (booted config.cluster (encodings_of facts) ≡ Err (BootFault.Room needed cells)))
 
 -- nothing was done at the disks, and nothing printed
 pub record Untouched {D O : Type 0} (disks_old disks_new : D) (out_old out_new : O) : Type 0 where

@@ -1,13 +1,13 @@
 -- What is printed of a log.
 use Rattle.std.specs.Io.KnownBytes.{Appends}
 use Rattle.std.specs.List.{AllByRecursion}
-use Rattle.std.specs.Prelude.{Err, IsErrAnd, IsTrue, List, None, Ok, Option, Result, Some, [], is_some, map, ⊤, ℕ, ◌+◌, ◌++◌, ◌∷◌, ◌≡◌}
-use Rattle.mdcc_admission.specs.Loading.{Cells, boot_by, fact_read}
+use Rattle.std.specs.Prelude.{Err, IsErrAnd, IsTrue, List, None, Ok, Option, Result, Some, [], is_some, ⊤, ℕ, ◌+◌, ◌++◌, ◌∷◌, ◌≡◌}
+use Rattle.mdcc_admission.specs.Loading.{fact_read}
 use Rattle.mdcc_areas.specs.declared.fault.LogFault.{LogFault}
 use Rattle.mdcc_disks.specs.Disks.{Disk}
 use Rattle.mdcc_dump.specs.Texts.{fact_lines}
 use Rattle.mdcc_dump.specs.declared.fault.DumpFault.{DumpFault}
-use Rattle.mdcc_messages.specs.Lengths.{cells_needed}
+use Rattle.mdcc_endings.specs.Logs.{booted}
 use Rattle.mdcc_messages.specs.declared.facts.Fact.{Fact}
 use Rattle.mdcc_option.specs.declared.cluster.Cluster.{Cluster}
 use Rattle.mdcc_replay.specs.Writing.{Front}
@@ -17,14 +17,6 @@ use Rattle.mdcc_restart.specs.declared.fault.RestartFault.{RestartFault}
 use Rattle.mdcc_rules.specs.declared.node.BootFault.{BootFault}
 
 -- ---- the node of a log
-
--- the cells of its store, and those that a fact needs
-abbrev pub cells_of : Cluster → Cells
-cells_of cluster = record { total = cluster.cells; needed = cells_needed }
-
--- the facts of the node that boots from these payloads, with the new boot, the newest first; or why there is none
-abbrev pub booted : Cluster → List (List ℕ) → Result (List Fact) BootFault
-booted cluster payloads = boot_by (cells_of cluster) cluster (map fact_read payloads)
 
 abbrev pub HasBooted : Cluster → List (List ℕ) → Type 0
 HasBooted cluster payloads = (facts : List Fact) × (booted cluster payloads ≡ Ok facts)

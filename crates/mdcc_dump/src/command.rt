@@ -6,7 +6,8 @@ ghost use Rattle.mdcc_areas.specs.Both.{RoseAtOne};
 ghost use Rattle.mdcc_areas.specs.declared.fault.LogFault.{LogFault as ALogFault};
 ghost use Rattle.mdcc_base.specs.Causes.{Rose};
 ghost use Rattle.mdcc_base.specs.declared.source.ReadAllFault.{ReadAllFault as AReadAllFault};
-ghost use Rattle.mdcc_dump.specs.Commands.{DoesDump, RunsDump, Untouched, as_done, of_dump};
+ghost use Rattle.mdcc_dump.specs.Commands.{DoesDump, DumpCompletes, DumpEndsByLog, RunsDump, Untouched, as_done, of_dump};
+ghost use Rattle.mdcc_endings.specs.Completions.{IsStill};
 ghost use Rattle.mdcc_endings.specs.Endings.{is_ending};
 ghost use Rattle.mdcc_endings.specs.Readings.{IsEarly};
 ghost use Rattle.mdcc_endings.specs.declared.fault.Failure.{Failure as AFailure};
@@ -87,6 +88,11 @@ pub fn run_dump<S: Source, O: Sink, E: Sink, D: Disks>(
         → RoseAtOne (D.disk disks.old centre) (D.disk disks.new centre) (D.disk disks.old (centre + 16)) (D.disk disks.new (centre + 16)) }
     ensures link { result ≡ 8 → ⊥ }
     ensures output { result ≡ 6 → Rose (O.faults out.old) (O.faults out.new) }
+
+    // Over an accepted configuration: the status by the log of the centre, and where nothing failed.
+    ensures logs { DumpEndsByLog D.disk O.held disks.old disks.new out.old out.new (S.left source.old) centre result }
+    ensures completes { IsStill (S.faults source.old) (S.faults source.new) → IsStill (O.faults out.old) (O.faults out.new) → ((p : ℕ) → IsStill (D.disk disks.old p).faults (D.disk disks.new p).faults)
+        → DumpCompletes D.disk O.held disks.old disks.new out.old out.new (S.left source.old) centre result }
 {
     let dumped = dump_one(alloc, centre, source, disks, out);
     finish(alloc, &dumped, err)

@@ -4,6 +4,7 @@ use Rattle.mdcc_areas.specs.Both.{RoseAtOne}
 use Rattle.mdcc_areas.specs.declared.fault.LogFault.{LogFault}
 use Rattle.mdcc_base.specs.declared.source.ReadAllFault.{ReadAllFault}
 use Rattle.mdcc_dump.proofs.Ended.{disk_dumped, dumped_runs, no_centre_runs, no_input, no_link, not_early, output_dumped, unread_runs}
+use Rattle.mdcc_dump.proofs.Said.{dump_says}
 use Rattle.mdcc_dump.specs.Commands.{DumpsOne, Untouched}
 use Rattle.mdcc_endings.specs.Readings.{IsOfInput}
 use Rattle.mdcc_endings.specs.declared.fault.Failure.{Failure}
@@ -64,6 +65,8 @@ returns-clause-runs g c =
       dumps = λ all told told_other read. (c.dump.ensures.dumps all told told_other read, c.dump.ensures.keeps all told told_other read);
       unread = c.dump.ensures.unread;
       causes = c.dump.ensures.causes;
+      logs = dump_says g.D.Disks.disk c.in_ok-config.config.cluster c.args.disks.now c.dump.new.disks c.in-Some.centre c.dump.result c.as_done.result (g.O.Sink.held c.args.out.now) (g.O.Sink.held c.dump.new.out)
+          c.as_done.ensures c.dump.ensures.dumps c.dump.ensures.unread;
     } in
     dumped_runs g.D.Disks.disk g.O.Sink.held c.args.disks.now c.dump.new.disks c.args.out.now c.dump.new.out (g.S.Source.left c.args.source.now) c.in-Some.centre c.args.number c.in_ok-config.config c.as_done.result
     c.in-Some.ensures.some.0 c.in-Some.ensures.some.1 one c.in_ok-config.ensures.config

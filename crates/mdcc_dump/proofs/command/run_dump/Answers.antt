@@ -2,6 +2,7 @@ use Rattle.std.proofs.Common.{◌≡◌, Err, arith}
 use Rattle.std.proofs.lemmas.Result.{IfErr-at_err}
 use Rattle.mdcc_areas.specs.declared.fault.LogFault.{LogFault}
 use Rattle.mdcc_base.specs.declared.source.ReadAllFault.{ReadAllFault}
+use Rattle.mdcc_dump.proofs.Completed.{dump_completes, dump_ends, still_disks}
 use Rattle.mdcc_dump.proofs.Ended.{input_early}
 use Rattle.mdcc_dump.specs.Commands.{Untouched}
 use Rattle.mdcc_endings.proofs.Causes.{causes_of, failed_at}
@@ -49,3 +50,18 @@ returns-clause-output g c = λ at.
     let cause = (causes_of failed.0).output failed.2 in
     let e : c.dump_one-dumped.result ≡ Err Failure.Output = cc (failed.1, cause) in
     c.dump_one-dumped.ensures.output e
+
+-- ---- over an accepted configuration
+
+pub returns-clause-logs : goal.returns-clause-logs
+returns-clause-logs g c =
+    dump_ends g.D.Disks.disk g.O.Sink.held c.args.disks.now c.dump_one-dumped.new.disks c.args.out.now c.dump_one-dumped.new.out c.dump_one-dumped.result c.finish.result c.finish.ensures.ends.status_is
+    (g.S.Source.left c.args.source.now) c.args.centre c.dump_one-dumped.ensures.runs
+
+pub returns-clause-completes : goal.returns-clause-completes
+returns-clause-completes g c = λ source output disks.
+    dump_completes g.D.Disks.disk g.O.Sink.held c.args.disks.now c.dump_one-dumped.new.disks c.args.out.now c.dump_one-dumped.new.out c.dump_one-dumped.result c.finish.result c.finish.ensures.ends.status_is
+    (λ e. source (c.dump_one-dumped.ensures.input e))
+    (λ a e. still_disks g.D.Disks.disk c.args.disks.now c.dump_one-dumped.new.disks c.args.centre disks (c.dump_one-dumped.ensures.disk a e))
+    (λ e. output (c.dump_one-dumped.ensures.output e))
+    (g.S.Source.left c.args.source.now) c.args.centre c.dump_one-dumped.ensures.runs

@@ -2,7 +2,7 @@ use Rattle.std.proofs.Common.{◌≡◌, ◌∷◌}
 use Rattle.std.proofs.lemmas.Result.{err_from_is_err_and}
 use Rattle.mdcc_dump.proofs.Facts.{booted_facts}
 use Rattle.mdcc_dump.proofs.Refused.{boot_may, boot_refused_by, boots_by, empty_store}
-use Rattle.mdcc_dump.specs.Dumps.{cells_of}
+use Rattle.mdcc_endings.specs.Logs.{cells_of}
 use Rattle.mdcc_dump.proofs.opening.boot.Goals as goal
 
 pub returns-in_err-boot-clause-refused : goal.returns-in_err-boot-clause-refused
