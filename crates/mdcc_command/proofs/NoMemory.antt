@@ -1,9 +1,12 @@
 -- The words could not be read for want of memory, and nothing was done.
-use Rattle.std.proofs.Common.{◌≡◌, Err, IfSome, List, None, Option, Some, inl, refl, subst, sym, ℕ}
+use Rattle.std.proofs.Common.{◌≡◌, Err, IfSome, List, None, Option, Result, Some, inl, inr, refl, subst, sym, ℕ}
 use Rattle.std.specs.Bool.{OnFalse}
 use Rattle.mdcc_base.specs.declared.source.ReadAllFault.{ReadAllFault}
+use Rattle.mdcc_endings.proofs.LogEnds.{ends_unlucky}
 use Rattle.mdcc_endings.specs.Endings.{Ends}
+use Rattle.mdcc_endings.specs.Logs.{EndsByLogs, LogRefusal}
 use Rattle.mdcc_endings.specs.declared.fault.Failure.{Failure}
+use Rattle.mdcc_messages.specs.declared.facts.Fact.{Fact}
 use Rattle.mdcc_replay.specs.Runs.{is_own, own_line}
 use Rattle.mdcc_replay.specs.Writing.{Tells}
 
@@ -18,3 +21,8 @@ pub ended : {T : Type 0} (status : ℕ) (before after : Option (List ℕ)) (faul
     → Ends {T = T} (Err (Failure.Input ReadAllFault.Memory)) status before after faults_before faults_after
 ended {T} status before after faults_before faults_after e told =
     subst (λ (n : ℕ). Ends {T = T} (Err (Failure.Input ReadAllFault.Memory)) n before after faults_before faults_after) (sym e) (record { status_is = inl refl; told = told })
+
+-- no log was opened
+pub memory_ends : (node : ℕ → Result (List Fact) LogRefusal) (first last status : ℕ) → status ≡ 10 → EndsByLogs node first last status
+memory_ends node first last status e =
+    ends_unlucky node first last {T = Unit {0}} (Err (Failure.Input ReadAllFault.Memory)) (Failure.Input ReadAllFault.Memory) status refl (inl e) (record { why = inr refl })

@@ -1,5 +1,5 @@
 -- What the commands of the program write and answer.
-use Rattle.std.specs.Prelude.{Bool, List, None, Option, Some, false, option_map, true, ℕ}
+use Rattle.std.specs.Prelude.{Bool, List, None, Option, Some, false, option_map, true, ℕ, ◌≡◌}
 use Rattle.mdcc_cli.specs.declared.words.Command.{Command}
 use Rattle.mdcc_cli.specs.declared.words.Command.TheVariants.{Ask, Cluster, Dump, Node, Replay, Sample}
 use Rattle.mdcc_replay.specs.Samples.{sample_of}
@@ -36,3 +36,8 @@ has_link (Some (Node centre turns)) = true
 has_link (Some (Cluster turns)) = true
 has_link (Some (Ask question)) = true
 has_link command = false
+
+-- nothing was done at disks and link
+pub record AreUntouched {D L : Type 0} (disks_old disks_new : D) (link_old link_new : L) : Type 0 where
+  pub disks : disks_new ≡ disks_old
+  pub link : link_new ≡ link_old

@@ -6,16 +6,18 @@ ghost use Rattle.std.specs.String.{string_bytes};
 ghost use Rattle.mdcc_areas.specs.Both.{RoseAtOne};
 ghost use Rattle.mdcc_base.specs.Causes.{Rose};
 ghost use Rattle.mdcc_cli.specs.Commands.{IsCommand, command_of};
-ghost use Rattle.mdcc_ask.specs.Commands.{DoesAsk};
+ghost use Rattle.mdcc_ask.specs.Commands.{AskCompletes, DoesAsk};
 ghost use Rattle.mdcc_cli.specs.declared.question.Question.{Question as AQuestion};
-ghost use Rattle.mdcc_command.specs.Commands.{has_disks, has_link, output_for, reads, replays};
-ghost use Rattle.mdcc_dump.specs.Commands.{DoesDump};
+ghost use Rattle.mdcc_command.specs.Commands.{AreUntouched, has_disks, has_link, output_for, reads, replays};
+ghost use Rattle.mdcc_dump.specs.Commands.{DoesDump, DumpCompletes, DumpEndsByLog};
+ghost use Rattle.mdcc_endings.specs.Completions.{IsStill};
 ghost use Rattle.mdcc_command.specs.Prints.{PrintsTruth};
 ghost use Rattle.mdcc_command.specs.Statuses.{is_program_status};
 ghost use Rattle.mdcc_headline.specs.Headline.{ReplayTellsTruth};
 ghost use Rattle.mdcc_replay.specs.Runs.{is_own, is_status, own_line};
 ghost use Rattle.mdcc_replay.specs.Writing.{Front, Tells};
 ghost use Rattle.mdcc_servers.specs.Commands.{AreAlike, DoesCluster, DoesNode};
+ghost use Rattle.mdcc_servers.specs.Completions.{ClusterCompletes, ClusterEndsByLogs, NodeCompletes, NodeEndsByLog};
 
 use crate::simulation::Replayed;
 use mdcc_ask::run_ask;
@@ -58,6 +60,28 @@ fn run_command<S: Source, O: Sink, E: Sink, D: Disks, L: Link>(
         → DoesDump D.disk O.held disks.old disks.new out.old out.new
         (S.left source.old) centre result (E.held err.old) (E.held err.new) (E.faults err.old) (E.faults err.new) }
 
+    ensures node_log { (centre turns : ℕ) → command ≡ Some (Command.Node centre turns) → NodeEndsByLog D.disk disks.old (S.left source.old) centre result }
+    ensures cluster_logs { (turns : ℕ) → command ≡ Some (Command.Cluster turns) → ClusterEndsByLogs D.disk disks.old (S.left source.old) result }
+    ensures dump_log { (centre : ℕ) → command ≡ Some (Command.Dump centre)
+        → DumpEndsByLog D.disk O.held disks.old disks.new out.old out.new (S.left source.old) centre result }
+
+    ensures node_completes { (centre turns : ℕ) → command ≡ Some (Command.Node centre turns)
+        → IsStill (S.faults source.old) (S.faults source.new) → IsStill (O.faults out.old) (O.faults out.new)
+        → IsStill (L.faults link.old) (L.faults link.new) → ((p : ℕ) → IsStill (D.disk disks.old p).faults (D.disk disks.new p).faults)
+        → NodeCompletes D.disk D.may_leave D.tears L.calls L.lost O.held disks.old disks.new link.old link.new out.old out.new (S.left source.old) centre turns result }
+    ensures cluster_completes { (turns : ℕ) → command ≡ Some (Command.Cluster turns)
+        → IsStill (S.faults source.old) (S.faults source.new) → IsStill (O.faults out.old) (O.faults out.new)
+        → IsStill (L.faults link.old) (L.faults link.new) → ((p : ℕ) → IsStill (D.disk disks.old p).faults (D.disk disks.new p).faults)
+        → ClusterCompletes D.disk D.may_leave D.tears L.calls L.lost O.held disks.old disks.new link.old link.new out.old out.new (S.left source.old) turns result }
+    ensures ask_completes { (question : AQuestion) → command ≡ Some (Command.Ask question)
+        → IsStill (S.faults source.old) (S.faults source.new) → IsStill (O.faults out.old) (O.faults out.new)
+        → IsStill (L.faults link.old) (L.faults link.new)
+        → AskCompletes L.calls O.held link.old link.new out.old out.new (S.left source.old) question result }
+    ensures dump_completes { (centre : ℕ) → command ≡ Some (Command.Dump centre)
+        → IsStill (S.faults source.old) (S.faults source.new) → IsStill (O.faults out.old) (O.faults out.new)
+        → ((p : ℕ) → IsStill (D.disk disks.old p).faults (D.disk disks.new p).faults)
+        → DumpCompletes D.disk O.held disks.old disks.new out.old out.new (S.left source.old) centre result }
+
     ensures status { IsTrue (is_program_status result) }
     ensures replayed { replays (command) ≡ true → IsTrue (is_status result) }
     ensures whole { IfSome (output_for (command) (S.left source.old)) (λ output.
@@ -69,6 +93,8 @@ fn run_command<S: Source, O: Sink, E: Sink, D: Disks, L: Link>(
     ensures silent { result ≡ 2 → Appends (O.held out.old) (O.held out.new) [] }
     ensures refused { result ≡ 3 → Appends (O.held out.old) (O.held out.new) [] }
     ensures nothing { result ≡ 5 → Appends (O.held out.old) (O.held out.new) [] }
+    ensures refused_untouched { result ≡ 3 → AreUntouched disks.old disks.new link.old link.new }
+    ensures unread_untouched { result ≡ 5 → AreUntouched disks.old disks.new link.old link.new }
 
     ensures words { (result ≡ 2) ↔ (command ≡ None) }
     ensures read { result ≡ 5 → Rose (S.faults source.old) (S.faults source.new) }
@@ -151,6 +177,34 @@ pub fn run<S: Source, O: Sink, E: Sink, D: Disks, L: Link>(
         → DoesDump D.disk O.held disks.old disks.new out.old out.new
         (S.left source.old) centre result (E.held err.old) (E.held err.new) (E.faults err.old) (E.faults err.new) }
 
+    // Over an accepted configuration and disks that tell their bytes the first log is refused from which no node boots, with status 9
+    // where it is none or no node's, 11 where its node has too few cells, and 12 where its epoch is the last; and no other log is.
+    // Only a failed call, want of memory or, in a cluster, a log before it that is full comes first.
+    ensures node_log { (centre turns : ℕ) → command_of (map string_bytes words.now) ≡ Some (Command.Node centre turns) → NodeEndsByLog D.disk disks.old (S.left source.old) centre result }
+    ensures cluster_logs { (turns : ℕ) → command_of (map string_bytes words.now) ≡ Some (Command.Cluster turns) → ClusterEndsByLogs D.disk disks.old (S.left source.old) result }
+    ensures dump_log { (centre : ℕ) → command_of (map string_bytes words.now) ≡ Some (Command.Dump centre)
+        → DumpEndsByLog D.disk O.held disks.old disks.new out.old out.new (S.left source.old) centre result }
+
+    // Where no count of faults rose, over an accepted configuration and allowed logs with epochs below the last, the command does all
+    // that it is to do, with status 0, or there was no memory, or it ended at a limit, which is said. A client prints `unanswered`
+    // just where its turns are over before it has all answers.
+    ensures node_completes { (centre turns : ℕ) → command_of (map string_bytes words.now) ≡ Some (Command.Node centre turns)
+        → IsStill (S.faults source.old) (S.faults source.new) → IsStill (O.faults out.old) (O.faults out.new)
+        → IsStill (L.faults link.old) (L.faults link.new) → ((p : ℕ) → IsStill (D.disk disks.old p).faults (D.disk disks.new p).faults)
+        → NodeCompletes D.disk D.may_leave D.tears L.calls L.lost O.held disks.old disks.new link.old link.new out.old out.new (S.left source.old) centre turns result }
+    ensures cluster_completes { (turns : ℕ) → command_of (map string_bytes words.now) ≡ Some (Command.Cluster turns)
+        → IsStill (S.faults source.old) (S.faults source.new) → IsStill (O.faults out.old) (O.faults out.new)
+        → IsStill (L.faults link.old) (L.faults link.new) → ((p : ℕ) → IsStill (D.disk disks.old p).faults (D.disk disks.new p).faults)
+        → ClusterCompletes D.disk D.may_leave D.tears L.calls L.lost O.held disks.old disks.new link.old link.new out.old out.new (S.left source.old) turns result }
+    ensures ask_completes { (question : AQuestion) → command_of (map string_bytes words.now) ≡ Some (Command.Ask question)
+        → IsStill (S.faults source.old) (S.faults source.new) → IsStill (O.faults out.old) (O.faults out.new)
+        → IsStill (L.faults link.old) (L.faults link.new)
+        → AskCompletes L.calls O.held link.old link.new out.old out.new (S.left source.old) question result }
+    ensures dump_completes { (centre : ℕ) → command_of (map string_bytes words.now) ≡ Some (Command.Dump centre)
+        → IsStill (S.faults source.old) (S.faults source.new) → IsStill (O.faults out.old) (O.faults out.new)
+        → ((p : ℕ) → IsStill (D.disk disks.old p).faults (D.disk disks.new p).faults)
+        → DumpCompletes D.disk O.held disks.old disks.new out.old out.new (S.left source.old) centre result }
+
     // The status of `replay` and `sample` is one of 0, 3, 4, 5, 6, 10 and 11. At 0, 3, 4 and 11 the definition of the replay, that
     // of the input or that of the shop's schedule, gives the status and all that was written.
     ensures status { IsTrue (is_program_status result) }
@@ -165,6 +219,10 @@ pub fn run<S: Source, O: Sink, E: Sink, D: Disks, L: Link>(
     ensures silent { result ≡ 2 → Appends (O.held out.old) (O.held out.new) [] }
     ensures refused { result ≡ 3 → Appends (O.held out.old) (O.held out.new) [] }
     ensures nothing { result ≡ 5 → Appends (O.held out.old) (O.held out.new) [] }
+
+    // Nothing was done at disks and link then.
+    ensures refused_untouched { result ≡ 3 → AreUntouched disks.old disks.new link.old link.new }
+    ensures unread_untouched { result ≡ 5 → AreUntouched disks.old disks.new link.old link.new }
 
     // The other statuses have their causes; 10 may come at any time.
     // Other words end with status 2 also where there is no memory.

@@ -1,12 +1,13 @@
 -- Without memory for the words nothing is done.
-use Rattle.std.proofs.Common.{◌≡◌, Err, map, refl}
+use Rattle.std.proofs.Common.{◌≡◌, ◌∙◌, Err, inl, inr, map, refl}
 use Rattle.std.specs.Io.KnownBytes.{Appends}
 use Rattle.std.specs.Bool.{OnFalse}
 use Rattle.std.specs.String.{string_bytes}
 use Rattle.mdcc_base.specs.declared.source.ReadAllFault.{ReadAllFault}
 use Rattle.mdcc_cli.specs.Commands.{command_of}
-use Rattle.mdcc_command.proofs.NoMemory.{ended, known_always, of_others}
+use Rattle.mdcc_command.proofs.NoMemory.{ended, known_always, memory_ends, of_others}
 use Rattle.mdcc_command.specs.Commands.{output_for}
+use Rattle.mdcc_endings.specs.Logs.{node_at}
 use Rattle.mdcc_endings.specs.declared.fault.Failure.{Failure}
 use Rattle.mdcc_replay.proofs.Fronts.{nothing_written}
 use Rattle.mdcc_replay.specs.Runs.{is_own}
@@ -55,3 +56,41 @@ pub returns-in-Err-clause-line : goal.returns-in-Err-clause-line
 returns-in-Err-clause-line g c =
     known_always (output_for (command_of (map string_bytes c.args.words.now)) (g.S.Source.left c.args.source.now)) _
     (λ output. of_others c.end.result (Tells (g.E.Sink.held c.args.err.now) (g.E.Sink.held c.end.new.err) (g.E.Sink.faults c.args.err.now) (g.E.Sink.faults c.end.new.err) output.error) c.end.ensures.status)
+
+-- ---- over an accepted configuration
+
+pub returns-in-Err-clause-node_log : goal.returns-in-Err-clause-node_log
+returns-in-Err-clause-node_log g c centre turns = λ is input config known read there told.
+    memory_ends (node_at g.D.Disks.disk config.cluster c.args.disks.now) centre centre c.end.result c.end.ensures.status
+
+pub returns-in-Err-clause-cluster_logs : goal.returns-in-Err-clause-cluster_logs
+returns-in-Err-clause-cluster_logs g c turns = λ is input config known read told.
+    memory_ends (node_at g.D.Disks.disk config.cluster c.args.disks.now) 1 config.cluster.quorums.centres c.end.result c.end.ensures.status
+
+pub returns-in-Err-clause-dump_log : goal.returns-in-Err-clause-dump_log
+returns-in-Err-clause-dump_log g c centre = λ is input config known read there told.
+    memory_ends (node_at g.D.Disks.disk config.cluster c.args.disks.now) centre centre c.end.result c.end.ensures.status
+
+pub returns-in-Err-clause-node_completes : goal.returns-in-Err-clause-node_completes
+returns-in-Err-clause-node_completes g c centre turns = λ is source output link disks input config log known read there of are below. inr (inl c.end.ensures.status)
+
+pub returns-in-Err-clause-cluster_completes : goal.returns-in-Err-clause-cluster_completes
+returns-in-Err-clause-cluster_completes g c turns = λ is source output link disks input config logs known read numbers are below. inr (inl c.end.ensures.status)
+
+pub returns-in-Err-clause-ask_completes : goal.returns-in-Err-clause-ask_completes
+returns-in-Err-clause-ask_completes g c question = λ is source output link input config known read there. inr (inl c.end.ensures.status)
+
+pub returns-in-Err-clause-dump_completes : goal.returns-in-Err-clause-dump_completes
+returns-in-Err-clause-dump_completes g c centre = λ is source output disks input config facts known read there told payloads are below. inr (inl c.end.ensures.status)
+
+pub returns-in-Ok-clause-node_log : goal.returns-in-Ok-clause-node_log
+returns-in-Ok-clause-node_log g c centre turns = λ is. c.run_command.ensures.node_log centre turns (c.in-Ok.ensures.value ∙ is)
+
+pub returns-in-Ok-clause-cluster_logs : goal.returns-in-Ok-clause-cluster_logs
+returns-in-Ok-clause-cluster_logs g c turns = λ is. c.run_command.ensures.cluster_logs turns (c.in-Ok.ensures.value ∙ is)
+
+pub returns-in-Ok-clause-node_completes : goal.returns-in-Ok-clause-node_completes
+returns-in-Ok-clause-node_completes g c centre turns = λ is. c.run_command.ensures.node_completes centre turns (c.in-Ok.ensures.value ∙ is)
+
+pub returns-in-Ok-clause-cluster_completes : goal.returns-in-Ok-clause-cluster_completes
+returns-in-Ok-clause-cluster_completes g c turns = λ is. c.run_command.ensures.cluster_completes turns (c.in-Ok.ensures.value ∙ is)
