@@ -1,7 +1,11 @@
 //! The files of a folder as disks.
 use mdcc_disks::Disks;
 use mdcc_files::FileDisks;
+use std::alloc::Global;
 use std::test::Fail;
+
+// Sizes below, at and above that of the blocks in which a file is read and written.
+const SIZES: [usize; 11] = [1, 65_534, 1, 1, 65_535, 2, 65_536, 3, 65_537, 5, 40_000];
 
 // One object creates a file, locks it, and writes, reads and cuts it; another is refused at each call and leaves it as it is,
 // until the first is dropped.
@@ -31,5 +35,79 @@ fn keeps_bytes_for_one(rt: HostRuntime) -> Result<(), Fail> {
     assert_eq!(rt; second.read(2, 0, &mut buffer), Ok(3));
     assert!(rt; buffer.starts_with(b"abc"));
     assert_eq!(rt; second.cut(2, 0), Ok(()));
+    Ok(())
+}
+
+// Appends writes of all sizes to a disk, and answers their bytes; none where a write fails.
+fn write_all(alloc: Global, disks: &mut FileDisks<'_, HostRuntime>) -> Result<Vec<u8>, Fail> {
+    let mut all = Vec::new(alloc);
+    for size in SIZES {
+        let start = all.len();
+        for k in 0..size {
+            all.push((k % 251) as u8)?;
+        }
+        let (_, bytes) = all.as_slice().split_at(start.min(all.len()));
+        if disks.write_at(3, start as u64, bytes).is_err() {
+            return Ok(Vec::new(alloc));
+        }
+    }
+    Ok(all)
+}
+
+// Whether the disk has these bytes and no others, read by as many as the buffer takes.
+fn has(disks: &mut FileDisks<'_, HostRuntime>, bytes: &[u8], buffer: &mut [u8]) -> bool {
+    let mut rest = bytes;
+    let mut offset = 0u64;
+    for _ in 0..bytes.len() {
+        let Ok(count) = disks.read(3, offset, buffer) else {
+            break;
+        };
+        if count > rest.len() || count > buffer.len() {
+            return false;
+        }
+        let (read, behind) = rest.split_at(count);
+        if buffer.split_at(count).0 != read {
+            return false;
+        }
+        rest = behind;
+        offset = offset.saturating_add(count as u64);
+    }
+    rest.is_empty() && disks.length(3) == Ok(bytes.len() as u64)
+}
+
+// What was written is read back, before it is synced, and by another object; so is what is written over it and after a cut.
+#[test]
+fn keeps_writes_of_all_sizes(rt: HostRuntime) -> Result<(), Fail> {
+    let alloc = rt.alloc();
+    let mut large = vec![in alloc; 0u8; 70_000]?;
+    let mut small = [0u8; 1000];
+    let mut disks = FileDisks::new(alloc, &rt);
+    assert_eq!(rt; disks.cut(3, 0), Ok(()));
+    let mut all = write_all(alloc, &mut disks)?;
+    assert!(rt; all.len() > 200_000);
+    assert!(rt; has(&mut disks, &all, &mut small));
+    assert!(rt; has(&mut disks, &all, &mut large));
+    assert_eq!(rt; disks.write_at(3, 65_530, b"over a bound"), Ok(()));
+    assert_eq!(rt; disks.write_at(3, 7, b"in front"), Ok(()));
+    all[65_530..65_542].copy_from_slice(b"over a bound");
+    all[7..15].copy_from_slice(b"in front");
+    assert_eq!(rt; disks.sync(3), Ok(()));
+    drop(disks);
+
+    let mut disks = FileDisks::new(alloc, &rt);
+    assert!(rt; has(&mut disks, &all, &mut large));
+    assert!(rt; has(&mut disks, &all, &mut small));
+    assert_eq!(rt; disks.write_at(3, all.len() as u64, b"to be cut"), Ok(()));
+    assert_eq!(rt; disks.cut(3, 131_000), Ok(()));
+    all.truncate(131_000);
+    assert!(rt; disks.read(3, 131_000, &mut small).is_err());
+    assert_eq!(rt; disks.write_at(3, 131_000, b"after it"), Ok(()));
+    all.extend_from_slice(b"after it")?;
+    drop(disks);
+
+    let mut disks = FileDisks::new(alloc, &rt);
+    assert!(rt; has(&mut disks, &all, &mut small));
+    assert_eq!(rt; disks.cut(3, 0), Ok(()));
+    assert!(rt; disks.read(3, 0, &mut small).is_err());
     Ok(())
 }
