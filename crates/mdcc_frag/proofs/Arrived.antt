@@ -1,14 +1,15 @@
 -- The pieces of a message that came, and one more of them.
-use Rattle.std.proofs.Common.{◌≡◌, ◌≤◌, ◌<◌, ℕ, suc, add-one, ◌+◌, ◌-◌, ◌*◌, Bool, true, false, ◌&&◌, nat_eq, List, [], ◌∷◌, ◌++◌, length, get_or, set, take, drop, refl, sym, ◌∙◌, ap, arith, length-drop, drop-cons}
+use Rattle.std.proofs.Common.{◌≡◌, ◌≤◌, ◌<◌, ℕ, zero, suc, add-one, ◌+◌, ◌-◌, ◌*◌, min, Bool, true, false, ◌&&◌, nat_eq, List, [], ◌∷◌, ◌++◌, length, get_or, set, take, drop, replicate, refl, sym, ◌∙◌, ap, arith, append_assoc, length-append, length-drop, drop-cons}
 use Rattle.std.specs.List.{list_all}
 use Rattle.std.proofs.lemmas.Bool.{eqb-true, eq-eqb, leb-true, le-leb}
 use Rattle.std.proofs.lemmas.Bool.Decides.{nat_tests}
 use Rattle.std.proofs.lemmas.Grind.{common_steps}
-use Rattle.std.proofs.lemmas.List.{take-append-le, drop-append-le, nil_from_length}
+use Rattle.std.proofs.Math.Seq.{take-append_seam, drop-append-add}
+use Rattle.std.proofs.lemmas.List.{take-append-le, take-append-drop, drop-append-le, nil_from_length}
 use Rattle.std.proofs.lemmas.List.Sums.{sum_by-cons, sum_by-set}
 use Rattle.mdcc_frag.specs.declared.partial.Arrival.{Arrival}
 use Rattle.mdcc_frag.specs.Partial.{overwritten}
-use Rattle.mdcc_frag.specs.Arrivals.{placed, are_laid, absent, missing}
+use Rattle.mdcc_frag.specs.Arrivals.{placed, are_laid, in_order, absent, missing, bytes_missing}
 
 -- ---- tests joined by &&
 
@@ -103,6 +104,37 @@ all_came (false ∷ held) =
     let more : missing (false ∷ held) ≡ 1 + missing held = sum_by-cons (λ (came : Bool). absent came) false held in
     grind (arith, nat_tests, more)
 
+pub none_came : (n : ℕ) → missing (replicate n false) ≡ n
+none_came zero = refl
+none_came (suc n) =
+    let more : missing (false ∷ replicate n false) ≡ 1 + missing (replicate n false) = sum_by-cons (λ (came : Bool). absent came) false (replicate n false) in
+    let rest = none_came n in
+    omega (arith, more, rest)
+
+-- ---- how many of their bytes
+
+pub fewer_bytes : (size index : ℕ) (held : List Bool) → index < length held → get_or held index false ≡ false →
+    bytes_missing size (set held index true) + min 1383 (size - 1383 * index) ≡ bytes_missing size held
+fewer_bytes size index [] within is = absurd (omega arith)
+fewer_bytes size zero (true ∷ held) within is = cc
+fewer_bytes size zero (false ∷ held) within is = omega arith
+fewer_bytes size (suc index) (came ∷ held) within is =
+    let more = fewer_bytes (size - 1383) index held (omega arith) is in
+    let same : size - 1383 - 1383 * index ≡ size - 1383 * suc index = omega arith in
+    let piece : min 1383 (size - 1383 - 1383 * index) ≡ min 1383 (size - 1383 * suc index) = ap (min 1383) same in
+    omega (arith, more, piece)
+
+pub all_bytes : (size n : ℕ) → size ≤ 1383 * n → bytes_missing size (replicate n false) ≡ size
+all_bytes size zero most = omega arith
+all_bytes size (suc n) most =
+    let behind = all_bytes (size - 1383) n (omega arith) in
+    omega (arith, behind)
+
+pub no_bytes : (size : ℕ) (held : List Bool) → list_all (λ came. came) held ≡ true → bytes_missing size held ≡ 0
+no_bytes size [] all = refl
+no_bytes size (true ∷ held) all = let rest = no_bytes (size - 1383) held all in omega (arith, rest)
+no_bytes size (false ∷ held) all = cc
+
 -- ---- the pieces from an index on
 
 split_at : (arrivals : List Arrival) (index : ℕ) (arrival : Arrival) → index < length arrivals → arrival ≡ get_or arrivals index arrival →
@@ -122,3 +154,39 @@ pub placed_at : (arrivals : List Arrival) (index : ℕ) (arrival : Arrival) (res
     ≡ placed (drop (index + 1) arrivals) (drop arrival.size rest) (overwritten (1383 * arrival.index) (take arrival.size rest) bytes)
 placed_at arrivals index arrival rest bytes within is =
     ap (λ (left : List Arrival). placed left rest bytes) (split_at arrivals index arrival within is)
+
+-- ---- pieces in order
+
+over_front : (front piece rest : List ℕ) (offset : ℕ) → offset ≡ length front →
+    overwritten offset piece (front ++ rest) ≡ (front ++ piece) ++ drop (length piece) rest
+over_front front piece rest offset is =
+    rw is (rw (take-append_seam front rest) (rw (drop-append-add front rest (length piece)) refl))
+
+pub placed_in_order : (total : ℕ) (arrivals : List Arrival) (pieces front rest : List ℕ) → in_order (length front) arrivals ≡ true →
+    are_laid total arrivals (length pieces) ≡ true → length rest ≡ length pieces → placed arrivals pieces (front ++ rest) ≡ front ++ pieces
+placed_in_order total [] pieces front rest ordered laid as_many =
+    let none : length pieces ≡ 0 = eqb-true (length pieces) 0 laid in
+    let empty : pieces ≡ [] = nil_from_length pieces none in
+    let nothing : rest ≡ [] = nil_from_length rest (as_many ∙ none) in
+    ap (λ (r : List ℕ). front ++ r) (nothing ∙ sym empty)
+placed_in_order total (first ∷ others) pieces front rest ordered laid as_many =
+    let part = laid_first total first others (length pieces) laid in
+    let there = part.there in
+    let begins = both _ _ ordered in
+    let offset : 1383 * first.index ≡ length front = eqb-true _ _ begins.0 in
+    let piece = take first.size pieces in
+    let all : length (take first.size pieces) ≡ first.size = grind (arith, common_steps, there) in
+    let end : 1383 * first.index + first.size ≡ length (front ++ take first.size pieces) =
+    omega (arith, offset, all, length-append front (take first.size pieces)) in
+    let left : length (drop first.size rest) ≡ length (drop first.size pieces) =
+    omega (arith, length-drop first.size rest, length-drop first.size pieces, as_many) in
+    let laid_behind : are_laid total others (length (drop first.size pieces)) ≡ true =
+    ap (are_laid total others) (length-drop first.size pieces) ∙ part.behind in
+    let over : overwritten (1383 * first.index) (take first.size pieces) (front ++ rest) ≡ (front ++ take first.size pieces) ++ drop first.size rest =
+    over_front front (take first.size pieces) rest (1383 * first.index) offset
+    ∙ ap (λ (n : ℕ). (front ++ take first.size pieces) ++ drop n rest) all in
+    ap (λ (b : List ℕ). placed others (drop first.size pieces) b) over
+    ∙ placed_in_order total others (drop first.size pieces) (front ++ take first.size pieces) (drop first.size rest)
+    (ap (λ (n : ℕ). in_order n others) (sym end) ∙ begins.1) laid_behind left
+    ∙ append_assoc front (take first.size pieces) (drop first.size pieces)
+    ∙ ap (λ (b : List ℕ). front ++ b) (take-append-drop first.size pieces)

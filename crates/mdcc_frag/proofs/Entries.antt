@@ -1,8 +1,10 @@
 -- The entry of a message, and what is asked of it.
 use Rattle.std.proofs.Common.{◌≡◌, ℕ, ◌+◌, ◌*◌, ◌==◌, arith, append-nil, length, take, drop, replicate, slice_set, ◌++◌, Bool, true, false, List, [], ◌∷◌, if◌then◌else◌, Option, Some, None, option_map, refl, sym, ◌∙◌, ap, subst}
+use Rattle.std.specs.Prelude.{Result, Ok, Err, OnErr}
 use Rattle.std.specs.List.{list_all}
 use Rattle.std.specs.Option.{option_map_or}
-use Rattle.std.specs.Map.{lookup, lookup_entry, set_value}
+use Rattle.std.proofs.lemmas.Map.Steps.{set_value_same}
+use Rattle.std.specs.Map.{lookup, lookup_entry, remove_entry, set_value}
 use Rattle.std.proofs.lemmas.List.{drop_all, length-replicate}
 use Rattle.lru.specs.LruCache.{LruCache, lru_cache, put_entries, promoted}
 use Rattle.lru.proofs.CallerLemmas.{Contains-lookup_entry}
@@ -14,7 +16,7 @@ use Rattle.mdcc_frag.specs.declared.reading.DropCause.TheVariants.{Disagrees}
 use Rattle.mdcc_frag.specs.Datagrams.{count}
 use Rattle.mdcc_frag.specs.Reading.{FitsIn}
 use Rattle.mdcc_frag.specs.Partial.{PartialMessage, nothing_of, overwritten, with_piece, is_held, is_whole}
-use Rattle.mdcc_frag.specs.Joining.{Entry, Step, IsTaken, same_head, arrived, step, entry_of, message_of, others, take_piece, known_step, next_step, first_piece, missing_piece}
+use Rattle.mdcc_frag.specs.Joining.{Entry, Step, IsTaken, same_head, arrived, step, entry_of, message_of, others, take_piece, known_step, next_step, first_piece, missing_piece, is_taken}
 
 -- the value that is found is that of the entry that is found
 pub value_of_entry : {K V : Type 0} (test : K → Bool) (entries : List (K × V)) → lookup test entries ≡ option_map (λ e. e.1) (lookup_entry test entries)
@@ -51,6 +53,18 @@ arrived_whole message without with h = rw h refl
 arrived_part : (message : PartialMessage) (without with : List Entry) → is_whole message ≡ false → arrived message without with ≡ step Kept with
 arrived_part message without with h = rw h refl
 
+-- memory is asked for only where a piece is taken
+pub on_err : {A E P : Type 0} (result : Result A E) → P → OnErr result P
+on_err (Ok a) p = tt
+on_err (Err e) p = p
+
+arrived_taken : (message : PartialMessage) (without with : List Entry) → is_taken (arrived message without with).answer ≡ true
+arrived_taken message without with =
+    (elim (is_whole message) as (λ b. is_whole message ≡ b → is_taken (arrived message without with).answer ≡ true) [
+      | true ↦ λ t. rw t refl
+      | false ↦ λ t. rw t refl
+    ]) refl
+
 -- ---- a first piece
 
 none_there : (o : Option Entry) → option_map (λ e. e.1) o ≡ None → o ≡ None
@@ -69,12 +83,17 @@ absent_at : (piece : Piece) (o : Option PartialMessage) → Begin ≡ next_step 
 absent_at piece None h = refl
 absent_at piece (Some message) h = known_begins (length message.bytes == piece.total) (is_held piece.index message) h
 
-pub absent : (piece : Piece) (entries : List Entry) → Begin ≡ next_step piece (message_of piece entries) → entry_of piece entries ≡ None
-absent piece entries h = no_entry piece entries (absent_at piece (message_of piece entries) h)
-
 first_taken : (piece : Piece) (bytes : List ℕ) (entries : List Entry) → message_of piece entries ≡ None →
     first_piece piece bytes entries ≡ take_piece piece bytes entries (entry_of piece entries)
 first_taken piece bytes entries absent = ap (take_piece piece bytes entries) (sym (no_entry piece entries absent))
+
+pub begin_taken : (piece : Piece) (bytes : List ℕ) (entries : List Entry) → Begin ≡ next_step piece (message_of piece entries) →
+    is_taken (take_piece piece bytes entries (entry_of piece entries)).answer ≡ true
+begin_taken piece bytes entries begins =
+    let none : message_of piece entries ≡ None = absent_at piece (message_of piece entries) begins in
+    let message = with_piece piece.index bytes (nothing_of piece.total) in
+    ap (λ (s : Step). is_taken s.answer) (sym (first_taken piece bytes entries none))
+    ∙ arrived_taken message entries ((piece.head, message) ∷ take 63 entries)
 
 pub first_whole : (piece : Piece) (bytes : List ℕ) (entries : List Entry) (message : PartialMessage) →
     message_of piece entries ≡ None → message ≡ with_piece piece.index bytes (nothing_of piece.total) → is_whole message ≡ true →
@@ -95,6 +114,19 @@ first_kept piece bytes table new message full absent is part put =
 
 -- ---- a piece that was missing
 
+-- the entry that is found when another value is written, and the others
+set_found : {K V : Type 0} (test : K → Bool) (entries : List (K × V)) (entry : K × V) (value : V) → lookup_entry test entries ≡ Some entry →
+    (lookup_entry test (set_value test entries value) ≡ Some (entry.0, value)) × (remove_entry test (set_value test entries value) ≡ remove_entry test entries)
+set_found {K = K} {V = V} test [] entry value there = cc
+set_found {K = K} {V = V} test (e ∷ entries) entry value there =
+    (elim (test e.0) as (λ b. test e.0 ≡ b → (lookup_entry test (set_value test (e ∷ entries) value) ≡ Some (entry.0, value)) × (remove_entry test (set_value test (e ∷ entries) value) ≡ remove_entry test (e ∷ entries))) [
+      | true ↦ λ t. let found : Some e ≡ Some entry = rw t at there in
+          let same : e ≡ entry = cc in
+          (rw t (rw t (ap (λ (f : K × V). Some (f.0, value)) same)), rw t (rw t refl))
+      | false ↦ λ t. let on = set_found test entries entry value (rw t at there) in
+          (rw t (rw t on.0), rw t (rw t (ap (λ rest. e ∷ rest) on.1)))
+    ]) refl
+
 some_there : (piece : Piece) (o : Option Entry) → next_step piece (option_map (λ e. e.1) o) ≡ Advance → (e : Entry) × (o ≡ Some e)
 some_there piece None h = cc
 some_there piece (Some e) h = (e, refl)
@@ -102,21 +134,34 @@ some_there piece (Some e) h = (e, refl)
 pub entry_there : (piece : Piece) (entries : List Entry) → next_step piece (message_of piece entries) ≡ Advance → (e : Entry) × (entry_of piece entries ≡ Some e)
 entry_there piece entries h = some_there piece (entry_of piece entries) (rw (← message_of_entry piece entries) h)
 
-pub taken : (piece : Piece) (bytes : List ℕ) (entries : List Entry) (old message : PartialMessage) (complete : Bool) →
+-- a value that is written back as it was changes nothing
+pub unchanged : (piece : Piece) (table : LruCache FragHead PartialMessage) (old new : PartialMessage) →
+    Some old ≡ message_of piece table.entries → new ≡ old → lru_cache (set_value (same_head piece.head) table.entries new) table.cap ≡ table
+unchanged piece table old new there same =
+    ap (λ (entries : List Entry). lru_cache entries table.cap) (set_value_same (same_head piece.head) table.entries new (sym there ∙ ap Some (sym same)))
+
+-- an entry with another value, brought to the front
+promoted_set : (piece : Piece) (entries : List Entry) (entry : Entry) (message : PartialMessage) → entry_of piece entries ≡ Some entry →
+    promoted (same_head piece.head) (set_value (same_head piece.head) entries message) ≡ (entry.0, message) ∷ others piece entries
+promoted_set piece entries entry message there =
+    let changed = set_found (same_head piece.head) entries entry message there in
+    rw changed.0 (ap (λ (rest : List Entry). (entry.0, message) ∷ rest) changed.1)
+
+pub taken : (piece : Piece) (bytes : List ℕ) (entries : List Entry) (new : LruCache FragHead PartialMessage) (cap : ℕ) (old message : PartialMessage) (complete : Bool) →
     Some old ≡ message_of piece entries → next_step piece (message_of piece entries) ≡ Advance →
     message ≡ with_piece piece.index bytes old → complete ≡ is_whole message →
-    IsTaken piece bytes entries complete (set_value (same_head piece.head) (promoted (same_head piece.head) entries) message)
-taken piece bytes entries old message complete there missing is whole =
+    new ≡ lru_cache (promoted (same_head piece.head) (set_value (same_head piece.head) entries message)) cap →
+    IsTaken piece bytes entries complete new.entries
+taken piece bytes entries new cap old message complete there missing is whole front =
     let found = entry_there piece entries missing in
     let value : Some old ≡ option_map (λ e. e.1) (Some found.0) = there ∙ message_of_entry piece entries ∙ ap (option_map (λ e. e.1)) found.1 in
     let same : old ≡ found.0.1 = cc in
     let now : message ≡ with_piece piece.index bytes found.0.1 = is ∙ ap (with_piece piece.index bytes) same in
-    let passes = (Contains-lookup_entry (same_head piece.head) entries found.0 found.1).1 in
     record {
       entry = found.0;
       was = found.1;
       whole = whole ∙ ap is_whole now;
-      is = rw found.1 (rw passes (ap (λ m. (found.0.0, m) ∷ others piece entries) now));
+      is = ap (λ (table : LruCache FragHead PartialMessage). table.entries) front ∙ promoted_set piece entries found.0 message found.1 ∙ ap (λ m. (found.0.0, m) ∷ others piece entries) now;
     }
 
 -- the entry of a missing piece is that of the definition
@@ -145,6 +190,15 @@ pub is_there : (piece : Piece) (bytes : List ℕ) (old new : List Entry) (comple
     None ≡ message_of piece new → ⊥
 is_there piece bytes old new complete t none = let there = (in_front piece bytes old new complete t).0 in cc
 
+-- what is taken out again where all pieces came
+pub advance_full : (piece : Piece) (bytes : List ℕ) (old new : List Entry) (complete : Bool) (message : PartialMessage) →
+    IsTaken piece bytes old complete new → complete ≡ true → Some message ≡ message_of piece new → is_whole message ≡ true
+advance_full piece bytes old new complete message taken all out =
+    let front = in_front piece bytes old new complete taken in
+    let some : Some message ≡ Some (with_piece piece.index bytes taken.entry.1) = out ∙ front.0 in
+    let same : message ≡ with_piece piece.index bytes taken.entry.1 = cc in
+    ap is_whole same ∙ sym taken.whole ∙ all
+
 pub advance_whole : (piece : Piece) (bytes : List ℕ) (old new : List Entry) (complete : Bool) (message : PartialMessage) →
     next_step piece (message_of piece old) ≡ Advance → IsTaken piece bytes old complete new → complete ≡ true →
     Some message ≡ message_of piece new →
@@ -158,6 +212,13 @@ advance_whole piece bytes old new complete message missing taken all out =
     ∙ ap (step (Whole whole.bytes)) front.1
     ∙ sym (arrived_whole whole (others piece old) _ (sym taken.whole ∙ all))
     ∙ advance_is piece bytes old taken.entry missing taken.was
+
+pub advance_taken : (piece : Piece) (bytes : List ℕ) (entries : List Entry) → Advance ≡ next_step piece (message_of piece entries) →
+    is_taken (take_piece piece bytes entries (entry_of piece entries)).answer ≡ true
+advance_taken piece bytes entries missing =
+    let found = entry_there piece entries (sym missing) in
+    ap (λ (s : Step). is_taken s.answer) (sym (advance_is piece bytes entries found.0 (sym missing) found.1))
+    ∙ arrived_taken (with_piece piece.index bytes found.0.1) (others piece entries) ((found.0.0, with_piece piece.index bytes found.0.1) ∷ others piece entries)
 
 -- ---- a piece that came before, and one of another message
 

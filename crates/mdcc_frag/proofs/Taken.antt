@@ -1,28 +1,61 @@
 -- What a message is when one more piece came.
-use Rattle.std.proofs.Common.{◌≡◌, ◌≤◌, ◌<◌, ℕ, ◌+◌, ◌*◌, nat_eq, Bool, true, false, List, [], ◌∷◌, ◌++◌, length, set, replicate, sym, ◌∙◌, ap, arith, vec_capacity, length-append}
+use Rattle.std.proofs.Common.{◌≡◌, ◌≤◌, ◌<◌, ℕ, ◌+◌, ◌-◌, ◌*◌, nat_eq, Bool, true, false, List, [], ◌∷◌, ◌++◌, length, set, replicate, refl, sym, ◌∙◌, ap, arith, length-append}
 use Rattle.std.proofs.lemmas.Bool.Decides.{nat_tests}
 use Rattle.std.proofs.lemmas.List.{length-replicate, length-set}
 use Rattle.mdcc_frag.specs.declared.partial.Arrival.{Arrival}
 use Rattle.mdcc_frag.specs.declared.partial.Partial.TheInside.{Inside}
-use Rattle.mdcc_frag.specs.Datagrams.{count}
+use Rattle.mdcc_frag.specs.Datagrams.{message_limit, count}
+use Rattle.mdcc_frag.specs.Reading.{piece_length}
 use Rattle.mdcc_frag.specs.Partial.{PartialMessage, overwritten, with_piece, is_held, is_whole}
-use Rattle.mdcc_frag.specs.Arrivals.{ArePieces, placed, are_laid, missing, message_in}
-use Rattle.mdcc_frag.proofs.Arrived.{laid_more, placed_more, length_placed, one_less, all_came}
+use Rattle.mdcc_frag.specs.Arrivals.{ArePieces, placed, are_laid, missing, bytes_missing, message_in}
+use Rattle.mdcc_frag.proofs.Arrived.{laid_more, placed_more, length_placed, one_less, all_came, none_came, fewer_bytes, all_bytes, no_bytes}
 
 pub length_in : (p : Inside) → ArePieces p → length (message_in p).bytes ≡ p.total
 length_in p are = length_placed p.total p.arrivals.items p.pieces.items (replicate p.total 0) are.laid (length-replicate p.total 0)
 
--- a piece that did not come has a place, and there is one less of these behind it
+-- a message of which no piece came
+pub none_are : (p : Inside) → p.total ≤ message_limit → p.pieces.items ≡ [] → p.arrivals.items ≡ [] →
+    p.held.items ≡ replicate (count p.total) false → ArePieces p
+none_are p short pieces arrivals held =
+    let flags : length p.held.items ≡ count p.total = ap length held ∙ length-replicate {A = Bool} (count p.total) false in
+    let none : missing p.held.items ≡ count p.total = ap missing held ∙ none_came (count p.total) in
+    let left : bytes_missing p.total p.held.items ≡ p.total = ap (bytes_missing p.total) held ∙ all_bytes p.total (count p.total) (omega arith) in
+    let no_pieces : length p.pieces.items ≡ 0 = ap length pieces in
+    let no_arrivals : length p.arrivals.items ≡ 0 = ap length arrivals in
+    record {
+      short = short;
+      flags = flags;
+      came = omega (arith, flags, none, no_arrivals);
+      laid = rw pieces (rw arrivals refl);
+      bytes = omega (arith, left, no_pieces);
+    }
+
+-- a piece that did not come has a place, and behind it are one less of these, and fewer of their bytes
 pub record IsMissing (p : Inside) (index : ℕ) : Type 0 where
   pub within : index < length p.held.items
   pub fewer : missing (set p.held.items index true) + 1 ≡ missing p.held.items
+  pub bytes : bytes_missing p.total (set p.held.items index true) + piece_length p.total index ≡ bytes_missing p.total p.held.items
 
 pub is_missing : (p : Inside) (m : PartialMessage) (index : ℕ) → ArePieces p → m ≡ message_in p → index < count (length m.bytes) →
     is_held index m ≡ false → IsMissing p index
 is_missing p m index are same inside absent =
     let total : length m.bytes ≡ p.total = ap (λ (n : PartialMessage). length n.bytes) same ∙ length_in p are in
     let below : index < length p.held.items = rw are.flags (rw total at inside) in
-    record { within = below; fewer = one_less p.held.items index below (sym (ap (is_held index) same) ∙ absent) }
+    let came = sym (ap (is_held index) same) ∙ absent in
+    record { within = below; fewer = one_less p.held.items index below came; bytes = fewer_bytes p.total index p.held.items below came }
+
+-- it lies in the message
+pub size_within : (total index size : ℕ) → index < count total → size ≡ piece_length total index → 1383 * index + size ≤ total
+size_within total index size inside is = omega (arith, inside, is)
+
+-- there is room in the message for its bytes
+pub room_for : (p : Inside) (m : PartialMessage) (index : ℕ) (piece : List ℕ) → ArePieces p → m ≡ message_in p → index < count (length m.bytes) →
+    is_held index m ≡ false → length piece ≡ piece_length (length m.bytes) index → length p.pieces.items + length piece ≤ p.total
+room_for p m index piece are same inside absent size =
+    let there = is_missing p m index are same inside absent in
+    let total : length m.bytes ≡ p.total = ap (λ (n : PartialMessage). length n.bytes) same ∙ length_in p are in
+    let exact : length piece ≡ piece_length p.total index = size ∙ ap (λ (n : ℕ). piece_length n index) total in
+    omega (arith, exact, there.bytes, are.bytes)
 
 -- the bytes with it
 pub bytes_with : (p : Inside) (m : PartialMessage) (arrival : Arrival) (piece : List ℕ) → ArePieces p → m ≡ message_in p →
@@ -57,13 +90,10 @@ pub record IsWith (p q : Inside) (m : PartialMessage) (arrival : Arrival) (piece
   pub arrivals : q.arrivals.items ≡ p.arrivals.items ++ arrival ∷ []
   pub pieces : q.pieces.items ≡ p.pieces.items ++ piece
   pub held : q.held.items ≡ set p.held.items arrival.index true
-  pub slots : vec_capacity p.arrivals ≤ vec_capacity q.arrivals
-  pub room : vec_capacity p.pieces ≤ vec_capacity q.pieces
   pub size : arrival.size ≡ length piece
-  pub short : length piece ≤ 1383
+  pub exact : length piece ≡ piece_length (length m.bytes) arrival.index
   pub inside : arrival.index < count (length m.bytes)
   pub absent : is_held arrival.index m ≡ false
-  pub within : 1383 * arrival.index + length piece ≤ length m.bytes
 
 pub pieces_with : (p q : Inside) (m : PartialMessage) (arrival : Arrival) (piece : List ℕ) → ArePieces p → m ≡ message_in p →
     IsWith p q m arrival piece → ArePieces q
@@ -73,14 +103,16 @@ pieces_with p q m arrival piece are same new =
     let flags : length q.held.items ≡ length p.held.items = ap length new.held ∙ length-set p.held.items arrival.index true in
     let more : length q.arrivals.items ≡ length p.arrivals.items + 1 = ap length new.arrivals ∙ length-append p.arrivals.items (arrival ∷ []) in
     let longer : length q.pieces.items ≡ length p.pieces.items + length piece = ap length new.pieces ∙ length-append p.pieces.items piece in
+    let total : length m.bytes ≡ p.total = ap (λ (n : PartialMessage). length n.bytes) same ∙ length_in p are in
+    let exact : length piece ≡ piece_length p.total arrival.index = new.exact ∙ ap (λ (n : ℕ). piece_length n arrival.index) total in
+    let less : bytes_missing q.total q.held.items ≡ bytes_missing p.total (set p.held.items arrival.index true) = rw new.total (rw new.held refl) in
+    let within = size_within (length m.bytes) arrival.index (length piece) new.inside new.exact in
     record {
       short = omega (arith, are.short, new.total);
       flags = flags ∙ are.flags ∙ ap count (sym new.total);
       came = omega (arith, fewer, more, flags, are.came);
-      laid = rw new.total (rw new.arrivals (rw new.pieces (laid_with p m arrival piece are same new.size new.within)));
-      slots = omega (arith, flags, are.slots, new.slots);
-      room = omega (arith, fewer, longer, new.short, are.room, new.room);
-      fits = omega (arith, new.total, are.fits, new.room);
+      laid = rw new.total (rw new.arrivals (rw new.pieces (laid_with p m arrival piece are same new.size within)));
+      bytes = omega (arith, less, exact, longer, there.bytes, are.bytes, new.total);
     }
 
 pub message_with : (p q : Inside) (m : PartialMessage) (arrival : Arrival) (piece : List ℕ) → ArePieces p → m ≡ message_in p →
@@ -92,3 +124,9 @@ message_with p q m arrival piece are same new =
     let held : q.held.items ≡ set m.held arrival.index true =
     new.held ∙ ap (λ (n : PartialMessage). set n.held arrival.index true) (sym same) in
     ap (λ (b : List ℕ). pack b q.held.items) bytes ∙ ap (pack (overwritten (1383 * arrival.index) piece m.bytes)) held
+
+-- all bytes are there where all pieces came
+pub all_there : (p : Inside) (m : PartialMessage) → ArePieces p → m ≡ message_in p → is_whole m ≡ true → length p.pieces.items ≡ p.total
+all_there p m are same whole =
+    let none : bytes_missing p.total p.held.items ≡ 0 = no_bytes p.total p.held.items (sym (ap is_whole same) ∙ whole) in
+    omega (arith, none, are.bytes)

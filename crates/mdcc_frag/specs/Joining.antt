@@ -1,5 +1,5 @@
 -- A table of messages of which some pieces came, the most recently used first, and what a datagram makes of it.
-use Rattle.std.specs.Prelude.{◌≡◌, ℕ, Bool, ◌==◌, ◌&&◌, nat_eq, List, ◌∷◌, length, take, if◌then◌else◌, Option, Some, None, Result, Ok, Err}
+use Rattle.std.specs.Prelude.{◌≡◌, ℕ, Bool, true, false, ◌==◌, ◌&&◌, nat_eq, List, ◌∷◌, length, take, if◌then◌else◌, Option, Some, None, Result, Ok, Err}
 use Rattle.std.specs.Map.{lookup, lookup_entry, remove_entry}
 use Rattle.mdcc_frag.specs.declared.datagrams.FragHead.{FragHead}
 use Rattle.mdcc_frag.specs.declared.reading.Piece.{Piece}
@@ -69,11 +69,12 @@ take_read (Err cause) bytes entries = step (Dropped cause) entries
 abbrev pub join : List ℕ → List Entry → Step
 join datagram entries = take_read (piece_in datagram) (payload datagram) entries
 
--- The datagram has a piece of a message of which none came.
-pub record IsBeginning (datagram : List ℕ) (entries : List Entry) : Type 0 where
-  pub piece : Piece
-  pub read : piece_in datagram ≡ Ok piece
-  pub first : entry_of piece entries ≡ None
+-- Whether a piece is taken: it came for the first time, and is none that is dropped.
+abbrev pub is_taken : Joined → Bool
+is_taken (Whole bytes) = true
+is_taken Kept = true
+is_taken Repeated = false
+is_taken (Dropped cause) = false
 
 -- which of the four a piece is
 abbrev pub known_step : Piece → PartialMessage → NextStep

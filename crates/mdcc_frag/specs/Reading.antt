@@ -1,5 +1,5 @@
 -- The datagrams of a message, as they are read.
-use Rattle.std.specs.Prelude.{◌≤◌, ◌<◌, ℕ, ◌+◌, ◌-◌, ◌*◌, Bool, ◌==◌, ◌&&◌, ◌||◌, nat_le, nat_lt, min, List, length, take, drop, slice_index, if◌then◌else◌, Result, Ok, Err}
+use Rattle.std.specs.Prelude.{◌≡◌, ◌≤◌, ◌<◌, ℕ, ◌+◌, ◌-◌, ◌*◌, Bool, ◌==◌, ◌&&◌, ◌||◌, nat_le, nat_lt, min, List, length, take, drop, slice_index, if◌then◌else◌, Result, Ok, Err}
 use Rattle.std.specs.Int.{w16, w32, from_le_bytes}
 use Rattle.mdcc_frag.specs.declared.reading.Piece.{Piece}
 use Rattle.mdcc_frag.specs.declared.reading.DropCause.{DropCause}
@@ -50,10 +50,11 @@ piece_in bytes =
     then (if fits (piece_at bytes) (u16_at 15 bytes) (length (payload bytes)) then Ok (piece_at bytes) else Err Count)
     else Err Header
 
--- The message has such a piece, which lies in it and in a datagram.
+-- The message has such a piece, which lies in it and in a datagram, and has just so many bytes.
 pub record FitsIn (piece : Piece) (size : ℕ) : Type 0 where
   pub some : 1 ≤ piece.total
   pub short : piece.total ≤ message_limit
   pub index : piece.index < count piece.total
   pub within : 1383 * piece.index + size ≤ piece.total
   pub most : size ≤ 1383
+  pub exact : size ≡ piece_length piece.total piece.index

@@ -1,9 +1,9 @@
 //! The table of messages of which some pieces came.
-ghost use Rattle.std.specs.Prelude.{◌≡◌, ◌≤◌, ◌<◌, ◌+◌, ◌*◌, [], length, vec_capacity, IfOk, OnErr, IsErr, Option, Some, None};
+ghost use Rattle.std.specs.Prelude.{◌≡◌, ◌≤◌, ◌<◌, ◌+◌, ◌*◌, [], length, true, vec_capacity, IfOk, OnErr, Option, Some, None};
 ghost use Rattle.std.specs.Map.{lookup_entry};
 ghost use Rattle.mdcc_frag.specs.Datagrams.{message_limit, count};
 ghost use Rattle.mdcc_frag.specs.Reading.{FitsIn, payload};
-ghost use Rattle.mdcc_frag.specs.Joining.{Entry, entry_of, others, step, first_piece, take_piece, known_step, IsTaken, next_step, message_of, join, IsBeginning};
+ghost use Rattle.mdcc_frag.specs.Joining.{Entry, entry_of, others, step, first_piece, take_piece, known_step, IsTaken, next_step, message_of, join, is_taken};
 
 use crate::datagrams::{FragHead, MESSAGE_LIMIT};
 use crate::joined::{Joined, NextStep};
@@ -15,9 +15,10 @@ use std::alloc::{AllocError, Global};
 use std::marker::Model;
 use std::num::NonZeroUsize;
 
-/// Joins the datagrams that arrive at one endpoint. It keeps at most 64 messages of which some pieces came, each with room for
-/// all of its bytes, so at most 128 MiB; the least recently used goes first. Another 2 MiB are those in which a message is put
-/// together.
+/// Joins the datagrams that arrive at one endpoint. It keeps at most 64 messages of which some pieces came; the least recently
+/// used goes first. Each takes memory as its pieces come: room for at most twice their bytes and no more than the message has, and
+/// some bytes for each piece. So all take 128 MiB only where nearly all pieces came of 64 of the longest. Another 2 MiB are those
+/// in which a message is put together.
 #[derive(Drop)]
 pub struct Joiner {
     table: LruCache<FragHead, Partial>,
@@ -83,7 +84,7 @@ fn begin(
         return Ok(Joined::Whole(HeapList::from_vec(whole)));
     }
     let mut partial = Partial::new(alloc, piece.total as usize)?;
-    partial.take(piece.index, bytes);
+    partial.take(piece.index, bytes)?;
     if partial.is_whole() {
         return Ok(Joined::Whole(partial.into_bytes(scratch)));
     }
@@ -93,20 +94,27 @@ fn begin(
     }
 }
 
-// Takes a piece that was missing into its message, and answers whether all pieces are there.
-fn take_missing(table: &mut LruCache<FragHead, Partial>, piece: &Piece, bytes: &[u8]) -> bool
+// Takes a piece that was missing into its message, which comes to the front, and answers whether all pieces are there.
+fn take_missing(
+    table: &mut LruCache<FragHead, Partial>,
+    piece: &Piece,
+    bytes: &[u8],
+) -> Result<bool, AllocError>
     requires missing { next_step piece.now (message_of piece.now table.old.entries) ≡ NextStep.Advance }
     requires fits { FitsIn piece.now (length bytes.now) }
-    ensures taken { IsTaken piece.now bytes.now table.old.entries result table.new.entries }
+    ensures taken { IfOk result (λ complete. IsTaken piece.now bytes.now table.old.entries complete table.new.entries) }
+    ensures refused { OnErr result (table.new ≡ table.old) }
     ensures cap { table.new.cap ≡ table.old.cap }
 {
-    match table.get_mut(&piece.head) {
+    let complete = match table.peek_mut(&piece.head) {
         Some(partial) => {
-            partial.take(piece.index, bytes);
+            partial.take(piece.index, bytes)?;
             partial.is_whole()
         }
         None => unreachable!(),
-    }
+    };
+    table.promote(&piece.head);
+    Ok(complete)
 }
 
 // Takes a piece that was missing.
@@ -115,20 +123,21 @@ fn advance(
     scratch: &mut Vec<u8>,
     piece: &Piece,
     bytes: &[u8],
-) -> Joined
+) -> Result<Joined, AllocError>
     requires missing { next_step piece.now (message_of piece.now table.old.entries) ≡ NextStep.Advance }
     requires room { message_limit ≤ vec_capacity scratch.old }
     requires fits { FitsIn piece.now (length bytes.now) }
-    ensures taken { step result table.new.entries
-        ≡ take_piece piece.now bytes.now table.old.entries (entry_of piece.now table.old.entries) }
+    ensures taken { IfOk result (λ answer. step answer table.new.entries
+        ≡ take_piece piece.now bytes.now table.old.entries (entry_of piece.now table.old.entries)) }
+    ensures refused { OnErr result (table.new ≡ table.old) }
     ensures cap { table.new.cap ≡ table.old.cap }
     ensures room { message_limit ≤ vec_capacity scratch.new }
 {
-    if !take_missing(table, piece, bytes) {
-        return Joined::Kept;
+    if !take_missing(table, piece, bytes)? {
+        return Ok(Joined::Kept);
     }
     match table.pop(&piece.head) {
-        Some(partial) => Joined::Whole(partial.into_bytes(scratch)),
+        Some(partial) => Ok(Joined::Whole(partial.into_bytes(scratch))),
         None => unreachable!(),
     }
 }
@@ -147,7 +156,8 @@ fn take_piece(
     ensures taken { IfOk result (λ answer. step answer table.new.entries
         ≡ take_piece piece.now bytes.now table.old.entries (entry_of piece.now table.old.entries)) }
     ensures refused { OnErr result (table.new ≡ table.old) }
-    ensures first { IsErr result → entry_of piece.now table.old.entries ≡ None }
+    ensures memory { OnErr result
+        (is_taken (take_piece piece.now bytes.now table.old.entries (entry_of piece.now table.old.entries)).answer ≡ true) }
     ensures cap { table.new.cap ≡ 64 }
     ensures room { message_limit ≤ vec_capacity scratch.new }
 {
@@ -158,7 +168,7 @@ fn take_piece(
             table.promote(&piece.head);
             Ok(Joined::Repeated)
         }
-        NextStep::Advance => Ok(advance(table, scratch, piece, bytes)),
+        NextStep::Advance => advance(table, scratch, piece, bytes),
     }
 }
 
@@ -173,11 +183,11 @@ impl Joiner {
         Ok(Joiner { table, scratch })
     }
 
-    /// Takes a datagram. Only the first piece of a message needs memory, all that the message needs.
+    /// Takes a datagram. Memory is needed only for a piece that is taken, and without it nothing has changed.
     pub fn join(&mut self, alloc: Global, datagram: &[u8]) -> Result<Joined, AllocError>
         ensures answer { IfOk result (λ answer. step answer self.new ≡ join datagram.now self.old) }
         ensures out_of_memory { OnErr result (self.new ≡ self.old) }
-        ensures first { IsErr result → IsBeginning datagram.now self.old }
+        ensures memory { OnErr result (is_taken (join datagram.now self.old).answer ≡ true) }
     {
         match piece_in(datagram) {
             Ok(piece) => {

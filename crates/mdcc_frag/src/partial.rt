@@ -1,8 +1,9 @@
 //! A message of which some pieces came.
-ghost use Rattle.std.specs.Prelude.{◌≡◌, ◌≤◌, ◌<◌, ◌+◌, ◌*◌, ◌++◌, length, take, drop, vec_len, vec_capacity, true, false, IfOk};
+ghost use Rattle.std.specs.Prelude.{◌≡◌, ◌≤◌, ◌<◌, ◌+◌, ◌*◌, ◌++◌, length, take, drop, min, max, vec_len, vec_capacity, true, false, IfOk, OnOk, OnErr};
 ghost use Rattle.mdcc_frag.specs.Datagrams.{message_limit, count};
 ghost use Rattle.mdcc_frag.specs.Partial.{nothing_of, overwritten, with_piece, is_held, is_whole};
-ghost use Rattle.mdcc_frag.specs.Arrivals.{placed, are_laid};
+ghost use Rattle.mdcc_frag.specs.Arrivals.{placed, are_laid, in_order};
+ghost use Rattle.mdcc_frag.specs.Reading.{piece_length};
 
 use crate::datagrams::count;
 use mdcc_base::HeapList;
@@ -16,8 +17,8 @@ pub struct Arrival {
     pub size: u16,
 }
 
-/// A message of which some pieces came. It has room for all of them, and keeps them in the order in which they came, so that
-/// nothing is written for a piece that did not come.
+/// A message of which some pieces came. It keeps them in the order in which they came, and takes memory as they come: at most
+/// twice what came, and a flag for each piece of the message.
 #[derive(Drop)]
 pub struct Partial {
     total: usize,
@@ -62,20 +63,47 @@ fn place(arrivals: &[Arrival], pieces: &[u8], bytes: &mut Vec<u8>)
     }
 }
 
+// Whether each piece lies right behind the one before.
+fn are_in_order(arrivals: &[Arrival]) -> bool
+    ensures { result ≡ in_order 0 arrivals.now }
+{
+    let mut offset = 0usize;
+    for arrival in arrivals {
+        if 1383 * arrival.index as usize != offset {
+            return false;
+        }
+        offset = 1383 * arrival.index as usize + arrival.size as usize;
+    }
+    true
+}
+
+// Makes room for so many bytes more: for as many again behind them, but for no more than the message has.
+fn make_room(pieces: &mut Vec<u8>, more: usize, total: usize) -> Result<(), AllocError>
+    requires within { vec_len pieces.old + more ≤ total }
+    requires short { total ≤ message_limit }
+    ensures items { pieces.new.items ≡ pieces.old.items }
+    ensures room { OnOk result (vec_len pieces.new + more ≤ vec_capacity pieces.new) }
+    ensures bounded { vec_capacity pieces.new ≤ max (vec_capacity pieces.old) (min total (2 * (vec_len pieces.old + more))) }
+{
+    let size = pieces.len();
+    if size + more <= pieces.capacity() {
+        return Ok(());
+    }
+    let most = total.min(2 * (size + more));
+    pieces.reserve_exact(most - size)
+}
+
 impl Partial {
     /// A message of this length, of which no piece came.
     pub fn new(alloc: Global, total: usize) -> Result<Partial, AllocError>
         requires { total ≤ message_limit }
         ensures { IfOk result (λ partial. partial ≡ nothing_of total) }
     {
-        let count = count(total) as usize;
-        let pieces = Vec::with_capacity(alloc, 1383 * count)?;
-        let arrivals = Vec::with_capacity(alloc, count)?;
-        let held = Vec::from_elem(alloc, false, count)?;
+        let held = Vec::from_elem(alloc, false, count(total) as usize)?;
         Ok(Partial {
             total,
-            pieces,
-            arrivals,
+            pieces: Vec::new(alloc),
+            arrivals: Vec::new(alloc),
             held,
         })
     }
@@ -97,18 +125,21 @@ impl Partial {
         }
     }
 
-    /// Takes the piece of this index, which did not come yet.
-    pub fn take(&mut self, index: u16, piece: &[u8])
+    /// Takes the piece of this index, which did not come yet. Without memory nothing has changed.
+    pub fn take(&mut self, index: u16, piece: &[u8]) -> Result<(), AllocError>
         requires index { index < count (length self.old.bytes) }
         requires missing { is_held index self.old ≡ false }
-        requires within { 1383 * index + length piece.now ≤ length self.old.bytes }
-        requires short { length piece.now ≤ 1383 }
-        ensures { self.new ≡ with_piece index piece.now self.old }
+        requires size { length piece.now ≡ piece_length (length self.old.bytes) index }
+        ensures taken { OnOk result (self.new ≡ with_piece index piece.now self.old) }
+        ensures out_of_memory { OnErr result (self.new ≡ self.old) }
     {
+        self.arrivals.reserve(1)?;
+        make_room(&mut self.pieces, piece.len(), self.total)?;
+        self.pieces.extend_from_slice(piece)?;
         let size = piece.len() as u16;
         self.arrivals.push_reserved(Arrival { index, size });
-        let _written = self.pieces.extend_from_slice(piece).is_ok();
         self.held[index as usize] = true;
+        Ok(())
     }
 
     /// Whether all pieces came.
@@ -118,9 +149,10 @@ impl Partial {
         self.arrivals.len() == self.held.len()
     }
 
-    /// The bytes of the message, which are put together in the other buffer.
+    /// The bytes of a message all of whose pieces came. They are put together in the other buffer unless they came in order.
     pub fn into_bytes(self, scratch: &mut Vec<u8>) -> HeapList<u8>
-        requires { message_limit ≤ vec_capacity scratch.old }
+        requires whole { is_whole self ≡ true }
+        requires room { message_limit ≤ vec_capacity scratch.old }
         ensures bytes { result ≡ self.bytes }
         ensures room { message_limit ≤ vec_capacity scratch.new }
     {
@@ -130,6 +162,9 @@ impl Partial {
             arrivals,
             held: _,
         } = self;
+        if are_in_order(&arrivals) {
+            return HeapList::from_vec(pieces);
+        }
         scratch.clear();
         let _cleared = scratch.resize(total, 0).is_ok();
         place(&arrivals, &pieces, scratch);

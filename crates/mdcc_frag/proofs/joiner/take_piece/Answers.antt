@@ -1,11 +1,14 @@
 use Rattle.std.proofs.Common.{◌∙◌, ap, sym}
 use Rattle.mdcc_frag.specs.Joining.{step}
 use Rattle.mdcc_frag.specs.declared.joined.Joined.TheVariants.{Repeated}
-use Rattle.mdcc_frag.proofs.Entries.{absent, repeated, disagreed}
+use Rattle.mdcc_frag.proofs.Entries.{on_err, begin_taken, advance_taken, repeated, disagreed}
 use Rattle.mdcc_frag.proofs.joiner.take_piece.Goals as goal
 
-pub returns-in-Begin-clause-first : goal.returns-in-Begin-clause-first
-returns-in-Begin-clause-first c = λ _. absent c.args.piece.now c.args.table.now.entries c.in-Begin.ensures
+pub returns-in-Begin-clause-memory : goal.returns-in-Begin-clause-memory
+returns-in-Begin-clause-memory c = on_err _ (begin_taken c.args.piece.now c.args.bytes.now c.args.table.now.entries c.in-Begin.ensures)
+
+pub returns-in-Advance-clause-memory : goal.returns-in-Advance-clause-memory
+returns-in-Advance-clause-memory c = on_err _ (advance_taken c.args.piece.now c.args.bytes.now c.args.table.now.entries c.in-Advance.ensures)
 
 pub returns-in-Disagree-clause-taken : goal.returns-in-Disagree-clause-taken
 returns-in-Disagree-clause-taken c =
