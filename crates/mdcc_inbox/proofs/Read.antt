@@ -1,23 +1,13 @@
 -- A message and the bytes that it is read from.
-use Rattle.std.proofs.Common.{◌≡◌, ◌≤◌, ℕ, List, Result, Ok, Err, ap, arith, length}
+use Rattle.std.proofs.Common.{◌≡◌, ◌≤◌, ℕ, List, Ok, ap, arith, length}
 use Rattle.mdcc_messages.specs.Lengths.{message_length}
 use Rattle.mdcc_messages.specs.Reading.{view_of}
-use Rattle.mdcc_messages.specs.ReadingSteps.{◌>>=◌}
 use Rattle.mdcc_messages.specs.Spelling.{message_bytes}
 use Rattle.mdcc_messages.specs.WellFormed.{IsWellFormedEnvelope}
 use Rattle.mdcc_messages.specs.declared.messages.Envelope.{Envelope}
-use Rattle.mdcc_messages.specs.declared.wire.WireFault.{WireFault}
 use Rattle.mdcc_spelling.proofs.Lengths.{length-message}
 use Rattle.mdcc_spelling.proofs.Places.{IsBytes}
 use Rattle.mdcc_spelling.proofs.Whole.{message_takes}
-use Rattle.mdcc_wire.specs.Views.{viewed}
-
-by_read : (bytes view : List ℕ) (r : Result Envelope WireFault) → (r >>= λ envelope. Ok bytes) ≡ Ok view → view ≡ bytes
-by_read bytes view (Ok envelope) is = cc
-by_read bytes view (Err fault) is = absurd (cc)
-
-pub same_view : (bytes view : List ℕ) → viewed bytes ≡ Ok view → view ≡ bytes
-same_view bytes view is = by_read bytes view (view_of bytes) is
 
 -- what is read is well-formed, and has as many bytes
 pub sound_read : (bytes : List ℕ) (envelope : Envelope) → IsBytes bytes → length bytes ≤ 2097152 → view_of bytes ≡ Ok envelope

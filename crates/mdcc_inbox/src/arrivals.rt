@@ -9,8 +9,8 @@ ghost use Rattle.mdcc_runs.specs.Arrivals.{arrival_of, message_in};
 
 use mdcc_base::Memory;
 use mdcc_frag::{Joined, Joiner};
-use mdcc_messages::Envelope;
-use mdcc_wire::view;
+use mdcc_messages::{Envelope, WireFault};
+use mdcc_wire::read_envelope;
 use std::alloc::Global;
 
 /// What a datagram brings to an endpoint.
@@ -30,11 +30,9 @@ fn read_message(alloc: Global, bytes: &[u8], into: &mut Envelope) -> Result<Foun
     ensures sound { IfOk result (λ found. IsSound found into.new) }
     ensures seen { IfOk result (λ found. seen found into.new ≡ message_in (view_of bytes.now)) }
 {
-    match view(bytes) {
-        Ok(viewed) => {
-            viewed.read_into(alloc, into)?;
-            Ok(Found::Message)
-        }
+    match read_envelope(alloc, bytes, into) {
+        Ok(()) => Ok(Found::Message),
+        Err(WireFault::Memory) => Err(Memory),
         Err(_) => Ok(Found::Refused),
     }
 }

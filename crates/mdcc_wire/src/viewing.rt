@@ -104,8 +104,9 @@ pub fn view(bytes: &[u8]) -> Result<Viewed<'_>, WireFault>
     }
 }
 
-// Reads the message that the bytes spell into a place.
-fn read_envelope(alloc: Global, bytes: &[u8], into: &mut Envelope) -> Result<(), WireFault>
+/// Reads the message that the bytes spell into a place, in one pass. Else the fault at the first byte in reading order that is not of
+/// the grammar, or no memory; what stands in the place is of no use then.
+pub fn read_envelope(alloc: Global, bytes: &[u8], into: &mut Envelope) -> Result<(), WireFault>
     ensures { GivesUnless is_wire_memory (placed_whole result into.new) (view_of bytes.now) }
 {
     let (_format, after) = known_at(1, bytes, 0)?;
