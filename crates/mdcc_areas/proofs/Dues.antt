@@ -44,21 +44,28 @@ mixed_read area log p current other (inr is) idle =
     inr (current_is_read area (appended log p) current other is idle ∙ ap (λ (l : List (List ℕ)). let ok : Result (List (List ℕ)) ℕ = Ok l in ok) (appended_payloads log p))
 
 module _ {D : Type 0} (disk : D → ℕ → Disk) (may_leave : D → ℕ → List ℕ → Type 0) (moment : D → ℕ) (left_since : D → ℕ → ℕ → List ℕ → Type 0) (only_now : (disks : D) (p : ℕ) (c : List ℕ) → left_since disks p (moment disks) c → may_leave disks p c) where
-  module _ (old mid : D) (frames : OpenAreas) (log : AreaLog) (p : List ℕ) (uses : frames.generation ≡ generation_of log.head) (beside : KeepsOthers disk may_leave moment left_since old mid (place_of frames.centre frames.area))
+  -- the other area, where the log in use becomes a later one
+  module _ (old mid : D) (frames : OpenAreas) (log : AreaLog) (uses : frames.generation ≡ generation_of log.head) (beside : KeepsOthers disk may_leave moment left_since old mid (place_of frames.centre frames.area))
       (spare : IsSpare frames (disk old (place_of frames.centre (other_of frames.area))).bytes (may_leave old (place_of frames.centre (other_of frames.area))))
     where
       abbrev other_place : ℕ
       other_place = place_of frames.centre (other_of frames.area)
 
-      still_idle : Within (IsIdle (appended log p)) (may_leave old (place_of frames.centre (other_of frames.area)))
-      still_idle c now = subst (IsIdle (appended log p)) (sym (spare.durable c now)) (of_both spare.idle)
+      still_idle : Within (IsIdle log) (may_leave old (place_of frames.centre (other_of frames.area)))
+      still_idle c now = subst (IsIdle log) (sym (spare.durable c now)) (of_both spare.idle)
         where
-          of_both : IsDead (disk old other_place).bytes ⊎ IsOlder frames.generation (disk old other_place).bytes → IsIdle (appended log p) (disk old other_place).bytes
+          of_both : IsDead (disk old other_place).bytes ⊎ IsOlder frames.generation (disk old other_place).bytes → IsIdle log (disk old other_place).bytes
           of_both (inl dead) = inl dead
           of_both (inr older) = inr (inl (subst (λ (n : ℕ). IsOlder n (disk old other_place).bytes) uses older))
 
+      pub idle_moment : LeavesOnly moment left_since old mid (place_of frames.centre (other_of frames.area)) (IsIdle log)
+      idle_moment = moment_beside disk may_leave moment left_since only_now old mid (place_of frames.centre (other_of frames.area)) (place_of frames.centre frames.area) (IsIdle log) (λ same. apart_areas frames.centre frames.area (sym same)) beside still_idle
+
+  module _ (old mid : D) (frames : OpenAreas) (log : AreaLog) (p : List ℕ) (uses : frames.generation ≡ generation_of log.head) (beside : KeepsOthers disk may_leave moment left_since old mid (place_of frames.centre frames.area))
+      (spare : IsSpare frames (disk old (place_of frames.centre (other_of frames.area))).bytes (may_leave old (place_of frames.centre (other_of frames.area))))
+    where
       pub other_moment : LeavesOnly moment left_since old mid (place_of frames.centre (other_of frames.area)) (IsIdle (appended log p))
-      other_moment = moment_beside disk may_leave moment left_since only_now old mid (place_of frames.centre (other_of frames.area)) (place_of frames.centre frames.area) (IsIdle (appended log p)) (λ same. apart_areas frames.centre frames.area (sym same)) beside still_idle
+      other_moment = idle_moment old mid frames (appended log p) uses beside spare
 
       -- where nothing was copied
       pub append_reads : LeavesOnly moment left_since old mid (place_of frames.centre frames.area) (IsBetween frames.area log p) → (current other : List ℕ)
@@ -90,11 +97,12 @@ module _ {D : Type 0} (disk : D → ℕ → Disk) (may_leave : D → ℕ → Lis
 
   -- ---- at rest
 
-  pub rested_more : (old mid : D) (frames more : OpenAreas) (p : List ℕ) (all : List (List ℕ)) (rest : IsAtRest disk may_leave old frames all) → more.centre ≡ frames.centre → more.area ≡ frames.area → more.generation ≡ frames.generation → more.spare ≡ frames.spare
+  pub rested_later : (old mid : D) (frames more : OpenAreas) (group all : List (List ℕ)) (rest : IsAtRest disk may_leave old frames all) (later : AreaLog) → payloads_of later ≡ payloads_of rest.log ++ group
+      → more.centre ≡ frames.centre → more.area ≡ frames.area → more.generation ≡ frames.generation → more.spare ≡ frames.spare
       → KeepsOthers disk may_leave moment left_since old mid (place_of frames.centre frames.area)
-      → IsInUse more (appended rest.log p) (disk mid (place_of frames.centre frames.area)).bytes (may_leave mid (place_of frames.centre frames.area))
-      → IsAtRest disk may_leave mid more (all ++ p ∷ [])
-  rested_more old mid frames more p all rest centre_is area_is generation_is spare_is beside used =
+      → IsInUse more later (disk mid (place_of frames.centre frames.area)).bytes (may_leave mid (place_of frames.centre frames.area))
+      → IsAtRest disk may_leave mid more (all ++ group)
+  rested_later old mid frames more group all rest later grown centre_is area_is generation_is spare_is beside used =
       let other = place_of frames.centre (other_of frames.area) in
       let apart : other ≢ place_of frames.centre frames.area = λ same. apart_areas frames.centre frames.area (sym same) in
       let here : place_of more.centre more.area ≡ place_of frames.centre frames.area = ap (λ (n : ℕ). place_of n more.area) centre_is ∙ ap (place_of frames.centre) area_is in
@@ -106,12 +114,18 @@ module _ {D : Type 0} (disk : D → ℕ → Disk) (may_leave : D → ℕ → Lis
         durable = λ c now. rest.spare.durable c (beside.crash other apart c now) ∙ sym same;
       } in
       record {
-        log = appended rest.log p;
+        log = later;
         range = subst (λ (n : ℕ). n ≤ 1) (sym area_is) rest.range;
-        payloads_are = ap (λ (l : List (List ℕ)). l ++ p ∷ []) rest.payloads_are ∙ sym (appended_payloads rest.log p);
-        in_use = subst (λ (q : ℕ). IsInUse more (appended rest.log p) (disk mid q).bytes (may_leave mid q)) (sym here) used;
+        payloads_are = ap (λ (l : List (List ℕ)). l ++ group) rest.payloads_are ∙ sym grown;
+        in_use = subst (λ (q : ℕ). IsInUse more later (disk mid q).bytes (may_leave mid q)) (sym here) used;
         spare = subst (λ (q : ℕ). IsSpare more (disk mid q).bytes (may_leave mid q)) (sym there) spare;
       }
+
+  pub rested_more : (old mid : D) (frames more : OpenAreas) (p : List ℕ) (all : List (List ℕ)) (rest : IsAtRest disk may_leave old frames all) → more.centre ≡ frames.centre → more.area ≡ frames.area → more.generation ≡ frames.generation → more.spare ≡ frames.spare
+      → KeepsOthers disk may_leave moment left_since old mid (place_of frames.centre frames.area)
+      → IsInUse more (appended rest.log p) (disk mid (place_of frames.centre frames.area)).bytes (may_leave mid (place_of frames.centre frames.area))
+      → IsAtRest disk may_leave mid more (all ++ p ∷ [])
+  rested_more old mid frames more p all rest = rested_later old mid frames more (p ∷ []) all rest (appended rest.log p) (appended_payloads rest.log p)
 
   pub rested_packed : (mid new : D) (frames more : OpenAreas) (all : List (List ℕ)) (rest : IsAtRest disk may_leave mid frames all) → more.centre ≡ frames.centre → more.area ≡ other_of frames.area
       → IsInUse more (packed rest.log) (disk new (place_of frames.centre (other_of frames.area))).bytes (may_leave new (place_of frames.centre (other_of frames.area)))

@@ -8,6 +8,7 @@ mod Copies
 pub mod Dues
 pub mod Followed
 mod Gates
+pub mod Groups
 mod Idles
 mod Joined
 mod Keeps

@@ -1,6 +1,7 @@
 -- What an append does to the end of an area.
-use Rattle.std.specs.Prelude.{◌≡◌, ◌⊎◌, ℕ, List, [], ◌∷◌, ◌++◌, length}
-use Rattle.mdcc_disks.specs.Disks.{Only}
+use Rattle.std.specs.Prelude.{◌≡◌, ◌⊎◌, ◌-◌, ℕ, List, [], ◌∷◌, ◌++◌, length}
+use Rattle.mdcc_disks.specs.Disks.{DiskCall, Only}
+use Rattle.mdcc_disks.specs.Disks.DiskCall.{Write, Sync}
 use Rattle.mdcc_log.specs.Log.{frame_body}
 
 -- Behind this front stands a closed gate and nothing else, all of it durable.
@@ -9,7 +10,15 @@ pub record IsAtEnd (front : List ℕ) (size : ℕ) (bytes : List ℕ) (may_leave
   pub counted : size ≡ length bytes
   pub durable : Only bytes may_leave
 
--- what a crash may leave while a payload is appended behind this front: a closed gate with anything behind it, or its frame with
--- a gate that may hold anything
+-- what a crash may leave while these bytes are written behind this front with an open gate: a closed gate with anything behind it, or
+-- the bytes with a gate that may hold anything
+abbrev pub MayStandBehind : List ℕ → List ℕ → List ℕ → Type 0
+MayStandBehind front inner c = ((rest : List ℕ) × (c ≡ front ++ 0 ∷ rest)) ⊎ ((gate : ℕ) × (c ≡ front ++ gate ∷ (inner ++ 0 ∷ [])))
+
+-- so it is while a payload is appended
 abbrev pub MayAppend : List ℕ → List ℕ → List ℕ → Type 0
-MayAppend front payload c = ((rest : List ℕ) × (c ≡ front ++ 0 ∷ rest)) ⊎ ((gate : ℕ) × (c ≡ front ++ gate ∷ (frame_body payload ++ 0 ∷ [])))
+MayAppend front payload = MayStandBehind front (frame_body payload)
+
+-- the calls of it: the bytes behind the closed gate, with a closed gate behind them; and then the gate is opened
+abbrev pub behind_calls : ℕ → List ℕ → List DiskCall
+behind_calls size bytes = Write size bytes ∷ Sync ∷ Write (size - 1) (1 ∷ []) ∷ Sync ∷ []

@@ -7,6 +7,7 @@ pub mod Copying
 pub mod Crash
 pub mod Examples
 pub mod Frames
+pub mod Groups
 pub mod Invariant
 pub mod Kept
 pub mod Opening

@@ -15,7 +15,7 @@ ghost use Rattle.mdcc_areas.specs.Opening.{IsFound, IsOpened, IsTaken, OpensOne}
 ghost use Rattle.mdcc_areas.specs.Checkpoint.{head_size, left_area};
 
 use crate::LogFault;
-use crate::append::{append_frame, lay_out};
+use crate::append::{append_behind, lay_out};
 use crate::area::Spare;
 use crate::checkpoint::{Whole, copy_area};
 use crate::opening::{AreaRead, open_areas};
@@ -73,7 +73,7 @@ pub(crate) fn place_of(centre: u8, area: u8) -> u8
 }
 
 // Whether these bytes are more than a log has.
-fn passes_limit(bytes: u64, length: u64, more: u64) -> bool
+pub(crate) fn passes_limit(bytes: u64, length: u64, more: u64) -> bool
     ensures { IsTrue result ↔ (log_limit < bytes + length + more) }
 {
     bytes.saturating_add(length).saturating_add(more) > LOG_LIMIT
@@ -283,7 +283,7 @@ impl Frames {
         }
         lay_out(&mut self.buffer, payload);
         let place = place_of(self.centre, self.area);
-        append_frame(disks, place, self.size, payload, &self.buffer)?;
+        append_behind(disks, place, self.size, &self.buffer)?;
         self.count += 1;
         self.tail += 1;
         self.body += more - 1;

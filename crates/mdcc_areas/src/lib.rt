@@ -8,6 +8,7 @@ mod copying;
 pub mod due;
 pub mod fault;
 pub mod frames;
+pub mod group;
 pub mod laws;
 mod opening;
 mod reading;

@@ -3,3 +3,5 @@
 
 #[cfg(test)]
 mod areas;
+#[cfg(test)]
+mod groups;
