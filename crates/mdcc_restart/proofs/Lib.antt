@@ -1,4 +1,5 @@
 pub mod Appended
+mod Groups
 pub mod Kept
 pub mod Loaded
 pub mod Logged
