@@ -1,6 +1,7 @@
 -- The datagrams that wait, and the pieces that they are.
 use Rattle.std.proofs.Common.{◌≡◌, inl, inr, ℕ, ◌==◌, List, [], ◌∷◌, ◌++◌, length, map, find, Option, Some, None, sym, ◌∙◌, ap, refl, subst, arith}
 use Rattle.std.specs.Option.{option_map}
+use Rattle.std.specs.Prelude.{is_some}
 use Rattle.std.proofs.lemmas.Grind.{common_steps}
 use Rattle.std.proofs.lemmas.Bool.{cases_Bool}
 use Rattle.mdcc_link.specs.declared.stored.Piece.{Piece}
@@ -22,6 +23,13 @@ first_waiting at pool (p ∷ ps) = elim (cases_Bool (p.at == at)) [
   | inl here ↦ grind (arith, common_steps, here)
   | inr elsewhere ↦ grind (arith, common_steps, elsewhere, first_waiting at pool ps)
 ]
+
+pub piece_waits : (at : ℕ) (pool : List ℕ) (queue : List Pending) → is_some (option_map (λ p. p.piece) (find (λ p. p.at == at) queue)) ≡ is_some (first_at at (map (waiting_in pool) queue))
+piece_waits at pool queue = whichever (find (λ p. p.at == at) queue) ∙ ap is_some (sym (first_waiting at pool queue))
+  where
+    whichever : (o : Option Pending) → is_some (option_map (λ p. p.piece) o) ≡ is_some (option_map (λ p. bytes_of p.piece pool) o)
+    whichever None = refl
+    whichever (Some p) = refl
 
 pub arrived_waiting : (at : Option ℕ) (piece : Piece) (queue later : List Pending) (pool grown more : List ℕ) (bytes : List ℕ) → AreWithin (λ (p : Pending). p.piece) (length pool) queue
     → grown ≡ pool ++ more → later ≡ pending_after at piece queue → bytes_of piece grown ≡ bytes

@@ -49,4 +49,8 @@ pub trait Link {
         ensures cause { HasCause (faults self.old) (faults self.new) result }
         ensures only { OnOk result (faults self.new ≡ faults self.old) }
         ensures sends { lost self.new ≡ lost self.old };
+
+    /// Whether a datagram is known to wait at the endpoint, so that the next receive there need not wait. It is no call: nothing is
+    /// taken, and nothing of it is recorded.
+    fn waits(&self, at: u8) -> bool;
 }

@@ -1,11 +1,11 @@
 //! A link in memory.
-ghost use Rattle.std.specs.Prelude.{◌≡◌, ◌≤◌, ◌+◌, length, slice_get, if◌then◌else◌, IsOk, IfOk, OnOk, OnErr};
+ghost use Rattle.std.specs.Prelude.{◌≡◌, ◌≤◌, ◌+◌, length, slice_get, if◌then◌else◌, is_some, IsOk, IfOk, OnOk, OnErr};
 ghost use Rattle.std.specs.Option.{option_map};
 ghost use Rattle.mdcc_base.specs.Causes.{HasCause};
 ghost use Rattle.mdcc_base.specs.Scripts.{one_more};
 ghost use Rattle.mdcc_link.specs.Link.{AddsCall, ReceivesAtMost, brought};
 ghost use Rattle.mdcc_link.specs.Link.LinkCall.{Bind, Send, Receive};
-ghost use Rattle.mdcc_link.specs.Memory.{IsBut, MakesCall, Brings, new_link, after_put, missed, missed_send, is_next_listed, answer_of, bind_call, send_call, receive_answer, receive_part, receive_call, told_calls};
+ghost use Rattle.mdcc_link.specs.Memory.{IsBut, MakesCall, Brings, new_link, after_put, missed, missed_send, is_next_listed, answer_of, bind_call, first_at, send_call, receive_answer, receive_part, receive_call, told_calls};
 
 use crate::stored::Stored;
 use crate::{Link, Received};
@@ -211,5 +211,11 @@ impl Link for MemoryLink {
             return Err(Failed);
         }
         Ok(self.stored.receive(at, into))
+    }
+
+    fn waits(&self, at: u8) -> bool
+        ensures { result ≡ is_some (first_at at self.now.waiting) }
+    {
+        self.stored.waits(at)
     }
 }

@@ -1,5 +1,5 @@
 //! The calls of a link in memory, and its datagrams.
-ghost use Rattle.std.specs.Prelude.{◌≡◌, ◌≤◌, ◌<◌, ◌+◌, ◌-◌, ◌++◌, ◌∷◌, ◌==◌, [], length, min, map, take, drop, find, position, slice_get, vec_len, vec_capacity, false, Some, None, Ok, Err, IsOk, IfSome, OnOk, OnErr};
+ghost use Rattle.std.specs.Prelude.{◌≡◌, ◌≤◌, ◌<◌, ◌+◌, ◌-◌, ◌++◌, ◌∷◌, ◌==◌, [], length, min, map, take, drop, find, position, slice_get, vec_len, vec_capacity, false, is_some, Some, None, Ok, Err, IsOk, IfSome, OnOk, OnErr};
 ghost use Rattle.std.specs.Option.{option_map};
 ghost use Rattle.mdcc_link.specs.Link.LinkCall.{Bind, Send, Receive};
 ghost use Rattle.mdcc_link.specs.Memory.{address_eq, endpoint_of, first_at, without_first, arrived, found_of, part_of, bound_after, sent_after, waiting_after, Brings};
@@ -119,6 +119,14 @@ fn first_index(queue: &[Pending], at: u8) -> Option<usize>
     ensures within { IfSome result (λ i. i < length queue.now) }
 {
     queue.iter().position(|pending| pending.at == at)
+}
+
+// The first piece that waits at the endpoint.
+fn first_piece(queue: &[Pending], at: u8) -> Option<Piece>
+    ensures { result ≡ option_map (λ p. p.piece) (find (λ p. p.at == at) queue.now) }
+{
+    let first = queue.iter().find(|pending| pending.at == at)?;
+    Some(first.piece)
 }
 
 // Takes the first one that waits at the endpoint.
@@ -318,6 +326,13 @@ impl Stored {
                 Received::Nothing
             }
         }
+    }
+
+    /// Whether a datagram waits at the endpoint.
+    pub fn waits(&self, at: u8) -> bool
+        ensures { result ≡ is_some (first_at at self.now.waiting) }
+    {
+        first_piece(self.queue.as_slice(), at).is_some()
     }
 
     /// The datagram that was sent after so many others.

@@ -97,6 +97,13 @@ impl<'a, R: Net> UdpLink<'a, R> {
         }
     }
 
+    // Whether the endpoint has a datagram to read now, with no wait. Without a socket, or after an error, it has none.
+    fn has_datagram(&self, at: u8) -> bool {
+        let mut requests = [self.request(at)];
+        let ready = system::poll(&mut requests, 0);
+        ready > 0 && requests[0].revents & system::POLLIN != 0
+    }
+
     // Takes what waits at the endpoint, or what comes before the wait is over.
     fn take_in_time(&self, at: u8, into: &mut [u8]) -> Option<Received>
         ensures { IfSome result (λ r. ReceivesAtMost (Ok r) (length into.new)) }
@@ -145,5 +152,9 @@ impl<'a, R: Net> Link for UdpLink<'a, R> {
             self.faults = self.faults.saturating_add(1);
         }
         answer
+    }
+
+    fn waits(&self, at: u8) -> bool {
+        self.has_datagram(at)
     }
 }

@@ -115,14 +115,16 @@ fn calls_by_a_script(rt: HostRuntime) -> Result<(), Fail> {
     Ok(())
 }
 
-// A reserved bind, put, send and receive find memory.
+// A reserved bind, put, send and receive find memory. Asking whether a datagram waits is no call.
 #[test]
 fn reserved_calls(rt: HostRuntime) -> Result<(), Fail> {
     let mut buffer = [0u8; 8];
     let mut link = MemoryLink::new(rt.alloc(), &[])?;
     assert!(rt; link.reserve(4, 7).is_ok());
     assert!(rt; link.bind(17, HERE).is_ok());
+    assert!(rt; !link.waits(17));
     assert!(rt; link.put(17, b"put").is_ok());
+    assert!(rt; link.waits(17) && !link.waits(1));
     assert!(rt; link.send(1, HERE, b"sent").is_ok());
     assert!(rt; link.receive(17, &mut buffer).is_ok());
     Ok(())

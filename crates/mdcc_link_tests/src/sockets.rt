@@ -14,7 +14,7 @@ fn at_port(port: u16) -> Address {
 }
 
 // A datagram from one endpoint to another comes once and whole, a longer one than the buffer comes cut, and one that finds no
-// receiver is no fault then or later.
+// receiver is no fault then or later. Whether one waits is told of each endpoint.
 #[test]
 fn carries_datagrams(rt: HostRuntime) -> Result<(), Fail> {
     let mut buffer = [0u8; 1401];
@@ -24,10 +24,16 @@ fn carries_datagrams(rt: HostRuntime) -> Result<(), Fail> {
     assert!(rt; link.bind(1, at_port(39_302)).is_err());
     assert!(rt; link.bind(2, at_port(39_301)).is_err());
     assert_eq!(rt; link.send(1, at_port(39_317), b"abc"), Ok(()));
+    assert_eq!(rt; link.send(1, at_port(39_317), b"de"), Ok(()));
     assert_eq!(rt; link.receive(17, &mut buffer), Ok(Received::Got(3)));
     assert!(rt; buffer.starts_with(b"abc"));
+    assert!(rt; link.waits(17) && !link.waits(1) && !link.waits(3));
+    assert_eq!(rt; link.receive(17, &mut buffer), Ok(Received::Got(2)));
+    assert!(rt; !link.waits(17));
     assert_eq!(rt; link.send(17, at_port(39_301), b""), Ok(()));
+    assert!(rt; link.waits(1) && !link.waits(17) && !link.waits(3));
     assert_eq!(rt; link.receive(1, &mut buffer), Ok(Received::Got(0)));
+    assert!(rt; !link.waits(1));
     let long = [7u8; 1500];
     assert_eq!(rt; link.send(17, at_port(39_301), &long), Ok(()));
     assert_eq!(rt; link.receive(1, &mut buffer), Ok(Received::Got(1401)));
