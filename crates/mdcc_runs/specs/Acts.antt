@@ -1,5 +1,5 @@
 -- What a server does, one act after another.
-use Rattle.std.specs.Prelude.{Err, List, Ok, Option, Result, [], flat_map, if◌then◌else◌, map, ℕ, ◌==◌, ◌∷◌}
+use Rattle.std.specs.Prelude.{Err, List, Ok, Option, Result, [], flat_map, if◌then◌else◌, map, ℕ, ◌==◌}
 use Rattle.mdcc_base.specs.Counts.{sum_over}
 use Rattle.mdcc_base.specs.declared.faults.Failed.{Failed}
 use Rattle.mdcc_base.specs.declared.outside.Address.{Address}
@@ -12,8 +12,9 @@ pub data Act : Type 0 where
   Bind : (at : ℕ) (address : Address) → Act
   -- a receive at an endpoint gave these bytes, or nothing
   Receive : (at : ℕ) (gave : Option (List ℕ)) → Act
-  -- a fact is appended to the log of a centre and is durable then, and a checkpoint that is due with it is made at once
-  Append : (centre : ℕ) (fact : Fact) → Act
+  -- facts, the oldest first, are appended to the log of a centre together and are durable then, all of them or none, and a checkpoint
+  -- that is due with them is made at once
+  Append : (centre : ℕ) (facts : List Fact) → Act
   -- a datagram is handed to the link, which answers
   Send : (from : ℕ) (to : Address) (bytes : List ℕ) (answer : Result (Unit {0}) Failed) → Act
   -- a line is printed
@@ -27,7 +28,7 @@ pub data Act : Type 0 where
 
 -- the facts that are appended to the log of a centre, in order
 abbrev pub appended_by : ℕ → Act → List Fact
-appended_by a (Act.Append centre fact) = if centre == a then fact ∷ [] else []
+appended_by a (Act.Append centre facts) = if centre == a then facts else []
 appended_by a _ = []
 
 abbrev pub appended : ℕ → List Act → List Fact

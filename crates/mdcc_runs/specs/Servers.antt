@@ -8,7 +8,8 @@ use Rattle.mdcc_protocol.specs.Facts.{epoch_of}
 use Rattle.mdcc_protocol.specs.Volatile.{initial_volatile}
 use Rattle.mdcc_runs.specs.Acts.{Act}
 use Rattle.mdcc_runs.specs.Clients.{no_clients}
-use Rattle.mdcc_runs.specs.Sites.{Site}
+use Rattle.mdcc_runs.specs.Sending.{persist_then_send}
+use Rattle.mdcc_runs.specs.Sites.{Site, nothing_pending}
 use Rattle.mdcc_runs.specs.Turns.{Given, turn_of}
 use Rattle.mdcc_runs.specs.declared.lines.ServerLine.{ServerLine}
 use Rattle.mdcc_rules.specs.Boot.{next_boot}
@@ -33,15 +34,17 @@ abbrev pub site_of : Log → Site
 site_of log = record {
   centre = log.centre;
   node = record { facts = next_boot log.facts ∷ log.facts; volatile = initial_volatile };
+  logged = next_boot log.facts ∷ log.facts;
   sent = 0;
   clients = no_clients;
   own = [];
   asked = [];
+  pending = nothing_pending;
 }
 
 -- one centre after the other appends its boot
 abbrev pub starts : List Log → Server
-starts logs = record { acts = map (λ log. Act.Append log.centre (next_boot log.facts)) logs; sites = map site_of logs }
+starts logs = record { acts = map (λ log. Act.Append log.centre (next_boot log.facts ∷ [])) logs; sites = map site_of logs }
 
 -- ---- its endpoints
 
@@ -78,6 +81,19 @@ after_turn config server given =
     let turn = turns_of config server.sites given in
     record { acts = server.acts ++ turn.acts; sites = turn.sites }
 
+-- what is pending at each centre goes out
+abbrev pub persist_all_then_send : Config → List Site → Server
+persist_all_then_send config [] = record { acts = []; sites = [] }
+persist_all_then_send config (site ∷ sites) =
+    let first = persist_then_send config site in let rest = persist_all_then_send config sites in
+    record { acts = first.acts ++ rest.acts; sites = first.site ∷ rest.sites }
+
+-- after the last turn nothing is pending
+abbrev pub after_last : Config → Server → Server
+after_last config server =
+    let end = persist_all_then_send config server.sites in
+    record { acts = server.acts ++ end.acts; sites = end.sites }
+
 -- the server after these turns
 abbrev pub served : Config → List Log → List (List Given) → Server
-served config logs turns = fold (after_turn config) (opened config logs) turns
+served config logs turns = after_last config (fold (after_turn config) (opened config logs) turns)

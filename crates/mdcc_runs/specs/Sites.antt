@@ -1,19 +1,39 @@
 -- A centre that is served: its node, what stands between it and the outside, and what it does.
-use Rattle.std.specs.Prelude.{List, [], ℕ, ◌++◌}
+use Rattle.std.specs.Prelude.{Bool, List, [], ℕ, ◌++◌}
+use Rattle.mdcc_base.specs.declared.identifiers.TxId.{TxId}
 use Rattle.mdcc_frag.specs.Joining.{Entry}
+use Rattle.mdcc_messages.specs.declared.facts.Fact.{Fact}
+use Rattle.mdcc_messages.specs.declared.messages.Envelope.{Envelope}
 use Rattle.mdcc_runs.specs.Acts.{Act}
 use Rattle.mdcc_runs.specs.Clients.{Clients}
 use Rattle.mdcc_runs.specs.Runs.{NodeState}
+use Rattle.mdcc_runs.specs.declared.pending.Pending.{Pending}
 
--- Its number and its node; how many messages it has sent in this epoch; what its client began; and the messages of which some
--- pieces came, at its own endpoint and at its client's.
+abbrev pub nothing_pending : Pending
+nothing_pending = record { facts = []; envelopes = []; heard = [] }
+
+-- Its number and its node; the facts in its log, the newest first, which are those of its node but for the pending ones; how many messages
+-- it has sent in this epoch; what its client began; the messages of which some pieces came, at its own endpoint and at its client's; and
+-- what is not out yet.
 pub record Site : Type 0 where
   pub centre : ℕ
   pub node : NodeState
+  pub logged : List Fact
   pub sent : ℕ
   pub clients : Clients
   pub own : List Entry
   pub asked : List Entry
+  pub pending : Pending
+
+-- with these facts, messages and outcomes to come out after the others
+abbrev pub queued : Site → List Fact → List Envelope → List (TxId × Bool) → Site
+queued site facts envelopes heard = record site {
+  pending = record {
+    facts = site.pending.facts ++ facts;
+    envelopes = site.pending.envelopes ++ envelopes;
+    heard = site.pending.heard ++ heard;
+  };
+}
 
 -- acts, and the centre afterwards
 pub record Doing : Type 0 where

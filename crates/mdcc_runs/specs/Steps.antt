@@ -3,7 +3,6 @@ use Rattle.std.specs.Prelude.{Bool, Err, List, None, Ok, Option, Result, Some, [
 use Rattle.mdcc_base.specs.declared.identifiers.TxId.{TxId}
 use Rattle.mdcc_base.specs.declared.key.Key.{Key}
 use Rattle.mdcc_config.specs.declared.config.Config.{Config}
-use Rattle.mdcc_messages.specs.declared.facts.Fact.{Fact}
 use Rattle.mdcc_messages.specs.declared.messages.ClientAnswer.{ClientAnswer}
 use Rattle.mdcc_messages.specs.declared.messages.Envelope.{Envelope}
 use Rattle.mdcc_option.specs.Transaction.{transaction_of}
@@ -16,28 +15,20 @@ use Rattle.mdcc_rules.specs.declared.node.StepFault.{StepFault}
 use Rattle.mdcc_runs.specs.Acts.{Act}
 use Rattle.mdcc_runs.specs.Clients.{begun_for, known_of, with_begun, with_end}
 use Rattle.mdcc_runs.specs.Runs.{after_step, listed, step_on}
-use Rattle.mdcc_runs.specs.Sending.{answer_to, message_sent, messages_sent}
-use Rattle.mdcc_runs.specs.Sites.{Doing, Site, after_acts, doing}
+use Rattle.mdcc_runs.specs.Sending.{answer_to}
+use Rattle.mdcc_runs.specs.Sites.{Doing, Site, after_acts, doing, idle, queued}
 use Rattle.mdcc_runs.specs.declared.clients.Begun.{Begun}
-use Rattle.mdcc_runs.specs.declared.lines.ServerLine.{ServerLine}
 
--- ---- how a step goes out
+-- ---- what a step leaves
 
--- the fact goes into the log
-abbrev pub fact_logged : ℕ → Option Fact → List Act
-fact_logged centre None = []
-fact_logged centre (Some fact) = Act.Append centre fact ∷ []
+-- A step leaves its fact, these messages and what is heard by it with what is not out yet.
+abbrev pub step_queued : Site → NodeStep → List Envelope → Doing
+step_queued site step envelopes =
+    idle (queued (record site { node = after_step site.node (Ok step) }) (listed step.fact) envelopes (listed (heard_by step.fact)))
 
--- the line of an outcome that was heard
-abbrev pub heard_printed : ℕ → Option (TxId × Bool) → List Act
-heard_printed centre None = []
-heard_printed centre (Some (tx, is_commit)) = Act.Print (ServerLine.Heard centre tx is_commit) ∷ []
-
--- A step of the node goes out: its fact into the log before all else, then its messages and that to the client, and then its line.
-abbrev pub step_out : Config → Site → NodeStep → Option Envelope → Doing
-step_out config site step reply =
-    let sent = messages_sent config (record site { node = after_step site.node (Ok step) }) (step.sends ++ listed reply) in
-    doing (fact_logged site.centre step.fact ++ (sent.acts ++ heard_printed site.centre (heard_by step.fact))) sent.site
+-- so does an answer to the client that no step made
+abbrev pub answer_queued : Site → ℕ → ClientAnswer → Doing
+answer_queued site serial answer = idle (queued site [] (answer_to site.centre serial answer ∷ []) [])
 
 abbrev pub dropped : Site → Doing
 dropped site = doing (Act.Dropped ∷ []) site
@@ -57,15 +48,16 @@ abbrev pub ends_told : Site → Option (TxId × Bool) → Option Envelope
 ends_told site None = None
 ends_told site (Some (tx, is_commit)) = end_told site.centre tx is_commit (known_of site.clients tx)
 
-abbrev pub input_made : Config → Site → Result NodeStep StepFault → Doing
-input_made config site (Err fault) = dropped site
-input_made config site (Ok step) =
+-- the client is told before the other centres
+abbrev pub input_made : Site → Result NodeStep StepFault → Doing
+input_made site (Err fault) = dropped site
+input_made site (Ok step) =
     let heard = heard_by step.fact in
-    stepped (step_out config (record site { clients = with_end site.clients heard }) step (ends_told site heard))
+    stepped (step_queued (record site { clients = with_end site.clients heard }) step (listed (ends_told site heard) ++ step.sends))
 
 -- a message or a tick
 abbrev pub input_taken : Config → Site → Input → Doing
-input_taken config site input = input_made config site (step_on config.cluster site.centre site.node input)
+input_taken config site input = input_made site (step_on config.cluster site.centre site.node input)
 
 -- ---- reads
 
@@ -74,13 +66,13 @@ reading_told centre serial key (Some (Answer.Read reading)) =
     Some (answer_to centre serial (ClientAnswer.Read key reading.token reading.item reading.due))
 reading_told centre serial key _ = None
 
-abbrev pub read_made : Config → Site → ℕ → Key → Result NodeStep StepFault → Doing
-read_made config site serial key (Err fault) = dropped site
-read_made config site serial key (Ok step) = stepped (step_out config site step (reading_told site.centre serial key step.answer))
+abbrev pub read_made : Site → ℕ → Key → Result NodeStep StepFault → Doing
+read_made site serial key (Err fault) = dropped site
+read_made site serial key (Ok step) = stepped (step_queued site step (step.sends ++ listed (reading_told site.centre serial key step.answer)))
 
 -- the client reads a key
 abbrev pub read_taken : Config → Site → ℕ → Key → Doing
-read_taken config site serial key = read_made config site serial key (step_on config.cluster site.centre site.node (Input.Read key))
+read_taken config site serial key = read_made site serial key (step_on config.cluster site.centre site.node (Input.Read key))
 
 -- ---- begins
 
@@ -93,16 +85,17 @@ abbrev pub begin_noted : Site → ℕ → Option Answer → Site
 begin_noted site serial (Some (Answer.Begun tx)) = record site { clients = with_begun site.clients serial tx }
 begin_noted site serial _ = site
 
-abbrev pub begin_made : Config → Site → ℕ → Result NodeStep StepFault → Doing
-begin_made config site serial (Err fault) = dropped site
-begin_made config site serial (Ok step) =
-    stepped (step_out config (begin_noted site serial step.answer) step (begin_told site.centre serial step.answer))
+-- the other centres are told before the client
+abbrev pub begin_made : Site → ℕ → Result NodeStep StepFault → Doing
+begin_made site serial (Err fault) = dropped site
+begin_made site serial (Ok step) =
+    stepped (step_queued (begin_noted site serial step.answer) step (step.sends ++ listed (begin_told site.centre serial step.answer)))
 
 -- parts that make no transaction are answered without a step
 abbrev pub draft_taken : Config → Site → ℕ → Result (List Part) DraftFault → Doing
-draft_taken config site serial (Err fault) = message_sent config site (answer_to site.centre serial (ClientAnswer.Draft fault))
+draft_taken config site serial (Err fault) = answer_queued site serial (ClientAnswer.Draft fault)
 draft_taken config site serial (Ok parts) =
-    begin_made config site serial (step_on config.cluster site.centre site.node (Input.Begin parts))
+    begin_made site serial (step_on config.cluster site.centre site.node (Input.Begin parts))
 
 -- how it ended, where that was heard
 abbrev pub known_told : TxId → Option Bool → ClientAnswer
@@ -116,7 +109,7 @@ ended (Some begun) = begun.ended
 -- what was begun under this serial is answered again, without a step
 abbrev pub begin_taken_by : Config → Site → ℕ → List Part → Option TxId → Doing
 begin_taken_by config site serial parts (Some tx) =
-    message_sent config site (answer_to site.centre serial (known_told tx (ended (known_of site.clients tx))))
+    answer_queued site serial (known_told tx (ended (known_of site.clients tx)))
 begin_taken_by config site serial parts None = draft_taken config site serial (transaction_of config.cluster.schema parts)
 
 -- the client begins a transaction

@@ -1,5 +1,5 @@
 -- One turn of a centre that is served.
-use Rattle.std.specs.Prelude.{Bool, List, None, Option, Some, [], if◌then◌else◌, is_none, ℕ, ◌&&◌, ◌+◌, ◌∷◌}
+use Rattle.std.specs.Prelude.{Bool, List, None, Option, Some, [], if◌then◌else◌, is_none, length, nat_le, not, ℕ, ◌&&◌, ◌+◌, ◌∷◌}
 use Rattle.mdcc_config.specs.declared.config.Config.{Config}
 use Rattle.mdcc_frag.specs.Joining.{Step, join}
 use Rattle.mdcc_messages.specs.declared.messages.Envelope.{Envelope}
@@ -7,13 +7,16 @@ use Rattle.mdcc_messages.specs.declared.messages.Message.{Message}
 use Rattle.mdcc_rules.specs.declared.node.Input.{Input}
 use Rattle.mdcc_runs.specs.Acts.{Act}
 use Rattle.mdcc_runs.specs.Arrivals.{Arrival, arrival_of, is_for_client}
+use Rattle.mdcc_runs.specs.Sending.{persist_then_send}
 use Rattle.mdcc_runs.specs.Sites.{Doing, Site, after_acts, and_then, idle}
 use Rattle.mdcc_runs.specs.Steps.{begin_taken, dropped, input_taken, read_taken}
+use Rattle.mdcc_runs.specs.declared.pending.Pending.{Pending}
 
--- what its two receives gave: at its own endpoint, and at its client's
+-- what its two receives gave, at its own endpoint and at its client's, and whether the link said after them that a datagram waits at one
 pub record Given : Type 0 where
   pub own : Option (List ℕ)
   pub asked : Option (List ℕ)
+  pub waits : Bool
 
 -- ---- at its own endpoint
 
@@ -66,7 +69,24 @@ is_silent given = is_none given.own && is_none given.asked
 abbrev pub ticked : Config → Given → Site → Doing
 ticked config given site = if is_silent given then input_taken config site Input.Tick else idle site
 
--- What came at its own endpoint is taken, and what it sends is sent, before it receives at its client's.
-abbrev pub turn_of : Config → Site → Given → Doing
-turn_of config site given =
+-- What came at its own endpoint is taken before it receives at its client's.
+abbrev pub inputs_taken : Config → Site → Given → Doing
+inputs_taken config site given =
     and_then (and_then (own_received config site given.own) (λ next. asked_received config next given.asked)) (ticked config given)
+
+-- ---- what goes out
+
+-- after so many pending facts and messages no more inputs are taken before they go out
+abbrev pub pending_limit : ℕ
+pending_limit = 64
+
+abbrev pub is_full : Pending → Bool
+is_full pending = nat_le pending_limit (length pending.facts + length pending.envelopes)
+
+-- Nothing goes out while more waits, so that many facts become durable together.
+abbrev pub released : Config → Given → Site → Doing
+released config given site = if given.waits && not (is_full site.pending) then idle site else persist_then_send config site
+
+-- One turn: what its receives gave, or a tick, and what goes out after it.
+abbrev pub turn_of : Config → Site → Given → Doing
+turn_of config site given = and_then (inputs_taken config site given) (released config given)
