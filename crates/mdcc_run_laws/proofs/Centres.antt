@@ -1,5 +1,5 @@
 -- One centre of a server does its own turns.
-use Rattle.std.proofs.Common.{◌≡◌, ◌≢◌, ℕ, suc, ◌+◌, ◌==◌, true, false, List, [], ◌∷◌, ◌++◌, length, map, get_or, Option, Some, None, refl, sym, ◌∙◌, ap, ap₂, subst, inl, inr, arith, append-nil, append_assoc, flat_map, fold}
+use Rattle.std.proofs.Common.{◌≡◌, ◌≢◌, ℕ, suc, ◌+◌, ◌==◌, Bool, true, false, cond, not, ◌&&◌, List, [], ◌∷◌, ◌++◌, length, map, get_or, Option, Some, None, refl, sym, ◌∙◌, ap, ap₂, subst, inl, inr, arith, append-nil, append_assoc, flat_map, fold}
 use Rattle.std.proofs.lemmas.Bool.{cases_Bool, eqb-true}
 use Rattle.std.proofs.lemmas.Bool.Decides.{nat_tests}
 use Rattle.std.proofs.lemmas.Grind.{flat_map-append}
@@ -10,13 +10,15 @@ use Rattle.mdcc_config.specs.IsConfig.{address_above}
 use Rattle.mdcc_config.specs.declared.config.Config.{Config}
 use Rattle.mdcc_messages.specs.declared.facts.Fact.{Fact}
 use Rattle.mdcc_rules.specs.Boot.{next_boot}
-use Rattle.mdcc_run_laws.proofs.Turned.{turn_runs}
-use Rattle.mdcc_run_laws.specs.Centres.{DoesItsTurns, given_at, turns_at}
-use Rattle.mdcc_run_laws.specs.Inputs.{turns}
+use Rattle.mdcc_run_laws.proofs.Outgoing.{out_shows, out_site}
+use Rattle.mdcc_run_laws.proofs.Turned.{inputs_run}
+use Rattle.mdcc_run_laws.specs.Centres.{DoesItsTurns, given_at}
+use Rattle.mdcc_run_laws.specs.Inputs.{turns_alone}
 use Rattle.mdcc_runs.specs.Acts.{Act, appended, appended_by}
-use Rattle.mdcc_runs.specs.Servers.{Log, Server, after_turn, boot_line, bound_at, endpoints_of, opened, served, site_of, starts, turns_of}
-use Rattle.mdcc_runs.specs.Sites.{Doing, Site}
-use Rattle.mdcc_runs.specs.Turns.{Given, turn_of}
+use Rattle.mdcc_runs.specs.Servers.{Log, Server, after_turn, boot_line, bound_at, endpoints_of, opened, persist_all_then_send, served, site_of, starts, turns_of}
+use Rattle.mdcc_runs.specs.Sending.{persist_then_send}
+use Rattle.mdcc_runs.specs.Sites.{Doing, Site, idle}
+use Rattle.mdcc_runs.specs.Turns.{Given, inputs_taken, is_full, released, turn_of}
 
 appended_joined : (a : ℕ) (xs ys : List Act) → appended a (xs ++ ys) ≡ appended a xs ++ appended a ys
 appended_joined a xs ys = flat_map-append (appended_by a) xs ys
@@ -32,11 +34,24 @@ record Apart (c : ℕ) (server : Server) : Type 0 where
   facts : appended c server.acts ≡ []
   sites : AllByRecursion (λ site. site.centre ≢ c) server.sites
 
+-- what goes out of a centre goes into its own log
+out_apart : (config : Config) (c : ℕ) (site : Site) → site.centre ≢ c
+    → (appended c (persist_then_send config site).acts ≡ []) × ((persist_then_send config site).site.centre ≢ c)
+out_apart config c site other =
+    ((out_shows config site).others c (λ same. other (sym same)), λ same. other (sym (ap (λ (s : Site). s.centre) (out_site config site)) ∙ same))
+
+released_apart : (config : Config) (c : ℕ) (site : Site) (held : Bool) → site.centre ≢ c
+    → (let out = cond held (idle site) (persist_then_send config site) in (appended c out.acts ≡ []) × (out.site.centre ≢ c))
+released_apart config c site true other = (refl, other)
+released_apart config c site false other = out_apart config c site other
+
 turn_apart : (config : Config) (c : ℕ) (site : Site) (given : Given) → site.centre ≢ c
     → (appended c (turn_of config site given).acts ≡ []) × ((turn_of config site given).site.centre ≢ c)
 turn_apart config c site given other =
-    let tells = turn_runs config site given in
-    (tells.shows.others c (λ same. other (sym same)), λ same. other (sym tells.centre_is ∙ same))
+    let runs = inputs_run config site given in
+    let inputs = inputs_taken config site given in
+    let out = released_apart config c inputs.site (given.waits && not (is_full inputs.site.pending)) (λ same. other (sym runs.centre_is ∙ same)) in
+    (none_joined c inputs.acts (released config given inputs.site).acts (runs.inward.facts_are c) out.0, out.1)
 
 turns_apart : (config : Config) (c : ℕ) (sites : List Site) (given : List Given) → AllByRecursion (λ site. site.centre ≢ c) sites → Apart c (turns_of config sites given)
 turns_apart config c [] [] apart = record { facts = refl; sites = tt }
@@ -64,7 +79,7 @@ record Turned (c place : ℕ) (did : Doing) (server : Server) : Type 0 where
   among : Among c place did.site server.sites
 
 abbrev given_to : ℕ → List Given → Given
-given_to place turn = get_or turn place (record { own = None; asked = None })
+given_to place turn = get_or turn place (record { own = None; asked = None; waits = false })
 
 turned : (config : Config) (c : ℕ) (before : List Site) (site : Site) (after : List Site) (given : List Given)
     → length given ≡ length (before ++ site ∷ after) → AllByRecursion (λ s. s.centre ≢ c) before → AllByRecursion (λ s. s.centre ≢ c) after
@@ -110,7 +125,7 @@ record Served (c place : ℕ) (facts : List Fact) (did : Doing) (server : Server
 
 all_turns : (config : Config) (c place count : ℕ) (site : Site) (server : Server) (given : List (List Given)) → Among c place site server.sites
     → length server.sites ≡ count → AllByRecursion (λ turn. length turn ≡ count) given
-    → Served c place (appended c server.acts) (turns config site (given_at place given)) (fold (after_turn config) server given)
+    → Served c place (appended c server.acts) (turns_alone config site (given_at place given)) (fold (after_turn config) server given)
 all_turns config c place count site server [] among many each = record { facts_are = sym (append-nil (appended c server.acts)); among = among }
 all_turns config c place count site server (turn ∷ given) among many each =
     let g = given_to place turn in
@@ -122,12 +137,12 @@ all_turns config c place count site server (turn ∷ given) among many each =
     (turned config c among.before site among.after turn (each.0 ∙ (sym many ∙ ap (λ (sites : List Site). length sites) among.are)) among.before_apart among.after_apart)) in
     let next = after_turn config server turn in
     let rest = all_turns config c place count did.site next given split.among (turned_long config server.sites turn ∙ many) each.1 in
-    let later = appended c (turns config did.site (given_at place given)).acts in
+    let later = appended c (turns_alone config did.site (given_at place given)).acts in
     record {
       facts_are = rest.facts_are
           ∙ (ap (λ (fs : List Fact). fs ++ later) (appended_joined c server.acts all.acts ∙ ap (λ (fs : List Fact). appended c server.acts ++ fs) split.facts)
           ∙ (append_assoc (appended c server.acts) (appended c did.acts) later
-          ∙ ap (λ (fs : List Fact). appended c server.acts ++ fs) (sym (appended_joined c did.acts (turns config did.site (given_at place given)).acts))));
+          ∙ ap (λ (fs : List Fact). appended c server.acts ++ fs) (sym (appended_joined c did.acts (turns_alone config did.site (given_at place given)).acts))));
       among = rest.among;
     }
   where
@@ -137,12 +152,60 @@ all_turns config c place count site server (turn ∷ given) among many each =
     turned_long config (site ∷ sites) [] = refl
     turned_long config (site ∷ sites) (g ∷ given) = ap (λ (n : ℕ). suc n) (turned_long config sites given)
 
+-- ---- the end
+
+ends_apart : (config : Config) (c : ℕ) (sites : List Site) → AllByRecursion (λ site. site.centre ≢ c) sites → Apart c (persist_all_then_send config sites)
+ends_apart config c [] apart = record { facts = refl; sites = tt }
+ends_apart config c (site ∷ sites) apart =
+    let first = out_apart config c site apart.0 in
+    let rest = ends_apart config c sites apart.1 in
+    record {
+      facts = none_joined c (persist_then_send config site).acts (persist_all_then_send config sites).acts first.0 rest.facts;
+      sites = (first.1, rest.sites);
+    }
+
+ended : (config : Config) (c : ℕ) (before : List Site) (site : Site) (after : List Site)
+    → AllByRecursion (λ s. s.centre ≢ c) before → AllByRecursion (λ s. s.centre ≢ c) after
+    → Turned c (length before) (persist_then_send config site) (persist_all_then_send config (before ++ site ∷ after))
+ended config c [] site after one two =
+    let rest = ends_apart config c after two in
+    let out = persist_then_send config site in
+    record {
+      facts = appended_joined c out.acts (persist_all_then_send config after).acts
+          ∙ (ap (λ (fs : List Fact). appended c out.acts ++ fs) rest.facts ∙ append-nil (appended c out.acts));
+      among = record {
+        before = [];
+        after = (persist_all_then_send config after).sites;
+        are = refl;
+        long = refl;
+        before_apart = tt;
+        after_apart = rest.sites;
+      };
+    }
+ended config c (x ∷ before) site after one two =
+    let first = out_apart config c x one.0 in
+    let rest = ended config c before site after one.1 two in
+    let among = rest.among in
+    let ends = persist_all_then_send config (before ++ site ∷ after) in
+    record {
+      facts = appended_joined c (persist_then_send config x).acts ends.acts
+          ∙ (ap (λ (fs : List Fact). fs ++ appended c ends.acts) first.0 ∙ rest.facts);
+      among = record {
+        before = (persist_then_send config x).site ∷ among.before;
+        after = among.after;
+        are = ap (λ (sites : List Site). (persist_then_send config x).site ∷ sites) among.are;
+        long = ap (λ (n : ℕ). suc n) among.long;
+        before_apart = (first.1, among.before_apart);
+        after_apart = among.after_apart;
+      };
+    }
+
 -- ---- the start
 
-boot_here : (log : Log) → appended_by log.centre (Act.Append log.centre (next_boot log.facts)) ≡ next_boot log.facts ∷ []
+boot_here : (log : Log) → appended_by log.centre (Act.Append log.centre (next_boot log.facts ∷ [])) ≡ next_boot log.facts ∷ []
 boot_here log = let same : (log.centre == log.centre) ≡ true = grind (arith, nat_tests) in rw same refl
 
-boot_apart : (c : ℕ) (log : Log) → log.centre ≢ c → appended_by c (Act.Append log.centre (next_boot log.facts)) ≡ []
+boot_apart : (c : ℕ) (log : Log) → log.centre ≢ c → appended_by c (Act.Append log.centre (next_boot log.facts ∷ [])) ≡ []
 boot_apart c log other = rw apart refl
   where
     apart : (log.centre == c) ≡ false
@@ -151,12 +214,12 @@ boot_apart c log other = rw apart refl
       | inr e ↦ e
     ]
 
-boots_apart : (c : ℕ) (logs : List Log) → AllByRecursion (λ log. log.centre ≢ c) logs → appended c (map (λ log. Act.Append log.centre (next_boot log.facts)) logs) ≡ []
+boots_apart : (c : ℕ) (logs : List Log) → AllByRecursion (λ log. log.centre ≢ c) logs → appended c (map (λ log. Act.Append log.centre (next_boot log.facts ∷ [])) logs) ≡ []
 boots_apart c [] apart = refl
 boots_apart c (log ∷ logs) apart = ap₂ (λ (x y : List Fact). x ++ y) (boot_apart c log apart.0) (boots_apart c logs apart.1)
 
 boots_among : (front : List Log) (log : Log) (back : List Log) → AllByRecursion (λ other. other.centre ≢ log.centre) front → AllByRecursion (λ other. other.centre ≢ log.centre) back
-    → appended log.centre (map (λ one. Act.Append one.centre (next_boot one.facts)) (front ++ log ∷ back)) ≡ next_boot log.facts ∷ []
+    → appended log.centre (map (λ one. Act.Append one.centre (next_boot one.facts ∷ [])) (front ++ log ∷ back)) ≡ next_boot log.facts ∷ []
 boots_among [] log back one two = ap₂ (λ (x y : List Fact). x ++ y) (boot_here log) (boots_apart log.centre back two)
 boots_among (x ∷ front) log back one two = ap₂ (λ (x y : List Fact). x ++ y) (boot_apart log.centre x one.0) (boots_among front log back one.1 two)
 
@@ -201,9 +264,21 @@ centres_alone config front log back given each one two =
       before_apart = sites_apart c front one;
       after_apart = sites_apart c back two;
     } in
-    let all = all_turns config c (length front) (length logs) (site_of log) server given among (length-map logs site_of) each in
-    let at = all.among in
+    let place = length front in
+    let served_at = given_at place given in
+    let all = all_turns config c place (length logs) (site_of log) server given among (length-map logs site_of) each in
+    let alone = turns_alone config (site_of log) served_at in
+    let last = fold (after_turn config) server given in
+    let here = all.among in
+    let out = persist_then_send config alone.site in
+    let end : Turned c place out (persist_all_then_send config last.sites) =
+    subst (λ (sites : List Site). Turned c place out (persist_all_then_send config sites)) (sym here.are)
+    (subst (λ (n : ℕ). Turned c n out (persist_all_then_send config (here.before ++ alone.site ∷ here.after))) here.long
+    (ended config c here.before alone.site here.after here.before_apart here.after_apart)) in
+    let at = end.among in
     record {
-      facts = all.facts_are ∙ ap (λ (fs : List Fact). fs ++ appended c (turns_at config (length front) log given).acts) start;
+      facts = appended_joined c last.acts (persist_all_then_send config last.sites).acts
+          ∙ (ap₂ (λ (x y : List Fact). x ++ y) (all.facts_are ∙ ap (λ (fs : List Fact). fs ++ appended c alone.acts) start) end.facts
+          ∙ ap (λ (fs : List Fact). next_boot log.facts ∷ fs) (sym (appended_joined c alone.acts out.acts)));
       stands = record { before = at.before; after = at.after; are = at.are; long = at.long };
     }

@@ -1,7 +1,12 @@
 pub mod Seen
+pub mod Epoch
+pub mod Sent
+pub mod Queued
 pub mod Joined
 pub mod Stepped
 pub mod Turned
+pub mod Outgoing
+pub mod Grouped
 pub mod Refused
 pub mod Tables
 pub mod Joining

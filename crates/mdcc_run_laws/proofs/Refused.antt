@@ -1,18 +1,21 @@
 -- What a centre did is also the run without the inputs that are refused.
 use Rattle.std.specs.List.{AllByRecursion}
-use Rattle.std.proofs.Common.{◌≡◌, ℕ, List, [], ◌∷◌, ◌++◌, Result, Ok, Err, refl, sym, ◌∙◌, ap, subst, map, length}
+use Rattle.std.proofs.Common.{◌≡◌, ℕ, Bool, List, [], ◌∷◌, ◌++◌, Result, Ok, Err, refl, sym, ◌∙◌, ap, subst, map, length}
+use Rattle.mdcc_base.specs.declared.identifiers.TxId.{TxId}
 use Rattle.mdcc_config.specs.declared.config.Config.{Config}
+use Rattle.mdcc_messages.specs.declared.facts.Fact.{Fact}
+use Rattle.mdcc_messages.specs.declared.messages.Envelope.{Envelope}
 use Rattle.mdcc_option.specs.declared.cluster.Cluster.{Cluster}
 use Rattle.mdcc_rules.specs.Steps.{NodeStep, heard_by}
 use Rattle.mdcc_rules.specs.declared.node.Input.{Input}
 use Rattle.mdcc_rules.specs.declared.node.StepFault.{StepFault}
+use Rattle.mdcc_run_laws.proofs.Grouped.{turns_are_runs}
 use Rattle.mdcc_run_laws.proofs.Seen.{shows_as}
-use Rattle.mdcc_run_laws.proofs.Turned.{turns_are_runs}
 use Rattle.mdcc_run_laws.specs.Inputs.{inputs_in, turns}
 use Rattle.mdcc_run_laws.specs.Laws.{IsRunWithout}
-use Rattle.mdcc_run_laws.specs.Told.{IsOwed, Mail, Tells, between_centres, heard_line, mail_of, node_after}
+use Rattle.mdcc_run_laws.specs.Told.{IsOwed, Tells, between_centres, heard_line, node_after}
 use Rattle.mdcc_runs.proofs.Refused.{run_without}
-use Rattle.mdcc_runs.specs.Runs.{NodeState, after_step, in_steps, inputs_taken, listed, run_of, step_on, taken_by}
+use Rattle.mdcc_runs.specs.Runs.{NodeState, after_step, in_steps, inputs_taken, listed, messages_sent, run_of, step_on, taken_by}
 use Rattle.mdcc_runs.specs.Sites.{Doing, Site}
 use Rattle.mdcc_runs.specs.Turns.{Given}
 
@@ -27,30 +30,28 @@ steps_taken part [] = refl
 steps_taken part (Ok step ∷ made) = ap (λ xs. part step ++ xs) (steps_taken part made)
 steps_taken part (Err fault ∷ made) = steps_taken part made
 
-mail_taken : (node : NodeState) (made : List (Result NodeStep StepFault)) → mail_of node made ≡ mail_of node (taken made)
-mail_taken node [] = refl
-mail_taken node (Ok step ∷ made) =
-    let next = after_step node (Ok step) in
-    ap (λ (xs : List Mail). map (λ envelope. (next, envelope)) step.sends ++ xs) (mail_taken next made)
-mail_taken node (Err fault ∷ made) = mail_taken node made
-
 node_taken : (node : NodeState) (made : List (Result NodeStep StepFault)) → node_after node made ≡ node_after node (taken made)
 node_taken node [] = refl
 node_taken node (Ok step ∷ made) = node_taken (after_step node (Ok step)) made
 node_taken node (Err fault ∷ made) = node_taken node made
 
-tells_taken : {config : Config} {centre : ℕ} {node : NodeState} {sent : ℕ} {made : List (Result NodeStep StepFault)} {did : Doing}
-    → Tells config centre node sent made did → Tells config centre node sent (taken made) did
-tells_taken {centre = centre} {node = node} {made = made} one = record {
-  mail = one.mail;
-  shows = shows_as one.shows (steps_taken (λ step. listed step.fact) made)
-      (ap (map (heard_line centre)) (steps_taken (λ step. listed (heard_by step.fact)) made)) refl (ap length (steps_taken (λ step. step ∷ []) made));
-  messages = one.messages ∙ ap between_centres (mail_taken node made);
-  owed = subst (λ (mail : List Mail). AllByRecursion (IsOwed centre mail) one.mail) (mail_taken node made) one.owed;
-  centre_is = one.centre_is;
-  node_is = one.node_is ∙ node_taken node made;
-  sent_is = one.sent_is;
-}
+tells_taken : {config : Config} {site : Site} {made : List (Result NodeStep StepFault)} {did : Doing} → Tells config site made did → Tells config site (taken made) did
+tells_taken {config = config} {site = site} {made = made} one =
+    let messages : messages_sent made ≡ messages_sent (taken made) = steps_taken (λ step. step.sends) made in
+    record {
+      mail = one.mail;
+      shows = shows_as one.shows (ap (λ (facts : List Fact). site.pending.facts ++ facts) (steps_taken (λ step. listed step.fact) made))
+          (ap (λ (heard : List (TxId × Bool)). map (heard_line site.centre) (site.pending.heard ++ heard)) (steps_taken (λ step. listed (heard_by step.fact)) made))
+          refl (ap length (steps_taken (λ step. step ∷ []) made));
+      messages = one.messages ∙ ap between_centres messages;
+      owed = subst (λ (mail : List Envelope). AllByRecursion (IsOwed site.centre mail) one.mail) messages one.owed;
+      centre_is = one.centre_is;
+      node_is = one.node_is ∙ node_taken site.node made;
+      epoch_is = one.epoch_is;
+      sent_is = one.sent_is;
+      logged_is = one.logged_is;
+      pending_is = one.pending_is;
+    }
 
 -- the run over what is not refused has just these
 run_taken : (cluster : Cluster) (me : ℕ) (node : NodeState) (inputs : List Input)
@@ -73,7 +74,7 @@ turns_run_without config site given =
     let without = run_without config.cluster site.centre site.node inputs in
     record {
       run = record {
-        tells = subst (λ (made : List (Result NodeStep StepFault)). Tells config site.centre site.node site.sent made (turns config site given))
+        tells = subst (λ (made : List (Result NodeStep StepFault)). Tells config site made (turns config site given))
             (run_taken config.cluster site.centre site.node inputs) (tells_taken run.tells);
         node = run.node ∙ sym without.end;
       };

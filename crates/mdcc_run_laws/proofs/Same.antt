@@ -1,6 +1,5 @@
 -- Turns without the datagrams that are dropped are as good.
-use Rattle.std.proofs.Common.{◌≡◌, ℕ, Bool, true, false, cond, not, ◌&&◌, is_none, List, [], ◌∷◌, ◌++◌, if◌then◌else◌, Option, Some, None, Result, Ok, Err, refl, sym, ◌∙◌, ap, ap₂, subst, ◌==◌, length}
-use Rattle.std.proofs.lemmas.List.Elements.{filter-append}
+use Rattle.std.proofs.Common.{◌≡◌, ℕ, ◌+◌, Bool, true, false, cond, not, ◌&&◌, is_none, List, [], ◌∷◌, ◌++◌, if◌then◌else◌, Option, Some, None, Result, Ok, Err, refl, sym, ◌∙◌, ap, ap₂, arith, subst, ◌==◌, length}
 use Rattle.mdcc_config.specs.declared.config.Config.{Config}
 use Rattle.mdcc_frag.specs.Joining.{Entry, Step, entry_of, join, missing_piece, others, step, take_piece, take_read}
 use Rattle.mdcc_frag.specs.Partial.{PartialMessage, is_held, is_whole, nothing_of, with_piece}
@@ -12,14 +11,20 @@ use Rattle.mdcc_frag.specs.declared.reading.DropCause.{DropCause}
 use Rattle.mdcc_frag.specs.declared.reading.DropCause.TheVariants.{Disagrees}
 use Rattle.mdcc_frag.specs.declared.reading.Piece.{Piece}
 use Rattle.mdcc_rules.specs.declared.node.Input.{Input}
+use Rattle.mdcc_run_laws.proofs.Grouped.{grouped, inputs_quiet, seen_back, seen_by, seen_joined, turned_bare}
+use Rattle.mdcc_run_laws.proofs.Outgoing.{out_sees}
+use Rattle.mdcc_run_laws.proofs.Queued.{bare, quiet}
+use Rattle.mdcc_run_laws.proofs.Seen.{sees_then, steps_append}
 use Rattle.mdcc_run_laws.proofs.Tables.{own_holds}
-use Rattle.mdcc_run_laws.specs.Inputs.{asked_input, asked_inputs, inputs_in, own_input, own_inputs, turn_inputs, turns}
-use Rattle.mdcc_run_laws.specs.Without.{AreAsGood, given_kept, is_work, kept, kept_by, turn_kept, without_dropped, work_in}
-use Rattle.mdcc_runs.specs.Acts.{Act}
+use Rattle.mdcc_run_laws.proofs.Turned.{quiet_inputs, quiet_runs}
+use Rattle.mdcc_run_laws.specs.Inputs.{asked_input, asked_inputs, own_input, own_inputs, turn_inputs}
+use Rattle.mdcc_run_laws.specs.Without.{AreAsGood, AreSeenAlike, given_kept, kept, kept_by, turn_kept, without_dropped}
+use Rattle.mdcc_runs.specs.Acts.{Act, steps_in}
 use Rattle.mdcc_runs.specs.Arrivals.{arrival_of}
+use Rattle.mdcc_runs.specs.Sending.{persist_then_send}
 use Rattle.mdcc_runs.specs.Sites.{Doing, Site, after_acts, and_then, idle}
 use Rattle.mdcc_runs.specs.Steps.{dropped, input_taken}
-use Rattle.mdcc_runs.specs.Turns.{Given, asked_arrived, asked_received, asked_taken, is_silent, own_arrived, own_received, own_taken, turn_of}
+use Rattle.mdcc_runs.specs.Turns.{Given, asked_arrived, asked_received, asked_taken, inputs_taken, is_silent, own_arrived, own_received, own_taken, turn_of}
 
 -- ---- what is dropped leaves the table
 
@@ -52,10 +57,10 @@ dropped_leaves datagram entries = read_leaves (payload datagram) entries (piece_
 
 -- ---- one receive
 
--- both do the same work, come to the same centre, and bring the same inputs
+-- both make as many steps, come to the same centre, and bring the same inputs
 record Alike (one other : Doing) (inputs others : List Input) : Type 0 where
   site : one.site ≡ other.site
-  work : work_in one.acts ≡ work_in other.acts
+  steps : steps_in one.acts ≡ steps_in other.acts
   inputs_are : inputs ≡ others
 
 own_dropped : (config : Config) (site : Site) (bytes : List ℕ) (cause : DropCause) → (join bytes site.own).answer ≡ Dropped cause → own_taken config site (Some bytes) ≡ dropped site
@@ -65,19 +70,19 @@ own_dropped config site bytes cause is =
 
 own_alike : (config : Config) (site : Site) (gave : Option (List ℕ))
     → Alike (own_received config site (kept site.own gave)) (own_received config site gave) (own_inputs site (kept site.own gave)) (own_inputs site gave)
-own_alike config site None = record { site = refl; work = refl; inputs_are = refl }
+own_alike config site None = record { site = refl; steps = refl; inputs_are = refl }
 own_alike config site (Some bytes) = by_answer (join bytes site.own).answer refl
   where
     by_answer : (answer : Joined) → (join bytes site.own).answer ≡ answer
         → Alike (own_received config site (kept_by answer bytes)) (own_received config site (Some bytes)) (own_inputs site (kept_by answer bytes)) (own_inputs site (Some bytes))
-    by_answer (joined.Whole whole) is = record { site = refl; work = refl; inputs_are = refl }
-    by_answer joined.Kept is = record { site = refl; work = refl; inputs_are = refl }
-    by_answer joined.Repeated is = record { site = refl; work = refl; inputs_are = refl }
+    by_answer (joined.Whole whole) is = record { site = refl; steps = refl; inputs_are = refl }
+    by_answer joined.Kept is = record { site = refl; steps = refl; inputs_are = refl }
+    by_answer joined.Repeated is = record { site = refl; steps = refl; inputs_are = refl }
     by_answer (joined.Dropped cause) is =
         let same = own_dropped config site bytes cause is in
         record {
           site = sym (ap (λ (did : Doing). did.site) same);
-          work = sym (ap (λ (did : Doing). work_in did.acts) same);
+          steps = sym (ap (λ (did : Doing). steps_in (Act.Receive site.centre (Some bytes) ∷ did.acts)) same);
           inputs_are = sym (ap (λ (answer : Joined). own_input (arrival_of answer)) is);
         }
 
@@ -88,19 +93,19 @@ asked_dropped config site bytes cause is =
 
 asked_alike : (config : Config) (site : Site) (gave : Option (List ℕ))
     → Alike (asked_received config site (kept site.asked gave)) (asked_received config site gave) (asked_inputs config site (kept site.asked gave)) (asked_inputs config site gave)
-asked_alike config site None = record { site = refl; work = refl; inputs_are = refl }
+asked_alike config site None = record { site = refl; steps = refl; inputs_are = refl }
 asked_alike config site (Some bytes) = by_answer (join bytes site.asked).answer refl
   where
     by_answer : (answer : Joined) → (join bytes site.asked).answer ≡ answer
         → Alike (asked_received config site (kept_by answer bytes)) (asked_received config site (Some bytes)) (asked_inputs config site (kept_by answer bytes)) (asked_inputs config site (Some bytes))
-    by_answer (joined.Whole whole) is = record { site = refl; work = refl; inputs_are = refl }
-    by_answer joined.Kept is = record { site = refl; work = refl; inputs_are = refl }
-    by_answer joined.Repeated is = record { site = refl; work = refl; inputs_are = refl }
+    by_answer (joined.Whole whole) is = record { site = refl; steps = refl; inputs_are = refl }
+    by_answer joined.Kept is = record { site = refl; steps = refl; inputs_are = refl }
+    by_answer joined.Repeated is = record { site = refl; steps = refl; inputs_are = refl }
     by_answer (joined.Dropped cause) is =
         let same = asked_dropped config site bytes cause is in
         record {
           site = sym (ap (λ (did : Doing). did.site) same);
-          work = sym (ap (λ (did : Doing). work_in did.acts) same);
+          steps = sym (ap (λ (did : Doing). steps_in (Act.Receive (site.centre + 16) (Some bytes) ∷ did.acts)) same);
           inputs_are = sym (ap (λ (answer : Joined). asked_input config site (arrival_of answer)) is);
         }
 
@@ -110,8 +115,7 @@ alike_then : (first other : Doing) (second third : Doing) (xs xs' ys ys' : List 
     → Alike (after_acts first.acts second) (after_acts other.acts third) (xs ++ ys) (xs' ++ ys')
 alike_then first other second third xs xs' ys ys' one two = record {
   site = two.site;
-  work = filter-append is_work first.acts second.acts
-      ∙ (ap₂ (λ (x y : List Act). x ++ y) one.work two.work ∙ sym (filter-append is_work other.acts third.acts));
+  steps = steps_append first.acts second.acts ∙ (ap₂ (λ (x y : ℕ). x + y) one.steps two.steps ∙ sym (steps_append other.acts third.acts));
   inputs_are = ap₂ (λ (x y : List Input). x ++ y) one.inputs_are two.inputs_are;
 }
 
@@ -157,7 +161,7 @@ turn_alike config site given silent =
     let other = both config site given in
     let ticks : Alike (tick_by config silent first.site) (tick_by config silent other.site) (tick_inputs silent) (tick_inputs silent) =
     subst (λ (s : Site). Alike (tick_by config silent first.site) (tick_by config silent s) (tick_inputs silent) (tick_inputs silent)) receives.site
-    (record { site = refl; work = refl; inputs_are = refl }) in
+    (record { site = refl; steps = refl; inputs_are = refl }) in
     alike_then first other (tick_by config silent first.site) (tick_by config silent other.site)
     (both_inputs config site left) (both_inputs config site given) (tick_inputs silent) (tick_inputs silent) receives ticks
 
@@ -170,49 +174,58 @@ silent_kept site (Some bytes) asked is = absurd (cc)
 
 -- a silent turn does no work before time passes
 silent_both : (config : Config) (site : Site) (own asked : Option (List ℕ)) → (is_none own && is_none asked) ≡ true
-    → (let given : Given = record { own = own; asked = asked } in Alike (both config site given) (idle site) (both_inputs config site given) [])
-silent_both config site None None is = record { site = refl; work = refl; inputs_are = refl }
+    → Alike (and_then (own_received config site own) (λ next. asked_received config next asked)) (idle site)
+    (own_inputs site own ++ asked_inputs config (own_received config site own).site asked) []
+silent_both config site None None is = record { site = refl; steps = refl; inputs_are = refl }
 silent_both config site None (Some bytes) is = absurd (cc)
 silent_both config site (Some bytes) asked is = absurd (cc)
 
+-- The inputs are the same, and so are the steps and the centre afterwards, where nothing goes out.
+record AreQuietlyAsGood (config : Config) (site : Site) (given left : List Given) : Type 0 where
+  inputs : quiet_inputs config site left ≡ quiet_inputs config site given
+  steps : steps_in (quiet config site left).acts ≡ steps_in (quiet config site given).acts
+  end : (quiet config site left).site ≡ (quiet config site given).site
+
 -- a turn that stays
 kept_good : (config : Config) (site : Site) (given left : Given) (more without : List Given)
-    → Alike (turn_of config site left) (turn_of config site given) (turn_inputs config site left) (turn_inputs config site given)
-    → AreAsGood config (turn_of config site given).site more without → AreAsGood config site (given ∷ more) (left ∷ without)
+    → Alike (inputs_taken config site left) (inputs_taken config site given) (turn_inputs config site left) (turn_inputs config site given)
+    → AreQuietlyAsGood config (inputs_taken config site given).site more without → AreQuietlyAsGood config site (given ∷ more) (left ∷ without)
 kept_good config site given left more without turn rest =
-    let next = (turn_of config site given).site in
-    let after = (turn_of config site left).site in
+    let next = (inputs_taken config site given).site in
+    let after = (inputs_taken config site left).site in
     record {
-      inputs = ap₂ (λ (x y : List Input). x ++ y) turn.inputs_are (ap (λ (s : Site). inputs_in config s without) turn.site ∙ rest.inputs);
-      work = filter-append is_work (turn_of config site left).acts (turns config after without).acts
-          ∙ (ap₂ (λ (x y : List Act). x ++ y) turn.work (ap (λ (s : Site). work_in (turns config s without).acts) turn.site ∙ rest.work)
-          ∙ sym (filter-append is_work (turn_of config site given).acts (turns config next more).acts));
-      end = ap (λ (s : Site). (turns config s without).site) turn.site ∙ rest.end;
+      inputs = ap₂ (λ (x y : List Input). x ++ y) turn.inputs_are (ap (λ (s : Site). quiet_inputs config s without) turn.site ∙ rest.inputs);
+      steps = steps_append (inputs_taken config site left).acts (quiet config after without).acts
+          ∙ (ap₂ (λ (x y : ℕ). x + y) turn.steps (ap (λ (s : Site). steps_in (quiet config s without).acts) turn.site ∙ rest.steps)
+          ∙ sym (steps_append (inputs_taken config site given).acts (quiet config next more).acts));
+      end = ap (λ (s : Site). (quiet config s without).site) turn.site ∙ rest.end;
     }
+
+left_out : (xs ys : List Act) → steps_in xs ≡ 0 → steps_in ys ≡ steps_in (xs ++ ys)
+left_out xs ys none = let sum = steps_append xs ys in omega (none, sum, arith)
 
 -- a turn that is left out
 left_good : (config : Config) (site : Site) (given : Given) (more without : List Given)
-    → Alike (turn_of config site given) (idle site) (turn_inputs config site given) []
-    → AreAsGood config (turn_of config site given).site more without → AreAsGood config site (given ∷ more) without
+    → Alike (inputs_taken config site given) (idle site) (turn_inputs config site given) []
+    → AreQuietlyAsGood config (inputs_taken config site given).site more without → AreQuietlyAsGood config site (given ∷ more) without
 left_good config site given more without turn rest =
-    let next = (turn_of config site given).site in
+    let next = (inputs_taken config site given).site in
     record {
-      inputs = ap (λ (s : Site). inputs_in config s without) (sym turn.site)
-          ∙ (rest.inputs ∙ ap (λ (x : List Input). x ++ inputs_in config next more) (sym turn.inputs_are));
-      work = ap (λ (s : Site). work_in (turns config s without).acts) (sym turn.site)
-          ∙ (rest.work ∙ (ap (λ (x : List Act). x ++ work_in (turns config next more).acts) (sym turn.work)
-          ∙ sym (filter-append is_work (turn_of config site given).acts (turns config next more).acts)));
-      end = ap (λ (s : Site). (turns config s without).site) (sym turn.site) ∙ rest.end;
+      inputs = ap (λ (s : Site). quiet_inputs config s without) (sym turn.site)
+          ∙ (rest.inputs ∙ ap (λ (x : List Input). x ++ quiet_inputs config next more) (sym turn.inputs_are));
+      steps = ap (λ (s : Site). steps_in (quiet config s without).acts) (sym turn.site)
+          ∙ (rest.steps ∙ left_out (inputs_taken config site given).acts (quiet config next more).acts turn.steps);
+      end = ap (λ (s : Site). (quiet config s without).site) (sym turn.site) ∙ rest.end;
     }
 
 alike_joined : (one other third : Doing) (xs ys zs : List Input) → Alike one other xs ys → Alike other third ys zs → Alike one third xs zs
 alike_joined one other third xs ys zs a b =
-    record { site = a.site ∙ b.site; work = a.work ∙ b.work; inputs_are = a.inputs_are ∙ b.inputs_are }
+    record { site = a.site ∙ b.site; steps = a.steps ∙ b.steps; inputs_are = a.inputs_are ∙ b.inputs_are }
 
 alike_back : (one other : Doing) (xs ys : List Input) → Alike one other xs ys → Alike other one ys xs
-alike_back one other xs ys a = record { site = sym a.site; work = sym a.work; inputs_are = sym a.inputs_are }
+alike_back one other xs ys a = record { site = sym a.site; steps = sym a.steps; inputs_are = sym a.inputs_are }
 
-module _ (config : Config) (site : Site) (given : Given) (more without : List Given) (rest : AreAsGood config (turn_of config site given).site more without) where
+module _ (config : Config) (site : Site) (given : Given) (more without : List Given) (rest : AreQuietlyAsGood config (inputs_taken config site given).site more without) where
   abbrev left : Given
   left = given_kept site given
 
@@ -223,14 +236,14 @@ module _ (config : Config) (site : Site) (given : Given) (more without : List Gi
   abbrev brought : Given → Bool → List Input
   brought one silent = both_inputs config site one ++ tick_inputs silent
 
-  stays : (silent : Bool) → is_silent given ≡ silent → is_silent left ≡ silent → AreAsGood config site (given ∷ more) (left ∷ without)
+  stays : (silent : Bool) → is_silent given ≡ silent → is_silent left ≡ silent → AreQuietlyAsGood config site (given ∷ more) (left ∷ without)
   stays silent here there =
       let same : Alike (turned left (is_silent left)) (turned given (is_silent given)) (brought left (is_silent left)) (brought given (is_silent given)) =
       subst (λ (b : Bool). Alike (turned left b) (turned given (is_silent given)) (brought left b) (brought given (is_silent given))) (sym there)
       (subst (λ (b : Bool). Alike (turned left silent) (turned given b) (brought left silent) (brought given b)) (sym here) (turn_alike config site given silent)) in
       kept_good config site given left more without same rest
 
-  goes : is_silent given ≡ false → is_silent left ≡ true → AreAsGood config site (given ∷ more) without
+  goes : is_silent given ≡ false → is_silent left ≡ true → AreQuietlyAsGood config site (given ∷ more) without
   goes here there =
       let none : Alike (both config site left) (idle site) (both_inputs config site left) [] = silent_both config site left.own left.asked there in
       let receives : Alike (both config site given) (idle site) (both_inputs config site given) [] =
@@ -239,22 +252,58 @@ module _ (config : Config) (site : Site) (given : Given) (more without : List Gi
       let first = both config site given in
       let whole : Alike (turned given false) (idle site) (brought given false) [] =
       alike_then first (idle site) (idle first.site) (idle site) (both_inputs config site given) [] [] [] receives
-      (record { site = receives.site; work = refl; inputs_are = refl }) in
+      (record { site = receives.site; steps = refl; inputs_are = refl }) in
       let same : Alike (turned given (is_silent given)) (idle site) (brought given (is_silent given)) [] =
       subst (λ (b : Bool). Alike (turned given b) (idle site) (brought given b) []) (sym here) whole in
       left_good config site given more without same rest
 
-  by_silence : (s k : Bool) → is_silent given ≡ s → is_silent left ≡ k → AreAsGood config site (given ∷ more) (if k && not s then without else (left ∷ without))
+  by_silence : (s k : Bool) → is_silent given ≡ s → is_silent left ≡ k → AreQuietlyAsGood config site (given ∷ more) (if k && not s then without else (left ∷ without))
   by_silence true true here there = stays true here there
   by_silence false false here there = stays false here there
   by_silence false true here there = goes here there
   by_silence true false here there = let no = silent_kept site given.own given.asked here in absurd (cc)
 
-  turn_good : AreAsGood config site (given ∷ more) (turn_kept given (given_kept site given) without)
+  turn_good : AreQuietlyAsGood config site (given ∷ more) (turn_kept given (given_kept site given) without)
   turn_good = by_silence (is_silent given) (is_silent left) refl refl
 
+-- the same, by the centre where nothing goes out
+abbrev quiet_without : Config → Site → List Given → List Given
+quiet_without config site [] = []
+quiet_without config site (given ∷ more) =
+    turn_kept given (given_kept site given) (quiet_without config (inputs_taken config site given).site more)
+
+without_quiet : (config : Config) (given : List Given) (one other : Site) → bare one ≡ bare other → without_dropped config one given ≡ quiet_without config other given
+without_quiet config [] one other same = refl
+without_quiet config (turn ∷ given) one other same =
+    ap₂ (λ (left : Given) (more : List Given). turn_kept turn left more) (ap (λ (s : Site). given_kept s turn) same)
+    (without_quiet config given (turn_of config one turn).site (inputs_taken config other turn).site (turned_bare config one other turn same))
+
+quiet_as_good : (config : Config) (site : Site) (given : List Given) → AreQuietlyAsGood config site given (quiet_without config site given)
+quiet_as_good config site [] = record { inputs = refl; steps = refl; end = refl }
+quiet_as_good config site (one ∷ given) =
+    let next = (inputs_taken config site one).site in
+    turn_good config site one given (quiet_without config next given) (quiet_as_good config next given)
+
+-- what goes out is the same
+good_by_quiet : (config : Config) (site : Site) (given left : List Given) → AreQuietlyAsGood config site given left → AreAsGood config site given left
+good_by_quiet config site given left good =
+    let one = quiet_runs config site left in
+    let other = quiet_runs config site given in
+    let out : Site → Doing = λ s. persist_then_send config s in
+    let first = (quiet config site left).site in
+    let last = (quiet config site given).site in
+    let steps = one.inward.steps_are in
+    let many = other.inward.steps_are in
+    let ends : AreSeenAlike (and_then (quiet config site left) out) (and_then (quiet config site given) out) =
+    subst (λ (s : Site). AreSeenAlike (after_acts (quiet config site left).acts (out first)) (after_acts (quiet config site given).acts (out s))) good.end
+    (seen_by (sees_then one.inward (out_sees config first)) (sees_then other.inward (out_sees config first)) (λ c. refl) refl refl
+    (let same = good.steps in omega (same, steps, many, arith)) refl) in
+    record {
+      inputs = inputs_quiet config left site site refl ∙ (good.inputs ∙ sym (inputs_quiet config given site site refl));
+      seen = seen_joined (grouped config left site) (seen_joined ends (seen_back (grouped config given site)));
+    }
+
 pub turns_as_good : (config : Config) (site : Site) (given : List Given) → AreAsGood config site given (without_dropped config site given)
-turns_as_good config site [] = record { inputs = refl; work = refl; end = refl }
-turns_as_good config site (one ∷ given) =
-    let next = (turn_of config site one).site in
-    turn_good config site one given (without_dropped config next given) (turns_as_good config next given)
+turns_as_good config site given =
+    subst (AreAsGood config site given) (sym (without_quiet config given site site refl))
+    (good_by_quiet config site given (quiet_without config site given) (quiet_as_good config site given))

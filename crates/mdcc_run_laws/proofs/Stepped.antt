@@ -1,8 +1,6 @@
--- What a step of a centre's node is seen by, and what is taken of a message, a tick or a request.
-use Rattle.std.proofs.Common.{◌≡◌, ℕ, Bool, List, [], ◌∷◌, ◌++◌, Option, Some, None, Result, Ok, Err, refl, sym, ◌∙◌, ap, append-nil, map, inr, subst}
+-- What a step of a centre's node leaves, and what a message, a tick or a request leaves.
+use Rattle.std.proofs.Common.{◌≡◌, ℕ, Bool, List, [], ◌∷◌, ◌++◌, Option, Some, None, Result, Ok, Err, refl, sym, ◌∙◌, ap, append-nil, inr, subst}
 use Rattle.std.specs.List.{AllByRecursion}
-use Rattle.mdcc_run_laws.proofs.Joined.{both_owed, each_owed}
-use Rattle.std.proofs.lemmas.List.{map-append}
 use Rattle.std.proofs.lemmas.List.Elements.{filter-append}
 use Rattle.mdcc_base.specs.declared.identifiers.TxId.{TxId}
 use Rattle.mdcc_base.specs.declared.key.Key.{Key}
@@ -16,93 +14,90 @@ use Rattle.mdcc_rules.specs.Steps.{NodeStep, heard_by}
 use Rattle.mdcc_rules.specs.declared.node.Answer.{Answer}
 use Rattle.mdcc_rules.specs.declared.node.Input.{Input}
 use Rattle.mdcc_rules.specs.declared.node.StepFault.{StepFault}
-use Rattle.mdcc_run_laws.proofs.Seen.{sends_all, shows_as, shows_dropped, shows_heard, shows_logged, shows_none, shows_stepped, shows_then}
+use Rattle.mdcc_run_laws.proofs.Joined.{LeavesOf, both_owed, each_owed}
+use Rattle.mdcc_run_laws.proofs.Queued.{both_pending, pending_nil, pendings_are}
+use Rattle.mdcc_run_laws.proofs.Seen.{inward_dropped, inward_none, inward_stepped}
 use Rattle.mdcc_run_laws.specs.Inputs.{begin_input}
-use Rattle.mdcc_run_laws.specs.Told.{IsOwed, Mail, Tells, between_centres, is_for_centre, lines_in, sends_in}
-use Rattle.mdcc_runs.specs.Acts.{Act, appended, steps_in}
+use Rattle.mdcc_run_laws.specs.Told.{IsOwed, between_centres, is_for_centre}
 use Rattle.mdcc_runs.specs.Clients.{begun_for, known_of, with_end}
-use Rattle.mdcc_runs.specs.Runs.{NodeState, after_step, listed, run_of, step_on}
-use Rattle.mdcc_runs.specs.Sending.{answer_to, message_sent, messages_sent}
-use Rattle.mdcc_runs.specs.Sites.{Doing, Site, idle}
-use Rattle.mdcc_runs.specs.Steps.{begin_made, begin_noted, begin_taken, begin_taken_by, begin_told, dropped, ended, ends_told, end_told, input_made, input_taken, known_told, read_made, read_taken, reading_told, step_out, stepped}
+use Rattle.mdcc_runs.specs.Runs.{listed, run_of, step_on}
+use Rattle.mdcc_runs.specs.Sending.{answer_to}
+use Rattle.mdcc_runs.specs.Sites.{Site, idle}
+use Rattle.mdcc_runs.specs.Steps.{answer_queued, begin_made, begin_noted, begin_taken, begin_taken_by, begin_told, dropped, end_told, ended, ends_told, input_made, input_taken, known_told, read_made, read_taken, reading_told, step_queued, stepped}
 use Rattle.mdcc_runs.specs.declared.clients.Begun.{Begun}
-
--- what a centre did is what its node made of this
-abbrev pub TellsOf : Config → Site → List (Result NodeStep StepFault) → Doing → Type 0
-TellsOf config site made did = Tells config site.centre site.node site.sent made did
 
 -- ---- without a step
 
-pub idle_tells : (config : Config) (site : Site) → TellsOf config site [] (idle site)
-idle_tells config site = record { mail = []; shows = shows_none site.centre; messages = refl; owed = tt; centre_is = refl; node_is = refl; sent_is = refl }
+pub idle_leaves : (site : Site) → LeavesOf site [] (idle site)
+idle_leaves site =
+    record { mail = []; inward = inward_none; pending_is = pending_nil site.pending; messages = refl; owed = tt; centre_is = refl; node_is = refl; sent_is = refl }
 
-pub dropped_tells : (config : Config) (site : Site) → TellsOf config site [] (dropped site)
-dropped_tells config site = record { mail = []; shows = shows_dropped site.centre; messages = refl; owed = tt; centre_is = refl; node_is = refl; sent_is = refl }
+pub dropped_leaves : (site : Site) → LeavesOf site [] (dropped site)
+dropped_leaves site =
+    record { mail = []; inward = inward_dropped; pending_is = pending_nil site.pending; messages = refl; owed = tt; centre_is = refl; node_is = refl; sent_is = refl }
 
-refused_tells : (config : Config) (site : Site) (fault : StepFault) → TellsOf config site (Err fault ∷ []) (dropped site)
-refused_tells config site fault = record { mail = []; shows = shows_dropped site.centre; messages = refl; owed = tt; centre_is = refl; node_is = refl; sent_is = refl }
+refused_leaves : (site : Site) (fault : StepFault) → LeavesOf site (Err fault ∷ []) (dropped site)
+refused_leaves site fault =
+    record { mail = []; inward = inward_dropped; pending_is = pending_nil site.pending; messages = refl; owed = tt; centre_is = refl; node_is = refl; sent_is = refl }
 
 -- an answer to the client
-answer_tells : (config : Config) (site : Site) (serial : ℕ) (answer : ClientAnswer) → TellsOf config site [] (message_sent config site (answer_to site.centre serial answer))
-answer_tells config site serial answer =
-    let one = sends_all site.centre config site (answer_to site.centre serial answer ∷ []) in
-    let acts = (message_sent config site (answer_to site.centre serial answer)).acts in
-    record {
-      mail = (site.node, answer_to site.centre serial answer) ∷ [];
-      shows = record {
-        facts_are = sym (ap (λ (xs : List Act). appended site.centre xs) (append-nil acts)) ∙ one.shows.facts_are;
-        others = λ b other. sym (ap (λ (xs : List Act). appended b xs) (append-nil acts)) ∙ one.shows.others b other;
-        lines_are = sym (ap lines_in (append-nil acts)) ∙ one.shows.lines_are;
-        sends_are = sym (ap sends_in (append-nil acts)) ∙ one.shows.sends_are ∙ one.acts;
-        steps_are = sym (ap steps_in (append-nil acts)) ∙ one.shows.steps_are;
-      };
-      messages = refl;
-      owed = (inr (record { serial = serial; answer = answer; is = refl }), tt);
-      centre_is = one.centre;
-      node_is = one.node;
-      sent_is = one.sent;
-    }
+answer_leaves : (site : Site) (serial : ℕ) (answer : ClientAnswer) → LeavesOf site [] (answer_queued site serial answer)
+answer_leaves site serial answer = record {
+  mail = answer_to site.centre serial answer ∷ [];
+  inward = inward_none;
+  pending_is = refl;
+  messages = refl;
+  owed = (inr (record { serial = serial; answer = answer; is = refl }), tt);
+  centre_is = refl;
+  node_is = refl;
+  sent_is = refl;
+}
 
 -- ---- with a step
 
 -- at most one message, and that to the client
 abbrev IsAnswer : ℕ → Option Envelope → Type 0
 IsAnswer centre reply =
-    (node : NodeState) (mail : List Mail)
-    → (between_centres (map (λ x. (node, x)) (listed reply)) ≡ []) × AllByRecursion (IsOwed centre mail) (map (λ x. (node, x)) (listed reply))
+    (mail : List Envelope) → (between_centres (listed reply) ≡ []) × AllByRecursion (IsOwed centre mail) (listed reply)
 
 none_answers : (centre : ℕ) → IsAnswer centre None
-none_answers centre node mail = (refl, tt)
+none_answers centre mail = (refl, tt)
 
 some_answers : (centre serial : ℕ) (answer : ClientAnswer) → IsAnswer centre (Some (answer_to centre serial answer))
-some_answers centre serial answer node mail = (refl, (inr (record { serial = serial; answer = answer; is = refl }), tt))
+some_answers centre serial answer mail = (refl, (inr (record { serial = serial; answer = answer; is = refl }), tt))
 
-step_tells : (config : Config) (site : Site) (step : NodeStep) (reply : Option Envelope) → IsAnswer site.centre reply
-    → TellsOf config site (Ok step ∷ []) (stepped (step_out config site step reply))
-step_tells config site step reply answers =
-    let next = after_step site.node (Ok step) in
-    let all = step.sends ++ listed reply in
-    let sent = sends_all site.centre config (record site { node = next }) all in
-    let acts = (messages_sent config (record site { node = next }) all).acts in
-    let post = λ (x : Envelope). let one : Mail = (next, x) in one in
-    record {
-      mail = map post all;
-      shows = shows_as
-          (shows_then (shows_stepped site.centre) (shows_then (shows_logged site.centre step.fact) (shows_then sent.shows (shows_heard site.centre (heard_by step.fact)))))
-          refl refl (append-nil acts ∙ sent.acts) refl;
-      messages = ap between_centres (map-append post step.sends (listed reply))
-          ∙ filter-append is_for_centre (map post step.sends) (map post (listed reply))
-          ∙ ap (λ (xs : List Mail). between_centres (map post step.sends) ++ xs) (answers next []).0
-          ∙ sym (filter-append is_for_centre (map post step.sends) []);
-      owed = subst (AllByRecursion (IsOwed site.centre (map post step.sends ++ []))) (sym (map-append post step.sends (listed reply)))
-          (both_owed (IsOwed site.centre (map post step.sends ++ [])) (map post step.sends) (map post (listed reply))
-          (subst (λ (mail : List Mail). AllByRecursion (IsOwed site.centre mail) (map post step.sends)) (sym (append-nil (map post step.sends)))
-          (each_owed site.centre (map post step.sends)))
-          (answers next (map post step.sends ++ [])).1);
-      centre_is = sent.centre;
-      node_is = sent.node;
-      sent_is = sent.sent;
-    }
+-- its messages, with an answer among them
+record AreOf (centre : ℕ) (step : NodeStep) (envelopes : List Envelope) : Type 0 where
+  messages : between_centres envelopes ≡ between_centres step.sends
+  owed : AllByRecursion (IsOwed centre step.sends) envelopes
+
+answer_first : (centre : ℕ) (step : NodeStep) (reply : Option Envelope) → IsAnswer centre reply → AreOf centre step (listed reply ++ step.sends)
+answer_first centre step reply answers = record {
+  messages = filter-append is_for_centre (listed reply) step.sends ∙ ap (λ (xs : List Envelope). xs ++ between_centres step.sends) (answers []).0;
+  owed = both_owed (IsOwed centre step.sends) (listed reply) step.sends (answers step.sends).1 (each_owed centre step.sends);
+}
+
+answer_last : (centre : ℕ) (step : NodeStep) (reply : Option Envelope) → IsAnswer centre reply → AreOf centre step (step.sends ++ listed reply)
+answer_last centre step reply answers = record {
+  messages = filter-append is_for_centre step.sends (listed reply)
+      ∙ (ap (λ (xs : List Envelope). between_centres step.sends ++ xs) (answers []).0 ∙ append-nil (between_centres step.sends));
+  owed = both_owed (IsOwed centre step.sends) step.sends (listed reply) (each_owed centre step.sends) (answers step.sends).1;
+}
+
+step_leaves : (site : Site) (step : NodeStep) (envelopes : List Envelope) → AreOf site.centre step envelopes
+    → LeavesOf site (Ok step ∷ []) (stepped (step_queued site step envelopes))
+step_leaves site step envelopes are = record {
+  mail = envelopes;
+  inward = inward_stepped;
+  pending_is = ap (both_pending site.pending)
+      (pendings_are (listed step.fact) (listed step.fact ++ []) envelopes envelopes (listed (heard_by step.fact)) (listed (heard_by step.fact) ++ [])
+      (sym (append-nil (listed step.fact))) refl (sym (append-nil (listed (heard_by step.fact)))));
+  messages = are.messages ∙ ap between_centres (sym (append-nil step.sends));
+  owed = subst (λ (mail : List Envelope). AllByRecursion (IsOwed site.centre mail) envelopes) (sym (append-nil step.sends)) are.owed;
+  centre_is = refl;
+  node_is = refl;
+  sent_is = refl;
+}
 
 -- ---- messages and ticks
 
@@ -114,15 +109,16 @@ ends_answer : (site : Site) (heard : Option (TxId × Bool)) → IsAnswer site.ce
 ends_answer site None = none_answers site.centre
 ends_answer site (Some (tx, is_commit)) = end_answers site.centre tx is_commit (known_of site.clients tx)
 
-made_tells : (config : Config) (site : Site) (made : Result NodeStep StepFault) → TellsOf config site (made ∷ []) (input_made config site made)
-made_tells config site (Err fault) = refused_tells config site fault
-made_tells config site (Ok step) =
-    step_tells config (record site { clients = with_end site.clients (heard_by step.fact) }) step (ends_told site (heard_by step.fact))
-    (ends_answer site (heard_by step.fact))
+made_leaves : (site : Site) (made : Result NodeStep StepFault) → LeavesOf site (made ∷ []) (input_made site made)
+made_leaves site (Err fault) = refused_leaves site fault
+made_leaves site (Ok step) =
+    let heard = heard_by step.fact in
+    step_leaves (record site { clients = with_end site.clients heard }) step (listed (ends_told site heard) ++ step.sends)
+    (answer_first site.centre step (ends_told site heard) (ends_answer site heard))
 
-pub input_tells : (config : Config) (site : Site) (input : Input)
-    → TellsOf config site (run_of config.cluster site.centre site.node (input ∷ [])) (input_taken config site input)
-input_tells config site input = made_tells config site (step_on config.cluster site.centre site.node input)
+pub input_leaves : (config : Config) (site : Site) (input : Input)
+    → LeavesOf site (run_of config.cluster site.centre site.node (input ∷ [])) (input_taken config site input)
+input_leaves config site input = made_leaves site (step_on config.cluster site.centre site.node input)
 
 -- ---- reads
 
@@ -132,14 +128,15 @@ reading_answers centre serial key (Some (Answer.Read reading)) = some_answers ce
 reading_answers centre serial key (Some (Answer.Begun tx)) = none_answers centre
 reading_answers centre serial key (Some (Answer.Refused other fault)) = none_answers centre
 
-read_made_tells : (config : Config) (site : Site) (serial : ℕ) (key : Key) (made : Result NodeStep StepFault) → TellsOf config site (made ∷ []) (read_made config site serial key made)
-read_made_tells config site serial key (Err fault) = refused_tells config site fault
-read_made_tells config site serial key (Ok step) =
-    step_tells config site step (reading_told site.centre serial key step.answer) (reading_answers site.centre serial key step.answer)
+read_made_leaves : (site : Site) (serial : ℕ) (key : Key) (made : Result NodeStep StepFault) → LeavesOf site (made ∷ []) (read_made site serial key made)
+read_made_leaves site serial key (Err fault) = refused_leaves site fault
+read_made_leaves site serial key (Ok step) =
+    let reply = reading_told site.centre serial key step.answer in
+    step_leaves site step (step.sends ++ listed reply) (answer_last site.centre step reply (reading_answers site.centre serial key step.answer))
 
-pub read_tells : (config : Config) (site : Site) (serial : ℕ) (key : Key)
-    → TellsOf config site (run_of config.cluster site.centre site.node (Input.Read key ∷ [])) (read_taken config site serial key)
-read_tells config site serial key = read_made_tells config site serial key (step_on config.cluster site.centre site.node (Input.Read key))
+pub read_leaves : (config : Config) (site : Site) (serial : ℕ) (key : Key)
+    → LeavesOf site (run_of config.cluster site.centre site.node (Input.Read key ∷ [])) (read_taken config site serial key)
+read_leaves config site serial key = read_made_leaves site serial key (step_on config.cluster site.centre site.node (Input.Read key))
 
 -- ---- begins
 
@@ -149,28 +146,29 @@ begin_answers centre serial (Some (Answer.Read reading)) = none_answers centre
 begin_answers centre serial (Some (Answer.Begun tx)) = some_answers centre serial (ClientAnswer.Begun tx)
 begin_answers centre serial (Some (Answer.Refused key fault)) = some_answers centre serial (ClientAnswer.Refused key fault)
 
--- what is noted of it is not seen
-noted_tells : (config : Config) (site : Site) (serial : ℕ) (step : NodeStep) (reply : Option Envelope) (answer : Option Answer) → IsAnswer site.centre reply
-    → TellsOf config site (Ok step ∷ []) (stepped (step_out config (begin_noted site serial answer) step reply))
-noted_tells config site serial step reply None answers = step_tells config (begin_noted site serial None) step reply answers
-noted_tells config site serial step reply (Some (Answer.Read reading)) answers = step_tells config (begin_noted site serial (Some (Answer.Read reading))) step reply answers
-noted_tells config site serial step reply (Some (Answer.Begun tx)) answers = step_tells config (begin_noted site serial (Some (Answer.Begun tx))) step reply answers
-noted_tells config site serial step reply (Some (Answer.Refused key fault)) answers = step_tells config (begin_noted site serial (Some (Answer.Refused key fault))) step reply answers
+-- what is noted of it changes nothing of that
+noted_leaves : (site : Site) (serial : ℕ) (step : NodeStep) (envelopes : List Envelope) (answer : Option Answer) → AreOf site.centre step envelopes
+    → LeavesOf site (Ok step ∷ []) (stepped (step_queued (begin_noted site serial answer) step envelopes))
+noted_leaves site serial step envelopes None are = step_leaves site step envelopes are
+noted_leaves site serial step envelopes (Some (Answer.Read reading)) are = step_leaves site step envelopes are
+noted_leaves site serial step envelopes (Some (Answer.Begun tx)) are = step_leaves (begin_noted site serial (Some (Answer.Begun tx))) step envelopes are
+noted_leaves site serial step envelopes (Some (Answer.Refused key fault)) are = step_leaves site step envelopes are
 
-begin_made_tells : (config : Config) (site : Site) (serial : ℕ) (made : Result NodeStep StepFault) → TellsOf config site (made ∷ []) (begin_made config site serial made)
-begin_made_tells config site serial (Err fault) = refused_tells config site fault
-begin_made_tells config site serial (Ok step) =
-    noted_tells config site serial step (begin_told site.centre serial step.answer) step.answer (begin_answers site.centre serial step.answer)
+begin_made_leaves : (site : Site) (serial : ℕ) (made : Result NodeStep StepFault) → LeavesOf site (made ∷ []) (begin_made site serial made)
+begin_made_leaves site serial (Err fault) = refused_leaves site fault
+begin_made_leaves site serial (Ok step) =
+    let reply = begin_told site.centre serial step.answer in
+    noted_leaves site serial step (step.sends ++ listed reply) step.answer (answer_last site.centre step reply (begin_answers site.centre serial step.answer))
 
-begin_by_tells : (config : Config) (site : Site) (serial : ℕ) (parts : List Part) (known : Option TxId) (draft : Result (List Part) DraftFault)
+begin_by_leaves : (config : Config) (site : Site) (serial : ℕ) (parts : List Part) (known : Option TxId) (draft : Result (List Part) DraftFault)
     → transaction_of config.cluster.schema parts ≡ draft
-    → TellsOf config site (run_of config.cluster site.centre site.node (begin_input known draft)) (begin_taken_by config site serial parts known)
-begin_by_tells config site serial parts (Some tx) draft is = answer_tells config site serial (known_told tx (ended (known_of site.clients tx)))
-begin_by_tells config site serial parts None (Err fault) is = rw is (answer_tells config site serial (ClientAnswer.Draft fault))
-begin_by_tells config site serial parts None (Ok made) is =
-    rw is (begin_made_tells config site serial (step_on config.cluster site.centre site.node (Input.Begin made)))
+    → LeavesOf site (run_of config.cluster site.centre site.node (begin_input known draft)) (begin_taken_by config site serial parts known)
+begin_by_leaves config site serial parts (Some tx) draft is = answer_leaves site serial (known_told tx (ended (known_of site.clients tx)))
+begin_by_leaves config site serial parts None (Err fault) is = rw is (answer_leaves site serial (ClientAnswer.Draft fault))
+begin_by_leaves config site serial parts None (Ok made) is =
+    rw is (begin_made_leaves site serial (step_on config.cluster site.centre site.node (Input.Begin made)))
 
-pub begin_tells : (config : Config) (site : Site) (serial : ℕ) (parts : List Part)
-    → TellsOf config site (run_of config.cluster site.centre site.node (begin_input (begun_for site.clients serial) (transaction_of config.cluster.schema parts))) (begin_taken config site serial parts)
-begin_tells config site serial parts =
-    begin_by_tells config site serial parts (begun_for site.clients serial) (transaction_of config.cluster.schema parts) refl
+pub begin_leaves : (config : Config) (site : Site) (serial : ℕ) (parts : List Part)
+    → LeavesOf site (run_of config.cluster site.centre site.node (begin_input (begun_for site.clients serial) (transaction_of config.cluster.schema parts))) (begin_taken config site serial parts)
+begin_leaves config site serial parts =
+    begin_by_leaves config site serial parts (begun_for site.clients serial) (transaction_of config.cluster.schema parts) refl

@@ -1,32 +1,27 @@
 -- The messages of which some pieces came at the endpoints of a centre.
-use Rattle.std.proofs.Common.{◌≡◌, ℕ, ◌+◌, Bool, true, false, cond, nat_lt, List, [], ◌∷◌, ◌++◌, Option, Some, None, Result, Ok, Err, refl, ◌∙◌, ap}
+use Rattle.std.proofs.Common.{◌≡◌, ℕ, Bool, true, false, cond, not, ◌&&◌, List, Option, Some, None, Result, Ok, Err, refl, ◌∙◌, ap}
 use Rattle.mdcc_base.specs.declared.identifiers.TxId.{TxId}
 use Rattle.mdcc_base.specs.declared.key.Key.{Key}
-use Rattle.mdcc_base.specs.declared.outside.Address.{Address}
 use Rattle.mdcc_config.specs.declared.config.Config.{Config}
-use Rattle.mdcc_frag.specs.Datagrams.{message_limit}
 use Rattle.mdcc_frag.specs.Joining.{Entry, join}
 use Rattle.mdcc_frag_laws.specs.Laws.{table_after}
-use Rattle.mdcc_messages.specs.Lengths.{message_length}
-use Rattle.mdcc_messages.specs.Spelling.{message_bytes}
-use Rattle.mdcc_messages.specs.declared.messages.ClientAnswer.{ClientAnswer}
 use Rattle.mdcc_messages.specs.declared.messages.Envelope.{Envelope}
 use Rattle.mdcc_messages.specs.declared.messages.Message.{Message}
 use Rattle.mdcc_option.specs.Transaction.{transaction_of}
 use Rattle.mdcc_option.specs.declared.faults.DraftFault.{DraftFault}
 use Rattle.mdcc_option.specs.declared.items.Part.{Part}
-use Rattle.mdcc_rules.specs.Steps.{NodeStep, heard_by}
+use Rattle.mdcc_rules.specs.Steps.{NodeStep}
 use Rattle.mdcc_rules.specs.declared.node.Answer.{Answer}
 use Rattle.mdcc_rules.specs.declared.node.Input.{Input}
 use Rattle.mdcc_rules.specs.declared.node.StepFault.{StepFault}
-use Rattle.mdcc_runs.specs.Acts.{Act}
+use Rattle.mdcc_run_laws.proofs.Outgoing.{out_site}
 use Rattle.mdcc_runs.specs.Arrivals.{Arrival, arrival_of, is_for_client}
-use Rattle.mdcc_runs.specs.Clients.{begun_for, known_of, with_end}
-use Rattle.mdcc_runs.specs.Runs.{after_step, listed, step_on}
-use Rattle.mdcc_runs.specs.Sending.{address_to, answer_to, datagrams_sent, message_sent, message_sent_to, messages_sent, next_head}
-use Rattle.mdcc_runs.specs.Sites.{Site, doing, idle}
-use Rattle.mdcc_runs.specs.Steps.{begin_made, begin_noted, begin_taken_by, begin_told, draft_taken, dropped, ended, ends_told, input_made, input_taken, known_told, read_made, reading_told, step_out}
-use Rattle.mdcc_runs.specs.Turns.{Given, asked_arrived, asked_message, asked_received, is_silent, own_arrived, own_message, own_received, ticked, turn_of}
+use Rattle.mdcc_runs.specs.Clients.{begun_for}
+use Rattle.mdcc_runs.specs.Runs.{listed, step_on}
+use Rattle.mdcc_runs.specs.Sending.{persist_then_send}
+use Rattle.mdcc_runs.specs.Sites.{Site, idle}
+use Rattle.mdcc_runs.specs.Steps.{begin_made, begin_noted, begin_taken_by, draft_taken, dropped, input_made, input_taken, read_made}
+use Rattle.mdcc_runs.specs.Turns.{Given, asked_arrived, asked_message, asked_received, inputs_taken, is_full, is_silent, own_arrived, own_message, own_received, released, ticked, turn_of}
 
 -- they are these
 pub record Holds (own asked : List Entry) (site : Site) : Type 0 where
@@ -35,41 +30,19 @@ pub record Holds (own asked : List Entry) (site : Site) : Type 0 where
 
 -- ---- steps
 
-sent_to : (site : Site) (x : Envelope) (to : Option Address) → Holds site.own site.asked (message_sent_to site x to).site
-sent_to site x None = record { own_is = refl; asked_is = refl }
-sent_to site x (Some to) = by_length (nat_lt message_limit (message_length x))
-  where
-    by_length : (long : Bool) → Holds site.own site.asked (cond long (doing (Act.Unsent ∷ []) site) (doing (datagrams_sent (next_head site) to (message_bytes x)) (record site { sent = site.sent + 1 }))).site
-    by_length true = record { own_is = refl; asked_is = refl }
-    by_length false = record { own_is = refl; asked_is = refl }
-
-message_holds : (config : Config) (site : Site) (x : Envelope) → Holds site.own site.asked (message_sent config site x).site
-message_holds config site x = sent_to site x (address_to config x.to)
-
-messages_hold : (config : Config) (site : Site) (xs : List Envelope) → Holds site.own site.asked (messages_sent config site xs).site
-messages_hold config site [] = record { own_is = refl; asked_is = refl }
-messages_hold config site (x ∷ xs) =
-    let one = message_holds config site x in
-    let rest = messages_hold config (message_sent config site x).site xs in
-    record { own_is = rest.own_is ∙ one.own_is; asked_is = rest.asked_is ∙ one.asked_is }
-
-out_holds : (config : Config) (site : Site) (step : NodeStep) (reply : Option Envelope) → Holds site.own site.asked (step_out config site step reply).site
-out_holds config site step reply = messages_hold config (record site { node = after_step site.node (Ok step) }) (step.sends ++ listed reply)
-
 same_tables : (site : Site) → Holds site.own site.asked site
 same_tables site = record { own_is = refl; asked_is = refl }
 
-made_holds : (config : Config) (site : Site) (made : Result NodeStep StepFault) → Holds site.own site.asked (input_made config site made).site
-made_holds config site (Err fault) = same_tables site
-made_holds config site (Ok step) =
-    out_holds config (record site { clients = with_end site.clients (heard_by step.fact) }) step (ends_told site (heard_by step.fact))
+made_holds : (site : Site) (made : Result NodeStep StepFault) → Holds site.own site.asked (input_made site made).site
+made_holds site (Err fault) = same_tables site
+made_holds site (Ok step) = record { own_is = refl; asked_is = refl }
 
 input_holds : (config : Config) (site : Site) (input : Input) → Holds site.own site.asked (input_taken config site input).site
-input_holds config site input = made_holds config site (step_on config.cluster site.centre site.node input)
+input_holds config site input = made_holds site (step_on config.cluster site.centre site.node input)
 
-read_made_holds : (config : Config) (site : Site) (serial : ℕ) (key : Key) (made : Result NodeStep StepFault) → Holds site.own site.asked (read_made config site serial key made).site
-read_made_holds config site serial key (Err fault) = same_tables site
-read_made_holds config site serial key (Ok step) = out_holds config site step (reading_told site.centre serial key step.answer)
+read_made_holds : (site : Site) (serial : ℕ) (key : Key) (made : Result NodeStep StepFault) → Holds site.own site.asked (read_made site serial key made).site
+read_made_holds site serial key (Err fault) = same_tables site
+read_made_holds site serial key (Ok step) = record { own_is = refl; asked_is = refl }
 
 noted_holds : (site : Site) (serial : ℕ) (answer : Option Answer) → Holds site.own site.asked (begin_noted site serial answer)
 noted_holds site serial None = same_tables site
@@ -77,19 +50,17 @@ noted_holds site serial (Some (Answer.Begun tx)) = record { own_is = refl; asked
 noted_holds site serial (Some (Answer.Refused key fault)) = same_tables site
 noted_holds site serial (Some (Answer.Read reading)) = same_tables site
 
-begin_made_holds : (config : Config) (site : Site) (serial : ℕ) (made : Result NodeStep StepFault) → Holds site.own site.asked (begin_made config site serial made).site
-begin_made_holds config site serial (Err fault) = same_tables site
-begin_made_holds config site serial (Ok step) =
-    let noted = noted_holds site serial step.answer in
-    let out = out_holds config (begin_noted site serial step.answer) step (begin_told site.centre serial step.answer) in
-    record { own_is = out.own_is ∙ noted.own_is; asked_is = out.asked_is ∙ noted.asked_is }
+begin_made_holds : (site : Site) (serial : ℕ) (made : Result NodeStep StepFault) → Holds site.own site.asked (begin_made site serial made).site
+begin_made_holds site serial (Err fault) = same_tables site
+begin_made_holds site serial (Ok step) =
+    let noted = noted_holds site serial step.answer in record { own_is = noted.own_is; asked_is = noted.asked_is }
 
 draft_holds : (config : Config) (site : Site) (serial : ℕ) (draft : Result (List Part) DraftFault) → Holds site.own site.asked (draft_taken config site serial draft).site
-draft_holds config site serial (Err fault) = message_holds config site (answer_to site.centre serial (ClientAnswer.Draft fault))
-draft_holds config site serial (Ok parts) = begin_made_holds config site serial (step_on config.cluster site.centre site.node (Input.Begin parts))
+draft_holds config site serial (Err fault) = record { own_is = refl; asked_is = refl }
+draft_holds config site serial (Ok parts) = begin_made_holds site serial (step_on config.cluster site.centre site.node (Input.Begin parts))
 
 begin_by_holds : (config : Config) (site : Site) (serial : ℕ) (parts : List Part) (known : Option TxId) → Holds site.own site.asked (begin_taken_by config site serial parts known).site
-begin_by_holds config site serial parts (Some tx) = message_holds config site (answer_to site.centre serial (known_told tx (ended (known_of site.clients tx))))
+begin_by_holds config site serial parts (Some tx) = record { own_is = refl; asked_is = refl }
 begin_by_holds config site serial parts None = draft_holds config site serial (transaction_of config.cluster.schema parts)
 
 -- ---- receives
@@ -112,7 +83,7 @@ own_holds config site (Some bytes) =
     own_arrived_holds config (record site { own = (join bytes site.own).entries }) (arrival_of (join bytes site.own).answer)
 
 asked_message_holds : (config : Config) (site : Site) (message : Message) → Holds site.own site.asked (asked_message config site message).site
-asked_message_holds config site (Message.ClientRead serial key) = read_made_holds config site serial key (step_on config.cluster site.centre site.node (Input.Read key))
+asked_message_holds config site (Message.ClientRead serial key) = read_made_holds site serial key (step_on config.cluster site.centre site.node (Input.Read key))
 asked_message_holds config site (Message.ClientBegin serial parts) = begin_by_holds config site serial parts (begun_for site.clients serial)
 asked_message_holds config site message = same_tables site
 
@@ -135,6 +106,14 @@ ticked_holds config given site = by_silence (is_silent given)
     by_silence true = input_holds config site Input.Tick
     by_silence false = same_tables site
 
+-- what goes out leaves them
+released_holds : (config : Config) (given : Given) (site : Site) → Holds site.own site.asked (released config given site).site
+released_holds config given site = by_held (given.waits && not (is_full site.pending))
+  where
+    by_held : (held : Bool) → Holds site.own site.asked (cond held (idle site) (persist_then_send config site)).site
+    by_held true = same_tables site
+    by_held false = record { own_is = ap (λ (s : Site). s.own) (out_site config site); asked_is = ap (λ (s : Site). s.asked) (out_site config site) }
+
 pub turn_holds : (config : Config) (site : Site) (given : Given)
     → Holds (table_after (listed given.own) site.own) (table_after (listed given.asked) site.asked) (turn_of config site given).site
 turn_holds config site given =
@@ -143,7 +122,8 @@ turn_holds config site given =
     let own = own_holds config site given.own in
     let asked = asked_holds config first.site given.asked in
     let tick = ticked_holds config given second.site in
+    let out = released_holds config given (inputs_taken config site given).site in
     record {
-      own_is = tick.own_is ∙ (asked.own_is ∙ own.own_is);
-      asked_is = tick.asked_is ∙ (asked.asked_is ∙ ap (table_after (listed given.asked)) own.asked_is);
+      own_is = out.own_is ∙ (tick.own_is ∙ (asked.own_is ∙ own.own_is));
+      asked_is = out.asked_is ∙ (tick.asked_is ∙ (asked.asked_is ∙ ap (table_after (listed given.asked)) own.asked_is));
     }

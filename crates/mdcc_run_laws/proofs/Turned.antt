@@ -1,4 +1,4 @@
--- What the turns of a centre do is the run of its node over the inputs of these turns.
+-- What the inputs of a centre's turns leave is the run of its node over them.
 use Rattle.std.proofs.Common.{◌≡◌, ℕ, ◌+◌, Bool, true, false, cond, List, [], ◌∷◌, ◌++◌, Option, Some, None, Result, sym, ◌∙◌, ap, subst}
 use Rattle.mdcc_config.specs.declared.config.Config.{Config}
 use Rattle.mdcc_frag.specs.Joining.{join}
@@ -7,20 +7,20 @@ use Rattle.mdcc_messages.specs.declared.messages.Message.{Message}
 use Rattle.mdcc_rules.specs.Steps.{NodeStep}
 use Rattle.mdcc_rules.specs.declared.node.Input.{Input}
 use Rattle.mdcc_rules.specs.declared.node.StepFault.{StepFault}
-use Rattle.mdcc_run_laws.proofs.Joined.{node_after_run, run_joined, tells_after, tells_then}
-use Rattle.mdcc_run_laws.proofs.Seen.{shows_received}
-use Rattle.mdcc_run_laws.proofs.Stepped.{TellsOf, begin_tells, dropped_tells, idle_tells, input_tells, read_tells}
-use Rattle.mdcc_run_laws.specs.Inputs.{asked_input, asked_inputs, asked_message_input, inputs_in, own_input, own_inputs, own_message_input, tick_input, turn_inputs, turns}
-use Rattle.mdcc_run_laws.specs.Laws.{IsRunOver}
+use Rattle.mdcc_run_laws.proofs.Joined.{LeavesOf, leaves_after, leaves_then, run_joined}
+use Rattle.mdcc_run_laws.proofs.Queued.{quiet}
+use Rattle.mdcc_run_laws.proofs.Seen.{inward_received}
+use Rattle.mdcc_run_laws.proofs.Stepped.{begin_leaves, dropped_leaves, idle_leaves, input_leaves, read_leaves}
+use Rattle.mdcc_run_laws.specs.Inputs.{asked_input, asked_inputs, asked_message_input, own_input, own_inputs, own_message_input, tick_input, turn_inputs}
 use Rattle.mdcc_runs.specs.Arrivals.{Arrival, arrival_of, is_for_client}
 use Rattle.mdcc_runs.specs.Runs.{NodeState, run_of}
 use Rattle.mdcc_runs.specs.Sites.{Doing, Site, after_acts, idle}
 use Rattle.mdcc_runs.specs.Steps.{dropped, input_taken}
-use Rattle.mdcc_runs.specs.Turns.{Given, asked_arrived, asked_message, asked_received, asked_taken, is_silent, own_arrived, own_message, own_received, own_taken, ticked, turn_of}
+use Rattle.mdcc_runs.specs.Turns.{Given, asked_arrived, asked_message, asked_received, asked_taken, inputs_taken, is_silent, own_arrived, own_message, own_received, own_taken, ticked}
 
--- what a centre did is what its node made of these inputs
+-- what a centre leaves is what its node made of these inputs
 abbrev pub RunsOn : Config → Site → List Input → Doing → Type 0
-RunsOn config site inputs did = TellsOf config site (run_of config.cluster site.centre site.node inputs) did
+RunsOn config site inputs did = LeavesOf site (run_of config.cluster site.centre site.node inputs) did
 
 runs_then : (config : Config) (site : Site) (xs ys : List Input) {first second : Doing}
     → RunsOn config site xs first → RunsOn config first.site ys second → RunsOn config site (xs ++ ys) (after_acts first.acts second)
@@ -30,7 +30,7 @@ runs_then config site xs ys {first = first} {second = second} one two =
     ap (λ (c : ℕ). run ++ run_of config.cluster c first.site.node ys) one.centre_is
     ∙ ap (λ (n : NodeState). run ++ run_of config.cluster site.centre n ys) one.node_is
     ∙ sym (run_joined config.cluster site.centre site.node xs ys) in
-    subst (λ (made : List (Result NodeStep StepFault)). TellsOf config site made (after_acts first.acts second)) joined (tells_then one two)
+    subst (λ (made : List (Result NodeStep StepFault)). LeavesOf site made (after_acts first.acts second)) joined (leaves_then one two)
 
 -- ---- at its own endpoint
 
@@ -38,41 +38,41 @@ own_message_runs : (config : Config) (site : Site) (x : Envelope) → RunsOn con
 own_message_runs config site x = by_kind (is_for_client x.message)
   where
     by_kind : (b : Bool) → RunsOn config site (cond b [] (Input.Message x ∷ [])) (cond b (dropped site) (input_taken config site (Input.Message x)))
-    by_kind true = dropped_tells config site
-    by_kind false = input_tells config site (Input.Message x)
+    by_kind true = dropped_leaves site
+    by_kind false = input_leaves config site (Input.Message x)
 
 own_arrived_runs : (config : Config) (site : Site) (arrival : Arrival) → RunsOn config site (own_input arrival) (own_arrived config site arrival)
-own_arrived_runs config site Arrival.Piece = idle_tells config site
-own_arrived_runs config site Arrival.Refused = dropped_tells config site
+own_arrived_runs config site Arrival.Piece = idle_leaves site
+own_arrived_runs config site Arrival.Refused = dropped_leaves site
 own_arrived_runs config site (Arrival.Whole x) = own_message_runs config site x
 
 own_taken_runs : (config : Config) (site : Site) (gave : Option (List ℕ)) → RunsOn config site (own_inputs site gave) (own_taken config site gave)
-own_taken_runs config site None = idle_tells config site
+own_taken_runs config site None = idle_leaves site
 own_taken_runs config site (Some bytes) =
     own_arrived_runs config (record site { own = (join bytes site.own).entries }) (arrival_of (join bytes site.own).answer)
 
 own_runs : (config : Config) (site : Site) (gave : Option (List ℕ)) → RunsOn config site (own_inputs site gave) (own_received config site gave)
-own_runs config site gave = tells_after (shows_received site.centre site.centre gave) (own_taken_runs config site gave)
+own_runs config site gave = leaves_after (inward_received site.centre gave) (own_taken_runs config site gave)
 
 -- ---- at its client's
 
 asked_message_runs : (config : Config) (site : Site) (message : Message) → RunsOn config site (asked_message_input config site message) (asked_message config site message)
-asked_message_runs config site (Message.ClientRead serial key) = read_tells config site serial key
-asked_message_runs config site (Message.ClientBegin serial parts) = begin_tells config site serial parts
-asked_message_runs config site message = dropped_tells config site
+asked_message_runs config site (Message.ClientRead serial key) = read_leaves config site serial key
+asked_message_runs config site (Message.ClientBegin serial parts) = begin_leaves config site serial parts
+asked_message_runs config site message = dropped_leaves site
 
 asked_arrived_runs : (config : Config) (site : Site) (arrival : Arrival) → RunsOn config site (asked_input config site arrival) (asked_arrived config site arrival)
-asked_arrived_runs config site Arrival.Piece = idle_tells config site
-asked_arrived_runs config site Arrival.Refused = dropped_tells config site
+asked_arrived_runs config site Arrival.Piece = idle_leaves site
+asked_arrived_runs config site Arrival.Refused = dropped_leaves site
 asked_arrived_runs config site (Arrival.Whole x) = asked_message_runs config site x.message
 
 asked_taken_runs : (config : Config) (site : Site) (gave : Option (List ℕ)) → RunsOn config site (asked_inputs config site gave) (asked_taken config site gave)
-asked_taken_runs config site None = idle_tells config site
+asked_taken_runs config site None = idle_leaves site
 asked_taken_runs config site (Some bytes) =
     asked_arrived_runs config (record site { asked = (join bytes site.asked).entries }) (arrival_of (join bytes site.asked).answer)
 
 asked_runs : (config : Config) (site : Site) (gave : Option (List ℕ)) → RunsOn config site (asked_inputs config site gave) (asked_received config site gave)
-asked_runs config site gave = tells_after (shows_received site.centre (site.centre + 16) gave) (asked_taken_runs config site gave)
+asked_runs config site gave = leaves_after (inward_received (site.centre + 16) gave) (asked_taken_runs config site gave)
 
 -- ---- turns
 
@@ -80,27 +80,24 @@ ticked_runs : (config : Config) (given : Given) (site : Site) → RunsOn config 
 ticked_runs config given site = by_silence (is_silent given)
   where
     by_silence : (b : Bool) → RunsOn config site (cond b (Input.Tick ∷ []) []) (cond b (input_taken config site Input.Tick) (idle site))
-    by_silence true = input_tells config site Input.Tick
-    by_silence false = idle_tells config site
+    by_silence true = input_leaves config site Input.Tick
+    by_silence false = idle_leaves site
 
-pub turn_runs : (config : Config) (site : Site) (given : Given) → RunsOn config site (turn_inputs config site given) (turn_of config site given)
-turn_runs config site given =
+pub inputs_run : (config : Config) (site : Site) (given : Given) → RunsOn config site (turn_inputs config site given) (inputs_taken config site given)
+inputs_run config site given =
     let own = own_received config site given.own in
     let asked = asked_received config own.site given.asked in
     runs_then config site (own_inputs site given.own ++ asked_inputs config own.site given.asked) (tick_input given)
     (runs_then config site (own_inputs site given.own) (asked_inputs config own.site given.asked) (own_runs config site given.own) (asked_runs config own.site given.asked))
     (ticked_runs config given asked.site)
 
-turns_run : (config : Config) (site : Site) (given : List Given) → RunsOn config site (inputs_in config site given) (turns config site given)
-turns_run config site [] = idle_tells config site
-turns_run config site (one ∷ given) =
-    let next = (turn_of config site one).site in
-    runs_then config site (turn_inputs config site one) (inputs_in config next given) (turn_runs config site one) (turns_run config next given)
+-- the inputs of all turns, where nothing goes out
+abbrev pub quiet_inputs : Config → Site → List Given → List Input
+quiet_inputs config site [] = []
+quiet_inputs config site (given ∷ more) = turn_inputs config site given ++ quiet_inputs config (inputs_taken config site given).site more
 
-pub turns_are_runs : (config : Config) (site : Site) (given : List Given) → IsRunOver config site (inputs_in config site given) (turns config site given)
-turns_are_runs config site given =
-    let tells = turns_run config site given in
-    record {
-      tells = tells;
-      node = tells.node_is ∙ node_after_run config.cluster site.centre site.node (inputs_in config site given);
-    }
+pub quiet_runs : (config : Config) (site : Site) (given : List Given) → RunsOn config site (quiet_inputs config site given) (quiet config site given)
+quiet_runs config site [] = idle_leaves site
+quiet_runs config site (one ∷ given) =
+    let next = (inputs_taken config site one).site in
+    runs_then config site (turn_inputs config site one) (quiet_inputs config next given) (inputs_run config site one) (quiet_runs config next given)

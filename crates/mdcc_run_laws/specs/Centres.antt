@@ -1,5 +1,5 @@
 -- One centre of a server of several.
-use Rattle.std.specs.Prelude.{List, None, get_or, length, map, ℕ, ◌++◌, ◌∷◌, ◌≡◌}
+use Rattle.std.specs.Prelude.{List, None, false, get_or, length, map, ℕ, ◌++◌, ◌∷◌, ◌≡◌}
 use Rattle.mdcc_config.specs.declared.config.Config.{Config}
 use Rattle.mdcc_rules.specs.Boot.{next_boot}
 use Rattle.mdcc_run_laws.specs.Inputs.{turns}
@@ -10,9 +10,9 @@ use Rattle.mdcc_runs.specs.Turns.{Given}
 
 -- what the receives of the centre at this place gave, turn by turn
 abbrev pub given_at : ℕ → List (List Given) → List Given
-given_at place given = map (λ turn. get_or turn place (record { own = None; asked = None })) given
+given_at place given = map (λ turn. get_or turn place (record { own = None; asked = None; waits = false })) given
 
--- its turns, by what its own receives gave
+-- its turns, by what its own receives gave, after the last of which what is pending goes out
 abbrev pub turns_at : Config → ℕ → Log → List (List Given) → Doing
 turns_at config place log given = turns config (site_of log) (given_at place given)
 

@@ -11,6 +11,7 @@ use Rattle.mdcc_option.specs.declared.items.Part.{Part}
 use Rattle.mdcc_rules.specs.declared.node.Input.{Input}
 use Rattle.mdcc_runs.specs.Arrivals.{Arrival, arrival_of, is_for_client}
 use Rattle.mdcc_runs.specs.Clients.{begun_for}
+use Rattle.mdcc_runs.specs.Sending.{persist_then_send}
 use Rattle.mdcc_runs.specs.Sites.{Doing, Site, and_then, idle}
 use Rattle.mdcc_runs.specs.Turns.{Given, is_silent, own_received, turn_of}
 
@@ -63,9 +64,13 @@ turn_inputs config site given =
     (own_inputs site given.own ++ asked_inputs config (own_received config site given.own).site given.asked) ++ tick_input given
 
 -- one turn after the other
+abbrev pub turns_alone : Config → Site → List Given → Doing
+turns_alone config site [] = idle site
+turns_alone config site (given ∷ more) = and_then (turn_of config site given) (λ next. turns_alone config next more)
+
+-- and after the last one what is pending goes out
 abbrev pub turns : Config → Site → List Given → Doing
-turns config site [] = idle site
-turns config site (given ∷ more) = and_then (turn_of config site given) (λ next. turns config next more)
+turns config site given = and_then (turns_alone config site given) (persist_then_send config)
 
 abbrev pub inputs_in : Config → Site → List Given → List Input
 inputs_in config site [] = []

@@ -1,6 +1,6 @@
 -- What is proved of the runs of nodes that are served.
 use Rattle.std.specs.List.{AllByRecursion}
-use Rattle.std.specs.Prelude.{List, [], length, ℕ, ◌++◌, ◌∷◌, ◌≡◌, ◌≢◌}
+use Rattle.std.specs.Prelude.{List, [], length, map, ℕ, ◌++◌, ◌∷◌, ◌≡◌, ◌≢◌}
 use Rattle.mdcc_config.specs.declared.config.Config.{Config}
 use Rattle.mdcc_frag.specs.Joining.{Entry, join}
 use Rattle.mdcc_frag.specs.declared.joined.Joined.TheVariants.{Dropped, Whole}
@@ -10,7 +10,7 @@ use Rattle.mdcc_run_laws.specs.Brought.{AreBytes, BringsMessage, BringsRequest, 
 use Rattle.mdcc_run_laws.specs.Centres.{DoesItsTurns}
 use Rattle.mdcc_run_laws.specs.Inputs.{inputs_in, turns}
 use Rattle.mdcc_run_laws.specs.Told.{Tells}
-use Rattle.mdcc_run_laws.specs.Without.{AreAsGood, without_dropped}
+use Rattle.mdcc_run_laws.specs.Without.{AreAsGood, received_in, without_dropped}
 use Rattle.mdcc_rules.specs.declared.node.Input.{Input}
 use Rattle.mdcc_runs.specs.Runs.{after_run, inputs_taken, refusals, run_of}
 use Rattle.mdcc_runs.specs.Servers.{Log, served}
@@ -43,11 +43,18 @@ DroppedLeavesTable =
 abbrev pub DroppedPiecesAreAsNone : Type 0
 DroppedPiecesAreAsNone = (config : Config) (site : Site) (given : List Given) → AreAsGood config site given (without_dropped config site given)
 
+-- ---- what goes out together
+
+-- How many inputs are taken before what is pending goes out, by whether datagrams wait, changes neither the inputs nor what is seen.
+abbrev pub GroupingChangesNothing : Type 0
+GroupingChangesNothing =
+    (config : Config) (site : Site) (given other : List Given) → map received_in other ≡ map received_in given → AreAsGood config site given other
+
 -- ---- runs
 
 -- What was done is the run of the centre's node over these inputs.
 pub record IsRunOver (config : Config) (site : Site) (inputs : List Input) (did : Doing) : Type 0 where
-  pub tells : Tells config site.centre site.node site.sent (run_of config.cluster site.centre site.node inputs) did
+  pub tells : Tells config site (run_of config.cluster site.centre site.node inputs) did
   pub node : did.site.node ≡ after_run config.cluster site.centre site.node inputs
 
 abbrev pub TurnsAreRuns : Type 0

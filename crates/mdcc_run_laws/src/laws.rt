@@ -1,5 +1,5 @@
 //! What datagrams bring to a node, and what a server makes of it.
-ghost use Rattle.mdcc_run_laws.specs.Laws.{CentresDoTheirTurns, DatagramsBringMessages, DatagramsBringRequests, DroppedLeavesTable, DroppedPiecesAreAsNone, TurnsAreRuns, TurnsAreRunsWithoutRefused, WholeCameInPieces};
+ghost use Rattle.mdcc_run_laws.specs.Laws.{CentresDoTheirTurns, DatagramsBringMessages, DatagramsBringRequests, DroppedLeavesTable, DroppedPiecesAreAsNone, GroupingChangesNothing, TurnsAreRuns, TurnsAreRunsWithoutRefused, WholeCameInPieces};
 
 /// Whatever bytes come at a centre's endpoint: a message that is an input of its node is well-formed, and spelled by bytes that pieces
 /// which came made whole.
@@ -19,14 +19,20 @@ pub fn whole_messages_came_in_pieces()
     ensures { WholeCameInPieces }
 {}
 
-/// A piece that is dropped is as good as none: the messages of which some pieces came are the same, and the inputs, and all that a
-/// server does but for receiving and counting it.
+/// A piece that is dropped is as good as none: the messages of which some pieces came are the same, and the inputs, and the facts
+/// appended, the messages sent, the lines and the steps, each in order, and the centre once what is pending went out.
 pub fn dropped_pieces_change_nothing()
     ensures table { DroppedLeavesTable }
     ensures turns { DroppedPiecesAreAsNone }
 {}
 
-/// What a centre does in its turns is the run of its node over the inputs that its receives gave.
+/// Whether more waits after a turn decides only what goes out together: the inputs are the same, and the facts appended, the messages
+/// sent, the lines and the steps, each in order, and the centre once what is pending went out.
+pub fn grouping_changes_nothing()
+    ensures { GroupingChangesNothing }
+{}
+
+/// What a centre does in its turns, once what is pending went out, is the run of its node over the inputs that its receives gave.
 pub fn turns_run_by_inputs()
     ensures { TurnsAreRuns }
 {}

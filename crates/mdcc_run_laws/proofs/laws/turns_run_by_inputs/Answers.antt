@@ -1,4 +1,4 @@
-use Rattle.mdcc_run_laws.proofs.Turned.{turns_are_runs}
+use Rattle.mdcc_run_laws.proofs.Grouped.{turns_are_runs}
 use Rattle.mdcc_run_laws.proofs.laws.turns_run_by_inputs.Goals as goal
 
 pub returns : goal.returns
