@@ -126,6 +126,7 @@ module _ (laws : StepLaws) (cluster : Cluster) (held : TheSite) (site : Site) (i
     clients = is.clients;
     own = is.own;
     asked = is.asked;
+    waits = record { pending = is.waits.pending; all = is.waits.all; facts = is.waits.facts; envelopes = is.waits.envelopes };
     fact = fits planned made planned.fact refl;
     sends = all_sent planned.sends (laws.sends cluster site.centre facts volatile input planned
         (laws.room facts (let few = is.node.spare in let most = is.kept.cluster_itself.cells in omega (few, most, arith))) is.kept given_input.0 made);
@@ -141,6 +142,7 @@ module _ (laws : StepLaws) (cluster : Cluster) (held : TheSite) (site : Site) (i
     clients = is.clients;
     own = is.own;
     asked = is.asked;
+    waits = record { pending = is.waits.pending; all = is.waits.all; facts = is.waits.facts; envelopes = is.waits.envelopes };
   }
 
   module _ (step : Step) where

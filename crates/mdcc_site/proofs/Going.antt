@@ -1,12 +1,12 @@
 -- What a centre does, one part after another.
-use Rattle.std.proofs.Common.{◌≡◌, ℕ, ◌≤◌, List, ◌++◌, Option, Result, Ok, Err, sym, ◌∙◌, ap, subst, arith, IsTrue}
+use Rattle.std.proofs.Common.{◌≡◌, ℕ, ◌≤◌, List, ◌++◌, Result, Ok, Err, sym, ◌∙◌, ap, subst, arith, IsTrue}
 use Rattle.mdcc_areas.specs.declared.fault.LogFault.{LogFault}
 use Rattle.mdcc_messages.specs.declared.facts.Fact.{Fact}
 use Rattle.mdcc_option.specs.declared.cluster.Cluster.{Cluster}
 use Rattle.mdcc_runs.specs.Acts.{Act, but_answers}
 use Rattle.mdcc_runs.specs.Sites.{Doing, Site, after_acts}
 use Rattle.mdcc_site.proofs.Joined.{broke_more, did_broke, did_then, facts_expected, facts_then, flight_more, others_then}
-use Rattle.mdcc_site.proofs.Owns.{Owns}
+use Rattle.mdcc_site.proofs.Owns.{IsWhole, Owns}
 use Rattle.mdcc_site.specs.Causes.{in_flight}
 use Rattle.mdcc_site.specs.Logs.{MayHaveFacts, facts_after}
 use Rattle.mdcc_site.specs.Moments.{Did, KeepsOthers, MayComeAt, Outside}
@@ -37,15 +37,15 @@ serial_later ServeFault.Memory sent more later is = tt
 module _ {D L O : Type 0} (w : Outside D L O) where
   -- acts that were done, and then what comes of the centre with the facts that these appended
   pub acts_then : {T : Type 0} (cluster : Cluster) (site next : Site) (acts : List Act) (second : Doing) (a b c : Place D L O) (r : Result T ServeFault)
-      → next.centre ≡ site.centre → next.node.facts ≡ facts_after site.centre site.node.facts acts
+      → next.centre ≡ site.centre → next.logged ≡ facts_after site.centre site.logged acts
       → Did w acts (seen a) (seen b) → KeepsOthers w.disk w.may_leave site.centre a.disks b.disks
       → Goes w cluster next second r b c → Goes w cluster site (after_acts acts second) r a c
-  acts_then cluster site next acts second a b c (Ok x) centre facts one others two = record {
+  acts_then cluster site next acts second a b c (Ok x) centre logged one others two = record {
     did = did_then w one two.did;
     others = others_then w others (subst (λ (n : ℕ). KeepsOthers w.disk w.may_leave n b.disks c.disks) centre two.others);
     stands = two.stands;
   }
-  acts_then cluster site next acts second a b c (Err fault) centre facts one others two = record {
+  acts_then cluster site next acts second a b c (Err fault) centre logged one others two = record {
     broke = did_broke w (λ rest comes. comes_under fault rest told comes) logs one two.broke;
     others = others_then w others (subst (λ (n : ℕ). KeepsOthers w.disk w.may_leave n b.disks c.disks) centre two.others);
     serials = two.serials;
@@ -57,17 +57,18 @@ module _ {D L O : Type 0} (w : Outside D L O) where
 
       logs : (before done rest : List Act) → but_answers before ≡ acts → SiteLog w next fault b.disks c.disks done rest → SiteLog w site fault a.disks c.disks (before ++ done) rest
       logs before done rest are log here =
-          let e : facts_after next.centre next.node.facts done ≡ facts_after site.centre site.node.facts (before ++ done) =
-          ap (λ (n : ℕ). facts_after n next.node.facts done) centre
-          ∙ (ap (λ (fs : List Fact). facts_after site.centre fs done) (facts ∙ sym (facts_expected site.centre site.node.facts before acts are))
-          ∙ sym (facts_then site.centre site.node.facts before done)) in
-          subst (λ (n : ℕ). MayHaveFacts w.disk w.may_leave c.disks n (facts_after site.centre site.node.facts (before ++ done)) (in_flight fault n rest)) centre
+          let e : facts_after next.centre next.logged done ≡ facts_after site.centre site.logged (before ++ done) =
+          ap (λ (n : ℕ). facts_after n next.logged done) centre
+          ∙ (ap (λ (fs : List Fact). facts_after site.centre fs done) (logged ∙ sym (facts_expected site.centre site.logged before acts are))
+          ∙ sym (facts_then site.centre site.logged before done)) in
+          subst (λ (n : ℕ). MayHaveFacts w.disk w.may_leave c.disks n (facts_after site.centre site.logged (before ++ done)) (in_flight fault n rest)) centre
           (subst (λ (fs : List Fact). MayHaveFacts w.disk w.may_leave c.disks next.centre fs (in_flight fault next.centre rest)) e (log (told here)))
 
   -- what it did, and then what it does
   pub goes_then : {T : Type 0} {cluster : Cluster} {site : Site} {first : Doing} {a b : Place D L O} (second : Doing) (c : Place D L O) (r : Result T ServeFault)
-      → Owns site first → Finishes w cluster site first a b → Goes w cluster first.site second r b c → Goes w cluster site (after_acts first.acts second) r a c
-  goes_then {cluster = cluster} {site = site} {first = first} {a = a} {b = b} second c r owns one two = acts_then cluster site first.site first.acts second a b c r owns.centre owns.facts one.did one.others two
+      → IsWhole site → Owns site first → Finishes w cluster site first a b → Goes w cluster first.site second r b c → Goes w cluster site (after_acts first.acts second) r a c
+  goes_then {cluster = cluster} {site = site} {first = first} {a = a} {b = b} second c r whole owns one two =
+      acts_then cluster site first.site first.acts second a b c r owns.centre (owns.logged whole) one.did one.others two
 
   -- what it ended in, with more to come
   pub stops_then : {site : Site} {first : Doing} {fault : ServeFault} {a b : Place D L O} (second : Doing) → first.site.sent ≤ second.site.sent
@@ -81,5 +82,5 @@ module _ {D L O : Type 0} (w : Outside D L O) where
     where
       logs : (acts rest : List Act) → MayComeAt (IsTrue (w.disk a.disks site.centre).told) fault rest → SiteLog w site fault a.disks b.disks acts rest → SiteLog w site fault a.disks b.disks acts (rest ++ second.acts)
       logs acts rest comes log told =
-          subst (λ (o : Option Fact). MayHaveFacts w.disk w.may_leave b.disks site.centre (facts_after site.centre site.node.facts acts) o)
+          subst (λ (fs : List Fact). MayHaveFacts w.disk w.may_leave b.disks site.centre (facts_after site.centre site.logged acts) fs)
           (sym (flight_more (IsTrue (w.disk a.disks site.centre).told) fault site.centre rest second.acts comes)) (log told)

@@ -11,7 +11,7 @@ use Rattle.mdcc_outbox.proofs.Recorded.{answers_append, calls_append, failed_app
 use Rattle.mdcc_outbox.specs.Sends.{IsSending}
 use Rattle.mdcc_outbox.specs.Shows.{Records, calls_of, counted, failed_in}
 use Rattle.mdcc_runs.specs.Acts.{Act, appended, appended_by, but_answer, but_answers, dropped_by, dropped_in, lost_in, printed, printed_by, steps_by, steps_in}
-use Rattle.mdcc_site.specs.Causes.{IsAtLink, IsLogging, IsPrinting, failed_by, failed_next, in_flight, next_fact, next_text, text_begun}
+use Rattle.mdcc_site.specs.Causes.{IsAtLink, IsLogging, IsPrinting, failed_by, failed_next, in_flight, next_facts, next_text, text_begun}
 use Rattle.mdcc_site.specs.Logs.{facts_after, with_facts}
 use Rattle.mdcc_site.specs.Moments.{Adds, Broke, Caused, Did, KeepsOthers, Leaves, MayComeAt, Moment, Outside, Passes}
 use Rattle.mdcc_site.specs.Room.{LacksRoom, OnFull}
@@ -34,7 +34,7 @@ dropped_append xs ys = sum_append dropped_by xs ys
 one_answer : (a : ℕ) (x : Act) → appended_by a (but_answer x) ≡ appended_by a x
 one_answer a (Act.Bind at address) = refl
 one_answer a (Act.Receive at gave) = refl
-one_answer a (Act.Append centre fact) = refl
+one_answer a (Act.Append centre facts) = refl
 one_answer a (Act.Send from to bytes answer) = refl
 one_answer a (Act.Print line) = refl
 one_answer a Act.Stepped = refl
@@ -64,7 +64,7 @@ at_link_more : (rest more : List Act) → IsAtLink rest → IsAtLink (rest ++ mo
 at_link_more (Act.Bind at address ∷ rest) more comes = comes
 at_link_more (Act.Receive at gave ∷ rest) more comes = comes
 at_link_more [] more comes = absurd comes
-at_link_more (Act.Append centre fact ∷ rest) more comes = absurd comes
+at_link_more (Act.Append centre facts ∷ rest) more comes = absurd comes
 at_link_more (Act.Send from to bytes answer ∷ rest) more comes = absurd comes
 at_link_more (Act.Print line ∷ rest) more comes = absurd comes
 at_link_more (Act.Stepped ∷ rest) more comes = absurd comes
@@ -72,7 +72,7 @@ at_link_more (Act.Dropped ∷ rest) more comes = absurd comes
 at_link_more (Act.Unsent ∷ rest) more comes = absurd comes
 
 logging_more : (a : ℕ) (rest more : List Act) → IsLogging a rest → IsLogging a (rest ++ more)
-logging_more a (Act.Append centre fact ∷ rest) more comes = comes
+logging_more a (Act.Append centre facts ∷ rest) more comes = comes
 logging_more a [] more comes = absurd comes
 logging_more a (Act.Bind at address ∷ rest) more comes = absurd comes
 logging_more a (Act.Receive at gave ∷ rest) more comes = absurd comes
@@ -87,7 +87,7 @@ printing_more (Act.Print line ∷ rest) more comes = comes
 printing_more [] more comes = absurd comes
 printing_more (Act.Bind at address ∷ rest) more comes = absurd comes
 printing_more (Act.Receive at gave ∷ rest) more comes = absurd comes
-printing_more (Act.Append centre fact ∷ rest) more comes = absurd comes
+printing_more (Act.Append centre facts ∷ rest) more comes = absurd comes
 printing_more (Act.Send from to bytes answer ∷ rest) more comes = absurd comes
 printing_more (Act.Stepped ∷ rest) more comes = absurd comes
 printing_more (Act.Dropped ∷ rest) more comes = absurd comes
@@ -98,7 +98,7 @@ sending_more (Act.Send from to bytes answer ∷ rest) more comes = comes
 sending_more [] more comes = absurd comes
 sending_more (Act.Bind at address ∷ rest) more comes = absurd comes
 sending_more (Act.Receive at gave ∷ rest) more comes = absurd comes
-sending_more (Act.Append centre fact ∷ rest) more comes = absurd comes
+sending_more (Act.Append centre facts ∷ rest) more comes = absurd comes
 sending_more (Act.Print line ∷ rest) more comes = absurd comes
 sending_more (Act.Stepped ∷ rest) more comes = absurd comes
 sending_more (Act.Dropped ∷ rest) more comes = absurd comes
@@ -120,7 +120,7 @@ next_failed : (rest more : List Act) → IsAtLink rest → failed_next (rest ++ 
 next_failed (Act.Bind at address ∷ rest) more comes = refl
 next_failed (Act.Receive at gave ∷ rest) more comes = refl
 next_failed [] more comes = absurd comes
-next_failed (Act.Append centre fact ∷ rest) more comes = absurd comes
+next_failed (Act.Append centre facts ∷ rest) more comes = absurd comes
 next_failed (Act.Send from to bytes answer ∷ rest) more comes = absurd comes
 next_failed (Act.Print line ∷ rest) more comes = absurd comes
 next_failed (Act.Stepped ∷ rest) more comes = absurd comes
@@ -141,7 +141,7 @@ next_printed (Act.Print line ∷ rest) more comes = refl
 next_printed [] more comes = absurd comes
 next_printed (Act.Bind at address ∷ rest) more comes = absurd comes
 next_printed (Act.Receive at gave ∷ rest) more comes = absurd comes
-next_printed (Act.Append centre fact ∷ rest) more comes = absurd comes
+next_printed (Act.Append centre facts ∷ rest) more comes = absurd comes
 next_printed (Act.Send from to bytes answer ∷ rest) more comes = absurd comes
 next_printed (Act.Stepped ∷ rest) more comes = absurd comes
 next_printed (Act.Dropped ∷ rest) more comes = absurd comes
@@ -156,8 +156,8 @@ text_more Told ServeFault.Output rest more comes = next_printed rest more comes
 text_more Told ServeFault.Serial rest more comes = refl
 text_more Told ServeFault.Memory rest more comes = refl
 
-next_logged : (a b : ℕ) (rest more : List Act) → IsLogging a rest → next_fact b (rest ++ more) ≡ next_fact b rest
-next_logged a b (Act.Append centre fact ∷ rest) more comes = refl
+next_logged : (a b : ℕ) (rest more : List Act) → IsLogging a rest → next_facts b (rest ++ more) ≡ next_facts b rest
+next_logged a b (Act.Append centre facts ∷ rest) more comes = refl
 next_logged a b [] more comes = absurd comes
 next_logged a b (Act.Bind at address ∷ rest) more comes = absurd comes
 next_logged a b (Act.Receive at gave ∷ rest) more comes = absurd comes
@@ -177,7 +177,7 @@ flight_more Told ServeFault.Serial b rest more comes = refl
 flight_more Told ServeFault.Memory b rest more comes = refl
 
 finds_more : {D : Type 0} (disk : D → ℕ → Disk) (may_leave : D → ℕ → List ℕ → Type 0) (disks : D) (a : ℕ) (rest more : List Act) → IsLogging a rest → LacksRoom disk may_leave disks rest → LacksRoom disk may_leave disks (rest ++ more)
-finds_more disk may_leave disks a (Act.Append centre fact ∷ rest) more comes lacks = lacks
+finds_more disk may_leave disks a (Act.Append centre facts ∷ rest) more comes lacks = lacks
 finds_more disk may_leave disks a [] more comes lacks = absurd comes
 finds_more disk may_leave disks a (Act.Bind at address ∷ rest) more comes lacks = absurd comes
 finds_more disk may_leave disks a (Act.Receive at gave ∷ rest) more comes lacks = absurd comes

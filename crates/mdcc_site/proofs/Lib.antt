@@ -1,14 +1,15 @@
 pub mod Acting
-pub mod Answered
+pub mod Becoming
 pub mod Drafted
 pub mod Going
 pub mod Joined
 pub mod Logged
 pub mod Noted
-pub mod Out
 pub mod Outlets
 pub mod Owns
 pub mod Parts
+pub mod Persisting
 pub mod Received
+pub mod Receives
 pub mod Sent
 pub mod Turned

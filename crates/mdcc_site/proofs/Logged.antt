@@ -1,25 +1,55 @@
--- What logging a fact does to the log of a centre.
-use Rattle.std.proofs.Common.{◌≡◌, ℕ, ◌+◌, ◌≤◌, ◌<◌, ◌⊎◌, inl, inr, List, [], ◌∷◌, ◌++◌, length, Some, None, Result, Ok, refl, sym, ◌∙◌, ap, subst, arith, true, IsTrue, ◌==◌}
+-- What logging facts does to the log of a centre.
+use Rattle.std.proofs.Common.{◌≡◌, ℕ, ◌+◌, ◌≤◌, ◌<◌, ◌⊎◌, inl, inr, List, [], ◌∷◌, ◌++◌, length, map, Result, Ok, refl, sym, ◌∙◌, ap, subst, arith, append-nil, append_assoc, true, IsTrue, ◌==◌}
 use Rattle.std.proofs.lemmas.Bool.{cases_eq}
 use Rattle.std.proofs.lemmas.Bool.Decides.{nat_tests}
+use Rattle.std.specs.List.{AllByRecursion}
 use Rattle.mdcc_areas.specs.Area.{AreaLog, generation_of, payloads}
 use Rattle.mdcc_areas.specs.AtRest.{IsAtRest}
 use Rattle.mdcc_areas.specs.Both.{KeepsBut, RoseAtOne}
-use Rattle.mdcc_areas.specs.Crash.{CurrentIsRead, IsCurrent, IsDead, IsIdle, IsOlder, ReadsAsEither, payloads_by}
+use Rattle.mdcc_areas.specs.Crash.{CurrentIsRead, IsCurrent, IsDead, IsIdle, IsOlder, payloads_by}
 use Rattle.mdcc_areas.specs.Frames.{IsSettled, IsSpare, OpenAreas, other_of, place_of}
-use Rattle.mdcc_areas.specs.Room.{IsFull}
+use Rattle.mdcc_areas.specs.Groups.{AreFull, ReadsAsAllOrNone}
 use Rattle.mdcc_areas.specs.declared.fault.LogFault.{LogFault}
 use Rattle.mdcc_disks.specs.Disks.{Disk}
+use Rattle.mdcc_journal.specs.Counts.{HasCounts}
 use Rattle.mdcc_messages.specs.Spelling.{fact_bytes, encodings_of}
 use Rattle.mdcc_messages.specs.declared.facts.Fact.{Fact}
+use Rattle.mdcc_runs.specs.Sending.{facts_logged}
+use Rattle.mdcc_site.specs.Causes.{IsLogging, next_facts}
 use Rattle.mdcc_site.specs.LogEffects.{FailsToLog, HasLogged, log_fault_of}
-use Rattle.mdcc_site.specs.Logs.{MayHaveFacts}
+use Rattle.mdcc_site.specs.Logs.{MayHaveFacts, with_facts}
 use Rattle.mdcc_site.specs.Moments.{DiskPasses, KeepsOthers}
-use Rattle.mdcc_site.specs.SiteState.{HoldsLog, OpenLog}
+use Rattle.mdcc_site.specs.Room.{HasNoRoom, LacksRoom}
+use Rattle.mdcc_site.specs.SiteState.{HoldsLog, IsShortFact, OpenLog}
 use Rattle.mdcc_site.specs.declared.fault.ServeFault.{ServeFault}
+use Rattle.mdcc_spelling.proofs.Lengths.{length-fact}
 
 pub same_is : (n : ℕ) → (n == n) ≡ true
 same_is n = grind (arith, nat_tests)
+
+-- ---- facts and their bytes
+
+-- facts behind others have their bytes behind those
+pub spelled : (facts more : List Fact) → encodings_of facts ++ map fact_bytes more ≡ encodings_of (with_facts facts more)
+spelled facts [] = append-nil (encodings_of facts)
+spelled facts (fact ∷ more) = sym (append_assoc (encodings_of facts) (fact_bytes fact ∷ []) (map fact_bytes more)) ∙ spelled (fact ∷ facts) more
+
+payloads_more : (facts more : List Fact) → ◌≡◌ {A = Result (List (List ℕ)) ℕ} (Ok (encodings_of facts ++ map fact_bytes more)) (Ok (encodings_of (with_facts facts more)))
+payloads_more facts more = ap (λ (ps : List (List ℕ)). let ok : Result (List (List ℕ)) ℕ = Ok ps in ok) (spelled facts more)
+
+-- they come next
+pub logging_some : (centre : ℕ) (more : List Fact) → 1 ≤ length more → IsLogging centre (facts_logged centre more)
+logging_some centre [] some = absurd (omega (some, arith))
+logging_some centre (fact ∷ more) some = refl
+
+pub next_are : (centre : ℕ) (more : List Fact) → next_facts centre (facts_logged centre more) ≡ more
+next_are centre [] = refl
+next_are centre (fact ∷ more) = rw (same_is centre) refl
+
+lacks_some : {D : Type 0} (disk : D → ℕ → Disk) (may_leave : D → ℕ → List ℕ → Type 0) (disks : D) (centre : ℕ) (more : List Fact)
+    → (IsTrue (disk disks centre).told → HasNoRoom disk may_leave disks centre more) → LacksRoom disk may_leave disks (facts_logged centre more)
+lacks_some disk may_leave disks centre [] lacks = tt
+lacks_some disk may_leave disks centre (fact ∷ more) lacks = lacks
 
 -- ---- where the areas lie
 
@@ -56,10 +86,10 @@ module _ {D : Type 0} (disk : D → ℕ → Disk) (may_leave : D → ℕ → Lis
 
   -- ---- a log that is full, or for which there is no memory
 
-  pub unlogged : (disks : D) (log : OpenAreas) (centre : ℕ) (facts : List Fact) (fact : Fact) (fault : ServeFault) → OpenLog disk may_leave disks log centre facts
-      → (fault ≡ ServeFault.Memory) ⊎ ((fault ≡ ServeFault.Log centre LogFault.LogFull) × IsFull log (length (fact_bytes fact)))
-      → FailsToLog disk may_leave centre facts (Some fact) fault disks disks
-  unlogged disks log centre facts fact fault stands (inl is) = rw is (record {
+  pub unlogged : (disks : D) (log : OpenAreas) (centre : ℕ) (facts more : List Fact) (fault : ServeFault) → 1 ≤ length more → OpenLog disk may_leave disks log centre facts
+      → (fault ≡ ServeFault.Memory) ⊎ ((fault ≡ ServeFault.Log centre LogFault.LogFull) × AreFull log (map fact_bytes more))
+      → FailsToLog disk may_leave centre facts more fault disks disks
+  unlogged disks log centre facts more fault some stands (inl is) = rw is (record {
     comes = tt;
     no_boot = tt;
     cause = tt;
@@ -68,11 +98,12 @@ module _ {D : Type 0} (disk : D → ℕ → Disk) (may_leave : D → ℕ → Lis
     passes = disks_same disks;
     others = others_same centre disks;
   })
-  unlogged disks log centre facts fact fault stands (inr is) = rw is.0 (record {
-    comes = refl;
+  unlogged disks log centre facts more fault some stands (inr is) = rw is.0 (record {
+    comes = logging_some centre more some;
     no_boot = tt;
     cause = tt;
-    full = λ told. record { facts = facts; log = log; of = stands.of; every = stands.every; at_rest = stands.at_rest told; full = is.1 };
+    full = lacks_some disk may_leave disks centre more
+        (λ told. record { facts = facts; log = log; of = stands.of; every = stands.every; at_rest = stands.at_rest told; full = is.1 });
     log = stands.left;
     passes = disks_same disks;
     others = others_same centre disks;
@@ -188,13 +219,13 @@ module _ {D : Type 0} (disk : D → ℕ → Disk) (may_leave : D → ℕ → Lis
             turned (inl here) = inr here
             turned (inr there) = inl there
 
-        -- the log has the new fact
-        pub appended_stands : (more : OpenAreas) (facts : List Fact) (fact : Fact) (payload : List ℕ) → payload ≡ fact_bytes fact → OpenLog disk may_leave old log centre facts
+        -- the log has the new facts
+        pub appended_stands : (new_log : OpenAreas) (facts more : List Fact) → OpenLog disk may_leave old log centre facts
             → ((all : List (List ℕ)) → IsTrue (disk old (place_of log.centre log.area)).told → IsTrue (disk old (place_of log.centre (other_of log.area))).told
-            → IsAtRest disk may_leave old log all → IsAtRest disk may_leave new more (all ++ payload ∷ []))
-            → more.tail < more.every → (more.centre ≡ log.centre) × (more.every ≡ log.every)
-            → HasLogged disk may_leave centre facts (Some fact) old new more
-        appended_stands more facts fact payload spells stands acknowledged few same = record {
+            → IsAtRest disk may_leave old log all → IsAtRest disk may_leave new new_log (all ++ map fact_bytes more))
+            → new_log.tail < new_log.every → (new_log.centre ≡ log.centre) × (new_log.every ≡ log.every)
+            → HasLogged disk may_leave centre facts more old new new_log
+        appended_stands new_log facts more stands acknowledged few same = record {
           stands = record {
             open_log = record {
               of = same.0 ∙ of;
@@ -203,68 +234,68 @@ module _ {D : Type 0} (disk : D → ℕ → Disk) (may_leave : D → ℕ → Lis
               at_rest = λ told.
                   let before = subst IsTrue (told_at _ _ keeps centre) told in
                   let both = told_both old log centre facts stands range before in
-                  subst (λ (bytes : List ℕ). IsAtRest disk may_leave new more (encodings_of facts ++ bytes ∷ [])) spells (acknowledged (encodings_of facts) both.0 both.1 (stands.at_rest before));
+                  subst (λ (all : List (List ℕ)). IsAtRest disk may_leave new new_log all) (spelled facts more) (acknowledged (encodings_of facts) both.0 both.1 (stands.at_rest before));
               left = λ told first second here there.
                   let before = subst IsTrue (told_at _ _ keeps centre) told in
                   let both = told_both old log centre facts stands range before in
                   let rest = acknowledged (encodings_of facts) both.0 both.1 (stands.at_rest before) in
-                  inl (rested new more centre (encodings_of facts ++ payload ∷ []) rest.range (same.0 ∙ of) rest first second here there
-                  ∙ ap (λ (bytes : List ℕ). let ok : Result (List (List ℕ)) ℕ = Ok (encodings_of facts ++ bytes ∷ []) in ok) spells);
+                  inl (rested new new_log centre (encodings_of facts ++ map fact_bytes more) rest.range (same.0 ∙ of) rest first second here there ∙ payloads_more facts more);
             };
-            few = (let every = same.1 ∙ stands.every in subst (λ (n : ℕ). more.tail < n) every few);
+            few = (let every = same.1 ∙ stands.every in subst (λ (n : ℕ). new_log.tail < n) every few);
           };
           passes = disks_pass _ _ keeps;
           others = others_keep;
         }
 
-        -- whatever a crash leaves then, the log has its facts, or those and the new one
-        may_have : (facts : List Fact) (fact : Fact) (payload : List ℕ) → payload ≡ fact_bytes fact → OpenLog disk may_leave old log centre facts
+        -- whatever a crash leaves then, the log has its facts, or those and all the new ones
+        may_have : (facts more : List Fact) → OpenLog disk may_leave old log centre facts
             → ((disks : D) (p t : ℕ) (c : List ℕ) → t ≤ moment disks → may_leave disks p c → left_since disks p t c)
             → ((all : List (List ℕ)) (current spare : List ℕ) → IsTrue (disk old (place_of log.centre log.area)).told → IsTrue (disk old (place_of log.centre (other_of log.area))).told
             → IsAtRest disk may_leave old log all
             → left_since new (place_of log.centre log.area) (moment old) current → left_since new (place_of log.centre (other_of log.area)) (moment old) spare
-            → ReadsAsEither all payload (payloads_by log.area current spare))
-            → IsTrue (disk old centre).told → MayHaveFacts disk may_leave new centre facts (Some fact)
-        may_have facts fact payload spells stands counts_now reads told first second left left_second =
+            → ReadsAsAllOrNone all (map fact_bytes more) (payloads_by log.area current spare))
+            → IsTrue (disk old centre).told → MayHaveFacts disk may_leave new centre facts more
+        may_have facts more stands counts_now reads told first second left left_second =
             let both = told_both old log centre facts stands range told in
             let since : (p : ℕ) (c : List ℕ) → may_leave new p c → left_since new p (moment old) c = λ p c has. counts_now new p (moment old) c keeps.later has in
             elim (at_places log centre range of) [
-              | inl lies ↦ either first second (subst (λ (n : ℕ). ReadsAsEither (encodings_of facts) payload (payloads_by n first second)) lies.area_is
+              | inl lies ↦ either first second (subst (λ (n : ℕ). ReadsAsAllOrNone (encodings_of facts) (map fact_bytes more) (payloads_by n first second)) lies.area_is
                   (reads (encodings_of facts) first second both.0 both.1 (stands.at_rest told)
                   (since _ first (subst (λ (p : ℕ). may_leave new p first) (sym lies.here_is) left)) (since _ second (subst (λ (p : ℕ). may_leave new p second) (sym lies.there_is) left_second))))
-              | inr lies ↦ either first second (subst (λ (n : ℕ). ReadsAsEither (encodings_of facts) payload (payloads_by n second first)) lies.area_is
+              | inr lies ↦ either first second (subst (λ (n : ℕ). ReadsAsAllOrNone (encodings_of facts) (map fact_bytes more) (payloads_by n second first)) lies.area_is
                   (reads (encodings_of facts) second first both.0 both.1 (stands.at_rest told)
                   (since _ second (subst (λ (p : ℕ). may_leave new p second) (sym lies.here_is) left_second)) (since _ first (subst (λ (p : ℕ). may_leave new p first) (sym lies.there_is) left))))
             ]
           where
-            either : (one two : List ℕ) → ReadsAsEither (encodings_of facts) payload (payloads one two) → (payloads one two ≡ Ok (encodings_of facts)) ⊎ (payloads one two ≡ Ok (encodings_of (fact ∷ facts)))
+            either : (one two : List ℕ) → ReadsAsAllOrNone (encodings_of facts) (map fact_bytes more) (payloads one two)
+                → (payloads one two ≡ Ok (encodings_of facts)) ⊎ (payloads one two ≡ Ok (encodings_of (with_facts facts more)))
             either one two (inl read) = inl read
-            either one two (inr read) = inr (read ∙ ap (λ (bytes : List ℕ). let ok : Result (List (List ℕ)) ℕ = Ok (encodings_of facts ++ bytes ∷ []) in ok) spells)
+            either one two (inr read) = inr (read ∙ payloads_more facts more)
 
-        pub append_fails : (fault : LogFault) (facts : List Fact) (fact : Fact) (payload : List ℕ) → payload ≡ fact_bytes fact → OpenLog disk may_leave old log centre facts
+        pub append_fails : (fault : LogFault) (facts more : List Fact) → 1 ≤ length more → OpenLog disk may_leave old log centre facts
             → ((disks : D) (p t : ℕ) (c : List ℕ) → t ≤ moment disks → may_leave disks p c → left_since disks p t c)
             → ((all : List (List ℕ)) (current spare : List ℕ) → IsTrue (disk old (place_of log.centre log.area)).told → IsTrue (disk old (place_of log.centre (other_of log.area))).told
             → IsAtRest disk may_leave old log all
             → left_since new (place_of log.centre log.area) (moment old) current → left_since new (place_of log.centre (other_of log.area)) (moment old) spare
-            → ReadsAsEither all payload (payloads_by log.area current spare))
+            → ReadsAsAllOrNone all (map fact_bytes more) (payloads_by log.area current spare))
             → (fault ≡ LogFault.DiskFault → RoseAtOne (disk old (place_of log.centre log.area)) (disk new (place_of log.centre log.area)) (disk old (place_of log.centre (other_of log.area))) (disk new (place_of log.centre (other_of log.area))))
             → (fault ≡ LogFault.LogFull → new ≡ old) → ((n : ℕ) → fault ≡ LogFault.NotALog n → IsTrue (disk old (place_of log.centre log.area)).told → ⊥) → (fault ≡ LogFault.Memory → new ≡ old)
-            → (fault ≡ LogFault.LogFull → IsFull log (length (fact_bytes fact)))
-            → FailsToLog disk may_leave centre facts (Some fact) (log_fault_of centre fault) old new
-        append_fails LogFault.DiskFault facts fact payload spells stands counts_now reads rose full a_log memory lacks = record {
-          comes = refl;
+            → (fault ≡ LogFault.LogFull → AreFull log (map fact_bytes more))
+            → FailsToLog disk may_leave centre facts more (log_fault_of centre fault) old new
+        append_fails LogFault.DiskFault facts more some stands counts_now reads rose full a_log memory lacks = record {
+          comes = logging_some centre more some;
           no_boot = tt;
           cause = rose_there (rose refl);
           full = tt;
-          log = λ told. rw (same_is centre) (may_have facts fact payload spells stands counts_now reads told);
+          log = λ told. subst (λ (fs : List Fact). MayHaveFacts disk may_leave new centre facts fs) (sym (next_are centre more)) (may_have facts more stands counts_now reads told);
           passes = disks_pass _ _ keeps;
           others = others_keep;
         }
-        append_fails LogFault.LogFull facts fact payload spells stands counts_now reads rose full a_log memory lacks =
-            subst (λ (d : D). FailsToLog disk may_leave centre facts (Some fact) (ServeFault.Log centre LogFault.LogFull) old d) (sym (full refl)) (unlogged disk may_leave old log centre facts fact _ stands (inr (refl, lacks refl)))
-        append_fails LogFault.Memory facts fact payload spells stands counts_now reads rose full a_log memory lacks =
-            subst (λ (d : D). FailsToLog disk may_leave centre facts (Some fact) ServeFault.Memory old d) (sym (memory refl)) (unlogged disk may_leave old log centre facts fact _ stands (inl refl))
-        append_fails (LogFault.NotALog n) facts fact payload spells stands counts_now reads rose full a_log memory lacks = record {
+        append_fails LogFault.LogFull facts more some stands counts_now reads rose full a_log memory lacks =
+            subst (λ (d : D). FailsToLog disk may_leave centre facts more (ServeFault.Log centre LogFault.LogFull) old d) (sym (full refl)) (unlogged disk may_leave old log centre facts more _ some stands (inr (refl, lacks refl)))
+        append_fails LogFault.Memory facts more some stands counts_now reads rose full a_log memory lacks =
+            subst (λ (d : D). FailsToLog disk may_leave centre facts more ServeFault.Memory old d) (sym (memory refl)) (unlogged disk may_leave old log centre facts more _ some stands (inl refl))
+        append_fails (LogFault.NotALog n) facts more some stands counts_now reads rose full a_log memory lacks = record {
           comes = λ told. a_log n refl (told_both old log centre facts stands range told).0;
           no_boot = tt;
           cause = tt;
@@ -274,15 +305,25 @@ module _ {D : Type 0} (disk : D → ℕ → Disk) (may_leave : D → ℕ → Lis
           others = others_keep;
         }
 
--- where a step has no fact
+-- where there are no facts
 pub nothing_logged : {D : Type 0} (disk : D → ℕ → Disk) (may_leave : D → ℕ → List ℕ → Type 0) (disks : D) (log : OpenAreas) (centre : ℕ) (facts : List Fact) → HoldsLog disk may_leave disks log centre facts
-    → HasLogged disk may_leave centre facts None disks disks log
+    → HasLogged disk may_leave centre facts [] disks disks log
 nothing_logged disk may_leave disks log centre facts stands = record {
   stands = stands;
   passes = record { told = λ p. refl; faults = λ p. omega arith };
   others = record { others = λ p one two. refl; crash = λ p one two c left. left };
 }
 
-pub same_fault : {D : Type 0} (disk : D → ℕ → Disk) (may_leave : D → ℕ → List ℕ → Type 0) (centre : ℕ) (facts : List Fact) (fact : Fact) (result fault : ServeFault) (old new : D) → result ≡ fault
-    → FailsToLog disk may_leave centre facts (Some fact) fault old new → FailsToLog disk may_leave centre facts (Some fact) result old new
-same_fault disk may_leave centre facts fact result fault old new is fails = rw is fails
+pub same_fault : {D : Type 0} (disk : D → ℕ → Disk) (may_leave : D → ℕ → List ℕ → Type 0) (centre : ℕ) (facts more : List Fact) (result fault : ServeFault) (old new : D) → result ≡ fault
+    → FailsToLog disk may_leave centre facts more fault old new → FailsToLog disk may_leave centre facts more result old new
+same_fault disk may_leave centre facts more result fault old new is fails = rw is fails
+
+-- ---- what an append asks of the facts
+
+pub all_counted : (facts : List Fact) → AllByRecursion IsShortFact facts → AllByRecursion HasCounts facts
+all_counted [] short = tt
+all_counted (fact ∷ facts) short = (short.0.0, all_counted facts short.1)
+
+pub all_short : (facts : List Fact) → AllByRecursion IsShortFact facts → AllByRecursion (λ fact. length (fact_bytes fact) ≤ 2097152) facts
+all_short [] short = tt
+all_short (fact ∷ facts) short = (let e = length-fact fact in let few = short.0.1 in omega (e, few, arith), all_short facts short.1)

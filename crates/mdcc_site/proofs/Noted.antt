@@ -1,24 +1,22 @@
 -- What a centre notes beside what it does.
-use Rattle.std.proofs.Common.{◌≡◌, ℕ, [], Option, Some, None, Result, Bool, refl, sym, ◌∙◌, ap, subst}
+use Rattle.std.proofs.Common.{◌≡◌, ℕ, ◌++◌, Option, Some, None, Bool, refl, sym, ◌∙◌, ap, subst}
 use Rattle.std.specs.Prelude.{IfSome}
 use Rattle.mdcc_base.specs.declared.identifiers.TxId.{TxId}
 use Rattle.mdcc_base.specs.declared.key.Key.{Key}
 use Rattle.mdcc_messages.specs.declared.messages.ClientAnswer.{ClientAnswer}
+use Rattle.mdcc_messages.specs.declared.messages.Envelope.{Envelope}
 use Rattle.mdcc_option.specs.declared.cluster.Cluster.{Cluster}
 use Rattle.mdcc_option.specs.declared.faults.BeginFault.{BeginFault}
 use Rattle.mdcc_rules.specs.Steps.{NodeStep}
 use Rattle.mdcc_rules.specs.declared.node.Answer.{Answer}
 use Rattle.mdcc_runs.specs.Clients.{Clients, known_of, with_begun}
+use Rattle.mdcc_runs.specs.Runs.{listed}
 use Rattle.mdcc_runs.specs.Sending.{answer_to}
-use Rattle.mdcc_runs.specs.Sites.{Doing, Site}
+use Rattle.mdcc_runs.specs.Sites.{Site}
 use Rattle.mdcc_runs.specs.Steps.{begin_noted, begin_told, end_told, ends_told, reading_told}
 use Rattle.mdcc_runs.specs.declared.clients.Begun.{Begun}
-use Rattle.mdcc_site.proofs.Going.{acts_then}
-use Rattle.mdcc_site.proofs.Joined.{others_none}
-use Rattle.mdcc_site.proofs.Parts.{moved}
-use Rattle.mdcc_site.specs.Moments.{Outside}
-use Rattle.mdcc_site.specs.SiteState.{CanBeSent, Goes, HasStepped, HoldsLog, Place, begun_in, place, refused_fault, refused_key}
-use Rattle.mdcc_site.specs.declared.fault.ServeFault.{ServeFault}
+use Rattle.mdcc_site.proofs.Becoming.{each_append, each_listed}
+use Rattle.mdcc_site.specs.SiteState.{CanBeSent, HasStepped, begun_in, refused_fault, refused_key}
 use Rattle.mdcc_site.specs.declared.site.Site.{Site as TheSite}
 
 -- the sites differ in their clients alone
@@ -28,13 +26,16 @@ pub record OnlyClients (site noted : Site) : Type 0 where
   pub sent : noted.sent ≡ site.sent
   pub own : noted.own ≡ site.own
   pub asked : noted.asked ≡ site.asked
+  pub logged : noted.logged ≡ site.logged
+  pub pending : noted.pending ≡ site.pending
 
 pub noted_only : (site : Site) (serial : ℕ) (answer : Option Answer) → OnlyClients site (begin_noted site serial answer)
-noted_only site serial None = record { centre = refl; node = refl; sent = refl; own = refl; asked = refl }
-noted_only site serial (Some (Answer.Begun tx)) = record { centre = refl; node = refl; sent = refl; own = refl; asked = refl }
-noted_only site serial (Some (Answer.Refused key fault)) = record { centre = refl; node = refl; sent = refl; own = refl; asked = refl }
-noted_only site serial (Some (Answer.Read reading)) = record { centre = refl; node = refl; sent = refl; own = refl; asked = refl }
+noted_only site serial None = record { centre = refl; node = refl; sent = refl; own = refl; asked = refl; logged = refl; pending = refl }
+noted_only site serial (Some (Answer.Begun tx)) = record { centre = refl; node = refl; sent = refl; own = refl; asked = refl; logged = refl; pending = refl }
+noted_only site serial (Some (Answer.Refused key fault)) = record { centre = refl; node = refl; sent = refl; own = refl; asked = refl; logged = refl; pending = refl }
+noted_only site serial (Some (Answer.Read reading)) = record { centre = refl; node = refl; sent = refl; own = refl; asked = refl; logged = refl; pending = refl }
 
+-- it makes the same step there
 pub stepped_noted : (cluster : Cluster) (held new : TheSite) (site noted : Site) (made : NodeStep) → OnlyClients site noted → new ≡ record held { clients = new.clients } → new.clients ≡ noted.clients
     → HasStepped cluster held site made → HasStepped cluster new noted made
 stepped_noted cluster held new site noted made only same clients st = subst (λ (h : TheSite). HasStepped cluster h noted made) (sym same) (record {
@@ -49,22 +50,38 @@ stepped_noted cluster held new site noted made only same clients st = subst (λ 
   clients = clients;
   own = st.own ∙ sym only.own;
   asked = st.asked ∙ sym only.asked;
+  waits = record {
+    pending = st.waits.pending ∙ sym only.pending;
+    all = rw (only.node, only.logged, only.pending) st.waits.all;
+    facts = rw only.pending st.waits.facts;
+    envelopes = rw only.pending st.waits.envelopes;
+  };
   fact = st.fact;
   sends = st.sends;
 })
 
-module _ {D L O : Type 0} (w : Outside D L O) where
-  -- what the log has is not of the clients
-  pub log_noted : (disks : D) (held new : TheSite) (site noted : Site) → noted.centre ≡ site.centre → noted.node ≡ site.node → new.log ≡ held.log
-      → HoldsLog w.disk w.may_leave disks held.log site.centre site.node.facts → HoldsLog w.disk w.may_leave disks new.log noted.centre noted.node.facts
-  log_noted disks held new site noted centre node same log = rw (centre, node, same) log
-
-  -- it does so from where nothing was done yet
-  pub goes_from : {T : Type 0} (cluster : Cluster) (did : Doing) (b : Place D L O) (r : Result T ServeFault) (site noted : Site) (disks : D) (held new : TheSite) (link : L) (out : O)
-      → noted.centre ≡ site.centre → noted.node ≡ site.node → new.steps ≡ held.steps → new.dropped ≡ held.dropped → new.sender.lost ≡ held.sender.lost
-      → Goes w cluster noted did r (place disks new link out) b → Goes w cluster site did r (place disks held link out) b
-  goes_from cluster did b r site noted disks held new link out centre node steps dropped lost goes =
-      acts_then w cluster site noted [] did (place disks held link out) (place disks new link out) b r centre (ap (λ n. n.facts) node) (moved w disks held new link out steps dropped lost) (others_none w site.centre disks) goes
+-- and so it does where the client is told something beside
+pub stepped_told : (cluster : Cluster) (held new : TheSite) (site : Site) (made : NodeStep) (clients : Clients) (told : Option Envelope)
+    → new ≡ record held { clients = new.clients; pending = new.pending } → new.clients ≡ clients → new.pending ≡ record site.pending { envelopes = site.pending.envelopes ++ listed told } → IfSome told CanBeSent
+    → HasStepped cluster held site made → HasStepped cluster new (record site { clients = clients; pending = record site.pending { envelopes = site.pending.envelopes ++ listed told } }) made
+stepped_told cluster held new site made clients told same noted waits can st =
+    subst (λ (h : TheSite). HasStepped cluster h (record site { clients = clients; pending = record site.pending { envelopes = site.pending.envelopes ++ listed told } }) made) (sym same) (record {
+      node = st.node;
+      kept = st.kept;
+      centre = st.centre;
+      sender = record { centre = st.sender.centre; epoch = st.sender.epoch; sent = st.sender.sent };
+      clients = noted;
+      own = st.own;
+      asked = st.asked;
+      waits = record {
+        pending = waits;
+        all = st.waits.all;
+        facts = st.waits.facts;
+        envelopes = each_append CanBeSent site.pending.envelopes (listed told) st.waits.envelopes (each_listed CanBeSent told can);
+      };
+      fact = st.fact;
+      sends = st.sends;
+    })
 
 -- ---- what the client is told can be sent
 

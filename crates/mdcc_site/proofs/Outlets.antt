@@ -1,22 +1,26 @@
--- Why a centre does not send or print.
-use Rattle.std.proofs.Common.{◌≡◌, ℕ, ◌≤◌, List, [], ◌∷◌, Option, Err, refl, sym, subst, inl, inr, append-nil, take, length}
+-- Why a centre does not send or print, and what it prints in order.
+use Rattle.std.proofs.Common.{◌≡◌, ◌⊎◌, ℕ, ◌≤◌, List, [], ◌∷◌, ◌++◌, Bool, Option, Err, refl, sym, subst, inl, inr, append-nil, take, length, arith}
+use Rattle.std.proofs.lemmas.List.{map-append}
 use Rattle.std.specs.Io.KnownBytes.{Appends}
 use Rattle.std.specs.Prelude.{IsErrOf}
 use Rattle.mdcc_base.specs.Causes.{Rose}
+use Rattle.mdcc_base.specs.declared.identifiers.TxId.{TxId}
 use Rattle.mdcc_config.specs.declared.config.Config.{Config}
 use Rattle.mdcc_link.specs.Link.{LinkCall}
 use Rattle.mdcc_messages.specs.declared.messages.Envelope.{Envelope}
+use Rattle.mdcc_outbox.proofs.Handed.{rose_before}
 use Rattle.mdcc_outbox.specs.Sends.{IsPast, IsSending, Sends}
 use Rattle.mdcc_outbox.specs.declared.fault.PrintFault.{PrintFault}
 use Rattle.mdcc_outbox.specs.declared.fault.SendFault.{SendFault}
 use Rattle.mdcc_outbox.specs.declared.sending.Sender.{Sender}
-use Rattle.mdcc_runs.specs.Acts.{Act}
+use Rattle.mdcc_runs.specs.Acts.{Act, printed}
 use Rattle.mdcc_runs.specs.Lines.{line_text}
-use Rattle.mdcc_runs.specs.Sending.{messages_sent}
+use Rattle.mdcc_runs.specs.Sending.{heard_printed, messages_sent}
 use Rattle.mdcc_runs.specs.Sites.{Site}
 use Rattle.mdcc_runs.specs.declared.lines.ServerLine.{ServerLine}
-use Rattle.mdcc_site.proofs.Joined.{none_written}
-use Rattle.mdcc_site.specs.Causes.{of_print, of_send}
+use Rattle.mdcc_site.proofs.Joined.{none_written, printed_append, written_joined}
+use Rattle.mdcc_site.specs.Causes.{IsPrinting, of_print, of_send, text_begun}
+use Rattle.mdcc_site.specs.Printing.{PrintsFront}
 use Rattle.mdcc_site.specs.SiteState.{PrintsAll, PrintsSome, SendsSome}
 use Rattle.mdcc_site.specs.declared.fault.ServeFault.{ServeFault}
 
@@ -38,6 +42,16 @@ module _ {L : Type 0} (calls : L → Option (List LinkCall)) (lost faults : L �
   sends_some config site xs fault result old new before after is begun serial past =
       subst (λ (f : ServeFault). SendsSome calls lost faults config site xs f old new before after) (sym is) (some_by config site xs fault old new before after begun serial past)
 
+-- the text of a line, whatever comes behind it
+text_there : (fault : ServeFault) (line : ServerLine) (rest : List Act) → text_begun fault (Act.Print line ∷ []) ≡ text_begun fault (Act.Print line ∷ rest)
+text_there (ServeFault.Disk a) line rest = refl
+text_there (ServeFault.Log a fault) line rest = refl
+text_there (ServeFault.Boot a fault) line rest = refl
+text_there ServeFault.Link line rest = refl
+text_there ServeFault.Output line rest = refl
+text_there ServeFault.Serial line rest = refl
+text_there ServeFault.Memory line rest = refl
+
 module _ {O : Type 0} (held : O → Option (List ℕ)) (faults : O → ℕ) where
   pub prints_all : (line : ServerLine) (old new : O) → Appends (held old) (held new) (line_text line) → faults old ≤ faults new → PrintsAll held faults (Act.Print line ∷ []) old new
   prints_all line old new prints later = record { printed_all = rw (append-nil (line_text line)) prints; later = later }
@@ -57,3 +71,37 @@ module _ {O : Type 0} (held : O → Option (List ℕ)) (faults : O → ℕ) wher
       → PrintsSome held faults (Act.Print line ∷ []) result old new
   prints_some line fault result old new is front cause memory later =
       subst (λ (f : ServeFault). PrintsSome held faults (Act.Print line ∷ []) f old new) (sym is) (by_fault line fault old new front cause memory later)
+
+  -- ---- lines one after another
+
+  pub prints_none : (out : O) → PrintsAll held faults [] out out
+  prints_none out = record { printed_all = none_written (held out); later = omega arith }
+
+  pub prints_then : (first second : List Act) (old mid new : O) → PrintsAll held faults first old mid → PrintsAll held faults second mid new → PrintsAll held faults (first ++ second) old new
+  prints_then first second old mid new one two = record {
+    printed_all = rw (printed_append first second) (written_joined (printed first) (printed second) (held old) (held mid) (held new) one.printed_all two.printed_all);
+    later = (let a = one.later in let b = two.later in omega (a, b, arith));
+  }
+
+  pub prints_front : (done rest all : List Act) (line : ServerLine) (fault : ServeFault) (old mid new : O) → done ++ Act.Print line ∷ rest ≡ all
+      → PrintsAll held faults done old mid → PrintsSome held faults (Act.Print line ∷ []) fault mid new → PrintsFront held faults all fault old new
+  prints_front done rest all line fault old mid new are one two = record {
+    done = done;
+    rest = Act.Print line ∷ rest;
+    are = are;
+    comes = by_cause two.comes;
+    more = two.more;
+    front = written_joined (printed done) (take two.more (text_begun fault (Act.Print line ∷ rest))) (held old) (held mid) (held new) one.printed_all
+        (subst (λ (text : List ℕ). Appends (held mid) (held new) (take two.more text)) (text_there fault line rest) two.front);
+    later = (let a = one.later in let b = two.later in omega (a, b, arith));
+  }
+    where
+      by_cause : ((fault ≡ ServeFault.Memory) × (new ≡ mid)) ⊎ ((fault ≡ ServeFault.Output) × IsPrinting (Act.Print line ∷ []) × Rose (faults mid) (faults new))
+          → (fault ≡ ServeFault.Memory) ⊎ ((fault ≡ ServeFault.Output) × IsPrinting (Act.Print line ∷ rest) × Rose (faults old) (faults new))
+      by_cause (inl is) = inl is.0
+      by_cause (inr is) = inr (is.0, tt, rose_before (faults old) (faults mid) (faults new) one.later is.2)
+
+-- ---- the lines of outcomes
+
+pub heard_append : (centre : ℕ) (xs ys : List (TxId × Bool)) → heard_printed centre (xs ++ ys) ≡ heard_printed centre xs ++ heard_printed centre ys
+heard_append centre xs ys = map-append (λ (h : TxId × Bool). Act.Print (ServerLine.Heard centre h.0 h.1)) xs ys

@@ -16,10 +16,8 @@ use Rattle.mdcc_runs.specs.Arrivals.{Arrival, arrival_of}
 use Rattle.mdcc_runs.specs.Sites.{Doing, Site}
 use Rattle.mdcc_runs.specs.Steps.{dropped}
 use Rattle.mdcc_runs.specs.Turns.{asked_arrived, asked_message, asked_taken, own_arrived, own_message, own_taken}
-use Rattle.mdcc_site.proofs.Noted.{goes_from}
-use Rattle.mdcc_site.proofs.Parts.{dropped_goes, goes_nothing, stops_memory}
-use Rattle.mdcc_site.specs.Moments.{Outside}
-use Rattle.mdcc_site.specs.SiteState.{Finishes, Goes, HoldsSite, Place, Stops, place}
+use Rattle.mdcc_site.proofs.Becoming.{Same, becomes_from, drops, idle_becomes, lacks_memory}
+use Rattle.mdcc_site.specs.SiteState.{Becomes, IsSite, Makes, MakesNone}
 use Rattle.mdcc_site.specs.declared.fault.ServeFault.{ServeFault}
 use Rattle.mdcc_site.specs.declared.site.Site.{Site as TheSite}
 use Rattle.mdcc_steps.specs.NodeInvariant.{accept_length}
@@ -39,87 +37,85 @@ asked_other config site (Message.ClientRead serial key) unread unbegun = absurd 
 asked_other config site (Message.ClientBegin serial parts) unread unbegun = absurd (unbegun serial parts refl)
 asked_other config site message unread unbegun = refl
 
-module _ {D L O : Type 0} (w : Outside D L O) (cluster : Cluster) (config : Config) (site : Site) (disks : D) (held : TheSite) (link : L) (out : O)
-    (holds : HoldsSite w cluster disks held site) (bytes : List ℕ) (entries : List Entry)
-  where
-    -- ---- at its own endpoint
+-- the centre with these pieces
+module _ (cluster : Cluster) (site : Site) (held : TheSite) (is_site : IsSite cluster held site) (bytes : List ℕ) (entries : List Entry) where
+  pub own_is : entries ≡ (join bytes site.own).entries → IsSite cluster (record held { own = entries }) (record site { own = (join bytes site.own).entries })
+  own_is is = record {
+    node = is_site.node;
+    kept = is_site.kept;
+    centre = is_site.centre;
+    sender = record { centre = is_site.sender.centre; epoch = is_site.sender.epoch; sent = is_site.sender.sent };
+    clients = is_site.clients;
+    own = is;
+    asked = is_site.asked;
+    waits = record { pending = is_site.waits.pending; all = is_site.waits.all; facts = is_site.waits.facts; envelopes = is_site.waits.envelopes };
+  }
 
-    abbrev pub own_site : Site
-    own_site = record site { own = (join bytes site.own).entries }
+  pub asked_is : entries ≡ (join bytes site.asked).entries → IsSite cluster (record held { asked = entries }) (record site { asked = (join bytes site.asked).entries })
+  asked_is is = record {
+    node = is_site.node;
+    kept = is_site.kept;
+    centre = is_site.centre;
+    sender = record { centre = is_site.sender.centre; epoch = is_site.sender.epoch; sent = is_site.sender.sent };
+    clients = is_site.clients;
+    own = is_site.own;
+    asked = is;
+    waits = record { pending = is_site.waits.pending; all = is_site.waits.all; facts = is_site.waits.facts; envelopes = is_site.waits.envelopes };
+  }
 
-    abbrev own_held : TheSite
-    own_held = record held { own = entries }
+module _ (cluster : Cluster) (config : Config) (site : Site) (held : TheSite) (is_site : IsSite cluster held site) (bytes : List ℕ) (entries : List Entry) where
+  -- ---- at its own endpoint
 
-    pub own_holds : entries ≡ (join bytes site.own).entries → HoldsSite w cluster disks own_held own_site
-    own_holds is = record {
-      itself = record {
-        node = holds.itself.node;
-        kept = holds.itself.kept;
-        centre = holds.itself.centre;
-        sender = record { centre = holds.itself.sender.centre; epoch = holds.itself.sender.epoch; sent = holds.itself.sender.sent };
-        clients = holds.itself.clients;
-        own = is;
-        asked = holds.itself.asked;
-      };
-      log = holds.log;
-    }
+  abbrev own_site : Site
+  own_site = record site { own = (join bytes site.own).entries }
 
-    pub own_lacks : Stops w site (own_taken config site (Some bytes)) ServeFault.Memory (place disks held link out) (place disks own_held link out)
-    own_lacks = stops_memory w site (own_taken config site (Some bytes)) disks held own_held link out refl refl refl holds.log.open_log.left
+  abbrev own_held : TheSite
+  own_held = record held { own = entries }
 
-    pub own_piece : entries ≡ (join bytes site.own).entries → Arrival.Piece ≡ arrival_of (join bytes site.own).answer
-        → Finishes w cluster site (own_taken config site (Some bytes)) (place disks held link out) (place disks own_held link out)
-    own_piece is came = subst (λ (d : Doing). Finishes w cluster site d (place disks held link out) (place disks own_held link out)) (ap (own_arrived config own_site) came)
-        (goes_nothing w cluster site own_site disks held own_held link out refl refl refl (own_holds is))
+  own_same : Same held own_held
+  own_same = record { log = refl; steps = refl; dropped = refl; lost = refl }
 
-    pub own_refused : (new : TheSite) → new ≡ record own_held { dropped = counted (held.dropped + 1) } → entries ≡ (join bytes site.own).entries → Arrival.Refused ≡ arrival_of (join bytes site.own).answer
-        → Finishes w cluster site (own_taken config site (Some bytes)) (place disks held link out) (place disks new link out)
-    own_refused new drops is came = subst (λ (d : Doing). Finishes w cluster site d (place disks held link out) (place disks new link out)) (ap (own_arrived config own_site) came)
-        (goes_from w {T = Unit {0}} cluster (dropped own_site) (place disks new link out) (Ok tt) site own_site disks held own_held link out refl refl refl refl refl
-        (dropped_goes w cluster own_site disks own_held new link out drops (own_holds is)))
+  pub own_lacks : MakesNone ServeFault.Memory held own_held
+  own_lacks = lacks_memory own_same
 
-    pub own_whole : {T : Type 0} (r : Result T ServeFault) (b : Place D L O) (x : Envelope) → Arrival.Whole x ≡ arrival_of (join bytes site.own).answer
-        → Goes w cluster own_site (own_message config own_site x) r (place disks own_held link out) b → Goes w cluster site (own_taken config site (Some bytes)) r (place disks held link out) b
-    own_whole r b x came goes = subst (λ (d : Doing). Goes w cluster site d r (place disks held link out) b) (ap (own_arrived config own_site) came)
-        (goes_from w cluster (own_message config own_site x) b r site own_site disks held own_held link out refl refl refl refl refl goes)
+  pub own_piece : entries ≡ (join bytes site.own).entries → Arrival.Piece ≡ arrival_of (join bytes site.own).answer → Makes cluster site (own_taken config site (Some bytes)) held own_held
+  own_piece is came = subst (λ (d : Doing). Makes cluster site d held own_held) (ap (own_arrived config own_site) came)
+      (idle_becomes cluster site own_site held own_held refl refl own_same (own_is cluster site held is_site bytes entries is))
 
-    -- ---- at its client's
+  pub own_refused : (new : TheSite) → new ≡ record own_held { dropped = counted (held.dropped + 1) } → entries ≡ (join bytes site.own).entries → Arrival.Refused ≡ arrival_of (join bytes site.own).answer
+      → Makes cluster site (own_taken config site (Some bytes)) held new
+  own_refused new drop is came = subst (λ (d : Doing). Makes cluster site d held new) (ap (own_arrived config own_site) came)
+      (becomes_from {T = Unit {0}} cluster (dropped own_site) (Ok tt) site own_site held own_held new refl refl own_same (drops cluster own_site own_held new drop (own_is cluster site held is_site bytes entries is)))
 
-    abbrev pub asked_site : Site
-    asked_site = record site { asked = (join bytes site.asked).entries }
+  pub own_whole : {T : Type 0} (r : Result T ServeFault) (new : TheSite) (x : Envelope) → Arrival.Whole x ≡ arrival_of (join bytes site.own).answer
+      → Becomes cluster own_site (own_message config own_site x) r own_held new → Becomes cluster site (own_taken config site (Some bytes)) r held new
+  own_whole r new x came goes = subst (λ (d : Doing). Becomes cluster site d r held new) (ap (own_arrived config own_site) came)
+      (becomes_from cluster (own_message config own_site x) r site own_site held own_held new refl refl own_same goes)
 
-    abbrev asked_held : TheSite
-    asked_held = record held { asked = entries }
+  -- ---- at its client's
 
-    pub asked_holds : entries ≡ (join bytes site.asked).entries → HoldsSite w cluster disks asked_held asked_site
-    asked_holds is = record {
-      itself = record {
-        node = holds.itself.node;
-        kept = holds.itself.kept;
-        centre = holds.itself.centre;
-        sender = record { centre = holds.itself.sender.centre; epoch = holds.itself.sender.epoch; sent = holds.itself.sender.sent };
-        clients = holds.itself.clients;
-        own = holds.itself.own;
-        asked = is;
-      };
-      log = holds.log;
-    }
+  abbrev asked_site : Site
+  asked_site = record site { asked = (join bytes site.asked).entries }
 
-    pub asked_lacks : Stops w site (asked_taken config site (Some bytes)) ServeFault.Memory (place disks held link out) (place disks asked_held link out)
-    asked_lacks = stops_memory w site (asked_taken config site (Some bytes)) disks held asked_held link out refl refl refl holds.log.open_log.left
+  abbrev asked_held : TheSite
+  asked_held = record held { asked = entries }
 
-    pub asked_piece : entries ≡ (join bytes site.asked).entries → Arrival.Piece ≡ arrival_of (join bytes site.asked).answer
-        → Finishes w cluster site (asked_taken config site (Some bytes)) (place disks held link out) (place disks asked_held link out)
-    asked_piece is came = subst (λ (d : Doing). Finishes w cluster site d (place disks held link out) (place disks asked_held link out)) (ap (asked_arrived config asked_site) came)
-        (goes_nothing w cluster site asked_site disks held asked_held link out refl refl refl (asked_holds is))
+  asked_same : Same held asked_held
+  asked_same = record { log = refl; steps = refl; dropped = refl; lost = refl }
 
-    pub asked_refused : (new : TheSite) → new ≡ record asked_held { dropped = counted (held.dropped + 1) } → entries ≡ (join bytes site.asked).entries → Arrival.Refused ≡ arrival_of (join bytes site.asked).answer
-        → Finishes w cluster site (asked_taken config site (Some bytes)) (place disks held link out) (place disks new link out)
-    asked_refused new drops is came = subst (λ (d : Doing). Finishes w cluster site d (place disks held link out) (place disks new link out)) (ap (asked_arrived config asked_site) came)
-        (goes_from w {T = Unit {0}} cluster (dropped asked_site) (place disks new link out) (Ok tt) site asked_site disks held asked_held link out refl refl refl refl refl
-        (dropped_goes w cluster asked_site disks asked_held new link out drops (asked_holds is)))
+  pub asked_lacks : MakesNone ServeFault.Memory held asked_held
+  asked_lacks = lacks_memory asked_same
 
-    pub asked_whole : {T : Type 0} (r : Result T ServeFault) (b : Place D L O) (x : Envelope) → Arrival.Whole x ≡ arrival_of (join bytes site.asked).answer
-        → Goes w cluster asked_site (asked_message config asked_site x.message) r (place disks asked_held link out) b → Goes w cluster site (asked_taken config site (Some bytes)) r (place disks held link out) b
-    asked_whole r b x came goes = subst (λ (d : Doing). Goes w cluster site d r (place disks held link out) b) (ap (asked_arrived config asked_site) came)
-        (goes_from w cluster (asked_message config asked_site x.message) b r site asked_site disks held asked_held link out refl refl refl refl refl goes)
+  pub asked_piece : entries ≡ (join bytes site.asked).entries → Arrival.Piece ≡ arrival_of (join bytes site.asked).answer → Makes cluster site (asked_taken config site (Some bytes)) held asked_held
+  asked_piece is came = subst (λ (d : Doing). Makes cluster site d held asked_held) (ap (asked_arrived config asked_site) came)
+      (idle_becomes cluster site asked_site held asked_held refl refl asked_same (asked_is cluster site held is_site bytes entries is))
+
+  pub asked_refused : (new : TheSite) → new ≡ record asked_held { dropped = counted (held.dropped + 1) } → entries ≡ (join bytes site.asked).entries → Arrival.Refused ≡ arrival_of (join bytes site.asked).answer
+      → Makes cluster site (asked_taken config site (Some bytes)) held new
+  asked_refused new drop is came = subst (λ (d : Doing). Makes cluster site d held new) (ap (asked_arrived config asked_site) came)
+      (becomes_from {T = Unit {0}} cluster (dropped asked_site) (Ok tt) site asked_site held asked_held new refl refl asked_same (drops cluster asked_site asked_held new drop (asked_is cluster site held is_site bytes entries is)))
+
+  pub asked_whole : {T : Type 0} (r : Result T ServeFault) (new : TheSite) (x : Envelope) → Arrival.Whole x ≡ arrival_of (join bytes site.asked).answer
+      → Becomes cluster asked_site (asked_message config asked_site x.message) r asked_held new → Becomes cluster site (asked_taken config site (Some bytes)) r held new
+  asked_whole r new x came goes = subst (λ (d : Doing). Becomes cluster site d r held new) (ap (asked_arrived config asked_site) came)
+      (becomes_from cluster (asked_message config asked_site x.message) r site asked_site held asked_held new refl refl asked_same goes)

@@ -1,6 +1,6 @@
 -- What a centre sends, prints and logs, as parts of what it does.
 use Rattle.std.proofs.Common.{◌≡◌, ℕ, ◌+◌, ◌⊎◌, inl, inr, List, [], ◌∷◌, ◌++◌, Option, Some, None, Ok, refl, sym, ◌∙◌, ap, subst, arith, append-nil, map, length, nat_lt, cond, Bool, true, false, IsTrue}
-use Rattle.std.specs.List.{range_with_len}
+use Rattle.std.specs.List.{AllByRecursion, range_with_len}
 use Rattle.mdcc_base.specs.declared.outside.Address.{Address}
 use Rattle.mdcc_config.specs.declared.config.Config.{Config}
 use Rattle.mdcc_frag.specs.Datagrams.{count, datagram, message_limit}
@@ -15,14 +15,16 @@ use Rattle.mdcc_outbox.specs.Sends.{IsSenderOf, IsSending, Sends}
 use Rattle.mdcc_outbox.specs.Shows.{Records, calls_of, counted}
 use Rattle.mdcc_outbox.specs.declared.sending.Sender.{Sender}
 use Rattle.mdcc_runs.specs.Acts.{Act, appended, but_answer, but_answers, dropped_by, dropped_in, lost_in, printed, printed_by, steps_by, steps_in}
+use Rattle.mdcc_runs.specs.Runs.{NodeState}
 use Rattle.mdcc_runs.specs.Sending.{address_to, datagrams_sent, message_sent, message_sent_to, messages_sent, next_head}
 use Rattle.mdcc_runs.specs.Sites.{Site, doing}
+use Rattle.mdcc_runs.specs.declared.pending.Pending.{Pending}
 use Rattle.mdcc_site.proofs.Joined.{appended_answers, appended_append, dropped_append, none_added, none_written, others_none, printed_append, steps_append}
 use Rattle.mdcc_site.specs.Causes.{IsNoBoot, failed_by, in_flight, text_begun}
-use Rattle.mdcc_site.specs.Logs.{MayHaveFacts}
+use Rattle.mdcc_site.specs.Logs.{MayHaveFacts, with_facts}
 use Rattle.mdcc_site.specs.Moments.{Caused, Leaves, MayComeAt, Outside, Passes}
 use Rattle.mdcc_site.specs.Room.{OnFull}
-use Rattle.mdcc_site.specs.SiteState.{Finishes, IsSite, Place, SendsAll, SendsSome, HoldsSite, Stops, place, seen}
+use Rattle.mdcc_site.specs.SiteState.{CanBeSent, Finishes, IsShortFact, IsSite, Place, SendsAll, SendsSome, HoldsSite, Stops, place, seen}
 use Rattle.mdcc_site.specs.declared.fault.ServeFault.{ServeFault}
 use Rattle.mdcc_site.specs.declared.site.Site.{Site as TheSite}
 
@@ -31,12 +33,14 @@ use Rattle.mdcc_site.specs.declared.site.Site.{Site as TheSite}
 pub record OnlySent (site after : Site) : Type 0 where
   pub centre : after.centre ≡ site.centre
   pub node : after.node ≡ site.node
+  pub logged : after.logged ≡ site.logged
   pub clients : after.clients ≡ site.clients
   pub own : after.own ≡ site.own
   pub asked : after.asked ≡ site.asked
+  pub pending : after.pending ≡ site.pending
 
 same_site : (site : Site) → OnlySent site site
-same_site site = record { centre = refl; node = refl; clients = refl; own = refl; asked = refl }
+same_site site = record { centre = refl; node = refl; logged = refl; clients = refl; own = refl; asked = refl; pending = refl }
 
 sent_to : (site : Site) (x : Envelope) (to : Option Address) → OnlySent site (message_sent_to site x to).site
 sent_to site x None = same_site site
@@ -44,7 +48,7 @@ sent_to site x (Some to) = by_length (nat_lt message_limit (message_length x))
   where
     by_length : (long : Bool) → OnlySent site (cond long (doing (Act.Unsent ∷ []) site) (doing (datagrams_sent (next_head site) to (message_bytes x)) (record site { sent = site.sent + 1 }))).site
     by_length true = same_site site
-    by_length false = record { centre = refl; node = refl; clients = refl; own = refl; asked = refl }
+    by_length false = record { centre = refl; node = refl; logged = refl; clients = refl; own = refl; asked = refl; pending = refl }
 
 pub messages_only : (config : Config) (site : Site) (xs : List Envelope) → OnlySent site (messages_sent config site xs).site
 messages_only config site [] = same_site site
@@ -54,9 +58,11 @@ messages_only config site (x ∷ xs) =
     record {
       centre = rest.centre ∙ one.centre;
       node = rest.node ∙ one.node;
+      logged = rest.logged ∙ one.logged;
       clients = rest.clients ∙ one.clients;
       own = rest.own ∙ one.own;
       asked = rest.asked ∙ one.asked;
+      pending = rest.pending ∙ one.pending;
     }
 
 pub site_sent : (cluster : Cluster) (held : TheSite) (site after : Site) (sender : Sender) → OnlySent site after → IsSite cluster held site → IsSenderOf sender after → IsSite cluster (record held { sender = sender }) after
@@ -68,6 +74,13 @@ site_sent cluster held site after sender only is sends = record {
   clients = is.clients ∙ sym only.clients;
   own = is.own ∙ sym only.own;
   asked = is.asked ∙ sym only.asked;
+  waits = record {
+    pending = is.waits.pending ∙ sym only.pending;
+    all = ap (λ (n : NodeState). n.facts) only.node
+        ∙ (is.waits.all ∙ (ap (λ (fs : List Fact). with_facts fs site.pending.facts) (sym only.logged) ∙ ap (λ (p : Pending). with_facts after.logged p.facts) (sym only.pending)));
+    facts = subst (λ (p : Pending). AllByRecursion IsShortFact p.facts) (sym only.pending) is.waits.facts;
+    envelopes = subst (λ (p : Pending). AllByRecursion CanBeSent p.envelopes) (sym only.pending) is.waits.envelopes;
+  };
 }
 
 -- ---- acts that are datagrams, or messages that are not sent
@@ -114,7 +127,7 @@ messages_said config site (x ∷ xs) =
 one_answer : (x : Act) → (steps_by (but_answer x) ≡ steps_by x) × (dropped_by (but_answer x) ≡ dropped_by x) × (printed_by (but_answer x) ≡ printed_by x)
 one_answer (Act.Bind at address) = (refl, refl, refl)
 one_answer (Act.Receive at gave) = (refl, refl, refl)
-one_answer (Act.Append centre fact) = (refl, refl, refl)
+one_answer (Act.Append centre facts) = (refl, refl, refl)
 one_answer (Act.Send from to bytes answer) = (refl, refl, refl)
 one_answer (Act.Print line) = (refl, refl, refl)
 one_answer Act.Stepped = (refl, refl, refl)
@@ -192,12 +205,12 @@ module _ {D L O : Type 0} (w : Outside D L O) where
       others = others_none w site.centre disks;
       stands = record {
         itself = site_sent cluster held site (messages_sent config site xs).site sender (messages_only config site xs) stands.itself all.next;
-        log = rw ((messages_only config site xs).centre, (messages_only config site xs).node) stands.log;
+        log = rw ((messages_only config site xs).centre, (messages_only config site xs).logged) stands.log;
       };
     }
 
     comes_sent : (Told : Type 0) (fault : ServeFault) (rest : List Act) → (fault ≡ ServeFault.Memory) ⊎ ((fault ≡ ServeFault.Serial) × IsSending rest)
-        → MayComeAt Told fault rest × (failed_by fault rest ≡ []) × (text_begun fault rest ≡ []) × ((a : ℕ) → in_flight fault a rest ≡ None)
+        → MayComeAt Told fault rest × (failed_by fault rest ≡ []) × (text_begun fault rest ≡ []) × ((a : ℕ) → in_flight fault a rest ≡ [])
     comes_sent Told fault rest (inl is) = rw is (tt, refl, refl, λ a. refl)
     comes_sent Told fault rest (inr is) = rw is.0 (is.1, refl, refl, λ a. refl)
 
@@ -213,7 +226,7 @@ module _ {D L O : Type 0} (w : Outside D L O) where
     no_boot_sent fault rest (inl is) = rw is tt
     no_boot_sent fault rest (inr is) = rw is.0 tt
 
-    pub sent_stops : (fault : ServeFault) → (told : IsTrue (w.disk disks site.centre).told → MayHaveFacts w.disk w.may_leave disks site.centre site.node.facts None)
+    pub sent_stops : (fault : ServeFault) → (told : IsTrue (w.disk disks site.centre).told → MayHaveFacts w.disk w.may_leave disks site.centre site.logged [])
         → SendsSome w.calls w.lost w.faults config site xs fault link new_link held.sender sender
         → Stops w site (messages_sent config site xs) fault before after
     sent_stops fault left some = record {

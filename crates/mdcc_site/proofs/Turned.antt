@@ -1,21 +1,21 @@
 -- What a centre receives, and its turn.
-use Rattle.std.proofs.Common.{◌≡◌, ℕ, ◌≤◌, Bool, true, false, List, [], ◌∷◌, Option, Some, None, Result, Ok, Err, refl, sym, ◌∙◌, subst, arith, append-nil, IsTrue}
-use Rattle.std.specs.Prelude.{is_none, is_some}
+use Rattle.std.proofs.Common.{◌≡◌, ℕ, ◌≤◌, Bool, true, false, cond, List, [], ◌∷◌, Option, Some, None, Result, Ok, Err, refl, sym, ◌∙◌, ap, subst, arith, append-nil, not, IsTrue}
+use Rattle.std.specs.Prelude.{is_none, is_some, ◌&&◌}
 use Rattle.mdcc_base.specs.Causes.{Rose}
 use Rattle.mdcc_config.specs.declared.config.Config.{Config}
 use Rattle.mdcc_link.specs.Link.{LinkCall}
 use Rattle.mdcc_option.specs.declared.cluster.Cluster.{Cluster}
 use Rattle.mdcc_outbox.specs.Shows.{Records, call_of, calls_of, failed_call}
-use Rattle.mdcc_rules.specs.declared.node.Input.{Input}
 use Rattle.mdcc_runs.specs.Acts.{Act}
+use Rattle.mdcc_runs.specs.Sending.{persist_then_send}
 use Rattle.mdcc_runs.specs.Sites.{Doing, Site, after_acts, idle}
-use Rattle.mdcc_runs.specs.Steps.{input_taken}
-use Rattle.mdcc_runs.specs.Turns.{Given, asked_received, own_received, ticked, turn_of}
+use Rattle.mdcc_runs.specs.Turns.{Given, asked_received, inputs_taken, is_full, own_received, released, ticked, turn_of}
 use Rattle.mdcc_site.proofs.Going.{acts_then, goes_then, stops_then}
 use Rattle.mdcc_site.proofs.Joined.{did_nothing, none_added, none_written, others_none}
-use Rattle.mdcc_site.proofs.Owns.{asked_owns, own_owns, owns_then, ticked_owns}
+use Rattle.mdcc_site.proofs.Owns.{IsWhole, asked_owns, inputs_own, own_owns, owns_then, released_owns, ticked_owns}
 use Rattle.mdcc_site.specs.Logs.{MayHaveFacts}
 use Rattle.mdcc_site.specs.Moments.{Did, Outside, Passes}
+use Rattle.mdcc_site.specs.Silence.{ticked_if}
 use Rattle.mdcc_site.specs.SiteState.{Finishes, Goes, Place, HoldsSite, Stops, place, seen}
 use Rattle.mdcc_site.specs.declared.fault.ServeFault.{ServeFault}
 use Rattle.mdcc_site.specs.declared.site.Site.{Site as TheSite}
@@ -51,7 +51,7 @@ module _ {D L O : Type 0} (w : Outside D L O) where
         acts_then w cluster site site (Act.Receive at gave ∷ []) second (place disks held link out) (place disks held new_link out) c r refl refl (received_did at gave recorded) (others_none w site.centre disks) goes
 
     -- it failed
-    pub receive_fails : (site : Site) (at : ℕ) → (IsTrue (w.disk disks site.centre).told → MayHaveFacts w.disk w.may_leave disks site.centre site.node.facts None)
+    pub receive_fails : (site : Site) (at : ℕ) → (IsTrue (w.disk disks site.centre).told → MayHaveFacts w.disk w.may_leave disks site.centre site.logged [])
         → Records (failed_call (Act.Receive at None)) (w.calls link) (w.calls new_link) → Rose (w.faults link) (w.faults new_link)
         → Stops w site (after_acts (Act.Receive at None ∷ []) (idle site)) ServeFault.Link (place disks held link out) (place disks held new_link out)
     receive_fails site at left recorded rose = record {
@@ -86,7 +86,7 @@ module _ {D L O : Type 0} (w : Outside D L O) where
 
   -- ---- a turn
 
-  module _ (cluster : Cluster) (config : Config) (site : Site) (given : Given) where
+  module _ (cluster : Cluster) (config : Config) (site : Site) (whole : IsWhole site) (given : Given) where
     abbrev pub own : Doing
     own = own_received config site given.own
 
@@ -96,32 +96,56 @@ module _ {D L O : Type 0} (w : Outside D L O) where
     abbrev pub ticks : Doing
     ticks = ticked config given asked.site
 
+    abbrev pub inputs : Doing
+    inputs = inputs_taken config site given
+
+    abbrev pub releases : Doing
+    releases = released config given inputs.site
+
+    released_later : inputs.site.sent ≤ releases.site.sent
+    released_later = (released_owns config given inputs.site).sent
+
+    ticked_later : asked.site.sent ≤ ticks.site.sent
+    ticked_later = (ticked_owns config given asked.site).sent
+
     pub turn_unreceived : {fault : ServeFault} {a b : Place D L O} → Stops w site own fault a b → Stops w site (turn_of config site given) fault a b
-    turn_unreceived one = stops_then w ticks (ticked_owns config given asked.site).sent (stops_then w asked (asked_owns config own.site given.asked).sent one)
+    turn_unreceived one = stops_then w releases released_later (stops_then w ticks ticked_later (stops_then w asked (asked_owns config own.site given.asked).sent one))
 
     pub turn_unasked : {fault : ServeFault} {a b c : Place D L O} → Finishes w cluster site own a b → Stops w own.site asked fault b c → Stops w site (turn_of config site given) fault a c
-    turn_unasked {fault = fault} one two = stops_then w ticks (ticked_owns config given asked.site).sent (goes_then w {T = Unit {0}} _ _ (Err fault) (own_owns config site given.own) one two)
+    turn_unasked {fault = fault} one two =
+        stops_then w releases released_later (stops_then w ticks ticked_later (goes_then w {T = Unit {0}} _ _ (Err fault) whole (own_owns config site given.own) one two))
 
-    pub turn_goes : {T : Type 0} {a b c : Place D L O} (d : Place D L O) (r : Result T ServeFault) → Finishes w cluster site own a b → Finishes w cluster own.site asked b c → Goes w cluster asked.site ticks r c d
-        → Goes w cluster site (turn_of config site given) r a d
-    turn_goes d r one two three = goes_then w _ _ r (owns_then (own_owns config site given.own) (asked_owns config own.site given.asked))
-        (goes_then w {T = Unit {0}} _ _ (Ok tt) (own_owns config site given.own) one two) three
+    pub inputs_go : {T : Type 0} {a b c : Place D L O} (d : Place D L O) (r : Result T ServeFault) → Finishes w cluster site own a b → Finishes w cluster own.site asked b c → Goes w cluster asked.site ticks r c d
+        → Goes w cluster site inputs r a d
+    inputs_go d r one two three = goes_then w _ _ r whole (owns_then (own_owns config site given.own) (asked_owns config own.site given.asked))
+        (goes_then w {T = Unit {0}} _ _ (Ok tt) whole (own_owns config site given.own) one two) three
+
+    pub turn_unticked : {fault : ServeFault} {a b : Place D L O} → Stops w site inputs fault a b → Stops w site (turn_of config site given) fault a b
+    turn_unticked one = stops_then w releases released_later one
+
+    pub turn_goes : {T : Type 0} {a b : Place D L O} (c : Place D L O) (r : Result T ServeFault) → Finishes w cluster site inputs a b → Goes w cluster inputs.site releases r b c
+        → Goes w cluster site (turn_of config site given) r a c
+    turn_goes c r one two = goes_then w _ _ r whole (inputs_own config site given) one two
 
 -- ---- whether time passes
 
-pub none_came : {X : Type 0} (o : Option X) (came : Bool) → came ≡ is_some o → came ≡ false → is_none o ≡ true
-none_came None came is silent = refl
-none_came (Some x) came is silent = absurd (cc)
+none_came : (here there : Option (List ℕ)) → (not (is_some here) && not (is_some there)) ≡ (is_none here && is_none there)
+none_came None None = refl
+none_came None (Some x) = refl
+none_came (Some x) None = refl
+none_came (Some x) (Some y) = refl
 
-pub some_came : {X : Type 0} (o : Option X) (came : Bool) → came ≡ is_some o → came ≡ true → is_none o ≡ false
-some_came None came is so = absurd (cc)
-some_came (Some x) came is so = refl
+pub ticked_by : (config : Config) (given : Given) (site : Site) (came_here came_there silent : Bool) → came_here ≡ is_some given.own → came_there ≡ is_some given.asked → silent ≡ (not came_here && not came_there)
+    → ticked_if config silent site ≡ ticked config given site
+ticked_by config given site came_here came_there silent is_here is_there is =
+    ap (λ (b : Bool). ticked_if config b site) (is ∙ (ap (λ (b : Bool). not b && not came_there) is_here ∙ (ap (λ (b : Bool). not (is_some given.own) && not b) is_there ∙ none_came given.own given.asked)))
 
-pub ticked_silent : (config : Config) (given : Given) (site : Site) → is_none given.own ≡ true → is_none given.asked ≡ true → ticked config given site ≡ input_taken config site Input.Tick
-ticked_silent config given site own asked = rw (own, asked) refl
+-- ---- whether what is pending goes out
 
-pub ticked_own : (config : Config) (given : Given) (site : Site) → is_none given.own ≡ false → ticked config given site ≡ idle site
-ticked_own config given site own = rw own refl
+pub released_kept : (config : Config) (here there : Option (List ℕ)) (waits : Bool) (site : Site) → (waits && not (is_full site.pending)) ≡ true
+    → released config (record { own = here; asked = there; waits = waits }) site ≡ idle site
+released_kept config here there waits site kept = ap (λ (b : Bool). cond b (idle site) (persist_then_send config site)) kept
 
-pub ticked_asked : (config : Config) (given : Given) (site : Site) → is_none given.own ≡ true → is_none given.asked ≡ false → ticked config given site ≡ idle site
-ticked_asked config given site own asked = rw (own, asked) refl
+pub released_now : (config : Config) (here there : Option (List ℕ)) (waits : Bool) (site : Site) → (waits && not (is_full site.pending)) ≡ false
+    → released config (record { own = here; asked = there; waits = waits }) site ≡ persist_then_send config site
+released_now config here there waits site out = ap (λ (b : Bool). cond b (idle site) (persist_then_send config site)) out

@@ -1,5 +1,5 @@
 -- Why a server ends before its last turn, and at which act.
-use Rattle.std.specs.Prelude.{Bool, Err, IsTrue, List, None, Option, Some, [], if◌then◌else◌, nat_le, ⊤, ℕ, ◌-◌, ◌==◌, ◌^◌, ◌∷◌, ◌≡◌, ◌≤◌}
+use Rattle.std.specs.Prelude.{Bool, Err, IsTrue, List, [], if◌then◌else◌, nat_le, ⊤, ℕ, ◌-◌, ◌==◌, ◌^◌, ◌∷◌, ◌≡◌, ◌≤◌}
 use Rattle.std.specs.List.{AllByRecursion, list_any}
 use Rattle.mdcc_option.specs.declared.cluster.Cluster.{Cluster}
 use Rattle.mdcc_protocol.specs.Facts.{epoch_of}
@@ -31,7 +31,7 @@ of_print PrintFault.Memory = ServeFault.Memory
 -- ---- which act comes next
 
 abbrev pub IsLogging : ℕ → List Act → Type 0
-IsLogging a (Act.Append centre fact ∷ acts) = centre ≡ a
+IsLogging a (Act.Append centre facts ∷ acts) = centre ≡ a
 IsLogging a _ = ⊥
 
 abbrev pub IsAtLink : List Act → Type 0
@@ -82,19 +82,19 @@ SerialsEnd sites fault = ⊤
 
 -- ---- what it may leave
 
--- the fact that is being appended at a centre
-abbrev pub next_fact : ℕ → List Act → Option Fact
-next_fact a (Act.Append centre fact ∷ acts) = if centre == a then Some fact else None
-next_fact a _ = None
+-- the facts that are being appended at a centre
+abbrev pub next_facts : ℕ → List Act → List Fact
+next_facts a (Act.Append centre facts ∷ acts) = if centre == a then facts else []
+next_facts a _ = []
 
--- where a call of a disk failed, it may be in the log
-abbrev pub in_flight : ServeFault → ℕ → List Act → Option Fact
-in_flight (ServeFault.Disk a) centre rest = next_fact centre rest
-in_flight fault centre rest = None
+-- where a call of a disk failed, they may be in the log, all of them or none
+abbrev pub in_flight : ServeFault → ℕ → List Act → List Fact
+in_flight (ServeFault.Disk a) centre rest = next_facts centre rest
+in_flight fault centre rest = []
 
 -- a boot opens the log: where a call of its disk failed then, or there was no memory, no byte is torn to 1
 abbrev pub IsSafeIn : (ℕ → Type 0) → List Act → Type 0
-IsSafeIn tears (Act.Append centre (Fact.Booted epoch) ∷ acts) = tears 1 → ⊥
+IsSafeIn tears (Act.Append centre (Fact.Booted epoch ∷ more) ∷ acts) = tears 1 → ⊥
 IsSafeIn tears _ = ⊤
 
 abbrev pub IsSafeAt : (ℕ → Type 0) → ServeFault → List Act → Type 0

@@ -1,18 +1,17 @@
--- What logging the fact of a step does.
-use Rattle.std.specs.Prelude.{Err, IsTrue, List, Ok, Option, Result, ⊤, ℕ, ◌+◌}
+-- What logging facts does.
+use Rattle.std.specs.Prelude.{Err, IsTrue, List, Ok, Result, ⊤, ℕ, ◌+◌}
 use Rattle.mdcc_areas.specs.Both.{RoseAtOne}
 use Rattle.mdcc_areas.specs.Frames.{OpenAreas}
 use Rattle.mdcc_areas.specs.declared.fault.LogFault.{LogFault}
 use Rattle.mdcc_disks.specs.Disks.{Disk}
 use Rattle.mdcc_messages.specs.declared.facts.Fact.{Fact}
-use Rattle.mdcc_runs.specs.Steps.{fact_logged}
+use Rattle.mdcc_runs.specs.Sending.{facts_logged}
 use Rattle.mdcc_site.specs.Causes.{IsNoBoot, in_flight}
-use Rattle.mdcc_site.specs.Logs.{MayHaveFacts}
+use Rattle.mdcc_site.specs.Logs.{MayHaveFacts, with_facts}
 use Rattle.mdcc_site.specs.Moments.{DiskPasses, KeepsOthers, MayComeAt}
 use Rattle.mdcc_site.specs.Room.{OnFull}
 use Rattle.mdcc_site.specs.SiteState.{HoldsLog}
 use Rattle.mdcc_site.specs.declared.fault.ServeFault.{ServeFault}
-use Rattle.mdcc_rules.specs.Steps.{with_new}
 
 -- a fault of a log as a server's
 abbrev pub log_fault_of : ℕ → LogFault → ServeFault
@@ -25,21 +24,21 @@ module _ {D : Type 0} (disk : D → ℕ → Disk) (may_leave : D → ℕ → Lis
   CausedOn (ServeFault.Disk a) old new = RoseAtOne (disk old a) (disk new a) (disk old (a + 16)) (disk new (a + 16))
   CausedOn fault old new = ⊤
 
-  pub record HasLogged (centre : ℕ) (facts : List Fact) (fact : Option Fact) (old new : D) (log : OpenAreas) : Type 0 where
-    pub stands : HoldsLog disk may_leave new log centre (with_new facts fact)
+  pub record HasLogged (centre : ℕ) (facts more : List Fact) (old new : D) (log : OpenAreas) : Type 0 where
+    pub stands : HoldsLog disk may_leave new log centre (with_facts facts more)
     pub passes : DiskPasses disk may_leave old new
     pub others : KeepsOthers disk may_leave centre old new
 
-  pub record FailsToLog (centre : ℕ) (facts : List Fact) (fact : Option Fact) (fault : ServeFault) (old new : D) : Type 0 where
-    pub comes : MayComeAt (IsTrue (disk old centre).told) fault (fact_logged centre fact)
+  pub record FailsToLog (centre : ℕ) (facts more : List Fact) (fault : ServeFault) (old new : D) : Type 0 where
+    pub comes : MayComeAt (IsTrue (disk old centre).told) fault (facts_logged centre more)
     pub no_boot : IsNoBoot fault
     pub cause : CausedOn fault old new
-    pub full : OnFull disk may_leave new fault (fact_logged centre fact)
-    pub log : IsTrue (disk old centre).told → MayHaveFacts disk may_leave new centre facts (in_flight fault centre (fact_logged centre fact))
+    pub full : OnFull disk may_leave new fault (facts_logged centre more)
+    pub log : IsTrue (disk old centre).told → MayHaveFacts disk may_leave new centre facts (in_flight fault centre (facts_logged centre more))
     pub passes : DiskPasses disk may_leave old new
     pub others : KeepsOthers disk may_leave centre old new
 
-  -- the log of a centre has these facts and the new one, or it is said why not and what it may have then
-  abbrev pub Logs : ℕ → List Fact → Option Fact → Result (Unit {0}) ServeFault → D → D → OpenAreas → Type 0
-  Logs centre facts fact (Ok done) old new log = HasLogged centre facts fact old new log
-  Logs centre facts fact (Err fault) old new log = FailsToLog centre facts fact fault old new
+  -- the log of a centre has these facts and these more, or it is said why not and what it may have then
+  abbrev pub Logs : ℕ → List Fact → List Fact → Result (Unit {0}) ServeFault → D → D → OpenAreas → Type 0
+  Logs centre facts more (Ok done) old new log = HasLogged centre facts more old new log
+  Logs centre facts more (Err fault) old new log = FailsToLog centre facts more fault old new

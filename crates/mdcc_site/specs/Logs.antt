@@ -1,5 +1,5 @@
 -- What the acts of a server leave in the logs.
-use Rattle.std.specs.Prelude.{IsSomeAnd, List, Ok, Option, fold, length, ℕ, ◌+◌, ◌<◌, ◌∷◌, ◌≡◌, ◌⊎◌}
+use Rattle.std.specs.Prelude.{List, Ok, fold, length, ℕ, ◌+◌, ◌<◌, ◌∷◌, ◌≡◌, ◌⊎◌}
 use Rattle.mdcc_areas.specs.Area.{AreaLog, payloads, payloads_of, read_areas}
 use Rattle.mdcc_disks.specs.Disks.{Disk, Only}
 use Rattle.mdcc_messages.specs.declared.facts.Fact.{Fact}
@@ -32,8 +32,8 @@ module _ {D : Type 0} (disk : D → ℕ → Disk) (may_leave : D → ℕ → Lis
     pub durable : Only (disk disks centre).bytes (may_leave disks centre)
     pub durable_other : Only (disk disks (centre + 16)).bytes (may_leave disks (centre + 16))
 
-  -- after a crash it has these facts, or these and one more
-  abbrev pub MayHaveFacts : List Fact → Option Fact → Type 0
+  -- after a crash it has these facts, or these and all the next ones
+  abbrev pub MayHaveFacts : List Fact → List Fact → Type 0
   MayHaveFacts facts next =
       (first second : List ℕ) → may_leave disks centre first → may_leave disks (centre + 16) second
-      → (payloads first second ≡ Ok (encodings_of facts)) ⊎ IsSomeAnd next (λ fact. payloads first second ≡ Ok (encodings_of (fact ∷ facts)))
+      → (payloads first second ≡ Ok (encodings_of facts)) ⊎ (payloads first second ≡ Ok (encodings_of (with_facts facts next)))

@@ -1,8 +1,8 @@
--- A log that has no room for the fact that is to be appended.
-use Rattle.std.specs.Prelude.{IsTrue, List, length, ⊤, ℕ, ◌∷◌, ◌≡◌}
+-- A log that has no room for the facts that are to be appended.
+use Rattle.std.specs.Prelude.{IsTrue, List, map, ⊤, ℕ, ◌∷◌, ◌≡◌}
 use Rattle.mdcc_areas.specs.AtRest.{IsAtRest}
 use Rattle.mdcc_areas.specs.Frames.{OpenAreas}
-use Rattle.mdcc_areas.specs.Room.{IsFull}
+use Rattle.mdcc_areas.specs.Groups.{AreFull}
 use Rattle.mdcc_areas.specs.declared.fault.LogFault.{LogFault}
 use Rattle.mdcc_disks.specs.Disks.{Disk}
 use Rattle.mdcc_messages.specs.Spelling.{encodings_of, fact_bytes}
@@ -12,22 +12,22 @@ use Rattle.mdcc_site.specs.Logs.{checkpoint_every}
 use Rattle.mdcc_site.specs.declared.fault.ServeFault.{ServeFault}
 
 module _ {D : Type 0} (disk : D → ℕ → Disk) (may_leave : D → ℕ → List ℕ → Type 0) (disks : D) where
-  -- The open log of a centre, as it stands on its disks, has no room for this fact: with it the area in use, or a copy of all that is
+  -- The open log of a centre, as it stands on its disks, has no room for these facts: with them the area in use, or a copy of all that is
   -- due then, would pass the limit of a log.
-  pub record HasNoRoom (centre : ℕ) (fact : Fact) : Type 0 where
+  pub record HasNoRoom (centre : ℕ) (more : List Fact) : Type 0 where
     pub facts : List Fact
     pub log : OpenAreas
     pub of : log.centre ≡ centre
     pub every : log.every ≡ checkpoint_every
     pub at_rest : IsAtRest disk may_leave disks log (encodings_of facts)
-    pub full : IsFull log (length (fact_bytes fact))
+    pub full : AreFull log (map fact_bytes more)
 
-  -- where it tells its bytes, so is the log for the fact that comes next
+  -- where it tells its bytes, so is the log for the facts that come next
   abbrev pub LacksRoom : List Act → Type 0
-  LacksRoom (Act.Append centre fact ∷ acts) = IsTrue (disk disks centre).told → HasNoRoom centre fact
+  LacksRoom (Act.Append centre facts ∷ acts) = IsTrue (disk disks centre).told → HasNoRoom centre facts
   LacksRoom acts = ⊤
 
-  -- a log is said to be full only where it has no room for the fact that comes next
+  -- a log is said to be full only where it has no room for the facts that come next
   abbrev pub OnFull : ServeFault → List Act → Type 0
   OnFull (ServeFault.Log a LogFault.LogFull) rest = LacksRoom rest
   OnFull fault rest = ⊤

@@ -1,6 +1,6 @@
 -- A centre that is served, as the code holds it, and what its methods do.
 use Rattle.std.specs.List.{AllByRecursion}
-use Rattle.std.specs.Prelude.{Err, IfSome, IsTrue, List, None, Ok, Option, Some, Result, [], take, ⊤, ℕ, ◌+◌, ◌<◌, ◌^◌, ◌≡◌, ◌≤◌, ◌⊎◌}
+use Rattle.std.specs.Prelude.{Bool, Err, IfOk, IfSome, IsTrue, List, None, Ok, Option, Some, Result, [], is_some, take, ⊤, ℕ, ◌+◌, ◌<◌, ◌^◌, ◌≡◌, ◌≤◌, ◌⊎◌}
 use Rattle.std.specs.Io.KnownBytes.{Appends}
 use Rattle.mdcc_areas.specs.AtRest.{IsAtRest}
 use Rattle.mdcc_areas.specs.Frames.{OpenAreas}
@@ -18,19 +18,18 @@ use Rattle.mdcc_messages.specs.declared.messages.Envelope.{Envelope}
 use Rattle.mdcc_option.specs.declared.cluster.Cluster.{Cluster}
 use Rattle.mdcc_option.specs.declared.faults.BeginFault.{BeginFault}
 use Rattle.mdcc_outbox.specs.Sends.{IsSenderOf, IsSending, Sends}
-use Rattle.mdcc_outbox.specs.Shows.{counted}
+use Rattle.mdcc_outbox.specs.Shows.{Records, call_of, counted, failed_call}
 use Rattle.mdcc_outbox.specs.declared.sending.Sender.{Sender}
-use Rattle.mdcc_protocol.specs.Facts.{epoch_of}
 use Rattle.mdcc_rules.specs.Steps.{NodeStep, step_given, with_new}
 use Rattle.mdcc_rules.specs.declared.node.Answer.{Answer}
 use Rattle.mdcc_rules.specs.declared.node.Step.{Step}
 use Rattle.mdcc_rules.specs.declared.node.StepFault.{StepFault}
-use Rattle.mdcc_runs.specs.Acts.{Act, printed}
+use Rattle.mdcc_runs.specs.Acts.{Act, dropped_in, printed, steps_in}
 use Rattle.mdcc_runs.specs.Sending.{messages_sent}
 use Rattle.mdcc_runs.specs.Sites.{Doing, Site}
 use Rattle.mdcc_site.specs.Causes.{IsNoBoot, IsPrinting, in_flight, text_begun}
-use Rattle.mdcc_site.specs.Logs.{MayHaveFacts, checkpoint_every, facts_after}
-use Rattle.mdcc_site.specs.Moments.{Broke, Did, KeepsOthers, Moment, Outside}
+use Rattle.mdcc_site.specs.Logs.{MayHaveFacts, checkpoint_every, facts_after, with_facts}
+use Rattle.mdcc_site.specs.Moments.{Adds, Broke, Did, KeepsOthers, Moment, Outside}
 use Rattle.mdcc_site.specs.declared.fault.ServeFault.{ServeFault}
 use Rattle.mdcc_site.specs.declared.site.Site.{Site as TheSite}
 use Rattle.mdcc_steps.specs.NodeInvariant.{IsNode}
@@ -47,7 +46,7 @@ module _ {D : Type 0} (disk : D → ℕ → Disk) (may_leave : D → ℕ → Lis
     pub alike : (disk disks (centre + 16)).told ≡ (disk disks centre).told
     pub at_rest : IsTrue (disk disks centre).told → IsAtRest disk may_leave disks log (encodings_of facts)
     -- whatever a crash leaves of it
-    pub left : IsTrue (disk disks centre).told → MayHaveFacts disk may_leave disks centre facts None
+    pub left : IsTrue (disk disks centre).told → MayHaveFacts disk may_leave disks centre facts []
 
   -- and no checkpoint is due
   pub record HoldsLog (disks : D) (log : OpenAreas) (centre : ℕ) (facts : List Fact) : Type 0 where
@@ -63,6 +62,13 @@ IsShortFact fact = FactHasCounts fact × (fact_length fact ≤ 2097152)
 abbrev pub CanBeSent : Envelope → Type 0
 CanBeSent envelope = HasCounts envelope.message
 
+-- what is pending at this centre: its facts are those of the node that its log has not, and all of it can go out
+pub record Waits (held : TheSite) (site : Site) : Type 0 where
+  pub pending : held.pending ≡ site.pending
+  pub all : site.node.facts ≡ with_facts site.logged site.pending.facts
+  pub facts : AllByRecursion IsShortFact site.pending.facts
+  pub envelopes : AllByRecursion CanBeSent site.pending.envelopes
+
 -- what is held beside the log is this centre of the cluster
 pub record IsSite (cluster : Cluster) (held : TheSite) (site : Site) : Type 0 where
   pub node : IsNodeOf held.node cluster site.centre site.node.facts site.node.volatile
@@ -72,8 +78,9 @@ pub record IsSite (cluster : Cluster) (held : TheSite) (site : Site) : Type 0 wh
   pub clients : held.clients ≡ site.clients
   pub own : held.own ≡ site.own
   pub asked : held.asked ≡ site.asked
+  pub waits : Waits held site
 
--- Its node made this step: it has the new fact, and the log has not.
+-- Its node made this step: it has the new fact, which is not among the pending ones yet.
 pub record HasStepped (cluster : Cluster) (held : TheSite) (site : Site) (step : NodeStep) : Type 0 where
   pub node : IsNodeOf held.node cluster site.centre (with_new site.node.facts step.fact) step.after
   pub kept : IsNode cluster site.centre (with_new site.node.facts step.fact) step.after
@@ -82,6 +89,7 @@ pub record HasStepped (cluster : Cluster) (held : TheSite) (site : Site) (step :
   pub clients : held.clients ≡ site.clients
   pub own : held.own ≡ site.own
   pub asked : held.asked ≡ site.asked
+  pub waits : Waits held site
   pub fact : IfSome step.fact IsShortFact
   pub sends : AllByRecursion CanBeSent step.sends
 
@@ -115,18 +123,18 @@ OnSerial fault sent = ⊤
 module _ {D L O : Type 0} (w : Outside D L O) where
   pub record HoldsSite (cluster : Cluster) (disks : D) (held : TheSite) (site : Site) : Type 0 where
     pub itself : IsSite cluster held site
-    pub log : HoldsLog w.disk w.may_leave disks held.log site.centre site.node.facts
+    pub log : HoldsLog w.disk w.may_leave disks held.log site.centre site.logged
 
   -- it is some centre of the cluster
   pub record IsServed (cluster : Cluster) (disks : D) (held : TheSite) : Type 0 where
     pub site : Site
     pub stands : HoldsSite cluster disks held site
 
-  -- its log has its facts and those that were appended, or where a call of the disk failed perhaps the one that was being appended too
+  -- its log has its facts and those that were appended, or where a call of the disk failed perhaps those that were being appended too
   abbrev pub SiteLog : Site → ServeFault → D → D → List Act → List Act → Type 0
   SiteLog site fault old new acts rest =
       IsTrue (w.disk old site.centre).told
-      → MayHaveFacts w.disk w.may_leave new site.centre (facts_after site.centre site.node.facts acts) (in_flight fault site.centre rest)
+      → MayHaveFacts w.disk w.may_leave new site.centre (facts_after site.centre site.logged acts) (in_flight fault site.centre rest)
 
   -- it did all that it was to do
   pub record Finishes (cluster : Cluster) (site : Site) (doing : Doing) (old new : Place D L O) : Type 0 where
@@ -145,11 +153,37 @@ module _ {D L O : Type 0} (w : Outside D L O) where
   Goes cluster site doing (Ok done) old new = Finishes cluster site doing old new
   Goes cluster site doing (Err fault) old new = Stops site doing fault old new
 
--- ---- for its methods
+-- ---- what needs no disk, link or output
 
--- the sender is of the epoch that the step leaves
-abbrev pub IsOfEpoch : Sender → Site → NodeStep → Type 0
-IsOfEpoch sender site step = sender.epoch ≡ epoch_of (with_new site.node.facts step.fact)
+-- a step is counted, or what is dropped
+abbrev pub IsCount : Act → Type 0
+IsCount Act.Stepped = ⊤
+IsCount Act.Dropped = ⊤
+IsCount _ = ⊥
+
+-- This was done and counted, and its log is as it was.
+pub record Makes (cluster : Cluster) (site : Site) (doing : Doing) (old new : TheSite) : Type 0 where
+  pub itself : IsSite cluster new doing.site
+  pub centre : doing.site.centre ≡ site.centre
+  pub logged : doing.site.logged ≡ site.logged
+  pub log : new.log ≡ old.log
+  pub quiet : AllByRecursion IsCount doing.acts
+  pub steps : Adds (steps_in doing.acts) old.steps new.steps
+  pub dropped : Adds (dropped_in doing.acts) old.dropped new.dropped
+  pub lost : new.sender.lost ≡ old.sender.lost
+
+-- There was no memory, and nothing was counted.
+pub record MakesNone (fault : ServeFault) (old new : TheSite) : Type 0 where
+  pub memory : fault ≡ ServeFault.Memory
+  pub steps : new.steps ≡ old.steps
+  pub dropped : new.dropped ≡ old.dropped
+  pub lost : new.sender.lost ≡ old.sender.lost
+
+abbrev pub Becomes : {T : Type 0} → Cluster → Site → Doing → Result T ServeFault → TheSite → TheSite → Type 0
+Becomes cluster site doing (Ok done) old new = Makes cluster site doing old new
+Becomes cluster site doing (Err fault) old new = MakesNone fault old new
+
+-- ---- for its methods
 
 -- the transaction that an answer says was begun
 abbrev pub begun_in : Option Answer → Option TxId
@@ -165,26 +199,33 @@ abbrev pub refused_fault : Option Answer → Option BeginFault
 refused_fault (Some (Answer.Refused key fault)) = Some fault
 refused_fault _ = None
 
--- its node made some step, which is not in its log yet
-pub record HasStep {D : Type 0} (disk : D → ℕ → Disk) (may_leave : D → ℕ → List ℕ → Type 0) (cluster : Cluster) (disks : D) (held : TheSite) (step : Step) : Type 0 where
-  pub site : Site
-  pub made : NodeStep
-  pub stepped : HasStepped cluster held site made
-  pub log : HoldsLog disk may_leave disks held.log site.centre site.node.facts
-  pub fact : step.fact ≡ made.fact
-  pub sends : step.sends ≡ made.sends
-
--- it was asked something, and its log is as before
-pub record HasActed {D : Type 0} (disk : D → ℕ → Disk) (may_leave : D → ℕ → List ℕ → Type 0) (cluster : Cluster) (disks : D) (held : TheSite) (made : Result (Unit {0}) StepFault) (step : Step) : Type 0 where
-  pub site : Site
-  pub expected : Result NodeStep StepFault
-  pub acted : Acted cluster held site expected made step
-  pub log : HoldsLog disk may_leave disks held.log site.centre site.node.facts
-
 -- a refusal of the node is told, or it is dropped
 abbrev pub Refuses : StepFault → Result (Unit {0}) ServeFault → TheSite → TheSite → Type 0
 Refuses StepFault.Memory result old new = (result ≡ Err ServeFault.Memory) × (new ≡ old)
 Refuses fault result old new = (result ≡ Ok tt) × (new ≡ record old { dropped = counted (old.dropped + 1) })
+
+-- ---- what it receives
+
+module _ {L : Type 0} (calls : L → Option (List LinkCall)) (lost faults : L → ℕ) where
+  -- a receive at an endpoint gave something, or nothing, and this is made of it
+  pub record Takes (cluster : Cluster) (site : Site) (at : ℕ) (taken : Option (List ℕ) → Doing) (result : Result Bool ServeFault) (link new_link : L) (old new : TheSite) : Type 0 where
+    pub gave : Option (List ℕ)
+    pub recorded : Records (call_of (Act.Receive at gave)) (calls link) (calls new_link)
+    pub came : IfOk result (λ came. came ≡ is_some gave)
+    pub becomes : Becomes cluster site (taken gave) result old new
+
+  -- the receive failed
+  pub record FailsToReceive (at : ℕ) (result : Result Bool ServeFault) (link new_link : L) (old new : TheSite) : Type 0 where
+    pub fault : result ≡ Err ServeFault.Link
+    pub recorded : Records (failed_call (Act.Receive at None)) (calls link) (calls new_link)
+    pub cause : Rose (faults link) (faults new_link)
+    pub same : new ≡ old
+
+  -- it received once, and sent nothing
+  pub record Receives (cluster : Cluster) (site : Site) (at : ℕ) (taken : Option (List ℕ) → Doing) (result : Result Bool ServeFault) (link new_link : L) (old new : TheSite) : Type 0 where
+    pub later : faults link ≤ faults new_link
+    pub sends : lost new_link ≡ lost link
+    pub does : Takes cluster site at taken result link new_link old new ⊎ FailsToReceive at result link new_link old new
 
 -- ---- what it sends and prints
 

@@ -1,27 +1,24 @@
 //! What a client asks of its node.
-ghost use Rattle.std.specs.Prelude.{◌≡◌, ◌+◌, IfErr, IfSome, List, OnOk, Ok, ℕ};
-ghost use Rattle.std.specs.Option.{option_map};
+ghost use Rattle.std.specs.Prelude.{◌≡◌, IfErr, OnOk};
 ghost use Rattle.mdcc_base.specs.Key.{IsKey};
-ghost use Rattle.mdcc_config.specs.IsConfig.{IsConfig};
+ghost use Rattle.mdcc_config.specs.declared.config.Config.{Config as AConfig};
 ghost use Rattle.mdcc_messages.specs.WellFormed.{IsWellFormedBegin};
 ghost use Rattle.mdcc_option.specs.Transaction.{transaction_of};
-ghost use Rattle.mdcc_option.specs.declared.items.Part.{Part as APart};
+ghost use Rattle.mdcc_option.specs.declared.cluster.Cluster.{Cluster as ACluster};
 ghost use Rattle.mdcc_runs.specs.Clients.{known_of};
 ghost use Rattle.mdcc_runs.specs.Sites.{Site as ASite};
 ghost use Rattle.mdcc_runs.specs.Steps.{begin_made, begin_noted, begin_taken, begin_told, draft_taken, ended, known_told, read_taken, reading_told};
-ghost use Rattle.mdcc_site.specs.Moments.{outside};
-ghost use Rattle.mdcc_site.specs.SiteState.{Goes, IsServed, HoldsSite, begun_in, place, refused_fault, refused_key};
+ghost use Rattle.mdcc_site.specs.SiteState.{Becomes, IsSite, begun_in, refused_fault, refused_key};
 ghost use Rattle.mdcc_site.specs.declared.fault.ServeFault.{ServeFault as AServeFault};
 ghost use Rattle.mdcc_rules.specs.declared.node.Input.{Input as AInput};
 ghost use Rattle.mdcc_runs.specs.Runs.{step_on};
 ghost use Rattle.mdcc_steps.specs.Inputs.{AreWellFormedParts};
 
 use crate::ServeFault;
+use crate::queuing::tell;
 use crate::site::Site;
-use mdcc_base::{Centre, Key, Sink, TxId};
+use mdcc_base::{Centre, Key, TxId};
 use mdcc_config::Config;
-use mdcc_disks::Disks;
-use mdcc_link::Link;
 use mdcc_messages::{ClientAnswer, Envelope};
 use mdcc_node::{Answer, Input, blank};
 use mdcc_option::{BeginFault, Part, Transaction};
@@ -105,28 +102,23 @@ fn known_told(tx: TxId, ended: Option<bool>) -> ClientAnswer
 
 impl Site {
     /// The client reads a key.
-    pub(crate) fn take_read<D: Disks, L: Link, O: Sink>(
+    pub(crate) fn take_read(
         &mut self,
         alloc: Global,
-        config: &Config,
-        disks: &mut D,
-        link: &mut L,
-        out: &mut O,
         serial: u32,
         key: Key,
     ) -> Result<(), ServeFault>
-        requires config { IsConfig config.now }
-        requires served { IsServed (outside D.disk D.may_leave L.calls L.lost L.faults O.held O.faults) config.now.cluster disks.old self.old }
+        requires served { (cluster : ACluster) × (site : ASite) × IsSite cluster self.old site }
         requires key { IsKey key }
-        ensures { (site : ASite) → HoldsSite (outside D.disk D.may_leave L.calls L.lost L.faults O.held O.faults) config.now.cluster disks.old self.old site
-            → Goes (outside D.disk D.may_leave L.calls L.lost L.faults O.held O.faults) config.now.cluster site (read_taken config.now site serial key) result
-            (place disks.old self.old link.old out.old) (place disks.new self.new link.new out.new) }
+        ensures { (config : AConfig) (site : ASite) → IsSite config.cluster self.old site
+            → Becomes config.cluster site (read_taken config site serial key) result self.old self.new }
     {
         let mut step = blank(alloc);
         match self.act_on(&Input::Read(key), &mut step) {
             Ok(()) => {
                 let reply = reading_told(self.centre, serial, key, step.answer.take());
-                self.step_out(alloc, config, disks, link, out, &step, &reply)
+                tell(&mut step, reply)?;
+                self.queue_step(alloc, &mut step)
             }
             Err(fault) => self.refuse(fault),
         }
@@ -158,86 +150,67 @@ impl Site {
     }
 
     // The client begins a transaction under a new serial.
-    fn begin<D: Disks, L: Link, O: Sink>(
+    fn begin(
         &mut self,
         alloc: Global,
-        config: &Config,
-        disks: &mut D,
-        link: &mut L,
-        out: &mut O,
         serial: u32,
         transaction: Transaction,
     ) -> Result<(), ServeFault>
-        requires config { IsConfig config.now }
-        requires served { IsServed (outside D.disk D.may_leave L.calls L.lost L.faults O.held O.faults) config.now.cluster disks.old self.old }
+        requires served { (cluster : ACluster) × (site : ASite) × IsSite cluster self.old site }
         requires parts { AreWellFormedParts transaction }
-        ensures { (site : ASite) → HoldsSite (outside D.disk D.may_leave L.calls L.lost L.faults O.held O.faults) config.now.cluster disks.old self.old site
-            → Goes (outside D.disk D.may_leave L.calls L.lost L.faults O.held O.faults) config.now.cluster site (begin_made config.now site serial (step_on config.now.cluster site.centre site.node (AInput.Begin transaction))) result
-            (place disks.old self.old link.old out.old) (place disks.new self.new link.new out.new) }
+        ensures { (cluster : ACluster) (site : ASite) → IsSite cluster self.old site
+            → Becomes cluster site (begin_made site serial (step_on cluster site.centre site.node (AInput.Begin transaction))) result self.old self.new }
     {
         let mut step = blank(alloc);
         match self.act_on(&Input::Begin(transaction), &mut step) {
             Ok(()) => {
                 self.note_begin(serial, &step.answer)?;
                 let reply = begin_told(self.centre, serial, step.answer.take());
-                self.step_out(alloc, config, disks, link, out, &step, &reply)
+                tell(&mut step, reply)?;
+                self.queue_step(alloc, &mut step)
             }
             Err(fault) => self.refuse(fault),
         }
     }
 
     // The client begins what these parts make.
-    fn begin_draft<D: Disks, L: Link, O: Sink>(
+    fn begin_draft(
         &mut self,
         alloc: Global,
         config: &Config,
-        disks: &mut D,
-        link: &mut L,
-        out: &mut O,
         serial: u32,
         parts: &[Part],
     ) -> Result<(), ServeFault>
-        requires config { IsConfig config.now }
-        requires served { IsServed (outside D.disk D.may_leave L.calls L.lost L.faults O.held O.faults) config.now.cluster disks.old self.old }
+        requires served { (site : ASite) × IsSite config.now.cluster self.old site }
         requires parts { IsWellFormedBegin serial parts.now }
-        ensures { (site : ASite) → HoldsSite (outside D.disk D.may_leave L.calls L.lost L.faults O.held O.faults) config.now.cluster disks.old self.old site
-            → Goes (outside D.disk D.may_leave L.calls L.lost L.faults O.held O.faults) config.now.cluster site (draft_taken config.now site serial (transaction_of config.now.cluster.schema parts.now)) result
-            (place disks.old self.old link.old out.old) (place disks.new self.new link.new out.new) }
+        ensures { (site : ASite) → IsSite config.now.cluster self.old site
+            → Becomes config.now.cluster site (draft_taken config.now site serial (transaction_of config.now.cluster.schema parts.now)) result self.old self.new }
     {
         match Transaction::new(&config.cluster.schema, parts) {
-            Ok(transaction) => self.begin(alloc, config, disks, link, out, serial, transaction),
-            Err(fault) => {
-                let answer = Some(answer_to(self.centre, serial, ClientAnswer::Draft(fault)));
-                self.send_all(alloc, config, link, answer.as_slice())
-            }
+            Ok(transaction) => self.begin(alloc, serial, transaction),
+            Err(fault) => self.queue_answer(serial, ClientAnswer::Draft(fault)),
         }
     }
 
     /// The client begins a transaction. What was begun under this serial is answered again.
-    pub(crate) fn take_begin<D: Disks, L: Link, O: Sink>(
+    pub(crate) fn take_begin(
         &mut self,
         alloc: Global,
         config: &Config,
-        disks: &mut D,
-        link: &mut L,
-        out: &mut O,
         serial: u32,
         parts: &[Part],
     ) -> Result<(), ServeFault>
-        requires config { IsConfig config.now }
-        requires served { IsServed (outside D.disk D.may_leave L.calls L.lost L.faults O.held O.faults) config.now.cluster disks.old self.old }
+        requires served { (site : ASite) × IsSite config.now.cluster self.old site }
         requires parts { IsWellFormedBegin serial parts.now }
-        ensures { (site : ASite) → HoldsSite (outside D.disk D.may_leave L.calls L.lost L.faults O.held O.faults) config.now.cluster disks.old self.old site
-            → Goes (outside D.disk D.may_leave L.calls L.lost L.faults O.held O.faults) config.now.cluster site (begin_taken config.now site serial parts.now) result
-            (place disks.old self.old link.old out.old) (place disks.new self.new link.new out.new) }
+        ensures { (site : ASite) → IsSite config.now.cluster self.old site
+            → Becomes config.now.cluster site (begin_taken config.now site serial parts.now) result self.old self.new }
     {
         match self.clients.begun_for(serial) {
             Some(tx) => {
                 let told = known_told(tx, self.end_of(&tx));
-                let answer = Some(answer_to(self.centre, serial, told));
-                self.send_all(alloc, config, link, answer.as_slice())
+                self.queue_answer(serial, told)
             }
-            None => self.begin_draft(alloc, config, disks, link, out, serial, parts),
+            None => self.begin_draft(alloc, config, serial, parts),
         }
     }
 }

@@ -4,10 +4,13 @@
 mod asking;
 pub mod fault;
 pub mod logging;
+pub mod persist;
+mod queuing;
 mod receiving;
 pub mod site;
 pub mod turning;
 
 pub use fault::ServeFault;
-pub use logging::{log_fact, log_fault};
-pub use site::{Site, print_line};
+pub use logging::{log_facts, log_fault};
+pub use persist::print_line;
+pub use site::Site;

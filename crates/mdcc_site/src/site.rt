@@ -1,47 +1,40 @@
-//! A centre that is served, and how a step of its node goes out.
-ghost use Rattle.std.specs.List.{AllByRecursion};
-ghost use Rattle.std.specs.Prelude.{◌≡◌, ◌+◌, ◌∷◌, [], IfErr, IfOk, IfSome, List, OnOk, Result};
-ghost use Rattle.mdcc_config.specs.IsConfig.{IsConfig};
+//! A centre that is served, and what its node makes of its inputs.
+ghost use Rattle.std.specs.Prelude.{◌≡◌, ◌+◌, ◌++◌, IfErr, List, OnOk, Result, ℕ};
+ghost use Rattle.mdcc_config.specs.declared.config.Config.{Config as AConfig};
 ghost use Rattle.mdcc_messages.specs.declared.facts.Fact.{Fact as AFact};
 ghost use Rattle.mdcc_node.specs.StepPlans.{blank};
 ghost use Rattle.mdcc_node.specs.StepAnswers.{IsGiven};
 ghost use Rattle.mdcc_option.specs.declared.cluster.Cluster.{Cluster as ACluster};
-ghost use Rattle.mdcc_outbox.specs.Sends.{IsSenderOf};
 ghost use Rattle.mdcc_outbox.specs.Shows.{counted};
-ghost use Rattle.mdcc_rules.specs.Steps.{NodeStep, heard_by};
+ghost use Rattle.mdcc_protocol.specs.Facts.{epoch_of};
+ghost use Rattle.mdcc_protocol.specs.Volatile.{Volatile as AVolatile};
+ghost use Rattle.mdcc_rules.specs.Steps.{NodeStep};
 ghost use Rattle.mdcc_rules.specs.declared.node.Input.{Input as AInput};
 ghost use Rattle.mdcc_rules.specs.declared.node.StepFault.{StepFault as AStepFault};
-ghost use Rattle.mdcc_runs.specs.Acts.{Act};
-ghost use Rattle.mdcc_runs.specs.Runs.{step_on};
+ghost use Rattle.mdcc_runs.specs.Runs.{listed, step_on};
 ghost use Rattle.mdcc_runs.specs.Sites.{Site as ASite};
 ghost use Rattle.mdcc_runs.specs.Clients.{with_end};
-ghost use Rattle.mdcc_runs.specs.Steps.{ends_told, heard_printed, input_made, input_taken, step_out, stepped};
-ghost use Rattle.mdcc_site.specs.Causes.{of_print, of_send};
-ghost use Rattle.mdcc_site.specs.LogEffects.{Logs};
-ghost use Rattle.mdcc_site.specs.Moments.{outside};
-ghost use Rattle.mdcc_site.specs.SiteState.{Acted, CanBeSent, Goes, HasActed, HasStep, HasStepped, IsOfEpoch, IsServed, IsShortFact, IsSite, HoldsLog, PrintsOut, Refuses, SendsOut, HoldsSite, place};
+ghost use Rattle.mdcc_runs.specs.Steps.{ends_told, input_made, input_taken};
+ghost use Rattle.mdcc_site.specs.Nodes.{IsNodeOf};
+ghost use Rattle.mdcc_site.specs.SiteState.{Acted, Becomes, IsSite, Refuses};
 ghost use Rattle.mdcc_site.specs.declared.fault.ServeFault.{ServeFault as AServeFault};
 
 use crate::ServeFault;
-use crate::logging::log_fact;
 use mdcc_areas::Frames;
-use mdcc_base::{Centre, Sink, TxId};
-use mdcc_config::Config;
-use mdcc_disks::Disks;
+use mdcc_base::{Centre, TxId};
 use mdcc_frag::Joiner;
 use mdcc_index::PoolFacts;
 use mdcc_journal::counts::well_formed_facts_have_counts;
-use mdcc_link::Link;
-use mdcc_messages::{ClientAnswer, Envelope, Fact};
+use mdcc_messages::{ClientAnswer, Envelope};
 use mdcc_node::{Input, Node, Step, StepFault, blank};
-use mdcc_outbox::{Clients, PrintFault, SendFault, Sender, answer_to, print};
-use mdcc_runs::ServerLine;
+use mdcc_outbox::{Clients, Sender, answer_to};
+use mdcc_runs::Pending;
 use mdcc_steps::{facts_have_room, steps_are_well_formed};
 use mdcc_wire::counts::well_formed_messages_have_counts;
 use std::alloc::Global;
 
-/// A centre: its node, its open log, what it sent, what its client began, and the pieces of messages that came at its own endpoint
-/// and at its client's. The counts stand still at their end.
+/// A centre: its node, its open log, what it sent, what its client began, the pieces of messages that came at its own endpoint and at
+/// its client's, and what its steps made and is not out yet. The counts stand still at their end.
 #[derive(Drop)]
 pub struct Site {
     pub centre: Centre,
@@ -53,6 +46,7 @@ pub struct Site {
     pub asked: Joiner,
     pub steps: u64,
     pub dropped: u64,
+    pub pending: Pending,
 }
 
 impl Site {
@@ -88,80 +82,14 @@ impl Site {
         self.node.deliver(envelope, step)
     }
 
-    // The fact of a step goes into the log.
-    fn log_step<D: Disks>(
-        &mut self,
-        alloc: Global,
-        disks: &mut D,
-        fact: &Option<Fact>,
-    ) -> Result<(), ServeFault>
-        requires short { IfSome fact.now IsShortFact }
-        requires stands { (facts : List AFact) × HoldsLog D.disk D.may_leave disks.old self.old.log self.old.centre facts }
-        ensures logs { (facts : List AFact) → HoldsLog D.disk D.may_leave disks.old self.old.log self.old.centre facts
-            → Logs D.disk D.may_leave self.old.centre facts fact.now result disks.old disks.new self.new.log }
-        ensures same { self.new ≡ record self.old { log = self.new.log } }
-    {
-        match fact {
-            Some(fact) => log_fact(alloc, &mut self.log, self.centre, disks, fact),
-            None => Ok(()),
-        }
-    }
-
-    // A step is counted, and the messages to come are of its epoch.
-    fn count_step(&mut self)
+    /// A step is counted, and the messages to come are of its epoch.
+    pub(crate) fn count_step(&mut self)
         ensures same { self.new ≡ record self.old { steps = self.new.steps; sender = record self.old.sender { epoch = self.new.sender.epoch } } }
         ensures steps { self.new.steps ≡ counted (self.old.steps + 1) }
-        ensures epoch { (cluster : ACluster) (site : ASite) (step : NodeStep) → HasStepped cluster self.old site step → IsOfEpoch self.new.sender site step }
+        ensures epoch { (cluster : ACluster) (me : ℕ) (facts : List AFact) (volatile : AVolatile) → IsNodeOf self.old.node cluster me facts volatile → self.new.sender.epoch ≡ epoch_of facts }
     {
         self.steps = self.steps.saturating_add(1);
         self.sender.epoch = self.node.epoch();
-    }
-
-    /// Sends messages in order.
-    pub(crate) fn send_all<L: Link>(
-        &mut self,
-        alloc: Global,
-        config: &Config,
-        link: &mut L,
-        envelopes: &[Envelope],
-    ) -> Result<(), ServeFault>
-        requires config { IsConfig config.now }
-        requires counts { AllByRecursion CanBeSent envelopes.now }
-        ensures sent { (site : ASite) → IsSenderOf self.old.sender site
-            → SendsOut L.calls L.lost L.faults config.now site envelopes.now result link.old link.new self.old.sender self.new.sender }
-        ensures same { self.new ≡ record self.old { sender = self.new.sender } }
-    {
-        match self.sender.send_all(alloc, config, link, envelopes) {
-            Ok(()) => Ok(()),
-            Err(fault) => Err(send_fault(fault)),
-        }
-    }
-
-    /// A step of the node goes out: its fact before all else.
-    pub(crate) fn step_out<D: Disks, L: Link, O: Sink>(
-        &mut self,
-        alloc: Global,
-        config: &Config,
-        disks: &mut D,
-        link: &mut L,
-        out: &mut O,
-        step: &Step,
-        reply: &Option<Envelope>,
-    ) -> Result<(), ServeFault>
-        requires config { IsConfig config.now }
-        requires stepped { HasStep D.disk D.may_leave config.now.cluster disks.old self.old step.now }
-        requires reply { IfSome reply.now CanBeSent }
-        ensures { (site : ASite) (made : NodeStep) → HasStepped config.now.cluster self.old site made → HoldsLog D.disk D.may_leave disks.old self.old.log site.centre site.node.facts
-            → step.now.fact ≡ made.fact → step.now.sends ≡ made.sends → step.now.heard ≡ heard_by made.fact
-            → Goes (outside D.disk D.may_leave L.calls L.lost L.faults O.held O.faults) config.now.cluster site (stepped (step_out config.now site made reply.now)) result
-            (place disks.old self.old link.old out.old) (place disks.new self.new link.new out.new) }
-    {
-        self.count_step();
-        self.log_step(alloc, disks, &step.fact)?;
-        self.send_all(alloc, config, link, step.sends.as_slice())?;
-        self.send_all(alloc, config, link, reply.as_slice())?;
-        print_heard(alloc, self.centre, step.heard, out)?;
-        Ok(())
     }
 
     /// Something is dropped.
@@ -184,135 +112,71 @@ impl Site {
         }
     }
 
-    // What the client is told of a transaction that ended, where it was begun for it. It is noted.
-    fn report_end(&mut self, heard: Option<(TxId, bool)>) -> Result<Option<Envelope>, ServeFault>
-        ensures told { (site : ASite) → self.old.centre ≡ site.centre → self.old.clients ≡ site.clients → IfOk result (λ reply. reply ≡ ends_told site heard) }
+    // A transaction ended: it is noted where it was begun for the client, and the client is told.
+    fn report_end(&mut self, heard: Option<(TxId, bool)>) -> Result<(), ServeFault>
+        ensures told { (site : ASite) → self.old.centre ≡ site.centre → self.old.clients ≡ site.clients
+            → OnOk result (self.new.pending.envelopes ≡ self.old.pending.envelopes ++ listed (ends_told site heard)) }
+        ensures others { self.new.pending ≡ record self.old.pending { envelopes = self.new.pending.envelopes } }
         ensures noted { OnOk result (self.new.clients ≡ with_end self.old.clients heard) }
-        ensures same { self.new ≡ record self.old { clients = self.new.clients } }
+        ensures same { self.new ≡ record self.old { clients = self.new.clients; pending = self.new.pending } }
         ensures memory { IfErr result (λ fault. fault ≡ AServeFault.Memory) }
     {
         let Some((tx, is_commit)) = heard else {
-            return Ok(None);
+            return Ok(());
         };
         let Some(begun) = self.clients.known_of(&tx) else {
-            return Ok(None);
+            return Ok(());
         };
         self.clients.end(tx, begun.serial, is_commit)?;
         let answer = ClientAnswer::Heard(tx, is_commit);
-        Ok(Some(answer_to(self.centre, begun.serial, answer)))
+        let envelope = answer_to(self.centre, begun.serial, answer);
+        self.pending.envelopes.push(envelope)?;
+        Ok(())
     }
 
-    // What the node made of a message or a tick.
-    fn input_made<D: Disks, L: Link, O: Sink>(
+    // What the node made of a message or a tick. The client is told before the other centres.
+    fn input_made(
         &mut self,
         alloc: Global,
-        config: &Config,
-        disks: &mut D,
-        link: &mut L,
-        out: &mut O,
         made: Result<(), StepFault>,
-        step: &Step,
+        step: &mut Step,
     ) -> Result<(), ServeFault>
-        requires config { IsConfig config.now }
-        requires acted { HasActed D.disk D.may_leave config.now.cluster disks.old self.old made step.now }
-        ensures { (site : ASite) (expected : Result NodeStep AStepFault) → HoldsLog D.disk D.may_leave disks.old self.old.log site.centre site.node.facts
-            → Acted config.now.cluster self.old site expected made step.now
-            → Goes (outside D.disk D.may_leave L.calls L.lost L.faults O.held O.faults) config.now.cluster site (input_made config.now site expected) result
-            (place disks.old self.old link.old out.old) (place disks.new self.new link.new out.new) }
+        ensures { (cluster : ACluster) (site : ASite) (expected : Result NodeStep AStepFault) → Acted cluster self.old site expected made step.old
+            → Becomes cluster site (input_made site expected) result self.old self.new }
     {
         match made {
             Ok(()) => {
-                let reply = self.report_end(step.heard)?;
-                self.step_out(alloc, config, disks, link, out, step, &reply)
+                self.report_end(step.heard)?;
+                self.queue_step(alloc, step)
             }
             Err(fault) => self.refuse(fault),
         }
     }
 
     /// A message comes to the node.
-    pub(crate) fn take_message<D: Disks, L: Link, O: Sink>(
+    pub(crate) fn take_message(
         &mut self,
         alloc: Global,
-        config: &Config,
-        disks: &mut D,
-        link: &mut L,
-        out: &mut O,
         envelope: &Envelope,
     ) -> Result<(), ServeFault>
-        requires config { IsConfig config.now }
         requires input { IsGiven (AInput.Message envelope.now) }
-        requires served { IsServed (outside D.disk D.may_leave L.calls L.lost L.faults O.held O.faults) config.now.cluster disks.old self.old }
-        ensures { (site : ASite) → HoldsSite (outside D.disk D.may_leave L.calls L.lost L.faults O.held O.faults) config.now.cluster disks.old self.old site
-            → Goes (outside D.disk D.may_leave L.calls L.lost L.faults O.held O.faults) config.now.cluster site (input_taken config.now site (AInput.Message envelope.now)) result
-            (place disks.old self.old link.old out.old) (place disks.new self.new link.new out.new) }
+        requires served { (cluster : ACluster) × (site : ASite) × IsSite cluster self.old site }
+        ensures { (config : AConfig) (site : ASite) → IsSite config.cluster self.old site
+            → Becomes config.cluster site (input_taken config site (AInput.Message envelope.now)) result self.old self.new }
     {
         let mut step = blank(alloc);
         let made = self.deliver(envelope, &mut step);
-        self.input_made(alloc, config, disks, link, out, made, &step)
+        self.input_made(alloc, made, &mut step)
     }
 
     /// Time passes at the node.
-    pub(crate) fn tick<D: Disks, L: Link, O: Sink>(
-        &mut self,
-        alloc: Global,
-        config: &Config,
-        disks: &mut D,
-        link: &mut L,
-        out: &mut O,
-    ) -> Result<(), ServeFault>
-        requires config { IsConfig config.now }
-        requires served { IsServed (outside D.disk D.may_leave L.calls L.lost L.faults O.held O.faults) config.now.cluster disks.old self.old }
-        ensures { (site : ASite) → HoldsSite (outside D.disk D.may_leave L.calls L.lost L.faults O.held O.faults) config.now.cluster disks.old self.old site
-            → Goes (outside D.disk D.may_leave L.calls L.lost L.faults O.held O.faults) config.now.cluster site (input_taken config.now site AInput.Tick) result
-            (place disks.old self.old link.old out.old) (place disks.new self.new link.new out.new) }
+    pub(crate) fn tick(&mut self, alloc: Global) -> Result<(), ServeFault>
+        requires served { (cluster : ACluster) × (site : ASite) × IsSite cluster self.old site }
+        ensures { (config : AConfig) (site : ASite) → IsSite config.cluster self.old site
+            → Becomes config.cluster site (input_taken config site AInput.Tick) result self.old self.new }
     {
         let mut step = blank(alloc);
         let made = self.act_on(&Input::Tick, &mut step);
-        self.input_made(alloc, config, disks, link, out, made, &step)
-    }
-}
-
-// A fault of a send as a server's.
-fn send_fault(fault: SendFault) -> ServeFault
-    ensures { result ≡ of_send fault }
-{
-    match fault {
-        SendFault::Serial => ServeFault::Serial,
-        SendFault::Memory => ServeFault::Memory,
-    }
-}
-
-// A fault of a line as a server's.
-fn print_fault(fault: PrintFault) -> ServeFault
-    ensures { result ≡ of_print fault }
-{
-    match fault {
-        PrintFault::Output => ServeFault::Output,
-        PrintFault::Memory => ServeFault::Memory,
-    }
-}
-
-/// Prints a line.
-pub fn print_line<O: Sink>(alloc: Global, line: &ServerLine, out: &mut O) -> Result<(), ServeFault>
-    ensures { PrintsOut O.held O.faults (Act.Print line.now ∷ []) result out.old out.new }
-{
-    match print(alloc, line, out) {
-        Ok(()) => Ok(()),
-        Err(fault) => Err(print_fault(fault)),
-    }
-}
-
-// Prints the end of a transaction that was heard.
-fn print_heard<O: Sink>(
-    alloc: Global,
-    centre: Centre,
-    heard: Option<(TxId, bool)>,
-    out: &mut O,
-) -> Result<(), ServeFault>
-    ensures { PrintsOut O.held O.faults (heard_printed centre heard) result out.old out.new }
-{
-    match heard {
-        Some((tx, is_commit)) => print_line(alloc, &ServerLine::Heard(centre, tx, is_commit), out),
-        None => Ok(()),
+        self.input_made(alloc, made, &mut step)
     }
 }

@@ -1,9 +1,13 @@
 //! A turn of a centre.
+ghost use Rattle.std.specs.Prelude.{◌≡◌, ◌&&◌, List, not, Option, ℕ};
 ghost use Rattle.mdcc_config.specs.IsConfig.{IsConfig};
+ghost use Rattle.mdcc_config.specs.declared.config.Config.{Config as AConfig};
+ghost use Rattle.mdcc_option.specs.declared.cluster.Cluster.{Cluster as ACluster};
 ghost use Rattle.mdcc_runs.specs.Sites.{Site as ASite};
-ghost use Rattle.mdcc_runs.specs.Turns.{Given, turn_of};
+ghost use Rattle.mdcc_runs.specs.Turns.{Given, is_full, released, turn_of};
 ghost use Rattle.mdcc_site.specs.Moments.{outside};
-ghost use Rattle.mdcc_site.specs.SiteState.{Goes, IsServed, HoldsSite, place};
+ghost use Rattle.mdcc_site.specs.SiteState.{Becomes, Goes, HoldsSite, IsServed, IsSite, place};
+ghost use Rattle.mdcc_site.specs.Silence.{ticked_if};
 
 use crate::ServeFault;
 use crate::site::Site;
@@ -12,11 +16,81 @@ use mdcc_config::Config;
 use mdcc_disks::Disks;
 use mdcc_inbox::Datagram;
 use mdcc_link::Link;
+use mdcc_runs::Pending;
 use std::alloc::Global;
 
+/// With so many pending facts and messages no more inputs are taken before they go out.
+const PENDING_LIMIT: usize = 64;
+
+// Whether they go out at once, whatever waits.
+fn is_full(pending: &Pending) -> bool
+    ensures { result ≡ is_full pending.now }
+{
+    let facts = pending.facts.len();
+    facts.saturating_add(pending.envelopes.len()) >= PENDING_LIMIT
+}
+
+// Whether nothing is pending.
+fn is_empty(pending: &Pending) -> bool {
+    pending.facts.is_empty() && pending.envelopes.is_empty() && pending.heard.is_empty()
+}
+
+// Whether what is pending stays so, where more waits or not.
+fn is_kept(waits: bool, pending: &Pending) -> bool
+    ensures { result ≡ (waits && not (is_full pending.now)) }
+{
+    waits && !is_full(pending)
+}
+
+// Whether nothing came at either endpoint.
+fn is_silent(own: bool, asked: bool) -> bool
+    ensures { result ≡ (not own && not asked) }
+{
+    !own && !asked
+}
+
 impl Site {
-    /// One turn: it receives at both endpoints, and where neither gave anything time passes. What came at the own one is taken, and
-    /// what it sends is sent, before it receives at its client's.
+    // Time passes where nothing came.
+    fn tick_if(&mut self, alloc: Global, silent: bool) -> Result<(), ServeFault>
+        requires served { (cluster : ACluster) × (site : ASite) × IsSite cluster self.old site }
+        ensures { (config : AConfig) (site : ASite) → IsSite config.cluster self.old site
+            → Becomes config.cluster site (ticked_if config silent site) result self.old self.new }
+    {
+        if silent { self.tick(alloc) } else { Ok(()) }
+    }
+
+    // Whether a datagram waits at one of its endpoints, where it made steps since there were so many, and something is pending.
+    fn more_waits<L: Link>(&self, link: &L, steps: u64) -> bool {
+        let own = self.centre.number();
+        self.steps != steps && !is_empty(&self.pending) && (link.waits(own) || link.waits(own + 16))
+    }
+
+    // What is pending goes out, unless more waits and there is not much of it.
+    fn release<D: Disks, L: Link, O: Sink>(
+        &mut self,
+        alloc: Global,
+        config: &Config,
+        disks: &mut D,
+        link: &mut L,
+        out: &mut O,
+        waits: bool,
+    ) -> Result<(), ServeFault>
+        requires config { IsConfig config.now }
+        requires served { IsServed (outside D.disk D.may_leave L.calls L.lost L.faults O.held O.faults) config.now.cluster disks.old self.old }
+        ensures { (site : ASite) (own asked : Option (List ℕ)) → HoldsSite (outside D.disk D.may_leave L.calls L.lost L.faults O.held O.faults) config.now.cluster disks.old self.old site
+            → Goes (outside D.disk D.may_leave L.calls L.lost L.faults O.held O.faults) config.now.cluster site (released config.now (record { own = own; asked = asked; waits = waits }) site) result
+            (place disks.old self.old link.old out.old) (place disks.new self.new link.new out.new) }
+    {
+        if is_kept(waits, &self.pending) {
+            return Ok(());
+        }
+        self.persist_then_send(alloc, config, disks, link, out)
+    }
+
+    /// One turn: it receives at both endpoints, and where neither gave anything time passes. What came at the own one is taken before
+    /// it receives at its client's. Then what is pending goes out, unless this turn made a step, less than 64 facts and messages are
+    /// pending, and a datagram waits at one of the endpoints: so many facts become durable together. What makes no step holds nothing
+    /// back.
     pub fn turn<D: Disks, L: Link, O: Sink>(
         &mut self,
         alloc: Global,
@@ -32,14 +106,11 @@ impl Site {
             → (given : Given) × Goes (outside D.disk D.may_leave L.calls L.lost L.faults O.held O.faults) config.now.cluster site (turn_of config.now site given) result
             (place disks.old self.old link.old out.old) (place disks.new self.new link.new out.new) }
     {
-        let own = self.receive_own(alloc, config, disks, link, out, datagram)?;
-        let asked = self.receive_asked(alloc, config, disks, link, out, datagram)?;
-        if own {
-            return Ok(());
-        }
-        if asked {
-            return Ok(());
-        }
-        self.tick(alloc, config, disks, link, out)
+        let steps = self.steps;
+        let own = self.receive_own(alloc, link, datagram)?;
+        let asked = self.receive_asked(alloc, config, link, datagram)?;
+        self.tick_if(alloc, is_silent(own, asked))?;
+        let waits = self.more_waits(link, steps);
+        self.release(alloc, config, disks, link, out, waits)
     }
 }

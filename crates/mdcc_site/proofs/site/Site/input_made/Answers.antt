@@ -1,82 +1,68 @@
-use Rattle.std.proofs.Common.{◌≡◌, ◌∙◌, Option, Result, Err, ap, refl, rules, subst, sym}
-use Rattle.std.specs.Prelude.{IfSome}
+use Rattle.std.proofs.Common.{◌≡◌, ◌∙◌, List, ◌++◌, Result, Ok, Err, ap, append_assoc, refl, subst, sym}
+use Rattle.std.specs.List.{AllByRecursion}
+use Rattle.std.proofs.lemmas.Result.{err_from_is_err_and}
 use Rattle.mdcc_messages.specs.declared.messages.Envelope.{Envelope}
-use Rattle.mdcc_rules.specs.Steps.{heard_by}
+use Rattle.mdcc_rules.specs.Steps.{NodeStep, heard_by}
 use Rattle.mdcc_rules.specs.declared.node.Step.{Step}
 use Rattle.mdcc_rules.specs.declared.node.StepFault.{StepFault}
 use Rattle.mdcc_runs.specs.Clients.{with_end}
+use Rattle.mdcc_runs.specs.Runs.{listed}
 use Rattle.mdcc_runs.specs.Sites.{Doing, Site}
-use Rattle.mdcc_runs.specs.Steps.{ends_told, input_made, step_out, stepped}
-use Rattle.mdcc_site.proofs.Noted.{OnlyClients, ends_can, goes_from, log_noted, stepped_noted}
-use Rattle.mdcc_site.proofs.Parts.{refusal_goes, stops_memory}
-use Rattle.mdcc_site.specs.Moments.{outside}
-use Rattle.mdcc_site.specs.SiteState.{Acted, CanBeSent, Goes, place}
+use Rattle.mdcc_runs.specs.Steps.{ends_told, input_made, step_queued, stepped}
+use Rattle.mdcc_runs.specs.declared.pending.Pending.{Pending}
+use Rattle.mdcc_site.proofs.Becoming.{becomes_from, lacks_by, refusal_becomes, same_told}
+use Rattle.mdcc_site.proofs.Noted.{ends_can, stepped_told}
+use Rattle.mdcc_site.specs.SiteState.{Acted, Becomes, CanBeSent}
 use Rattle.mdcc_site.specs.declared.fault.ServeFault.{ServeFault}
-use Rattle.mdcc_site.specs.declared.site.Site.{Site as TheSite}
 use Rattle.mdcc_site.proofs.site.Site.input_made.Goals as goal
 
--- the site that hears the end
-abbrev hears : Site → Step → Site
-hears site step = record site { clients = with_end site.clients step.heard }
+-- the site that hears the end, and tells its client
+abbrev tells : Site → Step → Site
+tells site step = record site {
+  clients = with_end site.clients step.heard;
+  pending = record site.pending { envelopes = site.pending.envelopes ++ listed (ends_told site step.heard) };
+}
 
-hears_only : (site : Site) (step : Step) → OnlyClients site (hears site step)
-hears_only site step = record { centre = refl; node = refl; sent = refl; own = refl; asked = refl }
+-- the client's answer and then the messages
+one_after_other : (site : Site) (step : NodeStep) (made : Step) → made.sends ≡ step.sends → made.heard ≡ heard_by step.fact → stepped (step_queued (tells site made) step made.sends) ≡ input_made site (Ok step)
+one_after_other site step made sends heard =
+    let noted : Site = record site { clients = with_end site.clients made.heard } in
+    let told = listed (ends_told site made.heard) in
+    let base = stepped (step_queued noted step (told ++ step.sends)) in
+    let one : stepped (step_queued (tells site made) step made.sends) ≡ stepped (step_queued (tells site made) step step.sends) = ap (λ (xs : List Envelope). stepped (step_queued (tells site made) step xs)) sends in
+    let two : stepped (step_queued (tells site made) step step.sends) ≡ base =
+    ap (λ (xs : List Envelope). let d : Doing = record base { site = record base.site { pending = record base.site.pending { envelopes = xs } } } in d) (append_assoc site.pending.envelopes told step.sends) in
+    let three : base ≡ input_made site (Ok step) = ap (λ h. stepped (step_queued (record site { clients = with_end site.clients h }) step (listed (ends_told site h) ++ step.sends))) heard in
+    one ∙ (two ∙ three)
 
-pub step_out-requires-clause-stepped : goal.step_out-requires-clause-stepped
-step_out-requires-clause-stepped g c =
-    let asked = c.requires.acted in
-    let acted = subst (λ (m : Result (Unit {0}) StepFault). Acted c.args.config.now.cluster c.args.self.now asked.site asked.expected m c.args.step.now) c.in-Ok.is asked.acted in
+pub returns-in_err-report_end-in-Ok : goal.returns-in_err-report_end-in-Ok
+returns-in_err-report_end-in-Ok c cluster site expected acted =
+    let p = err_from_is_err_and c.from_residual.result c.from_residual.ensures.1 in
+    let e : c.from_residual.result ≡ Err c.in_err-report_end-in-Ok.field-0.0 = cc (p.1, p.2) in
+    subst (λ (r : Result (Unit {0}) ServeFault). Becomes cluster site (input_made site expected) r c.args.self.now c.report_end.new.self) (sym e)
+    (lacks_by c.in_err-report_end-in-Ok.field-0.0 c.in_err-report_end-in-Ok.ensures.memory (same_told c.args.self.now c.report_end.new.self c.report_end.ensures.same))
+
+pub returns-in_ok-report_end-in-Ok : goal.returns-in_ok-report_end-in-Ok
+returns-in_ok-report_end-in-Ok c cluster site expected first =
+    let step = c.args.step.now in
+    let acted = subst (λ (m : Result (Unit {0}) StepFault). Acted cluster c.args.self.now site expected m step) c.in-Ok.is first in
     let new = c.report_end.new.self in
     let same = c.report_end.ensures.same in
-    record {
-      site = hears asked.site c.args.step.now;
-      made = acted.0;
-      stepped = stepped_noted c.args.config.now.cluster c.args.self.now new asked.site (hears asked.site c.args.step.now) acted.0 (hears_only asked.site c.args.step.now) same
-          (c.in_ok-reply-in-Ok.ensures.noted ∙ ap (λ cs. with_end cs c.args.step.now.heard) acted.3.clients) acted.3;
-      log = log_noted (outside g.D.Disks.disk g.D.Disks.may_leave g.L.Link.calls g.L.Link.lost g.L.Link.faults g.O.Sink.held g.O.Sink.faults) c.args.disks.now c.args.self.now new asked.site (hears asked.site c.args.step.now) refl refl (ap (λ (h : TheSite). h.log) same) asked.log;
-      fact = ap (λ (s : Step). s.fact) acted.2;
-      sends = ap (λ (s : Step). s.sends) acted.2;
-    }
-
-pub step_out-requires-clause-reply : goal.step_out-requires-clause-reply
-step_out-requires-clause-reply g c =
-    let asked = c.requires.acted in
-    let acted = subst (λ (m : Result (Unit {0}) StepFault). Acted c.args.config.now.cluster c.args.self.now asked.site asked.expected m c.args.step.now) c.in-Ok.is asked.acted in
-    subst (λ (o : Option Envelope). IfSome o CanBeSent) (sym (c.in_ok-reply-in-Ok.ensures.told asked.site acted.3.centre acted.3.clients)) (ends_can asked.site c.args.step.now.heard)
-
-pub returns-in_err-reply-in-Ok : goal.returns-in_err-reply-in-Ok
-returns-in_err-reply-in-Ok g c site expected log acted =
-    let w = (outside g.D.Disks.disk g.D.Disks.may_leave g.L.Link.calls g.L.Link.lost g.L.Link.faults g.O.Sink.held g.O.Sink.faults) in
-    let config = c.args.config.now in
-    let same = c.report_end.ensures.same in
-    let e : c.from_residual.result ≡ Err c.in_err-reply-in-Ok.field-0.0 = search rules in
-    let all = e ∙ ap (λ (f : ServeFault). let r : Result (Unit {0}) ServeFault = Err f in r) c.in_err-reply-in-Ok.ensures.memory in
-    subst (λ (r : Result (Unit {0}) ServeFault). Goes w config.cluster site (input_made config site expected) r (place c.args.disks.now c.args.self.now c.args.link.now c.args.out.now) (place c.args.disks.now c.report_end.new.self c.args.link.now c.args.out.now)) (sym all)
-    (stops_memory w site (input_made config site expected) c.args.disks.now c.args.self.now c.report_end.new.self c.args.link.now c.args.out.now
-    (ap (λ (h : TheSite). h.steps) same) (ap (λ (h : TheSite). h.dropped) same) (ap (λ (h : TheSite). h.sender.lost) same) log.open_log.left)
-
-pub returns-in_ok-reply-in-Ok : goal.returns-in_ok-reply-in-Ok
-returns-in_ok-reply-in-Ok g c site expected log first =
-    let w = (outside g.D.Disks.disk g.D.Disks.may_leave g.L.Link.calls g.L.Link.lost g.L.Link.faults g.O.Sink.held g.O.Sink.faults) in
-    let config = c.args.config.now in
-    let cluster = config.cluster in
-    let acted = subst (λ (m : Result (Unit {0}) StepFault). Acted cluster c.args.self.now site expected m c.args.step.now) c.in-Ok.is first in
-    let new = c.report_end.new.self in
-    let same = c.report_end.ensures.same in
-    let noted = hears site c.args.step.now in
-    let heard : c.args.step.now.heard ≡ heard_by acted.0.fact = ap (λ (s : Step). s.heard) acted.2 in
-    let st = stepped_noted cluster c.args.self.now new site noted acted.0 (hears_only site c.args.step.now) same (c.in_ok-reply-in-Ok.ensures.noted ∙ ap (λ cs. with_end cs c.args.step.now.heard) acted.3.clients) acted.3 in
-    let out = c.step_out.ensures noted acted.0 st (log_noted w c.args.disks.now c.args.self.now new site noted refl refl (ap (λ (h : TheSite). h.log) same) log)
-    (ap (λ (s : Step). s.fact) acted.2) (ap (λ (s : Step). s.sends) acted.2) heard in
-    let e : stepped (step_out config noted acted.0 c.in_ok-reply-in-Ok.reply) ≡ input_made config site expected =
-    ap (λ (o : Option Envelope). stepped (step_out config noted acted.0 o)) (c.in_ok-reply-in-Ok.ensures.told site acted.3.centre acted.3.clients)
-    ∙ (ap (λ h. stepped (step_out config (record site { clients = with_end site.clients h }) acted.0 (ends_told site h))) heard ∙ ap (input_made config site) (sym acted.1)) in
-    subst (λ (d : Doing). Goes w cluster site d c.step_out.result (place c.args.disks.now c.args.self.now c.args.link.now c.args.out.now) (place c.step_out.new.disks c.step_out.new.self c.step_out.new.link c.step_out.new.out)) e
-    (goes_from w _ _ _ c.step_out.result site noted c.args.disks.now c.args.self.now new c.args.link.now c.args.out.now refl refl
-    (ap (λ (h : TheSite). h.steps) same) (ap (λ (h : TheSite). h.dropped) same) (ap (λ (h : TheSite). h.sender.lost) same) out)
+    let sends : step.sends ≡ acted.0.sends = ap (λ (s : Step). s.sends) acted.2 in
+    let heard : step.heard ≡ heard_by acted.0.fact = ap (λ (s : Step). s.heard) acted.2 in
+    let waits : new.pending ≡ record site.pending { envelopes = site.pending.envelopes ++ listed (ends_told site step.heard) } =
+    c.report_end.ensures.others
+    ∙ (ap (λ (es : List Envelope). let q : Pending = record c.args.self.now.pending { envelopes = es } in q) (c.in_ok-report_end-in-Ok.ensures.told site acted.3.centre acted.3.clients)
+    ∙ ap (λ (p : Pending). let q : Pending = record p { envelopes = p.envelopes ++ listed (ends_told site step.heard) } in q) acted.3.waits.pending) in
+    let st = stepped_told cluster c.args.self.now new site acted.0 (with_end site.clients step.heard) (ends_told site step.heard) same
+    (c.in_ok-report_end-in-Ok.ensures.noted ∙ ap (λ cs. with_end cs step.heard) acted.3.clients) waits (ends_can site step.heard) acted.3 in
+    let out = c.queue_step.ensures cluster (tells site step) acted.0 st (ap (λ (s : Step). s.fact) acted.2) heard
+    (subst (λ (xs : List Envelope). AllByRecursion CanBeSent xs) (sym sends) acted.3.sends) in
+    subst (λ (d : Doing). Becomes cluster site d c.queue_step.result c.args.self.now c.queue_step.new.self) (one_after_other site acted.0 step sends heard ∙ ap (input_made site) (sym acted.1))
+    (becomes_from cluster _ c.queue_step.result site (tells site step) c.args.self.now new c.queue_step.new.self refl refl (same_told c.args.self.now new same) out)
 
 pub returns-in-Err : goal.returns-in-Err
-returns-in-Err g c site expected log first =
-    let acted = subst (λ (m : Result (Unit {0}) StepFault). Acted c.args.config.now.cluster c.args.self.now site expected m c.args.step.now) c.in-Err.is first in
-    refusal_goes (outside g.D.Disks.disk g.D.Disks.may_leave g.L.Link.calls g.L.Link.lost g.L.Link.faults g.O.Sink.held g.O.Sink.faults) c.args.config.now.cluster site expected c.args.step.now c.in-Err.fault c.args.disks.now c.args.self.now c.refuse.new.self c.args.link.now c.args.out.now c.refuse.result (input_made c.args.config.now site expected)
-    c.refuse.ensures acted log (λ is. ap (input_made c.args.config.now site) is)
+returns-in-Err c cluster site expected first =
+    let acted = subst (λ (m : Result (Unit {0}) StepFault). Acted cluster c.args.self.now site expected m c.args.step.now) c.in-Err.is first in
+    refusal_becomes cluster site expected c.args.step.now c.in-Err.fault c.args.self.now c.refuse.new.self c.refuse.result (input_made site expected)
+    c.refuse.ensures acted (λ is. ap (input_made site) is)

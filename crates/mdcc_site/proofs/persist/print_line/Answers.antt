@@ -1,5 +1,5 @@
 use Rattle.mdcc_site.proofs.Outlets.{prints_all, prints_some}
-use Rattle.mdcc_site.proofs.site.print_line.Goals as goal
+use Rattle.mdcc_site.proofs.persist.print_line.Goals as goal
 
 pub returns-in-Ok : goal.returns-in-Ok
 returns-in-Ok g c = prints_all g.O.Sink.held g.O.Sink.faults c.args.line.now c.args.out.now c.print.new.out c.in-Ok.ensures.printed c.print.ensures.later

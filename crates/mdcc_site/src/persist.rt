@@ -1,0 +1,167 @@
+//! What is pending at a centre goes out.
+ghost use Rattle.std.specs.List.{AllByRecursion};
+ghost use Rattle.std.specs.Prelude.{◌≡◌, ◌∷◌, [], List, ℕ};
+ghost use Rattle.mdcc_config.specs.IsConfig.{IsConfig};
+ghost use Rattle.mdcc_messages.specs.declared.facts.Fact.{Fact as AFact};
+ghost use Rattle.mdcc_outbox.specs.Sends.{IsSenderOf};
+ghost use Rattle.mdcc_runs.specs.Acts.{Act};
+ghost use Rattle.mdcc_runs.specs.Sending.{heard_printed, persist_then_send};
+ghost use Rattle.mdcc_runs.specs.Sites.{Site as ASite, nothing_pending};
+ghost use Rattle.mdcc_site.specs.Causes.{of_print, of_send};
+ghost use Rattle.mdcc_site.specs.LogEffects.{Logs};
+ghost use Rattle.mdcc_site.specs.Moments.{outside};
+ghost use Rattle.mdcc_site.specs.Printing.{PrintsInOrder};
+ghost use Rattle.mdcc_site.specs.SiteState.{CanBeSent, Goes, HoldsLog, HoldsSite, IsServed, IsShortFact, PrintsOut, SendsOut, place};
+
+use crate::ServeFault;
+use crate::logging::log_facts;
+use crate::site::Site;
+use mdcc_base::{Centre, HeapList, Sink, TxId};
+use mdcc_config::Config;
+use mdcc_disks::Disks;
+use mdcc_link::Link;
+use mdcc_messages::{Envelope, Fact};
+use mdcc_outbox::{PrintFault, SendFault, print};
+use mdcc_runs::{Pending, ServerLine};
+use std::alloc::Global;
+use std::mem;
+
+// Nothing is pending.
+fn nothing_pending(alloc: Global) -> Pending
+    ensures { result ≡ nothing_pending }
+{
+    Pending {
+        facts: HeapList::new(alloc),
+        envelopes: HeapList::new(alloc),
+        heard: HeapList::new(alloc),
+    }
+}
+
+// A fault of a send as a server's.
+fn send_fault(fault: SendFault) -> ServeFault
+    ensures { result ≡ of_send fault }
+{
+    match fault {
+        SendFault::Serial => ServeFault::Serial,
+        SendFault::Memory => ServeFault::Memory,
+    }
+}
+
+// A fault of a line as a server's.
+fn print_fault(fault: PrintFault) -> ServeFault
+    ensures { result ≡ of_print fault }
+{
+    match fault {
+        PrintFault::Output => ServeFault::Output,
+        PrintFault::Memory => ServeFault::Memory,
+    }
+}
+
+/// Prints a line.
+pub fn print_line<O: Sink>(alloc: Global, line: &ServerLine, out: &mut O) -> Result<(), ServeFault>
+    ensures { PrintsOut O.held O.faults (Act.Print line.now ∷ []) result out.old out.new }
+{
+    match print(alloc, line, out) {
+        Ok(()) => Ok(()),
+        Err(fault) => Err(print_fault(fault)),
+    }
+}
+
+// Prints the end of a transaction that was heard.
+fn print_end<O: Sink>(
+    alloc: Global,
+    centre: Centre,
+    heard: &(TxId, bool),
+    out: &mut O,
+) -> Result<(), ServeFault>
+    ensures { PrintsOut O.held O.faults (heard_printed centre (heard.now ∷ [])) result out.old out.new }
+{
+    print_line(alloc, &ServerLine::Heard(centre, heard.0, heard.1), out)
+}
+
+// Prints the ends of transactions that were heard, in order.
+fn print_heard<O: Sink>(
+    alloc: Global,
+    centre: Centre,
+    heard: &[(TxId, bool)],
+    out: &mut O,
+) -> Result<(), ServeFault>
+    ensures { PrintsInOrder O.held O.faults (heard_printed centre heard.now) result out.old out.new }
+{
+    for end in heard {
+        print_end(alloc, centre, end, out)?;
+    }
+    Ok(())
+}
+
+impl Site {
+    // What is pending, of which nothing stays.
+    fn take_pending(&mut self, alloc: Global) -> Pending
+        ensures taken { result ≡ self.old.pending }
+        ensures same { self.new ≡ record self.old { pending = nothing_pending } }
+    {
+        mem::replace(&mut self.pending, nothing_pending(alloc))
+    }
+
+    // Facts go into the log, all of them or none.
+    fn log_all<D: Disks>(
+        &mut self,
+        alloc: Global,
+        disks: &mut D,
+        facts: &[Fact],
+    ) -> Result<(), ServeFault>
+        requires short { AllByRecursion IsShortFact facts.now }
+        requires stands { (before : List AFact) × HoldsLog D.disk D.may_leave disks.old self.old.log self.old.centre before }
+        ensures logs { (before : List AFact) → HoldsLog D.disk D.may_leave disks.old self.old.log self.old.centre before
+            → Logs D.disk D.may_leave self.old.centre before facts.now result disks.old disks.new self.new.log }
+        ensures same { self.new ≡ record self.old { log = self.new.log } }
+    {
+        if facts.is_empty() {
+            return Ok(());
+        }
+        log_facts(alloc, &mut self.log, self.centre, disks, facts)
+    }
+
+    // Sends messages in order.
+    fn send_all<L: Link>(
+        &mut self,
+        alloc: Global,
+        config: &Config,
+        link: &mut L,
+        envelopes: &[Envelope],
+    ) -> Result<(), ServeFault>
+        requires config { IsConfig config.now }
+        requires counts { AllByRecursion CanBeSent envelopes.now }
+        ensures sent { (site : ASite) → IsSenderOf self.old.sender site
+            → SendsOut L.calls L.lost L.faults config.now site envelopes.now result link.old link.new self.old.sender self.new.sender }
+        ensures same { self.new ≡ record self.old { sender = self.new.sender } }
+    {
+        match self.sender.send_all(alloc, config, link, envelopes) {
+            Ok(()) => Ok(()),
+            Err(fault) => Err(send_fault(fault)),
+        }
+    }
+
+    /// What is pending goes out: its facts go into the log together, and once they are durable its messages are sent and the lines of
+    /// its outcomes printed. Nothing is pending then. Where it ends before, what was pending is lost but for what is in the log.
+    pub fn persist_then_send<D: Disks, L: Link, O: Sink>(
+        &mut self,
+        alloc: Global,
+        config: &Config,
+        disks: &mut D,
+        link: &mut L,
+        out: &mut O,
+    ) -> Result<(), ServeFault>
+        requires config { IsConfig config.now }
+        requires served { IsServed (outside D.disk D.may_leave L.calls L.lost L.faults O.held O.faults) config.now.cluster disks.old self.old }
+        ensures { (site : ASite) → HoldsSite (outside D.disk D.may_leave L.calls L.lost L.faults O.held O.faults) config.now.cluster disks.old self.old site
+            → Goes (outside D.disk D.may_leave L.calls L.lost L.faults O.held O.faults) config.now.cluster site (persist_then_send config.now site) result
+            (place disks.old self.old link.old out.old) (place disks.new self.new link.new out.new) }
+    {
+        let pending = self.take_pending(alloc);
+        self.log_all(alloc, disks, pending.facts.as_slice())?;
+        self.send_all(alloc, config, link, pending.envelopes.as_slice())?;
+        print_heard(alloc, self.centre, pending.heard.as_slice(), out)?;
+        Ok(())
+    }
+}
