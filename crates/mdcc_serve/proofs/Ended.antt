@@ -1,5 +1,5 @@
 -- What a server did, from its start to its end.
-use Rattle.std.proofs.Common.{◌≡◌, ℕ, zero, suc, ◌+◌, ◌≤◌, ◌<◌, ◌^◌, List, [], ◌∷◌, ◌++◌, Option, Some, None, Result, Ok, Err, length, map, replicate, take, refl, sym, ◌∙◌, ap, subst, inl, inr, arith, IsTrue, append-nil, append_assoc, zero-add}
+use Rattle.std.proofs.Common.{◌≡◌, ℕ, zero, suc, ◌+◌, ◌≤◌, ◌<◌, ◌^◌, List, [], ◌∷◌, ◌++◌, Option, Some, None, Result, Ok, Err, false, length, map, replicate, take, refl, sym, ◌∙◌, ap, subst, inl, inr, arith, IsTrue, append-nil, append_assoc, zero-add}
 use Rattle.std.proofs.lemmas.List.{length-replicate}
 use Rattle.std.specs.Io.KnownBytes.{Appends}
 use Rattle.std.specs.List.{AllByRecursion, range_with_len}
@@ -20,14 +20,16 @@ use Rattle.mdcc_restart.proofs.Places.{from_both}
 use Rattle.mdcc_restart.proofs.Struck.{rest_areas}
 use Rattle.mdcc_rules.specs.Boot.{next_boot}
 use Rattle.mdcc_runs.specs.Acts.{Act, but_answers, dropped_in, lost_in, printed, steps_in}
-use Rattle.mdcc_runs.specs.Servers.{Log, Server, after_turn, boot_line, bound_at, endpoints_of, opened, served, site_of, starts, turns_of}
+use Rattle.mdcc_runs.specs.Servers.{Log, Server, after_last, after_turn, boot_line, bound_at, endpoints_of, opened, persist_all_then_send, served, site_of, starts, turns_of}
 use Rattle.mdcc_runs.specs.Sites.{Site}
 use Rattle.mdcc_runs.specs.Turns.{Given, turn_of}
 use Rattle.mdcc_runs.specs.declared.lines.ServerLine.{ServerLine}
+use Rattle.mdcc_serve.proofs.Doings.{AllWhole, each_plain, turns_are, turns_own}
 use Rattle.mdcc_serve.proofs.Kept.{facts_or_more}
+use Rattle.mdcc_serve.proofs.Last.{last_grew, last_logs, last_plain, last_told}
 use Rattle.mdcc_serve.proofs.Ready.{keep_more}
 use Rattle.mdcc_serve.proofs.Quiet.{opened_facts}
-use Rattle.mdcc_serve.proofs.Repeated.{Grew, begun, each_same, grew_on}
+use Rattle.mdcc_serve.proofs.Repeated.{Grew, ascend_on, begun, each_same, grew_on, whole_on}
 use Rattle.mdcc_serve.proofs.Started.{comes_told, none_refused}
 use Rattle.mdcc_serve.specs.Centres.{AllFinish, AllLogs, AllStop, AllTold, Ascend, HoldSites, Places, all_seen, places}
 use Rattle.mdcc_serve.specs.Ends.{AllEnd, AllMade, SerialsFit, last_act}
@@ -62,15 +64,15 @@ plain_rest (x ∷ xs) ys is = plain_rest xs ys (ap all_but_first is)
 
 starts_plain : (logs : List Log) → but_answers (starts logs).acts ≡ (starts logs).acts
 starts_plain [] = refl
-starts_plain (log ∷ logs) = ap (λ (zs : List Act). Act.Append log.centre (next_boot log.facts) ∷ zs) (starts_plain logs)
+starts_plain (log ∷ logs) = ap (λ (zs : List Act). Act.Append log.centre (next_boot log.facts ∷ []) ∷ zs) (starts_plain logs)
 
 bound_plain : (at : ℕ) (to : Option Address) → but_answers (bound_at at to) ≡ bound_at at to
 bound_plain at None = refl
 bound_plain at (Some to) = refl
 
-each_plain : (f : Site → List Act) (sites : List Site) → ((site : Site) → but_answers (f site) ≡ f site) → but_answers (flat_map f sites) ≡ flat_map f sites
-each_plain f [] plain = refl
-each_plain f (site ∷ sites) plain = plain_then (f site) (flat_map f sites) (plain site) (each_plain f sites plain)
+flat_plain : (f : Site → List Act) (sites : List Site) → ((site : Site) → but_answers (f site) ≡ f site) → but_answers (flat_map f sites) ≡ flat_map f sites
+flat_plain f [] plain = refl
+flat_plain f (site ∷ sites) plain = plain_then (f site) (flat_map f sites) (plain site) (flat_plain f sites plain)
 
 endpoints_plain : (config : Config) (site : Site) → but_answers (endpoints_of config site) ≡ endpoints_of config site
 endpoints_plain config site =
@@ -81,13 +83,11 @@ opened_plain : (config : Config) (logs : List Log) → but_answers (opened confi
 opened_plain config logs =
     let sites = (starts logs).sites in
     plain_then (starts logs).acts (flat_map (endpoints_of config) sites ++ flat_map boot_line sites) (starts_plain logs)
-    (plain_then (flat_map (endpoints_of config) sites) (flat_map boot_line sites) (each_plain (endpoints_of config) sites (endpoints_plain config)) (each_plain boot_line sites (λ site. refl)))
+    (plain_then (flat_map (endpoints_of config) sites) (flat_map boot_line sites) (flat_plain (endpoints_of config) sites (endpoints_plain config)) (flat_plain boot_line sites (λ site. refl)))
 
 turns_plain : (config : Config) (sites : List Site) (given : List Given) → but_answers (turns_of config sites given).acts ≡ (turns_of config sites given).acts
-turns_plain config [] [] = refl
-turns_plain config [] (g ∷ given) = refl
-turns_plain config (site ∷ sites) [] = refl
-turns_plain config (site ∷ sites) (g ∷ given) = plain_then (turn_of config site g).acts (turns_of config sites given).acts (turn_owns config site g).plain (turns_plain config sites given)
+turns_plain config sites given =
+    subst (λ (server : Server). but_answers server.acts ≡ server.acts) (sym (turns_are config sites given)) (each_plain (turn_of config) (turns_own config) sites given)
 
 all_plain : (config : Config) (server : Server) (given : List (List Given)) → but_answers server.acts ≡ server.acts → but_answers (fold (after_turn config) server given).acts ≡ (fold (after_turn config) server given).acts
 all_plain config server [] plain = plain
@@ -132,19 +132,27 @@ turns_after config acts sites (turn ∷ more) =
 abbrev pub turned : Config → List Log → List (List Given) → Server
 turned config logs given = fold (after_turn config) (begun (map site_of logs)) given
 
-served_is : (config : Config) (logs : List Log) (given : List (List Given))
-    → served config logs given ≡ record { acts = (opened config logs).acts ++ (turned config logs given).acts; sites = (turned config logs given).sites }
-served_is config logs given = turns_after config (opened config logs).acts (map site_of logs) given
+-- and what goes out after them
+abbrev pub ended : Config → List Log → List (List Given) → Server
+ended config logs given = after_last config (turned config logs given)
 
-acts_are : (config : Config) (logs : List Log) (given : List (List Given)) → (served config logs given).acts ≡ (opened config logs).acts ++ (turned config logs given).acts
+served_is : (config : Config) (logs : List Log) (given : List (List Given))
+    → served config logs given ≡ record { acts = (opened config logs).acts ++ (ended config logs given).acts; sites = (ended config logs given).sites }
+served_is config logs given =
+    let turns = turned config logs given in
+    let last = persist_all_then_send config turns.sites in
+    ap (after_last config) (turns_after config (opened config logs).acts (map site_of logs) given)
+    ∙ ap (λ (xs : List Act). let server : Server = record { acts = xs; sites = last.sites } in server) (append_assoc (opened config logs).acts turns.acts last.acts)
+
+acts_are : (config : Config) (logs : List Log) (given : List (List Given)) → (served config logs given).acts ≡ (opened config logs).acts ++ (ended config logs given).acts
 acts_are config logs given = ap (λ (server : Server). server.acts) (served_is config logs given)
 
-sites_are : (config : Config) (logs : List Log) (given : List (List Given)) → (served config logs given).sites ≡ (turned config logs given).sites
+sites_are : (config : Config) (logs : List Log) (given : List (List Given)) → (served config logs given).sites ≡ (ended config logs given).sites
 sites_are config logs given = ap (λ (server : Server). server.sites) (served_is config logs given)
 
 -- so many turns in which nothing comes
 abbrev nothing : Given
-nothing = record { own = None; asked = None }
+nothing = record { own = None; asked = None; waits = false }
 
 abbrev silent : List Log → ℕ → List (List Given)
 silent logs turns = replicate turns (replicate (length logs) nothing)
@@ -156,6 +164,11 @@ silent_each logs turns =
 as_many : (logs : List Log) → length (map site_of logs) ≡ length logs
 as_many [] = refl
 as_many (log ∷ logs) = let e = as_many logs in omega (e, arith)
+
+-- nothing is pending when they start
+sites_whole : (logs : List Log) → AllWhole (map site_of logs)
+sites_whole [] = tt
+sites_whole (log ∷ logs) = (refl, sites_whole logs)
 
 given_each : (logs : List Log) (given : List (List Given)) → AllByRecursion (λ turn. length turn ≡ length (map site_of logs)) given → AllByRecursion (λ turn. length turn ≡ length logs) given
 given_each logs given each = subst (λ (n : ℕ). AllByRecursion (λ turn. length turn ≡ n) given) (as_many logs) each
@@ -198,13 +211,15 @@ module _ {D L O : Type 0} (w : Outside D L O) where
 
   -- ---- what their logs keep
 
-  logs_keep : (cluster : Cluster) (disks : D) (held : List TheSite) (sites : List Site) → HoldSites w cluster disks held sites → AllTold w disks sites
+  logs_keep : (cluster : Cluster) (disks : D) (held : List TheSite) (sites : List Site) → HoldSites w cluster disks held sites → AllTold w disks sites → AllByRecursion (λ site. site.logged ≡ site.node.facts) sites
       → AllByRecursion (λ site. KeepsFacts w.disk w.may_leave disks site.centre site.node.facts) sites
-  logs_keep cluster disks [] [] hold told = tt
-  logs_keep cluster disks (h ∷ held) (site ∷ sites) hold told =
-      (keeps_facts w.disk w.may_leave disks h.log site.centre site.node.facts hold.0.log told.0, logs_keep cluster disks held sites hold.1 told.1)
-  logs_keep cluster disks [] (site ∷ sites) hold told = absurd hold
-  logs_keep cluster disks (h ∷ held) [] hold told = absurd hold
+  logs_keep cluster disks [] [] hold told all = tt
+  logs_keep cluster disks (h ∷ held) (site ∷ sites) hold told all = (
+    subst (λ (fs : List Fact). KeepsFacts w.disk w.may_leave disks site.centre fs) all.0 (keeps_facts w.disk w.may_leave disks h.log site.centre site.logged hold.0.log told.0),
+    logs_keep cluster disks held sites hold.1 told.1 all.1,
+  )
+  logs_keep cluster disks [] (site ∷ sites) hold told all = absurd hold
+  logs_keep cluster disks (h ∷ held) [] hold told all = absurd hold
 
   serials_keep : (cluster : Cluster) (disks : D) (held : List TheSite) (sites : List Site) → HoldSites w cluster disks held sites → SerialsFit held → AllByRecursion HasSerials sites
   serials_keep cluster disks [] [] hold fit = tt
@@ -236,11 +251,11 @@ module _ {D L O : Type 0} (w : Outside D L O) where
   logs_end fault cluster new first more acts rest plain are [] held sites facts told grew hold = tt
   logs_end fault cluster new first more acts rest plain are (log ∷ logs) (h ∷ held) (site ∷ sites) facts told grew hold = (
     (let now : List Fact = next_boot log.facts ∷ log.facts in
-        let same : site.node.facts ≡ facts_after log.centre log.facts acts =
+        let same : site.logged ≡ facts_after log.centre log.facts acts =
         grew.1 ∙ (facts_since log.centre log.facts now first first more plain facts.0 ∙ sym (facts_expected log.centre log.facts acts (first ++ more) are)) in
         facts_or_more w.disk w.may_leave new log.centre (facts_after log.centre log.facts acts) (in_flight fault log.centre rest)
-        (subst (λ (fs : List Fact). MayHaveFacts w.disk w.may_leave new log.centre fs None) same
-        (subst (λ (n : ℕ). MayHaveFacts w.disk w.may_leave new n site.node.facts None) grew.0
+        (subst (λ (fs : List Fact). MayHaveFacts w.disk w.may_leave new log.centre fs []) same
+        (subst (λ (n : ℕ). MayHaveFacts w.disk w.may_leave new n site.logged []) grew.0
         (hold.0.log.open_log.left (subst (λ (n : ℕ). IsTrue (w.disk new n).told) (sym grew.0) told.0))))),
     logs_end fault cluster new first more acts rest plain are logs held sites facts.1 told.1 grew.2 hold.1,
   )
@@ -326,7 +341,7 @@ module _ {D L O : Type 0} (w : Outside D L O) where
       }
     where
       plain : but_answers (served config logs given).acts ≡ (served config logs given).acts
-      plain = all_plain config (opened config logs) given (opened_plain config logs)
+      plain = last_plain config (fold (after_turn config) (opened config logs) given) (all_plain config (opened config logs) given (opened_plain config logs))
 
       rest_plain : but_answers broke.rest ≡ broke.rest
       rest_plain = plain_rest (but_answers broke.acts) broke.rest (ap but_answers broke.are ∙ (plain ∙ sym broke.are))
@@ -337,7 +352,7 @@ module _ {D L O : Type 0} (w : Outside D L O) where
   start_breaks tears config first last turns fault old new fails logs follow long are =
       let stop = fails.over logs follow long are in
       let given = silent logs turns in
-      let more = (turned config logs given).acts in
+      let more = (ended config logs given).acts in
       run_breaks tears config logs turns given (length-replicate turns (replicate (length logs) nothing)) (silent_each logs turns) fault stop.boots (fails.serials (served config logs given).sites) old new
       (subst (λ (acts : List Act). Broke w ⊤ (KeepLogs w tears logs fault old.disks new.disks) acts fault (all_seen old) (all_seen new)) (sym (acts_are config logs given))
       (broke_more w {Told = ⊤} {P = KeepLogs w tears logs fault old.disks new.disks} more (λ acts rest comes keep. keep_more w tears logs fault old.disks new.disks acts rest more comes keep) stop.broke))
@@ -349,7 +364,7 @@ module _ {D L O : Type 0} (w : Outside D L O) where
   EndsFrom config turns result mid new =
       (sites : List Site) → HoldSites w config.cluster mid.disks mid.held sites → Ascend 0 sites
       → (given : List (List Given)) × (length given ≡ turns) × AllByRecursion (λ turn. length turn ≡ length sites) given
-      × AllEnd w config.cluster sites (fold (after_turn config) (begun sites) given) turns result mid new
+      × AllEnd w config.cluster sites (after_last config (fold (after_turn config) (begun sites) given)) turns result mid new
 
   module _ (tears : ℕ → Type 0) (config : Config) (first turns : ℕ) (logs : List Log) (follow : Follow first logs) (ascend : Ascend 0 (map site_of logs)) (old_disks : D) (old_link : L) (old_out : O) (mid new : Places D L O)
       (are : AreLogsOf w.disk config.cluster old_disks logs) (finish : AllFinish w config.cluster (opened config logs) (places old_disks [] old_link old_out) mid)
@@ -361,8 +376,8 @@ module _ {D L O : Type 0} (w : Outside D L O) where
       told_mid : AllTold w mid.disks (map site_of logs)
       told_mid = told_logs config.cluster old_disks mid.disks finish.did.passes.told logs are
 
-      -- a turn ended before
-      turn_breaks : (fault : ServeFault) → AllStop w (map site_of logs) (turned config logs given) fault mid new
+      -- it ended before the last line
+      turn_breaks : (fault : ServeFault) → AllStop w (map site_of logs) (ended config logs given) fault mid new
           → BreaksOff w.disk w.may_leave tears w.calls w.lost w.held config logs turns fault old_disks new.disks old_link new.link old_out new.out
       turn_breaks fault stop =
           run_breaks tears config logs turns given made (given_each logs given each) fault (none_refused config.cluster logs fault stop.no_boot)
@@ -373,8 +388,8 @@ module _ {D L O : Type 0} (w : Outside D L O) where
           (λ before acts rest is all durable safe. logs_since fault mid.disks new.disks (opened config logs).acts before acts rest is logs (opened_facts config first logs follow) told_mid all)
           finish.did stop.broke))
 
-      -- all turns were made
-      module _ (out : O) (all : AllMade w config.cluster (turned config logs given) mid new out) where
+      -- all turns were made, and nothing is pending
+      module _ (out : O) (all : AllMade w config.cluster (ended config logs given) mid new out) where
         abbrev last_place : Places D L O
         last_place = places new.disks new.held new.link out
 
@@ -383,6 +398,14 @@ module _ {D L O : Type 0} (w : Outside D L O) where
 
         told_new : AllTold w new.disks (map site_of logs)
         told_new = told_logs config.cluster old_disks new.disks ran.passes.told logs are
+
+        told_last : AllTold w new.disks (ended config logs given).sites
+        told_last = last_told w new.disks config (turned config logs given).sites (told_on new.disks config (begun (map site_of logs)) given told_new)
+
+        grew : Grew (ended config logs given).acts (map site_of logs) (ended config logs given).sites
+        grew =
+            last_grew w config (map site_of logs) (turned config logs given) (ascend_on config (begun (map site_of logs)) given ascend)
+            (whole_on config (begun (map site_of logs)) given (sites_whole logs)) (grew_on w config (map site_of logs) given ascend (sites_whole logs) each)
 
         line : done_of (counts_of turns new.held) ≡ done_line turns ran.acts
         line = line_is turns new.held ran.acts
@@ -402,9 +425,9 @@ module _ {D L O : Type 0} (w : Outside D L O) where
               run = record { given = given; turns_made = made; each = given_each logs given each; ran = ran.acts; runs = ran.are; whole = refl };
               left = record { link = left.link; output = left.output; failed_sends = left.failed_sends };
               kept = subst (λ (sites : List Site). AllByRecursion (λ site. KeepsFacts w.disk w.may_leave new.disks site.centre site.node.facts) sites) (sym (sites_are config logs given))
-                  (logs_keep config.cluster new.disks new.held (turned config logs given).sites all.finish.stand (told_on new.disks config (begun (map site_of logs)) given told_new));
+                  (logs_keep config.cluster new.disks new.held (ended config logs given).sites all.finish.stand told_last (last_logs config (turned config logs given).sites));
               serials = subst (λ (sites : List Site). AllByRecursion HasSerials sites) (sym (sites_are config logs given))
-                  (serials_keep config.cluster new.disks new.held (turned config logs given).sites all.finish.stand all.serials);
+                  (serials_keep config.cluster new.disks new.held (ended config logs given).sites all.finish.stand all.serials);
               turns_told = ap (λ (s : Served). s.turns) counts;
               steps_told = ap (λ (s : Served). s.steps) counts ∙ from_none (steps_in (ran.acts ++ Act.Print (done_line turns ran.acts) ∷ [])) (sum_over (λ h. h.steps) new.held) left.steps;
               dropped_told = ap (λ (s : Served). s.dropped) counts ∙ from_none (dropped_in (ran.acts ++ Act.Print (done_line turns ran.acts) ∷ [])) (sum_over (λ h. h.dropped) new.held) left.dropped;
@@ -444,11 +467,11 @@ module _ {D L O : Type 0} (w : Outside D L O) where
               printed_more = prints.more;
               left = record { link = done.link; output = done.output; failed_sends = done.failed_sends };
               kept = λ durable safe.
-                  logs_end fault config.cluster new.disks (opened config logs).acts (turned config logs given).acts ran.acts (Act.Print (done_line turns ran.acts) ∷ []) (opened_plain config logs) (ran.are ∙ acts_are config logs given)
-                  logs new.held (turned config logs given).sites (opened_facts config first logs follow) told_new (grew_on w config (map site_of logs) given ascend each) all.finish.stand;
+                  logs_end fault config.cluster new.disks (opened config logs).acts (ended config logs given).acts ran.acts (Act.Print (done_line turns ran.acts) ∷ []) (opened_plain config logs) (ran.are ∙ acts_are config logs given)
+                  logs new.held (ended config logs given).sites (opened_facts config first logs follow) told_new grew all.finish.stand;
             }
 
-      ends : (result : Result Served ServeFault) → AllEnd w config.cluster (map site_of logs) (turned config logs given) turns result mid new
+      ends : (result : Result Served ServeFault) → AllEnd w config.cluster (map site_of logs) (ended config logs given) turns result mid new
           → ServesOrBreaksOff w.disk w.may_leave tears w.calls w.lost w.held config logs turns result old_disks new.disks old_link new.link old_out new.out
       ends (Ok result) tell = run_serves tell.out tell.made result tell.counts tell.tells
       ends (Err fault) (inl stop) = turn_breaks fault stop
@@ -497,4 +520,4 @@ module _ {D L O : Type 0} (w : Outside D L O) where
       → IfErr result (λ fault. Caused w fault (all_seen old) (all_seen (places new.disks [] new.link new.out)))
   serve_caused config first last turns result old mid new has end =
       let each = end (map site_of has.logs) has.finish.stand has.ascend in
-      end_caused config.cluster (map site_of has.logs) (turned config has.logs each.0) turns result (all_seen old) mid new has.finish.did.passes each.3
+      end_caused config.cluster (map site_of has.logs) (ended config has.logs each.0) turns result (all_seen old) mid new has.finish.did.passes each.3

@@ -1,5 +1,5 @@
 -- What a centre keeps while another acts.
-use Rattle.std.proofs.Common.{◌≡◌, ◌≢◌, ℕ, ◌+◌, ◌≤◌, List, Option, None, sym, ◌∙◌, subst, inl, inr, arith, IsTrue}
+use Rattle.std.proofs.Common.{◌≡◌, ◌≢◌, ℕ, ◌+◌, ◌≤◌, List, [], sym, ◌∙◌, subst, inl, inr, arith, IsTrue}
 use Rattle.mdcc_areas.specs.Area.{AreaLog}
 use Rattle.mdcc_areas.specs.AtRest.{IsAtRest}
 use Rattle.mdcc_areas.specs.Frames.{IsInUse, IsSpare, OpenAreas, other_of, place_of}
@@ -65,16 +65,16 @@ module _ {D : Type 0} (disk : D → ℕ → Disk) (may_leave : D → ℕ → Lis
             (spare_kept log (disk old (place_of log.centre (other_of log.area))).bytes (may_leave old (place_of log.centre (other_of log.area))) (may_leave new (place_of log.centre (other_of log.area))) both.1.1 rest.spare);
       }
 
-  pub facts_kept : (old new : D) (a b : ℕ) (facts : List Fact) (next : Option Fact) → AreApart a b → KeepsOthers disk may_leave b old new
+  pub facts_kept : (old new : D) (a b : ℕ) (facts : List Fact) (next : List Fact) → AreApart a b → KeepsOthers disk may_leave b old new
       → MayHaveFacts disk may_leave old a facts next → MayHaveFacts disk may_leave new a facts next
   facts_kept old new a b facts next apart keeps has first second left left_second =
       has first second (keeps.crash a apart.here_here apart.here_there first left) (keeps.crash (a + 16) apart.there_here apart.there_there second left_second)
 
   -- more may be said of what it has
-  pub facts_or_more : (disks : D) (a : ℕ) (facts : List Fact) (next : Option Fact) → MayHaveFacts disk may_leave disks a facts None → MayHaveFacts disk may_leave disks a facts next
+  pub facts_or_more : (disks : D) (a : ℕ) (facts : List Fact) (next : List Fact) → MayHaveFacts disk may_leave disks a facts [] → MayHaveFacts disk may_leave disks a facts next
   facts_or_more disks a facts next has first second left left_second = elim (has first second left left_second) [
     | inl is ↦ inl is
-    | inr bad ↦ absurd bad
+    | inr is ↦ inl is
   ]
 
   pub log_kept : (old new : D) (log : OpenAreas) (a b : ℕ) (facts : List Fact) → AreApart a b → KeepsOthers disk may_leave b old new → DiskPasses disk may_leave old new
@@ -89,7 +89,7 @@ module _ {D : Type 0} (disk : D → ℕ → Disk) (may_leave : D → ℕ → Lis
           alike = passes.told (a + 16) ∙ (holds.open_log.alike ∙ sym (passes.told a));
           at_rest = λ told. rest_kept old new log a (encodings_of facts) holds.open_log.of (here, keeps.crash a apart.here_here apart.here_there) (there, keeps.crash (a + 16) apart.there_here apart.there_there)
               (holds.open_log.at_rest (subst IsTrue (passes.told a) told));
-          left = λ told. facts_kept old new a b facts None apart keeps (holds.open_log.left (subst IsTrue (passes.told a) told));
+          left = λ told. facts_kept old new a b facts [] apart keeps (holds.open_log.left (subst IsTrue (passes.told a) told));
         };
         few = holds.few;
       }
@@ -97,4 +97,4 @@ module _ {D : Type 0} (disk : D → ℕ → Disk) (may_leave : D → ℕ → Lis
 pub site_kept : {D L O : Type 0} (w : Outside D L O) (cluster : Cluster) (old new : D) (held : TheSite) (site : Site) (b : ℕ) → AreApart site.centre b
     → KeepsOthers w.disk w.may_leave b old new → DiskPasses w.disk w.may_leave old new → HoldsSite w cluster old held site → HoldsSite w cluster new held site
 site_kept w cluster old new held site b apart keeps passes holds =
-    record { itself = holds.itself; log = log_kept w.disk w.may_leave old new held.log site.centre b site.node.facts apart keeps passes holds.log }
+    record { itself = holds.itself; log = log_kept w.disk w.may_leave old new held.log site.centre b site.logged apart keeps passes holds.log }

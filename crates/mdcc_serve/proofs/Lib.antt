@@ -1,7 +1,9 @@
 pub mod Booted
 pub mod Bound
+pub mod Doings
 pub mod Ended
 pub mod Kept
+pub mod Last
 pub mod Opened
 pub mod Quiet
 pub mod Ready

@@ -1,5 +1,5 @@
 -- A log that is opened, and one that is not.
-use Rattle.std.proofs.Common.{◌≡◌, ℕ, ◌+◌, ◌≤◌, List, Option, None, Result, Ok, Err, refl, sym, ◌∙◌, ap, subst, inl, inr, arith, IsTrue}
+use Rattle.std.proofs.Common.{◌≡◌, ℕ, ◌+◌, ◌≤◌, List, [], Result, Ok, Err, refl, sym, ◌∙◌, ap, subst, inl, inr, arith, IsTrue}
 use Rattle.std.proofs.lemmas.Bool.{cases_eq}
 use Rattle.mdcc_areas.specs.Area.{payloads}
 use Rattle.mdcc_areas.specs.AtRest.{IsAtRest}
@@ -13,8 +13,9 @@ use Rattle.mdcc_messages.specs.declared.facts.Fact.{Fact}
 use Rattle.mdcc_option.specs.declared.cluster.Cluster.{Cluster}
 use Rattle.mdcc_runs.specs.Servers.{Log}
 use Rattle.mdcc_serve.specs.Serving.{IsDurable, IsLogOf}
-use Rattle.mdcc_serve.specs.Starts.{FailsToStart, GivesNone, IsOpened}
+use Rattle.mdcc_serve.specs.Starts.{FailsToStart, GivesNone, IsOpened, starting}
 use Rattle.mdcc_site.proofs.Logged.{disks_same, others_same, rested}
+use Rattle.mdcc_site.specs.Causes.{in_flight}
 use Rattle.mdcc_site.specs.LogEffects.{log_fault_of}
 use Rattle.mdcc_site.specs.Logs.{MayHaveFacts}
 use Rattle.mdcc_site.specs.Moments.{DiskPasses, KeepsOthers}
@@ -62,7 +63,7 @@ but_others disk may_leave moment left_since old new centre keeps = record { othe
 
 module _ {D : Type 0} (disk : D → ℕ → Disk) (may_leave : D → ℕ → List ℕ → Type 0) where
   -- a log that is durable has its facts after a crash
-  pub durable_has : (disks : D) (log : Log) (next : Option Fact) → IsDurable disk may_leave disks log
+  pub durable_has : (disks : D) (log : Log) (next : List Fact) → IsDurable disk may_leave disks log
       → payloads (disk disks log.centre).bytes (disk disks (log.centre + 16)).bytes ≡ Ok (encodings_of log.facts) → MayHaveFacts disk may_leave disks log.centre log.facts next
   durable_has disks log next durable read first second left left_second =
       inl (ap (λ (bytes : List ℕ). payloads bytes second) (durable.first first left)
@@ -91,7 +92,7 @@ module _ {D : Type 0} (disk : D → ℕ → Disk) (may_leave : D → ℕ → Lis
       cause = tt;
       passes = disks_same disk may_leave disks;
       others = others_same disk may_leave centre disks;
-      over = λ log of is. record { comes = tt; boots = tt; full = tt; kept = λ durable safe. durable_has disks log None durable is.has };
+      over = λ log of is. record { comes = tt; boots = tt; full = tt; kept = λ durable safe. durable_has disks log [] durable is.has };
     }
 
     -- ---- it is not opened
@@ -103,7 +104,7 @@ module _ {D : Type 0} (disk : D → ℕ → Disk) (may_leave : D → ℕ → Lis
         → payloads (disk old centre).bytes (disk old (centre + 16)).bytes ≡ Ok all → may_leave new centre current → may_leave new (centre + 16) other → payloads current other ≡ Ok all))
       where
         -- where no byte is torn to 1 it has its facts
-        kept_opening : (log : Log) (next : Option Fact) → log.centre ≡ centre → IsLogOf disk cluster old log → IsDurable disk may_leave old log → (tears 1 → ⊥) → MayHaveFacts disk may_leave new log.centre log.facts next
+        kept_opening : (log : Log) (next : List Fact) → log.centre ≡ centre → IsLogOf disk cluster old log → IsDurable disk may_leave old log → (tears 1 → ⊥) → MayHaveFacts disk may_leave new log.centre log.facts next
         kept_opening log next of is durable safe =
             subst (λ (n : ℕ). MayHaveFacts disk may_leave new n log.facts next) (sym of) (λ first second left left_second.
             inl (reads (encodings_of log.facts) first second safe (subst (λ (n : ℕ). IsTrue (disk old n).told) of is.told) (subst (λ (n : ℕ). IsTrue (disk old (n + 16)).told) of is.told_other)
@@ -120,14 +121,14 @@ module _ {D : Type 0} (disk : D → ℕ → Disk) (may_leave : D → ℕ → Lis
           cause = rose refl;
           passes = passes;
           others = others;
-          over = λ log of is. record { comes = of; boots = tt; full = tt; kept = λ durable safe. kept_opening log _ of is durable safe };
+          over = λ log of is. record { comes = of; boots = tt; full = tt; kept = λ durable safe. kept_opening log (in_flight (ServeFault.Disk centre) log.centre (starting log)) of is durable safe };
         }
         open_fails LogFault.Memory rose full a_log = record {
           of = tt;
           cause = tt;
           passes = passes;
           others = others;
-          over = λ log of is. record { comes = tt; boots = tt; full = tt; kept = λ durable safe. kept_opening log None of is durable safe };
+          over = λ log of is. record { comes = tt; boots = tt; full = tt; kept = λ durable safe. kept_opening log [] of is durable safe };
         }
         open_fails LogFault.LogFull rose full a_log = absurd (full refl)
         open_fails (LogFault.NotALog n) rose full a_log = record {
@@ -152,10 +153,10 @@ module _ {D : Type 0} (disk : D → ℕ → Disk) (may_leave : D → ℕ → Lis
         same_facts before of is =
             same_lists (payloads (disk old centre).bytes (disk old (centre + 16)).bytes) all (encodings_of before.facts) (opened.read (subst (λ (n : ℕ). IsTrue (disk old n).told) of is.told)) (its_payloads disk old before centre of is.has)
 
-        kept : (before : Log) → before.centre ≡ centre → IsLogOf disk cluster old before → MayHaveFacts disk may_leave new before.centre before.facts None
+        kept : (before : Log) → before.centre ≡ centre → IsLogOf disk cluster old before → MayHaveFacts disk may_leave new before.centre before.facts []
         kept before of is =
             let told = subst IsTrue (sym (opened.passes.told centre)) (subst (λ (n : ℕ). IsTrue (disk old n).told) of is.told) in
-            subst (λ (n : ℕ). MayHaveFacts disk may_leave new n before.facts None) (sym of) ((log_opened current_is_read centre log all before.facts old new opened alike (same_facts before of is)).left told)
+            subst (λ (n : ℕ). MayHaveFacts disk may_leave new n before.facts []) (sym of) ((log_opened current_is_read centre log all before.facts old new opened alike (same_facts before of is)).left told)
 
         by_none : (fault : ServeFault) → GivesNone cluster centre all fault → FailsToStart disk may_leave tears cluster centre fault old new
         by_none fault (inl is) = subst (λ (f : ServeFault). FailsToStart disk may_leave tears cluster centre f old new) (sym is) (record {

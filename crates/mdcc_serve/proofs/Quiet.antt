@@ -49,8 +49,8 @@ plain_bind at address = record { answers = refl; failed = refl; steps = refl; dr
 plain_print : (line : ServerLine) → IsPlain (Act.Print line ∷ [])
 plain_print line = record { answers = refl; failed = refl; steps = refl; dropped = refl; lost = refl }
 
-plain_append : (centre : ℕ) (fact : Fact) → IsPlain (Act.Append centre fact ∷ [])
-plain_append centre fact = record { answers = refl; failed = refl; steps = refl; dropped = refl; lost = refl }
+plain_append : (centre : ℕ) (facts : List Fact) → IsPlain (Act.Append centre facts ∷ [])
+plain_append centre facts = record { answers = refl; failed = refl; steps = refl; dropped = refl; lost = refl }
 
 -- what holds of each act holds of those of a prefix
 pub acts_front : (P : Act → Type 0) (xs ys : List Act) → AllByRecursion P (xs ++ ys) → AllByRecursion P xs
@@ -75,7 +75,7 @@ are_binds (Act.Bind at address ∷ acts) each =
     let rest = are_binds acts each.1 in
     record { plain = plain_then (Act.Bind at address ∷ []) acts (plain_bind at address) rest.plain; prints = rest.prints; appends = rest.appends }
 are_binds (Act.Receive at gave ∷ acts) each = absurd each.0
-are_binds (Act.Append centre fact ∷ acts) each = absurd each.0
+are_binds (Act.Append centre facts ∷ acts) each = absurd each.0
 are_binds (Act.Send from to bytes answer ∷ acts) each = absurd each.0
 are_binds (Act.Print line ∷ acts) each = absurd each.0
 are_binds (Act.Stepped ∷ acts) each = absurd each.0
@@ -118,7 +118,7 @@ are_lines (Act.Print line ∷ acts) each =
     record { plain = plain_then (Act.Print line ∷ []) acts (plain_print line) rest.plain; calls = rest.calls; appends = rest.appends }
 are_lines (Act.Bind at address ∷ acts) each = absurd each.0
 are_lines (Act.Receive at gave ∷ acts) each = absurd each.0
-are_lines (Act.Append centre fact ∷ acts) each = absurd each.0
+are_lines (Act.Append centre facts ∷ acts) each = absurd each.0
 are_lines (Act.Send from to bytes answer ∷ acts) each = absurd each.0
 are_lines (Act.Stepped ∷ acts) each = absurd each.0
 are_lines (Act.Dropped ∷ acts) each = absurd each.0
@@ -144,7 +144,7 @@ pub are_boots : (logs : List Log) → AreBoots (starts logs).acts
 are_boots [] = record { plain = plain_none; calls = refl; prints = refl }
 are_boots (log ∷ logs) =
     let rest = are_boots logs in
-    record { plain = plain_then (Act.Append log.centre (next_boot log.facts) ∷ []) (starts logs).acts (plain_append log.centre (next_boot log.facts)) rest.plain; calls = rest.calls; prints = rest.prints }
+    record { plain = plain_then (Act.Append log.centre (next_boot log.facts ∷ []) ∷ []) (starts logs).acts (plain_append log.centre (next_boot log.facts ∷ [])) rest.plain; calls = rest.calls; prints = rest.prints }
 
 quiet_below : (n c : ℕ) (logs : List Log) → Follow n logs → c < n → appended c (starts logs).acts ≡ []
 quiet_below n c [] f low = refl

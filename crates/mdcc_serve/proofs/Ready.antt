@@ -1,5 +1,5 @@
 -- Centres that run, with their endpoints bound and their boots told, or not.
-use Rattle.std.proofs.Common.{◌≡◌, ℕ, ◌+◌, ◌-◌, ◌≤◌, ◌<◌, List, [], ◌∷◌, ◌++◌, Option, length, take, refl, sym, ◌∙◌, ap, subst, inl, inr, arith, append-nil, append_assoc, length-append}
+use Rattle.std.proofs.Common.{◌≡◌, ℕ, ◌+◌, ◌-◌, ◌≤◌, ◌<◌, List, [], ◌∷◌, ◌++◌, length, take, refl, sym, ◌∙◌, ap, subst, inl, inr, arith, append-nil, append_assoc, length-append}
 use Rattle.std.specs.Io.KnownBytes.{Appends}
 use Rattle.std.specs.List.{AllByRecursion}
 use Rattle.std.specs.Prelude.{flat_map, ⊤}
@@ -51,7 +51,7 @@ may_come ServeFault.Serial rest comes = comes
 may_come ServeFault.Memory rest comes = tt
 
 safe_in : (tears : ℕ → Type 0) (rest more : List Act) → IsSafeIn tears (rest ++ more) → IsSafeIn tears rest
-safe_in tears (Act.Append centre (Fact.Booted epoch) ∷ rest) more safe = safe
+safe_in tears (Act.Append centre (Fact.Booted epoch ∷ facts) ∷ rest) more safe = safe
 safe_in tears (act ∷ rest) more safe = tt
 safe_in tears [] more safe = tt
 
@@ -298,7 +298,7 @@ module _ {D L O : Type 0} (w : Outside D L O) where
       → KeepLogs w tears logs fault old new acts (rest ++ more)
   keep_more tears logs fault old new acts rest more comes keep durable safe =
       each_by _ _ logs (keep durable (safe_more tears fault rest more safe))
-      (λ log has. subst (λ (o : Option Fact). MayHaveFacts w.disk w.may_leave new log.centre (facts_after log.centre log.facts acts) o) (sym (flight_more ⊤ fault log.centre rest more comes)) has)
+      (λ log has. subst (λ (o : List Fact). MayHaveFacts w.disk w.may_leave new log.centre (facts_after log.centre log.facts acts) o) (sym (flight_more ⊤ fault log.centre rest more comes)) has)
 
   -- ---- no centre runs, or not all of them
 

@@ -82,7 +82,7 @@ module _ {D : Type 0} (disk : D → ℕ → Disk) (cluster : Cluster) (disks : D
       (node_ok (booted cluster all) is)
 
   -- its boot is not logged
-  pub logging_says : (Told : Type 0) (centre : ℕ) (boot : Fact) (fault : ServeFault) → (IsTold disk disks centre → Told) → BootsAt disk cluster disks centre → MayComeAt Told fault (Act.Append centre boot ∷ []) → IsNoBoot fault
+  pub logging_says : (Told : Type 0) (centre : ℕ) (boot : Fact) (fault : ServeFault) → (IsTold disk disks centre → Told) → BootsAt disk cluster disks centre → MayComeAt Told fault (Act.Append centre (boot ∷ []) ∷ []) → IsNoBoot fault
       → SaysAt disk cluster disks centre fault
   logging_says Told centre boot (ServeFault.Disk a) known boots comes no_boot = sym comes
   logging_says Told centre boot (ServeFault.Log a (LogFault.NotALog n)) known boots comes no_boot = λ told. absurd (comes (known told))

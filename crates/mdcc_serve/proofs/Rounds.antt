@@ -1,47 +1,27 @@
--- Several centres, each with its turn.
-use Rattle.std.proofs.Common.{◌≡◌, ◌≢◌, ℕ, ◌+◌, ◌^◌, ◌≤◌, ◌<◌, Bool, true, false, List, [], ◌∷◌, ◌++◌, Option, None, Ok, Err, length, refl, sym, ◌∙◌, ap, subst, arith, IsTrue, append-nil, append_assoc, get_or, length-append, replicate, set}
+-- Several centres, each with what it does: its turn, or what is pending at the end.
+use Rattle.std.proofs.Common.{◌≡◌, ◌≢◌, ℕ, ◌+◌, ◌≤◌, ◌<◌, List, [], ◌∷◌, ◌++◌, Result, Ok, Err, length, refl, sym, ◌∙◌, ap, subst, arith, IsTrue, append-nil, append_assoc, get_or, length-append, replicate, set}
 use Rattle.std.proofs.Math.Seq.{get_or-append_seam, set-append_seam}
-use Rattle.std.proofs.lemmas.Bool.{le-leb}
 use Rattle.std.proofs.lemmas.List.{length-replicate}
 use Rattle.std.specs.List.{AllByRecursion}
-use Rattle.std.specs.Prelude.{nat_le, ◌||◌}
 use Rattle.mdcc_base.specs.Counts.{sum_over}
-use Rattle.mdcc_config.specs.declared.config.Config.{Config}
 use Rattle.mdcc_messages.specs.declared.facts.Fact.{Fact}
 use Rattle.mdcc_option.specs.declared.cluster.Cluster.{Cluster}
 use Rattle.mdcc_outbox.proofs.Recorded.{sum_append}
 use Rattle.mdcc_link.specs.Link.{LinkCall}
 use Rattle.mdcc_runs.specs.Acts.{Act, appended, but_answers, dropped_in, lost_in, steps_in}
-use Rattle.mdcc_runs.specs.Servers.{Server, turns_of}
-use Rattle.mdcc_runs.specs.Sites.{Site}
-use Rattle.mdcc_runs.specs.Turns.{Given, turn_of}
+use Rattle.mdcc_runs.specs.Servers.{Server}
+use Rattle.mdcc_runs.specs.Sites.{Doing, Site}
+use Rattle.mdcc_serve.proofs.Doings.{AllOwn, AllWhole, any_past, each_back, each_both, each_by, each_does, each_front, each_join, each_joined, each_long, front_none}
 use Rattle.mdcc_serve.proofs.Kept.{apart, facts_kept, facts_or_more, site_kept}
-use Rattle.mdcc_serve.specs.Centres.{AllFinish, AllLogs, AllStop, AllTold, Ascend, HoldSites, IsServedAt, Places, TurnsAt, all_seen, places}
+use Rattle.mdcc_serve.specs.Centres.{AllFinish, AllLogs, AllStop, AllTold, Ascend, HoldSites, IsServedAt, Places, all_seen, places}
 use Rattle.mdcc_site.proofs.Going.{comes_under}
 use Rattle.mdcc_site.proofs.Joined.{appended_append, appended_answers, broke_more, did_broke, did_nothing, did_then, facts_expected, facts_then, flight_more}
-use Rattle.mdcc_site.proofs.Owns.{turn_owns}
-use Rattle.mdcc_site.specs.Causes.{SerialsEnd, in_flight, is_past_serials}
+use Rattle.mdcc_site.specs.Causes.{SerialsEnd, in_flight}
 use Rattle.mdcc_site.specs.Logs.{MayHaveFacts, facts_after, with_facts}
 use Rattle.mdcc_site.specs.Moments.{Adds, Broke, Caused, Did, DiskPasses, KeepsOthers, Leaves, MayComeAt, Moment, Outside, Passes}
-use Rattle.mdcc_site.specs.SiteState.{Finishes, HoldsSite, OnSerial, SiteLog, Stops, place, seen}
+use Rattle.mdcc_site.specs.SiteState.{Finishes, Goes, HoldsSite, OnSerial, SiteLog, Stops, place, seen}
 use Rattle.mdcc_site.specs.declared.fault.ServeFault.{ServeFault}
 use Rattle.mdcc_site.specs.declared.site.Site.{Site as TheSite}
-
--- ---- some of them first
-
--- the first have their turn, and then the others
-turns_joined : (config : Config) (front back : List Site) (given more : List Given) → length front ≡ length given
-    → turns_of config (front ++ back) (given ++ more)
-    ≡ record { acts = (turns_of config front given).acts ++ (turns_of config back more).acts; sites = (turns_of config front given).sites ++ (turns_of config back more).sites }
-turns_joined config [] back [] more same = refl
-turns_joined config (site ∷ front) back (g ∷ given) more same =
-    let ih = turns_joined config front back given more (omega (same, arith)) in
-    let first = turn_of config site g in
-    ap (λ (rest : Server). let server : Server = record { acts = first.acts ++ rest.acts; sites = first.site ∷ rest.sites } in server) ih
-    ∙ ap (λ (acts : List Act). let server : Server = record { acts = acts; sites = first.site ∷ ((turns_of config front given).sites ++ (turns_of config back more).sites) } in server)
-    (sym (append_assoc first.acts (turns_of config front given).acts (turns_of config back more).acts))
-turns_joined config [] back (g ∷ given) more same = absurd (omega (same, arith))
-turns_joined config (site ∷ front) back [] more same = absurd (omega (same, arith))
 
 -- ---- counts
 
@@ -50,61 +30,6 @@ counts_one f n xs ys old new adds =
     let a = sum_append f xs (old ∷ ys) in
     let b = sum_append f xs (new ∷ ys) in
     omega (a, b, adds, arith)
-
--- ---- lists
-
-each_by : {P Q : Site → Type 0} (xs : List Site) → AllByRecursion P xs → ((x : Site) → P x → Q x) → AllByRecursion Q xs
-each_by [] h f = tt
-each_by (x ∷ xs) h f = (f x h.0, each_by xs h.1 f)
-
-each_both : (P Q : Site → Type 0) (xs : List Site) → AllByRecursion P xs → AllByRecursion Q xs → AllByRecursion (λ x. P x × Q x) xs
-each_both P Q [] h k = tt
-each_both P Q (x ∷ xs) h k = ((h.0, k.0), each_both P Q xs h.1 k.1)
-
-each_front : (P : Site → Type 0) (xs ys : List Site) → AllByRecursion P (xs ++ ys) → AllByRecursion P xs
-each_front P [] ys h = tt
-each_front P (x ∷ xs) ys h = (h.0, each_front P xs ys h.1)
-
-each_back : (P : Site → Type 0) (xs ys : List Site) → AllByRecursion P (xs ++ ys) → AllByRecursion P ys
-each_back P [] ys h = h
-each_back P (x ∷ xs) ys h = each_back P xs ys h.1
-
-each_join : (P : Site → Type 0) (xs ys : List Site) → AllByRecursion P xs → AllByRecursion P ys → AllByRecursion P (xs ++ ys)
-each_join P [] ys h k = k
-each_join P (x ∷ xs) ys h k = (h.0, each_join P xs ys h.1 k)
-
-front_none : {A : Type 0} (xs ys : List A) → xs ++ ys ≡ [] → xs ≡ []
-front_none [] ys e = refl
-front_none (x ∷ xs) ys e = absurd (cc)
-
-pub now_past : (sent : ℕ) (later : Bool) → 2 ^ 32 ≤ sent → IsTrue (nat_le (2 ^ 32) sent || later)
-now_past sent later past = ap (λ (b : Bool). b || later) (le-leb (2 ^ 32) sent past)
-
-pub later_past : (b : Bool) (sites : List Site) → IsTrue (is_past_serials sites) → IsTrue (b || is_past_serials sites)
-later_past true sites past = refl
-later_past false sites past = past
-
-any_past : (xs : List Site) (x : Site) (ys : List Site) → 2 ^ 32 ≤ x.sent → IsTrue (is_past_serials (xs ++ x ∷ ys))
-any_past [] x ys past = now_past x.sent (is_past_serials ys) past
-any_past (y ∷ xs) x ys past = later_past (nat_le (2 ^ 32) y.sent) (xs ++ x ∷ ys) (any_past xs x ys past)
-
--- a turn leaves how many they are, and their numbers
-pub turned_long : (config : Config) (sites : List Site) (given : List Given) → length (turns_of config sites given).sites ≡ length sites
-turned_long config [] [] = refl
-turned_long config [] (g ∷ given) = refl
-turned_long config (site ∷ sites) [] = refl
-turned_long config (site ∷ sites) (g ∷ given) = let e = turned_long config sites given in omega (e, arith)
-
-pub ascend_turned : (config : Config) (n : ℕ) (sites : List Site) (given : List Given) → Ascend n sites → Ascend n (turns_of config sites given).sites
-ascend_turned config n [] [] ascend = tt
-ascend_turned config n [] (g ∷ given) ascend = tt
-ascend_turned config n (site ∷ sites) [] ascend = ascend
-ascend_turned config n (site ∷ sites) (g ∷ given) ascend =
-    let e = (turn_owns config site g).centre in (
-      subst (λ (m : ℕ). n < m) (sym e) ascend.0,
-      subst (λ (m : ℕ). m ≤ 9) (sym e) ascend.1,
-      subst (λ (m : ℕ). Ascend m (turns_of config sites given).sites) (sym e) (ascend_turned config site.centre sites given ascend.2),
-    )
 
 module _ {D L O : Type 0} (w : Outside D L O) where
   -- what one centre did, seen of all
@@ -207,14 +132,14 @@ module _ {D L O : Type 0} (w : Outside D L O) where
   hold_join cluster disks [] one after (s ∷ front) site back first holds last = absurd first
   hold_join cluster disks (h ∷ before) one after [] site back first holds last = absurd first
 
-  -- ---- those that had their turn
+  -- ---- those that did their part
 
-  turned_elsewhere : (config : Config) (b : ℕ) (front : List Site) (given : List Given) → length front ≡ length given → Elsewhere b front → Elsewhere b (turns_of config front given).sites
-  turned_elsewhere config b [] given same other = tt
-  turned_elsewhere config b (site ∷ front) (g ∷ given) same other =
-      let e = (turn_owns config site g).centre in
-      (subst (λ (n : ℕ). (n ≤ 9) × (n ≢ b)) (sym e) other.0, turned_elsewhere config b front given (omega (same, arith)) other.1)
-  turned_elsewhere config b (site ∷ front) [] same other = absurd (omega (same, arith))
+  each_elsewhere : {G : Type 0} (does : Site → G → Doing) → AllOwn does → (b : ℕ) (front : List Site) (given : List G) → length front ≡ length given → Elsewhere b front → Elsewhere b (each_does does front given).sites
+  each_elsewhere does own b [] given same other = tt
+  each_elsewhere does own b (site ∷ front) (g ∷ given) same other =
+      let e = (own site g).centre in
+      (subst (λ (n : ℕ). (n ≤ 9) × (n ≢ b)) (sym e) other.0, each_elsewhere does own b front given (omega (same, arith)) other.1)
+  each_elsewhere does own b (site ∷ front) [] same other = absurd (omega (same, arith))
 
   pub ascend_later : (n m : ℕ) (sites : List Site) → m ≤ n → Ascend n sites → Elsewhere m sites
   ascend_later n m [] later ascend = tt
@@ -235,17 +160,17 @@ module _ {D L O : Type 0} (w : Outside D L O) where
   ascend_back n (first ∷ front) site back ascend = ascend_back first.centre front site back ascend.2
 
   -- another centre's log is not written to
-  pub quiet_turns : (config : Config) (b : ℕ) (front : List Site) (given : List Given) → length front ≡ length given → Elsewhere b front → appended b (turns_of config front given).acts ≡ []
-  quiet_turns config b [] given same other = refl
-  quiet_turns config b (site ∷ front) (g ∷ given) same other =
-      appended_append b (turn_of config site g).acts (turns_of config front given).acts
-      ∙ (ap (λ (fs : List Fact). fs ++ appended b (turns_of config front given).acts) ((turn_owns config site g).others b (λ is. other.0.1 (sym is)))
-      ∙ quiet_turns config b front given (omega (same, arith)) other.1)
-  quiet_turns config b (site ∷ front) [] same other = absurd (omega (same, arith))
+  pub each_quiet : {G : Type 0} (does : Site → G → Doing) → AllOwn does → (b : ℕ) (front : List Site) (given : List G) → length front ≡ length given → Elsewhere b front → appended b (each_does does front given).acts ≡ []
+  each_quiet does own b [] given same other = refl
+  each_quiet does own b (site ∷ front) (g ∷ given) same other =
+      appended_append b (does site g).acts (each_does does front given).acts
+      ∙ (ap (λ (fs : List Fact). fs ++ appended b (each_does does front given).acts) ((own site g).others b (λ is. other.0.1 (sym is)))
+      ∙ each_quiet does own b front given (omega (same, arith)) other.1)
+  each_quiet does own b (site ∷ front) [] same other = absurd (omega (same, arith))
 
   -- whatever a crash leaves, the log of a centre has its facts and those that were appended
   abbrev pub HasLog : D → D → List Act → Site → Type 0
-  HasLog old new acts site = IsTrue (w.disk old site.centre).told → MayHaveFacts w.disk w.may_leave new site.centre (facts_after site.centre site.node.facts acts) None
+  HasLog old new acts site = IsTrue (w.disk old site.centre).told → MayHaveFacts w.disk w.may_leave new site.centre (facts_after site.centre site.logged acts) []
 
   hold_logs : (cluster : Cluster) (disks : D) (held : List TheSite) (sites : List Site) → HoldSites w cluster disks held sites → AllByRecursion (HasLog disks disks []) sites
   hold_logs cluster disks [] [] hold = tt
@@ -254,25 +179,32 @@ module _ {D L O : Type 0} (w : Outside D L O) where
   hold_logs cluster disks (h ∷ held) [] hold = absurd hold
 
   -- where others append
-  log_elsewhere : (old mid new : D) (b : ℕ) (first acts : List Act) (next : Option Fact) (site : Site) → b ≤ 9 → (site.centre ≤ 9) × (site.centre ≢ b) → KeepsOthers w.disk w.may_leave b mid new → appended site.centre acts ≡ []
-      → HasLog old mid first site → IsTrue (w.disk old site.centre).told → MayHaveFacts w.disk w.may_leave new site.centre (facts_after site.centre site.node.facts (first ++ acts)) next
+  log_elsewhere : (old mid new : D) (b : ℕ) (first acts : List Act) (next : List Fact) (site : Site) → b ≤ 9 → (site.centre ≤ 9) × (site.centre ≢ b) → KeepsOthers w.disk w.may_leave b mid new → appended site.centre acts ≡ []
+      → HasLog old mid first site → IsTrue (w.disk old site.centre).told → MayHaveFacts w.disk w.may_leave new site.centre (facts_after site.centre site.logged (first ++ acts)) next
   log_elsewhere old mid new b first acts next site most other keeps quiet has told =
-      facts_or_more w.disk w.may_leave new site.centre (facts_after site.centre site.node.facts (first ++ acts)) next
-      (subst (λ (fs : List Fact). MayHaveFacts w.disk w.may_leave new site.centre fs None)
-      (sym (facts_then site.centre site.node.facts first acts ∙ ap (with_facts (facts_after site.centre site.node.facts first)) quiet))
-      (facts_kept w.disk w.may_leave mid new site.centre b (facts_after site.centre site.node.facts first) None (apart site.centre b other.0 most other.1) keeps (has told)))
+      facts_or_more w.disk w.may_leave new site.centre (facts_after site.centre site.logged (first ++ acts)) next
+      (subst (λ (fs : List Fact). MayHaveFacts w.disk w.may_leave new site.centre fs [])
+      (sym (facts_then site.centre site.logged first acts ∙ ap (with_facts (facts_after site.centre site.logged first)) quiet))
+      (facts_kept w.disk w.may_leave mid new site.centre b (facts_after site.centre site.logged first) [] (apart site.centre b other.0 most other.1) keeps (has told)))
 
-  -- after the turns of the first ones
-  pub record HaveTurned (config : Config) (cluster : Cluster) (start now : Places D L O) (served : List Site) (index : ℕ) : Type 0 where
+  -- after the parts of the first ones
+  pub record HaveGone {G : Type 0} (does : Site → G → Doing) (cluster : Cluster) (start now : Places D L O) (served : List Site) (index : ℕ) : Type 0 where
     pub front : List Site
     pub back : List Site
-    pub given : List Given
+    pub given : List G
     pub are : served ≡ front ++ back
     pub many : length front ≡ index
     pub as_many : length given ≡ index
-    pub did : Did w (turns_of config front given).acts (all_seen start) (all_seen now)
-    pub hold : HoldSites w cluster now.disks now.held ((turns_of config front given).sites ++ back)
-    pub logs : AllByRecursion (HasLog start.disks now.disks (turns_of config front given).acts) served
+    pub did : Did w (each_does does front given).acts (all_seen start) (all_seen now)
+    pub hold : HoldSites w cluster now.disks now.held ((each_does does front given).sites ++ back)
+    pub logs : AllByRecursion (HasLog start.disks now.disks (each_does does front given).acts) served
+
+  -- what is held has its pending facts
+  pub hold_whole : (cluster : Cluster) (disks : D) (held : List TheSite) (sites : List Site) → HoldSites w cluster disks held sites → AllWhole sites
+  hold_whole cluster disks [] [] hold = tt
+  hold_whole cluster disks (h ∷ held) (site ∷ sites) hold = (hold.0.itself.waits.all, hold_whole cluster disks held sites hold.1)
+  hold_whole cluster disks [] (site ∷ sites) hold = absurd hold
+  hold_whole cluster disks (h ∷ held) [] hold = absurd hold
 
   hold_long : (cluster : Cluster) (disks : D) (held : List TheSite) (sites : List Site) → HoldSites w cluster disks held sites → length held ≡ length sites
   hold_long cluster disks [] [] hold = refl
@@ -281,70 +213,70 @@ module _ {D L O : Type 0} (w : Outside D L O) where
   hold_long cluster disks (h ∷ held) [] hold = absurd hold
 
   -- where one is left
-  pub some_back : (config : Config) (cluster : Cluster) (start now : Places D L O) (served : List Site) (index : ℕ) → (turned : HaveTurned config cluster start now served index) → index < length now.held
-      → (site : Site) × (back : List Site) × (turned.back ≡ site ∷ back)
-  some_back config cluster start now served index turned within = by_back turned.back refl
+  pub some_back : {G : Type 0} (does : Site → G → Doing) (cluster : Cluster) (start now : Places D L O) (served : List Site) (index : ℕ) → (gone : HaveGone does cluster start now served index) → index < length now.held
+      → (site : Site) × (back : List Site) × (gone.back ≡ site ∷ back)
+  some_back does cluster start now served index gone within = by_back gone.back refl
     where
-      by_back : (back : List Site) → turned.back ≡ back → (site : Site) × (rest : List Site) × (turned.back ≡ site ∷ rest)
+      by_back : (back : List Site) → gone.back ≡ back → (site : Site) × (rest : List Site) × (gone.back ≡ site ∷ rest)
       by_back (site ∷ rest) is = (site, rest, is)
       by_back [] is =
-          let a = hold_long cluster now.disks now.held ((turns_of config turned.front turned.given).sites ++ turned.back) turned.hold in
-          let b = length-append (turns_of config turned.front turned.given).sites turned.back in
-          let c = turned_long config turned.front turned.given in
-          let d = turned.many in
-          let e : length turned.back ≡ 0 = ap (λ (sites : List Site). length sites) is in
+          let a = hold_long cluster now.disks now.held ((each_does does gone.front gone.given).sites ++ gone.back) gone.hold in
+          let b = length-append (each_does does gone.front gone.given).sites gone.back in
+          let c = each_long does gone.front gone.given in
+          let d = gone.many in
+          let e : length gone.back ≡ 0 = ap (λ (sites : List Site). length sites) is in
           absurd (omega (a, b, c, d, e, within, arith))
 
   -- none is left
-  pub all_turned : (config : Config) (cluster : Cluster) (start now : Places D L O) (served : List Site) (index : ℕ) → (turned : HaveTurned config cluster start now served index) → length now.held ≤ index
-      → (length turned.given ≡ length served) × AllFinish w cluster (turns_of config served turned.given) start now
-  all_turned config cluster start now served index turned over = (
-    (let e = turned.many in let f = turned.as_many in let g : length served ≡ length turned.front = ap (λ (sites : List Site). length sites) front_is in omega (e, f, g, arith)),
-    subst (λ (sites : List Site). AllFinish w cluster (turns_of config sites turned.given) start now) (sym front_is) (record { did = turned.did; stand = subst (λ (sites : List Site). HoldSites w cluster now.disks now.held sites) whole turned.hold }),
+  pub all_gone : {G : Type 0} (does : Site → G → Doing) (cluster : Cluster) (start now : Places D L O) (served : List Site) (index : ℕ) → (gone : HaveGone does cluster start now served index) → length now.held ≤ index
+      → (length gone.given ≡ length served) × AllFinish w cluster (each_does does served gone.given) start now
+  all_gone does cluster start now served index gone over = (
+    (let e = gone.many in let f = gone.as_many in let g : length served ≡ length gone.front = ap (λ (sites : List Site). length sites) front_is in omega (e, f, g, arith)),
+    subst (λ (sites : List Site). AllFinish w cluster (each_does does sites gone.given) start now) (sym front_is) (record { did = gone.did; stand = subst (λ (sites : List Site). HoldSites w cluster now.disks now.held sites) whole gone.hold }),
   )
     where
-      by_back : (back : List Site) → turned.back ≡ back → turned.back ≡ []
+      by_back : (back : List Site) → gone.back ≡ back → gone.back ≡ []
       by_back [] is = is
       by_back (site ∷ rest) is =
-          let a = hold_long cluster now.disks now.held ((turns_of config turned.front turned.given).sites ++ turned.back) turned.hold in
-          let b = length-append (turns_of config turned.front turned.given).sites turned.back in
-          let c = turned_long config turned.front turned.given in
-          let d = turned.many in
-          let e : length turned.back ≡ length (site ∷ rest) = ap (λ (sites : List Site). length sites) is in
+          let a = hold_long cluster now.disks now.held ((each_does does gone.front gone.given).sites ++ gone.back) gone.hold in
+          let b = length-append (each_does does gone.front gone.given).sites gone.back in
+          let c = each_long does gone.front gone.given in
+          let d = gone.many in
+          let e : length gone.back ≡ length (site ∷ rest) = ap (λ (sites : List Site). length sites) is in
           absurd (omega (a, b, c, d, e, over, arith))
 
-      none : turned.back ≡ []
-      none = by_back turned.back refl
+      none : gone.back ≡ []
+      none = by_back gone.back refl
 
-      front_is : served ≡ turned.front
-      front_is = turned.are ∙ (ap (λ (sites : List Site). turned.front ++ sites) none ∙ append-nil turned.front)
+      front_is : served ≡ gone.front
+      front_is = gone.are ∙ (ap (λ (sites : List Site). gone.front ++ sites) none ∙ append-nil gone.front)
 
-      whole : (turns_of config turned.front turned.given).sites ++ turned.back ≡ (turns_of config turned.front turned.given).sites
-      whole = ap (λ (sites : List Site). (turns_of config turned.front turned.given).sites ++ sites) none ∙ append-nil (turns_of config turned.front turned.given).sites
+      whole : (each_does does gone.front gone.given).sites ++ gone.back ≡ (each_does does gone.front gone.given).sites
+      whole = ap (λ (sites : List Site). (each_does does gone.front gone.given).sites ++ sites) none ∙ append-nil (each_does does gone.front gone.given).sites
 
   disks_pass : (old new : Moment D L O) → Passes w old new → DiskPasses w.disk w.may_leave old.disks new.disks
   disks_pass old new passes = record { told = passes.told; faults = passes.faults }
 
-  pub none_turned : (config : Config) (cluster : Cluster) (start : Places D L O) (served : List Site) → HoldSites w cluster start.disks start.held served → HaveTurned config cluster start start served 0
-  none_turned config cluster start served hold = record { front = []; back = served; given = []; are = refl; many = refl; as_many = refl; did = did_nothing w (all_seen start); hold = hold; logs = hold_logs cluster start.disks start.held served hold }
+  pub none_gone : {G : Type 0} (does : Site → G → Doing) (cluster : Cluster) (start : Places D L O) (served : List Site) → HoldSites w cluster start.disks start.held served → HaveGone does cluster start start served 0
+  none_gone does cluster start served hold = record { front = []; back = served; given = []; are = refl; many = refl; as_many = refl; did = did_nothing w (all_seen start); hold = hold; logs = hold_logs cluster start.disks start.held served hold }
 
   -- one more
-  module _ (config : Config) (cluster : Cluster) (start : Places D L O) (served : List Site) (ascend : Ascend 0 served) (index : ℕ) (disks : D) (held : List TheSite) (link : L) (out : O)
-      (turned : HaveTurned config cluster start (places disks held link out) served index)
-      (site : Site) (back : List Site) (are : turned.back ≡ site ∷ back)
+  module _ {G : Type 0} (does : Site → G → Doing) (own : AllOwn does) (cluster : Cluster) (start : Places D L O) (served : List Site) (ascend : Ascend 0 served) (index : ℕ) (disks : D) (held : List TheSite) (link : L) (out : O)
+      (gone : HaveGone does cluster start (places disks held link out) served index)
+      (site : Site) (back : List Site) (are : gone.back ≡ site ∷ back)
     where
-      whole : served ≡ turned.front ++ site ∷ back
-      whole = turned.are ∙ ap (λ (sites : List Site). turned.front ++ sites) are
+      whole : served ≡ gone.front ++ site ∷ back
+      whole = gone.are ∙ ap (λ (sites : List Site). gone.front ++ sites) are
 
-      same_length : length turned.front ≡ length turned.given
-      same_length = turned.many ∙ sym turned.as_many
+      same_length : length gone.front ≡ length gone.given
+      same_length = gone.many ∙ sym gone.as_many
 
-      pub ours : OneOf cluster disks held (turns_of config turned.front turned.given).sites site back
-      ours = hold_split cluster disks held (turns_of config turned.front turned.given).sites site back
-          (subst (λ (sites : List Site). HoldSites w cluster disks held ((turns_of config turned.front turned.given).sites ++ sites)) are turned.hold)
+      pub ours : OneOf cluster disks held (each_does does gone.front gone.given).sites site back
+      ours = hold_split cluster disks held (each_does does gone.front gone.given).sites site back
+          (subst (λ (sites : List Site). HoldSites w cluster disks held ((each_does does gone.front gone.given).sites ++ sites)) are gone.hold)
 
       index_is : index ≡ length ours.before
-      index_is = let a = ours.many in let b = turned_long config turned.front turned.given in let c = turned.many in omega (a, b, c, arith)
+      index_is = let a = ours.many in let b = each_long does gone.front gone.given in let c = gone.many in omega (a, b, c, arith)
 
       -- it is where the index says
       pub one_at : (d : TheSite) → get_or held index d ≡ ours.one
@@ -358,27 +290,27 @@ module _ {D L O : Type 0} (w : Outside D L O) where
           ∙ (ap (λ (n : ℕ). set (ours.before ++ ours.one ∷ ours.after) n new) index_is ∙ set-append_seam ours.before ours.one ours.after new)
 
       abbrev first_acts : List Act
-      first_acts = (turns_of config turned.front turned.given).acts
+      first_acts = (each_does does gone.front gone.given).acts
 
       low : site.centre ≤ 9
-      low = (ascend_back 0 turned.front site back (subst (Ascend 0) whole ascend)).0
+      low = (ascend_back 0 gone.front site back (subst (Ascend 0) whole ascend)).0
 
-      pub one_turned : (given : Given) (new_disks : D) (new : TheSite) (new_link : L) (new_out : O)
-          → Finishes w cluster site (turn_of config site given) (place disks ours.one link out) (place new_disks new new_link new_out)
-          → HaveTurned config cluster start (places new_disks (ours.before ++ new ∷ ours.after) new_link new_out) served (index + 1)
-      one_turned given new_disks new new_link new_out one = record {
-        front = turned.front ++ site ∷ [];
+      pub one_gone : (given : G) (new_disks : D) (new : TheSite) (new_link : L) (new_out : O)
+          → Finishes w cluster site (does site given) (place disks ours.one link out) (place new_disks new new_link new_out)
+          → HaveGone does cluster start (places new_disks (ours.before ++ new ∷ ours.after) new_link new_out) served (index + 1)
+      one_gone given new_disks new new_link new_out one = record {
+        front = gone.front ++ site ∷ [];
         back = back;
-        given = turned.given ++ given ∷ [];
-        are = whole ∙ sym (append_assoc turned.front (site ∷ []) back);
-        many = (let e = length-append turned.front (site ∷ []) in let f = turned.many in omega (e, f, arith));
-        as_many = (let e = length-append turned.given (given ∷ []) in let f = turned.as_many in omega (e, f, arith));
+        given = gone.given ++ given ∷ [];
+        are = whole ∙ sym (append_assoc gone.front (site ∷ []) back);
+        many = (let e = length-append gone.front (site ∷ []) in let f = gone.many in omega (e, f, arith));
+        as_many = (let e = length-append gone.given (given ∷ []) in let f = gone.as_many in omega (e, f, arith));
         did = subst (λ (acts : List Act). Did w acts (all_seen start) (all_seen (places new_disks (ours.before ++ new ∷ ours.after) new_link new_out))) (sym acts_are)
-            (did_then w turned.did (subst (λ (hs : List TheSite). Did w (turn_of config site given).acts (all_seen (places disks hs link out)) (all_seen (places new_disks (ours.before ++ new ∷ ours.after) new_link new_out))) (sym ours.are)
+            (did_then w gone.did (subst (λ (hs : List TheSite). Did w (does site given).acts (all_seen (places disks hs link out)) (all_seen (places new_disks (ours.before ++ new ∷ ours.after) new_link new_out))) (sym ours.are)
             (did_all ours.before ours.after disks new_disks ours.one new link new_link out new_out one.did)));
         hold = subst (λ (sites : List Site). HoldSites w cluster new_disks (ours.before ++ new ∷ ours.after) sites) (sym sites_are)
-            (hold_join cluster new_disks ours.before new ours.after (turns_of config turned.front turned.given).sites (turn_of config site given).site back
-            (hold_kept cluster disks new_disks site.centre ours.before (turns_of config turned.front turned.given).sites low front_other one.others passes ours.hold_front) one.stands
+            (hold_join cluster new_disks ours.before new ours.after (each_does does gone.front gone.given).sites (does site given).site back
+            (hold_kept cluster disks new_disks site.centre ours.before (each_does does gone.front gone.given).sites low front_other one.others passes ours.hold_front) one.stands
             (hold_kept cluster disks new_disks site.centre ours.after back low back_other one.others passes ours.hold_back));
         logs = logs;
       }
@@ -386,97 +318,97 @@ module _ {D L O : Type 0} (w : Outside D L O) where
           passes : DiskPasses w.disk w.may_leave disks new_disks
           passes = record { told = one.did.passes.told; faults = one.did.passes.faults }
 
-          front_other : Elsewhere site.centre (turns_of config turned.front turned.given).sites
-          front_other = turned_elsewhere config site.centre turned.front turned.given same_length (ascend_front 0 turned.front site back (subst (Ascend 0) whole ascend)).1
+          front_other : Elsewhere site.centre (each_does does gone.front gone.given).sites
+          front_other = each_elsewhere does own site.centre gone.front gone.given same_length (ascend_front 0 gone.front site back (subst (Ascend 0) whole ascend)).1
 
           back_other : Elsewhere site.centre back
-          back_other = (ascend_back 0 turned.front site back (subst (Ascend 0) whole ascend)).1
+          back_other = (ascend_back 0 gone.front site back (subst (Ascend 0) whole ascend)).1
 
-          joined : turns_of config (turned.front ++ site ∷ []) (turned.given ++ given ∷ [])
-              ≡ record { acts = (turns_of config turned.front turned.given).acts ++ ((turn_of config site given).acts ++ []); sites = (turns_of config turned.front turned.given).sites ++ (turn_of config site given).site ∷ [] }
-          joined = turns_joined config turned.front (site ∷ []) turned.given (given ∷ []) same_length
+          joined : each_does does (gone.front ++ site ∷ []) (gone.given ++ given ∷ [])
+              ≡ record { acts = (each_does does gone.front gone.given).acts ++ ((does site given).acts ++ []); sites = (each_does does gone.front gone.given).sites ++ (does site given).site ∷ [] }
+          joined = each_joined does gone.front (site ∷ []) gone.given (given ∷ []) same_length
 
-          acts_are : (turns_of config (turned.front ++ site ∷ []) (turned.given ++ given ∷ [])).acts ≡ (turns_of config turned.front turned.given).acts ++ (turn_of config site given).acts
-          acts_are = ap (λ (s : Server). s.acts) joined ∙ ap (λ (acts : List Act). (turns_of config turned.front turned.given).acts ++ acts) (append-nil (turn_of config site given).acts)
+          acts_are : (each_does does (gone.front ++ site ∷ []) (gone.given ++ given ∷ [])).acts ≡ (each_does does gone.front gone.given).acts ++ (does site given).acts
+          acts_are = ap (λ (s : Server). s.acts) joined ∙ ap (λ (acts : List Act). (each_does does gone.front gone.given).acts ++ acts) (append-nil (does site given).acts)
 
-          sites_are : (turns_of config (turned.front ++ site ∷ []) (turned.given ++ given ∷ [])).sites ++ back ≡ (turns_of config turned.front turned.given).sites ++ (turn_of config site given).site ∷ back
-          sites_are = ap (λ (s : Server). s.sites ++ back) joined ∙ append_assoc (turns_of config turned.front turned.given).sites ((turn_of config site given).site ∷ []) back
+          sites_are : (each_does does (gone.front ++ site ∷ []) (gone.given ++ given ∷ [])).sites ++ back ≡ (each_does does gone.front gone.given).sites ++ (does site given).site ∷ back
+          sites_are = ap (λ (s : Server). s.sites ++ back) joined ∙ append_assoc (each_does does gone.front gone.given).sites ((does site given).site ∷ []) back
 
-          elsewhere : (s : Site) → (HasLog start.disks disks first_acts s) × ((s.centre ≤ 9) × (s.centre ≢ site.centre)) → HasLog start.disks new_disks (first_acts ++ (turn_of config site given).acts) s
-          elsewhere s h told = log_elsewhere start.disks disks new_disks site.centre first_acts (turn_of config site given).acts None s low h.1 one.others ((turn_owns config site given).others s.centre h.1.1) h.0 told
+          elsewhere : (s : Site) → (HasLog start.disks disks first_acts s) × ((s.centre ≤ 9) × (s.centre ≢ site.centre)) → HasLog start.disks new_disks (first_acts ++ (does site given).acts) s
+          elsewhere s h told = log_elsewhere start.disks disks new_disks site.centre first_acts (does site given).acts [] s low h.1 one.others ((own site given).others s.centre h.1.1) h.0 told
 
-          itself : HasLog start.disks new_disks (first_acts ++ (turn_of config site given).acts) site
+          itself : HasLog start.disks new_disks (first_acts ++ (does site given).acts) site
           itself told =
-              let owns = turn_owns config site given in
-              let now : IsTrue (w.disk new_disks site.centre).told = subst IsTrue (sym (passes.told site.centre ∙ turned.did.passes.told site.centre)) told in
+              let owns = own site given in
+              let now : IsTrue (w.disk new_disks site.centre).told = subst IsTrue (sym (passes.told site.centre ∙ gone.did.passes.told site.centre)) told in
               let has = one.stands.log.open_log.left (subst (λ (n : ℕ). IsTrue (w.disk new_disks n).told) (sym owns.centre) now) in
-              let quiet = quiet_turns config site.centre turned.front turned.given same_length (ascend_front 0 turned.front site back (subst (Ascend 0) whole ascend)).1 in
-              subst (λ (fs : List Fact). MayHaveFacts w.disk w.may_leave new_disks site.centre fs None)
-              (owns.facts ∙ sym (facts_then site.centre site.node.facts first_acts (turn_of config site given).acts ∙ ap (λ (fs : List Fact). facts_after site.centre (with_facts site.node.facts fs) (turn_of config site given).acts) quiet))
-              (subst (λ (n : ℕ). MayHaveFacts w.disk w.may_leave new_disks n (turn_of config site given).site.node.facts None) owns.centre has)
+              let quiet = each_quiet does own site.centre gone.front gone.given same_length (ascend_front 0 gone.front site back (subst (Ascend 0) whole ascend)).1 in
+              subst (λ (fs : List Fact). MayHaveFacts w.disk w.may_leave new_disks site.centre fs [])
+              (owns.logged ours.holds.itself.waits.all ∙ sym (facts_then site.centre site.logged first_acts (does site given).acts ∙ ap (λ (fs : List Fact). facts_after site.centre (with_facts site.logged fs) (does site given).acts) quiet))
+              (subst (λ (n : ℕ). MayHaveFacts w.disk w.may_leave new_disks n (does site given).site.logged []) owns.centre has)
 
-          before : AllByRecursion (HasLog start.disks disks first_acts) (turned.front ++ site ∷ back)
-          before = subst (λ (sites : List Site). AllByRecursion (HasLog start.disks disks first_acts) sites) whole turned.logs
+          before : AllByRecursion (HasLog start.disks disks first_acts) (gone.front ++ site ∷ back)
+          before = subst (λ (sites : List Site). AllByRecursion (HasLog start.disks disks first_acts) sites) whole gone.logs
 
-          logs : AllByRecursion (HasLog start.disks new_disks (turns_of config (turned.front ++ site ∷ []) (turned.given ++ given ∷ [])).acts) served
+          logs : AllByRecursion (HasLog start.disks new_disks (each_does does (gone.front ++ site ∷ []) (gone.given ++ given ∷ [])).acts) served
           logs =
               subst (λ (acts : List Act). AllByRecursion (HasLog start.disks new_disks acts) served) (sym acts_are)
-              (subst (λ (sites : List Site). AllByRecursion (HasLog start.disks new_disks (first_acts ++ (turn_of config site given).acts)) sites) (sym whole)
-              (each_join _ turned.front (site ∷ back)
-              (each_by turned.front (each_both _ _ turned.front (each_front _ turned.front (site ∷ back) before) (ascend_front 0 turned.front site back (subst (Ascend 0) whole ascend)).1) elsewhere)
-              (itself, each_by back (each_both _ _ back (each_back _ turned.front (site ∷ back) before).1 back_other) elsewhere)))
+              (subst (λ (sites : List Site). AllByRecursion (HasLog start.disks new_disks (first_acts ++ (does site given).acts)) sites) (sym whole)
+              (each_join _ gone.front (site ∷ back)
+              (each_by gone.front (each_both _ _ gone.front (each_front _ gone.front (site ∷ back) before) (ascend_front 0 gone.front site back (subst (Ascend 0) whole ascend)).1) elsewhere)
+              (itself, each_by back (each_both _ _ back (each_back _ gone.front (site ∷ back) before).1 back_other) elsewhere)))
 
       -- what its log has then, of what it was to do
-      abbrev pub SiteDoes : Given → ServeFault → D → List Act → List Act → Type 0
-      SiteDoes given fault new_disks acts rest = SiteLog w site fault disks new_disks acts rest × (but_answers acts ++ rest ≡ (turn_of config site given).acts) × MayComeAt (IsTrue (w.disk disks site.centre).told) fault rest
+      abbrev pub SiteDoes : G → ServeFault → D → List Act → List Act → Type 0
+      SiteDoes given fault new_disks acts rest = SiteLog w site fault disks new_disks acts rest × (but_answers acts ++ rest ≡ (does site given).acts) × MayComeAt (IsTrue (w.disk disks site.centre).told) fault rest
 
-      -- the turn ended before, whatever is given in those that were to come
-      pub one_stopped : (given : Given) (more : List Given) (fault : ServeFault) (new_disks : D) (new : TheSite) (new_link : L) (new_out : O)
-          → Stops w site (turn_of config site given) fault (place disks ours.one link out) (place new_disks new new_link new_out)
-          → AllStop w served (turns_of config served (turned.given ++ given ∷ more)) fault start (places new_disks (ours.before ++ new ∷ ours.after) new_link new_out)
+      -- it ended before, whatever is given to those that were to come
+      pub one_stopped : (given : G) (more : List G) (fault : ServeFault) (new_disks : D) (new : TheSite) (new_link : L) (new_out : O)
+          → Stops w site (does site given) fault (place disks ours.one link out) (place new_disks new new_link new_out)
+          → AllStop w served (each_does does served (gone.given ++ given ∷ more)) fault start (places new_disks (ours.before ++ new ∷ ours.after) new_link new_out)
       one_stopped given more fault new_disks new new_link new_out one =
           subst (λ (server : Server). AllStop w served server fault start (places new_disks (ours.before ++ new ∷ ours.after) new_link new_out)) (sym joined) (record {
             broke = subst (λ (acts : List Act). Broke w (AllTold w start.disks served) (AllLogs w served fault start.disks new_disks) acts fault (all_seen start) (all_seen (places new_disks (ours.before ++ new ∷ ours.after) new_link new_out)))
-                (append_assoc first_acts (turn_of config site given).acts (turns_of config back more).acts)
-                (broke_more w (turns_of config back more).acts weaker (did_broke w here logs turned.did
-                (subst (λ (hs : List TheSite). Broke w (IsTrue (w.disk disks site.centre).told) (SiteDoes given fault new_disks) (turn_of config site given).acts fault (all_seen (places disks hs link out)) (all_seen (places new_disks (ours.before ++ new ∷ ours.after) new_link new_out))) (sym ours.are)
+                (append_assoc first_acts (does site given).acts (each_does does back more).acts)
+                (broke_more w (each_does does back more).acts weaker (did_broke w here logs gone.did
+                (subst (λ (hs : List TheSite). Broke w (IsTrue (w.disk disks site.centre).told) (SiteDoes given fault new_disks) (does site given).acts fault (all_seen (places disks hs link out)) (all_seen (places new_disks (ours.before ++ new ∷ ours.after) new_link new_out))) (sym ours.are)
                 (broke_all ours.before ours.after disks new_disks ours.one new link new_link out new_out one.broke))));
             serials = serials fault one.serials;
             no_boot = one.no_boot;
           })
         where
-          joined : turns_of config served (turned.given ++ given ∷ more)
-              ≡ record { acts = first_acts ++ ((turn_of config site given).acts ++ (turns_of config back more).acts); sites = (turns_of config turned.front turned.given).sites ++ (turn_of config site given).site ∷ (turns_of config back more).sites }
-          joined = ap (λ (sites : List Site). turns_of config sites (turned.given ++ given ∷ more)) whole ∙ turns_joined config turned.front (site ∷ back) turned.given (given ∷ more) same_length
+          joined : each_does does served (gone.given ++ given ∷ more)
+              ≡ record { acts = first_acts ++ ((does site given).acts ++ (each_does does back more).acts); sites = (each_does does gone.front gone.given).sites ++ (does site given).site ∷ (each_does does back more).sites }
+          joined = ap (λ (sites : List Site). each_does does sites (gone.given ++ given ∷ more)) whole ∙ each_joined does gone.front (site ∷ back) gone.given (given ∷ more) same_length
 
           here : (rest : List Act) → MayComeAt (IsTrue (w.disk disks site.centre).told) fault rest → MayComeAt (AllTold w start.disks served) fault rest
-          here rest comes = comes_under fault rest (λ (all : AllTold w start.disks served). subst IsTrue (sym (turned.did.passes.told site.centre)) (each_back _ turned.front (site ∷ back) (subst (λ (sites : List Site). AllTold w start.disks sites) whole all)).0) comes
+          here rest comes = comes_under fault rest (λ (all : AllTold w start.disks served). subst IsTrue (sym (gone.did.passes.told site.centre)) (each_back _ gone.front (site ∷ back) (subst (λ (sites : List Site). AllTold w start.disks sites) whole all)).0) comes
 
-          weaker : (acts rest : List Act) → MayComeAt (AllTold w start.disks served) fault rest → AllLogs w served fault start.disks new_disks acts rest → AllLogs w served fault start.disks new_disks acts (rest ++ (turns_of config back more).acts)
-          weaker acts rest comes all = each_by served all (λ s has told. subst (λ (o : Option Fact). MayHaveFacts w.disk w.may_leave new_disks s.centre (facts_after s.centre s.node.facts acts) o)
-              (sym (flight_more (AllTold w start.disks served) fault s.centre rest (turns_of config back more).acts comes)) (has told))
+          weaker : (acts rest : List Act) → MayComeAt (AllTold w start.disks served) fault rest → AllLogs w served fault start.disks new_disks acts rest → AllLogs w served fault start.disks new_disks acts (rest ++ (each_does does back more).acts)
+          weaker acts rest comes all = each_by served all (λ s has told. subst (λ (o : List Fact). MayHaveFacts w.disk w.may_leave new_disks s.centre (facts_after s.centre s.logged acts) o)
+              (sym (flight_more (AllTold w start.disks served) fault s.centre rest (each_does does back more).acts comes)) (has told))
 
-          serials : (f : ServeFault) → OnSerial f (turn_of config site given).site.sent → SerialsEnd ((turns_of config turned.front turned.given).sites ++ (turn_of config site given).site ∷ (turns_of config back more).sites) f
+          serials : (f : ServeFault) → OnSerial f (does site given).site.sent → SerialsEnd ((each_does does gone.front gone.given).sites ++ (does site given).site ∷ (each_does does back more).sites) f
           serials (ServeFault.Disk a) past = tt
           serials (ServeFault.Log a why) past = tt
           serials (ServeFault.Boot a why) past = tt
           serials ServeFault.Link past = tt
           serials ServeFault.Output past = tt
-          serials ServeFault.Serial past = any_past (turns_of config turned.front turned.given).sites (turn_of config site given).site (turns_of config back more).sites past
+          serials ServeFault.Serial past = any_past (each_does does gone.front gone.given).sites (does site given).site (each_does does back more).sites past
           serials ServeFault.Memory past = tt
 
-          other_sites : Elsewhere site.centre turned.front × Elsewhere site.centre back
-          other_sites = ((ascend_front 0 turned.front site back (subst (Ascend 0) whole ascend)).1, (ascend_back 0 turned.front site back (subst (Ascend 0) whole ascend)).1)
+          other_sites : Elsewhere site.centre gone.front × Elsewhere site.centre back
+          other_sites = ((ascend_front 0 gone.front site back (subst (Ascend 0) whole ascend)).1, (ascend_back 0 gone.front site back (subst (Ascend 0) whole ascend)).1)
 
           logs : (before acts rest : List Act) → but_answers before ≡ first_acts → SiteDoes given fault new_disks acts rest → AllLogs w served fault start.disks new_disks (before ++ acts) rest
           logs before acts rest are q =
               subst (λ (sites : List Site). AllLogs w sites fault start.disks new_disks (before ++ acts) rest) (sym whole)
-              (each_join _ turned.front (site ∷ back)
-              (each_by turned.front (each_both _ _ turned.front (each_front _ turned.front (site ∷ back) had) other_sites.0) elsewhere)
-              (itself, each_by back (each_both _ _ back (each_back _ turned.front (site ∷ back) had).1 other_sites.1) elsewhere))
+              (each_join _ gone.front (site ∷ back)
+              (each_by gone.front (each_both _ _ gone.front (each_front _ gone.front (site ∷ back) had) other_sites.0) elsewhere)
+              (itself, each_by back (each_both _ _ back (each_back _ gone.front (site ∷ back) had).1 other_sites.1) elsewhere))
             where
-              had : AllByRecursion (HasLog start.disks disks first_acts) (turned.front ++ site ∷ back)
-              had = subst (λ (sites : List Site). AllByRecursion (HasLog start.disks disks first_acts) sites) whole turned.logs
+              had : AllByRecursion (HasLog start.disks disks first_acts) (gone.front ++ site ∷ back)
+              had = subst (λ (sites : List Site). AllByRecursion (HasLog start.disks disks first_acts) sites) whole gone.logs
 
               same_facts : (c : ℕ) (facts : List Fact) → facts_after c facts (first_acts ++ acts) ≡ facts_after c facts (before ++ acts)
               same_facts c facts =
@@ -486,68 +418,75 @@ module _ {D L O : Type 0} (w : Outside D L O) where
               silent : (c : ℕ) → c ≢ site.centre → appended c acts ≡ []
               silent c other =
                   sym (appended_answers c acts)
-                  ∙ front_none (appended c (but_answers acts)) (appended c rest) (sym (appended_append c (but_answers acts) rest) ∙ (ap (appended c) q.1 ∙ (turn_owns config site given).others c other))
+                  ∙ front_none (appended c (but_answers acts)) (appended c rest) (sym (appended_append c (but_answers acts) rest) ∙ (ap (appended c) q.1 ∙ (own site given).others c other))
 
               elsewhere : (s : Site) → (HasLog start.disks disks first_acts s) × ((s.centre ≤ 9) × (s.centre ≢ site.centre))
-                  → IsTrue (w.disk start.disks s.centre).told → MayHaveFacts w.disk w.may_leave new_disks s.centre (facts_after s.centre s.node.facts (before ++ acts)) (in_flight fault s.centre rest)
+                  → IsTrue (w.disk start.disks s.centre).told → MayHaveFacts w.disk w.may_leave new_disks s.centre (facts_after s.centre s.logged (before ++ acts)) (in_flight fault s.centre rest)
               elsewhere s h told =
-                  subst (λ (fs : List Fact). MayHaveFacts w.disk w.may_leave new_disks s.centre fs (in_flight fault s.centre rest)) (same_facts s.centre s.node.facts)
+                  subst (λ (fs : List Fact). MayHaveFacts w.disk w.may_leave new_disks s.centre fs (in_flight fault s.centre rest)) (same_facts s.centre s.logged)
                   (log_elsewhere start.disks disks new_disks site.centre first_acts acts (in_flight fault s.centre rest) s low h.1 one.others (silent s.centre h.1.1) h.0 told)
 
-              itself : IsTrue (w.disk start.disks site.centre).told → MayHaveFacts w.disk w.may_leave new_disks site.centre (facts_after site.centre site.node.facts (before ++ acts)) (in_flight fault site.centre rest)
+              itself : IsTrue (w.disk start.disks site.centre).told → MayHaveFacts w.disk w.may_leave new_disks site.centre (facts_after site.centre site.logged (before ++ acts)) (in_flight fault site.centre rest)
               itself told =
-                  let quiet = quiet_turns config site.centre turned.front turned.given same_length other_sites.0 in
+                  let quiet = each_quiet does own site.centre gone.front gone.given same_length other_sites.0 in
                   subst (λ (fs : List Fact). MayHaveFacts w.disk w.may_leave new_disks site.centre fs (in_flight fault site.centre rest))
-                  (sym (facts_then site.centre site.node.facts first_acts acts ∙ ap (λ (fs : List Fact). facts_after site.centre (with_facts site.node.facts fs) acts) quiet) ∙ same_facts site.centre site.node.facts)
-                  (q.0 (subst IsTrue (sym (turned.did.passes.told site.centre)) told))
+                  (sym (facts_then site.centre site.logged first_acts acts ∙ ap (λ (fs : List Fact). facts_after site.centre (with_facts site.logged fs) acts) quiet) ∙ same_facts site.centre site.logged)
+                  (q.0 (subst IsTrue (sym (gone.did.passes.told site.centre)) told))
 
   -- ---- the next one, where it is held
 
-  module _ (config : Config) (start now new : Places D L O) (served : List Site) (index : ℕ) (ascend : Ascend 0 served) (turned : HaveTurned config config.cluster start now served index) (within : index < length now.held) where
-    next_site : (site : Site) × (back : List Site) × (turned.back ≡ site ∷ back)
-    next_site = some_back config config.cluster start now served index turned within
+  -- it did its part, and is held there afterwards
+  pub record GoesAt {G : Type 0} (does : Site → G → Doing) (cluster : Cluster) (one : TheSite) (site : Site) (index : ℕ) (result : Result (Unit {0}) ServeFault) (old new : Places D L O) : Type 0 where
+    pub given : G
+    pub next : TheSite
+    pub held : new.held ≡ set old.held index next
+    pub goes : Goes w cluster site (does site given) result (place old.disks one old.link old.out) (place new.disks next new.link new.out)
 
-    abbrev next_one : OneOf config.cluster now.disks now.held (turns_of config turned.front turned.given).sites next_site.0 next_site.1
-    next_one = ours config config.cluster start served ascend index now.disks now.held now.link now.out turned next_site.0 next_site.1 next_site.2
+  module _ {G : Type 0} (does : Site → G → Doing) (own : AllOwn does) (cluster : Cluster) (start now new : Places D L O) (served : List Site) (index : ℕ) (ascend : Ascend 0 served) (gone : HaveGone does cluster start now served index) (within : index < length now.held) where
+    next_site : (site : Site) × (back : List Site) × (gone.back ≡ site ∷ back)
+    next_site = some_back does cluster start now served index gone within
+
+    abbrev next_one : OneOf cluster now.disks now.held (each_does does gone.front gone.given).sites next_site.0 next_site.1
+    next_one = ours does own cluster start served ascend index now.disks now.held now.link now.out gone next_site.0 next_site.1 next_site.2
 
     next_at : (d : TheSite) → get_or now.held index d ≡ next_one.one
-    next_at d = one_at config config.cluster start served ascend index now.disks now.held now.link now.out turned next_site.0 next_site.1 next_site.2 d
+    next_at d = one_at does own cluster start served ascend index now.disks now.held now.link now.out gone next_site.0 next_site.1 next_site.2 d
 
-    pub next_served : IsServedAt w config.cluster now.disks now.held index
+    pub next_served : IsServedAt w cluster now.disks now.held index
     next_served = record { one = next_one.one; is = next_at; served = record { site = next_site.0; stands = next_one.holds } }
 
     -- what is held then
     held_then : (next : TheSite) → new.held ≡ set now.held index next → new.held ≡ next_one.before ++ next ∷ next_one.after
     held_then next is =
-        is ∙ set_at config config.cluster start served ascend index now.disks now.held now.link now.out turned next_site.0 next_site.1 next_site.2 next
+        is ∙ set_at does own cluster start served ascend index now.disks now.held now.link now.out gone next_site.0 next_site.1 next_site.2 next
 
-    pub next_turned : (done : Unit {0}) → ((one : TheSite) (site : Site) → ((d : TheSite) → get_or now.held index d ≡ one) → HoldsSite w config.cluster now.disks one site → TurnsAt w config one site index (Ok done) now new)
-        → HaveTurned config config.cluster start new served (index + 1)
-    next_turned done each =
-        let turn : TurnsAt w config next_one.one next_site.0 index (Ok done) now new = each next_one.one next_site.0 next_at next_one.holds in
-        subst (λ (hs : List TheSite). HaveTurned config config.cluster start (places new.disks hs new.link new.out) served (index + 1)) (sym (held_then turn.next turn.held))
-        (one_turned config config.cluster start served ascend index now.disks now.held now.link now.out turned next_site.0 next_site.1 next_site.2 turn.given new.disks turn.next new.link new.out turn.goes)
+    pub next_gone : (done : Unit {0}) → ((one : TheSite) (site : Site) → ((d : TheSite) → get_or now.held index d ≡ one) → HoldsSite w cluster now.disks one site → GoesAt does cluster one site index (Ok done) now new)
+        → HaveGone does cluster start new served (index + 1)
+    next_gone done each =
+        let went : GoesAt does cluster next_one.one next_site.0 index (Ok done) now new = each next_one.one next_site.0 next_at next_one.holds in
+        subst (λ (hs : List TheSite). HaveGone does cluster start (places new.disks hs new.link new.out) served (index + 1)) (sym (held_then went.next went.held))
+        (one_gone does own cluster start served ascend index now.disks now.held now.link now.out gone next_site.0 next_site.1 next_site.2 went.given new.disks went.next new.link new.out went.goes)
 
-    -- it ended before, whatever is given in the turns that were to come
+    -- it ended before, whatever is given to those that were to come
     pub next_stopped : (fault : ServeFault)
-        → ((one : TheSite) (site : Site) → ((d : TheSite) → get_or now.held index d ≡ one) → HoldsSite w config.cluster now.disks one site → TurnsAt w config one site index (Err fault) now new)
-        → (given : List Given) × (length given ≡ length served) × AllStop w served (turns_of config served given) fault start new
+        → ((one : TheSite) (site : Site) → ((d : TheSite) → get_or now.held index d ≡ one) → HoldsSite w cluster now.disks one site → GoesAt does cluster one site index (Err fault) now new)
+        → (given : List G) × (length given ≡ length served) × AllStop w served (each_does does served given) fault start new
     next_stopped fault each =
-        let turn : TurnsAt w config next_one.one next_site.0 index (Err fault) now new = each next_one.one next_site.0 next_at next_one.holds in
-        let more : List Given = replicate (length next_site.1) turn.given in
-        let long : length (turned.given ++ turn.given ∷ more) ≡ length served = given_long turn.given in
-        let stop : AllStop w served (turns_of config served (turned.given ++ turn.given ∷ more)) fault start new =
-        subst (λ (hs : List TheSite). AllStop w served (turns_of config served (turned.given ++ turn.given ∷ more)) fault start (places new.disks hs new.link new.out)) (sym (held_then turn.next turn.held))
-        (one_stopped config config.cluster start served ascend index now.disks now.held now.link now.out turned next_site.0 next_site.1 next_site.2 turn.given more fault new.disks turn.next new.link new.out turn.goes) in
-        (turned.given ++ turn.given ∷ more, long, stop)
+        let went : GoesAt does cluster next_one.one next_site.0 index (Err fault) now new = each next_one.one next_site.0 next_at next_one.holds in
+        let more : List G = replicate (length next_site.1) went.given in
+        let long : length (gone.given ++ went.given ∷ more) ≡ length served = given_long went.given in
+        let stop : AllStop w served (each_does does served (gone.given ++ went.given ∷ more)) fault start new =
+        subst (λ (hs : List TheSite). AllStop w served (each_does does served (gone.given ++ went.given ∷ more)) fault start (places new.disks hs new.link new.out)) (sym (held_then went.next went.held))
+        (one_stopped does own cluster start served ascend index now.disks now.held now.link now.out gone next_site.0 next_site.1 next_site.2 went.given more fault new.disks went.next new.link new.out went.goes) in
+        (gone.given ++ went.given ∷ more, long, stop)
       where
-        given_long : (given : Given) → length (turned.given ++ given ∷ replicate (length next_site.1) given) ≡ length served
+        given_long : (given : G) → length (gone.given ++ given ∷ replicate (length next_site.1) given) ≡ length served
         given_long given =
-            let a = length-append turned.given (given ∷ replicate (length next_site.1) given) in
+            let a = length-append gone.given (given ∷ replicate (length next_site.1) given) in
             let b = length-replicate (length next_site.1) given in
-            let c = length-append turned.front (next_site.0 ∷ next_site.1) in
-            let d : length served ≡ length (turned.front ++ next_site.0 ∷ next_site.1) =
-            ap (λ (sites : List Site). length sites) (turned.are ∙ ap (λ (sites : List Site). turned.front ++ sites) next_site.2) in
-            let e = turned.many in
-            let f = turned.as_many in
+            let c = length-append gone.front (next_site.0 ∷ next_site.1) in
+            let d : length served ≡ length (gone.front ++ next_site.0 ∷ next_site.1) =
+            ap (λ (sites : List Site). length sites) (gone.are ∙ ap (λ (sites : List Site). gone.front ++ sites) next_site.2) in
+            let e = gone.many in
+            let f = gone.as_many in
             omega (a, b, c, d, e, f, arith)

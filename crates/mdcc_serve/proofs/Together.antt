@@ -1,5 +1,5 @@
 -- Centres that start one after another.
-use Rattle.std.proofs.Common.{◌≡◌, ◌≢◌, ℕ, ◌+◌, ◌≤◌, ◌<◌, ◌==◌, false, List, [], ◌∷◌, ◌++◌, Option, None, length, refl, sym, ◌∙◌, ap, subst, inl, inr, arith, IsTrue, append-nil, append_assoc, length-append}
+use Rattle.std.proofs.Common.{◌≡◌, ◌≢◌, ℕ, ◌+◌, ◌≤◌, ◌<◌, ◌==◌, false, List, [], ◌∷◌, ◌++◌, length, refl, sym, ◌∙◌, ap, subst, inl, inr, arith, IsTrue, append-nil, append_assoc, length-append}
 use Rattle.std.proofs.lemmas.Bool.{cases_Bool, cases_eq, eqb-true}
 use Rattle.std.specs.List.{AllByRecursion}
 use Rattle.mdcc_areas.specs.Area.{payloads}
@@ -56,7 +56,7 @@ follow_rest n (x ∷ xs) ys f = let same : n + 1 + length xs ≡ n + length (x �
 
 pub boots_append : (xs ys : List Log) → (starts (xs ++ ys)).acts ≡ (starts xs).acts ++ (starts ys).acts
 boots_append [] ys = refl
-boots_append (x ∷ xs) ys = ap (λ (acts : List Act). Act.Append x.centre (next_boot x.facts) ∷ acts) (boots_append xs ys)
+boots_append (x ∷ xs) ys = ap (λ (acts : List Act). Act.Append x.centre (next_boot x.facts ∷ []) ∷ acts) (boots_append xs ys)
 
 pub not_is : (a b : ℕ) → a ≢ b → (a == b) ≡ false
 not_is a b other = elim (cases_Bool (a == b)) [
@@ -205,7 +205,7 @@ module _ {D : Type 0} (disk : D → ℕ → Disk) (may_leave : D → ℕ → Lis
     each = tt;
     passes = disks_same disk may_leave disks;
     later = λ a after few. record { first = refl; second = refl; crash_first = λ c left. left; crash_second = λ c left. left };
-    kept = λ log few is durable. durable_has disk may_leave disks log None durable is.has;
+    kept = λ log few is durable. durable_has disk may_leave disks log [] durable is.has;
     over = λ before follow are few. (before, refl);
   }
 
@@ -259,17 +259,17 @@ module _ {D : Type 0} (disk : D → ℕ → Disk) (may_leave : D → ℕ → Lis
           below = subst (λ (m : ℕ). AllByRecursion (λ log. log.centre < m) started.logs) (sym many) (follow_front first started.logs [] (subst (λ (xs : List Log). Follow first xs) (sym (append-nil started.logs)) started.follow))
 
           kept : (log : Log) → log.centre ≤ 9 → IsLogOf disk cluster old log → IsDurable disk may_leave old log
-              → MayHaveFacts disk may_leave new log.centre (facts_after log.centre log.facts (starts (started.logs ++ has.log ∷ [])).acts) None
+              → MayHaveFacts disk may_leave new log.centre (facts_after log.centre log.facts (starts (started.logs ++ has.log ∷ [])).acts) []
           kept log high is durable = elim (cases_eq log.centre a) [
             | inl of ↦
                 let same : has.log ≡ log = has.over log of (untouched_log cluster old mid log a of unfinished is) in
                 let told : IsTrue (disk new a).told = subst IsTrue (sym (has.passes.told a ∙ started.passes.told a)) (subst (λ (n : ℕ). IsTrue (disk old n).told) of is.told) in
-                subst (λ (l : Log). MayHaveFacts disk may_leave new l.centre (facts_after l.centre l.facts (starts (started.logs ++ has.log ∷ [])).acts) None) same
-                (subst (λ (fs : List Fact). MayHaveFacts disk may_leave new has.log.centre fs None) (sym (boots_after first started.logs has.log started.follow (has.of ∙ many)))
-                (subst (λ (n : ℕ). MayHaveFacts disk may_leave new n (next_boot has.log.facts ∷ has.log.facts) None) (sym has.of) (has.holds.open_log.left told)))
+                subst (λ (l : Log). MayHaveFacts disk may_leave new l.centre (facts_after l.centre l.facts (starts (started.logs ++ has.log ∷ [])).acts) []) same
+                (subst (λ (fs : List Fact). MayHaveFacts disk may_leave new has.log.centre fs []) (sym (boots_after first started.logs has.log started.follow (has.of ∙ many)))
+                (subst (λ (n : ℕ). MayHaveFacts disk may_leave new n (next_boot has.log.facts ∷ has.log.facts) []) (sym has.of) (has.holds.open_log.left told)))
             | inr other ↦
-                subst (λ (fs : List Fact). MayHaveFacts disk may_leave new log.centre fs None) (sym (boots_elsewhere started.logs has.log log.centre log.facts (λ same. other (sym same ∙ has.of))))
-                (facts_kept disk may_leave mid new log.centre a (facts_after log.centre log.facts (starts started.logs).acts) None (apart log.centre a high few other) has.others (started.kept log high is durable))
+                subst (λ (fs : List Fact). MayHaveFacts disk may_leave new log.centre fs []) (sym (boots_elsewhere started.logs has.log log.centre log.facts (λ same. other (sym same ∙ has.of))))
+                (facts_kept disk may_leave mid new log.centre a (facts_after log.centre log.facts (starts started.logs).acts) [] (apart log.centre a high few other) has.others (started.kept log high is durable))
           ]
 
           over_next : (before rest : List Log) (l : Log) → before ≡ started.logs ++ l ∷ rest → l.centre ≡ a → AreLogsOf disk cluster old (started.logs ++ l ∷ rest) → (more : List Log) × (before ≡ (started.logs ++ has.log ∷ []) ++ more)
@@ -317,11 +317,11 @@ module _ {D : Type 0} (disk : D → ℕ → Disk) (may_leave : D → ℕ → Lis
           boots logs are ServeFault.Memory is = tt
 
           -- the log of another centre
-          elsewhere : (next : Option Fact) (log : Log) → log.centre ≤ 9 → log.centre ≢ a → IsLogOf disk cluster old log → IsDurable disk may_leave old log
+          elsewhere : (next : List Fact) (log : Log) → log.centre ≤ 9 → log.centre ≢ a → IsLogOf disk cluster old log → IsDurable disk may_leave old log
               → MayHaveFacts disk may_leave new log.centre (facts_after log.centre log.facts (starts started.logs).acts) next
           elsewhere next log high other is durable =
               facts_or_more disk may_leave new log.centre (facts_after log.centre log.facts (starts started.logs).acts) next
-              (facts_kept disk may_leave mid new log.centre a (facts_after log.centre log.facts (starts started.logs).acts) None (apart log.centre a high few other) fails.others (started.kept log high is durable))
+              (facts_kept disk may_leave mid new log.centre a (facts_after log.centre log.facts (starts started.logs).acts) [] (apart log.centre a high few other) fails.others (started.kept log high is durable))
 
           kept : (l : Log) (more : List Log) → l.centre ≡ a → Follow first (started.logs ++ l ∷ more) → length (started.logs ++ l ∷ more) ≡ count → StopsOver disk may_leave tears cluster l fault mid new
               → AreLogsOf disk cluster old (started.logs ++ l ∷ more) → AllByRecursion (IsDurable disk may_leave old) (started.logs ++ l ∷ more) → IsSafeAt tears fault (starts (l ∷ more)).acts
@@ -331,7 +331,7 @@ module _ {D : Type 0} (disk : D → ℕ → Disk) (may_leave : D → ℕ → Lis
               (each_by _ _ started.logs (each_both _ _ started.logs (each_both _ _ started.logs (each_front _ started.logs (l ∷ more) each) (each_front _ started.logs (l ∷ more) durable)) below)
               (λ log h. elsewhere (in_flight fault log.centre (starts (l ∷ more)).acts) log (let low = h.1 in omega (low, few, arith)) (λ same. (let low = h.1 in absurd (omega (low, same, arith)))) h.0.0 h.0.1)) (
                 subst (λ (fs : List Fact). MayHaveFacts disk may_leave new l.centre fs (in_flight fault l.centre (starts (l ∷ more)).acts)) (sym (boots_before first started.logs l started.follow (of ∙ many)))
-                    (subst (λ (next : Option Fact). MayHaveFacts disk may_leave new l.centre l.facts next) (flight_first fault l.centre l more)
+                    (subst (λ (next : List Fact). MayHaveFacts disk may_leave new l.centre l.facts next) (flight_first fault l.centre l more)
                     (own.kept (untouched_durable old mid l a of unfinished (each_back _ started.logs (l ∷ more) durable).0) (safe_first tears fault l more safe))),
                 each_by _ _ more (each_both _ _ more (each_both _ _ more (each_back _ started.logs (l ∷ more) each).1 (each_back _ started.logs (l ∷ more) durable).1) (each_both _ _ more above under))
                     (λ log h. elsewhere (in_flight fault log.centre (starts (l ∷ more)).acts) log (let high = h.1.1 in let e = long in omega (high, e, most, arith)) (λ same. (let low = h.1.0 in absurd (omega (low, same, arith)))) h.0.0 h.0.1),
@@ -385,6 +385,6 @@ module _ {D : Type 0} (disk : D → ℕ → Disk) (may_leave : D → ℕ → Lis
           full = tt;
           kept = λ durable safe.
               each_by _ _ logs (each_both _ _ logs (each_both _ _ logs are durable) (follow_front first logs [] (subst (λ (xs : List Log). Follow first xs) (sym (append-nil logs)) follow)))
-              (λ log h. facts_or_more disk may_leave new log.centre (facts_after log.centre log.facts (starts started.logs).acts) None (started.kept log (let high = h.1 in omega (high, long, most, arith)) h.0.0 h.0.1));
+              (λ log h. facts_or_more disk may_leave new log.centre (facts_after log.centre log.facts (starts started.logs).acts) [] (started.kept log (let high = h.1 in omega (high, long, most, arith)) h.0.0 h.0.1));
         };
   }

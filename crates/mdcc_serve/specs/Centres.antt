@@ -5,6 +5,7 @@ use Rattle.mdcc_base.specs.Counts.{sum_over}
 use Rattle.mdcc_config.specs.declared.config.Config.{Config}
 use Rattle.mdcc_option.specs.declared.cluster.Cluster.{Cluster}
 use Rattle.mdcc_runs.specs.Acts.{Act}
+use Rattle.mdcc_runs.specs.Sending.{persist_then_send}
 use Rattle.mdcc_runs.specs.Servers.{Server}
 use Rattle.mdcc_runs.specs.Sites.{Site}
 use Rattle.mdcc_runs.specs.Turns.{Given, turn_of}
@@ -51,11 +52,11 @@ module _ {D L O : Type 0} (w : Outside D L O) where
   abbrev pub AllTold : D → List Site → Type 0
   AllTold disks sites = AllByRecursion (λ site. IsTrue (w.disk disks site.centre).told) sites
 
-  -- the log of each has its facts and those that were appended, or where a call of its disk failed perhaps one more
+  -- the log of each has its facts and those that were appended, or where a call of its disk failed perhaps those that were being appended
   abbrev pub AllLogs : List Site → ServeFault → D → D → List Act → List Act → Type 0
   AllLogs sites fault old new acts rest =
       AllByRecursion (λ site. IsTrue (w.disk old site.centre).told
-      → MayHaveFacts w.disk w.may_leave new site.centre (facts_after site.centre site.node.facts acts) (in_flight fault site.centre rest)) sites
+      → MayHaveFacts w.disk w.may_leave new site.centre (facts_after site.centre site.logged acts) (in_flight fault site.centre rest)) sites
 
   pub record AllServed (cluster : Cluster) (disks : D) (held : List TheSite) : Type 0 where
     pub sites : List Site
@@ -91,3 +92,9 @@ module _ {D L O : Type 0} (w : Outside D L O) where
     pub next : TheSite
     pub held : new.held ≡ slice_set old.held index next
     pub goes : Goes w config.cluster site (turn_of config site given) result (place old.disks one old.link old.out) (place new.disks next new.link new.out)
+
+  -- what was pending there went out, and it is held there afterwards
+  pub record PersistsAt (config : Config) (one : TheSite) (site : Site) (index : ℕ) (result : Result (Unit {0}) ServeFault) (old new : Places D L O) : Type 0 where
+    pub next : TheSite
+    pub held : new.held ≡ slice_set old.held index next
+    pub goes : Goes w config.cluster site (persist_then_send config site) result (place old.disks one old.link old.out) (place new.disks next new.link new.out)

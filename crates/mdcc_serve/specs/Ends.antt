@@ -1,4 +1,4 @@
--- How the turns of a server end, with the line that tells how many they were.
+-- How a server ends after its turns, with the line that tells how many they were.
 use Rattle.std.specs.List.{AllByRecursion}
 use Rattle.std.specs.Prelude.{Err, List, Ok, Result, [], ℕ, ◌<◌, ◌^◌, ◌∷◌, ◌≡◌, ◌⊎◌}
 use Rattle.mdcc_option.specs.declared.cluster.Cluster.{Cluster}
@@ -22,7 +22,7 @@ abbrev pub last_act : ℕ → List TheSite → List Act
 last_act turns held = Act.Print (done_of (counts_of turns held)) ∷ []
 
 module _ {D L O : Type 0} (w : Outside D L O) where
-  -- all turns were made, and the output was this before the last line
+  -- all turns were made, nothing is pending, and the output was this before the last line
   pub record AllMade (cluster : Cluster) (server : Server) (old new : Places D L O) (out : O) : Type 0 where
     pub finish : AllFinish w cluster server old (places new.disks new.held new.link out)
     pub serials : SerialsFit new.held

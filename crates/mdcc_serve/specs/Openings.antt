@@ -81,7 +81,7 @@ module _ {D L O : Type 0} (w : Outside D L O) where
     pub ascend : Ascend 0 (opened config logs).sites
     pub over : (before : List Log) → Follow first before → length before + first ≡ last + 1 → AreLogsOf w.disk config.cluster old.disks before → logs ≡ before
 
-  -- A log that was durable has its facts and those that were appended, or where a call of its disk failed perhaps the one that was being
+  -- A log that was durable has its facts and those that were appended, or where a call of its disk failed perhaps those that were being
   -- appended too, whatever a crash leaves of it; where that is a boot, so it is on disks that tear no byte to 1.
   abbrev pub KeepLogs : (ℕ → Type 0) → List Log → ServeFault → D → D → List Act → List Act → Type 0
   KeepLogs tears logs fault old new acts rest =

@@ -66,7 +66,7 @@ module _ {D L O : Type 0} (disk : D → ℕ → Disk) (may_leave : D → ℕ →
     -- a send fails only where the link's count rose
     pub failed_sends : 1 ≤ failed_in acts → Rose (lost link_old) (lost link_new)
 
-  -- All turns were made.
+  -- All turns were made, and nothing is pending.
   pub record Serves (config : Config) (logs : List Log) (turns : ℕ) (result : Served) (disks : D) (link_old link_new : L) (out_old out_new : O) : Type 0 where
     pub acts : List Act
     pub run : IsRun config logs turns acts
@@ -79,15 +79,15 @@ module _ {D L O : Type 0} (disk : D → ℕ → Disk) (may_leave : D → ℕ →
     pub lost_told : result.lost ≡ counted (lost_in acts)
 
   -- It ended before: a prefix of the acts was done, and this is what comes next. A log that was durable has the facts that were
-  -- appended, or where its disk failed perhaps the one that was being appended too, whatever a crash leaves of it; at a boot, where the
-  -- log is opened, so it is on disks that tear no byte to 1.
+  -- appended, or where its disk failed perhaps those that were being appended too, all of them, whatever a crash leaves of it; at a boot,
+  -- where the log is opened, so it is on disks that tear no byte to 1.
   pub record BreaksOff (config : Config) (logs : List Log) (turns : ℕ) (fault : ServeFault) (disks_old disks : D) (link_old link_new : L) (out_old out_new : O) : Type 0 where
     pub acts : List Act
     pub rest : List Act
     pub run : IsRun config logs turns (acts ++ rest)
     pub comes : ComesAt fault rest
     pub boots : BootsRefused config.cluster logs fault
-    -- a log is said to be full only where it has no room for the fact that comes next
+    -- a log is said to be full only where it has no room for the facts that come next
     pub full : OnFull disk may_leave disks fault rest
     pub serials : SerialsEnd (served config logs run.given).sites fault
     pub printed_more : ℕ

@@ -62,7 +62,7 @@ IsOfStart centre fault = ⊤
 
 -- the next boot is appended
 abbrev pub starting : Log → List Act
-starting log = Act.Append log.centre (next_boot log.facts) ∷ []
+starting log = Act.Append log.centre (next_boot log.facts ∷ []) ∷ []
 
 -- nothing was counted yet
 pub record IsFresh (held : TheSite) : Type 0 where
@@ -152,7 +152,7 @@ module _ {D : Type 0} (disk : D → ℕ → Disk) (may_leave : D → ℕ → Lis
     pub later : (a : ℕ) → first + length held ≤ a → a ≤ 9 → IsUntouched old new a
     -- the log of any centre has its facts and the boots that were appended, whatever a crash leaves
     pub kept : (log : Log) → log.centre ≤ 9 → IsLogOf disk cluster old log → IsDurable disk may_leave old log
-        → MayHaveFacts disk may_leave new log.centre (facts_after log.centre log.facts (starts logs).acts) None
+        → MayHaveFacts disk may_leave new log.centre (facts_after log.centre log.facts (starts logs).acts) []
     pub over : (before : List Log) → Follow first before → AreLogsOf disk cluster old before → length held ≤ length before → (more : List Log) × (before ≡ logs ++ more)
 
   module _ (tears : ℕ → Type 0) where

@@ -2,6 +2,7 @@
 #![tactic(auto)]
 
 mod booting;
+mod ending;
 mod opening;
 pub mod serve;
 pub mod served;

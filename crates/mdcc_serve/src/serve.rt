@@ -5,7 +5,7 @@ ghost use Rattle.mdcc_areas.specs.Both.{RoseAtOne};
 ghost use Rattle.mdcc_base.specs.Causes.{Rose};
 ghost use Rattle.mdcc_config.specs.IsConfig.{IsConfig};
 ghost use Rattle.mdcc_runs.specs.Acts.{Act};
-ghost use Rattle.mdcc_runs.specs.Servers.{Log, after_turn};
+ghost use Rattle.mdcc_runs.specs.Servers.{Log, after_last, after_turn};
 ghost use Rattle.mdcc_runs.specs.Sites.{Site as ASite};
 ghost use Rattle.mdcc_runs.specs.Turns.{Given};
 ghost use Rattle.mdcc_serve.specs.Centres.{AllServed, Ascend, HoldSites, all_seen, places};
@@ -19,6 +19,7 @@ ghost use Rattle.mdcc_site.specs.SiteState.{PrintsOut};
 ghost use Rattle.mdcc_site.specs.declared.fault.ServeFault.{ServeFault as AServeFault};
 
 use crate::Served;
+use crate::ending::persist_all_then_send;
 use crate::opening::open;
 use crate::turns::make_turns;
 use mdcc_base::{Centre, Sink};
@@ -86,7 +87,7 @@ fn print_done<O: Sink>(alloc: Global, served: Served, out: &mut O) -> Result<(),
     print_line(alloc, &line, out)
 }
 
-// Makes so many turns of centres that run, and tells what they did.
+// Makes so many turns of centres that run; what is pending then goes out, and the last line tells what they did.
 fn serve_sites<D: Disks, L: Link, O: Sink>(
     alloc: Global,
     config: &Config,
@@ -100,10 +101,11 @@ fn serve_sites<D: Disks, L: Link, O: Sink>(
     requires served { AllServed (outside D.disk D.may_leave L.calls L.lost L.faults O.held O.faults) config.now.cluster disks.old sites.old }
     ensures { (served : List ASite) → HoldSites (outside D.disk D.may_leave L.calls L.lost L.faults O.held O.faults) config.now.cluster disks.old sites.old served → Ascend 0 served
         → (given : List (List Given)) × (length given ≡ turns) × AllByRecursion (λ turn. length turn ≡ length served) given
-        × AllEnd (outside D.disk D.may_leave L.calls L.lost L.faults O.held O.faults) config.now.cluster served (fold (after_turn config.now) (record { acts = []; sites = served }) given) turns result
+        × AllEnd (outside D.disk D.may_leave L.calls L.lost L.faults O.held O.faults) config.now.cluster served (after_last config.now (fold (after_turn config.now) (record { acts = []; sites = served }) given)) turns result
         (places disks.old sites.old link.old out.old) (places disks.new sites.new link.new out.new) }
 {
     make_turns(alloc, config, sites, turns, disks, link, out)?;
+    persist_all_then_send(alloc, config, sites, disks, link, out)?;
     serials_fit(sites);
     let served = counts_of(sites, turns);
     print_done(alloc, served, out)?;

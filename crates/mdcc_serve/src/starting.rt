@@ -7,13 +7,15 @@ ghost use Rattle.mdcc_site.specs.declared.fault.ServeFault.{ServeFault as AServe
 ghost use Rattle.mdcc_site.specs.declared.site.Site.{Site as ASite};
 
 use crate::booting::boot;
-use mdcc_base::Centre;
+use mdcc_base::{Centre, HeapList};
 use mdcc_config::Config;
 use mdcc_disks::Disks;
 use mdcc_frag::Joiner;
 use mdcc_outbox::{Clients, Sender};
-use mdcc_site::{ServeFault, Site, log_fact};
+use mdcc_runs::Pending;
+use mdcc_site::{ServeFault, Site, log_facts};
 use std::alloc::Global;
+use std::slice;
 
 // Opens the log of a centre, boots its node, and appends the boot.
 fn start<D: Disks>(
@@ -34,7 +36,7 @@ fn start<D: Disks>(
     let asked = Joiner::new(alloc)?;
     let (node, log, boot) = boot(alloc, config, centre, disks)?;
     let mut log = log;
-    log_fact(alloc, &mut log, centre, disks, &boot)?;
+    log_facts(alloc, &mut log, centre, disks, slice::from_ref(&boot))?;
     let epoch = node.epoch();
     Ok(Site {
         centre,
@@ -51,6 +53,11 @@ fn start<D: Disks>(
         asked,
         steps: 0,
         dropped: 0,
+        pending: Pending {
+            facts: HeapList::new(alloc),
+            envelopes: HeapList::new(alloc),
+            heard: HeapList::new(alloc),
+        },
     })
 }
 

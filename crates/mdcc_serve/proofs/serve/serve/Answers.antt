@@ -1,6 +1,6 @@
 use Rattle.std.proofs.Common.{◌≡◌, [], List, Err, map, rules, subst, sym, refl, ◌+◌}
 use Rattle.mdcc_runs.specs.Servers.{site_of}
-use Rattle.mdcc_serve.proofs.Ended.{EndsFrom, serve_caused, serves, start_breaks, turned}
+use Rattle.mdcc_serve.proofs.Ended.{EndsFrom, ended, serve_caused, serves, start_breaks}
 use Rattle.mdcc_serve.specs.Centres.{AllServed, places}
 use Rattle.mdcc_site.specs.Moments.{outside}
 use Rattle.mdcc_site.specs.declared.site.Site.{Site as TheSite}
@@ -59,5 +59,5 @@ returns-clause-logs g c =
     let new = places c.serve_sites.new.disks c.serve_sites.new.sites c.serve_sites.new.link c.serve_sites.new.out in
     let end = subst (λ (held : List TheSite). EndsFrom w config c.args.turns c.serve_sites.result (places c.open.new.disks held c.open.new.link c.open.new.out) new) c.deref_mut.ensures.value c.serve_sites.ensures in
     let each = end (map site_of has.logs) has.finish.stand has.ascend in
-    turns_end w config.cluster c.args.disks.now c.open.new.disks has.finish.did.passes.told c.args.first (c.args.last + 1) has.logs (turned config has.logs each.0) c.args.turns c.serve_sites.result
+    turns_end w config.cluster c.args.disks.now c.open.new.disks has.finish.did.passes.told c.args.first (c.args.last + 1) has.logs (ended config has.logs each.0) c.args.turns c.serve_sites.result
     (places c.open.new.disks c.in_ok-sites.sites.items c.open.new.link c.open.new.out) new refl has.follow has.many c.in_ok-sites.ensures.logs each.3

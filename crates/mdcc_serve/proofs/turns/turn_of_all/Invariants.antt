@@ -1,6 +1,7 @@
 use Rattle.std.proofs.Common.{List}
 use Rattle.mdcc_runs.specs.Sites.{Site}
-use Rattle.mdcc_serve.proofs.Rounds.{HaveTurned}
+use Rattle.mdcc_runs.specs.Turns.{turn_of}
+use Rattle.mdcc_serve.proofs.Rounds.{HaveGone}
 use Rattle.mdcc_serve.specs.Centres.{Ascend, HoldSites, places}
 use Rattle.mdcc_site.specs.Moments.{outside}
 use Rattle.mdcc_serve.proofs.turns.turn_of_all.Given as goal
@@ -9,4 +10,4 @@ abbrev pub invariant-loop-index : goal.invariant-loop-index
 invariant-loop-index g l =
     let w = outside g.D.Disks.disk g.D.Disks.may_leave g.L.Link.calls g.L.Link.lost g.L.Link.faults g.O.Sink.held g.O.Sink.faults in
     (served : List Site) → HoldSites w l.config.cluster l.fn.disks l.fn.sites served → Ascend 0 served
-    → HaveTurned w l.config l.config.cluster (places l.fn.disks l.fn.sites l.fn.link l.fn.out) (places l.disks l.sites l.link l.out) served l.index
+    → HaveGone w (turn_of l.config) l.config.cluster (places l.fn.disks l.fn.sites l.fn.link l.fn.out) (places l.disks l.sites l.link l.out) served l.index

@@ -1,0 +1,55 @@
+use Rattle.std.proofs.Common.{◌≡◌, ◌<◌, ◌≤◌, Err, arith, length, rules, subst, sym}
+use Rattle.mdcc_runs.specs.Servers.{Server}
+use Rattle.mdcc_serve.proofs.Doings.{end_of, ends_are, ends_own}
+use Rattle.mdcc_serve.proofs.Rounds.{HaveGone, all_gone, next_gone, next_served, next_stopped, none_gone}
+use Rattle.mdcc_serve.specs.Centres.{AllFinish, AllStop, places}
+use Rattle.mdcc_site.specs.Moments.{outside}
+use Rattle.mdcc_serve.proofs.ending.persist_all_then_send.Goals as goal
+
+pub loop-index-init : goal.loop-index-init
+loop-index-init g c served hold ascend =
+    let w = outside g.D.Disks.disk g.D.Disks.may_leave g.L.Link.calls g.L.Link.lost g.L.Link.faults g.O.Sink.held g.O.Sink.faults in
+    none_gone w (end_of c.args.config.now) c.args.config.now.cluster (places c.args.disks.now c.args.sites.now c.args.link.now c.args.out.now) served hold
+
+pub persist_at-requires-clause-served : goal.persist_at-requires-clause-served
+persist_at-requires-clause-served g c =
+    let w = outside g.D.Disks.disk g.D.Disks.may_leave g.L.Link.calls g.L.Link.lost g.L.Link.faults g.O.Sink.held g.O.Sink.faults in
+    let start = places c.args.disks.now c.args.sites.now c.args.link.now c.args.out.now in
+    let now = places c.loop-index.disks c.loop-index.sites c.loop-index.link c.loop-index.out in
+    let all = c.requires.served in
+    let within : c.loop-index.index < length c.loop-index.sites = omega arith in
+    next_served w (end_of c.args.config.now) (ends_own c.args.config.now) c.args.config.now.cluster start now now all.sites c.loop-index.index all.ascend (c.loop-index.invariant all.sites all.stand all.ascend) within
+
+pub loop-index-preserved : goal.loop-index-preserved
+loop-index-preserved g c served hold ascend =
+    let w = outside g.D.Disks.disk g.D.Disks.may_leave g.L.Link.calls g.L.Link.lost g.L.Link.faults g.O.Sink.held g.O.Sink.faults in
+    let start = places c.args.disks.now c.args.sites.now c.args.link.now c.args.out.now in
+    let now = places c.loop-index.disks c.loop-index.sites c.loop-index.link c.loop-index.out in
+    let new = places c.persist_at.new.disks c.persist_at.new.sites c.persist_at.new.link c.persist_at.new.out in
+    let within : c.loop-index.index < length c.loop-index.sites = omega arith in
+    next_gone w (end_of c.args.config.now) (ends_own c.args.config.now) c.args.config.now.cluster start now new served c.loop-index.index ascend (c.loop-index.invariant served hold ascend) within _ (λ one site at holds. (let went = c.in_ok-persist_at.ensures one site at holds in record { given = tt; next = went.next; held = went.held; goes = went.goes }))
+
+pub returns-in_err-persist_at : goal.returns-in_err-persist_at
+returns-in_err-persist_at g c served hold ascend =
+    let w = outside g.D.Disks.disk g.D.Disks.may_leave g.L.Link.calls g.L.Link.lost g.L.Link.faults g.O.Sink.held g.O.Sink.faults in
+    let start = places c.args.disks.now c.args.sites.now c.args.link.now c.args.out.now in
+    let now = places c.loop-index.disks c.loop-index.sites c.loop-index.link c.loop-index.out in
+    let new = places c.persist_at.new.disks c.persist_at.new.sites c.persist_at.new.link c.persist_at.new.out in
+    let within : c.loop-index.index < length c.loop-index.sites = omega arith in
+    let config = c.args.config.now in
+    let fault = c.in_err-persist_at.field-0.0 in
+    let e : c.from_residual.result ≡ Err fault = search rules in
+    let stop = next_stopped w (end_of config) (ends_own config) config.cluster start now new served c.loop-index.index ascend (c.loop-index.invariant served hold ascend) within fault
+    (λ one site at holds. (let went = c.in_err-persist_at.ensures one site at holds in record { given = tt; next = went.next; held = went.held; goes = went.goes })) in
+    rw e (subst (λ (server : Server). AllStop w served server fault start new) (sym (ends_are config served stop.0 stop.1)) stop.2)
+
+pub returns : goal.returns
+returns g c served hold ascend =
+    let w = outside g.D.Disks.disk g.D.Disks.may_leave g.L.Link.calls g.L.Link.lost g.L.Link.faults g.O.Sink.held g.O.Sink.faults in
+    let config = c.args.config.now in
+    let start = places c.args.disks.now c.args.sites.now c.args.link.now c.args.out.now in
+    let now = places c.loop-index.disks c.loop-index.sites c.loop-index.link c.loop-index.out in
+    let gone : HaveGone w (end_of config) config.cluster start now served c.loop-index.index = c.loop-index.invariant served hold ascend in
+    let over : length c.loop-index.sites ≤ c.loop-index.index = omega arith in
+    let all = all_gone w (end_of config) config.cluster start now served c.loop-index.index gone over in
+    subst (λ (server : Server). AllFinish w config.cluster server start now) (sym (ends_are config served gone.given all.0)) all.1
