@@ -1,9 +1,8 @@
 //! What a node answers its client, and which datagrams it drops.
 use crate::datagrams::{
-    ASKS, BEGINS, BEGUN, COMMITTED, INSERT, NOTHING_HELD, READS, answer, begin, datagram, message,
-    was_sent,
+    ASKS, BEGINS, BEGUN, INSERT, NOTHING_HELD, READS, answer, begin, datagram, message, was_sent,
 };
-use crate::program::{NO_FAULTS, ONE, SMALL, run_on};
+use crate::program::{NO_FAULTS, SMALL, run_on};
 use crate::runs::new_disks;
 use mdcc_link::MemoryLink;
 use std::alloc::Global;
@@ -136,27 +135,6 @@ fn requests_are_answered(rt: HostRuntime) -> Result<(), Fail> {
     Ok(())
 }
 
-// A begin that comes again begins nothing: it is answered with the transaction, and with its end where it was heard.
-#[test]
-fn a_begin_that_comes_again(rt: HostRuntime) -> Result<(), Fail> {
-    let alloc = rt.alloc();
-    let mut disks = new_disks(alloc, &[])?;
-    let mut link = MemoryLink::new(alloc, &[])?;
-    let request = message(alloc, &BEGINS, &INSERT)?;
-    for serial in 1..4u8 {
-        link.put(17, &datagram(alloc, 17, 7, serial, &request)?)?;
-    }
-    let words = ["node", "1", "8"];
-    let ran = run_on(alloc, &words, SMALL, &NO_FAULTS, &mut disks, &mut link)?;
-    assert!(rt; ran.is(crate::commands::COMMIT, "", 0));
-    assert!(rt; was_sent(&link, 1, 9033, &answer(alloc, 2, &BEGUN)?));
-    assert!(rt; was_sent(&link, 3, 9033, &answer(alloc, 4, &BEGUN)?));
-    assert!(rt; was_sent(&link, 4, 9033, &answer(alloc, 5, &COMMITTED)?));
-    assert!(rt; was_sent(&link, 5, 9033, &answer(alloc, 6, &COMMITTED)?));
-    assert!(rt; link.sent(6).is_none());
-    Ok(())
-}
-
 // A request at the centre's endpoint, a message of centres at the client's, one that is longer than a datagram, and what is no message.
 #[test]
 fn what_is_dropped(rt: HostRuntime) -> Result<(), Fail> {
@@ -173,31 +151,5 @@ fn what_is_dropped(rt: HostRuntime) -> Result<(), Fail> {
         let link = check_turn(&rt, alloc, at, &waiting, DROPPED)?;
         assert!(rt; link.sent(0).is_none());
     }
-    Ok(())
-}
-
-// A piece of an empty message.
-const EMPTY: [u8; 17] = [1, 1, 0, 0, 0, 1, 0, 0, 0, 0, 0, 0, 0, 0, 0, 1, 0];
-
-// Too short for a head, a piece of an empty message, a message for another centre, and one without its last byte.
-#[test]
-fn four_datagrams_of_no_good(rt: HostRuntime) -> Result<(), Fail> {
-    let alloc = rt.alloc();
-    let mut disks = new_disks(alloc, &[])?;
-    let mut link = MemoryLink::new(alloc, &[])?;
-    link.put(1, &[0; 16])?;
-    link.put(1, &EMPTY)?;
-    link.put(1, &datagram(alloc, 2, 1, 1, &ASKS)?)?;
-    link.put(1, &datagram(alloc, 2, 1, 2, &ASKS[..22])?)?;
-    let words = ["cluster", "8"];
-    let ran = run_on(alloc, &words, ONE, &NO_FAULTS, &mut disks, &mut link)?;
-    assert!(rt;
-        ran.is(
-            "boot 1 epoch 1\ndone turns 8 steps 4 dropped 4 lost 0\n",
-            "",
-            0
-        )
-    );
-    assert!(rt; link.sent(0).is_none());
     Ok(())
 }

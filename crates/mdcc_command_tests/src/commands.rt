@@ -1,7 +1,7 @@
 //! The commands over a configuration, whole.
 use crate::datagrams::{
-    ANSWERS, BEGUN, CHOICE, COMMITTED, NOTHING_HELD, PROPOSES, VOTES, answer, begin, datagram,
-    message, was_sent,
+    BEGUN, CHOICE, COMMITTED, NOTHING_HELD, PROPOSES, VOTES, answer, begin, datagram, message,
+    was_sent,
 };
 use crate::logs::{BOOTED, insert_log};
 use crate::program::{NO_FAULTS, ONE, run_new, run_on, run_on_log};
@@ -29,29 +29,6 @@ fn nothing_asked_is_a_tick_in_each_turn(rt: HostRuntime) -> Result<(), Fail> {
     Ok(())
 }
 
-// The bytes of the log that an insert leaves, by the formats.
-#[test]
-fn an_insert_is_heard_logged_and_dumped(rt: HostRuntime) -> Result<(), Fail> {
-    let alloc = rt.alloc();
-    let mut disks = new_disks(alloc, &[])?;
-    let mut link = MemoryLink::new(alloc, &[])?;
-    link.put(17, &begin(alloc)?)?;
-    let ran = run_on(
-        alloc,
-        &["cluster", "8"],
-        ONE,
-        &NO_FAULTS,
-        &mut disks,
-        &mut link,
-    )?;
-    assert!(rt; ran.is(COMMIT, "", 0));
-    let log = insert_log(alloc)?;
-    assert!(rt; disks.bytes(1) == log.as_slice() && disks.bytes(17).is_empty());
-    let dumped = run_on_log(alloc, &["dump", "1"], ONE, disks.bytes(1), disks.bytes(17))?;
-    assert!(rt; dumped.is(FACTS, "", 0));
-    Ok(())
-}
-
 // A proposal, that it was begun, the vote, and that it was heard.
 fn check_sent(rt: &impl Abort, alloc: Global, link: &MemoryLink) -> Result<(), Fail> {
     let proposal = datagram(alloc, 1, 1, 1, &message(alloc, &PROPOSES, &CHOICE)?)?;
@@ -64,22 +41,22 @@ fn check_sent(rt: &impl Abort, alloc: Global, link: &MemoryLink) -> Result<(), F
     Ok(())
 }
 
+// The four datagrams of an insert, and the bytes of the log that it leaves, by the formats.
 #[test]
-fn an_insert_takes_four_datagrams(rt: HostRuntime) -> Result<(), Fail> {
+fn an_insert_is_sent_heard_logged_and_dumped(rt: HostRuntime) -> Result<(), Fail> {
     let alloc = rt.alloc();
     let mut disks = new_disks(alloc, &[])?;
     let mut link = MemoryLink::new(alloc, &[])?;
     link.put(17, &begin(alloc)?)?;
-    let ran = run_on(
-        alloc,
-        &["node", "1", "8"],
-        ONE,
-        &NO_FAULTS,
-        &mut disks,
-        &mut link,
-    )?;
+    let words = ["cluster", "8"];
+    let ran = run_on(alloc, &words, ONE, &NO_FAULTS, &mut disks, &mut link)?;
     assert!(rt; ran.is(COMMIT, "", 0));
-    check_sent(&rt, alloc, &link)
+    check_sent(&rt, alloc, &link)?;
+    let log = insert_log(alloc)?;
+    assert!(rt; disks.bytes(1) == log.as_slice() && disks.bytes(17).is_empty());
+    let dumped = run_on_log(alloc, &["dump", "1"], ONE, disks.bytes(1), disks.bytes(17))?;
+    assert!(rt; dumped.is(FACTS, "", 0));
+    Ok(())
 }
 
 // A node that is started again begins its second epoch, and keeps what it had.
@@ -122,14 +99,15 @@ fn a_question_is_answered_or_not(rt: HostRuntime) -> Result<(), Fail> {
     Ok(())
 }
 
-// Three centres on one host.
-const THREE: &str =
+/// Three centres on one host.
+pub(crate) const THREE: &str =
     r#"{"centres":3,"classic":2,"fast":3,"gamma":100,"bounds":[[0,1000]],"hosts":["127.0.0.1","127.0.0.1","127.0.0.1"],"port":9000,"cells":100}"#;
 
-// In each turn each of them takes one message or a tick. Centres 2 and 3, which wait for the end of what they voted for, ask all for it
-// at their second tick. Centre 2 takes the answers first, and so hears the end in the eighth turn.
+// In each turn each of them takes one message or a tick. Centres 2 and 3, which wait for the end of what they voted for, ask all for it at
+// their second tick. So messages wait at each, and what it makes is pending: the vote of centre 1 goes out in the sixth turn, and that
+// centre 3 heard the end after the last.
 const HEARD_BY_ALL: &str =
-    "boot 1 epoch 1\nboot 2 epoch 1\nboot 3 epoch 1\nheard 1 1.1.1 commit\nheard 3 1.1.1 commit\nheard 2 1.1.1 commit\n\
+    "boot 1 epoch 1\nboot 2 epoch 1\nboot 3 epoch 1\nheard 1 1.1.1 commit\nheard 2 1.1.1 commit\nheard 3 1.1.1 commit\n\
      done turns 8 steps 24 dropped 0 lost 0\n";
 
 #[test]

@@ -14,6 +14,8 @@ mod datagrams;
 #[cfg(test)]
 mod faults;
 #[cfg(test)]
+mod groups;
+#[cfg(test)]
 mod logs;
 #[cfg(test)]
 mod program;

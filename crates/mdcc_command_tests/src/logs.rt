@@ -10,8 +10,8 @@ pub(crate) const BOOTED: [u8; 19] = [
     77, 68, 67, 67, 76, 79, 71, 49, 1, 5, 0, 0, 0, 1, 1, 0, 0, 0, 0,
 ];
 
-// Behind the length of each, the vote for the choice of the insert at ballot 0.0.0, and its commit, up to the choice.
-const VOTED: [u8; 29] = [
+/// Behind the length of each, the vote for the choice of the insert at ballot 0.0.0, and its commit, up to the choice.
+pub(crate) const VOTED: [u8; 29] = [
     68, 0, 0, 0, 3, 1, 97, 0, 0, 0, 0, 0, 0, 0, 0, 0, 0, 0, 0, 0, 0, 0, 0, 0, 1, 0, 0, 0, 1,
 ];
 
