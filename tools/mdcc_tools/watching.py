@@ -1,4 +1,6 @@
-"""The memory of nodes over time."""
+"""The memory of nodes over time, and how the machine keeps up beside them."""
+import os
+import threading
 import time
 
 from .processes import memory_of
@@ -47,3 +49,39 @@ class Watch:
     def last(self, centre):
         """What it had when it was last there."""
         return [memories[centre] for _, memories in self.samples if memories[centre] is not None][-1]
+
+
+class Stalls(threading.Thread):
+    """Beside the nodes: writes a few bytes in their folder, syncs them and naps, again and again, as a node does. `longest` is by how much
+    that took longer than the nap. Whoever has the priority of the nodes learns so for how long the disk or the processors stood still."""
+
+    NAP = 0.02
+
+    def __init__(self, folder):
+        super().__init__(daemon=True)
+        self.path = os.path.join(folder, "stalls")
+        self.began, self.longest, self.is_over = time.monotonic(), 0.0, False
+
+    def run(self):
+        descriptor = os.open(self.path, os.O_WRONLY | os.O_CREAT)
+        while not self.is_over:
+            self.began = time.monotonic()
+            os.pwrite(descriptor, b"x" * 100, 0)
+            os.fdatasync(descriptor)
+            time.sleep(self.NAP)
+            self.note(time.monotonic())
+        os.close(descriptor)
+        os.unlink(self.path)
+
+    def note(self, now):
+        self.longest = max(self.longest, now - self.began - self.NAP)
+
+    def take(self):
+        """The longest since it was taken last, with the one that goes on."""
+        self.note(time.monotonic())
+        longest, self.longest = self.longest, 0.0
+        return longest
+
+    def end(self):
+        self.is_over = True
+        self.join()
