@@ -1,4 +1,5 @@
 pub mod Link
 pub mod Memory
+pub mod Pauses
 pub mod Sockets
 pub mod Stored

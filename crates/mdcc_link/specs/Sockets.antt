@@ -1,10 +1,12 @@
 -- Sockets: their addresses, which errors are no fault, and which receive does not wait.
-use Rattle.std.specs.Prelude.{◌≡◌, ℕ, ◌+◌, Bool, true, false, ◌==◌, Option, Some, None, Result, Ok, Err}
+use Rattle.std.specs.Prelude.{◌≡◌, ℕ, ◌+◌, Bool, true, false, ◌==◌, if◌then◌else◌, Option, Some, None, Result, Ok, Err}
 use Rattle.std.specs.declared.net.socket_addr.SocketAddr.{SocketAddr}
 use Rattle.std.specs.declared.net.ip_addr.IpAddr.TheVariants as ip
 use Rattle.std.specs.declared.net.ipv4_addr.Ipv4Addr.{Ipv4Addr}
 use Rattle.std.specs.Net.Addr.{ipv4_octets}
 use Rattle.std.specs.Net.Socket.{socket_ip, socket_port}
+use Rattle.std.specs.IoError.{error_kind}
+use Rattle.std.specs.declared.io.Error.{Error}
 use Rattle.std.specs.declared.io.ErrorKind.{ErrorKind}
 use Rattle.std.specs.declared.io.ErrorKind.TheVariants as kind
 use Rattle.mdcc_base.specs.declared.faults.Failed.{Failed}
@@ -27,6 +29,11 @@ is_quiet kind.TimedOut = true
 is_quiet kind.Interrupted = true
 is_quiet kind.ConnectionRefused = true
 is_quiet _ = false
+
+-- what was found by a receive that ended so, if it did not fail
+abbrev pub found_in : Result (ℕ × SocketAddr) Error → Option Received
+found_in (Ok came) = Some (Got came.0)
+found_in (Err error) = if is_quiet (error_kind error) then Some Nothing else None
 
 -- the endpoint at which a receive brought a datagram
 abbrev pub served_by : ℕ → Result Received Failed → Option ℕ

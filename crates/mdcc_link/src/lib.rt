@@ -3,6 +3,7 @@
 
 pub mod link;
 pub mod memory_link;
+mod pauses;
 mod sockets;
 mod stored;
 pub mod udp_link;

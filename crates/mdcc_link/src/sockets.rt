@@ -1,7 +1,7 @@
 //! What sockets are told and what they answer.
 ghost use Rattle.std.specs.Prelude.{◌≡◌};
 ghost use Rattle.std.specs.IoError.{error_kind};
-ghost use Rattle.mdcc_link.specs.Sockets.{IsSocketAddress, is_quiet, served_by, is_served};
+ghost use Rattle.mdcc_link.specs.Sockets.{IsSocketAddress, found_in, is_quiet, served_by, is_served};
 
 use crate::Received;
 use mdcc_base::{Address, Failed};
@@ -16,8 +16,8 @@ pub fn socket_address(address: Address) -> SocketAddr
     SocketAddr::new(IpAddr::V4(host), address.port)
 }
 
-/// Whether a receive that ended so brought nothing, and is no fault.
-pub fn is_quiet(error: &Error) -> bool
+// Whether a receive that ended so brought nothing, and is no fault.
+fn is_quiet(error: &Error) -> bool
     ensures { result ≡ is_quiet (error_kind error.now) }
 {
     matches!(
@@ -27,6 +27,22 @@ pub fn is_quiet(error: &Error) -> bool
             | ErrorKind::Interrupted
             | ErrorKind::ConnectionRefused
     )
+}
+
+/// What was found by a receive that ended so. Else it failed.
+pub fn found(ended: Result<(usize, SocketAddr), Error>) -> Option<Received>
+    ensures { result ≡ found_in ended }
+{
+    match ended {
+        Ok((count, _)) => Some(Received::Got(count)),
+        Err(error) => {
+            if is_quiet(&error) {
+                Some(Received::Nothing)
+            } else {
+                None
+            }
+        }
+    }
 }
 
 /// The endpoint at which a receive brought a datagram.

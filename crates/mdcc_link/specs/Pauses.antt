@@ -1,0 +1,38 @@
+-- When a centre has a pause: what each received since its last one, and which has one now.
+use Rattle.std.specs.Prelude.{◌≡◌, ℕ, ◌+◌, ◌-◌, ◌%◌, ◌^◌, min, Bool, false, ◌==◌, nat_le, nat_lt, replicate, slice_index, slice_set, if◌then◌else◌, Option, Some, None}
+use Rattle.mdcc_link.specs.declared.pauses.Pauses.{Pauses}
+
+-- nothing was received
+abbrev pub IsNew : Pauses → Type 0
+IsNew pauses = (pauses.pausing ≡ None) × (pauses.busy ≡ replicate 16 0)
+
+-- what the centre of an endpoint received; both its endpoints have one place
+abbrev pub busy_at : ℕ → Pauses → ℕ
+busy_at at pauses = slice_index pauses.busy (at % 16)
+
+-- it received so much more, in a count that stands still at its end
+abbrev pub counted : ℕ → ℕ → Pauses → Pauses
+counted at weight pauses =
+    record pauses { busy = slice_set pauses.busy (at % 16) (min (busy_at at pauses + weight) (2 ^ 32 - 1)) }
+
+-- whether it received as much as is between two pauses
+abbrev pub is_busy : ℕ → Pauses → Bool
+is_busy at pauses = nat_le 4096 (busy_at at pauses)
+
+abbrev pub has_pause : Option ℕ → ℕ → Bool
+has_pause None own = false
+has_pause (Some centre) own = centre == own
+
+-- Whether a receive is of a pause. The one at a centre's own endpoint begins it, and the next one ends it, if it is at its client's.
+abbrev pub is_of_pause : ℕ → Pauses → Bool
+is_of_pause at pauses = if nat_lt 16 at then has_pause pauses.pausing (at - 16) else is_busy at pauses
+
+-- and what is known after it
+abbrev pub begun : ℕ → Pauses → Pauses
+begun at pauses = record { busy = slice_set pauses.busy (at % 16) 0; pausing = Some at }
+
+abbrev pub ended : Pauses → Pauses
+ended pauses = record pauses { pausing = None }
+
+abbrev pub after_receive : ℕ → Pauses → Pauses
+after_receive at pauses = if nat_lt 16 at then ended pauses else (if is_busy at pauses then begun at pauses else ended pauses)

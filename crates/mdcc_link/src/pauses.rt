@@ -1,0 +1,71 @@
+//! When a centre has a pause.
+ghost use Rattle.std.specs.Prelude.{◌≡◌, ◌≤◌, ◌+◌, ◌-◌, ◌^◌, min, false};
+ghost use Rattle.mdcc_link.specs.Pauses.{IsNew, after_receive, busy_at, counted, ended, has_pause, is_busy, is_of_pause};
+
+/// After so many datagrams a centre has a pause, whatever waits.
+const BUSY_LIMIT: u32 = 4096;
+
+/// What each centre received since its last pause, and which centre has one now.
+#[derive(Drop)]
+pub struct Pauses {
+    pub busy: [u32; 16],
+    pub pausing: Option<u8>,
+}
+
+impl Pauses {
+    /// Nothing was received yet.
+    pub fn new() -> Pauses
+        ensures { IsNew result }
+    {
+        Pauses {
+            busy: [0; 16],
+            pausing: None,
+        }
+    }
+
+    /// Counts what a centre received at one of its endpoints.
+    pub fn count(&mut self, at: u8, weight: u32)
+        ensures counted { self.new ≡ counted at weight self.old }
+        ensures later { busy_at at self.old ≤ busy_at at self.new }
+        ensures more { min (busy_at at self.old + weight) (2 ^ 32 - 1) ≤ busy_at at self.new }
+    {
+        let index = usize::from(at % 16);
+        self.busy[index] = self.busy[index].saturating_add(weight);
+    }
+
+    // Whether the centre received as much as is between two pauses.
+    fn is_busy(&self, at: u8) -> bool
+        ensures { result ≡ is_busy at self.now }
+    {
+        self.busy[usize::from(at % 16)] >= BUSY_LIMIT
+    }
+
+    // Ends the pause, if there is one, and answers whether this centre had it.
+    fn end(&mut self, own: u8) -> bool
+        ensures had { result ≡ has_pause self.old.pausing own }
+        ensures ended { self.new ≡ ended self.old }
+    {
+        match self.pausing.take() {
+            Some(centre) => centre == own,
+            None => false,
+        }
+    }
+
+    /// Whether this receive is of a pause, which begins at a centre's own endpoint and ends at its client's.
+    pub fn covers(&mut self, at: u8) -> bool
+        ensures covers { result ≡ is_of_pause at self.old }
+        ensures after { self.new ≡ after_receive at self.old }
+        ensures same { result ≡ false → self.new.busy ≡ self.old.busy }
+    {
+        if at > 16 {
+            return self.end(at - 16);
+        }
+        if !self.is_busy(at) {
+            self.pausing = None;
+            return false;
+        }
+        self.busy[usize::from(at % 16)] = 0;
+        self.pausing = Some(at);
+        true
+    }
+}
