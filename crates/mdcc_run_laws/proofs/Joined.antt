@@ -12,8 +12,7 @@ use Rattle.mdcc_run_laws.proofs.Seen.{IsInward, sees_then}
 use Rattle.mdcc_run_laws.specs.Told.{IsOneOf, IsOwed, between_centres, is_for_centre, node_after, steps_made}
 use Rattle.mdcc_runs.specs.Acts.{Act}
 use Rattle.mdcc_runs.specs.Runs.{NodeState, after_run, after_step, facts_added, in_steps, listed, messages_sent, outcomes_heard, run_of, step_on}
-use Rattle.mdcc_runs.specs.Sites.{Doing, Site, after_acts}
-use Rattle.mdcc_runs.specs.declared.pending.Pending.{Pending}
+use Rattle.mdcc_runs.specs.Sites.{Doing, Pending, Site, after_acts}
 
 -- ---- runs
 

@@ -15,8 +15,7 @@ use Rattle.mdcc_run_laws.specs.Without.{AreSeenAlike}
 use Rattle.mdcc_runs.specs.Acts.{appended}
 use Rattle.mdcc_runs.specs.Runs.{NodeState}
 use Rattle.mdcc_runs.specs.Sending.{messages_sent, persist_then_send, persisted}
-use Rattle.mdcc_runs.specs.Sites.{Doing, Site, and_then, idle}
-use Rattle.mdcc_runs.specs.declared.pending.Pending.{Pending}
+use Rattle.mdcc_runs.specs.Sites.{Doing, Pending, Site, and_then, idle}
 
 -- ---- what is pending goes out
 

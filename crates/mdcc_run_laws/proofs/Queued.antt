@@ -18,10 +18,9 @@ use Rattle.mdcc_runs.specs.Acts.{Act}
 use Rattle.mdcc_runs.specs.Arrivals.{Arrival, arrival_of, is_for_client}
 use Rattle.mdcc_runs.specs.Clients.{begun_for}
 use Rattle.mdcc_runs.specs.Runs.{listed, step_on}
-use Rattle.mdcc_runs.specs.Sites.{Doing, Site, after_acts, and_then, doing, idle, nothing_pending}
+use Rattle.mdcc_runs.specs.Sites.{Doing, Pending, Site, after_acts, and_then, doing, idle, nothing_pending}
 use Rattle.mdcc_runs.specs.Steps.{begin_made, begin_noted, begin_taken_by, begin_told, draft_taken, dropped, input_made, input_taken, read_made, step_queued, stepped}
 use Rattle.mdcc_runs.specs.Turns.{Given, asked_arrived, asked_message, asked_received, asked_taken, inputs_taken, is_silent, own_arrived, own_message, own_received, own_taken, ticked}
-use Rattle.mdcc_runs.specs.declared.pending.Pending.{Pending}
 
 -- ---- pending lists
 

@@ -7,7 +7,13 @@ use Rattle.mdcc_messages.specs.declared.messages.Envelope.{Envelope}
 use Rattle.mdcc_runs.specs.Acts.{Act}
 use Rattle.mdcc_runs.specs.Clients.{Clients}
 use Rattle.mdcc_runs.specs.Runs.{NodeState}
-use Rattle.mdcc_runs.specs.declared.pending.Pending.{Pending}
+
+-- What its steps made and is not out yet, the oldest first: facts that are not in its log, messages that are not sent, and outcomes that are
+-- not printed.
+pub record Pending : Type 0 where
+  pub facts : List Fact
+  pub envelopes : List Envelope
+  pub heard : List (TxId × Bool)
 
 abbrev pub nothing_pending : Pending
 nothing_pending = record { facts = []; envelopes = []; heard = [] }

@@ -8,9 +8,8 @@ use Rattle.mdcc_rules.specs.declared.node.Input.{Input}
 use Rattle.mdcc_runs.specs.Acts.{Act}
 use Rattle.mdcc_runs.specs.Arrivals.{Arrival, arrival_of, is_for_client}
 use Rattle.mdcc_runs.specs.Sending.{persist_then_send}
-use Rattle.mdcc_runs.specs.Sites.{Doing, Site, after_acts, and_then, idle}
+use Rattle.mdcc_runs.specs.Sites.{Doing, Pending, Site, after_acts, and_then, idle}
 use Rattle.mdcc_runs.specs.Steps.{begin_taken, dropped, input_taken, read_taken}
-use Rattle.mdcc_runs.specs.declared.pending.Pending.{Pending}
 
 -- what its two receives gave, at its own endpoint and at its client's, and whether the link said after them that a datagram waits at one
 pub record Given : Type 0 where

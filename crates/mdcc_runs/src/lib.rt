@@ -6,11 +6,9 @@ ghost use Rattle.mdcc_runs.specs.Laws.{RefusedInputsChangeNothing};
 
 pub mod clients;
 pub mod lines;
-pub mod pending;
 
 pub use clients::Begun;
 pub use lines::ServerLine;
-pub use pending::Pending;
 
 /// A refused input is as good as none: without those the run of a node is the same.
 pub fn refused_inputs_change_nothing()
