@@ -1,3 +1,4 @@
+pub mod Bytes
 pub mod Handed
 pub mod Messages
 pub mod Recorded

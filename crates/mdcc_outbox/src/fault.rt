@@ -4,14 +4,9 @@ ghost use Rattle.mdcc_outbox.specs.declared.fault.PrintFault.TheVariants as prin
 
 use std::alloc::AllocError;
 
-/// Why a message is not sent. Nothing of it is.
+/// A centre has sent as many messages in its epoch as there are serials. Nothing of the next one is sent.
 #[derive(Clone, Copy, Debug, PartialEq, Eq)]
-pub enum SendFault {
-    /// The centre has sent as many messages in its epoch as there are serials.
-    Serial,
-    /// There was no memory.
-    Memory,
-}
+pub struct OutOfSerials;
 
 /// Why a line is not printed.
 #[derive(Clone, Copy, Debug, PartialEq, Eq)]

@@ -1,26 +1,22 @@
 //! How a centre sends its messages.
-ghost use Rattle.std.specs.Prelude.{◌≡◌, ◌≤◌, ◌+◌, ◌∷◌, [], if◌then◌else◌, length, List, IfErr, IsErrOf, None, Ok, OnErr, OnOk, Some, ◌-◌, ◌^◌};
+ghost use Rattle.std.specs.Prelude.{◌≡◌, ◌≤◌, ◌+◌, ◌∷◌, [], if◌then◌else◌, length, List, None, Ok, OnErr, OnOk, Some, ◌-◌, ◌^◌};
 ghost use Rattle.std.specs.List.{AllByRecursion};
 ghost use Rattle.mdcc_config.specs.IsConfig.{IsConfig};
 ghost use Rattle.mdcc_frag.specs.Datagrams.{message_limit};
-ghost use Rattle.mdcc_messages.specs.Spelling.{message_bytes};
+ghost use Rattle.mdcc_outbox.specs.Outgoing.{CanGo, all_sent, outgoing_sent};
 ghost use Rattle.mdcc_outbox.specs.Sends.{Hands, IsPast, IsSenderOf, IsSending, Sends};
 ghost use Rattle.mdcc_outbox.specs.Shows.{counted};
-ghost use Rattle.mdcc_outbox.specs.declared.fault.SendFault.{SendFault as ASendFault};
 ghost use Rattle.mdcc_protocol.specs.Belongs.{is_centre};
 ghost use Rattle.mdcc_runs.specs.Acts.{Act};
-ghost use Rattle.mdcc_runs.specs.Sending.{address_to, answer_to, datagrams_sent, message_sent, messages_sent, next_head};
+ghost use Rattle.mdcc_runs.specs.Sending.{address_to, answer_to, datagrams_sent, next_head};
 ghost use Rattle.mdcc_runs.specs.Sites.{Site};
-ghost use Rattle.mdcc_wire.specs.Counts.{HasCounts};
 
-use crate::SendFault;
+use crate::{OutOfSerials, Outgoing};
 use mdcc_base::{Address, Centre};
 use mdcc_config::Config;
 use mdcc_frag::{FragHead, count, split};
 use mdcc_link::Link;
 use mdcc_messages::{ClientAnswer, Envelope, Message};
-use mdcc_wire::{EncodeFault, encode};
-use std::alloc::Global;
 
 /// What a centre has sent in its epoch, and how much of it was lost. The count of what was lost stands still at its end.
 #[derive(Drop)]
@@ -101,18 +97,17 @@ impl Sender {
         link: &mut L,
         to: Address,
         message: &[u8],
-    ) -> Result<(), SendFault>
+    ) -> Result<(), OutOfSerials>
         requires { length message.now ≤ message_limit }
         ensures sent { (site : Site) → IsSenderOf self.old site
             → OnOk result (Sends L.calls L.lost L.faults (datagrams_sent (next_head site) to message.now) [] link.old link.new self.old.lost self.new.lost) }
         ensures next { (site : Site) → IsSenderOf self.old site → OnOk result (IsSenderOf self.new (record site { sent = site.sent + 1 })) }
-        ensures serial { IfErr result (λ fault. fault ≡ ASendFault.Serial) }
         ensures last { OnErr result (self.old.sent ≡ 2 ^ 32 - 1) }
         ensures unsent { OnErr result (link.new ≡ link.old) }
         ensures same { OnErr result (self.new ≡ self.old) }
     {
         if self.sent == u32::MAX {
-            return Err(SendFault::Serial);
+            return Err(OutOfSerials);
         }
         self.sent += 1;
         let head = FragHead {
@@ -133,62 +128,56 @@ impl Sender {
     }
 
     /// Sends a message: its datagrams under the next serial, whatever the link answers. One that is too long, or goes to no centre
-    /// of the cluster, counts as lost. Nothing is sent of one for which no serial is left, and none without memory.
+    /// of the cluster, counts as lost. Nothing is sent of one for which no serial is left.
     pub fn send<L: Link>(
         &mut self,
-        alloc: Global,
         config: &Config,
         link: &mut L,
-        envelope: &Envelope,
-    ) -> Result<(), SendFault>
+        message: &Outgoing,
+    ) -> Result<(), OutOfSerials>
         requires config { IsConfig config.now }
-        requires counts { HasCounts envelope.now.message }
+        requires few { CanGo message.now }
         ensures sent { (site : Site) → IsSenderOf self.old site
-            → OnOk result (Sends L.calls L.lost L.faults (message_sent config.now site envelope.now).acts [] link.old link.new self.old.lost self.new.lost) }
-        ensures next { (site : Site) → IsSenderOf self.old site → OnOk result (IsSenderOf self.new (message_sent config.now site envelope.now).site) }
-        ensures last { IsErrOf result ASendFault.Serial → self.old.sent ≡ 2 ^ 32 - 1 }
-        ensures first { (site : Site) → IsSenderOf self.old site → IsErrOf result ASendFault.Serial → IsSending (message_sent config.now site envelope.now).acts }
-        ensures past { (site : Site) → IsSenderOf self.old site → IsErrOf result ASendFault.Serial → IsPast (message_sent config.now site envelope.now).site }
+            → OnOk result (Sends L.calls L.lost L.faults (outgoing_sent config.now site message.now).acts [] link.old link.new self.old.lost self.new.lost) }
+        ensures next { (site : Site) → IsSenderOf self.old site → OnOk result (IsSenderOf self.new (outgoing_sent config.now site message.now).site) }
+        ensures last { OnErr result (self.old.sent ≡ 2 ^ 32 - 1) }
+        ensures first { (site : Site) → IsSenderOf self.old site → OnErr result (IsSending (outgoing_sent config.now site message.now).acts) }
+        ensures past { (site : Site) → IsSenderOf self.old site → OnErr result (IsPast (outgoing_sent config.now site message.now).site) }
         ensures unsent { OnErr result (link.new ≡ link.old) }
         ensures same { OnErr result (self.new ≡ self.old) }
     {
-        let Some(to) = address_to(config, envelope.to) else {
+        let Some(to) = address_to(config, message.to) else {
             self.lose();
             return Ok(());
         };
-        let mut message = Vec::new(alloc);
-        match encode(envelope, &mut message) {
-            Ok(()) => self.send_bytes(link, to, &message),
-            Err(EncodeFault::TooLong) => {
+        match &message.bytes {
+            Some(bytes) => self.send_bytes(link, to, bytes.as_slice()),
+            None => {
                 self.lose();
                 Ok(())
             }
-            Err(EncodeFault::Memory) => Err(SendFault::Memory),
         }
     }
 
-    /// Sends messages in order, up to the first that is refused.
+    /// Sends messages in order, up to the first for which no serial is left.
     pub fn send_all<L: Link>(
         &mut self,
-        alloc: Global,
         config: &Config,
         link: &mut L,
-        envelopes: &[Envelope],
-    ) -> Result<(), SendFault>
+        messages: &[Outgoing],
+    ) -> Result<(), OutOfSerials>
         requires config { IsConfig config.now }
-        requires counts { AllByRecursion (λ envelope. HasCounts envelope.message) envelopes.now }
+        requires few { AllByRecursion CanGo messages.now }
         ensures sent { (site : Site) → IsSenderOf self.old site
-            → OnOk result (Sends L.calls L.lost L.faults (messages_sent config.now site envelopes.now).acts [] link.old link.new self.old.lost self.new.lost) }
-        ensures next { (site : Site) → IsSenderOf self.old site → OnOk result (IsSenderOf self.new (messages_sent config.now site envelopes.now).site) }
-        ensures begun { (site : Site) → IsSenderOf self.old site
-            → OnErr result ((rest : List Act) × Sends L.calls L.lost L.faults (messages_sent config.now site envelopes.now).acts rest link.old link.new self.old.lost self.new.lost) }
-        ensures last { IsErrOf result ASendFault.Serial → self.new.sent ≡ 2 ^ 32 - 1 }
-        ensures serial { (site : Site) → IsSenderOf self.old site → IsErrOf result ASendFault.Serial
-            → (rest : List Act) × IsSending rest × Sends L.calls L.lost L.faults (messages_sent config.now site envelopes.now).acts rest link.old link.new self.old.lost self.new.lost }
-        ensures past { (site : Site) → IsSenderOf self.old site → IsErrOf result ASendFault.Serial → IsPast (messages_sent config.now site envelopes.now).site }
+            → OnOk result (Sends L.calls L.lost L.faults (all_sent config.now site messages.now).acts [] link.old link.new self.old.lost self.new.lost) }
+        ensures next { (site : Site) → IsSenderOf self.old site → OnOk result (IsSenderOf self.new (all_sent config.now site messages.now).site) }
+        ensures last { OnErr result (self.new.sent ≡ 2 ^ 32 - 1) }
+        ensures serial { (site : Site) → IsSenderOf self.old site → OnErr result
+            ((rest : List Act) × IsSending rest × Sends L.calls L.lost L.faults (all_sent config.now site messages.now).acts rest link.old link.new self.old.lost self.new.lost) }
+        ensures past { (site : Site) → IsSenderOf self.old site → OnErr result (IsPast (all_sent config.now site messages.now).site) }
     {
-        for envelope in envelopes {
-            self.send(alloc, config, link, envelope)?;
+        for message in messages {
+            self.send(config, link, message)?;
         }
         Ok(())
     }

@@ -5,7 +5,7 @@ use mdcc_frag::Joiner;
 use mdcc_inbox::{Found, take_datagram};
 use mdcc_link::MemoryLink;
 use mdcc_messages::{ClientAnswer, Message};
-use mdcc_outbox::{Clients, Sender, answer_to, print};
+use mdcc_outbox::{Clients, Outgoing, Sender, answer_to, print};
 use mdcc_runs::ServerLine;
 use mdcc_wire::empty_envelope;
 use std::alloc::Global;
@@ -76,7 +76,8 @@ fn sent(alloc: Global, script: &[u32]) -> Option<(Sender, MemoryLink)> {
     let mut link = MemoryLink::new(alloc, script).ok()?;
     let mut sender = sender(one);
     let answer = answer_to(one, 7, ClientAnswer::Begun(first()?));
-    sender.send(alloc, &config, &mut link, &answer).ok()?;
+    let message = Outgoing::new(alloc, &answer).ok()?;
+    sender.send(&config, &mut link, &message).ok()?;
     Some((sender, link))
 }
 
