@@ -1,9 +1,9 @@
 //! What a datagram brings.
-ghost use Rattle.std.specs.Prelude.{◌≡◌, ◌≤◌, IfOk, List, length, ℕ};
+ghost use Rattle.std.specs.Prelude.{◌≡◌, ◌≤◌, IfOk, List, OnErr, length, true, ℕ};
 ghost use Rattle.mdcc_frag.specs.Datagrams.{message_limit};
 ghost use Rattle.mdcc_frag.specs.Joining.{join};
 ghost use Rattle.mdcc_frag.specs.declared.joined.Joined.{Joined as AJoined};
-ghost use Rattle.mdcc_inbox.specs.Finds.{IsSound, seen};
+ghost use Rattle.mdcc_inbox.specs.Finds.{FindsNoMemory, IsSound, found_by, is_read, seen};
 ghost use Rattle.mdcc_messages.specs.Reading.{view_of};
 ghost use Rattle.mdcc_runs.specs.Arrivals.{arrival_of, message_in};
 
@@ -24,17 +24,25 @@ pub enum Found {
     Message,
 }
 
+// What is found by a reading that ended so.
+fn found_by(read: Result<(), WireFault>) -> Result<Found, Memory>
+    ensures { result ≡ found_by read }
+{
+    match read {
+        Ok(()) => Ok(Found::Message),
+        Err(WireFault::Memory) => Err(Memory),
+        Err(_) => Ok(Found::Refused),
+    }
+}
+
 // Reads the message that bytes are into its place.
 fn read_message(alloc: Global, bytes: &[u8], into: &mut Envelope) -> Result<Found, Memory>
     requires { length bytes.now ≤ message_limit }
     ensures sound { IfOk result (λ found. IsSound found into.new) }
     ensures seen { IfOk result (λ found. seen found into.new ≡ message_in (view_of bytes.now)) }
 {
-    match read_envelope(alloc, bytes, into) {
-        Ok(()) => Ok(Found::Message),
-        Err(WireFault::Memory) => Err(Memory),
-        Err(_) => Ok(Found::Refused),
-    }
+    let read = read_envelope(alloc, bytes, into);
+    found_by(read)
 }
 
 /// What a datagram brings, by what joined it to the other pieces of its message. A whole message is read into its place.
@@ -42,6 +50,7 @@ pub fn arrival_of(alloc: Global, joined: &Joined, into: &mut Envelope) -> Result
     requires { (bytes : List ℕ) → joined.now ≡ AJoined.Whole bytes → length bytes ≤ message_limit }
     ensures sound { IfOk result (λ found. IsSound found into.new) }
     ensures seen { IfOk result (λ found. seen found into.new ≡ arrival_of joined.now) }
+    ensures memory { OnErr result (is_read joined.now ≡ true) }
 {
     match joined {
         Joined::Whole(bytes) => read_message(alloc, bytes.as_slice(), into),
@@ -62,6 +71,7 @@ pub fn take_datagram(
     ensures sound { IfOk result (λ found. IsSound found into.new) }
     ensures joined { IfOk result (λ _. joiner.new ≡ (join datagram.now joiner.old).entries) }
     ensures found { IfOk result (λ found. seen found into.new ≡ arrival_of (join datagram.now joiner.old).answer) }
+    ensures memory { OnErr result (FindsNoMemory (join datagram.now joiner.old) joiner.old joiner.new) }
 {
     let joined = joiner.join(alloc, datagram)?;
     arrival_of(alloc, &joined, into)
