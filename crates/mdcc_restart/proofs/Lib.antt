@@ -1,5 +1,4 @@
 pub mod Appended
-mod Groups
 pub mod Kept
 pub mod Loaded
 pub mod Logged

@@ -1,12 +1,10 @@
 //! Facts go into the log of their centre.
-ghost use Rattle.std.specs.List.{AllByRecursion};
-ghost use Rattle.std.specs.Prelude.{◌≡◌, ◌≤◌, ◌<◌, ◌∷◌, ◌++◌, [], List, ℕ, length, map, IfOk, IsErrOf, IsTrue, OnOk};
+ghost use Rattle.std.specs.Prelude.{◌≡◌, ◌≤◌, ◌<◌, ◌∷◌, ◌++◌, [], List, ℕ, length, IfOk, IsErrOf, IsTrue, OnOk};
 ghost use Rattle.mdcc_areas.specs.Area.{AreaLog};
 ghost use Rattle.mdcc_areas.specs.AtRest.{IsAtRest, MayBeDue};
 ghost use Rattle.mdcc_areas.specs.Both.{KeepsBut, RoseAtOne};
 ghost use Rattle.mdcc_areas.specs.Crash.{IsIdle, ReadsAsEither, payloads_by};
 ghost use Rattle.mdcc_areas.specs.Frames.{IsInUse, IsSettled, IsSpare, appended, other_of, place_of};
-ghost use Rattle.mdcc_areas.specs.Groups.{AreFull, ReadsAsAllOrNone};
 ghost use Rattle.mdcc_areas.specs.Room.{HasGrown, IsFull};
 ghost use Rattle.mdcc_areas.specs.Tails.{tail_after};
 ghost use Rattle.mdcc_disks.specs.Disks.{LeavesOnly};
@@ -15,7 +13,7 @@ ghost use Rattle.mdcc_log.specs.Log.{payload_limit};
 ghost use Rattle.mdcc_messages.specs.Spelling.{fact_bytes};
 
 use mdcc_areas::{Frames, LogFault};
-use mdcc_base::{HeapList, Memory};
+use mdcc_base::Memory;
 use mdcc_disks::Disks;
 use mdcc_journal::encode_fact;
 use mdcc_messages::Fact;
@@ -29,19 +27,6 @@ pub fn payload_of(alloc: Global, fact: &Fact) -> Result<Vec<u8>, Memory>
     let mut payload = Vec::new(alloc);
     encode_fact(fact, &mut payload)?;
     Ok(payload)
-}
-
-// The bytes of facts, each as its log has them.
-fn payloads_of(alloc: Global, facts: &[Fact]) -> Result<Vec<HeapList<u8>>, Memory>
-    requires { AllByRecursion HasCounts facts.now }
-    ensures { IfOk result (λ payloads. payloads.items ≡ map fact_bytes facts.now) }
-{
-    let mut payloads = Vec::new(alloc);
-    for fact in facts {
-        let payload = payload_of(alloc, fact)?;
-        payloads.push(HeapList::from_vec(payload))?;
-    }
-    Ok(payloads)
 }
 
 /// Adds a fact to an open log, and makes a checkpoint at once where one is due then. At `Ok` the fact is acknowledged. After
@@ -107,55 +92,4 @@ pub fn append_fact<D: Disks>(
         return Err(LogFault::LogFull);
     }
     log.append_due(disks, &payload)
-}
-
-/// Adds facts to an open log, all of them or none, and makes a checkpoint at once where one is due then. At `Ok` they are
-/// acknowledged. After `LogFull` and `Memory` all is as before; after a fault of the disk the log has to be opened again, and
-/// may have all of them.
-pub fn append_facts<D: Disks>(
-    alloc: Global,
-    log: &mut Frames,
-    disks: &mut D,
-    facts: &[Fact],
-) -> Result<(), LogFault>
-    requires some { 1 ≤ length facts.now }
-    requires counts { AllByRecursion HasCounts facts.now }
-    requires short { AllByRecursion (λ fact. length (fact_bytes fact) ≤ payload_limit) facts.now }
-    requires settled { let place = place_of log.old.centre log.old.area in IsTrue (D.disk disks.old place).told
-        → IsSettled log.old (D.disk disks.old place).bytes (D.may_leave disks.old place) }
-    requires spare { let place = place_of log.old.centre (other_of log.old.area) in IsTrue (D.disk disks.old place).told
-        → IsSpare log.old (D.disk disks.old place).bytes (D.may_leave disks.old place) }
-
-    ensures acknowledged { let place = place_of log.old.centre log.old.area in let other = place_of log.old.centre (other_of log.old.area) in
-        (all : List (List ℕ)) → IsTrue (D.disk disks.old place).told → IsTrue (D.disk disks.old other).told
-        → IsAtRest D.disk D.may_leave disks.old log.old all
-        → OnOk result (IsAtRest D.disk D.may_leave disks.new log.new (all ++ map fact_bytes facts.now)) }
-    ensures few { OnOk result (log.new.tail < log.new.every) }
-    ensures keeps { (log.new.centre ≡ log.old.centre) × (log.new.every ≡ log.old.every) }
-
-    // Opening after a crash at any moment of it gives the payloads from before it, or those and all the new facts.
-    ensures any_moment_reads { let place = place_of log.old.centre log.old.area in let other = place_of log.old.centre (other_of log.old.area) in
-        (all : List (List ℕ)) (current spare : List ℕ) → IsTrue (D.disk disks.old place).told → IsTrue (D.disk disks.old other).told
-        → IsAtRest D.disk D.may_leave disks.old log.old all
-        → D.left_since disks.new place (D.moment disks.old) current → D.left_since disks.new other (D.moment disks.old) spare
-        → ReadsAsAllOrNone all (map fact_bytes facts.now) (payloads_by log.old.area current spare) }
-    ensures others { KeepsBut D.disk D.may_leave D.moment D.left_since disks.old disks.new
-        (place_of log.old.centre log.old.area) (place_of log.old.centre (other_of log.old.area)) }
-
-    ensures disk_fault { let place = place_of log.old.centre log.old.area in let other = place_of log.old.centre (other_of log.old.area) in
-        IsErrOf result LogFault.DiskFault
-        → RoseAtOne (D.disk disks.old place) (D.disk disks.new place) (D.disk disks.old other) (D.disk disks.new other) }
-    // It is full just where the log says so.
-    ensures full { IsErrOf result LogFault.LogFull → AreFull log.old (map fact_bytes facts.now) }
-    ensures has_room { OnOk result (AreFull log.old (map fact_bytes facts.now) → ⊥) }
-    ensures full_keeps { IsErrOf result LogFault.LogFull → disks.new ≡ disks.old }
-    ensures full_keeps_log { IsErrOf result LogFault.LogFull → log.new ≡ log.old }
-    ensures memory_keeps { IsErrOf result LogFault.Memory → disks.new ≡ disks.old }
-    ensures memory_keeps_log { IsErrOf result LogFault.Memory → log.new ≡ log.old }
-    ensures a_log { (n : ℕ) → IsErrOf result (LogFault.NotALog n) → IsTrue (D.disk disks.old (place_of log.old.centre log.old.area)).told → ⊥ }
-{
-    let Ok(payloads) = payloads_of(alloc, facts) else {
-        return Err(LogFault::Memory);
-    };
-    log.append_all(alloc, disks, &payloads)
 }

@@ -7,7 +7,7 @@ pub mod fault;
 pub mod laws;
 pub mod restarting;
 
-pub use append::{append_fact, append_facts, payload_of};
+pub use append::{append_fact, payload_of};
 pub use fault::RestartFault;
 pub use mdcc_areas::{Frames, LogFault};
 pub use mdcc_node::{BootFault, Node};
