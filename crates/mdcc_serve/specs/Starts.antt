@@ -1,6 +1,6 @@
 -- What the start of a centre does, and that of several.
 use Rattle.std.specs.List.{AllByRecursion}
-use Rattle.std.specs.Prelude.{IsTrue, List, None, Ok, [], length, ⊤, ℕ, ◌+◌, ◌++◌, ◌∷◌, ◌≡◌, ◌≤◌, ◌⊎◌}
+use Rattle.std.specs.Prelude.{IsTrue, List, Ok, [], length, ⊤, ℕ, ◌+◌, ◌++◌, ◌∷◌, ◌≡◌, ◌≤◌, ◌⊎◌}
 use Rattle.mdcc_admission.specs.Loading.{AreShort}
 use Rattle.mdcc_areas.specs.Area.{payloads}
 use Rattle.mdcc_areas.specs.AtRest.{IsAtRest}

@@ -1,21 +1,43 @@
 //! The start of a centre, and of several.
-ghost use Rattle.std.specs.Prelude.{◌≡◌, ◌≤◌, ◌+◌, ◌++◌, ◌-◌, ◌∷◌, ◌⊎◌, [], IfErr, IfOk, OnOk, length, ℕ};
+ghost use Rattle.std.specs.Prelude.{◌≡◌, ◌≤◌, ◌+◌, ◌++◌, ◌-◌, ◌∷◌, ◌⊎◌, [], IfErr, IfOk, List, OnOk, length, ℕ};
 ghost use Rattle.mdcc_config.specs.IsConfig.{IsConfig};
+ghost use Rattle.mdcc_messages.specs.declared.facts.Fact.{Fact as AFact};
 ghost use Rattle.mdcc_serve.specs.Refusals.{AllBoot, BootsAt, SaysAt, StartEnds};
 ghost use Rattle.mdcc_serve.specs.Starts.{FailToStart, FailsToStart, HasStarted, HaveStarted};
+ghost use Rattle.mdcc_site.specs.LogEffects.{Logs};
+ghost use Rattle.mdcc_site.specs.SiteState.{IsShortFact, OpenLog};
 ghost use Rattle.mdcc_site.specs.declared.fault.ServeFault.{ServeFault as AServeFault};
 ghost use Rattle.mdcc_site.specs.declared.site.Site.{Site as ASite};
 
 use crate::booting::boot;
+use mdcc_areas::Frames;
 use mdcc_base::{Centre, HeapList};
 use mdcc_config::Config;
 use mdcc_disks::Disks;
 use mdcc_frag::Joiner;
+use mdcc_messages::Fact;
 use mdcc_outbox::{Clients, Sender};
-use mdcc_runs::Pending;
-use mdcc_site::{ServeFault, Site, log_facts};
+use mdcc_restart::payload_of;
+use mdcc_site::{ServeFault, Site, log_payloads, nothing_pending};
 use std::alloc::Global;
 use std::slice;
+
+// Appends a boot to the log of a centre.
+fn log_boot<D: Disks>(
+    alloc: Global,
+    log: &mut Frames,
+    centre: Centre,
+    disks: &mut D,
+    boot: &Fact,
+) -> Result<(), ServeFault>
+    requires short { IsShortFact boot.now }
+    requires stands { (before : List AFact) × OpenLog D.disk D.may_leave disks.old log.old centre before }
+    ensures { (before : List AFact) → OpenLog D.disk D.may_leave disks.old log.old centre before
+        → Logs D.disk D.may_leave centre before (boot.now ∷ []) result disks.old disks.new log.new }
+{
+    let payload = HeapList::from_vec(payload_of(alloc, boot)?);
+    log_payloads(alloc, log, centre, disks, slice::from_ref(&payload))
+}
 
 // Opens the log of a centre, boots its node, and appends the boot.
 fn start<D: Disks>(
@@ -36,7 +58,7 @@ fn start<D: Disks>(
     let asked = Joiner::new(alloc)?;
     let (node, log, boot) = boot(alloc, config, centre, disks)?;
     let mut log = log;
-    log_facts(alloc, &mut log, centre, disks, slice::from_ref(&boot))?;
+    log_boot(alloc, &mut log, centre, disks, &boot)?;
     let epoch = node.epoch();
     Ok(Site {
         centre,
@@ -53,11 +75,7 @@ fn start<D: Disks>(
         asked,
         steps: 0,
         dropped: 0,
-        pending: Pending {
-            facts: HeapList::new(alloc),
-            envelopes: HeapList::new(alloc),
-            heard: HeapList::new(alloc),
-        },
+        pending: nothing_pending(alloc),
     })
 }
 

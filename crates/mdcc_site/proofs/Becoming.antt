@@ -1,14 +1,19 @@
 -- What a centre becomes by what needs no disk, link or output, one part after another.
-use Rattle.std.proofs.Common.{◌≡◌, ℕ, ◌+◌, List, [], ◌∷◌, ◌++◌, Bool, Option, Some, None, Result, Ok, Err, refl, sym, ◌∙◌, ap, subst, arith, append-nil}
+use Rattle.std.proofs.Common.{◌≡◌, ℕ, ◌+◌, List, [], ◌∷◌, ◌++◌, Bool, Option, Some, None, Result, Ok, Err, refl, sym, ◌∙◌, ap, subst, arith, append-nil, map}
+use Rattle.std.proofs.lemmas.List.{map-append}
 use Rattle.std.proofs.lemmas.List.Sums.{fold_push}
 use Rattle.std.specs.List.{AllByRecursion}
 use Rattle.std.specs.Prelude.{IfSome}
 use Rattle.mdcc_base.specs.declared.identifiers.TxId.{TxId}
+use Rattle.mdcc_journal.specs.Counts.{HasCounts}
+use Rattle.mdcc_messages.specs.Spelling.{fact_bytes}
 use Rattle.mdcc_messages.specs.declared.facts.Fact.{Fact}
 use Rattle.mdcc_messages.specs.declared.messages.ClientAnswer.{ClientAnswer}
 use Rattle.mdcc_messages.specs.declared.messages.Envelope.{Envelope}
 use Rattle.mdcc_option.specs.declared.cluster.Cluster.{Cluster}
+use Rattle.mdcc_outbox.specs.Outgoing.{outgoing}
 use Rattle.mdcc_outbox.specs.Shows.{counted}
+use Rattle.mdcc_outbox.specs.declared.outgoing.Outgoing.{Outgoing}
 use Rattle.mdcc_protocol.specs.Facts.{epoch_of}
 use Rattle.mdcc_rules.specs.Steps.{NodeStep, heard_by, with_new}
 use Rattle.mdcc_rules.specs.declared.node.Step.{Step}
@@ -17,11 +22,12 @@ use Rattle.mdcc_runs.specs.Runs.{listed}
 use Rattle.mdcc_runs.specs.Sending.{answer_to}
 use Rattle.mdcc_runs.specs.Sites.{Doing, Site, idle}
 use Rattle.mdcc_runs.specs.Steps.{answer_queued, dropped, step_queued, stepped}
-use Rattle.mdcc_runs.specs.declared.pending.Pending.{Pending}
 use Rattle.mdcc_site.specs.Logs.{with_facts}
 use Rattle.mdcc_site.specs.Moments.{Adds}
+use Rattle.mdcc_site.specs.PendingBytes.{pending_bytes}
 use Rattle.mdcc_site.specs.SiteState.{Acted, Becomes, CanBeSent, HasStepped, IsShortFact, IsSite, Makes, MakesNone, Refuses}
 use Rattle.mdcc_site.specs.declared.fault.ServeFault.{ServeFault}
+use Rattle.mdcc_site.specs.declared.pending.PendingBytes.{PendingBytes}
 use Rattle.mdcc_site.specs.declared.site.Site.{Site as TheSite}
 
 -- ---- counts that stand
@@ -146,16 +152,20 @@ pub each_listed : {X : Type 0} (P : X → Type 0) (o : Option X) → IfSome o P 
 each_listed P None h = tt
 each_listed P (Some x) h = (h, tt)
 
+pub counts_of : (o : Option Fact) → IfSome o IsShortFact → IfSome o HasCounts
+counts_of None short = tt
+counts_of (Some fact) short = short.0
+
 -- the newest fact is the last of those that wait
 newest : (logged more facts : List Fact) (o : Option Fact) → facts ≡ with_facts logged more → with_new facts o ≡ with_facts logged (more ++ listed o)
 newest logged more facts None all = all ∙ ap (with_facts logged) (sym (append-nil more))
 newest logged more facts (Some fact) all = ap (λ (fs : List Fact). fact ∷ fs) all ∙ sym (fold_push (λ (before : List Fact) (f : Fact). f ∷ before) logged more fact)
 
-pending_parts : (p q : Pending) → p.facts ≡ q.facts → p.envelopes ≡ q.envelopes → p.heard ≡ q.heard → p ≡ q
-pending_parts p q facts envelopes heard =
-    ap (λ (fs : List Fact). let all : Pending = record { facts = fs; envelopes = p.envelopes; heard = p.heard } in all) facts
-    ∙ (ap (λ (es : List Envelope). let all : Pending = record { facts = q.facts; envelopes = es; heard = p.heard } in all) envelopes
-    ∙ ap (λ (hs : List (TxId × Bool)). let all : Pending = record { facts = q.facts; envelopes = q.envelopes; heard = hs } in all) heard)
+pending_parts : (p q : PendingBytes) → p.payloads ≡ q.payloads → p.messages ≡ q.messages → p.heard ≡ q.heard → p ≡ q
+pending_parts p q payloads messages heard =
+    ap (λ (ps : List (List ℕ)). let all : PendingBytes = record { payloads = ps; messages = p.messages; heard = p.heard } in all) payloads
+    ∙ (ap (λ (ms : List Outgoing). let all : PendingBytes = record { payloads = q.payloads; messages = ms; heard = p.heard } in all) messages
+    ∙ ap (λ (hs : List (TxId × Bool)). let all : PendingBytes = record { payloads = q.payloads; messages = q.messages; heard = hs } in all) heard)
 
 -- ---- a step is queued and counted
 
@@ -163,7 +173,7 @@ module _ (cluster : Cluster) (site : Site) (made : NodeStep) (held : TheSite) (s
   abbrev all : Doing
   all = stepped (step_queued site made envelopes)
 
-  step_makes : (pending : Pending) (steps epoch : ℕ) → pending ≡ all.site.pending → steps ≡ counted (held.steps + 1) → epoch ≡ epoch_of (with_new site.node.facts made.fact)
+  step_makes : (pending : PendingBytes) (steps epoch : ℕ) → pending ≡ pending_bytes all.site.pending → steps ≡ counted (held.steps + 1) → epoch ≡ epoch_of (with_new site.node.facts made.fact)
       → Makes cluster site all held (record held { pending = pending; steps = steps; sender = record held.sender { epoch = epoch } })
   step_makes pending steps epoch waits more later = record {
     itself = record {
@@ -191,7 +201,8 @@ module _ (cluster : Cluster) (site : Site) (made : NodeStep) (held : TheSite) (s
   }
 
   pub step_becomes : (mid new : TheSite) → mid ≡ record held { pending = mid.pending }
-      → mid.pending.facts ≡ site.pending.facts ++ listed made.fact → mid.pending.envelopes ≡ site.pending.envelopes ++ envelopes → mid.pending.heard ≡ site.pending.heard ++ listed (heard_by made.fact)
+      → mid.pending.payloads ≡ map fact_bytes (site.pending.facts ++ listed made.fact) → mid.pending.messages ≡ map outgoing (site.pending.envelopes ++ envelopes)
+      → mid.pending.heard ≡ site.pending.heard ++ listed (heard_by made.fact)
       → new ≡ record mid { steps = new.steps; sender = record mid.sender { epoch = new.sender.epoch } } → new.steps ≡ counted (mid.steps + 1) → new.sender.epoch ≡ epoch_of (with_new site.node.facts made.fact)
       → Makes cluster site all held new
   step_becomes mid new queued facts messages heard counts more later =
@@ -199,26 +210,27 @@ module _ (cluster : Cluster) (site : Site) (made : NodeStep) (held : TheSite) (s
       let is : new ≡ record held { pending = mid.pending; steps = new.steps; sender = record held.sender { epoch = new.sender.epoch } } =
       counts ∙ ap (λ (h : TheSite). record h { steps = new.steps; sender = record h.sender { epoch = new.sender.epoch } }) queued in
       subst (λ (h : TheSite). Makes cluster site all held h) (sym is)
-      (step_makes mid.pending new.steps new.sender.epoch (pending_parts mid.pending all.site.pending facts messages heard) steps later)
+      (step_makes mid.pending new.steps new.sender.epoch (pending_parts mid.pending (pending_bytes all.site.pending) facts messages heard) steps later)
 
 -- by what the code has of the step
-pub queued_becomes : (cluster : Cluster) (site : Site) (made : NodeStep) (held : TheSite) (st : HasStepped cluster held site made) (step : Step) (mid new : TheSite)
-    → step.fact ≡ made.fact → step.heard ≡ heard_by made.fact → AllByRecursion CanBeSent step.sends
-    → mid ≡ record held { pending = mid.pending } → mid.pending.facts ≡ held.pending.facts ++ listed step.fact
-    → mid.pending.envelopes ≡ held.pending.envelopes ++ step.sends → mid.pending.heard ≡ held.pending.heard ++ listed step.heard
+pub queued_becomes : (cluster : Cluster) (site : Site) (made : NodeStep) (held : TheSite) (st : HasStepped cluster held site made) (step : Step) (envelopes : List Envelope) (mid new : TheSite)
+    → step.fact ≡ made.fact → step.heard ≡ heard_by made.fact → AllByRecursion CanBeSent envelopes
+    → mid ≡ record held { pending = mid.pending } → mid.pending.payloads ≡ held.pending.payloads ++ map fact_bytes (listed step.fact)
+    → mid.pending.messages ≡ held.pending.messages ++ map outgoing envelopes → mid.pending.heard ≡ held.pending.heard ++ listed step.heard
     → new ≡ record mid { steps = new.steps; sender = record mid.sender { epoch = new.sender.epoch } } → new.steps ≡ counted (mid.steps + 1) → new.sender.epoch ≡ epoch_of (with_new site.node.facts made.fact)
-    → Makes cluster site (stepped (step_queued site made step.sends)) held new
-queued_becomes cluster site made held st step mid new fact heard can queued facts messages ends counts more later =
-    step_becomes cluster site made held st step.sends can mid new queued
-    (facts ∙ (ap (λ (p : Pending). p.facts ++ listed step.fact) st.waits.pending ∙ ap (λ (o : Option Fact). site.pending.facts ++ listed o) fact))
-    (messages ∙ ap (λ (p : Pending). p.envelopes ++ step.sends) st.waits.pending)
-    (ends ∙ (ap (λ (p : Pending). p.heard ++ listed step.heard) st.waits.pending ∙ ap (λ (o : Option (TxId × Bool)). site.pending.heard ++ listed o) heard))
+    → Makes cluster site (stepped (step_queued site made envelopes)) held new
+queued_becomes cluster site made held st step envelopes mid new fact heard can queued payloads messages ends counts more later =
+    step_becomes cluster site made held st envelopes can mid new queued
+    (payloads ∙ (ap (λ (p : PendingBytes). p.payloads ++ map fact_bytes (listed step.fact)) st.waits.pending
+    ∙ (ap (λ (o : Option Fact). map fact_bytes site.pending.facts ++ map fact_bytes (listed o)) fact ∙ sym (map-append fact_bytes site.pending.facts (listed made.fact)))))
+    (messages ∙ (ap (λ (p : PendingBytes). p.messages ++ map outgoing envelopes) st.waits.pending ∙ sym (map-append outgoing site.pending.envelopes envelopes)))
+    (ends ∙ (ap (λ (p : PendingBytes). p.heard ++ listed step.heard) st.waits.pending ∙ ap (λ (o : Option (TxId × Bool)). site.pending.heard ++ listed o) heard))
     counts more later
 
 -- ---- an answer is queued
 
 pub answer_becomes : (cluster : Cluster) (site : Site) (held new : TheSite) (serial : ℕ) (answer : ClientAnswer) (x : Envelope)
-    → x ≡ answer_to held.centre serial answer → new ≡ record held { pending = new.pending } → new.pending ≡ record held.pending { envelopes = held.pending.envelopes ++ x ∷ [] }
+    → x ≡ answer_to held.centre serial answer → new ≡ record held { pending = new.pending } → new.pending ≡ record held.pending { messages = held.pending.messages ++ outgoing x ∷ [] }
     → IsSite cluster held site → Makes cluster site (answer_queued site serial answer) held new
 answer_becomes cluster site held new serial answer x is only pends stands =
     subst (λ (h : TheSite). Makes cluster site (answer_queued site serial answer) held h) (sym only) (record {
@@ -231,7 +243,7 @@ answer_becomes cluster site held new serial answer x is only pends stands =
         own = stands.own;
         asked = stands.asked;
         waits = record {
-          pending = pends ∙ pending_parts (record held.pending { envelopes = held.pending.envelopes ++ x ∷ [] }) (answer_queued site serial answer).site.pending facts messages heard;
+          pending = pends ∙ pending_parts (record held.pending { messages = held.pending.messages ++ outgoing x ∷ [] }) (pending_bytes (answer_queued site serial answer).site.pending) payloads messages heard;
           all = stands.waits.all ∙ ap (with_facts site.logged) (sym (append-nil site.pending.facts));
           facts = each_append IsShortFact site.pending.facts [] stands.waits.facts tt;
           envelopes = each_append CanBeSent site.pending.envelopes (answer_to site.centre serial answer ∷ []) stands.waits.envelopes (tt, tt);
@@ -246,12 +258,13 @@ answer_becomes cluster site held new serial answer x is only pends stands =
       lost = refl;
     })
   where
-    facts : held.pending.facts ≡ site.pending.facts ++ []
-    facts = ap (λ (p : Pending). p.facts) stands.waits.pending ∙ sym (append-nil site.pending.facts)
+    payloads : held.pending.payloads ≡ map fact_bytes (site.pending.facts ++ [])
+    payloads = ap (λ (p : PendingBytes). p.payloads) stands.waits.pending ∙ ap (map fact_bytes) (sym (append-nil site.pending.facts))
 
-    messages : held.pending.envelopes ++ x ∷ [] ≡ site.pending.envelopes ++ answer_to site.centre serial answer ∷ []
-    messages = ap (λ (p : Pending). p.envelopes ++ x ∷ []) stands.waits.pending
-        ∙ ap (λ (e : Envelope). site.pending.envelopes ++ e ∷ []) (is ∙ ap (λ (n : ℕ). answer_to n serial answer) stands.centre)
+    messages : held.pending.messages ++ outgoing x ∷ [] ≡ map outgoing (site.pending.envelopes ++ answer_to site.centre serial answer ∷ [])
+    messages = ap (λ (p : PendingBytes). p.messages ++ outgoing x ∷ []) stands.waits.pending
+        ∙ (ap (λ (e : Envelope). map outgoing site.pending.envelopes ++ outgoing e ∷ []) (is ∙ ap (λ (n : ℕ). answer_to n serial answer) stands.centre)
+        ∙ sym (map-append outgoing site.pending.envelopes (answer_to site.centre serial answer ∷ [])))
 
     heard : held.pending.heard ≡ site.pending.heard ++ []
-    heard = ap (λ (p : Pending). p.heard) stands.waits.pending ∙ sym (append-nil site.pending.heard)
+    heard = ap (λ (p : PendingBytes). p.heard) stands.waits.pending ∙ sym (append-nil site.pending.heard)

@@ -1,5 +1,6 @@
 -- What logging facts does to the log of a centre.
 use Rattle.std.proofs.Common.{◌≡◌, ℕ, ◌+◌, ◌≤◌, ◌<◌, ◌⊎◌, inl, inr, List, [], ◌∷◌, ◌++◌, length, map, Result, Ok, refl, sym, ◌∙◌, ap, subst, arith, append-nil, append_assoc, true, IsTrue, ◌==◌}
+use Rattle.std.proofs.lemmas.List.{length-map}
 use Rattle.std.proofs.lemmas.Bool.{cases_eq}
 use Rattle.std.proofs.lemmas.Bool.Decides.{nat_tests}
 use Rattle.std.specs.List.{AllByRecursion}
@@ -11,12 +12,11 @@ use Rattle.mdcc_areas.specs.Frames.{IsSettled, IsSpare, OpenAreas, other_of, pla
 use Rattle.mdcc_areas.specs.Groups.{AreFull, ReadsAsAllOrNone}
 use Rattle.mdcc_areas.specs.declared.fault.LogFault.{LogFault}
 use Rattle.mdcc_disks.specs.Disks.{Disk}
-use Rattle.mdcc_journal.specs.Counts.{HasCounts}
 use Rattle.mdcc_messages.specs.Spelling.{fact_bytes, encodings_of}
 use Rattle.mdcc_messages.specs.declared.facts.Fact.{Fact}
 use Rattle.mdcc_runs.specs.Sending.{facts_logged}
 use Rattle.mdcc_site.specs.Causes.{IsLogging, next_facts}
-use Rattle.mdcc_site.specs.LogEffects.{FailsToLog, HasLogged, log_fault_of}
+use Rattle.mdcc_site.specs.LogEffects.{AreShortFacts, FailsToLog, HasLogged, log_fault_of}
 use Rattle.mdcc_site.specs.Logs.{MayHaveFacts, with_facts}
 use Rattle.mdcc_site.specs.Moments.{DiskPasses, KeepsOthers}
 use Rattle.mdcc_site.specs.Room.{HasNoRoom, LacksRoom}
@@ -305,25 +305,22 @@ module _ {D : Type 0} (disk : D → ℕ → Disk) (may_leave : D → ℕ → Lis
           others = others_keep;
         }
 
--- where there are no facts
-pub nothing_logged : {D : Type 0} (disk : D → ℕ → Disk) (may_leave : D → ℕ → List ℕ → Type 0) (disks : D) (log : OpenAreas) (centre : ℕ) (facts : List Fact) → HoldsLog disk may_leave disks log centre facts
-    → HasLogged disk may_leave centre facts [] disks disks log
-nothing_logged disk may_leave disks log centre facts stands = record {
-  stands = stands;
-  passes = record { told = λ p. refl; faults = λ p. omega arith };
-  others = record { others = λ p one two. refl; crash = λ p one two c left. left };
-}
-
 pub same_fault : {D : Type 0} (disk : D → ℕ → Disk) (may_leave : D → ℕ → List ℕ → Type 0) (centre : ℕ) (facts more : List Fact) (result fault : ServeFault) (old new : D) → result ≡ fault
     → FailsToLog disk may_leave centre facts more fault old new → FailsToLog disk may_leave centre facts more result old new
 same_fault disk may_leave centre facts more result fault old new is fails = rw is fails
 
--- ---- what an append asks of the facts
+-- ---- what an append asks of the payloads
 
-pub all_counted : (facts : List Fact) → AllByRecursion IsShortFact facts → AllByRecursion HasCounts facts
-all_counted [] short = tt
-all_counted (fact ∷ facts) short = (short.0.0, all_counted facts short.1)
+abbrev pub AreShort : List (List ℕ) → Type 0
+AreShort payloads = AllByRecursion (λ payload. length payload ≤ 2097152) payloads
 
-pub all_short : (facts : List Fact) → AllByRecursion IsShortFact facts → AllByRecursion (λ fact. length (fact_bytes fact) ≤ 2097152) facts
+all_short : (facts : List Fact) → AllByRecursion IsShortFact facts → AreShort (map fact_bytes facts)
 all_short [] short = tt
 all_short (fact ∷ facts) short = (let e = length-fact fact in let few = short.0.1 in omega (e, few, arith), all_short facts short.1)
+
+pub payloads_short : (payloads : List (List ℕ)) → AreShortFacts payloads → AreShort payloads
+payloads_short payloads (facts, are, short) = subst AreShort (sym are) (all_short facts short)
+
+-- as many as the facts
+pub some_facts : (payloads : List (List ℕ)) (facts : List Fact) → payloads ≡ map fact_bytes facts → 1 ≤ length payloads → 1 ≤ length facts
+some_facts payloads facts are some = subst (λ (n : ℕ). 1 ≤ n) (ap length are ∙ length-map facts fact_bytes) some

@@ -16,6 +16,7 @@ use Rattle.mdcc_runs.specs.Sites.{Site}
 use Rattle.mdcc_runs.specs.Steps.{begin_noted, begin_told, end_told, ends_told, reading_told}
 use Rattle.mdcc_runs.specs.declared.clients.Begun.{Begun}
 use Rattle.mdcc_site.proofs.Becoming.{each_append, each_listed}
+use Rattle.mdcc_site.specs.PendingBytes.{pending_bytes}
 use Rattle.mdcc_site.specs.SiteState.{CanBeSent, HasStepped, begun_in, refused_fault, refused_key}
 use Rattle.mdcc_site.specs.declared.site.Site.{Site as TheSite}
 
@@ -51,7 +52,7 @@ stepped_noted cluster held new site noted made only same clients st = subst (λ 
   own = st.own ∙ sym only.own;
   asked = st.asked ∙ sym only.asked;
   waits = record {
-    pending = st.waits.pending ∙ sym only.pending;
+    pending = st.waits.pending ∙ ap pending_bytes (sym only.pending);
     all = rw (only.node, only.logged, only.pending) st.waits.all;
     facts = rw only.pending st.waits.facts;
     envelopes = rw only.pending st.waits.envelopes;
@@ -62,7 +63,7 @@ stepped_noted cluster held new site noted made only same clients st = subst (λ 
 
 -- and so it does where the client is told something beside
 pub stepped_told : (cluster : Cluster) (held new : TheSite) (site : Site) (made : NodeStep) (clients : Clients) (told : Option Envelope)
-    → new ≡ record held { clients = new.clients; pending = new.pending } → new.clients ≡ clients → new.pending ≡ record site.pending { envelopes = site.pending.envelopes ++ listed told } → IfSome told CanBeSent
+    → new ≡ record held { clients = new.clients; pending = new.pending } → new.clients ≡ clients → new.pending ≡ pending_bytes (record site.pending { envelopes = site.pending.envelopes ++ listed told }) → IfSome told CanBeSent
     → HasStepped cluster held site made → HasStepped cluster new (record site { clients = clients; pending = record site.pending { envelopes = site.pending.envelopes ++ listed told } }) made
 stepped_told cluster held new site made clients told same noted waits can st =
     subst (λ (h : TheSite). HasStepped cluster h (record site { clients = clients; pending = record site.pending { envelopes = site.pending.envelopes ++ listed told } }) made) (sym same) (record {
@@ -82,6 +83,11 @@ stepped_told cluster held new site made clients told same noted waits can st =
       fact = st.fact;
       sends = st.sends;
     })
+
+-- the client is told how a transaction ended that was begun for it
+pub told_end : (site : Site) (heard : Option (TxId × Bool)) (tx : TxId) (is_commit : Bool) (begun : Begun) → heard ≡ Some (tx, is_commit) → known_of site.clients tx ≡ Some begun
+    → ends_told site heard ≡ Some (answer_to site.centre begun.serial (ClientAnswer.Heard tx is_commit))
+told_end site heard tx is_commit begun is known = ap (ends_told site) is ∙ ap (end_told site.centre tx is_commit) known
 
 -- ---- what the client is told can be sent
 

@@ -1,5 +1,5 @@
 -- Why a centre does not send or print, and what it prints in order.
-use Rattle.std.proofs.Common.{◌≡◌, ◌⊎◌, ℕ, ◌≤◌, List, [], ◌∷◌, ◌++◌, Bool, Option, Err, refl, sym, subst, inl, inr, append-nil, take, length, arith}
+use Rattle.std.proofs.Common.{◌≡◌, ◌⊎◌, ℕ, ◌≤◌, List, [], ◌∷◌, ◌++◌, Bool, Option, Err, refl, sym, ◌∙◌, ap, map, subst, inl, inr, append-nil, take, length, arith}
 use Rattle.std.proofs.lemmas.List.{map-append}
 use Rattle.std.specs.Io.KnownBytes.{Appends}
 use Rattle.std.specs.Prelude.{IsErrOf}
@@ -8,39 +8,46 @@ use Rattle.mdcc_base.specs.declared.identifiers.TxId.{TxId}
 use Rattle.mdcc_config.specs.declared.config.Config.{Config}
 use Rattle.mdcc_link.specs.Link.{LinkCall}
 use Rattle.mdcc_messages.specs.declared.messages.Envelope.{Envelope}
+use Rattle.mdcc_outbox.proofs.Bytes.{all_same}
 use Rattle.mdcc_outbox.proofs.Handed.{rose_before}
-use Rattle.mdcc_outbox.specs.Sends.{IsPast, IsSending, Sends}
+use Rattle.mdcc_outbox.specs.Outgoing.{all_sent, outgoing}
+use Rattle.mdcc_outbox.specs.Sends.{IsPast, IsSenderOf, IsSending, Sends}
 use Rattle.mdcc_outbox.specs.declared.fault.PrintFault.{PrintFault}
-use Rattle.mdcc_outbox.specs.declared.fault.SendFault.{SendFault}
+use Rattle.mdcc_outbox.specs.declared.outgoing.Outgoing.{Outgoing}
 use Rattle.mdcc_outbox.specs.declared.sending.Sender.{Sender}
 use Rattle.mdcc_runs.specs.Acts.{Act, printed}
 use Rattle.mdcc_runs.specs.Lines.{line_text}
 use Rattle.mdcc_runs.specs.Sending.{heard_printed, messages_sent}
-use Rattle.mdcc_runs.specs.Sites.{Site}
+use Rattle.mdcc_runs.specs.Sites.{Doing, Site}
 use Rattle.mdcc_runs.specs.declared.lines.ServerLine.{ServerLine}
 use Rattle.mdcc_site.proofs.Joined.{none_written, printed_append, written_joined}
-use Rattle.mdcc_site.specs.Causes.{IsPrinting, of_print, of_send, text_begun}
+use Rattle.mdcc_site.specs.Causes.{IsPrinting, of_print, text_begun}
 use Rattle.mdcc_site.specs.Printing.{PrintsFront}
-use Rattle.mdcc_site.specs.SiteState.{PrintsAll, PrintsSome, SendsSome}
+use Rattle.mdcc_site.specs.SiteState.{PrintsAll, PrintsSome, SendsAll, SendsSome}
 use Rattle.mdcc_site.specs.declared.fault.ServeFault.{ServeFault}
 
-module _ {L : Type 0} (calls : L → Option (List LinkCall)) (lost faults : L → ℕ) where
-  some_by : (config : Config) (site : Site) (xs : List Envelope) (fault : SendFault) (old new : L) (before after : Sender)
-      → (rest : List Act) × Sends calls lost faults (messages_sent config site xs).acts rest old new before.lost after.lost
-      → (IsErrOf {T = Unit {0}} (Err fault) SendFault.Serial → (rest : List Act) × IsSending rest × Sends calls lost faults (messages_sent config site xs).acts rest old new before.lost after.lost)
-      → (IsErrOf {T = Unit {0}} (Err fault) SendFault.Serial → IsPast (messages_sent config site xs).site)
-      → SendsSome calls lost faults config site xs (of_send fault) old new before after
-  some_by config site xs SendFault.Serial old new before after begun serial past =
-      let it = serial refl in record { rest = it.0; sent = it.2; comes = inr (refl, it.1); past = past refl }
-  some_by config site xs SendFault.Memory old new before after begun serial past = record { rest = begun.0; sent = begun.1; comes = inl refl; past = tt }
+module _ {L : Type 0} (calls : L → Option (List LinkCall)) (lost faults : L → ℕ) (config : Config) (site : Site) (messages : List Outgoing) (xs : List Envelope) (are : messages ≡ map outgoing xs) where
+  same_sent : all_sent config site messages ≡ messages_sent config site xs
+  same_sent = ap (all_sent config site) are ∙ all_same config site xs
 
-  pub sends_some : (config : Config) (site : Site) (xs : List Envelope) (fault : SendFault) (result : ServeFault) (old new : L) (before after : Sender) → result ≡ of_send fault
-      → (rest : List Act) × Sends calls lost faults (messages_sent config site xs).acts rest old new before.lost after.lost
-      → (IsErrOf {T = Unit {0}} (Err fault) SendFault.Serial → (rest : List Act) × IsSending rest × Sends calls lost faults (messages_sent config site xs).acts rest old new before.lost after.lost)
-      → (IsErrOf {T = Unit {0}} (Err fault) SendFault.Serial → IsPast (messages_sent config site xs).site)
-      → SendsSome calls lost faults config site xs result old new before after
-  sends_some config site xs fault result old new before after is begun serial past =
-      subst (λ (f : ServeFault). SendsSome calls lost faults config site xs f old new before after) (sym is) (some_by config site xs fault old new before after begun serial past)
+  -- sending the bytes of messages sends the messages
+  pub sends_all : (old new : L) (before after : Sender) → Sends calls lost faults (all_sent config site messages).acts [] old new before.lost after.lost → IsSenderOf after (all_sent config site messages).site
+      → SendsAll calls lost faults config site xs old new before after
+  sends_all old new before after sent next = record {
+    sent = subst (λ (d : Doing). Sends calls lost faults d.acts [] old new before.lost after.lost) same_sent sent;
+    next = subst (λ (d : Doing). IsSenderOf after d.site) same_sent next;
+  }
+
+  pub sends_some : (fault : ServeFault) (old new : L) (before after : Sender) → fault ≡ ServeFault.Serial
+      → (rest : List Act) × IsSending rest × Sends calls lost faults (all_sent config site messages).acts rest old new before.lost after.lost → IsPast (all_sent config site messages).site
+      → SendsSome calls lost faults config site xs fault old new before after
+  sends_some fault old new before after is some past = record {
+    rest = some.0;
+    sent = subst (λ (d : Doing). Sends calls lost faults d.acts some.0 old new before.lost after.lost) same_sent some.2;
+    serial = is;
+    comes = some.1;
+    past = subst (λ (d : Doing). IsPast d.site) same_sent past;
+  }
 
 -- the text of a line, whatever comes behind it
 text_there : (fault : ServeFault) (line : ServerLine) (rest : List Act) → text_begun fault (Act.Print line ∷ []) ≡ text_begun fault (Act.Print line ∷ rest)

@@ -17,6 +17,7 @@ use Rattle.mdcc_site.specs.Causes.{IsAtLink, IsNoBoot, IsPrinting, failed_by, in
 use Rattle.mdcc_site.specs.LogEffects.{CausedOn, FailsToLog, HasLogged}
 use Rattle.mdcc_site.specs.Logs.{MayHaveFacts}
 use Rattle.mdcc_site.specs.Moments.{Caused, DiskPasses, Leaves, MayComeAt, Outside, Passes}
+use Rattle.mdcc_site.specs.PendingBytes.{pending_bytes}
 use Rattle.mdcc_site.specs.Printing.{PrintsFront}
 use Rattle.mdcc_site.specs.Room.{OnFull}
 use Rattle.mdcc_site.specs.SiteState.{Finishes, HoldsLog, HoldsSite, IsSite, OnSerial, PrintsAll, Stops, place, seen}
@@ -256,7 +257,7 @@ module _ {D L O : Type 0} (w : Outside D L O) where
   -- ---- pending facts
 
   module _ (cluster : Cluster) (site : Site) (disks new_disks : D) (held new : TheSite) (link : L) (out : O)
-      (same : new ≡ record held { log = new.log; pending = nothing_pending })
+      (same : new ≡ record held { log = new.log; pending = pending_bytes nothing_pending })
     where
       abbrev pub logged : Doing
       logged = doing (facts_logged site.centre site.pending.facts) (persisted site)
@@ -264,7 +265,7 @@ module _ {D L O : Type 0} (w : Outside D L O) where
       passes_logged : DiskPasses w.disk w.may_leave disks new_disks → Passes w (seen (place disks held link out)) (seen (place new_disks new link out))
       passes_logged passes = record { told = passes.told; faults = passes.faults; sends = omega arith; receives = omega arith; writes = omega arith }
 
-      persisted_is : IsSite cluster held site → IsSite cluster (record held { log = new.log; pending = nothing_pending }) (persisted site)
+      persisted_is : IsSite cluster held site → IsSite cluster (record held { log = new.log; pending = pending_bytes nothing_pending }) (persisted site)
       persisted_is is = record {
         node = is.node;
         kept = is.kept;

@@ -1,21 +1,25 @@
 -- What is pending at a centre goes out: its facts, its messages, and its lines.
 use Rattle.std.proofs.Common.{◌≡◌, ℕ, ◌≤◌, List, Ok, Err, refl, sym, ◌∙◌, ap, subst, arith}
+use Rattle.std.specs.List.{AllByRecursion}
 use Rattle.mdcc_config.specs.declared.config.Config.{Config}
-use Rattle.mdcc_messages.specs.declared.facts.Fact.{Fact}
 use Rattle.mdcc_messages.specs.declared.messages.Envelope.{Envelope}
 use Rattle.mdcc_option.specs.declared.cluster.Cluster.{Cluster}
+use Rattle.mdcc_outbox.proofs.Bytes.{all_go}
 use Rattle.mdcc_outbox.proofs.Messages.{messages_later}
+use Rattle.mdcc_outbox.specs.Outgoing.{CanGo}
+use Rattle.mdcc_outbox.specs.declared.outgoing.Outgoing.{Outgoing}
 use Rattle.mdcc_runs.specs.Sending.{facts_logged, heard_printed, messages_sent, persist_then_send, persisted}
 use Rattle.mdcc_runs.specs.Sites.{Doing, Site, after_acts, doing, nothing_pending}
-use Rattle.mdcc_runs.specs.declared.pending.Pending.{Pending}
 use Rattle.mdcc_site.proofs.Going.{goes_then, stops_then}
 use Rattle.mdcc_site.proofs.Owns.{IsWhole, logged_owns, messages_own}
 use Rattle.mdcc_site.proofs.Parts.{log_goes, log_stops, logged}
 use Rattle.mdcc_site.proofs.Sent.{sent_goes, sent_stops}
 use Rattle.mdcc_site.specs.LogEffects.{FailsToLog, HasLogged}
 use Rattle.mdcc_site.specs.Moments.{Outside}
-use Rattle.mdcc_site.specs.SiteState.{Finishes, HoldsLog, HoldsSite, Place, SendsAll, SendsSome, Stops, place}
+use Rattle.mdcc_site.specs.PendingBytes.{pending_bytes}
+use Rattle.mdcc_site.specs.SiteState.{Finishes, HoldsLog, HoldsSite, Place, SendsAll, SendsSome, Stops, Waits, place}
 use Rattle.mdcc_site.specs.declared.fault.ServeFault.{ServeFault}
+use Rattle.mdcc_site.specs.declared.pending.PendingBytes.{PendingBytes}
 use Rattle.mdcc_site.specs.declared.site.Site.{Site as TheSite}
 
 module _ {D L O : Type 0} (w : Outside D L O) (cluster : Cluster) (config : Config) (site : Site) (whole : IsWhole site) where
@@ -55,25 +59,28 @@ module _ {D L O : Type 0} (w : Outside D L O) (cluster : Cluster) (config : Conf
 
 -- ---- its messages, as the code has them
 
-module _ {D L O : Type 0} (w : Outside D L O) (cluster : Cluster) (config : Config) (disks : D) (held new : TheSite) (site : Site) (link new_link : L) (out : O) (xs ys : List Envelope)
-    (are : xs ≡ ys) (sends_only : new ≡ record held { sender = new.sender })
+module _ {D L O : Type 0} (w : Outside D L O) (cluster : Cluster) (config : Config) (disks : D) (held new : TheSite) (site : Site) (link new_link : L) (out : O) (xs : List Envelope)
+    (sends_only : new ≡ record held { sender = new.sender })
   where
     pub part_sent : HoldsSite w cluster disks held site → SendsAll w.calls w.lost w.faults config site xs link new_link held.sender new.sender
-        → Finishes w cluster site (messages_sent config site ys) (place disks held link out) (place disks new new_link out)
-    part_sent stands all = subst (λ (h : TheSite). Finishes w cluster site (messages_sent config site ys) (place disks held link out) (place disks h new_link out)) (sym sends_only)
-        (sent_goes w cluster config disks held site link new_link out new.sender ys stands
-        (subst (λ (es : List Envelope). SendsAll w.calls w.lost w.faults config site es link new_link held.sender new.sender) are all))
+        → Finishes w cluster site (messages_sent config site xs) (place disks held link out) (place disks new new_link out)
+    part_sent stands all = subst (λ (h : TheSite). Finishes w cluster site (messages_sent config site xs) (place disks held link out) (place disks h new_link out)) (sym sends_only)
+        (sent_goes w cluster config disks held site link new_link out new.sender xs stands all)
 
     pub part_unsent : (fault : ServeFault) → HoldsSite w cluster disks held site → SendsSome w.calls w.lost w.faults config site xs fault link new_link held.sender new.sender
-        → Stops w site (messages_sent config site ys) fault (place disks held link out) (place disks new new_link out)
-    part_unsent fault stands some = subst (λ (h : TheSite). Stops w site (messages_sent config site ys) fault (place disks held link out) (place disks h new_link out)) (sym sends_only)
-        (sent_stops w cluster config disks held site link new_link out new.sender ys fault stands.log.open_log.left
-        (subst (λ (es : List Envelope). SendsSome w.calls w.lost w.faults config site es fault link new_link held.sender new.sender) are some))
+        → Stops w site (messages_sent config site xs) fault (place disks held link out) (place disks new new_link out)
+    part_unsent fault stands some = subst (λ (h : TheSite). Stops w site (messages_sent config site xs) fault (place disks held link out) (place disks h new_link out)) (sym sends_only)
+        (sent_stops w cluster config disks held site link new_link out new.sender xs fault stands.log.open_log.left some)
+
+-- they fit into datagrams
+pub pending_go : (held : TheSite) (site : Site) (messages : List Outgoing) → Waits held site → messages ≡ held.pending.messages → AllByRecursion CanGo messages
+pending_go held site messages waits are =
+    subst (λ (ms : List Outgoing). AllByRecursion CanGo ms) (sym (are ∙ ap (λ (p : PendingBytes). p.messages) waits.pending)) (all_go site.pending.envelopes)
 
 -- ---- its facts, as the code has them
 
 module _ {D L O : Type 0} (w : Outside D L O) (cluster : Cluster) (site : Site) (disks : D) (held emptied : TheSite)
-    (stands : HoldsSite w cluster disks held site) (empties : emptied ≡ record held { pending = nothing_pending })
+    (stands : HoldsSite w cluster disks held site) (empties : emptied ≡ record held { pending = pending_bytes nothing_pending })
   where
     pub centre_there : emptied.centre ≡ site.centre
     centre_there = ap (λ (h : TheSite). h.centre) empties ∙ stands.itself.centre
@@ -83,21 +90,16 @@ module _ {D L O : Type 0} (w : Outside D L O) (cluster : Cluster) (site : Site) 
     log_there = subst (λ (n : ℕ). HoldsLog w.disk w.may_leave disks emptied.log n site.logged) (sym centre_there)
         (subst (λ (h : TheSite). HoldsLog w.disk w.may_leave disks h.log site.centre site.logged) (sym empties) stands.log)
 
-    module _ (new_disks : D) (new : TheSite) (link : L) (out : O) (facts : List Fact) (only : new ≡ record emptied { log = new.log }) (are : facts ≡ held.pending.facts) where
-      pub same_there : new ≡ record held { log = new.log; pending = nothing_pending }
+    module _ (new_disks : D) (new : TheSite) (link : L) (out : O) (only : new ≡ record emptied { log = new.log }) where
+      pub same_there : new ≡ record held { log = new.log; pending = pending_bytes nothing_pending }
       same_there = only ∙ ap (λ (h : TheSite). record h { log = new.log }) empties
 
-      facts_there : facts ≡ site.pending.facts
-      facts_there = are ∙ ap (λ (p : Pending). p.facts) stands.itself.waits.pending
-
-      pub log_done : HasLogged w.disk w.may_leave emptied.centre site.logged facts disks new_disks new.log
+      pub log_done : HasLogged w.disk w.may_leave emptied.centre site.logged site.pending.facts disks new_disks new.log
           → Finishes w cluster site (logged w cluster site disks new_disks held new link out same_there) (place disks held link out) (place new_disks new link out)
       log_done has = log_goes w cluster site disks new_disks held new link out same_there stands.itself
-          (subst (λ (n : ℕ). HasLogged w.disk w.may_leave n site.logged site.pending.facts disks new_disks new.log) centre_there
-          (subst (λ (fs : List Fact). HasLogged w.disk w.may_leave emptied.centre site.logged fs disks new_disks new.log) facts_there has))
+          (subst (λ (n : ℕ). HasLogged w.disk w.may_leave n site.logged site.pending.facts disks new_disks new.log) centre_there has)
 
-      pub log_broken : (fault : ServeFault) → FailsToLog w.disk w.may_leave emptied.centre site.logged facts fault disks new_disks
+      pub log_broken : (fault : ServeFault) → FailsToLog w.disk w.may_leave emptied.centre site.logged site.pending.facts fault disks new_disks
           → Stops w site (logged w cluster site disks new_disks held new link out same_there) fault (place disks held link out) (place new_disks new link out)
       log_broken fault fails = log_stops w cluster site disks new_disks held new link out same_there fault
-          (subst (λ (n : ℕ). FailsToLog w.disk w.may_leave n site.logged site.pending.facts fault disks new_disks) centre_there
-          (subst (λ (fs : List Fact). FailsToLog w.disk w.may_leave emptied.centre site.logged fs fault disks new_disks) facts_there fails))
+          (subst (λ (n : ℕ). FailsToLog w.disk w.may_leave n site.logged site.pending.facts fault disks new_disks) centre_there fails)

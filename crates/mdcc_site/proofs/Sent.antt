@@ -1,5 +1,5 @@
 -- What a centre sends, prints and logs, as parts of what it does.
-use Rattle.std.proofs.Common.{◌≡◌, ℕ, ◌+◌, ◌⊎◌, inl, inr, List, [], ◌∷◌, ◌++◌, Option, Some, None, Ok, refl, sym, ◌∙◌, ap, subst, arith, append-nil, map, length, nat_lt, cond, Bool, true, false, IsTrue}
+use Rattle.std.proofs.Common.{◌≡◌, ℕ, ◌+◌, List, [], ◌∷◌, ◌++◌, Option, Some, None, Ok, refl, sym, ◌∙◌, ap, subst, arith, append-nil, map, length, nat_lt, cond, Bool, true, false, IsTrue}
 use Rattle.std.specs.List.{AllByRecursion, range_with_len}
 use Rattle.mdcc_base.specs.declared.outside.Address.{Address}
 use Rattle.mdcc_config.specs.declared.config.Config.{Config}
@@ -11,19 +11,17 @@ use Rattle.mdcc_messages.specs.Spelling.{message_bytes}
 use Rattle.mdcc_messages.specs.declared.facts.Fact.{Fact}
 use Rattle.mdcc_messages.specs.declared.messages.Envelope.{Envelope}
 use Rattle.mdcc_option.specs.declared.cluster.Cluster.{Cluster}
-use Rattle.mdcc_outbox.specs.Sends.{IsSenderOf, IsSending, Sends}
+use Rattle.mdcc_outbox.specs.Sends.{IsSenderOf, Sends}
 use Rattle.mdcc_outbox.specs.Shows.{Records, calls_of, counted}
 use Rattle.mdcc_outbox.specs.declared.sending.Sender.{Sender}
 use Rattle.mdcc_runs.specs.Acts.{Act, appended, but_answer, but_answers, dropped_by, dropped_in, lost_in, printed, printed_by, steps_by, steps_in}
 use Rattle.mdcc_runs.specs.Runs.{NodeState}
 use Rattle.mdcc_runs.specs.Sending.{address_to, datagrams_sent, message_sent, message_sent_to, messages_sent, next_head}
-use Rattle.mdcc_runs.specs.Sites.{Site, doing}
-use Rattle.mdcc_runs.specs.declared.pending.Pending.{Pending}
+use Rattle.mdcc_runs.specs.Sites.{Pending, Site, doing}
 use Rattle.mdcc_site.proofs.Joined.{appended_answers, appended_append, dropped_append, none_added, none_written, others_none, printed_append, steps_append}
-use Rattle.mdcc_site.specs.Causes.{IsNoBoot, failed_by, in_flight, text_begun}
 use Rattle.mdcc_site.specs.Logs.{MayHaveFacts, with_facts}
-use Rattle.mdcc_site.specs.Moments.{Caused, Leaves, MayComeAt, Outside, Passes}
-use Rattle.mdcc_site.specs.Room.{OnFull}
+use Rattle.mdcc_site.specs.Moments.{Leaves, Outside, Passes}
+use Rattle.mdcc_site.specs.PendingBytes.{pending_bytes}
 use Rattle.mdcc_site.specs.SiteState.{CanBeSent, Finishes, IsShortFact, IsSite, Place, SendsAll, SendsSome, HoldsSite, Stops, place, seen}
 use Rattle.mdcc_site.specs.declared.fault.ServeFault.{ServeFault}
 use Rattle.mdcc_site.specs.declared.site.Site.{Site as TheSite}
@@ -75,7 +73,7 @@ site_sent cluster held site after sender only is sends = record {
   own = is.own ∙ sym only.own;
   asked = is.asked ∙ sym only.asked;
   waits = record {
-    pending = is.waits.pending ∙ sym only.pending;
+    pending = is.waits.pending ∙ ap pending_bytes (sym only.pending);
     all = ap (λ (n : NodeState). n.facts) only.node
         ∙ (is.waits.all ∙ (ap (λ (fs : List Fact). with_facts fs site.pending.facts) (sym only.logged) ∙ ap (λ (p : Pending). with_facts after.logged p.facts) (sym only.pending)));
     facts = subst (λ (p : Pending). AllByRecursion IsShortFact p.facts) (sym only.pending) is.waits.facts;
@@ -209,44 +207,25 @@ module _ {D L O : Type 0} (w : Outside D L O) where
       };
     }
 
-    comes_sent : (Told : Type 0) (fault : ServeFault) (rest : List Act) → (fault ≡ ServeFault.Memory) ⊎ ((fault ≡ ServeFault.Serial) × IsSending rest)
-        → MayComeAt Told fault rest × (failed_by fault rest ≡ []) × (text_begun fault rest ≡ []) × ((a : ℕ) → in_flight fault a rest ≡ [])
-    comes_sent Told fault rest (inl is) = rw is (tt, refl, refl, λ a. refl)
-    comes_sent Told fault rest (inr is) = rw is.0 (is.1, refl, refl, λ a. refl)
-
-    caused_sent : (fault : ServeFault) (rest : List Act) → (fault ≡ ServeFault.Memory) ⊎ ((fault ≡ ServeFault.Serial) × IsSending rest) → Caused w fault (seen before) (seen after)
-    caused_sent fault rest (inl is) = rw is tt
-    caused_sent fault rest (inr is) = rw is.0 tt
-
-    full_sent : (fault : ServeFault) (rest : List Act) → (fault ≡ ServeFault.Memory) ⊎ ((fault ≡ ServeFault.Serial) × IsSending rest) → OnFull w.disk w.may_leave disks fault rest
-    full_sent fault rest (inl is) = rw is tt
-    full_sent fault rest (inr is) = rw is.0 tt
-
-    no_boot_sent : (fault : ServeFault) (rest : List Act) → (fault ≡ ServeFault.Memory) ⊎ ((fault ≡ ServeFault.Serial) × IsSending rest) → IsNoBoot fault
-    no_boot_sent fault rest (inl is) = rw is tt
-    no_boot_sent fault rest (inr is) = rw is.0 tt
-
     pub sent_stops : (fault : ServeFault) → (told : IsTrue (w.disk disks site.centre).told → MayHaveFacts w.disk w.may_leave disks site.centre site.logged [])
         → SendsSome w.calls w.lost w.faults config site xs fault link new_link held.sender sender
         → Stops w site (messages_sent config site xs) fault before after
-    sent_stops fault left some = record {
+    sent_stops fault left some = subst (λ (f : ServeFault). Stops w site (messages_sent config site xs) f before after) (sym some.serial) (record {
       broke = record {
         acts = some.sent.acts;
         rest = some.rest;
         are = some.sent.are;
-        comes = (comes_sent (IsTrue (w.disk disks site.centre).told) fault some.rest some.comes).0;
+        comes = some.comes;
         printed_more = 0;
-        left = rw (comes_sent (Unit {0}) fault some.rest some.comes).1 (leaves_sent some.rest some.sent);
+        left = leaves_sent some.rest some.sent;
         passes = passes_sent some.rest some.sent;
-        cause = caused_sent fault some.rest some.comes;
-        full = full_sent fault some.rest some.comes;
+        cause = tt;
+        full = tt;
         logs = λ told.
-            rw (
-              (comes_sent (Unit {0}) fault some.rest some.comes).3 site.centre,
-              (said_done some.sent.acts some.rest (messages_sent config site xs).acts some.sent.are (messages_said config site xs)).appends site.centre,
-            ) (left told);
+            let none = (said_done some.sent.acts some.rest (messages_sent config site xs).acts some.sent.are (messages_said config site xs)).appends site.centre in
+            rw none (left told);
       };
       others = others_none w site.centre disks;
       serials = some.past;
-      no_boot = no_boot_sent fault some.rest some.comes;
-    }
+      no_boot = tt;
+    })

@@ -15,14 +15,9 @@ use Rattle.mdcc_runs.specs.Acts.{Act, printed_by}
 use Rattle.mdcc_outbox.specs.Sends.{IsSending}
 use Rattle.mdcc_outbox.specs.Shows.{failed_call}
 use Rattle.mdcc_outbox.specs.declared.fault.PrintFault.{PrintFault}
-use Rattle.mdcc_outbox.specs.declared.fault.SendFault.{SendFault}
 use Rattle.mdcc_site.specs.declared.fault.ServeFault.{ServeFault}
 
 -- ---- of what else it is
-
-abbrev pub of_send : SendFault → ServeFault
-of_send SendFault.Serial = ServeFault.Serial
-of_send SendFault.Memory = ServeFault.Memory
 
 abbrev pub of_print : PrintFault → ServeFault
 of_print PrintFault.Output = ServeFault.Output

@@ -3,6 +3,7 @@ pub mod LogEffects
 pub mod Logs
 pub mod Moments
 pub mod Nodes
+pub mod PendingBytes
 pub mod Printing
 pub mod Room
 pub mod Silence

@@ -1,16 +1,18 @@
 -- What logging facts does.
-use Rattle.std.specs.Prelude.{Err, IsTrue, List, Ok, Result, ⊤, ℕ, ◌+◌}
+use Rattle.std.specs.List.{AllByRecursion}
+use Rattle.std.specs.Prelude.{Err, IsTrue, List, Ok, Result, map, ⊤, ℕ, ◌+◌, ◌≡◌}
 use Rattle.mdcc_areas.specs.Both.{RoseAtOne}
 use Rattle.mdcc_areas.specs.Frames.{OpenAreas}
 use Rattle.mdcc_areas.specs.declared.fault.LogFault.{LogFault}
 use Rattle.mdcc_disks.specs.Disks.{Disk}
+use Rattle.mdcc_messages.specs.Spelling.{fact_bytes}
 use Rattle.mdcc_messages.specs.declared.facts.Fact.{Fact}
 use Rattle.mdcc_runs.specs.Sending.{facts_logged}
 use Rattle.mdcc_site.specs.Causes.{IsNoBoot, in_flight}
 use Rattle.mdcc_site.specs.Logs.{MayHaveFacts, with_facts}
 use Rattle.mdcc_site.specs.Moments.{DiskPasses, KeepsOthers, MayComeAt}
 use Rattle.mdcc_site.specs.Room.{OnFull}
-use Rattle.mdcc_site.specs.SiteState.{HoldsLog}
+use Rattle.mdcc_site.specs.SiteState.{HoldsLog, IsShortFact}
 use Rattle.mdcc_site.specs.declared.fault.ServeFault.{ServeFault}
 
 -- a fault of a log as a server's
@@ -18,6 +20,10 @@ abbrev pub log_fault_of : ℕ → LogFault → ServeFault
 log_fault_of centre LogFault.DiskFault = ServeFault.Disk centre
 log_fault_of centre LogFault.Memory = ServeFault.Memory
 log_fault_of centre fault = ServeFault.Log centre fault
+
+-- these are the bytes of facts that fit into a log
+abbrev pub AreShortFacts : List (List ℕ) → Type 0
+AreShortFacts payloads = (facts : List Fact) × (payloads ≡ map fact_bytes facts) × AllByRecursion IsShortFact facts
 
 module _ {D : Type 0} (disk : D → ℕ → Disk) (may_leave : D → ℕ → List ℕ → Type 0) where
   abbrev pub CausedOn : ServeFault → D → D → Type 0

@@ -17,7 +17,7 @@ use Rattle.mdcc_messages.specs.declared.facts.Fact.{Fact}
 use Rattle.mdcc_messages.specs.declared.messages.Envelope.{Envelope}
 use Rattle.mdcc_option.specs.declared.cluster.Cluster.{Cluster}
 use Rattle.mdcc_option.specs.declared.faults.BeginFault.{BeginFault}
-use Rattle.mdcc_outbox.specs.Sends.{IsSenderOf, IsSending, Sends}
+use Rattle.mdcc_outbox.specs.Sends.{IsPast, IsSenderOf, IsSending, Sends}
 use Rattle.mdcc_outbox.specs.Shows.{Records, call_of, counted, failed_call}
 use Rattle.mdcc_outbox.specs.declared.sending.Sender.{Sender}
 use Rattle.mdcc_rules.specs.Steps.{NodeStep, step_given, with_new}
@@ -30,6 +30,7 @@ use Rattle.mdcc_runs.specs.Sites.{Doing, Site}
 use Rattle.mdcc_site.specs.Causes.{IsNoBoot, IsPrinting, in_flight, text_begun}
 use Rattle.mdcc_site.specs.Logs.{MayHaveFacts, checkpoint_every, facts_after, with_facts}
 use Rattle.mdcc_site.specs.Moments.{Adds, Broke, Did, KeepsOthers, Moment, Outside}
+use Rattle.mdcc_site.specs.PendingBytes.{pending_bytes}
 use Rattle.mdcc_site.specs.declared.fault.ServeFault.{ServeFault}
 use Rattle.mdcc_site.specs.declared.site.Site.{Site as TheSite}
 use Rattle.mdcc_steps.specs.NodeInvariant.{IsNode}
@@ -62,9 +63,9 @@ IsShortFact fact = FactHasCounts fact × (fact_length fact ≤ 2097152)
 abbrev pub CanBeSent : Envelope → Type 0
 CanBeSent envelope = HasCounts envelope.message
 
--- what is pending at this centre: its facts are those of the node that its log has not, and all of it can go out
+-- what is pending at this centre is held as bytes: its facts are those of the node that its log has not, and all of it can go out
 pub record Waits (held : TheSite) (site : Site) : Type 0 where
-  pub pending : held.pending ≡ site.pending
+  pub pending : held.pending ≡ pending_bytes site.pending
   pub all : site.node.facts ≡ with_facts site.logged site.pending.facts
   pub facts : AllByRecursion IsShortFact site.pending.facts
   pub envelopes : AllByRecursion CanBeSent site.pending.envelopes
@@ -230,12 +231,13 @@ module _ {L : Type 0} (calls : L → Option (List LinkCall)) (lost faults : L �
 -- ---- what it sends and prints
 
 module _ {L : Type 0} (calls : L → Option (List LinkCall)) (lost faults : L → ℕ) where
-  -- A front of the messages was sent, and before the rest the serials were used up, or there was no memory.
+  -- A front of the messages was sent, and before the rest the serials were used up.
   pub record SendsSome (config : Config) (site : Site) (envelopes : List Envelope) (fault : ServeFault) (old new : L) (before after : Sender) : Type 0 where
     pub rest : List Act
     pub sent : Sends calls lost faults (messages_sent config site envelopes).acts rest old new before.lost after.lost
-    pub comes : (fault ≡ ServeFault.Memory) ⊎ ((fault ≡ ServeFault.Serial) × IsSending rest)
-    pub past : OnSerial fault (messages_sent config site envelopes).site.sent
+    pub serial : fault ≡ ServeFault.Serial
+    pub comes : IsSending rest
+    pub past : IsPast (messages_sent config site envelopes).site
 
   pub record SendsAll (config : Config) (site : Site) (envelopes : List Envelope) (old new : L) (before after : Sender) : Type 0 where
     pub sent : Sends calls lost faults (messages_sent config site envelopes).acts [] old new before.lost after.lost

@@ -15,7 +15,6 @@ ghost use Rattle.mdcc_runs.specs.Runs.{step_on};
 ghost use Rattle.mdcc_steps.specs.Inputs.{AreWellFormedParts};
 
 use crate::ServeFault;
-use crate::queuing::tell;
 use crate::site::Site;
 use mdcc_base::{Centre, Key, TxId};
 use mdcc_config::Config;
@@ -117,8 +116,7 @@ impl Site {
         match self.act_on(&Input::Read(key), &mut step) {
             Ok(()) => {
                 let reply = reading_told(self.centre, serial, key, step.answer.take());
-                tell(&mut step, reply)?;
-                self.queue_step(alloc, &mut step)
+                self.queue_step(alloc, &step, &reply)
             }
             Err(fault) => self.refuse(fault),
         }
@@ -166,8 +164,7 @@ impl Site {
             Ok(()) => {
                 self.note_begin(serial, &step.answer)?;
                 let reply = begin_told(self.centre, serial, step.answer.take());
-                tell(&mut step, reply)?;
-                self.queue_step(alloc, &mut step)
+                self.queue_step(alloc, &step, &reply)
             }
             Err(fault) => self.refuse(fault),
         }
@@ -188,7 +185,7 @@ impl Site {
     {
         match Transaction::new(&config.cluster.schema, parts) {
             Ok(transaction) => self.begin(alloc, serial, transaction),
-            Err(fault) => self.queue_answer(serial, ClientAnswer::Draft(fault)),
+            Err(fault) => self.queue_answer(alloc, serial, ClientAnswer::Draft(fault)),
         }
     }
 
@@ -208,7 +205,7 @@ impl Site {
         match self.clients.begun_for(serial) {
             Some(tx) => {
                 let told = known_told(tx, self.end_of(&tx));
-                self.queue_answer(serial, told)
+                self.queue_answer(alloc, serial, told)
             }
             None => self.begin_draft(alloc, config, serial, parts),
         }

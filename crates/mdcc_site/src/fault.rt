@@ -1,9 +1,10 @@
 //! Why a server ended before its last turn.
 ghost use Rattle.std.specs.Prelude.{◌≡◌};
-ghost use Rattle.mdcc_site.specs.declared.fault.ServeFault.TheVariants.{Memory};
+ghost use Rattle.mdcc_site.specs.declared.fault.ServeFault.TheVariants.{Memory, Serial};
 
 use mdcc_areas::LogFault;
 use mdcc_base::{Centre, Memory as NoMemory};
+use mdcc_outbox::OutOfSerials;
 use mdcc_rules::BootFault;
 use std::alloc::{AllocError, AllocFailed};
 use thiserror::Error;
@@ -54,5 +55,13 @@ impl<T: Drop> From<AllocFailed<T>> for ServeFault {
 
     fn from(_: AllocFailed<T>) -> ServeFault {
         ServeFault::Memory
+    }
+}
+
+impl From<OutOfSerials> for ServeFault {
+    ghost from_gives = { λ _ e. e ≡ Serial };
+
+    fn from(_: OutOfSerials) -> ServeFault {
+        ServeFault::Serial
     }
 }

@@ -4,6 +4,7 @@
 mod asking;
 pub mod fault;
 pub mod logging;
+pub mod pending;
 pub mod persist;
 mod queuing;
 mod receiving;
@@ -11,6 +12,7 @@ pub mod site;
 pub mod turning;
 
 pub use fault::ServeFault;
-pub use logging::{log_facts, log_fault};
+pub use logging::{log_fault, log_payloads};
+pub use pending::{PendingBytes, nothing_pending};
 pub use persist::print_line;
 pub use site::Site;

@@ -1,51 +1,34 @@
 //! What is pending at a centre goes out.
 ghost use Rattle.std.specs.List.{AllByRecursion};
-ghost use Rattle.std.specs.Prelude.{◌≡◌, ◌∷◌, [], List, ℕ};
+ghost use Rattle.std.specs.Prelude.{◌≡◌, ◌∷◌, [], List, map, ℕ};
 ghost use Rattle.mdcc_config.specs.IsConfig.{IsConfig};
+ghost use Rattle.mdcc_messages.specs.Spelling.{fact_bytes};
 ghost use Rattle.mdcc_messages.specs.declared.facts.Fact.{Fact as AFact};
+ghost use Rattle.mdcc_messages.specs.declared.messages.Envelope.{Envelope as AEnvelope};
+ghost use Rattle.mdcc_outbox.specs.Outgoing.{CanGo, outgoing};
 ghost use Rattle.mdcc_outbox.specs.Sends.{IsSenderOf};
 ghost use Rattle.mdcc_runs.specs.Acts.{Act};
 ghost use Rattle.mdcc_runs.specs.Sending.{heard_printed, persist_then_send};
 ghost use Rattle.mdcc_runs.specs.Sites.{Site as ASite, nothing_pending};
-ghost use Rattle.mdcc_site.specs.Causes.{of_print, of_send};
-ghost use Rattle.mdcc_site.specs.LogEffects.{Logs};
+ghost use Rattle.mdcc_site.specs.Causes.{of_print};
+ghost use Rattle.mdcc_site.specs.LogEffects.{AreShortFacts, Logs};
 ghost use Rattle.mdcc_site.specs.Moments.{outside};
+ghost use Rattle.mdcc_site.specs.PendingBytes.{pending_bytes};
 ghost use Rattle.mdcc_site.specs.Printing.{PrintsInOrder};
-ghost use Rattle.mdcc_site.specs.SiteState.{CanBeSent, Goes, HoldsLog, HoldsSite, IsServed, IsShortFact, PrintsOut, SendsOut, place};
+ghost use Rattle.mdcc_site.specs.SiteState.{Goes, HoldsLog, HoldsSite, IsServed, PrintsOut, SendsOut, place};
 
 use crate::ServeFault;
-use crate::logging::log_facts;
+use crate::logging::log_payloads;
+use crate::pending::{PendingBytes, nothing_pending};
 use crate::site::Site;
 use mdcc_base::{Centre, HeapList, Sink, TxId};
 use mdcc_config::Config;
 use mdcc_disks::Disks;
 use mdcc_link::Link;
-use mdcc_messages::{Envelope, Fact};
-use mdcc_outbox::{PrintFault, SendFault, print};
-use mdcc_runs::{Pending, ServerLine};
+use mdcc_outbox::{Outgoing, PrintFault, print};
+use mdcc_runs::ServerLine;
 use std::alloc::Global;
 use std::mem;
-
-// Nothing is pending.
-fn nothing_pending(alloc: Global) -> Pending
-    ensures { result ≡ nothing_pending }
-{
-    Pending {
-        facts: HeapList::new(alloc),
-        envelopes: HeapList::new(alloc),
-        heard: HeapList::new(alloc),
-    }
-}
-
-// A fault of a send as a server's.
-fn send_fault(fault: SendFault) -> ServeFault
-    ensures { result ≡ of_send fault }
-{
-    match fault {
-        SendFault::Serial => ServeFault::Serial,
-        SendFault::Memory => ServeFault::Memory,
-    }
-}
 
 // A fault of a line as a server's.
 fn print_fault(fault: PrintFault) -> ServeFault
@@ -96,50 +79,47 @@ fn print_heard<O: Sink>(
 
 impl Site {
     // What is pending, of which nothing stays.
-    fn take_pending(&mut self, alloc: Global) -> Pending
+    fn take_pending(&mut self, alloc: Global) -> PendingBytes
         ensures taken { result ≡ self.old.pending }
-        ensures same { self.new ≡ record self.old { pending = nothing_pending } }
+        ensures same { self.new ≡ record self.old { pending = pending_bytes nothing_pending } }
     {
         mem::replace(&mut self.pending, nothing_pending(alloc))
     }
 
-    // Facts go into the log, all of them or none.
+    // Payloads of facts go into the log, all of them or none.
     fn log_all<D: Disks>(
         &mut self,
         alloc: Global,
         disks: &mut D,
-        facts: &[Fact],
+        payloads: &[HeapList<u8>],
     ) -> Result<(), ServeFault>
-        requires short { AllByRecursion IsShortFact facts.now }
+        requires short { AreShortFacts payloads.now }
         requires stands { (before : List AFact) × HoldsLog D.disk D.may_leave disks.old self.old.log self.old.centre before }
-        ensures logs { (before : List AFact) → HoldsLog D.disk D.may_leave disks.old self.old.log self.old.centre before
-            → Logs D.disk D.may_leave self.old.centre before facts.now result disks.old disks.new self.new.log }
+        ensures logs { (before facts : List AFact) → HoldsLog D.disk D.may_leave disks.old self.old.log self.old.centre before → payloads.now ≡ map fact_bytes facts
+            → Logs D.disk D.may_leave self.old.centre before facts result disks.old disks.new self.new.log }
         ensures same { self.new ≡ record self.old { log = self.new.log } }
     {
-        if facts.is_empty() {
+        if payloads.is_empty() {
             return Ok(());
         }
-        log_facts(alloc, &mut self.log, self.centre, disks, facts)
+        log_payloads(alloc, &mut self.log, self.centre, disks, payloads)
     }
 
     // Sends messages in order.
     fn send_all<L: Link>(
         &mut self,
-        alloc: Global,
         config: &Config,
         link: &mut L,
-        envelopes: &[Envelope],
+        messages: &[Outgoing],
     ) -> Result<(), ServeFault>
         requires config { IsConfig config.now }
-        requires counts { AllByRecursion CanBeSent envelopes.now }
-        ensures sent { (site : ASite) → IsSenderOf self.old.sender site
-            → SendsOut L.calls L.lost L.faults config.now site envelopes.now result link.old link.new self.old.sender self.new.sender }
+        requires few { AllByRecursion CanGo messages.now }
+        ensures sent { (site : ASite) (envelopes : List AEnvelope) → IsSenderOf self.old.sender site → messages.now ≡ map outgoing envelopes
+            → SendsOut L.calls L.lost L.faults config.now site envelopes result link.old link.new self.old.sender self.new.sender }
         ensures same { self.new ≡ record self.old { sender = self.new.sender } }
     {
-        match self.sender.send_all(alloc, config, link, envelopes) {
-            Ok(()) => Ok(()),
-            Err(fault) => Err(send_fault(fault)),
-        }
+        self.sender.send_all(config, link, messages)?;
+        Ok(())
     }
 
     /// What is pending goes out: its facts go into the log together, and once they are durable its messages are sent and the lines of
@@ -159,8 +139,8 @@ impl Site {
             (place disks.old self.old link.old out.old) (place disks.new self.new link.new out.new) }
     {
         let pending = self.take_pending(alloc);
-        self.log_all(alloc, disks, pending.facts.as_slice())?;
-        self.send_all(alloc, config, link, pending.envelopes.as_slice())?;
+        self.log_all(alloc, disks, pending.payloads.as_slice())?;
+        self.send_all(config, link, pending.messages.as_slice())?;
         print_heard(alloc, self.centre, pending.heard.as_slice(), out)?;
         Ok(())
     }

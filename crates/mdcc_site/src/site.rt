@@ -1,10 +1,11 @@
 //! A centre that is served, and what its node makes of its inputs.
-ghost use Rattle.std.specs.Prelude.{◌≡◌, ◌+◌, ◌++◌, IfErr, List, OnOk, Result, ℕ};
+ghost use Rattle.std.specs.Prelude.{◌≡◌, ◌+◌, ◌++◌, IfErr, List, OnOk, Result, map, ℕ};
 ghost use Rattle.mdcc_config.specs.declared.config.Config.{Config as AConfig};
 ghost use Rattle.mdcc_messages.specs.declared.facts.Fact.{Fact as AFact};
 ghost use Rattle.mdcc_node.specs.StepPlans.{blank};
 ghost use Rattle.mdcc_node.specs.StepAnswers.{IsGiven};
 ghost use Rattle.mdcc_option.specs.declared.cluster.Cluster.{Cluster as ACluster};
+ghost use Rattle.mdcc_outbox.specs.Outgoing.{outgoing};
 ghost use Rattle.mdcc_outbox.specs.Shows.{counted};
 ghost use Rattle.mdcc_protocol.specs.Facts.{epoch_of};
 ghost use Rattle.mdcc_protocol.specs.Volatile.{Volatile as AVolatile};
@@ -20,6 +21,7 @@ ghost use Rattle.mdcc_site.specs.SiteState.{Acted, Becomes, IsSite, Refuses};
 ghost use Rattle.mdcc_site.specs.declared.fault.ServeFault.{ServeFault as AServeFault};
 
 use crate::ServeFault;
+use crate::pending::PendingBytes;
 use mdcc_areas::Frames;
 use mdcc_base::{Centre, TxId};
 use mdcc_frag::Joiner;
@@ -28,7 +30,6 @@ use mdcc_journal::counts::well_formed_facts_have_counts;
 use mdcc_messages::{ClientAnswer, Envelope};
 use mdcc_node::{Input, Node, Step, StepFault, blank};
 use mdcc_outbox::{Clients, Sender, answer_to};
-use mdcc_runs::Pending;
 use mdcc_steps::{facts_have_room, steps_are_well_formed};
 use mdcc_wire::counts::well_formed_messages_have_counts;
 use std::alloc::Global;
@@ -46,7 +47,7 @@ pub struct Site {
     pub asked: Joiner,
     pub steps: u64,
     pub dropped: u64,
-    pub pending: Pending,
+    pub pending: PendingBytes,
 }
 
 impl Site {
@@ -113,10 +114,9 @@ impl Site {
     }
 
     // A transaction ended: it is noted where it was begun for the client, and the client is told.
-    fn report_end(&mut self, heard: Option<(TxId, bool)>) -> Result<(), ServeFault>
+    fn report_end(&mut self, alloc: Global, heard: Option<(TxId, bool)>) -> Result<(), ServeFault>
         ensures told { (site : ASite) → self.old.centre ≡ site.centre → self.old.clients ≡ site.clients
-            → OnOk result (self.new.pending.envelopes ≡ self.old.pending.envelopes ++ listed (ends_told site heard)) }
-        ensures others { self.new.pending ≡ record self.old.pending { envelopes = self.new.pending.envelopes } }
+            → OnOk result (self.new.pending ≡ record self.old.pending { messages = self.old.pending.messages ++ map outgoing (listed (ends_told site heard)) }) }
         ensures noted { OnOk result (self.new.clients ≡ with_end self.old.clients heard) }
         ensures same { self.new ≡ record self.old { clients = self.new.clients; pending = self.new.pending } }
         ensures memory { IfErr result (λ fault. fault ≡ AServeFault.Memory) }
@@ -130,7 +130,7 @@ impl Site {
         self.clients.end(tx, begun.serial, is_commit)?;
         let answer = ClientAnswer::Heard(tx, is_commit);
         let envelope = answer_to(self.centre, begun.serial, answer);
-        self.pending.envelopes.push(envelope)?;
+        self.pending.push_message(alloc, &envelope)?;
         Ok(())
     }
 
@@ -139,15 +139,16 @@ impl Site {
         &mut self,
         alloc: Global,
         made: Result<(), StepFault>,
-        step: &mut Step,
+        step: &Step,
     ) -> Result<(), ServeFault>
-        ensures { (cluster : ACluster) (site : ASite) (expected : Result NodeStep AStepFault) → Acted cluster self.old site expected made step.old
+        requires acted { (cluster : ACluster) × (site : ASite) × (expected : Result NodeStep AStepFault) × Acted cluster self.old site expected made step.now }
+        ensures { (cluster : ACluster) (site : ASite) (expected : Result NodeStep AStepFault) → Acted cluster self.old site expected made step.now
             → Becomes cluster site (input_made site expected) result self.old self.new }
     {
         match made {
             Ok(()) => {
-                self.report_end(step.heard)?;
-                self.queue_step(alloc, step)
+                self.report_end(alloc, step.heard)?;
+                self.queue_step(alloc, step, &None)
             }
             Err(fault) => self.refuse(fault),
         }
@@ -166,7 +167,7 @@ impl Site {
     {
         let mut step = blank(alloc);
         let made = self.deliver(envelope, &mut step);
-        self.input_made(alloc, made, &mut step)
+        self.input_made(alloc, made, &step)
     }
 
     /// Time passes at the node.
@@ -177,6 +178,6 @@ impl Site {
     {
         let mut step = blank(alloc);
         let made = self.act_on(&Input::Tick, &mut step);
-        self.input_made(alloc, made, &mut step)
+        self.input_made(alloc, made, &step)
     }
 }

@@ -3,41 +3,42 @@ ghost use Rattle.std.specs.Prelude.{◌≡◌, ◌&&◌, List, not, Option, ℕ}
 ghost use Rattle.mdcc_config.specs.IsConfig.{IsConfig};
 ghost use Rattle.mdcc_config.specs.declared.config.Config.{Config as AConfig};
 ghost use Rattle.mdcc_option.specs.declared.cluster.Cluster.{Cluster as ACluster};
-ghost use Rattle.mdcc_runs.specs.Sites.{Site as ASite};
+ghost use Rattle.mdcc_runs.specs.Sites.{Pending as APending, Site as ASite};
 ghost use Rattle.mdcc_runs.specs.Turns.{Given, is_full, released, turn_of};
 ghost use Rattle.mdcc_site.specs.Moments.{outside};
+ghost use Rattle.mdcc_site.specs.PendingBytes.{pending_bytes};
 ghost use Rattle.mdcc_site.specs.SiteState.{Becomes, Goes, HoldsSite, IsServed, IsSite, place};
 ghost use Rattle.mdcc_site.specs.Silence.{ticked_if};
 
 use crate::ServeFault;
+use crate::pending::PendingBytes;
 use crate::site::Site;
 use mdcc_base::Sink;
 use mdcc_config::Config;
 use mdcc_disks::Disks;
 use mdcc_inbox::Datagram;
 use mdcc_link::Link;
-use mdcc_runs::Pending;
 use std::alloc::Global;
 
 /// With so many pending facts and messages no more inputs are taken before they go out.
 const PENDING_LIMIT: usize = 64;
 
 // Whether they go out at once, whatever waits.
-fn is_full(pending: &Pending) -> bool
-    ensures { result ≡ is_full pending.now }
+fn is_full(pending: &PendingBytes) -> bool
+    ensures { (made : APending) → pending.now ≡ pending_bytes made → result ≡ is_full made }
 {
-    let facts = pending.facts.len();
-    facts.saturating_add(pending.envelopes.len()) >= PENDING_LIMIT
+    let facts = pending.payloads.len();
+    facts.saturating_add(pending.messages.len()) >= PENDING_LIMIT
 }
 
 // Whether nothing is pending.
-fn is_empty(pending: &Pending) -> bool {
-    pending.facts.is_empty() && pending.envelopes.is_empty() && pending.heard.is_empty()
+fn is_empty(pending: &PendingBytes) -> bool {
+    pending.payloads.is_empty() && pending.messages.is_empty() && pending.heard.is_empty()
 }
 
 // Whether what is pending stays so, where more waits or not.
-fn is_kept(waits: bool, pending: &Pending) -> bool
-    ensures { result ≡ (waits && not (is_full pending.now)) }
+fn is_kept(waits: bool, pending: &PendingBytes) -> bool
+    ensures { (made : APending) → pending.now ≡ pending_bytes made → result ≡ (waits && not (is_full made)) }
 {
     waits && !is_full(pending)
 }

@@ -2,6 +2,8 @@ use Rattle.std.proofs.Common.{◌≡◌, ◌∙◌, ◌++◌, ℕ, List, Option,
 use Rattle.std.proofs.lemmas.Result.{err_from_is_err_and}
 use Rattle.std.specs.List.{AllByRecursion}
 use Rattle.std.specs.Prelude.{IfSome}
+use Rattle.mdcc_journal.specs.Counts.{HasCounts}
+use Rattle.mdcc_messages.specs.declared.facts.Fact.{Fact}
 use Rattle.mdcc_messages.specs.declared.messages.Envelope.{Envelope}
 use Rattle.mdcc_rules.specs.declared.node.Answer.{Answer}
 use Rattle.mdcc_rules.specs.declared.node.Input.{Input}
@@ -9,7 +11,7 @@ use Rattle.mdcc_rules.specs.declared.node.Step.{Step}
 use Rattle.mdcc_runs.specs.Runs.{listed, step_on}
 use Rattle.mdcc_runs.specs.Sites.{Doing}
 use Rattle.mdcc_runs.specs.Steps.{begin_made, begin_noted, begin_told, step_queued, stepped}
-use Rattle.mdcc_site.proofs.Becoming.{becomes_from, each_append, each_listed, lacks_by, refusal_becomes, same_clients, same_node, same_then}
+use Rattle.mdcc_site.proofs.Becoming.{becomes_from, counts_of, lacks_by, refusal_becomes, same_clients, same_node, same_then}
 use Rattle.mdcc_site.proofs.Noted.{begin_can, noted_only, stepped_noted}
 use Rattle.mdcc_site.specs.SiteState.{Becomes, CanBeSent}
 use Rattle.mdcc_site.specs.declared.fault.ServeFault.{ServeFault}
@@ -27,6 +29,19 @@ returns-in_err-note_begin-in-Ok c cluster site stands =
     (lacks_by c.in_err-note_begin-in-Ok.field-0.0 c.in_err-note_begin-in-Ok.ensures.memory
     (same_then (same_node c.args.self.now c.act_on.new.self c.act_on.ensures.same) (same_clients c.act_on.new.self c.note_begin.new.self c.note_begin.ensures.same)))
 
+pub queue_step-requires-clause-fact : goal.queue_step-requires-clause-fact
+queue_step-requires-clause-fact c =
+    let acted = c.in-Ok.ensures.acted c.requires.served.0 c.requires.served.1 c.requires.served.2 in
+    subst (λ (o : Option Fact). IfSome o HasCounts) (sym (ap (λ (s : Step). s.fact) acted.2)) (counts_of acted.0.fact acted.3.fact)
+
+pub queue_step-requires-clause-sends : goal.queue_step-requires-clause-sends
+queue_step-requires-clause-sends c =
+    let acted = c.in-Ok.ensures.acted c.requires.served.0 c.requires.served.1 c.requires.served.2 in
+    subst (λ (xs : List Envelope). AllByRecursion CanBeSent xs) (sym (ap (λ (s : Step). s.sends) acted.2)) acted.3.sends
+
+pub queue_step-requires-clause-reply : goal.queue_step-requires-clause-reply
+queue_step-requires-clause-reply c = subst (λ (o : Option Envelope). IfSome o CanBeSent) (sym c.begin_told-reply.ensures) (begin_can _ _ _)
+
 pub returns-in-Ok : goal.returns-in-Ok
 returns-in-Ok c cluster site stands =
     let serial = c.args.serial in
@@ -42,27 +57,14 @@ returns-in-Ok c cluster site stands =
     let told : c.begin_told-reply.result ≡ begin_told site.centre serial acted.0.answer =
     c.begin_told-reply.ensures ∙ (ap (λ (n : ℕ). begin_told n serial c.take.result) centre ∙ ap (λ (o : Option Answer). begin_told site.centre serial o) took) in
     let reply = c.begin_told-reply.result in
-    let sends : c.tell.new.step.sends ≡ acted.0.sends ++ listed reply = ap (λ (s : Step). s.sends) c.in_ok-tell-in-Ok.ensures.told ∙ ap (λ (s : Step). s.sends ++ listed reply) acted.2 in
-    let can : AllByRecursion CanBeSent (acted.0.sends ++ listed reply) = each_append CanBeSent acted.0.sends (listed reply) acted.3.sends
-    (each_listed CanBeSent reply (subst (λ (o : Option Envelope). IfSome o CanBeSent) (sym told) (begin_can _ _ _))) in
     let out = c.queue_step.ensures cluster noted acted.0 (stepped_noted cluster c.act_on.new.self new site noted acted.0 only same clients acted.3)
-    (ap (λ (s : Step). s.fact) c.in_ok-tell-in-Ok.ensures.told ∙ ap (λ (s : Step). s.fact) acted.2) (ap (λ (s : Step). s.heard) c.in_ok-tell-in-Ok.ensures.told ∙ ap (λ (s : Step). s.heard) acted.2)
-    (subst (λ (xs : List Envelope). AllByRecursion CanBeSent xs) (sym sends) can) in
-    let e : stepped (step_queued noted acted.0 c.tell.new.step.sends) ≡ begin_made site serial (step_on cluster site.centre site.node (Input.Begin c.args.transaction)) =
-    ap (λ (xs : List Envelope). stepped (step_queued noted acted.0 xs)) sends
+    (ap (λ (s : Step). s.fact) acted.2) (ap (λ (s : Step). s.heard) acted.2) in
+    let e : stepped (step_queued noted acted.0 (c.act_on.new.step.sends ++ listed reply)) ≡ begin_made site serial (step_on cluster site.centre site.node (Input.Begin c.args.transaction)) =
+    ap (λ (s : Step). stepped (step_queued noted acted.0 (s.sends ++ listed reply))) acted.2
     ∙ (ap (λ (o : Option Envelope). stepped (step_queued noted acted.0 (acted.0.sends ++ listed o))) told ∙ ap (begin_made site serial) (sym acted.1)) in
     subst (λ (d : Doing). Becomes cluster site d c.queue_step.result c.args.self.now c.queue_step.new.self) e
     (becomes_from cluster _ c.queue_step.result site noted c.args.self.now new c.queue_step.new.self only.centre only.logged
     (same_then (same_node c.args.self.now c.act_on.new.self c.act_on.ensures.same) (same_clients c.act_on.new.self new same)) out)
-
-pub returns-in_err-tell-in-Ok : goal.returns-in_err-tell-in-Ok
-returns-in_err-tell-in-Ok c cluster site stands =
-    let did = begin_made site c.args.serial (step_on cluster site.centre site.node (Input.Begin c.args.transaction)) in
-    let p = err_from_is_err_and c.from_residual-in_err-tell-in-Ok.result c.from_residual-in_err-tell-in-Ok.ensures.1 in
-    let e : c.from_residual-in_err-tell-in-Ok.result ≡ Err c.in_err-tell-in-Ok.field-0.0 = cc (p.1, p.2) in
-    subst (λ (r : Result (Unit {0}) ServeFault). Becomes cluster site did r c.args.self.now c.note_begin.new.self) (sym e)
-    (lacks_by c.in_err-tell-in-Ok.field-0.0 c.in_err-tell-in-Ok.ensures.memory
-    (same_then (same_node c.args.self.now c.act_on.new.self c.act_on.ensures.same) (same_clients c.act_on.new.self c.note_begin.new.self c.note_begin.ensures.same)))
 
 pub returns : goal.returns
 returns c cluster site stands =

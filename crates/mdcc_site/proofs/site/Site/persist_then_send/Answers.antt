@@ -1,25 +1,22 @@
 use Rattle.std.proofs.Common.{◌≡◌, ◌∙◌, ℕ, List, Result, Err, ap, subst, sym}
-use Rattle.std.specs.List.{AllByRecursion}
 use Rattle.std.proofs.lemmas.Result.{err_from_is_err_and}
-use Rattle.mdcc_messages.specs.declared.facts.Fact.{Fact}
-use Rattle.mdcc_messages.specs.declared.messages.Envelope.{Envelope}
 use Rattle.mdcc_runs.specs.Acts.{Act}
 use Rattle.mdcc_runs.specs.Sending.{heard_printed, messages_sent, persist_then_send, persisted}
-use Rattle.mdcc_runs.specs.declared.pending.Pending.{Pending}
 use Rattle.mdcc_site.proofs.Parts.{heard_lines, heard_still, printed_goes, printed_stops}
-use Rattle.mdcc_site.proofs.Persisting.{log_broken, log_done, log_there, part_sent, part_unsent, persist_goes, persist_unlogged, persist_unsent, persist_untold}
+use Rattle.mdcc_site.proofs.Persisting.{log_broken, log_done, log_there, part_sent, part_unsent, pending_go, persist_goes, persist_unlogged, persist_unsent, persist_untold}
 use Rattle.mdcc_site.proofs.Sent.{messages_only}
 use Rattle.mdcc_site.specs.Moments.{outside}
 use Rattle.mdcc_site.specs.Printing.{PrintsFront}
-use Rattle.mdcc_site.specs.SiteState.{CanBeSent, Goes, IsShortFact, PrintsAll, place}
+use Rattle.mdcc_site.specs.SiteState.{Goes, PrintsAll, place}
 use Rattle.mdcc_site.specs.declared.fault.ServeFault.{ServeFault}
+use Rattle.mdcc_site.specs.declared.pending.PendingBytes.{PendingBytes}
 use Rattle.mdcc_site.proofs.site.Site.persist_then_send.Goals as goal
 
 pub log_all-requires-clause-short : goal.log_all-requires-clause-short
 log_all-requires-clause-short g c =
     let stands = c.requires.served.stands in
-    let are = c.as_slice.ensures ∙ (ap (λ (p : Pending). p.facts) c.take_pending-pending.ensures.taken ∙ ap (λ (p : Pending). p.facts) stands.itself.waits.pending) in
-    subst (λ (fs : List Fact). AllByRecursion IsShortFact fs) (sym are) stands.itself.waits.facts
+    let are = c.as_slice.ensures ∙ (ap (λ (p : PendingBytes). p.payloads) c.take_pending-pending.ensures.taken ∙ ap (λ (p : PendingBytes). p.payloads) stands.itself.waits.pending) in
+    (c.requires.served.site.pending.facts, are, stands.itself.waits.facts)
 
 pub log_all-requires-clause-stands : goal.log_all-requires-clause-stands
 log_all-requires-clause-stands g c =
@@ -27,11 +24,10 @@ log_all-requires-clause-stands g c =
     let site = c.requires.served.site in
     (site.logged, log_there w c.args.config.now.cluster site c.args.disks.now c.args.self.now c.take_pending-pending.new.self c.requires.served.stands c.take_pending-pending.ensures.same)
 
-pub send_all-requires-clause-counts : goal.send_all-requires-clause-counts
-send_all-requires-clause-counts g c =
-    let stands = c.requires.served.stands in
-    let are = c.as_slice-2.ensures ∙ (ap (λ (p : Pending). p.envelopes) c.take_pending-pending.ensures.taken ∙ ap (λ (p : Pending). p.envelopes) stands.itself.waits.pending) in
-    subst (λ (xs : List Envelope). AllByRecursion CanBeSent xs) (sym are) stands.itself.waits.envelopes
+pub send_all-requires-clause-few : goal.send_all-requires-clause-few
+send_all-requires-clause-few g c =
+    pending_go c.args.self.now c.requires.served.site c.as_slice-2.result.now c.requires.served.stands.itself.waits
+    (c.as_slice-2.ensures ∙ ap (λ (p : PendingBytes). p.messages) c.take_pending-pending.ensures.taken)
 
 pub returns-in_err-log_all : goal.returns-in_err-log_all
 returns-in_err-log_all g c site stands =
@@ -44,13 +40,13 @@ returns-in_err-log_all g c site stands =
     let out = c.args.out.now in
     let emptied = c.take_pending-pending.new.self in
     let empties = c.take_pending-pending.ensures.same in
-    let facts_are = c.as_slice.ensures ∙ ap (λ (p : Pending). p.facts) c.take_pending-pending.ensures.taken in
+    let facts_are = c.as_slice.ensures ∙ (ap (λ (p : PendingBytes). p.payloads) c.take_pending-pending.ensures.taken ∙ ap (λ (p : PendingBytes). p.payloads) stands.itself.waits.pending) in
     let p = err_from_is_err_and c.from_residual.result c.from_residual.ensures.1 in
     let e : c.from_residual.result ≡ Err c.in_err-log_all.field-0.0 = cc (p.1, p.2) in
     subst (λ (r : Result (Unit {0}) ServeFault). Goes w cluster site (persist_then_send config site) r (place disks held link out) (place c.log_all.new.disks c.log_all.new.self link out)) (sym e)
     (persist_unlogged w cluster config site stands.itself.waits.all
-    (log_broken w cluster site disks held emptied stands empties c.log_all.new.disks c.log_all.new.self link out _ c.log_all.ensures.same facts_are _
-    (c.in_err-log_all.ensures.logs site.logged (log_there w cluster site disks held emptied stands empties))))
+    (log_broken w cluster site disks held emptied stands empties c.log_all.new.disks c.log_all.new.self link out c.log_all.ensures.same _
+    (c.in_err-log_all.ensures.logs site.logged site.pending.facts (log_there w cluster site disks held emptied stands empties) facts_are)))
 
 pub returns-in_err-send_all : goal.returns-in_err-send_all
 returns-in_err-send_all g c site stands =
@@ -63,16 +59,16 @@ returns-in_err-send_all g c site stands =
     let out = c.args.out.now in
     let emptied = c.take_pending-pending.new.self in
     let empties = c.take_pending-pending.ensures.same in
-    let facts_are = c.as_slice.ensures ∙ ap (λ (p : Pending). p.facts) c.take_pending-pending.ensures.taken in
-    let logged = log_done w cluster site disks held emptied stands empties c.log_all.new.disks c.log_all.new.self link out _ c.log_all.ensures.same facts_are
-    (c.in_ok-log_all.ensures.logs site.logged (log_there w cluster site disks held emptied stands empties)) in
-    let sends_are = c.as_slice-2.ensures ∙ (ap (λ (p : Pending). p.envelopes) c.take_pending-pending.ensures.taken ∙ ap (λ (p : Pending). p.envelopes) stands.itself.waits.pending) in
+    let facts_are = c.as_slice.ensures ∙ (ap (λ (p : PendingBytes). p.payloads) c.take_pending-pending.ensures.taken ∙ ap (λ (p : PendingBytes). p.payloads) stands.itself.waits.pending) in
+    let logged = log_done w cluster site disks held emptied stands empties c.log_all.new.disks c.log_all.new.self link out c.log_all.ensures.same
+    (c.in_ok-log_all.ensures.logs site.logged site.pending.facts (log_there w cluster site disks held emptied stands empties) facts_are) in
+    let sends_are = c.as_slice-2.ensures ∙ (ap (λ (p : PendingBytes). p.messages) c.take_pending-pending.ensures.taken ∙ ap (λ (p : PendingBytes). p.messages) stands.itself.waits.pending) in
     let p = err_from_is_err_and c.from_residual-in_err-send_all.result c.from_residual-in_err-send_all.ensures.1 in
     let e : c.from_residual-in_err-send_all.result ≡ Err c.in_err-send_all.field-0.0 = cc (p.1, p.2) in
     subst (λ (r : Result (Unit {0}) ServeFault). Goes w cluster site (persist_then_send config site) r (place disks held link out) (place c.log_all.new.disks c.send_all.new.self c.send_all.new.link out)) (sym e)
     (persist_unsent w cluster config site stands.itself.waits.all logged
-    (part_unsent w cluster config c.log_all.new.disks c.log_all.new.self c.send_all.new.self (persisted site) link c.send_all.new.link out _ site.pending.envelopes sends_are c.send_all.ensures.same
-    _ logged.stands (c.in_err-send_all.ensures.sent _ logged.stands.itself.sender)))
+    (part_unsent w cluster config c.log_all.new.disks c.log_all.new.self c.send_all.new.self (persisted site) link c.send_all.new.link out site.pending.envelopes c.send_all.ensures.same
+    _ logged.stands (c.in_err-send_all.ensures.sent _ site.pending.envelopes logged.stands.itself.sender sends_are)))
 
 pub returns-in_err-print_heard : goal.returns-in_err-print_heard
 returns-in_err-print_heard g c site stands =
@@ -85,15 +81,15 @@ returns-in_err-print_heard g c site stands =
     let out = c.args.out.now in
     let emptied = c.take_pending-pending.new.self in
     let empties = c.take_pending-pending.ensures.same in
-    let facts_are = c.as_slice.ensures ∙ ap (λ (p : Pending). p.facts) c.take_pending-pending.ensures.taken in
-    let logged = log_done w cluster site disks held emptied stands empties c.log_all.new.disks c.log_all.new.self link out _ c.log_all.ensures.same facts_are
-    (c.in_ok-log_all.ensures.logs site.logged (log_there w cluster site disks held emptied stands empties)) in
-    let sends_are = c.as_slice-2.ensures ∙ (ap (λ (p : Pending). p.envelopes) c.take_pending-pending.ensures.taken ∙ ap (λ (p : Pending). p.envelopes) stands.itself.waits.pending) in
-    let all_sent = part_sent w cluster config c.log_all.new.disks c.log_all.new.self c.send_all.new.self (persisted site) link c.send_all.new.link out _ site.pending.envelopes sends_are c.send_all.ensures.same
-    logged.stands (c.in_ok-send_all.ensures.sent _ logged.stands.itself.sender) in
+    let facts_are = c.as_slice.ensures ∙ (ap (λ (p : PendingBytes). p.payloads) c.take_pending-pending.ensures.taken ∙ ap (λ (p : PendingBytes). p.payloads) stands.itself.waits.pending) in
+    let logged = log_done w cluster site disks held emptied stands empties c.log_all.new.disks c.log_all.new.self link out c.log_all.ensures.same
+    (c.in_ok-log_all.ensures.logs site.logged site.pending.facts (log_there w cluster site disks held emptied stands empties) facts_are) in
+    let sends_are = c.as_slice-2.ensures ∙ (ap (λ (p : PendingBytes). p.messages) c.take_pending-pending.ensures.taken ∙ ap (λ (p : PendingBytes). p.messages) stands.itself.waits.pending) in
+    let all_sent = part_sent w cluster config c.log_all.new.disks c.log_all.new.self c.send_all.new.self (persisted site) link c.send_all.new.link out site.pending.envelopes c.send_all.ensures.same
+    logged.stands (c.in_ok-send_all.ensures.sent _ site.pending.envelopes logged.stands.itself.sender sends_are) in
     let last = (messages_sent config (persisted site) site.pending.envelopes).site in
     let centre : c.send_all.new.self.centre ≡ site.centre = all_sent.stands.itself.centre ∙ (messages_only config (persisted site) site.pending.envelopes).centre in
-    let heard_are = c.as_slice-3.ensures ∙ (ap (λ (p : Pending). p.heard) c.take_pending-pending.ensures.taken ∙ ap (λ (p : Pending). p.heard) stands.itself.waits.pending) in
+    let heard_are = c.as_slice-3.ensures ∙ (ap (λ (p : PendingBytes). p.heard) c.take_pending-pending.ensures.taken ∙ ap (λ (p : PendingBytes). p.heard) stands.itself.waits.pending) in
     let lines_are : heard_printed c.send_all.new.self.centre c.as_slice-3.result.now ≡ heard_printed site.centre site.pending.heard =
     ap (λ (n : ℕ). heard_printed n c.as_slice-3.result.now) centre ∙ ap (heard_printed site.centre) heard_are in
     let p = err_from_is_err_and c.from_residual-in_err-print_heard.result c.from_residual-in_err-print_heard.ensures.1 in
@@ -115,15 +111,15 @@ returns g c site stands =
     let out = c.args.out.now in
     let emptied = c.take_pending-pending.new.self in
     let empties = c.take_pending-pending.ensures.same in
-    let facts_are = c.as_slice.ensures ∙ ap (λ (p : Pending). p.facts) c.take_pending-pending.ensures.taken in
-    let logged = log_done w cluster site disks held emptied stands empties c.log_all.new.disks c.log_all.new.self link out _ c.log_all.ensures.same facts_are
-    (c.in_ok-log_all.ensures.logs site.logged (log_there w cluster site disks held emptied stands empties)) in
-    let sends_are = c.as_slice-2.ensures ∙ (ap (λ (p : Pending). p.envelopes) c.take_pending-pending.ensures.taken ∙ ap (λ (p : Pending). p.envelopes) stands.itself.waits.pending) in
-    let all_sent = part_sent w cluster config c.log_all.new.disks c.log_all.new.self c.send_all.new.self (persisted site) link c.send_all.new.link out _ site.pending.envelopes sends_are c.send_all.ensures.same
-    logged.stands (c.in_ok-send_all.ensures.sent _ logged.stands.itself.sender) in
+    let facts_are = c.as_slice.ensures ∙ (ap (λ (p : PendingBytes). p.payloads) c.take_pending-pending.ensures.taken ∙ ap (λ (p : PendingBytes). p.payloads) stands.itself.waits.pending) in
+    let logged = log_done w cluster site disks held emptied stands empties c.log_all.new.disks c.log_all.new.self link out c.log_all.ensures.same
+    (c.in_ok-log_all.ensures.logs site.logged site.pending.facts (log_there w cluster site disks held emptied stands empties) facts_are) in
+    let sends_are = c.as_slice-2.ensures ∙ (ap (λ (p : PendingBytes). p.messages) c.take_pending-pending.ensures.taken ∙ ap (λ (p : PendingBytes). p.messages) stands.itself.waits.pending) in
+    let all_sent = part_sent w cluster config c.log_all.new.disks c.log_all.new.self c.send_all.new.self (persisted site) link c.send_all.new.link out site.pending.envelopes c.send_all.ensures.same
+    logged.stands (c.in_ok-send_all.ensures.sent _ site.pending.envelopes logged.stands.itself.sender sends_are) in
     let last = (messages_sent config (persisted site) site.pending.envelopes).site in
     let centre : c.send_all.new.self.centre ≡ site.centre = all_sent.stands.itself.centre ∙ (messages_only config (persisted site) site.pending.envelopes).centre in
-    let heard_are = c.as_slice-3.ensures ∙ (ap (λ (p : Pending). p.heard) c.take_pending-pending.ensures.taken ∙ ap (λ (p : Pending). p.heard) stands.itself.waits.pending) in
+    let heard_are = c.as_slice-3.ensures ∙ (ap (λ (p : PendingBytes). p.heard) c.take_pending-pending.ensures.taken ∙ ap (λ (p : PendingBytes). p.heard) stands.itself.waits.pending) in
     let lines_are : heard_printed c.send_all.new.self.centre c.as_slice-3.result.now ≡ heard_printed site.centre site.pending.heard =
     ap (λ (n : ℕ). heard_printed n c.as_slice-3.result.now) centre ∙ ap (heard_printed site.centre) heard_are in
     persist_goes w cluster config site stands.itself.waits.all logged all_sent
