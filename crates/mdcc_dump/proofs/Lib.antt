@@ -2,6 +2,7 @@ pub mod Completed
 pub mod Dumped
 pub mod Ended
 pub mod Facts
+pub mod Places
 pub mod Printed
 pub mod Refused
 pub mod Said

@@ -1,6 +1,6 @@
 -- What the command that prints the facts of a log does.
 use Rattle.std.specs.Io.KnownBytes.{Appends}
-use Rattle.std.specs.Prelude.{Err, IfErr, IfSome, IsTrue, List, MatchBool, Ok, Option, Result, Some, true, ℕ, ◌+◌, ◌-◌, ◌<◌, ◌^◌, ◌≡◌}
+use Rattle.std.specs.Prelude.{Err, IfErr, IfSome, IsTrue, List, MatchBool, Ok, Option, Result, Some, true, ℕ, ◌+◌, ◌-◌, ◌<◌, ◌^◌, ◌≡◌, ◌≢◌}
 use Rattle.mdcc_areas.specs.Area.{payloads}
 use Rattle.mdcc_config.specs.declared.config.Config.{Config}
 use Rattle.mdcc_disks.specs.Disks.{Disk}
@@ -63,6 +63,8 @@ module _ {D O : Type 0} (disk : D → ℕ → Disk) (held : O → Option (List �
     pub dumped : Result (Unit {0}) Failure
     pub ends : Ends dumped status err_before err_after faults_before faults_after
     pub runs : IfSome left (λ input. RunsDump input centre dumped)
+    -- the disks of other centres are as they were, whatever the input is
+    pub others : (p : ℕ) → p ≢ centre → p ≢ centre + 16 → disk disks_new p ≡ disk disks_old p
 
   -- ---- over an accepted configuration with this centre, whose disks tell their bytes
 

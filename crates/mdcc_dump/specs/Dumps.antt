@@ -3,8 +3,10 @@ use Rattle.std.specs.Io.KnownBytes.{Appends}
 use Rattle.std.specs.List.{AllByRecursion}
 use Rattle.std.specs.Prelude.{Err, IsErrAnd, IsTrue, List, None, Ok, Option, Result, Some, [], is_some, ⊤, ℕ, ◌+◌, ◌++◌, ◌∷◌, ◌≡◌}
 use Rattle.mdcc_admission.specs.Loading.{fact_read}
+use Rattle.mdcc_areas.specs.Area.{payloads}
+use Rattle.mdcc_areas.specs.Opening.{OpensOne}
 use Rattle.mdcc_areas.specs.declared.fault.LogFault.{LogFault}
-use Rattle.mdcc_disks.specs.Disks.{Disk}
+use Rattle.mdcc_disks.specs.Disks.{Disk, Only}
 use Rattle.mdcc_dump.specs.Texts.{fact_lines}
 use Rattle.mdcc_dump.specs.declared.fault.DumpFault.{DumpFault}
 use Rattle.mdcc_endings.specs.Logs.{booted}
@@ -109,6 +111,23 @@ abbrev pub MayFail : Option (List ℕ) → Option (List ℕ) → DumpFault → T
 MayFail before after (DumpFault.Log RestartFault.Memory) = ⊥
 MayFail before after (DumpFault.Log fault) = MayOpen fault × Appends before after []
 MayFail before after fault = ⊤
+
+module _ {D : Type 0} (disk : D → ℕ → Disk) (may_leave : D → ℕ → List ℕ → Type 0) (moment : D → ℕ) (left_since : D → ℕ → ℕ → List ℕ → Type 0) (tears : ℕ → Type 0) where
+  -- Where no byte is torn to 1, a crash at any moment since old leaves the payloads of the log of this centre, all of which were durable.
+  abbrev pub StaysAsLog : D → D → ℕ → Type 0
+  StaysAsLog old new a =
+      (all : List (List ℕ)) (current other : List ℕ) → (tears 1 → ⊥) → IsTrue (disk old a).told → IsTrue (disk old (a + 16)).told
+      → Only (disk old a).bytes (may_leave old a) → Only (disk old (a + 16)).bytes (may_leave old (a + 16))
+      → payloads (disk old a).bytes (disk old (a + 16)).bytes ≡ Ok all
+      → left_since new a (moment old) current → left_since new (a + 16) (moment old) other
+      → payloads current other ≡ Ok all
+
+  -- At both areas of this centre the calls of an opening were made, a front of them, and all of them at Ok.
+  abbrev pub OnlyOpens : {T E : Type 0} → D → D → ℕ → Result T E → Type 0
+  OnlyOpens old new a result =
+      IsTrue (disk old a).told → IsTrue (disk old (a + 16)).told
+      → OpensOne disk may_leave moment left_since tears old new a 0 (disk old a).bytes (disk old (a + 16)).bytes result
+      × OpensOne disk may_leave moment left_since tears old new (a + 16) 1 (disk old a).bytes (disk old (a + 16)).bytes result
 
 -- something is kept unless a disk failed
 abbrev pub KeepsLog : {T : Type 0} → Result T DumpFault → Type 0 → Type 0

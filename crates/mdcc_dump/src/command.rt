@@ -2,11 +2,12 @@
 ghost use Rattle.std.specs.Prelude.{◌≡◌, ◌+◌, [], IfErr, IfSome, IsErrOf, IsTrue, ℕ};
 ghost use Rattle.std.specs.Bool.{OnTrue};
 ghost use Rattle.std.specs.Io.KnownBytes.{Appends};
-ghost use Rattle.mdcc_areas.specs.Both.{RoseAtOne};
+ghost use Rattle.mdcc_areas.specs.Both.{KeepsBut, RoseAtOne};
 ghost use Rattle.mdcc_areas.specs.declared.fault.LogFault.{LogFault as ALogFault};
 ghost use Rattle.mdcc_base.specs.Causes.{Rose};
 ghost use Rattle.mdcc_base.specs.declared.source.ReadAllFault.{ReadAllFault as AReadAllFault};
 ghost use Rattle.mdcc_dump.specs.Commands.{DoesDump, DumpCompletes, DumpEndsByLog, RunsDump, Untouched, as_done, of_dump};
+ghost use Rattle.mdcc_dump.specs.Dumps.{StaysAsLog};
 ghost use Rattle.mdcc_endings.specs.Completions.{IsStill};
 ghost use Rattle.mdcc_endings.specs.Endings.{is_ending};
 ghost use Rattle.mdcc_endings.specs.Readings.{IsEarly};
@@ -59,6 +60,8 @@ fn dump_one<S: Source, D: Disks, O: Sink>(
     ensures disk { (a : ℕ) → IsErrOf result (AFailure.Log a ALogFault.DiskFault)
         → RoseAtOne (D.disk disks.old number) (D.disk disks.new number) (D.disk disks.old (number + 16)) (D.disk disks.new (number + 16)) }
     ensures output { IsErrOf result AFailure.Output → Rose (O.faults out.old) (O.faults out.new) }
+    ensures any_moment { StaysAsLog D.disk D.may_leave D.moment D.left_since D.tears disks.old disks.new number }
+    ensures others { KeepsBut D.disk D.may_leave D.moment D.left_since disks.old disks.new number (number + 16) }
 {
     let config = config_from(alloc, source)?;
     let Some(centre) = centre_of(&config, number) else {
@@ -88,6 +91,10 @@ pub fn run_dump<S: Source, O: Sink, E: Sink, D: Disks>(
         → RoseAtOne (D.disk disks.old centre) (D.disk disks.new centre) (D.disk disks.old (centre + 16)) (D.disk disks.new (centre + 16)) }
     ensures link { result ≡ 8 → ⊥ }
     ensures output { result ≡ 6 → Rose (O.faults out.old) (O.faults out.new) }
+
+    // The log stands after a crash at any moment of it, and the disks of other centres are as they were, whatever the input is.
+    ensures any_moment { StaysAsLog D.disk D.may_leave D.moment D.left_since D.tears disks.old disks.new centre }
+    ensures others { KeepsBut D.disk D.may_leave D.moment D.left_since disks.old disks.new centre (centre + 16) }
 
     // Over an accepted configuration: the status by the log of the centre, and where nothing failed.
     ensures logs { DumpEndsByLog D.disk O.held disks.old disks.new out.old out.new (S.left source.old) centre result }

@@ -7,8 +7,7 @@ ghost use Rattle.mdcc_areas.specs.Area.{payloads};
 ghost use Rattle.mdcc_areas.specs.Both.{KeepsBut, RoseAtOne};
 ghost use Rattle.mdcc_areas.specs.declared.fault.LogFault.{LogFault as ALogFault};
 ghost use Rattle.mdcc_base.specs.Causes.{Rose};
-ghost use Rattle.mdcc_disks.specs.Disks.{Only};
-ghost use Rattle.mdcc_dump.specs.Dumps.{AreFacts, IsDumped, IsPrinting, IsUnopened, KeepsLog, MayFail, dump_text, payload_lines};
+ghost use Rattle.mdcc_dump.specs.Dumps.{AreFacts, IsDumped, IsPrinting, IsUnopened, KeepsLog, MayFail, OnlyOpens, StaysAsLog, dump_text, payload_lines};
 ghost use Rattle.mdcc_dump.specs.declared.fault.DumpFault.{DumpFault as ADumpFault};
 ghost use Rattle.mdcc_protocol.specs.Belongs.{is_centre};
 ghost use Rattle.mdcc_replay.specs.Writing.{Front};
@@ -114,13 +113,9 @@ pub fn dump<D: Disks, O: Sink>(
     ensures keeps { (all : List (List ℕ)) → IsTrue (D.disk disks.old centre).told → IsTrue (D.disk disks.old (centre + 16)).told
         → payloads (D.disk disks.old centre).bytes (D.disk disks.old (centre + 16)).bytes ≡ Ok all
         → KeepsLog result (payloads (D.disk disks.new centre).bytes (D.disk disks.new (centre + 16)).bytes ≡ Ok all) }
-    ensures any_moment { (all : List (List ℕ)) (current other : List ℕ) → (D.tears 1 → ⊥)
-        → IsTrue (D.disk disks.old centre).told → IsTrue (D.disk disks.old (centre + 16)).told
-        → Only (D.disk disks.old centre).bytes (D.may_leave disks.old centre)
-        → Only (D.disk disks.old (centre + 16)).bytes (D.may_leave disks.old (centre + 16))
-        → payloads (D.disk disks.old centre).bytes (D.disk disks.old (centre + 16)).bytes ≡ Ok all
-        → D.left_since disks.new centre (D.moment disks.old) current → D.left_since disks.new (centre + 16) (D.moment disks.old) other
-        → payloads current other ≡ Ok all }
+    ensures any_moment { StaysAsLog D.disk D.may_leave D.moment D.left_since D.tears disks.old disks.new centre }
+    // At its disks the calls of an opening are made and no others, and none at other disks.
+    ensures opens { OnlyOpens D.disk D.may_leave D.moment D.left_since D.tears disks.old disks.new centre result }
     ensures others { KeepsBut D.disk D.may_leave D.moment D.left_since disks.old disks.new centre (centre + 16) }
 {
     let payloads = open(alloc, cluster, centre, disks)?;

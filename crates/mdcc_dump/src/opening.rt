@@ -4,8 +4,7 @@ ghost use Rattle.mdcc_admission.specs.Loading.{AreShort};
 ghost use Rattle.mdcc_areas.specs.Area.{payloads};
 ghost use Rattle.mdcc_areas.specs.Both.{KeepsBut, RoseAtOne};
 ghost use Rattle.mdcc_areas.specs.declared.fault.LogFault.{LogFault as ALogFault};
-ghost use Rattle.mdcc_disks.specs.Disks.{Only};
-ghost use Rattle.mdcc_dump.specs.Dumps.{AreFacts, HasBooted, IsRefused, Keeps, MayOpen};
+ghost use Rattle.mdcc_dump.specs.Dumps.{AreFacts, HasBooted, IsRefused, Keeps, MayOpen, OnlyOpens, StaysAsLog};
 ghost use Rattle.mdcc_protocol.specs.Belongs.{is_centre};
 ghost use Rattle.mdcc_restart.specs.Restarting.{IsUnread};
 ghost use Rattle.mdcc_restart.specs.declared.fault.RestartFault.{RestartFault as ARestartFault};
@@ -66,13 +65,9 @@ pub(crate) fn open<D: Disks>(
     ensures keeps { (all : List (List ℕ)) → IsTrue (D.disk disks.old centre).told → IsTrue (D.disk disks.old (centre + 16)).told
         → payloads (D.disk disks.old centre).bytes (D.disk disks.old (centre + 16)).bytes ≡ Ok all
         → Keeps result (payloads (D.disk disks.new centre).bytes (D.disk disks.new (centre + 16)).bytes ≡ Ok all) }
-    ensures any_moment { (all : List (List ℕ)) (current other : List ℕ) → (D.tears 1 → ⊥)
-        → IsTrue (D.disk disks.old centre).told → IsTrue (D.disk disks.old (centre + 16)).told
-        → Only (D.disk disks.old centre).bytes (D.may_leave disks.old centre)
-        → Only (D.disk disks.old (centre + 16)).bytes (D.may_leave disks.old (centre + 16))
-        → payloads (D.disk disks.old centre).bytes (D.disk disks.old (centre + 16)).bytes ≡ Ok all
-        → D.left_since disks.new centre (D.moment disks.old) current → D.left_since disks.new (centre + 16) (D.moment disks.old) other
-        → payloads current other ≡ Ok all }
+    ensures any_moment { StaysAsLog D.disk D.may_leave D.moment D.left_since D.tears disks.old disks.new centre }
+    // At its disks the calls of an opening are made and no others, and none at other disks.
+    ensures opens { OnlyOpens D.disk D.may_leave D.moment D.left_since D.tears disks.old disks.new centre result }
     ensures others { KeepsBut D.disk D.may_leave D.moment D.left_since disks.old disks.new centre (centre + 16) }
 {
     let (_log, payloads) = Frames::open(alloc, disks, centre, 1)?;

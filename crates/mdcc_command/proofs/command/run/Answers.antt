@@ -41,6 +41,7 @@ returns-in-Err-clause-dump g c centre = λ is. record {
   dumped = Err (Failure.Input ReadAllFault.Memory);
   ends = ended c.end.result (g.E.Sink.held c.args.err.now) (g.E.Sink.held c.end.new.err) (g.E.Sink.faults c.args.err.now) (g.E.Sink.faults c.end.new.err) c.end.ensures.status c.end.ensures.told;
   runs = known_always (g.S.Source.left c.args.source.now) _ (λ input. record { read = Err (Failure.Input ReadAllFault.Memory); gives = tt; dumps = refl });
+  others = λ p first second. refl;
 }
 
 pub returns-in-Err-clause-whole : goal.returns-in-Err-clause-whole

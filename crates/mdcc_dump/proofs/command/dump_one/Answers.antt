@@ -1,11 +1,13 @@
 use Rattle.std.proofs.Common.{◌≡◌, ◌+◌, ◌∙◌, Err, refl, subst, sym, true, ℕ}
 use Rattle.std.proofs.lemmas.Result.{err_from_is_err_and}
-use Rattle.mdcc_areas.specs.Both.{RoseAtOne}
+use Rattle.mdcc_areas.specs.Both.{KeepsBut, RoseAtOne}
 use Rattle.mdcc_areas.specs.declared.fault.LogFault.{LogFault}
 use Rattle.mdcc_base.specs.declared.source.ReadAllFault.{ReadAllFault}
 use Rattle.mdcc_dump.proofs.Ended.{disk_dumped, dumped_runs, no_centre_runs, no_input, no_link, not_early, output_dumped, unread_runs}
+use Rattle.mdcc_dump.proofs.Places.{but_unchanged, stays_unchanged}
 use Rattle.mdcc_dump.proofs.Said.{dump_says}
 use Rattle.mdcc_dump.specs.Commands.{DumpsOne, Untouched}
+use Rattle.mdcc_dump.specs.Dumps.{StaysAsLog}
 use Rattle.mdcc_endings.specs.Readings.{IsOfInput}
 use Rattle.mdcc_endings.specs.declared.fault.Failure.{Failure}
 use Rattle.mdcc_protocol.specs.Belongs.{is_centre}
@@ -90,3 +92,25 @@ returns-clause-output g c = λ h. c.dump.ensures.output (output_dumped c.in-Some
 
 pub dump-requires : goal.dump-requires
 dump-requires g c = subst (λ (n : ℕ). is_centre c.in_ok-config.config.cluster n ≡ true) (sym c.in-Some.ensures.some.0) c.in-Some.ensures.some.1
+
+-- ---- what stands at the disks
+
+pub returns-in_err-config-clause-any_moment : goal.returns-in_err-config-clause-any_moment
+returns-in_err-config-clause-any_moment g c = stays_unchanged g.D.Disks.disk g.D.Disks.may_leave g.D.Disks.moment g.D.Disks.left_since g.D.Disks.tears g.met.D.Disks.only_now c.args.disks.now c.args.number
+
+pub returns-in_default-clause-any_moment : goal.returns-in_default-clause-any_moment
+returns-in_default-clause-any_moment g c = stays_unchanged g.D.Disks.disk g.D.Disks.may_leave g.D.Disks.moment g.D.Disks.left_since g.D.Disks.tears g.met.D.Disks.only_now c.args.disks.now c.args.number
+
+pub returns-clause-any_moment : goal.returns-clause-any_moment
+returns-clause-any_moment g c =
+    subst (λ (n : ℕ). StaysAsLog g.D.Disks.disk g.D.Disks.may_leave g.D.Disks.moment g.D.Disks.left_since g.D.Disks.tears c.args.disks.now c.dump.new.disks n) c.in-Some.ensures.some.0 c.dump.ensures.any_moment
+
+pub returns-in_err-config-clause-others : goal.returns-in_err-config-clause-others
+returns-in_err-config-clause-others g c = but_unchanged g.D.Disks.disk g.D.Disks.may_leave g.D.Disks.moment g.D.Disks.left_since c.args.disks.now c.args.number (c.args.number + 16)
+
+pub returns-in_default-clause-others : goal.returns-in_default-clause-others
+returns-in_default-clause-others g c = but_unchanged g.D.Disks.disk g.D.Disks.may_leave g.D.Disks.moment g.D.Disks.left_since c.args.disks.now c.args.number (c.args.number + 16)
+
+pub returns-clause-others : goal.returns-clause-others
+returns-clause-others g c =
+    subst (λ (n : ℕ). KeepsBut g.D.Disks.disk g.D.Disks.may_leave g.D.Disks.moment g.D.Disks.left_since c.args.disks.now c.dump.new.disks n (n + 16)) c.in-Some.ensures.some.0 c.dump.ensures.others

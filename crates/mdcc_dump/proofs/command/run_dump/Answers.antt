@@ -11,7 +11,12 @@ use Rattle.mdcc_endings.specs.declared.fault.Failure.{Failure}
 use Rattle.mdcc_dump.proofs.command.run_dump.Goals as goal
 
 pub returns-clause-does : goal.returns-clause-does
-returns-clause-does g c = record { dumped = c.dump_one-dumped.result; ends = c.finish.ensures.ends; runs = c.dump_one-dumped.ensures.runs }
+returns-clause-does g c = record {
+  dumped = c.dump_one-dumped.result;
+  ends = c.finish.ensures.ends;
+  runs = c.dump_one-dumped.ensures.runs;
+  others = c.dump_one-dumped.ensures.others.others;
+}
 
 pub returns-clause-refused : goal.returns-clause-refused
 returns-clause-refused g c = λ at.

@@ -2,6 +2,7 @@ use Rattle.std.proofs.Common.{◌≡◌, ◌∙◌, refl, sym}
 use Rattle.std.proofs.lemmas.Result.{err_from_is_err_and}
 use Rattle.mdcc_areas.specs.declared.fault.LogFault.{LogFault}
 use Rattle.mdcc_dump.proofs.Dumped.{kept_opening, kept_printing, log_fault, may_fail, no_log_fault, no_output, printed_dump, printing_fails, refused_dump, unopened}
+use Rattle.mdcc_dump.proofs.Places.{opens_broke, opens_whole}
 use Rattle.mdcc_dump.specs.declared.fault.DumpFault.{DumpFault}
 use Rattle.mdcc_restart.specs.declared.fault.RestartFault.{RestartFault}
 use Rattle.mdcc_dump.proofs.dumping.dump.Goals as goal
@@ -82,3 +83,14 @@ returns-in_err-payloads-clause-others g c = c.open.ensures.others
 
 pub returns-clause-others : goal.returns-clause-others
 returns-clause-others g c = c.open.ensures.others
+
+-- ---- the calls at its places
+
+pub returns-in_err-payloads-clause-opens : goal.returns-in_err-payloads-clause-opens
+returns-in_err-payloads-clause-opens g c =
+    let p = err_from_is_err_and c.from_residual.result c.from_residual.ensures.1 in
+    opens_broke g.D.Disks.disk g.D.Disks.may_leave g.D.Disks.moment g.D.Disks.left_since g.D.Disks.tears c.args.disks.now c.open.new.disks c.open.result c.from_residual.result c.args.centre p.0 p.1 c.open.ensures.opens
+
+pub returns-clause-opens : goal.returns-clause-opens
+returns-clause-opens g c =
+    opens_whole g.D.Disks.disk g.D.Disks.may_leave g.D.Disks.moment g.D.Disks.left_since g.D.Disks.tears c.args.disks.now c.open.new.disks c.open.result c.print_payloads.result c.args.centre _ c.in_ok-payloads.was c.open.ensures.opens

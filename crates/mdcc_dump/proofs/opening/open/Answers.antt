@@ -1,5 +1,6 @@
 use Rattle.std.proofs.Common.{◌+◌, ◌∙◌, List, ℕ, subst}
 use Rattle.std.proofs.lemmas.Result.{err_from_is_err_and}
+use Rattle.mdcc_dump.proofs.Places.{opens_broke, opens_whole}
 use Rattle.mdcc_dump.proofs.Refused.{keeps_all, log_keeps, log_may, log_refused, read_as}
 use Rattle.mdcc_dump.specs.Dumps.{AreFacts, HasBooted, IsRefused}
 use Rattle.mdcc_restart.proofs.Kept.{rest_read}
@@ -100,3 +101,22 @@ returns-in_err-boot-clause-others g c = c.open.ensures.others
 
 pub returns-clause-others : goal.returns-clause-others
 returns-clause-others g c = c.open.ensures.others
+
+-- ---- the calls at its places
+
+pub returns-in_err-_log-clause-opens : goal.returns-in_err-_log-clause-opens
+returns-in_err-_log-clause-opens g c =
+    let p = err_from_is_err_and c.from_residual.result c.from_residual.ensures.1 in
+    opens_broke g.D.Disks.disk g.D.Disks.may_leave g.D.Disks.moment g.D.Disks.left_since g.D.Disks.tears c.args.disks.now c.open.new.disks c.open.result c.from_residual.result c.args.centre p.0 p.1
+    (λ told told_other. (c.open.ensures.first told told_other, c.open.ensures.second told told_other))
+
+pub returns-in_err-boot-clause-opens : goal.returns-in_err-boot-clause-opens
+returns-in_err-boot-clause-opens g c =
+    let p = err_from_is_err_and c.from_residual-in_err-boot.result c.from_residual-in_err-boot.ensures.1 in
+    opens_broke g.D.Disks.disk g.D.Disks.may_leave g.D.Disks.moment g.D.Disks.left_since g.D.Disks.tears c.args.disks.now c.open.new.disks c.open.result c.from_residual-in_err-boot.result c.args.centre p.0 p.1
+    (λ told told_other. (c.open.ensures.first told told_other, c.open.ensures.second told told_other))
+
+pub returns-clause-opens : goal.returns-clause-opens
+returns-clause-opens g c =
+    opens_whole g.D.Disks.disk g.D.Disks.may_leave g.D.Disks.moment g.D.Disks.left_since g.D.Disks.tears c.args.disks.now c.open.new.disks c.open.result _ c.args.centre _ c.in_ok-_log.was
+    (λ told told_other. (c.open.ensures.first told told_other, c.open.ensures.second told told_other))
