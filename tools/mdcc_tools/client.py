@@ -2,6 +2,8 @@
 
 It is one thread. `step` waits for answers, takes them all, and asks again what is late. A request has a serial of its own, under
 which a node begins at most one transaction until it starts anew, so asking again is safe but across a restart of the node.
+
+When an answer came to its socket the system says (SO_TIMESTAMPNS), so that what a request took without this program is known too.
 """
 import heapq
 import itertools
@@ -16,6 +18,9 @@ from . import messages
 from .datagrams import HEAD, WHOLE, Joiner, split
 from .parts import Refused
 
+# The system tells when a datagram came, in seconds and nanoseconds since 1970.
+SO_TIMESTAMPNS = 35
+TIMESTAMP = struct.Struct("@qq")
 # An answer that a transaction was begun, and one that it was heard, without their datagram's head.
 BEGUN_FORM = struct.Struct("<BBBBIBBII")
 HEARD_FORM = struct.Struct("<BBBBIBBIIB")
@@ -37,13 +42,25 @@ def answer_in(message):
     return body if kind == messages.CLIENT_ANSWER else None
 
 
-class Request:
-    """What was asked. `answered` is called with each answer, and with None where none came in time; it says whether that ends it."""
-    __slots__ = ("serial", "centre", "datagrams", "began", "late", "answered", "is_open")
+def time_in(told):
+    """When a datagram came, of what the system tells beside it; now, where it tells nothing."""
+    for level, kind, data in told:
+        if level == socket.SOL_SOCKET and kind == SO_TIMESTAMPNS and len(data) >= TIMESTAMP.size:
+            seconds, nanoseconds = TIMESTAMP.unpack_from(data)
+            return seconds + nanoseconds / 1e9
+    return time.time()
 
-    def __init__(self, serial, centre, datagrams, began, late, answered):
-        self.serial, self.centre, self.datagrams, self.answered = serial, centre, datagrams, answered
-        self.began, self.late, self.is_open = began, late, True
+
+class Request:
+    """What was asked. `answered` is called with each answer, and with None where none came in time; it says whether that ends it.
+
+    It began at `began` by the clock that only rises, and at `sent` by that of the system, which `Client.came` has too."""
+    __slots__ = ("serial", "centre", "datagrams", "began", "sent", "late", "answered", "is_open")
+
+    def __init__(self, serial, centre, datagrams, patience, answered):
+        self.serial, self.centre, self.datagrams, self.answered, self.is_open = serial, centre, datagrams, answered, True
+        self.began, self.sent = time.monotonic(), time.time()
+        self.late = self.began + patience
 
 
 class Client:
@@ -56,12 +73,15 @@ class Client:
         self.counts = Counter()
         self.sockets, self.joiners, self.poll = {}, {}, select.poll()
         self.by_descriptor = {}
+        # when the datagram that was received last came to its socket
+        self.came = 0.0
         for centre in configuration.numbers():
             self.bind(centre)
 
     def bind(self, centre):
         bound = socket.socket(socket.AF_INET, socket.SOCK_DGRAM)
         bound.setsockopt(socket.SOL_SOCKET, socket.SO_RCVBUF, 4 << 20)
+        bound.setsockopt(socket.SOL_SOCKET, SO_TIMESTAMPNS, 1)
         bound.bind(self.configuration.client(centre))
         bound.setblocking(False)
         self.sockets[centre], self.joiners[centre] = bound, Joiner()
@@ -83,11 +103,9 @@ class Client:
 
     def ask(self, centre, kind, rest, answered):
         serial = next(self.serials) & 0xFFFFFFFF
-        message = messages.encode(16 + centre, centre, kind, (serial, rest))
-        now = time.monotonic()
-        request = Request(serial, centre, split(message, 16 + centre, serial, 1), now, now + self.patience, answered)
-        self.requests[serial] = request
-        self.send(request, now)
+        datagrams = split(messages.encode(16 + centre, centre, kind, (serial, rest)), 16 + centre, serial, 1)
+        request = self.requests[serial] = Request(serial, centre, datagrams, self.patience, answered)
+        self.send(request, request.began)
         return request
 
     def send(self, request, now):
@@ -117,12 +135,13 @@ class Client:
         bound, joiner = self.sockets[centre], self.joiners[centre]
         while True:
             try:
-                datagram = bound.recv(2048)
+                datagram, told, _, _ = bound.recvmsg(2048, 64)
             except BlockingIOError:
                 return
             except OSError:
                 self.counts["receives that failed"] += 1
                 return
+            self.came = time_in(told)
             joined = joiner.join(datagram)
             found = answer_in(joined[1]) if joined[0] == WHOLE else None
             if found is None:

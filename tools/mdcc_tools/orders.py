@@ -15,7 +15,8 @@ ADDS = 28
 
 
 class Tally:
-    """What came of orders: counts, and when each commit was reported and how long it took, in seconds."""
+    """What came of orders: counts, and when each commit was reported and how long it took, in seconds: until the client had read that,
+    and until it came to the client's socket."""
 
     def __init__(self):
         self.counts, self.commits, self.reported = Counter(), [], []
@@ -23,13 +24,17 @@ class Tally:
     def note(self, name):
         self.counts[name] += 1
 
-    def commit(self, began, now):
+    def commit(self, began, now, at_socket):
         self.counts["commits"] += 1
-        self.commits.append((now, now - began))
+        self.commits.append((now, now - began, at_socket))
 
     def times(self, since=float("-inf"), until=float("inf")):
         """How long each commit took that was reported in this span, ascending."""
-        return sorted(took for at, took in self.commits if since <= at < until)
+        return sorted(took for at, took, _ in self.commits if since <= at < until)
+
+    def times_at_socket(self, since=float("-inf"), until=float("inf")):
+        """The same until that came to the client's socket."""
+        return sorted(took for at, _, took in self.commits if since <= at < until)
 
 
 def percentile(ascending, share):
@@ -224,7 +229,7 @@ class Load:
         elif answer[0] == messages.HEARD:
             name = "commits" if answer[2] else "aborts"
             if answer[2]:
-                self.tally.commit(request.began, time.monotonic())
+                self.tally.commit(request.began, time.monotonic(), self.client.came - request.sent)
             else:
                 self.tally.note(name)
             self.tally.reported.append((answer[1], bool(answer[2]), tuple((part.key, part.version) for part in parts)))
