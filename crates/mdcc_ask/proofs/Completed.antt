@@ -54,5 +54,5 @@ module _ {L O : Type 0} (calls : L → Option (List LinkCall)) (held : O → Opt
             from_true (is_centre config.cluster question.centre) _ _ there (subst (λ (r : Result Config Failure). AsksBy calls held link_old link_new out_old out_new r question done) e run.asks) in
             client_ends config question one.result one.is one.asks
         by_read run (inr it) =
-            let same : done ≡ Err it.0 = subst (λ (r : Result Config Failure). AsksBy calls held link_old link_new out_old out_new r question done) it.1 run.asks in
+            let same : done ≡ Err it.0 = (subst (λ (r : Result Config Failure). AsksBy calls held link_old link_new out_old out_new r question done) it.1 run.asks).0 in
             unlucky_ends it.0 (Asks calls held (asked config (order_of question)) question.turns (Ok tt) link_old link_new out_old out_new) same it.2

@@ -1,9 +1,9 @@
 -- How the command ends, by what its client did.
 use Rattle.std.proofs.Common.{◌≡◌, Bool, Err, IfErr, IfSome, IsErrOf, List, None, Ok, Option, Result, Some, false, refl, subst, sym, true, ℕ}
 use Rattle.std.specs.Prelude.{MatchBool}
-use Rattle.mdcc_areas.specs.declared.fault.LogFault.{LogFault}
+use Rattle.mdcc_log_file.specs.declared.fault.LogFault.{LogFault}
 use Rattle.mdcc_ask.specs.Asking.{asked}
-use Rattle.mdcc_ask.specs.Commands.{AsksOne, RunsAsk, as_done, order_of}
+use Rattle.mdcc_ask.specs.Commands.{AsksOne, RunsAsk, Untouched, as_done, order_of}
 use Rattle.mdcc_ask.specs.Effects.{Asks}
 use Rattle.mdcc_ask.specs.declared.fault.AskFault.{AskFault}
 use Rattle.mdcc_ask.specs.declared.order.Order.{Order}
@@ -63,17 +63,17 @@ at_false false P Q e q = q
 
 module _ {L O : Type 0} (calls : L → Option (List LinkCall)) (held : O → Option (List ℕ)) (link_old link_new : L) (out_old out_new : O) where
   -- its input is no configuration
-  pub unread_runs : (left : Option (List ℕ)) (question : Question) (failure : Failure) (done : Result (Unit {0}) Failure) → done ≡ Err failure → IfSome left (λ input. GivesConfig input (Err failure))
+  pub unread_runs : (left : Option (List ℕ)) (question : Question) (failure : Failure) (done : Result (Unit {0}) Failure) → done ≡ Err failure → Untouched link_old link_new out_old out_new → IfSome left (λ input. GivesConfig input (Err failure))
       → IfSome left (λ input. RunsAsk calls held link_old link_new out_old out_new input question done)
-  unread_runs None question failure done is gives = tt
-  unread_runs (Some input) question failure done is gives = record { read = Err failure; gives = gives; asks = is }
+  unread_runs None question failure done is untouched gives = tt
+  unread_runs (Some input) question failure done is untouched gives = record { read = Err failure; gives = gives; asks = (is, untouched) }
 
   -- the configuration has no such centre
-  pub no_centre_runs : (left : Option (List ℕ)) (question : Question) (config : Config) → is_centre config.cluster question.centre ≡ false → IfSome left (λ input. GivesConfig input (Ok config))
+  pub no_centre_runs : (left : Option (List ℕ)) (question : Question) (config : Config) → is_centre config.cluster question.centre ≡ false → Untouched link_old link_new out_old out_new → IfSome left (λ input. GivesConfig input (Ok config))
       → IfSome left (λ input. RunsAsk calls held link_old link_new out_old out_new input question (Err Failure.Centre))
-  no_centre_runs None question config none gives = tt
-  no_centre_runs (Some input) question config none gives =
-      record { read = Ok config; gives = gives; asks = at_false (is_centre config.cluster question.centre) (AsksOne calls held link_old link_new out_old out_new config question (Err Failure.Centre)) _ none refl }
+  no_centre_runs None question config none untouched gives = tt
+  no_centre_runs (Some input) question config none untouched gives =
+      record { read = Ok config; gives = gives; asks = at_false (is_centre config.cluster question.centre) (AsksOne calls held link_old link_new out_old out_new config question (Err Failure.Centre)) _ none (refl, untouched) }
 
   -- its centre was asked
   pub asked_runs : (left : Option (List ℕ)) (question : Question) (config : Config) (order : Order) (result : Result (Unit {0}) AskFault) (done : Result (Unit {0}) Failure) → order ≡ order_of question

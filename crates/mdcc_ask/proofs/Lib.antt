@@ -6,3 +6,4 @@ pub mod Few
 pub mod Replied
 pub mod Seen
 pub mod Turns
+mod Waiting

@@ -27,6 +27,11 @@ as_done (Err fault) = Err (of_ask fault)
 abbrev pub order_of : Question → Order
 order_of question = record { centre = question.centre; serial = question.serial; keys = question.keys; updates = question.updates }
 
+-- nothing was done at the link, and nothing printed
+pub record Untouched {L O : Type 0} (link_old link_new : L) (out_old out_new : O) : Type 0 where
+  pub link : link_new ≡ link_old
+  pub output : out_new ≡ out_old
+
 module _ {L O : Type 0} (calls : L → Option (List LinkCall)) (held : O → Option (List ℕ)) (link_old link_new : L) (out_old out_new : O) where
   -- what a client of this centre did
   pub record AsksOne (config : Config) (question : Question) (done : Result (Unit {0}) Failure) : Type 0 where
@@ -34,10 +39,14 @@ module _ {L O : Type 0} (calls : L → Option (List LinkCall)) (held : O → Opt
     pub is : done ≡ as_done result
     pub asks : Asks calls held (asked config (order_of question)) question.turns result link_old link_new out_old out_new
 
+  -- it ended before anything was done
+  abbrev pub IsEarlyAt : Failure → Result (Unit {0}) Failure → Type 0
+  IsEarlyAt failure done = (done ≡ Err failure) × Untouched link_old link_new out_old out_new
+
   -- by what the input was read as
   abbrev pub AsksBy : Result Config Failure → Question → Result (Unit {0}) Failure → Type 0
-  AsksBy (Ok config) question done = MatchBool (is_centre config.cluster question.centre) (AsksOne config question done) (done ≡ Err Failure.Centre)
-  AsksBy (Err failure) question done = done ≡ Err failure
+  AsksBy (Ok config) question done = MatchBool (is_centre config.cluster question.centre) (AsksOne config question done) (IsEarlyAt Failure.Centre done)
+  AsksBy (Err failure) question done = IsEarlyAt failure done
 
   -- `ask K TURNS SERIAL WORD..`
   pub record RunsAsk (input : List ℕ) (question : Question) (done : Result (Unit {0}) Failure) : Type 0 where
@@ -56,8 +65,3 @@ module _ {L O : Type 0} (calls : L → Option (List LinkCall)) (held : O → Opt
   AskCompletes left question status =
       (input : List ℕ) (config : Config) → left ≡ Some input → IsRead input (Ok config) → is_centre config.cluster question.centre ≡ true
       → CompletesAs status (Asks calls held (asked config (order_of question)) question.turns (Ok tt) link_old link_new out_old out_new) ⊥
-
--- nothing was done at the link, and nothing printed
-pub record Untouched {L O : Type 0} (link_old link_new : L) (out_old out_new : O) : Type 0 where
-  pub link : link_new ≡ link_old
-  pub output : out_new ≡ out_old

@@ -2,7 +2,7 @@
 ghost use Rattle.std.specs.Prelude.{◌≡◌, [], IfErr, IfSome, IsErrOf, IsTrue, ℕ};
 ghost use Rattle.std.specs.Bool.{OnTrue};
 ghost use Rattle.std.specs.Io.KnownBytes.{Appends};
-ghost use Rattle.mdcc_areas.specs.declared.fault.LogFault.{LogFault as ALogFault};
+ghost use Rattle.mdcc_log_file.specs.declared.fault.LogFault.{LogFault as ALogFault};
 ghost use Rattle.mdcc_ask.specs.Commands.{AskCompletes, DoesAsk, RunsAsk, Untouched, as_done, of_ask};
 ghost use Rattle.mdcc_base.specs.Causes.{Rose};
 ghost use Rattle.mdcc_base.specs.declared.source.ReadAllFault.{ReadAllFault as AReadAllFault};
@@ -68,6 +68,7 @@ fn ask_one<S: Source, L: Link, O: Sink>(
         keys: question.keys,
         updates: question.updates,
     };
+    link.set_wait(config.wait);
     as_done(ask(alloc, &config, &order, question.turns, link, out))
 }
 

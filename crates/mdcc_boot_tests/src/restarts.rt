@@ -3,12 +3,11 @@ ghost use Rattle.std.specs.Prelude.{[], ◌≤◌};
 
 use crate::setup::{BOOTED, HEARD, PROMISED, five_centres};
 use mdcc_admission::parts_belong::is_centre;
-use mdcc_areas::{Frames, LogFault};
 use mdcc_base::{Centre, Image};
 use mdcc_counted_facts::CountedFacts;
 use mdcc_disks::MemoryDisks;
 use mdcc_facts::{FactStore, ListFacts};
-use mdcc_log::Frames as FirstFrames;
+use mdcc_log::{Frames, LogFault};
 use mdcc_restart::{BootFault, RestartFault, restart};
 use std::alloc::Global;
 use std::process::Abort;
@@ -18,21 +17,21 @@ use std::test::*;
 const BOOTED_AGAIN: [u8; 5] = [1, 2, 0, 0, 0];
 
 // Where the append of a third fact was struck and what a crash left of it: the number of its call, the image, and whether
-// the fact is there. An opening of an empty disk makes five calls, and an append four: the frame is written behind the
+// the fact is there. An opening of two empty areas makes seven calls, and an append four: the frame is written behind the
 // closed gate, sync, the gate is opened, sync.
 const STRUCK: [(u32, Image, bool); 12] = [
-    (14, Image::Lost, false),
-    (14, Image::Kept, false),
-    (14, Image::Torn, false),
-    (15, Image::Lost, false),
-    (15, Image::Kept, false),
-    (15, Image::Torn, false),
     (16, Image::Lost, false),
-    (16, Image::Kept, true),
+    (16, Image::Kept, false),
     (16, Image::Torn, false),
     (17, Image::Lost, false),
-    (17, Image::Kept, true),
+    (17, Image::Kept, false),
     (17, Image::Torn, false),
+    (18, Image::Lost, false),
+    (18, Image::Kept, true),
+    (18, Image::Torn, false),
+    (19, Image::Lost, false),
+    (19, Image::Kept, true),
+    (19, Image::Torn, false),
 ];
 
 // The epoch of the centre that starts over the disks and an empty store, where its node is of that epoch, or why none starts.
@@ -122,12 +121,13 @@ fn left_behind(
     image: Image,
 ) -> Result<MemoryDisks, Fail> {
     let mut disks = MemoryDisks::new(alloc, 17, &[call])?;
-    let (mut log, _payloads) = FirstFrames::open(alloc, &mut disks, 1)?;
+    let (mut log, _payloads) = Frames::open(alloc, &mut disks, Centre::default(), 1024)?;
     log.append(&mut disks, &BOOTED)?;
     log.append(&mut disks, &PROMISED)?;
     let outcome = log.append(&mut disks, &HEARD);
     assert!(rt; outcome.is_err());
     disks.crash(1, image);
+    disks.crash(17, image);
     Ok(disks)
 }
 
@@ -219,7 +219,7 @@ fn no_start(rt: HostRuntime) -> Result<(), Fail> {
         restarted(&rt, alloc, &mut disks)?,
         Err(RestartFault::Log(LogFault::DiskFault))
     );
-    let (mut log, _payloads) = FirstFrames::open(alloc, &mut disks, 1)?;
+    let (mut log, _payloads) = Frames::open(alloc, &mut disks, Centre::default(), 1024)?;
     log.append(&mut disks, &HEARD)?;
     assert_eq!(rt;
         restarted(&rt, alloc, &mut disks)?,
@@ -233,7 +233,7 @@ fn no_start(rt: HostRuntime) -> Result<(), Fail> {
 fn within_cells(rt: HostRuntime) -> Result<(), Fail> {
     let alloc = rt.alloc();
     let mut disks = MemoryDisks::new(alloc, 17, &[])?;
-    let (mut log, _payloads) = FirstFrames::open(alloc, &mut disks, 1)?;
+    let (mut log, _payloads) = Frames::open(alloc, &mut disks, Centre::default(), 1024)?;
     log.append(&mut disks, &BOOTED)?;
     log.append(&mut disks, &PROMISED)?;
     assert_eq!(rt;

@@ -1,4 +1,4 @@
-//! What the program does: the top call, which replays a schedule on the nodes of a cluster in memory.
+//! What the program does: the top call, which replays a schedule on nodes in memory, serves nodes, asks them, and looks into their logs.
 #![tactic(auto)]
 
 mod command;

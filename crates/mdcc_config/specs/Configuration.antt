@@ -70,6 +70,10 @@ list_as read name d = member_as as_array name d >>= λ items. each_item read nam
 abbrev pub default_cells : ℕ
 default_cells = 1048576
 
+-- and how many milliseconds a receive waits at most
+abbrev pub default_wait : ℕ
+default_wait = 20
+
 abbrev pub fields_of : Data → Read Fields
 fields_of d = (do
   centres ← member_as natural Member.Centres d
@@ -81,6 +85,7 @@ fields_of d = (do
   port ← member_as natural Member.Port d
   cells ← given_or (Some default_cells) natural Member.Cells (get (name_text Member.Cells) d)
   limit ← given_or (Some FastLimit.Safe) limit Member.Limit (get (name_text Member.Limit) d)
+  wait ← given_or (Some default_wait) natural Member.Wait (get (name_text Member.Wait) d)
   Ok (record {
     centres = centres;
     classic = classic;
@@ -91,6 +96,7 @@ fields_of d = (do
     port = port;
     cells = cells;
     limit = limit;
+    wait = wait;
   }))
 
 -- ---- 4. each member is in its range
@@ -114,6 +120,7 @@ settings_of fields = (do
   port ← number_in 1 65000 Member.Port fields.port
   cells ← number_in 1 4194304 Member.Cells fields.cells
   limit ← ok_or fields.limit (Fault.Range Member.Limit)
+  wait ← number_in 1 60000 Member.Wait fields.wait
   Ok (record {
     centres = centres;
     classic = classic;
@@ -124,6 +131,7 @@ settings_of fields = (do
     port = port;
     cells = cells;
     limit = limit;
+    wait = wait;
   }))
 
 -- ---- 5. the quorums, and 6. the schema
@@ -163,7 +171,7 @@ abbrev pub config_with : Settings → Read Config
 config_with settings = (do
   cluster ← cluster_of settings
   addresses ← each_address settings.centres settings.port [] settings.hosts
-  Ok (record { cluster = cluster; addresses = addresses; port = settings.port }))
+  Ok (record { cluster = cluster; addresses = addresses; port = settings.port; wait = settings.wait }))
 
 -- the configuration that a JSON value is
 abbrev pub config_in : Data → Read Config

@@ -14,6 +14,8 @@ pub record AreInRange (settings : Settings) : Type 0 where
   pub cells : settings.cells ≤ 4194304
   pub some_port : 1 ≤ settings.port
   pub port : settings.port ≤ 65000
+  pub some_wait : 1 ≤ settings.wait
+  pub wait : settings.wait ≤ 60000
 
 abbrev pub ports_of : List Address → List ℕ
 ports_of addresses = map (λ address. address.port) addresses
@@ -31,6 +33,8 @@ pub record IsConfig (config : Config) : Type 0 where
   pub cells : config.cluster.cells ≤ 4194304
   pub some_port : 1 ≤ config.port
   pub port : config.port ≤ 65000
+  pub some_wait : 1 ≤ config.wait
+  pub wait : config.wait ≤ 60000
   pub addresses : ports_of config.addresses ≡ centre_ports config.port config.cluster.quorums.centres
 
 -- at the host of a centre, on the port that is so far above that of the centre

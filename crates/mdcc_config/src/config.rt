@@ -13,6 +13,8 @@ pub struct Config {
     pub addresses: HeapList<Address>,
     /// The port from which the others are counted.
     pub port: u16,
+    /// How many milliseconds a receive waits at most.
+    pub wait: u16,
 }
 
 // The address in this place of a list.

@@ -21,6 +21,7 @@ pub enum MemberName {
     Port,
     Cells,
     Limit,
+    Wait,
 }
 
 impl MemberName {
@@ -38,6 +39,7 @@ impl MemberName {
             MemberName::Port => "port",
             MemberName::Cells => "cells",
             MemberName::Limit => "limit",
+            MemberName::Wait => "wait",
         }
     }
 }

@@ -7,7 +7,7 @@ ghost use Rattle.mdcc_option.specs.declared.cluster.FastLimit as FastLimit;
 ghost use Rattle.mdcc_config.specs.declared.faults.MemberName.TheVariants as Member;
 ghost use Rattle.mdcc_config.specs.Names.{name_text};
 ghost use Rattle.mdcc_config.specs.Readings.{natural, pair, host, limit};
-ghost use Rattle.mdcc_config.specs.Configuration.{is_config_memory, member_as, given_or, list_as, default_cells, fields_of};
+ghost use Rattle.mdcc_config.specs.Configuration.{is_config_memory, member_as, given_or, list_as, fields_of};
 
 use crate::lists::{hosts_of, pairs_of};
 use crate::values::{limit, natural};
@@ -19,6 +19,9 @@ use std::alloc::Global;
 
 // How many cells a node has where no member says them.
 const DEFAULT_CELLS: u64 = 1_048_576;
+
+// How many milliseconds a receive waits at most where no member says it.
+const DEFAULT_WAIT: u64 = 20;
 
 /// What the members are read as; none where a value is outside its range.
 #[derive(Drop)]
@@ -32,6 +35,7 @@ pub struct Fields {
     pub port: Option<u64>,
     pub cells: Option<u64>,
     pub limit: Option<FastLimit>,
+    pub wait: Option<u64>,
 }
 
 // The number that a member is.
@@ -70,13 +74,13 @@ fn hosts_in(alloc: Global, object: &Value) -> Result<HeapList<Option<[u8; 4]>>, 
     hosts_of(alloc, entries_of(object, MemberName::Hosts)?)
 }
 
-// The member `cells`, which may be left out.
-fn cells_in(object: &Value) -> Result<Option<u64>, ConfigFault>
-    ensures { result ≡ given_or (Some default_cells) natural Member.Cells (get (name_text Member.Cells) (view object.now)) }
+// The number that a member is which may be left out.
+fn number_or(object: &Value, name: MemberName, absent: u64) -> Result<Option<u64>, ConfigFault>
+    ensures { result ≡ given_or (Some absent) natural name (get (name_text name) (view object.now)) }
 {
-    match object.get(MemberName::Cells.text()) {
-        Some(value) => natural(value).ok_or(ConfigFault::Kind(MemberName::Cells)),
-        None => Ok(Some(DEFAULT_CELLS)),
+    match object.get(name.text()) {
+        Some(value) => natural(value).ok_or(ConfigFault::Kind(name)),
+        None => Ok(Some(absent)),
     }
 }
 
@@ -101,8 +105,9 @@ pub(crate) fn fields_of(alloc: Global, object: &Value) -> Result<Fields, ConfigF
     let bounds = bounds_in(alloc, object)?;
     let hosts = hosts_in(alloc, object)?;
     let port = number_of(object, MemberName::Port)?;
-    let cells = cells_in(object)?;
+    let cells = number_or(object, MemberName::Cells, DEFAULT_CELLS)?;
     let limit = limit_in(object)?;
+    let wait = number_or(object, MemberName::Wait, DEFAULT_WAIT)?;
     Ok(Fields {
         centres,
         classic,
@@ -113,5 +118,6 @@ pub(crate) fn fields_of(alloc: Global, object: &Value) -> Result<Fields, ConfigF
         port,
         cells,
         limit,
+        wait,
     })
 }

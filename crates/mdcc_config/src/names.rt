@@ -18,7 +18,7 @@ const REQUIRED: [MemberName; 7] = [
 ];
 
 // Those that may be there.
-const KNOWN: [MemberName; 9] = [
+const KNOWN: [MemberName; 10] = [
     MemberName::Centres,
     MemberName::Classic,
     MemberName::Fast,
@@ -28,6 +28,7 @@ const KNOWN: [MemberName; 9] = [
     MemberName::Port,
     MemberName::Cells,
     MemberName::Limit,
+    MemberName::Wait,
 ];
 
 // Whether a member of this name may be there.

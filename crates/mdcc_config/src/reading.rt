@@ -74,6 +74,7 @@ fn config_with(alloc: Global, settings: &Settings) -> Result<Config, ConfigFault
         cluster,
         addresses,
         port: settings.port,
+        wait: settings.wait,
     })
 }
 

@@ -2,7 +2,7 @@
 ghost use Rattle.std.specs.Prelude.{◌≡◌, ◌≤◌, IfOk, ok_or};
 ghost use Rattle.mdcc_base.specs.Unless.{GivesUnless};
 ghost use Rattle.mdcc_config.specs.declared.faults.ConfigFault.TheVariants.{Range};
-ghost use Rattle.mdcc_config.specs.declared.faults.MemberName.TheVariants.{Port, Cells};
+ghost use Rattle.mdcc_config.specs.declared.faults.MemberName.TheVariants.{Port, Cells, Wait};
 ghost use Rattle.mdcc_config.specs.Configuration.{is_config_memory, number_in, settings_of};
 ghost use Rattle.mdcc_config.specs.IsConfig.{AreInRange};
 
@@ -25,6 +25,7 @@ pub struct Settings {
     pub port: u16,
     pub cells: u32,
     pub limit: FastLimit,
+    pub wait: u16,
 }
 
 // The number of a member, where it is from `low` to `high`.
@@ -61,6 +62,14 @@ fn cells_in(number: Option<u64>) -> Result<u32, ConfigFault>
     Ok(number_in(1, 4_194_304, MemberName::Cells, number)? as u32)
 }
 
+// How many milliseconds a receive waits at most.
+fn wait_in(number: Option<u64>) -> Result<u16, ConfigFault>
+    ensures value { result ≡ number_in 1 60000 Wait number }
+    ensures within { IfOk result (λ wait. (1 ≤ wait) × (wait ≤ 60000)) }
+{
+    Ok(number_in(1, 60_000, MemberName::Wait, number)? as u16)
+}
+
 /// The members, each in its range.
 pub(crate) fn settings_of(alloc: Global, fields: Fields) -> Result<Settings, ConfigFault>
     ensures value { GivesUnless is_config_memory result (settings_of fields) }
@@ -76,6 +85,7 @@ pub(crate) fn settings_of(alloc: Global, fields: Fields) -> Result<Settings, Con
         port,
         cells,
         limit,
+        wait,
     } = fields;
     let centres = byte_in(MemberName::Centres, centres)?;
     let classic = byte_in(MemberName::Classic, classic)?;
@@ -85,6 +95,7 @@ pub(crate) fn settings_of(alloc: Global, fields: Fields) -> Result<Settings, Con
     let port = port_in(port)?;
     let cells = cells_in(cells)?;
     let limit = limit.ok_or(ConfigFault::Range(MemberName::Limit))?;
+    let wait = wait_in(wait)?;
     Ok(Settings {
         centres,
         classic,
@@ -95,5 +106,6 @@ pub(crate) fn settings_of(alloc: Global, fields: Fields) -> Result<Settings, Con
         port,
         cells,
         limit,
+        wait,
     })
 }

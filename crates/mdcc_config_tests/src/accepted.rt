@@ -11,7 +11,7 @@ use std::test::Fail;
 
 // Five centres, with all members, in another order and with white space.
 const FIVE_CENTRES: &str = r#"
-{ "limit": "paper",
+{ "wait": 60000, "limit": "paper",
   "cells": 4194304, "port": 65000,
   "hosts": ["127.0.0.1", "10.0.0.2", "0.0.0.0", "255.255.255.255", "192.168.10.100"],
   "bounds": [[0, 0], [-5, 7], [-1000000000000000, 1000000000000000], [1, 1]],
@@ -39,7 +39,7 @@ fn one_centre(rt: HostRuntime) -> Result<(), Fail> {
     assert!(rt; config.cluster.gamma == 100 && config.cluster.cells == 1_048_576);
     assert!(rt; config.cluster.limit == FastLimit::Safe);
     assert!(rt; config.cluster.schema.bounds() == [(0, 1000)].as_slice());
-    assert!(rt; config.port == 9000);
+    assert!(rt; config.port == 9000 && config.wait == 20);
     let address = Address {
         host: [127, 0, 0, 1],
         port: 9001,
@@ -61,7 +61,7 @@ fn five_centres(rt: HostRuntime) -> Result<(), Fail> {
         (1, 1),
     ];
     assert!(rt; config.cluster.schema.bounds() == bounds.as_slice());
-    assert!(rt; config.port == 65_000);
+    assert!(rt; config.port == 65_000 && config.wait == 60_000);
     let hosts = [
         [127, 0, 0, 1],
         [10, 0, 0, 2],

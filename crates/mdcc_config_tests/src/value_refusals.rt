@@ -52,6 +52,12 @@ fn kinds_of_numbers(rt: HostRuntime) -> Result<(), Fail> {
         alloc,
         MemberName::Cells,
         &[r#","cells":null}"#, r#","cells":"3"}"#],
+    )?;
+    check_kind(
+        &rt,
+        alloc,
+        MemberName::Wait,
+        &[r#","wait":"20"}"#, r#","wait":20.0}"#],
     )
 }
 
@@ -160,6 +166,12 @@ fn ranges(rt: HostRuntime) -> Result<(), Fail> {
             r#","limit":"safe "}"#,
             r#","limit":""}"#,
         ],
+    )?;
+    check_range(
+        &rt,
+        alloc,
+        MemberName::Wait,
+        &[r#","wait":0}"#, r#","wait":60001}"#, r#","wait":-20}"#],
     )
 }
 
@@ -172,6 +184,8 @@ fn order_of_refusals(rt: HostRuntime) -> Result<(), Fail> {
         ONE_CENTRE,
         &[
             (r#","limit":1,"centres":256}"#, Kind(MemberName::Limit)),
+            (r#","wait":"x","limit":1}"#, Kind(MemberName::Limit)),
+            (r#","wait":"x","centres":256}"#, Kind(MemberName::Wait)),
             (r#","limit":1,"cells":"x"}"#, Kind(MemberName::Cells)),
             (r#","cells":"x","port":"x"}"#, Kind(MemberName::Port)),
             (r#","port":"x","hosts":1}"#, Kind(MemberName::Hosts)),
@@ -183,6 +197,8 @@ fn order_of_refusals(rt: HostRuntime) -> Result<(), Fail> {
                 r#","classic":"x","centres":"x"}"#,
                 Kind(MemberName::Centres),
             ),
+            (r#","wait":0,"limit":"x"}"#, Range(MemberName::Limit)),
+            (r#","wait":0,"centres":0}"#, Range(MemberName::Wait)),
             (r#","limit":"x","cells":0}"#, Range(MemberName::Cells)),
             (r#","cells":0,"port":0}"#, Range(MemberName::Port)),
             (

@@ -2,8 +2,8 @@
 use Rattle.std.proofs.Common.{◌≡◌, ◌⊎◌, ◌+◌, ◌-◌, ◌<◌, ◌≤◌, ◌^◌, ◌&&◌, ◌==◌, ◌∙◌, Err, IfSome, IsTrue, List, Ok, Option, Result, ap, arith, inl, inr, refl, subst, ℕ}
 use Rattle.std.specs.Io.KnownBytes.{Appends}
 use Rattle.std.specs.Prelude.{is_err}
-use Rattle.mdcc_areas.specs.Both.{RoseAtOne}
-use Rattle.mdcc_areas.specs.declared.fault.LogFault.{LogFault}
+use Rattle.mdcc_log.specs.Both.{RoseAtOne}
+use Rattle.mdcc_log_file.specs.declared.fault.LogFault.{LogFault}
 use Rattle.mdcc_base.specs.declared.source.ReadAllFault.{ReadAllFault}
 use Rattle.mdcc_config.specs.declared.config.Config.{Config}
 use Rattle.mdcc_disks.specs.Disks.{Disk}
@@ -61,7 +61,7 @@ module _ {D O : Type 0} (disk : D → ℕ → Disk) (held : O → Option (List �
             from_true (is_centre config.cluster centre) _ _ there (subst (λ (r : Result Config Failure). Dumps disk held disks_old disks_new out_old out_new r centre dumped) e run.dumps) in
             ends_by_logs (node_at disk config.cluster disks_old) centre centre dumped status status_is (one.logs told)
         by_read run (inr it) =
-            let same : dumped ≡ Err it.0 = subst (λ (r : Result Config Failure). Dumps disk held disks_old disks_new out_old out_new r centre dumped) it.1 run.dumps in
+            let same : dumped ≡ Err it.0 = (subst (λ (r : Result Config Failure). Dumps disk held disks_old disks_new out_old out_new r centre dumped) it.1 run.dumps).0 in
             ends_unlucky (node_at disk config.cluster disks_old) centre centre dumped it.0 status same status_is it.2
 
     -- ---- where nothing failed
@@ -121,5 +121,5 @@ module _ {D O : Type 0} (disk : D → ℕ → Disk) (held : O → Option (List �
               from_true (is_centre config.cluster centre) _ _ there (subst (λ (r : Result Config Failure). Dumps disk held disks_old disks_new out_old out_new r centre dumped) e run.dumps) in
               result_ends config.cluster facts are below centre one.result one.is (one.dumps (encodings_of facts) told.first told.second read).0
           by_read run (inr it) =
-              let same : dumped ≡ Err it.0 = subst (λ (r : Result Config Failure). Dumps disk held disks_old disks_new out_old out_new r centre dumped) it.1 run.dumps in
+              let same : dumped ≡ Err it.0 = (subst (λ (r : Result Config Failure). Dumps disk held disks_old disks_new out_old out_new r centre dumped) it.1 run.dumps).0 in
               unlucky_ends it.0 (Whole config.cluster facts are below centre) (Limit config.cluster facts are below centre) same it.2

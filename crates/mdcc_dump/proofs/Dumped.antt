@@ -2,7 +2,7 @@
 use Rattle.std.proofs.Common.{◌≡◌, Err, IfErr, IsErrOf, List, Ok, OnErr, OnOk, Option, Result, ap, refl, subst, ℕ}
 use Rattle.std.specs.Io.KnownBytes.{Appends}
 use Rattle.std.proofs.KnownBytes.{Appends-nil}
-use Rattle.mdcc_areas.specs.declared.fault.LogFault.{LogFault}
+use Rattle.mdcc_log_file.specs.declared.fault.LogFault.{LogFault}
 use Rattle.mdcc_disks.specs.Disks.{Disk}
 use Rattle.mdcc_dump.specs.Dumps.{HasBooted, IsDumped, IsPrinting, IsRefused, IsUndumped, IsUnopened, Keeps, KeepsLog, MayFail, MayOpen, dump_text, of_restart, of_writing, payload_lines, read_lines}
 use Rattle.mdcc_dump.specs.Texts.{fact_lines}

@@ -1,11 +1,11 @@
 -- How the command ends, by what its dump did.
 use Rattle.std.proofs.Common.{◌≡◌, Bool, Err, IfErr, IfSome, IsErrOf, List, None, Ok, Option, Result, Some, false, refl, subst, sym, true, ℕ}
 use Rattle.std.specs.Prelude.{MatchBool}
-use Rattle.mdcc_areas.specs.declared.fault.LogFault.{LogFault}
+use Rattle.mdcc_log_file.specs.declared.fault.LogFault.{LogFault}
 use Rattle.mdcc_base.specs.declared.source.ReadAllFault.{ReadAllFault}
 use Rattle.mdcc_config.specs.declared.config.Config.{Config}
 use Rattle.mdcc_disks.specs.Disks.{Disk}
-use Rattle.mdcc_dump.specs.Commands.{DumpsOne, RunsDump, as_done}
+use Rattle.mdcc_dump.specs.Commands.{DumpsOne, RunsDump, Untouched, as_done}
 use Rattle.mdcc_dump.specs.declared.fault.DumpFault.{DumpFault}
 use Rattle.mdcc_endings.specs.Readings.{GivesConfig, IsEarly}
 use Rattle.mdcc_endings.specs.declared.fault.Failure.{Failure}
@@ -76,17 +76,17 @@ at_false false P Q e q = q
 
 module _ {D O : Type 0} (disk : D → ℕ → Disk) (held : O → Option (List ℕ)) (disks_old disks_new : D) (out_old out_new : O) where
   -- its input is no configuration
-  pub unread_runs : (left : Option (List ℕ)) (number : ℕ) (failure : Failure) (done : Result (Unit {0}) Failure) → done ≡ Err failure → IfSome left (λ input. GivesConfig input (Err failure))
+  pub unread_runs : (left : Option (List ℕ)) (number : ℕ) (failure : Failure) (done : Result (Unit {0}) Failure) → done ≡ Err failure → Untouched disks_old disks_new out_old out_new → IfSome left (λ input. GivesConfig input (Err failure))
       → IfSome left (λ input. RunsDump disk held disks_old disks_new out_old out_new input number done)
-  unread_runs None number failure done is gives = tt
-  unread_runs (Some input) number failure done is gives = record { read = Err failure; gives = gives; dumps = is }
+  unread_runs None number failure done is untouched gives = tt
+  unread_runs (Some input) number failure done is untouched gives = record { read = Err failure; gives = gives; dumps = (is, untouched) }
 
   -- the configuration has no such centre
-  pub no_centre_runs : (left : Option (List ℕ)) (number : ℕ) (config : Config) → is_centre config.cluster number ≡ false → IfSome left (λ input. GivesConfig input (Ok config))
+  pub no_centre_runs : (left : Option (List ℕ)) (number : ℕ) (config : Config) → is_centre config.cluster number ≡ false → Untouched disks_old disks_new out_old out_new → IfSome left (λ input. GivesConfig input (Ok config))
       → IfSome left (λ input. RunsDump disk held disks_old disks_new out_old out_new input number (Err Failure.Centre))
-  no_centre_runs None number config none gives = tt
-  no_centre_runs (Some input) number config none gives =
-      record { read = Ok config; gives = gives; dumps = at_false (is_centre config.cluster number) (DumpsOne disk held disks_old disks_new out_old out_new config number (Err Failure.Centre)) _ none refl }
+  no_centre_runs None number config none untouched gives = tt
+  no_centre_runs (Some input) number config none untouched gives =
+      record { read = Ok config; gives = gives; dumps = at_false (is_centre config.cluster number) (DumpsOne disk held disks_old disks_new out_old out_new config number (Err Failure.Centre)) _ none (refl, untouched) }
 
   -- the log of its centre was dumped
   pub dumped_runs : (left : Option (List ℕ)) (centre number : ℕ) (config : Config) (done : Result (Unit {0}) Failure) → centre ≡ number → is_centre config.cluster number ≡ true

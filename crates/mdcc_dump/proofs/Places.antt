@@ -1,8 +1,8 @@
 -- What a dump does at the disks.
 use Rattle.std.proofs.Common.{◌≡◌, ◌∙◌, ◌+◌, Err, List, Ok, OnOk, Result, ap, arith, inl, refl, subst, sym, ℕ}
-use Rattle.mdcc_areas.specs.Area.{payloads}
-use Rattle.mdcc_areas.specs.Both.{KeepsBut}
-use Rattle.mdcc_areas.specs.Opening.{OpensOne}
+use Rattle.mdcc_log.specs.Area.{payloads}
+use Rattle.mdcc_log.specs.Both.{KeepsBut}
+use Rattle.mdcc_log.specs.Opening.{OpensOne}
 use Rattle.mdcc_disks.specs.Disks.{Disk}
 use Rattle.mdcc_dump.specs.Dumps.{OnlyOpens, StaysAsLog}
 

@@ -2,8 +2,8 @@
 use Rattle.std.proofs.Common.{◌≡◌, ◌∙◌, [], Err, IsErrOf, List, Ok, Result, ap, arith, map, refl, subst, ℕ}
 use Rattle.std.specs.Bool.{OnFalse}
 use Rattle.mdcc_admission.specs.Loading.{Holds, boot_by, fact_read, is_boot_memory}
-use Rattle.mdcc_areas.specs.Area.{payloads}
-use Rattle.mdcc_areas.specs.declared.fault.LogFault.{LogFault}
+use Rattle.mdcc_log.specs.Area.{payloads}
+use Rattle.mdcc_log_file.specs.declared.fault.LogFault.{LogFault}
 use Rattle.mdcc_dump.specs.Dumps.{IsRefused, Keeps, MayOpen}
 use Rattle.mdcc_endings.specs.Logs.{booted, cells_of}
 use Rattle.mdcc_index.specs.Stores.{Represents, Store}

@@ -1,7 +1,7 @@
 -- What the command that prints the facts of a log does.
 use Rattle.std.specs.Io.KnownBytes.{Appends}
 use Rattle.std.specs.Prelude.{Err, IfErr, IfSome, IsTrue, List, MatchBool, Ok, Option, Result, Some, true, ℕ, ◌+◌, ◌-◌, ◌<◌, ◌^◌, ◌≡◌, ◌≢◌}
-use Rattle.mdcc_areas.specs.Area.{payloads}
+use Rattle.mdcc_log.specs.Area.{payloads}
 use Rattle.mdcc_config.specs.declared.config.Config.{Config}
 use Rattle.mdcc_disks.specs.Disks.{Disk}
 use Rattle.mdcc_dump.specs.Dumps.{IsDumped, IsUnopened, KeepsLog, MayFail, dump_text}
@@ -31,6 +31,11 @@ abbrev pub as_done : ℕ → Result (Unit {0}) DumpFault → Result (Unit {0}) F
 as_done centre (Ok done) = Ok tt
 as_done centre (Err fault) = Err (of_dump centre fault)
 
+-- nothing was done at the disks, and nothing printed
+pub record Untouched {D O : Type 0} (disks_old disks_new : D) (out_old out_new : O) : Type 0 where
+  pub disks : disks_new ≡ disks_old
+  pub output : out_new ≡ out_old
+
 module _ {D O : Type 0} (disk : D → ℕ → Disk) (held : O → Option (List ℕ)) (disks_old disks_new : D) (out_old out_new : O) where
   -- The dump of this centre: over areas that tell their bytes it prints the facts of their log, which it leaves as it is, or refuses them.
   pub record DumpsOne (config : Config) (centre : ℕ) (dumped : Result (Unit {0}) Failure) : Type 0 where
@@ -47,10 +52,14 @@ module _ {D O : Type 0} (disk : D → ℕ → Disk) (held : O → Option (List �
     -- the log is refused just where no node boots from it
     pub logs : IsTold disk disks_old centre → SaysLogs (node_at disk config.cluster disks_old) centre centre dumped
 
+  -- it ended before anything was done
+  abbrev pub IsEarlyAt : Failure → Result (Unit {0}) Failure → Type 0
+  IsEarlyAt failure dumped = (dumped ≡ Err failure) × Untouched disks_old disks_new out_old out_new
+
   -- by what the input was read as
   abbrev pub Dumps : Result Config Failure → ℕ → Result (Unit {0}) Failure → Type 0
-  Dumps (Ok config) centre dumped = MatchBool (is_centre config.cluster centre) (DumpsOne config centre dumped) (dumped ≡ Err Failure.Centre)
-  Dumps (Err failure) centre dumped = dumped ≡ Err failure
+  Dumps (Ok config) centre dumped = MatchBool (is_centre config.cluster centre) (DumpsOne config centre dumped) (IsEarlyAt Failure.Centre dumped)
+  Dumps (Err failure) centre dumped = IsEarlyAt failure dumped
 
   -- `dump K`
   pub record RunsDump (input : List ℕ) (centre : ℕ) (dumped : Result (Unit {0}) Failure) : Type 0 where
@@ -80,8 +89,3 @@ module _ {D O : Type 0} (disk : D → ℕ → Disk) (held : O → Option (List �
       (input : List ℕ) (config : Config) (facts : List Fact) → left ≡ Some input → IsRead input (Ok config) → is_centre config.cluster centre ≡ true → IsTold disk disks_old centre
       → payloads (disk disks_old centre).bytes (disk disks_old (centre + 16)).bytes ≡ Ok (encodings_of facts) → AreLogged config.cluster facts → epoch_of facts < 2 ^ 32 - 1
       → CompletesAs status (Appends (held out_old) (held out_new) (dump_text (encodings_of facts))) ((needed : ℕ) × (cells : ℕ) × (booted config.cluster (encodings_of facts) ≡ Err (BootFault.Room needed cells)))
-
--- nothing was done at the disks, and nothing printed
-pub record Untouched {D O : Type 0} (disks_old disks_new : D) (out_old out_new : O) : Type 0 where
-  pub disks : disks_new ≡ disks_old
-  pub output : out_new ≡ out_old

@@ -3,9 +3,9 @@ use Rattle.std.specs.Io.KnownBytes.{Appends}
 use Rattle.std.specs.List.{AllByRecursion}
 use Rattle.std.specs.Prelude.{Err, IsErrAnd, IsTrue, List, None, Ok, Option, Result, Some, [], is_some, ⊤, ℕ, ◌+◌, ◌++◌, ◌∷◌, ◌≡◌}
 use Rattle.mdcc_admission.specs.Loading.{fact_read}
-use Rattle.mdcc_areas.specs.Area.{payloads}
-use Rattle.mdcc_areas.specs.Opening.{OpensOne}
-use Rattle.mdcc_areas.specs.declared.fault.LogFault.{LogFault}
+use Rattle.mdcc_log.specs.Area.{payloads}
+use Rattle.mdcc_log.specs.Opening.{OpensOne}
+use Rattle.mdcc_log_file.specs.declared.fault.LogFault.{LogFault}
 use Rattle.mdcc_disks.specs.Disks.{Disk, Only}
 use Rattle.mdcc_dump.specs.Texts.{fact_lines}
 use Rattle.mdcc_dump.specs.declared.fault.DumpFault.{DumpFault}

@@ -2,8 +2,8 @@
 ghost use Rattle.std.specs.Prelude.{◌≡◌, ◌+◌, [], IfErr, IfSome, IsErrOf, IsTrue, ℕ};
 ghost use Rattle.std.specs.Bool.{OnTrue};
 ghost use Rattle.std.specs.Io.KnownBytes.{Appends};
-ghost use Rattle.mdcc_areas.specs.Both.{KeepsBut, RoseAtOne};
-ghost use Rattle.mdcc_areas.specs.declared.fault.LogFault.{LogFault as ALogFault};
+ghost use Rattle.mdcc_log.specs.Both.{KeepsBut, RoseAtOne};
+ghost use Rattle.mdcc_log_file.specs.declared.fault.LogFault.{LogFault as ALogFault};
 ghost use Rattle.mdcc_base.specs.Causes.{Rose};
 ghost use Rattle.mdcc_base.specs.declared.source.ReadAllFault.{ReadAllFault as AReadAllFault};
 ghost use Rattle.mdcc_dump.specs.Commands.{DoesDump, DumpCompletes, DumpEndsByLog, RunsDump, Untouched, as_done, of_dump};

@@ -3,9 +3,9 @@ ghost use Rattle.std.specs.Prelude.{◌≡◌, ◌≤◌, ◌<◌, ◌+◌, Err,
 ghost use Rattle.std.specs.Io.KnownBytes.{Appends};
 ghost use Rattle.std.specs.String.{string_bytes};
 ghost use Rattle.mdcc_admission.specs.Loading.{fact_read};
-ghost use Rattle.mdcc_areas.specs.Area.{payloads};
-ghost use Rattle.mdcc_areas.specs.Both.{KeepsBut, RoseAtOne};
-ghost use Rattle.mdcc_areas.specs.declared.fault.LogFault.{LogFault as ALogFault};
+ghost use Rattle.mdcc_log.specs.Area.{payloads};
+ghost use Rattle.mdcc_log.specs.Both.{KeepsBut, RoseAtOne};
+ghost use Rattle.mdcc_log_file.specs.declared.fault.LogFault.{LogFault as ALogFault};
 ghost use Rattle.mdcc_base.specs.Causes.{Rose};
 ghost use Rattle.mdcc_dump.specs.Dumps.{AreFacts, IsDumped, IsPrinting, IsUnopened, KeepsLog, MayFail, OnlyOpens, StaysAsLog, dump_text, payload_lines};
 ghost use Rattle.mdcc_dump.specs.declared.fault.DumpFault.{DumpFault as ADumpFault};

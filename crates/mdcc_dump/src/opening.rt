@@ -1,18 +1,18 @@
 //! The payloads of a log that gives a node.
 ghost use Rattle.std.specs.Prelude.{◌≡◌, ◌+◌, Err, IfErr, IfOk, IsErrAnd, IsErrOf, IsTrue, List, Ok, OnOk, true, ℕ};
 ghost use Rattle.mdcc_admission.specs.Loading.{AreShort};
-ghost use Rattle.mdcc_areas.specs.Area.{payloads};
-ghost use Rattle.mdcc_areas.specs.Both.{KeepsBut, RoseAtOne};
-ghost use Rattle.mdcc_areas.specs.declared.fault.LogFault.{LogFault as ALogFault};
+ghost use Rattle.mdcc_log.specs.Area.{payloads};
+ghost use Rattle.mdcc_log.specs.Both.{KeepsBut, RoseAtOne};
+ghost use Rattle.mdcc_log_file.specs.declared.fault.LogFault.{LogFault as ALogFault};
 ghost use Rattle.mdcc_dump.specs.Dumps.{AreFacts, HasBooted, IsRefused, Keeps, MayOpen, OnlyOpens, StaysAsLog};
 ghost use Rattle.mdcc_protocol.specs.Belongs.{is_centre};
 ghost use Rattle.mdcc_restart.specs.Restarting.{IsUnread};
 ghost use Rattle.mdcc_restart.specs.declared.fault.RestartFault.{RestartFault as ARestartFault};
 
-use mdcc_areas::Frames;
 use mdcc_base::{Centre, HeapList, Plain};
 use mdcc_disks::Disks;
 use mdcc_index::PoolFacts;
+use mdcc_log::Frames;
 use mdcc_node::Node;
 use mdcc_option::Cluster;
 use mdcc_restart::RestartFault;

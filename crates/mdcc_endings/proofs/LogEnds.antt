@@ -1,7 +1,7 @@
 -- The status of a command by the logs that it opens.
 use Rattle.std.proofs.Common.{◌≡◌, ◌⊎◌, ◌<◌, ◌&&◌, ◌==◌, Err, IsTrue, List, Ok, Result, arith, inl, inr, refl, sym, ◌∙◌, ap, ℕ}
 use Rattle.std.specs.Prelude.{is_err}
-use Rattle.mdcc_areas.specs.declared.fault.LogFault.{LogFault}
+use Rattle.mdcc_log_file.specs.declared.fault.LogFault.{LogFault}
 use Rattle.mdcc_endings.proofs.Accepted.{IsUnlucky, status_done, status_failed}
 use Rattle.mdcc_endings.specs.Endings.{status_after, status_of}
 use Rattle.mdcc_endings.specs.Logs.{ComesBefore, EndsByLogs, IsFirstRefused, LogRefusal, SaysLogs, SaysRefused, refusal_failure}

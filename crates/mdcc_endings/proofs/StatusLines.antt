@@ -1,6 +1,6 @@
 -- The statuses of failures, and their lines.
 use Rattle.std.proofs.Common.{◌≡◌, ◌==◌, Bool, Err, ap, cond, false, refl, subst, true, ℕ}
-use Rattle.mdcc_areas.specs.declared.fault.LogFault.{LogFault}
+use Rattle.mdcc_log_file.specs.declared.fault.LogFault.{LogFault}
 use Rattle.mdcc_base.specs.declared.source.ReadAllFault.{ReadAllFault}
 use Rattle.mdcc_config.specs.declared.faults.ConfigFault.{ConfigFault}
 use Rattle.mdcc_endings.specs.Endings.{boot_status, boot_text, config_status, config_text, failure_text, input_status, input_text, is_ending, line_at, log_status, log_text, status_of}

@@ -1,7 +1,7 @@
 -- Why a command over a configuration ends: its status, and its line on the error stream.
 use Rattle.std.specs.List.{list_any}
 use Rattle.std.specs.Prelude.{Bool, Err, IsTrue, List, Ok, Option, Result, [], codes, decimal, if◌then◌else◌, is_err, ℕ, ◌&&◌, ◌++◌, ◌-◌, ◌==◌, ◌^◌, ◌∷◌, ◌≡◌, ◌⊎◌}
-use Rattle.mdcc_areas.specs.declared.fault.LogFault.{LogFault}
+use Rattle.mdcc_log_file.specs.declared.fault.LogFault.{LogFault}
 use Rattle.mdcc_base.specs.declared.source.ReadAllFault.{ReadAllFault}
 use Rattle.mdcc_config.specs.declared.faults.ConfigFault.{ConfigFault}
 use Rattle.mdcc_language.specs.Errors.{error_line, memory_text, most_input}

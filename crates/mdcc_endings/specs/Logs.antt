@@ -1,8 +1,8 @@
 -- From which logs a node boots, and what a command that opens logs says of those from which none does.
 use Rattle.std.specs.Prelude.{Err, IfErr, IsErrAnd, IsTrue, List, Ok, Result, is_ok, map, ⊤, ℕ, ◌<◌, ◌≡◌, ◌≤◌, ◌⊎◌, ◌+◌}
 use Rattle.mdcc_admission.specs.Loading.{Cells, boot_by, fact_read}
-use Rattle.mdcc_areas.specs.Area.{payloads}
-use Rattle.mdcc_areas.specs.declared.fault.LogFault.{LogFault}
+use Rattle.mdcc_log.specs.Area.{payloads}
+use Rattle.mdcc_log_file.specs.declared.fault.LogFault.{LogFault}
 use Rattle.mdcc_endings.specs.Endings.{status_of}
 use Rattle.mdcc_endings.specs.declared.fault.Failure.{Failure}
 use Rattle.mdcc_disks.specs.Disks.{Disk}

@@ -3,9 +3,9 @@ ghost use Rattle.std.specs.Prelude.{◌≡◌, ◌≢◌};
 ghost use Rattle.mdcc_endings.specs.Endings.{boot_status, config_status, input_status, log_status, status_of};
 ghost use Rattle.mdcc_endings.specs.declared.fault.Failure.TheVariants as failures;
 
-use mdcc_areas::LogFault;
 use mdcc_base::{Centre, ReadAllFault};
 use mdcc_config::ConfigFault;
+use mdcc_log::LogFault;
 use mdcc_rules::BootFault;
 
 /// Why a command over a configuration ended early.

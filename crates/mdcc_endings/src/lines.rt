@@ -5,10 +5,9 @@ ghost use Rattle.mdcc_language.specs.Errors.{error_line};
 ghost use Rattle.mdcc_endings.specs.Endings.{boot_text, config_text, failure_text, input_text, log_text};
 
 use crate::fault::Failure;
-use mdcc_areas::LogFault;
 use mdcc_base::{Centre, LIMIT, ReadAllFault};
 use mdcc_config::ConfigFault;
-use mdcc_log::LOG_LIMIT;
+use mdcc_log::{LOG_LIMIT, LogFault};
 use mdcc_rules::BootFault;
 use std::alloc::{AllocError, Global};
 

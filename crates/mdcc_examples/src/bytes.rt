@@ -3,7 +3,7 @@ ghost use Rattle.std.specs.Prelude.{◌≡◌, ◌∷◌, ◌++◌, [], IsTrue, 
 ghost use Rattle.std.specs.List.{list_all};
 ghost use Rattle.mdcc_messages.specs.declared.facts.Fact.TheVariants.{Booted};
 ghost use Rattle.mdcc_messages.specs.declared.wire.WireFault.TheVariants.{Truncated, Trailing, Kind, Range, NotCanonical};
-ghost use Rattle.mdcc_log.specs.Log.{log_bytes};
+ghost use Rattle.mdcc_log_file.specs.Log.{log_bytes};
 ghost use Rattle.mdcc_messages.specs.Spelling.{message_bytes, fact_bytes};
 ghost use Rattle.mdcc_messages.specs.Lengths.{message_length, log_length, cells_needed};
 ghost use Rattle.mdcc_messages.specs.WellFormed.{is_well_formed_envelope, is_well_formed_fact};

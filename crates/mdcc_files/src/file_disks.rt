@@ -11,6 +11,10 @@ use mdcc_disks::Disks;
 use std::alloc::Global;
 use std::fs::{File, Files, OpenOptions};
 use std::io;
+use std::os::fd::AsRawFd;
+
+/// How many bytes a file of a log has at most.
+const LENGTH_LIMIT: u64 = 1 << 30;
 
 #[derive(Drop)]
 struct OpenLog {
@@ -21,7 +25,8 @@ struct OpenLog {
 /// The files of the present folder that have the logs of the centres K, from 1 to 9: disk K is `mdcc-K.log` and disk 16 + K is
 /// `mdcc-K.alt`. The first call at a disk opens its file, creates it where it is not there, and takes an exclusive lock of it
 /// (flock(2)), which ends with this object or its process. Where another has the lock, a call fails and the file stays as it is.
-/// A block of 64 KiB of each open file is in memory. Small writes are handed to the file together, all of them before a sync; one
+/// A file of more than 2^30 bytes, which no log has, fails where its length is asked, before anything of it is read. A block of
+/// 64 KiB of each open file is in memory. Small writes are handed to the file together, all of them before a sync; one
 /// that the file did not take fails the call that handed it over.
 /// What a file contains after a crash is the system's promise alone.
 #[derive(Drop)]
@@ -46,16 +51,27 @@ fn name_of(alloc: Global, place: u8) -> Option<String>
     }
 }
 
+// The same open file under a number above those of the standard streams: where one of these is closed, a new file takes its
+// number, and what is printed would go there.
+fn above_streams(file: File) -> io::Result<File> {
+    if file.as_raw_fd() > 2 {
+        return Ok(file);
+    }
+    file.try_clone()
+}
+
 // Opens and locks a file, and creates it where it is not there. The folder is synced at each opening, so that its name is
 // durable also where another created the file and died before it had synced the folder.
 fn open_locked<R: Files<File = File>>(files: &R, name: &str) -> io::Result<File> {
-    let file = OpenOptions::new()
+    let opened = OpenOptions::new()
         .read(true)
         .write(true)
         .create(true)
         .open(files, name)?;
+    let file = above_streams(opened)?;
     file.try_lock()?;
-    File::open(files, ".")?.sync_all()?;
+    let folder = above_streams(File::open(files, ".")?)?;
+    folder.sync_all()?;
     Ok(file)
 }
 
@@ -123,7 +139,9 @@ impl<'a, R: Files<File = File>> Disks for FileDisks<'a, R> {
     fn length(&mut self, place: u8) -> Result<u64, Failed> {
         if let Some(index) = self.opened(place) {
             if let Ok(size) = self.logs[index].file.length() {
-                return Ok(size);
+                if size <= LENGTH_LIMIT {
+                    return Ok(size);
+                }
             }
         }
         Err(self.fail(place))

@@ -9,6 +9,19 @@ use std::os::unix::fs::FileExt;
 // The size of a block, in bytes.
 const BLOCK: usize = 65_536;
 
+// Reads some bytes of the file from the offset on. A read that a signal ended is made again.
+fn read_file(file: &File, into: &mut [u8], offset: u64) -> io::Result<usize>
+    ensures { IfOk result (λ n. n ≤ length into.new) }
+{
+    for _ in 0..u64::MAX {
+        match file.read_at(into, offset) {
+            Err(error) if error.kind() == io::ErrorKind::Interrupted => {}
+            ended => return ended,
+        }
+    }
+    Err(io::ErrorKind::Interrupted.into())
+}
+
 /// A file with a block of its bytes in memory: `held` bytes from the offset `start` on, of which the file has the first `given`.
 /// The others were written, and the file gets them before each read of the file itself, before a cut and a sync, before bytes
 /// that do not stand right behind them or have no room in the block are written, and when this object is let go. Where it does
@@ -112,10 +125,10 @@ impl LogFile {
         }
         self.flush()?;
         if into.len() >= BLOCK {
-            return self.file.read_at(into, offset);
+            return read_file(&self.file, into, offset);
         }
         self.forget();
-        let count = self.file.read_at(&mut self.block, offset)?;
+        let count = read_file(&self.file, &mut self.block, offset)?;
         self.start = offset;
         self.held = count;
         self.given = count;

@@ -1,10 +1,14 @@
 -- When a centre has a pause: what each received since its last one, and which has one now.
-use Rattle.std.specs.Prelude.{◌≡◌, ℕ, ◌+◌, ◌-◌, ◌%◌, ◌^◌, min, Bool, false, ◌==◌, nat_le, nat_lt, replicate, slice_index, slice_set, if◌then◌else◌, Option, Some, None}
+use Rattle.std.specs.Prelude.{◌≡◌, ℕ, ◌+◌, ◌-◌, ◌*◌, ◌/◌, ◌%◌, ◌^◌, min, Bool, false, ◌==◌, nat_le, nat_lt, replicate, slice_index, slice_set, if◌then◌else◌, Option, Some, None}
 use Rattle.mdcc_link.specs.declared.pauses.Pauses.{Pauses}
 
 -- nothing was received
 abbrev pub IsNew : Pauses → Type 0
-IsNew pauses = (pauses.pausing ≡ None) × (pauses.busy ≡ replicate 16 0)
+IsNew pauses = (pauses.pausing ≡ None) × ((pauses.busy ≡ replicate 16 0) × (pauses.limit ≡ 4096))
+
+-- after how much a pause comes where a receive waits for so many milliseconds at most
+abbrev pub limit_for : ℕ → ℕ
+limit_for milliseconds = 4096 * milliseconds / 20
 
 -- what the centre of an endpoint received; both its endpoints have one place
 abbrev pub busy_at : ℕ → Pauses → ℕ
@@ -17,7 +21,7 @@ counted at weight pauses =
 
 -- whether it received as much as is between two pauses
 abbrev pub is_busy : ℕ → Pauses → Bool
-is_busy at pauses = nat_le 4096 (busy_at at pauses)
+is_busy at pauses = nat_le pauses.limit (busy_at at pauses)
 
 abbrev pub has_pause : Option ℕ → ℕ → Bool
 has_pause None own = false
@@ -27,9 +31,13 @@ has_pause (Some centre) own = centre == own
 abbrev pub is_of_pause : ℕ → Pauses → Bool
 is_of_pause at pauses = if nat_lt 16 at then has_pause pauses.pausing (at - 16) else is_busy at pauses
 
--- and what is known after it
+-- the centre of an endpoint is counted for anew, since time passes for it
+abbrev pub restarted : ℕ → Pauses → Pauses
+restarted at pauses = record pauses { busy = slice_set pauses.busy (at % 16) 0 }
+
+-- what is known after a receive
 abbrev pub begun : ℕ → Pauses → Pauses
-begun at pauses = record { busy = slice_set pauses.busy (at % 16) 0; pausing = Some at }
+begun at pauses = record (restarted at pauses) { pausing = Some at }
 
 abbrev pub ended : Pauses → Pauses
 ended pauses = record pauses { pausing = None }

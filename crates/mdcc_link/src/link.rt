@@ -41,8 +41,8 @@ pub trait Link {
         ensures only { OnOk result (lost self.new ≡ lost self.old) }
         ensures receives { faults self.new ≡ faults self.old };
 
-    /// Takes a datagram that waits at the endpoint, or waits a moment for one. One that is longer than the buffer gives its
-    /// first bytes.
+    /// Takes a datagram that waits at the endpoint, or waits for one: at most as long as `set_wait` said last. One that is longer
+    /// than the buffer gives its first bytes.
     fn receive(&mut self, at: u8, into: &mut [u8]) -> Result<Received, Failed>
         ensures bound { ReceivesAtMost result (length into.new) }
         ensures call { AddsCall (Receive at (length into.new) result (brought result into.new)) (calls self.old) (calls self.new) result }
@@ -53,4 +53,11 @@ pub trait Link {
     /// Whether a datagram is known to wait at the endpoint, so that the next receive there need not wait. It is no call: nothing is
     /// taken, and nothing of it is recorded.
     fn waits(&self, at: u8) -> bool;
+
+    /// Lets each later receive wait for so many milliseconds at most. It is no call either: nothing of it is recorded, and it cannot
+    /// fail.
+    fn set_wait(&mut self, milliseconds: u16)
+        ensures calls { calls self.new ≡ calls self.old }
+        ensures sends { lost self.new ≡ lost self.old }
+        ensures receives { faults self.new ≡ faults self.old };
 }

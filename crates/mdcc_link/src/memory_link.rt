@@ -218,4 +218,12 @@ impl Link for MemoryLink {
     {
         self.stored.waits(at)
     }
+
+    // Nothing waits for what may come: it comes by `put` alone.
+    fn set_wait(&mut self, _milliseconds: u16)
+        ensures calls { told_calls self.new ≡ told_calls self.old }
+        ensures sends { self.new.lost ≡ self.old.lost }
+        ensures receives { self.new.faults ≡ self.old.faults }
+        ensures same { self.new ≡ self.old }
+    {}
 }

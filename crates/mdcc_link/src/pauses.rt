@@ -1,15 +1,24 @@
 //! When a centre has a pause.
 ghost use Rattle.std.specs.Prelude.{◌≡◌, ◌≤◌, ◌+◌, ◌-◌, ◌^◌, min, false};
-ghost use Rattle.mdcc_link.specs.Pauses.{IsNew, after_receive, busy_at, counted, ended, has_pause, is_busy, is_of_pause};
+ghost use Rattle.mdcc_link.specs.Pauses.{IsNew, after_receive, busy_at, counted, ended, has_pause, is_busy, is_of_pause, limit_for, restarted};
 
-/// After so many datagrams a centre has a pause, whatever waits.
+/// After so many datagrams a centre has a pause, whatever waits, where a receive waits for 20 milliseconds at most.
 const BUSY_LIMIT: u32 = 4096;
 
-/// What each centre received since its last pause, and which centre has one now.
+/// What each centre received since its last pause, after how much it has the next one, and which centre has one now.
 #[derive(Drop)]
 pub struct Pauses {
     pub busy: [u32; 16],
+    pub limit: u32,
     pub pausing: Option<u8>,
+}
+
+// After how many datagrams a centre has a pause where a receive waits for so many milliseconds at most: as many more as it
+// waits longer, since a pause is to be rarer than a round trip.
+fn limit_for(milliseconds: u16) -> u32
+    ensures { result ≡ limit_for milliseconds }
+{
+    BUSY_LIMIT * u32::from(milliseconds) / 20
 }
 
 impl Pauses {
@@ -19,8 +28,16 @@ impl Pauses {
     {
         Pauses {
             busy: [0; 16],
+            limit: BUSY_LIMIT,
             pausing: None,
         }
+    }
+
+    /// Lets a pause come after as much as fits receives that wait for so many milliseconds at most.
+    pub fn set_wait(&mut self, milliseconds: u16)
+        ensures { self.new ≡ record self.old { limit = limit_for milliseconds } }
+    {
+        self.limit = limit_for(milliseconds);
     }
 
     /// Counts what a centre received at one of its endpoints.
@@ -33,11 +50,18 @@ impl Pauses {
         self.busy[index] = self.busy[index].saturating_add(weight);
     }
 
+    /// Counts for the centre anew, since time passes for it by itself.
+    pub fn restart(&mut self, at: u8)
+        ensures { self.new ≡ restarted at self.old }
+    {
+        self.busy[usize::from(at % 16)] = 0;
+    }
+
     // Whether the centre received as much as is between two pauses.
     fn is_busy(&self, at: u8) -> bool
         ensures { result ≡ is_busy at self.now }
     {
-        self.busy[usize::from(at % 16)] >= BUSY_LIMIT
+        self.busy[usize::from(at % 16)] >= self.limit
     }
 
     // Ends the pause, if there is one, and answers whether this centre had it.
@@ -64,7 +88,7 @@ impl Pauses {
             self.pausing = None;
             return false;
         }
-        self.busy[usize::from(at % 16)] = 0;
+        self.restart(at);
         self.pausing = Some(at);
         true
     }

@@ -1,12 +1,14 @@
 //! What sockets are told and what they answer.
 ghost use Rattle.std.specs.Prelude.{◌≡◌};
-ghost use Rattle.std.specs.IoError.{error_kind};
-ghost use Rattle.mdcc_link.specs.Sockets.{IsSocketAddress, found_in, is_quiet, served_by, is_served};
+ghost use Rattle.std.specs.IoError.{error_kind, raw_os_error};
+ghost use Rattle.mdcc_link.specs.Sockets.{IsSocketAddress, found_in, has_no_buffers, is_quiet, is_quiet_kind, is_second, served_by};
 
 use crate::Received;
 use mdcc_base::{Address, Failed};
+use std::io;
 use std::io::{Error, ErrorKind};
-use std::net::{IpAddr, Ipv4Addr, SocketAddr};
+use std::net::{IpAddr, Ipv4Addr, SocketAddr, UdpSocket};
+use std::os::fd::AsRawFd;
 
 /// The address as std has it.
 pub fn socket_address(address: Address) -> SocketAddr
@@ -16,17 +18,47 @@ pub fn socket_address(address: Address) -> SocketAddr
     SocketAddr::new(IpAddr::V4(host), address.port)
 }
 
-// Whether a receive that ended so brought nothing, and is no fault.
-fn is_quiet(error: &Error) -> bool
-    ensures { result ≡ is_quiet (error_kind error.now) }
+// Linux's number of the error that the system has no buffers left.
+const ENOBUFS: i32 = 105;
+
+// Whether an error of this kind is no fault of a receive.
+fn is_quiet_kind(kind: ErrorKind) -> bool
+    ensures { result ≡ is_quiet_kind kind }
 {
     matches!(
-        error.kind(),
+        kind,
         ErrorKind::WouldBlock
             | ErrorKind::TimedOut
             | ErrorKind::Interrupted
             | ErrorKind::ConnectionRefused
+            | ErrorKind::OutOfMemory
     )
+}
+
+// Whether the number of an error says that the system has no buffers left.
+fn has_no_buffers(number: Option<i32>) -> bool
+    ensures { result ≡ has_no_buffers number }
+{
+    match number {
+        Some(code) => code == ENOBUFS,
+        None => false,
+    }
+}
+
+// Whether a receive that ended so brought nothing, and is no fault.
+fn is_quiet(error: &Error) -> bool
+    ensures { result ≡ is_quiet error.now }
+{
+    is_quiet_kind(error.kind()) || has_no_buffers(error.raw_os_error())
+}
+
+/// The same socket under a number above those of the standard streams: where one of these is closed, a new socket takes its number, and
+/// what is printed would go there.
+pub fn above_streams(socket: UdpSocket) -> io::Result<UdpSocket> {
+    if socket.as_raw_fd() > 2 {
+        return Ok(socket);
+    }
+    socket.try_clone()
 }
 
 /// What was found by a receive that ended so. Else it failed.
@@ -55,11 +87,11 @@ pub fn served_by(at: u8, answer: &Result<Received, Failed>) -> Option<u8>
     }
 }
 
-/// Whether this is a client's endpoint, and the receive just before brought a datagram at the centre's own.
-pub fn is_served(served: Option<u8>, at: u8) -> bool
-    ensures { result ≡ is_served served at }
+/// Whether this is a client's endpoint, and the receive just before was at the centre's own.
+pub fn is_second(before: Option<u8>, at: u8) -> bool
+    ensures { result ≡ is_second before at }
 {
-    match served {
+    match before {
         Some(own) => u16::from(at) == u16::from(own) + 16,
         None => false,
     }

@@ -1,14 +1,14 @@
 //! A link over UDP sockets.
-ghost use Rattle.std.specs.Prelude.{◌≡◌, ◌++◌, ◌∷◌, ◌==◌, ◌≤◌, ◌+◌, ◌-◌, ◌^◌, [], length, find, map, min, None, Ok, Some, IfSome, OnOk, true};
+ghost use Rattle.std.specs.Prelude.{List, Option, false, ◌≡◌, ◌++◌, ◌∷◌, ◌==◌, ◌≤◌, ◌+◌, ◌-◌, ◌^◌, [], length, find, map, min, None, Ok, Some, IfSome, OnOk, true};
 ghost use Rattle.std.specs.Option.{option_map};
 ghost use Rattle.mdcc_base.specs.Causes.{HasCause};
-ghost use Rattle.mdcc_link.specs.Link.{AddsCall, ReceivesAtMost, brought};
+ghost use Rattle.mdcc_link.specs.Link.{AddsCall, LinkCall, ReceivesAtMost, brought};
 ghost use Rattle.mdcc_link.specs.Link.LinkCall.{Receive};
 ghost use Rattle.mdcc_link.specs.Sockets.{served_by};
-ghost use Rattle.mdcc_link.specs.Pauses.{IsNew, busy_at, is_of_pause};
+ghost use Rattle.mdcc_link.specs.Pauses.{IsNew, busy_at, is_of_pause, limit_for};
 
 use crate::pauses::Pauses;
-use crate::sockets::{found, is_served, served_by, socket_address};
+use crate::sockets::{above_streams, found, is_second, served_by, socket_address};
 use crate::{Link, Received};
 use libc::net as system;
 use libc::types::pollfd;
@@ -17,19 +17,19 @@ use std::alloc::Global;
 use std::net::{Net, UdpSocket};
 use std::os::fd::AsRawFd;
 
-/// How many milliseconds a receive waits at first.
-const FIRST_WAIT: i32 = 1;
+/// How many milliseconds a receive waits at most, unless it is told otherwise.
+const DEFAULT_WAIT: u16 = 20;
 
-/// How many it waits then, where nothing came. It waits at most 20 in all.
-const SECOND_WAIT: i32 = 19;
+/// In so many parts a wait goes by at most, and the last of them has nothing left: of one millisecond, then each as long as all before it.
+const PARTS: u32 = 18;
 
 /// How many bytes of datagrams the system is asked to keep at a socket, as it counts them. It keeps at most what it allows
 /// (net.core.rmem_max), and without this request mostly some hundred datagrams.
 const KEPT_BYTES: u32 = 4 << 20;
 
-/// A first wait that brought no datagram counts as so many, so that a pause comes in a few seconds where datagrams are few but never
-/// 20 milliseconds apart.
-const WAIT_WEIGHT: u32 = 16;
+/// A millisecond in which no datagram came counts as so many, so that a pause comes before long where datagrams are few but never a
+/// whole wait apart.
+const MILLISECOND_WEIGHT: u32 = 16;
 
 #[derive(Drop)]
 struct Endpoint {
@@ -37,18 +37,20 @@ struct Endpoint {
     socket: UdpSocket,
 }
 
-/// UDP sockets, one for each endpoint. A receive at an endpoint where nothing waits ends at once where the receive just before
-/// brought a datagram at the centre's own endpoint K and this one is at its client's, 16 + K. Else it waits at most 20
-/// milliseconds at both, and looks once more. So where both answer one after the other that nothing came, nothing came at
-/// either for 20 milliseconds, unless a signal ended the wait, or the centre has a pause: after 4,096 datagrams the two receives of a
-/// turn answer so, though something may wait. A centre to which datagrams come all the time needs that, since time passes for it only
-/// where nothing comes, and what was lost on the way is asked for again only as time passes. A datagram that finds no receiver is no
-/// fault of a later receive.
+/// UDP sockets, one for each endpoint. A receive at an endpoint where nothing lies waits for what comes at it or at the other endpoint
+/// of its centre, K and 16 + K, for 20 milliseconds at most, or for as long as `set_wait` says, and looks once more. Only one that is at
+/// a client's endpoint just after one at its centre's own waits for nothing: the first of the two waited for both. So where both answer
+/// that nothing came, nothing came at either for the whole wait, or the centre has a pause: after 4,096 datagrams, and more where the
+/// wait is longer, the two receives of a turn answer so, though something may lie there. A centre to which datagrams come all the time
+/// needs that, since time passes for it only where nothing comes, and what was lost on the way is asked for again only as time passes. A
+/// datagram that finds no receiver is no fault of a later receive, nor is a moment in which the system has no memory for one.
 #[derive(Drop)]
 pub struct UdpLink<'a, R: Net> {
     net: &'a R,
     endpoints: Vec<Endpoint>,
-    served: Option<u8>,
+    before: Option<u8>,
+    wait: u16,
+    was_silent: bool,
     pauses: Pauses,
     lost: u64,
     faults: u64,
@@ -58,7 +60,9 @@ impl<'a, R: Net> UdpLink<'a, R> {
     /// A link with no endpoint.
     pub fn new(alloc: Global, net: &'a R) -> Self
         ensures endpoints { result.endpoints.items ≡ [] }
-        ensures served { result.served ≡ None }
+        ensures before { result.before ≡ None }
+        ensures wait { result.wait ≡ 20 }
+        ensures silence { result.was_silent ≡ false }
         ensures pauses { IsNew result.pauses }
         ensures lost { result.lost ≡ 0 }
         ensures faults { result.faults ≡ 0 }
@@ -66,7 +70,9 @@ impl<'a, R: Net> UdpLink<'a, R> {
         UdpLink {
             net,
             endpoints: Vec::new(alloc),
-            served: None,
+            before: None,
+            wait: DEFAULT_WAIT,
+            was_silent: false,
             pauses: Pauses::new(),
             lost: 0,
             faults: 0,
@@ -101,6 +107,7 @@ impl<'a, R: Net> UdpLink<'a, R> {
             return None;
         }
         let socket = UdpSocket::bind(self.net, socket_address(address)).ok()?;
+        let socket = above_streams(socket).ok()?;
         socket.set_nonblocking(true).ok()?;
         Self::ask_for_room(&socket);
         self.endpoints.push(Endpoint { at, socket }).ok()
@@ -134,11 +141,29 @@ impl<'a, R: Net> UdpLink<'a, R> {
         ready > 0 && requests[0].revents & system::POLLIN != 0
     }
 
-    // Waits for a datagram at one of two endpoints, at most so many milliseconds. Answers whether one came, or the wait failed:
-    // mostly by a signal.
-    fn wait(&self, at: u8, other: u8, milliseconds: i32) -> bool {
+    // Waits for a datagram at one of two endpoints, at most so many milliseconds. Answers whether one came.
+    fn comes_in(&self, at: u8, other: u8, milliseconds: u16) -> bool {
         let mut requests = [self.request(at), self.request(other)];
-        system::poll(&mut requests, milliseconds) != 0
+        system::poll(&mut requests, i32::from(milliseconds)) > 0
+    }
+
+    // Waits for a datagram at an endpoint or at the other one of its centre. The part of the wait that went by before one came counts.
+    fn wait_at(&mut self, at: u8)
+        ensures busy { busy_at at self.old.pauses ≤ busy_at at self.new.pauses }
+        ensures lost { self.new.lost ≡ self.old.lost }
+        ensures faults { self.new.faults ≡ self.old.faults }
+    {
+        let other = if at > 16 { at - 16 } else { at + 16 };
+        let mut over: u16 = 0;
+        for _ in 0..PARTS {
+            let part = self.wait.saturating_sub(over).min(over.max(1));
+            self.was_silent = part == 0;
+            if self.was_silent || self.comes_in(at, other, part) {
+                return;
+            }
+            self.pauses.count(at, MILLISECOND_WEIGHT * u32::from(part));
+            over = over.saturating_add(part);
+        }
     }
 
     // Takes what waits at the endpoint, or what comes before the wait is over.
@@ -149,14 +174,10 @@ impl<'a, R: Net> UdpLink<'a, R> {
         ensures faults { self.new.faults ≡ self.old.faults }
     {
         let first = self.take(at, into)?;
-        if first != Received::Nothing || is_served(self.served, at) {
+        if first != Received::Nothing || is_second(self.before, at) {
             return Some(first);
         }
-        let other = if at > 16 { at - 16 } else { at + 16 };
-        if !self.wait(at, other, FIRST_WAIT) {
-            self.pauses.count(at, WAIT_WEIGHT);
-            self.wait(at, other, SECOND_WAIT);
-        }
+        self.wait_at(at);
         self.take(at, into)
     }
 }
@@ -199,13 +220,16 @@ impl<'a, R: Net> Link for UdpLink<'a, R> {
         ensures counts { served_by at result ≡ Some at → min (busy_at at self.old.pauses + 1) (2 ^ 32 - 1) ≤ busy_at at self.new.pauses }
     {
         if self.pauses.covers(at) {
-            self.served = None;
+            self.before = Some(at);
             return Ok(Received::Nothing);
         }
+        self.was_silent = false;
         let answer = self.take_in_time(at, into).ok_or(Failed);
-        self.served = served_by(at, &answer);
-        if self.served.is_some() {
+        self.before = Some(at);
+        if served_by(at, &answer).is_some() {
             self.pauses.count(at, 1);
+        } else if self.was_silent {
+            self.pauses.restart(at);
         }
         if answer.is_err() {
             self.faults = self.faults.saturating_add(1);
@@ -215,5 +239,16 @@ impl<'a, R: Net> Link for UdpLink<'a, R> {
 
     fn waits(&self, at: u8) -> bool {
         self.has_datagram(at)
+    }
+
+    fn set_wait(&mut self, milliseconds: u16)
+        ensures calls { ◌≡◌ {A = Option (List LinkCall)} None None }
+        ensures sends { self.new.lost ≡ self.old.lost }
+        ensures receives { self.new.faults ≡ self.old.faults }
+        ensures wait { self.new.wait ≡ milliseconds }
+        ensures pauses { self.new.pauses ≡ record self.old.pauses { limit = limit_for milliseconds } }
+    {
+        self.wait = milliseconds;
+        self.pauses.set_wait(milliseconds);
     }
 }

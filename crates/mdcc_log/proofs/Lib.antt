@@ -1,9 +1,26 @@
 mod Again
-mod Appends
-pub mod Bytes
-mod Calls
-pub mod Kept
-pub mod LogRead
-pub mod Moments
-mod ReadCalls
-mod Repairs
+mod AreaRead
+pub mod Around
+pub mod Choice
+mod Copies
+pub mod Dues
+pub mod Followed
+pub mod Gates
+pub mod Groups
+pub mod Idles
+pub mod Joined
+mod Keeps
+mod Loads
+pub mod LogReads
+mod OpenStays
+mod Opened
+mod Opens
+mod Outcomes
+mod Packs
+mod Records
+pub mod Rooms
+mod Settles
+mod Stands
+mod Takes
+mod Theorems
+pub mod Uses

@@ -1,74 +1,70 @@
--- What a crash leaves of a log.
-use Rattle.std.specs.Prelude.{◌≡◌, ◌≢◌, ◌⊎◌, ℕ, ◌+◌, ◌≤◌, ◌<◌, false, List, [], ◌∷◌, ◌++◌, length, take, drop, slice_index, Ok}
-use Rattle.std.specs.List.{AllByRecursion}
-use Rattle.mdcc_log.specs.Log.{log_front, frame_body, payload_limit, is_open, read_log}
+-- What a crash leaves of the two areas of a log.
+use Rattle.std.specs.Prelude.{◌≡◌, ◌⊎◌, ℕ, ◌+◌, ◌^◌, ◌≤◌, ◌<◌, true, false, ◌==◌, List, [], ◌∷◌, ◌++◌, length, if◌then◌else◌, Result, Ok}
+use Rattle.mdcc_log_file.specs.Log.{frame_body, payload_limit}
+use Rattle.mdcc_log_file.specs.Crash.{AreShort}
+use Rattle.mdcc_log.specs.Area.{Head, AreaLog, generation_of, payloads_of, copy_body, front_of, area_mark, area_gate, generation_in, is_second, payloads}
+use Rattle.mdcc_log.specs.Area.Head.{Version1, Version2}
 
--- each payload is one that a frame may have
-abbrev pub AreShort : List (List ℕ) → Type 0
-AreShort payloads = AllByRecursion (λ payload. length payload ≤ payload_limit) payloads
+-- what may stand before the frames of an area: version 1 in area 0 alone, and version 2 with a generation from 1 on
+abbrev pub IsHead : ℕ → Head → Type 0
+IsHead area Version1 = area ≡ 0
+IsHead area (Version2 generation records) = (0 < generation) × ((generation < 2 ^ 64) × ((length records < 2 ^ 64) × AreShort records))
 
--- A log of these payloads that was never begun, or whose last gate is closed. Behind that gate anything may stand.
-pub record IsShut (payloads : List (List ℕ)) (bytes : List ℕ) : Type 0 where
-  pub short : AreShort payloads
-  pub file : ((payloads ≡ []) × (length bytes ≤ 9)) ⊎ ((rest : List ℕ) × (bytes ≡ log_front payloads ++ 0 ∷ rest))
+-- a log that may stand in this area
+pub record IsLog (area : ℕ) (log : AreaLog) : Type 0 where
+  pub head : IsHead area log.head
+  pub short : AreShort log.tail
 
--- a log of these payloads with the frame of one more behind them, whose gate may hold anything
-pub record IsUndecided (payloads : List (List ℕ)) (payload bytes : List ℕ) : Type 0 where
-  pub short : AreShort payloads
+-- The area in use: this log was never begun, or its last gate is closed. Behind that gate anything may stand.
+pub record IsCurrent (area : ℕ) (log : AreaLog) (bytes : List ℕ) : Type 0 where
+  pub valid : IsLog area log
+  pub file : ((log.head ≡ Version1) × ((log.tail ≡ []) × (length bytes ≤ 9))) ⊎ ((rest : List ℕ) × (bytes ≡ front_of log ++ 0 ∷ rest))
+
+-- this log with the frame of one more payload behind it, whose gate may hold anything
+pub record IsUndecided (area : ℕ) (log : AreaLog) (payload bytes : List ℕ) : Type 0 where
+  pub valid : IsLog area log
   pub fits : length payload ≤ payload_limit
   pub gate : ℕ
-  pub file : bytes ≡ log_front payloads ++ gate ∷ (frame_body payload ++ 0 ∷ [])
+  pub file : bytes ≡ front_of log ++ gate ∷ (frame_body payload ++ 0 ∷ [])
 
--- what a crash may leave of a log while one more payload is appended to these, or while such a log is opened
-abbrev pub IsBetween : List (List ℕ) → List ℕ → List ℕ → Type 0
-IsBetween payloads payload bytes = IsShut payloads bytes ⊎ IsUndecided payloads payload bytes
+-- what a crash may leave of the area in use while one more payload is appended, or while such an area is opened
+abbrev pub IsBetween : ℕ → AreaLog → List ℕ → List ℕ → Type 0
+IsBetween area log payload bytes = IsCurrent area log bytes ⊎ IsUndecided area log payload bytes
+
+-- an area that is no whole one of version 2, whatever an opening does: too short, without its mark, or with a closed area gate
+abbrev pub IsDead : List ℕ → Type 0
+IsDead bytes = (length bytes ≤ 9) ⊎ ((is_second bytes ≡ false) ⊎ (area_gate bytes ≡ 0))
+
+-- an area of a smaller generation, whose area gate may hold anything
+pub record IsOlder (generation : ℕ) (bytes : List ℕ) : Type 0 where
+  pub marked : is_second bytes ≡ true
+  pub long : 25 ≤ length bytes
+  pub some : 0 < generation_in bytes
+  pub older : generation_in bytes < generation
+
+-- the payloads of this log packed, with the next generation, whose area gate may hold anything
+pub record IsCopy (log : AreaLog) (bytes : List ℕ) : Type 0 where
+  pub generation : generation_of log.head + 1 < 2 ^ 64
+  pub count : length (payloads_of log) < 2 ^ 64
+  pub short : AreShort (payloads_of log)
+  pub gate : ℕ
+  pub file : bytes ≡ area_mark ++ gate ∷ (copy_body (generation_of log.head + 1) (payloads_of log) ++ 0 ∷ [])
+
+-- the area that is not in use: next to this log its payloads are read, or the same ones
+abbrev pub IsIdle : AreaLog → List ℕ → Type 0
+IsIdle log bytes = IsDead bytes ⊎ (IsOlder (generation_of log.head) bytes ⊎ IsCopy log bytes)
+
+-- what opening gives of the area in use, by its number, and the other
+abbrev pub payloads_by : ℕ → List ℕ → List ℕ → Result (List (List ℕ)) ℕ
+payloads_by area current other = if area == 0 then payloads current other else payloads other current
 
 -- opening gives these payloads, or these and one more
-abbrev pub ReadsAsEither : List (List ℕ) → List ℕ → List ℕ → Type 0
-ReadsAsEither payloads payload bytes = (read_log bytes ≡ Ok payloads) ⊎ (read_log bytes ≡ Ok (payloads ++ payload ∷ []))
-
--- The bytes are a log of these payloads, whose last gate stands here.
-pub record IsRead (payloads : List (List ℕ)) (last_gate : ℕ) (bytes : List ℕ) : Type 0 where
-  pub front : bytes ≡ log_front payloads ++ drop last_gate bytes
-  pub gate : last_gate ≡ length (log_front payloads)
-  pub within : last_gate < length bytes
-  pub shut : is_open (drop last_gate bytes) ≡ false
-  pub short : AreShort payloads
-
--- the bytes with another last gate, where it was not closed: it is closed, or torn
-pub record IsGateChanged (tears : ℕ → Type 0) (gate : ℕ) (bytes c : List ℕ) : Type 0 where
-  pub was : slice_index bytes gate ≢ 0
-  pub becomes : ℕ
-  pub from : (becomes ≡ slice_index bytes gate) ⊎ ((becomes ≡ 0) ⊎ tears becomes)
-  pub is : c ≡ take gate bytes ++ becomes ∷ drop (gate + 1) bytes
-
--- the bytes with a closed last gate and something behind it, where something was
-pub record IsEndChanged (gate : ℕ) (bytes c : List ℕ) : Type 0 where
-  pub longer : gate + 1 < length bytes
-  pub rest : List ℕ
-  pub is : c ≡ take gate bytes ++ 0 ∷ rest
-
--- what a crash may leave while the last gate is closed and the end is cut off
-abbrev pub MayRepair : (ℕ → Type 0) → ℕ → List ℕ → List ℕ → Type 0
-MayRepair tears gate bytes c = (c ≡ bytes) ⊎ (IsGateChanged tears gate bytes c ⊎ IsEndChanged gate bytes c)
-
--- a log whose last gate was neither open nor closed, with that gate open
-pub record IsTornOpen (bytes c : List ℕ) : Type 0 where
-  pub payloads : List (List ℕ)
-  pub short : AreShort payloads
-  pub gate : ℕ
-  pub rest : List ℕ
-  pub was : bytes ≡ log_front payloads ++ gate ∷ rest
-  pub torn : (gate ≢ 0) × (gate ≢ 1)
-  pub is : c ≡ log_front payloads ++ 1 ∷ rest
-
--- The same is read again; or a last gate that was neither open nor closed is open, where a byte may be torn to 1.
-abbrev pub ReadsAgain : (ℕ → Type 0) → List ℕ → List ℕ → Type 0
-ReadsAgain tears bytes c = (read_log c ≡ read_log bytes) ⊎ (IsTornOpen bytes c × tears 1)
+abbrev pub ReadsAsEither : List (List ℕ) → List ℕ → Result (List (List ℕ)) ℕ → Type 0
+ReadsAsEither before payload read = (read ≡ Ok before) ⊎ (read ≡ Ok (before ++ payload ∷ []))
 
 -- what opening reads of what a crash leaves
-abbrev pub ShutIsRead : Type 0
-ShutIsRead = (payloads : List (List ℕ)) (bytes : List ℕ) → IsShut payloads bytes → read_log bytes ≡ Ok payloads
+abbrev pub CurrentIsRead : Type 0
+CurrentIsRead = (area : ℕ) (log : AreaLog) (current other : List ℕ) → IsCurrent area log current → IsIdle log other → payloads_by area current other ≡ Ok (payloads_of log)
 
 abbrev pub BetweenIsRead : Type 0
-BetweenIsRead = (payloads : List (List ℕ)) (payload bytes : List ℕ) → IsBetween payloads payload bytes → ReadsAsEither payloads payload bytes
+BetweenIsRead = (area : ℕ) (log : AreaLog) (payload current other : List ℕ) → IsBetween area log payload current → IsIdle log other → ReadsAsEither (payloads_of log) payload (payloads_by area current other)

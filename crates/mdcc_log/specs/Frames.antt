@@ -1,91 +1,126 @@
--- An open log.
-use Rattle.std.specs.Prelude.{◌≡◌, ◌⊎◌, ℕ, ◌+◌, ◌-◌, ◌<◌, ◌≤◌, ◌==◌, nat_le, List, [], ◌∷◌, ◌++◌, length, sum, take, slice_index, if◌then◌else◌, Option, None, Result, Ok, Err}
-use Rattle.std.specs.List.{AllByRecursion}
-use Rattle.std.specs.Option.{option_map}
+-- An open log in two areas.
+use Rattle.std.specs.Prelude.{◌≡◌, ◌⊎◌, ℕ, ◌+◌, ◌*◌, ◌==◌, nat_le, nat_lt, List, [], ◌∷◌, ◌++◌, length, if◌then◌else◌, Result, Ok, Err}
 use Rattle.mdcc_disks.specs.Disks.{DiskCall, Only}
-use Rattle.mdcc_disks.specs.Disks.DiskCall.{Length, Read, Write, Cut, Sync}
-use Rattle.mdcc_log.specs.Log.{log_bytes, log_front, frame_body, read_log}
-use Rattle.mdcc_log.specs.Crash.{AreShort}
+use Rattle.mdcc_disks.specs.Disks.DiskCall.{Length, Write, Cut, Sync}
+use Rattle.mdcc_log_file.specs.Log.{frame_body}
+use Rattle.mdcc_log_file.specs.Calls.{begin_calls, close_calls, cut_calls, read_calls}
+use Rattle.mdcc_log.specs.declared.area.Spare.{Spare}
+use Rattle.mdcc_log.specs.declared.area.Spare.TheVariants as spares
+use Rattle.mdcc_log.specs.Area.{AreaLog, generation_of, payloads_of, counts_bytes, records_bytes, head_bytes, front_of, area_bytes, area_mark, area_gate, is_second, is_torn, taken, read_area, read_areas}
+use Rattle.mdcc_log.specs.Area.Head.{Version2}
+use Rattle.mdcc_log.specs.Crash.{IsLog, IsDead, IsOlder}
 
--- where the log is, and how many bytes it has; the last of them is the closed gate
-pub record OpenLog : Type 0 where
-  pub place : ℕ
+-- area 0 of a centre stands at its own number, area 1 sixteen further on
+abbrev pub place_of : ℕ → ℕ → ℕ
+place_of centre area = centre + 16 * area
+
+abbrev pub other_of : ℕ → ℕ
+other_of area = if area == 0 then 1 else 0
+
+-- what is known of an area that is not in use: whether it has more than a mark and a gate, and then whether its area gate is
+-- closed and its mark is that of version 2
+abbrev pub spare_of : List ℕ → Spare
+spare_of bytes = if nat_lt 9 (length bytes) then spares.Long (area_gate bytes == 0) (is_second bytes) else spares.Short
+
+-- The open log of a centre: which area is in use, after how many frames a checkpoint is due, the generation of the area, how
+-- many payloads there are, where the frames begin and how many they are, how many bytes all payloads take as records, how many
+-- bytes the area has, and what is known of the other area.
+pub record OpenAreas : Type 0 where
+  pub centre : ℕ
+  pub area : ℕ
+  pub every : ℕ
+  pub generation : ℕ
+  pub count : ℕ
+  pub start : ℕ
+  pub tail : ℕ
+  pub body : ℕ
   pub size : ℕ
+  pub spare : Spare
 
--- The bytes are those of a log of these payloads, all of them durable.
-pub record IsAtRest (payloads : List (List ℕ)) (size : ℕ) (bytes : List ℕ) (may_leave : List ℕ → Type 0) : Type 0 where
-  pub file : bytes ≡ log_bytes payloads
-  pub counted : size ≡ length bytes
-  pub short : AreShort payloads
+-- The bytes are those of this log, all of them durable.
+pub record IsInUse (frames : OpenAreas) (log : AreaLog) (bytes : List ℕ) (may_leave : List ℕ → Type 0) : Type 0 where
+  pub valid : IsLog frames.area log
+  pub file : bytes ≡ area_bytes log
+  pub generation : frames.generation ≡ generation_of log.head
+  pub count : frames.count ≡ length (payloads_of log)
+  pub start : frames.start ≡ length (head_bytes log.head)
+  pub tail : frames.tail ≡ length log.tail
+  pub body : frames.body ≡ length (records_bytes (payloads_of log))
+  pub size : frames.size ≡ length bytes
   pub durable : Only bytes may_leave
 
--- The bytes are those of a log, all of them durable.
-abbrev pub IsSettled : ℕ → List ℕ → (List ℕ → Type 0) → Type 0
-IsSettled size bytes may_leave = (payloads : List (List ℕ)) × IsAtRest payloads size bytes may_leave
+-- The bytes of the other area, all of them durable, are taken for no log.
+pub record IsSpare (frames : OpenAreas) (bytes : List ℕ) (may_leave : List ℕ → Type 0) : Type 0 where
+  pub idle : IsDead bytes ⊎ IsOlder frames.generation bytes
+  pub spare : frames.spare ≡ spare_of bytes
+  pub durable : Only bytes may_leave
 
--- of a log at rest its payloads are read
-abbrev pub RestIsRead : Type 0
-RestIsRead = (payloads : List (List ℕ)) (bytes : List ℕ) → AreShort payloads → bytes ≡ log_bytes payloads → read_log bytes ≡ Ok payloads
+abbrev pub IsSettled : OpenAreas → List ℕ → (List ℕ → Type 0) → Type 0
+IsSettled frames bytes may_leave = (log : AreaLog) × IsInUse frames log bytes may_leave
 
--- the calls of an append to a log of this size: the frame behind the closed gate, with a closed gate behind it; and then the
--- gate is opened
-abbrev pub append_calls : ℕ → List ℕ → List DiskCall
-append_calls size payload = Write size (frame_body payload ++ 0 ∷ []) ∷ Sync ∷ Write (size - 1) (1 ∷ []) ∷ Sync ∷ []
+-- with one more payload
+abbrev pub appended : AreaLog → List ℕ → AreaLog
+appended log payload = record { head = log.head; tail = log.tail ++ payload ∷ [] }
 
--- the calls that are told, where they are, with more behind them
-abbrev pub with_calls : List DiskCall → Option (List DiskCall) → Option (List DiskCall)
-with_calls more calls = option_map (λ before. before ++ more) calls
-
--- the calls that are told after a front of these calls was made; or none are told any more
-pub record MadeSome (calls : List DiskCall) (old new : Option (List DiskCall)) : Type 0 where
-  pub made : ℕ
-  pub within : made ≤ length calls
-  pub told : (new ≡ None) ⊎ (new ≡ with_calls (take made calls) old)
+-- with all payloads packed, of the next generation
+abbrev pub packed : AreaLog → AreaLog
+packed log = record { head = Version2 (generation_of log.head + 1) (payloads_of log); tail = [] }
 
 -- ---- the calls of an opening
 
--- Reads that gave so many bytes each gave all of these, and each some.
-pub record AreReads (size : ℕ) (counts : List ℕ) : Type 0 where
-  pub some : AllByRecursion (λ count. 0 < count) counts
-  pub all : sum counts ≡ size
+-- an area that is not taken has its area gate closed, where that is neither closed nor open
+abbrev pub spare_calls : List ℕ → List DiskCall
+spare_calls bytes = if is_torn bytes then Write 8 (0 ∷ []) ∷ Sync ∷ [] else []
 
--- the reads of a file of this size from an offset on: each asks for all that is left, and gives so many bytes
-abbrev pub read_calls : ℕ → ℕ → List ℕ → List DiskCall
-read_calls size offset [] = []
-read_calls size offset (count ∷ counts) = Read offset (size - offset) ∷ read_calls size (offset + count) counts
-
--- a log is begun
-abbrev pub begin_calls : List DiskCall
-begin_calls = Cut 0 ∷ Write 0 (log_bytes []) ∷ Sync ∷ []
-
--- the last gate is closed, where it is not
-abbrev pub close_calls : ℕ → List ℕ → List DiskCall
-close_calls gate bytes = if slice_index bytes gate == 0 then [] else Write gate (0 ∷ []) ∷ Sync ∷ []
-
--- what stands behind it is cut off, where something does
-abbrev pub cut_calls : ℕ → List ℕ → List DiskCall
-cut_calls gate bytes = if length bytes == gate + 1 then [] else Cut (gate + 1) ∷ Sync ∷ []
-
--- both, at the last gate of a log; and what is no log is left as it is
-abbrev pub repair_calls : List ℕ → Result (List (List ℕ)) ℕ → List DiskCall
-repair_calls bytes (Ok payloads) = close_calls (length (log_front payloads)) bytes ++ cut_calls (length (log_front payloads)) bytes
+-- the last gate of the area that is taken is closed, and what stands behind it cut off
+abbrev pub repair_calls : List ℕ → Result AreaLog ℕ → List DiskCall
+repair_calls bytes (Ok log) = close_calls (length (front_of log)) bytes ++ cut_calls (length (front_of log)) bytes
 repair_calls bytes (Err offset) = []
 
--- what is changed of these bytes
 abbrev pub settle_calls : List ℕ → List DiskCall
-settle_calls bytes = if nat_le (length bytes) 9 then begin_calls else repair_calls bytes (read_log bytes)
+settle_calls bytes = if nat_le (length bytes) 9 then begin_calls else repair_calls bytes (read_area bytes)
 
--- the file is made durable and read, and then what a crash left of it is settled
-abbrev pub open_calls : List ℕ → List ℕ → List DiskCall
-open_calls counts bytes = Sync ∷ Length ∷ (read_calls (length bytes) 0 counts ++ settle_calls bytes)
+-- and of what is no log nothing is changed
+abbrev pub other_calls : Result AreaLog ℕ → List ℕ → List DiskCall
+other_calls (Ok log) bytes = spare_calls bytes
+other_calls (Err offset) bytes = []
 
--- The calls that are told after a file of this size was read whole with these calls before and behind; and after a front of them.
-pub record ReadsAll (size : ℕ) (calls : List ℕ → List DiskCall) (old new : Option (List DiskCall)) : Type 0 where
-  pub counts : List ℕ
-  pub are : AreReads size counts
-  pub told : new ≡ with_calls (calls counts) old
+-- what is changed of an area, by which one is taken and what is read in it
+abbrev pub change_calls : ℕ → Result ℕ ℕ → Result AreaLog ℕ → List ℕ → List DiskCall
+change_calls area (Ok which) read bytes = if area == which then settle_calls bytes else other_calls read bytes
+change_calls area (Err offset) read bytes = []
 
-pub record ReadsSome (size : ℕ) (calls : List ℕ → List DiskCall) (old new : Option (List DiskCall)) : Type 0 where
-  pub counts : List ℕ
-  pub are : AreReads size counts
-  pub made : MadeSome (calls counts) old new
+-- both areas are made durable and read, and then what a crash left of them is settled
+abbrev pub open_calls : ℕ → List ℕ → List ℕ → List ℕ → List ℕ → List DiskCall
+open_calls area first second bytes counts =
+    Sync ∷ Length ∷ (read_calls (length bytes) 0 counts ++ change_calls area (taken first second) (read_areas first second) bytes)
+
+-- ---- the calls of a checkpoint
+
+-- the area gate is closed, where it is not
+abbrev pub shut_calls : Spare → List DiskCall
+shut_calls spares.Short = Write 0 (area_mark ++ 0 ∷ []) ∷ []
+shut_calls (spares.Long closed marked) = if closed then [] else Write 8 (0 ∷ []) ∷ []
+
+-- the mark is written, where it does not stand there
+abbrev pub mark_calls : Spare → List DiskCall
+mark_calls spares.Short = []
+mark_calls (spares.Long closed marked) = if marked then [] else Write 0 area_mark ∷ []
+
+-- the records from this offset on, each by one call
+abbrev pub record_calls : ℕ → List (List ℕ) → List DiskCall
+record_calls offset [] = []
+record_calls offset (record' ∷ records) = Write offset (frame_body record') ∷ record_calls (offset + length (frame_body record')) records
+
+-- all behind the area gate
+abbrev pub body_calls : ℕ → List (List ℕ) → List DiskCall
+body_calls generation records =
+    Write 9 (counts_bytes generation (length records)) ∷ (record_calls 25 records ++ Write (25 + length (records_bytes records)) (0 ∷ []) ∷ [])
+
+-- the calls of a checkpoint before its copy is made durable
+abbrev pub laid_calls : Spare → ℕ → List (List ℕ) → List DiskCall
+laid_calls spare generation records = shut_calls spare ++ Sync ∷ Cut 9 ∷ (mark_calls spare ++ body_calls generation records)
+
+abbrev pub checkpoint_calls : Spare → ℕ → List (List ℕ) → List DiskCall
+checkpoint_calls spare generation records =
+    shut_calls spare ++ Sync ∷ Cut 9 ∷ (mark_calls spare ++ (body_calls generation records ++ Sync ∷ Write 8 (1 ∷ []) ∷ Sync ∷ []))

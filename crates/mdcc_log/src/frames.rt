@@ -1,360 +1,493 @@
-//! Logs.
-ghost use Rattle.std.specs.Prelude.{◌≡◌, ◌≤◌, ◌<◌, ◌+◌, ◌-◌, ◌^◌, ◌∷◌, ◌++◌, [], ◌↔◌, ◌⊎◌, List, ℕ, length, take, drop, vec_len, vec_capacity, IsTrue, IfOk, IfErr, OnOk, OnErr, IsErrOf, Ok, Err};
-ghost use Rattle.mdcc_base.specs.Causes.{Rose, HasCause};
+//! Logs in two areas.
+ghost use Rattle.std.specs.Prelude.{◌≡◌, ◌≤◌, ◌<◌, ◌*◌, ◌+◌, ◌-◌, ◌^◌, ◌↔◌, ◌⊎◌, false, true, List, ℕ, length, IsTrue, IfOk, OnOk, OnErr, IsErrOf, Ok, Err};
+ghost use Rattle.mdcc_base.specs.Causes.{Rose};
 ghost use Rattle.mdcc_disks.specs.Disks.{Only, Within, KeepsOthers, LeavesOnly};
-ghost use Rattle.mdcc_log.specs.Log.{frame_body, read_log, log_limit, payload_limit};
-ghost use Rattle.mdcc_log.specs.Crash.{AreShort, IsShut, IsBetween, MayRepair, ReadsAgain};
-ghost use Rattle.mdcc_disks.specs.Disks.DiskCall.{Length, Sync};
-ghost use Rattle.mdcc_log.specs.Frames.{IsAtRest, IsSettled, MadeSome, ReadsAll, ReadsSome, with_calls, append_calls, close_calls, cut_calls, open_calls, read_calls, settle_calls};
+ghost use Rattle.mdcc_log_file.specs.Log.{log_limit, payload_limit};
+ghost use Rattle.mdcc_log_file.specs.Calls.{MadeSome, with_calls, append_calls};
+ghost use Rattle.mdcc_log.specs.Area.{AreaLog, generation_of, payloads_of, payloads, records_bytes};
+ghost use Rattle.mdcc_log.specs.AtRest.{IsAtRest, MayBeDue};
+ghost use Rattle.mdcc_log_file.specs.Crash.{AreShort};
+ghost use Rattle.mdcc_log.specs.Crash.{IsCurrent, IsBetween, IsIdle, ReadsAsEither, payloads_by};
+ghost use Rattle.mdcc_log.specs.Frames.{OpenAreas, IsInUse, IsSpare, IsSettled, appended, packed, place_of, other_of, checkpoint_calls, laid_calls};
+ghost use Rattle.mdcc_log.specs.Copying.{IsShut};
+ghost use Rattle.mdcc_log.specs.Both.{KeepsBut, IsOnlyRead, RoseAtOne};
+ghost use Rattle.mdcc_log.specs.Room.{HasCopyRoom, IsFull};
+ghost use Rattle.mdcc_log.specs.Opening.{IsOpened, OpensOne};
+ghost use Rattle.mdcc_log.specs.Checkpoint.{MayBegin, copy_of, head_size, left_area};
 
 use crate::LogFault;
-use crate::reading::{PAYLOAD_LIMIT, read_file, read_frames};
-use crate::steps::{begin, cut_through, write_through};
-use mdcc_base::{Failed, HeapList};
+use crate::area::Spare;
+use crate::checkpoint::{Whole, open_area, write_copy};
+use crate::opening::{AreaRead, open_areas};
+use mdcc_base::{Centre, HeapList};
 use mdcc_disks::Disks;
-use std::alloc::{AllocError, Global};
+use mdcc_log_file::{LOG_LIMIT, PAYLOAD_LIMIT};
+use std::alloc::Global;
 use std::marker::Model;
 
-/// The most bytes of a log.
-pub const LOG_LIMIT: u64 = 1 << 30;
-
-/// An open log at a place.
+/// The open log of a centre.
 #[derive(Drop)]
 pub struct Frames {
-    place: u8,
-    size: u64,
-    buffer: Vec<u8>,
+    pub(crate) centre: u8,
+    pub(crate) area: u8,
+    pub(crate) every: u32,
+    pub(crate) generation: u64,
+    pub(crate) count: u64,
+    pub(crate) start: u64,
+    pub(crate) tail: u64,
+    pub(crate) body: u64,
+    pub(crate) size: u64,
+    pub(crate) spare: Spare,
+    pub(crate) buffer: Vec<u8>,
 }
 
 impl Model for Frames {
-    ghost use Rattle.std.specs.Prelude.{◌≤◌, vec_capacity};
-    ghost use Rattle.mdcc_log.specs.Frames.{OpenLog};
+    ghost use Rattle.mdcc_log.specs.Frames.{OpenAreas};
+    ghost use Rattle.mdcc_log.specs.Invariant.{AreOpen};
 
-    ghost Value = { OpenLog };
+    ghost Value = { OpenAreas };
 
-    ghost view = { λ log. record { place = log.place; size = log.size } };
+    ghost view = { λ log. record {
+      centre = log.centre;
+      area = log.area;
+      every = log.every;
+      generation = log.generation;
+      count = log.count;
+      start = log.start;
+      tail = log.tail;
+      body = log.body;
+      size = log.size;
+      spare = log.spare;
+    } };
 
-    ghost invariant = { λ log. (2097157 ≤ vec_capacity log.buffer) × (9 ≤ log.size) };
+    ghost invariant = { AreOpen };
 }
 
-// What stands behind the gate of a frame, and a closed gate.
-fn lay_out(buffer: &mut Vec<u8>, payload: &[u8])
-    requires room { 2097157 ≤ vec_capacity buffer.old }
-    requires short { length payload.now ≤ 2097152 }
-    ensures items { buffer.new.items ≡ frame_body payload.now ++ 0 ∷ [] }
-    ensures len { vec_len buffer.new ≡ length payload.now + 5 }
-    ensures room { 2097157 ≤ vec_capacity buffer.new }
+pub(crate) fn place_of(centre: u8, area: u8) -> u8
+    requires centre { centre ≤ 9 }
+    requires area { area ≤ 1 }
+    ensures { result ≡ place_of centre area }
 {
-    let length = (payload.len() as u32).to_le_bytes();
-    buffer.clear();
-    buffer.extend_from_slice(&length).unwrap();
-    buffer.extend_from_slice(payload).unwrap();
-    buffer.push(0).unwrap();
+    centre + 16 * area
 }
 
-// What stands in the file, made durable.
-fn load<D: Disks>(alloc: Global, disks: &mut D, place: u8) -> Result<Vec<u8>, LogFault>
-    ensures file { IsTrue (D.disk disks.old place).told
-        → IfOk result (λ v. v.items ≡ (D.disk disks.old place).bytes) }
-    ensures durable { IsTrue (D.disk disks.old place).told
-        → OnOk result (Only (D.disk disks.new place).bytes (D.may_leave disks.new place)) }
-    ensures bytes { (D.disk disks.new place).bytes ≡ (D.disk disks.old place).bytes }
-    ensures any_moment { LeavesOnly D.moment D.left_since disks.old disks.new place (D.may_leave disks.old place) }
-    ensures others { KeepsOthers D.disk D.may_leave D.moment D.left_since disks.old disks.new place }
-    ensures later { (D.disk disks.old place).faults ≤ (D.disk disks.new place).faults }
-    ensures disk_fault { IsErrOf result LogFault.DiskFault
-        → Rose (D.disk disks.old place).faults (D.disk disks.new place).faults }
-    ensures a_log { (n : ℕ) → IsErrOf result (LogFault.NotALog n) → ⊥ }
-    ensures not_full { IsErrOf result LogFault.LogFull → ⊥ }
-    ensures calls { IsTrue (D.disk disks.old place).told
-        → ReadsSome (length (D.disk disks.old place).bytes)
-        (λ counts. Sync ∷ Length ∷ read_calls (length (D.disk disks.old place).bytes) 0 counts)
-        (D.disk disks.old place).calls (D.disk disks.new place).calls }
-    ensures all_calls { IsTrue (D.disk disks.old place).told
-        → OnOk result (ReadsAll (length (D.disk disks.old place).bytes)
-        (λ counts. Sync ∷ Length ∷ read_calls (length (D.disk disks.old place).bytes) 0 counts)
-        (D.disk disks.old place).calls (D.disk disks.new place).calls) }
+// Whether these bytes are more than a log has.
+pub(crate) fn passes_limit(bytes: u64, length: u64, more: u64) -> bool
+    ensures { IsTrue result ↔ (log_limit < bytes + length + more) }
 {
-    disks.sync(place)?;
-    read_file(alloc, disks, place)
-}
-
-// Closes the last gate.
-fn close_gate<D: Disks>(disks: &mut D, place: u8, bytes: &[u8], gate: usize) -> Result<(), Failed>
-    requires gate { gate < length bytes.now }
-    requires file { IsTrue (D.disk disks.old place).told → bytes.now ≡ (D.disk disks.old place).bytes }
-    requires durable { IsTrue (D.disk disks.old place).told
-        → Only (D.disk disks.old place).bytes (D.may_leave disks.old place) }
-    ensures closed { IsTrue (D.disk disks.old place).told
-        → OnOk result ((D.disk disks.new place).bytes ≡ take gate bytes.now ++ 0 ∷ drop (gate + 1) bytes.now) }
-    ensures durable { IsTrue (D.disk disks.old place).told
-        → OnOk result (Only (D.disk disks.new place).bytes (D.may_leave disks.new place)) }
-    ensures any_moment { IsTrue (D.disk disks.old place).told
-        → LeavesOnly D.moment D.left_since disks.old disks.new place (MayRepair D.tears gate bytes.now) }
-    ensures others { KeepsOthers D.disk D.may_leave D.moment D.left_since disks.old disks.new place }
-    ensures cause { HasCause (D.disk disks.old place).faults (D.disk disks.new place).faults result }
-    ensures calls { MadeSome (close_calls gate bytes.now) (D.disk disks.old place).calls (D.disk disks.new place).calls }
-    ensures all_calls { OnOk result ((D.disk disks.new place).calls
-        ≡ with_calls (close_calls gate bytes.now) (D.disk disks.old place).calls) }
-{
-    if bytes[gate] == 0 {
-        return Ok(());
-    }
-    write_through(disks, place, gate as u64, &[0])
-}
-
-// Cuts off what stands behind the last gate, which is closed.
-fn cut_end<D: Disks>(disks: &mut D, place: u8, bytes: &[u8], gate: usize) -> Result<(), Failed>
-    requires gate { gate < length bytes.now }
-    requires file { IsTrue (D.disk disks.old place).told
-        → (D.disk disks.old place).bytes ≡ take gate bytes.now ++ 0 ∷ drop (gate + 1) bytes.now }
-    requires durable { IsTrue (D.disk disks.old place).told
-        → Only (D.disk disks.old place).bytes (D.may_leave disks.old place) }
-    ensures cut { IsTrue (D.disk disks.old place).told
-        → OnOk result ((D.disk disks.new place).bytes ≡ take gate bytes.now ++ 0 ∷ []) }
-    ensures durable { IsTrue (D.disk disks.old place).told
-        → OnOk result (Only (D.disk disks.new place).bytes (D.may_leave disks.new place)) }
-    ensures any_moment { IsTrue (D.disk disks.old place).told
-        → LeavesOnly D.moment D.left_since disks.old disks.new place (MayRepair D.tears gate bytes.now) }
-    ensures others { KeepsOthers D.disk D.may_leave D.moment D.left_since disks.old disks.new place }
-    ensures cause { HasCause (D.disk disks.old place).faults (D.disk disks.new place).faults result }
-    ensures calls { MadeSome (cut_calls gate bytes.now) (D.disk disks.old place).calls (D.disk disks.new place).calls }
-    ensures all_calls { OnOk result ((D.disk disks.new place).calls
-        ≡ with_calls (cut_calls gate bytes.now) (D.disk disks.old place).calls) }
-{
-    if bytes.len() == gate + 1 {
-        return Ok(());
-    }
-    cut_through(disks, place, gate as u64 + 1)
-}
-
-// Closes the last gate and cuts off what stands behind it. The gate comes first: behind a cut, a gate that is torn open
-// would stand for a frame that is not there.
-fn repair<D: Disks>(disks: &mut D, place: u8, bytes: &[u8], gate: usize) -> Result<(), Failed>
-    requires gate { gate < length bytes.now }
-    requires file { IsTrue (D.disk disks.old place).told → bytes.now ≡ (D.disk disks.old place).bytes }
-    requires durable { IsTrue (D.disk disks.old place).told
-        → Only (D.disk disks.old place).bytes (D.may_leave disks.old place) }
-    ensures repaired { IsTrue (D.disk disks.old place).told
-        → OnOk result ((D.disk disks.new place).bytes ≡ take gate bytes.now ++ 0 ∷ []) }
-    ensures durable { IsTrue (D.disk disks.old place).told
-        → OnOk result (Only (D.disk disks.new place).bytes (D.may_leave disks.new place)) }
-    ensures any_moment { IsTrue (D.disk disks.old place).told
-        → LeavesOnly D.moment D.left_since disks.old disks.new place (MayRepair D.tears gate bytes.now) }
-    ensures others { KeepsOthers D.disk D.may_leave D.moment D.left_since disks.old disks.new place }
-    ensures cause { HasCause (D.disk disks.old place).faults (D.disk disks.new place).faults result }
-    ensures calls { MadeSome (close_calls gate bytes.now ++ cut_calls gate bytes.now) (D.disk disks.old place).calls (D.disk disks.new place).calls }
-    ensures all_calls { OnOk result ((D.disk disks.new place).calls
-        ≡ with_calls (close_calls gate bytes.now ++ cut_calls gate bytes.now) (D.disk disks.old place).calls) }
-{
-    close_gate(disks, place, bytes, gate)?;
-    cut_end(disks, place, bytes, gate)
-}
-
-// The log that stands in the file, ready for appends, and its payloads.
-fn recover<D: Disks>(
-    alloc: Global,
-    disks: &mut D,
-    place: u8,
-    bytes: &[u8],
-) -> Result<(u64, Vec<HeapList<u8>>), LogFault>
-    requires file { IsTrue (D.disk disks.old place).told → bytes.now ≡ (D.disk disks.old place).bytes }
-    requires durable { IsTrue (D.disk disks.old place).told
-        → Only (D.disk disks.old place).bytes (D.may_leave disks.old place) }
-    ensures payloads { IfOk result (λ r. read_log bytes.now ≡ Ok r.1.items) }
-    ensures short { IfOk result (λ r. AreShort r.1.items) }
-    ensures at_rest { IsTrue (D.disk disks.old place).told
-        → IfOk result (λ r. IsAtRest r.1.items r.0 (D.disk disks.new place).bytes (D.may_leave disks.new place)) }
-    ensures size { IfOk result (λ r. 9 ≤ r.0) }
-    ensures any_moment { (payloads : List (List ℕ)) → IsTrue (D.disk disks.old place).told
-        → IsShut payloads bytes.now
-        → LeavesOnly D.moment D.left_since disks.old disks.new place (IsShut payloads) }
-    ensures any_moment_between { (payloads : List (List ℕ)) (payload : List ℕ) → IsTrue (D.disk disks.old place).told
-        → IsBetween payloads payload bytes.now
-        → LeavesOnly D.moment D.left_since disks.old disks.new place (IsBetween payloads payload) }
-    ensures any_moment_again { IsTrue (D.disk disks.old place).told
-        → LeavesOnly D.moment D.left_since disks.old disks.new place (ReadsAgain D.tears bytes.now) }
-    ensures others { KeepsOthers D.disk D.may_leave D.moment D.left_since disks.old disks.new place }
-    ensures disk_fault { IsErrOf result LogFault.DiskFault
-        → Rose (D.disk disks.old place).faults (D.disk disks.new place).faults }
-    ensures later { (D.disk disks.old place).faults ≤ (D.disk disks.new place).faults }
-    ensures not_a_log { (n : ℕ) → IsErrOf result (LogFault.NotALog n)
-        → (read_log bytes.now ≡ Err n) × ((D.disk disks.new place).bytes ≡ (D.disk disks.old place).bytes) }
-    ensures memory { IsErrOf result LogFault.Memory
-        → (D.disk disks.new place).bytes ≡ (D.disk disks.old place).bytes }
-    ensures not_full { IsErrOf result LogFault.LogFull → ⊥ }
-    ensures calls { MadeSome (settle_calls bytes.now) (D.disk disks.old place).calls (D.disk disks.new place).calls }
-    ensures all_calls { OnOk result ((D.disk disks.new place).calls
-        ≡ with_calls (settle_calls bytes.now) (D.disk disks.old place).calls) }
-{
-    if bytes.len() <= 9 {
-        begin(disks, place)?;
-        return Ok((9, Vec::new(alloc)));
-    }
-    let (payloads, gate) = read_frames(alloc, bytes)?;
-    repair(disks, place, bytes, gate)?;
-    Ok((gate as u64 + 1, payloads))
-}
-
-// Writes the frame and a closed gate behind the closed gate, and then opens that gate.
-fn append_frame<D: Disks>(
-    disks: &mut D,
-    place: u8,
-    size: u64,
-    payload: &[u8],
-    body: &[u8],
-) -> Result<(), Failed>
-    requires short { length payload.now ≤ payload_limit }
-    requires size { 9 ≤ size }
-    requires body { body.now ≡ frame_body payload.now ++ 0 ∷ [] }
-    requires settled { IsTrue (D.disk disks.old place).told
-        → IsSettled size (D.disk disks.old place).bytes (D.may_leave disks.old place) }
-    ensures acknowledged { (payloads : List (List ℕ)) → IsTrue (D.disk disks.old place).told
-        → IsAtRest payloads size (D.disk disks.old place).bytes (D.may_leave disks.old place)
-        → OnOk result (IsAtRest (payloads ++ payload.now ∷ []) (size + (length payload.now + 5))
-        (D.disk disks.new place).bytes (D.may_leave disks.new place)) }
-    ensures any_moment { (payloads : List (List ℕ)) → IsTrue (D.disk disks.old place).told
-        → IsAtRest payloads size (D.disk disks.old place).bytes (D.may_leave disks.old place)
-        → LeavesOnly D.moment D.left_since disks.old disks.new place (IsBetween payloads payload.now) }
-    ensures others { KeepsOthers D.disk D.may_leave D.moment D.left_since disks.old disks.new place }
-    ensures calls { MadeSome (append_calls size payload.now)
-        (D.disk disks.old place).calls (D.disk disks.new place).calls }
-    ensures all_calls { OnOk result ((D.disk disks.new place).calls
-        ≡ with_calls (append_calls size payload.now) (D.disk disks.old place).calls) }
-    ensures cause { HasCause (D.disk disks.old place).faults (D.disk disks.new place).faults result }
-{
-    write_through(disks, place, size, body)?;
-    write_through(disks, place, size - 1, &[1])?;
-    Ok(())
+    bytes.saturating_add(length).saturating_add(more) > LOG_LIMIT
 }
 
 impl Frames {
-    /// Where the log is.
-    pub fn place(&self) -> u8
-        ensures { result ≡ self.now.place }
+    /// The current area, 0 or 1.
+    pub fn area(&self) -> u8
+        ensures value { result ≡ self.now.area }
+        ensures range { result ≤ 1 }
     {
-        self.place
+        self.area
     }
 
-    /// How many bytes it has.
+    /// How many bytes the current area has.
     pub fn size(&self) -> u64
         ensures { result ≡ self.now.size }
     {
         self.size
     }
 
-    /// Opens the log at a place, whatever a crash left there, and gives its payloads in order. A file of at most nine bytes
-    /// becomes a log without payloads.
+    /// How many payloads there are.
+    pub fn count(&self) -> u64
+        ensures { result ≡ self.now.count }
+    {
+        self.count
+    }
+
+    /// How many bytes all payloads take as records.
+    pub fn body(&self) -> u64
+        ensures { result ≡ self.now.body }
+    {
+        self.body
+    }
+
+    /// Whether a checkpoint is due after one more payload.
+    pub fn is_due_next(&self) -> bool
+        ensures { IsTrue result ↔ (self.now.every ≤ self.now.tail + 1) }
+    {
+        self.tail + 1 >= self.every as u64
+    }
+
+    /// Whether the log has no room for one more payload of this length: all payloads with it would pass 2^30 bytes in an area of
+    /// version 1, or `append_due` would answer LogFull.
+    pub fn is_full(&self, length: u64) -> bool
+        ensures { IsTrue result ↔ IsFull self.now length }
+    {
+        if passes_limit(self.body.saturating_add(self.count), length, 14) {
+            return true;
+        }
+        if passes_limit(self.size, length, 5) {
+            return true;
+        }
+        self.is_due_next() && (self.generation == u64::MAX || passes_limit(self.body, length, 30))
+    }
+
+    /// Opens the log of a centre, whatever a crash left in its two areas, and gives its payloads in order. A checkpoint is due
+    /// after so many frames. Where no area is whole, area 0 becomes a log without payloads.
     pub fn open<D: Disks>(
         alloc: Global,
         disks: &mut D,
-        place: u8,
+        centre: Centre,
+        every: u32,
     ) -> Result<(Frames, Vec<HeapList<u8>>), LogFault>
-        ensures payloads { IsTrue (D.disk disks.old place).told
-            → IfOk result (λ r. read_log (D.disk disks.old place).bytes ≡ Ok r.1.items) }
+        requires { 1 ≤ every }
+
+        ensures payloads { let first = D.disk disks.old centre in let second = D.disk disks.old (centre + 16) in
+            IsTrue first.told → IsTrue second.told → IfOk result (λ r. payloads first.bytes second.bytes ≡ Ok r.1.items) }
         ensures short { IfOk result (λ r. AreShort r.1.items) }
-        ensures at_rest { IsTrue (D.disk disks.old place).told
-            → IfOk result (λ r. IsAtRest r.1.items r.0.size (D.disk disks.new place).bytes (D.may_leave disks.new place)) }
-        ensures settled { IsTrue (D.disk disks.old place).told
-            → IfOk result (λ r. IsSettled r.0.size (D.disk disks.new place).bytes (D.may_leave disks.new place)) }
-        ensures place { IfOk result (λ r. r.0.place ≡ place) }
+        ensures opened { let first = D.disk disks.old centre in let second = D.disk disks.old (centre + 16) in
+            IsTrue first.told → IsTrue second.told
+            → IfOk result (λ r. IsOpened D.disk D.may_leave D.moment D.left_since disks.new r.0 r.1.items first.bytes second.bytes) }
+        ensures settled { IfOk result (λ r. IsTrue (D.disk disks.new (place_of r.0.centre r.0.area)).told
+            → IsSettled r.0 (D.disk disks.new (place_of r.0.centre r.0.area)).bytes (D.may_leave disks.new (place_of r.0.centre r.0.area))) }
+        ensures spare { IfOk result (λ r. IsTrue (D.disk disks.new (place_of r.0.centre (other_of r.0.area))).told
+            → IsSpare r.0 (D.disk disks.new (place_of r.0.centre (other_of r.0.area))).bytes (D.may_leave disks.new (place_of r.0.centre (other_of r.0.area)))) }
+        ensures at_rest { IsTrue (D.disk disks.old centre).told → IsTrue (D.disk disks.old (centre + 16)).told
+            → IfOk result (λ r. IsAtRest D.disk D.may_leave disks.new r.0 r.1.items) }
+        ensures keeps { IfOk result (λ r. (r.0.centre ≡ centre) × (r.0.every ≡ every)) }
+        ensures range { IfOk result (λ r. r.0.area ≤ 1) }
 
-        // After a crash at any moment of it, opening reads the same again, whatever stood there; but a last gate that was neither
-        // open nor closed, as a crash of an append may leave it, may be open where a byte may be torn to 1.
-        ensures any_moment_again { IsTrue (D.disk disks.old place).told
-            → LeavesOnly D.moment D.left_since disks.old disks.new place
-            (λ c. D.may_leave disks.old place c ⊎ ReadsAgain D.tears (D.disk disks.old place).bytes c) }
+        // What a crash at any moment of it leaves of each area: what was left before, or the bytes while they are settled. A front
+        // of the calls that the bytes call for is made, and all of them at `Ok`.
+        ensures first { let first = D.disk disks.old centre in let second = D.disk disks.old (centre + 16) in
+            IsTrue first.told → IsTrue second.told
+            → OpensOne D.disk D.may_leave D.moment D.left_since D.tears disks.old disks.new centre 0 first.bytes second.bytes result }
+        ensures second { let first = D.disk disks.old centre in let second = D.disk disks.old (centre + 16) in
+            IsTrue first.told → IsTrue second.told
+            → OpensOne D.disk D.may_leave D.moment D.left_since D.tears disks.old disks.new (centre + 16) 1 first.bytes second.bytes result }
 
-        // Where no byte is torn to 1, opening gives the same payloads after a crash at any moment of it.
-        ensures any_moment_same { (payloads : List (List ℕ)) → IsTrue (D.disk disks.old place).told
-            → (D.tears 1 → ⊥)
-            → Within (λ c. read_log c ≡ Ok payloads) (D.may_leave disks.old place)
-            → LeavesOnly D.moment D.left_since disks.old disks.new place (λ c. read_log c ≡ Ok payloads) }
+        // However often it crashes, the area in use stays one of its log, and what a crash of an append left stays a log of the
+        // payloads from before it, or of those and the new one; the other area stays what is not in use next to it.
+        ensures any_moment { (area : ℕ) (log : AreaLog) → area ≤ 1
+            → IsTrue (D.disk disks.old centre).told → IsTrue (D.disk disks.old (centre + 16)).told
+            → Within (IsCurrent area log) (D.may_leave disks.old (place_of centre area))
+            → LeavesOnly D.moment D.left_since disks.old disks.new (place_of centre area) (IsCurrent area log) }
+        ensures any_moment_between { (area : ℕ) (log : AreaLog) (payload : List ℕ) → area ≤ 1
+            → IsTrue (D.disk disks.old centre).told → IsTrue (D.disk disks.old (centre + 16)).told
+            → Within (IsBetween area log payload) (D.may_leave disks.old (place_of centre area))
+            → LeavesOnly D.moment D.left_since disks.old disks.new (place_of centre area) (IsBetween area log payload) }
+        ensures any_moment_due { (area : ℕ) (log : AreaLog) (payload : List ℕ) → area ≤ 1
+            → IsTrue (D.disk disks.old centre).told → IsTrue (D.disk disks.old (centre + 16)).told
+            → Within (MayBeDue area log payload) (D.may_leave disks.old (place_of centre area))
+            → LeavesOnly D.moment D.left_since disks.old disks.new (place_of centre area) (MayBeDue area log payload) }
+        ensures any_moment_idle { (area : ℕ) (log idle : AreaLog) (payload : List ℕ) → area ≤ 1 → generation_of log.head ≡ generation_of idle.head
+            → IsTrue (D.disk disks.old centre).told → IsTrue (D.disk disks.old (centre + 16)).told
+            → Within (MayBeDue area log payload) (D.may_leave disks.old (place_of centre area))
+            → Within (IsIdle idle) (D.may_leave disks.old (place_of centre (other_of area)))
+            → LeavesOnly D.moment D.left_since disks.old disks.new (place_of centre (other_of area)) (IsIdle idle) }
 
-        // However often it crashes, a closed log stays one of its payloads, and what a crash of an append left stays a log of
-        // the payloads from before it, or of those and the new one.
-        ensures any_moment { (payloads : List (List ℕ)) → IsTrue (D.disk disks.old place).told
-            → Within (IsShut payloads) (D.may_leave disks.old place)
-            → LeavesOnly D.moment D.left_since disks.old disks.new place (IsShut payloads) }
-        ensures any_moment_between { (payloads : List (List ℕ)) (payload : List ℕ) → IsTrue (D.disk disks.old place).told
-            → Within (IsBetween payloads payload) (D.may_leave disks.old place)
-            → LeavesOnly D.moment D.left_since disks.old disks.new place (IsBetween payloads payload) }
-        ensures others { KeepsOthers D.disk D.may_leave D.moment D.left_since disks.old disks.new place }
-
-        // A front of the calls that the bytes call for is made, and all of them at `Ok`; what stands behind them is not written.
-        ensures calls { IsTrue (D.disk disks.old place).told
-            → ReadsSome (length (D.disk disks.old place).bytes) (λ counts. open_calls counts (D.disk disks.old place).bytes)
-            (D.disk disks.old place).calls (D.disk disks.new place).calls }
-        ensures all_calls { IsTrue (D.disk disks.old place).told
-            → OnOk result (ReadsAll (length (D.disk disks.old place).bytes) (λ counts. open_calls counts (D.disk disks.old place).bytes)
-            (D.disk disks.old place).calls (D.disk disks.new place).calls) }
+        // Where no byte is torn to 1, opening gives the same payloads after a crash at any moment of it, whatever stood there.
+        ensures any_moment_same { (all : List (List ℕ)) (current other : List ℕ) → (D.tears 1 → ⊥)
+            → IsTrue (D.disk disks.old centre).told → IsTrue (D.disk disks.old (centre + 16)).told
+            → Only (D.disk disks.old centre).bytes (D.may_leave disks.old centre)
+            → Only (D.disk disks.old (centre + 16)).bytes (D.may_leave disks.old (centre + 16))
+            → payloads (D.disk disks.old centre).bytes (D.disk disks.old (centre + 16)).bytes ≡ Ok all
+            → D.left_since disks.new centre (D.moment disks.old) current → D.left_since disks.new (centre + 16) (D.moment disks.old) other
+            → payloads current other ≡ Ok all }
+        ensures others { KeepsBut D.disk D.may_leave D.moment D.left_since disks.old disks.new centre (centre + 16) }
 
         ensures disk_fault { IsErrOf result LogFault.DiskFault
-            → Rose (D.disk disks.old place).faults (D.disk disks.new place).faults }
+            → RoseAtOne (D.disk disks.old centre) (D.disk disks.new centre) (D.disk disks.old (centre + 16)) (D.disk disks.new (centre + 16)) }
         ensures not_a_log { (n : ℕ) → IsErrOf result (LogFault.NotALog n)
-            → IsTrue (D.disk disks.old place).told
-            → (read_log (D.disk disks.old place).bytes ≡ Err n)
-            × ((D.disk disks.new place).bytes ≡ (D.disk disks.old place).bytes) }
+            → IsTrue (D.disk disks.old centre).told → IsTrue (D.disk disks.old (centre + 16)).told
+            → payloads (D.disk disks.old centre).bytes (D.disk disks.old (centre + 16)).bytes ≡ Err n }
+        ensures not_a_log_keeps { (n : ℕ) → IsErrOf result (LogFault.NotALog n)
+            → ((D.disk disks.new centre).bytes ≡ (D.disk disks.old centre).bytes)
+            × ((D.disk disks.new (centre + 16)).bytes ≡ (D.disk disks.old (centre + 16)).bytes) }
         ensures memory { IsErrOf result LogFault.Memory
-            → (D.disk disks.new place).bytes ≡ (D.disk disks.old place).bytes }
+            → ((D.disk disks.new centre).bytes ≡ (D.disk disks.old centre).bytes)
+            × ((D.disk disks.new (centre + 16)).bytes ≡ (D.disk disks.old (centre + 16)).bytes) }
         ensures not_full { IsErrOf result LogFault.LogFull → ⊥ }
-        ensures later { (D.disk disks.old place).faults ≤ (D.disk disks.new place).faults }
     {
+        let number = centre.number();
         let buffer = Vec::with_capacity(alloc, PAYLOAD_LIMIT + 5)?;
-        let bytes = load(alloc, disks, place)?;
-        let (size, payloads) = recover(alloc, disks, place, &bytes)?;
-        Ok((
-            Frames {
-                place,
-                size,
-                buffer,
-            },
+        let (area, read, spare) = open_areas(alloc, disks, number, number + 16)?;
+        let AreaRead {
+            generation,
             payloads,
-        ))
+            start,
+            tail,
+            gate,
+        } = read;
+        let frames = Frames {
+            centre: number,
+            area,
+            every,
+            generation,
+            count: payloads.len() as u64,
+            start: start as u64,
+            tail,
+            body: gate as u64 - head_size(generation) - tail,
+            size: gate as u64 + 1,
+            spare,
+            buffer,
+        };
+        Ok((frames, payloads))
     }
 
     /// Adds a payload behind the others. At `Ok` it is acknowledged: from then on each crash leaves a log that has it. After
     /// a `DiskFault` the log has to be opened again. After `LogFull` all is as before.
     pub fn append<D: Disks>(&mut self, disks: &mut D, payload: &[u8]) -> Result<(), LogFault>
         requires short { length payload.now ≤ payload_limit }
-        requires settled { IsTrue (D.disk disks.old self.old.place).told
-            → IsSettled self.old.size (D.disk disks.old self.old.place).bytes (D.may_leave disks.old self.old.place) }
+        requires settled { let place = place_of self.old.centre self.old.area in IsTrue (D.disk disks.old place).told
+            → IsSettled self.old (D.disk disks.old place).bytes (D.may_leave disks.old place) }
 
-        ensures acknowledged { (payloads : List (List ℕ)) → IsTrue (D.disk disks.old self.old.place).told
-            → IsAtRest payloads self.old.size (D.disk disks.old self.old.place).bytes (D.may_leave disks.old self.old.place)
-            → OnOk result (IsAtRest (payloads ++ payload.now ∷ []) self.new.size
-            (D.disk disks.new self.old.place).bytes (D.may_leave disks.new self.old.place)) }
-
-        ensures settled { IsTrue (D.disk disks.old self.old.place).told
-            → OnOk result (IsSettled self.new.size (D.disk disks.new self.old.place).bytes (D.may_leave disks.new self.old.place)) }
+        ensures acknowledged { let place = place_of self.old.centre self.old.area in (log : AreaLog) → IsTrue (D.disk disks.old place).told
+            → IsInUse self.old log (D.disk disks.old place).bytes (D.may_leave disks.old place)
+            → OnOk result (IsInUse self.new (appended log payload.now) (D.disk disks.new place).bytes (D.may_leave disks.new place)) }
 
         // A crash at any moment of it leaves the payloads from before it, with the new one or without.
-        ensures any_moment { (payloads : List (List ℕ)) → IsTrue (D.disk disks.old self.old.place).told
-            → IsAtRest payloads self.old.size (D.disk disks.old self.old.place).bytes (D.may_leave disks.old self.old.place)
-            → LeavesOnly D.moment D.left_since disks.old disks.new self.old.place (IsBetween payloads payload.now) }
-        ensures place { self.new.place ≡ self.old.place }
-        ensures size { OnOk result (self.new.size ≡ self.old.size + length payload.now + 5) }
-        ensures others { KeepsOthers D.disk D.may_leave D.moment D.left_since disks.old disks.new self.old.place }
-        ensures calls { MadeSome (append_calls self.old.size payload.now)
-            (D.disk disks.old self.old.place).calls (D.disk disks.new self.old.place).calls }
-        ensures all_calls { OnOk result ((D.disk disks.new self.old.place).calls
-            ≡ with_calls (append_calls self.old.size payload.now) (D.disk disks.old self.old.place).calls) }
+        ensures any_moment { let place = place_of self.old.centre self.old.area in (log : AreaLog) → IsTrue (D.disk disks.old place).told
+            → IsInUse self.old log (D.disk disks.old place).bytes (D.may_leave disks.old place)
+            → LeavesOnly D.moment D.left_since disks.old disks.new place (IsBetween self.old.area log payload.now) }
 
-        ensures disk_fault { IsErrOf result LogFault.DiskFault
-            → Rose (D.disk disks.old self.old.place).faults (D.disk disks.new self.old.place).faults }
-        ensures full { IsErrOf result LogFault.LogFull ↔ (log_limit < self.old.size + length payload.now + 5) }
-        ensures full_keeps { IsErrOf result LogFault.LogFull → (disks.new ≡ disks.old) × (self.new ≡ self.old) }
+        // Opening then gives these or those, whatever a crash left of the other area.
+        ensures any_moment_reads { let place = place_of self.old.centre self.old.area in (log : AreaLog) (current other : List ℕ)
+            → IsTrue (D.disk disks.old place).told
+            → IsInUse self.old log (D.disk disks.old place).bytes (D.may_leave disks.old place)
+            → D.left_since disks.new place (D.moment disks.old) current → IsIdle log other
+            → ReadsAsEither (payloads_of log) payload.now (payloads_by self.old.area current other) }
+
+        ensures keeps { OnOk result (self.new ≡ record self.old {
+          count = self.old.count + 1;
+          tail = self.old.tail + 1;
+          body = self.old.body + (length payload.now + 4);
+          size = self.old.size + (length payload.now + 5);
+        }) }
+        ensures fails { OnErr result (self.new ≡ self.old) }
+        ensures others { KeepsOthers D.disk D.may_leave D.moment D.left_since disks.old disks.new (place_of self.old.centre self.old.area) }
+        ensures calls { let place = place_of self.old.centre self.old.area in MadeSome (append_calls self.old.size payload.now)
+            (D.disk disks.old place).calls (D.disk disks.new place).calls }
+        ensures all_calls { let place = place_of self.old.centre self.old.area in OnOk result ((D.disk disks.new place).calls
+            ≡ with_calls (append_calls self.old.size payload.now) (D.disk disks.old place).calls) }
+
+        ensures disk_fault { let place = place_of self.old.centre self.old.area in IsErrOf result LogFault.DiskFault
+            → Rose (D.disk disks.old place).faults (D.disk disks.new place).faults }
+        ensures later { let place = place_of self.old.centre self.old.area in (D.disk disks.old place).faults ≤ (D.disk disks.new place).faults }
+        ensures full { IsErrOf result LogFault.LogFull ↔ (log_limit < self.old.size + (length payload.now + 5)) }
+        ensures full_keeps { IsErrOf result LogFault.LogFull → disks.new ≡ disks.old }
         ensures a_log { (n : ℕ) → IsErrOf result (LogFault.NotALog n) → ⊥ }
         ensures memory { IsErrOf result LogFault.Memory → ⊥ }
-        ensures later { (D.disk disks.old self.old.place).faults ≤ (D.disk disks.new self.old.place).faults }
     {
         let more = payload.len() as u64 + 5;
         if self.size > LOG_LIMIT - more {
             return Err(LogFault::LogFull);
         }
-        lay_out(&mut self.buffer, payload);
-        append_frame(disks, self.place, self.size, payload, &self.buffer)?;
-        self.size += more;
+        self.append_group(disks, payload, &[])
+    }
+
+    /// Whether a checkpoint is due.
+    pub fn due(&self) -> bool
+        ensures due { IsTrue result ↔ (self.now.every ≤ self.now.tail) }
+        ensures some { 1 ≤ self.now.every }
+    {
+        self.tail >= self.every as u64
+    }
+
+    /// Where the area is that is not the current one.
+    pub fn spare_place(&self) -> u8
+        ensures { result ≡ place_of self.now.centre (other_of self.now.area) }
+    {
+        place_of(self.centre, other_of(self.area))
+    }
+
+    /// What is known of the area that is not the current one.
+    pub fn spare(&self) -> Spare
+        ensures { result ≡ self.now.spare }
+    {
+        self.spare
+    }
+
+    /// Whether there is room for a checkpoint: the other area would not pass 2^30 bytes, and a generation follows.
+    pub fn has_copy_room(&self) -> bool
+        ensures room { result ≡ true → HasCopyRoom self.now }
+        ensures none { result ≡ false → (log_limit < self.now.body + 26) ⊎ (self.now.generation ≡ 2 ^ 64 - 1) }
+    {
+        self.generation != u64::MAX && self.body <= LOG_LIMIT - 26
+    }
+
+    /// The first four calls of a checkpoint: a copy of all payloads is written to the other area, with its area gate closed. It is
+    /// not durable yet, and the log is as it was. Answers where the last gate stands there. `checkpoint` makes these calls and the
+    /// other three.
+    pub fn lay_copy<D: Disks>(&mut self, disks: &mut D) -> Result<u64, LogFault>
+        requires settled { let place = place_of self.old.centre self.old.area in IsTrue (D.disk disks.old place).told
+            → IsSettled self.old (D.disk disks.old place).bytes (D.may_leave disks.old place) }
+        requires spare { let place = place_of self.old.centre (other_of self.old.area) in IsTrue (D.disk disks.old place).told
+            → IsSpare self.old (D.disk disks.old place).bytes (D.may_leave disks.old place) }
+
+        ensures written { let place = place_of self.old.centre self.old.area in let other = place_of self.old.centre (other_of self.old.area) in
+            (log : AreaLog) → IsTrue (D.disk disks.old place).told → IsTrue (D.disk disks.old other).told
+            → IsInUse self.old log (D.disk disks.old place).bytes (D.may_leave disks.old place)
+            → OnOk result ((D.disk disks.new other).bytes ≡ copy_of 0 (self.old.generation + 1) (payloads_of log)) }
+        ensures size { let place = place_of self.old.centre self.old.area in
+            (log : AreaLog) → IsTrue (D.disk disks.old place).told
+            → IsInUse self.old log (D.disk disks.old place).bytes (D.may_leave disks.old place)
+            → IfOk result (λ end. end ≡ 25 + length (records_bytes (payloads_of log))) }
+        ensures bound { IfOk result (λ end. (25 + 4 * self.old.count ≤ end) × (end ≤ 25 + self.old.body)) }
+        ensures long { let other = place_of self.old.centre (other_of self.old.area) in IsTrue (D.disk disks.old other).told
+            → OnOk result (9 ≤ length (D.disk disks.new other).bytes) }
+        ensures shut { let other = place_of self.old.centre (other_of self.old.area) in IsTrue (D.disk disks.old other).told
+            → OnOk result (Within IsShut (D.may_leave disks.new other)) }
+        ensures any_moment { let other = place_of self.old.centre (other_of self.old.area) in IsTrue (D.disk disks.old other).told
+            → LeavesOnly D.moment D.left_since disks.old disks.new other (MayBegin (D.disk disks.old other).bytes) }
+        ensures keeps { self.new ≡ self.old }
+        ensures has_room { OnOk result (HasCopyRoom self.old) }
+
+        ensures others { KeepsBut D.disk D.may_leave D.moment D.left_since disks.old disks.new
+            (place_of self.old.centre self.old.area) (place_of self.old.centre (other_of self.old.area)) }
+        ensures reads { let place = place_of self.old.centre self.old.area in
+            IsOnlyRead D.disk D.may_leave D.moment D.left_since disks.old disks.new place }
+        ensures calls { let place = place_of self.old.centre self.old.area in let other = place_of self.old.centre (other_of self.old.area) in
+            (log : AreaLog) → IsTrue (D.disk disks.old place).told
+            → IsInUse self.old log (D.disk disks.old place).bytes (D.may_leave disks.old place)
+            → MadeSome (laid_calls self.old.spare (self.old.generation + 1) (payloads_of log)) (D.disk disks.old other).calls (D.disk disks.new other).calls }
+        ensures all_calls { let place = place_of self.old.centre self.old.area in let other = place_of self.old.centre (other_of self.old.area) in
+            (log : AreaLog) → IsTrue (D.disk disks.old place).told
+            → IsInUse self.old log (D.disk disks.old place).bytes (D.may_leave disks.old place)
+            → OnOk result ((D.disk disks.new other).calls
+            ≡ with_calls (laid_calls self.old.spare (self.old.generation + 1) (payloads_of log)) (D.disk disks.old other).calls) }
+
+        ensures disk_fault { let place = place_of self.old.centre self.old.area in let other = place_of self.old.centre (other_of self.old.area) in
+            IsErrOf result LogFault.DiskFault
+            → RoseAtOne (D.disk disks.old place) (D.disk disks.new place) (D.disk disks.old other) (D.disk disks.new other) }
+        ensures full { IsErrOf result LogFault.LogFull ↔ ((log_limit < self.old.body + 26) ⊎ (self.old.generation ≡ 2 ^ 64 - 1)) }
+        ensures full_keeps { IsErrOf result LogFault.LogFull → disks.new ≡ disks.old }
+        ensures a_log { (n : ℕ) → IsErrOf result (LogFault.NotALog n) → IsTrue (D.disk disks.old (place_of self.old.centre self.old.area)).told → ⊥ }
+        ensures memory { IsErrOf result LogFault.Memory → ⊥ }
+    {
+        if self.generation == u64::MAX || self.body > LOG_LIMIT - 26 {
+            return Err(LogFault::LogFull);
+        }
+        let place = place_of(self.centre, self.area);
+        let area = other_of(self.area);
+        let other = place_of(self.centre, area);
+        let head = head_size(self.generation);
+        let whole = Whole {
+            place,
+            head,
+            start: self.start,
+            end: self.size - 1,
+            count: self.count,
+            tail: self.tail,
+            body: self.body,
+        };
+        write_copy(
+            disks,
+            whole,
+            self.generation + 1,
+            other,
+            self.spare,
+            &mut self.buffer,
+        )
+    }
+
+    /// Copies all payloads to the other area, packed, which is then the current one.
+    pub fn checkpoint<D: Disks>(&mut self, disks: &mut D) -> Result<(), LogFault>
+        requires settled { let place = place_of self.old.centre self.old.area in IsTrue (D.disk disks.old place).told
+            → IsSettled self.old (D.disk disks.old place).bytes (D.may_leave disks.old place) }
+        requires spare { let place = place_of self.old.centre (other_of self.old.area) in IsTrue (D.disk disks.old place).told
+            → IsSpare self.old (D.disk disks.old place).bytes (D.may_leave disks.old place) }
+
+        // At Ok the other area is the current one and has all payloads packed, and the one that was is as it was.
+        ensures packed { let place = place_of self.old.centre self.old.area in let other = place_of self.old.centre (other_of self.old.area) in
+            (log : AreaLog) → IsTrue (D.disk disks.old place).told → IsTrue (D.disk disks.old other).told
+            → IsInUse self.old log (D.disk disks.old place).bytes (D.may_leave disks.old place)
+            → OnOk result (IsInUse self.new (packed log) (D.disk disks.new other).bytes (D.may_leave disks.new other)) }
+        ensures spare { let place = place_of self.old.centre self.old.area in
+            (log : AreaLog) → IsTrue (D.disk disks.old place).told
+            → IsInUse self.old log (D.disk disks.old place).bytes (D.may_leave disks.old place)
+            → OnOk result (IsSpare self.new (D.disk disks.new place).bytes (D.may_leave disks.new place)) }
+        ensures areas { (self.new.centre ≡ self.old.centre) × ((self.new.every ≡ self.old.every)
+            × OnOk result ((self.new.area ≡ other_of self.old.area) × (self.new.tail ≡ 0))) }
+        ensures counts { OnOk result ((self.new.generation ≡ self.old.generation + 1) × (self.new.count ≡ self.old.count)) }
+        ensures fails { OnErr result (self.new ≡ self.old) }
+
+        // A crash at any moment of it leaves one area with all payloads, whatever stands in the other.
+        ensures any_moment { let place = place_of self.old.centre self.old.area in
+            (log : AreaLog) → IsTrue (D.disk disks.old place).told
+            → IsInUse self.old log (D.disk disks.old place).bytes (D.may_leave disks.old place)
+            → LeavesOnly D.moment D.left_since disks.old disks.new place (IsCurrent self.old.area log) }
+        ensures any_moment_other { let place = place_of self.old.centre self.old.area in let other = place_of self.old.centre (other_of self.old.area) in
+            (log : AreaLog) → IsTrue (D.disk disks.old place).told → IsTrue (D.disk disks.old other).told
+            → IsInUse self.old log (D.disk disks.old place).bytes (D.may_leave disks.old place)
+            → LeavesOnly D.moment D.left_since disks.old disks.new other (IsIdle log) }
+
+        // Opening then gives all payloads.
+        ensures any_moment_reads { let place = place_of self.old.centre self.old.area in let other = place_of self.old.centre (other_of self.old.area) in
+            (log : AreaLog) (current spare : List ℕ) → IsTrue (D.disk disks.old place).told → IsTrue (D.disk disks.old other).told
+            → IsInUse self.old log (D.disk disks.old place).bytes (D.may_leave disks.old place)
+            → D.left_since disks.new place (D.moment disks.old) current → D.left_since disks.new other (D.moment disks.old) spare
+            → payloads_by self.old.area current spare ≡ Ok (payloads_of log) }
+
+        ensures others { KeepsBut D.disk D.may_leave D.moment D.left_since disks.old disks.new
+            (place_of self.old.centre self.old.area) (place_of self.old.centre (other_of self.old.area)) }
+        ensures reads { let place = place_of self.old.centre self.old.area in
+            IsOnlyRead D.disk D.may_leave D.moment D.left_since disks.old disks.new place }
+        ensures calls { let place = place_of self.old.centre self.old.area in let other = place_of self.old.centre (other_of self.old.area) in
+            (log : AreaLog) → IsTrue (D.disk disks.old place).told
+            → IsInUse self.old log (D.disk disks.old place).bytes (D.may_leave disks.old place)
+            → MadeSome (checkpoint_calls self.old.spare (self.old.generation + 1) (payloads_of log)) (D.disk disks.old other).calls (D.disk disks.new other).calls }
+        ensures all_calls { let place = place_of self.old.centre self.old.area in let other = place_of self.old.centre (other_of self.old.area) in
+            (log : AreaLog) → IsTrue (D.disk disks.old place).told
+            → IsInUse self.old log (D.disk disks.old place).bytes (D.may_leave disks.old place)
+            → OnOk result ((D.disk disks.new other).calls
+            ≡ with_calls (checkpoint_calls self.old.spare (self.old.generation + 1) (payloads_of log)) (D.disk disks.old other).calls) }
+
+        ensures disk_fault { let place = place_of self.old.centre self.old.area in let other = place_of self.old.centre (other_of self.old.area) in
+            IsErrOf result LogFault.DiskFault
+            → RoseAtOne (D.disk disks.old place) (D.disk disks.new place) (D.disk disks.old other) (D.disk disks.new other) }
+        // It is full where the other area would pass 2^30 bytes; and behind the last generation there is none.
+        ensures full { IsErrOf result LogFault.LogFull ↔ ((log_limit < self.old.body + 26) ⊎ (self.old.generation ≡ 2 ^ 64 - 1)) }
+        ensures full_keeps { IsErrOf result LogFault.LogFull → disks.new ≡ disks.old }
+        ensures a_log { (n : ℕ) → IsErrOf result (LogFault.NotALog n) → IsTrue (D.disk disks.old (place_of self.old.centre self.old.area)).told → ⊥ }
+        ensures memory { IsErrOf result LogFault.Memory → ⊥ }
+    {
+        let other = self.spare_place();
+        let end = self.lay_copy(disks)?;
+        open_area(disks, other)?;
+        self.spare = left_area(self.generation, self.size);
+        self.area = other_of(self.area);
+        self.generation += 1;
+        self.start = end;
+        self.tail = 0;
+        self.body = end - 25;
+        self.size = end + 1;
         Ok(())
+    }
+}
+
+// The area that this one is not.
+pub(crate) fn other_of(area: u8) -> u8
+    ensures value { result ≡ other_of area }
+    ensures range { result ≤ 1 }
+{
+    if area == 0 { 1 } else { 0 }
+}
+
+// How many bytes stand before the records.
+pub(crate) fn head_size(generation: u64) -> u64
+    ensures { result ≡ head_size generation }
+{
+    if generation == 0 { 8 } else { 25 }
+}
+
+// What is known of the area that was in use before a checkpoint.
+fn left_area(generation: u64, size: u64) -> Spare
+    ensures { result ≡ left_area generation size }
+{
+    if size <= 9 {
+        Spare::Short
+    } else {
+        Spare::Long {
+            closed: false,
+            marked: generation != 0,
+        }
     }
 }

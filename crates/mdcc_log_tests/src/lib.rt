@@ -1,5 +1,9 @@
-//! Tests of the log on disks in memory: each device call fails or crashes in turn.
+//! Tests of the log on disks in memory that fail and crash in each call.
 #![tactic(auto)]
 
 #[cfg(test)]
-mod log;
+mod areas;
+#[cfg(test)]
+mod groups;
+#[cfg(test)]
+mod openings;

@@ -5,16 +5,16 @@ use Rattle.std.proofs.lemmas.Bool.{false≢true}
 use Rattle.std.proofs.lemmas.Bool.Decides.{eqb_tells, nat_tests}
 use Rattle.mdcc_base.specs.declared.outside.Image.{Image}
 use Rattle.mdcc_base.specs.declared.outside.Image.TheVariants.{Kept, Lost, Torn}
-use Rattle.mdcc_areas.proofs.Rooms.{full_by_length}
-use Rattle.mdcc_areas.specs.Area.{payloads, payloads_of, read_areas}
-use Rattle.mdcc_areas.specs.AtRest.{IsAtRest}
-use Rattle.mdcc_areas.specs.Both.{KeepsBut}
-use Rattle.mdcc_areas.specs.Crash.{ReadsAsEither, payloads_by}
-use Rattle.mdcc_areas.specs.Frames.{IsSettled, IsSpare, OpenAreas, other_of, place_of}
-use Rattle.mdcc_areas.specs.Room.{HasGrown, IsFull, IsRoomyLog}
+use Rattle.mdcc_log.proofs.Rooms.{full_by_length}
+use Rattle.mdcc_log.specs.Area.{payloads, payloads_of, read_areas}
+use Rattle.mdcc_log.specs.AtRest.{IsAtRest}
+use Rattle.mdcc_log.specs.Both.{KeepsBut}
+use Rattle.mdcc_log.specs.Crash.{ReadsAsEither, payloads_by}
+use Rattle.mdcc_log.specs.Frames.{IsSettled, IsSpare, OpenAreas, other_of, place_of}
+use Rattle.mdcc_log.specs.Room.{HasGrown, IsFull, IsRoomyLog}
 use Rattle.mdcc_disks.specs.Contents.{Contents, IsImage, durable, image_of}
 use Rattle.mdcc_disks.specs.Memory.{AllMemory, CrashLeaves, IsBut, KeepsPlaces, at_place, counts_now_of, crashed, disk_of, left_since_of, may_leave_of, moment_of, standing}
-use Rattle.mdcc_log.specs.Log.{log_bytes, log_limit}
+use Rattle.mdcc_log_file.specs.Log.{log_bytes, log_limit}
 use Rattle.mdcc_logs.proofs.Payloads.{log-more}
 use Rattle.mdcc_logs.proofs.Refusals.{leaves-here}
 use Rattle.mdcc_logs.proofs.Standing.{IsDurableAt, IsSame, both-same, cond-here, cond-there, elsewhere, log-here, log-same, log-stays, log-there, logs-with, others-same, put, rests, same-areas, standing-same, there-same}

@@ -5,18 +5,18 @@ use Rattle.std.proofs.lemmas.Bool.Decides.{nat_tests}
 use Rattle.std.proofs.lemmas.List.{length-set}
 use Rattle.mdcc_base.specs.declared.outside.Image.{Image}
 use Rattle.mdcc_base.specs.declared.outside.Image.TheVariants.{Kept, Lost, Torn}
-use Rattle.mdcc_areas.proofs.Choice.{appended_payloads, packed_payloads}
-use Rattle.mdcc_areas.specs.Area.{AreaLog, area_bytes, payloads_of, read_areas}
-use Rattle.mdcc_areas.specs.AtRest.{IsAtRest}
-use Rattle.mdcc_areas.specs.Both.{KeepsBut}
-use Rattle.mdcc_areas.specs.Crash.{IsCurrent, IsLog}
-use Rattle.mdcc_areas.specs.Frames.{IsInUse, OpenAreas, appended, other_of, packed, place_of}
-use Rattle.mdcc_areas.specs.Stopping.{IsStoppedCopy, StoppedIsRead, StoppedIsRoomy, is_copy_kept, stopped_log}
-use Rattle.mdcc_areas.specs.Tails.{read_by}
+use Rattle.mdcc_log.proofs.Choice.{appended_payloads, packed_payloads}
+use Rattle.mdcc_log.specs.Area.{AreaLog, area_bytes, payloads_of, read_areas}
+use Rattle.mdcc_log.specs.AtRest.{IsAtRest}
+use Rattle.mdcc_log.specs.Both.{KeepsBut}
+use Rattle.mdcc_log.specs.Crash.{IsCurrent, IsLog}
+use Rattle.mdcc_log.specs.Frames.{IsInUse, OpenAreas, appended, other_of, packed, place_of}
+use Rattle.mdcc_log_stops.specs.Stops.{IsStoppedCopy, StoppedIsRead, StoppedIsRoomy, is_copy_kept, stopped_log}
+use Rattle.mdcc_log.specs.Tails.{read_by}
 use Rattle.mdcc_disks.specs.Contents.{Contents, durable, image_of}
 use Rattle.mdcc_disks.specs.Memory.{AllMemory, CrashLeaves, IsBut, KeepsPlaces, at_place, crashed, disk_of, is_there, left_since_of, may_leave_of, moment_of, standing}
-use Rattle.mdcc_log.proofs.LogRead.{short_more}
-use Rattle.mdcc_log.specs.Log.{payload_limit}
+use Rattle.mdcc_log_file.proofs.LogRead.{short_more}
+use Rattle.mdcc_log_file.specs.Log.{payload_limit}
 use Rattle.mdcc_logs.proofs.Calls.{centre-is, crash-here, rest-there, roomy-there, tail-there}
 use Rattle.mdcc_logs.proofs.Standing.{IsDurableAt, IsSame, both-same, cond-here, cond-there, elsewhere, log-there, logs-with, others-same, standing-same, there-same}
 use Rattle.mdcc_logs.proofs.Stops.{only-these}

@@ -6,13 +6,13 @@ use Rattle.mdcc_base.specs.declared.outside.Image.TheVariants.{Kept, Lost, Torn}
 use Rattle.mdcc_disks.specs.Contents.{Contents, IsImage, done, durable, image_of, overwritten}
 use Rattle.mdcc_disks.specs.Disks.DiskCall.{Sync, Write}
 use Rattle.mdcc_disks.specs.Disks.{Within}
-use Rattle.mdcc_log.proofs.Bytes.{end_written, one_written}
-use Rattle.mdcc_areas.proofs.Choice.{appended_front}
-use Rattle.mdcc_areas.specs.Append.{MayAppend}
-use Rattle.mdcc_areas.specs.Area.{AreaLog, front_of}
-use Rattle.mdcc_areas.specs.Frames.{appended}
-use Rattle.mdcc_log.specs.Frames.{append_calls}
-use Rattle.mdcc_log.specs.Log.{frame_body}
+use Rattle.mdcc_log_file.proofs.Bytes.{end_written, one_written}
+use Rattle.mdcc_log.proofs.Choice.{appended_front}
+use Rattle.mdcc_log_file.specs.Append.{MayAppend}
+use Rattle.mdcc_log.specs.Area.{AreaLog, front_of}
+use Rattle.mdcc_log.specs.Frames.{appended}
+use Rattle.mdcc_log_file.specs.Calls.{append_calls}
+use Rattle.mdcc_log_file.specs.Log.{frame_body}
 use Rattle.mdcc_logs.specs.Stopping.{stopped_at}
 use Rattle.mdcc_simulation.specs.Checkpoints.{is_frame_kept}
 

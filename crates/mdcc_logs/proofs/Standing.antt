@@ -2,12 +2,12 @@
 use Rattle.std.proofs.Common.{◌≡◌, ◌≢◌, ◌⊎◌, inl, inr, ◌+◌, ◌-◌, ◌≤◌, ◌<◌, ◌==◌, ◌&&◌, ◌∷◌, Bool, List, ap, arith, cond, get_or, length, nat_le, refl, set, subst, sym, true, ℕ, ◌∙◌}
 use Rattle.std.proofs.lemmas.Bool.Decides.{eqb_tells}
 use Rattle.std.proofs.lemmas.List.{get_or-set_other, get_or-set_same, get_or_read, length-set}
-use Rattle.mdcc_areas.specs.Area.{AreaLog, read_areas}
-use Rattle.mdcc_areas.specs.AtRest.{IsAtRest}
-use Rattle.mdcc_areas.specs.Both.{KeepsBut}
-use Rattle.mdcc_areas.specs.Crash.{IsDead, IsOlder}
-use Rattle.mdcc_areas.specs.Frames.{IsInUse, IsSpare, OpenAreas, other_of, place_of, spare_of}
-use Rattle.mdcc_areas.specs.Room.{IsRoomy}
+use Rattle.mdcc_log.specs.Area.{AreaLog, read_areas}
+use Rattle.mdcc_log.specs.AtRest.{IsAtRest}
+use Rattle.mdcc_log.specs.Both.{KeepsBut}
+use Rattle.mdcc_log.specs.Crash.{IsDead, IsOlder}
+use Rattle.mdcc_log.specs.Frames.{IsInUse, IsSpare, OpenAreas, other_of, place_of, spare_of}
+use Rattle.mdcc_log.specs.Room.{IsRoomy}
 use Rattle.mdcc_disks.specs.Contents.{Contents, IsImage}
 use Rattle.mdcc_disks.specs.Disks.{Only, Within}
 use Rattle.mdcc_disks.specs.Memory.{AllMemory, at_place, disk_of, is_there, left_since_of, may_leave_of, moment_of, standing}

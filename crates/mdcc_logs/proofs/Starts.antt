@@ -6,15 +6,15 @@ use Rattle.std.proofs.lemmas.Bool.Decides.{nat_tests}
 use Rattle.mdcc_admission.proofs.Alike.{counted_boots}
 use Rattle.mdcc_admission.specs.Loading.{Holds}
 use Rattle.mdcc_disks.specs.Contents.{tears_of}
-use Rattle.mdcc_areas.specs.AtRest.{IsAtRest}
-use Rattle.mdcc_areas.specs.Area.{AreaLog, payloads, read_areas}
-use Rattle.mdcc_areas.specs.Both.{KeepsBut}
-use Rattle.mdcc_areas.specs.Frames.{OpenAreas}
-use Rattle.mdcc_areas.specs.Crash.{ReadsAsEither}
-use Rattle.mdcc_areas.specs.declared.fault.LogFault.{LogFault}
+use Rattle.mdcc_log.specs.AtRest.{IsAtRest}
+use Rattle.mdcc_log.specs.Area.{AreaLog, payloads, read_areas}
+use Rattle.mdcc_log.specs.Both.{KeepsBut}
+use Rattle.mdcc_log.specs.Frames.{OpenAreas}
+use Rattle.mdcc_log.specs.Crash.{ReadsAsEither}
+use Rattle.mdcc_log_file.specs.declared.fault.LogFault.{LogFault}
 use Rattle.mdcc_disks.specs.Disks.{Only}
 use Rattle.mdcc_disks.specs.Memory.{AllMemory, counts_now_of, disk_of, is_there, left_since_of, may_leave_of, moment_of}
-use Rattle.mdcc_log.specs.Log.{log_limit}
+use Rattle.mdcc_log_file.specs.Log.{log_limit}
 use Rattle.mdcc_restart.proofs.Logged.{logged-length}
 use Rattle.mdcc_restart.proofs.Places.{from_both}
 use Rattle.mdcc_restart.proofs.Roomy.{roomy_log}

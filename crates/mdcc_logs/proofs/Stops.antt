@@ -2,19 +2,19 @@
 use Rattle.std.proofs.Common.{◌≡◌, ◌≢◌, ◌⊎◌, ⊎_elim, ◌+◌, ◌-◌, ◌≤◌, ◌∷◌, ◌++◌, [], Bool, List, Ok, ap, arith, cond, false, inl, inr, length, length-append, refl, subst, suc, sym, true, zero, ℕ, ◌∙◌}
 use Rattle.std.proofs.lemmas.Bool.{false≢true}
 use Rattle.mdcc_base.specs.declared.outside.Image.{Image}
-use Rattle.mdcc_areas.proofs.Choice.{Other, Seen, appended_payloads, between_is_read, front_is_read, front_seen}
-use Rattle.mdcc_areas.specs.Append.{MayAppend}
-use Rattle.mdcc_areas.specs.Area.{AreaLog, front_of, generation_of, payloads, payloads_of, read_area}
-use Rattle.mdcc_areas.specs.AtRest.{IsAtRest}
-use Rattle.mdcc_areas.specs.Crash.{IsBetween, IsDead, IsIdle, IsLog, IsOlder, ReadsAsEither, payloads_by}
-use Rattle.mdcc_areas.specs.Frames.{IsInUse, IsSpare, OpenAreas, appended, other_of, place_of}
-use Rattle.mdcc_areas.specs.Room.{IsRoomyLog}
+use Rattle.mdcc_log.proofs.Choice.{Other, Seen, appended_payloads, between_is_read, front_is_read, front_seen}
+use Rattle.mdcc_log_file.specs.Append.{MayAppend}
+use Rattle.mdcc_log.specs.Area.{AreaLog, front_of, generation_of, payloads, payloads_of, read_area}
+use Rattle.mdcc_log.specs.AtRest.{IsAtRest}
+use Rattle.mdcc_log.specs.Crash.{IsBetween, IsDead, IsIdle, IsLog, IsOlder, ReadsAsEither, payloads_by}
+use Rattle.mdcc_log.specs.Frames.{IsInUse, IsSpare, OpenAreas, appended, other_of, place_of}
+use Rattle.mdcc_log.specs.Room.{IsRoomyLog}
 use Rattle.mdcc_disks.specs.Contents.{Contents, IsImage, durable, image_of}
 use Rattle.mdcc_disks.specs.Disks.{Only, Within}
 use Rattle.mdcc_disks.specs.Memory.{AllMemory, at_place, disk_of, is_there, may_leave_of, standing}
-use Rattle.mdcc_log.proofs.LogRead.{short_more}
-use Rattle.mdcc_log.specs.Frames.{append_calls}
-use Rattle.mdcc_log.specs.Log.{payload_limit}
+use Rattle.mdcc_log_file.proofs.LogRead.{short_more}
+use Rattle.mdcc_log_file.specs.Calls.{append_calls}
+use Rattle.mdcc_log_file.specs.Log.{payload_limit}
 use Rattle.mdcc_logs.proofs.Calls.{centre-is, crash-here, rest-there, roomy-there, stays-durable, tail-there}
 use Rattle.mdcc_logs.proofs.Made.{all-durable}
 use Rattle.mdcc_logs.proofs.Refusals.{leaves-here}

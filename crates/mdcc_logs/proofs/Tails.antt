@@ -4,10 +4,10 @@ use Rattle.std.proofs.lemmas.Bool.{cases_Bool, le-leb, leb-true}
 use Rattle.std.proofs.lemmas.Bool.Decides.{nat_tests}
 use Rattle.mdcc_base.specs.declared.outside.Image.{Image}
 use Rattle.mdcc_base.specs.declared.outside.Image.TheVariants.{Kept, Lost, Torn}
-use Rattle.mdcc_areas.specs.Area.{AreaLog, read_areas}
-use Rattle.mdcc_areas.specs.Frames.{OpenAreas}
-use Rattle.mdcc_areas.specs.Room.{HasGrown}
-use Rattle.mdcc_areas.specs.Tails.{tail_after as area_tail_after}
+use Rattle.mdcc_log.specs.Area.{AreaLog, read_areas}
+use Rattle.mdcc_log.specs.Frames.{OpenAreas}
+use Rattle.mdcc_log.specs.Room.{HasGrown}
+use Rattle.mdcc_log.specs.Tails.{tail_after as area_tail_after}
 use Rattle.mdcc_disks.specs.Memory.{disk_of, may_leave_of}
 use Rattle.mdcc_logs.proofs.Standing.{AreSame}
 use Rattle.mdcc_logs.specs.Represents.{IsOpenLogOf, log_at}

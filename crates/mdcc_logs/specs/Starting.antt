@@ -2,9 +2,9 @@
 use Rattle.std.specs.Prelude.{◌≡◌, ◌≤◌, ◌+◌, ◌<◌, ◌∷◌, [], Bool, Err, List, Ok, Result, nat_lt, true, false, ℕ, ⊤}
 use Rattle.mdcc_admission.specs.Loading.{Cells}
 use Rattle.mdcc_base.specs.declared.faults.Memory.{Memory}
-use Rattle.mdcc_areas.specs.declared.fault.LogFault.{LogFault}
+use Rattle.mdcc_log_file.specs.declared.fault.LogFault.{LogFault}
 use Rattle.mdcc_disks.specs.Memory.{AllMemory, disk_of, is_there, may_leave_of}
-use Rattle.mdcc_log.specs.Log.{log_limit}
+use Rattle.mdcc_log_file.specs.Log.{log_limit}
 use Rattle.mdcc_logs.specs.Nodes.{CentreStore, IsNodeOf, are_stored, spare_of}
 use Rattle.mdcc_logs.specs.Represents.{LogsRepresent, with_fact_at}
 use Rattle.mdcc_logs.specs.Tails.{tail_at}

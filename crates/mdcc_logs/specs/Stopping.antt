@@ -4,7 +4,7 @@ use Rattle.mdcc_base.specs.declared.outside.Image.{Image}
 use Rattle.mdcc_disks.specs.Contents.{Contents, done, durable, image_of}
 use Rattle.mdcc_disks.specs.Disks.{DiskCall}
 use Rattle.mdcc_disks.specs.Memory.{AllMemory, at_place, standing}
-use Rattle.mdcc_log.specs.Frames.{append_calls}
+use Rattle.mdcc_log_file.specs.Calls.{append_calls}
 use Rattle.mdcc_logs.specs.Represents.{with_fact_at}
 use Rattle.mdcc_messages.specs.Spelling.{fact_bytes}
 use Rattle.mdcc_messages.specs.declared.facts.Fact.{Fact}

@@ -10,10 +10,10 @@ ghost use Rattle.mdcc_simulation.specs.Checkpoints.{is_due_after, tail_stopped};
 
 use crate::Logs;
 use crate::rooms::reserve_append;
-use mdcc_areas::{stopped_is_read, stopped_is_roomy};
 use mdcc_base::{Centre, Image, Memory};
 use mdcc_disks::crash_leaves_the_image;
 use mdcc_journal::counts::well_formed_facts_have_counts;
+use mdcc_log_stops::{append_due_until, stopped_is_read, stopped_is_roomy};
 use mdcc_messages::Fact;
 use mdcc_restart::payload_of;
 use std::alloc::Global;
@@ -56,7 +56,7 @@ impl Logs {
             centre,
             payload.len() as u64,
         )?;
-        match self.open[index].append_due_until(&mut self.disks, &payload, call - 4) {
+        match append_due_until(&mut self.open[index], &mut self.disks, &payload, call - 4) {
             Ok(()) => {
                 self.disks.crash(place, image);
                 self.disks.crash(place + 16, image);

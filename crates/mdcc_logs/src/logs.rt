@@ -1,13 +1,13 @@
 //! The logs of the centres.
 ghost use Rattle.std.specs.Prelude.{◌≡◌, ◌≤◌, ◌<◌, ◌+◌, ◌-◌, ◌^◌, ◌∷◌, ◌++◌, [], Bool, List, ℕ, false, length, nat_lt, IfOk, IsTrue, OnErr, OnOk, true};
-ghost use Rattle.mdcc_areas.specs.Area.{AreaLog};
-ghost use Rattle.mdcc_areas.specs.AtRest.{IsAtRest};
-ghost use Rattle.mdcc_areas.specs.Both.{KeepsBut};
-ghost use Rattle.mdcc_areas.specs.Crash.{ReadsAsEither, payloads_by};
-ghost use Rattle.mdcc_areas.specs.Frames.{IsSettled, IsSpare, other_of, place_of};
-ghost use Rattle.mdcc_areas.specs.Room.{HasGrown};
+ghost use Rattle.mdcc_log.specs.Area.{AreaLog};
+ghost use Rattle.mdcc_log.specs.AtRest.{IsAtRest};
+ghost use Rattle.mdcc_log.specs.Both.{KeepsBut};
+ghost use Rattle.mdcc_log.specs.Crash.{ReadsAsEither, payloads_by};
+ghost use Rattle.mdcc_log.specs.Frames.{IsSettled, IsSpare, other_of, place_of};
+ghost use Rattle.mdcc_log.specs.Room.{HasGrown};
 ghost use Rattle.mdcc_disks.specs.Memory.{IsBut, at_place, crashed, disk_of, may_leave_of, moment_of, left_since_of};
-ghost use Rattle.mdcc_log.specs.Log.{log_limit, payload_limit};
+ghost use Rattle.mdcc_log_file.specs.Log.{log_limit, payload_limit};
 ghost use Rattle.mdcc_logs.specs.Represents.{IsOpenAt, LogsRepresent, MayHave, with_fact_at, with_up};
 ghost use Rattle.mdcc_logs.specs.Starting.{OnLack, Starts};
 ghost use Rattle.mdcc_protocol.specs.Belongs.{is_centre};
@@ -23,11 +23,11 @@ ghost use Rattle.mdcc_simulation.specs.Checkpoints.{is_due_after, tail_after};
 
 use crate::rooms::{reserve_append, reserve_start};
 use crate::starting::{Attempt, Started, start};
-use mdcc_areas::Frames;
 use mdcc_base::{Centre, Image, Memory};
 use mdcc_disks::{MemoryDisks, crash_leaves_the_image};
 use mdcc_journal::counts::well_formed_facts_have_counts;
 use mdcc_journal::fact_length;
+use mdcc_log::Frames;
 use mdcc_messages::Fact;
 use mdcc_option::Cluster;
 use mdcc_restart::{Restarted, append_fact};

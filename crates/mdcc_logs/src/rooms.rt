@@ -2,9 +2,9 @@
 ghost use Rattle.std.specs.Prelude.{◌≡◌, ◌≤◌};
 ghost use Rattle.mdcc_logs.specs.Represents.{HoldSame};
 
-use mdcc_areas::Frames;
 use mdcc_base::{Centre, Memory};
 use mdcc_disks::MemoryDisks;
+use mdcc_log::Frames;
 
 // More payloads than a log has.
 const MANY: u64 = 1 << 30;

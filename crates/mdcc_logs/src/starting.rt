@@ -1,8 +1,8 @@
 //! The start of one centre.
 ghost use Rattle.std.specs.Prelude.{◌≡◌, ◌<◌, ◌≤◌, ◌-◌, ◌+◌, ◌^◌, IsTrue, List, Ok, length, true, ℕ};
-ghost use Rattle.mdcc_areas.specs.Area.{AreaLog, payloads, read_areas};
-ghost use Rattle.mdcc_areas.specs.Both.{KeepsBut};
-ghost use Rattle.mdcc_areas.specs.Crash.{ReadsAsEither};
+ghost use Rattle.mdcc_log.specs.Area.{AreaLog, payloads, read_areas};
+ghost use Rattle.mdcc_log.specs.Both.{KeepsBut};
+ghost use Rattle.mdcc_log.specs.Crash.{ReadsAsEither};
 ghost use Rattle.mdcc_disks.specs.Disks.{Only};
 ghost use Rattle.mdcc_disks.specs.Memory.{disk_of, may_leave_of, moment_of, left_since_of};
 ghost use Rattle.mdcc_logs.specs.Starting.{OnNone, RunsWithTail, StartsOver, lacking};
@@ -16,10 +16,10 @@ ghost use Rattle.mdcc_restart.specs.Restarting.{HasRoom, IsLogOf};
 ghost use Rattle.mdcc_rules.specs.Boot.{next_boot};
 ghost use Rattle.mdcc_simulation.specs.Checkpoints.{checkpoint_every};
 
-use mdcc_areas::LogFault;
 use mdcc_base::{Centre, Memory, Plain};
 use mdcc_disks::MemoryDisks;
 use mdcc_index::PoolFacts;
+use mdcc_log::LogFault;
 use mdcc_node::Node;
 use mdcc_option::Cluster;
 use mdcc_restart::{BootFault, RestartFault, Restarted, restart};

@@ -1,13 +1,13 @@
 //! Appends that stop inside a device call of their own, or of the checkpoint behind them.
 ghost use Rattle.std.specs.Prelude.{◌≡◌, ◌≢◌, ◌≤◌, ◌-◌, ◌∷◌, ◌++◌, ◌⊎◌, [], Bool, IfOk, IsTrue, List, OnErr, OnOk, false, length, true, ℕ};
-ghost use Rattle.mdcc_areas.specs.Append.{MayAppend};
-ghost use Rattle.mdcc_areas.specs.Frames.{other_of, place_of};
+ghost use Rattle.mdcc_log_file.specs.Append.{MayAppend};
+ghost use Rattle.mdcc_log.specs.Frames.{other_of, place_of};
 ghost use Rattle.mdcc_disks.specs.Contents.{done, durable, image_of};
 ghost use Rattle.mdcc_disks.specs.Disks.{Within};
 ghost use Rattle.mdcc_disks.specs.Disks.DiskCall.{Sync, Write};
 ghost use Rattle.mdcc_disks.specs.Memory.{KeepsPlaces, at_place, disk_of, may_leave_of, standing};
-ghost use Rattle.mdcc_log.specs.Frames.{append_calls};
-ghost use Rattle.mdcc_log.specs.Log.{frame_body};
+ghost use Rattle.mdcc_log_file.specs.Calls.{append_calls};
+ghost use Rattle.mdcc_log_file.specs.Log.{frame_body};
 ghost use Rattle.mdcc_logs.specs.Represents.{IsOpenAt, LogsRepresent, MayHave, log_at, with_up};
 ghost use Rattle.mdcc_logs.specs.Stopping.{HoldBut, IsStruck, stopped_at, stopped_facts};
 ghost use Rattle.mdcc_logs.specs.Tails.{HasTail, tail_at};

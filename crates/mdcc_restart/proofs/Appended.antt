@@ -1,12 +1,12 @@
 -- What a crash leaves where nothing was appended, and what is read of it.
 use Rattle.std.proofs.Common.{◌≡◌, inl, inr, ⊎_elim, ℕ, List, [], OnOk, Result, Ok, Err, sym, subst}
 use Rattle.mdcc_disks.specs.Disks.{Disk, LeavesOnly}
-use Rattle.mdcc_log.proofs.Moments.{started}
-use Rattle.mdcc_areas.proofs.Dues.{mixed_read}
-use Rattle.mdcc_areas.specs.Area.{AreaLog, generation_of}
-use Rattle.mdcc_areas.specs.AtRest.{IsAtRest, MayBeDue}
-use Rattle.mdcc_areas.specs.Crash.{IsCurrent, IsDead, IsIdle, IsOlder, ReadsAsEither, payloads_by}
-use Rattle.mdcc_areas.specs.Frames.{IsInUse, IsSpare, OpenAreas, appended, other_of, place_of}
+use Rattle.mdcc_log_file.proofs.Moments.{started}
+use Rattle.mdcc_log.proofs.Dues.{mixed_read}
+use Rattle.mdcc_log.specs.Area.{AreaLog, generation_of}
+use Rattle.mdcc_log.specs.AtRest.{IsAtRest, MayBeDue}
+use Rattle.mdcc_log.specs.Crash.{IsCurrent, IsDead, IsIdle, IsOlder, ReadsAsEither, payloads_by}
+use Rattle.mdcc_log.specs.Frames.{IsInUse, IsSpare, OpenAreas, appended, other_of, place_of}
 
 pub on_ok_any : {T E : Type 0} (result : Result T E) (P : Type 0) → P → OnOk result P
 on_ok_any (Ok x) P p = p

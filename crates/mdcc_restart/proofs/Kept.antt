@@ -1,13 +1,13 @@
 -- What a restart leaves of its log after a refusal.
 use Rattle.std.proofs.Common.{◌≡◌, inl, inr, ⊎_elim, ℕ, ◌+◌, ◌≤◌, List, [], IfErr, IsErrOf, Result, Err, Ok, refl, sym, ◌∙◌, ap, subst}
 use Rattle.mdcc_disks.specs.Disks.{Disk}
-use Rattle.mdcc_areas.proofs.Choice.{current_is_read}
-use Rattle.mdcc_areas.specs.Area.{payloads}
-use Rattle.mdcc_areas.specs.AtRest.{IsAtRest}
-use Rattle.mdcc_areas.specs.Crash.{IsCurrent, IsIdle, IsOlder, payloads_by}
-use Rattle.mdcc_areas.specs.Frames.{OpenAreas, other_of, place_of}
-use Rattle.mdcc_areas.specs.declared.fault.LogFault.{LogFault}
-use Rattle.mdcc_areas.specs.Opening.{IsOpened}
+use Rattle.mdcc_log.proofs.Choice.{current_is_read}
+use Rattle.mdcc_log.specs.Area.{payloads}
+use Rattle.mdcc_log.specs.AtRest.{IsAtRest}
+use Rattle.mdcc_log.specs.Crash.{IsCurrent, IsIdle, IsOlder, payloads_by}
+use Rattle.mdcc_log.specs.Frames.{OpenAreas, other_of, place_of}
+use Rattle.mdcc_log_file.specs.declared.fault.LogFault.{LogFault}
+use Rattle.mdcc_log.specs.Opening.{IsOpened}
 use Rattle.mdcc_restart.proofs.Places.{from_places}
 use Rattle.mdcc_restart.proofs.Roomy.{roomy_log}
 use Rattle.mdcc_restart.proofs.Struck.{rest_areas}

@@ -5,7 +5,7 @@ use Rattle.std.proofs.lemmas.List.Concat.{flat_map-append}
 use Rattle.std.specs.List.{AllByRecursion, flat_map}
 use Rattle.mdcc_admission.specs.Loading.{fact_in, fact_read}
 use Rattle.mdcc_base.specs.Counts.{sum_over}
-use Rattle.mdcc_log.specs.Log.{frame_bytes, log_bytes, log_mark}
+use Rattle.mdcc_log_file.specs.Log.{frame_bytes, log_bytes, log_mark}
 use Rattle.mdcc_spelling.proofs.Lengths.{length-fact}
 use Rattle.mdcc_messages.specs.Lengths.{frame_length, log_length}
 use Rattle.mdcc_messages.specs.Spelling.{fact_bytes, encodings_of}

@@ -1,7 +1,7 @@
 -- What the faults of a log are called at a restart.
 use Rattle.std.proofs.Common.{◌≡◌, ◌≤◌, ℕ, arith, refl}
 use Rattle.mdcc_base.specs.Causes.{Rose}
-use Rattle.mdcc_areas.specs.declared.fault.LogFault.{LogFault}
+use Rattle.mdcc_log_file.specs.declared.fault.LogFault.{LogFault}
 use Rattle.mdcc_restart.specs.Faults.{of_log}
 use Rattle.mdcc_restart.specs.declared.fault.RestartFault.{RestartFault}
 use Rattle.mdcc_rules.specs.declared.node.BootFault.{BootFault}

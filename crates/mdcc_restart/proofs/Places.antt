@@ -1,6 +1,6 @@
 -- Both areas of a centre.
 use Rattle.std.proofs.Common.{◌≡◌, ℕ, zero, suc, ◌+◌, ◌≤◌, sym, subst, arith}
-use Rattle.mdcc_areas.specs.Frames.{other_of, place_of}
+use Rattle.mdcc_log.specs.Frames.{other_of, place_of}
 
 pub by_area : (P : ℕ → Type 0) → P 0 → P 1 → (area : ℕ) → area ≤ 1 → P area
 by_area P first second zero range = first

@@ -1,11 +1,11 @@
 -- Whether the next boot lies within the limit of its log.
 use Rattle.std.proofs.Common.{◌≡◌, ℕ, ◌+◌, ◌<◌, ◌≤◌, List, Ok, Result, length, sym, ◌∙◌, subst}
 use Rattle.mdcc_disks.specs.Disks.{Disk}
-use Rattle.mdcc_areas.proofs.Rooms.{full_by_length, roomy_grows}
-use Rattle.mdcc_areas.specs.Area.{AreaLog, payloads_of, read_areas}
-use Rattle.mdcc_areas.specs.Frames.{IsInUse, OpenAreas}
-use Rattle.mdcc_areas.specs.Room.{HasGrown, IsFull, IsRoomy, IsRoomyLog}
-use Rattle.mdcc_log.specs.Log.{log_bytes, log_limit}
+use Rattle.mdcc_log.proofs.Rooms.{full_by_length, roomy_grows}
+use Rattle.mdcc_log.specs.Area.{AreaLog, payloads_of, read_areas}
+use Rattle.mdcc_log.specs.Frames.{IsInUse, OpenAreas}
+use Rattle.mdcc_log.specs.Room.{HasGrown, IsFull, IsRoomy, IsRoomyLog}
+use Rattle.mdcc_log_file.specs.Log.{log_bytes, log_limit}
 use Rattle.mdcc_messages.specs.declared.facts.Fact.{Fact}
 use Rattle.mdcc_restart.proofs.Starts.{lies-past, lies-within}
 use Rattle.mdcc_restart.specs.Restarting.{HasRoom, size_with_boot}

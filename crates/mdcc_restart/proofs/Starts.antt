@@ -4,10 +4,10 @@ use Rattle.std.proofs.lemmas.Bool.{and_parts, leb-false, leb-true}
 use Rattle.mdcc_admission.specs.Loading.{Cells, boot_by, cells_with, fact_read, is_past, past_fault}
 use Rattle.mdcc_base.specs.Counts.{sum_over}
 use Rattle.mdcc_disks.specs.Disks.{Disk}
-use Rattle.mdcc_areas.specs.Area.{payloads}
-use Rattle.mdcc_areas.specs.Crash.{ReadsAsEither}
-use Rattle.mdcc_log.specs.Log.{log_bytes, log_limit}
-use Rattle.mdcc_areas.specs.declared.fault.LogFault.{LogFault}
+use Rattle.mdcc_log.specs.Area.{payloads}
+use Rattle.mdcc_log.specs.Crash.{ReadsAsEither}
+use Rattle.mdcc_log_file.specs.Log.{log_bytes, log_limit}
+use Rattle.mdcc_log_file.specs.declared.fault.LogFault.{LogFault}
 use Rattle.mdcc_node.specs.BootEffects.{Boots, IsBoot}
 use Rattle.mdcc_node.specs.Represents.{RepresentsCentre}
 use Rattle.mdcc_node.specs.declared.node.Node.{Node}

@@ -2,15 +2,15 @@
 use Rattle.std.proofs.Common.{◌≡◌, ◌⊎◌, inl, inr, ⊎_elim, ℕ, ◌+◌, ◌≤◌, List, [], Ok, Result, refl, ◌∙◌, ap, subst, arith}
 use Rattle.std.specs.Prelude.{IsTrue}
 use Rattle.mdcc_disks.specs.Disks.{Disk, LeavesOnly, Only}
-use Rattle.mdcc_log.proofs.Moments.{both}
-use Rattle.mdcc_areas.proofs.Choice.{Other, Seen, current_read, current_seen, dead_other, first_taken, older_other, second_taken}
-use Rattle.mdcc_areas.proofs.Dues.{mixed_read}
-use Rattle.mdcc_areas.proofs.Followed.{then_is_read}
-use Rattle.mdcc_areas.specs.Area.{AreaLog, generation_of, payloads, payloads_of, read_area, read_areas, read_taken, taken}
-use Rattle.mdcc_areas.specs.AtRest.{IsAtRest, MayBeDue}
-use Rattle.mdcc_areas.specs.Crash.{IsCurrent, IsDead, IsIdle, IsLog, IsOlder, ReadsAsEither, payloads_by}
-use Rattle.mdcc_areas.specs.Frames.{OpenAreas, appended, other_of, place_of}
-use Rattle.mdcc_areas.specs.Opening.{MayOpenAs}
+use Rattle.mdcc_log_file.proofs.Moments.{both}
+use Rattle.mdcc_log.proofs.Choice.{Other, Seen, current_read, current_seen, dead_other, first_taken, older_other, second_taken}
+use Rattle.mdcc_log.proofs.Dues.{mixed_read}
+use Rattle.mdcc_log.proofs.Followed.{then_is_read}
+use Rattle.mdcc_log.specs.Area.{AreaLog, generation_of, payloads, payloads_of, read_area, read_areas, read_taken, taken}
+use Rattle.mdcc_log.specs.AtRest.{IsAtRest, MayBeDue}
+use Rattle.mdcc_log.specs.Crash.{IsCurrent, IsDead, IsIdle, IsLog, IsOlder, ReadsAsEither, payloads_by}
+use Rattle.mdcc_log.specs.Frames.{OpenAreas, appended, other_of, place_of}
+use Rattle.mdcc_log.specs.Opening.{MayOpenAs}
 use Rattle.mdcc_messages.specs.Spelling.{fact_bytes, encodings_of}
 use Rattle.mdcc_messages.specs.declared.facts.Fact.{Fact}
 use Rattle.mdcc_restart.proofs.Places.{by_places, from_places, of_both}

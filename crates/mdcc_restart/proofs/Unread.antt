@@ -1,8 +1,8 @@
 -- What a restart does where its areas give no log.
 use Rattle.std.proofs.Common.{◌≡◌, ℕ, ◌+◌, List, IsErrOf, Err, Ok, refl}
 use Rattle.mdcc_disks.specs.Disks.{Disk}
-use Rattle.mdcc_areas.specs.Area.{payloads}
-use Rattle.mdcc_areas.specs.declared.fault.LogFault.{LogFault}
+use Rattle.mdcc_log.specs.Area.{payloads}
+use Rattle.mdcc_log_file.specs.declared.fault.LogFault.{LogFault}
 use Rattle.mdcc_restart.specs.Faults.{of_log}
 use Rattle.mdcc_restart.specs.Restarting.{AreasStand, IsUnread}
 use Rattle.mdcc_restart.specs.declared.fault.RestartFault.{RestartFault}

@@ -1,5 +1,5 @@
 -- The faults of a log and of a boot, as faults of a restart. Want of memory is the same for all.
-use Rattle.mdcc_areas.specs.declared.fault.LogFault.{LogFault}
+use Rattle.mdcc_log_file.specs.declared.fault.LogFault.{LogFault}
 use Rattle.mdcc_rules.specs.declared.node.BootFault.{BootFault}
 use Rattle.mdcc_restart.specs.declared.fault.RestartFault.{RestartFault}
 

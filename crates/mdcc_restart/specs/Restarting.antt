@@ -3,12 +3,12 @@ use Rattle.std.specs.Prelude.{Err, IsTrue, List, Ok, Result, length, ℕ, ◌+�
 use Rattle.mdcc_admission.specs.Loading.{Cells, boot_by}
 use Rattle.mdcc_base.specs.Counts.{sum_over}
 use Rattle.mdcc_disks.specs.Disks.{Disk}
-use Rattle.mdcc_areas.specs.Area.{AreaLog, payloads, read_areas}
-use Rattle.mdcc_areas.specs.AtRest.{IsAtRest}
-use Rattle.mdcc_areas.specs.Frames.{OpenAreas}
-use Rattle.mdcc_areas.specs.Room.{IsRoomy, IsRoomyLog}
-use Rattle.mdcc_areas.specs.declared.fault.LogFault.{LogFault}
-use Rattle.mdcc_log.specs.Log.{log_bytes, log_limit}
+use Rattle.mdcc_log.specs.Area.{AreaLog, payloads, read_areas}
+use Rattle.mdcc_log.specs.AtRest.{IsAtRest}
+use Rattle.mdcc_log.specs.Frames.{OpenAreas}
+use Rattle.mdcc_log.specs.Room.{IsRoomy, IsRoomyLog}
+use Rattle.mdcc_log_file.specs.declared.fault.LogFault.{LogFault}
+use Rattle.mdcc_log_file.specs.Log.{log_bytes, log_limit}
 use Rattle.mdcc_node.specs.Represents.{RepresentsCentre}
 use Rattle.mdcc_node.specs.declared.node.Node.{Node}
 use Rattle.mdcc_option.specs.declared.cluster.Cluster.{Cluster}

@@ -1,9 +1,9 @@
 -- What a crash may leave of the two areas of a centre.
 use Rattle.std.specs.Prelude.{◌≡◌, ◌⊎◌, ◌∷◌, ℕ, ◌≤◌, List}
-use Rattle.mdcc_areas.specs.Area.{AreaLog, generation_of, payloads_of}
-use Rattle.mdcc_areas.specs.AtRest.{MayBeDue}
-use Rattle.mdcc_areas.specs.Crash.{IsCurrent, IsDead, IsIdle, IsOlder}
-use Rattle.mdcc_areas.specs.Frames.{appended, other_of, place_of}
+use Rattle.mdcc_log.specs.Area.{AreaLog, generation_of, payloads_of}
+use Rattle.mdcc_log.specs.AtRest.{MayBeDue}
+use Rattle.mdcc_log.specs.Crash.{IsCurrent, IsDead, IsIdle, IsOlder}
+use Rattle.mdcc_log.specs.Frames.{appended, other_of, place_of}
 use Rattle.mdcc_disks.specs.Disks.{LeavesOnly, Within}
 use Rattle.mdcc_messages.specs.Spelling.{fact_bytes, encodings_of}
 use Rattle.mdcc_messages.specs.declared.facts.Fact.{Fact}

@@ -1,21 +1,21 @@
 //! Facts go into the log of their centre.
 ghost use Rattle.std.specs.Prelude.{◌≡◌, ◌≤◌, ◌<◌, ◌∷◌, ◌++◌, [], List, ℕ, length, IfOk, IsErrOf, IsTrue, OnOk};
-ghost use Rattle.mdcc_areas.specs.Area.{AreaLog};
-ghost use Rattle.mdcc_areas.specs.AtRest.{IsAtRest, MayBeDue};
-ghost use Rattle.mdcc_areas.specs.Both.{KeepsBut, RoseAtOne};
-ghost use Rattle.mdcc_areas.specs.Crash.{IsIdle, ReadsAsEither, payloads_by};
-ghost use Rattle.mdcc_areas.specs.Frames.{IsInUse, IsSettled, IsSpare, appended, other_of, place_of};
-ghost use Rattle.mdcc_areas.specs.Room.{HasGrown, IsFull};
-ghost use Rattle.mdcc_areas.specs.Tails.{tail_after};
+ghost use Rattle.mdcc_log.specs.Area.{AreaLog};
+ghost use Rattle.mdcc_log.specs.AtRest.{IsAtRest, MayBeDue};
+ghost use Rattle.mdcc_log.specs.Both.{KeepsBut, RoseAtOne};
+ghost use Rattle.mdcc_log.specs.Crash.{IsIdle, ReadsAsEither, payloads_by};
+ghost use Rattle.mdcc_log.specs.Frames.{IsInUse, IsSettled, IsSpare, appended, other_of, place_of};
+ghost use Rattle.mdcc_log.specs.Room.{HasGrown, IsFull};
+ghost use Rattle.mdcc_log.specs.Tails.{tail_after};
 ghost use Rattle.mdcc_disks.specs.Disks.{LeavesOnly};
 ghost use Rattle.mdcc_journal.specs.Counts.{HasCounts};
-ghost use Rattle.mdcc_log.specs.Log.{payload_limit};
+ghost use Rattle.mdcc_log_file.specs.Log.{payload_limit};
 ghost use Rattle.mdcc_messages.specs.Spelling.{fact_bytes};
 
-use mdcc_areas::{Frames, LogFault};
 use mdcc_base::Memory;
 use mdcc_disks::Disks;
 use mdcc_journal::encode_fact;
+use mdcc_log::{Frames, LogFault};
 use mdcc_messages::Fact;
 use std::alloc::Global;
 

@@ -1,6 +1,6 @@
 //! Why a centre did not start.
-use mdcc_areas::LogFault;
 use mdcc_base::Memory;
+use mdcc_log::LogFault;
 use mdcc_rules::BootFault;
 
 #[derive(Clone, Copy, Debug, PartialEq, Eq)]

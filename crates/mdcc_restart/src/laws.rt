@@ -1,6 +1,6 @@
 //! How long logs are.
 ghost use Rattle.std.specs.Prelude.{◌≡◌, List, length};
-ghost use Rattle.mdcc_log.specs.Log.{log_bytes};
+ghost use Rattle.mdcc_log_file.specs.Log.{log_bytes};
 ghost use Rattle.mdcc_messages.specs.Lengths.{log_length};
 ghost use Rattle.mdcc_messages.specs.declared.facts.Fact.{Fact};
 ghost use Rattle.mdcc_messages.specs.Spelling.{encodings_of};

@@ -9,6 +9,6 @@ pub mod restarting;
 
 pub use append::{append_fact, payload_of};
 pub use fault::RestartFault;
-pub use mdcc_areas::{Frames, LogFault};
+pub use mdcc_log::{Frames, LogFault};
 pub use mdcc_node::{BootFault, Node};
 pub use restarting::{Restarted, restart};

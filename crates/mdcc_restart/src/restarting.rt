@@ -1,11 +1,11 @@
 //! The start of a centre.
 ghost use Rattle.std.specs.Prelude.{◌≡◌, ◌≤◌, ◌<◌, ◌+◌, ◌⊎◌, ◌∷◌, [], List, Err, IfErr, IfOk, IsErrAnd, IsErrOf, IsTrue, Ok, length, true, ℕ};
 ghost use Rattle.mdcc_admission.specs.Loading.{AreShort, Cells, Holds};
-ghost use Rattle.mdcc_areas.specs.Area.{AreaLog, payloads, payloads_of, read_areas};
-ghost use Rattle.mdcc_areas.specs.AtRest.{IsAtRest};
-ghost use Rattle.mdcc_areas.specs.Both.{KeepsBut, RoseAtOne};
-ghost use Rattle.mdcc_areas.specs.Crash.{ReadsAsEither};
-ghost use Rattle.mdcc_areas.specs.Tails.{tail_after};
+ghost use Rattle.mdcc_log.specs.Area.{AreaLog, payloads, payloads_of, read_areas};
+ghost use Rattle.mdcc_log.specs.AtRest.{IsAtRest};
+ghost use Rattle.mdcc_log.specs.Both.{KeepsBut, RoseAtOne};
+ghost use Rattle.mdcc_log.specs.Crash.{ReadsAsEither};
+ghost use Rattle.mdcc_log.specs.Tails.{tail_after};
 ghost use Rattle.mdcc_disks.specs.Disks.{Only};
 ghost use Rattle.mdcc_node.specs.BootEffects.{IsBoot};
 ghost use Rattle.mdcc_protocol.specs.Belongs.{is_centre};
@@ -17,10 +17,10 @@ ghost use Rattle.mdcc_restart.specs.Struck.{IsLeft, IsStruck, LeavesFactAndBoot,
 ghost use Rattle.mdcc_rules.specs.Boot.{next_boot};
 
 use crate::{RestartFault, append_fact};
-use mdcc_areas::{Frames, LogFault};
 use mdcc_base::{Centre, HeapList};
 use mdcc_disks::Disks;
 use mdcc_facts::FactStore;
+use mdcc_log::{Frames, LogFault};
 use mdcc_messages::Fact;
 use mdcc_node::Node;
 use mdcc_option::Cluster;

@@ -9,7 +9,7 @@ use Rattle.mdcc_base.specs.declared.outside.Address.{Address}
 use Rattle.mdcc_config.specs.IsConfig.{address_above}
 use Rattle.mdcc_config.specs.declared.config.Config.{Config}
 use Rattle.mdcc_disks.specs.Disks.{Disk, Only}
-use Rattle.mdcc_areas.specs.Frames.{OpenAreas}
+use Rattle.mdcc_log.specs.Frames.{OpenAreas}
 use Rattle.mdcc_link.specs.Link.{LinkCall}
 use Rattle.mdcc_messages.specs.Spelling.{encodings_of}
 use Rattle.mdcc_messages.specs.declared.facts.Fact.{Fact}

@@ -1,8 +1,8 @@
 -- What a centre keeps while another acts.
 use Rattle.std.proofs.Common.{◌≡◌, ◌≢◌, ℕ, ◌+◌, ◌≤◌, List, [], sym, ◌∙◌, subst, inl, inr, arith, IsTrue}
-use Rattle.mdcc_areas.specs.Area.{AreaLog}
-use Rattle.mdcc_areas.specs.AtRest.{IsAtRest}
-use Rattle.mdcc_areas.specs.Frames.{IsInUse, IsSpare, OpenAreas, other_of, place_of}
+use Rattle.mdcc_log.specs.Area.{AreaLog}
+use Rattle.mdcc_log.specs.AtRest.{IsAtRest}
+use Rattle.mdcc_log.specs.Frames.{IsInUse, IsSpare, OpenAreas, other_of, place_of}
 use Rattle.mdcc_disks.specs.Disks.{Disk, Within}
 use Rattle.mdcc_messages.specs.Spelling.{encodings_of}
 use Rattle.mdcc_messages.specs.declared.facts.Fact.{Fact}

@@ -3,7 +3,7 @@ use Rattle.std.proofs.Common.{◌≡◌, ℕ, ◌+◌, ◌-◌, ◌≤◌, ◌<�
 use Rattle.std.specs.Io.KnownBytes.{Appends}
 use Rattle.std.specs.List.{AllByRecursion}
 use Rattle.std.specs.Prelude.{flat_map, ⊤}
-use Rattle.mdcc_areas.specs.declared.fault.LogFault.{LogFault}
+use Rattle.mdcc_log_file.specs.declared.fault.LogFault.{LogFault}
 use Rattle.mdcc_base.specs.Counts.{sum_over}
 use Rattle.mdcc_config.specs.declared.config.Config.{Config}
 use Rattle.mdcc_disks.specs.Disks.{Disk}

@@ -4,8 +4,8 @@ use Rattle.std.proofs.lemmas.Bool.{cases_eq}
 use Rattle.std.specs.Bool.{OnFalse}
 use Rattle.mdcc_admission.specs.Loading.{is_boot_memory}
 use Rattle.std.specs.Prelude.{IfErr, is_ok}
-use Rattle.mdcc_areas.specs.Area.{payloads}
-use Rattle.mdcc_areas.specs.declared.fault.LogFault.{LogFault}
+use Rattle.mdcc_log.specs.Area.{payloads}
+use Rattle.mdcc_log_file.specs.declared.fault.LogFault.{LogFault}
 use Rattle.mdcc_disks.specs.Disks.{Disk}
 use Rattle.mdcc_endings.specs.Logs.{IsTold, LogRefusal, booted, node_at, node_from, node_of}
 use Rattle.mdcc_link.specs.Link.{LinkCall}

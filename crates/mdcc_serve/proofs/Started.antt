@@ -1,7 +1,7 @@
 -- A centre that runs, or not, after its boot is logged.
 use Rattle.std.proofs.Common.{◌≡◌, ℕ, ◌+◌, List, [], ◌∷◌, sym, ◌∙◌, ap, subst, inl, inr, arith, IsTrue}
-use Rattle.mdcc_areas.specs.Frames.{OpenAreas}
-use Rattle.mdcc_areas.specs.declared.fault.LogFault.{LogFault}
+use Rattle.mdcc_log.specs.Frames.{OpenAreas}
+use Rattle.mdcc_log_file.specs.declared.fault.LogFault.{LogFault}
 use Rattle.mdcc_disks.specs.Disks.{Disk}
 use Rattle.mdcc_site.specs.Nodes.{CentreStore}
 use Rattle.mdcc_messages.specs.declared.facts.Fact.{Fact}

@@ -1,6 +1,6 @@
 -- What a server says of the logs that it opens.
 use Rattle.std.specs.Prelude.{Err, IsTrue, List, Ok, Result, is_ok, ⊤, ℕ, ◌<◌, ◌≡◌, ◌≤◌, ◌⊎◌}
-use Rattle.mdcc_areas.specs.declared.fault.LogFault.{LogFault}
+use Rattle.mdcc_log_file.specs.declared.fault.LogFault.{LogFault}
 use Rattle.mdcc_disks.specs.Disks.{Disk}
 use Rattle.mdcc_endings.specs.Logs.{IsTold, LogRefusal, booted, node_at}
 use Rattle.mdcc_option.specs.declared.cluster.Cluster.{Cluster}

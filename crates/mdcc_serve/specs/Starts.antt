@@ -2,9 +2,9 @@
 use Rattle.std.specs.List.{AllByRecursion}
 use Rattle.std.specs.Prelude.{IsTrue, List, Ok, [], length, ⊤, ℕ, ◌+◌, ◌++◌, ◌∷◌, ◌≡◌, ◌≤◌, ◌⊎◌}
 use Rattle.mdcc_admission.specs.Loading.{AreShort}
-use Rattle.mdcc_areas.specs.Area.{payloads}
-use Rattle.mdcc_areas.specs.AtRest.{IsAtRest}
-use Rattle.mdcc_areas.specs.Frames.{OpenAreas}
+use Rattle.mdcc_log.specs.Area.{payloads}
+use Rattle.mdcc_log.specs.AtRest.{IsAtRest}
+use Rattle.mdcc_log.specs.Frames.{OpenAreas}
 use Rattle.mdcc_disks.specs.Disks.{Disk, Within}
 use Rattle.mdcc_site.specs.Nodes.{CentreStore, IsNodeOf}
 use Rattle.mdcc_messages.specs.Spelling.{encodings_of}

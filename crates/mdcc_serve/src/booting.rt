@@ -13,11 +13,11 @@ ghost use Rattle.mdcc_serve.specs.Starts.{FailsToStart, GivesNode, GivesNone, Is
 ghost use Rattle.mdcc_spelling.specs.Laws.{AreBytes};
 
 use mdcc_admission::laws::boots_within_cells;
-use mdcc_areas::{Frames, current_is_read};
 use mdcc_base::{Centre, HeapList, Plain};
 use mdcc_config::Config;
 use mdcc_disks::Disks;
 use mdcc_index::PoolFacts;
+use mdcc_log::{Frames, current_is_read};
 use mdcc_messages::Fact;
 use mdcc_node::Node;
 use mdcc_option::Cluster;

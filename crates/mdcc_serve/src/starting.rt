@@ -10,11 +10,11 @@ ghost use Rattle.mdcc_site.specs.declared.fault.ServeFault.{ServeFault as AServe
 ghost use Rattle.mdcc_site.specs.declared.site.Site.{Site as ASite};
 
 use crate::booting::boot;
-use mdcc_areas::Frames;
 use mdcc_base::{Centre, HeapList};
 use mdcc_config::Config;
 use mdcc_disks::Disks;
 use mdcc_frag::Joiner;
+use mdcc_log::Frames;
 use mdcc_messages::Fact;
 use mdcc_outbox::{Clients, Sender};
 use mdcc_restart::payload_of;
@@ -36,7 +36,7 @@ fn log_boot<D: Disks>(
         → Logs D.disk D.may_leave centre before (boot.now ∷ []) result disks.old disks.new log.new }
 {
     let payload = HeapList::from_vec(payload_of(alloc, boot)?);
-    log_payloads(alloc, log, centre, disks, slice::from_ref(&payload))
+    log_payloads(log, centre, disks, slice::from_ref(&payload))
 }
 
 // Opens the log of a centre, boots its node, and appends the boot.

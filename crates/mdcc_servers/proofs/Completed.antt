@@ -3,8 +3,8 @@ use Rattle.std.proofs.Common.{◌≡◌, ◌⊎◌, ◌≤◌, ◌<◌, ◌+◌,
 use Rattle.std.proofs.lemmas.Bool.{cases_eq}
 use Rattle.std.specs.List.{AllByRecursion, range_with_len}
 use Rattle.std.specs.Prelude.{is_err}
-use Rattle.mdcc_areas.specs.Both.{RoseAtOne}
-use Rattle.mdcc_areas.specs.declared.fault.LogFault.{LogFault}
+use Rattle.mdcc_log.specs.Both.{RoseAtOne}
+use Rattle.mdcc_log_file.specs.declared.fault.LogFault.{LogFault}
 use Rattle.mdcc_base.specs.declared.source.ReadAllFault.{ReadAllFault}
 use Rattle.mdcc_config.specs.declared.config.Config.{Config}
 use Rattle.mdcc_disks.specs.Disks.{Disk}
@@ -87,7 +87,7 @@ module _ {D L O : Type 0} (disk : D → ℕ → Disk) (may_leave : D → ℕ →
             from_true (is_centre config.cluster centre) _ _ there (subst (λ (r : Result Config Failure). ServesNode disk may_leave tears calls lost held disks_old disks_new link_old link_new out_old out_new r centre turns served) e run.serves) in
             ends_by_logs (node_at disk config.cluster disks_old) centre centre served status status_is (one.logs told)
         by_read run (inr it) =
-            let same : served ≡ Err it.0 = subst (λ (r : Result Config Failure). ServesNode disk may_leave tears calls lost held disks_old disks_new link_old link_new out_old out_new r centre turns served) it.1 run.serves in
+            let same : served ≡ Err it.0 = (subst (λ (r : Result Config Failure). ServesNode disk may_leave tears calls lost held disks_old disks_new link_old link_new out_old out_new r centre turns served) it.1 run.serves).0 in
             ends_unlucky (node_at disk config.cluster disks_old) centre centre served it.0 status same status_is it.2
 
     pub cluster_ends : (left : Option (List ℕ)) (turns : ℕ) → IfSome left (λ input. RunsCluster disk may_leave tears calls lost held disks_old disks_new link_old link_new out_old out_new input turns served)
@@ -104,7 +104,7 @@ module _ {D L O : Type 0} (disk : D → ℕ → Disk) (may_leave : D → ℕ →
             subst (λ (r : Result Config Failure). ServesCluster disk may_leave tears calls lost held disks_old disks_new link_old link_new out_old out_new r turns served) e run.serves in
             ends_by_logs (node_at disk config.cluster disks_old) 1 config.cluster.quorums.centres served status status_is (all.logs told)
         by_read run (inr it) =
-            let same : served ≡ Err it.0 = subst (λ (r : Result Config Failure). ServesCluster disk may_leave tears calls lost held disks_old disks_new link_old link_new out_old out_new r turns served) it.1 run.serves in
+            let same : served ≡ Err it.0 = (subst (λ (r : Result Config Failure). ServesCluster disk may_leave tears calls lost held disks_old disks_new link_old link_new out_old out_new r turns served) it.1 run.serves).0 in
             ends_unlucky (node_at disk config.cluster disks_old) 1 config.cluster.quorums.centres served it.0 status same status_is it.2
 
     -- ---- where nothing failed
@@ -198,7 +198,7 @@ module _ {D L O : Type 0} (disk : D → ℕ → Disk) (may_leave : D → ℕ →
               from_true (is_centre config.cluster centre) _ _ there (subst (λ (r : Result Config Failure). ServesNode disk may_leave tears calls lost held disks_old disks_new link_old link_new out_old out_new r centre turns served) e run.serves) in
               server_ends config (log ∷ []) turns one.result one.is (one.serves log of are) (refused_log one)
           by_read run (inr it) =
-              let same : served ≡ Err it.0 = subst (λ (r : Result Config Failure). ServesNode disk may_leave tears calls lost held disks_old disks_new link_old link_new out_old out_new r centre turns served) it.1 run.serves in
+              let same : served ≡ Err it.0 = (subst (λ (r : Result Config Failure). ServesNode disk may_leave tears calls lost held disks_old disks_new link_old link_new out_old out_new r centre turns served) it.1 run.serves).0 in
               unlucky_ends it.0 (Whole config (log ∷ []) turns) (Limit config (log ∷ []) turns) same it.2
 
       pub cluster_completes : (left : Option (List ℕ)) (turns : ℕ) → IfSome left (λ input. RunsCluster disk may_leave tears calls lost held disks_old disks_new link_old link_new out_old out_new input turns served)
@@ -228,5 +228,5 @@ module _ {D L O : Type 0} (disk : D → ℕ → Disk) (may_leave : D → ℕ →
               subst (λ (r : Result Config Failure). ServesCluster disk may_leave tears calls lost held disks_old disks_new link_old link_new out_old out_new r turns served) e run.serves in
               server_ends config logs turns all.result all.is (all.serves logs numbers are) (refused_log all)
           by_read run (inr it) =
-              let same : served ≡ Err it.0 = subst (λ (r : Result Config Failure). ServesCluster disk may_leave tears calls lost held disks_old disks_new link_old link_new out_old out_new r turns served) it.1 run.serves in
+              let same : served ≡ Err it.0 = (subst (λ (r : Result Config Failure). ServesCluster disk may_leave tears calls lost held disks_old disks_new link_old link_new out_old out_new r turns served) it.1 run.serves).0 in
               unlucky_ends it.0 (Whole config logs turns) (Limit config logs turns) same it.2

@@ -1,7 +1,7 @@
 -- What a server was, as a command has it.
 use Rattle.std.proofs.Common.{◌≡◌, Bool, Err, IfErr, IsErrOf, Ok, Result, false, refl, subst, sym, true, ℕ}
 use Rattle.std.specs.Prelude.{MatchBool}
-use Rattle.mdcc_areas.specs.declared.fault.LogFault.{LogFault}
+use Rattle.mdcc_log_file.specs.declared.fault.LogFault.{LogFault}
 use Rattle.mdcc_base.specs.declared.source.ReadAllFault.{ReadAllFault}
 use Rattle.mdcc_endings.specs.Readings.{IsEarly}
 use Rattle.mdcc_endings.specs.declared.fault.Failure.{Failure}

@@ -1,7 +1,7 @@
 -- What the commands that serve nodes do.
 use Rattle.std.specs.List.{range_with_len}
 use Rattle.std.specs.Prelude.{Err, IfSome, List, MatchBool, Ok, Option, Result, [], map, ℕ, ◌+◌, ◌≡◌, ◌∷◌, ◌≤◌}
-use Rattle.mdcc_areas.specs.declared.fault.LogFault.{LogFault}
+use Rattle.mdcc_log_file.specs.declared.fault.LogFault.{LogFault}
 use Rattle.mdcc_config.specs.declared.config.Config.{Config}
 use Rattle.mdcc_disks.specs.Disks.{Disk}
 use Rattle.mdcc_link.specs.Link.{LinkCall}
@@ -56,11 +56,15 @@ module _ {D L O : Type 0} (disk : D → ℕ → Disk) (may_leave : D → ℕ →
     -- whatever its disks tell, its log is refused just where no node boots from it
     pub logs : IsTold disk disks_old centre → SaysLogs (node_at disk config.cluster disks_old) centre centre served
 
+  -- it ended before anything was done
+  abbrev pub IsEarlyAt : Failure → Result Served Failure → Type 0
+  IsEarlyAt failure served = (served ≡ Err failure) × Untouched disks_old disks_new link_old link_new out_old out_new
+
   -- by what the input was read as
   abbrev pub ServesNode : Result Config Failure → ℕ → ℕ → Result Served Failure → Type 0
   ServesNode (Ok config) centre turns served =
-      MatchBool (is_centre config.cluster centre) (ServesOne config centre turns served) (served ≡ Err Failure.Centre)
-  ServesNode (Err failure) centre turns served = served ≡ Err failure
+      MatchBool (is_centre config.cluster centre) (ServesOne config centre turns served) (IsEarlyAt Failure.Centre served)
+  ServesNode (Err failure) centre turns served = IsEarlyAt failure served
 
   -- `node K TURNS`
   pub record RunsNode (input : List ℕ) (centre turns : ℕ) (served : Result Served Failure) : Type 0 where
@@ -89,7 +93,7 @@ module _ {D L O : Type 0} (disk : D → ℕ → Disk) (may_leave : D → ℕ →
   -- by what the input was read as
   abbrev pub ServesCluster : Result Config Failure → ℕ → Result Served Failure → Type 0
   ServesCluster (Ok config) turns served = ServesAll config turns served
-  ServesCluster (Err failure) turns served = served ≡ Err failure
+  ServesCluster (Err failure) turns served = IsEarlyAt failure served
 
   -- `cluster TURNS`
   pub record RunsCluster (input : List ℕ) (turns : ℕ) (served : Result Served Failure) : Type 0 where

@@ -1,7 +1,7 @@
 -- How the commands that serve nodes end over an accepted configuration, by their logs and where nothing failed.
 use Rattle.std.specs.List.{AllByRecursion, range_with_len}
 use Rattle.std.specs.Prelude.{List, Ok, Option, Some, [], map, true, ⊤, ℕ, ◌-◌, ◌<◌, ◌^◌, ◌∷◌, ◌≡◌}
-use Rattle.mdcc_areas.specs.declared.fault.LogFault.{LogFault}
+use Rattle.mdcc_log_file.specs.declared.fault.LogFault.{LogFault}
 use Rattle.mdcc_config.specs.declared.config.Config.{Config}
 use Rattle.mdcc_disks.specs.Disks.{Disk}
 use Rattle.mdcc_endings.specs.Completions.{CompletesAs}

@@ -1,20 +1,20 @@
 //! A configuration is read, and its centres are served.
 ghost use Rattle.std.specs.Prelude.{◌≡◌, ◌≤◌, ◌+◌, IfErr, IfSome, IsErrOf, Ok, ℕ};
-ghost use Rattle.mdcc_areas.specs.Both.{RoseAtOne};
+ghost use Rattle.mdcc_log.specs.Both.{RoseAtOne};
 ghost use Rattle.mdcc_base.specs.Causes.{Rose};
 ghost use Rattle.mdcc_base.specs.declared.source.ReadAllFault.{ReadAllFault as AReadAllFault};
-ghost use Rattle.mdcc_areas.specs.declared.fault.LogFault.{LogFault as ALogFault};
+ghost use Rattle.mdcc_log_file.specs.declared.fault.LogFault.{LogFault as ALogFault};
 ghost use Rattle.mdcc_config.specs.IsConfig.{IsConfig};
 ghost use Rattle.mdcc_endings.specs.Readings.{IsEarly};
 ghost use Rattle.mdcc_servers.specs.Commands.{AreAlike, RunsCluster, RunsNode, ServesCluster, ServesNode, Untouched, as_served, failure_of};
 ghost use Rattle.mdcc_endings.specs.declared.fault.Failure.{Failure as AFailure};
 
-use mdcc_areas::LogFault;
 use mdcc_base::{Sink, Source};
 use mdcc_config::Config;
 use mdcc_disks::Disks;
 use mdcc_endings::{Failure, centre_of, config_from};
 use mdcc_link::Link;
+use mdcc_log::LogFault;
 use mdcc_serve::{ServeFault, Served, serve_cluster, serve_node};
 use std::alloc::Global;
 
@@ -66,6 +66,7 @@ fn serve_number<D: Disks, L: Link, O: Sink>(
     let Some(centre) = centre_of(config, number) else {
         return Err(Failure::Centre);
     };
+    link.set_wait(config.wait);
     as_served(serve_node(alloc, config, centre, turns, disks, link, out))
 }
 
@@ -113,6 +114,7 @@ fn serve_centres<D: Disks, L: Link, O: Sink>(
     ensures link { IsErrOf result (AFailure.Link) → Rose (L.faults link.old) (L.faults link.new) }
     ensures output { IsErrOf result (AFailure.Output) → Rose (O.faults out.old) (O.faults out.new) }
 {
+    link.set_wait(config.wait);
     as_served(serve_cluster(alloc, config, turns, disks, link, out))
 }
 

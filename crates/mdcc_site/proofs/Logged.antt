@@ -4,13 +4,13 @@ use Rattle.std.proofs.lemmas.List.{length-map}
 use Rattle.std.proofs.lemmas.Bool.{cases_eq}
 use Rattle.std.proofs.lemmas.Bool.Decides.{nat_tests}
 use Rattle.std.specs.List.{AllByRecursion}
-use Rattle.mdcc_areas.specs.Area.{AreaLog, generation_of, payloads}
-use Rattle.mdcc_areas.specs.AtRest.{IsAtRest}
-use Rattle.mdcc_areas.specs.Both.{KeepsBut, RoseAtOne}
-use Rattle.mdcc_areas.specs.Crash.{CurrentIsRead, IsCurrent, IsDead, IsIdle, IsOlder, payloads_by}
-use Rattle.mdcc_areas.specs.Frames.{IsSettled, IsSpare, OpenAreas, other_of, place_of}
-use Rattle.mdcc_areas.specs.Groups.{AreFull, ReadsAsAllOrNone}
-use Rattle.mdcc_areas.specs.declared.fault.LogFault.{LogFault}
+use Rattle.mdcc_log.specs.Area.{AreaLog, generation_of, payloads}
+use Rattle.mdcc_log.specs.AtRest.{IsAtRest}
+use Rattle.mdcc_log.specs.Both.{KeepsBut, RoseAtOne}
+use Rattle.mdcc_log.specs.Crash.{CurrentIsRead, IsCurrent, IsDead, IsIdle, IsOlder, payloads_by}
+use Rattle.mdcc_log.specs.Frames.{IsSettled, IsSpare, OpenAreas, other_of, place_of}
+use Rattle.mdcc_log.specs.Groups.{AreFull, ReadsAsAllOrNone}
+use Rattle.mdcc_log_file.specs.declared.fault.LogFault.{LogFault}
 use Rattle.mdcc_disks.specs.Disks.{Disk}
 use Rattle.mdcc_messages.specs.Spelling.{fact_bytes, encodings_of}
 use Rattle.mdcc_messages.specs.declared.facts.Fact.{Fact}

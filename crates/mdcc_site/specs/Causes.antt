@@ -9,7 +9,7 @@ use Rattle.mdcc_runs.specs.Servers.{Log}
 use Rattle.mdcc_runs.specs.Sites.{Site}
 use Rattle.mdcc_steps.specs.NodeInvariant.{payloads_of}
 use Rattle.mdcc_messages.specs.declared.facts.Fact.{Fact}
-use Rattle.mdcc_areas.specs.declared.fault.LogFault.{LogFault}
+use Rattle.mdcc_log_file.specs.declared.fault.LogFault.{LogFault}
 use Rattle.mdcc_link.specs.Link.{LinkCall}
 use Rattle.mdcc_runs.specs.Acts.{Act, printed_by}
 use Rattle.mdcc_outbox.specs.Sends.{IsSending}

@@ -1,9 +1,9 @@
 -- What logging facts does.
 use Rattle.std.specs.List.{AllByRecursion}
 use Rattle.std.specs.Prelude.{Err, IsTrue, List, Ok, Result, map, ⊤, ℕ, ◌+◌, ◌≡◌}
-use Rattle.mdcc_areas.specs.Both.{RoseAtOne}
-use Rattle.mdcc_areas.specs.Frames.{OpenAreas}
-use Rattle.mdcc_areas.specs.declared.fault.LogFault.{LogFault}
+use Rattle.mdcc_log.specs.Both.{RoseAtOne}
+use Rattle.mdcc_log.specs.Frames.{OpenAreas}
+use Rattle.mdcc_log_file.specs.declared.fault.LogFault.{LogFault}
 use Rattle.mdcc_disks.specs.Disks.{Disk}
 use Rattle.mdcc_messages.specs.Spelling.{fact_bytes}
 use Rattle.mdcc_messages.specs.declared.facts.Fact.{Fact}

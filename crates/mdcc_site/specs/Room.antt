@@ -1,9 +1,9 @@
 -- A log that has no room for the facts that are to be appended.
 use Rattle.std.specs.Prelude.{IsTrue, List, map, ⊤, ℕ, ◌∷◌, ◌≡◌}
-use Rattle.mdcc_areas.specs.AtRest.{IsAtRest}
-use Rattle.mdcc_areas.specs.Frames.{OpenAreas}
-use Rattle.mdcc_areas.specs.Groups.{AreFull}
-use Rattle.mdcc_areas.specs.declared.fault.LogFault.{LogFault}
+use Rattle.mdcc_log.specs.AtRest.{IsAtRest}
+use Rattle.mdcc_log.specs.Frames.{OpenAreas}
+use Rattle.mdcc_log.specs.Groups.{AreFull}
+use Rattle.mdcc_log_file.specs.declared.fault.LogFault.{LogFault}
 use Rattle.mdcc_disks.specs.Disks.{Disk}
 use Rattle.mdcc_messages.specs.Spelling.{encodings_of, fact_bytes}
 use Rattle.mdcc_messages.specs.declared.facts.Fact.{Fact}

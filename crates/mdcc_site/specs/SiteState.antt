@@ -2,8 +2,8 @@
 use Rattle.std.specs.List.{AllByRecursion}
 use Rattle.std.specs.Prelude.{Bool, Err, IfOk, IfSome, IsTrue, List, None, Ok, Option, Some, Result, [], is_some, take, ⊤, ℕ, ◌+◌, ◌<◌, ◌^◌, ◌≡◌, ◌≤◌, ◌⊎◌}
 use Rattle.std.specs.Io.KnownBytes.{Appends}
-use Rattle.mdcc_areas.specs.AtRest.{IsAtRest}
-use Rattle.mdcc_areas.specs.Frames.{OpenAreas}
+use Rattle.mdcc_log.specs.AtRest.{IsAtRest}
+use Rattle.mdcc_log.specs.Frames.{OpenAreas}
 use Rattle.mdcc_base.specs.Causes.{Rose}
 use Rattle.mdcc_base.specs.declared.identifiers.TxId.{TxId}
 use Rattle.mdcc_base.specs.declared.key.Key.{Key}

@@ -2,8 +2,8 @@
 ghost use Rattle.std.specs.Prelude.{◌≡◌};
 ghost use Rattle.mdcc_site.specs.declared.fault.ServeFault.TheVariants.{Memory, Serial};
 
-use mdcc_areas::LogFault;
 use mdcc_base::{Centre, Memory as NoMemory};
+use mdcc_log::LogFault;
 use mdcc_outbox::OutOfSerials;
 use mdcc_rules::BootFault;
 use std::alloc::{AllocError, AllocFailed};

@@ -6,10 +6,9 @@ ghost use Rattle.mdcc_site.specs.LogEffects.{AreShortFacts, Logs, log_fault_of};
 ghost use Rattle.mdcc_site.specs.SiteState.{OpenLog};
 
 use crate::ServeFault;
-use mdcc_areas::{Frames, LogFault, current_is_read};
 use mdcc_base::{Centre, HeapList};
 use mdcc_disks::Disks;
-use std::alloc::Global;
+use mdcc_log::{Frames, LogFault, current_is_read};
 
 /// A fault of a log as a server's.
 pub fn log_fault(centre: Centre, fault: LogFault) -> ServeFault
@@ -25,7 +24,6 @@ pub fn log_fault(centre: Centre, fault: LogFault) -> ServeFault
 /// Appends the payloads of facts, the oldest first, to the log of a centre: all of them or none. A checkpoint that is due then is made at
 /// once. A full log is as before; after a fault of the disk the log may have all of them.
 pub fn log_payloads<D: Disks>(
-    alloc: Global,
     log: &mut Frames,
     centre: Centre,
     disks: &mut D,
@@ -39,7 +37,7 @@ pub fn log_payloads<D: Disks>(
 {
     current_is_read();
     let _area = log.area();
-    match log.append_all(alloc, disks, payloads) {
+    match log.append_all(disks, payloads) {
         Ok(()) => Ok(()),
         Err(fault) => Err(log_fault(centre, fault)),
     }

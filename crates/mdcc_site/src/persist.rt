@@ -89,7 +89,6 @@ impl Site {
     // Payloads of facts go into the log, all of them or none.
     fn log_all<D: Disks>(
         &mut self,
-        alloc: Global,
         disks: &mut D,
         payloads: &[HeapList<u8>],
     ) -> Result<(), ServeFault>
@@ -102,7 +101,7 @@ impl Site {
         if payloads.is_empty() {
             return Ok(());
         }
-        log_payloads(alloc, &mut self.log, self.centre, disks, payloads)
+        log_payloads(&mut self.log, self.centre, disks, payloads)
     }
 
     // Sends messages in order.
@@ -139,7 +138,7 @@ impl Site {
             (place disks.old self.old link.old out.old) (place disks.new self.new link.new out.new) }
     {
         let pending = self.take_pending(alloc);
-        self.log_all(alloc, disks, pending.payloads.as_slice())?;
+        self.log_all(disks, pending.payloads.as_slice())?;
         self.send_all(config, link, pending.messages.as_slice())?;
         print_heard(alloc, self.centre, pending.heard.as_slice(), out)?;
         Ok(())

@@ -22,11 +22,11 @@ ghost use Rattle.mdcc_site.specs.declared.fault.ServeFault.{ServeFault as AServe
 
 use crate::ServeFault;
 use crate::pending::PendingBytes;
-use mdcc_areas::Frames;
 use mdcc_base::{Centre, TxId};
 use mdcc_frag::Joiner;
 use mdcc_index::PoolFacts;
 use mdcc_journal::counts::well_formed_facts_have_counts;
+use mdcc_log::Frames;
 use mdcc_messages::{ClientAnswer, Envelope};
 use mdcc_node::{Input, Node, Step, StepFault, blank};
 use mdcc_outbox::{Clients, Sender, answer_to};

@@ -1,7 +1,10 @@
 use Rattle.std.proofs.Common.{◌≡◌, ◌∙◌, Err, ap, refl, subst, sym, ℕ}
 use Rattle.std.proofs.lemmas.Result.{err_from_is_err_and}
-use Rattle.mdcc_areas.specs.declared.fault.LogFault.{LogFault}
+use Rattle.mdcc_log_file.specs.declared.fault.LogFault.{LogFault}
 use Rattle.mdcc_base.specs.declared.source.ReadAllFault.{ReadAllFault}
+use Rattle.mdcc_ask.proofs.Waiting.{asks_there}
+use Rattle.mdcc_ask.specs.Asking.{asked}
+use Rattle.mdcc_base.specs.Causes.{Rose}
 use Rattle.mdcc_ask.proofs.Ended.{asked_runs, link_asked, no_centre_runs, no_disk, no_input, not_early, output_asked, unread_runs}
 use Rattle.mdcc_ask.specs.Commands.{Untouched}
 use Rattle.mdcc_ask.specs.declared.order.Order.{Order}
@@ -15,7 +18,7 @@ pub returns-in_err-config-clause-runs : goal.returns-in_err-config-clause-runs
 returns-in_err-config-clause-runs g c =
     let p = err_from_is_err_and c.from_residual.result c.from_residual.ensures.1 in
     let e : c.from_residual.result ≡ Err c.in_err-config.field-0.0 = cc (p.1, p.2) in
-    unread_runs g.L.Link.calls g.O.Sink.held c.args.link.now c.args.link.now c.args.out.now c.args.out.now (g.S.Source.left c.args.source.now) c.args.question c.in_err-config.field-0.0 c.from_residual.result e c.in_err-config.ensures.config
+    unread_runs g.L.Link.calls g.O.Sink.held c.args.link.now c.args.link.now c.args.out.now c.args.out.now (g.S.Source.left c.args.source.now) c.args.question c.in_err-config.field-0.0 c.from_residual.result e (record { link = refl; output = refl }) c.in_err-config.ensures.config
 
 pub returns-in_err-config-clause-early : goal.returns-in_err-config-clause-early
 returns-in_err-config-clause-early g c =
@@ -51,7 +54,7 @@ returns-in_err-config-clause-output g c = λ h.
 pub returns-in_default-clause-runs : goal.returns-in_default-clause-runs
 returns-in_default-clause-runs g c =
     no_centre_runs g.L.Link.calls g.O.Sink.held c.args.link.now c.args.link.now c.args.out.now c.args.out.now (g.S.Source.left c.args.source.now) c.args.question c.in_ok-config.config
-    (c.centre_of.ensures.none c.in_default.is) c.in_ok-config.ensures.config
+    (c.centre_of.ensures.none c.in_default.is) (record { link = refl; output = refl }) c.in_ok-config.ensures.config
 
 -- ---- its centre is asked
 
@@ -59,7 +62,9 @@ pub returns-clause-runs : goal.returns-clause-runs
 returns-clause-runs g c =
     let order = λ (centre : ℕ). (let o : Order = record { centre = centre; serial = c.args.question.serial; keys = c.args.question.keys; updates = c.args.question.updates } in o) in
     asked_runs g.L.Link.calls g.O.Sink.held c.args.link.now c.ask.new.link c.args.out.now c.ask.new.out (g.S.Source.left c.args.source.now) c.args.question c.in_ok-config.config (order c.in-Some.centre) c.ask.result c.as_done.result
-    (ap order c.in-Some.ensures.some.0) c.in-Some.ensures.some.1 c.as_done.ensures c.ask.ensures.asks c.in_ok-config.ensures.config
+    (ap order c.in-Some.ensures.some.0) c.in-Some.ensures.some.1 c.as_done.ensures
+    (asks_there g.L.Link.calls g.O.Sink.held c.args.link.now c.set_wait.new.self c.ask.new.link c.args.out.now c.ask.new.out c.set_wait.ensures.calls (asked c.in_ok-config.config (order c.in-Some.centre)) c.args.question.turns c.ask.result c.ask.ensures.asks)
+    c.in_ok-config.ensures.config
 
 pub returns-clause-early : goal.returns-clause-early
 returns-clause-early g c = not_early (Untouched c.args.link.now c.ask.new.link c.args.out.now c.ask.new.out) c.ask.result c.as_done.result c.as_done.ensures
@@ -71,7 +76,8 @@ pub returns-clause-input : goal.returns-clause-input
 returns-clause-input g c = λ h. absurd (no_input c.ask.result (sym c.as_done.ensures ∙ h))
 
 pub returns-clause-link : goal.returns-clause-link
-returns-clause-link g c = λ h. c.ask.ensures.causes.link (link_asked c.ask.result (sym c.as_done.ensures ∙ h))
+returns-clause-link g c = λ h.
+    subst (λ n. Rose n (g.L.Link.faults c.ask.new.link)) c.set_wait.ensures.receives (c.ask.ensures.causes.link (link_asked c.ask.result (sym c.as_done.ensures ∙ h)))
 
 pub returns-clause-output : goal.returns-clause-output
 returns-clause-output g c = λ h. c.ask.ensures.causes.output (output_asked c.ask.result (sym c.as_done.ensures ∙ h))

@@ -19,28 +19,28 @@ pub returns-in-Err-clause-node : goal.returns-in-Err-clause-node
 returns-in-Err-clause-node g c centre turns = λ is. record {
   served = Err (Failure.Input ReadAllFault.Memory);
   ends = ended c.end.result (g.E.Sink.held c.args.err.now) (g.E.Sink.held c.end.new.err) (g.E.Sink.faults c.args.err.now) (g.E.Sink.faults c.end.new.err) c.end.ensures.status c.end.ensures.told;
-  runs = known_always (g.S.Source.left c.args.source.now) _ (λ input. record { read = Err (Failure.Input ReadAllFault.Memory); gives = tt; serves = refl });
+  runs = known_always (g.S.Source.left c.args.source.now) _ (λ input. record { read = Err (Failure.Input ReadAllFault.Memory); gives = tt; serves = (refl, record { disks = refl; link = refl; output = refl }) });
 }
 
 pub returns-in-Err-clause-cluster : goal.returns-in-Err-clause-cluster
 returns-in-Err-clause-cluster g c turns = λ is. record {
   served = Err (Failure.Input ReadAllFault.Memory);
   ends = ended c.end.result (g.E.Sink.held c.args.err.now) (g.E.Sink.held c.end.new.err) (g.E.Sink.faults c.args.err.now) (g.E.Sink.faults c.end.new.err) c.end.ensures.status c.end.ensures.told;
-  runs = known_always (g.S.Source.left c.args.source.now) _ (λ input. record { read = Err (Failure.Input ReadAllFault.Memory); gives = tt; serves = refl });
+  runs = known_always (g.S.Source.left c.args.source.now) _ (λ input. record { read = Err (Failure.Input ReadAllFault.Memory); gives = tt; serves = (refl, record { disks = refl; link = refl; output = refl }) });
 }
 
 pub returns-in-Err-clause-ask : goal.returns-in-Err-clause-ask
 returns-in-Err-clause-ask g c question = λ is. record {
   done = Err (Failure.Input ReadAllFault.Memory);
   ends = ended c.end.result (g.E.Sink.held c.args.err.now) (g.E.Sink.held c.end.new.err) (g.E.Sink.faults c.args.err.now) (g.E.Sink.faults c.end.new.err) c.end.ensures.status c.end.ensures.told;
-  runs = known_always (g.S.Source.left c.args.source.now) _ (λ input. record { read = Err (Failure.Input ReadAllFault.Memory); gives = tt; asks = refl });
+  runs = known_always (g.S.Source.left c.args.source.now) _ (λ input. record { read = Err (Failure.Input ReadAllFault.Memory); gives = tt; asks = (refl, record { link = refl; output = refl }) });
 }
 
 pub returns-in-Err-clause-dump : goal.returns-in-Err-clause-dump
 returns-in-Err-clause-dump g c centre = λ is. record {
   dumped = Err (Failure.Input ReadAllFault.Memory);
   ends = ended c.end.result (g.E.Sink.held c.args.err.now) (g.E.Sink.held c.end.new.err) (g.E.Sink.faults c.args.err.now) (g.E.Sink.faults c.end.new.err) c.end.ensures.status c.end.ensures.told;
-  runs = known_always (g.S.Source.left c.args.source.now) _ (λ input. record { read = Err (Failure.Input ReadAllFault.Memory); gives = tt; dumps = refl });
+  runs = known_always (g.S.Source.left c.args.source.now) _ (λ input. record { read = Err (Failure.Input ReadAllFault.Memory); gives = tt; dumps = (refl, record { disks = refl; output = refl }) });
   others = λ p first second. refl;
 }
 

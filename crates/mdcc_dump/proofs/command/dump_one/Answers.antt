@@ -1,7 +1,7 @@
 use Rattle.std.proofs.Common.{◌≡◌, ◌+◌, ◌∙◌, Err, refl, subst, sym, true, ℕ}
 use Rattle.std.proofs.lemmas.Result.{err_from_is_err_and}
-use Rattle.mdcc_areas.specs.Both.{KeepsBut, RoseAtOne}
-use Rattle.mdcc_areas.specs.declared.fault.LogFault.{LogFault}
+use Rattle.mdcc_log.specs.Both.{KeepsBut, RoseAtOne}
+use Rattle.mdcc_log_file.specs.declared.fault.LogFault.{LogFault}
 use Rattle.mdcc_base.specs.declared.source.ReadAllFault.{ReadAllFault}
 use Rattle.mdcc_dump.proofs.Ended.{disk_dumped, dumped_runs, no_centre_runs, no_input, no_link, not_early, output_dumped, unread_runs}
 use Rattle.mdcc_dump.proofs.Places.{but_unchanged, stays_unchanged}
@@ -19,7 +19,7 @@ pub returns-in_err-config-clause-runs : goal.returns-in_err-config-clause-runs
 returns-in_err-config-clause-runs g c =
     let p = err_from_is_err_and c.from_residual.result c.from_residual.ensures.1 in
     let e : c.from_residual.result ≡ Err c.in_err-config.field-0.0 = cc (p.1, p.2) in
-    unread_runs g.D.Disks.disk g.O.Sink.held c.args.disks.now c.args.disks.now c.args.out.now c.args.out.now (g.S.Source.left c.args.source.now) c.args.number c.in_err-config.field-0.0 c.from_residual.result e c.in_err-config.ensures.config
+    unread_runs g.D.Disks.disk g.O.Sink.held c.args.disks.now c.args.disks.now c.args.out.now c.args.out.now (g.S.Source.left c.args.source.now) c.args.number c.in_err-config.field-0.0 c.from_residual.result e (record { disks = refl; output = refl }) c.in_err-config.ensures.config
 
 pub returns-in_err-config-clause-early : goal.returns-in_err-config-clause-early
 returns-in_err-config-clause-early g c =
@@ -55,7 +55,7 @@ returns-in_err-config-clause-output g c = λ h.
 pub returns-in_default-clause-runs : goal.returns-in_default-clause-runs
 returns-in_default-clause-runs g c =
     no_centre_runs g.D.Disks.disk g.O.Sink.held c.args.disks.now c.args.disks.now c.args.out.now c.args.out.now (g.S.Source.left c.args.source.now) c.args.number c.in_ok-config.config
-    (c.centre_of.ensures.none c.in_default.is) c.in_ok-config.ensures.config
+    (c.centre_of.ensures.none c.in_default.is) (record { disks = refl; output = refl }) c.in_ok-config.ensures.config
 
 -- ---- a dump
 

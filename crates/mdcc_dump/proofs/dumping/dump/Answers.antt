@@ -1,6 +1,6 @@
 use Rattle.std.proofs.Common.{◌≡◌, ◌∙◌, refl, sym}
 use Rattle.std.proofs.lemmas.Result.{err_from_is_err_and}
-use Rattle.mdcc_areas.specs.declared.fault.LogFault.{LogFault}
+use Rattle.mdcc_log_file.specs.declared.fault.LogFault.{LogFault}
 use Rattle.mdcc_dump.proofs.Dumped.{kept_opening, kept_printing, log_fault, may_fail, no_log_fault, no_output, printed_dump, printing_fails, refused_dump, unopened}
 use Rattle.mdcc_dump.proofs.Places.{opens_broke, opens_whole}
 use Rattle.mdcc_dump.specs.declared.fault.DumpFault.{DumpFault}

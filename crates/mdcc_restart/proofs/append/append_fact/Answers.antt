@@ -1,4 +1,4 @@
-use Rattle.mdcc_areas.specs.Frames.{other_of, place_of}
+use Rattle.mdcc_log.specs.Frames.{other_of, place_of}
 use Rattle.mdcc_messages.specs.Spelling.{fact_bytes}
 use Rattle.mdcc_restart.proofs.Appended.{reads_either, still_in_use, still_spare}
 use Rattle.mdcc_restart.proofs.append.append_fact.Goals as goal

@@ -1,12 +1,12 @@
 use Rattle.std.proofs.Common.{◌≡◌, ◌+◌, ◌++◌, ◌∷◌, ◌≤◌, ◌<◌, [], List, ℕ, Ok, inl, inr, refl, sym, ◌∙◌, ap, length, subst}
 use Rattle.std.specs.Prelude.{IsTrue}
 use Rattle.std.proofs.lemmas.Result.{err_from_is_err_and}
-use Rattle.mdcc_areas.specs.Area.{AreaLog, payloads, payloads_of}
-use Rattle.mdcc_areas.specs.AtRest.{IsAtRest}
-use Rattle.mdcc_areas.specs.Crash.{ReadsAsEither}
-use Rattle.mdcc_areas.specs.Frames.{appended, place_of}
-use Rattle.mdcc_areas.specs.Tails.{tail_after}
-use Rattle.mdcc_areas.specs.declared.fault.LogFault.{LogFault}
+use Rattle.mdcc_log.specs.Area.{AreaLog, payloads, payloads_of}
+use Rattle.mdcc_log.specs.AtRest.{IsAtRest}
+use Rattle.mdcc_log.specs.Crash.{ReadsAsEither}
+use Rattle.mdcc_log.specs.Frames.{appended, place_of}
+use Rattle.mdcc_log.specs.Tails.{tail_after}
+use Rattle.mdcc_log_file.specs.declared.fault.LogFault.{LogFault}
 use Rattle.mdcc_messages.specs.Spelling.{fact_bytes, encodings_of}
 use Rattle.mdcc_restart.proofs.Kept.{append-keeps, each-fault, open-keeps, opened-before, rest-keeps}
 use Rattle.mdcc_restart.proofs.Named.{no-boot-memory, no-log-memory, of-disk}

@@ -1,5 +1,5 @@
 use Rattle.std.proofs.Common.{◌≡◌, ◌+◌, IsTrue, Result, Err, subst, sym}
-use Rattle.mdcc_areas.specs.declared.fault.LogFault.{LogFault}
+use Rattle.mdcc_log_file.specs.declared.fault.LogFault.{LogFault}
 use Rattle.mdcc_serve.proofs.Opened.{but_others, but_passes, open_fails}
 use Rattle.mdcc_serve.specs.Starts.{FailsToStart}
 use Rattle.mdcc_site.specs.declared.fault.ServeFault.{ServeFault}

@@ -8,4 +8,4 @@ returns-in-Ok-clause-runs g c =
 
 pub returns-in-Err-clause-runs : goal.returns-in-Err-clause-runs
 returns-in-Err-clause-runs g c =
-    if_some_weaker (g.S.Source.left c.args.source.now) _ _ (λ input h. record { read = Err c.in-Err.failure; gives = h; serves = refl }) c.in-Err.ensures.config
+    if_some_weaker (g.S.Source.left c.args.source.now) _ _ (λ input h. record { read = Err c.in-Err.failure; gives = h; serves = (refl, record { disks = refl; link = refl; output = refl }) }) c.in-Err.ensures.config

@@ -1,6 +1,8 @@
-use Rattle.std.proofs.Common.{◌≡◌, ◌∙◌, Err, sym}
+use Rattle.std.proofs.Common.{◌≡◌, ◌∙◌, Err, subst, sym}
+use Rattle.mdcc_base.specs.Causes.{Rose}
 use Rattle.mdcc_servers.proofs.Refused.{says_served}
 use Rattle.mdcc_servers.proofs.Served.{disk_served, link_served, no_input, none_early, output_served}
+use Rattle.mdcc_servers.proofs.Waiting.{serves_there}
 use Rattle.mdcc_servers.specs.Commands.{Untouched}
 use Rattle.mdcc_servers.proofs.serving.serve_centres.Goals as goal
 
@@ -8,7 +10,8 @@ pub returns-clause-serves : goal.returns-clause-serves
 returns-clause-serves g c = record {
   result = c.serve_cluster.result;
   is = c.as_served.ensures;
-  serves = c.serve_cluster.ensures.serves;
+  serves = λ logs numbers are. serves_there g.D.Disks.disk g.D.Disks.may_leave g.D.Disks.tears g.L.Link.calls g.L.Link.lost g.O.Sink.held c.args.link.now c.set_wait.new.self c.set_wait.ensures.calls c.set_wait.ensures.sends
+      c.args.config.now logs c.args.turns c.serve_cluster.result c.args.disks.now c.serve_cluster.new.disks c.serve_cluster.new.link c.args.out.now c.serve_cluster.new.out (c.serve_cluster.ensures.serves logs numbers are);
   logs = λ told. says_served g.D.Disks.disk c.args.config.now.cluster c.args.disks.now 1 c.args.config.now.cluster.quorums.centres told c.serve_cluster.result c.as_served.result c.as_served.ensures c.serve_cluster.ensures.logs;
 }
 
@@ -22,7 +25,8 @@ pub returns-clause-disk : goal.returns-clause-disk
 returns-clause-disk g c a = λ h. c.serve_cluster.ensures.disk a (disk_served a c.serve_cluster.result c.serve_cluster.ensures.may (sym c.as_served.ensures ∙ h))
 
 pub returns-clause-link : goal.returns-clause-link
-returns-clause-link g c = λ h. c.serve_cluster.ensures.link (link_served c.serve_cluster.result c.serve_cluster.ensures.may (sym c.as_served.ensures ∙ h))
+returns-clause-link g c = λ h.
+    subst (λ n. Rose n (g.L.Link.faults c.serve_cluster.new.link)) c.set_wait.ensures.receives (c.serve_cluster.ensures.link (link_served c.serve_cluster.result c.serve_cluster.ensures.may (sym c.as_served.ensures ∙ h)))
 
 pub returns-clause-output : goal.returns-clause-output
 returns-clause-output g c = λ h. c.serve_cluster.ensures.output (output_served c.serve_cluster.result c.serve_cluster.ensures.may (sym c.as_served.ensures ∙ h))

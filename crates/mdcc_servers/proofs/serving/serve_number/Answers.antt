@@ -1,14 +1,16 @@
-use Rattle.std.proofs.Common.{◌≡◌, ◌+◌, ◌∙◌, Err, List, refl, subst, sym, ℕ}
+use Rattle.std.proofs.Common.{◌≡◌, ◌+◌, ◌∙◌, ◌∷◌, [], Err, List, refl, subst, sym, ℕ}
+use Rattle.mdcc_base.specs.Causes.{Rose}
 use Rattle.mdcc_config.specs.declared.config.Config.{Config}
 use Rattle.mdcc_endings.specs.declared.fault.Failure.{Failure}
 use Rattle.mdcc_protocol.specs.Belongs.{is_centre}
 use Rattle.mdcc_servers.proofs.Refused.{says_served, told_alone}
 use Rattle.mdcc_servers.proofs.Served.{at_false, at_true, disk_served, link_served, no_input, none_early, output_served}
+use Rattle.mdcc_servers.proofs.Waiting.{serves_there}
 use Rattle.mdcc_servers.specs.Commands.{ServesOne, Untouched}
 use Rattle.mdcc_servers.proofs.serving.serve_number.Goals as goal
 
 pub returns-in_default-clause-serves : goal.returns-in_default-clause-serves
-returns-in_default-clause-serves g c = at_false (is_centre c.args.config.now.cluster c.args.number) _ _ (c.centre_of.ensures.none c.in_default.is) refl
+returns-in_default-clause-serves g c = at_false (is_centre c.args.config.now.cluster c.args.number) _ _ (c.centre_of.ensures.none c.in_default.is) (refl, record { disks = refl; link = refl; output = refl })
 
 pub returns-clause-serves : goal.returns-clause-serves
 returns-clause-serves g c =
@@ -19,7 +21,8 @@ returns-clause-serves g c =
     (subst serves c.in-Some.ensures.some.0 (record {
       result = c.serve_node.result;
       is = c.as_served.ensures;
-      serves = c.serve_node.ensures.serves;
+      serves = λ log of is. serves_there g.D.Disks.disk g.D.Disks.may_leave g.D.Disks.tears g.L.Link.calls g.L.Link.lost g.O.Sink.held c.args.link.now c.set_wait.new.self c.set_wait.ensures.calls c.set_wait.ensures.sends
+          c.args.config.now (log ∷ []) c.args.turns c.serve_node.result c.args.disks.now c.serve_node.new.disks c.serve_node.new.link c.args.out.now c.serve_node.new.out (c.serve_node.ensures.serves log of is);
       logs = λ told. says_served g.D.Disks.disk c.args.config.now.cluster c.args.disks.now c.in-Some.centre c.in-Some.centre (told_alone g.D.Disks.disk c.args.disks.now c.in-Some.centre told)
           c.serve_node.result c.as_served.result c.as_served.ensures c.serve_node.ensures.logs;
     }))
@@ -34,7 +37,8 @@ pub returns-clause-disk : goal.returns-clause-disk
 returns-clause-disk g c a = λ h. c.serve_node.ensures.disk a (disk_served a c.serve_node.result c.serve_node.ensures.may (sym c.as_served.ensures ∙ h))
 
 pub returns-clause-link : goal.returns-clause-link
-returns-clause-link g c = λ h. c.serve_node.ensures.link (link_served c.serve_node.result c.serve_node.ensures.may (sym c.as_served.ensures ∙ h))
+returns-clause-link g c = λ h.
+    subst (λ n. Rose n (g.L.Link.faults c.serve_node.new.link)) c.set_wait.ensures.receives (c.serve_node.ensures.link (link_served c.serve_node.result c.serve_node.ensures.may (sym c.as_served.ensures ∙ h)))
 
 pub returns-clause-output : goal.returns-clause-output
 returns-clause-output g c = λ h. c.serve_node.ensures.output (output_served c.serve_node.result c.serve_node.ensures.may (sym c.as_served.ensures ∙ h))

@@ -1,8 +1,8 @@
 use Rattle.std.proofs.Common.{◌≡◌, ◌≤◌, ◌++◌, ℕ, List, Result, Err, arith, subst}
-use Rattle.mdcc_areas.specs.declared.fault.LogFault.{LogFault}
-use Rattle.mdcc_areas.specs.AtRest.{IsAtRest}
-use Rattle.mdcc_areas.specs.Groups.{AreFull, ReadsAsAllOrNone}
-use Rattle.mdcc_areas.specs.Crash.{payloads_by}
+use Rattle.mdcc_log_file.specs.declared.fault.LogFault.{LogFault}
+use Rattle.mdcc_log.specs.AtRest.{IsAtRest}
+use Rattle.mdcc_log.specs.Groups.{AreFull, ReadsAsAllOrNone}
+use Rattle.mdcc_log.specs.Crash.{payloads_by}
 use Rattle.mdcc_site.proofs.Logged.{append_fails, appended_stands, payloads_short, same_fault, settled_there, some_facts, spare_there}
 use Rattle.mdcc_site.proofs.logging.log_payloads.Goals as goal
 

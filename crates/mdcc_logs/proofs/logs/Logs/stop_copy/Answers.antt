@@ -1,6 +1,6 @@
 use Rattle.std.proofs.Common.{◌≡◌, ◌+◌, ◌-◌, ◌≤◌, List, ap, arith, length, refl, set, subst, ◌∙◌, ℕ}
 use Rattle.std.proofs.lemmas.Bool.{leb-true}
-use Rattle.mdcc_areas.specs.Crash.{ReadsAsEither, payloads_by}
+use Rattle.mdcc_log.specs.Crash.{ReadsAsEither, payloads_by}
 use Rattle.mdcc_disks.specs.Memory.{IsBut, KeepsPlaces, at_place, crashed}
 use Rattle.mdcc_logs.proofs.Calls.{every-is, may-have, rest-there, settled-there, tail-there, told-there}
 use Rattle.mdcc_logs.proofs.Copied.{copy-stopped, copy-tail, standing-log}
@@ -79,8 +79,8 @@ returns-in-Ok-clause-stopped c centres up facts stand running =
     let told = told-there old old a centres up facts stand running some c.requires.within d log is same in
     let rest = standing-log old a centres up facts stand running some c.requires.within log is d same c.args.fact.now c.deref.result.now bytes fits in
     copy-stopped old a centres up facts stand running some c.requires.within log is d same c.args.fact.now c.deref.result.now bytes fits c.args.call c.args.image c.requires.first c.requires.due
-    mid c.crash.new.self _ c.append_due_until.new.self
-    (ap (λ (n : ℕ). set old.open.items (n - 1) c.append_due_until.new.self) place) c.append_due_until.ensures.others
+    mid c.crash.new.self _ c.append_due_until.new.frames
+    (ap (λ (n : ℕ). set old.open.items (n - 1) c.append_due_until.new.frames) place) c.append_due_until.ensures.others
     (c.in-Ok.ensures.appended rest.log told.0 rest.in_use) (c.in-Ok.ensures.stopped rest.log told.0 told.1 rest.in_use)
     c.stopped_is_read.ensures c.stopped_is_roomy.ensures c.crash_leaves_the_image.ensures
     (subst (λ (n : ℕ). KeepsPlaces n mid c.crash.new.self) number c.crash.ensures.others)
@@ -105,8 +105,8 @@ returns-in-Ok-clause-tail c centres up facts stand running =
     let told = told-there old old a centres up facts stand running some c.requires.within d log is same in
     let rest = standing-log old a centres up facts stand running some c.requires.within log is d same c.args.fact.now c.deref.result.now bytes fits in
     copy-tail old a centres up facts stand running some c.requires.within log is d same c.args.fact.now c.deref.result.now bytes fits c.args.call c.args.image c.requires.first c.requires.due
-    mid c.crash.new.self _ c.append_due_until.new.self
-    (ap (λ (n : ℕ). set old.open.items (n - 1) c.append_due_until.new.self) place) c.append_due_until.ensures.others
+    mid c.crash.new.self _ c.append_due_until.new.frames
+    (ap (λ (n : ℕ). set old.open.items (n - 1) c.append_due_until.new.frames) place) c.append_due_until.ensures.others
     (c.in-Ok.ensures.appended rest.log told.0 rest.in_use) (c.in-Ok.ensures.stopped rest.log told.0 told.1 rest.in_use)
     c.stopped_is_read.ensures c.stopped_is_roomy.ensures c.crash_leaves_the_image.ensures
     (subst (λ (n : ℕ). KeepsPlaces n mid c.crash.new.self) number c.crash.ensures.others)
@@ -127,8 +127,8 @@ returns-clause-refused c centres up facts stand running =
     let bytes = c.deref.ensures.value ∙ c.in_ok-payload.ensures in
     let told = told-there old old a centres up facts stand running some c.requires.within d log is same in
     let rest = rest-there old old a centres up facts stand running some c.requires.within d log is same in
-    may-have old _ a centres up facts stand running some c.requires.within d log is same c.append_due_until.new.self c.args.fact.now
-    (ap (λ (n : ℕ). set old.open.items (n - 1) c.append_due_until.new.self) place) c.append_due_until.ensures.others
+    may-have old _ a centres up facts stand running some c.requires.within d log is same c.append_due_until.new.frames c.args.fact.now
+    (ap (λ (n : ℕ). set old.open.items (n - 1) c.append_due_until.new.frames) place) c.append_due_until.ensures.others
     (λ current spare left left_other.
     subst (λ (p : List ℕ). ReadsAsEither (encodings_of (facts a)) p (payloads_by log.area current spare)) bytes
     (c.append_due_until.ensures.any_moment_reads (encodings_of (facts a)) current spare told.0 told.1 rest left left_other))

@@ -1,11 +1,11 @@
 use Rattle.std.proofs.Common.{◌≡◌, ◌≤◌, ◌+◌, ◌-◌, ◌*◌, ◌++◌, ◌∷◌, [], ap, arith, length, refl, subst, sym, ◌∙◌, ℕ}
-use Rattle.mdcc_areas.specs.Append.{MayAppend}
-use Rattle.mdcc_areas.specs.Area.{front_of}
-use Rattle.mdcc_areas.specs.Frames.{OpenAreas, other_of, place_of}
+use Rattle.mdcc_log_file.specs.Append.{MayAppend}
+use Rattle.mdcc_log.specs.Area.{front_of}
+use Rattle.mdcc_log.specs.Frames.{OpenAreas, other_of, place_of}
 use Rattle.mdcc_disks.specs.Contents.{durable, image_of}
 use Rattle.mdcc_disks.specs.Disks.{Within}
 use Rattle.mdcc_disks.specs.Memory.{at_place, disk_of, may_leave_of, standing}
-use Rattle.mdcc_log.specs.Frames.{append_calls}
+use Rattle.mdcc_log_file.specs.Calls.{append_calls}
 use Rattle.mdcc_logs.proofs.Refusals.{on-err, same-may-have}
 use Rattle.mdcc_logs.proofs.Standing.{held-same, log-is, same-disk}
 use Rattle.mdcc_logs.proofs.Stops.{area-sized, frame-tail, holds-area, other-area, other-bytes, range, rest, stopped, struck-bytes, unwritten}

@@ -1,5 +1,0 @@
-use Rattle.mdcc_areas.proofs.Choice.{between_is_read}
-use Rattle.mdcc_areas.proofs.laws.between_is_read.Goals as goal
-
-pub returns : goal.returns
-returns c = between_is_read

@@ -1,5 +1,0 @@
-use Rattle.mdcc_areas.proofs.LogReads.{log_is_read}
-use Rattle.mdcc_areas.proofs.laws.log_is_read.Goals as goal
-
-pub returns : goal.returns
-returns c = log_is_read

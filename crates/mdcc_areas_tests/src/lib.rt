@@ -1,7 +1,0 @@
-//! A log in two areas on disks in memory that fail and crash in each call.
-#![tactic(auto)]
-
-#[cfg(test)]
-mod areas;
-#[cfg(test)]
-mod groups;

@@ -1,0 +1,5 @@
+pub mod Append
+pub mod Calls
+pub mod Crash
+pub mod Frames
+pub mod Log

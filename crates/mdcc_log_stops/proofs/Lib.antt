@@ -1,0 +1,3 @@
+mod Memories
+mod StopCalls
+pub mod Stopped
