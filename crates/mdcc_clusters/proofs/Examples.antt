@@ -1,0 +1,36 @@
+-- The moves of the examples are executions.
+use Rattle.std.proofs.Common.{Bool, List, [], false, length, refl, true, ℕ, ◌^◌, ◌∷◌, ◌≡◌}
+use Rattle.std.specs.Prelude.{nat_le}
+use Rattle.std.proofs.lemmas.Bool.{leb-true}
+use Rattle.mdcc_messages.specs.declared.facts.Fact.{Fact}
+use Rattle.mdcc_runs.specs.Acts.{Act}
+use Rattle.mdcc_runs.specs.declared.lines.ServerLine.{ServerLine}
+use Rattle.mdcc_clusters.proofs.Executed.{executed-by}
+use Rattle.mdcc_clusters.specs.Clusters.{after_moves, not_started}
+use Rattle.mdcc_clusters.specs.Crash.{crash, three_centres}
+use Rattle.mdcc_clusters.specs.Example.{config, lines_of, moves, tx}
+use Rattle.mdcc_clusters.specs.Executions.{AreWithinLimits, IsExecution}
+use Rattle.mdcc_clusters.specs.Limits.{IsShort, steps_done}
+
+none-within : AreWithinLimits not_started
+none-within a process is = absurd (cc)
+
+pub commits-executed : IsExecution config not_started moves
+commits-executed = executed-by config not_started moves none-within refl
+
+pub crash-executed : (logged : Bool) → IsExecution three_centres not_started (crash logged)
+crash-executed true = executed-by three_centres not_started (crash true) none-within refl
+crash-executed false = executed-by three_centres not_started (crash false) none-within refl
+
+pub crash-lines : (logged : Bool) → lines_of (after_moves three_centres not_started (crash logged)) ≡ ServerLine.Heard 1 tx true ∷ ServerLine.Booted 2 2 ∷ ServerLine.Booted 3 1 ∷ ServerLine.Booted 2 1 ∷ ServerLine.Booted 1 1 ∷ []
+crash-lines true = refl
+crash-lines false = refl
+
+-- ---- short enough
+
+by-tests : (done : List (ℕ × Act)) (durable : List (ℕ × Fact)) → nat_le (steps_done done) (2 ^ 30) ≡ true → nat_le (length durable) (2 ^ 62) ≡ true → IsShort done durable
+by-tests done durable s f = record { steps = leb-true (steps_done done) (2 ^ 30) s; facts = leb-true (length durable) (2 ^ 62) f }
+
+pub crash-short : (logged : Bool) → IsShort (after_moves three_centres not_started (crash logged)).done (after_moves three_centres not_started (crash logged)).durable
+crash-short true = by-tests (after_moves three_centres not_started (crash true)).done (after_moves three_centres not_started (crash true)).durable refl refl
+crash-short false = by-tests (after_moves three_centres not_started (crash false)).done (after_moves three_centres not_started (crash false)).durable refl refl

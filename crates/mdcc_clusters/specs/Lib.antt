@@ -1,0 +1,16 @@
+pub mod Asked
+pub mod Answers
+pub mod Clusters
+pub mod Crash
+pub mod Discharged
+pub mod Example
+pub mod ExecutionTest
+pub mod Executions
+pub mod Formed
+pub mod Headline
+pub mod Limits
+pub mod Mail
+pub mod Pending
+pub mod Posted
+pub mod Several
+pub mod Traces

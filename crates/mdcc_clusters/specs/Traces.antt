@@ -1,0 +1,131 @@
+-- A cluster as the contracts of its servers show it: each process does the acts of a server of one centre, up to some act, whatever its receives give.
+use Rattle.std.specs.List.{AllByRecursion}
+use Rattle.std.specs.Prelude.{Bool, Err, List, None, Ok, Option, Result, Some, [], if◌then◌else◌, map, ⊤, ℕ, ◌==◌, ◌∷◌, ◌≡◌}
+use Rattle.mdcc_config.specs.IsConfig.{IsConfig}
+use Rattle.mdcc_config.specs.declared.config.Config.{Config}
+use Rattle.mdcc_messages.specs.declared.facts.Fact.{Fact}
+use Rattle.mdcc_protocol.specs.Belongs.{is_centre}
+use Rattle.mdcc_rules.specs.Boot.{booted_by}
+use Rattle.mdcc_rules.specs.declared.node.BootFault.{BootFault}
+use Rattle.mdcc_run_laws.specs.Brought.{AreBytes}
+use Rattle.mdcc_runs.specs.Acts.{Act}
+use Rattle.mdcc_runs.specs.Runs.{listed}
+use Rattle.mdcc_runs.specs.Sending.{persist_then_send}
+use Rattle.mdcc_runs.specs.Servers.{Log, served, site_of}
+use Rattle.mdcc_runs.specs.Sites.{Site}
+use Rattle.mdcc_runs.specs.Turns.{Given, turn_of}
+use Rattle.mdcc_runs.specs.Acts.{appended_by}
+use Rattle.mdcc_clusters.specs.Clusters.{Move, after_moves, in_flight, log_of, not_started, process_of}
+use Rattle.mdcc_clusters.specs.Executions.{IsExecution, IsWithinLimits, WasSent}
+use Rattle.mdcc_groups.specs.Groups.{facts_onto}
+use Rattle.mdcc_clusters.specs.Headline.{IsToldTruly}
+
+-- ---- traces
+
+-- all acts and all durable facts, as of a deployed cluster; and of each process the acts that it has not done
+pub record Traced : Type 0 where
+  pub done : List (ℕ × Act)
+  pub durable : List (ℕ × Fact)
+  pub left : ℕ → Option (List Act)
+
+abbrev pub nothing_yet : Traced
+nothing_yet = record { done = []; durable = []; left = λ a. None }
+
+pub data LifeEvent : Type 0 where
+  -- a server of this centre starts, whose receives will give this, turn by turn
+  Starts : (centre : ℕ) (given : List Given) → LifeEvent
+  -- it does its next act
+  Does : (centre : ℕ) → LifeEvent
+  -- it ends before its next act; if that is an append, perhaps with all of its facts in the log
+  Ends : (centre : ℕ) (logged : Bool) → LifeEvent
+
+abbrev pub with_left : Traced → ℕ → Option (List Act) → Traced
+with_left trace a left = record { done = trace.done; durable = trace.durable; left = λ b. if a == b then left else trace.left b }
+
+-- the acts of a server of this centre alone
+abbrev pub acts_of : Config → Log → List Given → List Act
+acts_of config log given = (served config (log ∷ []) (map (λ turn. turn ∷ []) given)).acts
+
+abbrev pub life_of : Config → ℕ → List Fact → List Given → Result (List Fact) BootFault → Option (List Act)
+life_of config a log given (Err fault) = None
+life_of config a log given (Ok facts) = Some (acts_of config (record { centre = a; facts = log }) given)
+
+abbrev pub after_begin_at : Config → Traced → ℕ → List Given → Option (List Act) → Traced
+after_begin_at config trace a given (Some left) = trace
+after_begin_at config trace a given None =
+    if is_centre config.cluster a
+    then with_left trace a (life_of config a (log_of trace.durable a) given (booted_by config.cluster (Ok (log_of trace.durable a))))
+    else trace
+
+abbrev pub after_next_at : Traced → ℕ → Option (List Act) → Traced
+after_next_at trace a None = trace
+after_next_at trace a (Some []) = trace
+after_next_at trace a (Some (act ∷ acts)) =
+    with_left (record { done = (a, act) ∷ trace.done; durable = facts_onto a (appended_by a act) trace.durable; left = trace.left }) a (Some acts)
+
+abbrev pub after_end_at : Traced → ℕ → Bool → Option (List Act) → Traced
+after_end_at trace a logged None = trace
+after_end_at trace a logged (Some left) =
+    with_left (record { done = trace.done; durable = if logged then facts_onto a (in_flight a left) trace.durable else trace.durable; left = trace.left }) a None
+
+abbrev pub after_event : Config → Traced → LifeEvent → Traced
+after_event config trace (LifeEvent.Starts a given) = after_begin_at config trace a given (trace.left a)
+after_event config trace (LifeEvent.Does a) = after_next_at trace a (trace.left a)
+after_event config trace (LifeEvent.Ends a logged) = after_end_at trace a logged (trace.left a)
+
+abbrev pub after_events : Config → Traced → List LifeEvent → Traced
+after_events config trace [] = trace
+after_events config trace (event ∷ events) = after_events config (after_event config trace event) events
+
+-- ---- premises
+
+-- receives give bytes
+pub record GivesBytes (given : Given) : Type 0 where
+  pub own : AllByRecursion AreBytes (listed given.own)
+  pub asked : AllByRecursion AreBytes (listed given.asked)
+
+-- after each turn, and after the last one, the centre is within the limits
+abbrev pub IsWithinTurns : Config → Site → List Given → Type 0
+IsWithinTurns config site [] = IsWithinLimits (process_of (persist_then_send config site))
+IsWithinTurns config site (given ∷ more) = IsWithinLimits (process_of (turn_of config site given)) × IsWithinTurns config (turn_of config site given).site more
+
+pub record IsLife (config : Config) (log : Log) (given : List Given) : Type 0 where
+  pub bytes : AllByRecursion GivesBytes given
+  pub booted : IsWithinLimits (record { left = []; site_then = site_of log })
+  pub turns : IsWithinTurns config (site_of log) given
+
+-- what a receive at a centre's own endpoint gives was sent before
+abbrev pub MayReceive : List (ℕ × Act) → ℕ → Act → Type 0
+MayReceive done a (Act.Receive at (Some bytes)) = at ≡ a → WasSent done bytes
+MayReceive done a act = ⊤
+
+abbrev pub MayDoNext : List (ℕ × Act) → ℕ → Option (List Act) → Type 0
+MayDoNext done a (Some (act ∷ acts)) = MayReceive done a act
+MayDoNext done a left = ⊤
+
+abbrev pub MayOccur : Config → Traced → LifeEvent → Type 0
+MayOccur config trace (LifeEvent.Starts a given) = IsLife config (record { centre = a; facts = log_of trace.durable a }) given
+MayOccur config trace (LifeEvent.Does a) = MayDoNext trace.done a (trace.left a)
+MayOccur config trace (LifeEvent.Ends a logged) = ⊤
+
+abbrev pub IsTrace : Config → Traced → List LifeEvent → Type 0
+IsTrace config trace [] = ⊤
+IsTrace config trace (event ∷ events) = MayOccur config trace event × IsTrace config (after_event config trace event) events
+
+-- ---- what is proved of them
+
+-- A trace has the acts and the durable facts of an execution.
+pub record IsExecuted (config : Config) (trace : Traced) : Type 0 where
+  pub moves : List Move
+  pub executed : IsExecution config not_started moves
+  pub done : trace.done ≡ (after_moves config not_started moves).done
+  pub durable : trace.durable ≡ (after_moves config not_started moves).durable
+
+abbrev pub TracesAreExecutions : Type 0
+TracesAreExecutions = (config : Config) (events : List LifeEvent) → IsTrace config nothing_yet events → IsExecuted config (after_events config nothing_yet events)
+
+-- so they have the headline
+abbrev pub HeadlineOfServers : Type 0
+HeadlineOfServers =
+    (config : Config) → IsConfig config → (events : List LifeEvent) → IsTrace config nothing_yet events
+    → IsToldTruly config (after_events config nothing_yet events).done (after_events config nothing_yet events).durable

@@ -1,0 +1,4 @@
+pub mod Booting
+pub mod Durable
+pub mod Lasts
+pub mod Nodes

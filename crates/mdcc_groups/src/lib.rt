@@ -1,0 +1,20 @@
+//! Nodes that make durable in groups, crash with or without their last one, and boot again: their ledger is allowed, and their messages tell the
+//! truth.
+#![tactic(auto)]
+
+ghost use Rattle.mdcc_groups.specs.Groups.{GoodStepsSuffice};
+ghost use Rattle.mdcc_groups.specs.Nodes.{EventsKeepSound, NodesAreSound};
+
+/// What a centre took since its last append may become durable together, whatever the other centres did meanwhile, or be lost
+/// together.
+pub fn groups_stand()
+    ensures { GoodStepsSuffice }
+{}
+
+/// Where each step of a node is good, and no message comes that was not sent, the ledger of what is durable in a cluster of nodes is
+/// allowed after any events, and all messages told the truth: nodes make durable in groups, crash with or without their last one, and
+/// boot again.
+pub fn nodes_are_sound()
+    ensures events { EventsKeepSound }
+    ensures all { NodesAreSound }
+{}
