@@ -14,7 +14,7 @@ use Rattle.mdcc_option.specs.declared.choices.Outcome.{Outcome}
 use Rattle.mdcc_option.specs.declared.cluster.Cluster.{Cluster}
 use Rattle.mdcc_option.specs.declared.items.Delta.{Delta}
 use Rattle.mdcc_option.specs.declared.items.Item.{Item}
-use Rattle.mdcc_struct.specs.Maps.{TxMap, are_ascending, txs_of}
+use Rattle.mdcc_struct.specs.Maps.{TxMap, txs_of}
 use Rattle.mdcc_ledger.specs.AllowedLedgers.{IsAllowed, part_in}
 use Rattle.mdcc_protocol.specs.Facts.{base_of, current_of, deltas_at, deltas_from, executed_of}
 use Rattle.mdcc_ledger.specs.Ledger.{Added, Entry, choices_begun, committed_of, facts_of, outcome_of}
@@ -36,7 +36,8 @@ use Rattle.mdcc_rooms.proofs.Among.{Contains-In, In-Contains}
 use Rattle.mdcc_rooms.proofs.HeldTold.{held_base, held_deltas}
 use Rattle.mdcc_history.proofs.CommitsRun.{commits_each, commits_only}
 use Rattle.mdcc_history.proofs.Sorted.{After, Ascending, Decides-tx_lt, ascending_union}
-use Rattle.mdcc_headline.specs.Truth.{IsAdded, IsReadOf, IsReportedAbort, IsReportedCommit, IsReportedRead, IsWhole, IsWritten}
+use Rattle.mdcc_right_reads.specs.RightReads.{IsAdded, IsReadOf, IsWritten, are_ascending}
+use Rattle.mdcc_headline.specs.Truth.{IsReportedAbort, IsReportedCommit, IsReportedRead, IsWhole}
 
 -- ---- the ledger at an earlier time
 
@@ -116,13 +117,13 @@ module _ (cluster : Cluster) (es : List Entry) (h : IsLedger cluster es) where
 
 -- ---- deltas, each transaction once
 
-after-all : {X : Type 0} (e : TxId × X) (es : TxMap X) → are_ascending es ≡ true → After e.0 (txs_of es) → are_ascending (e ∷ es) ≡ true
-after-all e [] h k = refl
-after-all e (f ∷ es) h k = rw ((Decides-tx_lt e.0 f.0).1 k.0, h) refl
+after-all : (tx : TxId) (txs : List TxId) → are_ascending txs ≡ true → After tx txs → are_ascending (tx ∷ txs) ≡ true
+after-all tx [] h k = refl
+after-all tx (u ∷ us) h k = rw ((Decides-tx_lt tx u).1 k.0, h) refl
 
-ascending-map : {X : Type 0} (es : TxMap X) → Ascending (txs_of es) → are_ascending es ≡ true
-ascending-map [] h = refl
-ascending-map (e ∷ es) h = after-all e es (ascending-map es h.1) h.0
+ascending-txs : (txs : List TxId) → Ascending txs → are_ascending txs ≡ true
+ascending-txs [] h = refl
+ascending-txs (tx ∷ txs) h = after-all tx txs (ascending-txs txs h.1) h.0
 
 deltas-ascending : (facts : List Fact) (key : Key) (version : ℕ) → Ascending (txs_of (deltas_at facts key version))
 deltas-ascending [] key version = tt
@@ -140,10 +141,6 @@ deltas-of es delta c = Contains-In es (delta.tx, delta.amounts) (inside es (In-C
     inside : (xs : TxMap Amounts) → In delta (map delta_of xs) → In (delta.tx, delta.amounts) xs
     inside [] g = absurd g
     inside (x ∷ xs) g = elim g [ inl here ↦ inl (ap (λ (z : Delta). (z.tx, z.amounts)) here) | inr there ↦ inr (inside xs there) ]
-
-pairs-of : (es : TxMap Amounts) → map (λ (delta : Delta). (delta.tx, delta.amounts)) (map delta_of es) ≡ es
-pairs-of [] = refl
-pairs-of (e ∷ es) = ap (λ l. e ∷ l) (pairs-of es)
 
 seen-same : (es : TxMap Amounts) → seen_of (map delta_of es) ≡ txs_of es
 seen-same [] = refl
@@ -215,7 +212,7 @@ module _ (cluster : Cluster) (later es : List Entry) (h : IsLedger cluster (late
             record {
               written = base-told key (current_of (facts_of es a) key) base held;
               added = λ delta c. add-told key (current_of (facts_of es a) key) delta (held_deltas cluster es (ledger-before cluster later es h) a key (delta.tx, delta.amounts) (deltas-of executed delta c));
-              once = subst (λ (l : TxMap Amounts). are_ascending l ≡ true) (sym (pairs-of executed)) (ascending-map executed (deltas-ascending (facts_of es a) key (current_of (facts_of es a) key)));
+              once = subst (λ (txs : List TxId). are_ascending txs ≡ true) (sym (seen-same executed)) (ascending-txs (txs_of executed) (deltas-ascending (facts_of es a) key (current_of (facts_of es a) key)));
               shows = shown-same (current_of (facts_of es a) key) base executed;
             },
           )

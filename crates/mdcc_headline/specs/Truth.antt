@@ -1,17 +1,10 @@
 -- What it is for the lines of a report to tell the truth of the committed transactions.
-use Rattle.std.specs.Prelude.{Contains, IsTrue, List, None, Option, Some, [], false, filter, is_some, length, map, not, true, ℕ, ⊤, ◌+◌, ◌<◌, ◌∷◌, ◌≡◌}
+use Rattle.std.specs.Prelude.{Contains, IsTrue, List, [], false, filter, is_some, length, map, not, true, ⊤, ◌<◌, ◌∷◌, ◌≡◌}
 use Rattle.mdcc_base.specs.declared.identifiers.TxId.{TxId}
-use Rattle.mdcc_base.specs.declared.key.Key.{Key}
-use Rattle.mdcc_option.specs.Held.{Held}
-use Rattle.mdcc_option.specs.OneCopy.{shown}
 use Rattle.mdcc_option.specs.Parts
 use Rattle.mdcc_option.specs.declared.choices.Choice.{Choice}
 use Rattle.mdcc_option.specs.declared.cluster.Cluster.{Cluster}
-use Rattle.mdcc_option.specs.declared.items.Delta.{Delta}
-use Rattle.mdcc_option.specs.declared.items.Item.{Item}
 use Rattle.mdcc_option.specs.declared.items.Known.{Known}
-use Rattle.mdcc_option.specs.declared.items.Update.{Update}
-use Rattle.mdcc_struct.specs.Maps.{are_ascending}
 use Rattle.mdcc_ledger.specs.AllowedLedgers.{part_in}
 use Rattle.mdcc_ledger.specs.Ledger.{Entry, choices_begun, committed_of, outcome_of, txs_begun}
 use Rattle.mdcc_protocol.specs.Marks.{is_abort}
@@ -19,6 +12,7 @@ use Rattle.mdcc_language.specs.declared.lines.Line.{Line}
 use Rattle.mdcc_agreement.specs.Laws.{IsAbort, IsCommit}
 use Rattle.mdcc_reports.specs.Order.{Decided}
 use Rattle.mdcc_reports.specs.Origins.{BeginsAt, IsLater}
+use Rattle.mdcc_right_reads.specs.RightReads.{IsReadOf}
 
 -- the transactions are listed each as its choices: committed is such a list
 
@@ -48,41 +42,7 @@ pub record IsReportedAbort (cluster : Cluster) (ledger : List Entry) (tx : TxId)
 
 -- ---- reads
 
--- a committed transaction writes this item to the key as this version: its Write stands at the version before
-pub record IsWritten (committed : List (List Choice)) (key : Key) (version : ℕ) (item : Item) : Type 0 where
-  pub choices : List Choice
-  pub listed : Contains committed choices
-  pub choice : Choice
-  pub one_of : Contains choices choice
-  pub of_key : choice.key ≡ key
-  pub of_version : choice.version + 1 ≡ version
-  pub seen : List TxId
-  pub writes : choice.update ≡ Update.Write item seen
-
--- the transaction committed, and adds these amounts to the key at this version
-pub record IsAdded (committed : List (List Choice)) (key : Key) (version : ℕ) (delta : Delta) : Type 0 where
-  pub choices : List Choice
-  pub listed : Contains committed choices
-  pub choice : Choice
-  pub one_of : Contains choices choice
-  pub of_tx : choice.tx ≡ delta.tx
-  pub of_key : choice.key ≡ key
-  pub of_version : choice.version ≡ version
-  pub adds : choice.update ≡ Update.Add delta.amounts
-
--- what was read of the key is what a one-copy store shows that holds this of it: a committed base of a version with committed deltas of that
--- version, each transaction once
-pub record IsItemVersion (committed : List (List Choice)) (known : Known) (item : Item) (held : Held) : Type 0 where
-  pub written : IsWritten committed known.key held.version held.base
-  pub added : (delta : Delta) → Contains held.deltas delta → IsAdded committed known.key held.version delta
-  pub once : IsTrue (are_ascending (map (λ delta. (delta.tx, delta.amounts)) held.deltas))
-  pub shows : (item, known.token) ≡ shown held
-
--- without an item a read shows the first state of its key
-abbrev pub IsReadOf : List (List Choice) → Known → Option Item → Type 0
-IsReadOf committed known None = known.token.version ≡ 0
-IsReadOf committed known (Some item) = (held : Held) × IsItemVersion committed known item held
-
+-- what was read is right over the transactions that are committed by then
 abbrev pub IsReportedRead : Cluster → List Entry → Known → Type 0
 IsReportedRead cluster ledger known = IsReadOf (committed_of cluster.quorums ledger) known known.item
 

@@ -1,0 +1,128 @@
+//! Updates of a commit.
+ghost use Rattle.std.specs.Prelude.{◌≡◌, ◌+◌, ◌++◌, ◌<◌, ◌≤◌, ◌^◌, ◌∷◌, [], IfErr, IsTrue, length, take};
+ghost use Rattle.mdcc_language.specs.Updates.{begins_update, parse_item};
+ghost use Rattle.mdcc_language.specs.Words.{parts_from};
+ghost use Rattle.mdcc_histories.specs.Grammar.{first_parts, parse_add, parse_write, part_of};
+
+use crate::places::word_at;
+use crate::words::{seen_in, version_in};
+use mdcc_base::BoundedList;
+use mdcc_language::SchedCause;
+use mdcc_option::{Item, Part, Update};
+use mdcc_words::TextFault;
+use mdcc_words::amounts::parse_amounts;
+use mdcc_words::bodies::body_of;
+use mdcc_words::faults::refused;
+use mdcc_words::keys::key_of;
+use mdcc_words::places::{end_at, part_at, part_end, start_after, text_eq};
+use mdcc_words::values::values_of;
+
+/// The first nine parts of a commit; nine are too many for a transaction.
+pub type FirstParts = BoundedList<Part, 9>;
+
+// The item whose two parts stand behind a place and end the word.
+fn parse_item(at: usize, word: &[u8], column: usize) -> Result<Item, TextFault>
+    requires place { at ≤ length word.now }
+    requires fits { column + length word.now < 2 ^ 64 }
+    ensures value { result ≡ parse_item at word.now column }
+    ensures column { IfErr result (λ fault. fault.column ≤ column + length word.now) }
+{
+    let start = start_after(b':', at, word, column)?;
+    let body = body_of(part_at(b':', start, word), column + start)?;
+    let next = start_after(b':', part_end(b':', start, word), word, column)?;
+    let values = values_of(part_at(b':', next, word), column + next)?;
+    end_at(part_end(b':', next, word), word, column)?;
+    Ok(Item { body, values })
+}
+
+// Whether the first part of a word is this one.
+fn begins_update(name: &[u8], word: &[u8]) -> bool
+    ensures value { result ≡ begins_update name.now word.now }
+    ensures within { IsTrue result → length name.now ≤ length word.now }
+{
+    text_eq(part_at(b':', 0, word), name)
+}
+
+// `write:KEY:VERSION:SEEN:BODY:VALUES`
+fn parse_write(word: &[u8], column: usize) -> Result<Part, TextFault>
+    requires place { 5 ≤ length word.now }
+    requires fits { column + length word.now < 2 ^ 64 }
+    ensures value { result ≡ parse_write word.now column }
+    ensures column { IfErr result (λ fault. fault.column ≤ column + length word.now) }
+{
+    let first = start_after(b':', 5, word, column)?;
+    let key = key_of(part_at(b':', first, word), column + first)?;
+    let second = start_after(b':', part_end(b':', first, word), word, column)?;
+    let version = version_in(part_at(b':', second, word), column + second)?;
+    let third = start_after(b':', part_end(b':', second, word), word, column)?;
+    let seen = seen_in(part_at(b':', third, word), column + third)?;
+    let item = parse_item(part_end(b':', third, word), word, column)?;
+    Ok(Part {
+        key,
+        version,
+        update: Update::Write(item, seen),
+    })
+}
+
+// `add:KEY:VERSION:ATTRIBUTE=AMOUNT,..`
+fn parse_add(word: &[u8], column: usize) -> Result<Part, TextFault>
+    requires place { 3 ≤ length word.now }
+    requires fits { column + length word.now < 2 ^ 64 }
+    ensures value { result ≡ parse_add word.now column }
+    ensures column { IfErr result (λ fault. fault.column ≤ column + length word.now) }
+{
+    let first = start_after(b':', 3, word, column)?;
+    let key = key_of(part_at(b':', first, word), column + first)?;
+    let second = start_after(b':', part_end(b':', first, word), word, column)?;
+    let version = version_in(part_at(b':', second, word), column + second)?;
+    let third = start_after(b':', part_end(b':', second, word), word, column)?;
+    let amounts = parse_amounts(part_at(b':', third, word), column + third)?;
+    end_at(part_end(b':', third, word), word, column)?;
+    Ok(Part {
+        key,
+        version,
+        update: Update::Add(amounts),
+    })
+}
+
+/// The part that an update word is, at a column.
+pub fn part_of(word: &[u8], column: usize) -> Result<Part, TextFault>
+    requires { column + length word.now < 2 ^ 64 }
+    ensures value { result ≡ part_of word.now column }
+    ensures column { IfErr result (λ fault. fault.column ≤ column + length word.now) }
+{
+    if begins_update(b"write", word) {
+        parse_write(word, column)
+    } else if begins_update(b"add", word) {
+        parse_add(word, column)
+    } else {
+        refused(column, SchedCause::Word)
+    }
+}
+
+// One more part, where there are not nine.
+fn keep(parts: &mut FirstParts, part: Part)
+    ensures value { parts.new ≡ take 9 (parts.old ++ part ∷ []) }
+    ensures few { length parts.new ≤ 9 }
+{
+    if !parts.is_full() {
+        parts.push(part);
+    }
+}
+
+/// The parts from a place of a line to its end, of which the first nine are kept.
+pub fn first_parts(at: usize, line: &[u8]) -> Result<FirstParts, TextFault>
+    requires { at ≤ length line.now }
+    ensures value { result ≡ first_parts (at + 1) (parts_from 32 at line.now) }
+    ensures column { IfErr result (λ fault. fault.column ≤ length line.now + 1) }
+{
+    let mut parts: FirstParts = BoundedList::new();
+    let mut place = at;
+    while place <= line.len() {
+        let word = word_at(place, line);
+        let part = part_of(word, place + 1)?;
+        keep(&mut parts, part);
+        place += word.len() + 1;
+    }
+    Ok(parts)
+}
