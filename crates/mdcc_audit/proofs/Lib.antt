@@ -1,0 +1,12 @@
+pub mod Alike
+pub mod Earliest
+pub mod Ends
+pub mod Exact
+pub mod InOrder
+pub mod Kept
+pub mod Named
+pub mod Own
+pub mod Ranges
+pub mod Spoken
+pub mod Tests
+pub mod Walks

@@ -1,0 +1,10 @@
+pub mod Auditing
+pub mod Contradictions
+pub mod Firsts
+pub mod Free
+pub mod Logs
+pub mod Represents
+pub mod Sayings
+pub mod Subjects
+pub mod Values
+pub mod Votes
