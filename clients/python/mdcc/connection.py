@@ -1,0 +1,256 @@
+"""Requests to centres over datagrams: serials, sending again, and which answer belongs to which request.
+
+It runs in one asyncio loop. A centre answers to one address, which only one process can own, so many transactions of one process are open at
+once over one socket for each centre.
+"""
+from __future__ import annotations
+
+import asyncio
+import errno
+import os
+import socket
+from dataclasses import dataclass, field
+from typing import Dict, Iterable, List, Optional, Sequence, Tuple
+
+from . import wire
+from .configuration import Configuration
+from .records import Add, Part, Record, Tx
+from .results import PortTaken
+
+# No more reads than this wait for their answers at one centre, whose socket may have room for a few hundred datagrams.
+MOST_READS = 64
+BUFFER = 4 << 20
+# More than any number of a record may change by, since bounds are at most 10^15 in magnitude.
+NO_AMOUNT = 2 ** 62
+
+
+@dataclass
+class Ending:
+    """What became of a request to begin. Where `answer` is None, no end was told in time, and `begun` has the transaction if one was told.
+
+    `is_alone` says that no other transaction can have been begun for the request: it was sent once, or the centre did not start anew
+    between the first sending and the begin."""
+
+    answer: Optional[wire.Answer] = None
+    begun: Optional[Tx] = None
+    is_alone: bool = True
+
+
+@dataclass
+class Waiting:
+    """A request that waits for answers."""
+
+    serial: int
+    datagrams: List[bytes]
+    epoch: Optional[int]
+    newest: Tuple[int, int]
+    sends: int = 0
+    begun: Optional[Tx] = None
+    told: asyncio.Event = field(default_factory=asyncio.Event)
+    # each with the epoch in which the centre gave it
+    answers: List[Tuple[int, wire.Answer]] = field(default_factory=list)
+
+
+class Endpoint(asyncio.DatagramProtocol):
+    """The one socket at which the answers of a centre come."""
+
+    def __init__(self, centre: int, to: Tuple[str, int]):
+        self.centre, self.to = centre, to
+        # Serials of other processes lie elsewhere, as far as chance goes; `Connection.begin` notices where they do not.
+        self.serial = int.from_bytes(os.urandom(4), "little")
+        self.waiting: Dict[int, Waiting] = {}
+        # the epoch of the centre's last answer, and the newest transaction that it began for this process, by epoch and sequence
+        self.epoch: Optional[int] = None
+        self.newest: Optional[Tuple[int, int]] = None
+        self.reads = asyncio.Semaphore(MOST_READS)
+        self.transport: Optional[asyncio.DatagramTransport] = None
+        self.closed = asyncio.Event()
+
+    def connection_made(self, transport: asyncio.BaseTransport) -> None:
+        self.transport = transport  # type: ignore[assignment]
+
+    def connection_lost(self, exc: Optional[Exception]) -> None:
+        self.closed.set()
+
+    def error_received(self, exc: Exception) -> None:
+        """A centre that does not run refuses datagrams; they are lost, as others may be."""
+
+    def datagram_received(self, data: bytes, addr: object) -> None:
+        try:
+            serial, epoch, answer = wire.read_answer(data, self.centre)
+        except wire.NoAnswer:
+            return
+        self.epoch = epoch
+        waiting = self.waiting.get(serial)
+        if waiting is not None:
+            waiting.answers.append((epoch, answer))
+            waiting.told.set()
+
+    def next_serial(self) -> int:
+        self.serial = (self.serial + 1) & 0xFFFFFFFF
+        return self.serial
+
+    def open(self, serial: int, message: bytes) -> Waiting:
+        waiting = Waiting(serial, wire.datagrams(message, 16 + self.centre, serial, 1), self.epoch, self.newest or (0, 0))
+        self.waiting[serial] = waiting
+        return waiting
+
+    def send(self, waiting: Waiting) -> None:
+        waiting.sends += 1
+        if self.transport is not None and not self.transport.is_closing():
+            for datagram in waiting.datagrams:
+                self.transport.sendto(datagram, self.to)
+
+
+async def told(waiting: Waiting, seconds: float) -> bool:
+    """Waits for an answer, and says whether one came."""
+    if not waiting.answers:
+        waiting.told.clear()
+        try:
+            await asyncio.wait_for(waiting.told.wait(), max(seconds, 0.0))
+        except asyncio.TimeoutError:
+            return False
+    return True
+
+
+def bound_socket(configuration: Configuration, centre: int) -> socket.socket:
+    bound = socket.socket(socket.AF_INET, socket.SOCK_DGRAM)
+    try:
+        bound.setsockopt(socket.SOL_SOCKET, socket.SO_RCVBUF, BUFFER)
+        bound.bind(configuration.answered(centre))
+        bound.setblocking(False)
+    except OSError:
+        bound.close()
+        raise
+    return bound
+
+
+class Connection:
+    """One socket for each centre whose answers come to this machine."""
+
+    def __init__(self, configuration: Configuration, again: float, wait: float):
+        self.configuration, self.again, self.wait = configuration, again, wait
+        self.endpoints: Dict[int, Endpoint] = {}
+
+    async def open(self, centres: Optional[Iterable[int]]) -> None:
+        """Binds the addresses of the clients of these centres; of all whose host is this machine, where none are named."""
+        for centre in centres if centres is not None else self.configuration.centres:
+            try:
+                bound = bound_socket(self.configuration, centre)
+            except OSError as error:
+                if error.errno == errno.EADDRINUSE:
+                    await self.close()
+                    raise PortTaken(error.errno, f"another process is the client of centre {centre}") from error
+                if centres is None and error.errno == errno.EADDRNOTAVAIL:
+                    continue
+                await self.close()
+                raise
+            endpoint = Endpoint(centre, self.configuration.asked(centre))
+            await asyncio.get_running_loop().create_datagram_endpoint(lambda: endpoint, sock=bound)
+            self.endpoints[centre] = endpoint
+        if not self.endpoints:
+            raise OSError(errno.EADDRNOTAVAIL, "no centre of the configuration has its host at this machine")
+
+    async def close(self) -> None:
+        """Gives the ports free, and returns once they are."""
+        for endpoint in self.endpoints.values():
+            if endpoint.transport is not None:
+                endpoint.transport.close()
+                await endpoint.closed.wait()
+
+    def pause(self, waiting: Waiting) -> float:
+        """For how long to wait until a request is sent again: longer each time, since a centre that is late may have too much to do."""
+        return self.again * min(2 ** (waiting.sends - 1), 8)
+
+    # ---- reads
+
+    async def read(self, centre: int, key: str, seconds: float) -> Optional[Record]:
+        """What a centre shows of a key; None where it does not answer in time."""
+        endpoint = self.endpoints[centre]
+        async with endpoint.reads:
+            serial = endpoint.next_serial()
+            waiting = endpoint.open(serial, wire.read_request(centre, serial, key))
+            try:
+                return await self.shown(endpoint, waiting, key, seconds)
+            finally:
+                del endpoint.waiting[serial]
+
+    async def shown(self, endpoint: Endpoint, waiting: Waiting, key: str, seconds: float) -> Optional[Record]:
+        loop = asyncio.get_running_loop()
+        end = loop.time() + seconds
+        while loop.time() < end:
+            endpoint.send(waiting)
+            if await told(waiting, min(self.pause(waiting), end - loop.time())):
+                for _, answer in waiting.answers:
+                    if isinstance(answer, Record) and answer.key == key:
+                        return answer
+                waiting.answers.clear()
+        return None
+
+    async def read_all(self, centre: int, keys: Sequence[str], seconds: float) -> Dict[str, Record]:
+        """What a centre shows of keys, each asked by a datagram of its own, all at once. Those without an answer in time are not there."""
+        shown = await asyncio.gather(*(self.read(centre, key, seconds) for key in keys))
+        return {record.key: record for record in shown if record is not None}
+
+    # ---- begins
+
+    async def begin(self, centre: int, parts: Sequence[Part], seconds: float, may_repeat: bool) -> Ending:
+        """Begins a transaction, and waits for its end. It is sent again only where it may be begun a second time, as it is by a centre
+        that starts anew in between."""
+        endpoint = self.endpoints[centre]
+        loop = asyncio.get_running_loop()
+        end = loop.time() + seconds
+        while True:
+            serial = await self.free_serial(endpoint, end)
+            if serial is None:
+                return Ending()
+            waiting = endpoint.open(serial, wire.begin_request(centre, serial, parts))
+            try:
+                ending = await self.ended(endpoint, waiting, end, may_repeat)
+            finally:
+                del endpoint.waiting[serial]
+            if ending is not None:
+                return ending
+
+    async def free_serial(self, endpoint: Endpoint, end: float) -> Optional[int]:
+        """A serial for a begin; None where the centre is silent.
+
+        A centre answers to the serial of an earlier begin with what came of that. Once a transaction of this process is known, an older one
+        gives it away. Before, the serial is tried with parts that can be no transaction: to these, a centre says so if it is free. Each
+        serial is tried once, so that no second such answer comes when it is in use."""
+        loop = asyncio.get_running_loop()
+        wait = self.again
+        while endpoint.newest is None and loop.time() < end:
+            serial = endpoint.next_serial()
+            nothing = Part("probe", 1, Add(((len(self.configuration.bounds), NO_AMOUNT),)))
+            waiting = endpoint.open(serial, wire.begin_request(endpoint.centre, serial, (nothing,)))
+            try:
+                endpoint.send(waiting)
+                if await told(waiting, min(wait, end - loop.time())) and isinstance(waiting.answers[0][1], wire.DraftRefused):
+                    return serial
+            finally:
+                del endpoint.waiting[serial]
+            wait *= 2
+        return endpoint.next_serial() if endpoint.newest is not None else None
+
+    async def ended(self, endpoint: Endpoint, waiting: Waiting, end: float, may_repeat: bool) -> Optional[Ending]:
+        """How a request to begin ends; None where its serial was one of another process, and nothing was begun. A centre that does not say that it
+        began is given up before."""
+        loop = asyncio.get_running_loop()
+        silent = min(end, loop.time() + self.wait)
+        while loop.time() < (end if waiting.begun else silent):
+            if waiting.sends == 0 or may_repeat:
+                endpoint.send(waiting)
+            if not await told(waiting, min(self.pause(waiting), end - loop.time())):
+                continue
+            for epoch, answer in waiting.answers:
+                if isinstance(answer, (wire.Begun, wire.Heard)):
+                    begun = (answer.tx.epoch, answer.tx.sequence)
+                    if begun <= waiting.newest:
+                        return None
+                    waiting.begun = answer.tx
+                    endpoint.newest = max(endpoint.newest or (0, 0), begun)
+                if isinstance(answer, (wire.Heard, wire.BeginRefused, wire.DraftRefused)):
+                    return Ending(answer, waiting.begun, waiting.sends <= 1 or epoch == waiting.epoch)
+            waiting.answers.clear()
+        return Ending(None, waiting.begun, False)
