@@ -174,6 +174,12 @@ class Client:
         while self.later and self.later[0][0] <= now:
             heapq.heappop(self.later)[2]()
 
+    def forget(self):
+        """Asks for nothing any more that was not answered."""
+        for request in self.requests.values():
+            request.is_open = False
+        self.requests.clear()
+
     def run_until(self, done, seconds=60.0):
         """Steps until it is done or the time is over, and says which."""
         end = time.monotonic() + seconds

@@ -79,6 +79,13 @@ def write_log(payloads):
     return FIRST + b"".join(b"\1" + U32.pack(len(payload)) + payload for payload in payloads) + b"\0"
 
 
+def write_area(generation, records, payloads):
+    """An area of the second format, as a checkpoint leaves it with these records, and a frame for each payload behind it."""
+    body = b"".join(U32.pack(len(record)) + record for record in records)
+    frames = b"".join(b"\1" + U32.pack(len(payload)) + payload for payload in payloads)
+    return SECOND + b"\1" + U64.pack(generation) + U64.pack(len(records)) + body + frames + b"\0"
+
+
 def read_frames(data, at):
     """The payloads of the frames from the first gate on, up to a gate that is not open."""
     payloads = []

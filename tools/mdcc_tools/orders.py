@@ -74,8 +74,9 @@ class Item:
 class Sales:
     """Each order takes a few pieces of several items, which were inserted before."""
 
-    def __init__(self, client, configuration, count, each, seed, prefix="item"):
-        self.client, self.configuration, self.each = client, configuration, each
+    def __init__(self, client, configuration, count, each, seed, prefix="item", settles=0.01):
+        """`settles` says after how many seconds the other centres have heard of an item that was rewritten."""
+        self.client, self.configuration, self.each, self.settles = client, configuration, each, settles
         self.random = random.Random(seed)
         self.items = [Item(f"{prefix}/{number}".encode()) for number in range(1, count + 1)]
         self.stock = configuration.bounds[0][1]
@@ -145,7 +146,7 @@ class Sales:
         self.rewrites["done"] += 1
         item.version, item.adds, item.is_doubtful = item.version + 1, 0, False
         # The other centres hear of it a moment later.
-        self.client.after(0.01, lambda: setattr(item, "is_free", True))
+        self.client.after(self.settles, lambda: setattr(item, "is_free", True))
         return True
 
     # ---- orders

@@ -40,10 +40,11 @@ def read_lines(path):
 
 
 class Node:
-    """One node process. Its output goes to node-K.out and node-K.err, each start after the last."""
+    """One node process. Its output goes to node-K.out and node-K.err, each start after the last. `environment` is added to that of this process."""
 
-    def __init__(self, program, configuration, folder, centre):
+    def __init__(self, program, configuration, folder, centre, environment=None):
         self.program, self.configuration, self.folder, self.centre = os.path.abspath(program), configuration, folder, centre
+        self.environment = {**os.environ, **(environment or {})}
         self.process = None
         self.started = 0
 
@@ -54,7 +55,7 @@ class Node:
         self.started = len(self.boots())
         with open(self.path("out"), "ab") as out, open(self.path("err"), "ab") as err:
             self.process = subprocess.Popen([self.program, "node", str(self.centre), str(turns)], cwd=self.folder, stdin=subprocess.PIPE,
-                                            stdout=out, stderr=err, start_new_session=True)
+                                            stdout=out, stderr=err, env=self.environment, start_new_session=True)
         try:
             self.process.stdin.write(self.configuration.text)
             self.process.stdin.close()
@@ -64,8 +65,19 @@ class Node:
         with open(self.path("pid"), "w") as pid:
             pid.write(f"{self.process.pid}\n")
 
+    def said(self, word):
+        """The lines of its output that begin with a word."""
+        return [line for line in read_lines(self.path("out")) if line.startswith(word + " ")]
+
     def boots(self):
-        return [line for line in read_lines(self.path("out")) if line.startswith("boot ")]
+        return self.said("boot")
+
+    def wait_until_said(self, word, count=1, seconds=20):
+        end = time.monotonic() + seconds
+        while len(self.said(word)) < count:
+            if not self.is_running() or time.monotonic() > end:
+                raise NodeFailed(f"centre {self.centre} did not say {word} {count} times")
+            time.sleep(0.002)
 
     def wait_until_up(self, seconds=60):
         """Waits for the boot line of this start, and gives it."""
@@ -80,8 +92,11 @@ class Node:
                 raise NodeFailed(f"centre {self.centre} did not come up in {seconds} seconds")
             time.sleep(0.002)
 
+    def errors(self):
+        return read_lines(self.path("err"))
+
     def last_error(self):
-        return (read_lines(self.path("err")) or ["no line on its error stream"])[-1]
+        return (self.errors() or ["no line on its error stream"])[-1]
 
     def is_running(self):
         return self.process is not None and self.process.poll() is None
