@@ -1,5 +1,5 @@
 //! Restarts over disks in memory, and after a crash in each call of an append.
-ghost use Rattle.std.specs.Prelude.{[], ◌≤◌};
+ghost use Rattle.std.specs.Prelude.{[], length, ◌≤◌};
 
 use crate::setup::{BOOTED, HEARD, PROMISED, five_centres};
 use mdcc_admission::parts_belong::is_centre;
@@ -17,22 +17,30 @@ use std::test::*;
 const BOOTED_AGAIN: [u8; 5] = [1, 2, 0, 0, 0];
 
 // Where the append of a third fact was struck and what a crash left of it: the number of its call, the image, and whether
-// the fact is there. An opening of two empty areas makes seven calls, and an append four: the frame is written behind the
-// closed gate, sync, the gate is opened, sync.
+// the fact is there. An opening of two empty areas makes seven calls, one that has nothing to repair five, and an append four: the
+// frame is written behind the closed gate, sync, the gate is opened, sync.
 const STRUCK: [(u32, Image, bool); 12] = [
-    (16, Image::Lost, false),
-    (16, Image::Kept, false),
-    (16, Image::Torn, false),
-    (17, Image::Lost, false),
-    (17, Image::Kept, false),
-    (17, Image::Torn, false),
-    (18, Image::Lost, false),
-    (18, Image::Kept, true),
-    (18, Image::Torn, false),
-    (19, Image::Lost, false),
-    (19, Image::Kept, true),
-    (19, Image::Torn, false),
+    (26, Image::Lost, false),
+    (26, Image::Kept, false),
+    (26, Image::Torn, false),
+    (27, Image::Lost, false),
+    (27, Image::Kept, false),
+    (27, Image::Torn, false),
+    (28, Image::Lost, false),
+    (28, Image::Kept, true),
+    (28, Image::Torn, false),
+    (29, Image::Lost, false),
+    (29, Image::Kept, true),
+    (29, Image::Torn, false),
 ];
+
+// Opens the log of the first centre, and appends a payload.
+fn append(alloc: Global, disks: &mut MemoryDisks, payload: &[u8]) -> Result<(), LogFault>
+    requires { length payload.now ≤ 2097152 }
+{
+    let (mut log, _payloads) = Frames::open(alloc, disks, Centre::default(), 1024)?;
+    log.append(disks, payload)
+}
 
 // The epoch of the centre that starts over the disks and an empty store, where its node is of that epoch, or why none starts.
 fn restarted_over<S: FactStore + Drop>(
@@ -121,10 +129,9 @@ fn left_behind(
     image: Image,
 ) -> Result<MemoryDisks, Fail> {
     let mut disks = MemoryDisks::new(alloc, 17, &[call])?;
-    let (mut log, _payloads) = Frames::open(alloc, &mut disks, Centre::default(), 1024)?;
-    log.append(&mut disks, &BOOTED)?;
-    log.append(&mut disks, &PROMISED)?;
-    let outcome = log.append(&mut disks, &HEARD);
+    append(alloc, &mut disks, &BOOTED)?;
+    append(alloc, &mut disks, &PROMISED)?;
+    let outcome = append(alloc, &mut disks, &HEARD);
     assert!(rt; outcome.is_err());
     disks.crash(1, image);
     disks.crash(17, image);
@@ -233,9 +240,8 @@ fn no_start(rt: HostRuntime) -> Result<(), Fail> {
 fn within_cells(rt: HostRuntime) -> Result<(), Fail> {
     let alloc = rt.alloc();
     let mut disks = MemoryDisks::new(alloc, 17, &[])?;
-    let (mut log, _payloads) = Frames::open(alloc, &mut disks, Centre::default(), 1024)?;
-    log.append(&mut disks, &BOOTED)?;
-    log.append(&mut disks, &PROMISED)?;
+    append(alloc, &mut disks, &BOOTED)?;
+    append(alloc, &mut disks, &PROMISED)?;
     assert_eq!(rt;
         restarted_within(&rt, alloc, 2, &mut disks)?,
         Err(RestartFault::Boot(BootFault::Room {

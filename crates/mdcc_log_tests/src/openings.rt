@@ -18,10 +18,11 @@ const CRASHES: [Option<Image>; 4] = [
 // After so many frames a checkpoint would be due: none is here.
 const EVERY: u32 = 1_000;
 
-// Of each call of an opening and of three appends, by its number: how many payloads were acknowledged when it failed, and how
-// many are read where all that was written is kept. An opening of two empty areas makes seven calls, sync and length at each and
-// then cut, write and sync at the first, and an append four.
-const CALLS: [(u32, usize, usize); 19] = [
+// Of each call of three openings with an append behind each, by its number: how many payloads were acknowledged when it failed, and
+// how many are read where all that was written is kept. An opening of two empty areas makes seven calls, sync and length at each and
+// then cut, write and sync at the first; one that has nothing to repair makes five, sync, length and read at the first and sync and
+// length at the second; an append makes four.
+const CALLS: [(u32, usize, usize); 29] = [
     (1, 0, 0),
     (2, 0, 0),
     (3, 0, 0),
@@ -35,27 +36,37 @@ const CALLS: [(u32, usize, usize); 19] = [
     (11, 0, 1),
     (12, 1, 1),
     (13, 1, 1),
-    (14, 1, 2),
-    (15, 1, 2),
-    (16, 2, 2),
-    (17, 2, 2),
-    (18, 2, 3),
-    (19, 2, 3),
+    (14, 1, 1),
+    (15, 1, 1),
+    (16, 1, 1),
+    (17, 1, 1),
+    (18, 1, 1),
+    (19, 1, 2),
+    (20, 1, 2),
+    (21, 2, 2),
+    (22, 2, 2),
+    (23, 2, 2),
+    (24, 2, 2),
+    (25, 2, 2),
+    (26, 2, 2),
+    (27, 2, 2),
+    (28, 2, 3),
+    (29, 2, 3),
 ];
 
 // Where an append behind those stopped and what a crash left of it: the number of its call, the image, how many calls the
-// opening behind it makes at the first area, and how many payloads are read. Before it come 19 calls as above and five of an
+// opening behind it makes at the first area, and how many payloads are read. Before it come 29 calls as above and five of an
 // opening that has nothing to repair. The opening makes these at the first area: sync, length, read; where the last gate is torn
 // write, sync; where bytes stand behind it cut, sync.
 const LEFT: [(u32, Image, u32, usize); 8] = [
-    (25, Image::Lost, 3, 3),
-    (25, Image::Kept, 5, 3),
-    (25, Image::Torn, 5, 3),
-    (26, Image::Kept, 5, 3),
-    (27, Image::Lost, 5, 3),
-    (27, Image::Kept, 3, 4),
-    (27, Image::Torn, 7, 3),
-    (28, Image::Torn, 7, 3),
+    (35, Image::Lost, 3, 3),
+    (35, Image::Kept, 5, 3),
+    (35, Image::Torn, 5, 3),
+    (36, Image::Kept, 5, 3),
+    (37, Image::Lost, 5, 3),
+    (37, Image::Kept, 3, 4),
+    (37, Image::Torn, 7, 3),
+    (38, Image::Torn, 7, 3),
 ];
 
 // Whether these are the first so many of four payloads.
@@ -73,19 +84,20 @@ fn are_first(payloads: &[HeapList<u8>], count: usize) -> bool {
             .all(|(payload, expected)| payload.as_slice() == expected)
 }
 
-// Opens the log and appends three payloads. Counts those that were acknowledged.
+// Opens the log three times, and appends a payload each time. Counts those that were acknowledged.
 fn append_three(
     alloc: Global,
     disks: &mut MemoryDisks,
     acknowledged: &mut usize,
 ) -> Result<(), LogFault> {
-    let (mut log, _payloads) = Frames::open(alloc, disks, Centre::default(), EVERY)?;
-    log.append(disks, b"a".as_slice())?;
-    *acknowledged = 1;
-    log.append(disks, b"bc".as_slice())?;
-    *acknowledged = 2;
-    log.append(disks, b"def".as_slice())?;
-    *acknowledged = 3;
+    for (index, payload) in [b"a".as_slice(), b"bc".as_slice(), b"def".as_slice()]
+        .iter()
+        .enumerate()
+    {
+        let (mut log, _payloads) = Frames::open(alloc, disks, Centre::default(), EVERY)?;
+        log.append(disks, payload)?;
+        *acknowledged = index + 1;
+    }
     Ok(())
 }
 
