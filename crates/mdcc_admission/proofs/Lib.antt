@@ -4,7 +4,6 @@ pub mod Exact
 pub mod Fresh
 pub mod LastVotes
 pub mod Marks
-pub mod Settled
 pub mod Several
 pub mod Short
 pub mod Single

@@ -1,8 +1,7 @@
 -- What is read from the payloads of a log over a store with so many cells, and what a boot adds to it.
 use Rattle.std.specs.Bool.{OnFalse}
 use Rattle.std.specs.List.{AllByRecursion}
-use Rattle.std.specs.Prelude.{Bool, Err, List, None, Ok, Option, Result, Some, [], false, if◌then◌else◌, length, min, nat_le, nat_lt, not, ℕ, ◌+◌, ◌-◌, ◌^◌, true, ◌&&◌, ◌||◌, ◌∷◌, ◌≡◌, ◌≤◌}
-use Rattle.mdcc_admission.specs.Admission.{is_admitted}
+use Rattle.std.specs.Prelude.{Bool, Err, List, None, Ok, Option, Result, Some, [], false, if◌then◌else◌, length, min, nat_le, nat_lt, not, ℕ, ◌+◌, ◌-◌, ◌^◌, true, ◌∷◌, ◌≡◌, ◌≤◌}
 use Rattle.mdcc_admission.specs.Laws.{AreCounted}
 use Rattle.mdcc_base.specs.Counts.{sum_over}
 use Rattle.mdcc_option.specs.declared.cluster.Cluster.{Cluster}
@@ -74,42 +73,9 @@ next_by cells (Ok facts) =
 abbrev pub boot_by : Cells → Cluster → List (Option Fact) → Result (List Fact) BootFault
 boot_by cells cluster payloads = next_by cells (loaded_by cells cluster [] 0 payloads)
 
--- ---- the same in the order of a store, which has room or not before it looks for too many deltas
-
--- why the payload behind so many others is not taken
-abbrev pub Refusal : Type 0
-Refusal = ℕ × BootFault
-
-abbrev pub taken_by : Cells → Cluster → List Fact → ℕ → Option Fact → Result (List Fact) Refusal
-taken_by cells cluster facts n None = Err (n, BootFault.NotARun (n + 1))
-taken_by cells cluster facts n (Some fact) =
-    if not (is_admitted cluster facts fact) then Err (n, BootFault.NotARun (n + 1))
-    else (if is_past cells facts fact then Err (n, past_fault cells facts fact)
-    else (if is_crowding facts fact then Err (n, BootFault.NotARun (n + 1)) else Ok (fact ∷ facts)))
-
-abbrev pub after : (List Fact → Result (List Fact) Refusal) → Result (List Fact) Refusal → Result (List Fact) Refusal
-after rest (Ok facts) = rest facts
-after rest (Err refusal) = Err refusal
-
-abbrev pub run_by : Cells → Cluster → List Fact → ℕ → List (Option Fact) → Result (List Fact) Refusal
-run_by cells cluster facts n [] = Ok facts
-run_by cells cluster facts n (payload ∷ payloads) = after (λ more. run_by cells cluster more (n + 1) payloads) (taken_by cells cluster facts n payload)
-
 abbrev pub is_boot_memory : BootFault → Bool
 is_boot_memory BootFault.Memory = true
 is_boot_memory _ = false
-
-abbrev pub is_memory_at : Refusal → Bool
-is_memory_at refusal = is_boot_memory refusal.1
-
-abbrev pub is_room : BootFault → Bool
-is_room (BootFault.Room needed cells) = true
-is_room _ = false
-
--- the fault, where the payloads are refused so over these cells and so over as many cells as there may be: a fact that brings too many deltas is no fact of the run, also where there is no room for it
-abbrev pub settle : {T : Type 0} → Refusal → Result T Refusal → BootFault
-settle refusal (Ok facts) = refusal.1
-settle refusal (Err other) = if is_room refusal.1 && (is_boot_memory other.1 || nat_le other.0 refusal.0) then other.1 else refusal.1
 
 -- ---- what the parts answer
 
@@ -118,6 +84,10 @@ abbrev pub store_fault : ℕ → ℕ → StoreFault → BootFault
 store_fault cells n (StoreFault.NoRoom needed spare) = BootFault.Room (min (cells - spare + needed) (2 ^ 64 - 1)) cells
 store_fault cells n StoreFault.Crowded = BootFault.NotARun (n + 1)
 store_fault cells n StoreFault.Memory = BootFault.Memory
+
+-- why an admitted fact is not taken: that it brings too many deltas comes first
+abbrev pub refusal : ℕ → List Fact → ℕ → Fact → StoreFault → BootFault
+refusal cells facts n fact fault = if is_crowding facts fact then BootFault.NotARun (n + 1) else store_fault cells n fault
 
 -- by what is wrong with the payload behind so many others
 abbrev pub read_fault : ℕ → WireFault → BootFault
@@ -134,7 +104,7 @@ pub record Holds {S : Type 0} (stands : S → List Fact → Type 0) (room : S �
   pub counted : AreCounted facts
 
 -- the expected facts, of which something holds, or the expected fault, unless it is one that may come at any time
-abbrev pub LoadsUnless : {E : Type 0} → (E → Bool) → Result (Unit {0}) E → Result (List Fact) E → (List Fact → Type 0) → Type 0
+abbrev pub LoadsUnless : (BootFault → Bool) → Result (Unit {0}) BootFault → Result (List Fact) BootFault → (List Fact → Type 0) → Type 0
 LoadsUnless free (Ok u) expected P = (facts : List Fact) × (expected ≡ Ok facts) × P facts
 LoadsUnless free (Err e) expected P = OnFalse (free e) (expected ≡ Err e)
 

@@ -1,7 +1,6 @@
 //! The payloads of a log, taken into a store, and the boot after them.
-ghost use Rattle.std.specs.Prelude.{◌≡◌, ◌-◌, ◌<◌, ◌≤◌, ◌^◌, [], IfOk, IsTrue, List, Ok, Some, length, map, slice_get, true};
-ghost use Rattle.std.specs.Bool.{OnFalse};
-ghost use Rattle.mdcc_admission.specs.Loading.{AreShort, BootsUnless, Cells, Holds, LoadsUnless, boot_by, fact_read, is_boot_memory, is_memory_at, is_room, list_cells, loaded_by, next_by, read_fault, run_by, settle, store_fault, taken_by};
+ghost use Rattle.std.specs.Prelude.{◌≡◌, ◌-◌, ◌<◌, ◌≤◌, ◌^◌, ◌∷◌, [], IfOk, IsTrue, List, Ok, Some, length, map, slice_get, true};
+ghost use Rattle.mdcc_admission.specs.Loading.{AreShort, BootsUnless, Cells, Holds, LoadsUnless, boot_by, fact_read, is_boot_memory, loaded_by, next_by, read_fault, refusal, store_fault};
 ghost use Rattle.mdcc_base.specs.Unless.{GivesUnless};
 ghost use Rattle.mdcc_messages.specs.Lengths.{fact_length};
 ghost use Rattle.mdcc_messages.specs.Reading.{fact_of};
@@ -11,9 +10,9 @@ ghost use Rattle.mdcc_parts.specs.Reads.{is_wire_memory as is_reading_memory};
 ghost use Rattle.mdcc_spelling.specs.Laws.{AreBytes};
 
 use crate::admitted::is_admitted;
-use crate::laws::admitted_may_be_added;
+use crate::laws::{admission_is_exact, admitted_may_be_added};
 use mdcc_base::HeapList;
-use mdcc_facts::{FactStore, ListFacts};
+use mdcc_facts::FactStore;
 use mdcc_journal::decode_fact;
 use mdcc_messages::{Fact, WireFault};
 use mdcc_option::Cluster;
@@ -22,9 +21,6 @@ use mdcc_rules::BootFault;
 use mdcc_spelling::facts::{facts_have_one_spelling, facts_read_are_well_formed};
 use mdcc_spelling::sizes::lengths_are_exact;
 use std::alloc::Global;
-
-// How many payloads were taken before one was not, and why.
-type Refusal = (u64, BootFault);
 
 // ---- faults
 
@@ -54,25 +50,25 @@ fn read_fault(taken: u64, fault: WireFault) -> BootFault
     }
 }
 
-fn is_boot_memory(fault: &BootFault) -> bool
-    ensures { result ≡ is_boot_memory fault.now }
-{
-    match fault {
-        BootFault::Memory => true,
-        _ => false,
-    }
-}
-
-fn is_room(fault: &BootFault) -> bool
-    ensures { result ≡ is_room fault.now }
-{
-    match fault {
-        BootFault::Room { .. } => true,
-        _ => false,
-    }
-}
-
 // ---- one payload after the other
+
+// Why a fact that is admitted is not taken: that it brings too many deltas comes before want of room.
+fn refusal<S: FactStore>(
+    store: &S,
+    cells: u64,
+    taken: u64,
+    fact: &Fact,
+    fault: StoreFault,
+) -> BootFault
+    requires { taken < 2 ^ 64 - 1 }
+    ensures { (facts : List AFact) → S.stands store.now facts → result ≡ refusal cells facts taken fact.now fault }
+{
+    if store.would_crowd(fact) {
+        BootFault::NotARun(taken + 1)
+    } else {
+        store_fault(cells, taken, fault)
+    }
+}
 
 // Adds a fact that may stand after those of the store.
 fn take_fact<S: FactStore>(
@@ -81,20 +77,21 @@ fn take_fact<S: FactStore>(
     cells: u64,
     taken: u64,
     fact: &Fact,
-) -> Result<(), Refusal>
+) -> Result<(), BootFault>
     requires counted { taken < 2 ^ 64 - 1 }
     requires well_formed { IsWellFormedFact fact.now }
     requires short { fact_length fact.now ≤ 2097152 }
     ensures { (all : Cells) (facts : List AFact) → Holds S.stands S.room S.cells_for all store.old facts → all.total ≡ cells
-        → LoadsUnless is_memory_at result (taken_by all cluster.now facts taken (Some fact.now)) (Holds S.stands S.room S.cells_for all store.new) }
+        → LoadsUnless is_boot_memory result (loaded_by all cluster.now facts taken (Some fact.now ∷ [])) (Holds S.stands S.room S.cells_for all store.new) }
 {
+    admission_is_exact();
     admitted_may_be_added();
     if !is_admitted(store, cluster, fact) {
-        return Err((taken, BootFault::NotARun(taken + 1)));
+        return Err(BootFault::NotARun(taken + 1));
     }
     match store.add(fact) {
         Ok(()) => Ok(()),
-        Err(fault) => Err((taken, store_fault(cells, taken, fault))),
+        Err(fault) => Err(refusal(store, cells, taken, fact, fault)),
     }
 }
 
@@ -126,15 +123,15 @@ fn take_payload<S: FactStore>(
     cells: u64,
     taken: u64,
     payload: &[u8],
-) -> Result<(), Refusal>
+) -> Result<(), BootFault>
     requires counted { taken < 2 ^ 64 - 1 }
     requires short { length payload.now ≤ 2097152 }
     ensures { (all : Cells) (facts : List AFact) → Holds S.stands S.room S.cells_for all store.old facts → all.total ≡ cells
-        → LoadsUnless is_memory_at result (taken_by all cluster.now facts taken (fact_read payload.now)) (Holds S.stands S.room S.cells_for all store.new) }
+        → LoadsUnless is_boot_memory result (loaded_by all cluster.now facts taken (fact_read payload.now ∷ [])) (Holds S.stands S.room S.cells_for all store.new) }
 {
     match read_payload(alloc, payload) {
         Ok(fact) => take_fact(cluster, store, cells, taken, &fact),
-        Err(fault) => Err((taken, read_fault(taken, fault))),
+        Err(fault) => Err(read_fault(taken, fault)),
     }
 }
 
@@ -150,22 +147,22 @@ fn payload_at(payloads: &[HeapList<u8>], place: usize) -> &[u8]
 }
 
 // Adds the facts of payloads to an empty store, in turn.
-fn run<S: FactStore>(
+fn load<S: FactStore>(
     alloc: Global,
     cluster: &Cluster,
     store: &mut S,
     payloads: &[HeapList<u8>],
-) -> Result<(), Refusal>
+) -> Result<(), BootFault>
     requires { AreShort payloads.now }
     ensures { (all : Cells) → Holds S.stands S.room S.cells_for all store.old []
-        → LoadsUnless is_memory_at result (run_by all cluster.now [] 0 (map fact_read payloads.now)) (Holds S.stands S.room S.cells_for all store.new) }
+        → LoadsUnless is_boot_memory result (loaded_by all cluster.now [] 0 (map fact_read payloads.now)) (Holds S.stands S.room S.cells_for all store.new) }
 {
     let cells = store.spare();
     for place in 0..payloads.len() {
         let payload = payload_at(payloads, place);
         match take_payload(alloc, cluster, store, cells, place as u64, payload) {
             Ok(()) => {}
-            Err(refusal) => return Err(refusal),
+            Err(fault) => return Err(fault),
         }
     }
     Ok(())
@@ -179,82 +176,7 @@ pub fn are_short(payloads: &[HeapList<u8>]) -> bool
     payloads.iter().all(|payload| payload.len() <= 2_097_152)
 }
 
-// ---- all payloads
-
-// The fault, where payloads are refused so by a store, and so by one that never lacks room.
-fn settle(taken: u64, fault: BootFault, other: Result<(), Refusal>) -> BootFault
-    ensures { result ≡ settle (taken, fault) other }
-{
-    match other {
-        Ok(()) => fault,
-        Err((place, why)) => {
-            if is_room(&fault) && (is_boot_memory(&why) || place <= taken) {
-                why
-            } else {
-                fault
-            }
-        }
-    }
-}
-
-// The fault, where payloads are refused for want of room, by a run over a list.
-fn settled_by_list(
-    alloc: Global,
-    cluster: &Cluster,
-    payloads: &[HeapList<u8>],
-    taken: u64,
-    fault: BootFault,
-) -> BootFault
-    requires room { is_room fault ≡ true }
-    requires short { AreShort payloads.now }
-    ensures { OnFalse (is_boot_memory result) (result ≡ settle (taken, fault) (run_by list_cells cluster.now [] 0 (map fact_read payloads.now))) }
-{
-    match ListFacts::new(alloc) {
-        Ok(list) => {
-            let mut list = list;
-            let other = run(alloc, cluster, &mut list, payloads);
-            settle(taken, fault, other)
-        }
-        Err(_) => BootFault::Memory,
-    }
-}
-
-// The fault, where payloads are refused so by a store: a fact for which there is no room is no fact
-// of the run where it brings too many deltas as well.
-#[tactic(auto, using(crate::proofs::Settled::not_room))]
-fn settled(
-    alloc: Global,
-    cluster: &Cluster,
-    payloads: &[HeapList<u8>],
-    taken: u64,
-    fault: BootFault,
-) -> BootFault
-    requires { AreShort payloads.now }
-    ensures { OnFalse (is_boot_memory result) (result ≡ settle (taken, fault) (run_by list_cells cluster.now [] 0 (map fact_read payloads.now))) }
-{
-    if is_room(&fault) {
-        settled_by_list(alloc, cluster, payloads, taken, fault)
-    } else {
-        fault
-    }
-}
-
-// Adds the facts of payloads to an empty store.
-fn load<S: FactStore>(
-    alloc: Global,
-    cluster: &Cluster,
-    store: &mut S,
-    payloads: &[HeapList<u8>],
-) -> Result<(), BootFault>
-    requires { AreShort payloads.now }
-    ensures { (all : Cells) → Holds S.stands S.room S.cells_for all store.old []
-        → LoadsUnless is_boot_memory result (loaded_by all cluster.now [] 0 (map fact_read payloads.now)) (Holds S.stands S.room S.cells_for all store.new) }
-{
-    match run(alloc, cluster, store, payloads) {
-        Ok(()) => Ok(()),
-        Err((taken, fault)) => Err(settled(alloc, cluster, payloads, taken, fault)),
-    }
-}
+// ---- the boot
 
 // Adds the boot of the next epoch.
 fn begin_epoch<S: FactStore>(store: &mut S, cells: u64) -> Result<u32, BootFault>

@@ -1,10 +1,10 @@
 use Rattle.std.proofs.Common.{◌≡◌, [], List, drop, map}
-use Rattle.mdcc_admission.specs.Loading.{Cells, Holds, fact_read, run_by}
+use Rattle.mdcc_admission.specs.Loading.{Cells, Holds, fact_read, loaded_by}
 use Rattle.mdcc_messages.specs.declared.facts.Fact.{Fact as AFact}
-use Rattle.mdcc_admission.proofs.loading.run.Given as goal
+use Rattle.mdcc_admission.proofs.loading.load.Given as goal
 
 abbrev pub invariant-loop-place : goal.invariant-loop-place
 invariant-loop-place g l =
     (all : Cells) → Holds g.S.FactStore.stands g.S.FactStore.room g.S.FactStore.cells_for all l.initial.store []
-    → (facts : List AFact) × (run_by all l.cluster facts l.place (map fact_read (drop l.place l.payloads)) ≡ run_by all l.cluster [] 0 (map fact_read l.payloads))
+    → (facts : List AFact) × (loaded_by all l.cluster facts l.place (map fact_read (drop l.place l.payloads)) ≡ loaded_by all l.cluster [] 0 (map fact_read l.payloads))
     × Holds g.S.FactStore.stands g.S.FactStore.room g.S.FactStore.cells_for all l.store facts
