@@ -6,7 +6,7 @@ ghost use Rattle.mdcc_check.specs.declared.history.HistoryLine.{HistoryLine as A
 ghost use Rattle.mdcc_check.specs.Verdicts.{Progress, Represents, after_commit, after_line, apply_cause, commit_cause, first_progress, line_cause, read_cause};
 
 use crate::reads::read_cause;
-use crate::versions::{VersionsByKey, keep_all};
+use crate::versions::{VersionTable, keep_all};
 use crate::{HistoryCause, HistoryLine};
 use indexmap::{IndexMap, IndexSet};
 use mdcc_base::{Memory, TxId};
@@ -20,7 +20,7 @@ pub struct Checker {
     alloc: Global,
     store: OneCopy,
     txs: IndexSet<TxId>,
-    versions: VersionsByKey,
+    versions: VersionTable,
 }
 
 // Why a transaction that the store answers so does not commit.
