@@ -5,16 +5,13 @@ ghost use Rattle.mdcc_base.specs.Causes.{Rose};
 ghost use Rattle.mdcc_files.specs.Names.{name_of};
 ghost use Rattle.mdcc_files.specs.Unspecified.{fault_at, unspecified_disk, Any, AnySince, one_moment, AnyByte, KeepsFaults};
 
-use crate::log_file::LogFile;
+use crate::log_file::{LENGTH_LIMIT, LogFile};
 use mdcc_base::Failed;
 use mdcc_disks::Disks;
 use std::alloc::Global;
 use std::fs::{File, Files, OpenOptions};
 use std::io;
 use std::os::fd::AsRawFd;
-
-/// How many bytes a file of a log has at most.
-const LENGTH_LIMIT: u64 = 1 << 30;
 
 #[derive(Drop)]
 struct OpenLog {
@@ -28,6 +25,9 @@ struct OpenLog {
 /// A file of more than 2^30 bytes, which no log has, fails where its length is asked, before anything of it is read. A block of
 /// 64 KiB of each open file is in memory. Small writes are handed to the file together, all of them before a sync; one
 /// that the file did not take fails the call that handed it over.
+/// A write past what the file has is made over zeros, where what stands before it is durable: a mebibyte of them is written and synced
+/// first, then the write. They are no bytes of the disk, and a cut takes them off; but where this object or its process ends they stay
+/// in the file, and the next one that opens it takes them for its last bytes.
 /// What a file contains after a crash is the system's promise alone.
 #[derive(Drop)]
 pub struct FileDisks<'a, R: Files<File = File>> {
@@ -113,7 +113,8 @@ impl<'a, R: Files<File = File>> FileDisks<'a, R> {
         }
         let name = name_of(self.alloc, place)?;
         let file = open_locked(self.files, name.as_str()).ok()?;
-        let file = LogFile::new(self.alloc, file).ok()?;
+        let size = file.metadata().ok()?.len();
+        let file = LogFile::new(self.alloc, file, size).ok()?;
         self.logs.push(OpenLog { place, file }).ok()?;
         Some(self.logs.len() - 1)
     }
@@ -138,10 +139,9 @@ impl<'a, R: Files<File = File>> Disks for FileDisks<'a, R> {
 
     fn length(&mut self, place: u8) -> Result<u64, Failed> {
         if let Some(index) = self.opened(place) {
-            if let Ok(size) = self.logs[index].file.length() {
-                if size <= LENGTH_LIMIT {
-                    return Ok(size);
-                }
+            let size = self.logs[index].file.length();
+            if size <= LENGTH_LIMIT {
+                return Ok(size);
             }
         }
         Err(self.fail(place))

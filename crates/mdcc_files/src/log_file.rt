@@ -1,20 +1,32 @@
 //! A log's file, which is read and written by blocks.
-ghost use Rattle.std.specs.Prelude.{◌≡◌, ◌≤◌, ◌<◌, ◌-◌, ◌+◌, length, take, drop, vec_len, IfOk, OnOk};
+ghost use Rattle.std.specs.Prelude.{◌≡◌, ◌≤◌, ◌<◌, ◌-◌, ◌+◌, length, take, drop, vec_len, IsTrue, IfOk, OnOk};
 
 use std::alloc::{AllocError, Global};
 use std::fs::File;
 use std::io;
 use std::os::unix::fs::FileExt;
 
+/// How many bytes a file of a log has at most.
+pub const LENGTH_LIMIT: u64 = 1 << 30;
+
 // The size of a block, in bytes.
 const BLOCK: usize = 65_536;
 
-// Reads some bytes of the file from the offset on. A read that a signal ended is made again.
-fn read_file(file: &File, into: &mut [u8], offset: u64) -> io::Result<usize>
+// How many blocks of zeros are written behind the end together, and their bytes.
+const BLOCKS_AHEAD: u64 = 16;
+
+const AHEAD: u64 = BLOCKS_AHEAD * BLOCK as u64;
+
+// The bytes of a log's mark and of the gate behind it. Behind fewer, zeros would stand where these are looked for.
+const HEAD: u64 = 9;
+
+// Reads some bytes of the file from the offset on, of so many that are left. A read that a signal ended is made again.
+fn read_file(file: &File, into: &mut [u8], offset: u64, rest: u64) -> io::Result<usize>
     ensures { IfOk result (λ n. n ≤ length into.new) }
 {
+    let size = rest.min(into.len() as u64) as usize;
     for _ in 0..u64::MAX {
-        match file.read_at(into, offset) {
+        match file.read_at(&mut into[..size], offset) {
             Err(error) if error.kind() == io::ErrorKind::Interrupted => {}
             ended => return ended,
         }
@@ -26,20 +38,28 @@ fn read_file(file: &File, into: &mut [u8], offset: u64) -> io::Result<usize>
 /// The others were written, and the file gets them before each read of the file itself, before a cut and a sync, before bytes
 /// that do not stand right behind them or have no room in the block are written, and when this object is let go. Where it does
 /// not take them, that call fails, and they are handed to it again at the next one.
+///
+/// The bytes end at `end`. Behind them the file may have zeros up to `room`, which were written ahead, so that a write there lands on
+/// bytes that the file has already: a sync of it waits for no change of the file's length and blocks. `is_synced` says that nothing
+/// was written or cut since a sync.
 pub struct LogFile {
     file: File,
     block: Vec<u8>,
     start: u64,
     held: usize,
     given: usize,
+    end: u64,
+    room: u64,
+    is_synced: bool,
     ghost size: { vec_len block ≡ 65536 },
     ghost within: { held ≤ 65536 },
     ghost order: { given ≤ held },
+    ghost synced: { IsTrue is_synced → given ≡ held },
 }
 
 impl LogFile {
-    /// A file, and nothing of it is in memory. It fails where there is no memory for a block.
-    pub fn new(alloc: Global, file: File) -> Result<LogFile, AllocError> {
+    /// A file of so many bytes, and nothing of it is in memory. It fails where there is no memory for a block.
+    pub fn new(alloc: Global, file: File, size: u64) -> Result<LogFile, AllocError> {
         let block = vec![in alloc; 0; BLOCK]?;
         Ok(LogFile {
             file,
@@ -47,6 +67,9 @@ impl LogFile {
             start: 0,
             held: 0,
             given: 0,
+            end: size,
+            room: size,
+            is_synced: false,
         })
     }
 
@@ -104,14 +127,46 @@ impl LogFile {
         ensures { self.new.held ≡ self.old.held + length bytes.now }
     {
         let end = self.held + bytes.len();
+        self.is_synced = false;
         self.block[self.held..end].copy_from_slice(bytes);
         self.held = end;
     }
 
-    /// How many bytes there are.
-    pub fn length(&mut self) -> io::Result<u64> {
-        self.flush()?;
-        Ok(self.file.metadata()?.len())
+    // Writes zeros from the end on up to an offset.
+    fn write_zeros(&mut self, room: u64) -> io::Result<()>
+        requires { self.old.given ≡ self.old.held }
+    {
+        self.forget();
+        self.block.fill(0);
+        let mut at = self.end;
+        for _ in 0..BLOCKS_AHEAD {
+            let count = room.saturating_sub(at).min(BLOCK as u64);
+            self.file.write_all_at(&self.block[..count as usize], at)?;
+            at = at.saturating_add(count);
+        }
+        Ok(())
+    }
+
+    // Sees to it that a write up to an offset lands on zeros that are durable, by writing more of them behind the end. It does so only
+    // where what stands before them is durable and more than a log's beginning, and where they reach that far. Zeros that the file does
+    // not take are left out, since the write itself may fit; but where their sync fails, so does this.
+    fn write_ahead(&mut self, end: u64) -> io::Result<()> {
+        let room = self.end.saturating_add(AHEAD).min(LENGTH_LIMIT);
+        if !self.is_synced || self.end < HEAD || end <= self.room || end > room {
+            return Ok(());
+        }
+        // So far none are tried again, whether they were written or not.
+        self.room = room;
+        if self.write_zeros(room).is_err() {
+            let _ = self.file.set_len(self.end);
+            return Ok(());
+        }
+        self.file.sync_data()
+    }
+
+    /// How many bytes there are, without the zeros behind them.
+    pub fn length(&self) -> u64 {
+        self.end
     }
 
     /// Reads some bytes from the offset on into the front of the buffer, and answers how many: none where there are none or the
@@ -124,11 +179,12 @@ impl LogFile {
             return Ok(count);
         }
         self.flush()?;
+        let rest = self.end.saturating_sub(offset);
         if into.len() >= BLOCK {
-            return read_file(&self.file, into, offset);
+            return read_file(&self.file, into, offset, rest);
         }
         self.forget();
-        let count = read_file(&self.file, &mut self.block, offset)?;
+        let count = read_file(&self.file, &mut self.block, offset, rest)?;
         self.start = offset;
         self.held = count;
         self.given = count;
@@ -137,6 +193,9 @@ impl LogFile {
 
     /// Writes over what is there, and past the end.
     pub fn write_at(&mut self, offset: u64, bytes: &[u8]) -> io::Result<()> {
+        let end = offset.saturating_add(bytes.len() as u64);
+        self.write_ahead(end)?;
+        self.end = self.end.max(end);
         let is_next = offset.checked_sub(self.start) == Some(self.held as u64);
         if is_next && bytes.len() <= BLOCK - self.held {
             self.put(bytes);
@@ -145,6 +204,7 @@ impl LogFile {
         self.flush()?;
         self.forget();
         if bytes.len() >= BLOCK {
+            self.is_synced = false;
             return self.file.write_all_at(bytes, offset);
         }
         self.start = offset;
@@ -152,17 +212,23 @@ impl LogFile {
         Ok(())
     }
 
-    /// Cuts the bytes off that stand behind the first so many.
+    /// Cuts the bytes off that stand behind the first so many, and the zeros behind them.
     pub fn cut(&mut self, size: u64) -> io::Result<()> {
         self.flush()?;
         self.forget();
+        self.is_synced = false;
+        self.end = size;
+        self.room = size;
         self.file.set_len(size)
     }
 
     /// Hands all bytes to the file, and makes it durable.
     pub fn sync(&mut self) -> io::Result<()> {
         self.flush()?;
-        self.file.sync_data()
+        self.is_synced = false;
+        self.file.sync_data()?;
+        self.is_synced = true;
+        Ok(())
     }
 }
 
@@ -175,6 +241,9 @@ impl Drop for LogFile {
             start: _,
             held: _,
             given: _,
+            end: _,
+            room: _,
+            is_synced: _,
         } = self;
     }
 }

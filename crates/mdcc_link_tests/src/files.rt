@@ -111,3 +111,91 @@ fn keeps_writes_of_all_sizes(rt: HostRuntime) -> Result<(), Fail> {
     assert!(rt; disks.read(3, 0, &mut small).is_err());
     Ok(())
 }
+
+// How many zeros are written behind the end together.
+const AHEAD: u64 = 1 << 20;
+
+// What a disk has that holds this front, durable, and then is given this end: its length, and that of the file, which another object
+// finds. None where a call fails.
+fn lengths(rt: &HostRuntime, place: u8, front: &[u8], end: &[u8]) -> Option<(u64, u64)> {
+    let mut disks = FileDisks::new(rt.alloc(), rt);
+    disks.cut(place, 0).ok()?;
+    disks.write_at(place, 0, front).ok()?;
+    disks.sync(place).ok()?;
+    disks.write_at(place, front.len() as u64, end).ok()?;
+    let length = disks.length(place).ok()?;
+    drop(disks);
+    let mut disks = FileDisks::new(rt.alloc(), rt);
+    Some((length, disks.length(place).ok()?))
+}
+
+// Zeros are written ahead once as many bytes are durable as a log begins with, and not where the write would pass them. They are no
+// bytes of the disk; another object finds them behind its end, and a cut takes them off.
+#[test]
+fn writes_zeros_ahead(rt: HostRuntime) -> Result<(), Fail> {
+    let large = vec![in rt.alloc(); 7u8; 1_048_577]?;
+    let mut buffer = vec![in rt.alloc(); 1u8; 1_048_576]?;
+    assert_eq!(rt; lengths(&rt, 4, b"12345678", b"end"), Some((11, 11)));
+    assert_eq!(rt;
+        lengths(&rt, 4, b"123456789", &large),
+        Some((1_048_586, 1_048_586))
+    );
+    assert_eq!(rt;
+        lengths(&rt, 4, b"123456789", b"end"),
+        Some((12, 9 + AHEAD))
+    );
+    let mut disks = FileDisks::new(rt.alloc(), &rt);
+    assert_eq!(rt; disks.read(4, 12, &mut buffer), Ok(1_048_573));
+    assert!(rt; buffer[..1_048_573].iter().all(|byte| *byte == 0));
+    assert_eq!(rt; disks.cut(4, 12), Ok(()));
+    drop(disks);
+    let mut disks = FileDisks::new(rt.alloc(), &rt);
+    assert_eq!(rt; disks.length(4), Ok(12));
+    assert_eq!(rt; disks.read(4, 9, &mut buffer), Ok(3));
+    assert!(rt; buffer.starts_with(b"end"));
+    assert_eq!(rt; disks.cut(4, 0), Ok(()));
+    Ok(())
+}
+
+// What is written over zeros is read back as far as it goes, and no zeros before they are synced.
+#[test]
+fn writes_over_zeros(rt: HostRuntime) -> Result<(), Fail> {
+    let mut buffer = [1u8; 8];
+    let mut disks = FileDisks::new(rt.alloc(), &rt);
+    assert_eq!(rt; disks.cut(5, 0), Ok(()));
+    assert_eq!(rt; disks.write_at(5, 0, b"123456789"), Ok(()));
+    assert_eq!(rt; disks.write_at(5, 9, b"abc"), Ok(()));
+    assert_eq!(rt; disks.sync(5), Ok(()));
+    assert_eq!(rt; disks.write_at(5, 12, b"def"), Ok(()));
+    assert_eq!(rt; disks.read(5, 10, &mut buffer), Ok(5));
+    assert!(rt; buffer.starts_with(b"bcdef"));
+    assert!(rt; disks.read(5, 15, &mut buffer).is_err());
+    assert_eq!(rt; disks.sync(5), Ok(()));
+    assert_eq!(rt; disks.write_at(5, 8, b"x"), Ok(()));
+    assert_eq!(rt; disks.write_at(5, 15, b"ghi"), Ok(()));
+    assert_eq!(rt; disks.length(5), Ok(18));
+    drop(disks);
+    let mut disks = FileDisks::new(rt.alloc(), &rt);
+    assert_eq!(rt; disks.length(5), Ok(12 + AHEAD));
+    assert_eq!(rt; disks.read(5, 8, &mut buffer), Ok(8));
+    assert_eq!(rt; buffer, *b"xabcdefg");
+    assert_eq!(rt; disks.cut(5, 0), Ok(()));
+    Ok(())
+}
+
+// No zeros are written past the length that a file may have: it is opened again.
+#[test]
+fn keeps_within_the_limit(rt: HostRuntime) -> Result<(), Fail> {
+    let near = (1u64 << 30) - 20;
+    let mut disks = FileDisks::new(rt.alloc(), &rt);
+    assert_eq!(rt; disks.cut(6, 0), Ok(()));
+    assert_eq!(rt; disks.write_at(6, near, b"end"), Ok(()));
+    assert_eq!(rt; disks.sync(6), Ok(()));
+    assert_eq!(rt; disks.write_at(6, near + 3, b"more"), Ok(()));
+    assert_eq!(rt; disks.length(6), Ok(near + 7));
+    drop(disks);
+    let mut disks = FileDisks::new(rt.alloc(), &rt);
+    assert_eq!(rt; disks.length(6), Ok(1 << 30));
+    assert_eq!(rt; disks.cut(6, 0), Ok(()));
+    Ok(())
+}
