@@ -3,6 +3,8 @@
 A node only appends, and opens the gate of a group once all of it stands in the file; so what is read up to a closed gate is whole. A
 checkpoint copies all facts, in their order, into the other area, which from then on is the one in use. So a place in a log is told by two
 numbers, the facts before it and their bytes, and is found again in either area.
+
+After the closed gate that ends an area a node writes zeros, a mebibyte at most, over which it appends.
 """
 import os
 import time
@@ -17,6 +19,8 @@ ENDS = ("log", "alt")
 # The most bytes that an area may have.
 LOG_LIMIT = 1 << 30
 FRESH = 9
+# The most zeros that a node writes after the last gate.
+AHEAD = 1 << 20
 PIECE = 8 << 20
 PATIENCE = 20
 MOST_AT_ONCE = 5000
@@ -109,9 +113,19 @@ def area_in_use(folder: str, centre: int) -> Optional[Area]:
     return max((area for area in areas if area is not None), key=lambda area: area.generation)
 
 
+def are_zeros_after(path: str, offset: int) -> bool:
+    """Whether nothing stands in a file from an offset on, or zeros as a node writes them ahead."""
+    with open(path, "rb") as file:
+        file.seek(offset)
+        data = file.read(AHEAD + 1)
+    return len(data) <= AHEAD and data.count(0) == len(data)
+
+
 def has_facts(folder: str, centre: int) -> bool:
     """Whether a log stands there that is more than a beginning. One that is damaged counts as one."""
-    return any(size_of(path_of(folder, centre, end)) > FRESH for end in ENDS)
+    paths = [path_of(folder, centre, end) for end in ENDS]
+    begun = tuple(mark + b"\0" for mark in (FIRST, SECOND))
+    return any(size_of(path) > FRESH and not (read_head(path).startswith(begun) and are_zeros_after(path, FRESH)) for path in paths)
 
 
 def is_in_use(folder: str, centre: int) -> bool:

@@ -1,13 +1,16 @@
 """The calls that a program makes at files and sockets, as `tools/native/calls.c` records them, and what a power cut among them may leave."""
 import os
 from collections import Counter
+from itertools import combinations
 from typing import NamedTuple
 
 from .compiled import library
 
 # Calls at a descriptor that the program opened and keeps; `read` and `write` are at its standard streams. A socket is bound as it is made, and
 # only then moved above those.
-AT_FILES = ("flock", "fsync", "fdatasync", "ftruncate", "pread", "pwrite")
+AT_FILES = ("flock", "fsync", "fdatasync", "ftruncate", "pread", "pwrite", "zeros")
+# Those that change a file, and those that make that durable. `zeros` are written as `pwrite` writes, and a record has no bytes of them.
+CHANGES, SYNCS = ("pwrite", "zeros", "ftruncate"), ("fsync", "fdatasync")
 AT_SOCKETS = ("setsockopt", "recvfrom", "sendto")
 
 
@@ -30,6 +33,10 @@ class Call(NamedTuple):
 
     def is_made(self):
         return self.answer >= 0
+
+    def written(self):
+        """The bytes that a call wrote at its offset."""
+        return bytes(self.answer) if self.name == "zeros" else self.data[:self.answer]
 
 
 class Rule(NamedTuple):
@@ -77,38 +84,53 @@ def counts_of(calls):
 class Image:
     """The bytes of a file: those that are durable, and what was written and cut since."""
 
+    # So many changes are kept and lost in all ways; of more, only some ways are tried.
+    MOST_CHANGES = 3
+
     def __init__(self, durable=b""):
         self.durable, self.since = bytes(durable), []
 
     def note(self, call):
         """Takes a call that was made at this file."""
-        if call.name == "pwrite" and call.answer > 0:
-            self.since.append((call.at, call.data[:call.answer]))
+        if call.name in ("pwrite", "zeros") and call.answer > 0:
+            self.since.append((call.at, call.written()))
         elif call.name == "ftruncate" and call.is_made():
             self.since.append((call.at, None))
-        elif call.name in ("fsync", "fdatasync") and call.is_made():
+        elif call.name in SYNCS and call.is_made():
             self.durable, self.since = self.after(range(len(self.since))), []
 
-    def after(self, kept):
-        """The bytes where of what is not durable those changes stay that are named."""
+    def after(self, kept, torn=None):
+        """The bytes where of what is not durable those changes stay that are named. Of the write that is torn only the first half stays."""
         data = bytearray(self.durable)
         for number in kept:
             at, written = self.since[number]
             if written is None:
                 del data[at:]
                 data.extend(bytes(at - len(data)))
-            else:
-                data.extend(bytes(max(0, at + len(written) - len(data))))
-                data[at:at + len(written)] = written
+                continue
+            if number == torn:
+                written = written[:len(written) // 2]
+            data.extend(bytes(max(0, at + len(written) - len(data))))
+            data[at:at + len(written)] = written
         return bytes(data)
 
-    def left(self):
-        """What a power cut may leave, in its plainest forms: all changes, none, only the last, all but one."""
+    def kept(self):
+        """Which changes a power cut may keep: of a few all choices; of many all, none, only the last, all but one."""
         count = len(self.since)
-        kept = [(), tuple(range(count))]
-        if count > 1:
-            kept += [(count - 1,), *(tuple(n for n in range(count) if n != out) for out in {0, count // 2, count - 1})]
-        return [self.after(numbers) for numbers in kept]
+        if count <= self.MOST_CHANGES:
+            return [numbers for size in range(count + 1) for numbers in combinations(range(count), size)]
+        return [(), tuple(range(count)), (count - 1,), *(tuple(n for n in range(count) if n != out) for out in (0, count // 2, count - 1))]
+
+    def left(self):
+        """What a power cut may leave: some changes, of which the last may be torn. The length may be the new one all the same; then what
+        was lost behind the old one is zeros, or anything."""
+        whole, left = self.after(range(len(self.since))), set()
+        for numbers in self.kept():
+            for torn in {None, numbers[-1] if numbers else None}:
+                data = self.after(numbers, torn)
+                lost = max(0, len(whole) - len(data))
+                left.update((data, data + bytes(lost), data + b"\1" * lost))
+        return sorted(left)
 
 
 def dirty_files(calls):
@@ -116,9 +138,9 @@ def dirty_files(calls):
     dirty, after = set(), []
     for call in calls:
         if call.is_made():
-            if call.name in ("pwrite", "ftruncate"):
+            if call.name in CHANGES:
                 dirty = dirty | {call.file()}
-            elif call.name in ("fsync", "fdatasync"):
+            elif call.name in SYNCS:
                 dirty = dirty - {call.file()}
         after.append(dirty)
     return after

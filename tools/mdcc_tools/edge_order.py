@@ -6,13 +6,15 @@ import signal
 import socket
 
 from . import logs, messages
-from .calls import Image, dirty_files, read_calls
+from .calls import CHANGES, SYNCS, Image, dirty_files, read_calls
 from .datagrams import split
 from .node_case import ONE, configured, insert, made_payloads
-from .recorded_case import RecordedCase
+from .recorded_case import AHEAD, RecordedCase
 
 # Calls that change nothing that is durable and tell nobody anything.
 SILENT = ("read", "pread", "statx", "poll", "recvfrom", "socket", "setsockopt", "ioctl", "dupfd")
+# What calls that write to a file are in words.
+WRITES = {"pwrite": "write", "zeros": "zeros"}
 
 
 def target_of(call, folder):
@@ -41,28 +43,33 @@ def step_of(call, folder):
 
 
 def steps_of(calls, folder):
-    """All calls that tell or keep something, in words; writes that follow each other, each behind the last, are one."""
+    """All calls that tell or keep something, in words; writes that follow each other, each behind the last, are one, and so are zeros."""
     steps, end = [], None
     for call in calls:
         if call.name in SILENT:
             continue
-        if call.name != "pwrite":
+        if call.name not in WRITES:
             steps.append(step_of(call, folder))
             end = None
             continue
-        name, size = target_of(call, folder), call.answer
-        if end == (name, call.at):
+        word, name, size = WRITES[call.name], target_of(call, folder), call.answer
+        if end == (word, name, call.at):
             at, before = map(int, steps[-1].split()[2:])
-            steps[-1] = f"write {name} {at} {before + size}"
+            steps[-1] = f"{word} {name} {at} {before + size}"
         else:
-            steps.append(f"write {name} {call.at} {size}")
-        end = (name, call.at + size)
+            steps.append(f"{word} {name} {call.at} {size}")
+        end = (word, name, call.at + size)
     return steps
 
 
 def append_steps(gate, size, name="log"):
     """An append behind the closed gate at this offset: what is written, durable, and then the gate."""
     return [f"write {name} {gate + 1} {size}", f"sync {name}", f"write {name} {gate} 1", f"sync {name}"]
+
+
+def first_steps(gate, size, name="log"):
+    """An append with nothing behind its gate: zeros are durable there before it is made over them."""
+    return [f"zeros {name} {gate + 1} {AHEAD}", f"sync {name}"] + append_steps(gate, size, name)
 
 
 def opened(name):
@@ -85,35 +92,39 @@ class Order(RecordedCase):
     def test_a_first_start(self):
         """Each file is made and locked and its name durable, then what stands in it, before a byte is written; all is durable before a port is bound."""
         begun = ["cut log 0", "write log 0 9", "sync log"]
-        self.assertEqual(self.run_node(), opened("log") + opened("alt") + begun + append_steps(8, BOOT_BYTES) + STARTED)
+        self.assertEqual(self.run_node(), opened("log") + opened("alt") + begun + first_steps(8, BOOT_BYTES) + STARTED)
+        self.assertEqual((len(self.log()), len(self.log("alt"))), (9 + AHEAD, 0))
 
     def test_a_start_over_a_log(self):
         self.make_log(logs.write_log(made_payloads(9)))
         gate = len(self.log()) - 1
-        self.assertEqual(self.run_node(), opened("log") + opened("alt") + append_steps(gate, BOOT_BYTES) + STARTED)
+        self.assertEqual(self.run_node(), opened("log") + opened("alt") + first_steps(gate, BOOT_BYTES) + STARTED)
 
     def test_what_stands_behind_the_last_gate_is_cut(self):
-        """An append that was broken off leaves bytes behind a closed gate. They are cut off, and that is durable, before an append writes there."""
+        """An append that was broken off leaves bytes behind a closed gate, and each end of a node zeros. They are cut off, and that is durable,
+        before an append writes there."""
         whole = logs.write_log(made_payloads(9))
-        self.make_log(whole + b"\7" * 200)
-        gate = len(whole) - 1
-        repaired = [f"cut log {gate + 1}", "sync log"]
-        self.assertEqual(self.run_node(), opened("log") + opened("alt") + repaired + append_steps(gate, BOOT_BYTES) + STARTED)
-        self.assertEqual(len(self.log()), len(whole) + BOOT_BYTES)
+        for behind in (b"\7" * 200, bytes(AHEAD)):
+            self.make_log(whole + behind)
+            gate = len(whole) - 1
+            repaired = [f"cut log {gate + 1}", "sync log"]
+            self.assertEqual(self.run_node(), opened("log") + opened("alt") + repaired + first_steps(gate, BOOT_BYTES) + STARTED)
+            self.assertEqual(self.log()[len(whole) + BOOT_BYTES:], bytes(AHEAD - BOOT_BYTES))
+            self.assertEqual(len(logs.read_payloads(self.folder, 1)), 10)
 
     def test_checkpoints(self):
         """A copy is durable behind a closed gate before that is opened. Where an older copy stands there, its gate is shut and that durable before
-        it is cut."""
+        it is cut. No zeros are written while it is not durable."""
         made = made_payloads(1034)
         self.make_log(logs.write_log(made[:1023]))
         gate, size = len(self.log()) - 1, sum(len(payload) + 4 for payload in made[:1023]) + 9
         first = ["write alt 0 9", "sync alt", "cut alt 9", f"write alt 9 {16 + size + 1}", "sync alt", "write alt 8 1", "sync alt"]
-        self.assertEqual(self.run_node(), opened("log") + opened("alt") + append_steps(gate, BOOT_BYTES) + first + STARTED)
+        self.assertEqual(self.run_node(), opened("log") + opened("alt") + first_steps(gate, BOOT_BYTES) + first + STARTED)
         self.make_log(logs.write_log(made[:11]))
         self.make_log(logs.write_area(1, made[:10], made[10:1033]), "alt")
         gate, size = len(self.log("alt")) - 1, sum(len(payload) + 4 for payload in made[:1033]) + 9
         second = ["write log 8 1", "sync log", "cut log 9", "write log 0 8", f"write log 9 {16 + size + 1}", "sync log", "write log 8 1", "sync log"]
-        self.assertEqual(self.run_node(), opened("log") + opened("alt") + append_steps(gate, BOOT_BYTES, "alt") + second + STARTED)
+        self.assertEqual(self.run_node(), opened("log") + opened("alt") + first_steps(gate, BOOT_BYTES, "alt") + second + STARTED)
         self.assertEqual(len(self.log()), 9 + 16 + size + 1)
 
     def test_an_append(self):
@@ -194,7 +205,7 @@ class Order(RecordedCase):
         images = {"mdcc-1.log": Image(logs.write_log(made)), "mdcc-1.alt": Image()}
         told, number = made, 0
         for call in self.calls():
-            if call.name in ("pwrite", "ftruncate", "fsync", "fdatasync") and call.file() in images:
+            if call.name in CHANGES + SYNCS and call.file() in images:
                 images[call.file()].note(call)
                 number += 1
                 self.assert_left(images, told)

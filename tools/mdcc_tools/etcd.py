@@ -80,6 +80,10 @@ class Etcd:
             process.wait()
         shutil.rmtree(self.folder, ignore_errors=True)
 
+    def ports(self):
+        """Where the members listen to clients."""
+        return [CLIENTS + number for number in range(self.members)]
+
     def processor_seconds(self):
         return sum(sum(processor_seconds(process.pid)) for process in self.processes)
 

@@ -31,6 +31,12 @@ def processor_seconds(pid):
     return int(fields[11]) / TICKS, int(fields[12]) / TICKS
 
 
+def written_bytes(pid):
+    """How many bytes a process has written to files so far, those of its output included."""
+    with open(f"/proc/{pid}/io") as counts:
+        return int(dict(line.split(": ") for line in counts)["wchar"])
+
+
 def read_lines(path):
     try:
         with open(path) as file:

@@ -1,7 +1,11 @@
-"""What answers a client as the nodes of a cluster would, in one thread and without replication: for checks of the client alone."""
+"""What answers a client as the nodes of a cluster would, in one thread and without replication, and what answers puts as a member of etcd would: for
+checks of the clients alone."""
+import base64
+import json
 import select
 import socket
 import threading
+from http.server import BaseHTTPRequestHandler, ThreadingHTTPServer
 
 from . import messages
 from .datagrams import WHOLE, Joiner, split
@@ -78,3 +82,40 @@ class StandIn(threading.Thread):
                 self.items[part.key][2][tx] = part.update.amounts
         self.begun[centre, serial] = tx
         return [(messages.BEGUN, tx), (messages.HEARD, tx, 1)]
+
+
+class Put(BaseHTTPRequestHandler):
+    protocol_version = "HTTP/1.1"
+
+    def do_POST(self):
+        """Keeps the key, and refuses those of the server's `refused`. Every other answer is told in pieces."""
+        put = json.loads(self.rfile.read(int(self.headers["Content-Length"])))
+        key = base64.b64decode(put["key"], validate=True)
+        self.server.keys.append((self.path, key, base64.b64decode(put["value"])))
+        self.send_response(503 if key in self.server.refused else 200)
+        body = b'{"header":{"revision":"2"}}'
+        if len(self.server.keys) % 2:
+            self.send_header("Content-Length", str(len(body)))
+            self.end_headers()
+            self.wfile.write(body)
+        else:
+            self.send_header("Transfer-Encoding", "chunked")
+            self.end_headers()
+            self.wfile.write(b"%x\r\n%s\r\n0\r\n\r\n" % (len(body), body))
+
+    def log_message(self, *_):
+        pass
+
+
+class Gateway(ThreadingHTTPServer):
+    """Answers puts at a port of its own; `keys` are those that came."""
+    daemon_threads, request_queue_size = True, 64
+
+    def __init__(self, refused=()):
+        super().__init__(("127.0.0.1", 0), Put)
+        self.keys, self.refused = [], refused
+        threading.Thread(target=self.serve_forever, args=(0.02,), daemon=True).start()
+
+    @property
+    def port(self):
+        return self.server_address[1]

@@ -93,7 +93,7 @@ class Summary:
         return sum(self.kinds)
 
     def note_end(self, end: End, is_running: bool, now: float) -> None:
-        self.bytes, self.generation = (end.size, end.area.generation) if end.area else (0, 0)
+        self.bytes, self.generation = (end.offset + 1, end.area.generation) if end.area else (0, 0)
         self.is_running, self.looked = is_running, now
 
     # ---- facts

@@ -10,8 +10,8 @@
  *
  * A line has the words NAME DESCRIPTOR TARGET AT SIZE BYTES ANSWER ERRNO RULED with blanks between them: TARGET is what the descriptor
  * stands for, as /proc/self/fd tells; AT an offset, port, operation or timeout; BYTES a path, or what is written or sent, as hexadecimal digits;
- * "-" stands for nothing; RULED is 1 where the rule struck. Descriptors of this library are above 900, so that the program gets those that it would
- * get without it. For programs of one thread.
+ * "-" stands for nothing; RULED is 1 where the rule struck. A pwrite of 4,096 zeros or more has the name "zeros", and no bytes. Descriptors of this
+ * library are above 900, so that the program gets those that it would get without it. For programs of one thread.
  */
 #define _GNU_SOURCE
 #include <arpa/inet.h>
@@ -31,7 +31,7 @@
 #include <sys/syscall.h>
 #include <unistd.h>
 
-enum { LEAST_DESCRIPTOR = 900, NAMES = 32, NAME_SIZE = 24, TARGET_SIZE = 256, FEW_BYTES = 64 };
+enum { LEAST_DESCRIPTOR = 900, NAMES = 32, NAME_SIZE = 24, TARGET_SIZE = 256, FEW_BYTES = 64, MANY_ZEROS = 4096 };
 
 enum how { MADE, FAILS, SHORT, NOTHING };
 
@@ -262,8 +262,13 @@ ssize_t write(int descriptor, const void *bytes, size_t size) {
     CALL(call, NEXT(write)(descriptor, bytes, size), NEXT(write)(descriptor, bytes, one_of(size)), (long)size);
 }
 
+static int are_zeros(const unsigned char *bytes, size_t size) {
+    return size >= MANY_ZEROS && bytes[0] == 0 && memcmp(bytes, bytes + 1, size - 1) == 0;
+}
+
 static ssize_t write_at(int descriptor, const void *bytes, size_t size, off_t at) {
-    struct call call = {"pwrite", descriptor, at, (long)size, bytes, size};
+    int is_ahead = are_zeros(bytes, size);
+    struct call call = {is_ahead ? "zeros" : "pwrite", descriptor, at, (long)size, bytes, is_ahead ? 0 : size};
     CALL(call, syscall(SYS_pwrite64, descriptor, bytes, size, at), syscall(SYS_pwrite64, descriptor, bytes, one_of(size), at), (long)size);
 }
 
