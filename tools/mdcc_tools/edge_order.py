@@ -9,7 +9,7 @@ from . import logs, messages
 from .calls import CHANGES, SYNCS, Image, dirty_files, read_calls
 from .datagrams import split
 from .node_case import ONE, configured, insert, made_payloads
-from .recorded_case import AHEAD, RecordedCase
+from .recorded_case import FIRST_AHEAD, RecordedCase
 
 # Calls that change nothing that is durable and tell nobody anything.
 SILENT = ("read", "pread", "statx", "poll", "recvfrom", "socket", "setsockopt", "ioctl", "dupfd")
@@ -53,6 +53,10 @@ def steps_of(calls, folder):
             end = None
             continue
         word, name, size = WRITES[call.name], target_of(call, folder), call.answer
+        if not call.is_made():
+            steps.append(f"{word} {name} {call.at} refused")
+            end = None
+            continue
         if end == (word, name, call.at):
             at, before = map(int, steps[-1].split()[2:])
             steps[-1] = f"{word} {name} {at} {before + size}"
@@ -69,7 +73,7 @@ def append_steps(gate, size, name="log"):
 
 def first_steps(gate, size, name="log"):
     """An append with nothing behind its gate: zeros are durable there before it is made over them."""
-    return [f"zeros {name} {gate + 1} {AHEAD}", f"sync {name}"] + append_steps(gate, size, name)
+    return [f"zeros {name} {gate + 1} {FIRST_AHEAD}", f"sync {name}"] + append_steps(gate, size, name)
 
 
 def opened(name):
@@ -93,7 +97,7 @@ class Order(RecordedCase):
         """Each file is made and locked and its name durable, then what stands in it, before a byte is written; all is durable before a port is bound."""
         begun = ["cut log 0", "write log 0 9", "sync log"]
         self.assertEqual(self.run_node(), opened("log") + opened("alt") + begun + first_steps(8, BOOT_BYTES) + STARTED)
-        self.assertEqual((len(self.log()), len(self.log("alt"))), (9 + AHEAD, 0))
+        self.assertEqual((len(self.log()), len(self.log("alt"))), (9 + FIRST_AHEAD, 0))
 
     def test_a_start_over_a_log(self):
         self.make_log(logs.write_log(made_payloads(9)))
@@ -104,12 +108,12 @@ class Order(RecordedCase):
         """An append that was broken off leaves bytes behind a closed gate, and each end of a node zeros. They are cut off, and that is durable,
         before an append writes there."""
         whole = logs.write_log(made_payloads(9))
-        for behind in (b"\7" * 200, bytes(AHEAD)):
+        for behind in (b"\7" * 200, bytes(FIRST_AHEAD)):
             self.make_log(whole + behind)
             gate = len(whole) - 1
             repaired = [f"cut log {gate + 1}", "sync log"]
             self.assertEqual(self.run_node(), opened("log") + opened("alt") + repaired + first_steps(gate, BOOT_BYTES) + STARTED)
-            self.assertEqual(self.log()[len(whole) + BOOT_BYTES:], bytes(AHEAD - BOOT_BYTES))
+            self.assertEqual(self.log()[len(whole) + BOOT_BYTES:], bytes(FIRST_AHEAD - BOOT_BYTES))
             self.assertEqual(len(logs.read_payloads(self.folder, 1)), 10)
 
     def test_checkpoints(self):

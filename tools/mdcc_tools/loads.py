@@ -71,9 +71,9 @@ def inserts(configuration: Configuration, most_open: int, seconds: Optional[floa
 
 
 def puts(ports: Sequence[int], most_open: int, seconds: Optional[float] = None, requests: Optional[int] = None, prefix: str = "load",
-         each: float = 0) -> Loaded:
-    """Puts of new keys at the members of etcd that listen at these ports of this machine."""
-    words = ["--members", ",".join(f"127.0.0.1:{port}" for port in ports)]
+         each: float = 0, by: str = "grpc") -> Loaded:
+    """Puts of new keys at the members of etcd that listen at these ports of this machine, by gRPC or through the gateway for JSON."""
+    words = ["--members", ",".join(f"127.0.0.1:{port}" for port in ports), "--by", by]
     return loaded_of(run("puts", words + common_words(most_open, seconds, requests, prefix, each)), "puts", ("failures",))
 
 

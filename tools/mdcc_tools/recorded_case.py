@@ -11,8 +11,8 @@ from .processes import Node
 
 # The descriptors of the standard streams; what the program opens has others.
 STREAMS = (0, 1, 2)
-# How many zeros are written behind the end of a log together.
-AHEAD = 1 << 20
+# How many zeros are written behind the end of a log at first; each time twice as many, up to `areas.AHEAD`.
+FIRST_AHEAD = 1 << 16
 
 
 class RecordedCase(NodeCase):

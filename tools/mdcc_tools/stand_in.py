@@ -4,6 +4,8 @@ import base64
 import json
 import select
 import socket
+import socketserver
+import struct
 import threading
 from http.server import BaseHTTPRequestHandler, ThreadingHTTPServer
 
@@ -107,8 +109,104 @@ class Put(BaseHTTPRequestHandler):
         pass
 
 
+# Of HTTP/2 (RFC 9113): kinds of frames, and flags; of its static table of headers (RFC 7541) those that a put has.
+DATA, HEADERS, SETTINGS, PING, WINDOW_UPDATE = 0, 1, 4, 6, 8
+END_STREAM, ACKNOWLEDGED, END_HEADERS = 1, 1, 4
+STATIC = {1: (":authority", ""), 3: (":method", "POST"), 4: (":path", "/"), 6: (":scheme", "http"), 31: ("content-type", "")}
+
+
+def headers_in(block):
+    """The headers of a block that has only entries of the table and words that are not compressed."""
+    headers, at = {}, 0
+
+    def word():
+        nonlocal at
+        length = block[at]
+        at += 1 + length
+        return block[at - length:at].decode()
+
+    while at < len(block):
+        first = block[at]
+        at += 1
+        if first & 0x80:
+            headers.update([STATIC[first & 0x7f]])
+            continue
+        index = first & 0x0f
+        if index == 0x0f:
+            index += block[at]
+            at += 1
+        name = STATIC[index][0] if index else word()
+        headers[name] = word()
+    return headers
+
+
+def fields_in(message):
+    """The fields of a message of a call, each a short text."""
+    fields, at = {}, 5
+    assert message[0] == 0 and struct.unpack(">I", message[1:5])[0] == len(message) - 5
+    while at < len(message):
+        length = message[at + 1]
+        fields[message[at] >> 3] = message[at + 2:at + 2 + length]
+        at += 2 + length
+    return fields
+
+
+class Calls(socketserver.StreamRequestHandler):
+    """Answers puts by gRPC: each with a message and then its end, those of the server's `refused` with an end alone. It pings before each answer."""
+
+    def frame(self):
+        head = self.rfile.read(9)
+        if len(head) < 9:
+            return None
+        kind, flags, stream = struct.unpack(">BBI", head[3:])
+        return kind, flags, stream, self.rfile.read(int.from_bytes(head[:3], "big"))
+
+    def send(self, kind, flags, stream, data=b""):
+        self.wfile.write(len(data).to_bytes(3, "big") + struct.pack(">BBI", kind, flags, stream) + data)
+
+    def handle(self):
+        assert self.rfile.read(24) == b"PRI * HTTP/2.0\r\n\r\nSM\r\n\r\n"
+        self.send(SETTINGS, 0, 0)
+        headers = {}
+        while True:
+            frame = self.frame()
+            if frame is None:
+                return
+            kind, flags, stream, data = frame
+            self.server.frames.append((kind, flags))
+            if kind == HEADERS:
+                headers = headers_in(data)
+            elif kind == DATA:
+                fields = fields_in(data)
+                self.server.keys.append((headers[":path"], fields[1], fields[2]))
+                self.answer(stream, fields[1])
+
+    def answer(self, stream, key):
+        self.send(PING, 0, 0, bytes(8))
+        if key in self.server.refused:
+            self.send(HEADERS, END_HEADERS | END_STREAM, stream, b"\x88")
+            return
+        self.send(HEADERS, END_HEADERS, stream, b"\x88")
+        self.send(DATA, 0, stream, b"\0\0\0\0\2\x0a\0")
+        self.send(HEADERS, END_HEADERS | END_STREAM, stream, b"\x88")
+
+
+class Member(socketserver.ThreadingTCPServer):
+    """Answers puts by gRPC at a port of its own; `keys` are those that came, `frames` all frames by kind and flags."""
+    daemon_threads, request_queue_size = True, 64
+
+    def __init__(self, refused=()):
+        super().__init__(("127.0.0.1", 0), Calls)
+        self.keys, self.frames, self.refused = [], [], refused
+        threading.Thread(target=self.serve_forever, args=(0.02,), daemon=True).start()
+
+    @property
+    def port(self):
+        return self.server_address[1]
+
+
 class Gateway(ThreadingHTTPServer):
-    """Answers puts at a port of its own; `keys` are those that came."""
+    """Answers puts through JSON at a port of its own; `keys` are those that came."""
     daemon_threads, request_queue_size = True, 64
 
     def __init__(self, refused=()):

@@ -12,10 +12,13 @@ pub const LENGTH_LIMIT: u64 = 1 << 30;
 // The size of a block, in bytes.
 const BLOCK: usize = 65_536;
 
-// How many blocks of zeros are written behind the end together, and their bytes.
+// How many blocks of zeros are written behind the end at most, and their bytes. At first, and after a cut, it is one block, then twice as
+// many each time.
 const BLOCKS_AHEAD: u64 = 16;
 
-const AHEAD: u64 = BLOCKS_AHEAD * BLOCK as u64;
+const BLOCK_BYTES: u64 = BLOCK as u64;
+
+const AHEAD: u64 = BLOCKS_AHEAD * BLOCK_BYTES;
 
 // The bytes of a log's mark and of the gate behind it. Behind fewer, zeros would stand where these are looked for.
 const HEAD: u64 = 9;
@@ -50,6 +53,7 @@ pub struct LogFile {
     given: usize,
     end: u64,
     room: u64,
+    ahead: u64,
     is_synced: bool,
     ghost size: { vec_len block ≡ 65536 },
     ghost within: { held ≤ 65536 },
@@ -69,6 +73,7 @@ impl LogFile {
             given: 0,
             end: size,
             room: size,
+            ahead: BLOCK_BYTES,
             is_synced: false,
         })
     }
@@ -140,24 +145,27 @@ impl LogFile {
         self.block.fill(0);
         let mut at = self.end;
         for _ in 0..BLOCKS_AHEAD {
-            let count = room.saturating_sub(at).min(BLOCK as u64);
+            let count = room.saturating_sub(at).min(BLOCK_BYTES);
             self.file.write_all_at(&self.block[..count as usize], at)?;
             at = at.saturating_add(count);
         }
         Ok(())
     }
 
-    // Sees to it that a write up to an offset lands on zeros that are durable, by writing more of them behind the end. It does so only
-    // where what stands before them is durable and more than a log's beginning, and where they reach that far. Zeros that the file does
-    // not take are left out, since the write itself may fit; but where their sync fails, so does this.
+    // Sees to it that a write up to an offset lands on zeros that are durable: where it would pass those that are there, more are written
+    // from the end on. It does so only where what stands before them is durable and more than a log's beginning, and not for a write
+    // that is longer than they may be. Zeros that the file does not take are left out, since the write itself may fit; but where their
+    // sync fails, so does this.
     fn write_ahead(&mut self, end: u64) -> io::Result<()> {
-        let room = self.end.saturating_add(AHEAD).min(LENGTH_LIMIT);
-        if !self.is_synced || self.end < HEAD || end <= self.room || end > room {
+        let length = end.saturating_sub(self.end);
+        if !self.is_synced || self.end < HEAD || end <= self.room || length >= AHEAD {
             return Ok(());
         }
-        // So far none are tried again, whether they were written or not.
-        self.room = room;
-        if self.write_zeros(room).is_err() {
+        let ahead = self.ahead.max((length / BLOCK_BYTES + 1) * BLOCK_BYTES);
+        // So far none are tried again, whether these are written or not.
+        self.room = self.end.saturating_add(ahead).min(LENGTH_LIMIT);
+        self.ahead = ahead.saturating_mul(2).min(AHEAD);
+        if self.write_zeros(self.room).is_err() {
             let _ = self.file.set_len(self.end);
             return Ok(());
         }
@@ -219,6 +227,7 @@ impl LogFile {
         self.is_synced = false;
         self.end = size;
         self.room = size;
+        self.ahead = BLOCK_BYTES;
         self.file.set_len(size)
     }
 
@@ -243,6 +252,7 @@ impl Drop for LogFile {
             given: _,
             end: _,
             room: _,
+            ahead: _,
             is_synced: _,
         } = self;
     }

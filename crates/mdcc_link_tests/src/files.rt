@@ -112,8 +112,10 @@ fn keeps_writes_of_all_sizes(rt: HostRuntime) -> Result<(), Fail> {
     Ok(())
 }
 
-// How many zeros are written behind the end together.
-const AHEAD: u64 = 1 << 20;
+// How many zeros are written behind the end at first, and at most.
+const FIRST: u64 = 1 << 16;
+
+const MOST: u64 = 1 << 20;
 
 // What a disk has that holds this front, durable, and then is given this end: its length, and that of the file, which another object
 // finds. None where a call fails.
@@ -129,8 +131,25 @@ fn lengths(rt: &HostRuntime, place: u8, front: &[u8], end: &[u8]) -> Option<(u64
     Some((length, disks.length(place).ok()?))
 }
 
-// Zeros are written ahead once as many bytes are durable as a log begins with, and not where the write would pass them. They are no
-// bytes of the disk; another object finds them behind its end, and a cut takes them off.
+// The length of the file of a disk after so many writes of 50,000 bytes, each durable.
+fn length_of_file(rt: &HostRuntime, writes: u64, bytes: &[u8]) -> Option<u64> {
+    let mut disks = FileDisks::new(rt.alloc(), rt);
+    disks.cut(4, 0).ok()?;
+    disks.write_at(4, 0, b"123456789").ok()?;
+    disks.sync(4).ok()?;
+    for number in 0..writes {
+        disks
+            .write_at(4, number.checked_mul(50_000)?.checked_add(9)?, bytes)
+            .ok()?;
+        disks.sync(4).ok()?;
+    }
+    drop(disks);
+    let mut disks = FileDisks::new(rt.alloc(), rt);
+    disks.length(4).ok()
+}
+
+// Zeros are written ahead once as many bytes are durable as a log begins with, and not for a write that is longer than they may be. They
+// are no bytes of the disk; another object finds them behind its end, and a cut takes them off.
 #[test]
 fn writes_zeros_ahead(rt: HostRuntime) -> Result<(), Fail> {
     let large = vec![in rt.alloc(); 7u8; 1_048_577]?;
@@ -142,11 +161,11 @@ fn writes_zeros_ahead(rt: HostRuntime) -> Result<(), Fail> {
     );
     assert_eq!(rt;
         lengths(&rt, 4, b"123456789", b"end"),
-        Some((12, 9 + AHEAD))
+        Some((12, 9 + FIRST))
     );
     let mut disks = FileDisks::new(rt.alloc(), &rt);
-    assert_eq!(rt; disks.read(4, 12, &mut buffer), Ok(1_048_573));
-    assert!(rt; buffer[..1_048_573].iter().all(|byte| *byte == 0));
+    assert_eq!(rt; disks.read(4, 12, &mut buffer), Ok(65_533));
+    assert!(rt; buffer[..65_533].iter().all(|byte| *byte == 0));
     assert_eq!(rt; disks.cut(4, 12), Ok(()));
     drop(disks);
     let mut disks = FileDisks::new(rt.alloc(), &rt);
@@ -154,6 +173,21 @@ fn writes_zeros_ahead(rt: HostRuntime) -> Result<(), Fail> {
     assert_eq!(rt; disks.read(4, 9, &mut buffer), Ok(3));
     assert!(rt; buffer.starts_with(b"end"));
     assert_eq!(rt; disks.cut(4, 0), Ok(()));
+    Ok(())
+}
+
+// They are twice as many each time, up to a mebibyte, from the end of the bytes on: written at 9, at 50,009, 150,009, 400,009, 900,009 and
+// 1,900,009 bytes.
+#[test]
+fn writes_more_zeros_each_time(rt: HostRuntime) -> Result<(), Fail> {
+    let buffer = vec![in rt.alloc(); 7u8; 50_000]?;
+    assert_eq!(rt; length_of_file(&rt, 1, &buffer), Some(9 + FIRST));
+    assert_eq!(rt; length_of_file(&rt, 3, &buffer), Some(50_009 + 2 * FIRST));
+    assert_eq!(rt; length_of_file(&rt, 4, &buffer), Some(150_009 + 4 * FIRST));
+    assert_eq!(rt; length_of_file(&rt, 9, &buffer), Some(400_009 + 8 * FIRST));
+    assert_eq!(rt; length_of_file(&rt, 19, &buffer), Some(900_009 + MOST));
+    assert_eq!(rt; length_of_file(&rt, 38, &buffer), Some(900_009 + MOST));
+    assert_eq!(rt; length_of_file(&rt, 39, &buffer), Some(1_900_009 + MOST));
     Ok(())
 }
 
@@ -176,7 +210,7 @@ fn writes_over_zeros(rt: HostRuntime) -> Result<(), Fail> {
     assert_eq!(rt; disks.length(5), Ok(18));
     drop(disks);
     let mut disks = FileDisks::new(rt.alloc(), &rt);
-    assert_eq!(rt; disks.length(5), Ok(12 + AHEAD));
+    assert_eq!(rt; disks.length(5), Ok(12 + FIRST));
     assert_eq!(rt; disks.read(5, 8, &mut buffer), Ok(8));
     assert_eq!(rt; buffer, *b"xabcdefg");
     assert_eq!(rt; disks.cut(5, 0), Ok(()));
