@@ -65,7 +65,7 @@ class Etcd:
         end = time.monotonic() + 30
         while True:
             try:
-                self.load(1, puts=1)
+                self.load(self.members, puts=self.members)
                 return self
             except OSError:
                 if time.monotonic() > end:

@@ -1,4 +1,5 @@
-"""What the disk and the link cost: a small write that is made durable, an append as a log makes it, with a gate, and a round trip."""
+"""What the disk and the link cost: a small write that is made durable, an append as a log makes it, with a gate and over zeros that are there, and a
+round trip."""
 import multiprocessing
 import os
 import socket
@@ -9,6 +10,9 @@ from .orders import percentile
 
 SIZE = 100
 DATA = b"x" * SIZE
+# A file has so many bytes before anything is written; after so many writes they begin anew at its front.
+AHEAD = 1 << 20
+WRITES = AHEAD // SIZE - 1
 
 
 def times_of(count, call):
@@ -21,19 +25,24 @@ def times_of(count, call):
 
 
 def write(descriptor, number):
-    os.pwrite(descriptor, DATA, number * SIZE)
+    os.pwrite(descriptor, DATA, number % WRITES * SIZE)
     os.fdatasync(descriptor)
 
 
 def append(descriptor, number):
-    os.pwrite(descriptor, DATA, number * SIZE + 1)
+    at = number % WRITES * SIZE
+    os.pwrite(descriptor, DATA, at + 1)
     os.fdatasync(descriptor)
-    os.pwrite(descriptor, b"\1", number * SIZE)
+    os.pwrite(descriptor, b"\1", at)
     os.fdatasync(descriptor)
 
 
 def open_in(folder, name):
-    return os.open(os.path.join(folder, name), os.O_RDWR | os.O_CREAT)
+    """A new file of durable zeros."""
+    descriptor = os.open(os.path.join(folder, name), os.O_RDWR | os.O_CREAT)
+    os.pwrite(descriptor, bytes(AHEAD), 0)
+    os.fsync(descriptor)
+    return descriptor
 
 
 def append_on(folder, name):
@@ -53,6 +62,7 @@ def disk_times(folder, others, count=300):
         beside = [multiprocessing.Process(target=append_on, args=(inside, f"other-{number}"), daemon=True) for number in range(others)]
         for process in beside:
             process.start()
+        time.sleep(0.2)
         shared = times_of(count, lambda number: append(descriptor, number))
         for process in beside:
             process.terminate()

@@ -43,8 +43,9 @@ fn read_file(file: &File, into: &mut [u8], offset: u64, rest: u64) -> io::Result
 /// not take them, that call fails, and they are handed to it again at the next one.
 ///
 /// The bytes end at `end`. Behind them the file may have zeros up to `room`, which were written ahead, so that a write there lands on
-/// bytes that the file has already: a sync of it waits for no change of the file's length and blocks. `is_synced` says that nothing
-/// was written or cut since a sync.
+/// bytes that the file has already: a sync of it waits for no change of the file's length and blocks. Where the file took no zeros
+/// there are none up to `room`, and what is written makes the file longer. The next ones are `ahead` many. `is_synced` says that
+/// nothing was written or cut since a sync.
 pub struct LogFile {
     file: File,
     block: Vec<u8>,
