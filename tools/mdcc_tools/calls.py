@@ -75,6 +75,15 @@ def read_calls(path):
         return []
 
 
+def has_struck(path):
+    """Whether the rule of a run struck, up to now; of a record that is still written."""
+    try:
+        with open(path, "rb") as file:
+            return b" 1\n" in file.read()
+    except FileNotFoundError:
+        return False
+
+
 def counts_of(calls):
     return Counter(call.name for call in calls)
 
