@@ -10,7 +10,7 @@ from .areas import End, Position
 from .logs import ADOPTED, BOOTED, HEARD, VOTED, cells_of
 from .parts import TX, U32, U64
 
-FORMAT = 3
+FORMAT = 4
 
 
 def number_of(centre: int, epoch: int, sequence: int) -> int:
@@ -112,14 +112,24 @@ class Summary:
             self.epoch = U32.unpack_from(payload, 1)[0]
 
     def take_vote(self, data: bytes) -> None:
+        """A centre asks for the outcome of what it has the choice of: accepted, or offered where it rejected it at the fast ballot. Of what a
+        leader had it reject it knows no more than the name."""
         at = 2 + data[1] + 8 + 9
         count, at = U32.unpack_from(data, at)[0], at + 4
         for left in reversed(range(count)):
-            tx = number_of(*TX.unpack_from(data, at + 1))
-            if tx not in self.commits and tx not in self.aborts:
-                self.open.add(tx)
-            if left:
-                at = at + 10 if data[at] == 0 else after_update(data, at + 10 + 1 + data[at + 10] + 8)
+            if data[at] == 0:
+                at += 10
+                continue
+            self.note_choice(number_of(*TX.unpack_from(data, at + 1)))
+            if not left:
+                return
+            at = after_update(data, at + 10 + 1 + data[at + 10] + 8)
+        if data[at] == 1:
+            self.note_choice(number_of(*TX.unpack_from(data, at + 1)))
+
+    def note_choice(self, tx: int) -> None:
+        if tx not in self.commits and tx not in self.aborts:
+            self.open.add(tx)
 
     def take_outcome(self, data: bytes) -> None:
         tx = number_of(*TX.unpack_from(data, 1))
