@@ -1,11 +1,9 @@
 -- Why a client ended, over several calls.
-use Rattle.std.proofs.Common.{◌≤◌, Err, IsErrOf, Ok, Result, arith, refl, ℕ}
-use Rattle.std.specs.Prelude.{IfErr}
-use Rattle.mdcc_ask.specs.Effects.{HasCauses, IsWriting, of_writing}
+use Rattle.std.proofs.Common.{◌≡◌, ◌≤◌, Err, List, Ok, Option, Result, arith, ℕ}
+use Rattle.mdcc_ask.specs.Effects.{HasCauses, Prints}
 use Rattle.mdcc_ask.specs.declared.fault.AskFault.{AskFault}
 use Rattle.mdcc_base.specs.Causes.{Rose}
 use Rattle.mdcc_outbox.proofs.Handed.{rose_before}
-use Rattle.mdcc_replay.specs.declared.writing.Failure.{Failure}
 
 module _ {L O : Type 0} (link_faults : L → ℕ) (out_faults : O → ℕ) where
   -- what came before counts no fault away
@@ -27,16 +25,12 @@ module _ {L O : Type 0} (link_faults : L → ℕ) (out_faults : O → ℕ) where
   pub causes_link : (l0 l1 : L) (o0 o1 : O) → link_faults l0 ≤ link_faults l1 → Rose (link_faults l0) (link_faults l1) → out_faults o0 ≤ out_faults o1 → HasCauses link_faults out_faults (Err AskFault.Link) l0 l1 o0 o1
   causes_link l0 l1 o0 o1 link rose out = record { link = λ h. rose; output = λ h. absurd (cc); link_later = link; output_later = out }
 
-  -- a text was not written
-  pub causes_writing : (failure : Failure) (l : L) (o0 o1 : O) → out_faults o0 ≤ out_faults o1 → (IsErrOf {T = Unit {0}} (Err failure) Failure.Output → Rose (out_faults o0) (out_faults o1))
-      → HasCauses link_faults out_faults (Err (of_writing failure)) l l o0 o1
-  causes_writing Failure.Output l o0 o1 later rose = record { link = λ h. absurd (cc); output = λ h. rose refl; link_later = omega arith; output_later = later }
-  causes_writing Failure.Memory l o0 o1 later rose = record { link = λ h. absurd (cc); output = λ h. absurd (cc); link_later = omega arith; output_later = later }
-
-  -- the end
-  pub causes_end : (result : Result (Unit {0}) AskFault) (l : L) (o0 o1 : O) → IfErr result IsWriting → (IsErrOf result AskFault.Output → Rose (out_faults o0) (out_faults o1)) → out_faults o0 ≤ out_faults o1
-      → HasCauses link_faults out_faults result l l o0 o1
-  causes_end (Ok done) l o0 o1 writing output later = record { link = λ h. absurd (cc); output = output; link_later = omega arith; output_later = later }
-  causes_end (Err AskFault.Output) l o0 o1 writing output later = record { link = λ h. absurd (cc); output = output; link_later = omega arith; output_later = later }
-  causes_end (Err AskFault.Memory) l o0 o1 writing output later = record { link = λ h. absurd (cc); output = output; link_later = omega arith; output_later = later }
-  causes_end (Err AskFault.Link) l o0 o1 writing output later = absurd writing
+  -- a text was printed, or not all of it
+  pub causes_print : (held : O → Option (List ℕ)) (text : List ℕ) (result : Result (Unit {0}) AskFault) (l : L) (o0 o1 : O) → Prints held out_faults text result o0 o1 → HasCauses link_faults out_faults result l l o0 o1
+  causes_print held text (Ok done) l o0 o1 prints = record { link = λ h. absurd (cc); output = λ h. absurd (cc); link_later = omega arith; output_later = prints.cause.later }
+  causes_print held text (Err fault) l o0 o1 prints = record {
+    link = λ h. (let same : AskFault.Output ≡ AskFault.Link = cc (prints.fault, h) in absurd (cc));
+    output = λ h. prints.cause.failed;
+    link_later = omega arith;
+    output_later = prints.cause.later;
+  }

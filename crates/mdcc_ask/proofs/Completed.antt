@@ -29,8 +29,8 @@ module _ {L O : Type 0} (calls : L → Option (List LinkCall)) (held : O → Opt
     ]
 
     client_ends : (config : Config) (question : Question) (result : Result (Unit {0}) AskFault) → done ≡ as_done result
-        → Asks calls held (asked config (order_of question)) question.turns result link_old link_new out_old out_new
-        → CompletesAs status (Asks calls held (asked config (order_of question)) question.turns (Ok tt) link_old link_new out_old out_new) ⊥
+        → Asks calls held (asked config (order_of question) question.turns) question.turns result link_old link_new out_old out_new
+        → CompletesAs status (Asks calls held (asked config (order_of question) question.turns) question.turns (Ok tt) link_old link_new out_old out_new) ⊥
     client_ends config question (Ok done_it) is asks =
         inl (status_done done_it status (subst (λ (r : Result (Unit {0}) Failure). (status ≡ status_after r) ⊎ IsTrue (is_err r && status == 10)) is status_is), asks)
     client_ends config question (Err AskFault.Link) is asks = absurd (link_still is)
@@ -48,11 +48,11 @@ module _ {L O : Type 0} (calls : L → Option (List LinkCall)) (held : O → Opt
         run = subst (λ (l : Option (List ℕ)). IfSome l (λ input. RunsAsk calls held link_old link_new out_old out_new input question done)) known runs
 
         by_read : (run : RunsAsk calls held link_old link_new out_old out_new input question done) → (run.read ≡ Ok config) ⊎ ((failure : Failure) × (run.read ≡ Err failure) × IsUnlucky failure)
-            → CompletesAs status (Asks calls held (asked config (order_of question)) question.turns (Ok tt) link_old link_new out_old out_new) ⊥
+            → CompletesAs status (Asks calls held (asked config (order_of question) question.turns) question.turns (Ok tt) link_old link_new out_old out_new) ⊥
         by_read run (inl e) =
             let one : AsksOne calls held link_old link_new out_old out_new config question done =
             from_true (is_centre config.cluster question.centre) _ _ there (subst (λ (r : Result Config Failure). AsksBy calls held link_old link_new out_old out_new r question done) e run.asks) in
             client_ends config question one.result one.is one.asks
         by_read run (inr it) =
             let same : done ≡ Err it.0 = (subst (λ (r : Result Config Failure). AsksBy calls held link_old link_new out_old out_new r question done) it.1 run.asks).0 in
-            unlucky_ends it.0 (Asks calls held (asked config (order_of question)) question.turns (Ok tt) link_old link_new out_old out_new) same it.2
+            unlucky_ends it.0 (Asks calls held (asked config (order_of question) question.turns) question.turns (Ok tt) link_old link_new out_old out_new) same it.2

@@ -1,25 +1,23 @@
 -- Doings one after another, and turns.
-use Rattle.std.proofs.Common.{◌≡◌, ◌∙◌, ◌++◌, ◌∷◌, [], Bool, List, Option, ap, append-nil, append_assoc, cond, false, inl, inr, refl, sym, true, ℕ}
+use Rattle.std.proofs.Common.{◌≡◌, ◌∙◌, ◌++◌, ◌==◌, ◌∷◌, [], Bool, List, None, Option, Some, ap, append-nil, append_assoc, cond, false, inl, inr, length, refl, sym, true, ℕ}
 use Rattle.std.proofs.lemmas.Bool.{cases_Bool}
-use Rattle.mdcc_ask.specs.Asking.{Doing, and_then, is_answered, joined_to, only, turn_of, turns_of}
+use Rattle.mdcc_ask.proofs.ActLists.{binds_receive, received_append, sends_receive}
+use Rattle.mdcc_ask.specs.Acts.{ClientAct, at_link, received}
+use Rattle.mdcc_ask.specs.Answers.{goes_on}
+use Rattle.mdcc_ask.specs.Asking.{Doing, and_then, asked, begins_asking, bound_for, bytes_taken, came, ended, is_answered, joined_to, new_client, only, starts, turn_of, turns_of}
+use Rattle.mdcc_ask.specs.Requests.{is_open}
 use Rattle.mdcc_ask.specs.declared.client.Client.{Client}
 use Rattle.mdcc_ask.specs.declared.order.Order.{Order}
 use Rattle.mdcc_config.specs.declared.config.Config.{Config}
-use Rattle.mdcc_runs.specs.Acts.{Act}
 
-abbrev doing : List Act → List ℕ → Client → Doing
-doing acts text client = record { acts = acts; text = text; client = client }
-
-both : (a b : List Act) (x y : List ℕ) (client : Client) → a ≡ b → x ≡ y → doing a x client ≡ doing b y client
-both a b x y client e f = ap (λ (acts : List Act). doing acts x client) e ∙ ap (λ (text : List ℕ). doing b text client) f
+abbrev doing : List ClientAct → Client → Doing
+doing acts client = record { acts = acts; client = client }
 
 pub joined_assoc : (a b c : Doing) → joined_to a (joined_to b c) ≡ joined_to (joined_to a b) c
-joined_assoc a b c =
-    both (a.acts ++ (b.acts ++ c.acts)) ((a.acts ++ b.acts) ++ c.acts) (a.text ++ (b.text ++ c.text)) ((a.text ++ b.text) ++ c.text) c.client
-    (sym (append_assoc a.acts b.acts c.acts)) (sym (append_assoc a.text b.text c.text))
+joined_assoc a b c = ap (λ (acts : List ClientAct). doing acts c.client) (sym (append_assoc a.acts b.acts c.acts))
 
 joined_nothing : (a : Doing) → joined_to a (only [] a.client) ≡ a
-joined_nothing a = both (a.acts ++ []) a.acts (a.text ++ []) a.text a.client (append-nil a.acts) (append-nil a.text)
+joined_nothing a = ap (λ (acts : List ClientAct). doing acts a.client) (append-nil a.acts)
 
 module _ (config : Config) (order : Order) where
   -- once all is answered no turn does anything
@@ -54,3 +52,29 @@ module _ (config : Config) (order : Order) where
   pub turns_more : (given more : List (Option (List ℕ))) (client : Client) → turns_of config order (given ++ more) client ≡ and_then (turns_of config order given client) (turns_of config order more)
   turns_more [] more client = refl
   turns_more (gave ∷ rest) more client = turns_behind gave rest more client (turns_more rest more (turn_of config order client gave).client)
+
+  -- ---- receives
+
+  pub came_receives : (gave : Option (List ℕ)) (client : Client) → received (came config order gave client).acts ≡ []
+  came_receives None client = sends_receive config order (is_open client.phase) client
+  came_receives (Some bytes) client = let reaction = bytes_taken config.cluster.schema order client bytes in sends_receive config order reaction.sends reaction.client
+
+  -- a turn makes one
+  pub turn_receives : (client : Client) (gave : Option (List ℕ)) → received (turn_of config order client gave).acts ≡ gave ∷ []
+  turn_receives client gave = ap (λ (given : List (Option (List ℕ))). gave ∷ given) (came_receives gave client)
+
+  -- the start makes none
+  pub start_receives : received (starts config order).acts ≡ []
+  start_receives =
+      let reaction = goes_on config.cluster.schema order new_client in
+      let acts = at_link (bound_for config order) in
+      received_append acts (begins_asking config order new_client).acts ∙ (ap (λ (given : List (Option (List ℕ))). given ++ received (begins_asking config order new_client).acts) (binds_receive config order) ∙ sends_receive config order reaction.sends reaction.client)
+
+  -- all that it does makes just those of its turns
+  pub asked_receives : (turns : ℕ) (given : List (Option (List ℕ))) → received (turns_of config order given (starts config order).client).acts ≡ given → received (asked config order turns given).acts ≡ given
+  asked_receives turns given e =
+      let its = turns_of config order given (starts config order).client in
+      let end = ended (length given == turns) its.client in
+      received_append (starts config order).acts (its.acts ++ end.acts)
+      ∙ (ap (λ (none : List (Option (List ℕ))). none ++ received (its.acts ++ end.acts)) start_receives
+      ∙ (received_append its.acts end.acts ∙ (append-nil (received its.acts) ∙ e)))

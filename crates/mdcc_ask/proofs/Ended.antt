@@ -77,11 +77,11 @@ module _ {L O : Type 0} (calls : L → Option (List LinkCall)) (held : O → Opt
 
   -- its centre was asked
   pub asked_runs : (left : Option (List ℕ)) (question : Question) (config : Config) (order : Order) (result : Result (Unit {0}) AskFault) (done : Result (Unit {0}) Failure) → order ≡ order_of question
-      → is_centre config.cluster question.centre ≡ true → done ≡ as_done result → Asks calls held (asked config order) question.turns result link_old link_new out_old out_new
+      → is_centre config.cluster question.centre ≡ true → done ≡ as_done result → Asks calls held (asked config order question.turns) question.turns result link_old link_new out_old out_new
       → IfSome left (λ input. GivesConfig input (Ok config)) → IfSome left (λ input. RunsAsk calls held link_old link_new out_old out_new input question done)
   asked_runs None question config order result done same there is asks gives = tt
   asked_runs (Some input) question config order result done same there is asks gives =
-      let its = subst (λ (o : Order). Asks calls held (asked config o) question.turns result link_old link_new out_old out_new) same asks in
+      let its = subst (λ (o : Order). Asks calls held (asked config o question.turns) question.turns result link_old link_new out_old out_new) same asks in
       record {
         read = Ok config;
         gives = gives;

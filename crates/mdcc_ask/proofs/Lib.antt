@@ -1,3 +1,4 @@
+pub mod ActLists
 pub mod Caused
 pub mod Completed
 pub mod Doings

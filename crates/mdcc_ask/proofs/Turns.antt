@@ -1,11 +1,15 @@
 -- The turns of a client, one after another.
-use Rattle.std.proofs.Common.{◌≡◌, ◌∙◌, ◌≤◌, ◌<◌, ◌+◌, ◌++◌, ◌∷◌, ◌⊎◌, [], Err, IsTrue, List, Ok, OnOk, Option, Result, ap, arith, false, inl, inr, length, refl, subst, sym, true, ℕ}
+use Rattle.std.proofs.Common.{◌≡◌, ◌∙◌, ◌≤◌, ◌<◌, ◌+◌, ◌++◌, ◌==◌, ◌∷◌, ◌⊎◌, [], Bool, Err, IsTrue, List, Ok, OnOk, Option, Result, ap, arith, false, inl, inr, length, refl, subst, sym, true, ℕ}
+use Rattle.std.proofs.lemmas.Bool.Decides.{nat_tests}
 use Rattle.std.proofs.lemmas.List.{length_push}
-use Rattle.mdcc_ask.proofs.Doings.{one_turn, turns_more}
-use Rattle.mdcc_ask.proofs.Seen.{broke_first, broke_later, did_nothing, joined_did, then_does}
-use Rattle.mdcc_ask.specs.Asking.{Doing, asked, ended, is_answered, joined_to, starts, turn_of, turns_of, turns_to_end}
-use Rattle.mdcc_ask.specs.Effects.{Asks, BrokeOff, Did, Does, Turned}
+use Rattle.mdcc_ask.proofs.ActLists.{received_append}
+use Rattle.mdcc_ask.proofs.Doings.{asked_receives, one_turn, turn_receives, turns_more}
+use Rattle.mdcc_ask.proofs.Seen.{broke_first, broke_later, did_nothing, joined_did, prints_alone, then_does}
+use Rattle.mdcc_ask.specs.Acts.{received}
+use Rattle.mdcc_ask.specs.Asking.{Doing, asked, end_text, ended, is_answered, joined_to, starts, turn_of, turns_of, turns_to_end}
+use Rattle.mdcc_ask.specs.Effects.{Asks, BrokeOff, Did, Prints, Turned}
 use Rattle.mdcc_ask.specs.declared.client.Client.{Client}
+use Rattle.mdcc_ask.specs.declared.client.Phase.{Phase}
 use Rattle.mdcc_ask.specs.declared.fault.AskFault.{AskFault}
 use Rattle.mdcc_ask.specs.declared.order.Order.{Order}
 use Rattle.mdcc_config.specs.declared.config.Config.{Config}
@@ -25,10 +29,21 @@ module _ {L O : Type 0} (calls : L → Option (List LinkCall)) (held : O → Opt
   pub record Went (index : ℕ) (l : L) (o : O) (client : Client) : Type 0 where
     pub given : List (Option (List ℕ))
     pub as_many : length given ≡ index
+    pub receives : received (turns_of config order given first).acts ≡ given
     pub did : Did calls held (turns_of config order given first) l0 l o0 o client
 
   pub went_none : Went 0 l0 o0 first
-  went_none = record { given = []; as_many = refl; did = did_nothing calls held first l0 o0 }
+  went_none = record { given = []; as_many = refl; receives = refl; did = did_nothing calls held first l0 o0 }
+
+  -- with one turn more there is one receive more
+  more_received : (index : ℕ) (gave : Option (List ℕ)) (l : L) (o : O) (client : Client) (went : Went index l o client) → is_answered client.phase ≡ false
+      → received (turns_of config order (went.given ++ gave ∷ []) first).acts ≡ went.given ++ gave ∷ []
+  more_received index gave l o client went unanswered =
+      let before = turns_of config order went.given first in
+      let turn = turn_of config order client gave in
+      ap (λ (d : Doing). received d.acts) (one_more config order first went.given gave client went.did.client_is unanswered)
+      ∙ (received_append before.acts turn.acts
+      ∙ (ap (λ (given : List (Option (List ℕ))). given ++ received turn.acts) went.receives ∙ ap (λ (given : List (Option (List ℕ))). went.given ++ given) (turn_receives config order client gave)))
 
   pub went_on : (index : ℕ) (gave : Option (List ℕ)) (l l1 : L) (o o1 : O) (client next : Client) → Went index l o client → is_answered client.phase ≡ false
       → Did calls held (turn_of config order client gave) l l1 o o1 next → Went (index + 1) l1 o1 next
@@ -37,6 +52,7 @@ module _ {L O : Type 0} (calls : L → Option (List LinkCall)) (held : O → Opt
       record {
         given = went.given ++ gave ∷ [];
         as_many = omega (more, went.as_many, arith);
+        receives = more_received index gave l o client went unanswered;
         did = subst (λ (d : Doing). Did calls held d l0 l1 o0 o1 next) (sym (one_more config order first went.given gave client went.did.client_is unanswered))
             (joined_did calls held (turns_of config order went.given first) (turn_of config order client gave) l0 l l1 o0 o o1 client next went.did turn);
       }
@@ -51,6 +67,7 @@ module _ {L O : Type 0} (calls : L → Option (List LinkCall)) (held : O → Opt
         given = went.given ++ gave ∷ [];
         within = omega (more, went.as_many, below, arith);
         whole = tt;
+        receives = more_received index gave l o client went unanswered;
         does = subst (λ (d : Doing). BrokeOff calls held d fault l0 l1 o0 o1) (sym (one_more config order first went.given gave client went.did.client_is unanswered))
             (broke_later calls held (turns_of config order went.given first) (turn_of config order client gave) fault l0 l l1 o0 o o1 client went.did turn);
       }
@@ -58,11 +75,27 @@ module _ {L O : Type 0} (calls : L → Option (List LinkCall)) (held : O → Opt
   -- all is answered
   pub went_answered : (index turns : ℕ) (l : L) (o : O) (client : Client) → Went index l o client → index ≤ turns → is_answered client.phase ≡ true
       → Turned calls held (λ given. turns_of config order given first) turns (Ok tt) l0 l o0 o client
-  went_answered index turns l o client went within answered = record { given = went.given; within = omega (went.as_many, within, arith); whole = inl answered; does = went.did }
+  went_answered index turns l o client went within answered = record { given = went.given; within = omega (went.as_many, within, arith); whole = inl answered; receives = went.receives; does = went.did }
 
   -- or the turns are over
   pub went_all : (turns : ℕ) (l : L) (o : O) (client : Client) → Went turns l o client → Turned calls held (λ given. turns_of config order given first) turns (Ok tt) l0 l o0 o client
-  went_all turns l o client went = record { given = went.given; within = omega (went.as_many, arith); whole = inr went.as_many; does = went.did }
+  went_all turns l o client went = record { given = went.given; within = omega (went.as_many, arith); whole = inr went.as_many; receives = went.receives; does = went.did }
+
+-- ---- the end
+
+-- there were so many turns
+at_end : (n turns : ℕ) → n ≡ turns → (n == turns) ≡ true
+at_end n turns e = grind (arith, nat_tests)
+
+-- what it prints at its end
+end_is : (phase : Phase) (n turns : ℕ) → IsTrue (is_answered phase) ⊎ (n ≡ turns) → end_text true phase ≡ end_text (n == turns) phase
+end_is Phase.Answered n turns whole = refl
+end_is Phase.Reading n turns (inr e) = ap (λ (b : Bool). end_text b Phase.Reading) (sym (at_end n turns e))
+end_is Phase.Beginning n turns (inr e) = ap (λ (b : Bool). end_text b Phase.Beginning) (sym (at_end n turns e))
+end_is (Phase.Waiting tx) n turns (inr e) = ap (λ (b : Bool). end_text b (Phase.Waiting tx)) (sym (at_end n turns e))
+end_is Phase.Reading n turns (inl h) = absurd (cc)
+end_is Phase.Beginning n turns (inl h) = absurd (cc)
+end_is (Phase.Waiting tx) n turns (inl h) = absurd (cc)
 
 -- ---- all of it
 
@@ -72,41 +105,51 @@ on_ok (Err e) P p = tt
 
 module _ {L O : Type 0} (calls : L → Option (List LinkCall)) (held : O → Option (List ℕ)) (config : Config) (order : Order) (turns : ℕ) (l0 l1 : L) (o0 o1 : O) (c1 : Client) where
   -- the start broke off
-  pub start_broke : (fault : AskFault) → BrokeOff calls held (starts config order) fault l0 l1 o0 o1 → Asks calls held (asked config order) turns (Err fault) l0 l1 o0 o1
+  pub start_broke : (fault : AskFault) → BrokeOff calls held (starts config order) fault l0 l1 o0 o1 → Asks calls held (asked config order turns) turns (Err fault) l0 l1 o0 o1
   start_broke fault broke = record {
     client = c1;
     turned = record {
       given = [];
       within = omega arith;
       whole = tt;
-      does = broke_first calls held (starts config order) (turns_to_end config order [] (starts config order).client) fault l0 l1 o0 o1 broke;
+      receives = asked_receives config order turns [] refl;
+      does = broke_first calls held (starts config order) (turns_to_end config order turns [] (starts config order).client) fault l0 l1 o0 o1 refl broke;
     };
   }
 
   module _ (l2 : L) (o2 : O) (c2 : Client) (start : Did calls held (starts config order) l0 l1 o0 o1 c1) where
+    all_received : (given : List (Option (List ℕ))) → received (turns_of config order given c1).acts ≡ given → received (asked config order turns given).acts ≡ given
+    all_received given e = asked_receives config order turns given (subst (λ (c : Client). received (turns_of config order given c).acts ≡ given) start.client_is e)
+
     -- a turn did
-    pub turns_broke : (fault : AskFault) → Turned calls held (λ given. turns_of config order given c1) turns (Err fault) l1 l2 o1 o2 c2 → Asks calls held (asked config order) turns (Err fault) l0 l2 o0 o2
+    pub turns_broke : (fault : AskFault) → Turned calls held (λ given. turns_of config order given c1) turns (Err fault) l1 l2 o1 o2 c2 → Asks calls held (asked config order turns) turns (Err fault) l0 l2 o0 o2
     turns_broke fault turned = record {
       client = c2;
       turned = record {
         given = turned.given;
         within = turned.within;
         whole = tt;
-        does = then_does calls held (starts config order) (turns_to_end config order turned.given) (Err fault) l0 l1 l2 o0 o1 o2 c1 c2 start
-            (broke_first calls held (turns_of config order turned.given c1) (ended (turns_of config order turned.given c1).client) fault l1 l2 o1 o2 turned.does);
+        receives = all_received turned.given turned.receives;
+        does = then_does calls held (starts config order) (turns_to_end config order turns turned.given) (Err fault) l0 l1 l2 o0 o1 o2 c1 c2 start
+            (broke_first calls held (turns_of config order turned.given c1) (ended (length turned.given == turns) (turns_of config order turned.given c1).client) fault l1 l2 o1 o2 refl turned.does);
       };
     }
 
     -- the end came
-    pub end_came : {done : Unit {0}} (o3 : O) (result : Result (Unit {0}) AskFault) → Turned calls held (λ given. turns_of config order given c1) turns (Ok done) l1 l2 o1 o2 c2 → Does calls held (ended c2) result l2 l2 o2 o3 c2
-        → Asks calls held (asked config order) turns result l0 l2 o0 o3
-    end_came o3 result turned end = record {
-      client = c2;
-      turned = record {
-        given = turned.given;
-        within = turned.within;
-        whole = on_ok result (IsTrue (is_answered c2.phase) ⊎ (length turned.given ≡ turns)) turned.whole;
-        does = then_does calls held (starts config order) (turns_to_end config order turned.given) result l0 l1 l2 o0 o1 o3 c1 c2 start
-            (then_does calls held (turns_of config order turned.given c1) ended result l1 l2 l2 o1 o2 o3 c2 c2 turned.does end);
-      };
-    }
+    pub end_came : {done : Unit {0}} (out_faults : O → ℕ) (o3 : O) (result : Result (Unit {0}) AskFault) → Turned calls held (λ given. turns_of config order given c1) turns (Ok done) l1 l2 o1 o2 c2
+        → Prints held out_faults (end_text true c2.phase) result o2 o3 → Asks calls held (asked config order turns) turns result l0 l2 o0 o3
+    end_came out_faults o3 result turned prints =
+        let is_over = length turned.given == turns in
+        let end = subst (λ (text : List ℕ). Prints held out_faults text result o2 o3) (end_is c2.phase (length turned.given) turns turned.whole) prints in
+        record {
+          client = c2;
+          turned = record {
+            given = turned.given;
+            within = turned.within;
+            whole = on_ok result (IsTrue (is_answered c2.phase) ⊎ (length turned.given ≡ turns)) turned.whole;
+            receives = all_received turned.given turned.receives;
+            does = then_does calls held (starts config order) (turns_to_end config order turns turned.given) result l0 l1 l2 o0 o1 o3 c1 c2 start
+                (then_does calls held (turns_of config order turned.given c1) (ended is_over) result l1 l2 l2 o1 o2 o3 c2 c2 turned.does
+                (prints_alone calls held out_faults (end_text is_over c2.phase) c2 result l2 o2 o3 end));
+          };
+        }

@@ -1,11 +1,12 @@
 -- What a client does over a link that was told how long to wait it does over the link as it was before.
 use Rattle.std.proofs.Common.{◌≡◌, ◌++◌, Err, List, Ok, Option, Result, subst, ℕ}
+use Rattle.mdcc_ask.specs.Acts.{calls_in}
 use Rattle.mdcc_ask.specs.Asking.{Doing}
 use Rattle.mdcc_ask.specs.Effects.{Asks, Does, failed_with}
 use Rattle.mdcc_ask.specs.declared.client.Client.{Client}
 use Rattle.mdcc_ask.specs.declared.fault.AskFault.{AskFault}
 use Rattle.mdcc_link.specs.Link.{LinkCall}
-use Rattle.mdcc_outbox.specs.Shows.{Records, calls_of}
+use Rattle.mdcc_outbox.specs.Shows.{Records}
 
 module _ {L O : Type 0} (calls : L → Option (List LinkCall)) (held : O → Option (List ℕ)) (link_old waiting link_new : L) (out_old out_new : O) (same : calls waiting ≡ calls link_old) where
   does_there : (doing : Doing) (result : Result (Unit {0}) AskFault) (client : Client)
@@ -13,7 +14,7 @@ module _ {L O : Type 0} (calls : L → Option (List LinkCall)) (held : O → Opt
   does_there doing (Ok done) client it = record {
     acts = it.acts;
     are = it.are;
-    recorded = subst (λ c. Records (calls_of it.acts) c (calls link_new)) same it.recorded;
+    recorded = subst (λ c. Records (calls_in it.acts) c (calls link_new)) same it.recorded;
     output = it.output;
     client_is = it.client_is;
   }
@@ -22,7 +23,9 @@ module _ {L O : Type 0} (calls : L → Option (List LinkCall)) (held : O → Opt
     rest = it.rest;
     are = it.are;
     comes = it.comes;
-    recorded = subst (λ c. Records (calls_of it.acts ++ failed_with fault it.rest) c (calls link_new)) same it.recorded;
+    none_later = it.none_later;
+    recorded = subst (λ c. Records (calls_in it.acts ++ failed_with fault it.rest) c (calls link_new)) same it.recorded;
+    printed_more = it.printed_more;
     output = it.output;
   }
 
@@ -34,6 +37,7 @@ module _ {L O : Type 0} (calls : L → Option (List LinkCall)) (held : O → Opt
       given = it.turned.given;
       within = it.turned.within;
       whole = it.turned.whole;
+      receives = it.turned.receives;
       does = does_there (doing_for it.turned.given) result it.client it.turned.does;
     };
   }

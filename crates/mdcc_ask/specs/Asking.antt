@@ -1,5 +1,6 @@
 -- What a client does from its start to its last turn.
-use Rattle.std.specs.Prelude.{Bool, List, None, Option, Some, [], false, if◌then◌else◌, true, ℕ, ◌+◌, ◌++◌, ◌∷◌}
+use Rattle.std.specs.Prelude.{Bool, List, None, Option, Some, [], false, if◌then◌else◌, length, true, ℕ, ◌+◌, ◌++◌, ◌==◌, ◌∷◌}
+use Rattle.mdcc_ask.specs.Acts.{ClientAct, at_link}
 use Rattle.mdcc_ask.specs.Answers.{goes_on, message_taken}
 use Rattle.mdcc_ask.specs.Requests.{Reaction, idle, sends_again, sends_if}
 use Rattle.mdcc_ask.specs.Texts.{unanswered_line}
@@ -14,27 +15,26 @@ use Rattle.mdcc_option.specs.declared.schema.Schema.{Schema}
 use Rattle.mdcc_runs.specs.Acts.{Act}
 use Rattle.mdcc_runs.specs.Arrivals.{Arrival, arrival_of}
 
--- what it does at the link, what it prints, and what it is then
+-- what it does at the link and what it prints, in order, and what it is then
 pub record Doing : Type 0 where
-  pub acts : List Act
-  pub text : List ℕ
+  pub acts : List ClientAct
   pub client : Client
 
 -- these acts alone
-abbrev pub only : List Act → Client → Doing
-only acts client = record { acts = acts; text = []; client = client }
+abbrev pub only : List ClientAct → Client → Doing
+only acts client = record { acts = acts; client = client }
 
 -- one after the other
 abbrev pub joined_to : Doing → Doing → Doing
-joined_to first second = record { acts = first.acts ++ second.acts; text = first.text ++ second.text; client = second.client }
+joined_to first second = record { acts = first.acts ++ second.acts; client = second.client }
 
 abbrev pub and_then : Doing → (Client → Doing) → Doing
 and_then first next = joined_to first (next first.client)
 
--- it prints its text, and sends its request where that is new
+-- it prints its text, and then sends its request where that is new
 abbrev pub made : Config → Order → Reaction → Doing
 made config order reaction =
-    record { acts = sends_if config order reaction.sends reaction.client; text = reaction.text; client = reaction.client }
+    only (ClientAct.Print reaction.text ∷ at_link (sends_if config order reaction.sends reaction.client)) reaction.client
 
 -- ---- a turn
 
@@ -57,12 +57,13 @@ bytes_taken schema order client bytes = joined schema order client (join bytes c
 
 -- where nothing came, the open request is sent again
 abbrev pub came : Config → Order → Option (List ℕ) → Client → Doing
-came config order None client = only (sends_again config order client) client
+came config order None client = only (at_link (sends_again config order client)) client
 came config order (Some bytes) client = made config order (bytes_taken config.cluster.schema order client bytes)
 
 -- one receive at the endpoint of the centre's client
 abbrev pub turn_of : Config → Order → Client → Option (List ℕ) → Doing
-turn_of config order client gave = and_then (only (Act.Receive (order.centre + 16) gave ∷ []) client) (came config order gave)
+turn_of config order client gave =
+    and_then (only (ClientAct.AtLink (Act.Receive (order.centre + 16) gave) ∷ []) client) (came config order gave)
 
 -- ---- all of it
 
@@ -89,18 +90,19 @@ begins_asking config order client = made config order (goes_on config.cluster.sc
 
 -- once its endpoint is bound
 abbrev pub starts : Config → Order → Doing
-starts config order = and_then (only (bound_for config order) new_client) (begins_asking config order)
+starts config order = and_then (only (at_link (bound_for config order)) new_client) (begins_asking config order)
 
--- the turns are over first
-abbrev pub end_text : Phase → List ℕ
-end_text phase = if is_answered phase then [] else unanswered_line
+-- that the turns are over, where they are and an answer is missing
+abbrev pub end_text : Bool → Phase → List ℕ
+end_text is_over phase = if is_answered phase then [] else (if is_over then unanswered_line else [])
 
-abbrev pub ended : Client → Doing
-ended client = record { acts = []; text = end_text client.phase; client = client }
+abbrev pub ended : Bool → Client → Doing
+ended is_over client = only (ClientAct.Print (end_text is_over client.phase) ∷ []) client
 
--- and it is said where they are over
-abbrev pub turns_to_end : Config → Order → List (Option (List ℕ)) → Client → Doing
-turns_to_end config order given client = and_then (turns_of config order given client) ended
+-- turns, and their end
+abbrev pub turns_to_end : Config → Order → ℕ → List (Option (List ℕ)) → Client → Doing
+turns_to_end config order turns given client = and_then (turns_of config order given client) (ended (length given == turns))
 
-abbrev pub asked : Config → Order → List (Option (List ℕ)) → Doing
-asked config order given = and_then (starts config order) (turns_to_end config order given)
+-- all that it does, where it has so many turns
+abbrev pub asked : Config → Order → ℕ → List (Option (List ℕ)) → Doing
+asked config order turns given = and_then (starts config order) (turns_to_end config order turns given)

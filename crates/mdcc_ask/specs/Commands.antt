@@ -37,7 +37,7 @@ module _ {L O : Type 0} (calls : L → Option (List LinkCall)) (held : O → Opt
   pub record AsksOne (config : Config) (question : Question) (done : Result (Unit {0}) Failure) : Type 0 where
     pub result : Result (Unit {0}) AskFault
     pub is : done ≡ as_done result
-    pub asks : Asks calls held (asked config (order_of question)) question.turns result link_old link_new out_old out_new
+    pub asks : Asks calls held (asked config (order_of question) question.turns) question.turns result link_old link_new out_old out_new
 
   -- it ended before anything was done
   abbrev pub IsEarlyAt : Failure → Result (Unit {0}) Failure → Type 0
@@ -64,4 +64,4 @@ module _ {L O : Type 0} (calls : L → Option (List LinkCall)) (held : O → Opt
   abbrev pub AskCompletes : Option (List ℕ) → Question → ℕ → Type 0
   AskCompletes left question status =
       (input : List ℕ) (config : Config) → left ≡ Some input → IsRead input (Ok config) → is_centre config.cluster question.centre ≡ true
-      → CompletesAs status (Asks calls held (asked config (order_of question)) question.turns (Ok tt) link_old link_new out_old out_new) ⊥
+      → CompletesAs status (Asks calls held (asked config (order_of question) question.turns) question.turns (Ok tt) link_old link_new out_old out_new) ⊥

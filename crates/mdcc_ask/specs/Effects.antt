@@ -1,79 +1,103 @@
 -- What is seen of what a client does, and where it ends before its last turn.
 use Rattle.std.specs.Io.KnownBytes.{Appends}
-use Rattle.std.specs.Prelude.{Err, IsErrOf, IsTrue, List, Ok, OnOk, Option, Result, [], length, ⊤, ℕ, ◌++◌, ◌∷◌, ◌≡◌, ◌≤◌, ◌⊎◌}
+use Rattle.std.specs.Prelude.{Err, IfErr, IsErrOf, IsTrue, List, Ok, OnErr, OnOk, Option, Result, [], length, take, ⊤, ℕ, ◌++◌, ◌∷◌, ◌≡◌, ◌≤◌, ◌⊎◌}
+use Rattle.mdcc_ask.specs.Acts.{ClientAct, calls_in, printed, received, without_answers}
 use Rattle.mdcc_ask.specs.Asking.{Doing, is_answered}
 use Rattle.mdcc_ask.specs.declared.client.Client.{Client}
 use Rattle.mdcc_ask.specs.declared.fault.AskFault.{AskFault}
-use Rattle.mdcc_base.specs.Causes.{Rose}
+use Rattle.mdcc_base.specs.Causes.{HasCause, Rose}
 use Rattle.mdcc_link.specs.Link.{LinkCall}
-use Rattle.mdcc_outbox.specs.Shows.{Records, calls_of, failed_call}
-use Rattle.mdcc_replay.specs.Writing.{Front}
-use Rattle.mdcc_replay.specs.declared.writing.Failure.{Failure}
-use Rattle.mdcc_runs.specs.Acts.{Act, but_answers}
+use Rattle.mdcc_outbox.specs.Shows.{Records, failed_call}
+use Rattle.mdcc_runs.specs.Acts.{Act}
 
--- why a text was not written
-abbrev pub of_writing : Failure → AskFault
-of_writing Failure.Output = AskFault.Output
-of_writing Failure.Memory = AskFault.Memory
+-- ---- which act comes next
 
--- it is a fault of writing
-abbrev pub IsWriting : AskFault → Type 0
-IsWriting AskFault.Link = ⊥
-IsWriting fault = ⊤
+abbrev pub IsAtLink : List ClientAct → Type 0
+IsAtLink (ClientAct.AtLink (Act.Bind at address) ∷ acts) = ⊤
+IsAtLink (ClientAct.AtLink (Act.Receive at gave) ∷ acts) = ⊤
+IsAtLink rest = ⊥
 
--- a link fails at a bind or a receive
-abbrev pub ComesAt : AskFault → List Act → Type 0
-ComesAt AskFault.Output rest = ⊤
+abbrev pub IsPrinting : List ClientAct → Type 0
+IsPrinting (ClientAct.Print text ∷ acts) = ⊤
+IsPrinting rest = ⊥
+
+-- A link fails at a bind or a receive, and the output at a text; there may be no memory at any act.
+abbrev pub ComesAt : AskFault → List ClientAct → Type 0
+ComesAt AskFault.Link rest = IsAtLink rest
+ComesAt AskFault.Output rest = IsPrinting rest
 ComesAt AskFault.Memory rest = ⊤
-ComesAt AskFault.Link (Act.Bind at address ∷ acts) = ⊤
-ComesAt AskFault.Link (Act.Receive at gave ∷ acts) = ⊤
-ComesAt AskFault.Link rest = ⊥
 
-abbrev pub failed_next : List Act → List LinkCall
-failed_next (act ∷ acts) = failed_call act
-failed_next [] = []
+-- there is no receive in it, but perhaps the first act
+abbrev pub NoneLater : List ClientAct → Type 0
+NoneLater (act ∷ acts) = received acts ≡ []
+NoneLater [] = ⊤
 
--- the call with which it failed is that of the next act
-abbrev pub failed_with : AskFault → List Act → List LinkCall
+-- ---- what the next act left
+
+abbrev pub failed_next : List ClientAct → List LinkCall
+failed_next (ClientAct.AtLink act ∷ acts) = failed_call act
+failed_next rest = []
+
+-- where a call of the link failed, it is recorded
+abbrev pub failed_with : AskFault → List ClientAct → List LinkCall
 failed_with AskFault.Link rest = failed_next rest
-failed_with AskFault.Output rest = []
-failed_with AskFault.Memory rest = []
+failed_with fault rest = []
+
+abbrev pub text_next : List ClientAct → List ℕ
+text_next (ClientAct.Print text ∷ acts) = text
+text_next rest = []
+
+-- where a write failed, the first bytes of this text may be printed
+abbrev pub text_begun : AskFault → List ClientAct → List ℕ
+text_begun AskFault.Output rest = text_next rest
+text_begun fault rest = []
 
 -- ---- what is seen
 
 module _ {L O : Type 0} (calls : L → Option (List LinkCall)) (held : O → Option (List ℕ)) where
   -- All was done, whatever the link answered to sends.
   pub record Did (doing : Doing) (link_old link_new : L) (out_old out_new : O) (client : Client) : Type 0 where
-    pub acts : List Act
-    pub are : but_answers acts ≡ doing.acts
-    pub recorded : Records (calls_of acts) (calls link_old) (calls link_new)
-    pub output : Appends (held out_old) (held out_new) doing.text
+    pub acts : List ClientAct
+    pub are : without_answers acts ≡ doing.acts
+    pub recorded : Records (calls_in acts) (calls link_old) (calls link_new)
+    pub output : Appends (held out_old) (held out_new) (printed acts)
     pub client_is : client ≡ doing.client
 
-  -- A prefix of its acts was done, and then perhaps a bind or a receive failed; and a prefix of its text is printed.
+  -- Some of its acts were done, and at the next one came the fault: what is printed is the text of those that were done, and of the
+  -- next one so many bytes where it could not be written. Each receive was made, but perhaps that which is next.
   pub record BrokeOff (doing : Doing) (fault : AskFault) (link_old link_new : L) (out_old out_new : O) : Type 0 where
-    pub acts : List Act
-    pub rest : List Act
-    pub are : but_answers acts ++ rest ≡ doing.acts
+    pub acts : List ClientAct
+    pub rest : List ClientAct
+    pub are : without_answers acts ++ rest ≡ doing.acts
     pub comes : ComesAt fault rest
-    pub recorded : Records (calls_of acts ++ failed_with fault rest) (calls link_old) (calls link_new)
-    pub output : Front (held out_old) (held out_new) doing.text
+    pub none_later : NoneLater rest
+    pub recorded : Records (calls_in acts ++ failed_with fault rest) (calls link_old) (calls link_new)
+    pub printed_more : ℕ
+    pub output : Appends (held out_old) (held out_new) (printed acts ++ take printed_more (text_begun fault rest))
 
   abbrev pub Does : Doing → Result (Unit {0}) AskFault → L → L → O → O → Client → Type 0
   Does doing (Ok done) link_old link_new out_old out_new client = Did doing link_old link_new out_old out_new client
   Does doing (Err fault) link_old link_new out_old out_new client = BrokeOff doing fault link_old link_new out_old out_new
 
-  -- At most so many turns gave this: at the end it is answered, or there were so many.
+  -- At most so many receives gave this, and no other is made: at the end it is answered, or there were so many.
   pub record Turned (doing_for : List (Option (List ℕ)) → Doing) (turns : ℕ) (result : Result (Unit {0}) AskFault) (link_old link_new : L) (out_old out_new : O) (client : Client) : Type 0 where
     pub given : List (Option (List ℕ))
     pub within : length given ≤ turns
     pub whole : OnOk result (IsTrue (is_answered client.phase) ⊎ (length given ≡ turns))
+    pub receives : received (doing_for given).acts ≡ given
     pub does : Does (doing_for given) result link_old link_new out_old out_new client
 
   -- The same of a client that is dropped then.
   pub record Asks (doing_for : List (Option (List ℕ)) → Doing) (turns : ℕ) (result : Result (Unit {0}) AskFault) (link_old link_new : L) (out_old out_new : O) : Type 0 where
     pub client : Client
     pub turned : Turned doing_for turns result link_old link_new out_old out_new client
+
+-- a text was printed, or some first bytes of it where a write failed
+pub record Prints {O : Type 0} (held : O → Option (List ℕ)) (faults : O → ℕ) (text : List ℕ) (result : Result (Unit {0}) AskFault) (out_old out_new : O) : Type 0 where
+  pub all : OnOk result (Appends (held out_old) (held out_new) text)
+  pub begun : OnErr result ((n : ℕ) × Appends (held out_old) (held out_new) (take n text))
+  pub fault : IfErr result (λ fault. fault ≡ AskFault.Output)
+  pub cause : HasCause (faults out_old) (faults out_new) result
 
 -- ---- why it ended
 

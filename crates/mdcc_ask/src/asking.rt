@@ -1,27 +1,25 @@
 //! The turns of a client.
-ghost use Rattle.std.specs.Prelude.{◌≡◌, ◌≤◌, [], IfErr, IfOk, IfSome, IsErrOf, List, OnErr, OnOk, Option, length, ℕ};
-ghost use Rattle.std.specs.Io.KnownBytes.{Appends};
+ghost use Rattle.std.specs.Prelude.{◌≡◌, ◌≤◌, [], IfErr, IfOk, IfSome, List, OnErr, OnOk, Option, length, true, ℕ};
+ghost use Rattle.mdcc_ask.specs.Acts.{at_link};
 ghost use Rattle.mdcc_ask.specs.Asking.{arrived, asked, bound_for, bytes_taken, came, end_text, made, new_client, starts, turn_of, turns_of};
-ghost use Rattle.mdcc_ask.specs.Effects.{Asks, ComesAt, Does, HasCauses, IsWriting, Turned, failed_next};
+ghost use Rattle.mdcc_ask.specs.Effects.{Asks, ComesAt, Does, HasCauses, Prints, Turned, failed_next};
 ghost use Rattle.mdcc_ask.specs.Orders.{IsOrder};
 ghost use Rattle.mdcc_ask.specs.Requests.{reaction_of};
 ghost use Rattle.mdcc_ask.specs.declared.fault.AskFault.{AskFault as AAskFault};
-ghost use Rattle.mdcc_base.specs.Causes.{HasCause, Rose};
+ghost use Rattle.mdcc_base.specs.Causes.{HasCause};
 ghost use Rattle.mdcc_config.specs.IsConfig.{IsConfig};
 ghost use Rattle.mdcc_inbox.specs.Finds.{given, seen};
 ghost use Rattle.mdcc_outbox.specs.Shows.{Records, calls_of};
-ghost use Rattle.mdcc_replay.specs.Writing.{Front};
 
 use crate::client::Client;
 use crate::reply::Reply;
 use crate::{AskFault, Order};
-use mdcc_base::{Memory, Sink};
+use mdcc_base::{Memory, Sink, write_all};
 use mdcc_config::Config;
 use mdcc_inbox::{Datagram, Found, receive, take_datagram};
 use mdcc_link::Link;
 use mdcc_messages::Envelope;
 use mdcc_option::Schema;
-use mdcc_replay::write_text;
 use mdcc_wire::empty_envelope;
 use std::alloc::Global;
 
@@ -30,15 +28,25 @@ fn bind<L: Link>(config: &Config, order: &Order, link: &mut L) -> Result<(), Ask
     requires config { IsConfig config.now }
     requires among { order.now.centre ≤ config.now.cluster.quorums.centres }
     ensures bound { OnOk result (Records (calls_of (bound_for config.now order.now)) (L.calls link.old) (L.calls link.new)) }
-    ensures failed { OnErr result (Records (failed_next (bound_for config.now order.now)) (L.calls link.old) (L.calls link.new)) }
+    ensures failed { OnErr result (Records (failed_next (at_link (bound_for config.now order.now))) (L.calls link.old) (L.calls link.new)) }
     ensures fault { IfErr result (λ fault. fault ≡ AAskFault.Link) }
-    ensures comes { ComesAt AAskFault.Link (bound_for config.now order.now) }
+    ensures comes { ComesAt AAskFault.Link (at_link (bound_for config.now order.now)) }
     ensures cause { HasCause (L.faults link.old) (L.faults link.new) result }
 {
     let address = config.answer_address(order.centre);
     match link.bind(order.centre.number() + 16, address) {
         Ok(()) => Ok(()),
         Err(_) => Err(AskFault::Link),
+    }
+}
+
+// Prints a text.
+fn print<O: Sink>(out: &mut O, text: &[u8]) -> Result<(), AskFault>
+    ensures { Prints O.held O.faults text.now result out.old out.new }
+{
+    match write_all(out, text) {
+        Ok(()) => Ok(()),
+        Err(_) => Err(AskFault::Output),
     }
 }
 
@@ -58,7 +66,7 @@ impl Client {
         ensures does { Does L.calls O.held (made config.now order.now (reaction_of reply.now self.now)) result link.old link.new out.old out.new self.now }
         ensures causes { HasCauses L.faults O.faults result link.old link.new out.old out.new }
     {
-        write_text(out, reply.text.as_slice())?;
+        print(out, reply.text.as_slice())?;
         self.send_if(config, order, reply.sends, link);
         Ok(())
     }
@@ -199,7 +207,7 @@ impl Client {
 
     // What it prints at the end: that the turns are over first.
     fn end_text(&self) -> &'static str
-        ensures { result.now ≡ end_text self.now.phase }
+        ensures { result.now ≡ end_text true self.now.phase }
     {
         if self.is_answered() {
             ""
@@ -210,14 +218,9 @@ impl Client {
 
     // Prints that.
     fn end<O: Sink>(&self, out: &mut O) -> Result<(), AskFault>
-        ensures all { OnOk result (Appends (O.held out.old) (O.held out.new) (end_text self.now.phase)) }
-        ensures front { OnErr result (Front (O.held out.old) (O.held out.new) (end_text self.now.phase)) }
-        ensures fault { IfErr result IsWriting }
-        ensures output { IsErrOf result AAskFault.Output → Rose (O.faults out.old) (O.faults out.new) }
-        ensures later { O.faults out.old ≤ O.faults out.new }
+        ensures { Prints O.held O.faults (end_text true self.now.phase) result out.old out.new }
     {
-        write_text(out, self.end_text().as_bytes())?;
-        Ok(())
+        print(out, self.end_text().as_bytes())
     }
 }
 
@@ -234,7 +237,7 @@ pub fn ask<L: Link, O: Sink>(
     requires config { IsConfig config.now }
     requires among { order.now.centre ≤ config.now.cluster.quorums.centres }
     requires order { IsOrder order.now }
-    ensures asks { Asks L.calls O.held (asked config.now order.now) turns result link.old link.new out.old out.new }
+    ensures asks { Asks L.calls O.held (asked config.now order.now turns) turns result link.old link.new out.old out.new }
     ensures causes { HasCauses L.faults O.faults result link.old link.new out.old out.new }
 {
     let mut client = Client::new(alloc)?;

@@ -1,10 +1,8 @@
 //! Why a question ended early.
 ghost use Rattle.std.specs.Prelude.{◌≡◌};
-ghost use Rattle.mdcc_ask.specs.Effects.{of_writing};
 ghost use Rattle.mdcc_ask.specs.declared.fault.AskFault.TheVariants as faults;
 
 use mdcc_base::Memory as NoMemory;
-use mdcc_replay::Failure;
 
 #[derive(Clone, Copy, Debug, PartialEq, Eq)]
 pub enum AskFault {
@@ -21,16 +19,5 @@ impl From<NoMemory> for AskFault {
 
     fn from(_: NoMemory) -> AskFault {
         AskFault::Memory
-    }
-}
-
-impl From<Failure> for AskFault {
-    ghost from_gives = { λ failure e. e ≡ of_writing failure };
-
-    fn from(failure: Failure) -> AskFault {
-        match failure {
-            Failure::Output => AskFault::Output,
-            Failure::Memory => AskFault::Memory,
-        }
     }
 }

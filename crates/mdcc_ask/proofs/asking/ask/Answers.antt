@@ -1,9 +1,10 @@
-use Rattle.std.proofs.Common.{◌≡◌, Err, Result, arith, subst, sym}
+use Rattle.std.proofs.Common.{◌≡◌, Err, Result, arith, subst, sym, true}
 use Rattle.std.proofs.lemmas.Result.{err_from_is_err_and}
-use Rattle.mdcc_ask.proofs.Caused.{causes_end, causes_later, causes_memory}
-use Rattle.mdcc_ask.proofs.Seen.{ended_does, not_begun}
+use Rattle.mdcc_ask.proofs.Caused.{causes_later, causes_memory, causes_print}
+use Rattle.mdcc_ask.proofs.Doings.{start_receives}
+use Rattle.mdcc_ask.proofs.Seen.{not_begun}
 use Rattle.mdcc_ask.proofs.Turns.{end_came, start_broke, turns_broke}
-use Rattle.mdcc_ask.specs.Asking.{asked, new_client, starts}
+use Rattle.mdcc_ask.specs.Asking.{asked, end_text, new_client, starts}
 use Rattle.mdcc_ask.specs.Effects.{Asks, HasCauses}
 use Rattle.mdcc_ask.specs.declared.fault.AskFault.{AskFault}
 use Rattle.mdcc_ask.proofs.asking.ask.Goals as goal
@@ -13,7 +14,7 @@ returns-in_err-client-clause-asks g c =
     let p = err_from_is_err_and c.from_residual.result c.from_residual.ensures.1 in
     rw (p.1, p.2)
     (start_broke g.L.Link.calls g.O.Sink.held c.args.config.now c.args.order.now c.args.turns c.args.link.now c.args.link.now c.args.out.now c.args.out.now new_client AskFault.Memory
-    (not_begun g.L.Link.calls g.O.Sink.held (starts c.args.config.now c.args.order.now) c.args.link.now c.args.out.now))
+    (not_begun g.L.Link.calls g.O.Sink.held (starts c.args.config.now c.args.order.now) c.args.link.now c.args.out.now (start_receives c.args.config.now c.args.order.now)))
 
 pub returns-in_err-client-clause-causes : goal.returns-in_err-client-clause-causes
 returns-in_err-client-clause-causes g c =
@@ -24,7 +25,7 @@ pub returns-in_err-start-clause-asks : goal.returns-in_err-start-clause-asks
 returns-in_err-start-clause-asks g c =
     let p = err_from_is_err_and c.from_residual-in_err-start.result c.from_residual-in_err-start.ensures.1 in
     let e : c.from_residual-in_err-start.result ≡ Err c.in_err-start.field-0.0 = cc (p.1, p.2) in
-    subst (λ (r : Result (Unit {0}) AskFault). Asks g.L.Link.calls g.O.Sink.held (asked c.args.config.now c.args.order.now) c.args.turns r c.args.link.now c.start.new.link c.args.out.now c.start.new.out) (sym e)
+    subst (λ (r : Result (Unit {0}) AskFault). Asks g.L.Link.calls g.O.Sink.held (asked c.args.config.now c.args.order.now c.args.turns) c.args.turns r c.args.link.now c.start.new.link c.args.out.now c.start.new.out) (sym e)
     (start_broke g.L.Link.calls g.O.Sink.held c.args.config.now c.args.order.now c.args.turns c.args.link.now c.start.new.link c.args.out.now c.start.new.out c.start.new.self c.in_err-start.field-0.0 c.in_err-start.ensures.does)
 
 pub returns-in_err-start-clause-causes : goal.returns-in_err-start-clause-causes
@@ -37,7 +38,7 @@ pub returns-in_err-turns-clause-asks : goal.returns-in_err-turns-clause-asks
 returns-in_err-turns-clause-asks g c =
     let p = err_from_is_err_and c.from_residual-in_err-turns.result c.from_residual-in_err-turns.ensures.1 in
     let e : c.from_residual-in_err-turns.result ≡ Err c.in_err-turns.field-0.0 = cc (p.1, p.2) in
-    subst (λ (r : Result (Unit {0}) AskFault). Asks g.L.Link.calls g.O.Sink.held (asked c.args.config.now c.args.order.now) c.args.turns r c.args.link.now c.turns.new.link c.args.out.now c.turns.new.out) (sym e)
+    subst (λ (r : Result (Unit {0}) AskFault). Asks g.L.Link.calls g.O.Sink.held (asked c.args.config.now c.args.order.now c.args.turns) c.args.turns r c.args.link.now c.turns.new.link c.args.out.now c.turns.new.out) (sym e)
     (turns_broke g.L.Link.calls g.O.Sink.held c.args.config.now c.args.order.now c.args.turns c.args.link.now c.start.new.link c.args.out.now c.start.new.out c.start.new.self c.turns.new.link c.turns.new.out c.turns.new.self
     c.in_ok-start.ensures.does c.in_err-turns.field-0.0 c.in_err-turns.ensures.does)
 
@@ -52,8 +53,7 @@ returns-in_err-turns-clause-causes g c =
 pub returns-clause-asks : goal.returns-clause-asks
 returns-clause-asks g c =
     end_came g.L.Link.calls g.O.Sink.held c.args.config.now c.args.order.now c.args.turns c.args.link.now c.start.new.link c.args.out.now c.start.new.out c.start.new.self c.turns.new.link c.turns.new.out c.turns.new.self
-    c.in_ok-start.ensures.does c.end.new.out c.end.result c.in_ok-turns.ensures.does
-    (ended_does g.L.Link.calls g.O.Sink.held c.turns.new.self c.end.result c.turns.new.link c.turns.new.out c.end.new.out c.end.ensures.all c.end.ensures.front c.end.ensures.fault)
+    c.in_ok-start.ensures.does g.O.Sink.faults c.end.new.out c.end.result c.in_ok-turns.ensures.does c.end.ensures
 
 pub returns-clause-causes : goal.returns-clause-causes
 returns-clause-causes g c =
@@ -61,4 +61,4 @@ returns-clause-causes g c =
     c.start.ensures.causes.link_later c.start.ensures.causes.output_later
     (causes_later g.L.Link.faults g.O.Sink.faults c.end.result c.start.new.link c.turns.new.link c.turns.new.link c.start.new.out c.turns.new.out c.end.new.out
     c.turns.ensures.causes.link_later c.turns.ensures.causes.output_later
-    (causes_end g.L.Link.faults g.O.Sink.faults c.end.result c.turns.new.link c.turns.new.out c.end.new.out c.end.ensures.fault c.end.ensures.output c.end.ensures.later))
+    (causes_print g.L.Link.faults g.O.Sink.faults g.O.Sink.held (end_text true c.turns.new.self.phase) c.end.result c.turns.new.link c.turns.new.out c.end.new.out c.end.ensures))

@@ -63,7 +63,7 @@ returns-clause-runs g c =
     let order = λ (centre : ℕ). (let o : Order = record { centre = centre; serial = c.args.question.serial; keys = c.args.question.keys; updates = c.args.question.updates } in o) in
     asked_runs g.L.Link.calls g.O.Sink.held c.args.link.now c.ask.new.link c.args.out.now c.ask.new.out (g.S.Source.left c.args.source.now) c.args.question c.in_ok-config.config (order c.in-Some.centre) c.ask.result c.as_done.result
     (ap order c.in-Some.ensures.some.0) c.in-Some.ensures.some.1 c.as_done.ensures
-    (asks_there g.L.Link.calls g.O.Sink.held c.args.link.now c.set_wait.new.self c.ask.new.link c.args.out.now c.ask.new.out c.set_wait.ensures.calls (asked c.in_ok-config.config (order c.in-Some.centre)) c.args.question.turns c.ask.result c.ask.ensures.asks)
+    (asks_there g.L.Link.calls g.O.Sink.held c.args.link.now c.set_wait.new.self c.ask.new.link c.args.out.now c.ask.new.out c.set_wait.ensures.calls (asked c.in_ok-config.config (order c.in-Some.centre) c.args.question.turns) c.args.question.turns c.ask.result c.ask.ensures.asks)
     c.in_ok-config.ensures.config
 
 pub returns-clause-early : goal.returns-clause-early

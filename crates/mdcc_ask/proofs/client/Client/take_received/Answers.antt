@@ -1,8 +1,8 @@
-use Rattle.std.proofs.Common.{◌≤◌, [], Ok, Option, ap, arith, length, subst, sym, take, ℕ}
-use Rattle.std.proofs.KnownBytes.{Appends-nil}
+use Rattle.std.proofs.Common.{◌≤◌, Ok, Option, ap, arith, length, subst, sym, take, ℕ}
 use Rattle.std.proofs.lemmas.Result.{err_from_is_err_and}
 use Rattle.mdcc_ask.proofs.Caused.{causes_memory, causes_none}
 use Rattle.mdcc_ask.proofs.Few.{few_taken}
+use Rattle.mdcc_ask.proofs.Doings.{came_receives}
 use Rattle.mdcc_ask.proofs.Seen.{did_send, not_begun}
 use Rattle.mdcc_ask.proofs.Turns.{on_ok}
 use Rattle.mdcc_ask.specs.Asking.{came, made}
@@ -18,8 +18,8 @@ pub returns-in_default-clause-does : goal.returns-in_default-clause-does
 returns-in_default-clause-does g c =
     subst (λ (n : Option ℕ). Does g.L.Link.calls g.O.Sink.held (came c.args.config.now c.args.order.now (given n c.args.datagram.now) c.args.self.now) (Ok tt) c.args.link.now c.send_again.new.link c.args.out.now c.args.out.now c.args.self.now)
     (sym c.in_default.is)
-    (did_send g.L.Link.calls g.O.Sink.held g.L.Link.lost g.L.Link.faults (sends_again c.args.config.now c.args.order.now c.args.self.now) [] c.args.self.now c.send_again.result
-    c.args.link.now c.send_again.new.link c.args.out.now c.args.out.now c.send_again.ensures (Appends-nil (g.O.Sink.held c.args.out.now)))
+    (did_send g.L.Link.calls g.O.Sink.held g.L.Link.lost g.L.Link.faults (sends_again c.args.config.now c.args.order.now c.args.self.now) c.args.self.now c.send_again.result
+    c.args.link.now c.send_again.new.link c.args.out.now c.send_again.ensures)
 
 pub returns-in_default-clause-causes : goal.returns-in_default-clause-causes
 returns-in_default-clause-causes g c =
@@ -30,7 +30,8 @@ returns-in_default-clause-causes g c =
 pub returns-in_err-reply-clause-does : goal.returns-in_err-reply-clause-does
 returns-in_err-reply-clause-does g c =
     let p = err_from_is_err_and c.from_residual.result c.from_residual.ensures.1 in
-    rw (p.1, p.2) (not_begun g.L.Link.calls g.O.Sink.held (came c.args.config.now c.args.order.now (given c.args.count c.args.datagram.now) c.args.self.now) c.args.link.now c.args.out.now)
+    let gave = given c.args.count c.args.datagram.now in
+    rw (p.1, p.2) (not_begun g.L.Link.calls g.O.Sink.held (came c.args.config.now c.args.order.now gave c.args.self.now) c.args.link.now c.args.out.now (came_receives c.args.config.now c.args.order.now gave c.args.self.now))
 
 pub returns-in_err-reply-clause-causes : goal.returns-in_err-reply-clause-causes
 returns-in_err-reply-clause-causes g c =

@@ -1,6 +1,8 @@
 use Rattle.std.proofs.Common.{◌+◌, ◌∷◌, [], None, arith, refl, subst, ℕ}
 use Rattle.mdcc_ask.proofs.Caused.{causes_later, causes_link}
+use Rattle.mdcc_ask.proofs.Doings.{came_receives}
 use Rattle.mdcc_ask.proofs.Seen.{broke_first, did_one, failed_acts, then_does}
+use Rattle.mdcc_ask.specs.Acts.{ClientAct}
 use Rattle.mdcc_ask.specs.Asking.{came, only}
 use Rattle.mdcc_ask.specs.declared.fault.AskFault.{AskFault}
 use Rattle.mdcc_inbox.specs.Finds.{given}
@@ -13,8 +15,9 @@ returns-in-Err-clause-does g c =
     let at = c.args.order.now.centre + 16 in
     let recorded = subst (λ (n : ℕ). Records (failed_call (Act.Receive (n + 16) None)) (g.L.Link.calls c.args.link.now) (g.L.Link.calls c.receive.new.link)) c.number.ensures.value c.in-Err.ensures.failed in (
       None,
-      broke_first g.L.Link.calls g.O.Sink.held (only (Act.Receive at None ∷ []) c.args.self.now) (came c.args.config.now c.args.order.now None c.args.self.now) AskFault.Link c.args.link.now c.receive.new.link c.args.out.now c.args.out.now
-          (failed_acts g.L.Link.calls g.O.Sink.held (Act.Receive at None ∷ []) c.args.self.now c.args.link.now c.receive.new.link c.args.out.now tt recorded),
+      broke_first g.L.Link.calls g.O.Sink.held (only (ClientAct.AtLink (Act.Receive at None) ∷ []) c.args.self.now) (came c.args.config.now c.args.order.now None c.args.self.now) AskFault.Link
+          c.args.link.now c.receive.new.link c.args.out.now c.args.out.now (came_receives c.args.config.now c.args.order.now None c.args.self.now)
+          (failed_acts g.L.Link.calls g.O.Sink.held (ClientAct.AtLink (Act.Receive at None) ∷ []) c.args.self.now c.args.link.now c.receive.new.link c.args.out.now tt refl recorded),
     )
 
 pub returns-in-Err-clause-causes : goal.returns-in-Err-clause-causes
@@ -27,7 +30,7 @@ returns-in-Ok-clause-does g c =
     let gave = given c.in-Ok.count c.receive.new.datagram in
     let recorded = subst (λ (n : ℕ). Records (call_of (Act.Receive (n + 16) gave)) (g.L.Link.calls c.args.link.now) (g.L.Link.calls c.receive.new.link)) c.number.ensures.value c.in-Ok.ensures.received in (
       gave,
-      then_does g.L.Link.calls g.O.Sink.held (only (Act.Receive at gave ∷ []) c.args.self.now) (came c.args.config.now c.args.order.now gave) c.take_received.result
+      then_does g.L.Link.calls g.O.Sink.held (only (ClientAct.AtLink (Act.Receive at gave) ∷ []) c.args.self.now) (came c.args.config.now c.args.order.now gave) c.take_received.result
           c.args.link.now c.receive.new.link c.take_received.new.link c.args.out.now c.args.out.now c.take_received.new.out c.args.self.now c.take_received.new.self
           (did_one g.L.Link.calls g.O.Sink.held (Act.Receive at gave) c.args.self.now c.args.link.now c.receive.new.link c.args.out.now refl recorded) c.take_received.ensures.does,
     )
