@@ -5,3 +5,5 @@
 mod asks;
 #[cfg(test)]
 mod made;
+#[cfg(test)]
+mod stops;

@@ -81,9 +81,19 @@ pub(crate) fn put(
 
 /// Asks with these words over this link.
 pub(crate) fn run_over(alloc: Global, words: &[&str], link: &mut MemoryLink) -> Option<Ran> {
+    run_failing(alloc, words, &[], link)
+}
+
+/// Asks so where the writes of these numbers, from 1, fail.
+pub(crate) fn run_failing(
+    alloc: Global,
+    words: &[&str],
+    writes: &[u32],
+    link: &mut MemoryLink,
+) -> Option<Ran> {
     let words = words_of(alloc, words).ok()?;
     let mut source = MemorySource::new(alloc, ONE.as_bytes(), &[]).ok()?;
-    let mut out = MemorySink::new(alloc, &[]).ok()?;
+    let mut out = MemorySink::new(alloc, writes).ok()?;
     let mut err = MemorySink::new(alloc, &[]).ok()?;
     let Ok(Some(Command::Ask(question))) = command_of(alloc, &words) else {
         return None;
