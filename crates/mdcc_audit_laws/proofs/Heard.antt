@@ -62,7 +62,7 @@ one-more : (later before : List Entry) (e : Entry) → (later ++ e ∷ []) ++ be
 one-more later before e = append_assoc later (e ∷ []) before
 
 module _ (cluster : Cluster) (a : ℕ) (tx : TxId) (outcome : Outcome) where
-  heard : (later before : List Entry) → IsLedger cluster (later ++ before) → IsOneOf (Fact.Heard tx outcome) (facts_of before a)
+  pub heard : (later before : List Entry) → IsLedger cluster (later ++ before) → IsOneOf (Fact.Heard tx outcome) (facts_of before a)
       → outcome_of cluster.quorums (later ++ before) tx ≡ Some outcome
   heard later [] h is = elim is [ ]
   heard later (Added c fact ∷ before) h is =
@@ -102,10 +102,10 @@ module _ (cluster : Cluster) (a : ℕ) (tx : TxId) (outcome : Outcome) where
 -- ---- what is said of outcomes
 
 -- a saying is that of the ledger's outcome
-abbrev Tells : Cluster → List Entry → Saying → Type 0
+abbrev pub Tells : Cluster → List Entry → Saying → Type 0
 Tells cluster ledger e = (outcome : Outcome) × (outcome_of cluster.quorums ledger e.0.tx ≡ Some outcome) × (e.1.value ≡ outcome_value outcome)
 
-tells : (cluster : Cluster) (ledger : List Entry) → IsLedger cluster ledger → (e : Saying) → IsOneOf e (flat_map outcomes_in (placed_of (logs_of cluster ledger))) → Tells cluster ledger e
+pub tells : (cluster : Cluster) (ledger : List Entry) → IsLedger cluster ledger → (e : Saying) → IsOneOf e (flat_map outcomes_in (placed_of (logs_of cluster ledger))) → Tells cluster ledger e
 tells cluster ledger h e is =
     let from = from-each outcomes_in e (placed_of (logs_of cluster ledger)) is in
     let log = in-logs 1 (logs_of cluster ledger) from.0 from.1 in

@@ -1,2 +1,13 @@
+pub mod Begun
+pub mod Casts
+pub mod Chosen
 pub mod Heard
+pub mod Logged
+pub mod Named
+pub mod Noted
+pub mod Undecided
+pub mod Verdicts
 pub mod Voted
+pub mod Voters
+pub mod Whole
+pub mod WriteSets

@@ -96,10 +96,10 @@ apart_value (e ∷ es') h p g =
 
 module _ (cluster : Cluster) (a : ℕ) (key : Key) (version : ℕ) (ballot : Ballot) (options : Options) (offered : Option Choice) (classic : is_fast ballot ≡ false)
     (t : TxId) (x : Mark) (there : In (t, x) options) where
-  abbrev vote : Fact
+  abbrev pub vote : Fact
   vote = Fact.Voted key version ballot options offered
 
-  abbrev WasMade : List Entry → Type 0
+  abbrev pub WasMade : List Entry → Type 0
   WasMade entries = (structure : Options) × (is_valued entries key version ballot structure ≡ true) × (value_of structure t ≡ Some x)
 
   still-made : (e : Entry) (before : List Entry) → WasMade before → WasMade (e ∷ before)
@@ -117,7 +117,7 @@ module _ (cluster : Cluster) (a : ℕ) (key : Key) (version : ℕ) (ballot : Bal
         sym (sent.same t) ∙ value_of-union votes options t ∙ ap (λ o. option_or o (value_of options t)) new ∙ apart_value options may.apart (t, x) there,
       )
 
-  made : (before : List Entry) → IsAllowed cluster before → IsOneOf vote (facts_of before a) → WasMade before
+  pub made : (before : List Entry) → IsAllowed cluster before → IsOneOf vote (facts_of before a) → WasMade before
   made [] ok is = elim is [ ]
   made (Added c fact ∷ before) ok is =
       still-made (Added c fact) before (by_centre (λ more. made before ok.0 more) (c == a) refl)
