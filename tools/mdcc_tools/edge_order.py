@@ -177,8 +177,9 @@ class Order(RecordedCase):
             self.assertEqual(turn, set())
 
     def loaded_calls(self):
-        """A node under orders, over a checkpoint: at each line and datagram, the files that then have changes which are not durable."""
-        self.make_log(logs.write_log(made_payloads(1000)))
+        """A node under orders, over a checkpoint: at each line and datagram, the files that then have changes which are not durable. The log of
+        before has the outcome of each vote, so that nothing else is heard."""
+        self.make_log(logs.write_log(made_payloads(1001)))
         node = self.recorded_node(most_bytes=1 << 20)
         node.start()
         node.wait_until_up()
@@ -204,7 +205,7 @@ class Order(RecordedCase):
     def test_a_power_cut_loses_nothing_that_was_told(self):
         """Whatever of what is not durable stays at a power cut, the log has all facts that it had when something was told last; and after all calls
         the files have just the bytes of the record."""
-        made = made_payloads(1000)
+        made = made_payloads(1001)
         self.loaded_calls()
         images = {"mdcc-1.log": Image(logs.write_log(made)), "mdcc-1.alt": Image()}
         told, number = made, 0
@@ -218,7 +219,7 @@ class Order(RecordedCase):
                 self.assertEqual(now[:len(told)], told)
                 told = now
         self.assertGreater(number, 40)
-        self.assertEqual(len(told), 1081)
+        self.assertEqual(len(told), len(made) + 1 + 2 * 40)
         for end in ("log", "alt"):
             image = images[f"mdcc-1.{end}"]
             self.assertEqual(self.log(end), image.after(range(len(image.since))))
