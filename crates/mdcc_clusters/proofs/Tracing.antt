@@ -1,5 +1,5 @@
 -- Every trace has the acts of an execution.
-use Rattle.std.proofs.Common.{Bool, Err, List, None, Ok, Option, Result, Some, [], ap, append-nil, append_assoc, cond, false, fold, inl, inr, map, not, refl, subst, sym, true, ℕ, ◌&&◌, ◌++◌, ◌==◌, ◌∙◌, ◌∷◌, ◌≡◌, ◌⊎◌}
+use Rattle.std.proofs.Common.{Bool, Err, List, None, Ok, Option, Result, Some, [], ap, append-nil, append_assoc, cond, false, fold, inl, inr, map, refl, subst, sym, true, ℕ, ◌++◌, ◌==◌, ◌∙◌, ◌∷◌, ◌≡◌, ◌⊎◌}
 use Rattle.std.specs.List.{AllByRecursion}
 use Rattle.std.specs.Prelude.{⊤}
 use Rattle.std.proofs.lemmas.Bool.{cases_Bool, eq-eqb, eqb-true}
@@ -14,7 +14,7 @@ use Rattle.mdcc_runs.specs.Acts.{Act, appended_by}
 use Rattle.mdcc_runs.specs.Sending.{persist_then_send}
 use Rattle.mdcc_runs.specs.Servers.{Log, after_last, after_turn, opened, site_of}
 use Rattle.mdcc_runs.specs.Sites.{Doing, Site, idle}
-use Rattle.mdcc_runs.specs.Turns.{Given, inputs_taken, is_full, turn_of}
+use Rattle.mdcc_runs.specs.Turns.{Given, inputs_taken, is_held, turn_of}
 use Rattle.mdcc_clusters.specs.Clusters.{Deployment, Move, Process, after_move, after_moves, after_act, after_do_at, in_flight, after_stop_at, log_of, not_started, process_of, after_start_at, process_started, after_turn_at, process_turned, with_process}
 use Rattle.mdcc_clusters.specs.Executions.{AreWithinLimits, CameFromCentres, IsExecution, MayMove, IsWithinLimits, WasSent}
 use Rattle.mdcc_groups.specs.Groups.{facts_onto}
@@ -48,8 +48,8 @@ held-centre config site false = ap (λ (s : Site). s.centre) (out_site config si
 
 pub turn-centre : (config : Config) (site : Site) (given : Given) → (turn_of config site given).site.centre ≡ site.centre
 turn-centre config site given =
-    let next : Site = (inputs_taken config site given).site in
-    held-centre config next (given.waits && not (is_full next.pending)) ∙ (inputs_run config site given).centre_is
+    let inputs = inputs_taken config site given in
+    held-centre config inputs.site (is_held given inputs) ∙ (inputs_run config site given).centre_is
 
 -- ---- a trace and a deployed cluster
 

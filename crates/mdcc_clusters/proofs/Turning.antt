@@ -1,5 +1,5 @@
 -- What a turn of a centre leaves.
-use Rattle.std.proofs.Common.{Bool, Err, List, None, Ok, Option, Result, Some, [], ap, append-nil, arith, cond, false, inl, inr, length, not, refl, subst, sym, true, ℕ, ◌&&◌, ◌+◌, ◌++◌, ◌<◌, ◌==◌, ◌∙◌, ◌∷◌, ◌≡◌}
+use Rattle.std.proofs.Common.{Bool, Err, List, None, Ok, Option, Result, Some, [], ap, append-nil, arith, cond, false, inl, inr, length, refl, subst, sym, true, ℕ, ◌+◌, ◌++◌, ◌<◌, ◌==◌, ◌∙◌, ◌∷◌, ◌≡◌}
 use Rattle.std.specs.Prelude.{flat_map}
 use Rattle.std.proofs.lemmas.Bool.{cases_Bool, eq-eqb, eqb-true}
 use Rattle.std.specs.List.{AllByRecursion}
@@ -29,7 +29,7 @@ use Rattle.mdcc_runs.specs.Runs.{NodeState, listed, run_of}
 use Rattle.mdcc_runs.specs.Sending.{facts_logged, persist_then_send, persisted}
 use Rattle.mdcc_runs.specs.Servers.{boot_line, endpoints_of, site_of}
 use Rattle.mdcc_runs.specs.Sites.{Site, after_acts, idle}
-use Rattle.mdcc_runs.specs.Turns.{Given, asked_received, inputs_taken, is_full, own_received, ticked, turn_of}
+use Rattle.mdcc_runs.specs.Turns.{Given, asked_received, inputs_taken, is_held, own_received, ticked, turn_of}
 use Rattle.mdcc_steps.specs.Inputs.{IsWellFormedInput}
 use Rattle.mdcc_trace_states.specs.Steps.{IsFair}
 use Rattle.mdcc_trace_states.specs.Words.{Each, In}
@@ -220,7 +220,7 @@ module _ (laws : Laws) (config : Config) (state : Deployment) (a : ℕ) (es : Li
       let next : Site = (inputs_taken config site given).site in
       let tables = turn_holds config site given in
       let leaves = inputs_run config site given in
-      let held : Bool = given.waits && not (is_full next.pending) in
+      let held : Bool = is_held given (inputs_taken config site given) in
       let own : next.own ≡ table_after (listed given.own) site.own = sym (same-own next held) ∙ tables.own_is in
       let asked : next.asked ≡ table_after (listed given.asked) site.asked = sym (same-asked next held) ∙ tables.asked_is in
       let sent : next.sent ≡ site.sent = leaves.sent_is in
@@ -337,7 +337,7 @@ module _ (laws : Laws) (config : Config) (state : Deployment) (a : ℕ) (es : Li
   turn-site : (site : Site) (given : Given) → AreKnown h.begun.named a site → IsOpen config state.done es mail a (record { left = []; site_then = site }) → IsLive config (WasReceived state.done) mail a site → MayDeliver state.done given → IsWithinLimits (process_of (turn_of config site given))
       → Goes config (with_process state a (Some (process_of (turn_of config site given))))
   turn-site site given knows here live came within =
-      turn-by-held here.volatile here.inputs site given knows here.served here.paid live came (given.waits && not (is_full (inputs_taken config site given).site.pending)) within
+      turn-by-held here.volatile here.inputs site given knows here.served here.paid live came (is_held given (inputs_taken config site given)) within
 
   last-site : (site : Site) → AreKnown h.begun.named a site → IsOpen config state.done es mail a (record { left = []; site_then = site }) → IsLive config (WasReceived state.done) mail a site → IsWithinLimits (process_of (persist_then_send config site))
       → Goes config (with_process state a (Some (process_of (persist_then_send config site))))

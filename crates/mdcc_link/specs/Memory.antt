@@ -1,5 +1,5 @@
 -- A link in memory, and what its calls do.
-use Rattle.std.specs.Prelude.{◌≡◌, ◌⊎◌, ℕ, ◌+◌, ◌≤◌, min, Bool, true, false, ◌==◌, ◌&&◌, List, [], ◌∷◌, ◌++◌, length, take, drop, find, if◌then◌else◌, Option, Some, None, Result, Ok, Err, OnOk, OnErr}
+use Rattle.std.specs.Prelude.{◌≡◌, ◌⊎◌, ℕ, ◌+◌, ◌≤◌, min, Bool, true, false, ◌==◌, ◌&&◌, List, [], ◌∷◌, ◌++◌, length, take, drop, find, if◌then◌else◌, is_some, Option, Some, None, Result, Ok, Err, OnOk, OnErr}
 use Rattle.std.specs.Cmp.Lexicographic.{pointwise}
 use Rattle.std.specs.Option.{option_map}
 use Rattle.mdcc_base.specs.declared.faults.Failed.{Failed}
@@ -181,3 +181,7 @@ pub record MakesCall {T : Type 0} (answer : Result T Failed) (call : LinkCall) (
 -- what the trait shows of it
 abbrev pub told_calls : LinkMemory → Option (List LinkCall)
 told_calls link = if link.whole then Some link.calls else None
+
+-- and whether a datagram waits at an endpoint is always known
+abbrev pub known_waiting : LinkMemory → ℕ → Option Bool
+known_waiting link at = Some (is_some (first_at at link.waiting))

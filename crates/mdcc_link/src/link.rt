@@ -1,5 +1,5 @@
 //! A link for datagrams.
-ghost use Rattle.std.specs.Prelude.{◌≡◌, ℕ, List, length, Option, OnOk};
+ghost use Rattle.std.specs.Prelude.{◌≡◌, ℕ, Bool, List, length, IfSome, Option, OnOk};
 ghost use Rattle.mdcc_base.specs.Causes.{HasCause};
 ghost use Rattle.mdcc_link.specs.Link.{LinkCall, AddsCall, ReceivesAtMost, brought};
 ghost use Rattle.mdcc_link.specs.Link.LinkCall.{Bind, Send, Receive};
@@ -27,6 +27,9 @@ pub trait Link {
     /// How often a bind or a receive failed.
     ghost faults: { Self → ℕ };
 
+    /// Whether a datagram waits at an endpoint, where that is known. Of real sockets nothing is: what comes may come at any moment.
+    ghost waiting: { Self → ℕ → Option Bool };
+
     /// Lets the endpoint receive what is sent to the address.
     fn bind(&mut self, at: u8, address: Address) -> Result<(), Failed>
         ensures call { AddsCall (Bind at address result) (calls self.old) (calls self.new) result }
@@ -52,7 +55,8 @@ pub trait Link {
 
     /// Whether a datagram is known to wait at the endpoint, so that the next receive there need not wait. It is no call: nothing is
     /// taken, and nothing of it is recorded.
-    fn waits(&self, at: u8) -> bool;
+    fn waits(&self, at: u8) -> bool
+        ensures { IfSome (waiting self.now at) (λ known. result ≡ known) };
 
     /// Lets each later receive wait for so many milliseconds at most. It is no call either: nothing of it is recorded, and it cannot
     /// fail.

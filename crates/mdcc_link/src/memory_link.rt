@@ -5,7 +5,7 @@ ghost use Rattle.mdcc_base.specs.Causes.{HasCause};
 ghost use Rattle.mdcc_base.specs.Scripts.{one_more};
 ghost use Rattle.mdcc_link.specs.Link.{AddsCall, ReceivesAtMost, brought};
 ghost use Rattle.mdcc_link.specs.Link.LinkCall.{Bind, Send, Receive};
-ghost use Rattle.mdcc_link.specs.Memory.{IsBut, MakesCall, Brings, new_link, after_put, missed, missed_send, is_next_listed, answer_of, bind_call, first_at, send_call, receive_answer, receive_part, receive_call, told_calls};
+ghost use Rattle.mdcc_link.specs.Memory.{IsBut, MakesCall, Brings, new_link, after_put, missed, missed_send, is_next_listed, answer_of, bind_call, first_at, send_call, receive_answer, receive_part, receive_call, told_calls, known_waiting};
 
 use crate::stored::Stored;
 use crate::{Link, Received};
@@ -143,6 +143,8 @@ impl Link for MemoryLink {
     ghost lost = { λ link. link.lost };
 
     ghost faults = { λ link. link.faults };
+
+    ghost waiting = { known_waiting };
 
     fn bind(&mut self, at: u8, address: Address) -> Result<(), Failed>
         ensures call { AddsCall (Bind at address result) (told_calls self.old) (told_calls self.new) result }

@@ -189,6 +189,8 @@ impl<'a, R: Net> Link for UdpLink<'a, R> {
 
     ghost faults = { λ link. link.faults };
 
+    ghost waiting = { λ _ _. None };
+
     fn bind(&mut self, at: u8, address: Address) -> Result<(), Failed> {
         if self.open(at, address).is_none() {
             self.faults = self.faults.saturating_add(1);

@@ -1,5 +1,5 @@
 -- One centre of a server does its own turns.
-use Rattle.std.proofs.Common.{◌≡◌, ◌≢◌, ℕ, suc, ◌+◌, ◌==◌, Bool, true, false, cond, not, ◌&&◌, List, [], ◌∷◌, ◌++◌, length, map, get_or, Option, Some, None, refl, sym, ◌∙◌, ap, ap₂, subst, inl, inr, arith, append-nil, append_assoc, flat_map, fold}
+use Rattle.std.proofs.Common.{◌≡◌, ◌≢◌, ℕ, suc, ◌+◌, ◌==◌, Bool, true, false, cond, List, [], ◌∷◌, ◌++◌, length, map, get_or, Option, Some, None, refl, sym, ◌∙◌, ap, ap₂, subst, inl, inr, arith, append-nil, append_assoc, flat_map, fold}
 use Rattle.std.proofs.lemmas.Bool.{cases_Bool, eqb-true}
 use Rattle.std.proofs.lemmas.Bool.Decides.{nat_tests}
 use Rattle.std.proofs.lemmas.Grind.{flat_map-append}
@@ -18,7 +18,7 @@ use Rattle.mdcc_runs.specs.Acts.{Act, appended, appended_by}
 use Rattle.mdcc_runs.specs.Servers.{Log, Server, after_turn, boot_line, bound_at, endpoints_of, opened, persist_all_then_send, served, site_of, starts, turns_of}
 use Rattle.mdcc_runs.specs.Sending.{persist_then_send}
 use Rattle.mdcc_runs.specs.Sites.{Doing, Site, idle}
-use Rattle.mdcc_runs.specs.Turns.{Given, inputs_taken, is_full, released, turn_of}
+use Rattle.mdcc_runs.specs.Turns.{Given, inputs_taken, is_held, released, turn_of}
 
 appended_joined : (a : ℕ) (xs ys : List Act) → appended a (xs ++ ys) ≡ appended a xs ++ appended a ys
 appended_joined a xs ys = flat_map-append (appended_by a) xs ys
@@ -50,8 +50,8 @@ turn_apart : (config : Config) (c : ℕ) (site : Site) (given : Given) → site.
 turn_apart config c site given other =
     let runs = inputs_run config site given in
     let inputs = inputs_taken config site given in
-    let out = released_apart config c inputs.site (given.waits && not (is_full inputs.site.pending)) (λ same. other (sym runs.centre_is ∙ same)) in
-    (none_joined c inputs.acts (released config given inputs.site).acts (runs.inward.facts_are c) out.0, out.1)
+    let out = released_apart config c inputs.site (is_held given inputs) (λ same. other (sym runs.centre_is ∙ same)) in
+    (none_joined c inputs.acts (released config (is_held given inputs) inputs.site).acts (runs.inward.facts_are c) out.0, out.1)
 
 turns_apart : (config : Config) (c : ℕ) (sites : List Site) (given : List Given) → AllByRecursion (λ site. site.centre ≢ c) sites → Apart c (turns_of config sites given)
 turns_apart config c [] [] apart = record { facts = refl; sites = tt }

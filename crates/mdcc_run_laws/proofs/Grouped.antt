@@ -1,5 +1,5 @@
 -- How inputs are grouped changes nothing of what is seen but when it goes out.
-use Rattle.std.proofs.Common.{◌≡◌, ℕ, ◌+◌, ◌==◌, Bool, true, false, cond, not, ◌&&◌, List, [], ◌∷◌, ◌++◌, Option, Some, None, refl, sym, ◌∙◌, ap, ap₂, subst, arith, map}
+use Rattle.std.proofs.Common.{◌≡◌, ℕ, ◌+◌, ◌==◌, Bool, true, false, cond, List, [], ◌∷◌, ◌++◌, Option, Some, None, refl, sym, ◌∙◌, ap, ap₂, subst, arith, map}
 use Rattle.std.proofs.lemmas.Grind.{flat_map-append}
 use Rattle.std.proofs.lemmas.List.{map-append}
 use Rattle.mdcc_config.specs.declared.config.Config.{Config}
@@ -24,7 +24,7 @@ use Rattle.mdcc_runs.specs.Arrivals.{Arrival, arrival_of}
 use Rattle.mdcc_runs.specs.Runs.{NodeState, run_of}
 use Rattle.mdcc_runs.specs.Sending.{messages_sent, persist_then_send, persisted}
 use Rattle.mdcc_runs.specs.Sites.{Doing, Site, after_acts, and_then, doing, idle}
-use Rattle.mdcc_runs.specs.Turns.{Given, inputs_taken, is_full, own_received, released, turn_of}
+use Rattle.mdcc_runs.specs.Turns.{Given, inputs_taken, is_held, own_received, released, turn_of}
 use Rattle.mdcc_runs.specs.declared.lines.ServerLine.{ServerLine}
 
 -- ---- seen alike
@@ -161,12 +161,12 @@ grouped config [] site = seen_same (persist_then_send config site)
 grouped config (one ∷ given) site =
     let inputs = inputs_taken config site one in
     let next = inputs.site in
-    let out = released config one next in
+    let out = released config (is_held one inputs) next in
     let turn = turn_of config site one in
     let alone = turns_alone config turn.site given in
     let all = turns config turn.site given in
     let more : AreSeenAlike (after_acts out.acts all) (and_then (quiet config next given) (persist_then_send config)) =
-    released_alike config next given (one.waits && not (is_full next.pending)) (grouped config given) in
+    released_alike config next given (is_held one inputs) (grouped config given) in
     seen_joined (seen_is (sym (acts_then turn.acts alone.acts (persist_then_send config alone.site)) ∙ sym (acts_then inputs.acts out.acts all)))
     (seen_joined (seen_after inputs.acts more)
     (seen_is (acts_then inputs.acts (quiet config next given).acts (persist_then_send config (quiet config next given).site))))
@@ -208,8 +208,8 @@ taken_bare config one other given same =
 
 pub turned_bare : (config : Config) (one other : Site) (given : Given) → bare one ≡ bare other → bare (turn_of config one given).site ≡ bare (inputs_taken config other given).site
 turned_bare config one other given same =
-    let next = (inputs_taken config one given).site in
-    held_bare config next (given.waits && not (is_full next.pending)) ∙ taken_bare config one other given same
+    let inputs = inputs_taken config one given in
+    held_bare config inputs.site (is_held given inputs) ∙ taken_bare config one other given same
 
 pub inputs_quiet : (config : Config) (given : List Given) (one other : Site) → bare one ≡ bare other → inputs_in config one given ≡ quiet_inputs config other given
 inputs_quiet config [] one other same = refl

@@ -1,5 +1,5 @@
 -- The messages of which some pieces came at the endpoints of a centre.
-use Rattle.std.proofs.Common.{◌≡◌, ℕ, Bool, true, false, cond, not, ◌&&◌, List, Option, Some, None, Result, Ok, Err, refl, ◌∙◌, ap}
+use Rattle.std.proofs.Common.{◌≡◌, ℕ, Bool, true, false, cond, List, Option, Some, None, Result, Ok, Err, refl, ◌∙◌, ap}
 use Rattle.mdcc_base.specs.declared.identifiers.TxId.{TxId}
 use Rattle.mdcc_base.specs.declared.key.Key.{Key}
 use Rattle.mdcc_config.specs.declared.config.Config.{Config}
@@ -18,10 +18,9 @@ use Rattle.mdcc_run_laws.proofs.Outgoing.{out_site}
 use Rattle.mdcc_runs.specs.Arrivals.{Arrival, arrival_of, is_for_client}
 use Rattle.mdcc_runs.specs.Clients.{begun_for}
 use Rattle.mdcc_runs.specs.Runs.{listed, step_on}
-use Rattle.mdcc_runs.specs.Sending.{persist_then_send}
 use Rattle.mdcc_runs.specs.Sites.{Site, idle}
 use Rattle.mdcc_runs.specs.Steps.{begin_made, begin_noted, begin_taken_by, draft_taken, dropped, input_made, input_taken, read_made}
-use Rattle.mdcc_runs.specs.Turns.{Given, asked_arrived, asked_message, asked_received, inputs_taken, is_full, is_silent, own_arrived, own_message, own_received, released, ticked, turn_of}
+use Rattle.mdcc_runs.specs.Turns.{Given, asked_arrived, asked_message, asked_received, inputs_taken, is_held, is_silent, own_arrived, own_message, own_received, released, ticked, turn_of}
 
 -- they are these
 pub record Holds (own asked : List Entry) (site : Site) : Type 0 where
@@ -107,12 +106,9 @@ ticked_holds config given site = by_silence (is_silent given)
     by_silence false = same_tables site
 
 -- what goes out leaves them
-released_holds : (config : Config) (given : Given) (site : Site) → Holds site.own site.asked (released config given site).site
-released_holds config given site = by_held (given.waits && not (is_full site.pending))
-  where
-    by_held : (held : Bool) → Holds site.own site.asked (cond held (idle site) (persist_then_send config site)).site
-    by_held true = same_tables site
-    by_held false = record { own_is = ap (λ (s : Site). s.own) (out_site config site); asked_is = ap (λ (s : Site). s.asked) (out_site config site) }
+released_holds : (config : Config) (held : Bool) (site : Site) → Holds site.own site.asked (released config held site).site
+released_holds config true site = same_tables site
+released_holds config false site = record { own_is = ap (λ (s : Site). s.own) (out_site config site); asked_is = ap (λ (s : Site). s.asked) (out_site config site) }
 
 pub turn_holds : (config : Config) (site : Site) (given : Given)
     → Holds (table_after (listed given.own) site.own) (table_after (listed given.asked) site.asked) (turn_of config site given).site
@@ -122,7 +118,8 @@ turn_holds config site given =
     let own = own_holds config site given.own in
     let asked = asked_holds config first.site given.asked in
     let tick = ticked_holds config given second.site in
-    let out = released_holds config given (inputs_taken config site given).site in
+    let inputs = inputs_taken config site given in
+    let out = released_holds config (is_held given inputs) inputs.site in
     record {
       own_is = out.own_is ∙ (tick.own_is ∙ (asked.own_is ∙ own.own_is));
       asked_is = out.asked_is ∙ (tick.asked_is ∙ (asked.asked_is ∙ ap (table_after (listed given.asked)) own.asked_is));

@@ -5,13 +5,14 @@ use Rattle.mdcc_frag.specs.Joining.{Step, join}
 use Rattle.mdcc_messages.specs.declared.messages.Envelope.{Envelope}
 use Rattle.mdcc_messages.specs.declared.messages.Message.{Message}
 use Rattle.mdcc_rules.specs.declared.node.Input.{Input}
-use Rattle.mdcc_runs.specs.Acts.{Act}
+use Rattle.mdcc_runs.specs.Acts.{Act, steps_in}
 use Rattle.mdcc_runs.specs.Arrivals.{Arrival, arrival_of, is_for_client}
 use Rattle.mdcc_runs.specs.Sending.{persist_then_send}
 use Rattle.mdcc_runs.specs.Sites.{Doing, Pending, Site, after_acts, and_then, idle}
 use Rattle.mdcc_runs.specs.Steps.{begin_taken, dropped, input_taken, read_taken}
 
--- what its two receives gave, at its own endpoint and at its client's, and whether the link said after them that a datagram waits at one
+-- What its two receives gave, at its own endpoint and at its client's, and whether the link was asked after them and said that a datagram
+-- waits at one.
 pub record Given : Type 0 where
   pub own : Option (List ℕ)
   pub asked : Option (List ℕ)
@@ -82,10 +83,18 @@ pending_limit = 64
 abbrev pub is_full : Pending → Bool
 is_full pending = nat_le pending_limit (length pending.facts + length pending.envelopes)
 
--- Nothing goes out while more waits, so that many facts become durable together.
-abbrev pub released : Config → Given → Site → Doing
-released config given site = if given.waits && not (is_full site.pending) then idle site else persist_then_send config site
+-- Something that came made a step.
+abbrev pub made_step : Given → List Act → Bool
+made_step given acts = not (is_silent given) && nat_le 1 (steps_in acts)
+
+-- Nothing goes out where more waits, so that many facts become durable together, but for where nothing that came made a step, or much is
+-- pending.
+abbrev pub is_held : Given → Doing → Bool
+is_held given inputs = given.waits && made_step given inputs.acts && not (is_full inputs.site.pending)
+
+abbrev pub released : Config → Bool → Site → Doing
+released config held site = if held then idle site else persist_then_send config site
 
 -- One turn: what its receives gave, or a tick, and what goes out after it.
 abbrev pub turn_of : Config → Site → Given → Doing
-turn_of config site given = and_then (inputs_taken config site given) (released config given)
+turn_of config site given = let inputs = inputs_taken config site given in and_then inputs (released config (is_held given inputs))
