@@ -1,14 +1,14 @@
-//! Restarts over disks in memory, and after a crash in each call of an append.
+//! StartGives over disks in memory, and after a crash in each call of an append.
 ghost use Rattle.std.specs.Prelude.{[], length, ◌≤◌};
 
 use crate::setup::{BOOTED, HEARD, PROMISED, five_centres};
 use mdcc_admission::parts_belong::is_centre;
 use mdcc_base::{Centre, Image};
+use mdcc_centre::{BootFault, StartFault, start};
 use mdcc_counted_facts::CountedFacts;
 use mdcc_disks::MemoryDisks;
 use mdcc_facts::{FactStore, ListFacts};
 use mdcc_log::{Frames, LogFault};
-use mdcc_restart::{BootFault, RestartFault, restart};
 use std::alloc::Global;
 use std::process::Abort;
 use std::test::*;
@@ -49,7 +49,7 @@ fn restarted_over<S: FactStore + Drop>(
     store: S,
     disks: &mut MemoryDisks,
     every: u32,
-) -> Result<Result<u32, RestartFault>, Fail>
+) -> Result<Result<u32, StartFault>, Fail>
     requires empty { S.stands store [] }
     requires often { 1 ≤ every }
 {
@@ -58,7 +58,7 @@ fn restarted_over<S: FactStore + Drop>(
     if !is_centre(&cluster, centre.number()) {
         return Ok(Ok(0));
     }
-    match restart(alloc, cluster, centre, store, disks, every) {
+    match start(alloc, cluster, centre, store, disks, every) {
         Ok(running) => {
             let epoch = running.epoch;
             Ok(Ok(if epoch == running.node.epoch() {
@@ -75,7 +75,7 @@ fn restarted(
     rt: &impl Abort,
     alloc: Global,
     disks: &mut MemoryDisks,
-) -> Result<Result<u32, RestartFault>, Fail> {
+) -> Result<Result<u32, StartFault>, Fail> {
     restarted_every(rt, alloc, disks, 1024)
 }
 
@@ -85,7 +85,7 @@ fn restarted_every(
     alloc: Global,
     disks: &mut MemoryDisks,
     every: u32,
-) -> Result<Result<u32, RestartFault>, Fail>
+) -> Result<Result<u32, StartFault>, Fail>
     requires { 1 ≤ every }
 {
     let store = ListFacts::new(alloc).ok().ok_or("a store")?;
@@ -98,7 +98,7 @@ fn restarted_within(
     alloc: Global,
     cells: u32,
     disks: &mut MemoryDisks,
-) -> Result<Result<u32, RestartFault>, Fail> {
+) -> Result<Result<u32, StartFault>, Fail> {
     let store = CountedFacts::new(alloc, cells).ok().ok_or("a store")?;
     restarted_over(rt, alloc, store, disks, 1024)
 }
@@ -202,7 +202,7 @@ fn after_a_crash_in_each_call_of_a_start(rt: HostRuntime) -> Result<(), Fail> {
             let mut disks = MemoryDisks::new(alloc, 17, &[call])?;
             assert_eq!(rt;
                 restarted_every(&rt, alloc, &mut disks, 1)?,
-                Err(RestartFault::Log(LogFault::DiskFault))
+                Err(StartFault::Log(LogFault::DiskFault))
             );
             disks.crash(1, image);
             disks.crash(17, image);
@@ -224,13 +224,13 @@ fn no_start(rt: HostRuntime) -> Result<(), Fail> {
     let mut disks = MemoryDisks::new(alloc, 17, &[1])?;
     assert_eq!(rt;
         restarted(&rt, alloc, &mut disks)?,
-        Err(RestartFault::Log(LogFault::DiskFault))
+        Err(StartFault::Log(LogFault::DiskFault))
     );
     let (mut log, _payloads) = Frames::open(alloc, &mut disks, Centre::default(), 1024)?;
     log.append(&mut disks, &HEARD)?;
     assert_eq!(rt;
         restarted(&rt, alloc, &mut disks)?,
-        Err(RestartFault::Boot(BootFault::NotARun(1)))
+        Err(StartFault::Boot(BootFault::NotARun(1)))
     );
     Ok(())
 }
@@ -244,7 +244,7 @@ fn within_cells(rt: HostRuntime) -> Result<(), Fail> {
     append(alloc, &mut disks, &PROMISED)?;
     assert_eq!(rt;
         restarted_within(&rt, alloc, 2, &mut disks)?,
-        Err(RestartFault::Boot(BootFault::Room {
+        Err(StartFault::Boot(BootFault::Room {
             needed: 3,
             cells: 2
         }))

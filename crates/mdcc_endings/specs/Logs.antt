@@ -1,25 +1,16 @@
 -- From which logs a node boots, and what a command that opens logs says of those from which none does.
-use Rattle.std.specs.Prelude.{Err, IfErr, IsErrAnd, IsTrue, List, Ok, Result, is_ok, map, ⊤, ℕ, ◌<◌, ◌≡◌, ◌≤◌, ◌⊎◌, ◌+◌}
-use Rattle.mdcc_admission.specs.Loading.{Cells, boot_by, fact_read}
+use Rattle.std.specs.Prelude.{Err, IfErr, IsErrAnd, IsTrue, List, Ok, Result, is_ok, ⊤, ℕ, ◌<◌, ◌≡◌, ◌≤◌, ◌⊎◌, ◌+◌}
+use Rattle.mdcc_centre.specs.Nodes.{booted}
 use Rattle.mdcc_log.specs.Area.{payloads}
 use Rattle.mdcc_log_file.specs.declared.fault.LogFault.{LogFault}
 use Rattle.mdcc_endings.specs.Endings.{status_of}
 use Rattle.mdcc_endings.specs.declared.fault.Failure.{Failure}
 use Rattle.mdcc_disks.specs.Disks.{Disk}
-use Rattle.mdcc_messages.specs.Lengths.{cells_needed}
 use Rattle.mdcc_messages.specs.declared.facts.Fact.{Fact}
 use Rattle.mdcc_option.specs.declared.cluster.Cluster.{Cluster}
 use Rattle.mdcc_rules.specs.declared.node.BootFault.{BootFault}
 
 -- ---- the node of a log
-
--- the cells of its store, and those that a fact needs
-abbrev pub cells_of : Cluster → Cells
-cells_of cluster = record { total = cluster.cells; needed = cells_needed }
-
--- the facts of the node that boots from these payloads, with the new boot, the newest first; or why there is none
-abbrev pub booted : Cluster → List (List ℕ) → Result (List Fact) BootFault
-booted cluster payloads = boot_by (cells_of cluster) cluster (map fact_read payloads)
 
 -- why no node boots: what stands at this offset of an area is no log, or the payloads give none
 pub data LogRefusal : Type 0 where

@@ -18,8 +18,8 @@ use Rattle.mdcc_logs.specs.Starting.{AreBegun, first_facts}
 use Rattle.mdcc_logs.specs.Tails.{tail_at}
 use Rattle.mdcc_logs.specs.declared.logs.Logs.{Logs}
 use Rattle.mdcc_option.specs.declared.cluster.Cluster.{Cluster}
-use Rattle.mdcc_restart.specs.Logged.{AreLogged}
-use Rattle.mdcc_restart.specs.Restarting.{HasRoom, IsLogOf as IsReadAs}
+use Rattle.mdcc_centre.specs.Logged.{AreLogged}
+use Rattle.mdcc_centre.specs.Starting.{HasRoom, IsLogOf as IsReadAs}
 use Rattle.mdcc_simulation.specs.Checkpoints.{checkpoint_every}
 
 -- ---- empty disks

@@ -25,11 +25,11 @@ use Rattle.mdcc_logs.specs.declared.logs.Logs.{Logs}
 use Rattle.mdcc_messages.specs.Lengths.{fact_length, log_length}
 use Rattle.mdcc_messages.specs.Spelling.{fact_bytes, encodings_of}
 use Rattle.mdcc_messages.specs.declared.facts.Fact.{Fact}
-use Rattle.mdcc_restart.proofs.Logged.{logged-length}
-use Rattle.mdcc_restart.proofs.Others.{but_areas}
-use Rattle.mdcc_restart.proofs.Places.{at_both, from_places}
-use Rattle.mdcc_restart.proofs.Roomy.{roomy_more, same_log}
-use Rattle.mdcc_restart.proofs.Struck.{rest_areas}
+use Rattle.mdcc_centre.proofs.Logged.{logged-length}
+use Rattle.mdcc_centre.proofs.Others.{but_areas}
+use Rattle.mdcc_centre.proofs.Places.{at_both, from_places}
+use Rattle.mdcc_centre.proofs.Roomy.{roomy_more, same_log}
+use Rattle.mdcc_centre.proofs.Struck.{rest_areas}
 use Rattle.mdcc_simulation.specs.Checkpoints.{checkpoint_every, is_due_after, tail_after}
 
 -- ---- a crash

@@ -27,8 +27,8 @@ use Rattle.mdcc_logs.specs.Tails.{HasTail, tail_at}
 use Rattle.mdcc_logs.specs.declared.logs.Logs.{Logs}
 use Rattle.mdcc_messages.specs.Spelling.{fact_bytes, encodings_of}
 use Rattle.mdcc_messages.specs.declared.facts.Fact.{Fact}
-use Rattle.mdcc_restart.proofs.Others.{but_areas}
-use Rattle.mdcc_restart.proofs.Places.{at_both, from_both, from_places}
+use Rattle.mdcc_centre.proofs.Others.{but_areas}
+use Rattle.mdcc_centre.proofs.Places.{at_both, from_both, from_places}
 use Rattle.mdcc_simulation.specs.Checkpoints.{checkpoint_every, is_checkpoint_kept, is_due_after, is_frame_kept, tail_stopped}
 
 -- ---- what counts then

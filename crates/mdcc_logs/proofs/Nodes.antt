@@ -1,7 +1,8 @@
 -- One node more that is booted for the first time.
 use Rattle.std.proofs.Common.{◌≡◌, ◌+◌, ◌⊎◌, ◌∷◌, ◌++◌, [], List, Some, ap, arith, inl, inr, length, refl, suc, zero, ℕ, ◌∙◌}
 use Rattle.std.specs.Prelude.{slice_get}
-use Rattle.mdcc_logs.specs.Nodes.{AreStarted, CentreStore, IsNodeOf}
+use Rattle.mdcc_logs.specs.Nodes.{AreStarted}
+use Rattle.mdcc_centre.specs.Nodes.{CentreStore, IsNodeOf}
 use Rattle.mdcc_node.specs.declared.node.Node.{Node}
 use Rattle.mdcc_option.specs.declared.cluster.Cluster.{Cluster}
 use Rattle.mdcc_protocol.specs.Volatile.{initial_volatile}

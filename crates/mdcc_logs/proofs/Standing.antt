@@ -11,9 +11,9 @@ use Rattle.mdcc_log.specs.Room.{IsRoomy}
 use Rattle.mdcc_disks.specs.Contents.{Contents, IsImage}
 use Rattle.mdcc_disks.specs.Disks.{Only, Within}
 use Rattle.mdcc_disks.specs.Memory.{AllMemory, at_place, disk_of, is_there, left_since_of, may_leave_of, moment_of, standing}
-use Rattle.mdcc_restart.proofs.Places.{at_both, from_both}
-use Rattle.mdcc_restart.proofs.Roomy.{roomy_read}
-use Rattle.mdcc_restart.proofs.Struck.{rest_areas}
+use Rattle.mdcc_centre.proofs.Places.{at_both, from_both}
+use Rattle.mdcc_centre.proofs.Roomy.{roomy_read}
+use Rattle.mdcc_centre.proofs.Struck.{rest_areas}
 use Rattle.mdcc_logs.specs.Represents.{HoldSame, IsLogOf, LogsRepresent, log_at, no_log, with_fact_at}
 use Rattle.mdcc_logs.specs.declared.logs.Logs.{Logs}
 use Rattle.mdcc_messages.specs.declared.facts.Fact.{Fact}

@@ -15,17 +15,17 @@ use Rattle.mdcc_log_file.specs.declared.fault.LogFault.{LogFault}
 use Rattle.mdcc_disks.specs.Disks.{Only}
 use Rattle.mdcc_disks.specs.Memory.{AllMemory, counts_now_of, disk_of, is_there, left_since_of, may_leave_of, moment_of}
 use Rattle.mdcc_log_file.specs.Log.{log_limit}
-use Rattle.mdcc_restart.proofs.Logged.{logged-length}
-use Rattle.mdcc_restart.proofs.Places.{from_both}
-use Rattle.mdcc_restart.proofs.Roomy.{roomy_log}
-use Rattle.mdcc_restart.proofs.Struck.{rest_areas}
+use Rattle.mdcc_centre.proofs.Logged.{logged-length}
+use Rattle.mdcc_centre.proofs.Places.{from_both}
+use Rattle.mdcc_centre.proofs.Roomy.{roomy_log}
+use Rattle.mdcc_centre.proofs.Struck.{rest_areas}
 use Rattle.mdcc_logs.proofs.Calls.{stays-durable}
 use Rattle.mdcc_logs.proofs.Refusals.{its-payloads, leaves-here, one}
 use Rattle.mdcc_logs.proofs.Standing.{IsSame, both-same, cond-here, cond-there, elsewhere, log-here, log-same, logs-with, others-same, put}
 use Rattle.mdcc_logs.proofs.Tails.{has-tail, tail-open, tail-read}
-use Rattle.mdcc_logs.specs.Nodes.{CentreStore, IsNodeOf, are_stored, needed_in, spare_of}
+use Rattle.mdcc_centre.specs.Nodes.{CentreStore, IsNodeOf, are_stored, cells_of, needed_in, spare_of}
 use Rattle.mdcc_logs.specs.Represents.{IsLogOf, LogsRepresent, MayHave, log_at, with_up}
-use Rattle.mdcc_logs.specs.Starting.{HasStarted, OnNone, RunsWithTail, StartsOver, cells_of, cells_with_boot, lacking}
+use Rattle.mdcc_logs.specs.Starting.{HasStarted, OnNone, RunsWithTail, StartsOver, cells_with_boot, lacking}
 use Rattle.mdcc_logs.specs.Tails.{HasTail, tail_at}
 use Rattle.mdcc_logs.specs.declared.logs.Logs.{Logs}
 use Rattle.mdcc_option.specs.declared.cluster.Cluster.{Cluster}
@@ -34,10 +34,10 @@ use Rattle.mdcc_protocol.specs.Facts.{epoch_of}
 use Rattle.mdcc_protocol.specs.Volatile.{initial_volatile}
 use Rattle.mdcc_messages.specs.Spelling.{fact_bytes, encodings_of}
 use Rattle.mdcc_messages.specs.declared.facts.Fact.{Fact}
-use Rattle.mdcc_restart.specs.Logged.{AreLogged}
-use Rattle.mdcc_restart.specs.Restarting.{HasRoom, IsAsBefore, IsLogOf as IsReadAs, IsRefused, KeepsLog, Runs, booted_over, size_with_boot}
-use Rattle.mdcc_restart.specs.declared.fault.RestartFault.{RestartFault}
-use Rattle.mdcc_restart.specs.declared.restarting.Restarted.{Restarted}
+use Rattle.mdcc_centre.specs.Logged.{AreLogged}
+use Rattle.mdcc_centre.specs.Starting.{HasRoom, IsAsBefore, IsLogOf as IsReadAs, IsRefused, KeepsLog, Runs, booted_over, size_with_boot}
+use Rattle.mdcc_centre.specs.declared.fault.StartFault.{StartFault}
+use Rattle.mdcc_centre.specs.declared.starting.Running.{Running}
 use Rattle.mdcc_rules.specs.Boot.{booted_by, next_boot}
 use Rattle.mdcc_rules.specs.declared.node.BootFault.{BootFault}
 use Rattle.mdcc_steps.proofs.Booting.{boot-reads}
@@ -88,42 +88,42 @@ module _ (cluster : Cluster) (facts : List Fact) (are : AreLogged cluster facts)
   lacks-by false past needed all e = absurd (cc)
 
   -- what comes of a start that is refused
-  pub lacking-over : (me : ℕ) (old new : AllMemory) (roomy : Type 0) (fault : RestartFault) → roomy → IsRefused (cells_of cluster) cluster facts roomy fault → StartsOver (lacking fault) cluster me facts old new
-  lacking-over me old new roomy (RestartFault.Log LogFault.LogFull) room h =
+  pub lacking-over : (me : ℕ) (old new : AllMemory) (roomy : Type 0) (fault : StartFault) → roomy → IsRefused (cells_of cluster) cluster facts roomy fault → StartsOver (lacking fault) cluster me facts old new
+  lacking-over me old new roomy (StartFault.Log LogFault.LogFull) room h =
       (fits-by (nat_lt cluster.cells (cells_with_boot facts)) (ltb-false cluster.cells (cells_with_boot facts)) (next_boot facts ∷ facts) (sym boot-over ∙ h.0), h.1 room)
-  lacking-over me old new roomy (RestartFault.Log LogFault.DiskFault) room h = tt
-  lacking-over me old new roomy (RestartFault.Log LogFault.Memory) room h = tt
-  lacking-over me old new roomy (RestartFault.Log (LogFault.NotALog n)) room h = tt
-  lacking-over me old new roomy (RestartFault.Boot (BootFault.Room needed all)) room h =
+  lacking-over me old new roomy (StartFault.Log LogFault.DiskFault) room h = tt
+  lacking-over me old new roomy (StartFault.Log LogFault.Memory) room h = tt
+  lacking-over me old new roomy (StartFault.Log (LogFault.NotALog n)) room h = tt
+  lacking-over me old new roomy (StartFault.Boot (BootFault.Room needed all)) room h =
       lacks-by (nat_lt cluster.cells (cells_with_boot facts)) (ltb-true cluster.cells (cells_with_boot facts)) needed all (sym boot-over ∙ h)
-  lacking-over me old new roomy (RestartFault.Boot (BootFault.NotARun n)) room h = tt
-  lacking-over me old new roomy (RestartFault.Boot BootFault.Epochs) room h = tt
-  lacking-over me old new roomy (RestartFault.Boot BootFault.Memory) room h = tt
-  lacking-over me old new roomy RestartFault.Memory room h = tt
+  lacking-over me old new roomy (StartFault.Boot (BootFault.NotARun n)) room h = tt
+  lacking-over me old new roomy (StartFault.Boot BootFault.Epochs) room h = tt
+  lacking-over me old new roomy (StartFault.Boot BootFault.Memory) room h = tt
+  lacking-over me old new roomy StartFault.Memory room h = tt
 
 -- and the log is as it was
-pub lacking-kept : (all : List (List ℕ)) (me : ℕ) (old new : AllMemory) (fault : RestartFault) → KeepsLog all fault me checkpoint_every disk_of may_leave_of old new → OnNone (lacking fault) all me old new
-lacking-kept all me old new (RestartFault.Log LogFault.LogFull) h = h
-lacking-kept all me old new (RestartFault.Log LogFault.DiskFault) h = tt
-lacking-kept all me old new (RestartFault.Log LogFault.Memory) h = tt
-lacking-kept all me old new (RestartFault.Log (LogFault.NotALog n)) h = tt
-lacking-kept all me old new (RestartFault.Boot (BootFault.Room needed total)) h = h
-lacking-kept all me old new (RestartFault.Boot (BootFault.NotARun n)) h = tt
-lacking-kept all me old new (RestartFault.Boot BootFault.Epochs) h = tt
-lacking-kept all me old new (RestartFault.Boot BootFault.Memory) h = tt
-lacking-kept all me old new RestartFault.Memory h = tt
+pub lacking-kept : (all : List (List ℕ)) (me : ℕ) (old new : AllMemory) (fault : StartFault) → KeepsLog all fault me checkpoint_every disk_of may_leave_of old new → OnNone (lacking fault) all me old new
+lacking-kept all me old new (StartFault.Log LogFault.LogFull) h = h
+lacking-kept all me old new (StartFault.Log LogFault.DiskFault) h = tt
+lacking-kept all me old new (StartFault.Log LogFault.Memory) h = tt
+lacking-kept all me old new (StartFault.Log (LogFault.NotALog n)) h = tt
+lacking-kept all me old new (StartFault.Boot (BootFault.Room needed total)) h = h
+lacking-kept all me old new (StartFault.Boot (BootFault.NotARun n)) h = tt
+lacking-kept all me old new (StartFault.Boot BootFault.Epochs) h = tt
+lacking-kept all me old new (StartFault.Boot BootFault.Memory) h = tt
+lacking-kept all me old new StartFault.Memory h = tt
 
 -- none runs
-pub lacking-tail : (fault : RestartFault) (tail : ℕ) → RunsWithTail (lacking fault) tail
-lacking-tail (RestartFault.Log LogFault.LogFull) tail = tt
-lacking-tail (RestartFault.Log LogFault.DiskFault) tail = tt
-lacking-tail (RestartFault.Log LogFault.Memory) tail = tt
-lacking-tail (RestartFault.Log (LogFault.NotALog n)) tail = tt
-lacking-tail (RestartFault.Boot (BootFault.Room needed total)) tail = tt
-lacking-tail (RestartFault.Boot (BootFault.NotARun n)) tail = tt
-lacking-tail (RestartFault.Boot BootFault.Epochs) tail = tt
-lacking-tail (RestartFault.Boot BootFault.Memory) tail = tt
-lacking-tail RestartFault.Memory tail = tt
+pub lacking-tail : (fault : StartFault) (tail : ℕ) → RunsWithTail (lacking fault) tail
+lacking-tail (StartFault.Log LogFault.LogFull) tail = tt
+lacking-tail (StartFault.Log LogFault.DiskFault) tail = tt
+lacking-tail (StartFault.Log LogFault.Memory) tail = tt
+lacking-tail (StartFault.Log (LogFault.NotALog n)) tail = tt
+lacking-tail (StartFault.Boot (BootFault.Room needed total)) tail = tt
+lacking-tail (StartFault.Boot (BootFault.NotARun n)) tail = tt
+lacking-tail (StartFault.Boot BootFault.Epochs) tail = tt
+lacking-tail (StartFault.Boot BootFault.Memory) tail = tt
+lacking-tail StartFault.Memory tail = tt
 
 -- ---- a disk in memory tears no byte to 1
 
@@ -176,7 +176,7 @@ module _ (old new : Logs) (a centres : ℕ) (up : ℕ → Bool) (facts : ℕ →
 
   -- ---- a centre has started again
 
-  pub restarted : (before : AllMemory) (centre : Restarted CentreStore) (cluster : Cluster) → new.open.items ≡ set old.open.items (a - 1) centre.log
+  pub restarted : (before : AllMemory) (centre : Running CentreStore) (cluster : Cluster) → new.open.items ≡ set old.open.items (a - 1) centre.log
       → HasRoom checkpoint_every (disk_of before a) (disk_of before (a + 16))
       → Runs are_stored spare_of (cells_of cluster) centre cluster a checkpoint_every (facts a) disk_of may_leave_of before new.disks
       → HasStarted centre.node centre.epoch new cluster centres (with_up up a true) a facts

@@ -27,8 +27,8 @@ use Rattle.mdcc_logs.specs.Tails.{HasTail, tail_at}
 use Rattle.mdcc_logs.specs.declared.logs.Logs.{Logs}
 use Rattle.mdcc_messages.specs.Spelling.{fact_bytes, encodings_of}
 use Rattle.mdcc_messages.specs.declared.facts.Fact.{Fact}
-use Rattle.mdcc_restart.proofs.Places.{by_places, from_both, from_places}
-use Rattle.mdcc_restart.proofs.Struck.{IsRead, idle_loses, seen_first, seen_second}
+use Rattle.mdcc_centre.proofs.Places.{by_places, from_both, from_places}
+use Rattle.mdcc_centre.proofs.Struck.{IsRead, idle_loses, seen_first, seen_second}
 use Rattle.mdcc_simulation.specs.Checkpoints.{is_frame_kept, tail_stopped}
 
 -- all is durable

@@ -15,7 +15,7 @@ use Rattle.mdcc_logs.specs.Tails.{HasTail, tail_at, tail_of}
 use Rattle.mdcc_logs.specs.declared.logs.Logs.{Logs}
 use Rattle.mdcc_messages.specs.Spelling.{encodings_of}
 use Rattle.mdcc_messages.specs.declared.facts.Fact.{Fact}
-use Rattle.mdcc_restart.proofs.Struck.{rest_areas}
+use Rattle.mdcc_centre.proofs.Struck.{rest_areas}
 use Rattle.mdcc_simulation.specs.Checkpoints.{checkpoint_every, is_checkpoint_kept, is_due_after, tail_after}
 
 -- ---- of what is read

@@ -1,11 +1,10 @@
 -- What comes of a start of a centre.
 use Rattle.std.specs.Prelude.{◌≡◌, ◌≤◌, ◌+◌, ◌<◌, ◌∷◌, [], Bool, Err, List, Ok, Result, nat_lt, true, false, ℕ, ⊤}
-use Rattle.mdcc_admission.specs.Loading.{Cells}
 use Rattle.mdcc_base.specs.declared.faults.Memory.{Memory}
 use Rattle.mdcc_log_file.specs.declared.fault.LogFault.{LogFault}
 use Rattle.mdcc_disks.specs.Memory.{AllMemory, disk_of, is_there, may_leave_of}
 use Rattle.mdcc_log_file.specs.Log.{log_limit}
-use Rattle.mdcc_logs.specs.Nodes.{CentreStore, IsNodeOf, are_stored, spare_of}
+use Rattle.mdcc_centre.specs.Nodes.{CentreStore, IsNodeOf, are_stored, cells_of, spare_of}
 use Rattle.mdcc_logs.specs.Represents.{LogsRepresent, with_fact_at}
 use Rattle.mdcc_logs.specs.Tails.{tail_at}
 use Rattle.mdcc_logs.specs.declared.logs.Logs.{Logs}
@@ -17,26 +16,22 @@ use Rattle.mdcc_protocol.specs.Facts.{epoch_of}
 use Rattle.mdcc_messages.specs.Lengths.{cells_needed, cells_used, log_length}
 use Rattle.mdcc_protocol.specs.Volatile.{initial_volatile}
 use Rattle.mdcc_messages.specs.declared.facts.Fact.{Fact}
-use Rattle.mdcc_restart.specs.Restarting.{IsAsBefore, Runs, size_with_boot}
-use Rattle.mdcc_restart.specs.declared.fault.RestartFault.{RestartFault}
+use Rattle.mdcc_centre.specs.Starting.{IsAsBefore, Runs, size_with_boot}
+use Rattle.mdcc_centre.specs.declared.fault.StartFault.{StartFault}
 use Rattle.mdcc_rules.specs.declared.node.BootFault.{BootFault}
 use Rattle.mdcc_rules.specs.Boot.{next_boot}
 use Rattle.mdcc_simulation.specs.Checkpoints.{checkpoint_every, tail_after}
 
 -- ---- over the disk of a centre
 
--- the cells of an empty store of a centre, and those that a fact needs
-abbrev pub cells_of : Cluster → Cells
-cells_of cluster = record { total = cluster.cells; needed = cells_needed }
-
 -- how many cells the facts need with the next boot
 abbrev pub cells_with_boot : List Fact → ℕ
 cells_with_boot facts = cells_used facts + cells_needed (next_boot facts)
 
 -- what comes of a start that is refused
-abbrev pub lacking : RestartFault → Result Attempt Memory
-lacking (RestartFault.Log LogFault.LogFull) = Ok Attempt.Full
-lacking (RestartFault.Boot (BootFault.Room needed all)) = Ok (Attempt.NoRoom needed)
+abbrev pub lacking : StartFault → Result Attempt Memory
+lacking (StartFault.Log LogFault.LogFull) = Ok Attempt.Full
+lacking (StartFault.Boot (BootFault.Room needed all)) = Ok (Attempt.NoRoom needed)
 lacking _ = Err (record {})
 
 -- a centre that runs; or none, where the new boot would pass the limit of its log or the cells of its node; or there was no memory

@@ -1,6 +1,7 @@
 //! The first boot of all centres.
 ghost use Rattle.std.specs.Prelude.{◌≡◌, ◌≤◌, ◌-◌, ◌∷◌, [], IfOk, OnOk, length, true, ℕ};
-ghost use Rattle.mdcc_logs.specs.Nodes.{AreStarted, IsNodeOf};
+ghost use Rattle.mdcc_logs.specs.Nodes.{AreStarted};
+ghost use Rattle.mdcc_centre.specs.Nodes.{IsNodeOf};
 ghost use Rattle.mdcc_logs.specs.Represents.{LogsRepresent};
 ghost use Rattle.mdcc_logs.specs.Starting.{AreBegun, first_facts};
 ghost use Rattle.mdcc_logs.specs.Tails.{tail_at};
@@ -12,10 +13,10 @@ use crate::rooms::reserve_first;
 use crate::starting::{Attempt, start};
 use crate::{CentreFacts, Logs};
 use mdcc_base::{Centre, Memory};
+use mdcc_centre::Running;
 use mdcc_disks::MemoryDisks;
 use mdcc_node::Node;
 use mdcc_option::Cluster;
-use mdcc_restart::Restarted;
 use std::alloc::Global;
 
 // The next centre boots for the first time. Its log and its node have room for its boot.
@@ -34,7 +35,7 @@ fn boot(
     reserve_first(&mut logs.disks, centre)?;
     match start(alloc, cluster, centre, &mut logs.disks)? {
         Attempt::Runs(started) => {
-            let Restarted { node, log, .. } = started;
+            let Running { node, log, .. } = started;
             logs.open.push(log)?;
             Ok(node)
         }

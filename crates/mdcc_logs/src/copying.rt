@@ -11,11 +11,11 @@ ghost use Rattle.mdcc_simulation.specs.Checkpoints.{is_due_after, tail_stopped};
 use crate::Logs;
 use crate::rooms::reserve_append;
 use mdcc_base::{Centre, Image, Memory};
+use mdcc_centre::payload_of;
 use mdcc_disks::crash_leaves_the_image;
 use mdcc_journal::counts::well_formed_facts_have_counts;
 use mdcc_log_stops::{append_due_until, stopped_is_read, stopped_is_roomy};
 use mdcc_messages::Fact;
-use mdcc_restart::payload_of;
 use std::alloc::Global;
 
 impl Logs {

@@ -17,20 +17,20 @@ ghost use Rattle.mdcc_messages.specs.Spelling.{fact_bytes};
 ghost use Rattle.mdcc_messages.specs.WellFormed.{IsWellFormedFact};
 ghost use Rattle.mdcc_messages.specs.declared.facts.Fact.{Fact as AFact};
 ghost use Rattle.mdcc_logs.specs.Tails.{HasTail, StartsWithTail, tail_at};
-ghost use Rattle.mdcc_restart.specs.Logged.{AreLogged};
+ghost use Rattle.mdcc_centre.specs.Logged.{AreLogged};
 ghost use Rattle.mdcc_rules.specs.Boot.{next_boot};
 ghost use Rattle.mdcc_simulation.specs.Checkpoints.{is_due_after, tail_after};
 
 use crate::rooms::{reserve_append, reserve_start};
 use crate::starting::{Attempt, Started, start};
 use mdcc_base::{Centre, Image, Memory};
+use mdcc_centre::{Running, append_fact};
 use mdcc_disks::{MemoryDisks, crash_leaves_the_image};
 use mdcc_journal::counts::well_formed_facts_have_counts;
 use mdcc_journal::fact_length;
 use mdcc_log::Frames;
 use mdcc_messages::Fact;
 use mdcc_option::Cluster;
-use mdcc_restart::{Restarted, append_fact};
 use std::alloc::Global;
 
 /// The logs of the centres, each in two areas on disks in memory, where only want of memory lets a call fail. The
@@ -172,7 +172,7 @@ impl Logs {
         reserve_start(&mut self.disks, &self.open[index], centre)?;
         match start(alloc, cluster, centre, &mut self.disks)? {
             Attempt::Runs(started) => {
-                let Restarted { node, log, epoch } = started;
+                let Running { node, log, epoch } = started;
                 self.open[index] = log;
                 Ok(Started::Node(node, epoch))
             }

@@ -11,18 +11,18 @@ ghost use Rattle.mdcc_protocol.specs.Facts.{epoch_of};
 ghost use Rattle.mdcc_messages.specs.Lengths.{cells_used};
 ghost use Rattle.mdcc_messages.specs.Spelling.{fact_bytes, encodings_of};
 ghost use Rattle.mdcc_messages.specs.declared.facts.Fact.{Fact as AFact};
-ghost use Rattle.mdcc_restart.specs.Logged.{AreLogged};
-ghost use Rattle.mdcc_restart.specs.Restarting.{HasRoom, IsLogOf};
+ghost use Rattle.mdcc_centre.specs.Logged.{AreLogged};
+ghost use Rattle.mdcc_centre.specs.Starting.{HasRoom, IsLogOf};
 ghost use Rattle.mdcc_rules.specs.Boot.{next_boot};
 ghost use Rattle.mdcc_simulation.specs.Checkpoints.{checkpoint_every};
 
 use mdcc_base::{Centre, Memory, Plain};
+use mdcc_centre::{BootFault, Running, StartFault};
 use mdcc_disks::MemoryDisks;
 use mdcc_index::PoolFacts;
 use mdcc_log::LogFault;
 use mdcc_node::Node;
 use mdcc_option::Cluster;
-use mdcc_restart::{BootFault, RestartFault, Restarted, restart};
 use std::alloc::Global;
 
 /// After so many frames a checkpoint is due.
@@ -45,7 +45,7 @@ pub enum Started {
 /// What comes of a start.
 #[derive(Drop)]
 pub(crate) enum Attempt {
-    Runs(Restarted<CentreFacts>),
+    Runs(Running<CentreFacts>),
     /// The log would pass 2^30 bytes with the new boot.
     Full,
     /// With the new boot the facts would need so many cells, more than the node has.
@@ -54,12 +54,12 @@ pub(crate) enum Attempt {
 
 // What comes of a start that is refused. That a call of the disk failed is for want of memory, and so is each refusal that
 // cannot come over a log of what the centre added.
-fn lacking(fault: RestartFault) -> Result<Attempt, Memory>
+fn lacking(fault: StartFault) -> Result<Attempt, Memory>
     ensures { result ≡ lacking fault }
 {
     match fault {
-        RestartFault::Log(LogFault::LogFull) => Ok(Attempt::Full),
-        RestartFault::Boot(BootFault::Room { needed, .. }) => Ok(Attempt::NoRoom(needed)),
+        StartFault::Log(LogFault::LogFull) => Ok(Attempt::Full),
+        StartFault::Boot(BootFault::Room { needed, .. }) => Ok(Attempt::NoRoom(needed)),
         _ => Err(Memory),
     }
 }
@@ -89,7 +89,7 @@ pub(crate) fn start(
     ensures others { KeepsBut disk_of may_leave_of moment_of left_since_of disks.old disks.new centre (centre + 16) }
 {
     let store = CentreFacts::new(alloc, cluster.cells)?;
-    match restart(
+    match mdcc_centre::start(
         alloc,
         cluster.copy(),
         centre,

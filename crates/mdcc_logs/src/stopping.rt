@@ -19,10 +19,10 @@ ghost use Rattle.mdcc_simulation.specs.Checkpoints.{is_due_after, tail_stopped};
 use crate::Logs;
 use crate::rooms::reserve_append;
 use mdcc_base::{Centre, Failed, Image, Memory};
+use mdcc_centre::payload_of;
 use mdcc_disks::{Disks, MemoryDisks, crash_leaves_the_image};
 use mdcc_journal::counts::well_formed_facts_have_counts;
 use mdcc_messages::Fact;
-use mdcc_restart::payload_of;
 use std::alloc::Global;
 
 // What an append writes behind the closed gate: the frame, and a closed gate.

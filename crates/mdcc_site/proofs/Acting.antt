@@ -4,7 +4,7 @@ use Rattle.std.specs.List.{AllByRecursion}
 use Rattle.std.specs.Prelude.{IfSome}
 use Rattle.mdcc_base.specs.Unless.{GivesUnless}
 use Rattle.mdcc_journal.specs.Counts.{HasCounts as FactHasCounts}
-use Rattle.mdcc_site.specs.Nodes.{CentreStore, IsNodeOf, are_stored, needed_in, spare_of}
+use Rattle.mdcc_centre.specs.Nodes.{CentreStore, IsNodeOf, are_stored, needed_in, spare_of}
 use Rattle.mdcc_messages.specs.Lengths.{cells_needed, cells_used}
 use Rattle.mdcc_messages.specs.WellFormed.{IsWellFormedEnvelope, IsWellFormedFact, IsWellFormedMessage}
 use Rattle.mdcc_messages.specs.declared.facts.Fact.{Fact}

@@ -1,7 +1,6 @@
 -- What a centre does is its own: its log gets what it appends, its node's facts are those of its log and the pending ones, and the serials
 -- that it uses rise.
 use Rattle.std.proofs.Common.{◌≡◌, ◌≢◌, ℕ, ◌+◌, ◌≤◌, ◌==◌, Bool, true, false, cond, nat_lt, not, length, List, [], ◌∷◌, ◌++◌, Option, Some, None, Result, Ok, Err, refl, sym, ◌∙◌, ap, inl, inr, append-nil, arith, map}
-use Rattle.std.specs.Prelude.{◌&&◌}
 use Rattle.std.proofs.lemmas.Bool.{cases_Bool, eqb-true}
 use Rattle.std.proofs.lemmas.Bool.Decides.{nat_tests}
 use Rattle.std.specs.List.{range_with_len}
@@ -33,7 +32,7 @@ use Rattle.mdcc_runs.specs.Runs.{NodeState, listed, step_on}
 use Rattle.mdcc_runs.specs.Sending.{address_to, datagrams_sent, facts_logged, heard_printed, message_sent, message_sent_to, messages_sent, next_head, persist_then_send, persisted}
 use Rattle.mdcc_runs.specs.Sites.{Doing, Site, after_acts, doing, idle}
 use Rattle.mdcc_runs.specs.Steps.{answer_queued, begin_made, begin_noted, begin_taken, begin_taken_by, begin_told, draft_taken, dropped, ended, ends_told, input_made, input_taken, known_told, read_made, read_taken, reading_told, step_queued, stepped}
-use Rattle.mdcc_runs.specs.Turns.{Given, asked_arrived, asked_message, asked_received, asked_taken, inputs_taken, is_full, is_silent, own_arrived, own_message, own_received, own_taken, released, ticked, turn_of}
+use Rattle.mdcc_runs.specs.Turns.{Given, asked_arrived, asked_message, asked_received, asked_taken, inputs_taken, is_held, is_silent, own_arrived, own_message, own_received, own_taken, released, ticked, turn_of}
 use Rattle.mdcc_runs.specs.declared.lines.ServerLine.{ServerLine}
 use Rattle.mdcc_site.proofs.Joined.{appended_append, facts_joined}
 use Rattle.mdcc_site.specs.Logs.{facts_after, with_facts}
@@ -260,12 +259,9 @@ sends_own config site sends heard =
 pub persist_owns : (config : Config) (site : Site) → Owns site (persist_then_send config site)
 persist_owns config site = owns_then (logged_owns site site.pending.facts refl) (sends_own config (persisted site) site.pending.envelopes site.pending.heard)
 
-pub released_owns : (config : Config) (given : Given) (site : Site) → Owns site (released config given site)
-released_owns config given site = by_waits (given.waits && not (is_full site.pending))
-  where
-    by_waits : (b : Bool) → Owns site (cond b (idle site) (persist_then_send config site))
-    by_waits true = idle_owns site
-    by_waits false = persist_owns config site
+pub released_owns : (config : Config) (held : Bool) (site : Site) → Owns site (released config held site)
+released_owns config true site = idle_owns site
+released_owns config false site = persist_owns config site
 
 -- messages that are sent change nothing of it but the serials
 pub record IsSent (site next : Site) : Type 0 where
@@ -353,4 +349,5 @@ inputs_own config site given =
     owns_then (owns_then (own_owns config site given.own) (asked_owns config own.site given.asked)) (ticked_owns config given asked.site)
 
 pub turn_owns : (config : Config) (site : Site) (given : Given) → Owns site (turn_of config site given)
-turn_owns config site given = owns_then (inputs_own config site given) (released_owns config given (inputs_taken config site given).site)
+turn_owns config site given =
+    owns_then (inputs_own config site given) (released_owns config (is_held given (inputs_taken config site given)) (inputs_taken config site given).site)

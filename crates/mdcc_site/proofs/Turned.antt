@@ -1,21 +1,22 @@
 -- What a centre receives, and its turn.
-use Rattle.std.proofs.Common.{◌≡◌, ℕ, ◌≤◌, Bool, true, false, cond, List, [], ◌∷◌, Option, Some, None, Result, Ok, Err, refl, sym, ◌∙◌, ap, subst, arith, append-nil, not, IsTrue}
-use Rattle.std.specs.Prelude.{is_none, is_some, ◌&&◌}
+use Rattle.std.proofs.Common.{◌≡◌, ◌≢◌, ℕ, ◌≤◌, Bool, true, false, List, [], ◌∷◌, Option, Some, None, Result, Ok, Err, refl, sym, ◌∙◌, ap, subst, arith, append-nil, not, IsTrue}
+use Rattle.std.specs.Prelude.{is_none, is_some, nat_le, suc, zero, ◌&&◌, ◌+◌}
+use Rattle.std.proofs.lemmas.Bool.{le-leb}
 use Rattle.mdcc_base.specs.Causes.{Rose}
 use Rattle.mdcc_config.specs.declared.config.Config.{Config}
 use Rattle.mdcc_link.specs.Link.{LinkCall}
 use Rattle.mdcc_option.specs.declared.cluster.Cluster.{Cluster}
-use Rattle.mdcc_outbox.specs.Shows.{Records, call_of, calls_of, failed_call}
-use Rattle.mdcc_runs.specs.Acts.{Act}
-use Rattle.mdcc_runs.specs.Sending.{persist_then_send}
+use Rattle.mdcc_outbox.specs.Shows.{Records, call_of, calls_of, counted, failed_call}
+use Rattle.mdcc_runs.specs.Acts.{Act, but_answer, but_answers, steps_by, steps_in}
 use Rattle.mdcc_runs.specs.Sites.{Doing, Site, after_acts, idle}
-use Rattle.mdcc_runs.specs.Turns.{Given, asked_received, inputs_taken, is_full, own_received, released, ticked, turn_of}
+use Rattle.mdcc_runs.specs.Turns.{Given, asked_received, inputs_taken, is_full, is_held, is_silent, own_received, released, ticked, turn_of}
 use Rattle.mdcc_site.proofs.Going.{acts_then, goes_then, stops_then}
 use Rattle.mdcc_site.proofs.Joined.{did_nothing, none_added, none_written, others_none}
 use Rattle.mdcc_site.proofs.Owns.{IsWhole, asked_owns, inputs_own, own_owns, owns_then, released_owns, ticked_owns}
 use Rattle.mdcc_site.specs.Logs.{MayHaveFacts}
-use Rattle.mdcc_site.specs.Moments.{Did, Outside, Passes}
+use Rattle.mdcc_site.specs.Moments.{Adds, Did, Outside, Passes}
 use Rattle.mdcc_site.specs.Silence.{ticked_if}
+use Rattle.mdcc_site.specs.Waiting.{MayWait}
 use Rattle.mdcc_site.specs.SiteState.{Finishes, Goes, Place, HoldsSite, Stops, place, seen}
 use Rattle.mdcc_site.specs.declared.fault.ServeFault.{ServeFault}
 use Rattle.mdcc_site.specs.declared.site.Site.{Site as TheSite}
@@ -100,10 +101,10 @@ module _ {D L O : Type 0} (w : Outside D L O) where
     inputs = inputs_taken config site given
 
     abbrev pub releases : Doing
-    releases = released config given inputs.site
+    releases = released config (is_held given inputs) inputs.site
 
     released_later : inputs.site.sent ≤ releases.site.sent
-    released_later = (released_owns config given inputs.site).sent
+    released_later = (released_owns config (is_held given inputs) inputs.site).sent
 
     ticked_later : asked.site.sent ≤ ticks.site.sent
     ticked_later = (ticked_owns config given asked.site).sent
@@ -140,12 +141,51 @@ pub ticked_by : (config : Config) (given : Given) (site : Site) (came_here came_
 ticked_by config given site came_here came_there silent is_here is_there is =
     ap (λ (b : Bool). ticked_if config b site) (is ∙ (ap (λ (b : Bool). not b && not came_there) is_here ∙ (ap (λ (b : Bool). not (is_some given.own) && not b) is_there ∙ none_came given.own given.asked)))
 
--- ---- whether what is pending goes out
+-- ---- whether what is pending is held back
 
-pub released_kept : (config : Config) (here there : Option (List ℕ)) (waits : Bool) (site : Site) → (waits && not (is_full site.pending)) ≡ true
-    → released config (record { own = here; asked = there; waits = waits }) site ≡ idle site
-released_kept config here there waits site kept = ap (λ (b : Bool). cond b (idle site) (persist_then_send config site)) kept
+same_steps : (acts : List Act) → steps_in (but_answers acts) ≡ steps_in acts
+same_steps [] = refl
+same_steps (act ∷ acts) = (let one = same_step act in let rest = same_steps acts in omega (one, rest, arith))
+  where
+    same_step : (x : Act) → steps_by (but_answer x) ≡ steps_by x
+    same_step (Act.Bind at address) = refl
+    same_step (Act.Receive at gave) = refl
+    same_step (Act.Append centre facts) = refl
+    same_step (Act.Send from to bytes answer) = refl
+    same_step (Act.Print line) = refl
+    same_step Act.Stepped = refl
+    same_step Act.Dropped = refl
+    same_step Act.Unsent = refl
 
-pub released_now : (config : Config) (here there : Option (List ℕ)) (waits : Bool) (site : Site) → (waits && not (is_full site.pending)) ≡ false
-    → released config (record { own = here; asked = there; waits = waits }) site ≡ persist_then_send config site
-released_now config here there waits site out = ap (λ (b : Bool). cond b (idle site) (persist_then_send config site)) out
+-- where a count rose, there was a step
+some_step : (n old new : ℕ) → Adds n old new → counted new ≢ counted old → 1 ≤ n
+some_step zero old new adds rose = absurd (rose (adds ∙ ap counted (let e : old + 0 ≡ old = omega arith in e)))
+some_step (suc n) old new adds rose = omega arith
+
+held_only : (waits silent : Bool) (steps : ℕ) (full : Bool) → (waits ≡ true → silent ≡ false) → (waits ≡ true → 1 ≤ steps) → (waits ≡ true → full ≡ false)
+    → (waits && (not silent && nat_le 1 steps) && not full) ≡ waits
+held_only false silent steps full came stepped room = refl
+held_only true silent steps full came stepped room = rw (came refl, room refl, le-leb 1 steps (stepped refl)) refl
+
+-- where it is held back, something came, made a step, and left not much pending
+pub held_is : {D L O : Type 0} (w : Outside D L O) (cluster : Cluster) (site : Site) (given : Given) (inputs : Doing) (came_here came_there silent made : Bool) (a b : Place D L O)
+    → came_here ≡ is_some given.own → came_there ≡ is_some given.asked → silent ≡ (not came_here && not came_there)
+    → (made ≡ true → (silent ≡ false) × (counted b.held.steps ≢ counted a.held.steps)) → Finishes w cluster site inputs a b
+    → (given.waits ≡ true → made ≡ true) → (given.waits ≡ true → is_full inputs.site.pending ≡ false)
+    → is_held given inputs ≡ given.waits
+held_is w cluster site given inputs came_here came_there silent made a b here there is made_step goes stepped room =
+    held_only given.waits (is_silent given) (steps_in inputs.acts) (is_full inputs.site.pending)
+    (λ waits. sym silence ∙ (made_step (stepped waits)).0)
+    (λ waits. some_step (steps_in inputs.acts) a.held.steps b.held.steps adds (made_step (stepped waits)).1)
+    room
+  where
+    silence : silent ≡ is_silent given
+    silence = is ∙ (ap (λ (b : Bool). not b && not came_there) here ∙ (ap (λ (b : Bool). not (is_some given.own) && not b) there ∙ none_came given.own given.asked))
+
+    adds : Adds (steps_in inputs.acts) a.held.steps b.held.steps
+    adds = subst (λ (n : ℕ). Adds n a.held.steps b.held.steps) (sym (same_steps goes.did.acts) ∙ ap steps_in goes.did.are) goes.did.left.steps
+
+-- ---- what is known of the link
+
+pub none_waits : (waiting : ℕ → Option Bool) (centre : ℕ) → MayWait waiting centre false
+none_waits waiting centre is = absurd (cc)

@@ -2,9 +2,9 @@ pub mod Causes
 pub mod LogEffects
 pub mod Logs
 pub mod Moments
-pub mod Nodes
 pub mod PendingBytes
 pub mod Printing
 pub mod Room
 pub mod Silence
 pub mod SiteState
+pub mod Waiting

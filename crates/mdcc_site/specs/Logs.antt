@@ -1,14 +1,11 @@
 -- What the acts of a server leave in the logs.
-use Rattle.std.specs.Prelude.{List, Ok, fold, length, ℕ, ◌+◌, ◌<◌, ◌∷◌, ◌≡◌, ◌⊎◌}
+use Rattle.std.specs.Prelude.{List, Ok, length, ℕ, ◌+◌, ◌<◌, ◌≡◌, ◌⊎◌}
 use Rattle.mdcc_log.specs.Area.{AreaLog, payloads, payloads_of, read_areas}
 use Rattle.mdcc_disks.specs.Disks.{Disk, Only}
 use Rattle.mdcc_messages.specs.declared.facts.Fact.{Fact}
 use Rattle.mdcc_runs.specs.Acts.{Act, appended}
 use Rattle.mdcc_messages.specs.Spelling.{encodings_of}
-
--- the facts with these after them
-abbrev pub with_facts : List Fact → List Fact → List Fact
-with_facts facts more = fold (λ before fact. fact ∷ before) facts more
+pub use Rattle.mdcc_centre.specs.Logged.{with_facts}
 
 -- the facts of a centre after these acts
 abbrev pub facts_after : ℕ → List Fact → List Act → List Fact

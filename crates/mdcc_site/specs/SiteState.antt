@@ -11,7 +11,7 @@ use Rattle.mdcc_config.specs.declared.config.Config.{Config}
 use Rattle.mdcc_disks.specs.Disks.{Disk}
 use Rattle.mdcc_journal.specs.Counts.{HasCounts as FactHasCounts}
 use Rattle.mdcc_link.specs.Link.{LinkCall}
-use Rattle.mdcc_site.specs.Nodes.{IsNodeOf}
+use Rattle.mdcc_centre.specs.Nodes.{IsNodeOf}
 use Rattle.mdcc_messages.specs.Lengths.{fact_length}
 use Rattle.mdcc_messages.specs.declared.facts.Fact.{Fact}
 use Rattle.mdcc_messages.specs.declared.messages.Envelope.{Envelope}

@@ -10,9 +10,9 @@ ghost use Rattle.mdcc_site.specs.PendingBytes.{pending_bytes};
 ghost use Rattle.mdcc_site.specs.SiteState.{CanBeSent};
 
 use mdcc_base::{HeapList, Memory, TxId};
+use mdcc_centre::payload_of;
 use mdcc_messages::{Envelope, Fact};
 use mdcc_outbox::Outgoing;
-use mdcc_restart::payload_of;
 use std::alloc::Global;
 
 /// What the steps of a centre made and is not out yet, the oldest first: the payloads of facts that are not in its log, messages that

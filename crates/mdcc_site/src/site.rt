@@ -16,7 +16,7 @@ ghost use Rattle.mdcc_runs.specs.Runs.{listed, step_on};
 ghost use Rattle.mdcc_runs.specs.Sites.{Site as ASite};
 ghost use Rattle.mdcc_runs.specs.Clients.{with_end};
 ghost use Rattle.mdcc_runs.specs.Steps.{ends_told, input_made, input_taken};
-ghost use Rattle.mdcc_site.specs.Nodes.{IsNodeOf};
+ghost use Rattle.mdcc_centre.specs.Nodes.{IsNodeOf};
 ghost use Rattle.mdcc_site.specs.SiteState.{Acted, Becomes, IsSite, Refuses};
 ghost use Rattle.mdcc_site.specs.declared.fault.ServeFault.{ServeFault as AServeFault};
 

@@ -1,19 +1,21 @@
 //! A turn of a centre.
-ghost use Rattle.std.specs.Prelude.{◌≡◌, ◌&&◌, List, not, Option, ℕ};
+ghost use Rattle.std.specs.Prelude.{◌≡◌, ◌≢◌, ◌&&◌, false, not, true};
 ghost use Rattle.mdcc_config.specs.IsConfig.{IsConfig};
 ghost use Rattle.mdcc_config.specs.declared.config.Config.{Config as AConfig};
 ghost use Rattle.mdcc_option.specs.declared.cluster.Cluster.{Cluster as ACluster};
 ghost use Rattle.mdcc_runs.specs.Sites.{Pending as APending, Site as ASite};
 ghost use Rattle.mdcc_runs.specs.Turns.{Given, is_full, released, turn_of};
+ghost use Rattle.mdcc_outbox.specs.Shows.{counted};
 ghost use Rattle.mdcc_site.specs.Moments.{outside};
 ghost use Rattle.mdcc_site.specs.PendingBytes.{pending_bytes};
 ghost use Rattle.mdcc_site.specs.SiteState.{Becomes, Goes, HoldsSite, IsServed, IsSite, place};
 ghost use Rattle.mdcc_site.specs.Silence.{ticked_if};
+ghost use Rattle.mdcc_site.specs.Waiting.{MayWait};
 
 use crate::ServeFault;
 use crate::pending::PendingBytes;
 use crate::site::Site;
-use mdcc_base::Sink;
+use mdcc_base::{Centre, Sink};
 use mdcc_config::Config;
 use mdcc_disks::Disks;
 use mdcc_inbox::Datagram;
@@ -36,18 +38,19 @@ fn is_empty(pending: &PendingBytes) -> bool {
     pending.payloads.is_empty() && pending.messages.is_empty() && pending.heard.is_empty()
 }
 
-// Whether what is pending stays so, where more waits or not.
-fn is_kept(waits: bool, pending: &PendingBytes) -> bool
-    ensures { (made : APending) → pending.now ≡ pending_bytes made → result ≡ (waits && not (is_full made)) }
-{
-    waits && !is_full(pending)
-}
-
 // Whether nothing came at either endpoint.
 fn is_silent(own: bool, asked: bool) -> bool
     ensures { result ≡ (not own && not asked) }
 {
     !own && !asked
+}
+
+// Whether a datagram waits at one of the endpoints of a centre.
+fn more_waits<L: Link>(link: &L, centre: Centre) -> bool
+    ensures { MayWait (L.waiting link.now) centre result }
+{
+    let own = centre.number();
+    link.waits(own) || link.waits(own + 16)
 }
 
 impl Site {
@@ -60,13 +63,26 @@ impl Site {
         if silent { self.tick(alloc) } else { Ok(()) }
     }
 
-    // Whether a datagram waits at one of its endpoints, where it made steps since there were so many, and something is pending.
-    fn more_waits<L: Link>(&self, link: &L, steps: u64) -> bool {
-        let own = self.centre.number();
-        self.steps != steps && !is_empty(&self.pending) && (link.waits(own) || link.waits(own + 16))
+    // Whether what came made a step, since there were so many.
+    fn made_step(&self, silent: bool, steps: u64) -> bool
+        ensures { result ≡ true → (silent ≡ false) × (counted self.now.steps ≢ counted steps) }
+    {
+        !silent && self.steps != steps
     }
 
-    // What is pending goes out, unless more waits and there is not much of it.
+    // Whether what is pending stays so: what came made a step, more waits, and not much is pending. Where nothing is, it asks for nothing.
+    fn is_held<L: Link>(&self, link: &L, made_step: bool) -> bool
+        ensures waits { MayWait (L.waiting link.now) self.now.centre result }
+        ensures made_step { result ≡ true → made_step ≡ true }
+        ensures few { (made : APending) → self.now.pending ≡ pending_bytes made → result ≡ true → is_full made ≡ false }
+    {
+        made_step
+            && !is_empty(&self.pending)
+            && !is_full(&self.pending)
+            && more_waits(link, self.centre)
+    }
+
+    // What is pending goes out, unless it is held back.
     fn release<D: Disks, L: Link, O: Sink>(
         &mut self,
         alloc: Global,
@@ -74,24 +90,25 @@ impl Site {
         disks: &mut D,
         link: &mut L,
         out: &mut O,
-        waits: bool,
+        held: bool,
     ) -> Result<(), ServeFault>
         requires config { IsConfig config.now }
         requires served { IsServed (outside D.disk D.may_leave L.calls L.lost L.faults O.held O.faults) config.now.cluster disks.old self.old }
-        ensures { (site : ASite) (own asked : Option (List ℕ)) → HoldsSite (outside D.disk D.may_leave L.calls L.lost L.faults O.held O.faults) config.now.cluster disks.old self.old site
-            → Goes (outside D.disk D.may_leave L.calls L.lost L.faults O.held O.faults) config.now.cluster site (released config.now (record { own = own; asked = asked; waits = waits }) site) result
+        ensures goes { (site : ASite) → HoldsSite (outside D.disk D.may_leave L.calls L.lost L.faults O.held O.faults) config.now.cluster disks.old self.old site
+            → Goes (outside D.disk D.may_leave L.calls L.lost L.faults O.held O.faults) config.now.cluster site (released config.now held site) result
             (place disks.old self.old link.old out.old) (place disks.new self.new link.new out.new) }
+        ensures untouched { held ≡ true → link.new ≡ link.old }
     {
-        if is_kept(waits, &self.pending) {
+        if held {
             return Ok(());
         }
         self.persist_then_send(alloc, config, disks, link, out)
     }
 
     /// One turn: it receives at both endpoints, and where neither gave anything time passes. What came at the own one is taken before
-    /// it receives at its client's. Then what is pending goes out, unless this turn made a step, less than 64 facts and messages are
-    /// pending, and a datagram waits at one of the endpoints: so many facts become durable together. What makes no step holds nothing
-    /// back.
+    /// it receives at its client's. Then what is pending goes out, unless what came made a step, less than 64 facts and messages are
+    /// pending, and a datagram waits at one of the endpoints: so many facts become durable together. Where nothing came, or what came
+    /// made no step, nothing is held back; nor is it where the link knows that nothing waits.
     pub fn turn<D: Disks, L: Link, O: Sink>(
         &mut self,
         alloc: Global,
@@ -105,13 +122,15 @@ impl Site {
         requires served { IsServed (outside D.disk D.may_leave L.calls L.lost L.faults O.held O.faults) config.now.cluster disks.old self.old }
         ensures { (site : ASite) → HoldsSite (outside D.disk D.may_leave L.calls L.lost L.faults O.held O.faults) config.now.cluster disks.old self.old site
             → (given : Given) × Goes (outside D.disk D.may_leave L.calls L.lost L.faults O.held O.faults) config.now.cluster site (turn_of config.now site given) result
-            (place disks.old self.old link.old out.old) (place disks.new self.new link.new out.new) }
+            (place disks.old self.old link.old out.old) (place disks.new self.new link.new out.new) × MayWait (L.waiting link.new) site.centre given.waits }
     {
         let steps = self.steps;
         let own = self.receive_own(alloc, link, datagram)?;
         let asked = self.receive_asked(alloc, config, link, datagram)?;
-        self.tick_if(alloc, is_silent(own, asked))?;
-        let waits = self.more_waits(link, steps);
-        self.release(alloc, config, disks, link, out, waits)
+        let silent = is_silent(own, asked);
+        self.tick_if(alloc, silent)?;
+        let made_step = self.made_step(silent, steps);
+        let held = self.is_held(link, made_step);
+        self.release(alloc, config, disks, link, out, held)
     }
 }

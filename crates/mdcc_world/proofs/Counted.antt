@@ -4,7 +4,7 @@ use Rattle.std.proofs.lemmas.Bool.{and_parts}
 use Rattle.std.proofs.lemmas.List.{length-append, length-map, map-append}
 use Rattle.mdcc_base.specs.Key.{IsKey}
 use Rattle.mdcc_base.specs.declared.key.Key.{Key}
-use Rattle.mdcc_logs.specs.Nodes.{CentreStore}
+use Rattle.mdcc_centre.specs.Nodes.{CentreStore}
 use Rattle.mdcc_node.specs.StepAnswers.{step_result}
 use Rattle.mdcc_node.specs.declared.node.Node.{Node}
 use Rattle.mdcc_option.specs.declared.items.Known.{Known}

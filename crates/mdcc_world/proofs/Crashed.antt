@@ -4,7 +4,7 @@ use Rattle.std.specs.Prelude.{set}
 use Rattle.std.proofs.lemmas.Bool.{cases_Bool, eqb-true, eq-eqb, le-ltb, lt-ltb}
 use Rattle.std.proofs.lemmas.List.{get_or-set_other, get_or-set_same, length-set}
 use Rattle.mdcc_base.specs.declared.outside.Image.{Image}
-use Rattle.mdcc_logs.specs.Nodes.{CentreStore, IsNodeOf, spare_of}
+use Rattle.mdcc_centre.specs.Nodes.{CentreStore, IsNodeOf, spare_of}
 use Rattle.mdcc_logs.proofs.Refusals.{log-payloads}
 use Rattle.mdcc_logs.specs.Represents.{LogsRepresent, with_fact_at, with_up}
 use Rattle.mdcc_logs.specs.Starting.{cells_with_boot}
@@ -25,7 +25,7 @@ use Rattle.mdcc_messages.specs.declared.facts.Fact.{Fact}
 use Rattle.mdcc_language.specs.declared.lines.Line.{Line}
 use Rattle.mdcc_language.specs.declared.world.EventFault.{EventFault}
 use Rattle.mdcc_language.specs.declared.world.LimitName.{LimitName}
-use Rattle.mdcc_restart.specs.Logged.{AreLogged}
+use Rattle.mdcc_centre.specs.Logged.{AreLogged}
 use Rattle.mdcc_world.proofs.Counted.{up-centre}
 use Rattle.mdcc_world.proofs.NodesStay.{set-get}
 use Rattle.mdcc_world.proofs.Took.{booted-counted, logs-same}

@@ -30,7 +30,8 @@ use Rattle.mdcc_steps.specs.Inputs.{IsWellFormedInput}
 use Rattle.mdcc_worlds.proofs.Begins.{first-facts, first-site}
 use Rattle.mdcc_worlds.proofs.Stays.{by-none, by-some, each-put, facts-here, facts-there, facts-with, refused-same, site-here, site-other, site-same, site-there}
 use Rattle.mdcc_worlds.proofs.Within.{made-stays}
-use Rattle.mdcc_logs.specs.Nodes.{AreStarted, CentreStore, IsNodeOf, are_stored}
+use Rattle.mdcc_logs.specs.Nodes.{AreStarted}
+use Rattle.mdcc_centre.specs.Nodes.{CentreStore, IsNodeOf, are_stored}
 use Rattle.mdcc_world.specs.Nodes.{NodesRepresent, RunsAt, is_memory_run}
 use Rattle.mdcc_worlds.specs.StepSends.{StaysWithin}
 use Rattle.mdcc_worlds.specs.WorldInvariant.{IsWorld}

@@ -1,7 +1,7 @@
 -- Which nodes stand for the centres of a world.
 use Rattle.std.specs.Prelude.{◌≡◌, ◌+◌, ◌-◌, ◌≤◌, Bool, Err, List, None, Ok, Option, Result, Some, false, get_or, length, slice_get, true, ℕ}
 use Rattle.mdcc_base.specs.declared.outside.Image.{Image}
-use Rattle.mdcc_logs.specs.Nodes.{CentreStore, IsNodeOf}
+use Rattle.mdcc_centre.specs.Nodes.{CentreStore, IsNodeOf}
 use Rattle.mdcc_logs.specs.Tails.{tail_at}
 use Rattle.mdcc_logs.specs.declared.logs.Logs.{Logs}
 use Rattle.mdcc_node.specs.StepAnswers.{is_step_memory}

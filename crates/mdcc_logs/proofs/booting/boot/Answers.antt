@@ -6,10 +6,10 @@ use Rattle.mdcc_disks.specs.Memory.{disk_of, may_leave_of}
 use Rattle.mdcc_logs.proofs.Begun.{next-begun, none-fresh, none-logged, none-read, none-room}
 use Rattle.mdcc_logs.proofs.Standing.{held-same}
 use Rattle.mdcc_logs.proofs.booting.boot.Goals as goal
-use Rattle.mdcc_logs.specs.Nodes.{are_stored, spare_of}
-use Rattle.mdcc_logs.specs.Starting.{RunsWithTail, StartsOver, cells_of}
+use Rattle.mdcc_centre.specs.Nodes.{are_stored, cells_of, spare_of}
+use Rattle.mdcc_logs.specs.Starting.{RunsWithTail, StartsOver}
 use Rattle.mdcc_logs.specs.declared.starting.Attempt.{Attempt}
-use Rattle.mdcc_restart.specs.Restarting.{Runs}
+use Rattle.mdcc_centre.specs.Starting.{Runs}
 use Rattle.mdcc_simulation.specs.Checkpoints.{checkpoint_every}
 
 -- the centre runs, with no facts but its boot

@@ -3,7 +3,8 @@ use Rattle.std.proofs.lemmas.Bool.{false≢true}
 use Rattle.mdcc_logs.proofs.Nodes.{one-started}
 use Rattle.mdcc_logs.proofs.booting.boot_all.Goals as goal
 use Rattle.mdcc_logs.proofs.booting.boot_all.Goals.{in-Some+in_ok-node+in_ok-push, in_default}
-use Rattle.mdcc_logs.specs.Nodes.{AreStarted, IsNodeOf}
+use Rattle.mdcc_logs.specs.Nodes.{AreStarted}
+use Rattle.mdcc_centre.specs.Nodes.{IsNodeOf}
 use Rattle.mdcc_logs.specs.Starting.{AreBegun}
 use Rattle.mdcc_protocol.specs.Volatile.{initial_volatile}
 use Rattle.mdcc_messages.specs.declared.facts.Fact.{Fact}

@@ -4,11 +4,10 @@ use Rattle.mdcc_disks.specs.Memory.{disk_of, may_leave_of, only_now_of}
 use Rattle.mdcc_logs.proofs.Starts.{empty-store, lacking-kept, lacking-over, lacking-tail, no-gate-is-torn-open}
 use Rattle.mdcc_logs.proofs.Tails.{tail-alike}
 use Rattle.mdcc_logs.proofs.starting.start.Goals as goal
-use Rattle.mdcc_logs.specs.Nodes.{are_stored, spare_of}
-use Rattle.mdcc_logs.specs.Starting.{cells_of}
+use Rattle.mdcc_centre.specs.Nodes.{are_stored, cells_of, spare_of}
 use Rattle.mdcc_option.specs.declared.cluster.Cluster.{Cluster}
-use Rattle.mdcc_restart.specs.Logged.{AreLogged}
-use Rattle.mdcc_restart.specs.Restarting.{HasRoom, IsRefused, Runs}
+use Rattle.mdcc_centre.specs.Logged.{AreLogged}
+use Rattle.mdcc_centre.specs.Starting.{HasRoom, IsRefused, Runs}
 use Rattle.mdcc_simulation.specs.Checkpoints.{checkpoint_every}
 
 pub returns-in-Ok-clause-starts : goal.returns-in-Ok-clause-starts
@@ -16,8 +15,8 @@ returns-in-Ok-clause-starts c facts logged fits is room early =
     let cluster = c.args.cluster.now in
     let same : c.copy.result ≡ cluster = c.copy.ensures in
     let was = subst (λ (of : Cluster). AreLogged of facts) (sym same) logged in
-    subst (λ (of : Cluster). Runs are_stored spare_of (cells_of cluster) c.in-Ok.centre of c.args.centre checkpoint_every facts disk_of may_leave_of c.args.disks.now c.restart.new.disks) same
-    (c.in-Ok.ensures.restarts (cells_of cluster) facts (empty-store c.in_ok-store.store cluster c.in_ok-store.ensures.empty c.in_ok-store.ensures.spare) was is)
+    subst (λ (of : Cluster). Runs are_stored spare_of (cells_of cluster) c.in-Ok.centre of c.args.centre checkpoint_every facts disk_of may_leave_of c.args.disks.now c.start.new.disks) same
+    (c.in-Ok.ensures.starts (cells_of cluster) facts (empty-store c.in_ok-store.store cluster c.in_ok-store.ensures.empty c.in_ok-store.ensures.spare) was is)
 
 pub returns-in-Err-clause-starts : goal.returns-in-Err-clause-starts
 returns-in-Err-clause-starts c facts logged fits is room early =
@@ -27,9 +26,9 @@ returns-in-Err-clause-starts c facts logged fits is room early =
     let few : cluster.cells < 2 ^ 63 = omega arith in
     let roomy = HasRoom checkpoint_every (disk_of c.args.disks.now c.args.centre) (disk_of c.args.disks.now (c.args.centre + 16)) in
     rw c.lacking.ensures
-    (lacking-over cluster facts logged few fits early c.args.centre c.args.disks.now c.restart.new.disks roomy c.in-Err.fault room
+    (lacking-over cluster facts logged few fits early c.args.centre c.args.disks.now c.start.new.disks roomy c.in-Err.fault room
     (subst (λ (of : Cluster). IsRefused (cells_of cluster) of facts roomy c.in-Err.fault) same
-    (c.in-Err.ensures.restarts (cells_of cluster) facts (empty-store c.in_ok-store.store cluster c.in_ok-store.ensures.empty c.in_ok-store.ensures.spare) was is)))
+    (c.in-Err.ensures.starts (cells_of cluster) facts (empty-store c.in_ok-store.store cluster c.in_ok-store.ensures.empty c.in_ok-store.ensures.spare) was is)))
 
 pub returns-in-Ok-clause-tail : goal.returns-in-Ok-clause-tail
 returns-in-Ok-clause-tail c area_log told told_other read = c.in-Ok.ensures.tail area_log told told_other read ∙ tail-alike (length area_log.tail)
@@ -39,7 +38,7 @@ returns-in-Err-clause-tail c area_log told told_other read = rw c.lacking.ensure
 
 pub returns-in-Err-clause-none : goal.returns-in-Err-clause-none
 returns-in-Err-clause-none c all told told_other read =
-    rw c.lacking.ensures (lacking-kept all c.args.centre c.args.disks.now c.restart.new.disks c.in-Err.fault (c.in-Err.ensures.refused all told told_other read))
+    rw c.lacking.ensures (lacking-kept all c.args.centre c.args.disks.now c.start.new.disks c.in-Err.fault (c.in-Err.ensures.refused all told told_other read))
 
 -- no store was made, and so no call at the disks
 pub returns-in_err-store-clause-any_moment : goal.returns-in_err-store-clause-any_moment
@@ -53,11 +52,11 @@ returns-in-Ok-clause-any_moment c facts first second logged is only only_other l
     let cluster = c.args.cluster.now in
     let same : c.copy.result ≡ cluster = c.copy.ensures in
     let was = subst (λ (of : Cluster). AreLogged of facts) (sym same) logged in
-    c.restart.ensures.any_moment_same (cells_of cluster) facts first second (empty-store c.in_ok-store.store cluster c.in_ok-store.ensures.empty c.in_ok-store.ensures.spare) was is no-gate-is-torn-open only only_other left left_other
+    c.start.ensures.any_moment_same (cells_of cluster) facts first second (empty-store c.in_ok-store.store cluster c.in_ok-store.ensures.empty c.in_ok-store.ensures.spare) was is no-gate-is-torn-open only only_other left left_other
 
 pub returns-in-Err-clause-any_moment : goal.returns-in-Err-clause-any_moment
 returns-in-Err-clause-any_moment c facts first second logged is only only_other left left_other =
     let cluster = c.args.cluster.now in
     let same : c.copy.result ≡ cluster = c.copy.ensures in
     let was = subst (λ (of : Cluster). AreLogged of facts) (sym same) logged in
-    c.restart.ensures.any_moment_same (cells_of cluster) facts first second (empty-store c.in_ok-store.store cluster c.in_ok-store.ensures.empty c.in_ok-store.ensures.spare) was is no-gate-is-torn-open only only_other left left_other
+    c.start.ensures.any_moment_same (cells_of cluster) facts first second (empty-store c.in_ok-store.store cluster c.in_ok-store.ensures.empty c.in_ok-store.ensures.spare) was is no-gate-is-torn-open only only_other left left_other

@@ -4,7 +4,7 @@ use Rattle.mdcc_rules.specs.Steps.{with_new}
 use Rattle.mdcc_runs.specs.Runs.{listed}
 use Rattle.mdcc_runs.specs.Steps.{step_queued, stepped}
 use Rattle.mdcc_site.proofs.Becoming.{each_append, each_listed, lacks_by, queued_becomes, same_pending}
-use Rattle.mdcc_site.specs.Nodes.{IsNodeOf}
+use Rattle.mdcc_centre.specs.Nodes.{IsNodeOf}
 use Rattle.mdcc_site.specs.SiteState.{Becomes, CanBeSent}
 use Rattle.mdcc_site.specs.declared.fault.ServeFault.{ServeFault}
 use Rattle.mdcc_site.specs.declared.site.Site.{Site as TheSite}

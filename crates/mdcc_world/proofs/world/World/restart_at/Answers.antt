@@ -1,5 +1,5 @@
 use Rattle.std.proofs.Common.{◌<◌, ◌≤◌, ◌+◌, ◌-◌, ◌∷◌, Bool, List, Ok, Option, true, ℕ, arith, ap, ◌∙◌, subst}
-use Rattle.mdcc_logs.specs.Nodes.{IsNodeOf}
+use Rattle.mdcc_centre.specs.Nodes.{IsNodeOf}
 use Rattle.mdcc_logs.specs.Represents.{with_up}
 use Rattle.mdcc_logs.specs.Starting.{HasStarted, Starts}
 use Rattle.mdcc_logs.specs.Tails.{HasTail, StartsWithTail, tail_at}
@@ -12,7 +12,7 @@ use Rattle.mdcc_simulation.specs.State.{is_up_at}
 use Rattle.std.specs.Prelude.{set}
 use Rattle.mdcc_protocol.specs.Volatile.{initial_volatile}
 use Rattle.mdcc_messages.specs.declared.facts.Fact.{Fact}
-use Rattle.mdcc_restart.specs.Logged.{AreLogged}
+use Rattle.mdcc_centre.specs.Logged.{AreLogged}
 use Rattle.mdcc_simulation.specs.Checkpoints.{tail_after}
 use Rattle.mdcc_world.proofs.Crashed.{has-restarted, may-restart, more-epochs, restart-cells, restart-limit}
 use Rattle.mdcc_worlds.proofs.Stays.{some-centre}

@@ -1,0 +1,16 @@
+pub mod AllFacts
+pub mod Appended
+pub mod Ended
+pub mod Kept
+pub mod Loaded
+pub mod Logged
+pub mod Named
+pub mod Opens
+pub mod Others
+pub mod Places
+pub mod Roomy
+pub mod Short
+pub mod Starts
+pub mod Struck
+pub mod Unbooted
+pub mod Unread

@@ -1,4 +1,0 @@
-pub mod Faults
-pub mod Logged
-pub mod Restarting
-pub mod Struck
