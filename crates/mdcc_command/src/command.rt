@@ -57,7 +57,7 @@ fn run_command<S: Source, O: Sink, E: Sink, D: Disks, L: Link>(
         → DoesAsk L.calls O.held link.old link.new out.old out.new
         (S.left source.old) question result (E.held err.old) (E.held err.new) (E.faults err.old) (E.faults err.new) }
     ensures dump { (centre : ℕ) → command ≡ Some (Command.Dump centre)
-        → DoesDump D.disk O.held disks.old disks.new out.old out.new
+        → DoesDump D.disk D.may_leave D.moment D.left_since D.tears O.held disks.old disks.new out.old out.new
         (S.left source.old) centre result (E.held err.old) (E.held err.new) (E.faults err.old) (E.faults err.new) }
 
     ensures node_log { (centre turns : ℕ) → command ≡ Some (Command.Node centre turns) → NodeEndsByLog D.disk disks.old (S.left source.old) centre result }
@@ -160,8 +160,9 @@ pub fn run<S: Source, O: Sink, E: Sink, D: Disks, L: Link>(
         → IfSome (S.left source.old) (λ input. PrintsTruth input result (O.held out.old) (O.held out.new)) }
     ensures headline { (input : List ℕ) → ReplayTellsTruth input }
 
-    // What `node` and `cluster` do is the run of nodes for what the link gave them: all of it at status 0, else a front of it. Here
-    // and below a log is known where both of its disks tell their bytes.
+    // What `node` and `cluster` do is the run of nodes for what the link gave them: all of it at status 0, else a front of it, for the
+    // turns that were made. At each status the disks of all other centres are as they were. Here and below a log is known where both of
+    // its disks tell their bytes.
     ensures node { (centre turns : ℕ) → command_of (map string_bytes words.now) ≡ Some (Command.Node centre turns)
         → DoesNode D.disk D.may_leave D.tears L.calls L.lost O.held disks.old disks.new link.old link.new out.old out.new
         (S.left source.old) centre turns result (E.held err.old) (E.held err.new) (E.faults err.old) (E.faults err.new) }
@@ -169,12 +170,13 @@ pub fn run<S: Source, O: Sink, E: Sink, D: Disks, L: Link>(
         → DoesCluster D.disk D.may_leave D.tears L.calls L.lost O.held disks.old disks.new link.old link.new out.old out.new
         (S.left source.old) turns result (E.held err.old) (E.held err.new) (E.faults err.old) (E.faults err.new) }
 
-    // What `ask` sends and prints is that of a client, and what `dump` prints the facts of the log.
+    // What `ask` sends and prints is that of a client, and what `dump` prints the facts of the log. At each status `dump` makes calls
+    // of an opening alone, at the disks of its centre, and its log stands after a crash at any moment of them.
     ensures ask { (question : AQuestion) → command_of (map string_bytes words.now) ≡ Some (Command.Ask question)
         → DoesAsk L.calls O.held link.old link.new out.old out.new
         (S.left source.old) question result (E.held err.old) (E.held err.new) (E.faults err.old) (E.faults err.new) }
     ensures dump { (centre : ℕ) → command_of (map string_bytes words.now) ≡ Some (Command.Dump centre)
-        → DoesDump D.disk O.held disks.old disks.new out.old out.new
+        → DoesDump D.disk D.may_leave D.moment D.left_since D.tears O.held disks.old disks.new out.old out.new
         (S.left source.old) centre result (E.held err.old) (E.held err.new) (E.faults err.old) (E.faults err.new) }
 
     // Over an accepted configuration and disks that tell their bytes the first log is refused from which no node boots, with status 9

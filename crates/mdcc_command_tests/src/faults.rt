@@ -54,7 +54,8 @@ impl<'a> Faultless<'a> {
         run_new(alloc, self.words, self.input, &scripts, self.waiting)
     }
 
-    // How many calls there are. The run ends at each that fails, with this line and status and a prefix of these lines.
+    // How many calls there are. The run ends at each that fails, with this line and status and a prefix of these lines, and the disks of
+    // other centres have no bytes.
     fn calls_that_end(
         &self,
         rt: &impl Abort,
@@ -66,6 +67,7 @@ impl<'a> Faultless<'a> {
     ) -> Result<u32, Fail> {
         for number in 1..60u32 {
             let ran = self.failing(alloc, calls, number)?;
+            assert!(rt; ran.others_empty, "call {number}");
             if ran.status == 0 {
                 assert!(rt; ran.is(self.out, "", 0), "call {number}");
                 return Ok(number - 1);
@@ -144,6 +146,7 @@ fn losses(
     for before in 0..calls {
         let number = before + 1;
         let ran = run.failing(alloc, Calls::Link, number)?;
+        assert!(rt; ran.others_empty, "call {number}");
         if ran.is(out, "", 0) {
             lost = lost.saturating_add(1);
         } else {

@@ -30,8 +30,8 @@ fn choice(number: u8, key: u8) -> [u8; 42] {
     choice
 }
 
-// Centre 2 proposes it to centre 1.
-fn proposal(alloc: Global, number: u8, key: u8) -> Result<Vec<u8>, Fail> {
+/// Centre 2 proposes to centre 1 its transaction with this number.
+pub(crate) fn proposal(alloc: Global, number: u8, key: u8) -> Result<Vec<u8>, Fail> {
     let mut head = PROPOSES;
     head[2] = 2;
     let proposal = message(alloc, &head, &choice(number, key))?;
@@ -83,8 +83,8 @@ fn run_proposed(
     Ok((ran, disks, link))
 }
 
-// Whether just so many of the votes were sent, in order.
-fn check_votes(
+/// Just so many of the votes were sent, in order.
+pub(crate) fn check_votes(
     rt: &impl Abort,
     alloc: Global,
     link: &MemoryLink,

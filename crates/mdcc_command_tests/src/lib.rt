@@ -16,7 +16,11 @@ mod faults;
 #[cfg(test)]
 mod groups;
 #[cfg(test)]
+mod holds;
+#[cfg(test)]
 mod logs;
+#[cfg(test)]
+mod pausing;
 #[cfg(test)]
 mod program;
 #[cfg(test)]

@@ -1,6 +1,10 @@
 //! Logs byte by byte, as the formats have them: what is printed of them, and which are refused.
+ghost use Rattle.std.specs.Prelude.{◌≡◌, IfOk};
+
 use crate::datagrams::CHOICE;
-use crate::program::{ONE, SMALL, run_on_log};
+use crate::program::{NO_FAULTS, ONE, SMALL, disks_of, run_on, run_on_log};
+use mdcc_disks::{Disks, MemoryDisks};
+use mdcc_link::{Link, MemoryLink};
 use std::alloc::Global;
 use std::process::Abort;
 use std::test::Fail;
@@ -115,18 +119,71 @@ fn a_dump_of_a_boot(rt: HostRuntime) -> Result<(), Fail> {
     check(&rt, alloc, &BOOTED, &BOOTED_AREA, "1 booted 1\n", "", 0)
 }
 
-// What a look into these areas, and a node over them, answer.
+// What stands at three disks of other centres.
+const NEIGHBOUR: &[u8] = b"the log of another centre";
+
+// Disks of which those of centre 1 have these bytes, beside those of other centres.
+fn neighbours_of(alloc: Global, log: &[u8], other: &[u8]) -> Result<MemoryDisks, Fail>
+    ensures { IfOk result (λ disks. disks.count ≡ 25) }
+{
+    let mut disks = disks_of(alloc, log, other)?;
+    disks.write_at(2, 0, NEIGHBOUR).ok().ok_or("a write")?;
+    disks.write_at(18, 0, NEIGHBOUR).ok().ok_or("a write")?;
+    disks.write_at(25, 0, NEIGHBOUR).ok().ok_or("a write")?;
+    Ok(disks)
+}
+
+// Whether all disks are so still.
+fn are_kept(disks: &MemoryDisks, log: &[u8], other: &[u8]) -> bool {
+    for place in 1..26u8 {
+        let expected: &[u8] = match place {
+            1 => log,
+            17 => other,
+            2 | 18 | 25 => NEIGHBOUR,
+            _ => &[],
+        };
+        if disks.bytes(place) != expected {
+            return false;
+        }
+    }
+    true
+}
+
+// The commands that open the log of centre 1.
+const OPENING: [&[&str]; 3] = [&["dump", "1"], &["node", "1", "3"], &["cluster", "3"]];
+
+// Each of them refuses a log in these areas, which have no frame that is torn. Nothing is printed, all disks are as they were, and no
+// call of the link is made, of which the first would fail: what waits there waits.
 fn refuses(
+    rt: &impl Abort,
+    alloc: Global,
+    input: &str,
+    log: &[u8],
+    other: &[u8],
+    err: &str,
+    status: u8,
+) -> Result<(), Fail> {
+    for words in OPENING {
+        let mut disks = neighbours_of(alloc, log, other)?;
+        let mut link = MemoryLink::new(alloc, &[1])?;
+        link.put(17, b"waits")?;
+        let ran = run_on(alloc, words, input, &NO_FAULTS, &mut disks, &mut link)?;
+        assert!(rt; ran.is("", err, status), "{err}");
+        assert!(rt; are_kept(&disks, log, other), "{err}");
+        assert!(rt; link.waits(17) && link.sent(0).is_none(), "{err}");
+    }
+    Ok(())
+}
+
+// The same where these areas are no log, or the log of no node.
+fn refuses_log(
     rt: &impl Abort,
     alloc: Global,
     log: &[u8],
     other: &[u8],
     err: &str,
 ) -> Result<(), Fail> {
-    check(rt, alloc, log, other, "", err, 9)?;
-    let ran = run_on_log(alloc, &["node", "1", "3"], SMALL, log, other)?;
-    assert!(rt; ran.is("", err, 9), "{err}");
-    Ok(())
+    refuses(rt, alloc, SMALL, log, other, err, 9)
 }
 
 // Another beginning; a frame that does not end, and one that is too long; two areas of one generation; an area whose last gate is away.
@@ -135,23 +192,23 @@ fn what_is_no_log(rt: HostRuntime) -> Result<(), Fail> {
     let alloc = rt.alloc();
     let mut long = BOOTED;
     long[11] = 33;
-    refuses(
+    refuses_log(
         &rt,
         alloc,
         b"something else",
         &[],
         "mdcc: log 1: NotALog 0\n",
     )?;
-    refuses(&rt, alloc, &BOOTED[..18], &[], "mdcc: log 1: NotALog 8\n")?;
-    refuses(&rt, alloc, &long, &[], "mdcc: log 1: NotALog 8\n")?;
-    refuses(
+    refuses_log(&rt, alloc, &BOOTED[..18], &[], "mdcc: log 1: NotALog 8\n")?;
+    refuses_log(&rt, alloc, &long, &[], "mdcc: log 1: NotALog 8\n")?;
+    refuses_log(
         &rt,
         alloc,
         &BOOTED_AREA,
         &BOOTED_AREA,
         "mdcc: log 1: NotALog 9\n",
     )?;
-    refuses(
+    refuses_log(
         &rt,
         alloc,
         &BOOTED,
@@ -166,14 +223,14 @@ fn what_is_the_log_of_no_node(rt: HostRuntime) -> Result<(), Fail> {
     let alloc = rt.alloc();
     let mut second = BOOTED;
     second[14] = 2;
-    refuses(&rt, alloc, &second, &[], "mdcc: log 1: NotARun 1\n")?;
+    refuses_log(&rt, alloc, &second, &[], "mdcc: log 1: NotARun 1\n")?;
     let mut other = BOOTED;
     other[13] = 7;
-    refuses(&rt, alloc, &other, &[], "mdcc: log 1: NotARun 1\n")?;
+    refuses_log(&rt, alloc, &other, &[], "mdcc: log 1: NotARun 1\n")?;
     let mut again = Vec::new(alloc);
     again.extend_from_slice(&BOOTED[..18])?;
     again.extend_from_slice(&BOOTED[8..])?;
-    refuses(&rt, alloc, &again, &[], "mdcc: log 1: NotARun 2\n")
+    refuses_log(&rt, alloc, &again, &[], "mdcc: log 1: NotARun 2\n")
 }
 
 // The boot takes a cell, the vote two, the commit one, and the next boot one.
@@ -187,10 +244,7 @@ fn cells_that_a_log_needs(rt: HostRuntime) -> Result<(), Fail> {
         (4, "mdcc: limit cells 5\n"),
     ] {
         let few = format!(in alloc; "{front},\"cells\":{cells}}}")?;
-        let dumped = run_on_log(alloc, &["dump", "1"], few.as_str(), &log, &[])?;
-        assert!(rt; dumped.is("", err, 11), "{cells}");
-        let served = run_on_log(alloc, &["node", "1", "1"], few.as_str(), &log, &[])?;
-        assert!(rt; served.is("", err, 11), "{cells}");
+        refuses(&rt, alloc, few.as_str(), &log, &[], err, 11)?;
     }
     Ok(())
 }

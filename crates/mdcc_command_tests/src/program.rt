@@ -4,7 +4,7 @@ ghost use Rattle.std.specs.Prelude.{◌≡◌, IfOk};
 use crate::runs::{new_disks, run_over};
 use mdcc_base::{Memory, MemorySink, MemorySource};
 use mdcc_disks::{Disks, MemoryDisks};
-use mdcc_link::MemoryLink;
+use mdcc_link::{Link, MemoryLink};
 use std::alloc::Global;
 use std::test::Fail;
 
@@ -33,12 +33,13 @@ pub(crate) const NO_FAULTS: Scripts<'static> = Scripts {
     link: &[],
 };
 
-/// What a run wrote and answered.
+/// What a run wrote and answered, and whether the disks of all centres but the first have no bytes then.
 #[derive(Drop)]
 pub(crate) struct Ran {
     pub status: u8,
     pub out: MemorySink,
     pub err: MemorySink,
+    pub others_empty: bool,
 }
 
 impl Ran {
@@ -68,6 +69,16 @@ pub(crate) fn disks_of(alloc: Global, log: &[u8], other: &[u8]) -> Result<Memory
     Ok(disks)
 }
 
+// Whether the disks of all centres but the first have no bytes.
+fn are_others_empty(disks: &MemoryDisks) -> bool {
+    for place in 1..26u8 {
+        if place != 1 && place != 17 && !disks.bytes(place).is_empty() {
+            return false;
+        }
+    }
+    true
+}
+
 // The words, each in memory of its own.
 fn words_of(alloc: Global, words: &[&str]) -> Result<Vec<String>, Memory> {
     let mut all = Vec::new(alloc);
@@ -78,13 +89,13 @@ fn words_of(alloc: Global, words: &[&str]) -> Result<Vec<String>, Memory> {
 }
 
 /// Runs the program with these words and this input.
-pub(crate) fn run_on(
+pub(crate) fn run_on<L: Link>(
     alloc: Global,
     words: &[&str],
     input: &str,
     scripts: &Scripts,
     disks: &mut MemoryDisks,
-    link: &mut MemoryLink,
+    link: &mut L,
 ) -> Result<Ran, Fail>
     requires { disks.old.count ≡ 25 }
 {
@@ -93,7 +104,13 @@ pub(crate) fn run_on(
     let mut out = MemorySink::new(alloc, scripts.writes)?;
     let mut err = MemorySink::new(alloc, &[])?;
     let status = run_over(alloc, &words, &mut source, &mut out, &mut err, disks, link);
-    Ok(Ran { status, out, err })
+    let others_empty = are_others_empty(disks);
+    Ok(Ran {
+        status,
+        out,
+        err,
+        others_empty,
+    })
 }
 
 /// Runs the program over empty disks and a link where one datagram may wait for the client of centre 1.

@@ -4,7 +4,7 @@ ghost use Rattle.std.specs.Prelude.{◌≡◌, IfOk};
 use mdcc_base::{Memory, MemorySink, MemorySource};
 use mdcc_command::run;
 use mdcc_disks::MemoryDisks;
-use mdcc_link::MemoryLink;
+use mdcc_link::{Link, MemoryLink};
 use std::alloc::Global;
 
 /// Empty disks of nine centres, of which the calls of these numbers fail.
@@ -15,14 +15,14 @@ pub fn new_disks(alloc: Global, script: &[u32]) -> Result<MemoryDisks, Memory>
 }
 
 /// The status that the program ends with over such disks.
-pub fn run_over(
+pub fn run_over<L: Link>(
     alloc: Global,
     words: &[String],
     source: &mut MemorySource,
     out: &mut MemorySink,
     err: &mut MemorySink,
     disks: &mut MemoryDisks,
-    link: &mut MemoryLink,
+    link: &mut L,
 ) -> u8
     requires { disks.old.count ≡ 25 }
 {

@@ -7,7 +7,7 @@ use Rattle.mdcc_log_file.specs.declared.fault.LogFault.{LogFault}
 use Rattle.mdcc_base.specs.declared.source.ReadAllFault.{ReadAllFault}
 use Rattle.mdcc_config.specs.declared.config.Config.{Config}
 use Rattle.mdcc_disks.specs.Disks.{Disk}
-use Rattle.mdcc_dump.proofs.Refused.{needed_in, spare_of}
+use Rattle.mdcc_centre.proofs.Unbooted.{needed_in, spare_of}
 use Rattle.mdcc_dump.specs.Commands.{DumpCompletes, DumpEndsByLog, Dumps, DumpsOne, RunsDump, as_done}
 use Rattle.mdcc_dump.specs.Dumps.{IsDumped, dump_text}
 use Rattle.mdcc_dump.specs.declared.fault.DumpFault.{DumpFault}
@@ -15,7 +15,8 @@ use Rattle.mdcc_endings.proofs.Accepted.{IsUnlucky, accepted, from_true, status_
 use Rattle.mdcc_endings.proofs.LogEnds.{ends_by_logs, ends_unlucky}
 use Rattle.mdcc_endings.specs.Completions.{CompletesAs, IsStill}
 use Rattle.mdcc_endings.specs.Endings.{status_after}
-use Rattle.mdcc_endings.specs.Logs.{EndsByLogs, booted, cells_of, node_at}
+use Rattle.mdcc_endings.specs.Logs.{EndsByLogs, node_at}
+use Rattle.mdcc_centre.specs.Nodes.{booted, cells_of}
 use Rattle.mdcc_endings.specs.declared.fault.Failure.{Failure}
 use Rattle.mdcc_index.specs.Stores.{Represents}
 use Rattle.mdcc_messages.specs.Spelling.{encodings_of}
@@ -23,9 +24,9 @@ use Rattle.mdcc_messages.specs.declared.facts.Fact.{Fact}
 use Rattle.mdcc_option.specs.declared.cluster.Cluster.{Cluster}
 use Rattle.mdcc_protocol.specs.Belongs.{is_centre}
 use Rattle.mdcc_protocol.specs.Facts.{epoch_of}
-use Rattle.mdcc_restart.proofs.Starts.{boot-ends}
-use Rattle.mdcc_restart.specs.Logged.{AreLogged}
-use Rattle.mdcc_restart.specs.declared.fault.RestartFault.{RestartFault}
+use Rattle.mdcc_centre.proofs.Starts.{boot-ends}
+use Rattle.mdcc_centre.specs.Logged.{AreLogged}
+use Rattle.mdcc_centre.specs.declared.fault.StartFault.{StartFault}
 use Rattle.mdcc_rules.specs.declared.node.BootFault.{BootFault}
 
 pub still_disks : {D : Type 0} (disk : D → ℕ → Disk) (old new : D) (a : ℕ) → ((p : ℕ) → IsStill (disk old p).faults (disk new p).faults) → RoseAtOne (disk old a) (disk new a) (disk old (a + 16)) (disk new (a + 16)) → ⊥
@@ -92,18 +93,18 @@ module _ {D O : Type 0} (disk : D → ℕ → Disk) (held : O → Option (List �
         result_ends : (result : Result (Unit {0}) DumpFault) → dumped ≡ as_done centre result → IsDumped cluster (encodings_of facts) result (held out_old) (held out_new) → CompletesAs status Whole Limit
         result_ends (Ok done) is dump =
             inl (status_done done status (subst (λ (r : Result (Unit {0}) Failure). (status ≡ status_after r) ⊎ IsTrue (is_err r && status == 10)) is status_is), dump.1)
-        result_ends (Err (DumpFault.Log (RestartFault.Log LogFault.DiskFault))) is dump = absurd (disk_still centre is)
-        result_ends (Err (DumpFault.Log (RestartFault.Log (LogFault.NotALog n)))) is dump = absurd dump.0
-        result_ends (Err (DumpFault.Log (RestartFault.Log LogFault.LogFull))) is dump = absurd dump.0
-        result_ends (Err (DumpFault.Log (RestartFault.Log LogFault.Memory))) is dump = absurd dump.0
-        result_ends (Err (DumpFault.Log (RestartFault.Boot BootFault.Memory))) is dump = absurd dump.0
-        result_ends (Err (DumpFault.Log (RestartFault.Boot BootFault.Epochs))) is dump = absurd (not_epochs cluster facts are below dump.0)
-        result_ends (Err (DumpFault.Log (RestartFault.Boot (BootFault.NotARun n)))) is dump = absurd (not_none cluster facts are below n dump.0)
-        result_ends (Err (DumpFault.Log (RestartFault.Boot (BootFault.Room needed cells)))) is dump = elim (status_failed dumped (Failure.Boot centre (BootFault.Room needed cells)) status is status_is) [
+        result_ends (Err (DumpFault.Log (StartFault.Log LogFault.DiskFault))) is dump = absurd (disk_still centre is)
+        result_ends (Err (DumpFault.Log (StartFault.Log (LogFault.NotALog n)))) is dump = absurd dump.0
+        result_ends (Err (DumpFault.Log (StartFault.Log LogFault.LogFull))) is dump = absurd dump.0
+        result_ends (Err (DumpFault.Log (StartFault.Log LogFault.Memory))) is dump = absurd dump.0
+        result_ends (Err (DumpFault.Log (StartFault.Boot BootFault.Memory))) is dump = absurd dump.0
+        result_ends (Err (DumpFault.Log (StartFault.Boot BootFault.Epochs))) is dump = absurd (not_epochs cluster facts are below dump.0)
+        result_ends (Err (DumpFault.Log (StartFault.Boot (BootFault.NotARun n)))) is dump = absurd (not_none cluster facts are below n dump.0)
+        result_ends (Err (DumpFault.Log (StartFault.Boot (BootFault.Room needed cells)))) is dump = elim (status_failed dumped (Failure.Boot centre (BootFault.Room needed cells)) status is status_is) [
           | inl e ↦ inr (inr (e, (needed, cells, dump.0)))
           | inr ten ↦ inr (inl ten)
         ]
-        result_ends (Err (DumpFault.Log RestartFault.Memory)) is dump = memory_ends Whole Limit is
+        result_ends (Err (DumpFault.Log StartFault.Memory)) is dump = memory_ends Whole Limit is
         result_ends (Err DumpFault.Output) is dump = absurd (output_still is)
         result_ends (Err DumpFault.Memory) is dump = memory_ends Whole Limit is
 

@@ -4,7 +4,8 @@ use Rattle.std.specs.Io.KnownBytes.{Appends}
 use Rattle.std.proofs.KnownBytes.{Appends-nil}
 use Rattle.mdcc_log_file.specs.declared.fault.LogFault.{LogFault}
 use Rattle.mdcc_disks.specs.Disks.{Disk}
-use Rattle.mdcc_dump.specs.Dumps.{HasBooted, IsDumped, IsPrinting, IsRefused, IsUndumped, IsUnopened, Keeps, KeepsLog, MayFail, MayOpen, dump_text, of_restart, of_writing, payload_lines, read_lines}
+use Rattle.mdcc_dump.specs.Dumps.{IsDumped, IsPrinting, IsUndumped, IsUnopened, KeepsLog, MayFail, dump_text, of_restart, of_writing, payload_lines, read_lines}
+use Rattle.mdcc_centre.specs.Opening.{HasBooted, IsUnbooted, Keeps, MayOpen}
 use Rattle.mdcc_dump.specs.Texts.{fact_lines}
 use Rattle.mdcc_dump.specs.declared.fault.DumpFault.{DumpFault}
 use Rattle.mdcc_admission.specs.Loading.{fact_in}
@@ -15,8 +16,8 @@ use Rattle.mdcc_option.specs.declared.cluster.Cluster.{Cluster}
 use Rattle.mdcc_replay.proofs.Fronts.{nothing_written}
 use Rattle.mdcc_replay.specs.Writing.{Front}
 use Rattle.mdcc_replay.specs.declared.writing.Failure.{Failure}
-use Rattle.mdcc_restart.specs.Restarting.{IsUnread}
-use Rattle.mdcc_restart.specs.declared.fault.RestartFault.{RestartFault}
+use Rattle.mdcc_centre.specs.Starting.{IsUnread}
+use Rattle.mdcc_centre.specs.declared.fault.StartFault.{StartFault}
 
 -- ---- one payload
 
@@ -34,45 +35,45 @@ output_failed Failure.Memory e = absurd (cc)
 
 -- ---- no log was opened, or it gives no node
 
-pub refused_dump : (cluster : Cluster) (all : List (List ℕ)) (fault : RestartFault) (held : Option (List ℕ)) → IsRefused cluster all fault → IsDumped cluster all (Err (of_restart fault)) held held
-refused_dump cluster all (RestartFault.Log fault) held h = (h, Appends-nil held)
-refused_dump cluster all (RestartFault.Boot fault) held h = (h, Appends-nil held)
-refused_dump cluster all RestartFault.Memory held h = nothing_written held (dump_text all)
+pub refused_dump : (cluster : Cluster) (all : List (List ℕ)) (fault : StartFault) (held : Option (List ℕ)) → IsUnbooted cluster all fault → IsDumped cluster all (Err (of_restart fault)) held held
+refused_dump cluster all (StartFault.Log fault) held h = (h, Appends-nil held)
+refused_dump cluster all (StartFault.Boot fault) held h = (h, Appends-nil held)
+refused_dump cluster all StartFault.Memory held h = nothing_written held (dump_text all)
 
-pub may_fail : (fault : RestartFault) (held : Option (List ℕ)) → MayOpen fault → MayFail held held (of_restart fault)
-may_fail (RestartFault.Log fault) held h = (h, Appends-nil held)
-may_fail (RestartFault.Boot fault) held h = (h, Appends-nil held)
-may_fail RestartFault.Memory held h = tt
+pub may_fail : (fault : StartFault) (held : Option (List ℕ)) → MayOpen fault → MayFail held held (of_restart fault)
+may_fail (StartFault.Log fault) held h = (h, Appends-nil held)
+may_fail (StartFault.Boot fault) held h = (h, Appends-nil held)
+may_fail StartFault.Memory held h = tt
 
-pub log_fault : (fault other : RestartFault) → of_restart fault ≡ DumpFault.Log other → fault ≡ other
-log_fault (RestartFault.Log fault) other e = cc
-log_fault (RestartFault.Boot fault) other e = cc
-log_fault RestartFault.Memory other e = absurd (cc)
+pub log_fault : (fault other : StartFault) → of_restart fault ≡ DumpFault.Log other → fault ≡ other
+log_fault (StartFault.Log fault) other e = cc
+log_fault (StartFault.Boot fault) other e = cc
+log_fault StartFault.Memory other e = absurd (cc)
 
-pub no_output : (fault : RestartFault) → of_restart fault ≡ DumpFault.Output → ⊥
-no_output (RestartFault.Log fault) e = absurd (cc)
-no_output (RestartFault.Boot fault) e = absurd (cc)
-no_output RestartFault.Memory e = absurd (cc)
+pub no_output : (fault : StartFault) → of_restart fault ≡ DumpFault.Output → ⊥
+no_output (StartFault.Log fault) e = absurd (cc)
+no_output (StartFault.Boot fault) e = absurd (cc)
+no_output StartFault.Memory e = absurd (cc)
 
-kept_opening_at : (T U : Type 0) (fault : RestartFault) (kept : Type 0) → Keeps {T = T} (Err fault) kept → KeepsLog {T = U} (Err (of_restart fault)) kept
-kept_opening_at T U (RestartFault.Log LogFault.DiskFault) kept h = tt
-kept_opening_at T U (RestartFault.Log (LogFault.NotALog n)) kept h = h
-kept_opening_at T U (RestartFault.Log LogFault.LogFull) kept h = h
-kept_opening_at T U (RestartFault.Log LogFault.Memory) kept h = h
-kept_opening_at T U (RestartFault.Boot fault) kept h = h
-kept_opening_at T U RestartFault.Memory kept h = h
+kept_opening_at : (T U : Type 0) (fault : StartFault) (kept : Type 0) → Keeps {T = T} (Err fault) kept → KeepsLog {T = U} (Err (of_restart fault)) kept
+kept_opening_at T U (StartFault.Log LogFault.DiskFault) kept h = tt
+kept_opening_at T U (StartFault.Log (LogFault.NotALog n)) kept h = h
+kept_opening_at T U (StartFault.Log LogFault.LogFull) kept h = h
+kept_opening_at T U (StartFault.Log LogFault.Memory) kept h = h
+kept_opening_at T U (StartFault.Boot fault) kept h = h
+kept_opening_at T U StartFault.Memory kept h = h
 
-pub kept_opening : {T U : Type 0} (opened : Result T RestartFault) (result : Result U DumpFault) (fault : RestartFault) (kept : Type 0) → opened ≡ Err fault → result ≡ Err (of_restart fault)
+pub kept_opening : {T U : Type 0} (opened : Result T StartFault) (result : Result U DumpFault) (fault : StartFault) (kept : Type 0) → opened ≡ Err fault → result ≡ Err (of_restart fault)
     → Keeps opened kept → KeepsLog result kept
 kept_opening {T = T} {U = U} opened result fault kept was is h =
-    rw is (kept_opening_at T U fault kept (subst (λ (r : Result T RestartFault). Keeps r kept) was h))
+    rw is (kept_opening_at T U fault kept (subst (λ (r : Result T StartFault). Keeps r kept) was h))
 
-undumped : {D : Type 0} (n me : ℕ) (disk : D → ℕ → Disk) (old new : D) (fault : RestartFault) → IsUnread n fault me disk old new → IsUndumped n (of_restart fault) me disk old new
-undumped n me disk old new (RestartFault.Log fault) h = h
-undumped n me disk old new (RestartFault.Boot fault) h = h
-undumped n me disk old new RestartFault.Memory h = h
+undumped : {D : Type 0} (n me : ℕ) (disk : D → ℕ → Disk) (old new : D) (fault : StartFault) → IsUnread n fault me disk old new → IsUndumped n (of_restart fault) me disk old new
+undumped n me disk old new (StartFault.Log fault) h = h
+undumped n me disk old new (StartFault.Boot fault) h = h
+undumped n me disk old new StartFault.Memory h = h
 
-pub unopened : {D : Type 0} (n me : ℕ) (disk : D → ℕ → Disk) (old new : D) (fault : RestartFault) (held : Option (List ℕ)) → IsUnread n fault me disk old new
+pub unopened : {D : Type 0} (n me : ℕ) (disk : D → ℕ → Disk) (old new : D) (fault : StartFault) (held : Option (List ℕ)) → IsUnread n fault me disk old new
     → IsUnopened n me disk old new (Err (of_restart fault)) held held
 unopened n me disk old new fault held h = record { fault = undumped n me disk old new fault h; output = Appends-nil held }
 
@@ -99,7 +100,7 @@ printing_fails (Err DumpFault.Output) before after h = tt
 printing_fails (Err DumpFault.Memory) before after h = tt
 
 -- a log is not refused by printing
-pub no_log_fault : (result : Result (Unit {0}) DumpFault) (fault : RestartFault) → IfErr result IsPrinting → IsErrOf result (DumpFault.Log fault) → ⊥
+pub no_log_fault : (result : Result (Unit {0}) DumpFault) (fault : StartFault) → IfErr result IsPrinting → IsErrOf result (DumpFault.Log fault) → ⊥
 no_log_fault (Ok done) fault h e = absurd (cc)
 no_log_fault (Err (DumpFault.Log other)) fault h e = absurd h
 no_log_fault (Err DumpFault.Output) fault h e = absurd (cc)
@@ -107,11 +108,11 @@ no_log_fault (Err DumpFault.Memory) fault h e = absurd (cc)
 
 pub kept_printing : (result : Result (Unit {0}) DumpFault) (kept : Type 0) → kept → KeepsLog result kept
 kept_printing (Ok done) kept h = h
-kept_printing (Err (DumpFault.Log (RestartFault.Log LogFault.DiskFault))) kept h = tt
-kept_printing (Err (DumpFault.Log (RestartFault.Log (LogFault.NotALog n)))) kept h = h
-kept_printing (Err (DumpFault.Log (RestartFault.Log LogFault.LogFull))) kept h = h
-kept_printing (Err (DumpFault.Log (RestartFault.Log LogFault.Memory))) kept h = h
-kept_printing (Err (DumpFault.Log (RestartFault.Boot fault))) kept h = h
-kept_printing (Err (DumpFault.Log RestartFault.Memory)) kept h = h
+kept_printing (Err (DumpFault.Log (StartFault.Log LogFault.DiskFault))) kept h = tt
+kept_printing (Err (DumpFault.Log (StartFault.Log (LogFault.NotALog n)))) kept h = h
+kept_printing (Err (DumpFault.Log (StartFault.Log LogFault.LogFull))) kept h = h
+kept_printing (Err (DumpFault.Log (StartFault.Log LogFault.Memory))) kept h = h
+kept_printing (Err (DumpFault.Log (StartFault.Boot fault))) kept h = h
+kept_printing (Err (DumpFault.Log StartFault.Memory)) kept h = h
 kept_printing (Err DumpFault.Output) kept h = h
 kept_printing (Err DumpFault.Memory) kept h = h

@@ -10,16 +10,16 @@ use Rattle.mdcc_dump.specs.declared.fault.DumpFault.{DumpFault}
 use Rattle.mdcc_endings.specs.Readings.{GivesConfig, IsEarly}
 use Rattle.mdcc_endings.specs.declared.fault.Failure.{Failure}
 use Rattle.mdcc_protocol.specs.Belongs.{is_centre}
-use Rattle.mdcc_restart.specs.declared.fault.RestartFault.{RestartFault}
+use Rattle.mdcc_centre.specs.declared.fault.StartFault.{StartFault}
 
 -- ---- what a dump was
 
 -- it is not refused before the disks are asked
 none_early : (P : Type 0) (centre : ℕ) (result : Result (Unit {0}) DumpFault) → IfErr (as_done centre result) (λ failure. IsEarly failure → P)
 none_early P centre (Ok done) = tt
-none_early P centre (Err (DumpFault.Log (RestartFault.Log fault))) = λ h. absurd h
-none_early P centre (Err (DumpFault.Log (RestartFault.Boot fault))) = λ h. absurd h
-none_early P centre (Err (DumpFault.Log RestartFault.Memory)) = λ h. absurd h
+none_early P centre (Err (DumpFault.Log (StartFault.Log fault))) = λ h. absurd h
+none_early P centre (Err (DumpFault.Log (StartFault.Boot fault))) = λ h. absurd h
+none_early P centre (Err (DumpFault.Log StartFault.Memory)) = λ h. absurd h
 none_early P centre (Err DumpFault.Output) = λ h. absurd h
 none_early P centre (Err DumpFault.Memory) = λ h. absurd h
 
@@ -28,39 +28,39 @@ not_early P centre result done is = subst (λ (r : Result (Unit {0}) Failure). I
 
 pub no_link : (centre : ℕ) (result : Result (Unit {0}) DumpFault) → as_done centre result ≡ Err Failure.Link → ⊥
 no_link centre (Ok done) e = absurd (cc)
-no_link centre (Err (DumpFault.Log (RestartFault.Log fault))) e = absurd (cc)
-no_link centre (Err (DumpFault.Log (RestartFault.Boot fault))) e = absurd (cc)
-no_link centre (Err (DumpFault.Log RestartFault.Memory)) e = absurd (cc)
+no_link centre (Err (DumpFault.Log (StartFault.Log fault))) e = absurd (cc)
+no_link centre (Err (DumpFault.Log (StartFault.Boot fault))) e = absurd (cc)
+no_link centre (Err (DumpFault.Log StartFault.Memory)) e = absurd (cc)
 no_link centre (Err DumpFault.Output) e = absurd (cc)
 no_link centre (Err DumpFault.Memory) e = absurd (cc)
 
 pub no_input : (centre : ℕ) (result : Result (Unit {0}) DumpFault) → as_done centre result ≡ Err (Failure.Input ReadAllFault.Failed) → ⊥
 no_input centre (Ok done) e = absurd (cc)
-no_input centre (Err (DumpFault.Log (RestartFault.Log fault))) e = absurd (cc)
-no_input centre (Err (DumpFault.Log (RestartFault.Boot fault))) e = absurd (cc)
-no_input centre (Err (DumpFault.Log RestartFault.Memory)) e = absurd (cc)
+no_input centre (Err (DumpFault.Log (StartFault.Log fault))) e = absurd (cc)
+no_input centre (Err (DumpFault.Log (StartFault.Boot fault))) e = absurd (cc)
+no_input centre (Err (DumpFault.Log StartFault.Memory)) e = absurd (cc)
 no_input centre (Err DumpFault.Output) e = absurd (cc)
 no_input centre (Err DumpFault.Memory) e = absurd (cc)
 
 -- a disk failed in it
 pub disk_dumped : (centre a : ℕ) (result : Result (Unit {0}) DumpFault) → as_done centre result ≡ Err (Failure.Log a LogFault.DiskFault)
-    → (centre ≡ a) × IsErrOf result (DumpFault.Log (RestartFault.Log LogFault.DiskFault))
+    → (centre ≡ a) × IsErrOf result (DumpFault.Log (StartFault.Log LogFault.DiskFault))
 disk_dumped centre a (Ok done) e = absurd (cc)
-disk_dumped centre a (Err (DumpFault.Log (RestartFault.Log fault))) e =
+disk_dumped centre a (Err (DumpFault.Log (StartFault.Log fault))) e =
     let same : Failure.Log centre fault ≡ Failure.Log a LogFault.DiskFault = cc in
     let failed : fault ≡ LogFault.DiskFault = cc in
     (cc, rw failed refl)
-disk_dumped centre a (Err (DumpFault.Log (RestartFault.Boot fault))) e = absurd (cc)
-disk_dumped centre a (Err (DumpFault.Log RestartFault.Memory)) e = absurd (cc)
+disk_dumped centre a (Err (DumpFault.Log (StartFault.Boot fault))) e = absurd (cc)
+disk_dumped centre a (Err (DumpFault.Log StartFault.Memory)) e = absurd (cc)
 disk_dumped centre a (Err DumpFault.Output) e = absurd (cc)
 disk_dumped centre a (Err DumpFault.Memory) e = absurd (cc)
 
 -- the output failed in it
 pub output_dumped : (centre : ℕ) (result : Result (Unit {0}) DumpFault) → as_done centre result ≡ Err Failure.Output → IsErrOf result DumpFault.Output
 output_dumped centre (Ok done) e = absurd (cc)
-output_dumped centre (Err (DumpFault.Log (RestartFault.Log fault))) e = absurd (cc)
-output_dumped centre (Err (DumpFault.Log (RestartFault.Boot fault))) e = absurd (cc)
-output_dumped centre (Err (DumpFault.Log RestartFault.Memory)) e = absurd (cc)
+output_dumped centre (Err (DumpFault.Log (StartFault.Log fault))) e = absurd (cc)
+output_dumped centre (Err (DumpFault.Log (StartFault.Boot fault))) e = absurd (cc)
+output_dumped centre (Err (DumpFault.Log StartFault.Memory)) e = absurd (cc)
 output_dumped centre (Err DumpFault.Output) e = refl
 output_dumped centre (Err DumpFault.Memory) e = absurd (cc)
 

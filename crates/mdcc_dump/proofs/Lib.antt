@@ -4,5 +4,4 @@ pub mod Ended
 pub mod Facts
 pub mod Places
 pub mod Printed
-pub mod Refused
 pub mod Said

@@ -1,47 +1,17 @@
 -- What a dump does at the disks.
-use Rattle.std.proofs.Common.{◌≡◌, ◌∙◌, ◌+◌, Err, List, Ok, OnOk, Result, ap, arith, inl, refl, subst, sym, ℕ}
+use Rattle.std.proofs.Common.{◌≡◌, ◌∙◌, ◌+◌, Err, List, Ok, OnOk, Result, ap, arith, inl, length, refl, subst, sym, ℕ}
 use Rattle.mdcc_log.specs.Area.{payloads}
 use Rattle.mdcc_log.specs.Both.{KeepsBut}
 use Rattle.mdcc_log.specs.Opening.{OpensOne}
-use Rattle.mdcc_disks.specs.Disks.{Disk}
-use Rattle.mdcc_dump.specs.Dumps.{OnlyOpens, StaysAsLog}
-
-on_any : {U F P : Type 0} (result : Result U F) → P → OnOk result P
-on_any (Ok x) p = p
-on_any (Err e) p = tt
-
-at_err : {U F : Type 0} (P : Type 0) (result : Result U F) (fault : F) → result ≡ Err fault → OnOk result P
-at_err {U} {F} P result fault is = subst (λ (r : Result U F). OnOk r P) (sym is) tt
-
-at_ok : {T E U F : Type 0} (P : Type 0) (opened : Result T E) (result : Result U F) (log : T) → opened ≡ Ok log → OnOk opened P → OnOk result P
-at_ok {T} {E} {U} {F} P opened result log is all = on_any result (subst (λ (r : Result T E). OnOk r P) is all)
-
-module _ {D : Type 0} (disk : D → ℕ → Disk) (may_leave : D → ℕ → List ℕ → Type 0) (moment : D → ℕ) (left_since : D → ℕ → ℕ → List ℕ → Type 0) (tears : ℕ → Type 0) (old new : D) where
-  module _ {T E U F : Type 0} (opened : Result T E) (result : Result U F) where
-    -- the log was not opened, or it was given up
-    broke_one : (fault : F) (place which : ℕ) (first second : List ℕ) → result ≡ Err fault
-        → OpensOne disk may_leave moment left_since tears old new place which first second opened → OpensOne disk may_leave moment left_since tears old new place which first second result
-    broke_one fault place which first second is one = record { any_moment = one.any_moment; some_calls = one.some_calls; all_calls = at_err _ result fault is }
-
-    pub opens_broke : (a : ℕ) (fault : F) → result ≡ Err fault → OnlyOpens disk may_leave moment left_since tears old new a opened → OnlyOpens disk may_leave moment left_since tears old new a result
-    opens_broke a fault is opens told told_other =
-        let both = opens told told_other in (
-          broke_one fault a 0 (disk old a).bytes (disk old (a + 16)).bytes is both.0,
-          broke_one fault (a + 16) 1 (disk old a).bytes (disk old (a + 16)).bytes is both.1,
-        )
-
-    -- it was opened
-    whole_one : (log : T) (place which : ℕ) (first second : List ℕ) → opened ≡ Ok log
-        → OpensOne disk may_leave moment left_since tears old new place which first second opened → OpensOne disk may_leave moment left_since tears old new place which first second result
-    whole_one log place which first second is one =
-        record { any_moment = one.any_moment; some_calls = one.some_calls; all_calls = at_ok _ opened result log is one.all_calls }
-
-    pub opens_whole : (a : ℕ) (log : T) → opened ≡ Ok log → OnlyOpens disk may_leave moment left_since tears old new a opened → OnlyOpens disk may_leave moment left_since tears old new a result
-    opens_whole a log is opens told told_other =
-        let both = opens told told_other in (
-          whole_one log a 0 (disk old a).bytes (disk old (a + 16)).bytes is both.0,
-          whole_one log (a + 16) 1 (disk old a).bytes (disk old (a + 16)).bytes is both.1,
-        )
+use Rattle.mdcc_disks.specs.Disks.{Disk, DiskCall}
+use Rattle.mdcc_dump.specs.Commands.{as_done, of_dump}
+use Rattle.mdcc_centre.proofs.Opens.{opens_broke, opens_whole}
+use Rattle.mdcc_centre.specs.Opening.{OnlyOpens, StaysAsLog}
+use Rattle.mdcc_dump.specs.declared.fault.DumpFault.{DumpFault}
+use Rattle.mdcc_endings.specs.declared.fault.Failure.{Failure}
+use Rattle.mdcc_log.specs.Frames.{open_calls}
+use Rattle.mdcc_log_file.proofs.ReadCalls.{none_made}
+use Rattle.mdcc_log_file.specs.Calls.{ReadsAll}
 
 -- where nothing was done its log stands
 pub stays_unchanged : {D : Type 0} (disk : D → ℕ → Disk) (may_leave : D → ℕ → List ℕ → Type 0) (moment : D → ℕ) (left_since : D → ℕ → ℕ → List ℕ → Type 0) (tears : ℕ → Type 0)
@@ -66,3 +36,32 @@ but_unchanged disk may_leave moment left_since old one two = record {
   faults_one = omega arith;
   faults_two = omega arith;
 }
+
+-- there is nothing where it failed
+none_whole : {U F : Type 0} (P : Type 0) (result : Result U F) (fault : F) → result ≡ Err fault → OnOk result P
+none_whole {U} {F} P result fault is = subst (λ (r : Result U F). OnOk r P) (sym is) tt
+
+-- and none of the calls of an opening was made
+pub opens_none : {D : Type 0} (disk : D → ℕ → Disk) (may_leave : D → ℕ → List ℕ → Type 0) (moment : D → ℕ) (left_since : D → ℕ → ℕ → List ℕ → Type 0) (tears : ℕ → Type 0)
+    → ((disks : D) (p : ℕ) (c : List ℕ) → left_since disks p (moment disks) c → may_leave disks p c)
+    → (old : D) (a : ℕ) {U F : Type 0} (result : Result U F) (fault : F) → result ≡ Err fault → OnlyOpens disk may_leave moment left_since tears old old a result
+opens_none disk may_leave moment left_since tears only_now old a result fault is told told_other = (none_at a 0, none_at (a + 16) 1)
+  where
+    calls_at : ℕ → ℕ → List ℕ → List DiskCall
+    calls_at place which counts = open_calls which (disk old a).bytes (disk old (a + 16)).bytes (disk old place).bytes counts
+
+    none_at : (place which : ℕ) → OpensOne disk may_leave moment left_since tears old old place which (disk old a).bytes (disk old (a + 16)).bytes result
+    none_at place which = record {
+      any_moment = record { later = omega arith; each = λ c left. inl (only_now old place c left); before = λ t c early left. inl left };
+      some_calls = none_made (length (disk old place).bytes) (calls_at place which) (disk old place).calls;
+      all_calls = none_whole (ReadsAll (length (disk old place).bytes) (calls_at place which) (disk old place).calls (disk old place).calls) result fault is;
+    }
+
+-- a dump as a command has it made the same calls
+pub opens_done : {D : Type 0} (disk : D → ℕ → Disk) (may_leave : D → ℕ → List ℕ → Type 0) (moment : D → ℕ) (left_since : D → ℕ → ℕ → List ℕ → Type 0) (tears : ℕ → Type 0) (old new : D)
+    → (centre : ℕ) (result : Result (Unit {0}) DumpFault) (done : Result (Unit {0}) Failure) → done ≡ as_done centre result
+    → OnlyOpens disk may_leave moment left_since tears old new centre result → OnlyOpens disk may_leave moment left_since tears old new centre done
+opens_done disk may_leave moment left_since tears old new centre (Ok all) done is opens =
+    opens_whole disk may_leave moment left_since tears old new (let ok : Result (Unit {0}) DumpFault = Ok all in ok) done centre all refl opens
+opens_done disk may_leave moment left_since tears old new centre (Err fault) done is opens =
+    opens_broke disk may_leave moment left_since tears old new (let err : Result (Unit {0}) DumpFault = Err fault in err) done centre (of_dump centre fault) is opens

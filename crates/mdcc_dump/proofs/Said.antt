@@ -7,11 +7,12 @@ use Rattle.mdcc_disks.specs.Disks.{Disk}
 use Rattle.mdcc_dump.specs.Commands.{as_done, of_dump}
 use Rattle.mdcc_dump.specs.Dumps.{IsDumped, IsUndumped, IsUnopened}
 use Rattle.mdcc_dump.specs.declared.fault.DumpFault.{DumpFault}
-use Rattle.mdcc_endings.specs.Logs.{ComesBefore, IsFirstRefused, IsTold, LogRefusal, SaysLogs, SaysRefused, booted, node_at, node_from, node_of, refusal_failure}
+use Rattle.mdcc_endings.specs.Logs.{ComesBefore, IsFirstRefused, IsTold, LogRefusal, SaysLogs, SaysRefused, node_at, node_from, node_of, refusal_failure}
+use Rattle.mdcc_centre.specs.Nodes.{booted}
 use Rattle.mdcc_endings.specs.declared.fault.Failure.{Failure}
 use Rattle.mdcc_messages.specs.declared.facts.Fact.{Fact}
 use Rattle.mdcc_option.specs.declared.cluster.Cluster.{Cluster}
-use Rattle.mdcc_restart.specs.declared.fault.RestartFault.{RestartFault}
+use Rattle.mdcc_centre.specs.declared.fault.StartFault.{StartFault}
 use Rattle.mdcc_rules.specs.declared.node.BootFault.{BootFault}
 
 no_node : (r : Result (List Fact) LogRefusal) (why : LogRefusal) → r ≡ Err why → IsTrue (is_ok r) → ⊥
@@ -51,7 +52,7 @@ module _ (node : ℕ → Result (List Fact) LogRefusal) (centre : ℕ) where
   }
 
   -- a disk failed
-  disk_says : SaysLogs node centre centre (as_done centre (Err (DumpFault.Log (RestartFault.Log LogFault.DiskFault))))
+  disk_says : SaysLogs node centre centre (as_done centre (Err (DumpFault.Log (StartFault.Log LogFault.DiskFault))))
   disk_says = record { says = tt; refused = λ a why refused. inr (let same = alone a why refused in (omega arith, omega (same, arith))) }
 
   -- there was no memory
@@ -86,18 +87,18 @@ module _ {D : Type 0} (disk : D → ℕ → Disk) (cluster : Cluster) (disks new
 
       by : (result : Result (Unit {0}) DumpFault) → IsDumped cluster all result before after → SaysLogs node centre centre (as_done centre result)
       by (Ok done) dumped = done_says node centre done (ok dumped.0.0 dumped.0.1)
-      by (Err (DumpFault.Log (RestartFault.Log LogFault.DiskFault))) dumped = disk_says node centre
-      by (Err (DumpFault.Log (RestartFault.Log (LogFault.NotALog n)))) dumped = absurd dumped.0
-      by (Err (DumpFault.Log (RestartFault.Log LogFault.LogFull))) dumped = absurd dumped.0
-      by (Err (DumpFault.Log (RestartFault.Log LogFault.Memory))) dumped = absurd dumped.0
-      by (Err (DumpFault.Log (RestartFault.Boot BootFault.Memory))) dumped = absurd dumped.0
-      by (Err (DumpFault.Log (RestartFault.Boot BootFault.Epochs))) dumped =
-          refused_says node centre (DumpFault.Log (RestartFault.Boot BootFault.Epochs)) (LogRefusal.NoNode BootFault.Epochs) refl (first node centre (LogRefusal.NoNode BootFault.Epochs) (none BootFault.Epochs dumped.0)) (none BootFault.Epochs dumped.0)
-      by (Err (DumpFault.Log (RestartFault.Boot (BootFault.NotARun n)))) dumped =
-          refused_says node centre (DumpFault.Log (RestartFault.Boot (BootFault.NotARun n))) (LogRefusal.NoNode (BootFault.NotARun n)) refl (first node centre (LogRefusal.NoNode (BootFault.NotARun n)) (none (BootFault.NotARun n) dumped.0)) (none (BootFault.NotARun n) dumped.0)
-      by (Err (DumpFault.Log (RestartFault.Boot (BootFault.Room needed cells)))) dumped =
-          refused_says node centre (DumpFault.Log (RestartFault.Boot (BootFault.Room needed cells))) (LogRefusal.NoNode (BootFault.Room needed cells)) refl (first node centre (LogRefusal.NoNode (BootFault.Room needed cells)) (none (BootFault.Room needed cells) dumped.0)) (none (BootFault.Room needed cells) dumped.0)
-      by (Err (DumpFault.Log RestartFault.Memory)) dumped = memory_says node centre (DumpFault.Log RestartFault.Memory) refl
+      by (Err (DumpFault.Log (StartFault.Log LogFault.DiskFault))) dumped = disk_says node centre
+      by (Err (DumpFault.Log (StartFault.Log (LogFault.NotALog n)))) dumped = absurd dumped.0
+      by (Err (DumpFault.Log (StartFault.Log LogFault.LogFull))) dumped = absurd dumped.0
+      by (Err (DumpFault.Log (StartFault.Log LogFault.Memory))) dumped = absurd dumped.0
+      by (Err (DumpFault.Log (StartFault.Boot BootFault.Memory))) dumped = absurd dumped.0
+      by (Err (DumpFault.Log (StartFault.Boot BootFault.Epochs))) dumped =
+          refused_says node centre (DumpFault.Log (StartFault.Boot BootFault.Epochs)) (LogRefusal.NoNode BootFault.Epochs) refl (first node centre (LogRefusal.NoNode BootFault.Epochs) (none BootFault.Epochs dumped.0)) (none BootFault.Epochs dumped.0)
+      by (Err (DumpFault.Log (StartFault.Boot (BootFault.NotARun n)))) dumped =
+          refused_says node centre (DumpFault.Log (StartFault.Boot (BootFault.NotARun n))) (LogRefusal.NoNode (BootFault.NotARun n)) refl (first node centre (LogRefusal.NoNode (BootFault.NotARun n)) (none (BootFault.NotARun n) dumped.0)) (none (BootFault.NotARun n) dumped.0)
+      by (Err (DumpFault.Log (StartFault.Boot (BootFault.Room needed cells)))) dumped =
+          refused_says node centre (DumpFault.Log (StartFault.Boot (BootFault.Room needed cells))) (LogRefusal.NoNode (BootFault.Room needed cells)) refl (first node centre (LogRefusal.NoNode (BootFault.Room needed cells)) (none (BootFault.Room needed cells) dumped.0)) (none (BootFault.Room needed cells) dumped.0)
+      by (Err (DumpFault.Log StartFault.Memory)) dumped = memory_says node centre (DumpFault.Log StartFault.Memory) refl
       by (Err DumpFault.Output) dumped = output_says node centre (ok dumped.0.0 dumped.0.1)
       by (Err DumpFault.Memory) dumped = memory_says node centre DumpFault.Memory refl
 
@@ -110,14 +111,14 @@ module _ {D : Type 0} (disk : D → ℕ → Disk) (cluster : Cluster) (disks new
 
       by : (result : Result (Unit {0}) DumpFault) → IsErrAnd result (λ fault. IsUndumped n fault centre disk disks new) → SaysLogs node centre centre (as_done centre result)
       by (Ok done) undumped = absurd undumped
-      by (Err (DumpFault.Log (RestartFault.Log LogFault.DiskFault))) undumped = disk_says node centre
-      by (Err (DumpFault.Log (RestartFault.Log (LogFault.NotALog m)))) undumped =
+      by (Err (DumpFault.Log (StartFault.Log LogFault.DiskFault))) undumped = disk_says node centre
+      by (Err (DumpFault.Log (StartFault.Log (LogFault.NotALog m)))) undumped =
           let its_node : node centre ≡ Err (LogRefusal.NotALog m) = node_is ∙ ap (λ (k : ℕ). let err : Result (List Fact) LogRefusal = Err (LogRefusal.NotALog k) in err) (sym undumped.0) in
-          refused_says node centre (DumpFault.Log (RestartFault.Log (LogFault.NotALog m))) (LogRefusal.NotALog m) refl (first node centre (LogRefusal.NotALog m) its_node) its_node
-      by (Err (DumpFault.Log (RestartFault.Log LogFault.LogFull))) undumped = absurd undumped
-      by (Err (DumpFault.Log (RestartFault.Log LogFault.Memory))) undumped = absurd undumped
-      by (Err (DumpFault.Log (RestartFault.Boot why))) undumped = absurd undumped
-      by (Err (DumpFault.Log RestartFault.Memory)) undumped = memory_says node centre (DumpFault.Log RestartFault.Memory) refl
+          refused_says node centre (DumpFault.Log (StartFault.Log (LogFault.NotALog m))) (LogRefusal.NotALog m) refl (first node centre (LogRefusal.NotALog m) its_node) its_node
+      by (Err (DumpFault.Log (StartFault.Log LogFault.LogFull))) undumped = absurd undumped
+      by (Err (DumpFault.Log (StartFault.Log LogFault.Memory))) undumped = absurd undumped
+      by (Err (DumpFault.Log (StartFault.Boot why))) undumped = absurd undumped
+      by (Err (DumpFault.Log StartFault.Memory)) undumped = memory_says node centre (DumpFault.Log StartFault.Memory) refl
       by (Err DumpFault.Output) undumped = absurd undumped
       by (Err DumpFault.Memory) undumped = memory_says node centre DumpFault.Memory refl
 

@@ -5,25 +5,27 @@ use Rattle.mdcc_log.specs.Area.{payloads}
 use Rattle.mdcc_config.specs.declared.config.Config.{Config}
 use Rattle.mdcc_disks.specs.Disks.{Disk}
 use Rattle.mdcc_dump.specs.Dumps.{IsDumped, IsUnopened, KeepsLog, MayFail, dump_text}
+use Rattle.mdcc_centre.specs.Opening.{OnlyOpens, StaysAsLog}
 use Rattle.mdcc_dump.specs.declared.fault.DumpFault.{DumpFault}
 use Rattle.mdcc_endings.specs.Completions.{CompletesAs}
 use Rattle.mdcc_endings.specs.Endings.{Ends}
-use Rattle.mdcc_endings.specs.Logs.{EndsByLogs, IsTold, SaysLogs, booted, node_at}
+use Rattle.mdcc_endings.specs.Logs.{EndsByLogs, IsTold, SaysLogs, node_at}
+use Rattle.mdcc_centre.specs.Nodes.{booted}
 use Rattle.mdcc_endings.specs.Readings.{GivesConfig, IsRead}
 use Rattle.mdcc_endings.specs.declared.fault.Failure.{Failure}
 use Rattle.mdcc_messages.specs.Spelling.{encodings_of}
 use Rattle.mdcc_messages.specs.declared.facts.Fact.{Fact}
 use Rattle.mdcc_protocol.specs.Belongs.{is_centre}
 use Rattle.mdcc_protocol.specs.Facts.{epoch_of}
-use Rattle.mdcc_restart.specs.Logged.{AreLogged}
-use Rattle.mdcc_restart.specs.declared.fault.RestartFault.{RestartFault}
+use Rattle.mdcc_centre.specs.Logged.{AreLogged}
+use Rattle.mdcc_centre.specs.declared.fault.StartFault.{StartFault}
 use Rattle.mdcc_rules.specs.declared.node.BootFault.{BootFault}
 
 -- a fault at this centre as a command has it
 abbrev pub of_dump : ℕ → DumpFault → Failure
-of_dump centre (DumpFault.Log (RestartFault.Log fault)) = Failure.Log centre fault
-of_dump centre (DumpFault.Log (RestartFault.Boot fault)) = Failure.Boot centre fault
-of_dump centre (DumpFault.Log RestartFault.Memory) = Failure.Memory
+of_dump centre (DumpFault.Log (StartFault.Log fault)) = Failure.Log centre fault
+of_dump centre (DumpFault.Log (StartFault.Boot fault)) = Failure.Boot centre fault
+of_dump centre (DumpFault.Log StartFault.Memory) = Failure.Memory
 of_dump centre DumpFault.Output = Failure.Output
 of_dump centre DumpFault.Memory = Failure.Memory
 
@@ -67,14 +69,6 @@ module _ {D O : Type 0} (disk : D → ℕ → Disk) (held : O → Option (List �
     pub gives : GivesConfig input read
     pub dumps : Dumps read centre dumped
 
-  -- The command ended as its dump did.
-  pub record DoesDump (left : Option (List ℕ)) (centre status : ℕ) (err_before err_after : Option (List ℕ)) (faults_before faults_after : ℕ) : Type 0 where
-    pub dumped : Result (Unit {0}) Failure
-    pub ends : Ends dumped status err_before err_after faults_before faults_after
-    pub runs : IfSome left (λ input. RunsDump input centre dumped)
-    -- the disks of other centres are as they were, whatever the input is
-    pub others : (p : ℕ) → p ≢ centre → p ≢ centre + 16 → disk disks_new p ≡ disk disks_old p
-
   -- ---- over an accepted configuration with this centre, whose disks tell their bytes
 
   -- the status by its log
@@ -89,3 +83,14 @@ module _ {D O : Type 0} (disk : D → ℕ → Disk) (held : O → Option (List �
       (input : List ℕ) (config : Config) (facts : List Fact) → left ≡ Some input → IsRead input (Ok config) → is_centre config.cluster centre ≡ true → IsTold disk disks_old centre
       → payloads (disk disks_old centre).bytes (disk disks_old (centre + 16)).bytes ≡ Ok (encodings_of facts) → AreLogged config.cluster facts → epoch_of facts < 2 ^ 32 - 1
       → CompletesAs status (Appends (held out_old) (held out_new) (dump_text (encodings_of facts))) ((needed : ℕ) × (cells : ℕ) × (booted config.cluster (encodings_of facts) ≡ Err (BootFault.Room needed cells)))
+
+module _ {D O : Type 0} (disk : D → ℕ → Disk) (may_leave : D → ℕ → List ℕ → Type 0) (moment : D → ℕ) (left_since : D → ℕ → ℕ → List ℕ → Type 0) (tears : ℕ → Type 0) (held : O → Option (List ℕ)) (disks_old disks_new : D) (out_old out_new : O) where
+  -- The command ended as its dump did. Whatever the input is, at the disks of this centre calls of an opening were made and no others,
+  -- its log stands after a crash at any moment of it, and the disks of other centres are as they were.
+  pub record DoesDump (left : Option (List ℕ)) (centre status : ℕ) (err_before err_after : Option (List ℕ)) (faults_before faults_after : ℕ) : Type 0 where
+    pub dumped : Result (Unit {0}) Failure
+    pub ends : Ends dumped status err_before err_after faults_before faults_after
+    pub runs : IfSome left (λ input. RunsDump disk held disks_old disks_new out_old out_new input centre dumped)
+    pub opens : OnlyOpens disk may_leave moment left_since tears disks_old disks_new centre dumped
+    pub any_moment : StaysAsLog disk may_leave moment left_since tears disks_old disks_new centre
+    pub others : (p : ℕ) → p ≢ centre → p ≢ centre + 16 → disk disks_new p ≡ disk disks_old p

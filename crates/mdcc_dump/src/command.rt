@@ -7,7 +7,7 @@ ghost use Rattle.mdcc_log_file.specs.declared.fault.LogFault.{LogFault as ALogFa
 ghost use Rattle.mdcc_base.specs.Causes.{Rose};
 ghost use Rattle.mdcc_base.specs.declared.source.ReadAllFault.{ReadAllFault as AReadAllFault};
 ghost use Rattle.mdcc_dump.specs.Commands.{DoesDump, DumpCompletes, DumpEndsByLog, RunsDump, Untouched, as_done, of_dump};
-ghost use Rattle.mdcc_dump.specs.Dumps.{StaysAsLog};
+ghost use Rattle.mdcc_centre.specs.Opening.{OnlyOpens, StaysAsLog};
 ghost use Rattle.mdcc_endings.specs.Completions.{IsStill};
 ghost use Rattle.mdcc_endings.specs.Endings.{is_ending};
 ghost use Rattle.mdcc_endings.specs.Readings.{IsEarly};
@@ -17,9 +17,9 @@ ghost use Rattle.mdcc_replay.specs.Writing.{Tells};
 
 use crate::{DumpFault, dump};
 use mdcc_base::{Centre, Sink, Source};
+use mdcc_centre::StartFault;
 use mdcc_disks::Disks;
 use mdcc_endings::{Failure, centre_of, config_from, finish};
-use mdcc_restart::RestartFault;
 use std::alloc::Global;
 
 // A fault at a centre as a command has it.
@@ -27,9 +27,9 @@ fn of_dump(centre: Centre, fault: DumpFault) -> Failure
     ensures { result ≡ of_dump centre fault }
 {
     match fault {
-        DumpFault::Log(RestartFault::Log(fault)) => Failure::Log(centre, fault),
-        DumpFault::Log(RestartFault::Boot(fault)) => Failure::Boot(centre, fault),
-        DumpFault::Log(RestartFault::Memory) => Failure::Memory,
+        DumpFault::Log(StartFault::Log(fault)) => Failure::Log(centre, fault),
+        DumpFault::Log(StartFault::Boot(fault)) => Failure::Boot(centre, fault),
+        DumpFault::Log(StartFault::Memory) => Failure::Memory,
         DumpFault::Output => Failure::Output,
         DumpFault::Memory => Failure::Memory,
     }
@@ -61,6 +61,7 @@ fn dump_one<S: Source, D: Disks, O: Sink>(
         → RoseAtOne (D.disk disks.old number) (D.disk disks.new number) (D.disk disks.old (number + 16)) (D.disk disks.new (number + 16)) }
     ensures output { IsErrOf result AFailure.Output → Rose (O.faults out.old) (O.faults out.new) }
     ensures any_moment { StaysAsLog D.disk D.may_leave D.moment D.left_since D.tears disks.old disks.new number }
+    ensures opens { OnlyOpens D.disk D.may_leave D.moment D.left_since D.tears disks.old disks.new number result }
     ensures others { KeepsBut D.disk D.may_leave D.moment D.left_since disks.old disks.new number (number + 16) }
 {
     let config = config_from(alloc, source)?;
@@ -79,7 +80,7 @@ pub fn run_dump<S: Source, O: Sink, E: Sink, D: Disks>(
     err: &mut E,
     disks: &mut D,
 ) -> u8
-    ensures does { DoesDump D.disk O.held disks.old disks.new out.old out.new
+    ensures does { DoesDump D.disk D.may_leave D.moment D.left_since D.tears O.held disks.old disks.new out.old out.new
         (S.left source.old) centre result (E.held err.old) (E.held err.new) (E.faults err.old) (E.faults err.new) }
     ensures status { IsTrue (is_ending result) }
     ensures quiet { result ≡ 0 → Appends (E.held err.old) (E.held err.new) [] }

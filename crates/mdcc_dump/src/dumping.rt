@@ -7,16 +7,17 @@ ghost use Rattle.mdcc_log.specs.Area.{payloads};
 ghost use Rattle.mdcc_log.specs.Both.{KeepsBut, RoseAtOne};
 ghost use Rattle.mdcc_log_file.specs.declared.fault.LogFault.{LogFault as ALogFault};
 ghost use Rattle.mdcc_base.specs.Causes.{Rose};
-ghost use Rattle.mdcc_dump.specs.Dumps.{AreFacts, IsDumped, IsPrinting, IsUnopened, KeepsLog, MayFail, OnlyOpens, StaysAsLog, dump_text, payload_lines};
+ghost use Rattle.mdcc_dump.specs.Dumps.{IsDumped, IsPrinting, IsUnopened, KeepsLog, MayFail, dump_text, payload_lines};
+ghost use Rattle.mdcc_centre.specs.Opening.{AreFacts, OnlyOpens, StaysAsLog};
 ghost use Rattle.mdcc_dump.specs.declared.fault.DumpFault.{DumpFault as ADumpFault};
 ghost use Rattle.mdcc_protocol.specs.Belongs.{is_centre};
 ghost use Rattle.mdcc_replay.specs.Writing.{Front};
-ghost use Rattle.mdcc_restart.specs.declared.fault.RestartFault.{RestartFault as ARestartFault};
+ghost use Rattle.mdcc_centre.specs.declared.fault.StartFault.{StartFault as AStartFault};
 
 use crate::DumpFault;
 use crate::lines::write_fact;
-use crate::opening::open;
 use mdcc_base::{Centre, HeapList, Sink};
+use mdcc_centre::open;
 use mdcc_disks::Disks;
 use mdcc_journal::decode_fact;
 use mdcc_option::Cluster;
@@ -105,7 +106,7 @@ pub fn dump<D: Disks, O: Sink>(
 
     // The other faults have their causes; memory may lack at any time.
     ensures causes { IfErr result (MayFail (O.held out.old) (O.held out.new)) }
-    ensures disk { IsErrOf result (ADumpFault.Log (ARestartFault.Log ALogFault.DiskFault))
+    ensures disk { IsErrOf result (ADumpFault.Log (AStartFault.Log ALogFault.DiskFault))
         → RoseAtOne (D.disk disks.old centre) (D.disk disks.new centre) (D.disk disks.old (centre + 16)) (D.disk disks.new (centre + 16)) }
     ensures output { IsErrOf result ADumpFault.Output → Rose (O.faults out.old) (O.faults out.new) }
 

@@ -3,26 +3,26 @@ ghost use Rattle.std.specs.Prelude.{◌≡◌};
 ghost use Rattle.mdcc_dump.specs.Dumps.{of_restart, of_writing};
 ghost use Rattle.mdcc_dump.specs.declared.fault.DumpFault.TheVariants as faults;
 
+use mdcc_centre::StartFault;
 use mdcc_replay::Failure;
-use mdcc_restart::RestartFault;
 use std::alloc::AllocError;
 
 #[derive(Clone, Copy, Debug, PartialEq, Eq)]
 pub enum DumpFault {
     /// The log was not opened, or gives no node.
-    Log(RestartFault),
+    Log(StartFault),
     /// A write to the output failed.
     Output,
     /// There was no memory.
     Memory,
 }
 
-impl From<RestartFault> for DumpFault {
+impl From<StartFault> for DumpFault {
     ghost from_gives = { λ fault e. e ≡ of_restart fault };
 
-    fn from(fault: RestartFault) -> DumpFault {
+    fn from(fault: StartFault) -> DumpFault {
         match fault {
-            RestartFault::Memory => DumpFault::Memory,
+            StartFault::Memory => DumpFault::Memory,
             fault => DumpFault::Log(fault),
         }
     }

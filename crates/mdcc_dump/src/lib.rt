@@ -5,7 +5,6 @@ pub mod command;
 pub mod dumping;
 pub mod fault;
 mod lines;
-mod opening;
 
 pub use command::run_dump;
 pub use dumping::dump;

@@ -4,9 +4,8 @@ use Rattle.std.specs.List.{AllByRecursion}
 use Rattle.std.proofs.lemmas.Bool.{cases_Bool}
 use Rattle.mdcc_admission.specs.Boots.{BootsWithinCells}
 use Rattle.mdcc_admission.specs.Loading.{AreShort, Cells, Holds, boot_by, fact_in, fact_read, is_past, loaded_by, next_by, past_fault}
-use Rattle.mdcc_endings.specs.Logs.{cells_of}
+use Rattle.mdcc_centre.specs.Nodes.{CentreStore, IsNodeOf, are_stored, cells_of, needed_in, spare_of}
 use Rattle.mdcc_ledger.specs.BootTest.{is_allowed_fact}
-use Rattle.mdcc_site.specs.Nodes.{CentreStore, IsNodeOf, are_stored, needed_in, spare_of}
 use Rattle.mdcc_messages.specs.Lengths.{cells_needed, fact_length}
 use Rattle.mdcc_messages.specs.Reading.{fact_of}
 use Rattle.mdcc_messages.specs.Spelling.{encodings_of, fact_bytes}
@@ -20,9 +19,9 @@ use Rattle.mdcc_protocol.specs.Belongs.{is_centre}
 use Rattle.mdcc_protocol.specs.Facts.{epoch_of}
 use Rattle.mdcc_protocol.specs.IsCluster.{IsCluster}
 use Rattle.mdcc_protocol.specs.Volatile.{initial_volatile}
-use Rattle.mdcc_restart.proofs.Logged.{payloads-read}
-use Rattle.mdcc_restart.proofs.Starts.{boot-ends, node-boots}
-use Rattle.mdcc_restart.specs.Logged.{AreLogged}
+use Rattle.mdcc_centre.proofs.Logged.{payloads-read}
+use Rattle.mdcc_centre.proofs.Starts.{boot-ends, node-boots}
+use Rattle.mdcc_centre.specs.Logged.{AreLogged}
 use Rattle.mdcc_rules.specs.Boot.{boot_of, next_boot}
 use Rattle.mdcc_rules.specs.declared.node.BootFault.{BootFault}
 use Rattle.mdcc_serve.specs.Starts.{GivesNode, GivesNone, boot_fault_of}

@@ -1,18 +1,14 @@
 -- What several centres do, one after another.
-use Rattle.std.proofs.Common.{◌≡◌, ℕ, ◌^◌, ◌≤◌, ◌<◌, Bool, true, false, List, [], ◌∷◌, ◌++◌, length, refl, sym, ◌∙◌, ap, subst, inl, inr, arith, IsTrue, append_assoc}
-use Rattle.std.proofs.lemmas.Bool.{cases_Bool, le-leb, leb-true}
+use Rattle.std.proofs.Common.{◌≡◌, ℕ, ◌≤◌, ◌<◌, List, [], ◌∷◌, ◌++◌, length, refl, sym, ◌∙◌, ap, subst, arith, append_assoc}
 use Rattle.std.specs.List.{AllByRecursion}
-use Rattle.std.specs.Prelude.{nat_le, ◌||◌}
 use Rattle.mdcc_config.specs.declared.config.Config.{Config}
-use Rattle.mdcc_outbox.proofs.Recorded.{answers_append}
-use Rattle.mdcc_runs.specs.Acts.{Act, but_answers}
+use Rattle.mdcc_runs.specs.Acts.{Act}
 use Rattle.mdcc_runs.specs.Sending.{persist_then_send}
 use Rattle.mdcc_runs.specs.Servers.{Server, persist_all_then_send, turns_of}
 use Rattle.mdcc_runs.specs.Sites.{Doing, Site}
 use Rattle.mdcc_runs.specs.Turns.{Given, turn_of}
 use Rattle.mdcc_serve.specs.Centres.{Ascend}
 use Rattle.mdcc_site.proofs.Owns.{IsWhole, Owns, persist_owns, turn_owns}
-use Rattle.mdcc_site.specs.Causes.{is_past_serials}
 
 -- ---- what each does
 
@@ -94,17 +90,6 @@ pub front_none : {A : Type 0} (xs ys : List A) → xs ++ ys ≡ [] → xs ≡ []
 front_none [] ys e = refl
 front_none (x ∷ xs) ys e = absurd (cc)
 
-pub now_past : (sent : ℕ) (later : Bool) → 2 ^ 32 ≤ sent → IsTrue (nat_le (2 ^ 32) sent || later)
-now_past sent later past = ap (λ (b : Bool). b || later) (le-leb (2 ^ 32) sent past)
-
-pub later_past : (b : Bool) (sites : List Site) → IsTrue (is_past_serials sites) → IsTrue (b || is_past_serials sites)
-later_past true sites past = refl
-later_past false sites past = past
-
-pub any_past : (xs : List Site) (x : Site) (ys : List Site) → 2 ^ 32 ≤ x.sent → IsTrue (is_past_serials (xs ++ x ∷ ys))
-any_past [] x ys past = now_past x.sent (is_past_serials ys) past
-any_past (y ∷ xs) x ys past = later_past (nat_le (2 ^ 32) y.sent) (xs ++ x ∷ ys) (any_past xs x ys past)
-
 -- how many they are stays, and their numbers
 pub each_long : {G : Type 0} (does : Site → G → Doing) (sites : List Site) (given : List G) → length (each_does does sites given).sites ≡ length sites
 each_long does [] [] = refl
@@ -123,21 +108,6 @@ each_ascend does own n (site ∷ sites) (g ∷ given) ascend =
       subst (λ (m : ℕ). Ascend m (each_does does sites given).sites) (sym e) (each_ascend does own site.centre sites given ascend.2),
     )
 
--- no centre sends less
-still_past : (sent more : ℕ) → sent ≤ more → nat_le (2 ^ 32) sent ≡ true → 2 ^ 32 ≤ more
-still_past sent more later is = let past = leb-true (2 ^ 32) sent is in omega (past, later, arith)
-
-pub each_past : {G : Type 0} (does : Site → G → Doing) → AllOwn does → (sites : List Site) (given : List G) → IsTrue (is_past_serials sites) → IsTrue (is_past_serials (each_does does sites given).sites)
-each_past does own [] [] past = past
-each_past does own [] (g ∷ given) past = past
-each_past does own (site ∷ sites) [] past = past
-each_past does own (site ∷ sites) (g ∷ given) past = elim (cases_Bool (nat_le (2 ^ 32) site.sent)) [
-  | inl e ↦ now_past (does site g).site.sent (is_past_serials (each_does does sites given).sites) (still_past site.sent (does site g).site.sent (own site g).sent e)
-  | inr e ↦
-      let rest : IsTrue (is_past_serials sites) = sym (ap (λ (b : Bool). b || is_past_serials sites) e) ∙ past in
-      later_past (nat_le (2 ^ 32) (does site g).site.sent) (each_does does sites given).sites (each_past does own sites given rest)
-]
-
 -- ---- what is pending at each
 
 abbrev pub AllWhole : List Site → Type 0
@@ -148,14 +118,3 @@ each_whole does own [] [] whole = tt
 each_whole does own [] (g ∷ given) whole = tt
 each_whole does own (site ∷ sites) [] whole = whole
 each_whole does own (site ∷ sites) (g ∷ given) whole = ((own site g).whole whole.0, each_whole does own sites given whole.1)
-
--- ---- acts that no link has answered
-
-pub each_plain : {G : Type 0} (does : Site → G → Doing) → AllOwn does → (sites : List Site) (given : List G) → but_answers (each_does does sites given).acts ≡ (each_does does sites given).acts
-each_plain does own [] [] = refl
-each_plain does own [] (g ∷ given) = refl
-each_plain does own (site ∷ sites) [] = refl
-each_plain does own (site ∷ sites) (g ∷ given) =
-    let first = (does site g).acts in
-    let rest = (each_does does sites given).acts in
-    answers_append first rest ∙ (ap (λ (zs : List Act). zs ++ but_answers rest) (own site g).plain ∙ ap (λ (zs : List Act). first ++ zs) (each_plain does own sites given))

@@ -1,6 +1,5 @@
 -- What a server did, from its start to its end.
-use Rattle.std.proofs.Common.{◌≡◌, ℕ, zero, suc, ◌+◌, ◌≤◌, ◌<◌, ◌^◌, List, [], ◌∷◌, ◌++◌, Option, Some, None, Result, Ok, Err, false, length, map, replicate, take, refl, sym, ◌∙◌, ap, subst, inl, inr, arith, IsTrue, append-nil, append_assoc, zero-add}
-use Rattle.std.proofs.lemmas.List.{length-replicate}
+use Rattle.std.proofs.Common.{◌≡◌, ℕ, zero, suc, ◌+◌, ◌≤◌, ◌<◌, ◌^◌, List, [], ◌∷◌, ◌++◌, Option, Some, None, Result, Ok, Err, length, map, take, refl, sym, ◌∙◌, ap, subst, inl, inr, arith, IsTrue, append-nil, append_assoc, zero-add}
 use Rattle.std.specs.Io.KnownBytes.{Appends}
 use Rattle.std.specs.List.{AllByRecursion, range_with_len}
 use Rattle.std.specs.Prelude.{IfErr, flat_map, fold, ⊤}
@@ -16,36 +15,40 @@ use Rattle.mdcc_messages.specs.declared.facts.Fact.{Fact}
 use Rattle.mdcc_option.specs.declared.cluster.Cluster.{Cluster}
 use Rattle.mdcc_outbox.proofs.Recorded.{answers_append, none_recorded}
 use Rattle.mdcc_outbox.specs.Shows.{Records, calls_of, counted}
-use Rattle.mdcc_restart.proofs.Places.{from_both}
-use Rattle.mdcc_restart.proofs.Struck.{rest_areas}
+use Rattle.mdcc_centre.proofs.Places.{from_both}
+use Rattle.mdcc_centre.proofs.Struck.{rest_areas}
 use Rattle.mdcc_rules.specs.Boot.{next_boot}
 use Rattle.mdcc_runs.specs.Acts.{Act, but_answers, dropped_in, lost_in, printed, steps_in}
+use Rattle.mdcc_runs.specs.Sending.{persist_then_send}
 use Rattle.mdcc_runs.specs.Servers.{Log, Server, after_last, after_turn, boot_line, bound_at, endpoints_of, opened, persist_all_then_send, served, site_of, starts, turns_of}
-use Rattle.mdcc_runs.specs.Sites.{Site}
+use Rattle.mdcc_runs.specs.Sites.{Doing, Site}
 use Rattle.mdcc_runs.specs.Turns.{Given, turn_of}
 use Rattle.mdcc_runs.specs.declared.lines.ServerLine.{ServerLine}
-use Rattle.mdcc_serve.proofs.Doings.{AllWhole, each_plain, turns_are, turns_own}
+use Rattle.mdcc_serve.proofs.Doings.{AllWhole}
 use Rattle.mdcc_serve.proofs.Kept.{facts_or_more}
-use Rattle.mdcc_serve.proofs.Last.{last_grew, last_logs, last_plain, last_told}
-use Rattle.mdcc_serve.proofs.Ready.{keep_more}
+use Rattle.mdcc_serve.proofs.Last.{last_grew, last_logs, last_told}
+use Rattle.mdcc_serve.proofs.Others.{keeps_fewer, keeps_then, unserved_logs}
 use Rattle.mdcc_serve.proofs.Quiet.{opened_facts}
-use Rattle.mdcc_serve.proofs.Repeated.{Grew, ascend_on, begun, each_same, grew_on, whole_on}
+use Rattle.mdcc_serve.proofs.Repeated.{Grew, ascend_on, begun, grew_on, whole_on}
+use Rattle.mdcc_serve.proofs.Rounds.{part_then}
 use Rattle.mdcc_serve.proofs.Started.{comes_told, none_refused}
-use Rattle.mdcc_serve.specs.Centres.{AllFinish, AllLogs, AllStop, AllTold, Ascend, HoldSites, Places, all_seen, places}
-use Rattle.mdcc_serve.specs.Ends.{AllEnd, AllMade, SerialsFit, last_act}
+use Rattle.mdcc_serve.specs.Centres.{AllFinish, AllLogs, AllStop, AllTold, Ascend, HoldSites, Places, TurnsStop, all_seen, places}
+use Rattle.mdcc_serve.specs.Ends.{AllButEnd, AllEnd, AllMade, SerialsFit, last_act}
 use Rattle.mdcc_serve.specs.Openings.{FailsToOpen, HasOpened, KeepLogs}
-use Rattle.mdcc_serve.specs.Serving.{AreLogsOf, BreaksOff, HasSerials, Serves, ServesOrBreaksOff, done_line}
+use Rattle.mdcc_serve.specs.Others.{IsElsewhere, IsUnserved, KeepsElsewhere, KeepsUnserved}
+use Rattle.mdcc_serve.specs.Serving.{AreLogsOf, BreaksOff, HasSerials, Serves, ServesOrBreaksOff}
+use Rattle.mdcc_serve.specs.Stages.{InPart, StopsAt, after_turns, done_line}
 use Rattle.mdcc_serve.specs.Starts.{Follow}
 use Rattle.mdcc_serve.specs.Totals.{counts_of, done_of}
 use Rattle.mdcc_serve.specs.declared.served.Served.{Served}
 use Rattle.mdcc_site.proofs.Going.{comes_under}
-use Rattle.mdcc_site.proofs.Joined.{broke_more, caused_later, comes_more, did_broke, did_then, facts_expected, facts_then, failed_more, full_more, leaves_then, none_added, passes_then, text_more}
+use Rattle.mdcc_site.proofs.Joined.{caused_later, did_broke, did_then, facts_expected, facts_then, leaves_then, none_added, passes_then}
 use Rattle.mdcc_site.proofs.Owns.{turn_owns}
-use Rattle.mdcc_site.specs.Causes.{BootsRefused, ComesAt, IsNoBoot, SerialsEnd, failed_by, in_flight, text_begun}
+use Rattle.mdcc_site.specs.Causes.{BootsRefused, ComesAt, IsNoBoot, failed_by, in_flight, text_begun}
 use Rattle.mdcc_site.specs.Logs.{KeepsFacts, MayHaveFacts, checkpoint_every, facts_after}
 use Rattle.mdcc_site.specs.Moments.{Adds, Broke, Caused, Did, Leaves, Moment, Outside, Passes}
 use Rattle.mdcc_site.specs.Room.{OnFull}
-use Rattle.mdcc_site.specs.SiteState.{HoldsLog, PrintsAll, PrintsSome}
+use Rattle.mdcc_site.specs.SiteState.{HoldsLog, OnSerial, PrintsAll, PrintsSome}
 use Rattle.mdcc_site.specs.declared.fault.ServeFault.{ServeFault}
 use Rattle.mdcc_site.specs.declared.site.Site.{Site as TheSite}
 
@@ -53,14 +56,6 @@ use Rattle.mdcc_site.specs.declared.site.Site.{Site as TheSite}
 
 plain_then : (xs ys : List Act) → but_answers xs ≡ xs → but_answers ys ≡ ys → but_answers (xs ++ ys) ≡ xs ++ ys
 plain_then xs ys one two = answers_append xs ys ∙ (ap (λ (zs : List Act). zs ++ but_answers ys) one ∙ ap (λ (zs : List Act). xs ++ zs) two)
-
-abbrev all_but_first : List Act → List Act
-all_but_first [] = []
-all_but_first (x ∷ xs) = xs
-
-plain_rest : (xs ys : List Act) → but_answers (xs ++ ys) ≡ xs ++ ys → but_answers ys ≡ ys
-plain_rest [] ys is = is
-plain_rest (x ∷ xs) ys is = plain_rest xs ys (ap all_but_first is)
 
 starts_plain : (logs : List Log) → but_answers (starts logs).acts ≡ (starts logs).acts
 starts_plain [] = refl
@@ -84,15 +79,6 @@ opened_plain config logs =
     let sites = (starts logs).sites in
     plain_then (starts logs).acts (flat_map (endpoints_of config) sites ++ flat_map boot_line sites) (starts_plain logs)
     (plain_then (flat_map (endpoints_of config) sites) (flat_map boot_line sites) (flat_plain (endpoints_of config) sites (endpoints_plain config)) (flat_plain boot_line sites (λ site. refl)))
-
-turns_plain : (config : Config) (sites : List Site) (given : List Given) → but_answers (turns_of config sites given).acts ≡ (turns_of config sites given).acts
-turns_plain config sites given =
-    subst (λ (server : Server). but_answers server.acts ≡ server.acts) (sym (turns_are config sites given)) (each_plain (turn_of config) (turns_own config) sites given)
-
-all_plain : (config : Config) (server : Server) (given : List (List Given)) → but_answers server.acts ≡ server.acts → but_answers (fold (after_turn config) server given).acts ≡ (fold (after_turn config) server given).acts
-all_plain config server [] plain = plain
-all_plain config server (turn ∷ more) plain =
-    all_plain config (after_turn config server turn) more (plain_then server.acts (turns_of config server.sites turn).acts plain (turns_plain config server.sites turn))
 
 -- ---- the logs of a cluster
 
@@ -132,6 +118,16 @@ turns_after config acts sites (turn ∷ more) =
 abbrev pub turned : Config → List Log → List (List Given) → Server
 turned config logs given = fold (after_turn config) (begun (map site_of logs)) given
 
+turned_are : (config : Config) (logs : List Log) (given : List (List Given))
+    → after_turns config logs given ≡ record { acts = (opened config logs).acts ++ (turned config logs given).acts; sites = (turned config logs given).sites }
+turned_are config logs given = turns_after config (opened config logs).acts (map site_of logs) given
+
+turned_acts : (config : Config) (logs : List Log) (given : List (List Given)) → (after_turns config logs given).acts ≡ (opened config logs).acts ++ (turned config logs given).acts
+turned_acts config logs given = ap (λ (server : Server). server.acts) (turned_are config logs given)
+
+turned_sites : (config : Config) (logs : List Log) (given : List (List Given)) → (after_turns config logs given).sites ≡ (turned config logs given).sites
+turned_sites config logs given = ap (λ (server : Server). server.sites) (turned_are config logs given)
+
 -- and what goes out after them
 abbrev pub ended : Config → List Log → List (List Given) → Server
 ended config logs given = after_last config (turned config logs given)
@@ -149,17 +145,6 @@ acts_are config logs given = ap (λ (server : Server). server.acts) (served_is c
 
 sites_are : (config : Config) (logs : List Log) (given : List (List Given)) → (served config logs given).sites ≡ (ended config logs given).sites
 sites_are config logs given = ap (λ (server : Server). server.sites) (served_is config logs given)
-
--- so many turns in which nothing comes
-abbrev nothing : Given
-nothing = record { own = None; asked = None; waits = false }
-
-abbrev silent : List Log → ℕ → List (List Given)
-silent logs turns = replicate turns (replicate (length logs) nothing)
-
-silent_each : (logs : List Log) (turns : ℕ) → AllByRecursion (λ turn. length turn ≡ length logs) (silent logs turns)
-silent_each logs turns =
-    each_same (λ (turn : List Given). length turn ≡ length logs) turns (replicate (length logs) nothing) (length-replicate (length logs) nothing)
 
 as_many : (logs : List Log) → length (map site_of logs) ≡ length logs
 as_many [] = refl
@@ -310,65 +295,38 @@ module _ {D L O : Type 0} (w : Outside D L O) where
 
   -- ---- a prefix of the acts was done
 
-  run_breaks : (tears : ℕ → Type 0) (config : Config) (logs : List Log) (turns : ℕ) (given : List (List Given)) → length given ≡ turns → AllByRecursion (λ turn. length turn ≡ length logs) given
-      → (fault : ServeFault) → BootsRefused config.cluster logs fault → SerialsEnd (served config logs given).sites fault → (old new : Places D L O)
-      → Broke w ⊤ (KeepLogs w tears logs fault old.disks new.disks) (served config logs given).acts fault (all_seen old) (all_seen new)
+  breaks : (tears : ℕ → Type 0) (config : Config) (logs : List Log) (turns : ℕ) (fault : ServeFault) (old new : Places D L O) {P : List Act → List Act → Type 0} {expected : List Act}
+      → (broke : Broke w ⊤ P expected fault (all_seen old) (all_seen new)) → BootsRefused config.cluster logs fault → StopsAt config logs turns fault broke.acts broke.rest
+      → KeepLogs w tears logs fault old.disks new.disks broke.acts broke.rest
       → BreaksOff w.disk w.may_leave tears w.calls w.lost w.held config logs turns fault old.disks new.disks old.link new.link old.out new.out
-  run_breaks tears config logs turns given made each fault boots serials old new broke =
-      let more : List Act = Act.Print (done_line turns (broke.acts ++ broke.rest)) ∷ [] in
-      record {
-        acts = broke.acts;
-        rest = broke.rest ++ more;
-        run = record {
-          given = given;
-          turns_made = made;
-          each = each;
-          ran = broke.acts ++ broke.rest;
-          runs = answers_append broke.acts broke.rest ∙ (ap (λ (zs : List Act). but_answers broke.acts ++ zs) rest_plain ∙ broke.are);
-          whole = sym (append_assoc broke.acts broke.rest more);
-        };
-        comes = comes_told ⊤ fault (broke.rest ++ more) tt (comes_more ⊤ fault broke.rest more broke.comes);
-        boots = boots;
-        full = full_more w.disk w.may_leave new.disks ⊤ fault broke.rest more broke.comes broke.full;
-        serials = serials;
-        printed_more = broke.printed_more;
-        left = record {
-          link = subst (λ (cs : List LinkCall). Records (calls_of broke.acts ++ cs) (w.calls old.link) (w.calls new.link)) (sym (failed_more ⊤ fault broke.rest more broke.comes)) broke.left.link;
-          output = subst (λ (text : List ℕ). Appends (w.held old.out) (w.held new.out) (printed broke.acts ++ take broke.printed_more text)) (sym (text_more ⊤ fault broke.rest more broke.comes)) broke.left.output;
-          failed_sends = broke.left.failed_sends;
-        };
-        kept = keep_more w tears logs fault old.disks new.disks broke.acts broke.rest more broke.comes broke.logs;
-      }
-    where
-      plain : but_answers (served config logs given).acts ≡ (served config logs given).acts
-      plain = last_plain config (fold (after_turn config) (opened config logs) given) (all_plain config (opened config logs) given (opened_plain config logs))
-
-      rest_plain : but_answers broke.rest ≡ broke.rest
-      rest_plain = plain_rest (but_answers broke.acts) broke.rest (ap but_answers broke.are ∙ (plain ∙ sym broke.are))
+  breaks tears config logs turns fault old new broke boots stops kept = record {
+    acts = broke.acts;
+    rest = broke.rest;
+    stops = stops;
+    comes = comes_told ⊤ fault broke.rest tt broke.comes;
+    boots = boots;
+    full = broke.full;
+    printed_more = broke.printed_more;
+    left = record { link = broke.left.link; output = broke.left.output; failed_sends = broke.left.failed_sends };
+    kept = kept;
+  }
 
   pub start_breaks : (tears : ℕ → Type 0) (config : Config) (first last turns : ℕ) (fault : ServeFault) (old new : Places D L O) → FailsToOpen w tears config first last fault old new
       → (logs : List Log) → Follow first logs → length logs + first ≡ last + 1 → AreLogsOf w.disk config.cluster old.disks logs
       → BreaksOff w.disk w.may_leave tears w.calls w.lost w.held config logs turns fault old.disks new.disks old.link new.link old.out new.out
   start_breaks tears config first last turns fault old new fails logs follow long are =
       let stop = fails.over logs follow long are in
-      let given = silent logs turns in
-      let more = (ended config logs given).acts in
-      run_breaks tears config logs turns given (length-replicate turns (replicate (length logs) nothing)) (silent_each logs turns) fault stop.boots (fails.serials (served config logs given).sites) old new
-      (subst (λ (acts : List Act). Broke w ⊤ (KeepLogs w tears logs fault old.disks new.disks) acts fault (all_seen old) (all_seen new)) (sym (acts_are config logs given))
-      (broke_more w {Told = ⊤} {P = KeepLogs w tears logs fault old.disks new.disks} more (λ acts rest comes keep. keep_more w tears logs fault old.disks new.disks acts rest more comes keep) stop.broke))
+      breaks tears config logs turns fault old new stop.broke stop.boots (inl (record { runs = stop.broke.are; serials = fails.serials })) stop.broke.logs
 
   -- ---- centres that ran
 
   -- what becomes of centres that run
   abbrev pub EndsFrom : Config → ℕ → Result Served ServeFault → Places D L O → Places D L O → Type 0
   EndsFrom config turns result mid new =
-      (sites : List Site) → HoldSites w config.cluster mid.disks mid.held sites → Ascend 0 sites
-      → (given : List (List Given)) × (length given ≡ turns) × AllByRecursion (λ turn. length turn ≡ length sites) given
-      × AllEnd w config.cluster sites (after_last config (fold (after_turn config) (begun sites) given)) turns result mid new
+      (sites : List Site) → HoldSites w config.cluster mid.disks mid.held sites → Ascend 0 sites → AllEnd w config sites turns result mid new
 
   module _ (tears : ℕ → Type 0) (config : Config) (first turns : ℕ) (logs : List Log) (follow : Follow first logs) (ascend : Ascend 0 (map site_of logs)) (old_disks : D) (old_link : L) (old_out : O) (mid new : Places D L O)
-      (are : AreLogsOf w.disk config.cluster old_disks logs) (finish : AllFinish w config.cluster (opened config logs) (places old_disks [] old_link old_out) mid)
-      (given : List (List Given)) (made : length given ≡ turns) (each : AllByRecursion (λ turn. length turn ≡ length (map site_of logs)) given)
+      (are : AreLogsOf w.disk config.cluster old_disks logs) (finish : AllFinish w config.cluster (opened config logs).sites (opened config logs) (places old_disks [] old_link old_out) mid)
     where
       abbrev first_place : Places D L O
       first_place = places old_disks [] old_link old_out
@@ -376,20 +334,76 @@ module _ {D L O : Type 0} (w : Outside D L O) where
       told_mid : AllTold w mid.disks (map site_of logs)
       told_mid = told_logs config.cluster old_disks mid.disks finish.did.passes.told logs are
 
-      -- it ended before the last line
-      turn_breaks : (fault : ServeFault) → AllStop w (map site_of logs) (ended config logs given) fault mid new
+      -- one ended in its part
+      module _ (fault : ServeFault) (before : List Act) (doing : Doing) (stop : AllStop w (map site_of logs) before doing fault mid new) where
+        -- its log, and what was done
+        abbrev Left : List Act → List Act → Type 0
+        Left acts rest = KeepLogs w tears logs fault old_disks new.disks acts rest × InPart ((opened config logs).acts ++ before) doing.acts acts rest
+
+        part_left : (earlier acts rest : List Act) → but_answers earlier ≡ (opened config logs).acts → AllLogs w (map site_of logs) fault mid.disks new.disks acts rest × InPart before doing.acts acts rest → Left (earlier ++ acts) rest
+        part_left earlier acts rest is q = (
+          (λ durable safe. logs_since fault mid.disks new.disks (opened config logs).acts earlier acts rest is logs (opened_facts config first logs follow) told_mid q.0),
+          part_then (opened config logs).acts before doing.acts earlier acts rest is q.1,
+        )
+
+        part_broke : Broke w ⊤ Left ((opened config logs).acts ++ (before ++ doing.acts)) fault (all_seen first_place) (all_seen new)
+        part_broke =
+            did_broke w {Here = ⊤} {There = AllTold w mid.disks (map site_of logs)} {P = Left}
+            (λ rest comes. comes_under {Here = ⊤} {There = AllTold w mid.disks (map site_of logs)} fault rest (λ here. told_mid) comes)
+            part_left finish.did stop.broke
+
+        -- after these turns
+        part_of : (given : List (List Given)) (own acts rest : List Act) → before ≡ (turned config logs given).acts ++ own → InPart ((opened config logs).acts ++ before) doing.acts acts rest
+            → InPart ((after_turns config logs given).acts ++ own) doing.acts acts rest
+        part_of given own acts rest is part =
+            subst (λ (xs : List Act). InPart xs doing.acts acts rest)
+            (ap (λ (xs : List Act). (opened config logs).acts ++ xs) is
+            ∙ (sym (append_assoc (opened config logs).acts (turned config logs given).acts own) ∙ ap (λ (xs : List Act). xs ++ own) (sym (turned_acts config logs given)))) part
+
+        part_breaks : StopsAt config logs turns fault part_broke.acts part_broke.rest → BreaksOff w.disk w.may_leave tears w.calls w.lost w.held config logs turns fault old_disks new.disks old_link new.link old_out new.out
+        part_breaks stops = breaks tears config logs turns fault first_place new part_broke (none_refused config.cluster logs fault stop.no_boot) stops part_broke.logs.0
+
+      -- in a turn
+      turn_breaks : (fault : ServeFault) → TurnsStop w config (map site_of logs) turns fault mid new
           → BreaksOff w.disk w.may_leave tears w.calls w.lost w.held config logs turns fault old_disks new.disks old_link new.link old_out new.out
-      turn_breaks fault stop =
-          run_breaks tears config logs turns given made (given_each logs given each) fault (none_refused config.cluster logs fault stop.no_boot)
-          (subst (λ (sites : List Site). SerialsEnd sites fault) (sym (sites_are config logs given)) stop.serials) first_place new
-          (subst (λ (acts : List Act). Broke w ⊤ (KeepLogs w tears logs fault old_disks new.disks) acts fault (all_seen first_place) (all_seen new)) (sym (acts_are config logs given))
-          (did_broke w {Here = ⊤} {There = AllTold w mid.disks (map site_of logs)} {P = KeepLogs w tears logs fault old_disks new.disks} {Q = AllLogs w (map site_of logs) fault mid.disks new.disks}
-          (λ rest comes. comes_under {Here = ⊤} {There = AllTold w mid.disks (map site_of logs)} fault rest (λ here. told_mid) comes)
-          (λ before acts rest is all durable safe. logs_since fault mid.disks new.disks (opened config logs).acts before acts rest is logs (opened_facts config first logs follow) told_mid all)
-          finish.did stop.broke))
+      turn_breaks fault it =
+          let at = it.at in
+          let own = (turns_of config at.front at.earlier).acts in
+          let before = (turned config logs it.given).acts ++ own in
+          let doing = turn_of config at.site at.given in
+          let broke = part_broke fault before doing it.stop in
+          part_breaks fault before doing it.stop (inr (inl (record {
+            given = it.given;
+            fewer = it.fewer;
+            each = given_each logs it.given it.each;
+            at = record { front = at.front; site = at.site; back = at.back; are = turned_sites config logs it.given ∙ at.are; earlier = at.earlier; as_many = at.as_many; given = at.given };
+            runs = part_of fault before doing it.stop it.given own broke.acts broke.rest refl broke.logs.1;
+            serials = it.stop.serials;
+          })))
+
+      -- after the last turn
+      end_breaks : (fault : ServeFault) → AllButEnd w config (map site_of logs) turns fault mid new
+          → BreaksOff w.disk w.may_leave tears w.calls w.lost w.held config logs turns fault old_disks new.disks old_link new.link old_out new.out
+      end_breaks fault it =
+          let at = it.at in
+          let own = (persist_all_then_send config at.front).acts in
+          let before = (turned config logs it.given).acts ++ own in
+          let doing = persist_then_send config at.site in
+          let broke = part_broke fault before doing it.stop in
+          part_breaks fault before doing it.stop (inr (inr (inl (record {
+            given = it.given;
+            turns_made = it.turns_made;
+            each = given_each logs it.given it.each;
+            at = record { front = at.front; site = at.site; back = at.back; are = turned_sites config logs it.given ∙ at.are };
+            runs = part_of fault before doing it.stop it.given own broke.acts broke.rest refl broke.logs.1;
+            serials = it.stop.serials;
+          }))))
 
       -- all turns were made, and nothing is pending
-      module _ (out : O) (all : AllMade w config.cluster (ended config logs given) mid new out) where
+      module _ (out : O) (all : AllMade w config (map site_of logs) turns mid new out) where
+        abbrev given : List (List Given)
+        given = all.given
+
         abbrev last_place : Places D L O
         last_place = places new.disks new.held new.link out
 
@@ -405,7 +419,7 @@ module _ {D L O : Type 0} (w : Outside D L O) where
         grew : Grew (ended config logs given).acts (map site_of logs) (ended config logs given).sites
         grew =
             last_grew w config (map site_of logs) (turned config logs given) (ascend_on config (begun (map site_of logs)) given ascend)
-            (whole_on config (begun (map site_of logs)) given (sites_whole logs)) (grew_on w config (map site_of logs) given ascend (sites_whole logs) each)
+            (whole_on config (begun (map site_of logs)) given (sites_whole logs)) (grew_on w config (map site_of logs) given ascend (sites_whole logs) all.each)
 
         line : done_of (counts_of turns new.held) ≡ done_line turns ran.acts
         line = line_is turns new.held ran.acts
@@ -422,7 +436,7 @@ module _ {D L O : Type 0} (w : Outside D L O) where
             leaves_then w ran.left ran.passes (line_left (done_line turns ran.acts) new.disks new.held new.link out new.out prints) (out_passes new.disks new.held new.link out new.out prints.later) in
             record {
               acts = ran.acts ++ Act.Print (done_line turns ran.acts) ∷ [];
-              run = record { given = given; turns_made = made; each = given_each logs given each; ran = ran.acts; runs = ran.are; whole = refl };
+              run = record { given = given; turns_made = all.turns_made; each = given_each logs given all.each; ran = ran.acts; runs = ran.are; whole = refl };
               left = record { link = left.link; output = left.output; failed_sends = left.failed_sends };
               kept = subst (λ (sites : List Site). AllByRecursion (λ site. KeepsFacts w.disk w.may_leave new.disks site.centre site.node.facts) sites) (sym (sites_are config logs given))
                   (logs_keep config.cluster new.disks new.held (ended config logs given).sites all.finish.stand told_last (last_logs config (turned config logs given).sites));
@@ -447,7 +461,17 @@ module _ {D L O : Type 0} (w : Outside D L O) where
             record {
               acts = ran.acts;
               rest = Act.Print (done_line turns ran.acts) ∷ [];
-              run = record { given = given; turns_made = made; each = given_each logs given each; ran = ran.acts; runs = ran.are; whole = refl };
+              stops = inr (inr (inr (record {
+                given = given;
+                turns_made = all.turns_made;
+                each = given_each logs given all.each;
+                runs = ran.are;
+                line = refl;
+                serials = elim prints.comes [
+                  | inl none ↦ subst (λ (f : ServeFault). OnSerial f 0) (sym none.0) tt
+                  | inr failed ↦ subst (λ (f : ServeFault). OnSerial f 0) (sym failed.0) tt
+                ];
+              })));
               comes = elim prints.comes [
                 | inl none ↦ subst (λ (f : ServeFault). ComesAt f (Act.Print (done_line turns ran.acts) ∷ [])) (sym none.0) tt
                 | inr failed ↦ subst (λ (f : ServeFault). ComesAt f (Act.Print (done_line turns ran.acts) ∷ [])) (sym failed.0) tt
@@ -460,10 +484,6 @@ module _ {D L O : Type 0} (w : Outside D L O) where
                 | inl none ↦ subst (λ (f : ServeFault). OnFull w.disk w.may_leave new.disks f (Act.Print (done_line turns ran.acts) ∷ [])) (sym none.0) tt
                 | inr failed ↦ subst (λ (f : ServeFault). OnFull w.disk w.may_leave new.disks f (Act.Print (done_line turns ran.acts) ∷ [])) (sym failed.0) tt
               ];
-              serials = elim prints.comes [
-                | inl none ↦ subst (λ (f : ServeFault). SerialsEnd (served config logs given).sites f) (sym none.0) tt
-                | inr failed ↦ subst (λ (f : ServeFault). SerialsEnd (served config logs given).sites f) (sym failed.0) tt
-              ];
               printed_more = prints.more;
               left = record { link = done.link; output = done.output; failed_sends = done.failed_sends };
               kept = λ durable safe.
@@ -471,11 +491,12 @@ module _ {D L O : Type 0} (w : Outside D L O) where
                   logs new.held (ended config logs given).sites (opened_facts config first logs follow) told_new grew all.finish.stand;
             }
 
-      ends : (result : Result Served ServeFault) → AllEnd w config.cluster (map site_of logs) (ended config logs given) turns result mid new
+      ends : (result : Result Served ServeFault) → AllEnd w config (map site_of logs) turns result mid new
           → ServesOrBreaksOff w.disk w.may_leave tears w.calls w.lost w.held config logs turns result old_disks new.disks old_link new.link old_out new.out
       ends (Ok result) tell = run_serves tell.out tell.made result tell.counts tell.tells
-      ends (Err fault) (inl stop) = turn_breaks fault stop
-      ends (Err fault) (inr but) = line_breaks but.out but.made fault but.tells
+      ends (Err fault) (inl it) = turn_breaks fault it
+      ends (Err fault) (inr (inl it)) = end_breaks fault it
+      ends (Err fault) (inr (inr but)) = line_breaks but.out but.made fault but.tells
 
   -- a server over these logs
   pub serves : (tears : ℕ → Type 0) (config : Config) (first last turns : ℕ) (result : Result Served ServeFault) (old_disks : D) (old_link : L) (old_out : O) (mid new : Places D L O)
@@ -484,10 +505,26 @@ module _ {D L O : Type 0} (w : Outside D L O) where
       → ServesOrBreaksOff w.disk w.may_leave tears w.calls w.lost w.held config logs turns result old_disks new.disks old_link new.link old_out new.out
   serves tears config first last turns result old_disks old_link old_out mid new has end logs follow long are =
       let same : has.logs ≡ logs = has.over logs follow long are in
-      let each = end (map site_of has.logs) has.finish.stand has.ascend in
       subst (λ (ls : List Log). ServesOrBreaksOff w.disk w.may_leave tears w.calls w.lost w.held config ls turns result old_disks new.disks old_link new.link old_out new.out) same
       (ends tears config first turns has.logs has.follow has.ascend old_disks old_link old_out mid new
-      (subst (λ (ls : List Log). AreLogsOf w.disk config.cluster old_disks ls) (sym same) are) has.finish each.0 each.1 each.2 result each.3)
+      (subst (λ (ls : List Log). AreLogsOf w.disk config.cluster old_disks ls) (sym same) are) has.finish result (end (map site_of has.logs) has.finish.stand has.ascend))
+
+  -- ---- what stays
+
+  end_others : (config : Config) (sites : List Site) (turns : ℕ) (result : Result Served ServeFault) (old new : Places D L O) → AllEnd w config sites turns result old new → KeepsElsewhere w.disk w.may_leave sites old.disks new.disks
+  end_others config sites turns (Ok result) old new tell = tell.made.finish.others
+  end_others config sites turns (Err fault) old new (inl it) = it.stop.others
+  end_others config sites turns (Err fault) old new (inr (inl it)) = it.stop.others
+  end_others config sites turns (Err fault) old new (inr (inr but)) = but.made.finish.others
+
+  pub serve_others : (config : Config) (first last turns : ℕ) (result : Result Served ServeFault) (old mid new : Places D L O) → HasOpened w config first last old mid → EndsFrom config turns result mid new
+      → KeepsUnserved w.disk w.may_leave first (last + 1) old.disks new.disks
+  serve_others config first last turns result old mid new has end =
+      let sites = map site_of has.logs in
+      let each = end sites has.finish.stand has.ascend in
+      keeps_fewer w.disk w.may_leave (IsElsewhere sites) (IsUnserved first (last + 1)) old.disks new.disks
+      (λ p is. unserved_logs first (last + 1) p has.logs has.follow (let many = has.many in omega (many, arith)) is)
+      (keeps_then w.disk w.may_leave (IsElsewhere sites) old.disks mid.disks new.disks has.finish.others (end_others config sites turns result mid new each))
 
   -- ---- why it ended
 
@@ -507,11 +544,16 @@ module _ {D L O : Type 0} (w : Outside D L O) where
     | inr failed ↦ subst (λ (f : ServeFault). Caused w f (all_seen (places disks held link out)) (all_seen (places disks held link new_out))) (sym failed.0) failed.2
   ]
 
-  end_caused : (cluster : Cluster) (sites : List Site) (server : Server) (turns : ℕ) (result : Result Served ServeFault) (old : Moment D L O) (mid new : Places D L O) → Passes w old (all_seen mid) → AllEnd w cluster sites server turns result mid new
+  stop_caused : (fault : ServeFault) {sites : List Site} {before : List Act} {doing : Doing} (old : Moment D L O) (mid new : Places D L O) → Passes w old (all_seen mid) → AllStop w sites before doing fault mid new
+      → Caused w fault old (all_seen (places new.disks [] new.link new.out))
+  stop_caused fault old mid new passes stop = caused_seen fault old new (caused_later w fault old (all_seen mid) (all_seen new) passes stop.broke.cause)
+
+  end_caused : (config : Config) (sites : List Site) (turns : ℕ) (result : Result Served ServeFault) (old : Moment D L O) (mid new : Places D L O) → Passes w old (all_seen mid) → AllEnd w config sites turns result mid new
       → IfErr result (λ fault. Caused w fault old (all_seen (places new.disks [] new.link new.out)))
-  end_caused cluster sites server turns (Ok result) old mid new passes tell = tt
-  end_caused cluster sites server turns (Err fault) old mid new passes (inl stop) = caused_seen fault old new (caused_later w fault old (all_seen mid) (all_seen new) passes stop.broke.cause)
-  end_caused cluster sites server turns (Err fault) old mid new passes (inr but) =
+  end_caused config sites turns (Ok result) old mid new passes tell = tt
+  end_caused config sites turns (Err fault) old mid new passes (inl it) = stop_caused fault old mid new passes it.stop
+  end_caused config sites turns (Err fault) old mid new passes (inr (inl it)) = stop_caused fault old mid new passes it.stop
+  end_caused config sites turns (Err fault) old mid new passes (inr (inr but)) =
       caused_seen fault old new
       (caused_later w fault old (all_seen (places new.disks new.held new.link but.out)) (all_seen new) (passes_then w passes but.made.finish.did.passes)
       (line_caused (last_act turns new.held) fault new.disks new.held new.link but.out new.out but.tells))
@@ -519,5 +561,4 @@ module _ {D L O : Type 0} (w : Outside D L O) where
   pub serve_caused : (config : Config) (first last turns : ℕ) (result : Result Served ServeFault) (old mid new : Places D L O) → HasOpened w config first last old mid → EndsFrom config turns result mid new
       → IfErr result (λ fault. Caused w fault (all_seen old) (all_seen (places new.disks [] new.link new.out)))
   serve_caused config first last turns result old mid new has end =
-      let each = end (map site_of has.logs) has.finish.stand has.ascend in
-      end_caused config.cluster (map site_of has.logs) (ended config has.logs each.0) turns result (all_seen old) mid new has.finish.did.passes each.3
+      end_caused config (map site_of has.logs) turns result (all_seen old) mid new has.finish.did.passes (end (map site_of has.logs) has.finish.stand has.ascend)

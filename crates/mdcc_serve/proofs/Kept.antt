@@ -7,7 +7,7 @@ use Rattle.mdcc_disks.specs.Disks.{Disk, Within}
 use Rattle.mdcc_messages.specs.Spelling.{encodings_of}
 use Rattle.mdcc_messages.specs.declared.facts.Fact.{Fact}
 use Rattle.mdcc_option.specs.declared.cluster.Cluster.{Cluster}
-use Rattle.mdcc_restart.proofs.Places.{at_both}
+use Rattle.mdcc_centre.proofs.Places.{at_both}
 use Rattle.mdcc_runs.specs.Sites.{Site}
 use Rattle.mdcc_site.specs.Logs.{MayHaveFacts}
 use Rattle.mdcc_site.specs.Moments.{DiskPasses, KeepsOthers, Outside}

@@ -1,19 +1,17 @@
 -- The end of a server: after its last turn what is pending at each centre goes out.
-use Rattle.std.proofs.Common.{◌≡◌, ℕ, List, [], ◌∷◌, ◌++◌, length, replicate, refl, sym, ◌∙◌, ap, subst, IsTrue}
+use Rattle.std.proofs.Common.{◌≡◌, ℕ, List, [], ◌∷◌, ◌++◌, length, replicate, sym, subst, IsTrue}
 use Rattle.std.proofs.lemmas.List.{length-replicate}
 use Rattle.std.specs.List.{AllByRecursion}
 use Rattle.mdcc_config.specs.declared.config.Config.{Config}
 use Rattle.mdcc_option.specs.declared.cluster.Cluster.{Cluster}
-use Rattle.mdcc_outbox.proofs.Recorded.{answers_append}
-use Rattle.mdcc_runs.specs.Acts.{Act, but_answers}
+use Rattle.mdcc_runs.specs.Sending.{persist_then_send}
 use Rattle.mdcc_runs.specs.Servers.{Server, after_last, persist_all_then_send}
 use Rattle.mdcc_runs.specs.Sites.{Site}
-use Rattle.mdcc_serve.proofs.Doings.{AllWhole, each_does, each_past, each_plain, end_of, ends_are, ends_own}
-use Rattle.mdcc_serve.proofs.Repeated.{Grew, each_grew, grew_more, stop_more, stop_then}
-use Rattle.mdcc_serve.specs.Centres.{AllFinish, AllStop, AllTold, Ascend, Places}
+use Rattle.mdcc_serve.proofs.Doings.{AllWhole, each_does, end_of, ends_are, ends_own}
+use Rattle.mdcc_serve.proofs.Repeated.{Grew, each_grew, grew_more, others_on, stop_then}
+use Rattle.mdcc_serve.specs.Centres.{AllFinish, AllStop, AllTold, Ascend, EndStops, Places}
 use Rattle.mdcc_site.proofs.Joined.{did_then}
 use Rattle.mdcc_site.proofs.Owns.{persist_logs}
-use Rattle.mdcc_site.specs.Causes.{is_past_serials}
 use Rattle.mdcc_site.specs.Moments.{Outside}
 use Rattle.mdcc_site.specs.declared.fault.ServeFault.{ServeFault}
 
@@ -26,18 +24,6 @@ many_units sites = length-replicate (length sites) tt
 
 end_is : (config : Config) (sites : List Site) → persist_all_then_send config sites ≡ each_does (end_of config) sites (units sites)
 end_is config sites = ends_are config sites (units sites) (many_units sites)
-
-end_past : (config : Config) (sites : List Site) → IsTrue (is_past_serials sites) → IsTrue (is_past_serials (persist_all_then_send config sites).sites)
-end_past config sites past =
-    subst (λ (server : Server). IsTrue (is_past_serials server.sites)) (sym (end_is config sites)) (each_past (end_of config) (ends_own config) sites (units sites) past)
-
--- no link has answered its acts
-pub last_plain : (config : Config) (server : Server) → but_answers server.acts ≡ server.acts → but_answers (after_last config server).acts ≡ (after_last config server).acts
-last_plain config server plain =
-    let end = persist_all_then_send config server.sites in
-    let silent : but_answers end.acts ≡ end.acts =
-    subst (λ (last : Server). but_answers last.acts ≡ last.acts) (sym (end_is config server.sites)) (each_plain (end_of config) (ends_own config) server.sites (units server.sites)) in
-    answers_append server.acts end.acts ∙ (ap (λ (zs : List Act). zs ++ but_answers end.acts) plain ∙ ap (λ (zs : List Act). server.acts ++ zs) silent)
 
 -- the log of each has all facts of its node then
 pub last_logs : (config : Config) (sites : List Site) → AllByRecursion (λ site. site.logged ≡ site.node.facts) (persist_all_then_send config sites).sites
@@ -61,17 +47,13 @@ module _ {D L O : Type 0} (w : Outside D L O) where
       (each_grew w (end_of config) (ends_own config) 0 server.sites (units server.sites) (sym (many_units server.sites)) ascend whole))
 
   -- all went out
-  pub last_made : (cluster : Cluster) (config : Config) (server : Server) (start now new : Places D L O) → AllFinish w cluster server start now → AllFinish w cluster (persist_all_then_send config server.sites) now new
-      → AllFinish w cluster (after_last config server) start new
-  last_made cluster config server start now new turns end = record { did = did_then w turns.did end.did; stand = end.stand }
-
-  -- a turn ended before
-  pub turn_stops : (config : Config) (served : List Site) (server : Server) (fault : ServeFault) (start new : Places D L O) → AllStop w served server fault start new → AllStop w served (after_last config server) fault start new
-  turn_stops config served server fault start new stop =
-      stop_more w served server (after_last config server) (persist_all_then_send config server.sites).acts fault start new refl (end_past config server.sites) stop
+  pub last_made : (cluster : Cluster) (config : Config) (served : List Site) (server : Server) (start now new : Places D L O) → Grew server.acts served server.sites → AllFinish w cluster served server start now
+      → AllFinish w cluster server.sites (persist_all_then_send config server.sites) now new → AllFinish w cluster served (after_last config server) start new
+  last_made cluster config served server start now new grew turns end =
+      record { did = did_then w turns.did end.did; stand = end.stand; others = others_on w cluster served server start now new grew turns end.others }
 
   -- not all went out
-  pub last_stops : (cluster : Cluster) (config : Config) (served : List Site) (server : Server) (fault : ServeFault) (start now new : Places D L O) → Grew server.acts served server.sites → AllFinish w cluster server start now
-      → AllStop w server.sites (persist_all_then_send config server.sites) fault now new → AllStop w served (after_last config server) fault start new
-  last_stops cluster config served server fault start now new grew turns stop =
-      stop_then w start now new served server (persist_all_then_send config server.sites) fault turns.did grew stop
+  pub last_stops : (cluster : Cluster) (config : Config) (served : List Site) (server : Server) (fault : ServeFault) (start now new : Places D L O) → Grew server.acts served server.sites → AllFinish w cluster served server start now
+      → (ends : EndStops w config server.sites fault now new) → AllStop w served (server.acts ++ (persist_all_then_send config ends.at.front).acts) (persist_then_send config ends.at.site) fault start new
+  last_stops cluster config served server fault start now new grew turns ends =
+      stop_then w cluster start now new served server (persist_all_then_send config ends.at.front).acts (persist_then_send config ends.at.site) fault turns grew ends.stop

@@ -16,23 +16,24 @@ use Rattle.mdcc_protocol.specs.Facts.{epoch_of}
 use Rattle.mdcc_rules.specs.Boot.{next_boot}
 use Rattle.mdcc_runs.specs.Acts.{Act, appended, but_answers, printed}
 use Rattle.mdcc_runs.specs.Servers.{Log, boot_line, endpoints_of, opened, starts}
-use Rattle.mdcc_runs.specs.Sites.{Site}
 use Rattle.mdcc_runs.specs.declared.lines.ServerLine.{ServerLine}
 use Rattle.mdcc_serve.proofs.Kept.{facts_or_more}
+use Rattle.mdcc_serve.proofs.Others.{keeps_fewer, unserved_logs}
 use Rattle.mdcc_serve.proofs.Quiet.{AreBinds, AreLines, IsBind, IsPlain, IsPrint, acts_front, all_bind, all_print, are_binds, are_boots, are_lines}
 use Rattle.mdcc_serve.proofs.Started.{none_refused}
 use Rattle.mdcc_serve.proofs.Together.{boots_append, each_both, each_by, follow_front}
 use Rattle.mdcc_serve.specs.Centres.{Ascend, HoldSites, all_seen, places}
 use Rattle.mdcc_serve.specs.Openings.{BindsAll, BindsSome, FailsToOpen, HasOpened, KeepLogs, LinesSome, StopsOpening, binds_of, binds_of_all, boots_told}
+use Rattle.mdcc_serve.specs.Others.{IsElsewhere, IsUnserved, KeepsUnserved}
 use Rattle.mdcc_serve.specs.Serving.{AreLogsOf}
 use Rattle.mdcc_serve.specs.Starts.{AreHeld, FailToStart, Follow, HaveStarted, IsOfStart}
 use Rattle.mdcc_site.proofs.Joined.{broke_more, comes_more, did_broke, did_then, facts_expected, facts_then, flight_more, full_more, none_added, none_written}
-use Rattle.mdcc_site.specs.Causes.{ComesAt, IsNoBoot, IsSafeAt, IsSafeIn, SerialsEnd, failed_by, failed_next, in_flight, text_begun}
+use Rattle.mdcc_site.specs.Causes.{ComesAt, IsNoBoot, IsSafeAt, IsSafeIn, failed_by, failed_next, in_flight, text_begun}
 use Rattle.mdcc_site.specs.LogEffects.{CausedOn}
 use Rattle.mdcc_site.specs.Logs.{MayHaveFacts, facts_after, with_facts}
 use Rattle.mdcc_site.specs.Moments.{Adds, Broke, Caused, Did, DiskPasses, Leaves, MayComeAt, Moment, Outside, Passes}
 use Rattle.mdcc_site.specs.Room.{OnFull}
-use Rattle.mdcc_site.specs.SiteState.{PrintsAll}
+use Rattle.mdcc_site.specs.SiteState.{OnSerial, PrintsAll}
 use Rattle.mdcc_site.specs.declared.fault.ServeFault.{ServeFault}
 use Rattle.mdcc_site.specs.declared.site.Site.{Site as TheSite}
 
@@ -65,14 +66,14 @@ safe_more tears ServeFault.Serial rest more safe = tt
 safe_more tears ServeFault.Memory rest more safe = safe_in tears rest more safe
 
 -- a start ends in none of these
-start_serials : (fault : ServeFault) (at : ℕ) → IsOfStart at fault → (sites : List Site) → SerialsEnd sites fault
-start_serials (ServeFault.Disk a) at of sites = tt
-start_serials (ServeFault.Log a fault) at of sites = tt
-start_serials (ServeFault.Boot a fault) at of sites = tt
-start_serials ServeFault.Link at of sites = absurd of
-start_serials ServeFault.Output at of sites = absurd of
-start_serials ServeFault.Serial at of sites = absurd of
-start_serials ServeFault.Memory at of sites = tt
+start_serials : (fault : ServeFault) (at : ℕ) → IsOfStart at fault → OnSerial fault 0
+start_serials (ServeFault.Disk a) at of = tt
+start_serials (ServeFault.Log a fault) at of = tt
+start_serials (ServeFault.Boot a fault) at of = tt
+start_serials ServeFault.Link at of = absurd of
+start_serials ServeFault.Output at of = absurd of
+start_serials ServeFault.Serial at of = absurd of
+start_serials ServeFault.Memory at of = tt
 
 start_calls : (fault : ServeFault) (at : ℕ) → IsOfStart at fault → (rest : List Act) → failed_by fault rest ≡ []
 start_calls (ServeFault.Disk a) at of rest = refl
@@ -316,6 +317,7 @@ module _ {D L O : Type 0} (w : Outside D L O) where
   start_fails tears config first last fault old new link out order fails = record {
     cause = start_caused fault fails.at old new link out fails.of fails.cause;
     serials = start_serials fault fails.at fails.of;
+    others = subst (λ (end : ℕ). KeepsUnserved w.disk w.may_leave first end old new) (let whole : first + (last + 1 - first) ≡ last + 1 = omega (order, arith) in whole) fails.others;
     over = λ logs follow long are.
         let stop = fails.over logs follow (omega (long, order, arith)) are in
         let more : List Act = flat_map (endpoints_of config) (starts logs).sites ++ flat_map boot_line (starts logs).sites in
@@ -384,12 +386,14 @@ module _ {D L O : Type 0} (w : Outside D L O) where
           (facts_or_more w.disk w.may_leave new log.centre (facts_after log.centre log.facts boots) (in_flight fault log.centre rest)
           (started.kept log (let high = h.1 in let e = started.as_many in omega (high, e, many, most, arith)) h.0.0 h.0.1)))
 
-      fails_after : (fault : ServeFault) (new_link : L) (new_out : O) → IsNoBoot fault → ((sites : List Site) → SerialsEnd sites fault)
+      fails_after : (fault : ServeFault) (new_link : L) (new_out : O) → IsNoBoot fault → OnSerial fault 0
           → Broke w ⊤ SameFacts (opened config started.logs).acts fault (bare old link out) (bare new new_link new_out)
           → FailsToOpen w tears config first last fault (places old [] link out) (places new [] new_link new_out)
       fails_after fault new_link new_out no_boot serials broke = record {
         cause = broke.cause;
         serials = serials;
+        others = keeps_fewer w.disk w.may_leave (IsElsewhere (starts started.logs).sites) (IsUnserved first (last + 1)) old new
+            (λ p is. unserved_logs first (last + 1) p started.logs started.follow (let e = started.as_many in omega (e, many, arith)) is) started.others;
         over = λ logs follow long are.
             let same = same_logs logs follow long are in
             subst (λ (ls : List Log). StopsOpening w tears config ls fault (places old [] link out) (places new [] new_link new_out)) same (record {
@@ -412,7 +416,7 @@ module _ {D L O : Type 0} (w : Outside D L O) where
       -- an endpoint is not bound
       pub bind_fails : (fault : ServeFault) (new_link : L) → BindsSome w.calls w.lost w.faults binds fault link new_link → FailsToOpen w tears config first last fault (places old [] link out) (places new [] new_link out)
       bind_fails fault new_link stop =
-          fails_after fault new_link out (subst IsNoBoot (sym stop.is) tt) (subst (λ (f : ServeFault). (sites : List Site) → SerialsEnd sites f) (sym stop.is) (λ sites. tt))
+          fails_after fault new_link out (subst IsNoBoot (sym stop.is) tt) (subst (λ (f : ServeFault). OnSerial f 0) (sym stop.is) tt)
           (subst (λ (acts : List Act). Broke w ⊤ SameFacts acts fault (bare old link out) (bare new new_link out)) opened_are
           (did_broke w {Here = ⊤} {There = ⊤} {P = SameFacts} {Q = Silent} (λ rest comes. comes) facts_same booted
           (broke_more w {Told = ⊤} {P = Silent} lines (λ acts rest comes silent. silent) (broke_binding binds fault new link new_link out (all_bind config held) stop))))
@@ -436,10 +440,10 @@ module _ {D L O : Type 0} (w : Outside D L O) where
             | inr failed ↦ subst IsNoBoot (sym failed.0) tt
           ]
 
-          serials : (sites : List Site) → SerialsEnd sites fault
-          serials sites = elim stop.comes [
-            | inl is ↦ subst (SerialsEnd sites) (sym is) tt
-            | inr failed ↦ subst (SerialsEnd sites) (sym failed.0) tt
+          serials : OnSerial fault 0
+          serials = elim stop.comes [
+            | inl is ↦ subst (λ (f : ServeFault). OnSerial f 0) (sym is) tt
+            | inr failed ↦ subst (λ (f : ServeFault). OnSerial f 0) (sym failed.0) tt
           ]
 
           facts_same : (before acts rest : List Act) → but_answers before ≡ boots ++ binds → Silent acts rest → SameFacts (before ++ acts) rest
@@ -460,6 +464,7 @@ module _ {D L O : Type 0} (w : Outside D L O) where
               (subst (λ (acts : List Act). Did w acts (bare old link out) (bare new new_link new_out)) (append_assoc boots binds lines ∙ opened_are)
               (did_then w (did_then w booted (did_bind binds new link new_link out (all_bind config held) bound)) (did_print lines new new_link out new_out (all_print held) told)));
           stand = held_stand config.cluster new held started.logs started.each;
+          others = started.others;
         };
         ascend = ascends 0 first started.logs (omega (some, arith)) (let e = started.as_many in omega (e, many, most, arith)) started.follow;
         over = same_logs;

@@ -1,23 +1,26 @@
 -- What a fault of a server says of the logs that it opens.
-use Rattle.std.proofs.Common.{◌≡◌, ℕ, ◌+◌, ◌≤◌, List, [], ◌∷◌, Option, Result, Ok, Err, IsTrue, map, length, refl, sym, ◌∙◌, ap, subst, inl, inr, arith}
+use Rattle.std.proofs.Common.{◌≡◌, ℕ, ◌+◌, ◌≤◌, List, [], ◌∷◌, Option, Result, Ok, Err, IsTrue, map, length, refl, sym, ◌∙◌, ap, subst, inl, inr, arith, ◌⊎◌}
 use Rattle.std.proofs.lemmas.Bool.{cases_eq}
 use Rattle.std.specs.Bool.{OnFalse}
 use Rattle.mdcc_admission.specs.Loading.{is_boot_memory}
 use Rattle.std.specs.Prelude.{IfErr, is_ok}
 use Rattle.mdcc_log.specs.Area.{payloads}
 use Rattle.mdcc_log_file.specs.declared.fault.LogFault.{LogFault}
+use Rattle.mdcc_config.specs.declared.config.Config.{Config}
 use Rattle.mdcc_disks.specs.Disks.{Disk}
-use Rattle.mdcc_endings.specs.Logs.{IsTold, LogRefusal, booted, node_at, node_from, node_of}
+use Rattle.mdcc_endings.specs.Logs.{IsTold, LogRefusal, node_at, node_from, node_of}
+use Rattle.mdcc_centre.specs.Nodes.{booted}
 use Rattle.mdcc_link.specs.Link.{LinkCall}
 use Rattle.mdcc_messages.specs.declared.facts.Fact.{Fact}
 use Rattle.mdcc_option.specs.declared.cluster.Cluster.{Cluster}
 use Rattle.mdcc_rules.specs.declared.node.BootFault.{BootFault}
 use Rattle.mdcc_runs.specs.Acts.{Act}
-use Rattle.mdcc_runs.specs.Servers.{Log, Server, site_of}
-use Rattle.mdcc_serve.specs.Centres.{AllTold, Places}
+use Rattle.mdcc_runs.specs.Servers.{Log, site_of}
+use Rattle.mdcc_runs.specs.Sites.{Doing}
+use Rattle.mdcc_serve.specs.Centres.{AllStop, AllTold, Places}
 use Rattle.mdcc_serve.specs.Ends.{AllEnd}
 use Rattle.mdcc_serve.specs.Openings.{BindsSome, LinesSome}
-use Rattle.mdcc_serve.specs.Refusals.{AllBoot, AreTold, BootsAt, EndsStarted, MayFollow, MayServe, SaysAt, SaysBooting, SaysOfLogs}
+use Rattle.mdcc_serve.specs.Refusals.{AllBoot, AreTold, BootsAt, EndsStarted, MayFollow, MayServe, SaysAt, SaysBooting, SaysOfLogs, StartEnds}
 use Rattle.mdcc_serve.specs.Starts.{Follow, IsUntouched, boot_fault_of}
 use Rattle.mdcc_serve.specs.declared.served.Served.{Served}
 use Rattle.mdcc_site.specs.Causes.{IsNoBoot}
@@ -212,15 +215,21 @@ module _ {D L O : Type 0} (w : Outside D L O) (cluster : Cluster) (disks mid : D
     follow_told first end (n + 1) logs follow.1 (omega (low, arith)) (omega (high, arith)) told,
   )
 
-  pub turns_end : (first end : ℕ) (logs : List Log) (server : Server) (turns : ℕ) (result : Result Served ServeFault) (old new : Places D L O) → old.disks ≡ mid → Follow first logs → length logs + first ≡ end
-      → AllBoot w.disk cluster disks first end → AllEnd w cluster (map site_of logs) server turns result old new → SaysOfLogs w.disk cluster disks first end result
-  turns_end first end logs server turns (Ok done) old new at follow many all ends = all
-  turns_end first end logs server turns (Err fault) old new at follow many all (inl stop) = inr (record {
+  -- where one ended in its part
+  stop_ends : (first end : ℕ) (logs : List Log) (fault : ServeFault) (old new : Places D L O) {before : List Act} {doing : Doing} → old.disks ≡ mid → Follow first logs → length logs + first ≡ end
+      → AllBoot w.disk cluster disks first end → AllStop w (map site_of logs) before doing fault old new → StartEnds w.disk cluster disks first end fault ⊎ EndsStarted w.disk cluster disks first end fault
+  stop_ends first end logs fault old new at follow many all stop = inr (record {
     boots = all;
     may = turn_may w.disk cluster disks (AllTold w old.disks (map site_of logs)) first end fault stop.broke.rest
         (λ told. subst (λ (d : D). AllTold w d (map site_of logs)) (sym at) (follow_told first end first logs follow (omega arith) (omega (many, arith)) told)) stop.broke.comes stop.no_boot;
   })
-  turns_end first end logs server turns (Err fault) old new at follow many all (inr but) = inr (record {
+
+  pub turns_end : (config : Config) (first end : ℕ) (logs : List Log) (turns : ℕ) (result : Result Served ServeFault) (old new : Places D L O) → old.disks ≡ mid → Follow first logs → length logs + first ≡ end
+      → AllBoot w.disk cluster disks first end → AllEnd w config (map site_of logs) turns result old new → SaysOfLogs w.disk cluster disks first end result
+  turns_end config first end logs turns (Ok done) old new at follow many all ends = all
+  turns_end config first end logs turns (Err fault) old new at follow many all (inl it) = stop_ends first end logs fault old new at follow many all it.stop
+  turns_end config first end logs turns (Err fault) old new at follow many all (inr (inl it)) = stop_ends first end logs fault old new at follow many all it.stop
+  turns_end config first end logs turns (Err fault) old new at follow many all (inr (inr but)) = inr (record {
     boots = all;
     may = elim but.tells.comes [
       | inl none ↦ subst (MayFollow w.disk cluster disks first end) (sym none.0) tt

@@ -1,6 +1,5 @@
 -- Turns of all centres, one after another.
-use Rattle.std.proofs.Common.{◌≡◌, ◌≢◌, ℕ, zero, suc, ◌+◌, ◌-◌, ◌<◌, List, [], ◌∷◌, ◌++◌, length, replicate, refl, sym, ◌∙◌, ap, subst, arith, IsTrue, append-nil, append_assoc, length-append}
-use Rattle.std.proofs.lemmas.List.{length-replicate}
+use Rattle.std.proofs.Common.{◌≡◌, ◌≢◌, ℕ, ◌+◌, ◌<◌, List, [], ◌∷◌, ◌++◌, length, refl, sym, ◌∙◌, ap, subst, arith, IsTrue, append_assoc, length-append}
 use Rattle.std.proofs.lemmas.List.Sums.{fold-append}
 use Rattle.std.specs.List.{AllByRecursion}
 use Rattle.std.specs.Prelude.{fold, ⊤}
@@ -11,14 +10,17 @@ use Rattle.mdcc_runs.specs.Acts.{Act, appended, but_answers}
 use Rattle.mdcc_runs.specs.Servers.{Server, after_turn, turns_of}
 use Rattle.mdcc_runs.specs.Sites.{Doing, Site}
 use Rattle.mdcc_runs.specs.Turns.{Given, turn_of}
-use Rattle.mdcc_serve.proofs.Doings.{AllOwn, AllWhole, each_ascend, each_does, each_long, each_past, each_whole, turns_are, turns_own}
-use Rattle.mdcc_serve.proofs.Rounds.{Elsewhere, ascend_later, each_quiet, hold_whole}
-use Rattle.mdcc_serve.specs.Centres.{AllFinish, AllLogs, AllStop, AllTold, Ascend, HoldSites, Places, all_seen}
+use Rattle.mdcc_serve.proofs.Doings.{AllOwn, AllWhole, each_ascend, each_does, each_long, each_whole, turns_are, turns_own}
+use Rattle.mdcc_serve.proofs.Others.{keeps_fewer, keeps_none, keeps_then}
+use Rattle.mdcc_serve.proofs.Rounds.{Elsewhere, ascend_later, each_quiet, hold_whole, part_then}
+use Rattle.mdcc_serve.specs.Centres.{AllFinish, AllLogs, AllStop, AllTold, Ascend, HoldSites, Places, TurnStops, TurnsStop, all_seen}
+use Rattle.mdcc_serve.specs.Others.{IsElsewhere, IsNoDiskOf, KeepsElsewhere}
+use Rattle.mdcc_serve.specs.Stages.{InPart}
 use Rattle.mdcc_site.proofs.Going.{comes_under}
-use Rattle.mdcc_site.proofs.Joined.{broke_more, did_broke, did_nothing, did_then, facts_expected, facts_then, flight_more}
-use Rattle.mdcc_site.specs.Causes.{SerialsEnd, in_flight, is_past_serials}
+use Rattle.mdcc_site.proofs.Joined.{did_broke, did_nothing, did_then, facts_expected, facts_then}
+use Rattle.mdcc_site.specs.Causes.{in_flight}
 use Rattle.mdcc_site.specs.Logs.{MayHaveFacts, facts_after, with_facts}
-use Rattle.mdcc_site.specs.Moments.{Broke, Did, MayComeAt, Outside}
+use Rattle.mdcc_site.specs.Moments.{Broke, MayComeAt, Outside}
 use Rattle.mdcc_site.specs.declared.fault.ServeFault.{ServeFault}
 use Rattle.mdcc_steps.proofs.Each.{each-append}
 
@@ -50,35 +52,12 @@ grew_then xs ys [] (mid ∷ mids) news one two = absurd one
 grew_then xs ys (old ∷ olds) [] news one two = absurd one
 grew_then xs ys (old ∷ olds) (mid ∷ mids) [] one two = absurd two
 
--- ---- what was done stays
-
-acts_on : (config : Config) (server : Server) (more : List (List Given)) → (acts : List Act) × ((fold (after_turn config) server more).acts ≡ server.acts ++ acts)
-acts_on config server [] = ([], sym (append-nil server.acts))
-acts_on config server (turn ∷ more) =
-    let rest = acts_on config (after_turn config server turn) more in
-    ((turns_of config server.sites turn).acts ++ rest.0, rest.1 ∙ append_assoc server.acts (turns_of config server.sites turn).acts rest.0)
-
--- where the serials are used up they stay so
-pub serials_still : (fault : ServeFault) (sites more : List Site) → (IsTrue (is_past_serials sites) → IsTrue (is_past_serials more)) → SerialsEnd sites fault → SerialsEnd more fault
-serials_still (ServeFault.Disk a) sites more past end = tt
-serials_still (ServeFault.Log a why) sites more past end = tt
-serials_still (ServeFault.Boot a why) sites more past end = tt
-serials_still ServeFault.Link sites more past end = tt
-serials_still ServeFault.Output sites more past end = tt
-serials_still ServeFault.Serial sites more past end = past end
-serials_still ServeFault.Memory sites more past end = tt
-
-turns_past : (config : Config) (sites : List Site) (given : List Given) → IsTrue (is_past_serials sites) → IsTrue (is_past_serials (turns_of config sites given).sites)
-turns_past config sites given past =
-    subst (λ (server : Server). IsTrue (is_past_serials server.sites)) (sym (turns_are config sites given)) (each_past (turn_of config) (turns_own config) sites given past)
-
-past_on : (config : Config) (server : Server) (more : List (List Given)) → IsTrue (is_past_serials server.sites) → IsTrue (is_past_serials (fold (after_turn config) server more).sites)
-past_on config server [] past = past
-past_on config server (turn ∷ more) past = past_on config (after_turn config server turn) more (turns_past config server.sites turn past)
-
-pub each_same : {A : Type 0} (P : A → Type 0) (n : ℕ) (x : A) → P x → AllByRecursion P (replicate n x)
-each_same P zero x is = tt
-each_same P (suc n) x is = (is, each_same P n x is)
+-- they have the same disks
+pub grew_elsewhere : (acts : List Act) (olds news : List Site) (p : ℕ) → Grew acts olds news → IsElsewhere olds p → IsElsewhere news p
+grew_elsewhere acts [] [] p grew is = tt
+grew_elsewhere acts (old ∷ olds) (new ∷ news) p grew is = (subst (λ (n : ℕ). IsNoDiskOf p n) (sym grew.0) is.0, grew_elsewhere acts olds news p grew.2 is.1)
+grew_elsewhere acts [] (new ∷ news) p grew is = absurd grew
+grew_elsewhere acts (old ∷ olds) [] p grew is = absurd grew
 
 -- ---- one turn of all
 
@@ -149,61 +128,61 @@ module _ {D L O : Type 0} (w : Outside D L O) where
       → Grew (fold (after_turn config) (begun sites) given).acts sites (fold (after_turn config) (begun sites) given).sites
   grew_on config sites given ascend whole each = grew_from config sites (begun sites) given ascend whole each (grew_none sites)
 
-  -- ---- after acts that were done, others are not
+  -- ---- after acts that were done
 
-  module _ (start now new : Places D L O) (served : List Site) (first next : Server) (fault : ServeFault) (did : Did w first.acts (all_seen start) (all_seen now)) (grew : Grew first.acts served first.sites) (stop : AllStop w first.sites next fault now new) where
-    told : (olds news : List Site) → Grew first.acts olds news → AllTold w start.disks olds → AllTold w now.disks news
-    told [] [] grew all = tt
-    told (s ∷ ss) (t ∷ ts) grew all = (
-      subst (λ (c : ℕ). IsTrue (w.disk now.disks c).told) (sym grew.0) (subst IsTrue (sym (did.passes.told s.centre)) all.0),
-      told ss ts grew.2 all.1,
-    )
-    told [] (t ∷ ts) grew all = absurd grew
-    told (s ∷ ss) [] grew all = absurd grew
+  -- what stays of other disks, and is kept on
+  pub others_on : (cluster : Cluster) (served : List Site) (server : Server) (start now new : Places D L O) → Grew server.acts served server.sites → AllFinish w cluster served server start now
+      → KeepsElsewhere w.disk w.may_leave server.sites now.disks new.disks → KeepsElsewhere w.disk w.may_leave served start.disks new.disks
+  others_on cluster served server start now new grew finish keeps =
+      keeps_then w.disk w.may_leave (IsElsewhere served) start.disks now.disks new.disks finish.others
+      (keeps_fewer w.disk w.may_leave (IsElsewhere server.sites) (IsElsewhere served) now.disks new.disks (λ p is. grew_elsewhere server.acts served server.sites p grew is) keeps)
 
-    logs : (before acts rest : List Act) → but_answers before ≡ first.acts → (olds news : List Site) → Grew first.acts olds news → AllLogs w news fault now.disks new.disks acts rest → AllLogs w olds fault start.disks new.disks (before ++ acts) rest
-    logs before acts rest are [] [] grew all = tt
-    logs before acts rest are (s ∷ ss) (t ∷ ts) grew all = (one, logs before acts rest are ss ts grew.2 all.1)
-      where
-        facts_are : facts_after s.centre t.logged acts ≡ facts_after s.centre s.logged (before ++ acts)
-        facts_are =
-            ap (λ (fs : List Fact). facts_after s.centre fs acts) (grew.1 ∙ sym (facts_expected s.centre s.logged before first.acts are))
-            ∙ sym (facts_then s.centre s.logged before acts)
-
-        one : IsTrue (w.disk start.disks s.centre).told → MayHaveFacts w.disk w.may_leave new.disks s.centre (facts_after s.centre s.logged (before ++ acts)) (in_flight fault s.centre rest)
-        one known =
-            let there = subst (λ (c : ℕ). IsTrue (w.disk now.disks c).told → MayHaveFacts w.disk w.may_leave new.disks c (facts_after c t.logged acts) (in_flight fault c rest)) grew.0 all.0 in
-            subst (λ (fs : List Fact). MayHaveFacts w.disk w.may_leave new.disks s.centre fs (in_flight fault s.centre rest)) facts_are
-            (there (subst IsTrue (sym (did.passes.told s.centre)) known))
-    logs before acts rest are [] (t ∷ ts) grew all = absurd grew
-    logs before acts rest are (s ∷ ss) [] grew all = absurd grew
-
-    here : (rest : List Act) → MayComeAt (AllTold w now.disks first.sites) fault rest → MayComeAt (AllTold w start.disks served) fault rest
-    here rest comes = comes_under fault rest (λ (all : AllTold w start.disks served). told served first.sites grew all) comes
-
-    pub stop_then : AllStop w served (record { acts = first.acts ++ next.acts; sites = next.sites }) fault start new
-    stop_then = record {
-      broke = did_broke w here (λ before acts rest are all. logs before acts rest are served first.sites grew all) did stop.broke;
-      serials = stop.serials;
-      no_boot = stop.no_boot;
-    }
-
-  -- what was to come behind it
-  pub stop_more : (served : List Site) (server all : Server) (more : List Act) (fault : ServeFault) (start new : Places D L O) → all.acts ≡ server.acts ++ more → (IsTrue (is_past_serials server.sites) → IsTrue (is_past_serials all.sites))
-      → AllStop w served server fault start new → AllStop w served all fault start new
-  stop_more served server all more fault start new are past stop = record {
-    broke = subst (λ (acts : List Act). Broke w (AllTold w start.disks served) (AllLogs w served fault start.disks new.disks) acts fault (all_seen start) (all_seen new)) (sym are)
-        (broke_more w more (λ acts rest comes logs. weaker acts rest comes served logs) stop.broke);
-    serials = serials_still fault server.sites all.sites past stop.serials;
-    no_boot = stop.no_boot;
-  }
+  -- others are not
+  module _ (cluster : Cluster) (start now new : Places D L O) (served : List Site) (first : Server) (earlier : List Act) (doing : Doing) (fault : ServeFault) (finish : AllFinish w cluster served first start now)
+      (grew : Grew first.acts served first.sites) (stop : AllStop w first.sites earlier doing fault now new)
     where
-      weaker : (acts rest : List Act) → MayComeAt (AllTold w start.disks served) fault rest → (sites : List Site) → AllLogs w sites fault start.disks new.disks acts rest → AllLogs w sites fault start.disks new.disks acts (rest ++ more)
-      weaker acts rest comes [] logs = tt
-      weaker acts rest comes (s ∷ ss) logs = (
-        (λ known. subst (λ (fs : List Fact). MayHaveFacts w.disk w.may_leave new.disks s.centre (facts_after s.centre s.logged acts) fs) (sym (flight_more (AllTold w start.disks served) fault s.centre rest more comes)) (logs.0 known)),
-        weaker acts rest comes ss logs.1,
+      told : (olds news : List Site) → Grew first.acts olds news → AllTold w start.disks olds → AllTold w now.disks news
+      told [] [] grew all = tt
+      told (s ∷ ss) (t ∷ ts) grew all = (
+        subst (λ (c : ℕ). IsTrue (w.disk now.disks c).told) (sym grew.0) (subst IsTrue (sym (finish.did.passes.told s.centre)) all.0),
+        told ss ts grew.2 all.1,
       )
+      told [] (t ∷ ts) grew all = absurd grew
+      told (s ∷ ss) [] grew all = absurd grew
+
+      logs : (before acts rest : List Act) → but_answers before ≡ first.acts → (olds news : List Site) → Grew first.acts olds news → AllLogs w news fault now.disks new.disks acts rest → AllLogs w olds fault start.disks new.disks (before ++ acts) rest
+      logs before acts rest are [] [] grew all = tt
+      logs before acts rest are (s ∷ ss) (t ∷ ts) grew all = (one, logs before acts rest are ss ts grew.2 all.1)
+        where
+          facts_are : facts_after s.centre t.logged acts ≡ facts_after s.centre s.logged (before ++ acts)
+          facts_are =
+              ap (λ (fs : List Fact). facts_after s.centre fs acts) (grew.1 ∙ sym (facts_expected s.centre s.logged before first.acts are))
+              ∙ sym (facts_then s.centre s.logged before acts)
+
+          one : IsTrue (w.disk start.disks s.centre).told → MayHaveFacts w.disk w.may_leave new.disks s.centre (facts_after s.centre s.logged (before ++ acts)) (in_flight fault s.centre rest)
+          one known =
+              let there = subst (λ (c : ℕ). IsTrue (w.disk now.disks c).told → MayHaveFacts w.disk w.may_leave new.disks c (facts_after c t.logged acts) (in_flight fault c rest)) grew.0 all.0 in
+              subst (λ (fs : List Fact). MayHaveFacts w.disk w.may_leave new.disks s.centre fs (in_flight fault s.centre rest)) facts_are
+              (there (subst IsTrue (sym (finish.did.passes.told s.centre)) known))
+      logs before acts rest are [] (t ∷ ts) grew all = absurd grew
+      logs before acts rest are (s ∷ ss) [] grew all = absurd grew
+
+      here : (rest : List Act) → MayComeAt (AllTold w now.disks first.sites) fault rest → MayComeAt (AllTold w start.disks served) fault rest
+      here rest comes = comes_under fault rest (λ (all : AllTold w start.disks served). told served first.sites grew all) comes
+
+      -- of its part a prefix was done after all of them
+      parts : (before acts rest : List Act) → but_answers before ≡ first.acts → AllLogs w first.sites fault now.disks new.disks acts rest × InPart earlier doing.acts acts rest
+          → AllLogs w served fault start.disks new.disks (before ++ acts) rest × InPart (first.acts ++ earlier) doing.acts (before ++ acts) rest
+      parts before acts rest are q = (logs before acts rest are served first.sites grew q.0, part_then first.acts earlier doing.acts before acts rest are q.1)
+
+      pub stop_then : AllStop w served (first.acts ++ earlier) doing fault start new
+      stop_then = record {
+        broke = subst (λ (acts : List Act). Broke w (AllTold w start.disks served) (λ acts rest. AllLogs w served fault start.disks new.disks acts rest × InPart (first.acts ++ earlier) doing.acts acts rest) acts fault (all_seen start) (all_seen new))
+            (sym (append_assoc first.acts earlier doing.acts)) (did_broke w here parts finish.did stop.broke);
+        serials = stop.serials;
+        no_boot = stop.no_boot;
+        others = others_on cluster served first start now new grew finish stop.others;
+      }
 
   -- ---- so many turns
 
@@ -211,7 +190,7 @@ module _ {D L O : Type 0} (w : Outside D L O) where
     pub given : List (List Given)
     pub made : length given ≡ turns
     pub each : AllByRecursion (λ turn. length turn ≡ length served) given
-    pub finish : AllFinish w cluster (fold (after_turn config) (begun served) given) start now
+    pub finish : AllFinish w cluster served (fold (after_turn config) (begun served) given) start now
     pub ascend : Ascend 0 (fold (after_turn config) (begun served) given).sites
     pub grew : Grew (fold (after_turn config) (begun served) given).acts served (fold (after_turn config) (begun served) given).sites
     pub many : length (fold (after_turn config) (begun served) given).sites ≡ length served
@@ -221,7 +200,7 @@ module _ {D L O : Type 0} (w : Outside D L O) where
     given = [];
     made = refl;
     each = tt;
-    finish = record { did = did_nothing w (all_seen start); stand = hold };
+    finish = record { did = did_nothing w (all_seen start); stand = hold; others = keeps_none w.disk w.may_leave (IsElsewhere served) start.disks };
     ascend = ascend;
     grew = grew_none served;
     many = refl;
@@ -239,12 +218,13 @@ module _ {D L O : Type 0} (w : Outside D L O) where
     then_is : (more : List (List Given)) → fold (after_turn config) (begun served) (run.given ++ turn ∷ more) ≡ fold (after_turn config) (after_turn config server_then turn) more
     then_is more = fold-append (after_turn config) (begun served) run.given (turn ∷ more)
 
-    pub one_run : length turn ≡ length server_then.sites → AllFinish w cluster (turns_of config server_then.sites turn) now new → HaveRun config cluster start new served (n + 1)
+    pub one_run : length turn ≡ length server_then.sites → AllFinish w cluster server_then.sites (turns_of config server_then.sites turn) now new → HaveRun config cluster start new served (n + 1)
     one_run long next = record {
       given = run.given ++ turn ∷ [];
       made = (let e = length-append run.given (turn ∷ []) in let f = run.made in omega (e, f, arith));
       each = each-append (λ (t : List Given). length t ≡ length served) run.given (turn ∷ []) run.each (long ∙ run.many, tt);
-      finish = subst (λ (server : Server). AllFinish w cluster server start new) (sym (then_is [])) (record { did = did_then w run.finish.did next.did; stand = next.stand });
+      finish = subst (λ (server : Server). AllFinish w cluster served server start new) (sym (then_is []))
+          (record { did = did_then w run.finish.did next.did; stand = next.stand; others = others_on cluster served server_then start now new run.grew run.finish next.others });
       ascend = subst (λ (server : Server). Ascend 0 server.sites) (sym (then_is [])) (ascend_turned config server_then.sites turn run.ascend);
       grew = subst (λ (server : Server). Grew server.acts served server.sites) (sym (then_is []))
           (grew_more server_then (turns_of config server_then.sites turn) served run.grew
@@ -252,20 +232,16 @@ module _ {D L O : Type 0} (w : Outside D L O) where
       many = subst (λ (server : Server). length server.sites ≡ length served) (sym (then_is [])) (turned_long config server_then.sites turn ∙ run.many);
     }
 
-    -- it ended before, whatever is given in the turns that were to come
-    pub run_stops : (turns : ℕ) (fault : ServeFault) → n < turns → length turn ≡ length server_then.sites → AllStop w server_then.sites (turns_of config server_then.sites turn) fault now new
-        → (given : List (List Given)) × (length given ≡ turns) × AllByRecursion (λ t. length t ≡ length served) given × AllStop w served (fold (after_turn config) (begun served) given) fault start new
-    run_stops turns fault fewer long stop = (
-      run.given ++ turn ∷ more,
-      (let e = length-append run.given (turn ∷ more) in let f = run.made in let g : length more ≡ turns - n - 1 = length-replicate (turns - n - 1) turn in omega (e, f, g, fewer, arith)),
-      each-append (λ (t : List Given). length t ≡ length served) run.given (turn ∷ more) run.each (long ∙ run.many, each_same (λ (t : List Given). length t ≡ length served) (turns - n - 1) turn (long ∙ run.many)),
-      subst (λ (server : Server). AllStop w served server fault start new) (sym (then_is more))
-          (stop_more served server_next (fold (after_turn config) server_next more) on.0 fault start new on.1 (past_on config server_next more)
-          (stop_then start now new served server_then (turns_of config server_then.sites turn) fault run.finish.did run.grew stop)),
-    )
-      where
-        more : List (List Given)
-        more = replicate (turns - n - 1) turn
-
-        on : (acts : List Act) × ((fold (after_turn config) server_next more).acts ≡ server_next.acts ++ acts)
-        on = acts_on config server_next more
+  -- one ended in the next turn
+  pub run_stops : (config : Config) (cluster : Cluster) (start now new : Places D L O) (served : List Site) (n turns : ℕ) (fault : ServeFault) → (run : HaveRun config cluster start now served n) → n < turns
+      → TurnStops w config (fold (after_turn config) (begun served) run.given).sites fault now new → TurnsStop w config served turns fault start new
+  run_stops config cluster start now new served n turns fault run fewer stops =
+      let server : Server = fold (after_turn config) (begun served) run.given in
+      let at = stops.at in
+      record {
+        given = run.given;
+        fewer = (let made = run.made in omega (made, fewer, arith));
+        each = run.each;
+        at = at;
+        stop = stop_then cluster start now new served server (turns_of config at.front at.earlier).acts (turn_of config at.site at.given) fault run.finish run.grew stops.stop;
+      }

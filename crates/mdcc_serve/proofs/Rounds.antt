@@ -1,27 +1,46 @@
 -- Several centres, each with what it does: its turn, or what is pending at the end.
-use Rattle.std.proofs.Common.{◌≡◌, ◌≢◌, ℕ, ◌+◌, ◌≤◌, ◌<◌, List, [], ◌∷◌, ◌++◌, Result, Ok, Err, length, refl, sym, ◌∙◌, ap, subst, arith, IsTrue, append-nil, append_assoc, get_or, length-append, replicate, set}
+use Rattle.std.proofs.Common.{◌≡◌, ◌≢◌, ℕ, ◌+◌, ◌≤◌, ◌<◌, List, [], ◌∷◌, ◌++◌, Result, Ok, Err, length, refl, sym, ◌∙◌, ap, subst, arith, IsTrue, append-nil, append_assoc, get_or, length-append, set}
 use Rattle.std.proofs.Math.Seq.{get_or-append_seam, set-append_seam}
-use Rattle.std.proofs.lemmas.List.{length-replicate}
 use Rattle.std.specs.List.{AllByRecursion}
 use Rattle.mdcc_base.specs.Counts.{sum_over}
 use Rattle.mdcc_messages.specs.declared.facts.Fact.{Fact}
 use Rattle.mdcc_option.specs.declared.cluster.Cluster.{Cluster}
-use Rattle.mdcc_outbox.proofs.Recorded.{sum_append}
+use Rattle.mdcc_outbox.proofs.Recorded.{answers_append, sum_append}
 use Rattle.mdcc_link.specs.Link.{LinkCall}
 use Rattle.mdcc_runs.specs.Acts.{Act, appended, but_answers, dropped_in, lost_in, steps_in}
 use Rattle.mdcc_runs.specs.Servers.{Server}
 use Rattle.mdcc_runs.specs.Sites.{Doing, Site}
-use Rattle.mdcc_serve.proofs.Doings.{AllOwn, AllWhole, any_past, each_back, each_both, each_by, each_does, each_front, each_join, each_joined, each_long, front_none}
+use Rattle.mdcc_serve.proofs.Doings.{AllOwn, AllWhole, each_back, each_both, each_by, each_does, each_front, each_join, each_joined, each_long, front_none}
+use Rattle.mdcc_serve.proofs.Others.{elsewhere_in, keeps_none, keeps_one, keeps_then}
 use Rattle.mdcc_serve.proofs.Kept.{apart, facts_kept, facts_or_more, site_kept}
 use Rattle.mdcc_serve.specs.Centres.{AllFinish, AllLogs, AllStop, AllTold, Ascend, HoldSites, IsServedAt, Places, all_seen, places}
+use Rattle.mdcc_serve.specs.Others.{IsElsewhere, KeepsElsewhere}
+use Rattle.mdcc_serve.specs.Stages.{InPart}
 use Rattle.mdcc_site.proofs.Going.{comes_under}
-use Rattle.mdcc_site.proofs.Joined.{appended_append, appended_answers, broke_more, did_broke, did_nothing, did_then, facts_expected, facts_then, flight_more}
-use Rattle.mdcc_site.specs.Causes.{SerialsEnd, in_flight}
+use Rattle.mdcc_site.proofs.Joined.{appended_append, appended_answers, did_broke, did_nothing, did_then, facts_expected, facts_then}
+use Rattle.mdcc_site.specs.Causes.{in_flight}
 use Rattle.mdcc_site.specs.Logs.{MayHaveFacts, facts_after, with_facts}
 use Rattle.mdcc_site.specs.Moments.{Adds, Broke, Caused, Did, DiskPasses, KeepsOthers, Leaves, MayComeAt, Moment, Outside, Passes}
-use Rattle.mdcc_site.specs.SiteState.{Finishes, Goes, HoldsSite, OnSerial, SiteLog, Stops, place, seen}
+use Rattle.mdcc_site.specs.SiteState.{Finishes, Goes, HoldsSite, SiteLog, Stops, place, seen}
 use Rattle.mdcc_site.specs.declared.fault.ServeFault.{ServeFault}
 use Rattle.mdcc_site.specs.declared.site.Site.{Site as TheSite}
+
+-- ---- in the part of one
+
+-- what was done before it, and a prefix of it
+pub in_part : (first part before acts rest : List Act) → but_answers before ≡ first → but_answers acts ++ rest ≡ part → InPart first part (before ++ acts) rest
+in_part first part before acts rest done are =
+    record { some = but_answers acts; done = answers_append before acts ∙ ap (λ (xs : List Act). xs ++ but_answers acts) done; are = are }
+
+-- after what was done before that
+pub part_then : (first earlier part before acts rest : List Act) → but_answers before ≡ first → InPart earlier part acts rest → InPart (first ++ earlier) part (before ++ acts) rest
+part_then first earlier part before acts rest done is = record {
+  some = is.some;
+  done =
+      answers_append before acts
+      ∙ (ap (λ (xs : List Act). xs ++ but_answers acts) done ∙ (ap (λ (xs : List Act). first ++ xs) is.done ∙ sym (append_assoc first earlier is.some)));
+  are = is.are;
+}
 
 -- ---- counts
 
@@ -198,6 +217,7 @@ module _ {D L O : Type 0} (w : Outside D L O) where
     pub did : Did w (each_does does front given).acts (all_seen start) (all_seen now)
     pub hold : HoldSites w cluster now.disks now.held ((each_does does front given).sites ++ back)
     pub logs : AllByRecursion (HasLog start.disks now.disks (each_does does front given).acts) served
+    pub others : KeepsElsewhere w.disk w.may_leave served start.disks now.disks
 
   -- what is held has its pending facts
   pub hold_whole : (cluster : Cluster) (disks : D) (held : List TheSite) (sites : List Site) → HoldSites w cluster disks held sites → AllWhole sites
@@ -229,10 +249,11 @@ module _ {D L O : Type 0} (w : Outside D L O) where
 
   -- none is left
   pub all_gone : {G : Type 0} (does : Site → G → Doing) (cluster : Cluster) (start now : Places D L O) (served : List Site) (index : ℕ) → (gone : HaveGone does cluster start now served index) → length now.held ≤ index
-      → (length gone.given ≡ length served) × AllFinish w cluster (each_does does served gone.given) start now
+      → (length gone.given ≡ length served) × AllFinish w cluster served (each_does does served gone.given) start now
   all_gone does cluster start now served index gone over = (
     (let e = gone.many in let f = gone.as_many in let g : length served ≡ length gone.front = ap (λ (sites : List Site). length sites) front_is in omega (e, f, g, arith)),
-    subst (λ (sites : List Site). AllFinish w cluster (each_does does sites gone.given) start now) (sym front_is) (record { did = gone.did; stand = subst (λ (sites : List Site). HoldSites w cluster now.disks now.held sites) whole gone.hold }),
+    subst (λ (sites : List Site). AllFinish w cluster served (each_does does sites gone.given) start now) (sym front_is)
+        (record { did = gone.did; stand = subst (λ (sites : List Site). HoldSites w cluster now.disks now.held sites) whole gone.hold; others = gone.others }),
   )
     where
       by_back : (back : List Site) → gone.back ≡ back → gone.back ≡ []
@@ -258,7 +279,18 @@ module _ {D L O : Type 0} (w : Outside D L O) where
   disks_pass old new passes = record { told = passes.told; faults = passes.faults }
 
   pub none_gone : {G : Type 0} (does : Site → G → Doing) (cluster : Cluster) (start : Places D L O) (served : List Site) → HoldSites w cluster start.disks start.held served → HaveGone does cluster start start served 0
-  none_gone does cluster start served hold = record { front = []; back = served; given = []; are = refl; many = refl; as_many = refl; did = did_nothing w (all_seen start); hold = hold; logs = hold_logs cluster start.disks start.held served hold }
+  none_gone does cluster start served hold = record {
+    front = [];
+    back = served;
+    given = [];
+    are = refl;
+    many = refl;
+    as_many = refl;
+    did = did_nothing w (all_seen start);
+    hold = hold;
+    logs = hold_logs cluster start.disks start.held served hold;
+    others = keeps_none w.disk w.may_leave (IsElsewhere served) start.disks;
+  }
 
   -- one more
   module _ {G : Type 0} (does : Site → G → Doing) (own : AllOwn does) (cluster : Cluster) (start : Places D L O) (served : List Site) (ascend : Ascend 0 served) (index : ℕ) (disks : D) (held : List TheSite) (link : L) (out : O)
@@ -295,6 +327,12 @@ module _ {D L O : Type 0} (w : Outside D L O) where
       low : site.centre ≤ 9
       low = (ascend_back 0 gone.front site back (subst (Ascend 0) whole ascend)).0
 
+      -- the disks of none of them stay
+      others_then : (new_disks : D) → KeepsOthers w.disk w.may_leave site.centre disks new_disks → KeepsElsewhere w.disk w.may_leave served start.disks new_disks
+      others_then new_disks keeps =
+          keeps_then w.disk w.may_leave (IsElsewhere served) start.disks disks new_disks gone.others
+          (keeps_one w.disk w.may_leave (IsElsewhere served) site.centre disks new_disks (λ p is. elsewhere_in served gone.front site back p whole is) keeps)
+
       pub one_gone : (given : G) (new_disks : D) (new : TheSite) (new_link : L) (new_out : O)
           → Finishes w cluster site (does site given) (place disks ours.one link out) (place new_disks new new_link new_out)
           → HaveGone does cluster start (places new_disks (ours.before ++ new ∷ ours.after) new_link new_out) served (index + 1)
@@ -313,6 +351,7 @@ module _ {D L O : Type 0} (w : Outside D L O) where
             (hold_kept cluster disks new_disks site.centre ours.before (each_does does gone.front gone.given).sites low front_other one.others passes ours.hold_front) one.stands
             (hold_kept cluster disks new_disks site.centre ours.after back low back_other one.others passes ours.hold_back));
         logs = logs;
+        others = others_then new_disks one.others;
       }
         where
           passes : DiskPasses w.disk w.may_leave disks new_disks
@@ -362,40 +401,21 @@ module _ {D L O : Type 0} (w : Outside D L O) where
       abbrev pub SiteDoes : G → ServeFault → D → List Act → List Act → Type 0
       SiteDoes given fault new_disks acts rest = SiteLog w site fault disks new_disks acts rest × (but_answers acts ++ rest ≡ (does site given).acts) × MayComeAt (IsTrue (w.disk disks site.centre).told) fault rest
 
-      -- it ended before, whatever is given to those that were to come
-      pub one_stopped : (given : G) (more : List G) (fault : ServeFault) (new_disks : D) (new : TheSite) (new_link : L) (new_out : O)
+      -- it ended in its own part
+      pub one_stopped : (given : G) (fault : ServeFault) (new_disks : D) (new : TheSite) (new_link : L) (new_out : O)
           → Stops w site (does site given) fault (place disks ours.one link out) (place new_disks new new_link new_out)
-          → AllStop w served (each_does does served (gone.given ++ given ∷ more)) fault start (places new_disks (ours.before ++ new ∷ ours.after) new_link new_out)
-      one_stopped given more fault new_disks new new_link new_out one =
-          subst (λ (server : Server). AllStop w served server fault start (places new_disks (ours.before ++ new ∷ ours.after) new_link new_out)) (sym joined) (record {
-            broke = subst (λ (acts : List Act). Broke w (AllTold w start.disks served) (AllLogs w served fault start.disks new_disks) acts fault (all_seen start) (all_seen (places new_disks (ours.before ++ new ∷ ours.after) new_link new_out)))
-                (append_assoc first_acts (does site given).acts (each_does does back more).acts)
-                (broke_more w (each_does does back more).acts weaker (did_broke w here logs gone.did
-                (subst (λ (hs : List TheSite). Broke w (IsTrue (w.disk disks site.centre).told) (SiteDoes given fault new_disks) (does site given).acts fault (all_seen (places disks hs link out)) (all_seen (places new_disks (ours.before ++ new ∷ ours.after) new_link new_out))) (sym ours.are)
-                (broke_all ours.before ours.after disks new_disks ours.one new link new_link out new_out one.broke))));
-            serials = serials fault one.serials;
-            no_boot = one.no_boot;
-          })
+          → AllStop w served first_acts (does site given) fault start (places new_disks (ours.before ++ new ∷ ours.after) new_link new_out)
+      one_stopped given fault new_disks new new_link new_out one = record {
+        broke = did_broke w here parts gone.did
+            (subst (λ (hs : List TheSite). Broke w (IsTrue (w.disk disks site.centre).told) (SiteDoes given fault new_disks) (does site given).acts fault (all_seen (places disks hs link out)) (all_seen (places new_disks (ours.before ++ new ∷ ours.after) new_link new_out))) (sym ours.are)
+            (broke_all ours.before ours.after disks new_disks ours.one new link new_link out new_out one.broke));
+        serials = one.serials;
+        no_boot = one.no_boot;
+        others = others_then new_disks one.others;
+      }
         where
-          joined : each_does does served (gone.given ++ given ∷ more)
-              ≡ record { acts = first_acts ++ ((does site given).acts ++ (each_does does back more).acts); sites = (each_does does gone.front gone.given).sites ++ (does site given).site ∷ (each_does does back more).sites }
-          joined = ap (λ (sites : List Site). each_does does sites (gone.given ++ given ∷ more)) whole ∙ each_joined does gone.front (site ∷ back) gone.given (given ∷ more) same_length
-
           here : (rest : List Act) → MayComeAt (IsTrue (w.disk disks site.centre).told) fault rest → MayComeAt (AllTold w start.disks served) fault rest
           here rest comes = comes_under fault rest (λ (all : AllTold w start.disks served). subst IsTrue (sym (gone.did.passes.told site.centre)) (each_back _ gone.front (site ∷ back) (subst (λ (sites : List Site). AllTold w start.disks sites) whole all)).0) comes
-
-          weaker : (acts rest : List Act) → MayComeAt (AllTold w start.disks served) fault rest → AllLogs w served fault start.disks new_disks acts rest → AllLogs w served fault start.disks new_disks acts (rest ++ (each_does does back more).acts)
-          weaker acts rest comes all = each_by served all (λ s has told. subst (λ (o : List Fact). MayHaveFacts w.disk w.may_leave new_disks s.centre (facts_after s.centre s.logged acts) o)
-              (sym (flight_more (AllTold w start.disks served) fault s.centre rest (each_does does back more).acts comes)) (has told))
-
-          serials : (f : ServeFault) → OnSerial f (does site given).site.sent → SerialsEnd ((each_does does gone.front gone.given).sites ++ (does site given).site ∷ (each_does does back more).sites) f
-          serials (ServeFault.Disk a) past = tt
-          serials (ServeFault.Log a why) past = tt
-          serials (ServeFault.Boot a why) past = tt
-          serials ServeFault.Link past = tt
-          serials ServeFault.Output past = tt
-          serials ServeFault.Serial past = any_past (each_does does gone.front gone.given).sites (does site given).site (each_does does back more).sites past
-          serials ServeFault.Memory past = tt
 
           other_sites : Elsewhere site.centre gone.front × Elsewhere site.centre back
           other_sites = ((ascend_front 0 gone.front site back (subst (Ascend 0) whole ascend)).1, (ascend_back 0 gone.front site back (subst (Ascend 0) whole ascend)).1)
@@ -433,6 +453,10 @@ module _ {D L O : Type 0} (w : Outside D L O) where
                   (sym (facts_then site.centre site.logged first_acts acts ∙ ap (λ (fs : List Fact). facts_after site.centre (with_facts site.logged fs) acts) quiet) ∙ same_facts site.centre site.logged)
                   (q.0 (subst IsTrue (sym (gone.did.passes.told site.centre)) told))
 
+          parts : (before acts rest : List Act) → but_answers before ≡ first_acts → SiteDoes given fault new_disks acts rest
+              → AllLogs w served fault start.disks new_disks (before ++ acts) rest × InPart first_acts (does site given).acts (before ++ acts) rest
+          parts before acts rest are q = (logs before acts rest are q, in_part first_acts (does site given).acts before acts rest are q.1)
+
   -- ---- the next one, where it is held
 
   -- it did its part, and is held there afterwards
@@ -441,6 +465,17 @@ module _ {D L O : Type 0} (w : Outside D L O) where
     pub next : TheSite
     pub held : new.held ≡ set old.held index next
     pub goes : Goes w cluster site (does site given) result (place old.disks one old.link old.out) (place new.disks next new.link new.out)
+
+  -- The first ones did their parts, and one ended in its own.
+  pub record MidRound {G : Type 0} (does : Site → G → Doing) (served : List Site) (fault : ServeFault) (start new : Places D L O) : Type 0 where
+    pub front : List Site
+    pub site : Site
+    pub back : List Site
+    pub are : served ≡ front ++ site ∷ back
+    pub earlier : List G
+    pub as_many : length earlier ≡ length front
+    pub given : G
+    pub stop : AllStop w served (each_does does front earlier).acts (does site given) fault start new
 
   module _ {G : Type 0} (does : Site → G → Doing) (own : AllOwn does) (cluster : Cluster) (start now new : Places D L O) (served : List Site) (index : ℕ) (ascend : Ascend 0 served) (gone : HaveGone does cluster start now served index) (within : index < length now.held) where
     next_site : (site : Site) × (back : List Site) × (gone.back ≡ site ∷ back)
@@ -467,26 +502,20 @@ module _ {D L O : Type 0} (w : Outside D L O) where
         subst (λ (hs : List TheSite). HaveGone does cluster start (places new.disks hs new.link new.out) served (index + 1)) (sym (held_then went.next went.held))
         (one_gone does own cluster start served ascend index now.disks now.held now.link now.out gone next_site.0 next_site.1 next_site.2 went.given new.disks went.next new.link new.out went.goes)
 
-    -- it ended before, whatever is given to those that were to come
+    -- it ended in its own part
     pub next_stopped : (fault : ServeFault)
         → ((one : TheSite) (site : Site) → ((d : TheSite) → get_or now.held index d ≡ one) → HoldsSite w cluster now.disks one site → GoesAt does cluster one site index (Err fault) now new)
-        → (given : List G) × (length given ≡ length served) × AllStop w served (each_does does served given) fault start new
+        → MidRound does served fault start new
     next_stopped fault each =
         let went : GoesAt does cluster next_one.one next_site.0 index (Err fault) now new = each next_one.one next_site.0 next_at next_one.holds in
-        let more : List G = replicate (length next_site.1) went.given in
-        let long : length (gone.given ++ went.given ∷ more) ≡ length served = given_long went.given in
-        let stop : AllStop w served (each_does does served (gone.given ++ went.given ∷ more)) fault start new =
-        subst (λ (hs : List TheSite). AllStop w served (each_does does served (gone.given ++ went.given ∷ more)) fault start (places new.disks hs new.link new.out)) (sym (held_then went.next went.held))
-        (one_stopped does own cluster start served ascend index now.disks now.held now.link now.out gone next_site.0 next_site.1 next_site.2 went.given more fault new.disks went.next new.link new.out went.goes) in
-        (gone.given ++ went.given ∷ more, long, stop)
-      where
-        given_long : (given : G) → length (gone.given ++ given ∷ replicate (length next_site.1) given) ≡ length served
-        given_long given =
-            let a = length-append gone.given (given ∷ replicate (length next_site.1) given) in
-            let b = length-replicate (length next_site.1) given in
-            let c = length-append gone.front (next_site.0 ∷ next_site.1) in
-            let d : length served ≡ length (gone.front ++ next_site.0 ∷ next_site.1) =
-            ap (λ (sites : List Site). length sites) (gone.are ∙ ap (λ (sites : List Site). gone.front ++ sites) next_site.2) in
-            let e = gone.many in
-            let f = gone.as_many in
-            omega (a, b, c, d, e, f, arith)
+        record {
+          front = gone.front;
+          site = next_site.0;
+          back = next_site.1;
+          are = gone.are ∙ ap (λ (sites : List Site). gone.front ++ sites) next_site.2;
+          earlier = gone.given;
+          as_many = gone.as_many ∙ sym gone.many;
+          given = went.given;
+          stop = subst (λ (hs : List TheSite). AllStop w served (each_does does gone.front gone.given).acts (does next_site.0 went.given) fault start (places new.disks hs new.link new.out)) (sym (held_then went.next went.held))
+              (one_stopped does own cluster start served ascend index now.disks now.held now.link now.out gone next_site.0 next_site.1 next_site.2 went.given fault new.disks went.next new.link new.out went.goes);
+        }

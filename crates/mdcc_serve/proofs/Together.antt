@@ -10,10 +10,14 @@ use Rattle.mdcc_option.specs.declared.cluster.Cluster.{Cluster}
 use Rattle.mdcc_rules.specs.Boot.{next_boot}
 use Rattle.mdcc_rules.specs.declared.node.BootFault.{BootFault}
 use Rattle.mdcc_runs.specs.Acts.{Act, appended}
-use Rattle.mdcc_runs.specs.Servers.{Log, starts}
+use Rattle.mdcc_runs.specs.Servers.{Log, site_of, starts}
+use Rattle.mdcc_runs.specs.Sites.{Site}
 use Rattle.mdcc_serve.proofs.Kept.{apart, facts_kept, facts_or_more, log_kept}
+use Rattle.mdcc_serve.proofs.Doings.{each_front as each_front_site}
 use Rattle.mdcc_serve.proofs.Opened.{durable_has}
+use Rattle.mdcc_serve.proofs.Others.{elsewhere_in, keeps_fewer, keeps_none, keeps_one, keeps_then, unserved_logs}
 use Rattle.mdcc_serve.proofs.Started.{caused_on, passes_on}
+use Rattle.mdcc_serve.specs.Others.{IsElsewhere, IsNoDiskOf, IsUnserved, KeepsElsewhere, KeepsUnserved}
 use Rattle.mdcc_serve.specs.Serving.{AreLogsOf, IsDurable, IsLogOf}
 use Rattle.mdcc_serve.specs.Starts.{AreHeld, FailToStart, FailsToStart, Follow, HasStarted, HaveStarted, IsUntouched, IsOfStart, StopOver, StopsOver, starting}
 use Rattle.mdcc_site.proofs.Joined.{appended_append}
@@ -63,6 +67,10 @@ not_is a b other = elim (cases_Bool (a == b)) [
   | inl e ↦ absurd (other (eqb-true a b e))
   | inr e ↦ e
 ]
+
+sites_append : (xs ys : List Log) → (starts (xs ++ ys)).sites ≡ (starts xs).sites ++ (starts ys).sites
+sites_append [] ys = refl
+sites_append (x ∷ xs) ys = ap (λ (sites : List Site). site_of x ∷ sites) (sites_append xs ys)
 
 quiet_at : (n c : ℕ) (xs : List Log) → Follow n xs → n + length xs ≤ c → appended c (starts xs).acts ≡ []
 quiet_at n c [] f later = refl
@@ -197,6 +205,11 @@ module _ {D : Type 0} (disk : D → ℕ → Disk) (may_leave : D → ℕ → Lis
 
   -- ---- none yet
 
+  -- what is kept by those that run
+  unserved_kept : (first end : ℕ) (old new : D) (logs : List Log) → Follow first logs → first + length logs ≤ end → KeepsElsewhere disk may_leave (starts logs).sites old new → KeepsUnserved disk may_leave first end old new
+  unserved_kept first end old new logs follow few keeps =
+      keeps_fewer disk may_leave (IsElsewhere (starts logs).sites) (IsUnserved first end) old new (λ p is. unserved_logs first end p logs follow few is) keeps
+
   pub none_started : (cluster : Cluster) (first : ℕ) (disks : D) → HaveStarted disk may_leave cluster first [] disks disks
   none_started cluster first disks = record {
     logs = [];
@@ -205,6 +218,7 @@ module _ {D : Type 0} (disk : D → ℕ → Disk) (may_leave : D → ℕ → Lis
     each = tt;
     passes = disks_same disk may_leave disks;
     later = λ a after few. record { first = refl; second = refl; crash_first = λ c left. left; crash_second = λ c left. left };
+    others = keeps_none disk may_leave (IsElsewhere []) disks;
     kept = λ log few is durable. durable_has disk may_leave disks log [] durable is.has;
     over = λ before follow are few. (before, refl);
   }
@@ -251,12 +265,22 @@ module _ {D : Type 0} (disk : D → ℕ → Disk) (may_leave : D → ℕ → Lis
         later = λ b after most.
             let e = length-append held (next ∷ []) in
             untouched_on old mid new b a most few (λ same. absurd (omega (e, after, same, here, arith))) has.others (started.later b (omega (e, after, arith)) most);
+        others = others;
         kept = kept;
         over = over;
       }
         where
           below : AllByRecursion (λ log. log.centre < a) started.logs
           below = subst (λ (m : ℕ). AllByRecursion (λ log. log.centre < m) started.logs) (sym many) (follow_front first started.logs [] (subst (λ (xs : List Log). Follow first xs) (sym (append-nil started.logs)) started.follow))
+
+          others : KeepsElsewhere disk may_leave (starts (started.logs ++ has.log ∷ [])).sites old new
+          others =
+              subst (λ (sites : List Site). KeepsElsewhere disk may_leave sites old new) (sym (sites_append started.logs (has.log ∷ [])))
+              (keeps_then disk may_leave (IsElsewhere ((starts started.logs).sites ++ site_of has.log ∷ [])) old mid new
+              (keeps_fewer disk may_leave (IsElsewhere (starts started.logs).sites) (IsElsewhere ((starts started.logs).sites ++ site_of has.log ∷ [])) old mid
+              (λ p is. each_front_site (λ (s : Site). IsNoDiskOf p s.centre) (starts started.logs).sites (site_of has.log ∷ []) is) started.others)
+              (keeps_one disk may_leave (IsElsewhere ((starts started.logs).sites ++ site_of has.log ∷ [])) a mid new
+              (λ p is. subst (λ (n : ℕ). IsNoDiskOf p n) has.of (elsewhere_in ((starts started.logs).sites ++ site_of has.log ∷ []) (starts started.logs).sites (site_of has.log) [] p refl is)) has.others))
 
           kept : (log : Log) → log.centre ≤ 9 → IsLogOf disk cluster old log → IsDurable disk may_leave old log
               → MayHaveFacts disk may_leave new log.centre (facts_after log.centre log.facts (starts (started.logs ++ has.log ∷ [])).acts) []
@@ -291,6 +315,9 @@ module _ {D : Type 0} (disk : D → ℕ → Disk) (may_leave : D → ℕ → Lis
         of = fails.of;
         cause = caused_on disk may_leave fault old mid new started.passes fails.cause;
         passes = passes_on disk may_leave started.passes fails.passes;
+        others = keeps_then disk may_leave (IsUnserved first (first + count)) old mid new
+            (unserved_kept first (first + count) old mid started.logs started.follow (let e = started.as_many in omega (e, fewer, arith)) started.others)
+            (keeps_one disk may_leave (IsUnserved first (first + count)) a mid new (λ p is. is a (omega (here, arith)) (omega (here, fewer, arith))) fails.others);
         over = λ logs follow long are.
             let next = some_left count logs follow are long fewer in
             stops logs next.1 next.0 next.2 (next_of logs next.1 next.0 follow next.2) follow long are;
@@ -374,6 +401,7 @@ module _ {D : Type 0} (disk : D → ℕ → Disk) (may_leave : D → ℕ → Lis
     of = tt;
     cause = tt;
     passes = started.passes;
+    others = unserved_kept first (first + count) old new started.logs started.follow (let e = started.as_many in omega (e, enough, arith)) started.others;
     over = λ logs follow long are.
         let front = started.over logs follow are (omega (long, enough, arith)) in
         record {

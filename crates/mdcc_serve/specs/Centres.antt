@@ -1,18 +1,20 @@
 -- Several centres that are served, in ascending order.
 use Rattle.std.specs.List.{AllByRecursion}
-use Rattle.std.specs.Prelude.{Err, IsTrue, List, Ok, Result, [], slice_index_or, slice_set, ⊤, ℕ, ◌<◌, ◌∷◌, ◌≡◌, ◌≤◌}
+use Rattle.std.specs.Prelude.{Err, IsTrue, List, Ok, Result, [], length, slice_index_or, slice_set, ⊤, ℕ, ◌++◌, ◌<◌, ◌∷◌, ◌≡◌, ◌≤◌}
 use Rattle.mdcc_base.specs.Counts.{sum_over}
 use Rattle.mdcc_config.specs.declared.config.Config.{Config}
 use Rattle.mdcc_option.specs.declared.cluster.Cluster.{Cluster}
 use Rattle.mdcc_runs.specs.Acts.{Act}
 use Rattle.mdcc_runs.specs.Sending.{persist_then_send}
-use Rattle.mdcc_runs.specs.Servers.{Server}
-use Rattle.mdcc_runs.specs.Sites.{Site}
+use Rattle.mdcc_runs.specs.Servers.{Server, persist_all_then_send, turns_of}
+use Rattle.mdcc_runs.specs.Sites.{Doing, Site}
 use Rattle.mdcc_runs.specs.Turns.{Given, turn_of}
-use Rattle.mdcc_site.specs.Causes.{IsNoBoot, SerialsEnd, in_flight}
+use Rattle.mdcc_serve.specs.Others.{KeepsElsewhere}
+use Rattle.mdcc_serve.specs.Stages.{InPart, MidEnd, MidTurn, after_these}
+use Rattle.mdcc_site.specs.Causes.{IsNoBoot, in_flight}
 use Rattle.mdcc_site.specs.Logs.{MayHaveFacts, facts_after}
 use Rattle.mdcc_site.specs.Moments.{Broke, Did, Moment, Outside}
-use Rattle.mdcc_site.specs.SiteState.{Goes, HoldsSite, IsServed, place}
+use Rattle.mdcc_site.specs.SiteState.{Goes, HoldsSite, IsServed, OnSerial, place}
 use Rattle.mdcc_site.specs.declared.fault.ServeFault.{ServeFault}
 use Rattle.mdcc_site.specs.declared.site.Site.{Site as TheSite}
 
@@ -63,20 +65,67 @@ module _ {D L O : Type 0} (w : Outside D L O) where
     pub stand : HoldSites cluster disks held sites
     pub ascend : Ascend 0 sites
 
-  -- they did all that they were to do
-  pub record AllFinish (cluster : Cluster) (server : Server) (old new : Places D L O) : Type 0 where
+  -- these centres did all that they were to do
+  pub record AllFinish (cluster : Cluster) (sites : List Site) (server : Server) (old new : Places D L O) : Type 0 where
     pub did : Did w server.acts (all_seen old) (all_seen new)
     pub stand : HoldSites cluster new.disks new.held server.sites
+    pub others : KeepsElsewhere w.disk w.may_leave sites old.disks new.disks
 
-  -- they ended before
-  pub record AllStop (sites : List Site) (server : Server) (fault : ServeFault) (old new : Places D L O) : Type 0 where
-    pub broke : Broke w (AllTold old.disks sites) (AllLogs sites fault old.disks new.disks) server.acts fault (all_seen old) (all_seen new)
-    pub serials : SerialsEnd server.sites fault
+  -- These centres ended before, in the part of one of them, when these acts before it were done.
+  pub record AllStop (sites : List Site) (before : List Act) (doing : Doing) (fault : ServeFault) (old new : Places D L O) : Type 0 where
+    pub broke : Broke w (AllTold old.disks sites) (λ acts rest. AllLogs sites fault old.disks new.disks acts rest × InPart before doing.acts acts rest) (before ++ doing.acts) fault (all_seen old) (all_seen new)
+    pub serials : OnSerial fault doing.site.sent
     pub no_boot : IsNoBoot fault
+    pub others : KeepsElsewhere w.disk w.may_leave sites old.disks new.disks
 
-  abbrev pub AllGo : {T : Type 0} → Cluster → List Site → Server → Result T ServeFault → Places D L O → Places D L O → Type 0
-  AllGo cluster sites server (Ok done) old new = AllFinish cluster server old new
-  AllGo cluster sites server (Err fault) old new = AllStop sites server fault old new
+  -- ---- a turn of all of them
+
+  -- each had its own
+  pub record TurnMade (config : Config) (sites : List Site) (old new : Places D L O) : Type 0 where
+    pub given : List Given
+    pub as_many : length given ≡ length sites
+    pub finish : AllFinish config.cluster sites (turns_of config sites given) old new
+
+  -- one ended in its own
+  pub record TurnStops (config : Config) (sites : List Site) (fault : ServeFault) (old new : Places D L O) : Type 0 where
+    pub at : MidTurn sites
+    pub stop : AllStop sites (turns_of config at.front at.earlier).acts (turn_of config at.site at.given) fault old new
+
+  abbrev pub HaveTurn : Config → List Site → Result (Unit {0}) ServeFault → Places D L O → Places D L O → Type 0
+  HaveTurn config sites (Ok done) old new = TurnMade config sites old new
+  HaveTurn config sites (Err fault) old new = TurnStops config sites fault old new
+
+  -- ---- so many turns
+
+  -- all were made
+  pub record TurnsMade (config : Config) (sites : List Site) (turns : ℕ) (old new : Places D L O) : Type 0 where
+    pub given : List (List Given)
+    pub made : length given ≡ turns
+    pub each : AllByRecursion (λ turn. length turn ≡ length sites) given
+    pub finish : AllFinish config.cluster sites (after_these config sites given) old new
+
+  -- one ended in a turn after these
+  pub record TurnsStop (config : Config) (sites : List Site) (turns : ℕ) (fault : ServeFault) (old new : Places D L O) : Type 0 where
+    pub given : List (List Given)
+    pub fewer : length given < turns
+    pub each : AllByRecursion (λ turn. length turn ≡ length sites) given
+    pub at : MidTurn (after_these config sites given).sites
+    pub stop : AllStop sites ((after_these config sites given).acts ++ (turns_of config at.front at.earlier).acts) (turn_of config at.site at.given) fault old new
+
+  abbrev pub HaveTurns : Config → List Site → ℕ → Result (Unit {0}) ServeFault → Places D L O → Places D L O → Type 0
+  HaveTurns config sites turns (Ok done) old new = TurnsMade config sites turns old new
+  HaveTurns config sites turns (Err fault) old new = TurnsStop config sites turns fault old new
+
+  -- ---- what is pending after the last turn
+
+  -- it did not all go out
+  pub record EndStops (config : Config) (sites : List Site) (fault : ServeFault) (old new : Places D L O) : Type 0 where
+    pub at : MidEnd sites
+    pub stop : AllStop sites (persist_all_then_send config at.front).acts (persist_then_send config at.site) fault old new
+
+  abbrev pub HaveEnded : Config → List Site → Result (Unit {0}) ServeFault → Places D L O → Places D L O → Type 0
+  HaveEnded config sites (Ok done) old new = AllFinish config.cluster sites (persist_all_then_send config sites) old new
+  HaveEnded config sites (Err fault) old new = EndStops config sites fault old new
 
   -- ---- one of them
 

@@ -1,7 +1,10 @@
 pub mod Centres
 pub mod Ends
 pub mod Openings
+pub mod Others
 pub mod Refusals
 pub mod Serving
+pub mod Stages
 pub mod Starts
+pub mod Stays
 pub mod Totals

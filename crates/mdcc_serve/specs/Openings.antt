@@ -9,15 +9,15 @@ use Rattle.mdcc_link.specs.Link.{LinkCall}
 use Rattle.mdcc_outbox.specs.Shows.{Records, calls_of}
 use Rattle.mdcc_runs.specs.Acts.{Act, printed}
 use Rattle.mdcc_runs.specs.Servers.{Log, bound_at, opened}
-use Rattle.mdcc_runs.specs.Sites.{Site}
 use Rattle.mdcc_runs.specs.declared.lines.ServerLine.{ServerLine}
 use Rattle.mdcc_serve.specs.Centres.{AllFinish, Ascend, Places, all_seen}
+use Rattle.mdcc_serve.specs.Others.{KeepsUnserved}
 use Rattle.mdcc_serve.specs.Serving.{AreLogsOf, IsDurable}
 use Rattle.mdcc_serve.specs.Starts.{Follow}
-use Rattle.mdcc_site.specs.Causes.{BootsRefused, IsAtLink, IsPrinting, IsSafeAt, SerialsEnd, failed_next, in_flight, text_begun}
+use Rattle.mdcc_site.specs.Causes.{BootsRefused, IsAtLink, IsPrinting, IsSafeAt, failed_next, in_flight, text_begun}
 use Rattle.mdcc_site.specs.Logs.{MayHaveFacts, facts_after}
 use Rattle.mdcc_site.specs.Moments.{Broke, Caused, Outside}
-use Rattle.mdcc_site.specs.SiteState.{PrintsAll}
+use Rattle.mdcc_site.specs.SiteState.{OnSerial, PrintsAll}
 use Rattle.mdcc_site.specs.declared.fault.ServeFault.{ServeFault}
 use Rattle.mdcc_site.specs.declared.site.Site.{Site as TheSite}
 
@@ -77,7 +77,7 @@ module _ {D L O : Type 0} (w : Outside D L O) where
     pub logs : List Log
     pub follow : Follow first logs
     pub many : length logs + first ≡ last + 1
-    pub finish : AllFinish w config.cluster (opened config logs) old new
+    pub finish : AllFinish w config.cluster (opened config logs).sites (opened config logs) old new
     pub ascend : Ascend 0 (opened config logs).sites
     pub over : (before : List Log) → Follow first before → length before + first ≡ last + 1 → AreLogsOf w.disk config.cluster old.disks before → logs ≡ before
 
@@ -96,5 +96,6 @@ module _ {D L O : Type 0} (w : Outside D L O) where
   -- It ended before.
   pub record FailsToOpen (tears : ℕ → Type 0) (config : Config) (first last : ℕ) (fault : ServeFault) (old new : Places D L O) : Type 0 where
     pub cause : Caused w fault (all_seen old) (all_seen new)
-    pub serials : (sites : List Site) → SerialsEnd sites fault
+    pub serials : OnSerial fault 0
+    pub others : KeepsUnserved w.disk w.may_leave first (last + 1) old.disks new.disks
     pub over : (logs : List Log) → Follow first logs → length logs + first ≡ last + 1 → AreLogsOf w.disk config.cluster old.disks logs → StopsOpening tears config logs fault old new

@@ -2,7 +2,8 @@
 use Rattle.std.specs.Prelude.{Err, IsTrue, List, Ok, Result, is_ok, ⊤, ℕ, ◌<◌, ◌≡◌, ◌≤◌, ◌⊎◌}
 use Rattle.mdcc_log_file.specs.declared.fault.LogFault.{LogFault}
 use Rattle.mdcc_disks.specs.Disks.{Disk}
-use Rattle.mdcc_endings.specs.Logs.{IsTold, LogRefusal, booted, node_at}
+use Rattle.mdcc_endings.specs.Logs.{IsTold, LogRefusal, node_at}
+use Rattle.mdcc_centre.specs.Nodes.{booted}
 use Rattle.mdcc_option.specs.declared.cluster.Cluster.{Cluster}
 use Rattle.mdcc_rules.specs.declared.node.BootFault.{BootFault}
 use Rattle.mdcc_site.specs.declared.fault.ServeFault.{ServeFault}

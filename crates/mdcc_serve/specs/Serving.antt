@@ -7,23 +7,20 @@ use Rattle.mdcc_config.specs.declared.config.Config.{Config}
 use Rattle.mdcc_disks.specs.Disks.{Disk, Only}
 use Rattle.mdcc_link.specs.Link.{LinkCall}
 use Rattle.mdcc_option.specs.declared.cluster.Cluster.{Cluster}
-use Rattle.mdcc_restart.specs.Logged.{AreLogged}
+use Rattle.mdcc_centre.specs.Logged.{AreLogged}
 use Rattle.mdcc_runs.specs.Acts.{Act, but_answers, dropped_in, lost_in, printed, steps_in}
 use Rattle.mdcc_runs.specs.Servers.{Log, served}
 use Rattle.mdcc_runs.specs.Sites.{Site}
 use Rattle.mdcc_runs.specs.Turns.{Given}
-use Rattle.mdcc_runs.specs.declared.lines.ServerLine.{ServerLine}
-use Rattle.mdcc_site.specs.Causes.{BootsRefused, ComesAt, IsSafeAt, SerialsEnd, failed_by, in_flight, text_begun}
+use Rattle.mdcc_site.specs.Causes.{BootsRefused, ComesAt, IsSafeAt, failed_by, in_flight, text_begun}
 use Rattle.mdcc_outbox.specs.Shows.{Records, calls_of, counted, failed_in}
 use Rattle.mdcc_site.specs.Logs.{HasFacts, KeepsFacts, MayHaveFacts, facts_after}
 use Rattle.mdcc_site.specs.Room.{OnFull}
 use Rattle.mdcc_site.specs.declared.fault.ServeFault.{ServeFault}
+use Rattle.mdcc_serve.specs.Stages.{StopsAt, done_line}
 use Rattle.mdcc_serve.specs.declared.served.Served.{Served}
 
 -- ---- the acts
-
-abbrev pub done_line : ℕ → List Act → ServerLine
-done_line turns acts = ServerLine.Done turns (counted (steps_in acts)) (counted (dropped_in acts)) (counted (lost_in acts))
 
 -- The acts of a server over these logs, for what its receives gave in each of so many turns, whatever the link answered to sends,
 -- with the last line.
@@ -78,18 +75,17 @@ module _ {D L O : Type 0} (disk : D → ℕ → Disk) (may_leave : D → ℕ →
     pub dropped_told : result.dropped ≡ counted (dropped_in acts)
     pub lost_told : result.lost ≡ counted (lost_in acts)
 
-  -- It ended before: a prefix of the acts was done, and this is what comes next. A log that was durable has the facts that were
-  -- appended, or where its disk failed perhaps those that were being appended too, all of them, whatever a crash leaves of it; at a boot,
-  -- where the log is opened, so it is on disks that tear no byte to 1.
+  -- It ended before: of the turns that were made a prefix of the acts was done, and this is what comes next. A log that was durable has
+  -- the facts that were appended, or where its disk failed perhaps those that were being appended too, all of them, whatever a crash
+  -- leaves of it; at a boot, where the log is opened, so it is on disks that tear no byte to 1.
   pub record BreaksOff (config : Config) (logs : List Log) (turns : ℕ) (fault : ServeFault) (disks_old disks : D) (link_old link_new : L) (out_old out_new : O) : Type 0 where
     pub acts : List Act
     pub rest : List Act
-    pub run : IsRun config logs turns (acts ++ rest)
+    pub stops : StopsAt config logs turns fault acts rest
     pub comes : ComesAt fault rest
     pub boots : BootsRefused config.cluster logs fault
     -- a log is said to be full only where it has no room for the facts that come next
     pub full : OnFull disk may_leave disks fault rest
-    pub serials : SerialsEnd (served config logs run.given).sites fault
     pub printed_more : ℕ
     pub left : Leaves acts (failed_by fault rest) (take printed_more (text_begun fault rest)) link_old link_new out_old out_new
     pub kept : AllByRecursion (IsDurable disk may_leave disks_old) logs → IsSafeAt tears fault rest → AllByRecursion (λ log. MayHaveFacts disk may_leave disks log.centre (facts_after log.centre log.facts acts) (in_flight fault log.centre rest)) logs

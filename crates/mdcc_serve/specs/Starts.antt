@@ -1,35 +1,37 @@
 -- What the start of a centre does, and that of several.
 use Rattle.std.specs.List.{AllByRecursion}
 use Rattle.std.specs.Prelude.{IsTrue, List, Ok, [], length, ⊤, ℕ, ◌+◌, ◌++◌, ◌∷◌, ◌≡◌, ◌≤◌, ◌⊎◌}
-use Rattle.mdcc_admission.specs.Loading.{AreShort}
-use Rattle.mdcc_log.specs.Area.{payloads}
-use Rattle.mdcc_log.specs.AtRest.{IsAtRest}
-use Rattle.mdcc_log.specs.Frames.{OpenAreas}
 use Rattle.mdcc_disks.specs.Disks.{Disk, Within}
-use Rattle.mdcc_site.specs.Nodes.{CentreStore, IsNodeOf}
+use Rattle.mdcc_centre.specs.Nodes.{CentreStore, IsNodeOf}
 use Rattle.mdcc_messages.specs.Spelling.{encodings_of}
 use Rattle.mdcc_messages.specs.declared.facts.Fact.{Fact}
 use Rattle.mdcc_node.specs.declared.node.Node.{Node}
 use Rattle.mdcc_option.specs.declared.cluster.Cluster.{Cluster}
+use Rattle.mdcc_protocol.specs.Facts.{epoch_of}
 use Rattle.mdcc_protocol.specs.Volatile.{initial_volatile}
-use Rattle.mdcc_restart.specs.Logged.{AreLogged}
+use Rattle.mdcc_centre.specs.Logged.{AreLogged}
+use Rattle.mdcc_centre.specs.declared.fault.StartFault.{StartFault}
+use Rattle.mdcc_centre.specs.declared.starting.Running.{Running}
 use Rattle.mdcc_rules.specs.Boot.{next_boot}
 use Rattle.mdcc_rules.specs.declared.node.BootFault.{BootFault}
 use Rattle.mdcc_runs.specs.Acts.{Act}
 use Rattle.mdcc_runs.specs.Servers.{Log, site_of, starts}
+use Rattle.mdcc_serve.specs.Others.{KeepsElsewhere, KeepsUnserved}
 use Rattle.mdcc_serve.specs.Serving.{AreLogsOf, IsDurable, IsLogOf}
+use Rattle.mdcc_serve.specs.Stays.{LogStays, UnlessDisk}
 use Rattle.mdcc_site.specs.Causes.{BootsRefused, ComesAt, IsBootRefused, IsSafeAt, in_flight}
-use Rattle.mdcc_site.specs.LogEffects.{CausedOn}
-use Rattle.mdcc_site.specs.Logs.{MayHaveFacts, checkpoint_every, facts_after}
+use Rattle.mdcc_site.specs.LogEffects.{CausedOn, log_fault_of}
+use Rattle.mdcc_site.specs.Logs.{MayHaveFacts, facts_after}
 use Rattle.mdcc_site.specs.Moments.{DiskPasses, KeepsOthers}
 use Rattle.mdcc_site.specs.Room.{OnFull}
-use Rattle.mdcc_site.specs.SiteState.{HoldsLog, IsSite, OpenLog}
+use Rattle.mdcc_site.specs.SiteState.{HoldsLog, IsSite}
 use Rattle.mdcc_site.specs.declared.fault.ServeFault.{ServeFault}
 use Rattle.mdcc_site.specs.declared.site.Site.{Site as TheSite}
 use Rattle.mdcc_steps.specs.NodeInvariant.{IsNode}
 
 -- ---- its node
 
+-- a fault of a boot as a server's
 abbrev pub boot_fault_of : ℕ → BootFault → ServeFault
 boot_fault_of centre BootFault.Memory = ServeFault.Memory
 boot_fault_of centre fault = ServeFault.Boot centre fault
@@ -49,6 +51,12 @@ abbrev pub GivesNone : Cluster → ℕ → List (List ℕ) → ServeFault → Ty
 GivesNone cluster centre all fault =
     (fault ≡ ServeFault.Memory)
     ⊎ ((why : BootFault) × (fault ≡ ServeFault.Boot centre why) × ((before : List Fact) → AreLogged cluster before → all ≡ encodings_of before → IsBootRefused cluster before why))
+
+-- a fault of a start as a server's
+abbrev pub start_fault_of : ℕ → StartFault → ServeFault
+start_fault_of centre (StartFault.Log fault) = log_fault_of centre fault
+start_fault_of centre (StartFault.Boot fault) = boot_fault_of centre fault
+start_fault_of centre StartFault.Memory = ServeFault.Memory
 
 -- ---- its log
 
@@ -71,26 +79,16 @@ pub record IsFresh (held : TheSite) : Type 0 where
   pub lost : held.sender.lost ≡ 0
 
 module _ {D : Type 0} (disk : D → ℕ → Disk) (may_leave : D → ℕ → List ℕ → Type 0) where
-  -- A log is open, with these payloads, all of them durable.
-  pub record IsOpened (centre : ℕ) (log : OpenAreas) (all : List (List ℕ)) (old new : D) : Type 0 where
-    pub of : log.centre ≡ centre
-    pub every : log.every ≡ checkpoint_every
-    pub range : log.area ≤ 1
-    pub short : AreShort all
-    pub read : IsTrue (disk old centre).told → payloads (disk old centre).bytes (disk old (centre + 16)).bytes ≡ Ok all
-    pub at_rest : IsTrue (disk old centre).told → IsAtRest disk may_leave new log all
-    pub passes : DiskPasses disk may_leave old new
-    pub others : KeepsOthers disk may_leave centre old new
-
-  -- The node is booted from the open log, which has not the new boot.
-  pub record IsBooted (cluster : Cluster) (centre : ℕ) (node : Node CentreStore) (log : OpenAreas) (boot : Fact) (old new : D) : Type 0 where
+  -- The node has the facts of its log and the next boot, and so has the open log, all of them durable.
+  pub record IsRunning (cluster : Cluster) (centre : ℕ) (running : Running CentreStore) (old new : D) : Type 0 where
     pub facts : List Fact
-    pub itself : IsNodeOf node cluster centre (next_boot facts ∷ facts) initial_volatile
+    pub itself : IsNodeOf running.node cluster centre (next_boot facts ∷ facts) initial_volatile
     pub kept : IsNode cluster centre (next_boot facts ∷ facts) initial_volatile
-    pub boot_is : boot ≡ next_boot facts
-    pub open_log : OpenLog disk may_leave new log centre facts
+    pub epoch : running.epoch ≡ epoch_of (next_boot facts ∷ facts)
+    pub holds : HoldsLog disk may_leave new running.log centre (next_boot facts ∷ facts)
     pub passes : DiskPasses disk may_leave old new
     pub others : KeepsOthers disk may_leave centre old new
+    pub stays : LogStays disk cluster old new centre
     pub over : (before : Log) → before.centre ≡ centre → IsLogOf disk cluster old before → facts ≡ before.facts
 
   -- The centre runs, with the facts of its log and the new boot.
@@ -102,6 +100,7 @@ module _ {D : Type 0} (disk : D → ℕ → Disk) (may_leave : D → ℕ → Lis
     pub fresh : IsFresh held
     pub passes : DiskPasses disk may_leave old new
     pub others : KeepsOthers disk may_leave centre old new
+    pub stays : LogStays disk cluster old new centre
     pub over : (before : Log) → before.centre ≡ centre → IsLogOf disk cluster old before → log ≡ before
 
   module _ (tears : ℕ → Type 0) where
@@ -118,6 +117,7 @@ module _ {D : Type 0} (disk : D → ℕ → Disk) (may_leave : D → ℕ → Lis
       pub cause : CausedOn disk may_leave fault old new
       pub passes : DiskPasses disk may_leave old new
       pub others : KeepsOthers disk may_leave centre old new
+      pub stays : UnlessDisk fault (LogStays disk cluster old new centre)
       pub over : (log : Log) → log.centre ≡ centre → IsLogOf disk cluster old log → StopsOver cluster log fault old new
 
 -- ---- several
@@ -150,6 +150,7 @@ module _ {D : Type 0} (disk : D → ℕ → Disk) (may_leave : D → ℕ → Lis
     pub each : AreHeld cluster new held logs
     pub passes : DiskPasses disk may_leave old new
     pub later : (a : ℕ) → first + length held ≤ a → a ≤ 9 → IsUntouched old new a
+    pub others : KeepsElsewhere disk may_leave (starts logs).sites old new
     -- the log of any centre has its facts and the boots that were appended, whatever a crash leaves
     pub kept : (log : Log) → log.centre ≤ 9 → IsLogOf disk cluster old log → IsDurable disk may_leave old log
         → MayHaveFacts disk may_leave new log.centre (facts_after log.centre log.facts (starts logs).acts) []
@@ -173,4 +174,5 @@ module _ {D : Type 0} (disk : D → ℕ → Disk) (may_leave : D → ℕ → Lis
       pub of : IsOfStart at fault
       pub cause : CausedOn disk may_leave fault old new
       pub passes : DiskPasses disk may_leave old new
+      pub others : KeepsUnserved disk may_leave first (first + count) old new
       pub over : (logs : List Log) → Follow first logs → length logs ≡ count → AreLogsOf disk cluster old logs → StopOver cluster logs fault old new

@@ -1,9 +1,8 @@
 //! The end of a server: what is pending after its last turn goes out.
 ghost use Rattle.std.specs.Prelude.{◌≡◌, ◌<◌, length, List, slice_index_or};
 ghost use Rattle.mdcc_config.specs.IsConfig.{IsConfig};
-ghost use Rattle.mdcc_runs.specs.Servers.{persist_all_then_send};
 ghost use Rattle.mdcc_runs.specs.Sites.{Site as ASite};
-ghost use Rattle.mdcc_serve.specs.Centres.{AllGo, AllServed, Ascend, HoldSites, IsServedAt, PersistsAt, places};
+ghost use Rattle.mdcc_serve.specs.Centres.{AllServed, Ascend, HaveEnded, HoldSites, IsServedAt, PersistsAt, places};
 ghost use Rattle.mdcc_site.specs.Moments.{outside};
 ghost use Rattle.mdcc_site.specs.SiteState.{HoldsSite};
 ghost use Rattle.mdcc_site.specs.declared.site.Site.{Site as HeldSite};
@@ -48,7 +47,7 @@ pub(crate) fn persist_all_then_send<D: Disks, L: Link, O: Sink>(
     requires config { IsConfig config.now }
     requires served { AllServed (outside D.disk D.may_leave L.calls L.lost L.faults O.held O.faults) config.now.cluster disks.old sites.old }
     ensures { (served : List ASite) → HoldSites (outside D.disk D.may_leave L.calls L.lost L.faults O.held O.faults) config.now.cluster disks.old sites.old served → Ascend 0 served
-        → AllGo (outside D.disk D.may_leave L.calls L.lost L.faults O.held O.faults) config.now.cluster served (persist_all_then_send config.now served) result
+        → HaveEnded (outside D.disk D.may_leave L.calls L.lost L.faults O.held O.faults) config.now served result
         (places disks.old sites.old link.old out.old) (places disks.new sites.new link.new out.new) }
 {
     for index in 0..sites.len() {

@@ -1,7 +1,6 @@
 //! Nodes over datagrams: one centre or more, each with its log on disks, at the endpoints of a link, with its lines at an output.
 #![tactic(auto)]
 
-mod booting;
 mod ending;
 mod opening;
 pub mod serve;

@@ -6,6 +6,7 @@ ghost use Rattle.mdcc_runs.specs.Acts.{Act};
 ghost use Rattle.mdcc_serve.specs.Centres.{places};
 ghost use Rattle.mdcc_serve.specs.Openings.{Binds, FailsToOpen, HasOpened, Lines, binds_of, binds_of_all, boots_told};
 ghost use Rattle.mdcc_serve.specs.Refusals.{SaysOfLogs};
+ghost use Rattle.mdcc_serve.specs.Stays.{HasRefused, IsLogRefused};
 ghost use Rattle.mdcc_site.specs.Moments.{outside};
 
 use crate::starting::start_all;
@@ -81,6 +82,8 @@ pub(crate) fn open<D: Disks, L: Link, O: Sink>(
     ensures fails { IfErr result (λ fault. FailsToOpen (outside D.disk D.may_leave L.calls L.lost L.faults O.held O.faults) D.tears config.now first last fault
         (places disks.old [] link.old out.old) (places disks.new [] link.new out.new)) }
     ensures logs { SaysOfLogs D.disk config.now.cluster disks.old first (last + 1) result }
+    ensures refused { IfErr result (λ fault. IsLogRefused fault
+        → HasRefused D.disk L.calls L.lost config.now.cluster first (last + 1) disks.old disks.new link.old link.new out.old out.new) }
 {
     let sites = start_all(alloc, config, first, last, disks)?;
     bind_all(config, sites.as_slice(), link)?;

@@ -1,20 +1,22 @@
 //! The calls that serve one centre or all.
-ghost use Rattle.std.specs.List.{AllByRecursion, range_with_len};
-ghost use Rattle.std.specs.Prelude.{◌≡◌, ◌≤◌, ◌<◌, ◌+◌, ◌^◌, ◌∷◌, [], IfErr, IsErrOf, List, fold, length, map, ℕ};
+ghost use Rattle.std.specs.List.{range_with_len};
+ghost use Rattle.std.specs.Prelude.{◌≡◌, ◌≤◌, ◌<◌, ◌+◌, ◌^◌, ◌∷◌, [], IfErr, IsErrOf, List, length, map, ℕ};
 ghost use Rattle.mdcc_log.specs.Both.{RoseAtOne};
 ghost use Rattle.mdcc_base.specs.Causes.{Rose};
 ghost use Rattle.mdcc_config.specs.IsConfig.{IsConfig};
+ghost use Rattle.mdcc_endings.specs.Logs.{IsTold};
 ghost use Rattle.mdcc_runs.specs.Acts.{Act};
-ghost use Rattle.mdcc_runs.specs.Servers.{Log, after_last, after_turn};
+ghost use Rattle.mdcc_runs.specs.Servers.{Log};
 ghost use Rattle.mdcc_runs.specs.Sites.{Site as ASite};
-ghost use Rattle.mdcc_runs.specs.Turns.{Given};
 ghost use Rattle.mdcc_serve.specs.Centres.{AllServed, Ascend, HoldSites, all_seen, places};
 ghost use Rattle.mdcc_serve.specs.Ends.{AllEnd, SerialsFit};
-ghost use Rattle.mdcc_serve.specs.Refusals.{MayServe, SaysOfLogs};
+ghost use Rattle.mdcc_serve.specs.Others.{KeepsUnserved};
+ghost use Rattle.mdcc_serve.specs.Refusals.{AreTold, MayServe, SaysOfLogs};
 ghost use Rattle.mdcc_serve.specs.Serving.{AreLogsOf, IsLogOf, ServesOrBreaksOff};
 ghost use Rattle.mdcc_serve.specs.Starts.{Follow};
+ghost use Rattle.mdcc_serve.specs.Stays.{HasRefused, IsLogRefused};
 ghost use Rattle.mdcc_serve.specs.Totals.{counts_of, done_of, with_counts};
-ghost use Rattle.mdcc_site.specs.Moments.{Caused, outside};
+ghost use Rattle.mdcc_site.specs.Moments.{Caused, KeepsOthers, outside};
 ghost use Rattle.mdcc_site.specs.SiteState.{PrintsOut};
 ghost use Rattle.mdcc_site.specs.declared.fault.ServeFault.{ServeFault as AServeFault};
 
@@ -100,8 +102,7 @@ fn serve_sites<D: Disks, L: Link, O: Sink>(
     requires config { IsConfig config.now }
     requires served { AllServed (outside D.disk D.may_leave L.calls L.lost L.faults O.held O.faults) config.now.cluster disks.old sites.old }
     ensures { (served : List ASite) → HoldSites (outside D.disk D.may_leave L.calls L.lost L.faults O.held O.faults) config.now.cluster disks.old sites.old served → Ascend 0 served
-        → (given : List (List Given)) × (length given ≡ turns) × AllByRecursion (λ turn. length turn ≡ length served) given
-        × AllEnd (outside D.disk D.may_leave L.calls L.lost L.faults O.held O.faults) config.now.cluster served (after_last config.now (fold (after_turn config.now) (record { acts = []; sites = served }) given)) turns result
+        → AllEnd (outside D.disk D.may_leave L.calls L.lost L.faults O.held O.faults) config.now served turns result
         (places disks.old sites.old link.old out.old) (places disks.new sites.new link.new out.new) }
 {
     make_turns(alloc, config, sites, turns, disks, link, out)?;
@@ -133,6 +134,9 @@ fn serve<D: Disks, L: Link, O: Sink>(
     ensures causes { IfErr result (λ fault. Caused (outside D.disk D.may_leave L.calls L.lost L.faults O.held O.faults) fault
         (all_seen (places disks.old [] link.old out.old)) (all_seen (places disks.new [] link.new out.new))) }
     ensures logs { SaysOfLogs D.disk config.now.cluster disks.old first (last + 1) result }
+    ensures others { KeepsUnserved D.disk D.may_leave first (last + 1) disks.old disks.new }
+    ensures refused { IfErr result (λ fault. IsLogRefused fault → AreTold D.disk config.now.cluster disks.old first (last + 1)
+        → HasRefused D.disk L.calls L.lost config.now.cluster first (last + 1) disks.old disks.new link.old link.new out.old out.new) }
 {
     let mut sites = open(alloc, config, first, last, disks, link, out)?;
     serve_sites(alloc, config, &mut sites, turns, disks, link, out)
@@ -161,6 +165,13 @@ pub fn serve_node<D: Disks, L: Link, O: Sink>(
     // A log is refused just where no node boots from it, unless something else comes before.
     ensures logs { SaysOfLogs D.disk config.now.cluster disks.old centre (centre + 1) result }
     ensures may { IfErr result MayServe }
+
+    // A log that is refused stands as it was, perhaps with its own new boot, and nothing was bound, sent or printed.
+    ensures refused { IfErr result (λ fault. IsLogRefused fault → IsTold D.disk disks.old centre
+        → HasRefused D.disk L.calls L.lost config.now.cluster centre (centre + 1) disks.old disks.new link.old link.new out.old out.new) }
+
+    // Whatever the logs are, and however it ends, the disks of other centres are as they were.
+    ensures others { KeepsOthers D.disk D.may_leave centre disks.old disks.new }
 
     // A fault of a disk, the link or the output comes only where its count rose.
     ensures disk { (a : ℕ) → IsErrOf result (AServeFault.Disk a)
@@ -193,6 +204,13 @@ pub fn serve_cluster<D: Disks, L: Link, O: Sink>(
     // The first log is refused from which no node boots, and no other, unless something else comes before.
     ensures logs { SaysOfLogs D.disk config.now.cluster disks.old 1 (config.now.cluster.quorums.centres + 1) result }
     ensures may { IfErr result MayServe }
+
+    // Where a log is refused all logs stand as they were, each perhaps with its own new boot, and nothing was bound, sent or printed.
+    ensures refused { IfErr result (λ fault. IsLogRefused fault → AreTold D.disk config.now.cluster disks.old 1 (config.now.cluster.quorums.centres + 1)
+        → HasRefused D.disk L.calls L.lost config.now.cluster 1 (config.now.cluster.quorums.centres + 1) disks.old disks.new link.old link.new out.old out.new) }
+
+    // Whatever the logs are, and however it ends, the disks of other centres are as they were.
+    ensures others { KeepsUnserved D.disk D.may_leave 1 (config.now.cluster.quorums.centres + 1) disks.old disks.new }
 
     // A fault of a disk, the link or the output comes only where its count rose.
     ensures disk { (a : ℕ) → IsErrOf result (AServeFault.Disk a)

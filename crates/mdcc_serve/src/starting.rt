@@ -1,45 +1,80 @@
 //! The start of a centre, and of several.
-ghost use Rattle.std.specs.Prelude.{◌≡◌, ◌≤◌, ◌+◌, ◌++◌, ◌-◌, ◌∷◌, ◌⊎◌, [], IfErr, IfOk, List, OnOk, length, ℕ};
+ghost use Rattle.std.specs.Prelude.{◌≡◌, ◌≤◌, ◌+◌, ◌++◌, ◌-◌, ◌∷◌, ◌⊎◌, [], IfErr, IfOk, OnOk, length, ℕ};
 ghost use Rattle.mdcc_config.specs.IsConfig.{IsConfig};
-ghost use Rattle.mdcc_messages.specs.declared.facts.Fact.{Fact as AFact};
 ghost use Rattle.mdcc_serve.specs.Refusals.{AllBoot, BootsAt, SaysAt, StartEnds};
-ghost use Rattle.mdcc_serve.specs.Starts.{FailToStart, FailsToStart, HasStarted, HaveStarted};
-ghost use Rattle.mdcc_site.specs.LogEffects.{Logs};
-ghost use Rattle.mdcc_site.specs.SiteState.{IsShortFact, OpenLog};
+ghost use Rattle.mdcc_serve.specs.Starts.{FailToStart, FailsToStart, HasStarted, HaveStarted, IsRunning, boot_fault_of, start_fault_of};
+ghost use Rattle.mdcc_serve.specs.Stays.{AllStay, UnlessDisk};
 ghost use Rattle.mdcc_site.specs.declared.fault.ServeFault.{ServeFault as AServeFault};
 ghost use Rattle.mdcc_site.specs.declared.site.Site.{Site as ASite};
 
-use crate::booting::boot;
-use mdcc_base::{Centre, HeapList};
+use mdcc_admission::laws::boots_within_cells;
+use mdcc_base::{Centre, Plain};
+use mdcc_centre::{Running, StartFault};
 use mdcc_config::Config;
 use mdcc_disks::Disks;
 use mdcc_frag::Joiner;
-use mdcc_log::Frames;
-use mdcc_messages::Fact;
+use mdcc_index::PoolFacts;
+use mdcc_log::current_is_read;
 use mdcc_outbox::{Clients, Sender};
-use mdcc_restart::payload_of;
-use mdcc_site::{ServeFault, Site, log_payloads, nothing_pending};
+use mdcc_rules::BootFault;
+use mdcc_site::{ServeFault, Site, log_fault, nothing_pending};
+use mdcc_spelling::facts::{facts_have_one_spelling, facts_read_are_well_formed};
+use mdcc_steps::boots_give_nodes;
 use std::alloc::Global;
-use std::slice;
 
-// Appends a boot to the log of a centre.
-fn log_boot<D: Disks>(
-    alloc: Global,
-    log: &mut Frames,
-    centre: Centre,
-    disks: &mut D,
-    boot: &Fact,
-) -> Result<(), ServeFault>
-    requires short { IsShortFact boot.now }
-    requires stands { (before : List AFact) × OpenLog D.disk D.may_leave disks.old log.old centre before }
-    ensures { (before : List AFact) → OpenLog D.disk D.may_leave disks.old log.old centre before
-        → Logs D.disk D.may_leave centre before (boot.now ∷ []) result disks.old disks.new log.new }
+/// After so many frames a checkpoint is due.
+const CHECKPOINT_EVERY: u32 = 1024;
+
+// A fault of a boot as a server's.
+fn boot_fault(centre: Centre, fault: BootFault) -> ServeFault
+    ensures { result ≡ boot_fault_of centre fault }
 {
-    let payload = HeapList::from_vec(payload_of(alloc, boot)?);
-    log_payloads(log, centre, disks, slice::from_ref(&payload))
+    match fault {
+        BootFault::Memory => ServeFault::Memory,
+        fault => ServeFault::Boot(centre, fault),
+    }
+}
+
+// A fault of a start as a server's.
+fn start_fault(centre: Centre, fault: StartFault) -> ServeFault
+    ensures { result ≡ start_fault_of centre fault }
+{
+    match fault {
+        StartFault::Log(fault) => log_fault(centre, fault),
+        StartFault::Boot(fault) => boot_fault(centre, fault),
+        StartFault::Memory => ServeFault::Memory,
+    }
 }
 
 // Opens the log of a centre, boots its node, and appends the boot.
+fn start_over_log<D: Disks>(
+    alloc: Global,
+    config: &Config,
+    centre: Centre,
+    disks: &mut D,
+) -> Result<Running<PoolFacts>, ServeFault>
+    requires config { IsConfig config.now }
+    requires among { centre ≤ config.now.cluster.quorums.centres }
+    requires alike { (D.disk disks.old (centre + 16)).told ≡ (D.disk disks.old centre).told }
+    ensures runs { IfOk result (λ running. IsRunning D.disk D.may_leave config.now.cluster centre running disks.old disks.new) }
+    ensures fails { IfErr result (λ fault. FailsToStart D.disk D.may_leave D.tears config.now.cluster centre fault disks.old disks.new) }
+    ensures node { OnOk result (BootsAt D.disk config.now.cluster disks.old centre) }
+    ensures says { IfErr result (SaysAt D.disk config.now.cluster disks.old centre) }
+{
+    boots_give_nodes();
+    boots_within_cells();
+    facts_have_one_spelling();
+    facts_read_are_well_formed();
+    current_is_read();
+    let store = PoolFacts::new(alloc, config.cluster.cells)?;
+    let cluster = config.cluster.copy();
+    match mdcc_centre::start(alloc, cluster, centre, store, disks, CHECKPOINT_EVERY) {
+        Ok(running) => Ok(running),
+        Err(fault) => Err(start_fault(centre, fault)),
+    }
+}
+
+// Starts a centre: nothing was received, and nothing is pending.
 fn start<D: Disks>(
     alloc: Global,
     config: &Config,
@@ -56,10 +91,7 @@ fn start<D: Disks>(
 {
     let own = Joiner::new(alloc)?;
     let asked = Joiner::new(alloc)?;
-    let (node, log, boot) = boot(alloc, config, centre, disks)?;
-    let mut log = log;
-    log_boot(alloc, &mut log, centre, disks, &boot)?;
-    let epoch = node.epoch();
+    let Running { node, log, epoch } = start_over_log(alloc, config, centre, disks)?;
     Ok(Site {
         centre,
         node,
@@ -121,6 +153,7 @@ pub(crate) fn start_all<D: Disks>(
     ensures fails { IfErr result (λ fault. FailToStart D.disk D.may_leave D.tears config.now.cluster first (last + 1 - first) fault disks.old disks.new) }
     ensures nodes { OnOk result (AllBoot D.disk config.now.cluster disks.old first (last + 1)) }
     ensures ends { IfErr result (StartEnds D.disk config.now.cluster disks.old first (last + 1)) }
+    ensures stay { IfErr result (λ fault. UnlessDisk fault (AllStay D.disk config.now.cluster disks.old disks.new first (last + 1))) }
 {
     let mut sites = Vec::new(alloc);
     for number in first..last + 1 {

@@ -1,11 +1,8 @@
 //! The turns of a server.
-ghost use Rattle.std.specs.List.{AllByRecursion};
-ghost use Rattle.std.specs.Prelude.{◌≡◌, ◌<◌, fold, length, List, [], slice_index_or};
+ghost use Rattle.std.specs.Prelude.{◌≡◌, ◌<◌, length, List, slice_index_or};
 ghost use Rattle.mdcc_config.specs.IsConfig.{IsConfig};
-ghost use Rattle.mdcc_runs.specs.Servers.{after_turn, turns_of};
 ghost use Rattle.mdcc_runs.specs.Sites.{Site as ASite};
-ghost use Rattle.mdcc_runs.specs.Turns.{Given};
-ghost use Rattle.mdcc_serve.specs.Centres.{AllGo, AllServed, Ascend, HoldSites, IsServedAt, TurnsAt, places};
+ghost use Rattle.mdcc_serve.specs.Centres.{AllServed, Ascend, HaveTurn, HaveTurns, HoldSites, IsServedAt, TurnsAt, places};
 ghost use Rattle.mdcc_site.specs.Moments.{outside};
 ghost use Rattle.mdcc_site.specs.SiteState.{HoldsSite};
 ghost use Rattle.mdcc_site.specs.declared.site.Site.{Site as HeldSite};
@@ -53,7 +50,7 @@ fn turn_of_all<D: Disks, L: Link, O: Sink>(
     requires config { IsConfig config.now }
     requires served { AllServed (outside D.disk D.may_leave L.calls L.lost L.faults O.held O.faults) config.now.cluster disks.old sites.old }
     ensures { (served : List ASite) → HoldSites (outside D.disk D.may_leave L.calls L.lost L.faults O.held O.faults) config.now.cluster disks.old sites.old served → Ascend 0 served
-        → (given : List Given) × (length given ≡ length served) × AllGo (outside D.disk D.may_leave L.calls L.lost L.faults O.held O.faults) config.now.cluster served (turns_of config.now served given) result
+        → HaveTurn (outside D.disk D.may_leave L.calls L.lost L.faults O.held O.faults) config.now served result
         (places disks.old sites.old link.old out.old) (places disks.new sites.new link.new out.new) }
 {
     for index in 0..sites.len() {
@@ -75,8 +72,7 @@ pub(crate) fn make_turns<D: Disks, L: Link, O: Sink>(
     requires config { IsConfig config.now }
     requires served { AllServed (outside D.disk D.may_leave L.calls L.lost L.faults O.held O.faults) config.now.cluster disks.old sites.old }
     ensures { (served : List ASite) → HoldSites (outside D.disk D.may_leave L.calls L.lost L.faults O.held O.faults) config.now.cluster disks.old sites.old served → Ascend 0 served
-        → (given : List (List Given)) × (length given ≡ turns) × AllByRecursion (λ turn. length turn ≡ length served) given
-        × AllGo (outside D.disk D.may_leave L.calls L.lost L.faults O.held O.faults) config.now.cluster served (fold (after_turn config.now) (record { acts = []; sites = served }) given) result
+        → HaveTurns (outside D.disk D.may_leave L.calls L.lost L.faults O.held O.faults) config.now served turns result
         (places disks.old sites.old link.old out.old) (places disks.new sites.new link.new out.new) }
 {
     let mut datagram: Datagram = [0; 1401];

@@ -38,11 +38,10 @@ module _ {D L O : Type 0} (disk : D → ℕ → Disk) (may_leave : D → ℕ →
   serves_there config logs turns (Err fault) disks_old disks link_new out_old out_new it = record {
     acts = it.acts;
     rest = it.rest;
-    run = it.run;
+    stops = it.stops;
     comes = it.comes;
     boots = it.boots;
     full = it.full;
-    serials = it.serials;
     printed_more = it.printed_more;
     left = leaves_there _ _ _ link_new out_old out_new it.left;
     kept = it.kept;

@@ -1,13 +1,16 @@
 -- What the commands that serve nodes do.
 use Rattle.std.specs.List.{range_with_len}
-use Rattle.std.specs.Prelude.{Err, IfSome, List, MatchBool, Ok, Option, Result, [], map, ℕ, ◌+◌, ◌≡◌, ◌∷◌, ◌≤◌}
+use Rattle.std.specs.Prelude.{Err, IfErr, IfSome, List, MatchBool, Ok, Option, Result, [], map, ⊤, ℕ, ◌+◌, ◌≡◌, ◌∷◌, ◌≤◌}
 use Rattle.mdcc_log_file.specs.declared.fault.LogFault.{LogFault}
 use Rattle.mdcc_config.specs.declared.config.Config.{Config}
 use Rattle.mdcc_disks.specs.Disks.{Disk}
 use Rattle.mdcc_link.specs.Link.{LinkCall}
 use Rattle.mdcc_protocol.specs.Belongs.{is_centre}
 use Rattle.mdcc_runs.specs.Servers.{Log}
+use Rattle.mdcc_serve.specs.Others.{KeepsUnserved}
 use Rattle.mdcc_serve.specs.Serving.{AreLogsOf, IsLogOf, ServesOrBreaksOff}
+use Rattle.mdcc_site.specs.Moments.{KeepsOthers}
+use Rattle.mdcc_serve.specs.Stays.{HasRefused}
 use Rattle.mdcc_site.specs.declared.fault.ServeFault.{ServeFault}
 use Rattle.mdcc_serve.specs.declared.served.Served.{Served}
 use Rattle.mdcc_endings.specs.Endings.{Ends}
@@ -23,6 +26,12 @@ AreAlike disk disks = (a : ℕ) → 1 ≤ a → a ≤ 9 → (disk disks (a + 16)
 -- both areas of each centre tell their bytes
 abbrev pub AllAreTold : {D : Type 0} → (D → ℕ → Disk) → Cluster → D → Type 0
 AllAreTold disk cluster disks = (a : ℕ) → 1 ≤ a → a ≤ cluster.quorums.centres → IsTold disk disks a
+
+-- a log is refused
+abbrev pub IsRefusal : Failure → Type 0
+IsRefusal (Failure.Log a (LogFault.NotALog offset)) = ⊤
+IsRefusal (Failure.Boot a why) = ⊤
+IsRefusal failure = ⊥
 
 -- nothing was done at disks, link and output
 pub record Untouched {D L O : Type 0} (disks_old disks_new : D) (link_old link_new : L) (out_old out_new : O) : Type 0 where
@@ -55,6 +64,9 @@ module _ {D L O : Type 0} (disk : D → ℕ → Disk) (may_leave : D → ℕ →
         → ServesOrBreaksOff disk may_leave tears calls lost held config (log ∷ []) turns result disks_old disks_new link_old link_new out_old out_new
     -- whatever its disks tell, its log is refused just where no node boots from it
     pub logs : IsTold disk disks_old centre → SaysLogs (node_at disk config.cluster disks_old) centre centre served
+    -- Then nothing was bound, sent or printed, and the log stands as it was, perhaps with its own new boot.
+    pub refused : IfErr served (λ failure. IsRefusal failure → IsTold disk disks_old centre
+        → HasRefused disk calls lost config.cluster centre (centre + 1) disks_old disks_new link_old link_new out_old out_new)
 
   -- it ended before anything was done
   abbrev pub IsEarlyAt : Failure → Result Served Failure → Type 0
@@ -77,6 +89,8 @@ module _ {D L O : Type 0} (disk : D → ℕ → Disk) (may_leave : D → ℕ →
     pub served : Result Served Failure
     pub ends : Ends served status err_before err_after faults_before faults_after
     pub runs : IfSome left (λ input. RunsNode input centre turns served)
+    -- the disks of other centres are as they were, whatever the input and the logs are
+    pub others : KeepsOthers disk may_leave centre disks_old disks_new
 
   -- ---- all centres
 
@@ -89,6 +103,11 @@ module _ {D L O : Type 0} (disk : D → ℕ → Disk) (may_leave : D → ℕ →
         → ServesOrBreaksOff disk may_leave tears calls lost held config logs turns result disks_old disks_new link_old link_new out_old out_new
     -- whatever their disks tell, the first log is refused from which no node boots
     pub logs : AllAreTold disk config.cluster disks_old → SaysLogs (node_at disk config.cluster disks_old) 1 config.cluster.quorums.centres served
+    -- Then nothing was bound, sent or printed, and all logs stand as they were, each perhaps with its own new boot.
+    pub refused : IfErr served (λ failure. IsRefusal failure → AllAreTold disk config.cluster disks_old
+        → HasRefused disk calls lost config.cluster 1 (config.cluster.quorums.centres + 1) disks_old disks_new link_old link_new out_old out_new)
+    -- and whatever the logs are, disks of no centre of the configuration are as they were
+    pub others : KeepsUnserved disk may_leave 1 (config.cluster.quorums.centres + 1) disks_old disks_new
 
   -- by what the input was read as
   abbrev pub ServesCluster : Result Config Failure → ℕ → Result Served Failure → Type 0
@@ -106,3 +125,5 @@ module _ {D L O : Type 0} (disk : D → ℕ → Disk) (may_leave : D → ℕ →
     pub served : Result Served Failure
     pub ends : Ends served status err_before err_after faults_before faults_after
     pub runs : IfSome left (λ input. RunsCluster input turns served)
+    -- the disks that no cluster has are as they were, whatever the input is
+    pub others : KeepsUnserved disk may_leave 1 10 disks_old disks_new

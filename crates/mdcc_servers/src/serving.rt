@@ -6,8 +6,10 @@ ghost use Rattle.mdcc_base.specs.declared.source.ReadAllFault.{ReadAllFault as A
 ghost use Rattle.mdcc_log_file.specs.declared.fault.LogFault.{LogFault as ALogFault};
 ghost use Rattle.mdcc_config.specs.IsConfig.{IsConfig};
 ghost use Rattle.mdcc_endings.specs.Readings.{IsEarly};
+ghost use Rattle.mdcc_serve.specs.Others.{KeepsUnserved};
 ghost use Rattle.mdcc_servers.specs.Commands.{AreAlike, RunsCluster, RunsNode, ServesCluster, ServesNode, Untouched, as_served, failure_of};
 ghost use Rattle.mdcc_endings.specs.declared.fault.Failure.{Failure as AFailure};
+ghost use Rattle.mdcc_site.specs.Moments.{KeepsOthers};
 
 use mdcc_base::{Sink, Source};
 use mdcc_config::Config;
@@ -57,6 +59,7 @@ fn serve_number<D: Disks, L: Link, O: Sink>(
     requires alike { AreAlike D.disk disks.old }
     ensures serves { ServesNode D.disk D.may_leave D.tears L.calls L.lost O.held disks.old disks.new link.old link.new out.old out.new (Ok config.now) number turns result }
     ensures early { IfErr result (λ failure. IsEarly failure → Untouched disks.old disks.new link.old link.new out.old out.new) }
+    ensures others { KeepsOthers D.disk D.may_leave number disks.old disks.new }
     ensures read { IsErrOf result (AFailure.Input AReadAllFault.Failed) → ⊥ }
     ensures disk { (a : ℕ) → IsErrOf result (AFailure.Log a ALogFault.DiskFault)
         → RoseAtOne (D.disk disks.old a) (D.disk disks.new a) (D.disk disks.old (a + 16)) (D.disk disks.new (a + 16)) }
@@ -83,6 +86,7 @@ pub(crate) fn serve_one<S: Source, D: Disks, L: Link, O: Sink>(
     requires { AreAlike D.disk disks.old }
     ensures runs { IfSome (S.left source.old) (λ input. RunsNode D.disk D.may_leave D.tears L.calls L.lost O.held disks.old disks.new link.old link.new out.old out.new input number turns result) }
     ensures early { IfErr result (λ failure. IsEarly failure → Untouched disks.old disks.new link.old link.new out.old out.new) }
+    ensures others { KeepsOthers D.disk D.may_leave number disks.old disks.new }
     ensures input { IsErrOf result (AFailure.Input AReadAllFault.Failed) → Rose (S.faults source.old) (S.faults source.new) }
     ensures disk { (a : ℕ) → IsErrOf result (AFailure.Log a ALogFault.DiskFault)
         → RoseAtOne (D.disk disks.old a) (D.disk disks.new a) (D.disk disks.old (a + 16)) (D.disk disks.new (a + 16)) }
@@ -108,6 +112,7 @@ fn serve_centres<D: Disks, L: Link, O: Sink>(
     requires alike { AreAlike D.disk disks.old }
     ensures serves { ServesCluster D.disk D.may_leave D.tears L.calls L.lost O.held disks.old disks.new link.old link.new out.old out.new (Ok config.now) turns result }
     ensures early { IfErr result (λ failure. IsEarly failure → Untouched disks.old disks.new link.old link.new out.old out.new) }
+    ensures others { KeepsUnserved D.disk D.may_leave 1 10 disks.old disks.new }
     ensures read { IsErrOf result (AFailure.Input AReadAllFault.Failed) → ⊥ }
     ensures disk { (a : ℕ) → IsErrOf result (AFailure.Log a ALogFault.DiskFault)
         → RoseAtOne (D.disk disks.old a) (D.disk disks.new a) (D.disk disks.old (a + 16)) (D.disk disks.new (a + 16)) }
@@ -130,6 +135,7 @@ pub(crate) fn serve_all<S: Source, D: Disks, L: Link, O: Sink>(
     requires { AreAlike D.disk disks.old }
     ensures runs { IfSome (S.left source.old) (λ input. RunsCluster D.disk D.may_leave D.tears L.calls L.lost O.held disks.old disks.new link.old link.new out.old out.new input turns result) }
     ensures early { IfErr result (λ failure. IsEarly failure → Untouched disks.old disks.new link.old link.new out.old out.new) }
+    ensures others { KeepsUnserved D.disk D.may_leave 1 10 disks.old disks.new }
     ensures input { IsErrOf result (AFailure.Input AReadAllFault.Failed) → Rose (S.faults source.old) (S.faults source.new) }
     ensures disk { (a : ℕ) → IsErrOf result (AFailure.Log a ALogFault.DiskFault)
         → RoseAtOne (D.disk disks.old a) (D.disk disks.new a) (D.disk disks.old (a + 16)) (D.disk disks.new (a + 16)) }

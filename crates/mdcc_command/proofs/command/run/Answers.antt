@@ -1,5 +1,5 @@
 -- Without memory for the words nothing is done.
-use Rattle.std.proofs.Common.{◌≡◌, ◌∙◌, Err, inl, inr, map, refl}
+use Rattle.std.proofs.Common.{◌≡◌, ◌∙◌, Err, Result, inl, inr, map, refl}
 use Rattle.std.specs.Io.KnownBytes.{Appends}
 use Rattle.std.specs.Bool.{OnFalse}
 use Rattle.std.specs.String.{string_bytes}
@@ -7,6 +7,7 @@ use Rattle.mdcc_base.specs.declared.source.ReadAllFault.{ReadAllFault}
 use Rattle.mdcc_cli.specs.Commands.{command_of}
 use Rattle.mdcc_command.proofs.NoMemory.{ended, known_always, memory_ends, of_others}
 use Rattle.mdcc_command.specs.Commands.{output_for}
+use Rattle.mdcc_dump.proofs.Places.{opens_none, stays_unchanged}
 use Rattle.mdcc_endings.specs.Logs.{node_at}
 use Rattle.mdcc_endings.specs.declared.fault.Failure.{Failure}
 use Rattle.mdcc_replay.proofs.Fronts.{nothing_written}
@@ -20,6 +21,7 @@ returns-in-Err-clause-node g c centre turns = λ is. record {
   served = Err (Failure.Input ReadAllFault.Memory);
   ends = ended c.end.result (g.E.Sink.held c.args.err.now) (g.E.Sink.held c.end.new.err) (g.E.Sink.faults c.args.err.now) (g.E.Sink.faults c.end.new.err) c.end.ensures.status c.end.ensures.told;
   runs = known_always (g.S.Source.left c.args.source.now) _ (λ input. record { read = Err (Failure.Input ReadAllFault.Memory); gives = tt; serves = (refl, record { disks = refl; link = refl; output = refl }) });
+  others = record { others = λ p here there. refl; crash = λ p here there bytes left. left };
 }
 
 pub returns-in-Err-clause-cluster : goal.returns-in-Err-clause-cluster
@@ -27,6 +29,7 @@ returns-in-Err-clause-cluster g c turns = λ is. record {
   served = Err (Failure.Input ReadAllFault.Memory);
   ends = ended c.end.result (g.E.Sink.held c.args.err.now) (g.E.Sink.held c.end.new.err) (g.E.Sink.faults c.args.err.now) (g.E.Sink.faults c.end.new.err) c.end.ensures.status c.end.ensures.told;
   runs = known_always (g.S.Source.left c.args.source.now) _ (λ input. record { read = Err (Failure.Input ReadAllFault.Memory); gives = tt; serves = (refl, record { disks = refl; link = refl; output = refl }) });
+  others = record { others = λ p is. refl; crash = λ p is bytes left. left };
 }
 
 pub returns-in-Err-clause-ask : goal.returns-in-Err-clause-ask
@@ -41,6 +44,9 @@ returns-in-Err-clause-dump g c centre = λ is. record {
   dumped = Err (Failure.Input ReadAllFault.Memory);
   ends = ended c.end.result (g.E.Sink.held c.args.err.now) (g.E.Sink.held c.end.new.err) (g.E.Sink.faults c.args.err.now) (g.E.Sink.faults c.end.new.err) c.end.ensures.status c.end.ensures.told;
   runs = known_always (g.S.Source.left c.args.source.now) _ (λ input. record { read = Err (Failure.Input ReadAllFault.Memory); gives = tt; dumps = (refl, record { disks = refl; output = refl }) });
+  opens = opens_none g.D.Disks.disk g.D.Disks.may_leave g.D.Disks.moment g.D.Disks.left_since g.D.Disks.tears g.met.D.Disks.only_now c.args.disks.now centre
+      (let none : Result (Unit {0}) Failure = Err (Failure.Input ReadAllFault.Memory) in none) (Failure.Input ReadAllFault.Memory) refl;
+  any_moment = stays_unchanged g.D.Disks.disk g.D.Disks.may_leave g.D.Disks.moment g.D.Disks.left_since g.D.Disks.tears g.met.D.Disks.only_now c.args.disks.now centre;
   others = λ p first second. refl;
 }
 

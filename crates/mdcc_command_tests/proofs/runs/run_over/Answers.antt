@@ -7,5 +7,5 @@ there : (disks : AllMemory) (p : ℕ) → disks.count ≡ 25 → 1 ≤ p → p �
 there disks p counted some few = and_from (nat_le 1 p) (nat_le p disks.count) (le-leb 1 p some) (le-leb p disks.count (omega (few, counted, arith)))
 
 pub run-requires : goal.run-requires
-run-requires c a some few =
+run-requires g c a some few =
     there c.args.disks.now (a + 16) c.requires (omega arith) (omega (few, arith)) ∙ sym (there c.args.disks.now a c.requires some (omega (few, arith)))

@@ -1,13 +1,13 @@
-use Rattle.std.proofs.Common.{◌≡◌, ◌+◌, ◌∙◌, Err, refl, subst, sym, true, ℕ}
+use Rattle.std.proofs.Common.{◌≡◌, ◌+◌, ◌∙◌, Err, Result, refl, subst, sym, true, ℕ}
 use Rattle.std.proofs.lemmas.Result.{err_from_is_err_and}
 use Rattle.mdcc_log.specs.Both.{KeepsBut, RoseAtOne}
 use Rattle.mdcc_log_file.specs.declared.fault.LogFault.{LogFault}
 use Rattle.mdcc_base.specs.declared.source.ReadAllFault.{ReadAllFault}
 use Rattle.mdcc_dump.proofs.Ended.{disk_dumped, dumped_runs, no_centre_runs, no_input, no_link, not_early, output_dumped, unread_runs}
-use Rattle.mdcc_dump.proofs.Places.{but_unchanged, stays_unchanged}
+use Rattle.mdcc_dump.proofs.Places.{but_unchanged, opens_done, opens_none, stays_unchanged}
 use Rattle.mdcc_dump.proofs.Said.{dump_says}
 use Rattle.mdcc_dump.specs.Commands.{DumpsOne, Untouched}
-use Rattle.mdcc_dump.specs.Dumps.{StaysAsLog}
+use Rattle.mdcc_centre.specs.Opening.{OnlyOpens, StaysAsLog}
 use Rattle.mdcc_endings.specs.Readings.{IsOfInput}
 use Rattle.mdcc_endings.specs.declared.fault.Failure.{Failure}
 use Rattle.mdcc_protocol.specs.Belongs.{is_centre}
@@ -114,3 +114,20 @@ returns-in_default-clause-others g c = but_unchanged g.D.Disks.disk g.D.Disks.ma
 pub returns-clause-others : goal.returns-clause-others
 returns-clause-others g c =
     subst (λ (n : ℕ). KeepsBut g.D.Disks.disk g.D.Disks.may_leave g.D.Disks.moment g.D.Disks.left_since c.args.disks.now c.dump.new.disks n (n + 16)) c.in-Some.ensures.some.0 c.dump.ensures.others
+
+-- ---- the calls at its disks
+
+pub returns-in_err-config-clause-opens : goal.returns-in_err-config-clause-opens
+returns-in_err-config-clause-opens g c =
+    let p = err_from_is_err_and c.from_residual.result c.from_residual.ensures.1 in
+    opens_none g.D.Disks.disk g.D.Disks.may_leave g.D.Disks.moment g.D.Disks.left_since g.D.Disks.tears g.met.D.Disks.only_now c.args.disks.now c.args.number c.from_residual.result p.0 p.1
+
+pub returns-in_default-clause-opens : goal.returns-in_default-clause-opens
+returns-in_default-clause-opens g c =
+    let none : Result (Unit {0}) Failure = Err Failure.Centre in
+    opens_none g.D.Disks.disk g.D.Disks.may_leave g.D.Disks.moment g.D.Disks.left_since g.D.Disks.tears g.met.D.Disks.only_now c.args.disks.now c.args.number none Failure.Centre refl
+
+pub returns-clause-opens : goal.returns-clause-opens
+returns-clause-opens g c =
+    subst (λ (n : ℕ). OnlyOpens g.D.Disks.disk g.D.Disks.may_leave g.D.Disks.moment g.D.Disks.left_since g.D.Disks.tears c.args.disks.now c.dump.new.disks n c.as_done.result) c.in-Some.ensures.some.0
+    (opens_done g.D.Disks.disk g.D.Disks.may_leave g.D.Disks.moment g.D.Disks.left_since g.D.Disks.tears c.args.disks.now c.dump.new.disks c.in-Some.centre c.dump.result c.as_done.result c.as_done.ensures c.dump.ensures.opens)

@@ -15,6 +15,8 @@ returns-clause-does g c = record {
   dumped = c.dump_one-dumped.result;
   ends = c.finish.ensures.ends;
   runs = c.dump_one-dumped.ensures.runs;
+  opens = c.dump_one-dumped.ensures.opens;
+  any_moment = c.dump_one-dumped.ensures.any_moment;
   others = c.dump_one-dumped.ensures.others.others;
 }
 

@@ -2,9 +2,9 @@ use Rattle.std.proofs.Common.{◌≡◌, ◌∙◌, refl, sym}
 use Rattle.std.proofs.lemmas.Result.{err_from_is_err_and}
 use Rattle.mdcc_log_file.specs.declared.fault.LogFault.{LogFault}
 use Rattle.mdcc_dump.proofs.Dumped.{kept_opening, kept_printing, log_fault, may_fail, no_log_fault, no_output, printed_dump, printing_fails, refused_dump, unopened}
-use Rattle.mdcc_dump.proofs.Places.{opens_broke, opens_whole}
+use Rattle.mdcc_centre.proofs.Opens.{opens_broke, opens_whole}
 use Rattle.mdcc_dump.specs.declared.fault.DumpFault.{DumpFault}
-use Rattle.mdcc_restart.specs.declared.fault.RestartFault.{RestartFault}
+use Rattle.mdcc_centre.specs.declared.fault.StartFault.{StartFault}
 use Rattle.mdcc_dump.proofs.dumping.dump.Goals as goal
 
 -- ---- the log gives no node
@@ -29,8 +29,8 @@ pub returns-in_err-payloads-clause-disk : goal.returns-in_err-payloads-clause-di
 returns-in_err-payloads-clause-disk g c = λ h.
     let p = err_from_is_err_and c.from_residual.result c.from_residual.ensures.1 in
     let is = sym p.1 ∙ h in
-    let same : p.0 ≡ DumpFault.Log (RestartFault.Log LogFault.DiskFault) = cc in
-    let fault : c.in_err-payloads.field-0.0 ≡ RestartFault.Log LogFault.DiskFault = log_fault c.in_err-payloads.field-0.0 (RestartFault.Log LogFault.DiskFault) (sym p.2 ∙ same) in
+    let same : p.0 ≡ DumpFault.Log (StartFault.Log LogFault.DiskFault) = cc in
+    let fault : c.in_err-payloads.field-0.0 ≡ StartFault.Log LogFault.DiskFault = log_fault c.in_err-payloads.field-0.0 (StartFault.Log LogFault.DiskFault) (sym p.2 ∙ same) in
     c.in_err-payloads.ensures.disk (rw fault refl)
 
 pub returns-in_err-payloads-clause-output : goal.returns-in_err-payloads-clause-output
@@ -64,7 +64,7 @@ pub returns-clause-causes : goal.returns-clause-causes
 returns-clause-causes g c = printing_fails c.print_payloads.result (g.O.Sink.held c.args.out.now) (g.O.Sink.held c.print_payloads.new.out) c.print_payloads.ensures.fault
 
 pub returns-clause-disk : goal.returns-clause-disk
-returns-clause-disk g c = λ h. absurd (no_log_fault c.print_payloads.result (RestartFault.Log LogFault.DiskFault) c.print_payloads.ensures.fault h)
+returns-clause-disk g c = λ h. absurd (no_log_fault c.print_payloads.result (StartFault.Log LogFault.DiskFault) c.print_payloads.ensures.fault h)
 
 pub returns-clause-keeps : goal.returns-clause-keeps
 returns-clause-keeps g c all told told_other read = kept_printing c.print_payloads.result _ (c.in_ok-payloads.ensures.keeps all told told_other read)

@@ -2,7 +2,7 @@ use Rattle.std.proofs.Common.{◌≡◌, ◌∙◌, Err, arith, sym}
 use Rattle.std.proofs.lemmas.Result.{err_from_is_err_and}
 use Rattle.mdcc_dump.proofs.Facts.{fact_at}
 use Rattle.mdcc_dump.proofs.Printed.{all_printed, none_printed, one_more, some_more}
-use Rattle.mdcc_restart.proofs.Named.{rose-later}
+use Rattle.mdcc_centre.proofs.Named.{rose-later}
 use Rattle.mdcc_dump.proofs.dumping.print_payloads.Goals as goal
 
 pub print_payload-requires : goal.print_payload-requires

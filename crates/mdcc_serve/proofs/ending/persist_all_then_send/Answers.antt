@@ -39,9 +39,12 @@ returns-in_err-persist_at g c served hold ascend =
     let config = c.args.config.now in
     let fault = c.in_err-persist_at.field-0.0 in
     let e : c.from_residual.result ≡ Err fault = search rules in
-    let stop = next_stopped w (end_of config) (ends_own config) config.cluster start now new served c.loop-index.index ascend (c.loop-index.invariant served hold ascend) within fault
+    let mid = next_stopped w (end_of config) (ends_own config) config.cluster start now new served c.loop-index.index ascend (c.loop-index.invariant served hold ascend) within fault
     (λ one site at holds. (let went = c.in_err-persist_at.ensures one site at holds in record { given = tt; next = went.next; held = went.held; goes = went.goes })) in
-    rw e (subst (λ (server : Server). AllStop w served server fault start new) (sym (ends_are config served stop.0 stop.1)) stop.2)
+    rw e (record {
+      at = record { front = mid.front; site = mid.site; back = mid.back; are = mid.are };
+      stop = subst (λ (server : Server). AllStop w served server.acts (end_of config mid.site mid.given) fault start new) (sym (ends_are config mid.front mid.earlier mid.as_many)) mid.stop;
+    })
 
 pub returns : goal.returns
 returns g c served hold ascend =
@@ -52,4 +55,4 @@ returns g c served hold ascend =
     let gone : HaveGone w (end_of config) config.cluster start now served c.loop-index.index = c.loop-index.invariant served hold ascend in
     let over : length c.loop-index.sites ≤ c.loop-index.index = omega arith in
     let all = all_gone w (end_of config) config.cluster start now served c.loop-index.index gone over in
-    subst (λ (server : Server). AllFinish w config.cluster server start now) (sym (ends_are config served gone.given all.0)) all.1
+    subst (λ (server : Server). AllFinish w config.cluster served server start now) (sym (ends_are config served gone.given all.0)) all.1

@@ -6,6 +6,7 @@ use Rattle.mdcc_site.specs.Moments.{outside}
 use Rattle.mdcc_site.specs.SiteState.{PrintsAll}
 use Rattle.mdcc_site.specs.declared.site.Site.{Site}
 use Rattle.mdcc_serve.proofs.Refused.{binding_ends, telling_ends}
+use Rattle.mdcc_serve.proofs.Untaken.{bind_refuses, line_refuses, start_refuses}
 use Rattle.mdcc_serve.proofs.opening.open.Goals as goal
 
 pub returns-in_err-sites-clause-fails : goal.returns-in_err-sites-clause-fails
@@ -79,3 +80,20 @@ returns-in_err-tell_boots-clause-logs g c =
 
 pub returns-clause-logs : goal.returns-clause-logs
 returns-clause-logs g c = c.in_ok-sites.ensures.nodes
+
+-- ---- where a log is refused
+
+pub returns-in_err-sites-clause-refused : goal.returns-in_err-sites-clause-refused
+returns-in_err-sites-clause-refused g c =
+    let e : c.from_residual.result ≡ Err c.in_err-sites.field-0.0 = search rules in
+    rw e (start_refuses g.D.Disks.disk c.args.config.now.cluster g.L.Link.calls g.L.Link.lost c.args.first (c.args.last + 1) c.args.disks.now c.start_all.new.disks c.args.link.now c.args.out.now c.in_err-sites.field-0.0 c.in_err-sites.ensures.stay)
+
+pub returns-in_err-bind_all-clause-refused : goal.returns-in_err-bind_all-clause-refused
+returns-in_err-bind_all-clause-refused g c =
+    let e : c.from_residual-in_err-bind_all.result ≡ Err c.in_err-bind_all.field-0.0 = search rules in
+    rw e (λ refused. absurd (bind_refuses g.L.Link.calls g.L.Link.lost g.L.Link.faults (binds_of_all c.args.config.now c.as_slice.result.now) c.in_err-bind_all.field-0.0 c.args.link.now c.bind_all.new.link c.in_err-bind_all.ensures refused))
+
+pub returns-in_err-tell_boots-clause-refused : goal.returns-in_err-tell_boots-clause-refused
+returns-in_err-tell_boots-clause-refused g c =
+    let e : c.from_residual-in_err-tell_boots.result ≡ Err c.in_err-tell_boots.field-0.0 = search rules in
+    rw e (λ refused. absurd (line_refuses g.O.Sink.held g.O.Sink.faults (boots_told c.as_slice-2.result.now) c.in_err-tell_boots.field-0.0 c.args.out.now c.tell_boots.new.out c.in_err-tell_boots.ensures refused))

@@ -5,6 +5,7 @@ use Rattle.mdcc_serve.specs.Centres.{all_seen, places}
 use Rattle.mdcc_site.specs.Moments.{Caused, outside}
 use Rattle.mdcc_site.specs.declared.fault.ServeFault.{ServeFault}
 use Rattle.mdcc_serve.proofs.Refused.{logs_may}
+use Rattle.mdcc_serve.specs.Others.{KeepsUnserved}
 use Rattle.mdcc_serve.specs.Refusals.{SaysOfLogs}
 use Rattle.mdcc_serve.proofs.serve.serve_cluster.Goals as goal
 
@@ -43,3 +44,6 @@ returns-clause-logs g c =
 pub returns-clause-may : goal.returns-clause-may
 returns-clause-may g c =
     logs_may g.D.Disks.disk c.args.config.now.cluster c.args.disks.now 1 (c.centres-last.result + 1) c.serve.result c.serve.ensures.logs
+
+pub returns-clause-others : goal.returns-clause-others
+returns-clause-others g c = subst (λ (n : ℕ). KeepsUnserved g.D.Disks.disk g.D.Disks.may_leave 1 (n + 1) c.args.disks.now c.serve.new.disks) c.centres-last.ensures.value c.serve.ensures.others

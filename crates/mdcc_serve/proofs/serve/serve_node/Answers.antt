@@ -3,7 +3,10 @@ use Rattle.std.proofs.lemmas.Result.{IfErr-at_err}
 use Rattle.mdcc_serve.specs.Centres.{all_seen, places}
 use Rattle.mdcc_site.specs.Moments.{Caused, outside}
 use Rattle.mdcc_site.specs.declared.fault.ServeFault.{ServeFault}
+use Rattle.mdcc_serve.proofs.Others.{keeps_but}
 use Rattle.mdcc_serve.proofs.Refused.{logs_may}
+use Rattle.mdcc_serve.proofs.Untaken.{one_refuses}
+use Rattle.mdcc_serve.specs.Others.{KeepsUnserved}
 use Rattle.mdcc_serve.specs.Refusals.{SaysOfLogs}
 use Rattle.mdcc_serve.proofs.serve.serve_node.Goals as goal
 
@@ -39,3 +42,16 @@ returns-clause-logs g c =
 pub returns-clause-may : goal.returns-clause-may
 returns-clause-may g c =
     logs_may g.D.Disks.disk c.args.config.now.cluster c.args.disks.now c.number-first.result (c.number-first.result + 1) c.serve.result c.serve.ensures.logs
+
+-- ---- where its log is refused
+
+pub returns-clause-refused : goal.returns-clause-refused
+returns-clause-refused g c =
+    one_refuses g.D.Disks.disk g.L.Link.calls g.L.Link.lost c.args.config.now.cluster c.number-first.result c.args.centre c.args.disks.now c.serve.new.disks c.args.link.now c.serve.new.link c.args.out.now c.serve.new.out c.serve.result c.number-first.ensures.value c.serve.ensures.refused
+
+-- ---- the disks of other centres
+
+pub returns-clause-others : goal.returns-clause-others
+returns-clause-others g c =
+    keeps_but g.D.Disks.disk g.D.Disks.may_leave c.args.centre c.args.disks.now c.serve.new.disks
+    (subst (λ (n : ℕ). KeepsUnserved g.D.Disks.disk g.D.Disks.may_leave n (n + 1) c.args.disks.now c.serve.new.disks) c.number-first.ensures.value c.serve.ensures.others)

@@ -1,6 +1,8 @@
 use Rattle.std.proofs.Common.{◌≡◌, ◌+◌, ◌-◌, ◌≤◌, ◌∷◌, ◌++◌, [], List, Err, arith, inl, inr, length, length-append, rules, subst, sym, ℕ}
 use Rattle.mdcc_serve.proofs.Together.{keep_stops, none_started, one_started, start_stops}
+use Rattle.mdcc_serve.proofs.Standing.{one_stays, rest_stay, unless_so}
 use Rattle.mdcc_serve.specs.Starts.{FailToStart, HaveStarted}
+use Rattle.mdcc_serve.specs.Stays.{AllStay, UnlessDisk}
 use Rattle.mdcc_site.specs.declared.fault.ServeFault.{ServeFault}
 use Rattle.mdcc_site.specs.declared.site.Site.{Site}
 use Rattle.mdcc_serve.proofs.Refused.{boots_still, none_boot, one_boots, says_still}
@@ -14,6 +16,7 @@ loop-number-init g c =
       started = subst (λ (held : List Site). HaveStarted g.D.Disks.disk g.D.Disks.may_leave c.args.config.now.cluster c.args.first held c.args.disks.now c.args.disks.now) (sym none)
           (none_started g.D.Disks.disk g.D.Disks.may_leave c.args.config.now.cluster c.args.first c.args.disks.now);
       nodes = none_boot g.D.Disks.disk c.args.config.now.cluster c.args.disks.now c.args.first;
+      stay = λ a low high. absurd (omega (low, high, arith));
       many = rw none (omega arith);
     }
 
@@ -32,6 +35,8 @@ loop-number-preserved g c =
       nodes = one_boots g.D.Disks.disk c.args.config.now.cluster c.args.disks.now c.args.first c.loop-number.number before.nodes
           (boots_still g.D.Disks.disk c.args.config.now.cluster c.args.disks.now g.D.Disks.may_leave c.loop-number.disks c.loop-number.number
           (before.started.later c.loop-number.number (omega (many, arith)) (omega (nine, among, arith))) c.in_ok-start_next.ensures.node);
+      stay = one_stays g.D.Disks.disk g.D.Disks.may_leave c.args.config.now.cluster c.args.disks.now c.loop-number.disks c.start_next.new.disks c.args.first c.loop-number.number (omega (nine, among, arith)) before.stay
+          (before.started.later c.loop-number.number (omega (many, arith)) (omega (nine, among, arith))) next.2.others next.2.stays;
       many = rw next.1 (omega (more, many, arith));
     }
 
@@ -80,3 +85,20 @@ pub returns-clause-nodes : goal.returns-clause-nodes
 returns-clause-nodes g c =
     let whole : c.loop-number.number ≡ c.args.last + 1 = omega arith in
     subst (λ (n : ℕ). AllBoot g.D.Disks.disk c.args.config.now.cluster c.args.disks.now c.args.first n) whole c.loop-number.invariant.nodes
+
+-- ---- what stands where they end before
+
+pub returns-in_err-start_next-clause-stay : goal.returns-in_err-start_next-clause-stay
+returns-in_err-start_next-clause-stay g c =
+    let before = c.loop-number.invariant in
+    let many : c.args.first + length c.loop-number.sites.items ≡ c.loop-number.number = before.many in
+    let nine : c.args.config.now.cluster.quorums.centres ≤ 9 = c.requires.config.quorums.nine_centres in
+    let among : c.args.last ≤ c.args.config.now.cluster.quorums.centres = c.requires.among in
+    let fault = c.in_err-start_next.field-0.0 in
+    let e : c.from_residual.result ≡ Err fault = search rules in
+    let rest = rest_stay g.D.Disks.disk g.D.Disks.may_leave c.args.config.now.cluster c.args.disks.now c.loop-number.disks c.start_next.new.disks c.args.first c.loop-number.number (c.args.last + 1) (omega (nine, among, arith)) (omega (nine, among, arith))
+    before.stay (λ a low high. before.started.later a (omega (many, low, arith)) high) in
+    rw e (elim c.in_err-start_next.ensures.fails [
+      | inl fails ↦ unless_so fault fails.stays (rest fails.others)
+      | inr lacks ↦ subst (λ (f : ServeFault). UnlessDisk f (AllStay g.D.Disks.disk c.args.config.now.cluster c.args.disks.now c.start_next.new.disks c.args.first (c.args.last + 1))) (sym lacks.0) (rest lacks.2.others lacks.2.stays)
+    ])

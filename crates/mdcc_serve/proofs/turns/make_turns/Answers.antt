@@ -26,7 +26,7 @@ loop-turn-preserved g c served hold ascend =
     let new = places c.turn_of_all.new.disks c.turn_of_all.new.sites c.turn_of_all.new.link c.turn_of_all.new.out in
     let run : HaveRun w config config.cluster start now served c.loop-turn._turn = c.loop-turn.invariant served hold ascend in
     let turn = c.in_ok-turn_of_all.ensures (fold (after_turn config) (begun served) run.given).sites run.finish.stand run.ascend in
-    one_run w config config.cluster start now new served c.loop-turn._turn run turn.0 turn.1 turn.2
+    one_run w config config.cluster start now new served c.loop-turn._turn run turn.given turn.as_many turn.finish
 
 pub returns-in_err-turn_of_all : goal.returns-in_err-turn_of_all
 returns-in_err-turn_of_all g c served hold ascend =
@@ -39,7 +39,7 @@ returns-in_err-turn_of_all g c served hold ascend =
     let turn = c.in_err-turn_of_all.ensures (fold (after_turn config) (begun served) run.given).sites run.finish.stand run.ascend in
     let fewer : c.loop-turn._turn < c.args.turns = omega arith in
     let e : c.from_residual.result ≡ Err c.in_err-turn_of_all.field-0.0 = search rules in
-    rw e (run_stops w config config.cluster start now new served c.loop-turn._turn run turn.0 c.args.turns c.in_err-turn_of_all.field-0.0 fewer turn.1 turn.2)
+    rw e (run_stops w config config.cluster start now new served c.loop-turn._turn c.args.turns c.in_err-turn_of_all.field-0.0 run fewer turn)
 
 pub returns : goal.returns
 returns g c served hold ascend =
@@ -50,4 +50,4 @@ returns g c served hold ascend =
     let run : HaveRun w config config.cluster start now served c.loop-turn._turn = c.loop-turn.invariant served hold ascend in
     let made = run.made in
     let all : length run.given ≡ c.args.turns = omega arith in
-    (run.given, all, run.each, run.finish)
+    record { given = run.given; made = all; each = run.each; finish = run.finish }

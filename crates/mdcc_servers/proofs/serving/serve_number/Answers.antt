@@ -5,8 +5,10 @@ use Rattle.mdcc_endings.specs.declared.fault.Failure.{Failure}
 use Rattle.mdcc_protocol.specs.Belongs.{is_centre}
 use Rattle.mdcc_servers.proofs.Refused.{says_served, told_alone}
 use Rattle.mdcc_servers.proofs.Served.{at_false, at_true, disk_served, link_served, no_input, none_early, output_served}
+use Rattle.mdcc_servers.proofs.Untaken.{refused_served}
 use Rattle.mdcc_servers.proofs.Waiting.{serves_there}
 use Rattle.mdcc_servers.specs.Commands.{ServesOne, Untouched}
+use Rattle.mdcc_site.specs.Moments.{KeepsOthers}
 use Rattle.mdcc_servers.proofs.serving.serve_number.Goals as goal
 
 pub returns-in_default-clause-serves : goal.returns-in_default-clause-serves
@@ -25,6 +27,8 @@ returns-clause-serves g c =
           c.args.config.now (log ∷ []) c.args.turns c.serve_node.result c.args.disks.now c.serve_node.new.disks c.serve_node.new.link c.args.out.now c.serve_node.new.out (c.serve_node.ensures.serves log of is);
       logs = λ told. says_served g.D.Disks.disk c.args.config.now.cluster c.args.disks.now c.in-Some.centre c.in-Some.centre (told_alone g.D.Disks.disk c.args.disks.now c.in-Some.centre told)
           c.serve_node.result c.as_served.result c.as_served.ensures c.serve_node.ensures.logs;
+      refused = refused_served g.D.Disks.disk g.L.Link.calls g.L.Link.lost c.args.config.now.cluster c.in-Some.centre (c.in-Some.centre + 1) c.args.disks.now c.serve_node.new.disks c.args.link.now c.set_wait.new.self c.serve_node.new.link c.args.out.now c.serve_node.new.out
+          c.set_wait.ensures.calls c.set_wait.ensures.sends _ _ c.serve_node.result c.as_served.result c.as_served.ensures (λ told. told) c.serve_node.ensures.refused;
     }))
 
 pub returns-clause-early : goal.returns-clause-early
@@ -42,3 +46,11 @@ returns-clause-link g c = λ h.
 
 pub returns-clause-output : goal.returns-clause-output
 returns-clause-output g c = λ h. c.serve_node.ensures.output (output_served c.serve_node.result c.serve_node.ensures.may (sym c.as_served.ensures ∙ h))
+
+-- ---- the disks of other centres
+
+pub returns-in_default-clause-others : goal.returns-in_default-clause-others
+returns-in_default-clause-others g c = record { others = λ p here there. refl; crash = λ p here there bytes left. left }
+
+pub returns-clause-others : goal.returns-clause-others
+returns-clause-others g c = subst (λ (n : ℕ). KeepsOthers g.D.Disks.disk g.D.Disks.may_leave n c.args.disks.now c.serve_node.new.disks) c.in-Some.ensures.some.0 c.serve_node.ensures.others

@@ -1,0 +1,48 @@
+-- Logs that stand as they were where a server ends before its first turn.
+use Rattle.std.specs.Prelude.{Err, List, Ok, Option, Result, [], ⊤, ℕ, ◌+◌, ◌++◌, ◌<◌, ◌∷◌, ◌≡◌, ◌≤◌, ◌⊎◌}
+use Rattle.mdcc_centre.specs.Nodes.{booted}
+use Rattle.mdcc_centre.specs.Starting.{AreasStand}
+use Rattle.mdcc_disks.specs.Disks.{Disk}
+use Rattle.mdcc_endings.specs.Logs.{IsTold}
+use Rattle.mdcc_link.specs.Link.{LinkCall}
+use Rattle.mdcc_log.specs.Area.{payloads}
+use Rattle.mdcc_log_file.specs.declared.fault.LogFault.{LogFault}
+use Rattle.mdcc_messages.specs.Spelling.{fact_bytes}
+use Rattle.mdcc_messages.specs.declared.facts.Fact.{Fact}
+use Rattle.mdcc_option.specs.declared.cluster.Cluster.{Cluster}
+use Rattle.mdcc_site.specs.declared.fault.ServeFault.{ServeFault}
+
+-- a log is refused: areas are none, or their payloads give no node
+abbrev pub IsLogRefused : ServeFault → Type 0
+IsLogRefused (ServeFault.Log a (LogFault.NotALog offset)) = ⊤
+IsLogRefused (ServeFault.Boot a why) = ⊤
+IsLogRefused fault = ⊥
+
+-- something stands unless a call of a disk failed
+abbrev pub UnlessDisk : ServeFault → Type 0 → Type 0
+UnlessDisk (ServeFault.Disk a) P = ⊤
+UnlessDisk fault P = P
+
+-- read are the payloads, or these and the boot of the node that they give
+abbrev pub MayHaveBoot : Cluster → List (List ℕ) → Result (List (List ℕ)) ℕ → Type 0
+MayHaveBoot cluster all read =
+    (read ≡ Ok all) ⊎ ((boot : Fact) × (facts : List Fact) × (booted cluster all ≡ Ok (boot ∷ facts)) × (read ≡ Ok (all ++ fact_bytes boot ∷ [])))
+
+module _ {D : Type 0} (disk : D → ℕ → Disk) (cluster : Cluster) (old new : D) where
+  -- The log of a centre has the payloads that it had, with or without its own new boot; areas that are no log have the bytes that they
+  -- had.
+  pub record LogStays (a : ℕ) : Type 0 where
+    pub read : (all : List (List ℕ)) → IsTold disk old a → payloads (disk old a).bytes (disk old (a + 16)).bytes ≡ Ok all
+        → MayHaveBoot cluster all (payloads (disk new a).bytes (disk new (a + 16)).bytes)
+    pub unread : (offset : ℕ) → IsTold disk old a → payloads (disk old a).bytes (disk old (a + 16)).bytes ≡ Err offset → AreasStand a disk old new
+
+  -- so do those of several centres, up to this number
+  abbrev pub AllStay : ℕ → ℕ → Type 0
+  AllStay first end = (a : ℕ) → first ≤ a → a < end → LogStays a
+
+-- No call of the link was made, nothing was printed, and the logs of all centres that were to be served stand.
+pub record HasRefused {D L O : Type 0} (disk : D → ℕ → Disk) (calls : L → Option (List LinkCall)) (lost : L → ℕ) (cluster : Cluster) (first end : ℕ) (disks_old disks_new : D) (link_old link_new : L) (out_old out_new : O) : Type 0 where
+  pub link : calls link_new ≡ calls link_old
+  pub sends : lost link_new ≡ lost link_old
+  pub output : out_new ≡ out_old
+  pub logs : AllStay disk cluster disks_old disks_new first end
