@@ -165,7 +165,8 @@ fn writes_zeros_ahead(rt: HostRuntime) -> Result<(), Fail> {
     );
     let mut disks = FileDisks::new(rt.alloc(), &rt);
     assert_eq!(rt; disks.read(4, 12, &mut buffer), Ok(65_533));
-    assert!(rt; buffer[..65_533].iter().all(|byte| *byte == 0));
+    let (zeros, _) = buffer.as_slice().split_at(buffer.len().min(65_533));
+    assert!(rt; zeros.iter().all(|byte| *byte == 0));
     assert_eq!(rt; disks.cut(4, 12), Ok(()));
     drop(disks);
     let mut disks = FileDisks::new(rt.alloc(), &rt);

@@ -182,3 +182,52 @@ fn each_call_of_a_checkpoint_may_stop(rt: HostRuntime) -> Result<(), Fail> {
     assert!(rt; each_stops_well(rt.alloc()));
     Ok(())
 }
+
+// Zeros as they stand behind an area whose file was written ahead.
+const ZEROS: [u8; 100] = [0; 100];
+
+// What an opening finds and leaves of two areas, each that is not empty with zeros behind it: how many payloads are read, which area is
+// in use, and how many bytes each has then.
+fn opened_with_zeros(
+    alloc: Global,
+    first: &[u8],
+    second: &[u8],
+) -> Result<(usize, u8, usize, usize), LogFault> {
+    let Ok(mut disks) = MemoryDisks::new(alloc, 17, &[]) else {
+        return Err(LogFault::Memory);
+    };
+    for (place, bytes) in [(1u8, first), (17u8, second)] {
+        if !bytes.is_empty() {
+            disks.write_at(place, 0, bytes)?;
+            disks.write_at(place, bytes.len() as u64, ZEROS.as_slice())?;
+        }
+    }
+    let (log, payloads) = Frames::open(alloc, &mut disks, Centre::default(), 1000)?;
+    Ok((
+        payloads.len(),
+        log.area(),
+        disks.bytes(1).len(),
+        disks.bytes(17).len(),
+    ))
+}
+
+// Zeros behind the closed gate of an area are read as nothing, and cut off the area in use; the other keeps them.
+#[test]
+fn zeros_behind_an_area_are_no_payloads(rt: HostRuntime) -> Result<(), Fail> {
+    let alloc = rt.alloc();
+    let mut closed = COPY;
+    closed[8] = 0;
+    let fresh = *b"MDCCLOG1\x00";
+    let half = *b"MDCCLOG1\x01\x05\x00\x00\x00\x01\x01\x00\x00\x00\x00\x02\x00\x00\x00ab\x00";
+    let mut both = half;
+    both[18] = 1;
+    let none: [u8; 0] = [];
+    assert_eq!(rt; opened_with_zeros(alloc, &LOG, &none)?, (1, 0, 19, 0));
+    assert_eq!(rt; opened_with_zeros(alloc, &LOG, &COPY)?, (1, 1, 119, 35));
+    assert_eq!(rt; opened_with_zeros(alloc, &LOG, &closed)?, (1, 0, 19, 135));
+    assert_eq!(rt; opened_with_zeros(alloc, &none, &COPY)?, (1, 1, 0, 35));
+    assert_eq!(rt; opened_with_zeros(alloc, &fresh, &none)?, (0, 0, 9, 0));
+    assert_eq!(rt; opened_with_zeros(alloc, &half, &none)?, (1, 0, 19, 0));
+    assert_eq!(rt; opened_with_zeros(alloc, &both, &none)?, (2, 0, 26, 0));
+    Ok(())
+}
