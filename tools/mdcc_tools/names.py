@@ -59,8 +59,8 @@ OUTSIDE: Dict[str, str] = {
 
 # Calls, programs and settings of the system, whichever documents use them.
 SYSTEM = frozenset("""
-    LD_PRELOAD LimitAS LimitSTACK brk callgrind chrt copytruncate dmesg fcntl flock fstat fsync ftruncate logrotate memcpy memmove memset mmap
-    perf pread sysctl taskset F_DUPFD_CLOEXEC O_NONBLOCK
+    LD_PRELOAD LimitAS LimitSTACK brk callgrind chrt copytruncate dmesg fcntl flock fstat fsync ftruncate journalctl logrotate memcpy memmove
+    memset mmap nft perf pread sysctl taskset F_DUPFD_CLOEXEC O_NONBLOCK
 """.split())
 
 Said = Tuple[int, str]
