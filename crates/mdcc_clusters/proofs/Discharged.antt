@@ -1,10 +1,15 @@
 -- What the headline of clusters stands on is proved.
+use Rattle.std.specs.Prelude.{List, ℕ}
+use Rattle.mdcc_config.specs.IsConfig.{IsConfig}
+use Rattle.mdcc_config.specs.declared.config.Config.{Config}
 use Rattle.mdcc_worlds.proofs.Within.{made-quiet}
 use Rattle.mdcc_clusters.proofs.Drafted.{drafted_formed}
 use Rattle.mdcc_clusters.proofs.Headline.{headline}
-use Rattle.mdcc_clusters.proofs.Truth.{execution-true}
+use Rattle.mdcc_clusters.proofs.Standing.{IsLogged}
+use Rattle.mdcc_clusters.proofs.Truth.{execution-logged, execution-true}
+use Rattle.mdcc_clusters.specs.Clusters.{Move, after_moves, log_of, not_started}
 use Rattle.mdcc_clusters.specs.Discharged.{HeadlineOfClusters}
-use Rattle.mdcc_clusters.specs.Executions.{Laws}
+use Rattle.mdcc_clusters.specs.Executions.{IsExecution, Laws}
 use Rattle.mdcc_clusters.specs.Formed.{StepLaws}
 use Rattle.mdcc_clusters.specs.Headline.{LedgerLaws}
 use Rattle.mdcc_headline.proofs.Lines.{lines-told}
@@ -33,3 +38,6 @@ ledger-laws = record {
 
 pub deployed : HeadlineOfClusters
 deployed config is moves h = headline (λ l k i ms x. execution-true l k i ms x) laws ledger-laws config is moves h
+
+pub deployed-logged : (config : Config) → IsConfig config → (moves : List Move) → IsExecution config not_started moves → (a : ℕ) → IsLogged config.cluster (log_of (after_moves config not_started moves).durable a)
+deployed-logged config is moves h a = execution-logged laws config is moves h a

@@ -11,9 +11,10 @@ use Rattle.mdcc_run_laws.specs.Brought.{AreBytes}
 use Rattle.mdcc_runs.specs.Acts.{Act}
 use Rattle.mdcc_runs.specs.Runs.{listed}
 use Rattle.mdcc_runs.specs.Sites.{Doing, Site}
+use Rattle.mdcc_runs.specs.Turns.{Given}
 use Rattle.mdcc_clusters.specs.Clusters.{Deployment, Move, Process, after_act, after_do_at, after_move, after_start_at, after_stop_at, after_turn_at}
-use Rattle.mdcc_clusters.specs.Executions.{AreWithinLimits, CameFromCentres, IsExecution, IsWithinLimits, MayMove, WasSent}
-use Rattle.mdcc_clusters.specs.ExecutionTest.{are_bytes, centre_of, is_execution, is_within_limits, may_move, may_receive_asked, may_receive_own, same_bytes, sends_these, was_sent}
+use Rattle.mdcc_clusters.specs.Executions.{AreWithinLimits, CameFromCentres, IsExecution, IsWithinLimits, MayDeliver, MayMove, WasSent}
+use Rattle.mdcc_clusters.specs.ExecutionTest.{are_bytes, centre_of, is_execution, is_within_limits, may_cut, may_deliver, may_move, may_receive_asked, may_receive_own, same_bytes, sends_these, was_sent}
 
 -- ---- what receives give
 
@@ -65,11 +66,19 @@ asked-bytes : (gave : Option (List ℕ)) → may_receive_asked gave ≡ true →
 asked-bytes None h = tt
 asked-bytes (Some bytes) h = (all-bytes bytes h, tt)
 
-may-move : (state : Deployment) (move : Move) → may_move state move ≡ true → MayMove state move
-may-move state (Move.Turn a given) h =
-    let both = and_parts (may_receive_own state.done given.own) (may_receive_asked given.asked) h in
-    let own = own-came state.done given.own both.0 in
+may-deliver : (done : List (ℕ × Act)) (given : Given) → may_deliver done given ≡ true → MayDeliver done given
+may-deliver done given h =
+    let both = and_parts (may_receive_own done given.own) (may_receive_asked given.asked) h in
+    let own = own-came done given.own both.0 in
     record { own = own.0; own_bytes = own.1; asked_bytes = asked-bytes given.asked both.1 }
+
+may-cut : (done : List (ℕ × Act)) (given : Option Given) → may_cut done given ≡ true → AllByRecursion (MayDeliver done) (listed given)
+may-cut done None h = tt
+may-cut done (Some given) h = (may-deliver done given h, tt)
+
+may-move : (state : Deployment) (move : Move) → may_move state move ≡ true → MayMove state move
+may-move state (Move.Turn a given) h = may-deliver state.done given h
+may-move state (Move.Cut a given few) h = may-cut state.done given h
 may-move state (Move.Start a) h = tt
 may-move state (Move.Flush a) h = tt
 may-move state (Move.Do a) h = tt
@@ -111,6 +120,7 @@ move-others : (config : Config) (state : Deployment) (move : Move) (b : ℕ) →
 move-others config state (Move.Start a) b e = start-others config state a b (state.process a) e
 move-others config state (Move.Turn a given) b e = turn-others _ state a b (state.process a) e
 move-others config state (Move.Flush a) b e = turn-others _ state a b (state.process a) e
+move-others config state (Move.Cut a given few) b e = turn-others _ state a b (state.process a) e
 move-others config state (Move.Do a) b e = do-others state a b (state.process a) e
 move-others config state (Move.Stop a logged) b e = stop-others state a b logged (state.process a) e
 

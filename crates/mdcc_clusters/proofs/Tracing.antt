@@ -10,21 +10,26 @@ use Rattle.mdcc_rules.specs.Boot.{booted_by}
 use Rattle.mdcc_rules.specs.declared.node.BootFault.{BootFault}
 use Rattle.mdcc_run_laws.proofs.Outgoing.{out_site}
 use Rattle.mdcc_run_laws.proofs.Turned.{inputs_run}
+use Rattle.mdcc_run_laws.specs.Inputs.{turns_alone}
 use Rattle.mdcc_runs.specs.Acts.{Act, appended_by}
 use Rattle.mdcc_runs.specs.Sending.{persist_then_send}
 use Rattle.mdcc_runs.specs.Servers.{Log, after_last, after_turn, opened, site_of}
 use Rattle.mdcc_runs.specs.Sites.{Doing, Site, idle}
 use Rattle.mdcc_runs.specs.Turns.{Given, inputs_taken, is_held, turn_of}
-use Rattle.mdcc_clusters.specs.Clusters.{Deployment, Move, Process, after_move, after_moves, after_act, after_do_at, in_flight, after_stop_at, log_of, not_started, process_of, after_start_at, process_started, after_turn_at, process_turned, with_process}
+use Rattle.mdcc_clusters.specs.Clusters.{Deployment, Move, Process, after_move, after_moves, after_act, after_do_at, cut_turn, in_flight, after_stop_at, log_of, not_started, process_of, after_start_at, process_started, after_turn_at, process_turned, with_process}
 use Rattle.mdcc_clusters.specs.Executions.{AreWithinLimits, CameFromCentres, IsExecution, MayMove, IsWithinLimits, WasSent}
 use Rattle.mdcc_groups.specs.Groups.{facts_onto}
-use Rattle.mdcc_clusters.specs.Traces.{LifeEvent, GivesBytes, MayOccur, IsExecuted, IsLife, MayDoNext, MayReceive, IsTrace, IsWithinTurns, Traced, acts_of, after_event, after_events, after_next_at, after_end_at, life_of, nothing_yet, after_begin_at, with_left}
+use Rattle.mdcc_clusters.specs.Traces.{Ending, LifeEvent, GivesBytes, MayOccur, IsExecuted, IsLife, MayDoNext, MayReceive, IsTrace, IsWithinTurns, Traced, acts_of, acts_to, after_event, after_events, after_next_at, after_end_at, life_of, nothing_yet, after_begin_at, ending_of, last_given, with_left}
 
 -- ---- the acts of a server of one centre
 
+-- its turns, and what it does at their end
+abbrev pub rest_to : Config → Ending → Site → List Given → List Act
+rest_to config ending site [] = (ending_of config ending site).acts
+rest_to config ending site (given ∷ more) = (turn_of config site given).acts ++ rest_to config ending (turn_of config site given).site more
+
 abbrev pub rest : Config → Site → List Given → List Act
-rest config site [] = (persist_then_send config site).acts
-rest config site (given ∷ more) = (turn_of config site given).acts ++ rest config (turn_of config site given).site more
+rest config site given = rest_to config Ending.Whole site given
 
 served-acts : (config : Config) (acts : List Act) (site : Site) (given : List Given)
     → (after_last config (fold (after_turn config) (record { acts = acts; sites = site ∷ [] }) (map (λ turn. turn ∷ []) given))).acts ≡ acts ++ rest config site given
@@ -37,6 +42,19 @@ served-acts config acts site (given ∷ more) =
 
 pub acts-are : (config : Config) (log : Log) (given : List Given) → acts_of config log given ≡ (opened config (log ∷ [])).acts ++ rest config (site_of log) given
 acts-are config log given = served-acts config (opened config (log ∷ [])).acts (site_of log) given
+
+rest-alone : (config : Config) (ending : Ending) (site : Site) (given : List Given)
+    → rest_to config ending site given ≡ (turns_alone config site given).acts ++ (ending_of config ending (turns_alone config site given).site).acts
+rest-alone config ending site [] = refl
+rest-alone config ending site (given ∷ more) =
+    let turn = (turn_of config site given).acts in
+    let next = (turn_of config site given).site in
+    ap (λ (xs : List Act). turn ++ xs) (rest-alone config ending next more)
+    ∙ sym (append_assoc turn (turns_alone config next more).acts (ending_of config ending (turns_alone config next more).site).acts)
+
+pub acts-to-are : (config : Config) (log : Log) (given : List Given) (ending : Ending) → acts_to config log given ending ≡ (opened config (log ∷ [])).acts ++ rest_to config ending (site_of log) given
+acts-to-are config log given Ending.Whole = acts-are config log given
+acts-to-are config log given (Ending.Short last few) = ap (λ (xs : List Act). (opened config (log ∷ [])).acts ++ xs) (sym (rest-alone config (Ending.Short last few) (site_of log) given))
 
 abbrev head_of : List Act → Option Act
 head_of [] = None
@@ -55,10 +73,12 @@ turn-centre config site given =
 
 record IsGoing (config : Config) (a : ℕ) (left : List Act) (p : Process) : Type 0 where
   given : List Given
-  acts_are : left ≡ p.left ++ rest config p.site_then given
+  ending : Ending
+  acts_are : left ≡ p.left ++ rest_to config ending p.site_then given
   centre : p.site_then.centre ≡ a
   bytes : AllByRecursion GivesBytes given
-  within : IsWithinTurns config p.site_then given
+  last_bytes : AllByRecursion GivesBytes (last_given ending)
+  within : IsWithinTurns config p.site_then given ending
 
 abbrev Matches : Config → ℕ → Option (List Act) → Option Process → Type 0
 Matches config a None None = ⊤
@@ -169,36 +189,49 @@ module _ (config : Config) where
         let it : MayReceive trace.done a (Act.Receive at (Some bytes)) = subst (MayReceive trace.done a) e h in
         subst (λ (done : List (ℕ × Act)). WasSent done bytes) f.done (it s)
 
-    going-on : (p : Process) (act : Act) (acts : List Act) → state.process a ≡ Some p → MayReceive trace.done a act → (g : IsGoing config a (act ∷ acts) p) → (mine : List Act) → p.left ≡ mine
-        → Goes config state (with_left (record { done = (a, act) ∷ trace.done; durable = facts_onto a (appended_by a act) trace.durable; left = trace.left }) a (Some acts))
+    abbrev AfterOne : Act → List Act → Traced
+    AfterOne act acts = with_left (record { done = (a, act) ∷ trace.done; durable = facts_onto a (appended_by a act) trace.durable; left = trace.left }) a (Some acts)
+
+    -- where no turn is left but its end
+    ending-on : (p : Process) (act : Act) (acts : List Act) → state.process a ≡ Some p → MayReceive trace.done a act → p.left ≡ [] → p.site_then.centre ≡ a → (ending : Ending) → act ∷ acts ≡ (ending_of config ending p.site_then).acts
+        → AllByRecursion GivesBytes (last_given ending) → IsWithinLimits (process_of (ending_of config ending p.site_then)) → Goes config state (AfterOne act acts)
+    ending-on p act acts is h e centre Ending.Whole all bytes low =
+        then-one (Move.Flush a) (process_of (persist_then_send config p.site_then)) act acts acts (turn-is (persist_then_send config) p is e) tt low (sym all) (inr refl)
+    ending-on p act acts is h e centre (Ending.Short None few) all bytes low =
+        then-one (Move.Cut a None few) (process_of (cut_turn config few None p.site_then)) act acts acts (turn-is (cut_turn config few None) p is e) tt low (sym all) (inr refl)
+    ending-on p act acts is h e centre (Ending.Short (Some given) few) all bytes low =
+        let head : Some act ≡ Some (Act.Receive p.site_then.centre given.own) = ap head_of all in
+        let first : act ≡ Act.Receive p.site_then.centre given.own = cc in
+        then-one (Move.Cut a (Some given) few) (process_of (cut_turn config few (Some given) p.site_then)) act acts acts (turn-is (cut_turn config few (Some given)) p is e)
+        (record { own = came-own p.site_then.centre act given.own first centre h; own_bytes = bytes.0.own; asked_bytes = bytes.0.asked }, tt) low (sym all) (inr refl)
+
+    going-on : (p : Process) (act : Act) (acts : List Act) → state.process a ≡ Some p → MayReceive trace.done a act → (g : IsGoing config a (act ∷ acts) p) → (mine : List Act) → p.left ≡ mine → Goes config state (AfterOne act acts)
     going-on p act acts is h g (x ∷ xs) e =
-        let both : act ∷ acts ≡ x ∷ (xs ++ rest config p.site_then g.given) = g.acts_are ∙ ap (λ (ys : List Act). ys ++ rest config p.site_then g.given) e in
+        let both : act ∷ acts ≡ x ∷ (xs ++ rest_to config g.ending p.site_then g.given) = g.acts_are ∙ ap (λ (ys : List Act). ys ++ rest_to config g.ending p.site_then g.given) e in
         let first : act ≡ x = cc in
-        let later : acts ≡ xs ++ rest config p.site_then g.given = cc in
-        do-one p act acts xs is (e ∙ ap (λ (z : Act). z ∷ xs) (sym first)) (inl (record { given = g.given; acts_are = later; centre = g.centre; bytes = g.bytes; within = g.within }))
+        let later : acts ≡ xs ++ rest_to config g.ending p.site_then g.given = cc in
+        do-one p act acts xs is (e ∙ ap (λ (z : Act). z ∷ xs) (sym first))
+        (inl (record { given = g.given; ending = g.ending; acts_are = later; centre = g.centre; bytes = g.bytes; last_bytes = g.last_bytes; within = g.within }))
     going-on p act acts is h g [] e =
-        by-given g.given (g.acts_are ∙ ap (λ (ys : List Act). ys ++ rest config p.site_then g.given) e) g.bytes g.within
+        by-given g.given (g.acts_are ∙ ap (λ (ys : List Act). ys ++ rest_to config g.ending p.site_then g.given) e) g.bytes g.within
       where
-        by-given : (given : List Given) → act ∷ acts ≡ rest config p.site_then given → AllByRecursion GivesBytes given → IsWithinTurns config p.site_then given
-            → Goes config state (with_left (record { done = (a, act) ∷ trace.done; durable = facts_onto a (appended_by a act) trace.durable; left = trace.left }) a (Some acts))
-        by-given [] all bytes low =
-            then-one (Move.Flush a) (process_of (persist_then_send config p.site_then)) act acts acts (turn-is (persist_then_send config) p is e) tt low (sym all) (inr refl)
+        by-given : (given : List Given) → act ∷ acts ≡ rest_to config g.ending p.site_then given → AllByRecursion GivesBytes given → IsWithinTurns config p.site_then given g.ending → Goes config state (AfterOne act acts)
+        by-given [] all bytes low = ending-on p act acts is h e g.centre g.ending all g.last_bytes low
         by-given (given ∷ more) all bytes low = turns (turn_of config p.site_then given).acts refl
           where
-            turns : (mine : List Act) → (turn_of config p.site_then given).acts ≡ mine
-                → Goes config state (with_left (record { done = (a, act) ∷ trace.done; durable = facts_onto a (appended_by a act) trace.durable; left = trace.left }) a (Some acts))
+            turns : (mine : List Act) → (turn_of config p.site_then given).acts ≡ mine → Goes config state (AfterOne act acts)
             turns [] none = let bad : Some (Act.Receive p.site_then.centre given.own) ≡ None = ap head_of none in absurd (cc)
             turns (x ∷ xs) some =
                 let next : Process = process_of (turn_of config p.site_then given) in
                 let head : Some (Act.Receive p.site_then.centre given.own) ≡ Some x = ap head_of some in
                 let receive : x ≡ Act.Receive p.site_then.centre given.own = cc in
-                let both : act ∷ acts ≡ x ∷ (xs ++ rest config next.site_then more) = all ∙ ap (λ (ys : List Act). ys ++ rest config next.site_then more) some in
+                let both : act ∷ acts ≡ x ∷ (xs ++ rest_to config g.ending next.site_then more) = all ∙ ap (λ (ys : List Act). ys ++ rest_to config g.ending next.site_then more) some in
                 let first : act ≡ x = cc in
-                let later : acts ≡ xs ++ rest config next.site_then more = cc in
+                let later : acts ≡ xs ++ rest_to config g.ending next.site_then more = cc in
                 then-one (Move.Turn a given) next act acts xs (turn-is (λ site. turn_of config site given) p is e)
                 (record { own = came-own p.site_then.centre act given.own (first ∙ receive) g.centre h; own_bytes = bytes.0.own; asked_bytes = bytes.0.asked }) low.0
                 (some ∙ ap (λ (z : Act). z ∷ xs) (sym first))
-                (inl (record { given = more; acts_are = later; centre = turn-centre config p.site_then given ∙ g.centre; bytes = bytes.1; within = low.1 }))
+                (inl (record { given = more; ending = g.ending; acts_are = later; centre = turn-centre config p.site_then given ∙ g.centre; bytes = bytes.1; last_bytes = g.last_bytes; within = low.1 }))
 
     does-by-process : (act : Act) (acts : List Act) → MayReceive trace.done a act → (q : Option Process) → state.process a ≡ q → Matches config a (Some (act ∷ acts)) q
         → Goes config state (with_left (record { done = (a, act) ∷ trace.done; durable = facts_onto a (appended_by a act) trace.durable; left = trace.left }) a (Some acts))
@@ -244,30 +277,35 @@ module _ (config : Config) where
           follows = subst (Follows config (ended-trace logged left)) (sym it) (killed-follows state p logged left refl refl (λ b e. refl) same);
         }
 
-    last-kill : (p : Process) (logged : Bool) (left : List Act) → state.process a ≡ Some p → p.left ≡ [] → IsWithinLimits (process_of (persist_then_send config p.site_then)) → left ≡ (persist_then_send config p.site_then).acts
+    last-kill : (move : Move) (next : Process) (logged : Bool) (left : List Act) → after_move config state move ≡ with_process state a (Some next) → MayMove state move → IsWithinLimits next → left ≡ next.left
         → Goes config state (ended-trace logged left)
-    last-kill p logged left is e low all =
-        let next : Process = process_of (persist_then_send config p.site_then) in
-        let moved = turn-is (persist_then_send config) p is e in
+    last-kill move next logged left moved may low all =
         let s : Deployment = with_process state a (Some next) in
         let it = kill-is s next logged (here next) in
         let first : AreWithinLimits s = within-with state a state.done state.durable (Some next) within (λ q i. some-within next q low i) in
         let last : AreWithinLimits (after_move config s (Move.Stop a logged)) = subst AreWithinLimits (sym it) (within-with s a s.done (cond logged (facts_onto a (in_flight a next.left) s.durable) s.durable) None first (λ q i. absurd (cc))) in
         record {
-          moves = Move.Flush a ∷ (Move.Stop a logged ∷ []);
-          executed = (within, tt, subst (λ (z : Deployment). IsExecution config z (Move.Stop a logged ∷ [])) (sym moved) (first, tt, last));
+          moves = move ∷ (Move.Stop a logged ∷ []);
+          executed = (within, may, subst (λ (z : Deployment). IsExecution config z (Move.Stop a logged ∷ [])) (sym moved) (first, tt, last));
           follows = subst (λ (z : Deployment). Follows config (ended-trace logged left) (after_move config z (Move.Stop a logged))) (sym moved)
               (subst (Follows config (ended-trace logged left)) (sym it) (killed-follows s next logged left refl refl (others (Some next)) (ap (in_flight a) all)));
         }
 
+    -- an append comes next only where its end has no more inputs
+    ending-kill : (p : Process) (logged : Bool) (left : List Act) → state.process a ≡ Some p → p.left ≡ [] → (ending : Ending) → left ≡ (ending_of config ending p.site_then).acts → IsWithinLimits (process_of (ending_of config ending p.site_then))
+        → Goes config state (ended-trace logged left)
+    ending-kill p logged left is e Ending.Whole all low = last-kill (Move.Flush a) (process_of (persist_then_send config p.site_then)) logged left (turn-is (persist_then_send config) p is e) tt low all
+    ending-kill p logged left is e (Ending.Short None few) all low = last-kill (Move.Cut a None few) (process_of (cut_turn config few None p.site_then)) logged left (turn-is (cut_turn config few None) p is e) tt low all
+    ending-kill p logged left is e (Ending.Short (Some given) few) all low = kill-one p logged left is (ap (in_flight a) all ∙ sym (ap (in_flight a) e))
+
     ends-going : (p : Process) (logged : Bool) (left : List Act) → state.process a ≡ Some p → IsGoing config a left p → (mine : List Act) → p.left ≡ mine → Goes config state (ended-trace logged left)
     ends-going p logged left is g (x ∷ xs) e =
-        let all : left ≡ x ∷ (xs ++ rest config p.site_then g.given) = g.acts_are ∙ ap (λ (ys : List Act). ys ++ rest config p.site_then g.given) e in
+        let all : left ≡ x ∷ (xs ++ rest_to config g.ending p.site_then g.given) = g.acts_are ∙ ap (λ (ys : List Act). ys ++ rest_to config g.ending p.site_then g.given) e in
         kill-one p logged left is (ap (in_flight a) all ∙ sym (ap (in_flight a) e))
-    ends-going p logged left is g [] e = by-given g.given (g.acts_are ∙ ap (λ (ys : List Act). ys ++ rest config p.site_then g.given) e) g.within
+    ends-going p logged left is g [] e = by-given g.given (g.acts_are ∙ ap (λ (ys : List Act). ys ++ rest_to config g.ending p.site_then g.given) e) g.within
       where
-        by-given : (given : List Given) → left ≡ rest config p.site_then given → IsWithinTurns config p.site_then given → Goes config state (ended-trace logged left)
-        by-given [] all low = last-kill p logged left is e low all
+        by-given : (given : List Given) → left ≡ rest_to config g.ending p.site_then given → IsWithinTurns config p.site_then given g.ending → Goes config state (ended-trace logged left)
+        by-given [] all low = ending-kill p logged left is e g.ending all low
         by-given (given ∷ more) all low = kill-one p logged left is (ap (in_flight a) all ∙ sym (ap (in_flight a) e))
 
     ends-by-process : (logged : Bool) (left : List Act) (q : Option Process) → state.process a ≡ q → Matches config a (Some left) q → Goes config state (ended-trace logged left)
@@ -288,9 +326,9 @@ module _ (config : Config) where
     no-process None m = refl
     no-process (Some p) m = absurd m
 
-    started-goes : (given : List Given) → is_centre config.cluster a ≡ true → trace.left a ≡ None → IsLife config (record { centre = a; facts = log_of state.durable a }) given
-        → (r : Result (List Fact) BootFault) → booted_by config.cluster (Ok (log_of state.durable a)) ≡ r → Goes config state (with_left trace a (life_of config a (log_of state.durable a) given r))
-    started-goes given centre none life r e =
+    started-goes : (given : List Given) (ending : Ending) → is_centre config.cluster a ≡ true → trace.left a ≡ None → IsLife config (record { centre = a; facts = log_of state.durable a }) given ending
+        → (r : Result (List Fact) BootFault) → booted_by config.cluster (Ok (log_of state.durable a)) ≡ r → Goes config state (with_left trace a (life_of config a (log_of state.durable a) given ending r))
+    started-goes given ending centre none life r e =
         let log : List Fact = log_of state.durable a in
         let alone = no-process (state.process a) (subst (λ (z : Option (List Act)). Matches config a z (state.process a)) none (f.each a)) in
         let first : after_start_at config state a None ≡ with_process state a (process_started config a log (booted_by config.cluster (Ok log))) = rw centre refl in
@@ -299,7 +337,7 @@ module _ (config : Config) where
         by-result r it
       where
         by-result : (r : Result (List Fact) BootFault) → after_move config state (Move.Start a) ≡ with_process state a (process_started config a (log_of state.durable a) r)
-            → Goes config state (with_left trace a (life_of config a (log_of state.durable a) given r))
+            → Goes config state (with_left trace a (life_of config a (log_of state.durable a) given ending r))
         by-result (Err fault) it = record {
           moves = Move.Start a ∷ [];
           executed = (within, tt, subst AreWithinLimits (sym it) (within-with state a state.done state.durable None within (λ q i. absurd (cc))));
@@ -308,7 +346,16 @@ module _ (config : Config) where
         by-result (Ok facts) it =
             let log : Log = record { centre = a; facts = log_of state.durable a } in
             let p : Process = record { left = (opened config (log ∷ [])).acts; site_then = site_of log } in
-            let going : IsGoing config a (acts_of config log given) p = record { given = given; acts_are = acts-are config log given; centre = refl; bytes = life.bytes; within = life.turns } in
+            let acts : List Act = acts_to config log given ending in
+            let going : IsGoing config a acts p = record {
+              given = given;
+              ending = ending;
+              acts_are = acts-to-are config log given ending;
+              centre = refl;
+              bytes = life.bytes;
+              last_bytes = life.last_bytes;
+              within = life.turns;
+            } in
             record {
               moves = Move.Start a ∷ [];
               executed = (
@@ -317,17 +364,18 @@ module _ (config : Config) where
                 subst AreWithinLimits (sym it) (within-with state a state.done state.durable (Some p) within
                     (λ q i. some-within p q (record { serials = life.booted.serials; room = life.booted.room }) i)),
               );
-              follows = subst (Follows config (with_left trace a (Some (acts_of config log given)))) (sym it)
-                  (follows-with trace state a trace.done state.done trace.durable state.durable (Some (acts_of config log given)) (Some p) state.process f f.done f.durable (λ b g. refl) (inl going));
+              follows = subst (Follows config (with_left trace a (Some acts))) (sym it)
+                  (follows-with trace state a trace.done state.done trace.durable state.durable (Some acts) (Some p) state.process f f.done f.durable (λ b g. refl) (inl going));
             }
 
-    starts-goes : (given : List Given) → IsLife config (record { centre = a; facts = log_of trace.durable a }) given → (o : Option (List Act)) → trace.left a ≡ o → Goes config state (after_begin_at config trace a given o)
-    starts-goes given life (Some left) e = stays
-    starts-goes given life None e =
+    starts-goes : (given : List Given) (ending : Ending) → IsLife config (record { centre = a; facts = log_of trace.durable a }) given ending → (o : Option (List Act)) → trace.left a ≡ o
+        → Goes config state (after_begin_at config trace a given ending o)
+    starts-goes given ending life (Some left) e = stays
+    starts-goes given ending life None e =
         let same : log_of trace.durable a ≡ log_of state.durable a = ap (λ (xs : List (ℕ × Fact)). log_of xs a) f.durable in
         elim (cases_Bool (is_centre config.cluster a)) [
-          | inl c ↦ rw c (subst (λ (log : List Fact). Goes config state (with_left trace a (life_of config a log given (booted_by config.cluster (Ok log))))) (sym same)
-              (started-goes given c e (subst (λ (log : List Fact). IsLife config (record { centre = a; facts = log }) given) same life) (booted_by config.cluster (Ok (log_of state.durable a))) refl))
+          | inl c ↦ rw c (subst (λ (log : List Fact). Goes config state (with_left trace a (life_of config a log given ending (booted_by config.cluster (Ok log))))) (sym same)
+              (started-goes given ending c e (subst (λ (log : List Fact). IsLife config (record { centre = a; facts = log }) given ending) same life) (booted_by config.cluster (Ok (log_of state.durable a))) refl))
           | inr c ↦ rw c stays
         ]
 
@@ -350,7 +398,7 @@ module _ (config : Config) where
   execution-more state (x ∷ xs) ys h k = (h.0, h.1, execution-more (after_move config state x) xs ys h.2 k)
 
   event-goes : (trace : Traced) (state : Deployment) (event : LifeEvent) → Follows config trace state → AreWithinLimits state → MayOccur config trace event → Goes config state (after_event config trace event)
-  event-goes trace state (LifeEvent.Starts a given) f within h = starts-goes trace state a f within given h (trace.left a) refl
+  event-goes trace state (LifeEvent.Starts a given ending) f within h = starts-goes trace state a f within given ending h (trace.left a) refl
   event-goes trace state (LifeEvent.Does a) f within h = does-goes trace state a f within (trace.left a) refl h
   event-goes trace state (LifeEvent.Ends a logged) f within h = ends-goes trace state a f within logged (trace.left a) refl
 

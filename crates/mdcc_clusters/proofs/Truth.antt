@@ -1,9 +1,10 @@
 -- Every execution has a ledger of which all is true.
-use Rattle.std.proofs.Common.{List, [], arith, inl, inr, refl, subst, sym, ℕ, ◌∷◌}
+use Rattle.std.proofs.Common.{List, [], ap, arith, inl, inr, refl, subst, sym, ℕ, ◌∙◌, ◌∷◌, ◌≡◌}
 use Rattle.mdcc_clusters.specs.Asked.{AreAskedFor, WasReceived}
 use Rattle.mdcc_config.specs.IsConfig.{IsConfig}
 use Rattle.mdcc_config.specs.declared.config.Config.{Config}
-use Rattle.mdcc_ledger.specs.Ledger.{Entry}
+use Rattle.mdcc_ledger.specs.Ledger.{Entry, facts_of}
+use Rattle.mdcc_messages.specs.declared.facts.Fact.{Fact}
 use Rattle.mdcc_messages.specs.declared.messages.Envelope.{Envelope}
 use Rattle.mdcc_messages.specs.declared.messages.Message.{Message}
 use Rattle.mdcc_protocol.specs.IsCluster.{IsCluster}
@@ -14,10 +15,10 @@ use Rattle.mdcc_trace_states.proofs.Lists.{Each-like}
 use Rattle.mdcc_clusters.proofs.Acting.{do-goes, start-goes, stop-goes}
 use Rattle.mdcc_clusters.proofs.Moves.{Goes}
 use Rattle.mdcc_clusters.proofs.Paid.{ledger-few}
-use Rattle.mdcc_clusters.proofs.Standing.{IsRight, IsRightDone}
-use Rattle.mdcc_clusters.proofs.Turning.{last-goes, turn-goes}
+use Rattle.mdcc_clusters.proofs.Standing.{IsLogged, IsRight, IsRightDone, log-facts}
+use Rattle.mdcc_clusters.proofs.Turning.{cut-goes, last-goes, turn-goes}
 use Rattle.mdcc_clusters.specs.Answers.{IsAnswered}
-use Rattle.mdcc_clusters.specs.Clusters.{Deployment, Move, after_move, after_moves, not_started}
+use Rattle.mdcc_clusters.specs.Clusters.{Deployment, Move, after_move, after_moves, log_of, not_started}
 use Rattle.mdcc_clusters.specs.Executions.{AreWithinLimits, IsExecution, MayMove, IsTrueAct, IsTrueBy, IsTrueExecution, IsTrueMessage, Laws}
 use Rattle.mdcc_clusters.specs.Mail.{Mail}
 
@@ -28,6 +29,7 @@ module _ (laws : Laws) (config : Config) (cluster : IsCluster config.cluster) wh
   move-goes state (Move.Start a) g within came next = start-goes laws config cluster state a within g.es g.mail g.stands (state.process a)
   move-goes state (Move.Turn a given) g within came next = turn-goes laws config state a g.es g.mail g.stands given came (state.process a) refl next
   move-goes state (Move.Flush a) g within came next = last-goes laws config state a g.es g.mail g.stands (state.process a) refl next
+  move-goes state (Move.Cut a given few) g within came next = cut-goes laws config state a g.es g.mail g.stands few given came (state.process a) refl next
   move-goes state (Move.Do a) g within came next = do-goes laws config cluster state a within g.es g.mail g.stands (state.process a) refl
   move-goes state (Move.Stop a logged) g within came next = stop-goes laws config cluster state a within g.es g.mail g.stands logged (state.process a) refl
 
@@ -119,3 +121,11 @@ execution-true laws config is moves h =
       },
       g.stands.begun,
     )
+
+-- a log in an execution has facts that its centre may have added
+pub execution-logged : Laws → (config : Config) → IsConfig config → (moves : List Move) → IsExecution config not_started moves → (a : ℕ) → IsLogged config.cluster (log_of (after_moves config not_started moves).durable a)
+execution-logged laws config is moves h a =
+    let cluster : IsCluster config.cluster = record { quorums = is.quorums; schema = is.schema; range = is.gamma; some_cells = is.some_cells; cells = is.cells } in
+    let g = moves-go laws config cluster not_started moves (start laws config cluster) h in
+    let here : facts_of g.es a ≡ log_of (after_moves config not_started moves).durable a = sym (log-facts g.es a) ∙ ap (λ (durable : List (ℕ × Fact)). log_of durable a) g.stands.durable in
+    subst (IsLogged config.cluster) here (g.stands.logs a)

@@ -1,6 +1,6 @@
 -- What a turn of a centre leaves.
 use Rattle.std.proofs.Common.{Bool, Err, List, None, Ok, Option, Result, Some, [], ap, append-nil, arith, cond, false, inl, inr, length, refl, subst, sym, true, ℕ, ◌+◌, ◌++◌, ◌<◌, ◌==◌, ◌∙◌, ◌∷◌, ◌≡◌}
-use Rattle.std.specs.Prelude.{flat_map}
+use Rattle.std.specs.Prelude.{flat_map, suc, take, zero}
 use Rattle.std.proofs.lemmas.Bool.{cases_Bool, eq-eqb, eqb-true}
 use Rattle.std.specs.List.{AllByRecursion}
 use Rattle.mdcc_clusters.specs.Asked.{WasReceived}
@@ -9,6 +9,7 @@ use Rattle.mdcc_frag.specs.Joining
 use Rattle.mdcc_frag_laws.specs.Laws.{table_after}
 use Rattle.mdcc_ledger.specs.Ledger.{Entry, facts_of}
 use Rattle.mdcc_messages.specs.declared.facts.Fact.{Fact}
+use Rattle.mdcc_messages.specs.declared.messages.Envelope.{Envelope}
 use Rattle.mdcc_protocol.specs.Facts.{epoch_of}
 use Rattle.mdcc_protocol.specs.Volatile.{Volatile}
 use Rattle.mdcc_rules.specs.Boot.{next_boot}
@@ -44,7 +45,7 @@ use Rattle.mdcc_clusters.proofs.Paid.{IsPaid, paid-for, paid-later, paid-more}
 use Rattle.mdcc_clusters.proofs.Receiving.{ReceivedBy, acts_onto, onto-done, onto-first, onto-one, onto-steps, same-later}
 use Rattle.mdcc_clusters.proofs.Releases.{live-posted, mail-posted, released, same-life, senders-posted}
 use Rattle.mdcc_clusters.proofs.Standing.{IsBefore, IsClosing, IsLive, IsOpen, IsProcess, IsQuiet, IsServed, Stands, In-after, done-later, live-later, log_with, out_of, quiet-later, served-later, steps_of}
-use Rattle.mdcc_clusters.specs.Clusters.{Deployment, Process, process_of, after_turn_at, process_turned, with_process}
+use Rattle.mdcc_clusters.specs.Clusters.{Deployment, Process, process_of, after_turn_at, cut_turn, process_turned, with_few, with_process}
 use Rattle.mdcc_clusters.specs.Executions.{AreWithinLimits, MayDeliver, IsWithinLimits, Laws}
 use Rattle.mdcc_groups.specs.Groups.{added_in, facts_onto, node_at}
 use Rattle.mdcc_clusters.specs.Mail.{IsPieceIn, Mail}
@@ -343,6 +344,65 @@ module _ (laws : Laws) (config : Config) (state : Deployment) (a : ℕ) (es : Li
       → Goes config (with_process state a (Some (process_of (persist_then_send config site))))
   last-site site knows here live within = closes here.volatile here.inputs site [] knows here.served here.paid live within tt
 
+  -- ---- only the first few of its messages
+
+  all-few : (P : Envelope → Type 0) (few : ℕ) (xs : List Envelope) → AllByRecursion P xs → AllByRecursion P (take few xs)
+  all-few P zero xs h = tt
+  all-few P (suc few) [] h = tt
+  all-few P (suc few) (x ∷ xs) h = (h.0, all-few P few xs h.1)
+
+  served-few : (G : ℕ → List ℕ → Type 0) (volatile : Volatile) (inputs : List Input) (few : ℕ) (site : Site) → IsServed config G es a volatile inputs site → IsServed config G es a volatile inputs (with_few few site)
+  served-few G volatile inputs few site served =
+      let p = served.pends in
+      let w = served.answers in
+      record {
+        group = served.group;
+        pends = record { centre_is = p.centre_is; node_is = p.node_is; facts_are = p.facts_are; heard_are = p.heard_are; owed = all-few _ few site.pending.envelopes p.owed };
+        answers = record {
+          centre_is = w.centre_is;
+          node_is = w.node_is;
+          node_formed = w.node_formed;
+          mail = all-few _ few site.pending.envelopes w.mail;
+          begun = w.begun;
+          made_for = λ b tx choices i.
+              let made = w.made_for b tx choices i in
+              let m = made.1 in
+              (made.0, record { serial = m.serial; parts = m.parts; asked = m.asked; are = m.are; found = m.found; centre = m.centre; epoch = m.epoch });
+          noted = w.noted;
+          ended = w.ended;
+        };
+        node = served.node;
+        formed = served.formed;
+        opened = served.opened;
+      }
+
+  live-few : (G : ℕ → List ℕ → Type 0) (few : ℕ) (site : Site) → IsLive config G mail a site → IsLive config G mail a (with_few few site)
+  live-few G few site live = record {
+    centre = live.centre;
+    came = live.came;
+    own_is = live.own_is;
+    pieces = live.pieces;
+    held = live.held;
+    asked = live.asked;
+    came_asked = live.came_asked;
+    asked_is = live.asked_is;
+    asked_given = live.asked_given;
+    serials = live.serials;
+  }
+
+  cut-site : (few : ℕ) (site : Site) (given : Option Given) → AreKnown h.begun.named a site → IsOpen config state.done es mail a (record { left = []; site_then = site }) → IsLive config (WasReceived state.done) mail a site
+      → AllByRecursion (MayDeliver state.done) (listed given) → IsWithinLimits (process_of (cut_turn config few given site)) → Goes config (with_process state a (Some (process_of (cut_turn config few given site))))
+  cut-site few site None knows here live came within =
+      closes here.volatile here.inputs (with_few few site) [] knows (served-few (WasReceived state.done) here.volatile here.inputs few site here.served) here.paid (live-few (WasReceived state.done) few site live) within tt
+  cut-site few site (Some given) knows here live came within =
+      let acts : List Act = (inputs_taken config site given).acts in
+      let next : Site = (inputs_taken config site given).site in
+      let inputs : List Input = here.inputs ++ turn_inputs config site given in
+      closes here.volatile inputs (with_few few next) acts (knows-then here.volatile here.inputs site given knows here.served here.paid live came.0)
+      (served-few (ReceivedBy a acts state.done) here.volatile inputs few next (served-now here.volatile here.inputs site given knows here.served here.paid live came.0 acts (λ act i. i)))
+      (paid-now here.volatile here.inputs site given knows here.served here.paid live came.0 acts (λ act i. i) refl)
+      (live-few (ReceivedBy a acts state.done) few next (live-now here.volatile here.inputs site given knows here.served here.paid live came.0 acts (λ act i. i))) within (taken-quiet site given)
+
   -- ---- where its turn is over
 
   not-nil : (first : List Act) (act : Act) (rest : List Act) → [] ≡ first ++ (act ∷ rest) → ⊥
@@ -405,3 +465,14 @@ module _ (laws : Laws) (config : Config) (state : Deployment) (a : ℕ) (es : Li
   pub last-goes : (o : Option Process) → state.process a ≡ o → AreWithinLimits (after_turn_at (persist_then_send config) state a o) → Goes config (after_turn_at (persist_then_send config) state a o)
   last-goes None is within = record { es = es; mail = mail; stands = h }
   last-goes (Some p) is within = ended-goes p is p.left refl within
+
+  cutting-goes : (few : ℕ) (given : Option Given) → AllByRecursion (MayDeliver state.done) (listed given) → (p : Process) → state.process a ≡ Some p → (acts : List Act) → p.left ≡ acts
+      → AreWithinLimits (with_process state a (Some (process_turned (cut_turn config few given) p acts))) → Goes config (with_process state a (Some (process_turned (cut_turn config few given) p acts)))
+  cutting-goes few given came p is [] e within =
+      cut-site few p.site_then given (h.known a p is) (over p is e) (live-over p is e) came (now-within (process_of (cut_turn config few given p.site_then)) within)
+  cutting-goes few given came p is (act ∷ acts) e within = unturned p is
+
+  pub cut-goes : (few : ℕ) (given : Option Given) → AllByRecursion (MayDeliver state.done) (listed given) → (o : Option Process) → state.process a ≡ o
+      → AreWithinLimits (after_turn_at (cut_turn config few given) state a o) → Goes config (after_turn_at (cut_turn config few given) state a o)
+  cut-goes few given came None is within = record { es = es; mail = mail; stands = h }
+  cut-goes few given came (Some p) is within = cutting-goes few given came p is p.left refl within

@@ -1,6 +1,6 @@
--- A cluster as it is deployed, a machine of five moves: each centre is served by a process of its own, which may be killed at any act and started
+-- A cluster as it is deployed, a machine of six moves: each centre is served by a process of its own, which may be killed at any act and started
 -- again over its log.
-use Rattle.std.specs.Prelude.{Bool, Err, List, None, Ok, Option, Result, Some, [], if◌then◌else◌, ℕ, ◌==◌, ◌∷◌}
+use Rattle.std.specs.Prelude.{Bool, Err, List, None, Ok, Option, Result, Some, [], if◌then◌else◌, take, ℕ, ◌==◌, ◌∷◌}
 use Rattle.mdcc_config.specs.declared.config.Config.{Config}
 use Rattle.mdcc_messages.specs.declared.facts.Fact.{Fact}
 use Rattle.mdcc_protocol.specs.Belongs.{is_centre}
@@ -9,8 +9,8 @@ use Rattle.mdcc_rules.specs.declared.node.BootFault.{BootFault}
 use Rattle.mdcc_runs.specs.Acts.{Act, appended_by}
 use Rattle.mdcc_runs.specs.Sending.{persist_then_send}
 use Rattle.mdcc_runs.specs.Servers.{opened, site_of}
-use Rattle.mdcc_runs.specs.Sites.{Doing, Site}
-use Rattle.mdcc_runs.specs.Turns.{Given, turn_of}
+use Rattle.mdcc_runs.specs.Sites.{Doing, Site, and_then}
+use Rattle.mdcc_runs.specs.Turns.{Given, inputs_taken, turn_of}
 use Rattle.mdcc_groups.specs.Groups.{facts_onto}
 
 -- ---- states
@@ -48,10 +48,24 @@ pub data Move : Type 0 where
   Turn : (centre : ℕ) (given : Given) → Move
   -- or what is pending goes out after its last turn
   Flush : (centre : ℕ) → Move
+  -- or it begins its last turn, or lets out what is pending, and comes only to the first few of its messages
+  Cut : (centre : ℕ) (given : Option Given) (few : ℕ) → Move
   -- it does its next act
   Do : (centre : ℕ) → Move
   -- it ends before its next act, killed or by itself; if that is an append, with all of its facts in the log or with none
   Stop : (centre : ℕ) (logged : Bool) → Move
+
+-- ---- a turn that does not come to its end
+
+-- only the first few of its messages are pending
+abbrev pub with_few : ℕ → Site → Site
+with_few few site =
+    record site { pending = record { facts = site.pending.facts; envelopes = take few site.pending.envelopes; heard = site.pending.heard } }
+
+-- a turn, or what is pending at its end, of which only the first few messages go out: so a centre ends that has no serial left for the next one
+abbrev pub cut_turn : Config → ℕ → Option Given → Site → Doing
+cut_turn config few None site = persist_then_send config (with_few few site)
+cut_turn config few (Some given) site = and_then (inputs_taken config site given) (λ next. persist_then_send config (with_few few next))
 
 -- ---- what a move does
 
@@ -107,6 +121,7 @@ abbrev pub after_move : Config → Deployment → Move → Deployment
 after_move config state (Move.Start a) = after_start_at config state a (state.process a)
 after_move config state (Move.Turn a given) = after_turn_at (λ site. turn_of config site given) state a (state.process a)
 after_move config state (Move.Flush a) = after_turn_at (persist_then_send config) state a (state.process a)
+after_move config state (Move.Cut a given few) = after_turn_at (cut_turn config few given) state a (state.process a)
 after_move config state (Move.Do a) = after_do_at state a (state.process a)
 after_move config state (Move.Stop a logged) = after_stop_at state a logged (state.process a)
 

@@ -5,6 +5,7 @@ use Rattle.mdcc_base.specs.Counts.{sum_over}
 use Rattle.mdcc_config.specs.declared.config.Config.{Config}
 use Rattle.mdcc_messages.specs.Lengths.{fact_length}
 use Rattle.mdcc_runs.specs.Acts.{Act}
+use Rattle.mdcc_runs.specs.Turns.{Given}
 use Rattle.mdcc_clusters.specs.Clusters.{Deployment, Move, Process, after_move}
 
 -- ---- what receives give
@@ -34,8 +35,16 @@ abbrev pub may_receive_asked : Option (List ℕ) → Bool
 may_receive_asked None = true
 may_receive_asked (Some bytes) = are_bytes bytes
 
+abbrev pub may_deliver : List (ℕ × Act) → Given → Bool
+may_deliver done given = may_receive_own done given.own && may_receive_asked given.asked
+
+abbrev pub may_cut : List (ℕ × Act) → Option Given → Bool
+may_cut done None = true
+may_cut done (Some given) = may_deliver done given
+
 abbrev pub may_move : Deployment → Move → Bool
-may_move state (Move.Turn a given) = may_receive_own state.done given.own && may_receive_asked given.asked
+may_move state (Move.Turn a given) = may_deliver state.done given
+may_move state (Move.Cut a given few) = may_cut state.done given
 may_move state move = true
 
 -- ---- limits
@@ -49,6 +58,7 @@ abbrev pub centre_of : Move → ℕ
 centre_of (Move.Start a) = a
 centre_of (Move.Turn a given) = a
 centre_of (Move.Flush a) = a
+centre_of (Move.Cut a given few) = a
 centre_of (Move.Do a) = a
 centre_of (Move.Stop a logged) = a
 

@@ -55,6 +55,7 @@ pub record MayDeliver (done : List (ℕ × Act)) (given : Given) : Type 0 where
 
 abbrev pub MayMove : Deployment → Move → Type 0
 MayMove state (Move.Turn a given) = MayDeliver state.done given
+MayMove state (Move.Cut a given few) = AllByRecursion (MayDeliver state.done) (listed given)
 MayMove state move = ⊤
 
 -- No centre comes to the last serial of its epoch, and its facts have fewer than 2^32 bytes (a log has at most 2^30).

@@ -1,6 +1,6 @@
 -- A cluster as the contracts of its servers show it: each process does the acts of a server of one centre, up to some act, whatever its receives give.
 use Rattle.std.specs.List.{AllByRecursion}
-use Rattle.std.specs.Prelude.{Bool, Err, List, None, Ok, Option, Result, Some, [], if◌then◌else◌, map, ⊤, ℕ, ◌==◌, ◌∷◌, ◌≡◌}
+use Rattle.std.specs.Prelude.{Bool, Err, List, None, Ok, Option, Result, Some, [], if◌then◌else◌, map, ⊤, ℕ, ◌++◌, ◌==◌, ◌∷◌, ◌≡◌}
 use Rattle.mdcc_config.specs.IsConfig.{IsConfig}
 use Rattle.mdcc_config.specs.declared.config.Config.{Config}
 use Rattle.mdcc_messages.specs.declared.facts.Fact.{Fact}
@@ -8,14 +8,15 @@ use Rattle.mdcc_protocol.specs.Belongs.{is_centre}
 use Rattle.mdcc_rules.specs.Boot.{booted_by}
 use Rattle.mdcc_rules.specs.declared.node.BootFault.{BootFault}
 use Rattle.mdcc_run_laws.specs.Brought.{AreBytes}
+use Rattle.mdcc_run_laws.specs.Inputs.{turns_alone}
 use Rattle.mdcc_runs.specs.Acts.{Act}
 use Rattle.mdcc_runs.specs.Runs.{listed}
 use Rattle.mdcc_runs.specs.Sending.{persist_then_send}
-use Rattle.mdcc_runs.specs.Servers.{Log, served, site_of}
-use Rattle.mdcc_runs.specs.Sites.{Site}
+use Rattle.mdcc_runs.specs.Servers.{Log, opened, served, site_of}
+use Rattle.mdcc_runs.specs.Sites.{Doing, Site}
 use Rattle.mdcc_runs.specs.Turns.{Given, turn_of}
 use Rattle.mdcc_runs.specs.Acts.{appended_by}
-use Rattle.mdcc_clusters.specs.Clusters.{Move, after_moves, in_flight, log_of, not_started, process_of}
+use Rattle.mdcc_clusters.specs.Clusters.{Move, after_moves, cut_turn, in_flight, log_of, not_started, process_of}
 use Rattle.mdcc_clusters.specs.Executions.{IsExecution, IsWithinLimits, WasSent}
 use Rattle.mdcc_groups.specs.Groups.{facts_onto}
 use Rattle.mdcc_clusters.specs.Headline.{IsToldTruly}
@@ -31,9 +32,15 @@ pub record Traced : Type 0 where
 abbrev pub nothing_yet : Traced
 nothing_yet = record { done = []; durable = []; left = λ a. None }
 
+-- how the turns of a server end: what is pending goes out after the last one; or it comes only to the first few messages of one more turn, or of what
+-- is pending
+pub data Ending : Type 0 where
+  Whole : Ending
+  Short : (given : Option Given) (few : ℕ) → Ending
+
 pub data LifeEvent : Type 0 where
-  -- a server of this centre starts, whose receives will give this, turn by turn
-  Starts : (centre : ℕ) (given : List Given) → LifeEvent
+  -- a server of this centre starts, whose receives will give this, turn by turn, and whose turns end so
+  Starts : (centre : ℕ) (given : List Given) (ending : Ending) → LifeEvent
   -- it does its next act
   Does : (centre : ℕ) → LifeEvent
   -- it ends before its next act; if that is an append, perhaps with all of its facts in the log
@@ -46,15 +53,27 @@ with_left trace a left = record { done = trace.done; durable = trace.durable; le
 abbrev pub acts_of : Config → Log → List Given → List Act
 acts_of config log given = (served config (log ∷ []) (map (λ turn. turn ∷ []) given)).acts
 
-abbrev pub life_of : Config → ℕ → List Fact → List Given → Result (List Fact) BootFault → Option (List Act)
-life_of config a log given (Err fault) = None
-life_of config a log given (Ok facts) = Some (acts_of config (record { centre = a; facts = log }) given)
+-- what it does at the end of its turns
+abbrev pub ending_of : Config → Ending → Site → Doing
+ending_of config Ending.Whole site = persist_then_send config site
+ending_of config (Ending.Short given few) site = cut_turn config few given site
 
-abbrev pub after_begin_at : Config → Traced → ℕ → List Given → Option (List Act) → Traced
-after_begin_at config trace a given (Some left) = trace
-after_begin_at config trace a given None =
+-- its acts up to such an end
+abbrev pub acts_to : Config → Log → List Given → Ending → List Act
+acts_to config log given Ending.Whole = acts_of config log given
+acts_to config log given (Ending.Short last few) =
+    let turns = turns_alone config (site_of log) given in
+    (opened config (log ∷ [])).acts ++ (turns.acts ++ (cut_turn config few last turns.site).acts)
+
+abbrev pub life_of : Config → ℕ → List Fact → List Given → Ending → Result (List Fact) BootFault → Option (List Act)
+life_of config a log given ending (Err fault) = None
+life_of config a log given ending (Ok facts) = Some (acts_to config (record { centre = a; facts = log }) given ending)
+
+abbrev pub after_begin_at : Config → Traced → ℕ → List Given → Ending → Option (List Act) → Traced
+after_begin_at config trace a given ending (Some left) = trace
+after_begin_at config trace a given ending None =
     if is_centre config.cluster a
-    then with_left trace a (life_of config a (log_of trace.durable a) given (booted_by config.cluster (Ok (log_of trace.durable a))))
+    then with_left trace a (life_of config a (log_of trace.durable a) given ending (booted_by config.cluster (Ok (log_of trace.durable a))))
     else trace
 
 abbrev pub after_next_at : Traced → ℕ → Option (List Act) → Traced
@@ -69,7 +88,7 @@ after_end_at trace a logged (Some left) =
     with_left (record { done = trace.done; durable = if logged then facts_onto a (in_flight a left) trace.durable else trace.durable; left = trace.left }) a None
 
 abbrev pub after_event : Config → Traced → LifeEvent → Traced
-after_event config trace (LifeEvent.Starts a given) = after_begin_at config trace a given (trace.left a)
+after_event config trace (LifeEvent.Starts a given ending) = after_begin_at config trace a given ending (trace.left a)
 after_event config trace (LifeEvent.Does a) = after_next_at trace a (trace.left a)
 after_event config trace (LifeEvent.Ends a logged) = after_end_at trace a logged (trace.left a)
 
@@ -84,15 +103,20 @@ pub record GivesBytes (given : Given) : Type 0 where
   pub own : AllByRecursion AreBytes (listed given.own)
   pub asked : AllByRecursion AreBytes (listed given.asked)
 
--- after each turn, and after the last one, the centre is within the limits
-abbrev pub IsWithinTurns : Config → Site → List Given → Type 0
-IsWithinTurns config site [] = IsWithinLimits (process_of (persist_then_send config site))
-IsWithinTurns config site (given ∷ more) = IsWithinLimits (process_of (turn_of config site given)) × IsWithinTurns config (turn_of config site given).site more
+abbrev pub last_given : Ending → List Given
+last_given Ending.Whole = []
+last_given (Ending.Short given few) = listed given
 
-pub record IsLife (config : Config) (log : Log) (given : List Given) : Type 0 where
+-- after each turn, and after their end, the centre is within the limits
+abbrev pub IsWithinTurns : Config → Site → List Given → Ending → Type 0
+IsWithinTurns config site [] ending = IsWithinLimits (process_of (ending_of config ending site))
+IsWithinTurns config site (given ∷ more) ending = IsWithinLimits (process_of (turn_of config site given)) × IsWithinTurns config (turn_of config site given).site more ending
+
+pub record IsLife (config : Config) (log : Log) (given : List Given) (ending : Ending) : Type 0 where
   pub bytes : AllByRecursion GivesBytes given
+  pub last_bytes : AllByRecursion GivesBytes (last_given ending)
   pub booted : IsWithinLimits (record { left = []; site_then = site_of log })
-  pub turns : IsWithinTurns config (site_of log) given
+  pub turns : IsWithinTurns config (site_of log) given ending
 
 -- what a receive at a centre's own endpoint gives was sent before
 abbrev pub MayReceive : List (ℕ × Act) → ℕ → Act → Type 0
@@ -104,7 +128,7 @@ MayDoNext done a (Some (act ∷ acts)) = MayReceive done a act
 MayDoNext done a left = ⊤
 
 abbrev pub MayOccur : Config → Traced → LifeEvent → Type 0
-MayOccur config trace (LifeEvent.Starts a given) = IsLife config (record { centre = a; facts = log_of trace.durable a }) given
+MayOccur config trace (LifeEvent.Starts a given ending) = IsLife config (record { centre = a; facts = log_of trace.durable a }) given ending
 MayOccur config trace (LifeEvent.Does a) = MayDoNext trace.done a (trace.left a)
 MayOccur config trace (LifeEvent.Ends a logged) = ⊤
 
