@@ -1,0 +1,134 @@
+-- A cluster of processes, each one call of `serve_node`: their acts in one order, and the areas that they leave each other.
+use Rattle.std.specs.Prelude.{List, None, Ok, Option, Result, Some, [], if◌then◌else◌, ⊤, ℕ, ◌+◌, ◌==◌, ◌∷◌, ◌≡◌, ◌⊎◌}
+use Rattle.mdcc_centre.specs.Logged.{AreLogged}
+use Rattle.mdcc_config.specs.IsConfig.{IsConfig}
+use Rattle.mdcc_config.specs.declared.config.Config.{Config}
+use Rattle.mdcc_disks.specs.Disks.{Disk}
+use Rattle.mdcc_endings.specs.Logs.{IsTold}
+use Rattle.mdcc_link.specs.Link.{LinkCall}
+use Rattle.mdcc_log.specs.Area.{payloads}
+use Rattle.mdcc_messages.specs.Spelling.{encodings_of}
+use Rattle.mdcc_messages.specs.declared.facts.Fact.{Fact}
+use Rattle.mdcc_runs.specs.Acts.{Act}
+use Rattle.mdcc_runs.specs.Servers.{Log}
+use Rattle.mdcc_serve.specs.Serving.{IsLogOf}
+use Rattle.mdcc_serve.specs.declared.served.Served.{Served}
+use Rattle.mdcc_site.specs.declared.fault.ServeFault.{ServeFault}
+use Rattle.mdcc_clusters.specs.Clusters.{log_of}
+use Rattle.mdcc_clusters.specs.Headline.{IsToldTruly}
+use Rattle.mdcc_clusters.specs.Traces.{MayDoNext}
+use Rattle.mdcc_lives.specs.Lives.{IsLifeOf, Life, log_before}
+use Rattle.mdcc_cluster_nodes.specs.Areas.{Areas}
+use Rattle.mdcc_cluster_nodes.specs.Calls.{Clause, IsGranted, Setting, acts_done}
+
+-- ---- steps
+
+-- all acts that were done, each with its centre, the newest first; the areas of each centre as its last call left them, or as the call that is on
+-- will leave them; and the acts of that call that are left
+pub record Cluster : Type 0 where
+  pub done : List (ℕ × Act)
+  pub areas : ℕ → Areas
+  pub now : ℕ → Option (List Act)
+
+abbrev pub no_calls : (ℕ → Areas) → Cluster
+no_calls areas = record { done = []; areas = areas; now = λ a. None }
+
+pub data Step : Type 0 where
+  -- a call begins that will do these acts, and leave its areas so
+  Calls : (centre : ℕ) (acts : List Act) (left : Areas) → Step
+  -- it does its next act
+  Acts : (centre : ℕ) → Step
+  -- it is over
+  Returns : (centre : ℕ) → Step
+
+abbrev pub with_now : List (ℕ × Act) → Cluster → ℕ → Option (List Act) → Cluster
+with_now done cluster a now = record { done = done; areas = cluster.areas; now = λ b. if a == b then now else cluster.now b }
+
+abbrev pub after_act_at : Cluster → ℕ → Option (List Act) → Cluster
+after_act_at cluster a None = cluster
+after_act_at cluster a (Some []) = cluster
+after_act_at cluster a (Some (act ∷ acts)) = with_now ((a, act) ∷ cluster.done) cluster a (Some acts)
+
+abbrev pub after_step : Cluster → Step → Cluster
+after_step cluster (Step.Calls a acts left) =
+    record { done = cluster.done; areas = λ b. if a == b then left else cluster.areas b; now = λ b. if a == b then Some acts else cluster.now b }
+after_step cluster (Step.Acts a) = after_act_at cluster a (cluster.now a)
+after_step cluster (Step.Returns a) = with_now cluster.done cluster a None
+
+abbrev pub after_steps : Cluster → List Step → Cluster
+after_steps cluster [] = cluster
+after_steps cluster (step ∷ steps) = after_steps (after_step cluster step) steps
+
+-- ---- which steps may come
+
+-- a call is over once all its acts are done
+abbrev pub MayReturn : Option (List Act) → Type 0
+MayReturn None = ⊤
+MayReturn (Some acts) = acts ≡ []
+
+-- ---- a process that was killed, or served others too
+
+-- Over this log a process did the first acts of a life of its centre, and the areas have the log that this life left: what was appended, or that and the
+-- append that was under way.
+pub record LivesOver (config : Config) (log : Log) (acts : List Act) (left : Areas) : Type 0 where
+  pub life : Life
+  pub is : IsLifeOf config life
+  pub log_is : log_before life ≡ log
+  pub acts_are : life.acts ≡ acts
+  pub read : payloads left.first left.second ≡ Ok (encodings_of life.kept)
+
+-- So it is over the log that it found, where that has facts that its centre may have added. Of a process that was killed in a call of `serve_node` this
+-- is what a clause on any moment inside the call would say: the contract has none yet, so it is a premise. Of a centre that a call of `serve_cluster`
+-- served with others it is a theorem.
+abbrev pub Lives : Config → ℕ → Areas → List Act → Areas → Type 0
+Lives config a found acts left =
+    (log : Log) → log.centre ≡ a → payloads found.first found.second ≡ Ok (encodings_of log.facts) → AreLogged config.cluster log.facts → LivesOver config log acts left
+
+-- ---- what is proved of them
+
+-- There is one order of all facts that are in the logs, where no call is on as they are read from the areas; and the headline holds of it and of
+-- all acts that were done.
+pub record HasHeadline (config : Config) (cluster : Cluster) : Type 0 where
+  pub durable : List (ℕ × Fact)
+  pub read : (a : ℕ) → cluster.now a ≡ None → payloads (cluster.areas a).first (cluster.areas a).second ≡ Ok (encodings_of (log_of durable a))
+  pub told : IsToldTruly config cluster.done durable
+
+-- ---- calls
+
+module _ {D L O : Type 0} (disk : D → ℕ → Disk) (may_leave : D → ℕ → List ℕ → Type 0) (tears : ℕ → Type 0) (calls : L → Option (List LinkCall)) (lost : L → ℕ) (held : O → Option (List ℕ)) where
+  -- A call of `serve_node` for this centre that finds these areas on its disks, does these acts, and leaves those areas, after a crash or without one.
+  -- The clause of its contract speaks of each log that its areas have.
+  pub record IsCalled (config : Config) (a : ℕ) (found : Areas) (acts : List Act) (left : Areas) : Type 0 where
+    pub at : Setting disk may_leave tears calls lost held
+    pub result : Result Served ServeFault
+    pub told : IsTold disk at.disks_before a
+    pub first : (disk at.disks_before a).bytes ≡ found.first
+    pub second : (disk at.disks_before (a + 16)).bytes ≡ found.second
+    pub serves : (log : Log) → log.centre ≡ a → IsLogOf disk config.cluster at.disks_before log → Clause disk may_leave tears calls lost held config log at result
+    pub granted : (log : Log) (own : log.centre ≡ a) (has : IsLogOf disk config.cluster at.disks_before log)
+        → IsGranted disk may_leave tears calls lost held config (record { log = log; at = at; result = result; serves = serves log own has })
+    pub acts_are : (log : Log) (own : log.centre ≡ a) (has : IsLogOf disk config.cluster at.disks_before log)
+        → acts ≡ acts_done disk may_leave tears calls lost held config log at result (serves log own has)
+    pub left_first : may_leave at.disks_after a left.first
+    pub left_second : may_leave at.disks_after (a + 16) left.second
+
+  -- One process of a centre is on at a time, and finds what the one before left: a call that returns, or one that was killed or served others too.
+  pub record MayCall (config : Config) (cluster : Cluster) (a : ℕ) (acts : List Act) (left : Areas) : Type 0 where
+    pub alone : cluster.now a ≡ None
+    pub called : IsCalled config a (cluster.areas a) acts left ⊎ Lives config a (cluster.areas a) acts left
+
+  -- what a receive at a centre's own endpoint gives was sent before by a centre of the cluster
+  abbrev pub MayBeNext : Config → Cluster → Step → Type 0
+  MayBeNext config cluster (Step.Calls a acts left) = MayCall config cluster a acts left
+  MayBeNext config cluster (Step.Acts a) = MayDoNext cluster.done a (cluster.now a)
+  MayBeNext config cluster (Step.Returns a) = MayReturn (cluster.now a)
+
+  abbrev pub AreCalls : Config → Cluster → List Step → Type 0
+  AreCalls config cluster [] = ⊤
+  AreCalls config cluster (step ∷ steps) = MayBeNext config cluster step × AreCalls config (after_step cluster step) steps
+
+  -- So it is from the first call on, over areas in which no fact stands.
+  abbrev pub HeadlineOfCalls : Type 0
+  HeadlineOfCalls =
+      (config : Config) → IsConfig config → (areas : ℕ → Areas) → ((a : ℕ) → payloads (areas a).first (areas a).second ≡ Ok []) → (steps : List Step) → AreCalls config (no_calls areas) steps
+      → HasHeadline config (after_steps (no_calls areas) steps)
