@@ -10,6 +10,8 @@ use Rattle.mdcc_frag.specs.declared.joined.Joined.TheVariants.{Dropped, Kept, Re
 use Rattle.mdcc_frag.specs.declared.reading.DropCause.{DropCause}
 use Rattle.mdcc_frag.specs.declared.reading.DropCause.TheVariants.{Disagrees}
 use Rattle.mdcc_frag.specs.declared.reading.Piece.{Piece}
+use Rattle.mdcc_messages.specs.Reading.{view_of}
+use Rattle.mdcc_messages.specs.declared.messages.Message.{Message}
 use Rattle.mdcc_rules.specs.declared.node.Input.{Input}
 use Rattle.mdcc_run_laws.proofs.Grouped.{grouped, inputs_quiet, seen_back, seen_by, seen_joined, turned_bare}
 use Rattle.mdcc_run_laws.proofs.Outgoing.{out_sees}
@@ -17,14 +19,14 @@ use Rattle.mdcc_run_laws.proofs.Queued.{bare, quiet}
 use Rattle.mdcc_run_laws.proofs.Seen.{sees_then, steps_append}
 use Rattle.mdcc_run_laws.proofs.Tables.{own_holds}
 use Rattle.mdcc_run_laws.proofs.Turned.{quiet_inputs, quiet_runs}
-use Rattle.mdcc_run_laws.specs.Inputs.{asked_input, asked_inputs, own_input, own_inputs, turn_inputs}
-use Rattle.mdcc_run_laws.specs.Without.{AreAsGood, AreSeenAlike, given_kept, kept, kept_by, turn_kept, without_dropped}
+use Rattle.mdcc_run_laws.specs.Inputs.{asked_input, asked_inputs, asked_message_input, own_input, own_inputs, turn_inputs}
+use Rattle.mdcc_run_laws.specs.Without.{AreAsGood, AreSeenAlike, given_kept, is_new, is_request, is_unasked, is_unfit, kept, kept_by, turn_kept, without_dropped}
 use Rattle.mdcc_runs.specs.Acts.{Act, steps_in}
-use Rattle.mdcc_runs.specs.Arrivals.{arrival_of}
+use Rattle.mdcc_runs.specs.Arrivals.{Arrival, arrival_of, message_in}
 use Rattle.mdcc_runs.specs.Sending.{persist_then_send}
 use Rattle.mdcc_runs.specs.Sites.{Doing, Site, after_acts, and_then, idle}
 use Rattle.mdcc_runs.specs.Steps.{dropped, input_taken}
-use Rattle.mdcc_runs.specs.Turns.{Given, asked_arrived, asked_received, asked_taken, inputs_taken, is_silent, own_arrived, own_received, own_taken, turn_of}
+use Rattle.mdcc_runs.specs.Turns.{Given, asked_arrived, asked_message, asked_received, asked_taken, inputs_taken, is_silent, own_arrived, own_received, own_taken, turn_of}
 
 -- ---- what is dropped leaves the table
 
@@ -55,6 +57,25 @@ read_leaves found entries (Err fault) cause is = refl
 pub dropped_leaves : (datagram : List ℕ) (entries : List Entry) → Leaves entries (join datagram entries)
 dropped_leaves datagram entries = read_leaves (payload datagram) entries (piece_in datagram)
 
+-- Nor does a datagram that alone makes bytes whole.
+abbrev WholeLeaves : List Entry → Bool → Step → Type 0
+WholeLeaves entries new made = (whole : List ℕ) → new ≡ true → made.answer ≡ Whole whole → made.entries ≡ entries
+
+first_leaves : (message : PartialMessage) (rest entries : List Entry) (all : Bool) → WholeLeaves entries true (if all then step (Whole message.bytes) entries else step Kept rest)
+first_leaves message rest entries true whole new is = refl
+first_leaves message rest entries false whole new is = absurd (cc)
+
+new_leaves : (piece : Piece) (found : List ℕ) (entries : List Entry) (o : Option Entry) → WholeLeaves entries (is_none o) (take_piece piece found entries o)
+new_leaves piece found entries None whole new is = first_leaves (with_piece piece.index found (nothing_of piece.total)) _ entries (is_whole (with_piece piece.index found (nothing_of piece.total))) whole new is
+new_leaves piece found entries (Some entry) whole new is = absurd (cc)
+
+whole_read_leaves : (found : List ℕ) (entries : List Entry) (read : Result Piece DropCause) → WholeLeaves entries (is_new entries read) (take_read read found entries)
+whole_read_leaves found entries (Ok piece) whole new is = new_leaves piece found entries (entry_of piece entries) whole new is
+whole_read_leaves found entries (Err fault) whole new is = absurd (cc)
+
+whole_leaves : (datagram : List ℕ) (entries : List Entry) → WholeLeaves entries (is_new entries (piece_in datagram)) (join datagram entries)
+whole_leaves datagram entries = whole_read_leaves (payload datagram) entries (piece_in datagram)
+
 -- ---- one receive
 
 -- both make as many steps, come to the same centre, and bring the same inputs
@@ -68,46 +89,117 @@ own_dropped config site bytes cause is =
     ap (λ (answer : Joined). own_arrived config (record site { own = (join bytes site.own).entries }) (arrival_of answer)) is
     ∙ ap (λ (table : List Entry). dropped (record site { own = table })) (dropped_leaves bytes site.own cause is)
 
+-- what is unfit is dropped, and is no input
+unfit_dropped : (config : Config) (site : Site) (arrival : Arrival) → is_unfit arrival ≡ true → (own_arrived config site arrival ≡ dropped site) × (own_input arrival ≡ [])
+unfit_dropped config site Arrival.Piece is = absurd (cc)
+unfit_dropped config site Arrival.Refused is = (refl, refl)
+unfit_dropped config site (Arrival.Whole envelope) is = rw is (refl, refl)
+
+-- what comes of nothing
+own_alike_none : (config : Config) (site : Site) (bytes : List ℕ) → own_taken config site (Some bytes) ≡ dropped site → own_inputs site (Some bytes) ≡ []
+    → Alike (own_received config site None) (own_received config site (Some bytes)) (own_inputs site None) (own_inputs site (Some bytes))
+own_alike_none config site bytes same none = record {
+  site = sym (ap (λ (did : Doing). did.site) same);
+  steps = sym (ap (λ (did : Doing). steps_in (Act.Receive site.centre (Some bytes) ∷ did.acts)) same);
+  inputs_are = sym none;
+}
+
+own_unfit : (config : Config) (site : Site) (bytes whole : List ℕ) → is_new site.own (piece_in bytes) ≡ true → is_unfit (message_in (view_of whole)) ≡ true → (join bytes site.own).answer ≡ Whole whole
+    → Alike (own_received config site None) (own_received config site (Some bytes)) (own_inputs site None) (own_inputs site (Some bytes))
+own_unfit config site bytes whole new unfit is =
+    let drops = unfit_dropped config (record site { own = (join bytes site.own).entries }) (message_in (view_of whole)) unfit in
+    own_alike_none config site bytes
+    (ap (λ (answer : Joined). own_arrived config (record site { own = (join bytes site.own).entries }) (arrival_of answer)) is
+    ∙ (drops.0 ∙ ap (λ (table : List Entry). dropped (record site { own = table })) (whole_leaves bytes site.own whole new is)))
+    (ap (λ (answer : Joined). own_input (arrival_of answer)) is ∙ drops.1)
+
 own_alike : (config : Config) (site : Site) (gave : Option (List ℕ))
-    → Alike (own_received config site (kept site.own gave)) (own_received config site gave) (own_inputs site (kept site.own gave)) (own_inputs site gave)
+    → Alike (own_received config site (kept is_unfit site.own gave)) (own_received config site gave) (own_inputs site (kept is_unfit site.own gave)) (own_inputs site gave)
 own_alike config site None = record { site = refl; steps = refl; inputs_are = refl }
-own_alike config site (Some bytes) = by_answer (join bytes site.own).answer refl
+own_alike config site (Some bytes) = by_answer (is_new site.own (piece_in bytes)) (join bytes site.own).answer refl refl
   where
-    by_answer : (answer : Joined) → (join bytes site.own).answer ≡ answer
-        → Alike (own_received config site (kept_by answer bytes)) (own_received config site (Some bytes)) (own_inputs site (kept_by answer bytes)) (own_inputs site (Some bytes))
-    by_answer (joined.Whole whole) is = record { site = refl; steps = refl; inputs_are = refl }
-    by_answer joined.Kept is = record { site = refl; steps = refl; inputs_are = refl }
-    by_answer joined.Repeated is = record { site = refl; steps = refl; inputs_are = refl }
-    by_answer (joined.Dropped cause) is =
-        let same = own_dropped config site bytes cause is in
-        record {
-          site = sym (ap (λ (did : Doing). did.site) same);
-          steps = sym (ap (λ (did : Doing). steps_in (Act.Receive site.centre (Some bytes) ∷ did.acts)) same);
-          inputs_are = sym (ap (λ (answer : Joined). own_input (arrival_of answer)) is);
-        }
+    by_answer : (new : Bool) (answer : Joined) → is_new site.own (piece_in bytes) ≡ new → (join bytes site.own).answer ≡ answer
+        → Alike (own_received config site (kept_by is_unfit new answer bytes)) (own_received config site (Some bytes)) (own_inputs site (kept_by is_unfit new answer bytes)) (own_inputs site (Some bytes))
+    by_answer true (joined.Whole whole) new is = by_fit (is_unfit (message_in (view_of whole))) refl
+      where
+        by_fit : (unfit : Bool) → is_unfit (message_in (view_of whole)) ≡ unfit
+            → (let left : Option (List ℕ) = if unfit then None else Some bytes in Alike (own_received config site left) (own_received config site (Some bytes)) (own_inputs site left) (own_inputs site (Some bytes)))
+        by_fit true unfit = own_unfit config site bytes whole new unfit is
+        by_fit false unfit = record { site = refl; steps = refl; inputs_are = refl }
+    by_answer false (joined.Whole whole) new is = record { site = refl; steps = refl; inputs_are = refl }
+    by_answer new joined.Kept was is = record { site = refl; steps = refl; inputs_are = refl }
+    by_answer new joined.Repeated was is = record { site = refl; steps = refl; inputs_are = refl }
+    by_answer new (joined.Dropped cause) was is =
+        own_alike_none config site bytes (own_dropped config site bytes cause is) (ap (λ (answer : Joined). own_input (arrival_of answer)) is)
 
 asked_dropped : (config : Config) (site : Site) (bytes : List ℕ) (cause : DropCause) → (join bytes site.asked).answer ≡ Dropped cause → asked_taken config site (Some bytes) ≡ dropped site
 asked_dropped config site bytes cause is =
     ap (λ (answer : Joined). asked_arrived config (record site { asked = (join bytes site.asked).entries }) (arrival_of answer)) is
     ∙ ap (λ (table : List Entry). dropped (record site { asked = table })) (dropped_leaves bytes site.asked cause is)
 
+-- what is no request is dropped, and is no input
+unasked_message : (config : Config) (site : Site) (message : Message) → is_request message ≡ false → (asked_message config site message ≡ dropped site) × (asked_message_input config site message ≡ [])
+unasked_message config site (Message.Propose choice) is = (refl, refl)
+unasked_message config site (Message.Voted key version ballot tx mark) is = (refl, refl)
+unasked_message config site (Message.Escalate key version tx cause) is = (refl, refl)
+unasked_message config site (Message.Lead choice) is = (refl, refl)
+unasked_message config site (Message.Prepare key version through ballot) is = (refl, refl)
+unasked_message config site (Message.Promise key version through ballot reported votes) is = (refl, refl)
+unasked_message config site (Message.Accept key version ballot options) is = (refl, refl)
+unasked_message config site (Message.Refused key version ballot promised) is = (refl, refl)
+unasked_message config site (Message.Outcome tx outcome) is = (refl, refl)
+unasked_message config site (Message.Ask tx key version) is = (refl, refl)
+unasked_message config site (Message.SyncAsk key) is = (refl, refl)
+unasked_message config site (Message.SyncGive key version item adds) is = (refl, refl)
+unasked_message config site (Message.ClientAnswer serial answer) is = (refl, refl)
+unasked_message config site (Message.ClientRead serial key) is = absurd (cc)
+unasked_message config site (Message.ClientBegin serial parts) is = absurd (cc)
+
+no_request : (request : Bool) → not request ≡ true → request ≡ false
+no_request true is = absurd (cc)
+no_request false is = refl
+
+unasked_dropped : (config : Config) (site : Site) (arrival : Arrival) → is_unasked arrival ≡ true → (asked_arrived config site arrival ≡ dropped site) × (asked_input config site arrival ≡ [])
+unasked_dropped config site Arrival.Piece is = absurd (cc)
+unasked_dropped config site Arrival.Refused is = (refl, refl)
+unasked_dropped config site (Arrival.Whole envelope) is = unasked_message config site envelope.message (no_request (is_request envelope.message) is)
+
+asked_alike_none : (config : Config) (site : Site) (bytes : List ℕ) → asked_taken config site (Some bytes) ≡ dropped site → asked_inputs config site (Some bytes) ≡ []
+    → Alike (asked_received config site None) (asked_received config site (Some bytes)) (asked_inputs config site None) (asked_inputs config site (Some bytes))
+asked_alike_none config site bytes same none = record {
+  site = sym (ap (λ (did : Doing). did.site) same);
+  steps = sym (ap (λ (did : Doing). steps_in (Act.Receive (site.centre + 16) (Some bytes) ∷ did.acts)) same);
+  inputs_are = sym none;
+}
+
+asked_unfit : (config : Config) (site : Site) (bytes whole : List ℕ) → is_new site.asked (piece_in bytes) ≡ true → is_unasked (message_in (view_of whole)) ≡ true → (join bytes site.asked).answer ≡ Whole whole
+    → Alike (asked_received config site None) (asked_received config site (Some bytes)) (asked_inputs config site None) (asked_inputs config site (Some bytes))
+asked_unfit config site bytes whole new unfit is =
+    let drops = unasked_dropped config (record site { asked = (join bytes site.asked).entries }) (message_in (view_of whole)) unfit in
+    let none = unasked_dropped config site (message_in (view_of whole)) unfit in
+    asked_alike_none config site bytes
+    (ap (λ (answer : Joined). asked_arrived config (record site { asked = (join bytes site.asked).entries }) (arrival_of answer)) is
+    ∙ (drops.0 ∙ ap (λ (table : List Entry). dropped (record site { asked = table })) (whole_leaves bytes site.asked whole new is)))
+    (ap (λ (answer : Joined). asked_input config site (arrival_of answer)) is ∙ none.1)
+
 asked_alike : (config : Config) (site : Site) (gave : Option (List ℕ))
-    → Alike (asked_received config site (kept site.asked gave)) (asked_received config site gave) (asked_inputs config site (kept site.asked gave)) (asked_inputs config site gave)
+    → Alike (asked_received config site (kept is_unasked site.asked gave)) (asked_received config site gave) (asked_inputs config site (kept is_unasked site.asked gave)) (asked_inputs config site gave)
 asked_alike config site None = record { site = refl; steps = refl; inputs_are = refl }
-asked_alike config site (Some bytes) = by_answer (join bytes site.asked).answer refl
+asked_alike config site (Some bytes) = by_answer (is_new site.asked (piece_in bytes)) (join bytes site.asked).answer refl refl
   where
-    by_answer : (answer : Joined) → (join bytes site.asked).answer ≡ answer
-        → Alike (asked_received config site (kept_by answer bytes)) (asked_received config site (Some bytes)) (asked_inputs config site (kept_by answer bytes)) (asked_inputs config site (Some bytes))
-    by_answer (joined.Whole whole) is = record { site = refl; steps = refl; inputs_are = refl }
-    by_answer joined.Kept is = record { site = refl; steps = refl; inputs_are = refl }
-    by_answer joined.Repeated is = record { site = refl; steps = refl; inputs_are = refl }
-    by_answer (joined.Dropped cause) is =
-        let same = asked_dropped config site bytes cause is in
-        record {
-          site = sym (ap (λ (did : Doing). did.site) same);
-          steps = sym (ap (λ (did : Doing). steps_in (Act.Receive (site.centre + 16) (Some bytes) ∷ did.acts)) same);
-          inputs_are = sym (ap (λ (answer : Joined). asked_input config site (arrival_of answer)) is);
-        }
+    by_answer : (new : Bool) (answer : Joined) → is_new site.asked (piece_in bytes) ≡ new → (join bytes site.asked).answer ≡ answer
+        → Alike (asked_received config site (kept_by is_unasked new answer bytes)) (asked_received config site (Some bytes)) (asked_inputs config site (kept_by is_unasked new answer bytes)) (asked_inputs config site (Some bytes))
+    by_answer true (joined.Whole whole) new is = by_fit (is_unasked (message_in (view_of whole))) refl
+      where
+        by_fit : (unfit : Bool) → is_unasked (message_in (view_of whole)) ≡ unfit
+            → (let left : Option (List ℕ) = if unfit then None else Some bytes in Alike (asked_received config site left) (asked_received config site (Some bytes)) (asked_inputs config site left) (asked_inputs config site (Some bytes)))
+        by_fit true unfit = asked_unfit config site bytes whole new unfit is
+        by_fit false unfit = record { site = refl; steps = refl; inputs_are = refl }
+    by_answer false (joined.Whole whole) new is = record { site = refl; steps = refl; inputs_are = refl }
+    by_answer new joined.Kept was is = record { site = refl; steps = refl; inputs_are = refl }
+    by_answer new joined.Repeated was is = record { site = refl; steps = refl; inputs_are = refl }
+    by_answer new (joined.Dropped cause) was is =
+        asked_alike_none config site bytes (asked_dropped config site bytes cause is) (ap (λ (answer : Joined). asked_input config site (arrival_of answer)) is)
 
 -- ---- one after the other
 
@@ -133,8 +225,8 @@ both_alike config site given =
     let first = own_received config site left.own in
     let other = own_received config site given.own in
     let own = own_alike config site given.own in
-    let goal : Site → List Entry → Type 0 = λ s t. Alike (asked_received config s (kept t given.asked)) (asked_received config other.site given.asked)
-    (asked_inputs config s (kept t given.asked)) (asked_inputs config other.site given.asked) in
+    let goal : Site → List Entry → Type 0 = λ s t. Alike (asked_received config s (kept is_unasked t given.asked)) (asked_received config other.site given.asked)
+    (asked_inputs config s (kept is_unasked t given.asked)) (asked_inputs config other.site given.asked) in
     let asked : goal first.site site.asked =
     subst (λ (s : Site). goal s site.asked) (sym own.site)
     (subst (goal other.site) (own_holds config site given.own).asked_is (asked_alike config other.site given.asked)) in
@@ -167,7 +259,7 @@ turn_alike config site given silent =
 
 -- a turn in which nothing came is silent without what was dropped too
 silent_kept : (site : Site) (own asked : Option (List ℕ)) → (is_none own && is_none asked) ≡ true
-    → (is_none (kept site.own own) && is_none (kept site.asked asked)) ≡ true
+    → (is_none (kept is_unfit site.own own) && is_none (kept is_unasked site.asked asked)) ≡ true
 silent_kept site None None is = refl
 silent_kept site None (Some bytes) is = absurd (cc)
 silent_kept site (Some bytes) asked is = absurd (cc)

@@ -1,30 +1,61 @@
 -- Turns without the datagrams that are dropped.
-use Rattle.std.specs.Prelude.{List, None, Option, Some, [], if◌then◌else◌, not, ℕ, ◌&&◌, ◌∷◌, ◌≡◌}
+use Rattle.std.specs.Prelude.{Bool, Err, List, None, Ok, Option, Result, Some, [], false, if◌then◌else◌, is_none, not, true, ℕ, ◌&&◌, ◌∷◌, ◌≡◌}
 use Rattle.mdcc_config.specs.declared.config.Config.{Config}
-use Rattle.mdcc_frag.specs.Joining.{Entry, join}
+use Rattle.mdcc_frag.specs.Joining.{Entry, entry_of, join}
+use Rattle.mdcc_frag.specs.Reading.{piece_in}
 use Rattle.mdcc_frag.specs.declared.joined.Joined.{Joined}
 use Rattle.mdcc_frag.specs.declared.joined.Joined.TheVariants as joined
+use Rattle.mdcc_frag.specs.declared.reading.DropCause.{DropCause}
+use Rattle.mdcc_frag.specs.declared.reading.Piece.{Piece}
+use Rattle.mdcc_messages.specs.Reading.{view_of}
+use Rattle.mdcc_messages.specs.declared.messages.Message.{Message}
 use Rattle.mdcc_run_laws.specs.Inputs.{inputs_in, turns}
 use Rattle.mdcc_run_laws.specs.Told.{lines_in, sends_in}
 use Rattle.mdcc_runs.specs.Acts.{appended, steps_in}
+use Rattle.mdcc_runs.specs.Arrivals.{Arrival, is_for_client, message_in}
 use Rattle.mdcc_runs.specs.Sites.{Doing, Site}
 use Rattle.mdcc_runs.specs.Turns.{Given, is_silent, turn_of}
 
+-- ---- what is dropped
+
+-- at the endpoint of a centre: bytes that are no message, or one that goes between a node and its client
+abbrev pub is_unfit : Arrival → Bool
+is_unfit Arrival.Piece = false
+is_unfit Arrival.Refused = true
+is_unfit (Arrival.Whole envelope) = is_for_client envelope.message
+
+-- a client asks it of its centre
+abbrev pub is_request : Message → Bool
+is_request (Message.ClientRead serial key) = true
+is_request (Message.ClientBegin serial parts) = true
+is_request _ = false
+
+-- at the endpoint of its client: bytes that are no message, or one that is no request
+abbrev pub is_unasked : Arrival → Bool
+is_unasked Arrival.Piece = false
+is_unasked Arrival.Refused = true
+is_unasked (Arrival.Whole envelope) = not (is_request envelope.message)
+
+-- a piece of a message of which none is in the table
+abbrev pub is_new : List Entry → Result Piece DropCause → Bool
+is_new table (Ok piece) = is_none (entry_of piece table)
+is_new table (Err cause) = false
+
 -- ---- what is left
 
--- nothing came, where it is dropped
-abbrev pub kept_by : Joined → List ℕ → Option (List ℕ)
-kept_by (joined.Whole whole) bytes = Some bytes
-kept_by joined.Kept bytes = Some bytes
-kept_by joined.Repeated bytes = Some bytes
-kept_by (joined.Dropped cause) bytes = None
+-- Nothing came, where a piece is dropped, or where a datagram alone makes bytes whole of which all is dropped.
+abbrev pub kept_by : (Arrival → Bool) → Bool → Joined → List ℕ → Option (List ℕ)
+kept_by is_no new (joined.Whole whole) bytes = if new && is_no (message_in (view_of whole)) then None else Some bytes
+kept_by is_no new joined.Kept bytes = Some bytes
+kept_by is_no new joined.Repeated bytes = Some bytes
+kept_by is_no new (joined.Dropped cause) bytes = None
 
-abbrev pub kept : List Entry → Option (List ℕ) → Option (List ℕ)
-kept table None = None
-kept table (Some bytes) = kept_by (join bytes table).answer bytes
+abbrev pub kept : (Arrival → Bool) → List Entry → Option (List ℕ) → Option (List ℕ)
+kept is_no table None = None
+kept is_no table (Some bytes) = kept_by is_no (is_new table (piece_in bytes)) (join bytes table).answer bytes
 
 abbrev pub given_kept : Site → Given → Given
-given_kept site given = record { own = kept site.own given.own; asked = kept site.asked given.asked; waits = given.waits }
+given_kept site given = record { own = kept is_unfit site.own given.own; asked = kept is_unasked site.asked given.asked; waits = given.waits }
 
 -- a turn in which all that came is dropped is none
 abbrev pub turn_kept : Given → Given → List Given → List Given

@@ -20,7 +20,9 @@ pub fn whole_messages_came_in_pieces()
 {}
 
 /// A piece that is dropped is as good as none: the messages of which some pieces came are the same, and the inputs, and the facts
-/// appended, the messages sent, the lines and the steps, each in order, and the centre once what is pending went out.
+/// appended, the messages sent, the lines and the steps, each in order, and the centre once what is pending went out. So is a datagram
+/// that alone makes bytes whole, where these are no message, or one that its endpoint does not take: of a client's at the endpoint of a
+/// centre, of no client's request at the endpoint of its client.
 pub fn dropped_pieces_change_nothing()
     ensures table { DroppedLeavesTable }
     ensures turns { DroppedPiecesAreAsNone }
