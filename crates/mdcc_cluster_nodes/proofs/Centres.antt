@@ -13,6 +13,7 @@ use Rattle.mdcc_runs.specs.Acts.{Act, appended, but_answers}
 use Rattle.mdcc_runs.specs.Servers.{Log, served}
 use Rattle.mdcc_runs.specs.Sites.{Site}
 use Rattle.mdcc_runs.specs.Turns.{Given}
+use Rattle.mdcc_serve.specs.Serving.{HasSerials}
 use Rattle.mdcc_serve.specs.declared.served.Served.{Served}
 use Rattle.mdcc_site.specs.Causes.{in_flight}
 use Rattle.mdcc_site.specs.Logs.{KeepsFacts, MayHaveFacts, facts_after}
@@ -29,7 +30,7 @@ use Rattle.mdcc_cluster_nodes.proofs.Several.{all-left}
 use Rattle.mdcc_cluster_nodes.proofs.Tags.{IsOwn, IsTagged, all-own, own-answers, own-appended, own-both, own-first, own-flight, own-later, tag-them}
 use Rattle.mdcc_cluster_nodes.specs.Calls.{Setting}
 use Rattle.mdcc_cluster_nodes.specs.Clusters.{LivesOver}
-use Rattle.mdcc_cluster_nodes.specs.Several.{AllCentresLive, Among, AreKeptBy, AreLives, ClauseOfAll, given_of_all}
+use Rattle.mdcc_cluster_nodes.specs.Several.{AllCentresLive, Among, AreKeptBy, AreLives, ClauseOfAll, turns_before}
 
 all-at : {A : Type 0} (P : A → Type 0) (xs : List A) (x : A) (ys : List A) → AllByRecursion P (xs ++ x ∷ ys) → P x
 all-at P [] x ys h = h.0
@@ -103,9 +104,9 @@ module _ {D L O : Type 0} (disk : D → ℕ → Disk) (may_leave : D → ℕ →
                   acts = own-acts config logs turns s.run.each s.run.ran [] t log among;
                   kept = inl same;
                   boots = granted.boots;
-                  bytes = granted.bytes;
+                  bytes = granted.fits;
                   last_bytes = tt;
-                  serials = granted.serials;
+                  serials = all-at HasSerials there.before site there.after (subst (AllByRecursion HasSerials) sites s.serials);
                 });
               };
               log_is = refl;
@@ -120,7 +121,7 @@ module _ {D L O : Type 0} (disk : D → ℕ → Disk) (may_leave : D → ℕ →
       → AreLives disk may_leave tears calls lost held config (record { logs = logs; at = at; result = Err fault; serves = s })
   broke logs at fault s safe =
       let l = all-left config logs at.turns fault s.acts s.rest s.stops in
-      let turns : List (List Given) = given_of_all disk may_leave tears calls lost held config logs at (Err fault) s in
+      let turns : List (List Given) = turns_before config logs at.turns fault s.acts s.rest s.stops in
       let t = tag-them s.acts l.left (served_by config logs turns) (l.is ∙ sym (all-acts config logs turns)) in
       record {
         tagged = t.own;
@@ -142,9 +143,9 @@ module _ {D L O : Type 0} (disk : D → ℕ → Disk) (may_leave : D → ℕ →
                   acts = own-acts config logs turns l.each s.acts l.left t log among;
                   kept = m;
                   boots = granted.boots;
-                  bytes = granted.bytes;
+                  bytes = granted.fits.bytes;
                   last_bytes = tt;
-                  serials = granted.serials;
+                  serials = granted.fits.serials;
                 });
               };
               log_is = refl;

@@ -1,6 +1,9 @@
 -- A cluster of calls is a history of lives.
-use Rattle.std.proofs.Common.{List, None, Ok, Option, Some, [], ap, cond, false, inl, inr, refl, subst, sym, ℕ, ◌+◌, ◌++◌, ◌==◌, ◌∙◌, ◌∷◌, ◌≡◌}
+use Rattle.std.proofs.Common.{Result, List, None, Ok, Option, Some, [], ap, cond, false, inl, inr, refl, subst, sym, ℕ, ◌+◌, ◌++◌, ◌==◌, ◌∙◌, ◌∷◌, ◌≡◌, Err, fold, map}
 use Rattle.std.proofs.lemmas.Bool.{cases_Bool, eq-eqb, eqb-true}
+use Rattle.std.specs.List.{AllByRecursion}
+use Rattle.mdcc_admission.specs.Loading.{fact_read}
+use Rattle.mdcc_centre.proofs.Logged.{payloads-read}
 use Rattle.mdcc_centre.specs.Logged.{AreLogged}
 use Rattle.mdcc_config.specs.IsConfig.{IsConfig}
 use Rattle.mdcc_config.specs.declared.config.Config.{Config}
@@ -8,10 +11,13 @@ use Rattle.mdcc_disks.specs.Disks.{Disk}
 use Rattle.mdcc_link.specs.Link.{LinkCall}
 use Rattle.mdcc_log.specs.Area.{payloads}
 use Rattle.mdcc_messages.specs.Spelling.{encodings_of}
+use Rattle.mdcc_messages.specs.WellFormed.{IsWellFormedFact}
 use Rattle.mdcc_messages.specs.declared.facts.Fact.{Fact}
+use Rattle.mdcc_rules.specs.Steps.{with_new}
 use Rattle.mdcc_runs.specs.Acts.{Act, appended_by}
 use Rattle.mdcc_runs.specs.Servers.{Log}
 use Rattle.mdcc_serve.specs.Serving.{IsLogOf}
+use Rattle.mdcc_steps.specs.NodeInvariant.{payloads_of}
 use Rattle.mdcc_clusters.proofs.Discharged.{deployed-logged}
 use Rattle.mdcc_clusters.specs.Headline.{IsToldTruly}
 use Rattle.mdcc_clusters.specs.Traces.{MayDoNext}
@@ -23,7 +29,7 @@ use Rattle.mdcc_lives.specs.Lives.{IsLifeOf, Life, onto}
 use Rattle.mdcc_cluster_nodes.proofs.Calls.{calls-are-lives}
 use Rattle.mdcc_cluster_nodes.specs.Areas.{Areas}
 use Rattle.mdcc_cluster_nodes.specs.Calls.{Call}
-use Rattle.mdcc_cluster_nodes.specs.Clusters.{AreCalls, Cluster, HasHeadline, HeadlineOfCalls, IsCalled, Lives, MayBeNext, MayCall, MayReturn, Step, after_act_at, after_step, after_steps, no_calls, with_now}
+use Rattle.mdcc_cluster_nodes.specs.Clusters.{AreCalls, Cluster, HasHeadline, HeadlineOfCalls, IsCalled, Lives, LivesFrom, MayBeNext, MayCall, MayReturn, Step, after_act_at, after_step, after_steps, no_calls, with_now}
 
 -- ---- histories grow at their end
 
@@ -34,6 +40,25 @@ steps-more present (x ∷ xs) ys = steps-more (Histories.after_step present x) x
 history-more : (config : Config) (present : Present) (xs ys : List Histories.Step) → IsHistory config present xs → IsHistory config (Histories.after_steps present xs) ys → IsHistory config present (xs ++ ys)
 history-more config present [] ys h k = k
 history-more config present (x ∷ xs) ys h k = (h.0, history-more config (Histories.after_step present x) xs ys h.1 k)
+
+-- ---- well-formed facts are known by their encodings
+
+onto-last : (start : List Fact) (all : List (Option Fact)) (fact : Fact) → fold (λ facts one. with_new facts one) start (all ++ Some fact ∷ []) ≡ fact ∷ fold (λ facts one. with_new facts one) start all
+onto-last start [] fact = refl
+onto-last start (one ∷ all) fact = onto-last (with_new start one) all fact
+
+facts-back : (facts : List Fact) → fold (λ before one. with_new before one) [] (payloads_of facts) ≡ facts
+facts-back [] = refl
+facts-back (fact ∷ facts) = onto-last [] (payloads_of facts) fact ∙ ap (λ (xs : List Fact). fact ∷ xs) (facts-back facts)
+
+ok-same : (r : Result (List (List ℕ)) ℕ) (xs ys : List (List ℕ)) → r ≡ Ok xs → r ≡ Ok ys → xs ≡ ys
+ok-same (Err offset) xs ys e f = absurd (cc)
+ok-same (Ok zs) xs ys e f = let one : zs ≡ xs = cc in let two : zs ≡ ys = cc in sym one ∙ two
+
+same-facts : (one other : List Fact) → AllByRecursion IsWellFormedFact one → AllByRecursion IsWellFormedFact other → encodings_of one ≡ encodings_of other → one ≡ other
+same-facts one other w v bytes =
+    let all : payloads_of one ≡ payloads_of other = sym (payloads-read one w) ∙ (ap (λ (xs : List (List ℕ)). map fact_read xs) bytes ∙ payloads-read other v) in
+    sym (facts-back one) ∙ (ap (λ (xs : List (Option Fact)). fold (λ before fact. with_new before fact) [] xs) all ∙ facts-back other)
 
 -- ---- calls and lives
 
@@ -126,11 +151,22 @@ module _ {D L O : Type 0} (disk : D → ℕ → Disk) (may_leave : D → ℕ →
         let at = k log_here refl (free alone).1 (logged g.steps g.history a) in
         life-goes at.life (ap (λ (log : Log). log.centre) at.log_is) (ap (λ (log : Log). log.facts) at.log_is) at.acts_are at.is at.read (free alone).0
 
+    from-goes : cluster.now a ≡ None → LivesFrom config a (cluster.areas a) acts left → Goes (after_step cluster (Step.Calls a acts left))
+    from-goes alone k =
+        let mine = logged g.steps g.history a in
+        let same : k.log.facts ≡ here.log a = same-facts k.log.facts (here.log a) k.allowed.well_formed mine.well_formed
+        (ok-same (payloads (cluster.areas a).first (cluster.areas a).second) (encodings_of k.log.facts) (encodings_of (here.log a)) k.read (free alone).1) in
+        let at = k.lives in
+        life-goes at.life (ap (λ (log : Log). log.centre) at.log_is ∙ k.own) (ap (λ (log : Log). log.facts) at.log_is ∙ same) at.acts_are at.is at.read (free alone).0
+
     call-goes : MayCall disk may_leave tears calls lost held config cluster a acts left → Goes (after_step cluster (Step.Calls a acts left))
     call-goes m =
         elim m.called [
           | inl c ↦ called-goes m.alone c
-          | inr k ↦ lives-goes m.alone k
+          | inr lives ↦ elim lives [
+            | inl k ↦ lives-goes m.alone k
+            | inr k ↦ from-goes m.alone k
+          ]
         ]
 
   -- ---- an act
@@ -212,6 +248,7 @@ module _ {D L O : Type 0} (disk : D → ℕ → Disk) (may_leave : D → ℕ →
         read = λ a none.
             let free = nobody (cluster.areas a) (present.log a) (present.now a) (subst (Matches (cluster.areas a) (present.log a) (present.now a)) none (g.follows.each a)) in
             free.1 ∙ ap (λ (log : List Fact). Ok (encodings_of log)) (told.logs a);
+        allowed = λ a none. subst (AreLogged config.cluster) (told.logs a) (logged g.steps g.history a);
         told = subst (λ (done : List (ℕ × Act)). IsToldTruly config done told.durable) (sym g.follows.done) told.told;
       }
 

@@ -22,6 +22,26 @@ use Rattle.mdcc_clusters.specs.Traces.{Ending, GivesBytes, acts_to}
 use Rattle.mdcc_lives.specs.Lives.{IsLifeOf, Life, sent_by}
 use Rattle.mdcc_cluster_nodes.specs.Turns.{given_before}
 
+-- ---- turns that take few serials
+
+-- receives gave bytes, and the turns, with that in which it ended, take fewer than 2^32 serials
+pub record FitsWhole (config : Config) (log : Log) (given : List Given) : Type 0 where
+  pub bytes : AllByRecursion GivesBytes given
+  pub serials : sent_by config log given Ending.Whole < 2 ^ 32
+
+-- or it ended before a message that would have had a serial above the last one: of its last turn it did only what comes before all but the first few
+-- messages, and no append came next
+pub record FitsShort (config : Config) (log : Log) (acts : List Act) (appending : List Fact) : Type 0 where
+  pub given : List Given
+  pub last : Option Given
+  pub few : ℕ
+  pub rest : List Act
+  pub are : but_answers acts ++ rest ≡ acts_to config log given (Ending.Short last few)
+  pub none : appending ≡ []
+  pub bytes : AllByRecursion GivesBytes given
+  pub last_bytes : AllByRecursion GivesBytes (listed last)
+  pub serials : sent_by config log given (Ending.Short last few) < 2 ^ 32
+
 module _ {D L O : Type 0} (disk : D → ℕ → Disk) (may_leave : D → ℕ → List ℕ → Type 0) (tears : ℕ → Type 0) (calls : L → Option (List LinkCall)) (lost : L → ℕ) (held : O → Option (List ℕ)) where
   -- ---- a call
 
@@ -53,16 +73,6 @@ module _ {D L O : Type 0} (disk : D → ℕ → Disk) (may_leave : D → ℕ →
   acts_done config log at (Ok served) s = s.run.ran
   acts_done config log at (Err fault) s = s.acts
 
-  -- what its receives gave, turn by turn, also in the turn in which it ended
-  abbrev pub given_by : (config : Config) (log : Log) (at : Setting) (result : Result Served ServeFault) → Clause config log at result → List Given
-  given_by config log at (Ok served) s = given_at 0 s.run.given
-  given_by config log at (Err fault) s = given_before config (log ∷ []) at.turns fault s.acts s.rest s.stops
-
-  -- the facts that were being appended as a call of its disk failed
-  abbrev pub appending_by : (config : Config) (log : Log) (at : Setting) (result : Result Served ServeFault) → Clause config log at result → List Fact
-  appending_by config log at (Ok served) s = []
-  appending_by config log at (Err fault) s = in_flight fault log.centre s.rest
-
   -- ---- what is taken for granted of it
 
   -- where it ended before its end, its log was durable as it began, and if that was as the log was opened, no byte is torn to 1
@@ -70,31 +80,18 @@ module _ {D L O : Type 0} (disk : D → ℕ → Disk) (may_leave : D → ℕ →
   IsKeptBy config log at (Ok served) s = ⊤
   IsKeptBy config log at (Err fault) s = IsDurable disk may_leave at.disks_before log × IsSafeAt tears fault s.rest
 
-  -- receives gave bytes, and its turns take fewer than 2^32 serials
-  pub record FitsWhole (config : Config) (log : Log) (given : List Given) : Type 0 where
-    pub bytes : AllByRecursion GivesBytes given
-    pub serials : sent_by config log given Ending.Whole < 2 ^ 32
+  -- where it came to its end, receives gave bytes: that there were serials enough its contract says
+  abbrev pub Fits : (config : Config) (log : Log) (at : Setting) (result : Result Served ServeFault) → Clause config log at result → Type 0
+  Fits config log at (Ok served) s = AllByRecursion GivesBytes (given_at 0 s.run.given)
+  Fits config log at (Err fault) s =
+      FitsWhole config log (given_before config (log ∷ []) at.turns fault s.acts s.rest s.stops) ⊎ FitsShort config log s.acts (in_flight fault log.centre s.rest)
 
-  -- or it ended before a message that would have had a serial above the last one: of its last turn it did only what comes before all but the first few
-  -- messages, and no append came next
-  pub record FitsShort (config : Config) (log : Log) (acts : List Act) (appending : List Fact) : Type 0 where
-    pub given : List Given
-    pub last : Option Given
-    pub few : ℕ
-    pub rest : List Act
-    pub are : but_answers acts ++ rest ≡ acts_to config log given (Ending.Short last few)
-    pub none : appending ≡ []
-    pub bytes : AllByRecursion GivesBytes given
-    pub last_bytes : AllByRecursion GivesBytes (listed last)
-    pub serials : sent_by config log given (Ending.Short last few) < 2 ^ 32
-
-  -- What is taken for granted of a call: it served a centre of the cluster, over a log from which a node boots, up to the last serial at most; and its
-  -- disks kept its log.
+  -- What is taken for granted of a call: it served a centre of the cluster, over a log from which a node boots; it came to the last serial at most;
+  -- and its disks kept its log.
   pub record IsGranted (config : Config) (call : Call config) : Type 0 where
     pub centre : is_centre config.cluster call.log.centre ≡ true
     pub boots : is_ok (booted_by config.cluster (Ok call.log.facts)) ≡ true
-    pub fits : FitsWhole config call.log (given_by config call.log call.at call.result call.serves)
-        ⊎ FitsShort config call.log (acts_done config call.log call.at call.result call.serves) (appending_by config call.log call.at call.result call.serves)
+    pub fits : Fits config call.log call.at call.result call.serves
     pub kept : IsKeptBy config call.log call.at call.result call.serves
 
   -- ---- the life that it was

@@ -78,19 +78,27 @@ pub record LivesOver (config : Config) (log : Log) (acts : List Act) (left : Are
   pub read : payloads left.first left.second ≡ Ok (encodings_of life.kept)
 
 -- So it is over the log that it found, where that has facts that its centre may have added. Of a process that was killed in a call of `serve_node` this
--- is what a clause on any moment inside the call would say: the contract has none yet, so it is a premise. Of a centre that a call of `serve_cluster`
--- served with others it is a theorem.
+-- is what a clause on any moment inside the call would say: the contract has none yet, so it is a premise.
 abbrev pub Lives : Config → ℕ → Areas → List Act → Areas → Type 0
 Lives config a found acts left =
     (log : Log) → log.centre ≡ a → payloads found.first found.second ≡ Ok (encodings_of log.facts) → AreLogged config.cluster log.facts → LivesOver config log acts left
 
+-- The same of a log that is known already to be the one that it found: so it is of a centre that a call of `serve_cluster` serves with others.
+pub record LivesFrom (config : Config) (a : ℕ) (found : Areas) (acts : List Act) (left : Areas) : Type 0 where
+  pub log : Log
+  pub own : log.centre ≡ a
+  pub read : payloads found.first found.second ≡ Ok (encodings_of log.facts)
+  pub allowed : AreLogged config.cluster log.facts
+  pub lives : LivesOver config log acts left
+
 -- ---- what is proved of them
 
--- There is one order of all facts that are in the logs, where no call is on as they are read from the areas; and the headline holds of it and of
--- all acts that were done.
+-- There is one order of all facts that are in the logs. Where no call is on its log is read from the areas, and has facts that its centre may have
+-- added, so that the contract of the next call speaks of it. And the headline holds of that order and of all acts that were done.
 pub record HasHeadline (config : Config) (cluster : Cluster) : Type 0 where
   pub durable : List (ℕ × Fact)
   pub read : (a : ℕ) → cluster.now a ≡ None → payloads (cluster.areas a).first (cluster.areas a).second ≡ Ok (encodings_of (log_of durable a))
+  pub allowed : (a : ℕ) → cluster.now a ≡ None → AreLogged config.cluster (log_of durable a)
   pub told : IsToldTruly config cluster.done durable
 
 -- ---- calls
@@ -115,7 +123,7 @@ module _ {D L O : Type 0} (disk : D → ℕ → Disk) (may_leave : D → ℕ →
   -- One process of a centre is on at a time, and finds what the one before left: a call that returns, or one that was killed or served others too.
   pub record MayCall (config : Config) (cluster : Cluster) (a : ℕ) (acts : List Act) (left : Areas) : Type 0 where
     pub alone : cluster.now a ≡ None
-    pub called : IsCalled config a (cluster.areas a) acts left ⊎ Lives config a (cluster.areas a) acts left
+    pub called : IsCalled config a (cluster.areas a) acts left ⊎ (Lives config a (cluster.areas a) acts left ⊎ LivesFrom config a (cluster.areas a) acts left)
 
   -- what a receive at a centre's own endpoint gives was sent before by a centre of the cluster
   abbrev pub MayBeNext : Config → Cluster → Step → Type 0

@@ -1,7 +1,7 @@
 -- A call of `serve_cluster`, by what its contract says of it, and the lives of its centres that it was.
 use Rattle.std.proofs.Common.{inl, inr}
 use Rattle.std.specs.List.{AllByRecursion}
-use Rattle.std.specs.Prelude.{Err, List, None, Ok, Option, Result, [], false, is_ok, length, map, true, ⊤, ℕ, ◌+◌, ◌++◌, ◌<◌, ◌^◌, ◌∷◌, ◌≡◌}
+use Rattle.std.specs.Prelude.{Err, List, None, Ok, Option, Result, [], false, is_ok, length, map, true, ⊤, ℕ, ◌+◌, ◌++◌, ◌∷◌, ◌≡◌}
 use Rattle.mdcc_config.specs.declared.config.Config.{Config}
 use Rattle.mdcc_disks.specs.Disks.{Disk}
 use Rattle.mdcc_link.specs.Link.{LinkCall}
@@ -18,10 +18,9 @@ use Rattle.mdcc_serve.specs.declared.served.Served.{Served}
 use Rattle.mdcc_site.specs.Causes.{IsSafeAt}
 use Rattle.mdcc_site.specs.declared.fault.ServeFault.{ServeFault}
 use Rattle.mdcc_clusters.specs.Several.{AreOthers, acts_by}
-use Rattle.mdcc_clusters.specs.Traces.{Ending, GivesBytes}
-use Rattle.mdcc_lives.specs.Lives.{sent_by}
+use Rattle.mdcc_clusters.specs.Traces.{GivesBytes}
 use Rattle.mdcc_cluster_nodes.specs.Areas.{Areas}
-use Rattle.mdcc_cluster_nodes.specs.Calls.{Setting}
+use Rattle.mdcc_cluster_nodes.specs.Calls.{FitsWhole, Setting}
 use Rattle.mdcc_cluster_nodes.specs.Clusters.{LivesOver}
 
 -- ---- its turns
@@ -59,26 +58,26 @@ module _ {D L O : Type 0} (disk : D → ℕ → Disk) (may_leave : D → ℕ →
     pub result : Result Served ServeFault
     pub serves : ClauseOfAll config logs at result
 
-  -- its acts, but for the last line; and what the receives of all centres gave
+  -- its acts, but for the last line
   abbrev pub acts_of_all : (config : Config) (logs : List Log) (at : Setting disk may_leave tears calls lost held) (result : Result Served ServeFault) → ClauseOfAll config logs at result → List Act
   acts_of_all config logs at (Ok served) s = s.run.ran
   acts_of_all config logs at (Err fault) s = s.acts
-
-  abbrev pub given_of_all : (config : Config) (logs : List Log) (at : Setting disk may_leave tears calls lost held) (result : Result Served ServeFault) → ClauseOfAll config logs at result → List (List Given)
-  given_of_all config logs at (Ok served) s = s.run.given
-  given_of_all config logs at (Err fault) s = turns_before config logs at.turns fault s.acts s.rest s.stops
 
   -- where it ended before its end, all logs were durable as it began, and if that was as one was opened, no byte is torn to 1
   abbrev pub AreKeptBy : (config : Config) (logs : List Log) (at : Setting disk may_leave tears calls lost held) (result : Result Served ServeFault) → ClauseOfAll config logs at result → Type 0
   AreKeptBy config logs at (Ok served) s = ⊤
   AreKeptBy config logs at (Err fault) s = AllByRecursion (IsDurable disk may_leave at.disks_before) logs × IsSafeAt tears fault s.rest
 
-  -- What is taken for granted of one of its centres, and of the call.
+  -- of one of its centres: receives gave bytes, and where it ended before its end the turns take fewer than 2^32 serials
+  abbrev pub FitsOne : (config : Config) (logs : List Log) (at : Setting disk may_leave tears calls lost held) (result : Result Served ServeFault) → ClauseOfAll config logs at result → Log → ℕ → Type 0
+  FitsOne config logs at (Ok served) s log place = AllByRecursion GivesBytes (given_at place s.run.given)
+  FitsOne config logs at (Err fault) s log place = FitsWhole config log (given_at place (turns_before config logs at.turns fault s.acts s.rest s.stops))
+
+  -- What is taken for granted of one of its centres.
   pub record IsGrantedOne (config : Config) (call : CallOfAll config) (log : Log) (among : Among call.logs log) : Type 0 where
     pub centre : is_centre config.cluster log.centre ≡ true
     pub boots : is_ok (booted_by config.cluster (Ok log.facts)) ≡ true
-    pub bytes : AllByRecursion GivesBytes (given_at (length among.before) (given_of_all config call.logs call.at call.result call.serves))
-    pub serials : sent_by config log (given_at (length among.before) (given_of_all config call.logs call.at call.result call.serves)) Ending.Whole < 2 ^ 32
+    pub fits : FitsOne config call.logs call.at call.result call.serves log (length among.before)
 
   -- Its acts, each with the centre that does it: those of each centre are a life of it over its log, and its areas have later the log that this life left.
   pub record AreLives (config : Config) (call : CallOfAll config) : Type 0 where

@@ -5,6 +5,9 @@ ghost use Rattle.mdcc_cluster_nodes.specs.Calls.{CallsAreLives};
 ghost use Rattle.mdcc_cluster_nodes.specs.Clusters.{HeadlineOfCalls};
 ghost use Rattle.mdcc_cluster_nodes.specs.Several.{AllCentresLive};
 
+mod called;
+
+pub use called::{call_cluster, call_node};
 use mdcc_base::Sink;
 use mdcc_disks::Disks;
 use mdcc_link::Link;
