@@ -15,6 +15,7 @@ use Rattle.mdcc_disks.specs.Disks.{Disk}
 use Rattle.mdcc_messages.specs.Spelling.{fact_bytes, encodings_of}
 use Rattle.mdcc_messages.specs.declared.facts.Fact.{Fact}
 use Rattle.mdcc_runs.specs.Sending.{facts_logged}
+use Rattle.mdcc_site.specs.AnyMoment.{LeavesEither}
 use Rattle.mdcc_site.specs.Causes.{IsLogging, next_facts}
 use Rattle.mdcc_site.specs.LogEffects.{AreShortFacts, FailsToLog, HasLogged, log_fault_of}
 use Rattle.mdcc_site.specs.Logs.{MayHaveFacts, with_facts}
@@ -83,6 +84,35 @@ module _ {D : Type 0} (disk : D → ℕ → Disk) (may_leave : D → ℕ → Lis
 
   pub others_same : (centre : ℕ) (disks : D) → KeepsOthers disk may_leave centre disks disks
   others_same centre disks = record { others = λ p one two. refl; crash = λ p one two c left. left }
+
+  -- what is read of them is in the open log
+  read_there : (disks : D) (log : OpenAreas) (centre : ℕ) (facts : List Fact) → ((p : ℕ) → IsTrue (disk disks p).told → may_leave disks p (disk disks p).bytes) → OpenLog disk may_leave disks log centre facts
+      → IsTrue (disk disks centre).told → payloads (disk disks centre).bytes (disk disks (centre + 16)).bytes ≡ Ok (encodings_of facts)
+  read_there disks log centre facts as_read stands told =
+      elim (stands.left told (disk disks centre).bytes (disk disks (centre + 16)).bytes (as_read centre told) (as_read (centre + 16) (subst IsTrue (sym stands.alike) told))) [
+        | inl read ↦ read
+        | inr read ↦ read
+      ]
+
+  module _ (moment : D → ℕ) (left_since : D → ℕ → ℕ → List ℕ → Type 0) where
+    -- a log that is open there has the same facts, whatever is said of them
+    pub either_from : (disks new : D) (log other : OpenAreas) (centre : ℕ) (facts before after : List Fact) → ((p : ℕ) → IsTrue (disk disks p).told → may_leave disks p (disk disks p).bytes)
+        → OpenLog disk may_leave disks log centre facts → OpenLog disk may_leave disks other centre before
+        → LeavesEither disk moment left_since centre before after disks new → LeavesEither disk moment left_since centre facts after disks new
+    either_from disks new log other centre facts before after as_read stands taken either first second told left left_second =
+        elim (either first second told left left_second) [
+          | inl read ↦ inl (read ∙ (sym (read_there disks other centre before as_read taken told) ∙ read_there disks log centre facts as_read stands told))
+          | inr read ↦ inr read
+        ]
+
+  -- at any moment of a call that does nothing to them
+  module _ (moment : D → ℕ) (left_since : D → ℕ → ℕ → List ℕ → Type 0) (only_now : (disks : D) (p : ℕ) (c : List ℕ) → left_since disks p (moment disks) c → may_leave disks p c) where
+    pub either_same : (disks : D) (log : OpenAreas) (centre : ℕ) (facts after : List Fact) → OpenLog disk may_leave disks log centre facts → LeavesEither disk moment left_since centre facts after disks disks
+    either_same disks log centre facts after stands first second told left left_second =
+        elim (stands.left told first second (only_now disks centre first left) (only_now disks (centre + 16) second left_second)) [
+          | inl read ↦ inl read
+          | inr read ↦ inl read
+        ]
 
   -- ---- a log that is full, or for which there is no memory
 
@@ -247,7 +277,29 @@ module _ {D : Type 0} (disk : D → ℕ → Disk) (may_leave : D → ℕ → Lis
           others = others_keep;
         }
 
-        -- whatever a crash leaves then, the log has its facts, or those and all the new ones
+        -- whatever a crash at any moment of it left, the log has its facts, or those and all the new ones
+        pub either_left : (facts more : List Fact) → OpenLog disk may_leave old log centre facts
+            → ((all : List (List ℕ)) (current spare : List ℕ) → IsTrue (disk old (place_of log.centre log.area)).told → IsTrue (disk old (place_of log.centre (other_of log.area))).told
+            → IsAtRest disk may_leave old log all
+            → left_since new (place_of log.centre log.area) (moment old) current → left_since new (place_of log.centre (other_of log.area)) (moment old) spare
+            → ReadsAsAllOrNone all (map fact_bytes more) (payloads_by log.area current spare))
+            → LeavesEither disk moment left_since centre facts (with_facts facts more) old new
+        either_left facts more stands reads first second told left left_second =
+            let both = told_both old log centre facts stands range told in
+            let since : (p q : ℕ) (c : List ℕ) → p ≡ q → left_since new q (moment old) c → left_since new p (moment old) c = λ p q c is has. subst (λ (n : ℕ). left_since new n (moment old) c) (sym is) has in
+            elim (at_places log centre range of) [
+              | inl lies ↦ either first second (subst (λ (n : ℕ). ReadsAsAllOrNone (encodings_of facts) (map fact_bytes more) (payloads_by n first second)) lies.area_is
+                  (reads (encodings_of facts) first second both.0 both.1 (stands.at_rest told) (since _ _ first lies.here_is left) (since _ _ second lies.there_is left_second)))
+              | inr lies ↦ either first second (subst (λ (n : ℕ). ReadsAsAllOrNone (encodings_of facts) (map fact_bytes more) (payloads_by n second first)) lies.area_is
+                  (reads (encodings_of facts) second first both.0 both.1 (stands.at_rest told) (since _ _ second lies.here_is left_second) (since _ _ first lies.there_is left)))
+            ]
+          where
+            either : (one two : List ℕ) → ReadsAsAllOrNone (encodings_of facts) (map fact_bytes more) (payloads one two)
+                → (payloads one two ≡ Ok (encodings_of facts)) ⊎ (payloads one two ≡ Ok (encodings_of (with_facts facts more)))
+            either one two (inl read) = inl read
+            either one two (inr read) = inr (read ∙ payloads_more facts more)
+
+        -- so it is of what a crash leaves then
         may_have : (facts more : List Fact) → OpenLog disk may_leave old log centre facts
             → ((disks : D) (p t : ℕ) (c : List ℕ) → t ≤ moment disks → may_leave disks p c → left_since disks p t c)
             → ((all : List (List ℕ)) (current spare : List ℕ) → IsTrue (disk old (place_of log.centre log.area)).told → IsTrue (disk old (place_of log.centre (other_of log.area))).told
@@ -256,21 +308,8 @@ module _ {D : Type 0} (disk : D → ℕ → Disk) (may_leave : D → ℕ → Lis
             → ReadsAsAllOrNone all (map fact_bytes more) (payloads_by log.area current spare))
             → IsTrue (disk old centre).told → MayHaveFacts disk may_leave new centre facts more
         may_have facts more stands counts_now reads told first second left left_second =
-            let both = told_both old log centre facts stands range told in
-            let since : (p : ℕ) (c : List ℕ) → may_leave new p c → left_since new p (moment old) c = λ p c has. counts_now new p (moment old) c keeps.later has in
-            elim (at_places log centre range of) [
-              | inl lies ↦ either first second (subst (λ (n : ℕ). ReadsAsAllOrNone (encodings_of facts) (map fact_bytes more) (payloads_by n first second)) lies.area_is
-                  (reads (encodings_of facts) first second both.0 both.1 (stands.at_rest told)
-                  (since _ first (subst (λ (p : ℕ). may_leave new p first) (sym lies.here_is) left)) (since _ second (subst (λ (p : ℕ). may_leave new p second) (sym lies.there_is) left_second))))
-              | inr lies ↦ either first second (subst (λ (n : ℕ). ReadsAsAllOrNone (encodings_of facts) (map fact_bytes more) (payloads_by n second first)) lies.area_is
-                  (reads (encodings_of facts) second first both.0 both.1 (stands.at_rest told)
-                  (since _ second (subst (λ (p : ℕ). may_leave new p second) (sym lies.here_is) left_second)) (since _ first (subst (λ (p : ℕ). may_leave new p first) (sym lies.there_is) left))))
-            ]
-          where
-            either : (one two : List ℕ) → ReadsAsAllOrNone (encodings_of facts) (map fact_bytes more) (payloads one two)
-                → (payloads one two ≡ Ok (encodings_of facts)) ⊎ (payloads one two ≡ Ok (encodings_of (with_facts facts more)))
-            either one two (inl read) = inl read
-            either one two (inr read) = inr (read ∙ payloads_more facts more)
+            either_left facts more stands reads first second told
+            (counts_now new centre (moment old) first keeps.later left) (counts_now new (centre + 16) (moment old) second keeps.later left_second)
 
         pub append_fails : (fault : LogFault) (facts more : List Fact) → 1 ≤ length more → OpenLog disk may_leave old log centre facts
             → ((disks : D) (p t : ℕ) (c : List ℕ) → t ≤ moment disks → may_leave disks p c → left_since disks p t c)

@@ -2,6 +2,7 @@
 use Rattle.std.proofs.Common.{◌≡◌, ℕ, ◌≤◌, List, Ok, Err, refl, sym, ◌∙◌, ap, subst, arith}
 use Rattle.std.specs.List.{AllByRecursion}
 use Rattle.mdcc_config.specs.declared.config.Config.{Config}
+use Rattle.mdcc_messages.specs.declared.facts.Fact.{Fact}
 use Rattle.mdcc_messages.specs.declared.messages.Envelope.{Envelope}
 use Rattle.mdcc_option.specs.declared.cluster.Cluster.{Cluster}
 use Rattle.mdcc_outbox.proofs.Bytes.{all_go}
@@ -13,8 +14,10 @@ use Rattle.mdcc_runs.specs.Sites.{Doing, Site, after_acts, doing, nothing_pendin
 use Rattle.mdcc_site.proofs.Going.{goes_then, stops_then}
 use Rattle.mdcc_site.proofs.Owns.{IsWhole, logged_owns, messages_own}
 use Rattle.mdcc_site.proofs.Parts.{log_goes, log_stops, logged}
-use Rattle.mdcc_site.proofs.Sent.{sent_goes, sent_stops}
+use Rattle.mdcc_site.proofs.Sent.{messages_only, sent_goes, sent_stops}
+use Rattle.mdcc_site.specs.AnyMoment.{LeavesEither}
 use Rattle.mdcc_site.specs.LogEffects.{FailsToLog, HasLogged}
+use Rattle.mdcc_site.specs.Logs.{with_facts}
 use Rattle.mdcc_site.specs.Moments.{Outside}
 use Rattle.mdcc_site.specs.PendingBytes.{pending_bytes}
 use Rattle.mdcc_site.specs.SiteState.{Finishes, HoldsLog, HoldsSite, Place, SendsAll, SendsSome, Stops, Waits, place}
@@ -89,6 +92,15 @@ module _ {D L O : Type 0} (w : Outside D L O) (cluster : Cluster) (site : Site) 
     pub log_there : HoldsLog w.disk w.may_leave disks emptied.log emptied.centre site.logged
     log_there = subst (λ (n : ℕ). HoldsLog w.disk w.may_leave disks emptied.log n site.logged) (sym centre_there)
         (subst (λ (h : TheSite). HoldsLog w.disk w.may_leave disks h.log site.centre site.logged) (sym empties) stands.log)
+
+    -- at any moment of logging them
+    pub logged_either : (config : Config) (moment : D → ℕ) (left_since : D → ℕ → ℕ → List ℕ → Type 0) (new_disks : D)
+        → LeavesEither w.disk moment left_since emptied.centre site.logged (with_facts site.logged site.pending.facts) disks new_disks
+        → LeavesEither w.disk moment left_since site.centre site.logged (persist_then_send config site).site.logged disks new_disks
+    logged_either config moment left_since new_disks either =
+        let facts_are : with_facts site.logged site.pending.facts ≡ (persist_then_send config site).site.logged = sym ((messages_only config (persisted site) site.pending.envelopes).logged ∙ stands.itself.waits.all) in
+        subst (λ (fs : List Fact). LeavesEither w.disk moment left_since site.centre site.logged fs disks new_disks) facts_are
+        (subst (λ (n : ℕ). LeavesEither w.disk moment left_since n site.logged (with_facts site.logged site.pending.facts) disks new_disks) centre_there either)
 
     module _ (new_disks : D) (new : TheSite) (link : L) (out : O) (only : new ≡ record emptied { log = new.log }) where
       pub same_there : new ≡ record held { log = new.log; pending = pending_bytes nothing_pending }

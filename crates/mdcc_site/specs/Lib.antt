@@ -1,3 +1,4 @@
+pub mod AnyMoment
 pub mod Causes
 pub mod LogEffects
 pub mod Logs

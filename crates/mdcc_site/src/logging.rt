@@ -2,7 +2,9 @@
 ghost use Rattle.std.specs.Prelude.{◌≡◌, ◌≤◌, List, length, map};
 ghost use Rattle.mdcc_messages.specs.Spelling.{fact_bytes};
 ghost use Rattle.mdcc_messages.specs.declared.facts.Fact.{Fact as AFact};
+ghost use Rattle.mdcc_site.specs.AnyMoment.{LeavesEither};
 ghost use Rattle.mdcc_site.specs.LogEffects.{AreShortFacts, Logs, log_fault_of};
+ghost use Rattle.mdcc_site.specs.Logs.{with_facts};
 ghost use Rattle.mdcc_site.specs.SiteState.{OpenLog};
 
 use crate::ServeFault;
@@ -32,8 +34,12 @@ pub fn log_payloads<D: Disks>(
     requires some { 1 ≤ length payloads.now }
     requires short { AreShortFacts payloads.now }
     requires stands { (before : List AFact) × OpenLog D.disk D.may_leave disks.old log.old centre before }
-    ensures { (before facts : List AFact) → OpenLog D.disk D.may_leave disks.old log.old centre before → payloads.now ≡ map fact_bytes facts
+    ensures logs { (before facts : List AFact) → OpenLog D.disk D.may_leave disks.old log.old centre before → payloads.now ≡ map fact_bytes facts
         → Logs D.disk D.may_leave centre before facts result disks.old disks.new log.new }
+
+    // A crash at any moment of it leaves the facts from before, or those and all of these.
+    ensures any_moment { (before facts : List AFact) → OpenLog D.disk D.may_leave disks.old log.old centre before → payloads.now ≡ map fact_bytes facts
+        → LeavesEither D.disk D.moment D.left_since centre before (with_facts before facts) disks.old disks.new }
 {
     current_is_read();
     let _area = log.area();

@@ -10,8 +10,10 @@ ghost use Rattle.mdcc_outbox.specs.Sends.{IsSenderOf};
 ghost use Rattle.mdcc_runs.specs.Acts.{Act};
 ghost use Rattle.mdcc_runs.specs.Sending.{heard_printed, persist_then_send};
 ghost use Rattle.mdcc_runs.specs.Sites.{Site as ASite, nothing_pending};
+ghost use Rattle.mdcc_site.specs.AnyMoment.{LeavesEither};
 ghost use Rattle.mdcc_site.specs.Causes.{of_print};
 ghost use Rattle.mdcc_site.specs.LogEffects.{AreShortFacts, Logs};
+ghost use Rattle.mdcc_site.specs.Logs.{with_facts};
 ghost use Rattle.mdcc_site.specs.Moments.{outside};
 ghost use Rattle.mdcc_site.specs.PendingBytes.{pending_bytes};
 ghost use Rattle.mdcc_site.specs.Printing.{PrintsInOrder};
@@ -96,6 +98,8 @@ impl Site {
         requires stands { (before : List AFact) × HoldsLog D.disk D.may_leave disks.old self.old.log self.old.centre before }
         ensures logs { (before facts : List AFact) → HoldsLog D.disk D.may_leave disks.old self.old.log self.old.centre before → payloads.now ≡ map fact_bytes facts
             → Logs D.disk D.may_leave self.old.centre before facts result disks.old disks.new self.new.log }
+        ensures any_moment { (before facts : List AFact) → HoldsLog D.disk D.may_leave disks.old self.old.log self.old.centre before → payloads.now ≡ map fact_bytes facts
+            → LeavesEither D.disk D.moment D.left_since self.old.centre before (with_facts before facts) disks.old disks.new }
         ensures same { self.new ≡ record self.old { log = self.new.log } }
     {
         if payloads.is_empty() {
@@ -133,9 +137,13 @@ impl Site {
     ) -> Result<(), ServeFault>
         requires config { IsConfig config.now }
         requires served { IsServed (outside D.disk D.may_leave L.calls L.lost L.faults O.held O.faults) config.now.cluster disks.old self.old }
-        ensures { (site : ASite) → HoldsSite (outside D.disk D.may_leave L.calls L.lost L.faults O.held O.faults) config.now.cluster disks.old self.old site
+        ensures goes { (site : ASite) → HoldsSite (outside D.disk D.may_leave L.calls L.lost L.faults O.held O.faults) config.now.cluster disks.old self.old site
             → Goes (outside D.disk D.may_leave L.calls L.lost L.faults O.held O.faults) config.now.cluster site (persist_then_send config.now site) result
             (place disks.old self.old link.old out.old) (place disks.new self.new link.new out.new) }
+
+        // A crash at any moment of it leaves a log without the pending facts, or with all of them.
+        ensures any_moment { (site : ASite) → HoldsSite (outside D.disk D.may_leave L.calls L.lost L.faults O.held O.faults) config.now.cluster disks.old self.old site
+            → LeavesEither D.disk D.moment D.left_since site.centre site.logged (persist_then_send config.now site).site.logged disks.old disks.new }
     {
         let pending = self.take_pending(alloc);
         self.log_all(disks, pending.payloads.as_slice())?;

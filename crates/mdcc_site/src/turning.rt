@@ -6,6 +6,7 @@ ghost use Rattle.mdcc_option.specs.declared.cluster.Cluster.{Cluster as ACluster
 ghost use Rattle.mdcc_runs.specs.Sites.{Pending as APending, Site as ASite};
 ghost use Rattle.mdcc_runs.specs.Turns.{Given, is_full, released, turn_of};
 ghost use Rattle.mdcc_outbox.specs.Shows.{counted};
+ghost use Rattle.mdcc_site.specs.AnyMoment.{LeavesEither};
 ghost use Rattle.mdcc_site.specs.Moments.{outside};
 ghost use Rattle.mdcc_site.specs.PendingBytes.{pending_bytes};
 ghost use Rattle.mdcc_site.specs.SiteState.{Becomes, Goes, HoldsSite, IsServed, IsSite, place};
@@ -97,6 +98,8 @@ impl Site {
         ensures goes { (site : ASite) → HoldsSite (outside D.disk D.may_leave L.calls L.lost L.faults O.held O.faults) config.now.cluster disks.old self.old site
             → Goes (outside D.disk D.may_leave L.calls L.lost L.faults O.held O.faults) config.now.cluster site (released config.now held site) result
             (place disks.old self.old link.old out.old) (place disks.new self.new link.new out.new) }
+        ensures any_moment { (site : ASite) → HoldsSite (outside D.disk D.may_leave L.calls L.lost L.faults O.held O.faults) config.now.cluster disks.old self.old site
+            → LeavesEither D.disk D.moment D.left_since site.centre site.logged (released config.now held site).site.logged disks.old disks.new }
         ensures untouched { held ≡ true → link.new ≡ link.old }
     {
         if held {
@@ -108,7 +111,8 @@ impl Site {
     /// One turn: it receives at both endpoints, and where neither gave anything time passes. What came at the own one is taken before
     /// it receives at its client's. Then what is pending goes out, unless what came made a step, less than 64 facts and messages are
     /// pending, and a datagram waits at one of the endpoints: so many facts become durable together. Where nothing came, or what came
-    /// made no step, nothing is held back; nor is it where the link knows that nothing waits.
+    /// made no step, nothing is held back; nor is it where the link knows that nothing waits. A crash at any moment of the turn leaves
+    /// the log from before it, or that from after it.
     pub fn turn<D: Disks, L: Link, O: Sink>(
         &mut self,
         alloc: Global,
@@ -122,7 +126,8 @@ impl Site {
         requires served { IsServed (outside D.disk D.may_leave L.calls L.lost L.faults O.held O.faults) config.now.cluster disks.old self.old }
         ensures { (site : ASite) → HoldsSite (outside D.disk D.may_leave L.calls L.lost L.faults O.held O.faults) config.now.cluster disks.old self.old site
             → (given : Given) × Goes (outside D.disk D.may_leave L.calls L.lost L.faults O.held O.faults) config.now.cluster site (turn_of config.now site given) result
-            (place disks.old self.old link.old out.old) (place disks.new self.new link.new out.new) × MayWait (L.waiting link.new) site.centre given.waits }
+            (place disks.old self.old link.old out.old) (place disks.new self.new link.new out.new) × MayWait (L.waiting link.new) site.centre given.waits
+            × LeavesEither D.disk D.moment D.left_since site.centre site.logged (turn_of config.now site given).site.logged disks.old disks.new }
     {
         let steps = self.steps;
         let own = self.receive_own(alloc, link, datagram)?;

@@ -17,7 +17,7 @@ returns g c one site at holds =
     let w = outside g.D.Disks.disk g.D.Disks.may_leave g.L.Link.calls g.L.Link.lost g.L.Link.faults g.O.Sink.held g.O.Sink.faults in
     let config = c.args.config.now in
     let is = at c.index-sites-index.result in
-    let went = c.persist_then_send.ensures site (subst (λ (held : TheSite). HoldsSite w config.cluster c.args.disks.now held site) (sym is) holds) in
+    let went = c.persist_then_send.ensures.goes site (subst (λ (held : TheSite). HoldsSite w config.cluster c.args.disks.now held site) (sym is) holds) in
     record {
       next = c.persist_then_send.new.self;
       held = refl;

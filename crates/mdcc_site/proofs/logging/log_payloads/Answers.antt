@@ -3,7 +3,7 @@ use Rattle.mdcc_log_file.specs.declared.fault.LogFault.{LogFault}
 use Rattle.mdcc_log.specs.AtRest.{IsAtRest}
 use Rattle.mdcc_log.specs.Groups.{AreFull, ReadsAsAllOrNone}
 use Rattle.mdcc_log.specs.Crash.{payloads_by}
-use Rattle.mdcc_site.proofs.Logged.{append_fails, appended_stands, payloads_short, same_fault, settled_there, some_facts, spare_there}
+use Rattle.mdcc_site.proofs.Logged.{append_fails, appended_stands, either_left, payloads_short, same_fault, settled_there, some_facts, spare_there}
 use Rattle.mdcc_site.proofs.logging.log_payloads.Goals as goal
 
 -- the area, as its number is told
@@ -24,8 +24,8 @@ pub append_all-requires-clause-spare : goal.append_all-requires-clause-spare
 append_all-requires-clause-spare g c told =
     spare_there g.D.Disks.disk g.D.Disks.may_leave c.current_is_read.ensures c.args.disks.now c.args.log.now c.args.centre c.requires.stands.0 c.requires.stands.1 (range-of c.area-area.ensures.value c.area-area.ensures.range) told
 
-pub returns-in-Ok : goal.returns-in-Ok
-returns-in-Ok g c before facts stands are =
+pub returns-in-Ok-clause-logs : goal.returns-in-Ok-clause-logs
+returns-in-Ok-clause-logs g c before facts stands are =
     appended_stands g.D.Disks.disk g.D.Disks.may_leave c.current_is_read.ensures g.D.Disks.moment g.D.Disks.left_since c.args.disks.now c.append_all.new.disks
     c.args.log.now c.args.centre (range-of c.area-area.ensures.value c.area-area.ensures.range) stands.of c.append_all.ensures.others c.append_all.new.self before facts
     stands
@@ -33,8 +33,8 @@ returns-in-Ok g c before facts stands are =
     (c.in-Ok.ensures.acknowledged all told told_other rest))
     c.in-Ok.ensures.few c.append_all.ensures.keeps
 
-pub returns-in-Err : goal.returns-in-Err
-returns-in-Err g c before facts stands are =
+pub returns-in-Err-clause-logs : goal.returns-in-Err-clause-logs
+returns-in-Err-clause-logs g c before facts stands are =
     same_fault g.D.Disks.disk g.D.Disks.may_leave c.args.centre before facts _ _ c.args.disks.now c.append_all.new.disks c.log_fault.ensures
     (append_fails g.D.Disks.disk g.D.Disks.may_leave c.current_is_read.ensures g.D.Disks.moment g.D.Disks.left_since c.args.disks.now c.append_all.new.disks
     c.args.log.now c.args.centre (range-of c.area-area.ensures.value c.area-area.ensures.range) stands.of c.append_all.ensures.others c.in-Err.fault before facts
@@ -46,3 +46,19 @@ returns-in-Err g c before facts stands are =
     (λ is. c.in-Err.ensures.full_keeps (err-of is))
     (λ n is. c.in-Err.ensures.a_log n (err-of is)) (λ is. c.in-Err.ensures.memory_keeps (err-of is))
     (λ is. subst (λ (ps : List (List ℕ)). AreFull c.args.log.now ps) are (c.in-Err.ensures.full (err-of is))))
+
+pub returns-in-Ok-clause-any_moment : goal.returns-in-Ok-clause-any_moment
+returns-in-Ok-clause-any_moment g c before facts stands are =
+    either_left g.D.Disks.disk g.D.Disks.may_leave c.current_is_read.ensures g.D.Disks.moment g.D.Disks.left_since c.args.disks.now c.append_all.new.disks
+    c.args.log.now c.args.centre (range-of c.area-area.ensures.value c.area-area.ensures.range) stands.of c.append_all.ensures.others before facts stands
+    (λ all current spare told told_other rest left left_other.
+    subst (λ (ps : List (List ℕ)). ReadsAsAllOrNone all ps (payloads_by c.args.log.now.area current spare)) are
+    (c.append_all.ensures.any_moment_reads all current spare told told_other rest left left_other))
+
+pub returns-in-Err-clause-any_moment : goal.returns-in-Err-clause-any_moment
+returns-in-Err-clause-any_moment g c before facts stands are =
+    either_left g.D.Disks.disk g.D.Disks.may_leave c.current_is_read.ensures g.D.Disks.moment g.D.Disks.left_since c.args.disks.now c.append_all.new.disks
+    c.args.log.now c.args.centre (range-of c.area-area.ensures.value c.area-area.ensures.range) stands.of c.append_all.ensures.others before facts stands
+    (λ all current spare told told_other rest left left_other.
+    subst (λ (ps : List (List ℕ)). ReadsAsAllOrNone all ps (payloads_by c.args.log.now.area current spare)) are
+    (c.append_all.ensures.any_moment_reads all current spare told told_other rest left left_other))

@@ -3,7 +3,7 @@ use Rattle.std.proofs.lemmas.Result.{err_from_is_err_and}
 use Rattle.mdcc_runs.specs.Acts.{Act}
 use Rattle.mdcc_runs.specs.Sending.{heard_printed, messages_sent, persist_then_send, persisted}
 use Rattle.mdcc_site.proofs.Parts.{heard_lines, heard_still, printed_goes, printed_stops}
-use Rattle.mdcc_site.proofs.Persisting.{log_broken, log_done, log_there, part_sent, part_unsent, pending_go, persist_goes, persist_unlogged, persist_unsent, persist_untold}
+use Rattle.mdcc_site.proofs.Persisting.{log_broken, log_done, log_there, logged_either, part_sent, part_unsent, pending_go, persist_goes, persist_unlogged, persist_unsent, persist_untold}
 use Rattle.mdcc_site.proofs.Sent.{messages_only}
 use Rattle.mdcc_site.specs.Moments.{outside}
 use Rattle.mdcc_site.specs.Printing.{PrintsFront}
@@ -29,8 +29,8 @@ send_all-requires-clause-few g c =
     pending_go c.args.self.now c.requires.served.site c.as_slice-2.result.now c.requires.served.stands.itself.waits
     (c.as_slice-2.ensures ∙ ap (λ (p : PendingBytes). p.messages) c.take_pending-pending.ensures.taken)
 
-pub returns-in_err-log_all : goal.returns-in_err-log_all
-returns-in_err-log_all g c site stands =
+pub returns-in_err-log_all-clause-goes : goal.returns-in_err-log_all-clause-goes
+returns-in_err-log_all-clause-goes g c site stands =
     let w = (outside g.D.Disks.disk g.D.Disks.may_leave g.L.Link.calls g.L.Link.lost g.L.Link.faults g.O.Sink.held g.O.Sink.faults) in
     let cluster = c.args.config.now.cluster in
     let config = c.args.config.now in
@@ -48,8 +48,8 @@ returns-in_err-log_all g c site stands =
     (log_broken w cluster site disks held emptied stands empties c.log_all.new.disks c.log_all.new.self link out c.log_all.ensures.same _
     (c.in_err-log_all.ensures.logs site.logged site.pending.facts (log_there w cluster site disks held emptied stands empties) facts_are)))
 
-pub returns-in_err-send_all : goal.returns-in_err-send_all
-returns-in_err-send_all g c site stands =
+pub returns-in_err-send_all-clause-goes : goal.returns-in_err-send_all-clause-goes
+returns-in_err-send_all-clause-goes g c site stands =
     let w = (outside g.D.Disks.disk g.D.Disks.may_leave g.L.Link.calls g.L.Link.lost g.L.Link.faults g.O.Sink.held g.O.Sink.faults) in
     let cluster = c.args.config.now.cluster in
     let config = c.args.config.now in
@@ -70,8 +70,8 @@ returns-in_err-send_all g c site stands =
     (part_unsent w cluster config c.log_all.new.disks c.log_all.new.self c.send_all.new.self (persisted site) link c.send_all.new.link out site.pending.envelopes c.send_all.ensures.same
     _ logged.stands (c.in_err-send_all.ensures.sent _ site.pending.envelopes logged.stands.itself.sender sends_are)))
 
-pub returns-in_err-print_heard : goal.returns-in_err-print_heard
-returns-in_err-print_heard g c site stands =
+pub returns-in_err-print_heard-clause-goes : goal.returns-in_err-print_heard-clause-goes
+returns-in_err-print_heard-clause-goes g c site stands =
     let w = (outside g.D.Disks.disk g.D.Disks.may_leave g.L.Link.calls g.L.Link.lost g.L.Link.faults g.O.Sink.held g.O.Sink.faults) in
     let cluster = c.args.config.now.cluster in
     let config = c.args.config.now in
@@ -100,8 +100,8 @@ returns-in_err-print_heard g c site stands =
     (heard_lines site.centre site.pending.heard) all_sent.stands.log.open_log.left
     (subst (λ (acts : List Act). PrintsFront g.O.Sink.held g.O.Sink.faults acts c.in_err-print_heard.field-0.0 out c.print_heard.new.out) lines_are c.in_err-print_heard.ensures)))
 
-pub returns : goal.returns
-returns g c site stands =
+pub returns-clause-goes : goal.returns-clause-goes
+returns-clause-goes g c site stands =
     let w = (outside g.D.Disks.disk g.D.Disks.may_leave g.L.Link.calls g.L.Link.lost g.L.Link.faults g.O.Sink.held g.O.Sink.faults) in
     let cluster = c.args.config.now.cluster in
     let config = c.args.config.now in
@@ -126,3 +126,43 @@ returns g c site stands =
     (printed_goes w cluster last c.log_all.new.disks c.send_all.new.self c.send_all.new.link out c.print_heard.new.out (heard_printed site.centre site.pending.heard)
     (heard_still site.centre site.pending.heard) all_sent.stands
     (subst (λ (acts : List Act). PrintsAll g.O.Sink.held g.O.Sink.faults acts out c.print_heard.new.out) lines_are c.in_ok-print_heard.ensures))
+
+pub returns-in_err-log_all-clause-any_moment : goal.returns-in_err-log_all-clause-any_moment
+returns-in_err-log_all-clause-any_moment g c site stands =
+    let w = (outside g.D.Disks.disk g.D.Disks.may_leave g.L.Link.calls g.L.Link.lost g.L.Link.faults g.O.Sink.held g.O.Sink.faults) in
+    let cluster = c.args.config.now.cluster in
+    let emptied = c.take_pending-pending.new.self in
+    let empties = c.take_pending-pending.ensures.same in
+    let facts_are = c.as_slice.ensures ∙ (ap (λ (p : PendingBytes). p.payloads) c.take_pending-pending.ensures.taken ∙ ap (λ (p : PendingBytes). p.payloads) stands.itself.waits.pending) in
+    logged_either w cluster site c.args.disks.now c.args.self.now emptied stands empties c.args.config.now g.D.Disks.moment g.D.Disks.left_since c.log_all.new.disks
+    (c.log_all.ensures.any_moment site.logged site.pending.facts (log_there w cluster site c.args.disks.now c.args.self.now emptied stands empties) facts_are)
+
+pub returns-in_err-send_all-clause-any_moment : goal.returns-in_err-send_all-clause-any_moment
+returns-in_err-send_all-clause-any_moment g c site stands =
+    let w = (outside g.D.Disks.disk g.D.Disks.may_leave g.L.Link.calls g.L.Link.lost g.L.Link.faults g.O.Sink.held g.O.Sink.faults) in
+    let cluster = c.args.config.now.cluster in
+    let emptied = c.take_pending-pending.new.self in
+    let empties = c.take_pending-pending.ensures.same in
+    let facts_are = c.as_slice.ensures ∙ (ap (λ (p : PendingBytes). p.payloads) c.take_pending-pending.ensures.taken ∙ ap (λ (p : PendingBytes). p.payloads) stands.itself.waits.pending) in
+    logged_either w cluster site c.args.disks.now c.args.self.now emptied stands empties c.args.config.now g.D.Disks.moment g.D.Disks.left_since c.log_all.new.disks
+    (c.log_all.ensures.any_moment site.logged site.pending.facts (log_there w cluster site c.args.disks.now c.args.self.now emptied stands empties) facts_are)
+
+pub returns-in_err-print_heard-clause-any_moment : goal.returns-in_err-print_heard-clause-any_moment
+returns-in_err-print_heard-clause-any_moment g c site stands =
+    let w = (outside g.D.Disks.disk g.D.Disks.may_leave g.L.Link.calls g.L.Link.lost g.L.Link.faults g.O.Sink.held g.O.Sink.faults) in
+    let cluster = c.args.config.now.cluster in
+    let emptied = c.take_pending-pending.new.self in
+    let empties = c.take_pending-pending.ensures.same in
+    let facts_are = c.as_slice.ensures ∙ (ap (λ (p : PendingBytes). p.payloads) c.take_pending-pending.ensures.taken ∙ ap (λ (p : PendingBytes). p.payloads) stands.itself.waits.pending) in
+    logged_either w cluster site c.args.disks.now c.args.self.now emptied stands empties c.args.config.now g.D.Disks.moment g.D.Disks.left_since c.log_all.new.disks
+    (c.log_all.ensures.any_moment site.logged site.pending.facts (log_there w cluster site c.args.disks.now c.args.self.now emptied stands empties) facts_are)
+
+pub returns-clause-any_moment : goal.returns-clause-any_moment
+returns-clause-any_moment g c site stands =
+    let w = (outside g.D.Disks.disk g.D.Disks.may_leave g.L.Link.calls g.L.Link.lost g.L.Link.faults g.O.Sink.held g.O.Sink.faults) in
+    let cluster = c.args.config.now.cluster in
+    let emptied = c.take_pending-pending.new.self in
+    let empties = c.take_pending-pending.ensures.same in
+    let facts_are = c.as_slice.ensures ∙ (ap (λ (p : PendingBytes). p.payloads) c.take_pending-pending.ensures.taken ∙ ap (λ (p : PendingBytes). p.payloads) stands.itself.waits.pending) in
+    logged_either w cluster site c.args.disks.now c.args.self.now emptied stands empties c.args.config.now g.D.Disks.moment g.D.Disks.left_since c.log_all.new.disks
+    (c.log_all.ensures.any_moment site.logged site.pending.facts (log_there w cluster site c.args.disks.now c.args.self.now emptied stands empties) facts_are)

@@ -1,6 +1,8 @@
 use Rattle.std.proofs.Common.{Bool, subst, sym}
 use Rattle.mdcc_runs.specs.Turns.{released}
+use Rattle.mdcc_site.proofs.Logged.{either_same}
 use Rattle.mdcc_site.proofs.Turned.{idle_goes}
+use Rattle.mdcc_site.specs.AnyMoment.{LeavesEither}
 use Rattle.mdcc_site.specs.Moments.{outside}
 use Rattle.mdcc_site.specs.SiteState.{Finishes, Goes, place}
 use Rattle.mdcc_site.proofs.site.Site.release.Goals as goal
@@ -19,4 +21,13 @@ returns-clause-goes g c site stands =
     let config = c.args.config.now in
     subst (λ (held : Bool). Goes w config.cluster site (released config held site) c.persist_then_send.result (place c.args.disks.now c.args.self.now c.args.link.now c.args.out.now)
     (place c.persist_then_send.new.disks c.persist_then_send.new.self c.persist_then_send.new.link c.persist_then_send.new.out))
-    (sym c.if-held.false) (c.persist_then_send.ensures site stands)
+    (sym c.if-held.false) (c.persist_then_send.ensures.goes site stands)
+
+pub returns-then-held-clause-any_moment : goal.returns-then-held-clause-any_moment
+returns-then-held-clause-any_moment g c site stands =
+    either_same g.D.Disks.disk g.D.Disks.may_leave g.D.Disks.moment g.D.Disks.left_since g.met.D.Disks.only_now c.args.disks.now c.args.self.now.log site.centre site.logged (released c.args.config.now c.args.held site).site.logged stands.log.open_log
+
+pub returns-clause-any_moment : goal.returns-clause-any_moment
+returns-clause-any_moment g c site stands =
+    subst (λ (held : Bool). LeavesEither g.D.Disks.disk g.D.Disks.moment g.D.Disks.left_since site.centre site.logged (released c.args.config.now held site).site.logged c.args.disks.now c.persist_then_send.new.disks)
+    (sym c.if-held.false) (c.persist_then_send.ensures.any_moment site stands)

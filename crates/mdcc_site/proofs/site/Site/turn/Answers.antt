@@ -3,12 +3,14 @@ use Rattle.std.specs.Prelude.{◌&&◌}
 use Rattle.std.proofs.lemmas.Result.{err_from_is_err_and}
 use Rattle.mdcc_runs.specs.Sites.{Doing}
 use Rattle.mdcc_runs.specs.Turns.{Given, asked_received, asked_taken, inputs_taken, own_received, own_taken, released, ticked, turn_of}
+use Rattle.mdcc_site.proofs.Logged.{either_from, either_same}
 use Rattle.mdcc_site.proofs.Owns.{inputs_own}
 use Rattle.mdcc_site.proofs.Receives.{becomes_goes, receives_goes}
 use Rattle.mdcc_site.proofs.Turned.{held_is, inputs_go, none_waits, ticked_by, turn_goes, turn_unasked, turn_unreceived, turn_unticked}
+use Rattle.mdcc_site.specs.AnyMoment.{LeavesEither}
 use Rattle.mdcc_site.specs.Moments.{outside}
 use Rattle.mdcc_site.specs.Silence.{ticked_if}
-use Rattle.mdcc_site.specs.SiteState.{Goes, place}
+use Rattle.mdcc_site.specs.SiteState.{Goes, OpenLog, place}
 use Rattle.mdcc_site.specs.Waiting.{knows_none}
 use Rattle.mdcc_site.specs.declared.fault.ServeFault.{ServeFault}
 use Rattle.mdcc_site.proofs.site.Site.turn.Goals as goal
@@ -80,7 +82,7 @@ returns-in_err-own g c site stands =
     let given : Given = record { own = x.0; asked = None; waits = false } in
     let p = err_from_is_err_and c.from_residual.result c.from_residual.ensures.1 in
     let e : c.from_residual.result ≡ Err c.in_err-own.field-0.0 = cc (p.1, p.2) in
-    (given, subst (λ (r : Result (Unit {0}) ServeFault). Goes w cluster site (turn_of config site given) r (place disks c.args.self.now c.args.link.now out) (place disks c.receive_own.new.self c.receive_own.new.link out)) (sym e) (turn_unreceived w cluster config site whole given x.1), none_waits (g.L.Link.waiting c.receive_own.new.link) site.centre)
+    (given, subst (λ (r : Result (Unit {0}) ServeFault). Goes w cluster site (turn_of config site given) r (place disks c.args.self.now c.args.link.now out) (place disks c.receive_own.new.self c.receive_own.new.link out)) (sym e) (turn_unreceived w cluster config site whole given x.1), none_waits (g.L.Link.waiting c.receive_own.new.link) site.centre, either_same g.D.Disks.disk g.D.Disks.may_leave g.D.Disks.moment g.D.Disks.left_since g.met.D.Disks.only_now disks c.args.self.now.log site.centre site.logged (turn_of config site given).site.logged stands.log.open_log)
 
 pub returns-in_err-asked : goal.returns-in_err-asked
 returns-in_err-asked g c site stands =
@@ -97,7 +99,7 @@ returns-in_err-asked g c site stands =
     let given : Given = record { own = x.0; asked = y.0; waits = false } in
     let p = err_from_is_err_and c.from_residual-in_err-asked.result c.from_residual-in_err-asked.ensures.1 in
     let e : c.from_residual-in_err-asked.result ≡ Err c.in_err-asked.field-0.0 = cc (p.1, p.2) in
-    (given, subst (λ (r : Result (Unit {0}) ServeFault). Goes w cluster site (turn_of config site given) r (place disks c.args.self.now c.args.link.now out) (place disks c.receive_asked.new.self c.receive_asked.new.link out)) (sym e) (turn_unasked w cluster config site whole given x.1 y.1), none_waits (g.L.Link.waiting c.receive_asked.new.link) site.centre)
+    (given, subst (λ (r : Result (Unit {0}) ServeFault). Goes w cluster site (turn_of config site given) r (place disks c.args.self.now c.args.link.now out) (place disks c.receive_asked.new.self c.receive_asked.new.link out)) (sym e) (turn_unasked w cluster config site whole given x.1 y.1), none_waits (g.L.Link.waiting c.receive_asked.new.link) site.centre, either_same g.D.Disks.disk g.D.Disks.may_leave g.D.Disks.moment g.D.Disks.left_since g.met.D.Disks.only_now disks c.args.self.now.log site.centre site.logged (turn_of config site given).site.logged stands.log.open_log)
 
 pub returns-in_err-tick_if : goal.returns-in_err-tick_if
 returns-in_err-tick_if g c site stands =
@@ -122,6 +124,7 @@ returns-in_err-tick_if g c site stands =
       subst (λ (r : Result (Unit {0}) ServeFault). Goes w cluster site (turn_of config site given) r (place disks c.args.self.now c.args.link.now out) (place disks c.tick_if.new.self c.receive_asked.new.link out)) (sym e)
           (turn_unticked w cluster config site whole given (inputs_go w cluster config site whole given {T = Unit {0}} _ (Err c.in_err-tick_if.field-0.0) x.1 y.1 z)),
       none_waits (g.L.Link.waiting c.receive_asked.new.link) site.centre,
+      either_same g.D.Disks.disk g.D.Disks.may_leave g.D.Disks.moment g.D.Disks.left_since g.met.D.Disks.only_now disks c.args.self.now.log site.centre site.logged (turn_of config site given).site.logged stands.log.open_log,
     )
 
 pub returns : goal.returns
@@ -146,7 +149,8 @@ returns g c site stands =
     let held = held_is w cluster site given inputs c.in_ok-own.own c.in_ok-asked.asked c.is_silent-silent.result c.made_step-made_step.result
     (place disks c.args.self.now c.args.link.now out) (place disks c.tick_if.new.self c.receive_asked.new.link out) x.2 y.2 c.is_silent-silent.ensures c.made_step-made_step.ensures taken
     c.is_held-held.ensures.made_step (c.is_held-held.ensures.few inputs.site.pending z.stands.itself.waits.pending) in
-    let centre : c.tick_if.new.self.centre ≡ site.centre = z.stands.itself.centre ∙ (inputs_own config site given).centre in (
+    let own = (inputs_own config site given).centre in
+    let centre : c.tick_if.new.self.centre ≡ site.centre = z.stands.itself.centre ∙ own in (
       given,
       turn_goes w cluster config site whole given (place c.release.new.disks c.release.new.self c.release.new.link c.release.new.out) c.release.result taken
           (subst (λ (b : Bool). Goes w cluster inputs.site (released config b inputs.site) c.release.result (place disks c.tick_if.new.self c.receive_asked.new.link out)
@@ -154,4 +158,10 @@ returns g c site stands =
       λ waits. subst (λ (n : ℕ). (knows_none (g.L.Link.waiting c.release.new.link n) && knows_none (g.L.Link.waiting c.release.new.link (n + 16))) ≡ false) centre
           (subst (λ link. (knows_none (g.L.Link.waiting link c.tick_if.new.self.centre) && knows_none (g.L.Link.waiting link (c.tick_if.new.self.centre + 16))) ≡ false)
           (sym (c.release.ensures.untouched waits)) (c.is_held-held.ensures.waits waits)),
+      either_from g.D.Disks.disk g.D.Disks.may_leave g.D.Disks.moment g.D.Disks.left_since disks c.release.new.disks c.args.self.now.log c.tick_if.new.self.log site.centre site.logged inputs.site.logged
+          (turn_of config site given).site.logged (g.met.D.Disks.as_read disks) stands.log.open_log
+          (subst (λ (n : ℕ). OpenLog g.D.Disks.disk g.D.Disks.may_leave disks c.tick_if.new.self.log n inputs.site.logged) own z.stands.log.open_log)
+          (subst (λ (n : ℕ). LeavesEither g.D.Disks.disk g.D.Disks.moment g.D.Disks.left_since n inputs.site.logged (turn_of config site given).site.logged disks c.release.new.disks) own
+          (subst (λ (b : Bool). LeavesEither g.D.Disks.disk g.D.Disks.moment g.D.Disks.left_since inputs.site.centre inputs.site.logged (released config b inputs.site).site.logged disks c.release.new.disks) (sym held)
+          (c.release.ensures.any_moment inputs.site z.stands))),
     )
