@@ -1,6 +1,6 @@
 -- Several centres that are served, in ascending order.
 use Rattle.std.specs.List.{AllByRecursion}
-use Rattle.std.specs.Prelude.{Err, IsTrue, List, Ok, Result, [], length, slice_index_or, slice_set, ⊤, ℕ, ◌++◌, ◌<◌, ◌∷◌, ◌≡◌, ◌≤◌}
+use Rattle.std.specs.Prelude.{Bool, Err, IsTrue, List, Ok, Option, Result, [], length, slice_index_or, slice_set, ⊤, ℕ, ◌++◌, ◌<◌, ◌∷◌, ◌≡◌, ◌≤◌}
 use Rattle.mdcc_base.specs.Counts.{sum_over}
 use Rattle.mdcc_config.specs.declared.config.Config.{Config}
 use Rattle.mdcc_option.specs.declared.cluster.Cluster.{Cluster}
@@ -15,6 +15,7 @@ use Rattle.mdcc_site.specs.Causes.{IsNoBoot, in_flight}
 use Rattle.mdcc_site.specs.Logs.{MayHaveFacts, facts_after}
 use Rattle.mdcc_site.specs.Moments.{Broke, Did, Moment, Outside}
 use Rattle.mdcc_site.specs.SiteState.{Goes, HoldsSite, IsServed, OnSerial, place}
+use Rattle.mdcc_site.specs.Waiting.{MayWait}
 use Rattle.mdcc_site.specs.declared.fault.ServeFault.{ServeFault}
 use Rattle.mdcc_site.specs.declared.site.Site.{Site as TheSite}
 
@@ -135,12 +136,13 @@ module _ {D L O : Type 0} (w : Outside D L O) where
     pub is : (d : TheSite) → slice_index_or held index d ≡ one
     pub served : IsServed w cluster disks one
 
-  -- it had its turn, and is held there afterwards
-  pub record TurnsAt (config : Config) (one : TheSite) (site : Site) (index : ℕ) (result : Result (Unit {0}) ServeFault) (old new : Places D L O) : Type 0 where
+  -- It had its turn, and is held there afterwards; more was said to wait only where the link, as it is now, may have something for it.
+  pub record TurnsAt (waiting : L → ℕ → Option Bool) (config : Config) (one : TheSite) (site : Site) (index : ℕ) (result : Result (Unit {0}) ServeFault) (old new : Places D L O) : Type 0 where
     pub given : Given
     pub next : TheSite
     pub held : new.held ≡ slice_set old.held index next
     pub goes : Goes w config.cluster site (turn_of config site given) result (place old.disks one old.link old.out) (place new.disks next new.link new.out)
+    pub waits : MayWait (waiting new.link) site.centre given.waits
 
   -- what was pending there went out, and it is held there afterwards
   pub record PersistsAt (config : Config) (one : TheSite) (site : Site) (index : ℕ) (result : Result (Unit {0}) ServeFault) (old new : Places D L O) : Type 0 where

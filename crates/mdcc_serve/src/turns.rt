@@ -31,7 +31,7 @@ fn turn_at<D: Disks, L: Link, O: Sink>(
     requires served { IsServedAt (outside D.disk D.may_leave L.calls L.lost L.faults O.held O.faults) config.now.cluster disks.old sites.old index }
     ensures { (one : HeldSite) (site : ASite) → ((d : HeldSite) → slice_index_or sites.old index d ≡ one)
         → HoldsSite (outside D.disk D.may_leave L.calls L.lost L.faults O.held O.faults) config.now.cluster disks.old one site
-        → TurnsAt (outside D.disk D.may_leave L.calls L.lost L.faults O.held O.faults) config.now one site index result
+        → TurnsAt (outside D.disk D.may_leave L.calls L.lost L.faults O.held O.faults) L.waiting config.now one site index result
         (places disks.old sites.old link.old out.old) (places disks.new sites.new link.new out.new) }
 {
     sites[index].turn(alloc, config, disks, link, out, datagram)

@@ -23,4 +23,5 @@ returns g c one site at holds =
       next = c.turn.new.self;
       held = refl;
       goes = subst (λ (held : TheSite). Goes w config.cluster site (turn_of config site turn.0) c.turn.result (place c.args.disks.now held c.args.link.now c.args.out.now) (place c.turn.new.disks c.turn.new.self c.turn.new.link c.turn.new.out)) is turn.1;
+      waits = turn.2;
     }
