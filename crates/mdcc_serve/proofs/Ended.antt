@@ -14,7 +14,7 @@ use Rattle.mdcc_messages.specs.Spelling.{encodings_of}
 use Rattle.mdcc_messages.specs.declared.facts.Fact.{Fact}
 use Rattle.mdcc_option.specs.declared.cluster.Cluster.{Cluster}
 use Rattle.mdcc_outbox.proofs.Recorded.{answers_append, none_recorded}
-use Rattle.mdcc_outbox.specs.Shows.{Records, calls_of, counted}
+use Rattle.mdcc_outbox.specs.Shows.{Records, counted}
 use Rattle.mdcc_centre.proofs.Places.{from_both}
 use Rattle.mdcc_centre.proofs.Struck.{rest_areas}
 use Rattle.mdcc_rules.specs.Boot.{next_boot}

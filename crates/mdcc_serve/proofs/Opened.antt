@@ -1,5 +1,5 @@
 -- The log of a centre before its start, and where nothing was done.
-use Rattle.std.proofs.Common.{◌≡◌, ℕ, ◌+◌, ◌≤◌, List, [], Result, Ok, Err, refl, sym, ◌∙◌, ap, subst, inl, inr, arith, IsTrue}
+use Rattle.std.proofs.Common.{◌≡◌, ℕ, ◌+◌, ◌≤◌, List, [], Result, Ok, refl, sym, ◌∙◌, ap, subst, inl, inr, arith, IsTrue}
 use Rattle.std.proofs.lemmas.Bool.{cases_eq}
 use Rattle.mdcc_log.specs.Area.{payloads}
 use Rattle.mdcc_log.specs.Both.{KeepsBut}
@@ -9,7 +9,7 @@ use Rattle.mdcc_messages.specs.Spelling.{encodings_of}
 use Rattle.mdcc_messages.specs.declared.facts.Fact.{Fact}
 use Rattle.mdcc_option.specs.declared.cluster.Cluster.{Cluster}
 use Rattle.mdcc_runs.specs.Servers.{Log}
-use Rattle.mdcc_serve.specs.Serving.{IsDurable, IsLogOf}
+use Rattle.mdcc_serve.specs.Serving.{IsDurable}
 use Rattle.mdcc_serve.specs.Starts.{FailsToStart}
 use Rattle.mdcc_serve.specs.Stays.{LogStays, MayHaveBoot}
 use Rattle.mdcc_site.proofs.Logged.{disks_same, others_same}

@@ -1,5 +1,5 @@
 -- What stays of the disks of centres that are not served.
-use Rattle.std.proofs.Common.{◌≡◌, ℕ, ◌+◌, ◌≤◌, ◌<◌, List, [], ◌∷◌, ◌++◌, length, refl, ◌∙◌, subst, arith}
+use Rattle.std.proofs.Common.{◌≡◌, ℕ, ◌+◌, ◌≤◌, List, [], ◌∷◌, ◌++◌, length, refl, ◌∙◌, subst, arith}
 use Rattle.mdcc_disks.specs.Disks.{Disk}
 use Rattle.mdcc_runs.specs.Servers.{Log, starts}
 use Rattle.mdcc_runs.specs.Sites.{Site}

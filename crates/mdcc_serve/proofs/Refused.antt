@@ -1,8 +1,6 @@
 -- What a fault of a server says of the logs that it opens.
-use Rattle.std.proofs.Common.{◌≡◌, ℕ, ◌+◌, ◌≤◌, List, [], ◌∷◌, Option, Result, Ok, Err, IsTrue, map, length, refl, sym, ◌∙◌, ap, subst, inl, inr, arith, ◌⊎◌}
+use Rattle.std.proofs.Common.{◌≡◌, ℕ, ◌+◌, ◌≤◌, List, [], ◌∷◌, Option, Result, Ok, Err, IsTrue, map, length, sym, ◌∙◌, ap, subst, inl, inr, arith, ◌⊎◌}
 use Rattle.std.proofs.lemmas.Bool.{cases_eq}
-use Rattle.std.specs.Bool.{OnFalse}
-use Rattle.mdcc_admission.specs.Loading.{is_boot_memory}
 use Rattle.std.specs.Prelude.{IfErr, is_ok}
 use Rattle.mdcc_log.specs.Area.{payloads}
 use Rattle.mdcc_log_file.specs.declared.fault.LogFault.{LogFault}
@@ -20,11 +18,10 @@ use Rattle.mdcc_runs.specs.Sites.{Doing}
 use Rattle.mdcc_serve.specs.Centres.{AllStop, AllTold, Places}
 use Rattle.mdcc_serve.specs.Ends.{AllEnd}
 use Rattle.mdcc_serve.specs.Openings.{BindsSome, LinesSome}
-use Rattle.mdcc_serve.specs.Refusals.{AllBoot, AreTold, BootsAt, EndsStarted, MayFollow, MayServe, SaysAt, SaysBooting, SaysOfLogs, StartEnds}
-use Rattle.mdcc_serve.specs.Starts.{Follow, IsUntouched, boot_fault_of}
+use Rattle.mdcc_serve.specs.Refusals.{AllBoot, AreTold, BootsAt, EndsStarted, MayFollow, MayServe, SaysAt, SaysOfLogs, StartEnds}
+use Rattle.mdcc_serve.specs.Starts.{Follow, IsUntouched}
 use Rattle.mdcc_serve.specs.declared.served.Served.{Served}
 use Rattle.mdcc_site.specs.Causes.{IsNoBoot}
-use Rattle.mdcc_site.specs.LogEffects.{log_fault_of}
 use Rattle.mdcc_site.specs.Moments.{MayComeAt, Outside}
 use Rattle.mdcc_site.specs.declared.fault.ServeFault.{ServeFault}
 
@@ -37,67 +34,7 @@ node_read cluster read all is = ap (node_from cluster) is
 pub none_read : (cluster : Cluster) (read : Result (List (List ℕ)) ℕ) (n : ℕ) → read ≡ Err n → node_from cluster read ≡ Err (LogRefusal.NotALog n)
 none_read cluster read n is = ap (node_from cluster) is
 
-node_ok : (r : Result (List Fact) BootFault) → IsTrue (is_ok r) → IsTrue (is_ok (node_of r))
-node_ok (Ok facts) is = is
-node_ok (Err why) is = absurd (cc)
-
-pub boot_says : (cluster : Cluster) (centre : ℕ) (all : List (List ℕ)) (why : BootFault) → OnFalse (is_boot_memory why) (booted cluster all ≡ Err why) → SaysBooting cluster centre all (boot_fault_of centre why)
-boot_says cluster centre all BootFault.Epochs is = (refl, is)
-boot_says cluster centre all (BootFault.NotARun n) is = (refl, is)
-boot_says cluster centre all (BootFault.Room needed cells) is = (refl, is)
-boot_says cluster centre all BootFault.Memory is = tt
-
 module _ {D : Type 0} (disk : D → ℕ → Disk) (cluster : Cluster) (disks : D) where
-  -- ---- the start of one centre
-
-  -- its log is not opened
-  pub opening_says : (centre : ℕ) (fault : LogFault) → (fault ≡ LogFault.LogFull → ⊥)
-      → ((n : ℕ) → fault ≡ LogFault.NotALog n → IsTrue (disk disks centre).told → IsTrue (disk disks (centre + 16)).told → payloads (disk disks centre).bytes (disk disks (centre + 16)).bytes ≡ Err n)
-      → SaysAt disk cluster disks centre (log_fault_of centre fault)
-  opening_says centre LogFault.DiskFault full a_log = refl
-  opening_says centre LogFault.Memory full a_log = tt
-  opening_says centre LogFault.LogFull full a_log = absurd (full refl)
-  opening_says centre (LogFault.NotALog n) full a_log = λ told.
-      (refl, none_read cluster (payloads (disk disks centre).bytes (disk disks (centre + 16)).bytes) n (a_log n refl told.first told.second))
-
-  -- its node is not booted
-  pub booting_says : (centre : ℕ) (all : List (List ℕ)) (fault : ServeFault) → (IsTrue (disk disks centre).told → payloads (disk disks centre).bytes (disk disks (centre + 16)).bytes ≡ Ok all)
-      → SaysBooting cluster centre all fault → SaysAt disk cluster disks centre fault
-  booting_says centre all (ServeFault.Boot a BootFault.Memory) read says = says
-  booting_says centre all (ServeFault.Boot a BootFault.Epochs) read says =
-      (says.0, λ told. node_read cluster (payloads (disk disks centre).bytes (disk disks (centre + 16)).bytes) all (read told.first) ∙ ap node_of says.1)
-  booting_says centre all (ServeFault.Boot a (BootFault.NotARun n)) read says =
-      (says.0, λ told. node_read cluster (payloads (disk disks centre).bytes (disk disks (centre + 16)).bytes) all (read told.first) ∙ ap node_of says.1)
-  booting_says centre all (ServeFault.Boot a (BootFault.Room needed cells)) read says =
-      (says.0, λ told. node_read cluster (payloads (disk disks centre).bytes (disk disks (centre + 16)).bytes) all (read told.first) ∙ ap node_of says.1)
-  booting_says centre all ServeFault.Memory read says = tt
-  booting_says centre all (ServeFault.Disk a) read says = absurd says
-  booting_says centre all (ServeFault.Log a fault) read says = absurd says
-  booting_says centre all ServeFault.Link read says = absurd says
-  booting_says centre all ServeFault.Output read says = absurd says
-  booting_says centre all ServeFault.Serial read says = absurd says
-
-  -- it is
-  pub node_boots : (centre : ℕ) (all : List (List ℕ)) → (IsTrue (disk disks centre).told → payloads (disk disks centre).bytes (disk disks (centre + 16)).bytes ≡ Ok all)
-      → IsTrue (is_ok (booted cluster all)) → BootsAt disk cluster disks centre
-  node_boots centre all read is told =
-      subst (λ (r : Result (List Fact) LogRefusal). IsTrue (is_ok r)) (sym (node_read cluster (payloads (disk disks centre).bytes (disk disks (centre + 16)).bytes) all (read told.first)))
-      (node_ok (booted cluster all) is)
-
-  -- its boot is not logged
-  pub logging_says : (Told : Type 0) (centre : ℕ) (boot : Fact) (fault : ServeFault) → (IsTold disk disks centre → Told) → BootsAt disk cluster disks centre → MayComeAt Told fault (Act.Append centre (boot ∷ []) ∷ []) → IsNoBoot fault
-      → SaysAt disk cluster disks centre fault
-  logging_says Told centre boot (ServeFault.Disk a) known boots comes no_boot = sym comes
-  logging_says Told centre boot (ServeFault.Log a (LogFault.NotALog n)) known boots comes no_boot = λ told. absurd (comes (known told))
-  logging_says Told centre boot (ServeFault.Log a LogFault.LogFull) known boots comes no_boot = (sym comes, boots)
-  logging_says Told centre boot (ServeFault.Log a LogFault.DiskFault) known boots comes no_boot = comes
-  logging_says Told centre boot (ServeFault.Log a LogFault.Memory) known boots comes no_boot = comes
-  logging_says Told centre boot (ServeFault.Boot a why) known boots comes no_boot = absurd no_boot
-  logging_says Told centre boot ServeFault.Link known boots comes no_boot = comes
-  logging_says Told centre boot ServeFault.Output known boots comes no_boot = comes
-  logging_says Told centre boot ServeFault.Serial known boots comes no_boot = comes
-  logging_says Told centre boot ServeFault.Memory known boots comes no_boot = tt
-
   -- ---- of a log to which nothing was done yet
 
   module _ (may_leave : D → ℕ → List ℕ → Type 0) (mid : D) (a : ℕ) (un : IsUntouched disk may_leave disks mid a) where

@@ -211,10 +211,6 @@ module _ {D L O : Type 0} (w : Outside D L O) where
     abbrev pub server_then : Server
     server_then = fold (after_turn config) (begun served) run.given
 
-    -- and after one more
-    abbrev pub server_next : Server
-    server_next = after_turn config server_then turn
-
     then_is : (more : List (List Given)) → fold (after_turn config) (begun served) (run.given ++ turn ∷ more) ≡ fold (after_turn config) (after_turn config server_then turn) more
     then_is more = fold-append (after_turn config) (begun served) run.given (turn ∷ more)
 

@@ -1,5 +1,5 @@
 -- A centre that runs over its log, or why none does.
-use Rattle.std.proofs.Common.{◌≡◌, ℕ, ◌+◌, ◌++◌, ◌∷◌, ◌≤◌, ◌<◌, ◌⊎◌, [], List, IsTrue, Result, Ok, Err, refl, sym, ◌∙◌, ap, subst, inl, inr, length, arith, true}
+use Rattle.std.proofs.Common.{◌≡◌, ℕ, ◌+◌, ◌++◌, ◌∷◌, ◌<◌, [], List, IsTrue, Result, Ok, Err, refl, sym, ◌∙◌, ap, subst, inl, inr, length, arith, true}
 use Rattle.std.specs.Prelude.{is_ok}
 use Rattle.mdcc_admission.specs.Boots.{BootsWithinCells}
 use Rattle.mdcc_centre.proofs.Kept.{rest_read}

@@ -1,5 +1,5 @@
 -- Logs that stand while one centre after the other is started.
-use Rattle.std.proofs.Common.{◌≡◌, ℕ, ◌+◌, ◌≤◌, ◌<◌, ◌≢◌, List, inl, inr, subst, sym, arith, nat_lt}
+use Rattle.std.proofs.Common.{ℕ, ◌+◌, ◌≤◌, ◌≢◌, List, inl, inr, subst, sym, arith, nat_lt}
 use Rattle.std.proofs.lemmas.Bool.{cases_Bool, cases_eq, ltb-false, ltb-true}
 use Rattle.mdcc_disks.specs.Disks.{Disk}
 use Rattle.mdcc_option.specs.declared.cluster.Cluster.{Cluster}

@@ -1,5 +1,5 @@
 -- One thing after another at the disks of a centre, and the faults that come there.
-use Rattle.std.proofs.Common.{◌≡◌, ℕ, ◌+◌, List, [], ◌∷◌, sym, ◌∙◌, ap, subst, inl, inr, arith, IsTrue}
+use Rattle.std.proofs.Common.{ℕ, ◌+◌, List, ◌∙◌, inl, inr, arith}
 use Rattle.mdcc_log_file.specs.declared.fault.LogFault.{LogFault}
 use Rattle.mdcc_disks.specs.Disks.{Disk}
 use Rattle.mdcc_option.specs.declared.cluster.Cluster.{Cluster}

@@ -1,9 +1,8 @@
 -- What a server says of the logs that it opens.
-use Rattle.std.specs.Prelude.{Err, IsTrue, List, Ok, Result, is_ok, ⊤, ℕ, ◌<◌, ◌≡◌, ◌≤◌, ◌⊎◌}
+use Rattle.std.specs.Prelude.{Err, IsTrue, Ok, Result, is_ok, ⊤, ℕ, ◌<◌, ◌≡◌, ◌≤◌, ◌⊎◌}
 use Rattle.mdcc_log_file.specs.declared.fault.LogFault.{LogFault}
 use Rattle.mdcc_disks.specs.Disks.{Disk}
 use Rattle.mdcc_endings.specs.Logs.{IsTold, LogRefusal, node_at}
-use Rattle.mdcc_centre.specs.Nodes.{booted}
 use Rattle.mdcc_option.specs.declared.cluster.Cluster.{Cluster}
 use Rattle.mdcc_rules.specs.declared.node.BootFault.{BootFault}
 use Rattle.mdcc_site.specs.declared.fault.ServeFault.{ServeFault}
@@ -14,13 +13,6 @@ MayServe (ServeFault.Log a LogFault.DiskFault) = ⊥
 MayServe (ServeFault.Log a LogFault.Memory) = ⊥
 MayServe (ServeFault.Boot a BootFault.Memory) = ⊥
 MayServe fault = ⊤
-
--- what the boot of a node from these payloads may end in
-abbrev pub SaysBooting : Cluster → ℕ → List (List ℕ) → ServeFault → Type 0
-SaysBooting cluster centre all (ServeFault.Boot a BootFault.Memory) = ⊥
-SaysBooting cluster centre all (ServeFault.Boot a why) = (a ≡ centre) × (booted cluster all ≡ Err why)
-SaysBooting cluster centre all ServeFault.Memory = ⊤
-SaysBooting cluster centre all fault = ⊥
 
 module _ {D : Type 0} (disk : D → ℕ → Disk) (cluster : Cluster) (disks : D) where
   -- ---- one log

@@ -1,6 +1,6 @@
 -- What the start of a centre does, and that of several.
 use Rattle.std.specs.List.{AllByRecursion}
-use Rattle.std.specs.Prelude.{IsTrue, List, Ok, [], length, ⊤, ℕ, ◌+◌, ◌++◌, ◌∷◌, ◌≡◌, ◌≤◌, ◌⊎◌}
+use Rattle.std.specs.Prelude.{List, [], length, ⊤, ℕ, ◌+◌, ◌++◌, ◌∷◌, ◌≡◌, ◌≤◌, ◌⊎◌}
 use Rattle.mdcc_disks.specs.Disks.{Disk, Within}
 use Rattle.mdcc_centre.specs.Nodes.{CentreStore, IsNodeOf}
 use Rattle.mdcc_messages.specs.Spelling.{encodings_of}

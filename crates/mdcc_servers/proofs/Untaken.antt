@@ -1,5 +1,5 @@
 -- Where a log is refused nothing else was done.
-use Rattle.std.proofs.Common.{◌≡◌, ◌∙◌, ◌+◌, ◌≤◌, ◌<◌, Err, Ok, Option, List, Result, arith, subst, sym, ℕ}
+use Rattle.std.proofs.Common.{◌≡◌, ◌∙◌, ◌+◌, Err, Ok, Option, List, Result, arith, subst, sym, ℕ}
 use Rattle.std.specs.Prelude.{IfErr}
 use Rattle.mdcc_disks.specs.Disks.{Disk}
 use Rattle.mdcc_endings.specs.declared.fault.Failure.{Failure}

@@ -1,5 +1,5 @@
 -- What a server does over a link that was told how long to wait it does over the link as it was before.
-use Rattle.std.proofs.Common.{◌≡◌, ◌≤◌, ◌++◌, Err, List, Ok, Option, Result, subst, ℕ}
+use Rattle.std.proofs.Common.{◌≡◌, ◌++◌, Err, List, Ok, Option, Result, subst, ℕ}
 use Rattle.mdcc_base.specs.Causes.{Rose}
 use Rattle.mdcc_config.specs.declared.config.Config.{Config}
 use Rattle.mdcc_disks.specs.Disks.{Disk}
@@ -7,7 +7,7 @@ use Rattle.mdcc_link.specs.Link.{LinkCall}
 use Rattle.mdcc_outbox.specs.Shows.{Records, calls_of}
 use Rattle.mdcc_runs.specs.Acts.{Act}
 use Rattle.mdcc_runs.specs.Servers.{Log}
-use Rattle.mdcc_serve.specs.Serving.{BreaksOff, Leaves, Serves, ServesOrBreaksOff}
+use Rattle.mdcc_serve.specs.Serving.{Leaves, ServesOrBreaksOff}
 use Rattle.mdcc_serve.specs.declared.served.Served.{Served}
 use Rattle.mdcc_site.specs.declared.fault.ServeFault.{ServeFault}
 

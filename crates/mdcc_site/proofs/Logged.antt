@@ -21,7 +21,7 @@ use Rattle.mdcc_site.specs.LogEffects.{AreShortFacts, FailsToLog, HasLogged, log
 use Rattle.mdcc_site.specs.Logs.{MayHaveFacts, with_facts}
 use Rattle.mdcc_site.specs.Moments.{DiskPasses, KeepsOthers}
 use Rattle.mdcc_site.specs.Room.{HasNoRoom, LacksRoom}
-use Rattle.mdcc_site.specs.SiteState.{HoldsLog, IsShortFact, OpenLog}
+use Rattle.mdcc_site.specs.SiteState.{IsShortFact, OpenLog}
 use Rattle.mdcc_site.specs.declared.fault.ServeFault.{ServeFault}
 use Rattle.mdcc_spelling.proofs.Lengths.{length-fact}
 
@@ -233,9 +233,6 @@ module _ {D : Type 0} (disk : D → ℕ → Disk) (may_leave : D → ℕ → Lis
             crash = λ p one two. keeps.crash p (λ is. two (is ∙ lies.here_is)) (λ is. one (is ∙ lies.there_is));
           }
         ]
-
-        pub passes_then_told : (disk new (centre + 16)).told ≡ (disk new centre).told → (disk old (centre + 16)).told ≡ (disk old centre).told
-        passes_then_told alike = sym (told_at _ _ keeps (centre + 16)) ∙ (alike ∙ told_at _ _ keeps centre)
 
         -- where a call of the disk failed
         pub rose_there : RoseAtOne (disk old (place_of log.centre log.area)) (disk new (place_of log.centre log.area)) (disk old (place_of log.centre (other_of log.area))) (disk new (place_of log.centre (other_of log.area)))

@@ -9,7 +9,7 @@ use Rattle.mdcc_option.specs.declared.cluster.Cluster.{Cluster}
 use Rattle.mdcc_option.specs.declared.faults.BeginFault.{BeginFault}
 use Rattle.mdcc_rules.specs.Steps.{NodeStep}
 use Rattle.mdcc_rules.specs.declared.node.Answer.{Answer}
-use Rattle.mdcc_runs.specs.Clients.{Clients, known_of, with_begun}
+use Rattle.mdcc_runs.specs.Clients.{Clients, known_of}
 use Rattle.mdcc_runs.specs.Runs.{listed}
 use Rattle.mdcc_runs.specs.Sending.{answer_to}
 use Rattle.mdcc_runs.specs.Sites.{Site}
@@ -110,18 +110,6 @@ begin_can centre serial None = tt
 begin_can centre serial (Some (Answer.Read reading)) = tt
 begin_can centre serial (Some (Answer.Begun tx)) = tt
 begin_can centre serial (Some (Answer.Refused key fault)) = tt
-
--- ---- a begin is noted by its transaction
-
-abbrev pub noted_by : Clients → ℕ → Option TxId → Clients
-noted_by clients serial None = clients
-noted_by clients serial (Some tx) = with_begun clients serial tx
-
-pub noted_clients : (site : Site) (serial : ℕ) (answer : Option Answer) (begun : Option TxId) → begun ≡ begun_in answer → (begin_noted site serial answer).clients ≡ noted_by site.clients serial begun
-noted_clients site serial None begun is = rw is refl
-noted_clients site serial (Some (Answer.Begun tx)) begun is = rw is refl
-noted_clients site serial (Some (Answer.Refused key fault)) begun is = rw is refl
-noted_clients site serial (Some (Answer.Read reading)) begun is = rw is refl
 
 -- ---- what the client is told of a begin
 

@@ -81,9 +81,6 @@ module _ {O : Type 0} (held : O → Option (List ℕ)) (faults : O → ℕ) wher
 
   -- ---- lines one after another
 
-  pub prints_none : (out : O) → PrintsAll held faults [] out out
-  prints_none out = record { printed_all = none_written (held out); later = omega arith }
-
   pub prints_then : (first second : List Act) (old mid new : O) → PrintsAll held faults first old mid → PrintsAll held faults second mid new → PrintsAll held faults (first ++ second) old new
   prints_then first second old mid new one two = record {
     printed_all = rw (printed_append first second) (written_joined (printed first) (printed second) (held old) (held mid) (held new) one.printed_all two.printed_all);

@@ -54,12 +54,6 @@ pub record Quiet (acts : List Act) : Type 0 where
   pub appends : (b : ℕ) → appended b acts ≡ []
   pub plain : but_answers acts ≡ acts
 
-pub quiet_append : {xs ys : List Act} → Quiet xs → Quiet ys → Quiet (xs ++ ys)
-quiet_append {xs = xs} {ys = ys} one two = record {
-  appends = λ b. appended_append b xs ys ∙ (ap (λ (fs : List Fact). fs ++ appended b ys) (one.appends b) ∙ two.appends b);
-  plain = answers_append xs ys ∙ (ap (λ (zs : List Act). zs ++ but_answers ys) one.plain ∙ ap (λ (zs : List Act). xs ++ zs) two.plain);
-}
-
 pub quiet_none : Quiet []
 quiet_none = record { appends = λ b. refl; plain = refl }
 

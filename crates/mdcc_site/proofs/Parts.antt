@@ -37,9 +37,6 @@ pub record Still (acts : List Act) : Type 0 where
 still_none : Still []
 still_none = record { plain = refl; calls = refl; failed = refl; steps = refl; dropped = refl; lost = refl }
 
-pub line_still : (line : ServerLine) → Still (Act.Print line ∷ [])
-line_still line = record { plain = refl; calls = refl; failed = refl; steps = refl; dropped = refl; lost = refl }
-
 pub heard_still : (a : ℕ) (heard : List (TxId × Bool)) → Still (heard_printed a heard)
 heard_still a [] = still_none
 heard_still a (h ∷ heard) =

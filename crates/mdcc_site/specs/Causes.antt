@@ -1,12 +1,11 @@
 -- Why a server ends before its last turn, and at which act.
-use Rattle.std.specs.Prelude.{Bool, Err, IsTrue, List, [], if◌then◌else◌, nat_le, ⊤, ℕ, ◌-◌, ◌==◌, ◌^◌, ◌∷◌, ◌≡◌, ◌≤◌}
-use Rattle.std.specs.List.{AllByRecursion, list_any}
+use Rattle.std.specs.Prelude.{Err, List, [], if◌then◌else◌, ⊤, ℕ, ◌-◌, ◌==◌, ◌^◌, ◌∷◌, ◌≡◌, ◌≤◌}
+use Rattle.std.specs.List.{AllByRecursion}
 use Rattle.mdcc_option.specs.declared.cluster.Cluster.{Cluster}
 use Rattle.mdcc_protocol.specs.Facts.{epoch_of}
 use Rattle.mdcc_rules.specs.Boot.{boot_of}
 use Rattle.mdcc_rules.specs.declared.node.BootFault.{BootFault}
 use Rattle.mdcc_runs.specs.Servers.{Log}
-use Rattle.mdcc_runs.specs.Sites.{Site}
 use Rattle.mdcc_steps.specs.NodeInvariant.{payloads_of}
 use Rattle.mdcc_messages.specs.declared.facts.Fact.{Fact}
 use Rattle.mdcc_log_file.specs.declared.fault.LogFault.{LogFault}
@@ -49,7 +48,7 @@ ComesAt ServeFault.Output rest = IsPrinting rest
 ComesAt ServeFault.Serial rest = IsSending rest
 ComesAt ServeFault.Memory rest = ⊤
 
--- ---- why a boot is refused, and when no serial is left
+-- ---- why a boot is refused
 
 -- the epochs are used up, or cells lack for these facts or their boot
 abbrev pub IsBootRefused : Cluster → List Fact → BootFault → Type 0
@@ -66,14 +65,6 @@ BootsRefused cluster logs fault = ⊤
 abbrev pub IsNoBoot : ServeFault → Type 0
 IsNoBoot (ServeFault.Boot a fault) = ⊥
 IsNoBoot fault = ⊤
-
--- a centre would send more messages in its epoch than there are serials
-abbrev pub is_past_serials : List Site → Bool
-is_past_serials sites = list_any (λ site. nat_le (2 ^ 32) site.sent) sites
-
-abbrev pub SerialsEnd : List Site → ServeFault → Type 0
-SerialsEnd sites ServeFault.Serial = IsTrue (is_past_serials sites)
-SerialsEnd sites fault = ⊤
 
 -- ---- what it may leave
 

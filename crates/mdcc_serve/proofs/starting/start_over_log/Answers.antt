@@ -1,6 +1,6 @@
-use Rattle.std.proofs.Common.{◌≡◌, ◌+◌, ◌≤◌, ◌<◌, ◌∙◌, [], ℕ, Err, List, Ok, Result, arith, subst, sym}
+use Rattle.std.proofs.Common.{◌≡◌, ◌+◌, ℕ, Err, List, Result, arith, subst, sym}
 use Rattle.std.proofs.lemmas.Result.{err_from_is_err_and}
-use Rattle.mdcc_centre.specs.Nodes.{are_stored, cells_of, needed_in, spare_of}
+use Rattle.mdcc_centre.specs.Nodes.{cells_of}
 use Rattle.mdcc_centre.specs.declared.fault.StartFault.{StartFault}
 use Rattle.mdcc_option.specs.declared.cluster.Cluster.{Cluster}
 use Rattle.mdcc_serve.proofs.Copied.{among_copy, cluster_copy, holds_copy}

@@ -1,4 +1,4 @@
-use Rattle.std.proofs.Common.{◌+◌, ◌≡◌, ◌≤◌, ◌∙◌, Err, arith, subst, sym}
+use Rattle.std.proofs.Common.{◌+◌, ◌≤◌, ◌∙◌, arith, subst, sym}
 use Rattle.mdcc_base.specs.Causes.{Rose}
 use Rattle.mdcc_serve.proofs.Others.{keeps_fewer, unserved_fewer}
 use Rattle.mdcc_serve.specs.Others.{IsUnserved}

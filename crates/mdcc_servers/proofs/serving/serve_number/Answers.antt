@@ -1,7 +1,5 @@
-use Rattle.std.proofs.Common.{◌≡◌, ◌+◌, ◌∙◌, ◌∷◌, [], Err, List, refl, subst, sym, ℕ}
+use Rattle.std.proofs.Common.{◌+◌, ◌∙◌, ◌∷◌, [], refl, subst, sym, ℕ}
 use Rattle.mdcc_base.specs.Causes.{Rose}
-use Rattle.mdcc_config.specs.declared.config.Config.{Config}
-use Rattle.mdcc_endings.specs.declared.fault.Failure.{Failure}
 use Rattle.mdcc_protocol.specs.Belongs.{is_centre}
 use Rattle.mdcc_servers.proofs.Refused.{says_served, told_alone}
 use Rattle.mdcc_servers.proofs.Served.{at_false, at_true, disk_served, link_served, no_input, none_early, output_served}
