@@ -2,6 +2,7 @@ pub mod Calls
 pub mod Centres
 pub mod Clusters
 pub mod Ends
+pub mod Refused
 pub mod Several
 pub mod Single
 pub mod Stops

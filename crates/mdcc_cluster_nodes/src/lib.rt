@@ -3,6 +3,7 @@
 
 ghost use Rattle.mdcc_cluster_nodes.specs.Calls.{CallsAreLives};
 ghost use Rattle.mdcc_cluster_nodes.specs.Clusters.{HeadlineOfCalls};
+ghost use Rattle.mdcc_cluster_nodes.specs.Refused.{RefusedCallsDoNothing};
 ghost use Rattle.mdcc_cluster_nodes.specs.Several.{AllCentresLive};
 
 mod called;
@@ -16,6 +17,11 @@ use mdcc_link::Link;
 /// act with the last group in the log whole or not at all; and what is read of its areas later is the log that this life left.
 pub fn calls_are_lives<D: Disks, L: Link, O: Sink>()
     ensures { CallsAreLives D.disk D.may_leave D.tears L.calls L.lost O.held }
+{}
+
+/// A call that refuses its log, since no node boots from it, is a life without an act.
+pub fn refused_calls_do_nothing<D: Disks, L: Link, O: Sink>()
+    ensures { RefusedCallsDoNothing O D.disk L.calls L.lost }
 {}
 
 /// So a call of `serve_cluster` is a life of each of its centres: each of its acts is done by one of them, and those of each are a life

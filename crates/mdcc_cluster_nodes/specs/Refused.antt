@@ -1,0 +1,29 @@
+-- A call of `serve_node` that refuses its log does nothing.
+use Rattle.std.specs.Prelude.{Err, List, Ok, Option, [], true, ℕ, ◌+◌, ◌≡◌}
+use Rattle.mdcc_centre.specs.Nodes.{booted}
+use Rattle.mdcc_config.specs.declared.config.Config.{Config}
+use Rattle.mdcc_disks.specs.Disks.{Disk}
+use Rattle.mdcc_endings.specs.Logs.{IsTold}
+use Rattle.mdcc_link.specs.Link.{LinkCall}
+use Rattle.mdcc_log.specs.Area.{payloads}
+use Rattle.mdcc_messages.specs.Spelling.{encodings_of}
+use Rattle.mdcc_protocol.specs.Belongs.{is_centre}
+use Rattle.mdcc_rules.specs.declared.node.BootFault.{BootFault}
+use Rattle.mdcc_runs.specs.Servers.{Log}
+use Rattle.mdcc_serve.specs.Stays.{HasRefused}
+use Rattle.mdcc_cluster_nodes.specs.Areas.{Areas}
+use Rattle.mdcc_cluster_nodes.specs.Clusters.{LivesOver}
+
+-- the areas of a centre on these disks
+abbrev pub areas_on : {D : Type 0} → (D → ℕ → Disk) → D → ℕ → Areas
+areas_on disk disks a = record { first = (disk disks a).bytes; second = (disk disks (a + 16)).bytes }
+
+-- Where no node boots from the log that it found, by the clause `refused` of its contract (`HasRefused`) it lived a life without an act, and left the
+-- areas with the same log.
+abbrev pub RefusedCallsDoNothing : {D L : Type 0} → Type 0 → (D → ℕ → Disk) → (L → Option (List LinkCall)) → (L → ℕ) → Type 0
+RefusedCallsDoNothing {D = D} {L = L} O disk calls lost =
+    (config : Config) (log : Log) (why : BootFault) (disks_before disks_after : D) (link_before link_after : L) (out_before out_after : O)
+    → is_centre config.cluster log.centre ≡ true → IsTold disk disks_before log.centre
+    → payloads (areas_on disk disks_before log.centre).first (areas_on disk disks_before log.centre).second ≡ Ok (encodings_of log.facts) → booted config.cluster (encodings_of log.facts) ≡ Err why
+    → HasRefused disk calls lost config.cluster log.centre (log.centre + 1) disks_before disks_after link_before link_after out_before out_after
+    → LivesOver config log [] (areas_on disk disks_after log.centre)
