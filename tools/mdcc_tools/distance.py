@@ -23,7 +23,7 @@ class Counts(NamedTuple):
 def near_configuration(centres, classic, fast, port, **members):
     """The configuration of centres at addresses of this machine, as their clients see it."""
     read = {"centres": centres, "classic": classic, "fast": fast, "gamma": 100, "bounds": [[0, 10 ** 9]],
-            "hosts": [f"{NEAR}{centre}" for centre in range(1, centres + 1)], "port": port, **members}
+            "hosts": [f"{NEAR}{centre}" for centre in range(1, centres + 1)], "port": port, "checkpoint": 1_000_000, **members}
     return configuration_of(json.dumps(read).encode())
 
 

@@ -1,7 +1,7 @@
 """What a folder says of the centre whose log it has: the note `mdcc-K.id`, with the centre and sums of its configuration.
 
 A log belongs to its centre and to the rules of its cluster: quorums, bounds, `gamma`, `limit`. Addresses may move, when all centres know it.
-How many cells a node has and how long it waits (`cells`, `wait`) are its own, and no part of a sum.
+How many cells a node has, how long it waits and when it copies its log (`cells`, `wait`, `checkpoint`) are its own, and no part of a sum.
 """
 import hashlib
 import json
@@ -11,7 +11,7 @@ from typing import NamedTuple, Optional
 from .configuration import Configuration
 
 FORM = "mdcc-id 1"
-OWN = ("cells", "wait")
+OWN = ("cells", "wait", "checkpoint")
 ADDRESSES = ("hosts", "port")
 CELLS = 1_048_576
 

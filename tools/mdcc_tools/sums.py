@@ -15,8 +15,9 @@ from .parts import U32
 
 FORM = "mdcc-sum 1"
 BLOCK = 1024
-# A group that is appended together has at most 64 facts and what one turn makes.
-UNDER_WAY = 128
+# A group that is appended together has fewer bytes of facts, and what one turn makes: two facts at most.
+UNDER_WAY = 262_144
+OF_A_TURN = 2
 
 
 class Line(NamedTuple):
@@ -91,6 +92,15 @@ def sync(folder: str, centre: int) -> None:
             os.close(descriptor)
 
 
+def closed(payloads: List[bytes]) -> List[bytes]:
+    """Those before the last ones, whose syncs may be under way while their node runs."""
+    left, size = len(payloads) - OF_A_TURN, 0
+    while left > 0 and size < UNDER_WAY:
+        left -= 1
+        size += len(payloads[left])
+    return payloads[:max(left, 0)]
+
+
 def record(folder: str, centre: int) -> int:
     """Sums what is closed and not summed yet, and gives how many facts have a sum then. Where what was summed is not there any more nothing is
     written, so that `verify` finds it. Raises NotALog where the bytes are no log, OSError where the sums cannot be written."""
@@ -102,7 +112,7 @@ def record(folder: str, centre: int) -> int:
         sync(folder, centre)
     payloads = payloads_from(folder, centre, last)
     if is_running:
-        payloads = payloads[:-UNDER_WAY]
+        payloads = closed(payloads)
     before = last.facts if last else 0
     if lines and (before + len(payloads) <= lines[-1].facts or not agrees(lines[-1], before, payloads)):
         return lines[-1].facts

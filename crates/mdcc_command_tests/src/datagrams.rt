@@ -12,9 +12,10 @@ pub(crate) fn datagram(
     message: &[u8],
 ) -> Result<Vec<u8>, Memory> {
     let mut bytes = Vec::new(alloc);
-    let length = u8::try_from(message.len()).unwrap_or(u8::MAX);
+    let length = u16::try_from(message.len()).unwrap_or(u16::MAX);
+    let [low, high] = length.to_le_bytes();
     bytes.extend_from_slice(&[sender, epoch, 0, 0, 0, serial, 0, 0, 0])?;
-    bytes.extend_from_slice(&[length, 0, 0, 0, 0, 0, 1, 0])?;
+    bytes.extend_from_slice(&[low, high, 0, 0, 0, 0, 1, 0])?;
     bytes.extend_from_slice(message)?;
     Ok(bytes)
 }

@@ -176,20 +176,53 @@ fn first_call(rt: &impl Abort, alloc: Global) -> Result<u32, Fail> {
     Ok(60)
 }
 
-// A node of 33 turns for which 34 proposals wait, over disks where this call fails. Each leaves a fact and a message, so after 32 as many are
-// pending as may be.
-fn run_crowded(alloc: Global, number: u32) -> Result<(Ran, MemoryLink), Fail> {
-    let mut disks = new_disks(alloc, &[number])?;
-    let mut link = MemoryLink::new(alloc, &[])?;
-    for number in 1..35u8 {
-        link.put(1, &proposal(alloc, number, 97)?)?;
+// Three centres with cells for many votes.
+const ROOMY: &str =
+    r#"{"centres":3,"classic":2,"fast":3,"gamma":100,"bounds":[[0,1000]],"hosts":["127.0.0.1","127.0.0.1","127.0.0.1"],"port":9000,"cells":10000}"#;
+
+// A key of 32 bytes that ends so, with its length before it, and the version 0 of its item.
+fn long_key(alloc: Global, last: [u8; 2]) -> Result<Vec<u8>, Fail> {
+    let mut key = Vec::new(alloc);
+    key.push(32)?;
+    key.extend_from_slice(&[97; 30])?;
+    key.extend_from_slice(&last)?;
+    key.extend_from_slice(&[0; 8])?;
+    Ok(key)
+}
+
+// What the transaction of centre 2 with this number does to a key of its own, in 519 bytes: it inserts a body of 128 bytes and a value 10,
+// and has seven keys more.
+fn wide_choice(alloc: Global, number: u8) -> Result<Vec<u8>, Fail> {
+    let letter = 97u8.saturating_add(number / 16);
+    let key = long_key(alloc, [letter, 97u8.saturating_add(number % 16)])?;
+    let mut choice = Vec::new(alloc);
+    choice.extend_from_slice(&[2, 1, 0, 0, 0, number, 0, 0, 0])?;
+    choice.extend_from_slice(&key)?;
+    choice.extend_from_slice(&[1, 128])?;
+    choice.extend_from_slice(&[7; 128])?;
+    choice.extend_from_slice(&[1, 10, 0, 0, 0, 0, 0, 0, 0, 0, 8])?;
+    choice.extend_from_slice(&key)?;
+    for last in 97..104u8 {
+        choice.extend_from_slice(&long_key(alloc, [122, last])?)?;
     }
-    let words = ["node", "1", "33"];
-    let ran = run_on(alloc, &words, THREE, &NO_FAULTS, &mut disks, &mut link)?;
+    Ok(choice)
+}
+
+// A node of 229 turns for which 230 proposals wait, over disks where this call fails. Each leaves a fact of 576 bytes and a message of 574,
+// so that after 227 of them 261,050 bytes are pending, and after 228 of them 262,200, which are more than may wait.
+fn run_crowded(alloc: Global, call: u32) -> Result<(Ran, MemoryLink), Fail> {
+    let mut disks = new_disks(alloc, &[call])?;
+    let mut link = MemoryLink::new(alloc, &[])?;
+    for number in 1..231u8 {
+        let proposal = message(alloc, &[1, 1, 2, 1], &wide_choice(alloc, number)?)?;
+        link.put(1, &datagram(alloc, 2, 1, number, &proposal)?)?;
+    }
+    let words = ["node", "1", "229"];
+    let ran = run_on(alloc, &words, ROOMY, &NO_FAULTS, &mut disks, &mut link)?;
     Ok((ran, link))
 }
 
-// The first 32 votes go out together, though more waits, and the last one when the turns are over. The first append of votes begins with
+// The first 228 votes go out together, though more waits, and the last one when the turns are over. The first append of votes begins with
 // this call.
 fn check_crowded(rt: &impl Abort, alloc: Global, first: u32) -> Result<(), Fail> {
     let (ran, link) = run_crowded(alloc, first.saturating_add(3))?;
@@ -197,10 +230,10 @@ fn check_crowded(rt: &impl Abort, alloc: Global, first: u32) -> Result<(), Fail>
     assert!(rt; link.sent(0).is_none());
     let (ran, link) = run_crowded(alloc, first.saturating_add(4))?;
     assert!(rt; ran.is(BOOT, "mdcc: disk 1 failed\n", 7));
-    assert!(rt; link.sent(31).is_some() && link.sent(32).is_none());
+    assert!(rt; link.sent(227).is_some() && link.sent(228).is_none());
     let (ran, link) = run_crowded(alloc, first.saturating_add(8))?;
     assert!(rt; ran.status == 0);
-    assert!(rt; link.sent(32).is_some() && link.sent(33).is_none());
+    assert!(rt; link.sent(228).is_some() && link.sent(229).is_none());
     Ok(())
 }
 

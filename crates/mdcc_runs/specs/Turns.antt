@@ -1,7 +1,11 @@
 -- One turn of a centre that is served.
-use Rattle.std.specs.Prelude.{Bool, List, None, Option, Some, [], if◌then◌else◌, is_none, length, nat_le, not, ℕ, ◌&&◌, ◌+◌, ◌∷◌}
+use Rattle.std.specs.Prelude.{Bool, List, None, Option, Some, [], if◌then◌else◌, is_none, length, nat_le, nat_lt, not, ℕ, ◌&&◌, ◌+◌, ◌∷◌}
+use Rattle.mdcc_base.specs.Counts.{sum_over}
 use Rattle.mdcc_config.specs.declared.config.Config.{Config}
+use Rattle.mdcc_frag.specs.Datagrams.{message_limit}
 use Rattle.mdcc_frag.specs.Joining.{Step, join}
+use Rattle.mdcc_messages.specs.Lengths.{message_length}
+use Rattle.mdcc_messages.specs.Spelling.{fact_bytes, message_bytes}
 use Rattle.mdcc_messages.specs.declared.messages.Envelope.{Envelope}
 use Rattle.mdcc_messages.specs.declared.messages.Message.{Message}
 use Rattle.mdcc_rules.specs.declared.node.Input.{Input}
@@ -76,12 +80,20 @@ inputs_taken config site given =
 
 -- ---- what goes out
 
--- after so many pending facts and messages no more inputs are taken before they go out
+-- how many bytes of a message wait to be sent: none of one that is too long
+abbrev pub waiting_size : Envelope → ℕ
+waiting_size envelope = if nat_lt message_limit (message_length envelope) then 0 else length (message_bytes envelope)
+
+-- how many bytes the pending facts have in the log, without their frames, and the messages where they are sent
+abbrev pub pending_size : Pending → ℕ
+pending_size pending = sum_over (λ fact. length (fact_bytes fact)) pending.facts + sum_over waiting_size pending.envelopes
+
+-- once so many bytes of facts and messages are pending no more inputs are taken before they go out
 abbrev pub pending_limit : ℕ
-pending_limit = 64
+pending_limit = 262144
 
 abbrev pub is_full : Pending → Bool
-is_full pending = nat_le pending_limit (length pending.facts + length pending.envelopes)
+is_full pending = nat_le pending_limit (pending_size pending)
 
 -- Something that came made a step.
 abbrev pub made_step : Given → List Act → Bool

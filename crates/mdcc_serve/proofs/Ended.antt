@@ -45,7 +45,7 @@ use Rattle.mdcc_site.proofs.Going.{comes_under}
 use Rattle.mdcc_site.proofs.Joined.{caused_later, did_broke, did_then, facts_expected, facts_then, leaves_then, none_added, passes_then}
 use Rattle.mdcc_site.proofs.Owns.{turn_owns}
 use Rattle.mdcc_site.specs.Causes.{BootsRefused, ComesAt, IsNoBoot, failed_by, in_flight, text_begun}
-use Rattle.mdcc_site.specs.Logs.{KeepsFacts, MayHaveFacts, checkpoint_every, facts_after}
+use Rattle.mdcc_site.specs.Logs.{KeepsFacts, MayHaveFacts, facts_after}
 use Rattle.mdcc_site.specs.Moments.{Adds, Broke, Caused, Did, Leaves, Moment, Outside, Passes}
 use Rattle.mdcc_site.specs.Room.{OnFull}
 use Rattle.mdcc_site.specs.SiteState.{HoldsLog, OnSerial, PrintsAll, PrintsSome}
@@ -160,16 +160,16 @@ given_each logs given each = subst (λ (n : ℕ). AllByRecursion (λ turn. lengt
 
 -- ---- the log of a centre
 
-pub keeps_facts : {D : Type 0} (disk : D → ℕ → Disk) (may_leave : D → ℕ → List ℕ → Type 0) (disks : D) (log : OpenAreas) (centre : ℕ) (facts : List Fact)
-    → HoldsLog disk may_leave disks log centre facts → IsTrue (disk disks centre).told → KeepsFacts disk may_leave disks centre facts
-keeps_facts disk may_leave disks log centre facts holds told =
+pub keeps_facts : {D : Type 0} (disk : D → ℕ → Disk) (may_leave : D → ℕ → List ℕ → Type 0) (every : ℕ) (disks : D) (log : OpenAreas) (centre : ℕ) (facts : List Fact)
+    → HoldsLog disk may_leave every disks log centre facts → IsTrue (disk disks centre).told → KeepsFacts disk may_leave every disks centre facts
+keeps_facts disk may_leave every disks log centre facts holds told =
     let rest = holds.open_log.at_rest told in
     let durable = from_both (λ (p : ℕ). Only (disk disks p).bytes (may_leave disks p)) centre log.centre log.area holds.open_log.of rest.range rest.in_use.durable rest.spare.durable in
     record {
       log = rest.log;
       read = (rest_areas disk may_leave disks log centre (encodings_of facts) holds.open_log.of rest).log_is;
       facts_themselves = sym rest.payloads_are;
-      short = subst (λ (n : ℕ). n < checkpoint_every) rest.in_use.tail holds.few;
+      short = subst (λ (n : ℕ). n < every) rest.in_use.tail holds.few;
       durable = durable.0;
       durable_other = durable.1;
     }
@@ -197,10 +197,10 @@ module _ {D L O : Type 0} (w : Outside D L O) where
   -- ---- what their logs keep
 
   logs_keep : (cluster : Cluster) (disks : D) (held : List TheSite) (sites : List Site) → HoldSites w cluster disks held sites → AllTold w disks sites → AllByRecursion (λ site. site.logged ≡ site.node.facts) sites
-      → AllByRecursion (λ site. KeepsFacts w.disk w.may_leave disks site.centre site.node.facts) sites
+      → AllByRecursion (λ site. KeepsFacts w.disk w.may_leave w.every disks site.centre site.node.facts) sites
   logs_keep cluster disks [] [] hold told all = tt
   logs_keep cluster disks (h ∷ held) (site ∷ sites) hold told all = (
-    subst (λ (fs : List Fact). KeepsFacts w.disk w.may_leave disks site.centre fs) all.0 (keeps_facts w.disk w.may_leave disks h.log site.centre site.logged hold.0.log told.0),
+    subst (λ (fs : List Fact). KeepsFacts w.disk w.may_leave w.every disks site.centre fs) all.0 (keeps_facts w.disk w.may_leave w.every disks h.log site.centre site.logged hold.0.log told.0),
     logs_keep cluster disks held sites hold.1 told.1 all.1,
   )
   logs_keep cluster disks [] (site ∷ sites) hold told all = absurd hold
@@ -295,28 +295,28 @@ module _ {D L O : Type 0} (w : Outside D L O) where
 
   -- ---- a prefix of the acts was done
 
-  breaks : (tears : ℕ → Type 0) (config : Config) (logs : List Log) (turns : ℕ) (fault : ServeFault) (old new : Places D L O) {P : List Act → List Act → Type 0} {expected : List Act}
+  breaks : (tears : ℕ → Type 0) (config : Config) (due : w.every ≡ config.checkpoint) (logs : List Log) (turns : ℕ) (fault : ServeFault) (old new : Places D L O) {P : List Act → List Act → Type 0} {expected : List Act}
       → (broke : Broke w ⊤ P expected fault (all_seen old) (all_seen new)) → BootsRefused config.cluster logs fault → StopsAt config logs turns fault broke.acts broke.rest
       → KeepLogs w tears logs fault old.disks new.disks broke.acts broke.rest
       → BreaksOff w.disk w.may_leave tears w.calls w.lost w.held config logs turns fault old.disks new.disks old.link new.link old.out new.out
-  breaks tears config logs turns fault old new broke boots stops kept = record {
+  breaks tears config due logs turns fault old new broke boots stops kept = record {
     acts = broke.acts;
     rest = broke.rest;
     stops = stops;
     comes = comes_told ⊤ fault broke.rest tt broke.comes;
     boots = boots;
-    full = broke.full;
+    full = subst (λ (every : ℕ). OnFull w.disk w.may_leave every new.disks fault broke.rest) due broke.full;
     printed_more = broke.printed_more;
     left = record { link = broke.left.link; output = broke.left.output; failed_sends = broke.left.failed_sends };
     kept = kept;
   }
 
-  pub start_breaks : (tears : ℕ → Type 0) (config : Config) (first last turns : ℕ) (fault : ServeFault) (old new : Places D L O) → FailsToOpen w tears config first last fault old new
+  pub start_breaks : (tears : ℕ → Type 0) (config : Config) (due : w.every ≡ config.checkpoint) (first last turns : ℕ) (fault : ServeFault) (old new : Places D L O) → FailsToOpen w tears config first last fault old new
       → (logs : List Log) → Follow first logs → length logs + first ≡ last + 1 → AreLogsOf w.disk config.cluster old.disks logs
       → BreaksOff w.disk w.may_leave tears w.calls w.lost w.held config logs turns fault old.disks new.disks old.link new.link old.out new.out
-  start_breaks tears config first last turns fault old new fails logs follow long are =
+  start_breaks tears config due first last turns fault old new fails logs follow long are =
       let stop = fails.over logs follow long are in
-      breaks tears config logs turns fault old new stop.broke stop.boots (inl (record { runs = stop.broke.are; serials = fails.serials })) stop.broke.logs
+      breaks tears config due logs turns fault old new stop.broke stop.boots (inl (record { runs = stop.broke.are; serials = fails.serials })) stop.broke.logs
 
   -- ---- centres that ran
 
@@ -325,7 +325,7 @@ module _ {D L O : Type 0} (w : Outside D L O) where
   EndsFrom config turns result mid new =
       (sites : List Site) → HoldSites w config.cluster mid.disks mid.held sites → Ascend 0 sites → AllEnd w config sites turns result mid new
 
-  module _ (tears : ℕ → Type 0) (config : Config) (first turns : ℕ) (logs : List Log) (follow : Follow first logs) (ascend : Ascend 0 (map site_of logs)) (old_disks : D) (old_link : L) (old_out : O) (mid new : Places D L O)
+  module _ (tears : ℕ → Type 0) (config : Config) (due : w.every ≡ config.checkpoint) (first turns : ℕ) (logs : List Log) (follow : Follow first logs) (ascend : Ascend 0 (map site_of logs)) (old_disks : D) (old_link : L) (old_out : O) (mid new : Places D L O)
       (are : AreLogsOf w.disk config.cluster old_disks logs) (finish : AllFinish w config.cluster (opened config logs).sites (opened config logs) (places old_disks [] old_link old_out) mid)
     where
       abbrev first_place : Places D L O
@@ -361,7 +361,7 @@ module _ {D L O : Type 0} (w : Outside D L O) where
             ∙ (sym (append_assoc (opened config logs).acts (turned config logs given).acts own) ∙ ap (λ (xs : List Act). xs ++ own) (sym (turned_acts config logs given)))) part
 
         part_breaks : StopsAt config logs turns fault part_broke.acts part_broke.rest → BreaksOff w.disk w.may_leave tears w.calls w.lost w.held config logs turns fault old_disks new.disks old_link new.link old_out new.out
-        part_breaks stops = breaks tears config logs turns fault first_place new part_broke (none_refused config.cluster logs fault stop.no_boot) stops part_broke.logs.0
+        part_breaks stops = breaks tears config due logs turns fault first_place new part_broke (none_refused config.cluster logs fault stop.no_boot) stops part_broke.logs.0
 
       -- in a turn
       turn_breaks : (fault : ServeFault) → TurnsStop w config (map site_of logs) turns fault mid new
@@ -438,8 +438,9 @@ module _ {D L O : Type 0} (w : Outside D L O) where
               acts = ran.acts ++ Act.Print (done_line turns ran.acts) ∷ [];
               run = record { given = given; turns_made = all.turns_made; each = given_each logs given all.each; ran = ran.acts; runs = ran.are; whole = refl };
               left = record { link = left.link; output = left.output; failed_sends = left.failed_sends };
-              kept = subst (λ (sites : List Site). AllByRecursion (λ site. KeepsFacts w.disk w.may_leave new.disks site.centre site.node.facts) sites) (sym (sites_are config logs given))
-                  (logs_keep config.cluster new.disks new.held (ended config logs given).sites all.finish.stand told_last (last_logs config (turned config logs given).sites));
+              kept = subst (λ (sites : List Site). AllByRecursion (λ site. KeepsFacts w.disk w.may_leave config.checkpoint new.disks site.centre site.node.facts) sites) (sym (sites_are config logs given))
+                  (subst (λ (every : ℕ). AllByRecursion (λ site. KeepsFacts w.disk w.may_leave every new.disks site.centre site.node.facts) (ended config logs given).sites) due
+                  (logs_keep config.cluster new.disks new.held (ended config logs given).sites all.finish.stand told_last (last_logs config (turned config logs given).sites)));
               serials = subst (λ (sites : List Site). AllByRecursion HasSerials sites) (sym (sites_are config logs given))
                   (serials_keep config.cluster new.disks new.held (ended config logs given).sites all.finish.stand all.serials);
               turns_told = ap (λ (s : Served). s.turns) counts;
@@ -481,8 +482,8 @@ module _ {D L O : Type 0} (w : Outside D L O) where
                 | inr failed ↦ subst IsNoBoot (sym failed.0) tt
               ]);
               full = elim prints.comes [
-                | inl none ↦ subst (λ (f : ServeFault). OnFull w.disk w.may_leave new.disks f (Act.Print (done_line turns ran.acts) ∷ [])) (sym none.0) tt
-                | inr failed ↦ subst (λ (f : ServeFault). OnFull w.disk w.may_leave new.disks f (Act.Print (done_line turns ran.acts) ∷ [])) (sym failed.0) tt
+                | inl none ↦ subst (λ (f : ServeFault). OnFull w.disk w.may_leave config.checkpoint new.disks f (Act.Print (done_line turns ran.acts) ∷ [])) (sym none.0) tt
+                | inr failed ↦ subst (λ (f : ServeFault). OnFull w.disk w.may_leave config.checkpoint new.disks f (Act.Print (done_line turns ran.acts) ∷ [])) (sym failed.0) tt
               ];
               printed_more = prints.more;
               left = record { link = done.link; output = done.output; failed_sends = done.failed_sends };
@@ -499,14 +500,14 @@ module _ {D L O : Type 0} (w : Outside D L O) where
       ends (Err fault) (inr (inr but)) = line_breaks but.out but.made fault but.tells
 
   -- a server over these logs
-  pub serves : (tears : ℕ → Type 0) (config : Config) (first last turns : ℕ) (result : Result Served ServeFault) (old_disks : D) (old_link : L) (old_out : O) (mid new : Places D L O)
+  pub serves : (tears : ℕ → Type 0) (config : Config) (due : w.every ≡ config.checkpoint) (first last turns : ℕ) (result : Result Served ServeFault) (old_disks : D) (old_link : L) (old_out : O) (mid new : Places D L O)
       → HasOpened w config first last (places old_disks [] old_link old_out) mid → EndsFrom config turns result mid new
       → (logs : List Log) → Follow first logs → length logs + first ≡ last + 1 → AreLogsOf w.disk config.cluster old_disks logs
       → ServesOrBreaksOff w.disk w.may_leave tears w.calls w.lost w.held config logs turns result old_disks new.disks old_link new.link old_out new.out
-  serves tears config first last turns result old_disks old_link old_out mid new has end logs follow long are =
+  serves tears config due first last turns result old_disks old_link old_out mid new has end logs follow long are =
       let same : has.logs ≡ logs = has.over logs follow long are in
       subst (λ (ls : List Log). ServesOrBreaksOff w.disk w.may_leave tears w.calls w.lost w.held config ls turns result old_disks new.disks old_link new.link old_out new.out) same
-      (ends tears config first turns has.logs has.follow has.ascend old_disks old_link old_out mid new
+      (ends tears config due first turns has.logs has.follow has.ascend old_disks old_link old_out mid new
       (subst (λ (ls : List Log). AreLogsOf w.disk config.cluster old_disks ls) (sym same) are) has.finish result (end (map site_of has.logs) has.finish.stand has.ascend))
 
   -- ---- what stays

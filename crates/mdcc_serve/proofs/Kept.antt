@@ -77,15 +77,15 @@ module _ {D : Type 0} (disk : D → ℕ → Disk) (may_leave : D → ℕ → Lis
     | inr is ↦ inl is
   ]
 
-  pub log_kept : (old new : D) (log : OpenAreas) (a b : ℕ) (facts : List Fact) → AreApart a b → KeepsOthers disk may_leave b old new → DiskPasses disk may_leave old new
-      → HoldsLog disk may_leave old log a facts → HoldsLog disk may_leave new log a facts
-  log_kept old new log a b facts apart keeps passes holds =
+  pub log_kept : (every : ℕ) (old new : D) (log : OpenAreas) (a b : ℕ) (facts : List Fact) → AreApart a b → KeepsOthers disk may_leave b old new → DiskPasses disk may_leave old new
+      → HoldsLog disk may_leave every old log a facts → HoldsLog disk may_leave every new log a facts
+  log_kept every old new log a b facts apart keeps passes holds =
       let here = keeps.others a apart.here_here apart.here_there in
       let there = keeps.others (a + 16) apart.there_here apart.there_there in
       record {
         open_log = record {
           of = holds.open_log.of;
-          every = holds.open_log.every;
+          often = holds.open_log.often;
           alike = passes.told (a + 16) ∙ (holds.open_log.alike ∙ sym (passes.told a));
           at_rest = λ told. rest_kept old new log a (encodings_of facts) holds.open_log.of (here, keeps.crash a apart.here_here apart.here_there) (there, keeps.crash (a + 16) apart.there_here apart.there_there)
               (holds.open_log.at_rest (subst IsTrue (passes.told a) told));
@@ -97,4 +97,4 @@ module _ {D : Type 0} (disk : D → ℕ → Disk) (may_leave : D → ℕ → Lis
 pub site_kept : {D L O : Type 0} (w : Outside D L O) (cluster : Cluster) (old new : D) (held : TheSite) (site : Site) (b : ℕ) → AreApart site.centre b
     → KeepsOthers w.disk w.may_leave b old new → DiskPasses w.disk w.may_leave old new → HoldsSite w cluster old held site → HoldsSite w cluster new held site
 site_kept w cluster old new held site b apart keeps passes holds =
-    record { itself = holds.itself; log = log_kept w.disk w.may_leave old new held.log site.centre b site.logged apart keeps passes holds.log }
+    record { itself = holds.itself; log = log_kept w.disk w.may_leave w.every old new held.log site.centre b site.logged apart keeps passes holds.log }

@@ -100,8 +100,8 @@ module _ {D : Type 0} (disk : D → ℕ → Disk) (may_leave : D → ℕ → Lis
   module _ (tears : ℕ → Type 0) where
     -- ---- nothing was done
 
-    pub start_lacks : (cluster : Cluster) (centre : ℕ) (disks : D) → FailsToStart disk may_leave tears cluster centre ServeFault.Memory disks disks
-    start_lacks cluster centre disks = record {
+    pub start_lacks : (every : ℕ) (cluster : Cluster) (centre : ℕ) (disks : D) → FailsToStart disk may_leave every tears cluster centre ServeFault.Memory disks disks
+    start_lacks every cluster centre disks = record {
       of = tt;
       cause = tt;
       passes = disks_same disk may_leave disks;

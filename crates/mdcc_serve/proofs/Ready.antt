@@ -101,8 +101,8 @@ no_more xs ys (z ∷ zs) is long =
 
 -- ---- what is held
 
-module _ {D : Type 0} (disk : D → ℕ → Disk) (may_leave : D → ℕ → List ℕ → Type 0) where
-  pub held_among : (cluster : Cluster) (disks : D) (n centres : ℕ) (held : List TheSite) (logs : List Log) → AreHeld disk may_leave cluster disks held logs → Follow n logs → n + length held ≤ centres + 1
+module _ {D : Type 0} (disk : D → ℕ → Disk) (may_leave : D → ℕ → List ℕ → Type 0) (every : ℕ) where
+  pub held_among : (cluster : Cluster) (disks : D) (n centres : ℕ) (held : List TheSite) (logs : List Log) → AreHeld disk may_leave every cluster disks held logs → Follow n logs → n + length held ≤ centres + 1
       → AllByRecursion (λ site. site.centre ≤ centres) held
   held_among cluster disks n centres [] [] are f few = tt
   held_among cluster disks n centres (h ∷ held) (log ∷ logs) are f few =
@@ -112,14 +112,14 @@ module _ {D : Type 0} (disk : D → ℕ → Disk) (may_leave : D → ℕ → Lis
   held_among cluster disks n centres [] (log ∷ logs) are f few = absurd are
   held_among cluster disks n centres (h ∷ held) [] are f few = absurd are
 
-  held_bind : (config : Config) (disks : D) (held : List TheSite) (logs : List Log) → AreHeld disk may_leave config.cluster disks held logs → binds_of_all config held ≡ flat_map (endpoints_of config) (starts logs).sites
+  held_bind : (config : Config) (disks : D) (held : List TheSite) (logs : List Log) → AreHeld disk may_leave every config.cluster disks held logs → binds_of_all config held ≡ flat_map (endpoints_of config) (starts logs).sites
   held_bind config disks [] [] are = refl
   held_bind config disks (h ∷ held) (log ∷ logs) are =
       ap (λ (n : ℕ). binds_of config n ++ binds_of_all config held) are.0.0.centre ∙ ap (λ (acts : List Act). binds_of config log.centre ++ acts) (held_bind config disks held logs are.1)
   held_bind config disks [] (log ∷ logs) are = absurd are
   held_bind config disks (h ∷ held) [] are = absurd are
 
-  held_tell : (cluster : Cluster) (disks : D) (held : List TheSite) (logs : List Log) → AreHeld disk may_leave cluster disks held logs → boots_told held ≡ flat_map boot_line (starts logs).sites
+  held_tell : (cluster : Cluster) (disks : D) (held : List TheSite) (logs : List Log) → AreHeld disk may_leave every cluster disks held logs → boots_told held ≡ flat_map boot_line (starts logs).sites
   held_tell cluster disks [] [] are = refl
   held_tell cluster disks (h ∷ held) (log ∷ logs) are =
       ap (λ (n : ℕ). Act.Print (ServerLine.Booted n h.sender.epoch) ∷ boots_told held) are.0.0.centre
@@ -128,7 +128,7 @@ module _ {D : Type 0} (disk : D → ℕ → Disk) (may_leave : D → ℕ → Lis
   held_tell cluster disks [] (log ∷ logs) are = absurd are
   held_tell cluster disks (h ∷ held) [] are = absurd are
 
-  none_counted : (cluster : Cluster) (disks : D) (held : List TheSite) (logs : List Log) → AreHeld disk may_leave cluster disks held logs
+  none_counted : (cluster : Cluster) (disks : D) (held : List TheSite) (logs : List Log) → AreHeld disk may_leave every cluster disks held logs
       → (sum_over (λ h. h.steps) held ≡ 0) × (sum_over (λ h. h.dropped) held ≡ 0) × (sum_over (λ h. h.sender.lost) held ≡ 0)
   none_counted cluster disks [] [] are = (refl, refl, refl)
   none_counted cluster disks (h ∷ held) (log ∷ logs) are =
@@ -142,7 +142,7 @@ module _ {D : Type 0} (disk : D → ℕ → Disk) (may_leave : D → ℕ → Lis
   none_counted cluster disks (h ∷ held) [] are = absurd are
 
 module _ {D L O : Type 0} (w : Outside D L O) where
-  held_stand : (cluster : Cluster) (disks : D) (held : List TheSite) (logs : List Log) → AreHeld w.disk w.may_leave cluster disks held logs → HoldSites w cluster disks held (starts logs).sites
+  held_stand : (cluster : Cluster) (disks : D) (held : List TheSite) (logs : List Log) → AreHeld w.disk w.may_leave w.every cluster disks held logs → HoldSites w cluster disks held (starts logs).sites
   held_stand cluster disks [] [] are = tt
   held_stand cluster disks (h ∷ held) (log ∷ logs) are = (record { itself = are.0.0; log = are.0.1 }, held_stand cluster disks held logs are.1)
   held_stand cluster disks [] (log ∷ logs) are = absurd are
@@ -154,11 +154,11 @@ module _ {D L O : Type 0} (w : Outside D L O) where
   bare disks link out = all_seen (places disks [] link out)
 
   -- nothing is counted of those that just started
-  fresh_seen : (cluster : Cluster) (disks : D) (held : List TheSite) (logs : List Log) (link : L) (out : O) → AreHeld w.disk w.may_leave cluster disks held logs → bare disks link out ≡ all_seen (places disks held link out)
+  fresh_seen : (cluster : Cluster) (disks : D) (held : List TheSite) (logs : List Log) (link : L) (out : O) → AreHeld w.disk w.may_leave w.every cluster disks held logs → bare disks link out ≡ all_seen (places disks held link out)
   fresh_seen cluster disks held logs link out are = counts (sum_over (λ h. h.steps) held) (sum_over (λ h. h.dropped) held) (sum_over (λ h. h.sender.lost) held) none.0 none.1 none.2
     where
       none : (sum_over (λ h. h.steps) held ≡ 0) × (sum_over (λ h. h.dropped) held ≡ 0) × (sum_over (λ h. h.sender.lost) held ≡ 0)
-      none = none_counted w.disk w.may_leave cluster disks held logs are
+      none = none_counted w.disk w.may_leave w.every cluster disks held logs are
 
       counts : (a b c : ℕ) → a ≡ 0 → b ≡ 0 → c ≡ 0
           → (let m : Moment D L O = record { disks = disks; link = link; out = out; steps = 0; dropped = 0; lost = 0 } in m) ≡ record { disks = disks; link = link; out = out; steps = a; dropped = b; lost = c }
@@ -275,10 +275,10 @@ module _ {D L O : Type 0} (w : Outside D L O) where
         | inr failed ↦ subst (λ (f : ServeFault). MayComeAt ⊤ f stop.rest) (sym failed.0) failed.1
       ]
 
-      full : OnFull w.disk w.may_leave disks fault stop.rest
+      full : OnFull w.disk w.may_leave w.every disks fault stop.rest
       full = elim stop.comes [
-        | inl is ↦ subst (λ (f : ServeFault). OnFull w.disk w.may_leave disks f stop.rest) (sym is) tt
-        | inr failed ↦ subst (λ (f : ServeFault). OnFull w.disk w.may_leave disks f stop.rest) (sym failed.0) tt
+        | inl is ↦ subst (λ (f : ServeFault). OnFull w.disk w.may_leave w.every disks f stop.rest) (sym is) tt
+        | inr failed ↦ subst (λ (f : ServeFault). OnFull w.disk w.may_leave w.every disks f stop.rest) (sym failed.0) tt
       ]
 
       none_failed : failed_by fault stop.rest ≡ []
@@ -313,7 +313,7 @@ module _ {D L O : Type 0} (w : Outside D L O) where
   start_caused ServeFault.Memory at old new link out of cause = tt
 
   pub start_fails : (tears : ℕ → Type 0) (config : Config) (first last : ℕ) (fault : ServeFault) (old new : D) (link : L) (out : O) → first ≤ last
-      → FailToStart w.disk w.may_leave tears config.cluster first (last + 1 - first) fault old new → FailsToOpen w tears config first last fault (places old [] link out) (places new [] link out)
+      → FailToStart w.disk w.may_leave w.every tears config.cluster first (last + 1 - first) fault old new → FailsToOpen w tears config first last fault (places old [] link out) (places new [] link out)
   start_fails tears config first last fault old new link out order fails = record {
     cause = start_caused fault fails.at old new link out fails.of fails.cause;
     serials = start_serials fault fails.at fails.of;
@@ -338,7 +338,7 @@ module _ {D L O : Type 0} (w : Outside D L O) where
                 (none_printed out (printed (starts stop.done).acts) boots.prints);
             passes = disks_passed old new link out fails.passes;
             cause = start_caused fault fails.at old new link out fails.of fails.cause;
-            full = full_more w.disk w.may_leave new ⊤ fault (starts stop.left).acts more comes stop.full;
+            full = full_more w.disk w.may_leave w.every new ⊤ fault (starts stop.left).acts more comes stop.full;
             logs = keep_more tears logs fault old new (starts stop.done).acts (starts stop.left).acts more comes stop.kept;
           };
           boots = stop.boots;
@@ -348,7 +348,7 @@ module _ {D L O : Type 0} (w : Outside D L O) where
   -- ---- all of them run
 
   module _ (tears : ℕ → Type 0) (config : Config) (first last : ℕ) (held : List TheSite) (old new : D) (link : L) (out : O)
-      (started : HaveStarted w.disk w.may_leave config.cluster first held old new) (many : length held + first ≡ last + 1) (some : 1 ≤ first) (most : last ≤ 9)
+      (started : HaveStarted w.disk w.may_leave w.every config.cluster first held old new) (many : length held + first ≡ last + 1) (some : 1 ≤ first) (most : last ≤ 9)
     where
       abbrev boots : List Act
       boots = (starts started.logs).acts
@@ -361,8 +361,8 @@ module _ {D L O : Type 0} (w : Outside D L O) where
 
       opened_are : boots ++ (binds ++ lines) ≡ (opened config started.logs).acts
       opened_are =
-          ap (λ (acts : List Act). boots ++ (acts ++ lines)) (held_bind w.disk w.may_leave config new held started.logs started.each)
-          ∙ ap (λ (acts : List Act). boots ++ (flat_map (endpoints_of config) (starts started.logs).sites ++ acts)) (held_tell w.disk w.may_leave config.cluster new held started.logs started.each)
+          ap (λ (acts : List Act). boots ++ (acts ++ lines)) (held_bind w.disk w.may_leave w.every config new held started.logs started.each)
+          ∙ ap (λ (acts : List Act). boots ++ (flat_map (endpoints_of config) (starts started.logs).sites ++ acts)) (held_tell w.disk w.may_leave w.every config.cluster new held started.logs started.each)
 
       booted : Did w boots (bare old link out) (bare new link out)
       booted = did_start started.logs old new link out started.passes

@@ -37,7 +37,7 @@ use Rattle.mdcc_serve.specs.Starts.{FailsToStart, GivesNode, GivesNone, IsRunnin
 use Rattle.mdcc_serve.specs.Stays.{LogStays}
 use Rattle.mdcc_site.proofs.Logged.{next_are, rested}
 use Rattle.mdcc_site.specs.Causes.{IsBootRefused, in_flight}
-use Rattle.mdcc_site.specs.Logs.{MayHaveFacts, checkpoint_every}
+use Rattle.mdcc_site.specs.Logs.{MayHaveFacts}
 use Rattle.mdcc_site.specs.Moments.{DiskPasses, KeepsOthers}
 use Rattle.mdcc_site.specs.Room.{HasNoRoom}
 use Rattle.mdcc_site.specs.declared.fault.ServeFault.{ServeFault}
@@ -60,7 +60,7 @@ node_given cluster read all facts is boots =
 
 -- ---- the log of a centre, by its number
 
-module _ {D : Type 0} (disk : D → ℕ → Disk) (may_leave : D → ℕ → List ℕ → Type 0) (cluster : Cluster) (centre : ℕ) (old new : D) where
+module _ {D : Type 0} (disk : D → ℕ → Disk) (may_leave : D → ℕ → List ℕ → Type 0) (every : ℕ) (cluster : Cluster) (centre : ℕ) (old new : D) where
   abbrev Read : List (List ℕ) → Type 0
   Read all = payloads (disk old centre).bytes (disk old (centre + 16)).bytes ≡ Ok all
 
@@ -83,15 +83,15 @@ module _ {D : Type 0} (disk : D → ℕ → Disk) (may_leave : D → ℕ → Lis
       (alike : (disk old (centre + 16)).told ≡ (disk old centre).told)
     where
       abbrev Starts : Running CentreStore → Type 0
-      Starts running = StartsFrom disk may_leave centre checkpoint_every old new are_stored spare_of needed_in (cells_of cluster) cluster running
+      Starts running = StartsFrom disk may_leave centre every old new are_stored spare_of needed_in (cells_of cluster) cluster running
 
       -- where one area tells its bytes both did
       told_before : IsTrue (disk new centre).told → IsTold disk old centre
       told_before told = let here = subst IsTrue (passes.told centre) told in record { first = here; second = subst IsTrue (sym alike) here }
 
-      pub runs : (running : Running CentreStore) → Starts running → running.log.centre ≡ centre → running.log.every ≡ checkpoint_every → running.log.tail < checkpoint_every
-          → IsRunning disk may_leave cluster centre running old new
-      runs running starts of every few = record {
+      pub runs : (running : Running CentreStore) → Starts running → running.log.centre ≡ centre → running.log.every ≡ every → running.log.tail < every
+          → IsRunning disk may_leave every cluster centre running old new
+      runs running starts of often few = record {
         facts = given.facts;
         itself = given.itself;
         kept = given.kept;
@@ -99,7 +99,7 @@ module _ {D : Type 0} (disk : D → ℕ → Disk) (may_leave : D → ℕ → Lis
         holds = record {
           open_log = record {
             of = of;
-            every = every;
+            often = often;
             alike = passes.told (centre + 16) ∙ (alike ∙ sym (passes.told centre));
             at_rest = at_rest;
             left = λ told first second left left_second. inl (rested disk may_leave current_is_read new running.log centre (encodings_of (next_boot given.facts ∷ given.facts)) (at_rest told).range of (at_rest told) first second left left_second);
@@ -136,7 +136,7 @@ module _ {D : Type 0} (disk : D → ℕ → Disk) (may_leave : D → ℕ → Lis
               (rest_read disk may_leave new (starts.all ++ fact_bytes starts.boot ∷ []) running.log centre of (starts.open_log told.first told.second))
 
   -- a node boots from its log
-  pub runs_boot : (running : Running CentreStore) → StartsFrom disk may_leave centre checkpoint_every old new are_stored spare_of needed_in (cells_of cluster) cluster running → BootsAt disk cluster old centre
+  pub runs_boot : (running : Running CentreStore) → StartsFrom disk may_leave centre every old new are_stored spare_of needed_in (cells_of cluster) cluster running → BootsAt disk cluster old centre
   runs_boot running starts told = node_given cluster (payloads (disk old centre).bytes (disk old (centre + 16)).bytes) starts.all (starts.boot ∷ starts.boots.0) (starts.read told.first told.second) starts.boots.1
 
   -- ---- it does not
@@ -146,9 +146,9 @@ module _ {D : Type 0} (disk : D → ℕ → Disk) (may_leave : D → ℕ → Lis
     pub passes : DiskPasses disk may_leave old new
     pub others : KeepsOthers disk may_leave centre old new
     pub refused : (facts : List Fact) → AreLogged cluster facts → IsLogRead facts (disk old centre) (disk old (centre + 16))
-        → IsRefused (cells_of cluster) cluster facts (HasRoom checkpoint_every (disk old centre) (disk old (centre + 16))) fault
-    pub over_any : StartEnds disk may_leave centre checkpoint_every old new are_stored spare_of needed_in (cells_of cluster) cluster fault
-    pub kept : (all : List (List ℕ)) → IsTrue (disk old centre).told → IsTrue (disk old (centre + 16)).told → Read all → KeepsLog all fault centre checkpoint_every disk may_leave old new
+        → IsRefused (cells_of cluster) cluster facts (HasRoom every (disk old centre) (disk old (centre + 16))) fault
+    pub over_any : StartEnds disk may_leave centre every old new are_stored spare_of needed_in (cells_of cluster) cluster fault
+    pub kept : (all : List (List ℕ)) → IsTrue (disk old centre).told → IsTrue (disk old (centre + 16)).told → Read all → KeepsLog all fault centre every disk may_leave old new
     pub unread : (n : ℕ) → IsTrue (disk old centre).told → IsTrue (disk old (centre + 16)).told → payloads (disk old centre).bytes (disk old (centre + 16)).bytes ≡ Err n → IsUnread n fault centre disk old new
     pub no_log : (n : ℕ) → fault ≡ StartFault.Log (LogFault.NotALog n) → IsTrue (disk old centre).told → IsTrue (disk old (centre + 16)).told → payloads (disk old centre).bytes (disk old (centre + 16)).bytes ≡ Err n
     pub reads : (all : List (List ℕ)) (current other : List ℕ) → (tears 1 → ⊥) → IsTrue (disk old centre).told → IsTrue (disk old (centre + 16)).told
@@ -171,11 +171,11 @@ module _ {D : Type 0} (disk : D → ℕ → Disk) (may_leave : D → ℕ → Lis
       same_stays read unread = record { read = λ all told is. inl (read all told is); unread = unread }
 
       -- so is one that was at rest before
-      was_read : (all : List (List ℕ)) → IsAsBefore all centre checkpoint_every disk may_leave old new → payloads (disk new centre).bytes (disk new (centre + 16)).bytes ≡ Ok all
+      was_read : (all : List (List ℕ)) → IsAsBefore all centre every disk may_leave old new → payloads (disk new centre).bytes (disk new (centre + 16)).bytes ≡ Ok all
       was_read all was = rest_read disk may_leave new all was.frames centre was.place was.at_rest
 
       -- what is at rest has its facts whatever a crash leaves
-      was_kept : (log : Log) → log.centre ≡ centre → IsAsBefore (encodings_of log.facts) centre checkpoint_every disk may_leave old new → MayHaveFacts disk may_leave new log.centre log.facts []
+      was_kept : (log : Log) → log.centre ≡ centre → IsAsBefore (encodings_of log.facts) centre every disk may_leave old new → MayHaveFacts disk may_leave new log.centre log.facts []
       was_kept log of was =
           subst (λ (n : ℕ). MayHaveFacts disk may_leave new n log.facts []) (sym of)
           (λ first second left left_second. inl (rested disk may_leave current_is_read new was.frames centre (encodings_of log.facts) was.at_rest.range was.place was.at_rest first second left left_second))
@@ -187,7 +187,7 @@ module _ {D : Type 0} (disk : D → ℕ → Disk) (may_leave : D → ℕ → Lis
       refused_by why log all (inr (other, is, refuses)) are same = let reason : other ≡ why = cc in subst (IsBootRefused cluster log.facts) reason (refuses log.facts are same)
 
       boot_fails : (why : BootFault) (all : List (List ℕ)) → GivesNone cluster centre all (ServeFault.Boot centre why) → (IsTold disk old centre → Read all) → Ends tears (StartFault.Boot why)
-          → FailsToStart disk may_leave tears cluster centre (ServeFault.Boot centre why) old new
+          → FailsToStart disk may_leave every tears cluster centre (ServeFault.Boot centre why) old new
       boot_fails why all none read e = record {
         of = refl;
         cause = tt;
@@ -205,13 +205,13 @@ module _ {D : Type 0} (disk : D → ℕ → Disk) (may_leave : D → ℕ → Lis
             };
       }
 
-      none_of : (why : BootFault) (given : GivesNoNode disk may_leave centre checkpoint_every old new are_stored spare_of needed_in (cells_of cluster) cluster why) → GivesNone cluster centre given.all (boot_fault_of centre why)
+      none_of : (why : BootFault) (given : GivesNoNode disk may_leave centre every old new are_stored spare_of needed_in (cells_of cluster) cluster why) → GivesNone cluster centre given.all (boot_fault_of centre why)
       none_of why given = gives_none one well within gives cluster is_cluster centre among given.all given.opened.bytes given.opened.short why given.boots
 
       -- ---- its boot has no room
 
-      full_fails : HasNoRoomForBoot disk may_leave centre checkpoint_every old new are_stored spare_of needed_in (cells_of cluster) cluster → Ends tears (StartFault.Log LogFault.LogFull)
-          → FailsToStart disk may_leave tears cluster centre (ServeFault.Log centre LogFault.LogFull) old new
+      full_fails : HasNoRoomForBoot disk may_leave centre every old new are_stored spare_of needed_in (cells_of cluster) cluster → Ends tears (StartFault.Log LogFault.LogFull)
+          → FailsToStart disk may_leave every tears cluster centre (ServeFault.Log centre LogFault.LogFull) old new
       full_fails lacks e = record {
         of = tt;
         cause = tt;
@@ -229,7 +229,7 @@ module _ {D : Type 0} (disk : D → ℕ → Disk) (may_leave : D → ℕ → Lis
             };
       }
         where
-          no_room : (log : Log) → log.centre ≡ centre → IsLogOf disk cluster old log → HasNoRoom disk may_leave new log.centre (next_boot log.facts ∷ [])
+          no_room : (log : Log) → log.centre ≡ centre → IsLogOf disk cluster old log → HasNoRoom disk may_leave every new log.centre (next_boot log.facts ∷ [])
           no_room log of is =
               let told = told_at log of is in
               let same = same_lists (payloads (disk old centre).bytes (disk old (centre + 16)).bytes) lacks.all (encodings_of log.facts) (lacks.opened.read told.first told.second) (read_at log of is) in
@@ -239,14 +239,14 @@ module _ {D : Type 0} (disk : D → ℕ → Disk) (may_leave : D → ℕ → Lis
                 facts = log.facts;
                 log = lacks.opened.log;
                 of = lacks.opened.of ∙ sym of;
-                every = lacks.opened.every_is;
+                often = lacks.opened.every_is;
                 at_rest = subst (λ (ps : List (List ℕ)). IsAtRest disk may_leave new lacks.opened.log ps) same (lacks.opened.open_log told.first told.second);
                 full = subst (λ (fact : Fact). AreFull lacks.opened.log (fact_bytes fact ∷ [])) boot (full_alone lacks.opened.log (fact_bytes lacks.booted.1) lacks.full);
               }
 
       -- ---- whatever the fault is
 
-      pub fails : (fault : StartFault) → Ends tears fault → FailsToStart disk may_leave tears cluster centre (start_fault_of centre fault) old new
+      pub fails : (fault : StartFault) → Ends tears fault → FailsToStart disk may_leave every tears cluster centre (start_fault_of centre fault) old new
       fails (StartFault.Log LogFault.DiskFault) e = record {
         of = tt;
         cause = e.rose refl;
@@ -302,7 +302,7 @@ module _ {D : Type 0} (disk : D → ℕ → Disk) (may_leave : D → ℕ → Lis
       → IsTold disk old centre → node_at disk cluster old centre ≡ Err (LogRefusal.NoNode why)
   none_says why all read is told = node_read cluster (payloads (disk old centre).bytes (disk old (centre + 16)).bytes) all (read told.first told.second) ∙ ap node_of is
 
-  pub says : (fault : StartFault) → StartEnds disk may_leave centre checkpoint_every old new are_stored spare_of needed_in (cells_of cluster) cluster fault
+  pub says : (fault : StartFault) → StartEnds disk may_leave centre every old new are_stored spare_of needed_in (cells_of cluster) cluster fault
       → ((n : ℕ) → fault ≡ StartFault.Log (LogFault.NotALog n) → IsTrue (disk old centre).told → IsTrue (disk old (centre + 16)).told → payloads (disk old centre).bytes (disk old (centre + 16)).bytes ≡ Err n)
       → (fault ≡ StartFault.Log LogFault.Memory → ⊥) → (fault ≡ StartFault.Boot BootFault.Memory → ⊥) → SaysAt disk cluster old centre (start_fault_of centre fault)
   says (StartFault.Log LogFault.DiskFault) over no_log no_log_memory no_boot_memory = refl

@@ -107,17 +107,17 @@ comes_first ServeFault.Output l more comes = absurd comes
 comes_first ServeFault.Serial l more comes = absurd comes
 comes_first ServeFault.Memory l more comes = tt
 
-full_first : {D : Type 0} (disk : D → ℕ → Disk) (may_leave : D → ℕ → List ℕ → Type 0) (disks : D) (fault : ServeFault) (l : Log) (more : List Log) → OnFull disk may_leave disks fault (starting l) → OnFull disk may_leave disks fault (starts (l ∷ more)).acts
-full_first disk may_leave disks (ServeFault.Disk a) l more full = tt
-full_first disk may_leave disks (ServeFault.Log a LogFault.LogFull) l more full = full
-full_first disk may_leave disks (ServeFault.Log a LogFault.DiskFault) l more full = tt
-full_first disk may_leave disks (ServeFault.Log a LogFault.Memory) l more full = tt
-full_first disk may_leave disks (ServeFault.Log a (LogFault.NotALog offset)) l more full = tt
-full_first disk may_leave disks (ServeFault.Boot a fault) l more full = tt
-full_first disk may_leave disks ServeFault.Link l more full = tt
-full_first disk may_leave disks ServeFault.Output l more full = tt
-full_first disk may_leave disks ServeFault.Serial l more full = tt
-full_first disk may_leave disks ServeFault.Memory l more full = tt
+full_first : {D : Type 0} (disk : D → ℕ → Disk) (may_leave : D → ℕ → List ℕ → Type 0) (every : ℕ) (disks : D) (fault : ServeFault) (l : Log) (more : List Log) → OnFull disk may_leave every disks fault (starting l) → OnFull disk may_leave every disks fault (starts (l ∷ more)).acts
+full_first disk may_leave every disks (ServeFault.Disk a) l more full = tt
+full_first disk may_leave every disks (ServeFault.Log a LogFault.LogFull) l more full = full
+full_first disk may_leave every disks (ServeFault.Log a LogFault.DiskFault) l more full = tt
+full_first disk may_leave every disks (ServeFault.Log a LogFault.Memory) l more full = tt
+full_first disk may_leave every disks (ServeFault.Log a (LogFault.NotALog offset)) l more full = tt
+full_first disk may_leave every disks (ServeFault.Boot a fault) l more full = tt
+full_first disk may_leave every disks ServeFault.Link l more full = tt
+full_first disk may_leave every disks ServeFault.Output l more full = tt
+full_first disk may_leave every disks ServeFault.Serial l more full = tt
+full_first disk may_leave every disks ServeFault.Memory l more full = tt
 
 safe_first : (tears : ℕ → Type 0) (fault : ServeFault) (l : Log) (more : List Log) → IsSafeAt tears fault (starts (l ∷ more)).acts → IsSafeAt tears fault (starting l)
 safe_first tears (ServeFault.Disk a) l more safe = safe
@@ -154,7 +154,7 @@ each_back : (P : Log → Type 0) (xs ys : List Log) → AllByRecursion P (xs ++ 
 each_back P [] ys h = h
 each_back P (x ∷ xs) ys h = each_back P xs ys h.1
 
-module _ {D : Type 0} (disk : D → ℕ → Disk) (may_leave : D → ℕ → List ℕ → Type 0) where
+module _ {D : Type 0} (disk : D → ℕ → Disk) (may_leave : D → ℕ → List ℕ → Type 0) (every : ℕ) where
   -- ---- a log to which nothing was done
 
   untouched_log : (cluster : Cluster) (old mid : D) (log : Log) (a : ℕ) → log.centre ≡ a → IsUntouched disk may_leave old mid a → IsLogOf disk cluster old log → IsLogOf disk cluster mid log
@@ -188,16 +188,16 @@ module _ {D : Type 0} (disk : D → ℕ → Disk) (may_leave : D → ℕ → Lis
   -- ---- those that run already
 
   held_kept : (cluster : Cluster) (old new : D) (b n : ℕ) (held : List TheSite) (logs : List Log) → b ≤ 9 → KeepsOthers disk may_leave b old new → DiskPasses disk may_leave old new
-      → AllByRecursion (λ log. log.centre < b) logs → AreHeld disk may_leave cluster old held logs → AreHeld disk may_leave cluster new held logs
+      → AllByRecursion (λ log. log.centre < b) logs → AreHeld disk may_leave every cluster old held logs → AreHeld disk may_leave every cluster new held logs
   held_kept cluster old new b n [] [] most keeps passes below are = tt
   held_kept cluster old new b n (h ∷ held) (log ∷ logs) most keeps passes below are =
       let far = apart log.centre b (let e = below.0 in omega (e, most, arith)) most (λ same. (let e = below.0 in absurd (omega (e, same, arith)))) in
-      ((are.0.0, log_kept disk may_leave old new h.log log.centre b (next_boot log.facts ∷ log.facts) far keeps passes are.0.1, are.0.2), held_kept cluster old new b n held logs most keeps passes below.1 are.1)
+      ((are.0.0, log_kept disk may_leave every old new h.log log.centre b (next_boot log.facts ∷ log.facts) far keeps passes are.0.1, are.0.2), held_kept cluster old new b n held logs most keeps passes below.1 are.1)
   held_kept cluster old new b n [] (log ∷ logs) most keeps passes below are = absurd are
   held_kept cluster old new b n (h ∷ held) [] most keeps passes below are = absurd are
 
-  held_more : (cluster : Cluster) (disks : D) (held : List TheSite) (next : TheSite) (logs : List Log) (log : Log) → AreHeld disk may_leave cluster disks held logs → AreHeld disk may_leave cluster disks (next ∷ []) (log ∷ [])
-      → AreHeld disk may_leave cluster disks (held ++ next ∷ []) (logs ++ log ∷ [])
+  held_more : (cluster : Cluster) (disks : D) (held : List TheSite) (next : TheSite) (logs : List Log) (log : Log) → AreHeld disk may_leave every cluster disks held logs → AreHeld disk may_leave every cluster disks (next ∷ []) (log ∷ [])
+      → AreHeld disk may_leave every cluster disks (held ++ next ∷ []) (logs ++ log ∷ [])
   held_more cluster disks [] next [] log are last = last
   held_more cluster disks (h ∷ held) next (l ∷ logs) log are last = (are.0, held_more cluster disks held next logs log are.1 last)
   held_more cluster disks [] next (l ∷ logs) log are last = absurd are
@@ -210,7 +210,7 @@ module _ {D : Type 0} (disk : D → ℕ → Disk) (may_leave : D → ℕ → Lis
   unserved_kept first end old new logs follow few keeps =
       keeps_fewer disk may_leave (IsElsewhere (starts logs).sites) (IsUnserved first end) old new (λ p is. unserved_logs first end p logs follow few is) keeps
 
-  pub none_started : (cluster : Cluster) (first : ℕ) (disks : D) → HaveStarted disk may_leave cluster first [] disks disks
+  pub none_started : (cluster : Cluster) (first : ℕ) (disks : D) → HaveStarted disk may_leave every cluster first [] disks disks
   none_started cluster first disks = record {
     logs = [];
     follow = tt;
@@ -226,7 +226,7 @@ module _ {D : Type 0} (disk : D → ℕ → Disk) (may_leave : D → ℕ → Lis
   -- ---- one more
 
   module _ (cluster : Cluster) (first a : ℕ) (held : List TheSite) (old mid new : D) (some : 1 ≤ first) (here : a ≡ first + length held) (few : a ≤ 9)
-      (started : HaveStarted disk may_leave cluster first held old mid)
+      (started : HaveStarted disk may_leave every cluster first held old mid)
     where
       many : a ≡ first + length started.logs
       many = (let e = started.as_many in omega (here, e, arith))
@@ -253,14 +253,14 @@ module _ {D : Type 0} (disk : D → ℕ → Disk) (may_leave : D → ℕ → Lis
               absurd (omega (e, f, g, long, fewer, arith))
           by_rest (l ∷ rest) is = (l, rest, is)
 
-      pub one_started : (next : TheSite) → HasStarted disk may_leave cluster a next mid new → HaveStarted disk may_leave cluster first (held ++ next ∷ []) old new
+      pub one_started : (next : TheSite) → HasStarted disk may_leave every cluster a next mid new → HaveStarted disk may_leave every cluster first (held ++ next ∷ []) old new
       one_started next has = record {
         logs = started.logs ++ has.log ∷ [];
         follow = follow_more first started.logs has.log started.follow (has.of ∙ many);
         as_many = (let e = length-append started.logs (has.log ∷ []) in let f = length-append held (next ∷ []) in let g = started.as_many in omega (e, f, g, arith));
         each = held_more cluster new held next started.logs has.log
             (held_kept cluster mid new a first held started.logs few has.others has.passes below started.each)
-            ((has.itself, subst (λ (n : ℕ). HoldsLog disk may_leave new next.log n (next_boot has.log.facts ∷ has.log.facts)) (sym has.of) has.holds, has.fresh), tt);
+            ((has.itself, subst (λ (n : ℕ). HoldsLog disk may_leave every new next.log n (next_boot has.log.facts ∷ has.log.facts)) (sym has.of) has.holds, has.fresh), tt);
         passes = passes_on disk may_leave started.passes has.passes;
         later = λ b after most.
             let e = length-append held (next ∷ []) in
@@ -308,8 +308,8 @@ module _ {D : Type 0} (disk : D → ℕ → Disk) (may_leave : D → ℕ → Lis
               over_next before left.1 left.0 left.2 (next_of before left.1 left.0 follow left.2) (subst (λ (logs : List Log). AreLogsOf disk cluster old logs) left.2 are)
 
       -- the next one ends before it runs
-      pub start_stops : (tears : ℕ → Type 0) (count : ℕ) (fault : ServeFault) → length held < count → first + count ≤ 10 → FailsToStart disk may_leave tears cluster a fault mid new
-          → FailToStart disk may_leave tears cluster first count fault old new
+      pub start_stops : (tears : ℕ → Type 0) (count : ℕ) (fault : ServeFault) → length held < count → first + count ≤ 10 → FailsToStart disk may_leave every tears cluster a fault mid new
+          → FailToStart disk may_leave every tears cluster first count fault old new
       start_stops tears count fault fewer most fails = record {
         at = a;
         of = fails.of;
@@ -350,7 +350,7 @@ module _ {D : Type 0} (disk : D → ℕ → Disk) (may_leave : D → ℕ → Lis
               facts_or_more disk may_leave new log.centre (facts_after log.centre log.facts (starts started.logs).acts) next
               (facts_kept disk may_leave mid new log.centre a (facts_after log.centre log.facts (starts started.logs).acts) [] (apart log.centre a high few other) fails.others (started.kept log high is durable))
 
-          kept : (l : Log) (more : List Log) → l.centre ≡ a → Follow first (started.logs ++ l ∷ more) → length (started.logs ++ l ∷ more) ≡ count → StopsOver disk may_leave tears cluster l fault mid new
+          kept : (l : Log) (more : List Log) → l.centre ≡ a → Follow first (started.logs ++ l ∷ more) → length (started.logs ++ l ∷ more) ≡ count → StopsOver disk may_leave every tears cluster l fault mid new
               → AreLogsOf disk cluster old (started.logs ++ l ∷ more) → AllByRecursion (IsDurable disk may_leave old) (started.logs ++ l ∷ more) → IsSafeAt tears fault (starts (l ∷ more)).acts
               → AllByRecursion (λ log. MayHaveFacts disk may_leave new log.centre (facts_after log.centre log.facts (starts started.logs).acts) (in_flight fault log.centre (starts (l ∷ more)).acts)) (started.logs ++ l ∷ more)
           kept l more of follow long own each durable safe =
@@ -376,7 +376,7 @@ module _ {D : Type 0} (disk : D → ℕ → Disk) (may_leave : D → ℕ → Lis
               under : AllByRecursion (λ log. log.centre < first + length (started.logs ++ l ∷ more)) more
               under = (each_back _ started.logs (l ∷ more) (follow_front first (started.logs ++ l ∷ more) [] (subst (λ (xs : List Log). Follow first xs) (sym (append-nil (started.logs ++ l ∷ more))) follow))).1
 
-          stops : (logs rest : List Log) (l : Log) → logs ≡ started.logs ++ l ∷ rest → l.centre ≡ a → Follow first logs → length logs ≡ count → AreLogsOf disk cluster old logs → StopOver disk may_leave tears cluster logs fault old new
+          stops : (logs rest : List Log) (l : Log) → logs ≡ started.logs ++ l ∷ rest → l.centre ≡ a → Follow first logs → length logs ≡ count → AreLogsOf disk cluster old logs → StopOver disk may_leave every tears cluster logs fault old new
           stops logs rest l split of follow long are =
               let each = subst (λ (xs : List Log). AreLogsOf disk cluster old xs) split are in
               let own = fails.over l of (untouched_log cluster old mid l a of unfinished (each_back (IsLogOf disk cluster old) started.logs (l ∷ rest) each).0) in
@@ -386,7 +386,7 @@ module _ {D : Type 0} (disk : D → ℕ → Disk) (may_leave : D → ℕ → Lis
                 are = split;
                 comes = comes_first fault l rest own.comes;
                 boots = boots logs are fault refl;
-                full = full_first disk may_leave new fault l rest own.full;
+                full = full_first disk may_leave every new fault l rest own.full;
                 kept = λ durable safe.
                     subst (λ (xs : List Log). AllByRecursion (λ log. MayHaveFacts disk may_leave new log.centre (facts_after log.centre log.facts (starts started.logs).acts) (in_flight fault log.centre (starts (l ∷ rest)).acts)) xs) (sym split)
                     (kept l rest of (subst (λ (xs : List Log). Follow first xs) split follow) (ap (λ (xs : List Log). length xs) (sym split) ∙ long) own each (subst (λ (xs : List Log). AllByRecursion (IsDurable disk may_leave old) xs) split durable) safe);
@@ -394,8 +394,8 @@ module _ {D : Type 0} (disk : D → ℕ → Disk) (may_leave : D → ℕ → Lis
 
   -- ---- there is no memory to keep the one that runs
 
-  pub keep_stops : (cluster : Cluster) (first count : ℕ) (held : List TheSite) (old new : D) (tears : ℕ → Type 0) → (started : HaveStarted disk may_leave cluster first held old new) → length held ≤ count → first + count ≤ 10
-      → FailToStart disk may_leave tears cluster first count ServeFault.Memory old new
+  pub keep_stops : (cluster : Cluster) (first count : ℕ) (held : List TheSite) (old new : D) (tears : ℕ → Type 0) → (started : HaveStarted disk may_leave every cluster first held old new) → length held ≤ count → first + count ≤ 10
+      → FailToStart disk may_leave every tears cluster first count ServeFault.Memory old new
   keep_stops cluster first count held old new tears started enough most = record {
     at = 0;
     of = tt;

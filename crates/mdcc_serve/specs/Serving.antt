@@ -68,7 +68,7 @@ module _ {D L O : Type 0} (disk : D → ℕ → Disk) (may_leave : D → ℕ →
     pub acts : List Act
     pub run : IsRun config logs turns acts
     pub left : Leaves acts [] [] link_old link_new out_old out_new
-    pub kept : AllByRecursion (λ site. KeepsFacts disk may_leave disks site.centre site.node.facts) (served config logs run.given).sites
+    pub kept : AllByRecursion (λ site. KeepsFacts disk may_leave config.checkpoint disks site.centre site.node.facts) (served config logs run.given).sites
     pub serials : AllByRecursion HasSerials (served config logs run.given).sites
     pub turns_told : result.turns ≡ turns
     pub steps_told : result.steps ≡ counted (steps_in acts)
@@ -85,7 +85,7 @@ module _ {D L O : Type 0} (disk : D → ℕ → Disk) (may_leave : D → ℕ →
     pub comes : ComesAt fault rest
     pub boots : BootsRefused config.cluster logs fault
     -- a log is said to be full only where it has no room for the facts that come next
-    pub full : OnFull disk may_leave disks fault rest
+    pub full : OnFull disk may_leave config.checkpoint disks fault rest
     pub printed_more : ℕ
     pub left : Leaves acts (failed_by fault rest) (take printed_more (text_begun fault rest)) link_old link_new out_old out_new
     pub kept : AllByRecursion (IsDurable disk may_leave disks_old) logs → IsSafeAt tears fault rest → AllByRecursion (λ log. MayHaveFacts disk may_leave disks log.centre (facts_after log.centre log.facts acts) (in_flight fault log.centre rest)) logs

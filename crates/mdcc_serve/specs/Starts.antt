@@ -78,14 +78,15 @@ pub record IsFresh (held : TheSite) : Type 0 where
   pub dropped : held.dropped ≡ 0
   pub lost : held.sender.lost ≡ 0
 
-module _ {D : Type 0} (disk : D → ℕ → Disk) (may_leave : D → ℕ → List ℕ → Type 0) where
-  -- The node has the facts of its log and the next boot, and so has the open log, all of them durable.
+module _ {D : Type 0} (disk : D → ℕ → Disk) (may_leave : D → ℕ → List ℕ → Type 0) (every : ℕ) where
+  -- The node has the facts of its log and the next boot, and so has the open log, all of them durable. After so many frames a checkpoint
+  -- of it is due.
   pub record IsRunning (cluster : Cluster) (centre : ℕ) (running : Running CentreStore) (old new : D) : Type 0 where
     pub facts : List Fact
     pub itself : IsNodeOf running.node cluster centre (next_boot facts ∷ facts) initial_volatile
     pub kept : IsNode cluster centre (next_boot facts ∷ facts) initial_volatile
     pub epoch : running.epoch ≡ epoch_of (next_boot facts ∷ facts)
-    pub holds : HoldsLog disk may_leave new running.log centre (next_boot facts ∷ facts)
+    pub holds : HoldsLog disk may_leave every new running.log centre (next_boot facts ∷ facts)
     pub passes : DiskPasses disk may_leave old new
     pub others : KeepsOthers disk may_leave centre old new
     pub stays : LogStays disk cluster old new centre
@@ -96,7 +97,7 @@ module _ {D : Type 0} (disk : D → ℕ → Disk) (may_leave : D → ℕ → Lis
     pub log : Log
     pub of : log.centre ≡ centre
     pub itself : IsSite cluster held (site_of log)
-    pub holds : HoldsLog disk may_leave new held.log centre (next_boot log.facts ∷ log.facts)
+    pub holds : HoldsLog disk may_leave every new held.log centre (next_boot log.facts ∷ log.facts)
     pub fresh : IsFresh held
     pub passes : DiskPasses disk may_leave old new
     pub others : KeepsOthers disk may_leave centre old new
@@ -108,7 +109,7 @@ module _ {D : Type 0} (disk : D → ℕ → Disk) (may_leave : D → ℕ → Lis
     pub record StopsOver (cluster : Cluster) (log : Log) (fault : ServeFault) (old new : D) : Type 0 where
       pub comes : ComesAt fault (starting log)
       pub boots : BootsRefused cluster (log ∷ []) fault
-      pub full : OnFull disk may_leave new fault (starting log)
+      pub full : OnFull disk may_leave every new fault (starting log)
       pub kept : IsDurable disk may_leave old log → IsSafeAt tears fault (starting log) → MayHaveFacts disk may_leave new log.centre log.facts (in_flight fault log.centre (starting log))
 
     -- It ended before.
@@ -135,11 +136,12 @@ module _ {D : Type 0} (disk : D → ℕ → Disk) (may_leave : D → ℕ → Lis
     pub crash_first : Within (may_leave old centre) (may_leave new centre)
     pub crash_second : Within (may_leave old (centre + 16)) (may_leave new (centre + 16))
 
+module _ {D : Type 0} (disk : D → ℕ → Disk) (may_leave : D → ℕ → List ℕ → Type 0) (every : ℕ) where
   -- what is held are the centres of these logs, each with the next boot
   abbrev pub AreHeld : Cluster → D → List TheSite → List Log → Type 0
   AreHeld cluster disks [] [] = ⊤
   AreHeld cluster disks (held ∷ more) (log ∷ logs) =
-      (IsSite cluster held (site_of log) × HoldsLog disk may_leave disks held.log log.centre (next_boot log.facts ∷ log.facts) × IsFresh held) × AreHeld cluster disks more logs
+      (IsSite cluster held (site_of log) × HoldsLog disk may_leave every disks held.log log.centre (next_boot log.facts ∷ log.facts) × IsFresh held) × AreHeld cluster disks more logs
   AreHeld cluster disks _ _ = ⊥
 
   -- The centres from one number on run, so many as are held.
@@ -149,7 +151,7 @@ module _ {D : Type 0} (disk : D → ℕ → Disk) (may_leave : D → ℕ → Lis
     pub as_many : length logs ≡ length held
     pub each : AreHeld cluster new held logs
     pub passes : DiskPasses disk may_leave old new
-    pub later : (a : ℕ) → first + length held ≤ a → a ≤ 9 → IsUntouched old new a
+    pub later : (a : ℕ) → first + length held ≤ a → a ≤ 9 → IsUntouched disk may_leave old new a
     pub others : KeepsElsewhere disk may_leave (starts logs).sites old new
     -- the log of any centre has its facts and the boots that were appended, whatever a crash leaves
     pub kept : (log : Log) → log.centre ≤ 9 → IsLogOf disk cluster old log → IsDurable disk may_leave old log
@@ -164,7 +166,7 @@ module _ {D : Type 0} (disk : D → ℕ → Disk) (may_leave : D → ℕ → Lis
       pub are : logs ≡ done ++ left
       pub comes : ComesAt fault (starts left).acts
       pub boots : BootsRefused cluster logs fault
-      pub full : OnFull disk may_leave new fault (starts left).acts
+      pub full : OnFull disk may_leave every new fault (starts left).acts
       pub kept : AllByRecursion (IsDurable disk may_leave old) logs → IsSafeAt tears fault (starts left).acts
           → AllByRecursion (λ log. MayHaveFacts disk may_leave new log.centre (facts_after log.centre log.facts (starts done).acts) (in_flight fault log.centre (starts left).acts)) logs
 

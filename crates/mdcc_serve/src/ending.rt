@@ -26,10 +26,10 @@ fn persist_at<D: Disks, L: Link, O: Sink>(
 ) -> Result<(), ServeFault>
     requires config { IsConfig config.now }
     requires within { index < length sites.old }
-    requires served { IsServedAt (outside D.disk D.may_leave L.calls L.lost L.faults O.held O.faults) config.now.cluster disks.old sites.old index }
+    requires served { IsServedAt (outside config.now.checkpoint D.disk D.may_leave L.calls L.lost L.faults O.held O.faults) config.now.cluster disks.old sites.old index }
     ensures { (one : HeldSite) (site : ASite) → ((d : HeldSite) → slice_index_or sites.old index d ≡ one)
-        → HoldsSite (outside D.disk D.may_leave L.calls L.lost L.faults O.held O.faults) config.now.cluster disks.old one site
-        → PersistsAt (outside D.disk D.may_leave L.calls L.lost L.faults O.held O.faults) config.now one site index result
+        → HoldsSite (outside config.now.checkpoint D.disk D.may_leave L.calls L.lost L.faults O.held O.faults) config.now.cluster disks.old one site
+        → PersistsAt (outside config.now.checkpoint D.disk D.may_leave L.calls L.lost L.faults O.held O.faults) config.now one site index result
         (places disks.old sites.old link.old out.old) (places disks.new sites.new link.new out.new) }
 {
     sites[index].persist_then_send(alloc, config, disks, link, out)
@@ -45,9 +45,9 @@ pub(crate) fn persist_all_then_send<D: Disks, L: Link, O: Sink>(
     out: &mut O,
 ) -> Result<(), ServeFault>
     requires config { IsConfig config.now }
-    requires served { AllServed (outside D.disk D.may_leave L.calls L.lost L.faults O.held O.faults) config.now.cluster disks.old sites.old }
-    ensures { (served : List ASite) → HoldSites (outside D.disk D.may_leave L.calls L.lost L.faults O.held O.faults) config.now.cluster disks.old sites.old served → Ascend 0 served
-        → HaveEnded (outside D.disk D.may_leave L.calls L.lost L.faults O.held O.faults) config.now served result
+    requires served { AllServed (outside config.now.checkpoint D.disk D.may_leave L.calls L.lost L.faults O.held O.faults) config.now.cluster disks.old sites.old }
+    ensures { (served : List ASite) → HoldSites (outside config.now.checkpoint D.disk D.may_leave L.calls L.lost L.faults O.held O.faults) config.now.cluster disks.old sites.old served → Ascend 0 served
+        → HaveEnded (outside config.now.checkpoint D.disk D.may_leave L.calls L.lost L.faults O.held O.faults) config.now served result
         (places disks.old sites.old link.old out.old) (places disks.new sites.new link.new out.new) }
 {
     for index in 0..sites.len() {

@@ -77,9 +77,9 @@ pub(crate) fn open<D: Disks, L: Link, O: Sink>(
     requires order { first ≤ last }
     requires among { last ≤ config.now.cluster.quorums.centres }
     requires alike { (a : ℕ) → first ≤ a → a ≤ last → (D.disk disks.old (a + 16)).told ≡ (D.disk disks.old a).told }
-    ensures opens { IfOk result (λ held. HasOpened (outside D.disk D.may_leave L.calls L.lost L.faults O.held O.faults) config.now first last
+    ensures opens { IfOk result (λ held. HasOpened (outside config.now.checkpoint D.disk D.may_leave L.calls L.lost L.faults O.held O.faults) config.now first last
         (places disks.old [] link.old out.old) (places disks.new held.items link.new out.new)) }
-    ensures fails { IfErr result (λ fault. FailsToOpen (outside D.disk D.may_leave L.calls L.lost L.faults O.held O.faults) D.tears config.now first last fault
+    ensures fails { IfErr result (λ fault. FailsToOpen (outside config.now.checkpoint D.disk D.may_leave L.calls L.lost L.faults O.held O.faults) D.tears config.now first last fault
         (places disks.old [] link.old out.old) (places disks.new [] link.new out.new)) }
     ensures logs { SaysOfLogs D.disk config.now.cluster disks.old first (last + 1) result }
     ensures refused { IfErr result (λ fault. IsLogRefused fault

@@ -100,9 +100,9 @@ fn serve_sites<D: Disks, L: Link, O: Sink>(
     out: &mut O,
 ) -> Result<Served, ServeFault>
     requires config { IsConfig config.now }
-    requires served { AllServed (outside D.disk D.may_leave L.calls L.lost L.faults O.held O.faults) config.now.cluster disks.old sites.old }
-    ensures { (served : List ASite) → HoldSites (outside D.disk D.may_leave L.calls L.lost L.faults O.held O.faults) config.now.cluster disks.old sites.old served → Ascend 0 served
-        → AllEnd (outside D.disk D.may_leave L.calls L.lost L.faults O.held O.faults) config.now served turns result
+    requires served { AllServed (outside config.now.checkpoint D.disk D.may_leave L.calls L.lost L.faults O.held O.faults) config.now.cluster disks.old sites.old }
+    ensures { (served : List ASite) → HoldSites (outside config.now.checkpoint D.disk D.may_leave L.calls L.lost L.faults O.held O.faults) config.now.cluster disks.old sites.old served → Ascend 0 served
+        → AllEnd (outside config.now.checkpoint D.disk D.may_leave L.calls L.lost L.faults O.held O.faults) config.now served turns result
         (places disks.old sites.old link.old out.old) (places disks.new sites.new link.new out.new) }
 {
     make_turns(alloc, config, sites, turns, disks, link, out)?;
@@ -131,7 +131,7 @@ fn serve<D: Disks, L: Link, O: Sink>(
     requires alike { (a : ℕ) → first ≤ a → a ≤ last → (D.disk disks.old (a + 16)).told ≡ (D.disk disks.old a).told }
     ensures serves { (logs : List Log) → Follow first logs → length logs + first ≡ last + 1 → AreLogsOf D.disk config.now.cluster disks.old logs
         → ServesOrBreaksOff D.disk D.may_leave D.tears L.calls L.lost O.held config.now logs turns result disks.old disks.new link.old link.new out.old out.new }
-    ensures causes { IfErr result (λ fault. Caused (outside D.disk D.may_leave L.calls L.lost L.faults O.held O.faults) fault
+    ensures causes { IfErr result (λ fault. Caused (outside config.now.checkpoint D.disk D.may_leave L.calls L.lost L.faults O.held O.faults) fault
         (all_seen (places disks.old [] link.old out.old)) (all_seen (places disks.new [] link.new out.new))) }
     ensures logs { SaysOfLogs D.disk config.now.cluster disks.old first (last + 1) result }
     ensures others { KeepsUnserved D.disk D.may_leave first (last + 1) disks.old disks.new }

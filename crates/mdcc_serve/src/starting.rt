@@ -22,9 +22,6 @@ use mdcc_spelling::facts::{facts_have_one_spelling, facts_read_are_well_formed};
 use mdcc_steps::boots_give_nodes;
 use std::alloc::Global;
 
-/// After so many frames a checkpoint is due.
-const CHECKPOINT_EVERY: u32 = 1024;
-
 // A fault of a boot as a server's.
 fn boot_fault(centre: Centre, fault: BootFault) -> ServeFault
     ensures { result ≡ boot_fault_of centre fault }
@@ -56,8 +53,8 @@ fn start_over_log<D: Disks>(
     requires config { IsConfig config.now }
     requires among { centre ≤ config.now.cluster.quorums.centres }
     requires alike { (D.disk disks.old (centre + 16)).told ≡ (D.disk disks.old centre).told }
-    ensures runs { IfOk result (λ running. IsRunning D.disk D.may_leave config.now.cluster centre running disks.old disks.new) }
-    ensures fails { IfErr result (λ fault. FailsToStart D.disk D.may_leave D.tears config.now.cluster centre fault disks.old disks.new) }
+    ensures runs { IfOk result (λ running. IsRunning D.disk D.may_leave config.now.checkpoint config.now.cluster centre running disks.old disks.new) }
+    ensures fails { IfErr result (λ fault. FailsToStart D.disk D.may_leave config.now.checkpoint D.tears config.now.cluster centre fault disks.old disks.new) }
     ensures node { OnOk result (BootsAt D.disk config.now.cluster disks.old centre) }
     ensures says { IfErr result (SaysAt D.disk config.now.cluster disks.old centre) }
 {
@@ -68,7 +65,7 @@ fn start_over_log<D: Disks>(
     current_is_read();
     let store = PoolFacts::new(alloc, config.cluster.cells)?;
     let cluster = config.cluster.copy();
-    match mdcc_centre::start(alloc, cluster, centre, store, disks, CHECKPOINT_EVERY) {
+    match mdcc_centre::start(alloc, cluster, centre, store, disks, config.checkpoint) {
         Ok(running) => Ok(running),
         Err(fault) => Err(start_fault(centre, fault)),
     }
@@ -84,8 +81,8 @@ fn start<D: Disks>(
     requires config { IsConfig config.now }
     requires among { centre ≤ config.now.cluster.quorums.centres }
     requires alike { (D.disk disks.old (centre + 16)).told ≡ (D.disk disks.old centre).told }
-    ensures starts { IfOk result (λ held. HasStarted D.disk D.may_leave config.now.cluster centre held disks.old disks.new) }
-    ensures fails { IfErr result (λ fault. FailsToStart D.disk D.may_leave D.tears config.now.cluster centre fault disks.old disks.new) }
+    ensures starts { IfOk result (λ held. HasStarted D.disk D.may_leave config.now.checkpoint config.now.cluster centre held disks.old disks.new) }
+    ensures fails { IfErr result (λ fault. FailsToStart D.disk D.may_leave config.now.checkpoint D.tears config.now.cluster centre fault disks.old disks.new) }
     ensures node { OnOk result (BootsAt D.disk config.now.cluster disks.old centre) }
     ensures says { IfErr result (SaysAt D.disk config.now.cluster disks.old centre) }
 {
@@ -123,9 +120,9 @@ fn start_next<D: Disks>(
     requires some { 1 ≤ number }
     requires among { number ≤ config.now.cluster.quorums.centres }
     requires alike { (D.disk disks.old (number + 16)).told ≡ (D.disk disks.old number).told }
-    ensures starts { OnOk result ((held : ASite) × (sites.new.items ≡ sites.old.items ++ held ∷ []) × HasStarted D.disk D.may_leave config.now.cluster number held disks.old disks.new) }
-    ensures fails { IfErr result (λ fault. FailsToStart D.disk D.may_leave D.tears config.now.cluster number fault disks.old disks.new
-        ⊎ ((fault ≡ AServeFault.Memory) × (held : ASite) × HasStarted D.disk D.may_leave config.now.cluster number held disks.old disks.new)) }
+    ensures starts { OnOk result ((held : ASite) × (sites.new.items ≡ sites.old.items ++ held ∷ []) × HasStarted D.disk D.may_leave config.now.checkpoint config.now.cluster number held disks.old disks.new) }
+    ensures fails { IfErr result (λ fault. FailsToStart D.disk D.may_leave config.now.checkpoint D.tears config.now.cluster number fault disks.old disks.new
+        ⊎ ((fault ≡ AServeFault.Memory) × (held : ASite) × HasStarted D.disk D.may_leave config.now.checkpoint config.now.cluster number held disks.old disks.new)) }
     ensures node { OnOk result (BootsAt D.disk config.now.cluster disks.old number) }
     ensures says { IfErr result (SaysAt D.disk config.now.cluster disks.old number) }
 {
@@ -148,9 +145,9 @@ pub(crate) fn start_all<D: Disks>(
     requires order { first ≤ last }
     requires among { last ≤ config.now.cluster.quorums.centres }
     requires alike { (a : ℕ) → first ≤ a → a ≤ last → (D.disk disks.old (a + 16)).told ≡ (D.disk disks.old a).told }
-    ensures starts { IfOk result (λ held. HaveStarted D.disk D.may_leave config.now.cluster first held.items disks.old disks.new) }
+    ensures starts { IfOk result (λ held. HaveStarted D.disk D.may_leave config.now.checkpoint config.now.cluster first held.items disks.old disks.new) }
     ensures as_many { IfOk result (λ held. length held.items + first ≡ last + 1) }
-    ensures fails { IfErr result (λ fault. FailToStart D.disk D.may_leave D.tears config.now.cluster first (last + 1 - first) fault disks.old disks.new) }
+    ensures fails { IfErr result (λ fault. FailToStart D.disk D.may_leave config.now.checkpoint D.tears config.now.cluster first (last + 1 - first) fault disks.old disks.new) }
     ensures nodes { OnOk result (AllBoot D.disk config.now.cluster disks.old first (last + 1)) }
     ensures ends { IfErr result (StartEnds D.disk config.now.cluster disks.old first (last + 1)) }
     ensures stay { IfErr result (λ fault. UnlessDisk fault (AllStay D.disk config.now.cluster disks.old disks.new first (last + 1))) }

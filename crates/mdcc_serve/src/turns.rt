@@ -28,10 +28,10 @@ fn turn_at<D: Disks, L: Link, O: Sink>(
 ) -> Result<(), ServeFault>
     requires config { IsConfig config.now }
     requires within { index < length sites.old }
-    requires served { IsServedAt (outside D.disk D.may_leave L.calls L.lost L.faults O.held O.faults) config.now.cluster disks.old sites.old index }
+    requires served { IsServedAt (outside config.now.checkpoint D.disk D.may_leave L.calls L.lost L.faults O.held O.faults) config.now.cluster disks.old sites.old index }
     ensures { (one : HeldSite) (site : ASite) → ((d : HeldSite) → slice_index_or sites.old index d ≡ one)
-        → HoldsSite (outside D.disk D.may_leave L.calls L.lost L.faults O.held O.faults) config.now.cluster disks.old one site
-        → TurnsAt (outside D.disk D.may_leave L.calls L.lost L.faults O.held O.faults) L.waiting config.now one site index result
+        → HoldsSite (outside config.now.checkpoint D.disk D.may_leave L.calls L.lost L.faults O.held O.faults) config.now.cluster disks.old one site
+        → TurnsAt (outside config.now.checkpoint D.disk D.may_leave L.calls L.lost L.faults O.held O.faults) L.waiting config.now one site index result
         (places disks.old sites.old link.old out.old) (places disks.new sites.new link.new out.new) }
 {
     sites[index].turn(alloc, config, disks, link, out, datagram)
@@ -48,9 +48,9 @@ fn turn_of_all<D: Disks, L: Link, O: Sink>(
     datagram: &mut Datagram,
 ) -> Result<(), ServeFault>
     requires config { IsConfig config.now }
-    requires served { AllServed (outside D.disk D.may_leave L.calls L.lost L.faults O.held O.faults) config.now.cluster disks.old sites.old }
-    ensures { (served : List ASite) → HoldSites (outside D.disk D.may_leave L.calls L.lost L.faults O.held O.faults) config.now.cluster disks.old sites.old served → Ascend 0 served
-        → HaveTurn (outside D.disk D.may_leave L.calls L.lost L.faults O.held O.faults) config.now served result
+    requires served { AllServed (outside config.now.checkpoint D.disk D.may_leave L.calls L.lost L.faults O.held O.faults) config.now.cluster disks.old sites.old }
+    ensures { (served : List ASite) → HoldSites (outside config.now.checkpoint D.disk D.may_leave L.calls L.lost L.faults O.held O.faults) config.now.cluster disks.old sites.old served → Ascend 0 served
+        → HaveTurn (outside config.now.checkpoint D.disk D.may_leave L.calls L.lost L.faults O.held O.faults) config.now served result
         (places disks.old sites.old link.old out.old) (places disks.new sites.new link.new out.new) }
 {
     for index in 0..sites.len() {
@@ -70,9 +70,9 @@ pub(crate) fn make_turns<D: Disks, L: Link, O: Sink>(
     out: &mut O,
 ) -> Result<(), ServeFault>
     requires config { IsConfig config.now }
-    requires served { AllServed (outside D.disk D.may_leave L.calls L.lost L.faults O.held O.faults) config.now.cluster disks.old sites.old }
-    ensures { (served : List ASite) → HoldSites (outside D.disk D.may_leave L.calls L.lost L.faults O.held O.faults) config.now.cluster disks.old sites.old served → Ascend 0 served
-        → HaveTurns (outside D.disk D.may_leave L.calls L.lost L.faults O.held O.faults) config.now served turns result
+    requires served { AllServed (outside config.now.checkpoint D.disk D.may_leave L.calls L.lost L.faults O.held O.faults) config.now.cluster disks.old sites.old }
+    ensures { (served : List ASite) → HoldSites (outside config.now.checkpoint D.disk D.may_leave L.calls L.lost L.faults O.held O.faults) config.now.cluster disks.old sites.old served → Ascend 0 served
+        → HaveTurns (outside config.now.checkpoint D.disk D.may_leave L.calls L.lost L.faults O.held O.faults) config.now served turns result
         (places disks.old sites.old link.old out.old) (places disks.new sites.new link.new out.new) }
 {
     let mut datagram: Datagram = [0; 1401];

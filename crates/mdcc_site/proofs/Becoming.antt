@@ -24,10 +24,9 @@ use Rattle.mdcc_runs.specs.Sites.{Doing, Site, idle}
 use Rattle.mdcc_runs.specs.Steps.{answer_queued, dropped, step_queued, stepped}
 use Rattle.mdcc_site.specs.Logs.{with_facts}
 use Rattle.mdcc_site.specs.Moments.{Adds}
-use Rattle.mdcc_site.specs.PendingBytes.{pending_bytes}
+use Rattle.mdcc_site.specs.PendingBytes.{PendingBytes, pending_bytes}
 use Rattle.mdcc_site.specs.SiteState.{Acted, Becomes, CanBeSent, HasStepped, IsShortFact, IsSite, Makes, MakesNone, Refuses}
 use Rattle.mdcc_site.specs.declared.fault.ServeFault.{ServeFault}
-use Rattle.mdcc_site.specs.declared.pending.PendingBytes.{PendingBytes}
 use Rattle.mdcc_site.specs.declared.site.Site.{Site as TheSite}
 
 -- ---- counts that stand

@@ -176,29 +176,29 @@ flight_more Told ServeFault.Output b rest more comes = refl
 flight_more Told ServeFault.Serial b rest more comes = refl
 flight_more Told ServeFault.Memory b rest more comes = refl
 
-finds_more : {D : Type 0} (disk : D → ℕ → Disk) (may_leave : D → ℕ → List ℕ → Type 0) (disks : D) (a : ℕ) (rest more : List Act) → IsLogging a rest → LacksRoom disk may_leave disks rest → LacksRoom disk may_leave disks (rest ++ more)
-finds_more disk may_leave disks a (Act.Append centre facts ∷ rest) more comes lacks = lacks
-finds_more disk may_leave disks a [] more comes lacks = absurd comes
-finds_more disk may_leave disks a (Act.Bind at address ∷ rest) more comes lacks = absurd comes
-finds_more disk may_leave disks a (Act.Receive at gave ∷ rest) more comes lacks = absurd comes
-finds_more disk may_leave disks a (Act.Send from to bytes answer ∷ rest) more comes lacks = absurd comes
-finds_more disk may_leave disks a (Act.Print line ∷ rest) more comes lacks = absurd comes
-finds_more disk may_leave disks a (Act.Stepped ∷ rest) more comes lacks = absurd comes
-finds_more disk may_leave disks a (Act.Dropped ∷ rest) more comes lacks = absurd comes
-finds_more disk may_leave disks a (Act.Unsent ∷ rest) more comes lacks = absurd comes
+finds_more : {D : Type 0} (disk : D → ℕ → Disk) (may_leave : D → ℕ → List ℕ → Type 0) (every : ℕ) (disks : D) (a : ℕ) (rest more : List Act) → IsLogging a rest → LacksRoom disk may_leave every disks rest → LacksRoom disk may_leave every disks (rest ++ more)
+finds_more disk may_leave every disks a (Act.Append centre facts ∷ rest) more comes lacks = lacks
+finds_more disk may_leave every disks a [] more comes lacks = absurd comes
+finds_more disk may_leave every disks a (Act.Bind at address ∷ rest) more comes lacks = absurd comes
+finds_more disk may_leave every disks a (Act.Receive at gave ∷ rest) more comes lacks = absurd comes
+finds_more disk may_leave every disks a (Act.Send from to bytes answer ∷ rest) more comes lacks = absurd comes
+finds_more disk may_leave every disks a (Act.Print line ∷ rest) more comes lacks = absurd comes
+finds_more disk may_leave every disks a (Act.Stepped ∷ rest) more comes lacks = absurd comes
+finds_more disk may_leave every disks a (Act.Dropped ∷ rest) more comes lacks = absurd comes
+finds_more disk may_leave every disks a (Act.Unsent ∷ rest) more comes lacks = absurd comes
 
-pub full_more : {D : Type 0} (disk : D → ℕ → Disk) (may_leave : D → ℕ → List ℕ → Type 0) (disks : D) (Told : Type 0) (fault : ServeFault) (rest more : List Act) → MayComeAt Told fault rest
-    → OnFull disk may_leave disks fault rest → OnFull disk may_leave disks fault (rest ++ more)
-full_more disk may_leave disks Told (ServeFault.Disk a) rest more comes full = tt
-full_more disk may_leave disks Told (ServeFault.Log a LogFault.LogFull) rest more comes full = finds_more disk may_leave disks a rest more comes full
-full_more disk may_leave disks Told (ServeFault.Log a LogFault.DiskFault) rest more comes full = tt
-full_more disk may_leave disks Told (ServeFault.Log a (LogFault.NotALog offset)) rest more comes full = tt
-full_more disk may_leave disks Told (ServeFault.Log a LogFault.Memory) rest more comes full = tt
-full_more disk may_leave disks Told (ServeFault.Boot a fault) rest more comes full = tt
-full_more disk may_leave disks Told ServeFault.Link rest more comes full = tt
-full_more disk may_leave disks Told ServeFault.Output rest more comes full = tt
-full_more disk may_leave disks Told ServeFault.Serial rest more comes full = tt
-full_more disk may_leave disks Told ServeFault.Memory rest more comes full = tt
+pub full_more : {D : Type 0} (disk : D → ℕ → Disk) (may_leave : D → ℕ → List ℕ → Type 0) (every : ℕ) (disks : D) (Told : Type 0) (fault : ServeFault) (rest more : List Act) → MayComeAt Told fault rest
+    → OnFull disk may_leave every disks fault rest → OnFull disk may_leave every disks fault (rest ++ more)
+full_more disk may_leave every disks Told (ServeFault.Disk a) rest more comes full = tt
+full_more disk may_leave every disks Told (ServeFault.Log a LogFault.LogFull) rest more comes full = finds_more disk may_leave every disks a rest more comes full
+full_more disk may_leave every disks Told (ServeFault.Log a LogFault.DiskFault) rest more comes full = tt
+full_more disk may_leave every disks Told (ServeFault.Log a (LogFault.NotALog offset)) rest more comes full = tt
+full_more disk may_leave every disks Told (ServeFault.Log a LogFault.Memory) rest more comes full = tt
+full_more disk may_leave every disks Told (ServeFault.Boot a fault) rest more comes full = tt
+full_more disk may_leave every disks Told ServeFault.Link rest more comes full = tt
+full_more disk may_leave every disks Told ServeFault.Output rest more comes full = tt
+full_more disk may_leave every disks Told ServeFault.Serial rest more comes full = tt
+full_more disk may_leave every disks Told ServeFault.Memory rest more comes full = tt
 
 -- ---- bytes and counts
 
@@ -337,6 +337,6 @@ module _ {D L O : Type 0} (w : Outside D L O) where
     left = rw (failed_more Told fault one.rest more one.comes, text_more Told fault one.rest more one.comes) one.left;
     passes = one.passes;
     cause = one.cause;
-    full = full_more w.disk w.may_leave new.disks Told fault one.rest more one.comes one.full;
+    full = full_more w.disk w.may_leave w.every new.disks Told fault one.rest more one.comes one.full;
     logs = logs one.acts one.rest one.comes one.logs;
   }

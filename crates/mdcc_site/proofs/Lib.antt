@@ -12,4 +12,5 @@ pub mod Persisting
 pub mod Received
 pub mod Receives
 pub mod Sent
+pub mod Sizes
 pub mod Turned

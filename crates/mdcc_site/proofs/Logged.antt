@@ -47,10 +47,10 @@ pub next_are : (centre : ℕ) (more : List Fact) → next_facts centre (facts_lo
 next_are centre [] = refl
 next_are centre (fact ∷ more) = rw (same_is centre) refl
 
-lacks_some : {D : Type 0} (disk : D → ℕ → Disk) (may_leave : D → ℕ → List ℕ → Type 0) (disks : D) (centre : ℕ) (more : List Fact)
-    → (IsTrue (disk disks centre).told → HasNoRoom disk may_leave disks centre more) → LacksRoom disk may_leave disks (facts_logged centre more)
-lacks_some disk may_leave disks centre [] lacks = tt
-lacks_some disk may_leave disks centre (fact ∷ more) lacks = lacks
+lacks_some : {D : Type 0} (disk : D → ℕ → Disk) (may_leave : D → ℕ → List ℕ → Type 0) (every : ℕ) (disks : D) (centre : ℕ) (more : List Fact)
+    → (IsTrue (disk disks centre).told → HasNoRoom disk may_leave every disks centre more) → LacksRoom disk may_leave every disks (facts_logged centre more)
+lacks_some disk may_leave every disks centre [] lacks = tt
+lacks_some disk may_leave every disks centre (fact ∷ more) lacks = lacks
 
 -- ---- where the areas lie
 
@@ -86,7 +86,7 @@ module _ {D : Type 0} (disk : D → ℕ → Disk) (may_leave : D → ℕ → Lis
   others_same centre disks = record { others = λ p one two. refl; crash = λ p one two c left. left }
 
   -- what is read of them is in the open log
-  read_there : (disks : D) (log : OpenAreas) (centre : ℕ) (facts : List Fact) → ((p : ℕ) → IsTrue (disk disks p).told → may_leave disks p (disk disks p).bytes) → OpenLog disk may_leave disks log centre facts
+  read_there : {every : ℕ} (disks : D) (log : OpenAreas) (centre : ℕ) (facts : List Fact) → ((p : ℕ) → IsTrue (disk disks p).told → may_leave disks p (disk disks p).bytes) → OpenLog disk may_leave every disks log centre facts
       → IsTrue (disk disks centre).told → payloads (disk disks centre).bytes (disk disks (centre + 16)).bytes ≡ Ok (encodings_of facts)
   read_there disks log centre facts as_read stands told =
       elim (stands.left told (disk disks centre).bytes (disk disks (centre + 16)).bytes (as_read centre told) (as_read (centre + 16) (subst IsTrue (sym stands.alike) told))) [
@@ -96,8 +96,8 @@ module _ {D : Type 0} (disk : D → ℕ → Disk) (may_leave : D → ℕ → Lis
 
   module _ (moment : D → ℕ) (left_since : D → ℕ → ℕ → List ℕ → Type 0) where
     -- a log that is open there has the same facts, whatever is said of them
-    pub either_from : (disks new : D) (log other : OpenAreas) (centre : ℕ) (facts before after : List Fact) → ((p : ℕ) → IsTrue (disk disks p).told → may_leave disks p (disk disks p).bytes)
-        → OpenLog disk may_leave disks log centre facts → OpenLog disk may_leave disks other centre before
+    pub either_from : {every also : ℕ} (disks new : D) (log other : OpenAreas) (centre : ℕ) (facts before after : List Fact) → ((p : ℕ) → IsTrue (disk disks p).told → may_leave disks p (disk disks p).bytes)
+        → OpenLog disk may_leave every disks log centre facts → OpenLog disk may_leave also disks other centre before
         → LeavesEither disk moment left_since centre before after disks new → LeavesEither disk moment left_since centre facts after disks new
     either_from disks new log other centre facts before after as_read stands taken either first second told left left_second =
         elim (either first second told left left_second) [
@@ -107,7 +107,7 @@ module _ {D : Type 0} (disk : D → ℕ → Disk) (may_leave : D → ℕ → Lis
 
   -- at any moment of a call that does nothing to them
   module _ (moment : D → ℕ) (left_since : D → ℕ → ℕ → List ℕ → Type 0) (only_now : (disks : D) (p : ℕ) (c : List ℕ) → left_since disks p (moment disks) c → may_leave disks p c) where
-    pub either_same : (disks : D) (log : OpenAreas) (centre : ℕ) (facts after : List Fact) → OpenLog disk may_leave disks log centre facts → LeavesEither disk moment left_since centre facts after disks disks
+    pub either_same : {every : ℕ} (disks : D) (log : OpenAreas) (centre : ℕ) (facts after : List Fact) → OpenLog disk may_leave every disks log centre facts → LeavesEither disk moment left_since centre facts after disks disks
     either_same disks log centre facts after stands first second told left left_second =
         elim (stands.left told first second (only_now disks centre first left) (only_now disks (centre + 16) second left_second)) [
           | inl read ↦ inl read
@@ -116,10 +116,10 @@ module _ {D : Type 0} (disk : D → ℕ → Disk) (may_leave : D → ℕ → Lis
 
   -- ---- a log that is full, or for which there is no memory
 
-  pub unlogged : (disks : D) (log : OpenAreas) (centre : ℕ) (facts more : List Fact) (fault : ServeFault) → 1 ≤ length more → OpenLog disk may_leave disks log centre facts
+  pub unlogged : (every : ℕ) (disks : D) (log : OpenAreas) (centre : ℕ) (facts more : List Fact) (fault : ServeFault) → 1 ≤ length more → OpenLog disk may_leave every disks log centre facts
       → (fault ≡ ServeFault.Memory) ⊎ ((fault ≡ ServeFault.Log centre LogFault.LogFull) × AreFull log (map fact_bytes more))
-      → FailsToLog disk may_leave centre facts more fault disks disks
-  unlogged disks log centre facts more fault some stands (inl is) = rw is (record {
+      → FailsToLog disk may_leave every centre facts more fault disks disks
+  unlogged every disks log centre facts more fault some stands (inl is) = rw is (record {
     comes = tt;
     no_boot = tt;
     cause = tt;
@@ -128,12 +128,12 @@ module _ {D : Type 0} (disk : D → ℕ → Disk) (may_leave : D → ℕ → Lis
     passes = disks_same disks;
     others = others_same centre disks;
   })
-  unlogged disks log centre facts more fault some stands (inr is) = rw is.0 (record {
+  unlogged every disks log centre facts more fault some stands (inr is) = rw is.0 (record {
     comes = logging_some centre more some;
     no_boot = tt;
     cause = tt;
-    full = lacks_some disk may_leave disks centre more
-        (λ told. record { facts = facts; log = log; of = stands.of; every = stands.every; at_rest = stands.at_rest told; full = is.1 });
+    full = lacks_some disk may_leave every disks centre more
+        (λ told. record { facts = facts; log = log; of = stands.of; often = stands.often; at_rest = stands.at_rest told; full = is.1 });
     log = stands.left;
     passes = disks_same disks;
     others = others_same centre disks;
@@ -166,7 +166,7 @@ module _ {D : Type 0} (disk : D → ℕ → Disk) (may_leave : D → ℕ → Lis
   ]
 
   -- the areas of a log tell their bytes where its centre does
-  pub told_both : (disks : D) (log : OpenAreas) (centre : ℕ) (facts : List Fact) → OpenLog disk may_leave disks log centre facts → log.area ≤ 1
+  pub told_both : {every : ℕ} (disks : D) (log : OpenAreas) (centre : ℕ) (facts : List Fact) → OpenLog disk may_leave every disks log centre facts → log.area ≤ 1
       → IsTrue (disk disks centre).told → IsTrue (disk disks (place_of log.centre log.area)).told × IsTrue (disk disks (place_of log.centre (other_of log.area))).told
   told_both disks log centre facts stands range told =
       let other : IsTrue (disk disks (centre + 16)).told = subst IsTrue (sym stands.alike) told in
@@ -175,7 +175,7 @@ module _ {D : Type 0} (disk : D → ℕ → Disk) (may_leave : D → ℕ → Lis
         | inr lies ↦ (subst (λ (p : ℕ). IsTrue (disk disks p).told) (sym lies.here_is) other, subst (λ (p : ℕ). IsTrue (disk disks p).told) (sym lies.there_is) told)
       ]
 
-  told_of : (disks : D) (log : OpenAreas) (centre : ℕ) (facts : List Fact) → OpenLog disk may_leave disks log centre facts → log.area ≤ 1
+  told_of : {every : ℕ} (disks : D) (log : OpenAreas) (centre : ℕ) (facts : List Fact) → OpenLog disk may_leave every disks log centre facts → log.area ≤ 1
       → (IsTrue (disk disks (place_of log.centre log.area)).told → IsTrue (disk disks centre).told) × (IsTrue (disk disks (place_of log.centre (other_of log.area))).told → IsTrue (disk disks centre).told)
   told_of disks log centre facts stands range = elim (at_places log centre range stands.of) [
     | inl lies ↦ (λ told. subst (λ (p : ℕ). IsTrue (disk disks p).told) lies.here_is told, λ told. subst IsTrue stands.alike (subst (λ (p : ℕ). IsTrue (disk disks p).told) lies.there_is told))
@@ -183,13 +183,13 @@ module _ {D : Type 0} (disk : D → ℕ → Disk) (may_leave : D → ℕ → Lis
   ]
 
   -- what an append asks of the areas
-  pub settled_there : (disks : D) (log : OpenAreas) (centre : ℕ) (facts : List Fact) → OpenLog disk may_leave disks log centre facts → log.area ≤ 1
+  pub settled_there : {every : ℕ} (disks : D) (log : OpenAreas) (centre : ℕ) (facts : List Fact) → OpenLog disk may_leave every disks log centre facts → log.area ≤ 1
       → IsTrue (disk disks (place_of log.centre log.area)).told
       → IsSettled log (disk disks (place_of log.centre log.area)).bytes (may_leave disks (place_of log.centre log.area))
   settled_there disks log centre facts stands range told =
       let rest = stands.at_rest ((told_of disks log centre facts stands range).0 told) in (rest.log, rest.in_use)
 
-  pub spare_there : (disks : D) (log : OpenAreas) (centre : ℕ) (facts : List Fact) → OpenLog disk may_leave disks log centre facts → log.area ≤ 1
+  pub spare_there : {every : ℕ} (disks : D) (log : OpenAreas) (centre : ℕ) (facts : List Fact) → OpenLog disk may_leave every disks log centre facts → log.area ≤ 1
       → IsTrue (disk disks (place_of log.centre (other_of log.area))).told
       → IsSpare log (disk disks (place_of log.centre (other_of log.area))).bytes (may_leave disks (place_of log.centre (other_of log.area)))
   spare_there disks log centre facts stands range told =
@@ -247,16 +247,16 @@ module _ {D : Type 0} (disk : D → ℕ → Disk) (may_leave : D → ℕ → Lis
             turned (inr there) = inl there
 
         -- the log has the new facts
-        pub appended_stands : (new_log : OpenAreas) (facts more : List Fact) → OpenLog disk may_leave old log centre facts
+        pub appended_stands : (every : ℕ) (new_log : OpenAreas) (facts more : List Fact) → OpenLog disk may_leave every old log centre facts
             → ((all : List (List ℕ)) → IsTrue (disk old (place_of log.centre log.area)).told → IsTrue (disk old (place_of log.centre (other_of log.area))).told
             → IsAtRest disk may_leave old log all → IsAtRest disk may_leave new new_log (all ++ map fact_bytes more))
             → new_log.tail < new_log.every → (new_log.centre ≡ log.centre) × (new_log.every ≡ log.every)
-            → HasLogged disk may_leave centre facts more old new new_log
-        appended_stands new_log facts more stands acknowledged few same = record {
+            → HasLogged disk may_leave every centre facts more old new new_log
+        appended_stands every new_log facts more stands acknowledged few same = record {
           stands = record {
             open_log = record {
               of = same.0 ∙ of;
-              every = same.1 ∙ stands.every;
+              often = same.1 ∙ stands.often;
               alike = told_at _ _ keeps (centre + 16) ∙ (stands.alike ∙ sym (told_at _ _ keeps centre));
               at_rest = λ told.
                   let before = subst IsTrue (told_at _ _ keeps centre) told in
@@ -268,14 +268,14 @@ module _ {D : Type 0} (disk : D → ℕ → Disk) (may_leave : D → ℕ → Lis
                   let rest = acknowledged (encodings_of facts) both.0 both.1 (stands.at_rest before) in
                   inl (rested new new_log centre (encodings_of facts ++ map fact_bytes more) rest.range (same.0 ∙ of) rest first second here there ∙ payloads_more facts more);
             };
-            few = (let every = same.1 ∙ stands.every in subst (λ (n : ℕ). new_log.tail < n) every few);
+            few = subst (λ (n : ℕ). new_log.tail < n) (same.1 ∙ stands.often) few;
           };
           passes = disks_pass _ _ keeps;
           others = others_keep;
         }
 
         -- whatever a crash at any moment of it left, the log has its facts, or those and all the new ones
-        pub either_left : (facts more : List Fact) → OpenLog disk may_leave old log centre facts
+        pub either_left : {every : ℕ} (facts more : List Fact) → OpenLog disk may_leave every old log centre facts
             → ((all : List (List ℕ)) (current spare : List ℕ) → IsTrue (disk old (place_of log.centre log.area)).told → IsTrue (disk old (place_of log.centre (other_of log.area))).told
             → IsAtRest disk may_leave old log all
             → left_since new (place_of log.centre log.area) (moment old) current → left_since new (place_of log.centre (other_of log.area)) (moment old) spare
@@ -297,7 +297,7 @@ module _ {D : Type 0} (disk : D → ℕ → Disk) (may_leave : D → ℕ → Lis
             either one two (inr read) = inr (read ∙ payloads_more facts more)
 
         -- so it is of what a crash leaves then
-        may_have : (facts more : List Fact) → OpenLog disk may_leave old log centre facts
+        may_have : {every : ℕ} (facts more : List Fact) → OpenLog disk may_leave every old log centre facts
             → ((disks : D) (p t : ℕ) (c : List ℕ) → t ≤ moment disks → may_leave disks p c → left_since disks p t c)
             → ((all : List (List ℕ)) (current spare : List ℕ) → IsTrue (disk old (place_of log.centre log.area)).told → IsTrue (disk old (place_of log.centre (other_of log.area))).told
             → IsAtRest disk may_leave old log all
@@ -308,7 +308,7 @@ module _ {D : Type 0} (disk : D → ℕ → Disk) (may_leave : D → ℕ → Lis
             either_left facts more stands reads first second told
             (counts_now new centre (moment old) first keeps.later left) (counts_now new (centre + 16) (moment old) second keeps.later left_second)
 
-        pub append_fails : (fault : LogFault) (facts more : List Fact) → 1 ≤ length more → OpenLog disk may_leave old log centre facts
+        pub append_fails : (every : ℕ) (fault : LogFault) (facts more : List Fact) → 1 ≤ length more → OpenLog disk may_leave every old log centre facts
             → ((disks : D) (p t : ℕ) (c : List ℕ) → t ≤ moment disks → may_leave disks p c → left_since disks p t c)
             → ((all : List (List ℕ)) (current spare : List ℕ) → IsTrue (disk old (place_of log.centre log.area)).told → IsTrue (disk old (place_of log.centre (other_of log.area))).told
             → IsAtRest disk may_leave old log all
@@ -317,8 +317,8 @@ module _ {D : Type 0} (disk : D → ℕ → Disk) (may_leave : D → ℕ → Lis
             → (fault ≡ LogFault.DiskFault → RoseAtOne (disk old (place_of log.centre log.area)) (disk new (place_of log.centre log.area)) (disk old (place_of log.centre (other_of log.area))) (disk new (place_of log.centre (other_of log.area))))
             → (fault ≡ LogFault.LogFull → new ≡ old) → ((n : ℕ) → fault ≡ LogFault.NotALog n → IsTrue (disk old (place_of log.centre log.area)).told → ⊥) → (fault ≡ LogFault.Memory → new ≡ old)
             → (fault ≡ LogFault.LogFull → AreFull log (map fact_bytes more))
-            → FailsToLog disk may_leave centre facts more (log_fault_of centre fault) old new
-        append_fails LogFault.DiskFault facts more some stands counts_now reads rose full a_log memory lacks = record {
+            → FailsToLog disk may_leave every centre facts more (log_fault_of centre fault) old new
+        append_fails every LogFault.DiskFault facts more some stands counts_now reads rose full a_log memory lacks = record {
           comes = logging_some centre more some;
           no_boot = tt;
           cause = rose_there (rose refl);
@@ -327,11 +327,11 @@ module _ {D : Type 0} (disk : D → ℕ → Disk) (may_leave : D → ℕ → Lis
           passes = disks_pass _ _ keeps;
           others = others_keep;
         }
-        append_fails LogFault.LogFull facts more some stands counts_now reads rose full a_log memory lacks =
-            subst (λ (d : D). FailsToLog disk may_leave centre facts more (ServeFault.Log centre LogFault.LogFull) old d) (sym (full refl)) (unlogged disk may_leave old log centre facts more _ some stands (inr (refl, lacks refl)))
-        append_fails LogFault.Memory facts more some stands counts_now reads rose full a_log memory lacks =
-            subst (λ (d : D). FailsToLog disk may_leave centre facts more ServeFault.Memory old d) (sym (memory refl)) (unlogged disk may_leave old log centre facts more _ some stands (inl refl))
-        append_fails (LogFault.NotALog n) facts more some stands counts_now reads rose full a_log memory lacks = record {
+        append_fails every LogFault.LogFull facts more some stands counts_now reads rose full a_log memory lacks =
+            subst (λ (d : D). FailsToLog disk may_leave every centre facts more (ServeFault.Log centre LogFault.LogFull) old d) (sym (full refl)) (unlogged disk may_leave every old log centre facts more _ some stands (inr (refl, lacks refl)))
+        append_fails every LogFault.Memory facts more some stands counts_now reads rose full a_log memory lacks =
+            subst (λ (d : D). FailsToLog disk may_leave every centre facts more ServeFault.Memory old d) (sym (memory refl)) (unlogged disk may_leave every old log centre facts more _ some stands (inl refl))
+        append_fails every (LogFault.NotALog n) facts more some stands counts_now reads rose full a_log memory lacks = record {
           comes = λ told. a_log n refl (told_both old log centre facts stands range told).0;
           no_boot = tt;
           cause = tt;
@@ -341,9 +341,9 @@ module _ {D : Type 0} (disk : D → ℕ → Disk) (may_leave : D → ℕ → Lis
           others = others_keep;
         }
 
-pub same_fault : {D : Type 0} (disk : D → ℕ → Disk) (may_leave : D → ℕ → List ℕ → Type 0) (centre : ℕ) (facts more : List Fact) (result fault : ServeFault) (old new : D) → result ≡ fault
-    → FailsToLog disk may_leave centre facts more fault old new → FailsToLog disk may_leave centre facts more result old new
-same_fault disk may_leave centre facts more result fault old new is fails = rw is fails
+pub same_fault : {D : Type 0} (disk : D → ℕ → Disk) (may_leave : D → ℕ → List ℕ → Type 0) (every centre : ℕ) (facts more : List Fact) (result fault : ServeFault) (old new : D) → result ≡ fault
+    → FailsToLog disk may_leave every centre facts more fault old new → FailsToLog disk may_leave every centre facts more result old new
+same_fault disk may_leave every centre facts more result fault old new is fails = rw is fails
 
 -- ---- what an append asks of the payloads
 

@@ -235,7 +235,7 @@ module _ {D L O : Type 0} (w : Outside D L O) where
       caused (inl is) = rw is tt
       caused (inr is) = rw is.0 is.2
 
-      full : Cause → OnFull w.disk w.may_leave disks fault prints.rest
+      full : Cause → OnFull w.disk w.may_leave w.every disks fault prints.rest
       full (inl is) = rw is tt
       full (inr is) = rw is.0 tt
 
@@ -274,7 +274,7 @@ module _ {D L O : Type 0} (w : Outside D L O) where
         waits = record { pending = refl; all = refl; facts = tt; envelopes = tt };
       }
 
-      pub log_goes : IsSite cluster held site → HasLogged w.disk w.may_leave site.centre site.logged site.pending.facts disks new_disks new.log
+      pub log_goes : IsSite cluster held site → HasLogged w.disk w.may_leave w.every site.centre site.logged site.pending.facts disks new_disks new.log
           → Finishes w cluster site logged (place disks held link out) (place new_disks new link out)
       log_goes is has =
           let still = logged_still site.centre site.pending.facts in
@@ -298,7 +298,7 @@ module _ {D L O : Type 0} (w : Outside D L O) where
             others = has.others;
             stands = record {
               itself = subst (λ (h : TheSite). IsSite cluster h (persisted site)) (sym same) (persisted_is is);
-              log = subst (λ (fs : List Fact). HoldsLog w.disk w.may_leave new_disks new.log site.centre fs) (sym is.waits.all) has.stands;
+              log = subst (λ (fs : List Fact). HoldsLog w.disk w.may_leave w.every new_disks new.log site.centre fs) (sym is.waits.all) has.stands;
             };
           }
 
@@ -320,7 +320,7 @@ module _ {D L O : Type 0} (w : Outside D L O) where
       caused_logging Told ServeFault.Serial comes cause = tt
       caused_logging Told ServeFault.Memory comes cause = tt
 
-      pub log_stops : (fault : ServeFault) → FailsToLog w.disk w.may_leave site.centre site.logged site.pending.facts fault disks new_disks
+      pub log_stops : (fault : ServeFault) → FailsToLog w.disk w.may_leave w.every site.centre site.logged site.pending.facts fault disks new_disks
           → Stops w site logged fault (place disks held link out) (place new_disks new link out)
       log_stops fault fails =
           let quiet = logging_fault (IsTrue (w.disk disks site.centre).told) fault site.centre site.pending.facts fails.comes in

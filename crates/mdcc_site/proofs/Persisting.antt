@@ -19,10 +19,9 @@ use Rattle.mdcc_site.specs.AnyMoment.{LeavesEither}
 use Rattle.mdcc_site.specs.LogEffects.{FailsToLog, HasLogged}
 use Rattle.mdcc_site.specs.Logs.{with_facts}
 use Rattle.mdcc_site.specs.Moments.{Outside}
-use Rattle.mdcc_site.specs.PendingBytes.{pending_bytes}
+use Rattle.mdcc_site.specs.PendingBytes.{PendingBytes, pending_bytes}
 use Rattle.mdcc_site.specs.SiteState.{Finishes, HoldsLog, HoldsSite, Place, SendsAll, SendsSome, Stops, Waits, place}
 use Rattle.mdcc_site.specs.declared.fault.ServeFault.{ServeFault}
-use Rattle.mdcc_site.specs.declared.pending.PendingBytes.{PendingBytes}
 use Rattle.mdcc_site.specs.declared.site.Site.{Site as TheSite}
 
 module _ {D L O : Type 0} (w : Outside D L O) (cluster : Cluster) (config : Config) (site : Site) (whole : IsWhole site) where
@@ -89,9 +88,9 @@ module _ {D L O : Type 0} (w : Outside D L O) (cluster : Cluster) (site : Site) 
     centre_there = ap (λ (h : TheSite). h.centre) empties ∙ stands.itself.centre
 
     -- the log is the same where nothing is pending any more
-    pub log_there : HoldsLog w.disk w.may_leave disks emptied.log emptied.centre site.logged
-    log_there = subst (λ (n : ℕ). HoldsLog w.disk w.may_leave disks emptied.log n site.logged) (sym centre_there)
-        (subst (λ (h : TheSite). HoldsLog w.disk w.may_leave disks h.log site.centre site.logged) (sym empties) stands.log)
+    pub log_there : HoldsLog w.disk w.may_leave w.every disks emptied.log emptied.centre site.logged
+    log_there = subst (λ (n : ℕ). HoldsLog w.disk w.may_leave w.every disks emptied.log n site.logged) (sym centre_there)
+        (subst (λ (h : TheSite). HoldsLog w.disk w.may_leave w.every disks h.log site.centre site.logged) (sym empties) stands.log)
 
     -- at any moment of logging them
     pub logged_either : (config : Config) (moment : D → ℕ) (left_since : D → ℕ → ℕ → List ℕ → Type 0) (new_disks : D)
@@ -106,12 +105,12 @@ module _ {D L O : Type 0} (w : Outside D L O) (cluster : Cluster) (site : Site) 
       pub same_there : new ≡ record held { log = new.log; pending = pending_bytes nothing_pending }
       same_there = only ∙ ap (λ (h : TheSite). record h { log = new.log }) empties
 
-      pub log_done : HasLogged w.disk w.may_leave emptied.centre site.logged site.pending.facts disks new_disks new.log
+      pub log_done : HasLogged w.disk w.may_leave w.every emptied.centre site.logged site.pending.facts disks new_disks new.log
           → Finishes w cluster site (logged w cluster site disks new_disks held new link out same_there) (place disks held link out) (place new_disks new link out)
       log_done has = log_goes w cluster site disks new_disks held new link out same_there stands.itself
-          (subst (λ (n : ℕ). HasLogged w.disk w.may_leave n site.logged site.pending.facts disks new_disks new.log) centre_there has)
+          (subst (λ (n : ℕ). HasLogged w.disk w.may_leave w.every n site.logged site.pending.facts disks new_disks new.log) centre_there has)
 
-      pub log_broken : (fault : ServeFault) → FailsToLog w.disk w.may_leave emptied.centre site.logged site.pending.facts fault disks new_disks
+      pub log_broken : (fault : ServeFault) → FailsToLog w.disk w.may_leave w.every emptied.centre site.logged site.pending.facts fault disks new_disks
           → Stops w site (logged w cluster site disks new_disks held new link out same_there) fault (place disks held link out) (place new_disks new link out)
       log_broken fault fails = log_stops w cluster site disks new_disks held new link out same_there fault
-          (subst (λ (n : ℕ). FailsToLog w.disk w.may_leave n site.logged site.pending.facts fault disks new_disks) centre_there fails)
+          (subst (λ (n : ℕ). FailsToLog w.disk w.may_leave w.every n site.logged site.pending.facts fault disks new_disks) centre_there fails)

@@ -4,6 +4,7 @@ pub mod LogEffects
 pub mod Logs
 pub mod Moments
 pub mod PendingBytes
+pub mod PendingSize
 pub mod Printing
 pub mod Room
 pub mod Silence

@@ -30,21 +30,21 @@ module _ {D : Type 0} (disk : D → ℕ → Disk) (may_leave : D → ℕ → Lis
   CausedOn (ServeFault.Disk a) old new = RoseAtOne (disk old a) (disk new a) (disk old (a + 16)) (disk new (a + 16))
   CausedOn fault old new = ⊤
 
-  pub record HasLogged (centre : ℕ) (facts more : List Fact) (old new : D) (log : OpenAreas) : Type 0 where
-    pub stands : HoldsLog disk may_leave new log centre (with_facts facts more)
+  pub record HasLogged (every centre : ℕ) (facts more : List Fact) (old new : D) (log : OpenAreas) : Type 0 where
+    pub stands : HoldsLog disk may_leave every new log centre (with_facts facts more)
     pub passes : DiskPasses disk may_leave old new
     pub others : KeepsOthers disk may_leave centre old new
 
-  pub record FailsToLog (centre : ℕ) (facts more : List Fact) (fault : ServeFault) (old new : D) : Type 0 where
+  pub record FailsToLog (every centre : ℕ) (facts more : List Fact) (fault : ServeFault) (old new : D) : Type 0 where
     pub comes : MayComeAt (IsTrue (disk old centre).told) fault (facts_logged centre more)
     pub no_boot : IsNoBoot fault
     pub cause : CausedOn fault old new
-    pub full : OnFull disk may_leave new fault (facts_logged centre more)
+    pub full : OnFull disk may_leave every new fault (facts_logged centre more)
     pub log : IsTrue (disk old centre).told → MayHaveFacts disk may_leave new centre facts (in_flight fault centre (facts_logged centre more))
     pub passes : DiskPasses disk may_leave old new
     pub others : KeepsOthers disk may_leave centre old new
 
-  -- the log of a centre has these facts and these more, or it is said why not and what it may have then
-  abbrev pub Logs : ℕ → List Fact → List Fact → Result (Unit {0}) ServeFault → D → D → OpenAreas → Type 0
-  Logs centre facts more (Ok done) old new log = HasLogged centre facts more old new log
-  Logs centre facts more (Err fault) old new log = FailsToLog centre facts more fault old new
+  -- the log of a centre, of which a checkpoint is due after so many frames, has these facts and these more, or it is said why not and what it may have then
+  abbrev pub Logs : ℕ → ℕ → List Fact → List Fact → Result (Unit {0}) ServeFault → D → D → OpenAreas → Type 0
+  Logs every centre facts more (Ok done) old new log = HasLogged every centre facts more old new log
+  Logs every centre facts more (Err fault) old new log = FailsToLog every centre facts more fault old new

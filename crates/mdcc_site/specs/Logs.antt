@@ -15,20 +15,17 @@ facts_after centre facts acts = with_facts facts (appended centre acts)
 abbrev pub HasFacts : {D : Type 0} → (D → ℕ → Disk) → D → ℕ → List Fact → Type 0
 HasFacts disk disks centre facts = payloads (disk disks centre).bytes (disk disks (centre + 16)).bytes ≡ Ok (encodings_of facts)
 
--- after so many frames a checkpoint is due
-abbrev pub checkpoint_every : ℕ
-checkpoint_every = 1024
-
-module _ {D : Type 0} (disk : D → ℕ → Disk) (may_leave : D → ℕ → List ℕ → Type 0) (disks : D) (centre : ℕ) where
-  -- The log of a centre has these facts, all of them durable, and no checkpoint is due.
+module _ {D : Type 0} (disk : D → ℕ → Disk) (may_leave : D → ℕ → List ℕ → Type 0) (every : ℕ) (disks : D) (centre : ℕ) where
+  -- The log of a centre has these facts, all of them durable, and no checkpoint is due: its tail has fewer frames than make it so.
   pub record KeepsFacts (facts : List Fact) : Type 0 where
     pub log : AreaLog
     pub read : read_areas (disk disks centre).bytes (disk disks (centre + 16)).bytes ≡ Ok log
     pub facts_themselves : payloads_of log ≡ encodings_of facts
-    pub short : length log.tail < checkpoint_every
+    pub short : length log.tail < every
     pub durable : Only (disk disks centre).bytes (may_leave disks centre)
     pub durable_other : Only (disk disks (centre + 16)).bytes (may_leave disks (centre + 16))
 
+module _ {D : Type 0} (disk : D → ℕ → Disk) (may_leave : D → ℕ → List ℕ → Type 0) (disks : D) (centre : ℕ) where
   -- after a crash it has these facts, or these and all the next ones
   abbrev pub MayHaveFacts : List Fact → List Fact → Type 0
   MayHaveFacts facts next =

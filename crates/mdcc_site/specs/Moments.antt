@@ -12,8 +12,9 @@ use Rattle.mdcc_site.specs.Causes.{ComesAt, failed_by, text_begun}
 use Rattle.mdcc_site.specs.Room.{OnFull}
 use Rattle.mdcc_site.specs.declared.fault.ServeFault.{ServeFault}
 
--- what is known of the disks, the link and the output
+-- what is known of the disks, the link and the output, and after how many frames a checkpoint of a log is due
 pub record Outside (D L O : Type 0) : Type 1 where
+  pub every : ℕ
   pub disk : D → ℕ → Disk
   pub may_leave : D → ℕ → List ℕ → Type 0
   pub calls : L → Option (List LinkCall)
@@ -22,8 +23,9 @@ pub record Outside (D L O : Type 0) : Type 1 where
   pub held : O → Option (List ℕ)
   pub out_faults : O → ℕ
 
-abbrev pub outside : {D L O : Type 0} → (D → ℕ → Disk) → (D → ℕ → List ℕ → Type 0) → (L → Option (List LinkCall)) → (L → ℕ) → (L → ℕ) → (O → Option (List ℕ)) → (O → ℕ) → Outside D L O
-outside disk may_leave calls lost faults held out_faults = record {
+abbrev pub outside : {D L O : Type 0} → ℕ → (D → ℕ → Disk) → (D → ℕ → List ℕ → Type 0) → (L → Option (List LinkCall)) → (L → ℕ) → (L → ℕ) → (O → Option (List ℕ)) → (O → ℕ) → Outside D L O
+outside every disk may_leave calls lost faults held out_faults = record {
+  every = every;
   disk = disk;
   may_leave = may_leave;
   calls = calls;
@@ -111,5 +113,5 @@ module _ {D L O : Type 0} (w : Outside D L O) where
     pub left : Leaves acts (failed_by fault rest) (take printed_more (text_begun fault rest)) old new
     pub passes : Passes old new
     pub cause : Caused fault old new
-    pub full : OnFull w.disk w.may_leave new.disks fault rest
+    pub full : OnFull w.disk w.may_leave w.every new.disks fault rest
     pub logs : Logs acts rest

@@ -8,17 +8,16 @@ use Rattle.mdcc_disks.specs.Disks.{Disk}
 use Rattle.mdcc_messages.specs.Spelling.{encodings_of, fact_bytes}
 use Rattle.mdcc_messages.specs.declared.facts.Fact.{Fact}
 use Rattle.mdcc_runs.specs.Acts.{Act}
-use Rattle.mdcc_site.specs.Logs.{checkpoint_every}
 use Rattle.mdcc_site.specs.declared.fault.ServeFault.{ServeFault}
 
-module _ {D : Type 0} (disk : D → ℕ → Disk) (may_leave : D → ℕ → List ℕ → Type 0) (disks : D) where
+module _ {D : Type 0} (disk : D → ℕ → Disk) (may_leave : D → ℕ → List ℕ → Type 0) (every : ℕ) (disks : D) where
   -- The open log of a centre, as it stands on its disks, has no room for these facts: with them the area in use, or a copy of all that is
-  -- due then, would pass the limit of a log.
+  -- due then, after so many frames, would pass the limit of a log.
   pub record HasNoRoom (centre : ℕ) (more : List Fact) : Type 0 where
     pub facts : List Fact
     pub log : OpenAreas
     pub of : log.centre ≡ centre
-    pub every : log.every ≡ checkpoint_every
+    pub often : log.every ≡ every
     pub at_rest : IsAtRest disk may_leave disks log (encodings_of facts)
     pub full : AreFull log (map fact_bytes more)
 

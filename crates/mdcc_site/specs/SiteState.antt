@@ -28,7 +28,7 @@ use Rattle.mdcc_runs.specs.Acts.{Act, dropped_in, printed, steps_in}
 use Rattle.mdcc_runs.specs.Sending.{messages_sent}
 use Rattle.mdcc_runs.specs.Sites.{Doing, Site}
 use Rattle.mdcc_site.specs.Causes.{IsNoBoot, IsPrinting, in_flight, text_begun}
-use Rattle.mdcc_site.specs.Logs.{MayHaveFacts, checkpoint_every, facts_after, with_facts}
+use Rattle.mdcc_site.specs.Logs.{MayHaveFacts, facts_after, with_facts}
 use Rattle.mdcc_site.specs.Moments.{Adds, Broke, Did, KeepsOthers, Moment, Outside}
 use Rattle.mdcc_site.specs.PendingBytes.{pending_bytes}
 use Rattle.mdcc_site.specs.declared.fault.ServeFault.{ServeFault}
@@ -39,11 +39,12 @@ use Rattle.mdcc_messages.specs.Spelling.{encodings_of}
 
 -- ---- its log
 
-module _ {D : Type 0} (disk : D → ℕ → Disk) (may_leave : D → ℕ → List ℕ → Type 0) where
-  -- The open log of a centre, which has these facts where its disks tell their bytes: both do or none.
+module _ {D : Type 0} (disk : D → ℕ → Disk) (may_leave : D → ℕ → List ℕ → Type 0) (every : ℕ) where
+  -- The open log of a centre, which has these facts where its disks tell their bytes: both do or none. After so many frames a checkpoint
+  -- of it is due.
   pub record OpenLog (disks : D) (log : OpenAreas) (centre : ℕ) (facts : List Fact) : Type 0 where
     pub of : log.centre ≡ centre
-    pub every : log.every ≡ checkpoint_every
+    pub often : log.every ≡ every
     pub alike : (disk disks (centre + 16)).told ≡ (disk disks centre).told
     pub at_rest : IsTrue (disk disks centre).told → IsAtRest disk may_leave disks log (encodings_of facts)
     -- whatever a crash leaves of it
@@ -52,7 +53,7 @@ module _ {D : Type 0} (disk : D → ℕ → Disk) (may_leave : D → ℕ → Lis
   -- and no checkpoint is due
   pub record HoldsLog (disks : D) (log : OpenAreas) (centre : ℕ) (facts : List Fact) : Type 0 where
     pub open_log : OpenLog disks log centre facts
-    pub few : log.tail < checkpoint_every
+    pub few : log.tail < every
 
 -- ---- the rest of it
 
@@ -124,7 +125,7 @@ OnSerial fault sent = ⊤
 module _ {D L O : Type 0} (w : Outside D L O) where
   pub record HoldsSite (cluster : Cluster) (disks : D) (held : TheSite) (site : Site) : Type 0 where
     pub itself : IsSite cluster held site
-    pub log : HoldsLog w.disk w.may_leave disks held.log site.centre site.logged
+    pub log : HoldsLog w.disk w.may_leave w.every disks held.log site.centre site.logged
 
   -- it is some centre of the cluster
   pub record IsServed (cluster : Cluster) (disks : D) (held : TheSite) : Type 0 where

@@ -1,5 +1,5 @@
 //! The facts of a centre go into its log.
-ghost use Rattle.std.specs.Prelude.{◌≡◌, ◌≤◌, List, length, map};
+ghost use Rattle.std.specs.Prelude.{◌≡◌, ◌≤◌, List, length, map, ℕ};
 ghost use Rattle.mdcc_messages.specs.Spelling.{fact_bytes};
 ghost use Rattle.mdcc_messages.specs.declared.facts.Fact.{Fact as AFact};
 ghost use Rattle.mdcc_site.specs.AnyMoment.{LeavesEither};
@@ -33,12 +33,12 @@ pub fn log_payloads<D: Disks>(
 ) -> Result<(), ServeFault>
     requires some { 1 ≤ length payloads.now }
     requires short { AreShortFacts payloads.now }
-    requires stands { (before : List AFact) × OpenLog D.disk D.may_leave disks.old log.old centre before }
-    ensures logs { (before facts : List AFact) → OpenLog D.disk D.may_leave disks.old log.old centre before → payloads.now ≡ map fact_bytes facts
-        → Logs D.disk D.may_leave centre before facts result disks.old disks.new log.new }
+    requires stands { (every : ℕ) × (before : List AFact) × OpenLog D.disk D.may_leave every disks.old log.old centre before }
+    ensures logs { (every : ℕ) (before facts : List AFact) → OpenLog D.disk D.may_leave every disks.old log.old centre before → payloads.now ≡ map fact_bytes facts
+        → Logs D.disk D.may_leave every centre before facts result disks.old disks.new log.new }
 
     // A crash at any moment of it leaves the facts from before, or those and all of these.
-    ensures any_moment { (before facts : List AFact) → OpenLog D.disk D.may_leave disks.old log.old centre before → payloads.now ≡ map fact_bytes facts
+    ensures any_moment { (every : ℕ) (before facts : List AFact) → OpenLog D.disk D.may_leave every disks.old log.old centre before → payloads.now ≡ map fact_bytes facts
         → LeavesEither D.disk D.moment D.left_since centre before (with_facts before facts) disks.old disks.new }
 {
     current_is_read();

@@ -4,9 +4,10 @@ ghost use Rattle.std.specs.Prelude.{◌≡◌, ◌++◌, ◌∷◌, [], IfSome, 
 ghost use Rattle.mdcc_journal.specs.Counts.{HasCounts};
 ghost use Rattle.mdcc_messages.specs.Spelling.{fact_bytes};
 ghost use Rattle.mdcc_outbox.specs.Outgoing.{outgoing};
+ghost use Rattle.mdcc_outbox.specs.Shows.{counted};
 ghost use Rattle.mdcc_runs.specs.Runs.{listed};
 ghost use Rattle.mdcc_runs.specs.Sites.{nothing_pending};
-ghost use Rattle.mdcc_site.specs.PendingBytes.{pending_bytes};
+ghost use Rattle.mdcc_site.specs.PendingBytes.{length_of, pending_bytes, size_of};
 ghost use Rattle.mdcc_site.specs.SiteState.{CanBeSent};
 
 use mdcc_base::{HeapList, Memory, TxId};
@@ -14,14 +15,27 @@ use mdcc_centre::payload_of;
 use mdcc_messages::{Envelope, Fact};
 use mdcc_outbox::Outgoing;
 use std::alloc::Global;
+use std::marker::Model;
 
 /// What the steps of a centre made and is not out yet, the oldest first: the payloads of facts that are not in its log, messages that
-/// are not sent, and outcomes that are not printed. Facts and messages are kept as their bytes.
+/// are not sent, and outcomes that are not printed. Facts and messages are kept as their bytes, and these are counted as they come.
 #[derive(Drop)]
 pub struct PendingBytes {
-    pub payloads: HeapList<HeapList<u8>>,
-    pub messages: HeapList<Outgoing>,
-    pub heard: HeapList<(TxId, bool)>,
+    payloads: HeapList<HeapList<u8>>,
+    messages: HeapList<Outgoing>,
+    heard: HeapList<(TxId, bool)>,
+    size: u64,
+}
+
+impl Model for PendingBytes {
+    ghost use Rattle.mdcc_site.specs.PendingBytes.{PendingBytes};
+    ghost use Rattle.mdcc_site.specs.PendingSize.{IsCounted};
+
+    ghost Value = { PendingBytes };
+
+    ghost view = { λ pending. record { payloads = pending.payloads; messages = pending.messages; heard = pending.heard } };
+
+    ghost invariant = { IsCounted };
 }
 
 /// Nothing is pending.
@@ -32,17 +46,63 @@ pub fn nothing_pending(alloc: Global) -> PendingBytes
         payloads: HeapList::new(alloc),
         messages: HeapList::new(alloc),
         heard: HeapList::new(alloc),
+        size: 0,
+    }
+}
+
+// How many bytes a message has, where they are not too many for it to be sent.
+fn length_of(bytes: &Option<HeapList<u8>>) -> u64
+    ensures { result ≡ length_of bytes.now }
+{
+    match bytes {
+        Some(bytes) => bytes.len() as u64,
+        None => 0,
     }
 }
 
 impl PendingBytes {
+    /// The payloads of the facts.
+    pub fn payloads(&self) -> &[HeapList<u8>]
+        ensures { result.now ≡ self.now.payloads }
+    {
+        self.payloads.as_slice()
+    }
+
+    /// The messages.
+    pub fn messages(&self) -> &[Outgoing]
+        ensures { result.now ≡ self.now.messages }
+    {
+        self.messages.as_slice()
+    }
+
+    /// The outcomes that were heard.
+    pub(crate) fn heard(&self) -> &[(TxId, bool)]
+        ensures { result.now ≡ self.now.heard }
+    {
+        self.heard.as_slice()
+    }
+
+    /// How many bytes the facts and messages have. The count stands still at its end.
+    pub(crate) fn size(&self) -> u64
+        ensures { result ≡ counted (size_of self.now.payloads self.now.messages) }
+    {
+        self.size
+    }
+
+    /// Whether nothing is pending.
+    pub(crate) fn is_empty(&self) -> bool {
+        self.payloads.is_empty() && self.messages.is_empty() && self.heard.is_empty()
+    }
+
     // The payload of a fact comes behind the others.
     fn push_fact(&mut self, alloc: Global, fact: &Fact) -> Result<(), Memory>
         requires { HasCounts fact.now }
         ensures { OnOk result (self.new ≡ record self.old { payloads = self.old.payloads ++ fact_bytes fact.now ∷ [] }) }
     {
         let payload = payload_of(alloc, fact)?;
+        let length = payload.len() as u64;
         self.payloads.push(HeapList::from_vec(payload))?;
+        self.size = self.size.saturating_add(length);
         Ok(())
     }
 
@@ -63,7 +123,9 @@ impl PendingBytes {
         ensures { OnOk result (self.new ≡ record self.old { messages = self.old.messages ++ outgoing envelope.now ∷ [] }) }
     {
         let message = Outgoing::new(alloc, envelope)?;
+        let length = length_of(&message.bytes);
         self.messages.push(message)?;
+        self.size = self.size.saturating_add(length);
         Ok(())
     }
 

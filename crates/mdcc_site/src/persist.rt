@@ -95,10 +95,10 @@ impl Site {
         payloads: &[HeapList<u8>],
     ) -> Result<(), ServeFault>
         requires short { AreShortFacts payloads.now }
-        requires stands { (before : List AFact) × HoldsLog D.disk D.may_leave disks.old self.old.log self.old.centre before }
-        ensures logs { (before facts : List AFact) → HoldsLog D.disk D.may_leave disks.old self.old.log self.old.centre before → payloads.now ≡ map fact_bytes facts
-            → Logs D.disk D.may_leave self.old.centre before facts result disks.old disks.new self.new.log }
-        ensures any_moment { (before facts : List AFact) → HoldsLog D.disk D.may_leave disks.old self.old.log self.old.centre before → payloads.now ≡ map fact_bytes facts
+        requires stands { (every : ℕ) × (before : List AFact) × HoldsLog D.disk D.may_leave every disks.old self.old.log self.old.centre before }
+        ensures logs { (every : ℕ) (before facts : List AFact) → HoldsLog D.disk D.may_leave every disks.old self.old.log self.old.centre before → payloads.now ≡ map fact_bytes facts
+            → Logs D.disk D.may_leave every self.old.centre before facts result disks.old disks.new self.new.log }
+        ensures any_moment { (every : ℕ) (before facts : List AFact) → HoldsLog D.disk D.may_leave every disks.old self.old.log self.old.centre before → payloads.now ≡ map fact_bytes facts
             → LeavesEither D.disk D.moment D.left_since self.old.centre before (with_facts before facts) disks.old disks.new }
         ensures same { self.new ≡ record self.old { log = self.new.log } }
     {
@@ -136,19 +136,19 @@ impl Site {
         out: &mut O,
     ) -> Result<(), ServeFault>
         requires config { IsConfig config.now }
-        requires served { IsServed (outside D.disk D.may_leave L.calls L.lost L.faults O.held O.faults) config.now.cluster disks.old self.old }
-        ensures goes { (site : ASite) → HoldsSite (outside D.disk D.may_leave L.calls L.lost L.faults O.held O.faults) config.now.cluster disks.old self.old site
-            → Goes (outside D.disk D.may_leave L.calls L.lost L.faults O.held O.faults) config.now.cluster site (persist_then_send config.now site) result
+        requires served { IsServed (outside config.now.checkpoint D.disk D.may_leave L.calls L.lost L.faults O.held O.faults) config.now.cluster disks.old self.old }
+        ensures goes { (site : ASite) → HoldsSite (outside config.now.checkpoint D.disk D.may_leave L.calls L.lost L.faults O.held O.faults) config.now.cluster disks.old self.old site
+            → Goes (outside config.now.checkpoint D.disk D.may_leave L.calls L.lost L.faults O.held O.faults) config.now.cluster site (persist_then_send config.now site) result
             (place disks.old self.old link.old out.old) (place disks.new self.new link.new out.new) }
 
         // A crash at any moment of it leaves a log without the pending facts, or with all of them.
-        ensures any_moment { (site : ASite) → HoldsSite (outside D.disk D.may_leave L.calls L.lost L.faults O.held O.faults) config.now.cluster disks.old self.old site
+        ensures any_moment { (site : ASite) → HoldsSite (outside config.now.checkpoint D.disk D.may_leave L.calls L.lost L.faults O.held O.faults) config.now.cluster disks.old self.old site
             → LeavesEither D.disk D.moment D.left_since site.centre site.logged (persist_then_send config.now site).site.logged disks.old disks.new }
     {
         let pending = self.take_pending(alloc);
-        self.log_all(disks, pending.payloads.as_slice())?;
-        self.send_all(config, link, pending.messages.as_slice())?;
-        print_heard(alloc, self.centre, pending.heard.as_slice(), out)?;
+        self.log_all(disks, pending.payloads())?;
+        self.send_all(config, link, pending.messages())?;
+        print_heard(alloc, self.centre, pending.heard(), out)?;
         Ok(())
     }
 }

@@ -23,20 +23,14 @@ use mdcc_inbox::Datagram;
 use mdcc_link::Link;
 use std::alloc::Global;
 
-/// With so many pending facts and messages no more inputs are taken before they go out.
-const PENDING_LIMIT: usize = 64;
+/// With so many bytes of pending facts and messages no more inputs are taken before they go out.
+const PENDING_LIMIT: u64 = 262_144;
 
 // Whether they go out at once, whatever waits.
 fn is_full(pending: &PendingBytes) -> bool
     ensures { (made : APending) → pending.now ≡ pending_bytes made → result ≡ is_full made }
 {
-    let facts = pending.payloads.len();
-    facts.saturating_add(pending.messages.len()) >= PENDING_LIMIT
-}
-
-// Whether nothing is pending.
-fn is_empty(pending: &PendingBytes) -> bool {
-    pending.payloads.is_empty() && pending.messages.is_empty() && pending.heard.is_empty()
+    pending.size() >= PENDING_LIMIT
 }
 
 // Whether nothing came at either endpoint.
@@ -78,7 +72,7 @@ impl Site {
         ensures few { (made : APending) → self.now.pending ≡ pending_bytes made → result ≡ true → is_full made ≡ false }
     {
         made_step
-            && !is_empty(&self.pending)
+            && !self.pending.is_empty()
             && !is_full(&self.pending)
             && more_waits(link, self.centre)
     }
@@ -94,11 +88,11 @@ impl Site {
         held: bool,
     ) -> Result<(), ServeFault>
         requires config { IsConfig config.now }
-        requires served { IsServed (outside D.disk D.may_leave L.calls L.lost L.faults O.held O.faults) config.now.cluster disks.old self.old }
-        ensures goes { (site : ASite) → HoldsSite (outside D.disk D.may_leave L.calls L.lost L.faults O.held O.faults) config.now.cluster disks.old self.old site
-            → Goes (outside D.disk D.may_leave L.calls L.lost L.faults O.held O.faults) config.now.cluster site (released config.now held site) result
+        requires served { IsServed (outside config.now.checkpoint D.disk D.may_leave L.calls L.lost L.faults O.held O.faults) config.now.cluster disks.old self.old }
+        ensures goes { (site : ASite) → HoldsSite (outside config.now.checkpoint D.disk D.may_leave L.calls L.lost L.faults O.held O.faults) config.now.cluster disks.old self.old site
+            → Goes (outside config.now.checkpoint D.disk D.may_leave L.calls L.lost L.faults O.held O.faults) config.now.cluster site (released config.now held site) result
             (place disks.old self.old link.old out.old) (place disks.new self.new link.new out.new) }
-        ensures any_moment { (site : ASite) → HoldsSite (outside D.disk D.may_leave L.calls L.lost L.faults O.held O.faults) config.now.cluster disks.old self.old site
+        ensures any_moment { (site : ASite) → HoldsSite (outside config.now.checkpoint D.disk D.may_leave L.calls L.lost L.faults O.held O.faults) config.now.cluster disks.old self.old site
             → LeavesEither D.disk D.moment D.left_since site.centre site.logged (released config.now held site).site.logged disks.old disks.new }
         ensures untouched { held ≡ true → link.new ≡ link.old }
     {
@@ -109,8 +103,8 @@ impl Site {
     }
 
     /// One turn: it receives at both endpoints, and where neither gave anything time passes. What came at the own one is taken before
-    /// it receives at its client's. Then what is pending goes out, unless what came made a step, less than 64 facts and messages are
-    /// pending, and a datagram waits at one of the endpoints: so many facts become durable together. Where nothing came, or what came
+    /// it receives at its client's. Then what is pending goes out, unless what came made a step, the facts and messages that are pending
+    /// have less than 262,144 bytes, and a datagram waits at one of the endpoints: so many facts become durable together. Where nothing came, or what came
     /// made no step, nothing is held back; nor is it where the link knows that nothing waits. A crash at any moment of the turn leaves
     /// the log from before it, or that from after it.
     pub fn turn<D: Disks, L: Link, O: Sink>(
@@ -123,9 +117,9 @@ impl Site {
         datagram: &mut Datagram,
     ) -> Result<(), ServeFault>
         requires config { IsConfig config.now }
-        requires served { IsServed (outside D.disk D.may_leave L.calls L.lost L.faults O.held O.faults) config.now.cluster disks.old self.old }
-        ensures { (site : ASite) → HoldsSite (outside D.disk D.may_leave L.calls L.lost L.faults O.held O.faults) config.now.cluster disks.old self.old site
-            → (given : Given) × Goes (outside D.disk D.may_leave L.calls L.lost L.faults O.held O.faults) config.now.cluster site (turn_of config.now site given) result
+        requires served { IsServed (outside config.now.checkpoint D.disk D.may_leave L.calls L.lost L.faults O.held O.faults) config.now.cluster disks.old self.old }
+        ensures { (site : ASite) → HoldsSite (outside config.now.checkpoint D.disk D.may_leave L.calls L.lost L.faults O.held O.faults) config.now.cluster disks.old self.old site
+            → (given : Given) × Goes (outside config.now.checkpoint D.disk D.may_leave L.calls L.lost L.faults O.held O.faults) config.now.cluster site (turn_of config.now site given) result
             (place disks.old self.old link.old out.old) (place disks.new self.new link.new out.new) × MayWait (L.waiting link.new) site.centre given.waits
             × LeavesEither D.disk D.moment D.left_since site.centre site.logged (turn_of config.now site given).site.logged disks.old disks.new }
     {

@@ -8,12 +8,12 @@ use Rattle.mdcc_serve.proofs.ending.persist_all_then_send.Goals as goal
 
 pub loop-index-init : goal.loop-index-init
 loop-index-init g c served hold ascend =
-    let w = outside g.D.Disks.disk g.D.Disks.may_leave g.L.Link.calls g.L.Link.lost g.L.Link.faults g.O.Sink.held g.O.Sink.faults in
+    let w = outside c.args.config.now.checkpoint g.D.Disks.disk g.D.Disks.may_leave g.L.Link.calls g.L.Link.lost g.L.Link.faults g.O.Sink.held g.O.Sink.faults in
     none_gone w (end_of c.args.config.now) c.args.config.now.cluster (places c.args.disks.now c.args.sites.now c.args.link.now c.args.out.now) served hold
 
 pub persist_at-requires-clause-served : goal.persist_at-requires-clause-served
 persist_at-requires-clause-served g c =
-    let w = outside g.D.Disks.disk g.D.Disks.may_leave g.L.Link.calls g.L.Link.lost g.L.Link.faults g.O.Sink.held g.O.Sink.faults in
+    let w = outside c.args.config.now.checkpoint g.D.Disks.disk g.D.Disks.may_leave g.L.Link.calls g.L.Link.lost g.L.Link.faults g.O.Sink.held g.O.Sink.faults in
     let start = places c.args.disks.now c.args.sites.now c.args.link.now c.args.out.now in
     let now = places c.loop-index.disks c.loop-index.sites c.loop-index.link c.loop-index.out in
     let all = c.requires.served in
@@ -22,7 +22,7 @@ persist_at-requires-clause-served g c =
 
 pub loop-index-preserved : goal.loop-index-preserved
 loop-index-preserved g c served hold ascend =
-    let w = outside g.D.Disks.disk g.D.Disks.may_leave g.L.Link.calls g.L.Link.lost g.L.Link.faults g.O.Sink.held g.O.Sink.faults in
+    let w = outside c.args.config.now.checkpoint g.D.Disks.disk g.D.Disks.may_leave g.L.Link.calls g.L.Link.lost g.L.Link.faults g.O.Sink.held g.O.Sink.faults in
     let start = places c.args.disks.now c.args.sites.now c.args.link.now c.args.out.now in
     let now = places c.loop-index.disks c.loop-index.sites c.loop-index.link c.loop-index.out in
     let new = places c.persist_at.new.disks c.persist_at.new.sites c.persist_at.new.link c.persist_at.new.out in
@@ -31,7 +31,7 @@ loop-index-preserved g c served hold ascend =
 
 pub returns-in_err-persist_at : goal.returns-in_err-persist_at
 returns-in_err-persist_at g c served hold ascend =
-    let w = outside g.D.Disks.disk g.D.Disks.may_leave g.L.Link.calls g.L.Link.lost g.L.Link.faults g.O.Sink.held g.O.Sink.faults in
+    let w = outside c.args.config.now.checkpoint g.D.Disks.disk g.D.Disks.may_leave g.L.Link.calls g.L.Link.lost g.L.Link.faults g.O.Sink.held g.O.Sink.faults in
     let start = places c.args.disks.now c.args.sites.now c.args.link.now c.args.out.now in
     let now = places c.loop-index.disks c.loop-index.sites c.loop-index.link c.loop-index.out in
     let new = places c.persist_at.new.disks c.persist_at.new.sites c.persist_at.new.link c.persist_at.new.out in
@@ -48,7 +48,7 @@ returns-in_err-persist_at g c served hold ascend =
 
 pub returns : goal.returns
 returns g c served hold ascend =
-    let w = outside g.D.Disks.disk g.D.Disks.may_leave g.L.Link.calls g.L.Link.lost g.L.Link.faults g.O.Sink.held g.O.Sink.faults in
+    let w = outside c.args.config.now.checkpoint g.D.Disks.disk g.D.Disks.may_leave g.L.Link.calls g.L.Link.lost g.L.Link.faults g.O.Sink.held g.O.Sink.faults in
     let config = c.args.config.now in
     let start = places c.args.disks.now c.args.sites.now c.args.link.now c.args.out.now in
     let now = places c.loop-index.disks c.loop-index.sites c.loop-index.link c.loop-index.out in

@@ -11,7 +11,7 @@ use Rattle.mdcc_serve.proofs.opening.open.Goals as goal
 
 pub returns-in_err-sites-clause-fails : goal.returns-in_err-sites-clause-fails
 returns-in_err-sites-clause-fails g c =
-    let w = outside g.D.Disks.disk g.D.Disks.may_leave g.L.Link.calls g.L.Link.lost g.L.Link.faults g.O.Sink.held g.O.Sink.faults in
+    let w = outside c.args.config.now.checkpoint g.D.Disks.disk g.D.Disks.may_leave g.L.Link.calls g.L.Link.lost g.L.Link.faults g.O.Sink.held g.O.Sink.faults in
     let e : c.from_residual.result ≡ Err c.in_err-sites.field-0.0 = search rules in
     rw e (start_fails w g.D.Disks.tears c.args.config.now c.args.first c.args.last c.in_err-sites.field-0.0 c.args.disks.now c.start_all.new.disks c.args.link.now c.args.out.now c.requires.order c.in_err-sites.ensures.fails)
 
@@ -23,11 +23,11 @@ bind_all-requires-clause-among g c =
     let many : length held + c.args.first ≡ c.args.last + 1 = c.in_ok-sites.ensures.as_many in
     let among : c.args.last ≤ config.cluster.quorums.centres = c.requires.among in
     subst (λ (sites : List Site). AllByRecursion (λ (site : Site). site.centre ≤ config.cluster.quorums.centres) sites) (sym c.as_slice.ensures.value)
-    (held_among g.D.Disks.disk g.D.Disks.may_leave config.cluster c.start_all.new.disks c.args.first config.cluster.quorums.centres held started.logs started.each started.follow (omega (many, among, arith)))
+    (held_among g.D.Disks.disk g.D.Disks.may_leave c.args.config.now.checkpoint config.cluster c.start_all.new.disks c.args.first config.cluster.quorums.centres held started.logs started.each started.follow (omega (many, among, arith)))
 
 pub returns-in_err-bind_all-clause-fails : goal.returns-in_err-bind_all-clause-fails
 returns-in_err-bind_all-clause-fails g c =
-    let w = outside g.D.Disks.disk g.D.Disks.may_leave g.L.Link.calls g.L.Link.lost g.L.Link.faults g.O.Sink.held g.O.Sink.faults in
+    let w = outside c.args.config.now.checkpoint g.D.Disks.disk g.D.Disks.may_leave g.L.Link.calls g.L.Link.lost g.L.Link.faults g.O.Sink.held g.O.Sink.faults in
     let config = c.args.config.now in
     let among : c.args.last ≤ config.cluster.quorums.centres = c.requires.among in
     let nine : config.cluster.quorums.centres ≤ 9 = c.requires.config.quorums.nine_centres in
@@ -38,7 +38,7 @@ returns-in_err-bind_all-clause-fails g c =
 
 pub returns-in_err-tell_boots-clause-fails : goal.returns-in_err-tell_boots-clause-fails
 returns-in_err-tell_boots-clause-fails g c =
-    let w = outside g.D.Disks.disk g.D.Disks.may_leave g.L.Link.calls g.L.Link.lost g.L.Link.faults g.O.Sink.held g.O.Sink.faults in
+    let w = outside c.args.config.now.checkpoint g.D.Disks.disk g.D.Disks.may_leave g.L.Link.calls g.L.Link.lost g.L.Link.faults g.O.Sink.held g.O.Sink.faults in
     let config = c.args.config.now in
     let among : c.args.last ≤ config.cluster.quorums.centres = c.requires.among in
     let nine : config.cluster.quorums.centres ≤ 9 = c.requires.config.quorums.nine_centres in
@@ -50,7 +50,7 @@ returns-in_err-tell_boots-clause-fails g c =
 
 pub returns-clause-opens : goal.returns-clause-opens
 returns-clause-opens g c =
-    let w = outside g.D.Disks.disk g.D.Disks.may_leave g.L.Link.calls g.L.Link.lost g.L.Link.faults g.O.Sink.held g.O.Sink.faults in
+    let w = outside c.args.config.now.checkpoint g.D.Disks.disk g.D.Disks.may_leave g.L.Link.calls g.L.Link.lost g.L.Link.faults g.O.Sink.held g.O.Sink.faults in
     let config = c.args.config.now in
     let among : c.args.last ≤ config.cluster.quorums.centres = c.requires.among in
     let nine : config.cluster.quorums.centres ≤ 9 = c.requires.config.quorums.nine_centres in

@@ -10,15 +10,15 @@ use Rattle.mdcc_serve.proofs.serve.serve.Goals as goal
 
 pub serve_sites-requires-clause-served : goal.serve_sites-requires-clause-served
 serve_sites-requires-clause-served g c =
-    let w = outside g.D.Disks.disk g.D.Disks.may_leave g.L.Link.calls g.L.Link.lost g.L.Link.faults g.O.Sink.held g.O.Sink.faults in
+    let w = outside c.args.config.now.checkpoint g.D.Disks.disk g.D.Disks.may_leave g.L.Link.calls g.L.Link.lost g.L.Link.faults g.O.Sink.held g.O.Sink.faults in
     let has = c.in_ok-sites.ensures.opens in
     subst (λ (held : List TheSite). AllServed w c.args.config.now.cluster c.open.new.disks held) (sym c.deref_mut.ensures.value) (record { sites = map site_of has.logs; stand = has.finish.stand; ascend = has.ascend })
 
 pub returns-in_err-sites-clause-serves : goal.returns-in_err-sites-clause-serves
 returns-in_err-sites-clause-serves g c logs follow long are =
-    let w = outside g.D.Disks.disk g.D.Disks.may_leave g.L.Link.calls g.L.Link.lost g.L.Link.faults g.O.Sink.held g.O.Sink.faults in
+    let w = outside c.args.config.now.checkpoint g.D.Disks.disk g.D.Disks.may_leave g.L.Link.calls g.L.Link.lost g.L.Link.faults g.O.Sink.held g.O.Sink.faults in
     let e : c.from_residual.result ≡ Err c.in_err-sites.field-0.0 = search rules in
-    rw e (start_breaks w g.D.Disks.tears c.args.config.now c.args.first c.args.last c.args.turns c.in_err-sites.field-0.0 (places c.args.disks.now [] c.args.link.now c.args.out.now) (places c.open.new.disks [] c.open.new.link c.open.new.out)
+    rw e (start_breaks w g.D.Disks.tears c.args.config.now refl c.args.first c.args.last c.args.turns c.in_err-sites.field-0.0 (places c.args.disks.now [] c.args.link.now c.args.out.now) (places c.open.new.disks [] c.open.new.link c.open.new.out)
     c.in_err-sites.ensures.fails logs follow long are)
 
 pub returns-in_err-sites-clause-causes : goal.returns-in_err-sites-clause-causes
@@ -28,17 +28,17 @@ returns-in_err-sites-clause-causes g c =
 
 pub returns-clause-serves : goal.returns-clause-serves
 returns-clause-serves g c logs follow long are =
-    let w = outside g.D.Disks.disk g.D.Disks.may_leave g.L.Link.calls g.L.Link.lost g.L.Link.faults g.O.Sink.held g.O.Sink.faults in
+    let w = outside c.args.config.now.checkpoint g.D.Disks.disk g.D.Disks.may_leave g.L.Link.calls g.L.Link.lost g.L.Link.faults g.O.Sink.held g.O.Sink.faults in
     let config = c.args.config.now in
     let new = places c.serve_sites.new.disks c.serve_sites.new.sites c.serve_sites.new.link c.serve_sites.new.out in
-    serves w g.D.Disks.tears config c.args.first c.args.last c.args.turns c.serve_sites.result c.args.disks.now c.args.link.now c.args.out.now (places c.open.new.disks c.in_ok-sites.sites.items c.open.new.link c.open.new.out) new
+    serves w g.D.Disks.tears config refl c.args.first c.args.last c.args.turns c.serve_sites.result c.args.disks.now c.args.link.now c.args.out.now (places c.open.new.disks c.in_ok-sites.sites.items c.open.new.link c.open.new.out) new
     c.in_ok-sites.ensures.opens
     (subst (λ (held : List TheSite). EndsFrom w config c.args.turns c.serve_sites.result (places c.open.new.disks held c.open.new.link c.open.new.out) new) c.deref_mut.ensures.value c.serve_sites.ensures)
     logs follow long are
 
 pub returns-clause-causes : goal.returns-clause-causes
 returns-clause-causes g c =
-    let w = outside g.D.Disks.disk g.D.Disks.may_leave g.L.Link.calls g.L.Link.lost g.L.Link.faults g.O.Sink.held g.O.Sink.faults in
+    let w = outside c.args.config.now.checkpoint g.D.Disks.disk g.D.Disks.may_leave g.L.Link.calls g.L.Link.lost g.L.Link.faults g.O.Sink.held g.O.Sink.faults in
     let config = c.args.config.now in
     let new = places c.serve_sites.new.disks c.serve_sites.new.sites c.serve_sites.new.link c.serve_sites.new.out in
     serve_caused w config c.args.first c.args.last c.args.turns c.serve_sites.result (places c.args.disks.now [] c.args.link.now c.args.out.now) (places c.open.new.disks c.in_ok-sites.sites.items c.open.new.link c.open.new.out) new
@@ -54,7 +54,7 @@ returns-in_err-sites-clause-logs g c =
 
 pub returns-clause-logs : goal.returns-clause-logs
 returns-clause-logs g c =
-    let w = outside g.D.Disks.disk g.D.Disks.may_leave g.L.Link.calls g.L.Link.lost g.L.Link.faults g.O.Sink.held g.O.Sink.faults in
+    let w = outside c.args.config.now.checkpoint g.D.Disks.disk g.D.Disks.may_leave g.L.Link.calls g.L.Link.lost g.L.Link.faults g.O.Sink.held g.O.Sink.faults in
     let config = c.args.config.now in
     let has = c.in_ok-sites.ensures.opens in
     let new = places c.serve_sites.new.disks c.serve_sites.new.sites c.serve_sites.new.link c.serve_sites.new.out in
@@ -69,7 +69,7 @@ returns-in_err-sites-clause-others g c = c.in_err-sites.ensures.fails.others
 
 pub returns-clause-others : goal.returns-clause-others
 returns-clause-others g c =
-    let w = outside g.D.Disks.disk g.D.Disks.may_leave g.L.Link.calls g.L.Link.lost g.L.Link.faults g.O.Sink.held g.O.Sink.faults in
+    let w = outside c.args.config.now.checkpoint g.D.Disks.disk g.D.Disks.may_leave g.L.Link.calls g.L.Link.lost g.L.Link.faults g.O.Sink.held g.O.Sink.faults in
     let config = c.args.config.now in
     let new = places c.serve_sites.new.disks c.serve_sites.new.sites c.serve_sites.new.link c.serve_sites.new.out in
     serve_others w config c.args.first c.args.last c.args.turns c.serve_sites.result (places c.args.disks.now [] c.args.link.now c.args.out.now) (places c.open.new.disks c.in_ok-sites.sites.items c.open.new.link c.open.new.out) new

@@ -24,17 +24,17 @@ returns-clause-serves g c logs numbers are =
 
 pub returns-clause-disk : goal.returns-clause-disk
 returns-clause-disk g c a ended =
-    let w = outside g.D.Disks.disk g.D.Disks.may_leave g.L.Link.calls g.L.Link.lost g.L.Link.faults g.O.Sink.held g.O.Sink.faults in
+    let w = outside c.args.config.now.checkpoint g.D.Disks.disk g.D.Disks.may_leave g.L.Link.calls g.L.Link.lost g.L.Link.faults g.O.Sink.held g.O.Sink.faults in
     IfErr-at_err (λ (fault : ServeFault). Caused w fault (all_seen (places c.args.disks.now [] c.args.link.now c.args.out.now)) (all_seen (places c.serve.new.disks [] c.serve.new.link c.serve.new.out))) ended c.serve.ensures.causes
 
 pub returns-clause-link : goal.returns-clause-link
 returns-clause-link g c ended =
-    let w = outside g.D.Disks.disk g.D.Disks.may_leave g.L.Link.calls g.L.Link.lost g.L.Link.faults g.O.Sink.held g.O.Sink.faults in
+    let w = outside c.args.config.now.checkpoint g.D.Disks.disk g.D.Disks.may_leave g.L.Link.calls g.L.Link.lost g.L.Link.faults g.O.Sink.held g.O.Sink.faults in
     IfErr-at_err (λ (fault : ServeFault). Caused w fault (all_seen (places c.args.disks.now [] c.args.link.now c.args.out.now)) (all_seen (places c.serve.new.disks [] c.serve.new.link c.serve.new.out))) ended c.serve.ensures.causes
 
 pub returns-clause-output : goal.returns-clause-output
 returns-clause-output g c ended =
-    let w = outside g.D.Disks.disk g.D.Disks.may_leave g.L.Link.calls g.L.Link.lost g.L.Link.faults g.O.Sink.held g.O.Sink.faults in
+    let w = outside c.args.config.now.checkpoint g.D.Disks.disk g.D.Disks.may_leave g.L.Link.calls g.L.Link.lost g.L.Link.faults g.O.Sink.held g.O.Sink.faults in
     IfErr-at_err (λ (fault : ServeFault). Caused w fault (all_seen (places c.args.disks.now [] c.args.link.now c.args.out.now)) (all_seen (places c.serve.new.disks [] c.serve.new.link c.serve.new.out))) ended c.serve.ensures.causes
 
 pub returns-clause-logs : goal.returns-clause-logs

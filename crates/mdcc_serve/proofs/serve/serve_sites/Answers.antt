@@ -27,7 +27,7 @@ returns-in_err-make_turns g c served hold ascend =
 
 pub returns-in_err-persist_all_then_send : goal.returns-in_err-persist_all_then_send
 returns-in_err-persist_all_then_send g c served hold ascend =
-    let w = outside g.D.Disks.disk g.D.Disks.may_leave g.L.Link.calls g.L.Link.lost g.L.Link.faults g.O.Sink.held g.O.Sink.faults in
+    let w = outside c.args.config.now.checkpoint g.D.Disks.disk g.D.Disks.may_leave g.L.Link.calls g.L.Link.lost g.L.Link.faults g.O.Sink.held g.O.Sink.faults in
     let config = c.args.config.now in
     let start = places c.args.disks.now c.args.sites.now c.args.link.now c.args.out.now in
     let mid = places c.make_turns.new.disks c.make_turns.new.sites c.make_turns.new.link c.make_turns.new.out in
@@ -48,7 +48,7 @@ returns-in_err-persist_all_then_send g c served hold ascend =
 
 pub returns-in_err-print_done : goal.returns-in_err-print_done
 returns-in_err-print_done g c served hold ascend =
-    let w = outside g.D.Disks.disk g.D.Disks.may_leave g.L.Link.calls g.L.Link.lost g.L.Link.faults g.O.Sink.held g.O.Sink.faults in
+    let w = outside c.args.config.now.checkpoint g.D.Disks.disk g.D.Disks.may_leave g.L.Link.calls g.L.Link.lost g.L.Link.faults g.O.Sink.held g.O.Sink.faults in
     let config = c.args.config.now in
     let start = places c.args.disks.now c.args.sites.now c.args.link.now c.args.out.now in
     let mid = places c.make_turns.new.disks c.make_turns.new.sites c.make_turns.new.link c.make_turns.new.out in
@@ -67,7 +67,7 @@ returns-in_err-print_done g c served hold ascend =
 
 pub returns : goal.returns
 returns g c served hold ascend =
-    let w = outside g.D.Disks.disk g.D.Disks.may_leave g.L.Link.calls g.L.Link.lost g.L.Link.faults g.O.Sink.held g.O.Sink.faults in
+    let w = outside c.args.config.now.checkpoint g.D.Disks.disk g.D.Disks.may_leave g.L.Link.calls g.L.Link.lost g.L.Link.faults g.O.Sink.held g.O.Sink.faults in
     let config = c.args.config.now in
     let start = places c.args.disks.now c.args.sites.now c.args.link.now c.args.out.now in
     let mid = places c.make_turns.new.disks c.make_turns.new.sites c.make_turns.new.link c.make_turns.new.out in

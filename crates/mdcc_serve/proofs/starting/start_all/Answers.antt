@@ -13,8 +13,8 @@ pub loop-number-init : goal.loop-number-init
 loop-number-init g c =
     let none : c.new-sites.result.items ≡ [] = search rules in
     record {
-      started = subst (λ (held : List Site). HaveStarted g.D.Disks.disk g.D.Disks.may_leave c.args.config.now.cluster c.args.first held c.args.disks.now c.args.disks.now) (sym none)
-          (none_started g.D.Disks.disk g.D.Disks.may_leave c.args.config.now.cluster c.args.first c.args.disks.now);
+      started = subst (λ (held : List Site). HaveStarted g.D.Disks.disk g.D.Disks.may_leave c.args.config.now.checkpoint c.args.config.now.cluster c.args.first held c.args.disks.now c.args.disks.now) (sym none)
+          (none_started g.D.Disks.disk g.D.Disks.may_leave c.args.config.now.checkpoint c.args.config.now.cluster c.args.first c.args.disks.now);
       nodes = none_boot g.D.Disks.disk c.args.config.now.cluster c.args.disks.now c.args.first;
       stay = λ a low high. absurd (omega (low, high, arith));
       many = rw none (omega arith);
@@ -29,8 +29,8 @@ loop-number-preserved g c =
     let nine : c.args.config.now.cluster.quorums.centres ≤ 9 = c.requires.config.quorums.nine_centres in
     let among : c.args.last ≤ c.args.config.now.cluster.quorums.centres = c.requires.among in
     record {
-      started = subst (λ (held : List Site). HaveStarted g.D.Disks.disk g.D.Disks.may_leave c.args.config.now.cluster c.args.first held c.args.disks.now c.start_next.new.disks) (sym {A = List Site} next.1)
-          (one_started g.D.Disks.disk g.D.Disks.may_leave c.args.config.now.cluster c.args.first c.loop-number.number c.loop-number.sites.items c.args.disks.now c.loop-number.disks c.start_next.new.disks
+      started = subst (λ (held : List Site). HaveStarted g.D.Disks.disk g.D.Disks.may_leave c.args.config.now.checkpoint c.args.config.now.cluster c.args.first held c.args.disks.now c.start_next.new.disks) (sym {A = List Site} next.1)
+          (one_started g.D.Disks.disk g.D.Disks.may_leave c.args.config.now.checkpoint c.args.config.now.cluster c.args.first c.loop-number.number c.loop-number.sites.items c.args.disks.now c.loop-number.disks c.start_next.new.disks
           c.requires.some (sym many) (omega (nine, among, arith)) before.started next.0 next.2);
       nodes = one_boots g.D.Disks.disk c.args.config.now.cluster c.args.disks.now c.args.first c.loop-number.number before.nodes
           (boots_still g.D.Disks.disk c.args.config.now.cluster c.args.disks.now g.D.Disks.may_leave c.loop-number.disks c.loop-number.number
@@ -51,14 +51,14 @@ returns-in_err-start_next-clause-fails g c =
     let e : c.from_residual.result ≡ Err fault = search rules in
     rw e (elim c.in_err-start_next.ensures.fails [
       | inl fails ↦
-          start_stops g.D.Disks.disk g.D.Disks.may_leave c.args.config.now.cluster c.args.first c.loop-number.number c.loop-number.sites.items c.args.disks.now c.loop-number.disks c.start_next.new.disks
+          start_stops g.D.Disks.disk g.D.Disks.may_leave c.args.config.now.checkpoint c.args.config.now.cluster c.args.first c.loop-number.number c.loop-number.sites.items c.args.disks.now c.loop-number.disks c.start_next.new.disks
           c.requires.some (sym many) (omega (nine, among, arith)) before.started g.D.Disks.tears count fault (omega (many, arith)) (omega (nine, among, arith)) fails
       | inr lacks ↦
           let more = length-append c.loop-number.sites.items (lacks.1 ∷ []) in
-          let started = one_started g.D.Disks.disk g.D.Disks.may_leave c.args.config.now.cluster c.args.first c.loop-number.number c.loop-number.sites.items c.args.disks.now c.loop-number.disks c.start_next.new.disks
+          let started = one_started g.D.Disks.disk g.D.Disks.may_leave c.args.config.now.checkpoint c.args.config.now.cluster c.args.first c.loop-number.number c.loop-number.sites.items c.args.disks.now c.loop-number.disks c.start_next.new.disks
           c.requires.some (sym many) (omega (nine, among, arith)) before.started lacks.1 lacks.2 in
-          subst (λ (f : ServeFault). FailToStart g.D.Disks.disk g.D.Disks.may_leave g.D.Disks.tears c.args.config.now.cluster c.args.first count f c.args.disks.now c.start_next.new.disks) (sym lacks.0)
-          (keep_stops g.D.Disks.disk g.D.Disks.may_leave c.args.config.now.cluster c.args.first count (c.loop-number.sites.items ++ lacks.1 ∷ []) c.args.disks.now c.start_next.new.disks g.D.Disks.tears started
+          subst (λ (f : ServeFault). FailToStart g.D.Disks.disk g.D.Disks.may_leave c.args.config.now.checkpoint g.D.Disks.tears c.args.config.now.cluster c.args.first count f c.args.disks.now c.start_next.new.disks) (sym lacks.0)
+          (keep_stops g.D.Disks.disk g.D.Disks.may_leave c.args.config.now.checkpoint c.args.config.now.cluster c.args.first count (c.loop-number.sites.items ++ lacks.1 ∷ []) c.args.disks.now c.start_next.new.disks g.D.Disks.tears started
           (omega (more, many, arith)) (omega (nine, among, arith)))
     ])
 

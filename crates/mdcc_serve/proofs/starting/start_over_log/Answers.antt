@@ -22,7 +22,7 @@ start-requires-clause-among g c = among_copy c.copy-cluster.result c.args.config
 pub returns-in_err-store-clause-fails : goal.returns-in_err-store-clause-fails
 returns-in_err-store-clause-fails g c =
     let p = err_from_is_err_and c.from_residual.result c.from_residual.ensures.1 in
-    rw (p.1, p.2) (start_lacks g.D.Disks.disk g.D.Disks.may_leave g.D.Disks.tears c.args.config.now.cluster c.args.centre c.args.disks.now)
+    rw (p.1, p.2) (start_lacks g.D.Disks.disk g.D.Disks.may_leave g.D.Disks.tears c.args.config.now.checkpoint c.args.config.now.cluster c.args.centre c.args.disks.now)
 
 -- ---- it runs
 
@@ -31,8 +31,8 @@ returns-in-Ok-clause-runs g c =
     let cluster = c.copy-cluster.result in
     let holds = holds_copy c.in_ok-store.store cluster c.args.config.now.cluster c.copy-cluster.ensures c.in_ok-store.ensures.empty c.in_ok-store.ensures.spare in
     let log = c.in-Ok.ensures.log in
-    subst (λ (of : Cluster). IsRunning g.D.Disks.disk g.D.Disks.may_leave of c.args.centre c.in-Ok.running c.args.disks.now c.start.new.disks) c.copy-cluster.ensures
-    (runs g.D.Disks.disk g.D.Disks.may_leave cluster c.args.centre c.args.disks.now c.start.new.disks c.current_is_read.ensures c.facts_have_one_spelling.ensures c.facts_read_are_well_formed.ensures c.boots_within_cells.ensures c.boots_give_nodes.ensures.node
+    subst (λ (of : Cluster). IsRunning g.D.Disks.disk g.D.Disks.may_leave c.args.config.now.checkpoint of c.args.centre c.in-Ok.running c.args.disks.now c.start.new.disks) c.copy-cluster.ensures
+    (runs g.D.Disks.disk g.D.Disks.may_leave c.args.config.now.checkpoint cluster c.args.centre c.args.disks.now c.start.new.disks c.current_is_read.ensures c.facts_have_one_spelling.ensures c.facts_read_are_well_formed.ensures c.boots_within_cells.ensures c.boots_give_nodes.ensures.node
     (cluster_copy cluster c.args.config.now c.copy-cluster.ensures c.requires.config) (among_copy cluster c.args.config.now.cluster c.args.centre c.copy-cluster.ensures (omega arith) c.requires.among)
     (but_passes g.D.Disks.disk g.D.Disks.may_leave g.D.Disks.moment g.D.Disks.left_since c.args.disks.now c.start.new.disks c.args.centre (c.args.centre + 16) c.start.ensures.others)
     (but_others g.D.Disks.disk g.D.Disks.may_leave g.D.Disks.moment g.D.Disks.left_since c.args.disks.now c.start.new.disks c.args.centre c.start.ensures.others)
@@ -43,7 +43,7 @@ returns-in-Ok-clause-node g c =
     let cluster = c.copy-cluster.result in
     let holds = holds_copy c.in_ok-store.store cluster c.args.config.now.cluster c.copy-cluster.ensures c.in_ok-store.ensures.empty c.in_ok-store.ensures.spare in
     subst (λ (of : Cluster). BootsAt g.D.Disks.disk of c.args.disks.now c.args.centre) c.copy-cluster.ensures
-    (runs_boot g.D.Disks.disk g.D.Disks.may_leave cluster c.args.centre c.args.disks.now c.start.new.disks c.in-Ok.running (c.in-Ok.ensures.over_any (cells_of cluster) holds))
+    (runs_boot g.D.Disks.disk g.D.Disks.may_leave c.args.config.now.checkpoint cluster c.args.centre c.args.disks.now c.start.new.disks c.in-Ok.running (c.in-Ok.ensures.over_any (cells_of cluster) holds))
 
 -- ---- it does not
 
@@ -53,7 +53,7 @@ returns-in-Err-clause-fails g c =
     let holds = holds_copy c.in_ok-store.store cluster c.args.config.now.cluster c.copy-cluster.ensures c.in_ok-store.ensures.empty c.in_ok-store.ensures.spare in
     let new = c.start.new.disks in
     let counts : (p : ℕ) (bytes : List ℕ) → g.D.Disks.may_leave new p bytes → g.D.Disks.left_since new p (g.D.Disks.moment c.args.disks.now) bytes = λ p bytes left. g.met.D.Disks.counts_now new p (g.D.Disks.moment c.args.disks.now) bytes c.start.ensures.others.later left in
-    let ends : Ends g.D.Disks.disk g.D.Disks.may_leave cluster c.args.centre c.args.disks.now new g.D.Disks.tears c.in-Err.fault = record {
+    let ends : Ends g.D.Disks.disk g.D.Disks.may_leave c.args.config.now.checkpoint cluster c.args.centre c.args.disks.now new g.D.Disks.tears c.in-Err.fault = record {
       passes = but_passes g.D.Disks.disk g.D.Disks.may_leave g.D.Disks.moment g.D.Disks.left_since c.args.disks.now new c.args.centre (c.args.centre + 16) c.start.ensures.others;
       others = but_others g.D.Disks.disk g.D.Disks.may_leave g.D.Disks.moment g.D.Disks.left_since c.args.disks.now new c.args.centre c.start.ensures.others;
       refused = λ facts are log. c.in-Err.ensures.starts (cells_of cluster) facts holds are log;
@@ -68,9 +68,9 @@ returns-in-Err-clause-fails g c =
       no_log_memory = λ is. c.in-Err.ensures.log_memory (err-of is);
       no_boot_memory = λ is. c.in-Err.ensures.boot_memory (err-of is);
     } in
-    subst (λ (fault : ServeFault). FailsToStart g.D.Disks.disk g.D.Disks.may_leave g.D.Disks.tears c.args.config.now.cluster c.args.centre fault c.args.disks.now new) (sym c.start_fault.ensures)
-    (subst (λ (of : Cluster). FailsToStart g.D.Disks.disk g.D.Disks.may_leave g.D.Disks.tears of c.args.centre (start_fault_of c.args.centre c.in-Err.fault) c.args.disks.now new) c.copy-cluster.ensures
-    (fails g.D.Disks.disk g.D.Disks.may_leave cluster c.args.centre c.args.disks.now new c.current_is_read.ensures c.facts_have_one_spelling.ensures c.facts_read_are_well_formed.ensures c.boots_within_cells.ensures c.boots_give_nodes.ensures.node
+    subst (λ (fault : ServeFault). FailsToStart g.D.Disks.disk g.D.Disks.may_leave c.args.config.now.checkpoint g.D.Disks.tears c.args.config.now.cluster c.args.centre fault c.args.disks.now new) (sym c.start_fault.ensures)
+    (subst (λ (of : Cluster). FailsToStart g.D.Disks.disk g.D.Disks.may_leave c.args.config.now.checkpoint g.D.Disks.tears of c.args.centre (start_fault_of c.args.centre c.in-Err.fault) c.args.disks.now new) c.copy-cluster.ensures
+    (fails g.D.Disks.disk g.D.Disks.may_leave c.args.config.now.checkpoint cluster c.args.centre c.args.disks.now new c.current_is_read.ensures c.facts_have_one_spelling.ensures c.facts_read_are_well_formed.ensures c.boots_within_cells.ensures c.boots_give_nodes.ensures.node
     (cluster_copy cluster c.args.config.now c.copy-cluster.ensures c.requires.config) (among_copy cluster c.args.config.now.cluster c.args.centre c.copy-cluster.ensures (omega arith) c.requires.among)
     g.D.Disks.tears c.in-Err.fault ends))
 
@@ -80,5 +80,5 @@ returns-in-Err-clause-says g c =
     let holds = holds_copy c.in_ok-store.store cluster c.args.config.now.cluster c.copy-cluster.ensures c.in_ok-store.ensures.empty c.in_ok-store.ensures.spare in
     subst (λ (fault : ServeFault). SaysAt g.D.Disks.disk c.args.config.now.cluster c.args.disks.now c.args.centre fault) (sym c.start_fault.ensures)
     (subst (λ (of : Cluster). SaysAt g.D.Disks.disk of c.args.disks.now c.args.centre (start_fault_of c.args.centre c.in-Err.fault)) c.copy-cluster.ensures
-    (says g.D.Disks.disk g.D.Disks.may_leave cluster c.args.centre c.args.disks.now c.start.new.disks c.in-Err.fault
+    (says g.D.Disks.disk g.D.Disks.may_leave c.args.config.now.checkpoint cluster c.args.centre c.args.disks.now c.start.new.disks c.in-Err.fault
     (c.in-Err.ensures.over_any (cells_of cluster) holds) (λ n is. c.in-Err.ensures.not_a_log n (err-of is)) (λ is. c.in-Err.ensures.log_memory (err-of is)) (λ is. c.in-Err.ensures.boot_memory (err-of is))))

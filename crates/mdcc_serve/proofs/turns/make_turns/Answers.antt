@@ -8,7 +8,7 @@ use Rattle.mdcc_serve.proofs.turns.make_turns.Goals as goal
 
 pub loop-turn-init : goal.loop-turn-init
 loop-turn-init g c served hold ascend =
-    let w = outside g.D.Disks.disk g.D.Disks.may_leave g.L.Link.calls g.L.Link.lost g.L.Link.faults g.O.Sink.held g.O.Sink.faults in
+    let w = outside c.args.config.now.checkpoint g.D.Disks.disk g.D.Disks.may_leave g.L.Link.calls g.L.Link.lost g.L.Link.faults g.O.Sink.held g.O.Sink.faults in
     none_run w c.args.config.now c.args.config.now.cluster (places c.args.disks.now c.args.sites.now c.args.link.now c.args.out.now) served hold ascend
 
 pub turn_of_all-requires-clause-served : goal.turn_of_all-requires-clause-served
@@ -19,7 +19,7 @@ turn_of_all-requires-clause-served g c =
 
 pub loop-turn-preserved : goal.loop-turn-preserved
 loop-turn-preserved g c served hold ascend =
-    let w = outside g.D.Disks.disk g.D.Disks.may_leave g.L.Link.calls g.L.Link.lost g.L.Link.faults g.O.Sink.held g.O.Sink.faults in
+    let w = outside c.args.config.now.checkpoint g.D.Disks.disk g.D.Disks.may_leave g.L.Link.calls g.L.Link.lost g.L.Link.faults g.O.Sink.held g.O.Sink.faults in
     let config = c.args.config.now in
     let start = places c.args.disks.now c.args.sites.now c.args.link.now c.args.out.now in
     let now = places c.loop-turn.disks c.loop-turn.sites c.loop-turn.link c.loop-turn.out in
@@ -30,7 +30,7 @@ loop-turn-preserved g c served hold ascend =
 
 pub returns-in_err-turn_of_all : goal.returns-in_err-turn_of_all
 returns-in_err-turn_of_all g c served hold ascend =
-    let w = outside g.D.Disks.disk g.D.Disks.may_leave g.L.Link.calls g.L.Link.lost g.L.Link.faults g.O.Sink.held g.O.Sink.faults in
+    let w = outside c.args.config.now.checkpoint g.D.Disks.disk g.D.Disks.may_leave g.L.Link.calls g.L.Link.lost g.L.Link.faults g.O.Sink.held g.O.Sink.faults in
     let config = c.args.config.now in
     let start = places c.args.disks.now c.args.sites.now c.args.link.now c.args.out.now in
     let now = places c.loop-turn.disks c.loop-turn.sites c.loop-turn.link c.loop-turn.out in
@@ -43,7 +43,7 @@ returns-in_err-turn_of_all g c served hold ascend =
 
 pub returns : goal.returns
 returns g c served hold ascend =
-    let w = outside g.D.Disks.disk g.D.Disks.may_leave g.L.Link.calls g.L.Link.lost g.L.Link.faults g.O.Sink.held g.O.Sink.faults in
+    let w = outside c.args.config.now.checkpoint g.D.Disks.disk g.D.Disks.may_leave g.L.Link.calls g.L.Link.lost g.L.Link.faults g.O.Sink.held g.O.Sink.faults in
     let config = c.args.config.now in
     let start = places c.args.disks.now c.args.sites.now c.args.link.now c.args.out.now in
     let now = places c.loop-turn.disks c.loop-turn.sites c.loop-turn.link c.loop-turn.out in

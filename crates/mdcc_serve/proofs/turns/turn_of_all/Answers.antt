@@ -9,12 +9,12 @@ use Rattle.mdcc_serve.proofs.turns.turn_of_all.Goals as goal
 
 pub loop-index-init : goal.loop-index-init
 loop-index-init g c served hold ascend =
-    let w = outside g.D.Disks.disk g.D.Disks.may_leave g.L.Link.calls g.L.Link.lost g.L.Link.faults g.O.Sink.held g.O.Sink.faults in
+    let w = outside c.args.config.now.checkpoint g.D.Disks.disk g.D.Disks.may_leave g.L.Link.calls g.L.Link.lost g.L.Link.faults g.O.Sink.held g.O.Sink.faults in
     none_gone w (turn_of c.args.config.now) c.args.config.now.cluster (places c.args.disks.now c.args.sites.now c.args.link.now c.args.out.now) served hold
 
 pub turn_at-requires-clause-served : goal.turn_at-requires-clause-served
 turn_at-requires-clause-served g c =
-    let w = outside g.D.Disks.disk g.D.Disks.may_leave g.L.Link.calls g.L.Link.lost g.L.Link.faults g.O.Sink.held g.O.Sink.faults in
+    let w = outside c.args.config.now.checkpoint g.D.Disks.disk g.D.Disks.may_leave g.L.Link.calls g.L.Link.lost g.L.Link.faults g.O.Sink.held g.O.Sink.faults in
     let start = places c.args.disks.now c.args.sites.now c.args.link.now c.args.out.now in
     let now = places c.loop-index.disks c.loop-index.sites c.loop-index.link c.loop-index.out in
     let all = c.requires.served in
@@ -23,7 +23,7 @@ turn_at-requires-clause-served g c =
 
 pub loop-index-preserved : goal.loop-index-preserved
 loop-index-preserved g c served hold ascend =
-    let w = outside g.D.Disks.disk g.D.Disks.may_leave g.L.Link.calls g.L.Link.lost g.L.Link.faults g.O.Sink.held g.O.Sink.faults in
+    let w = outside c.args.config.now.checkpoint g.D.Disks.disk g.D.Disks.may_leave g.L.Link.calls g.L.Link.lost g.L.Link.faults g.O.Sink.held g.O.Sink.faults in
     let start = places c.args.disks.now c.args.sites.now c.args.link.now c.args.out.now in
     let now = places c.loop-index.disks c.loop-index.sites c.loop-index.link c.loop-index.out in
     let new = places c.turn_at.new.disks c.turn_at.new.sites c.turn_at.new.link c.turn_at.new.out in
@@ -32,7 +32,7 @@ loop-index-preserved g c served hold ascend =
 
 pub returns-in_err-turn_at : goal.returns-in_err-turn_at
 returns-in_err-turn_at g c served hold ascend =
-    let w = outside g.D.Disks.disk g.D.Disks.may_leave g.L.Link.calls g.L.Link.lost g.L.Link.faults g.O.Sink.held g.O.Sink.faults in
+    let w = outside c.args.config.now.checkpoint g.D.Disks.disk g.D.Disks.may_leave g.L.Link.calls g.L.Link.lost g.L.Link.faults g.O.Sink.held g.O.Sink.faults in
     let start = places c.args.disks.now c.args.sites.now c.args.link.now c.args.out.now in
     let now = places c.loop-index.disks c.loop-index.sites c.loop-index.link c.loop-index.out in
     let new = places c.turn_at.new.disks c.turn_at.new.sites c.turn_at.new.link c.turn_at.new.out in
@@ -49,7 +49,7 @@ returns-in_err-turn_at g c served hold ascend =
 
 pub returns : goal.returns
 returns g c served hold ascend =
-    let w = outside g.D.Disks.disk g.D.Disks.may_leave g.L.Link.calls g.L.Link.lost g.L.Link.faults g.O.Sink.held g.O.Sink.faults in
+    let w = outside c.args.config.now.checkpoint g.D.Disks.disk g.D.Disks.may_leave g.L.Link.calls g.L.Link.lost g.L.Link.faults g.O.Sink.held g.O.Sink.faults in
     let config = c.args.config.now in
     let start = places c.args.disks.now c.args.sites.now c.args.link.now c.args.out.now in
     let now = places c.loop-index.disks c.loop-index.sites c.loop-index.link c.loop-index.out in

@@ -8,6 +8,6 @@ use Rattle.mdcc_serve.proofs.turns.turn_of_all.Given as goal
 
 abbrev pub invariant-loop-index : goal.invariant-loop-index
 invariant-loop-index g l =
-    let w = outside g.D.Disks.disk g.D.Disks.may_leave g.L.Link.calls g.L.Link.lost g.L.Link.faults g.O.Sink.held g.O.Sink.faults in
+    let w = outside l.config.checkpoint g.D.Disks.disk g.D.Disks.may_leave g.L.Link.calls g.L.Link.lost g.L.Link.faults g.O.Sink.held g.O.Sink.faults in
     (served : List Site) → HoldSites w l.config.cluster l.fn.disks l.fn.sites served → Ascend 0 served
     → HaveGone w (turn_of l.config) l.config.cluster (places l.fn.disks l.fn.sites l.fn.link l.fn.out) (places l.disks l.sites l.link l.out) served l.index

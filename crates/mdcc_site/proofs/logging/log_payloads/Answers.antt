@@ -18,26 +18,26 @@ append_all-requires-clause-short g c = payloads_short c.args.payloads.now c.requ
 
 pub append_all-requires-clause-settled : goal.append_all-requires-clause-settled
 append_all-requires-clause-settled g c told =
-    settled_there g.D.Disks.disk g.D.Disks.may_leave c.current_is_read.ensures c.args.disks.now c.args.log.now c.args.centre c.requires.stands.0 c.requires.stands.1 (range-of c.area-area.ensures.value c.area-area.ensures.range) told
+    settled_there g.D.Disks.disk g.D.Disks.may_leave c.current_is_read.ensures c.args.disks.now c.args.log.now c.args.centre c.requires.stands.1 c.requires.stands.2 (range-of c.area-area.ensures.value c.area-area.ensures.range) told
 
 pub append_all-requires-clause-spare : goal.append_all-requires-clause-spare
 append_all-requires-clause-spare g c told =
-    spare_there g.D.Disks.disk g.D.Disks.may_leave c.current_is_read.ensures c.args.disks.now c.args.log.now c.args.centre c.requires.stands.0 c.requires.stands.1 (range-of c.area-area.ensures.value c.area-area.ensures.range) told
+    spare_there g.D.Disks.disk g.D.Disks.may_leave c.current_is_read.ensures c.args.disks.now c.args.log.now c.args.centre c.requires.stands.1 c.requires.stands.2 (range-of c.area-area.ensures.value c.area-area.ensures.range) told
 
 pub returns-in-Ok-clause-logs : goal.returns-in-Ok-clause-logs
-returns-in-Ok-clause-logs g c before facts stands are =
+returns-in-Ok-clause-logs g c every before facts stands are =
     appended_stands g.D.Disks.disk g.D.Disks.may_leave c.current_is_read.ensures g.D.Disks.moment g.D.Disks.left_since c.args.disks.now c.append_all.new.disks
-    c.args.log.now c.args.centre (range-of c.area-area.ensures.value c.area-area.ensures.range) stands.of c.append_all.ensures.others c.append_all.new.self before facts
+    c.args.log.now c.args.centre (range-of c.area-area.ensures.value c.area-area.ensures.range) stands.of c.append_all.ensures.others every c.append_all.new.self before facts
     stands
     (λ all told told_other rest. subst (λ (ps : List (List ℕ)). IsAtRest g.D.Disks.disk g.D.Disks.may_leave c.append_all.new.disks c.append_all.new.self (all ++ ps)) are
     (c.in-Ok.ensures.acknowledged all told told_other rest))
     c.in-Ok.ensures.few c.append_all.ensures.keeps
 
 pub returns-in-Err-clause-logs : goal.returns-in-Err-clause-logs
-returns-in-Err-clause-logs g c before facts stands are =
-    same_fault g.D.Disks.disk g.D.Disks.may_leave c.args.centre before facts _ _ c.args.disks.now c.append_all.new.disks c.log_fault.ensures
+returns-in-Err-clause-logs g c every before facts stands are =
+    same_fault g.D.Disks.disk g.D.Disks.may_leave every c.args.centre before facts _ _ c.args.disks.now c.append_all.new.disks c.log_fault.ensures
     (append_fails g.D.Disks.disk g.D.Disks.may_leave c.current_is_read.ensures g.D.Disks.moment g.D.Disks.left_since c.args.disks.now c.append_all.new.disks
-    c.args.log.now c.args.centre (range-of c.area-area.ensures.value c.area-area.ensures.range) stands.of c.append_all.ensures.others c.in-Err.fault before facts
+    c.args.log.now c.args.centre (range-of c.area-area.ensures.value c.area-area.ensures.range) stands.of c.append_all.ensures.others every c.in-Err.fault before facts
     (some_facts c.args.payloads.now facts are c.requires.some) stands g.met.D.Disks.counts_now
     (λ all current spare told told_other rest left left_other.
     subst (λ (ps : List (List ℕ)). ReadsAsAllOrNone all ps (payloads_by c.args.log.now.area current spare)) are

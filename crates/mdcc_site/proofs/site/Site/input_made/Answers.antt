@@ -17,10 +17,9 @@ use Rattle.mdcc_runs.specs.Sites.{Doing, Pending, Site}
 use Rattle.mdcc_runs.specs.Steps.{ends_told, input_made, step_queued, stepped}
 use Rattle.mdcc_site.proofs.Becoming.{becomes_from, counts_of, lacks_by, refusal_becomes, same_told}
 use Rattle.mdcc_site.proofs.Noted.{ends_can, stepped_told}
-use Rattle.mdcc_site.specs.PendingBytes.{pending_bytes}
+use Rattle.mdcc_site.specs.PendingBytes.{PendingBytes, pending_bytes}
 use Rattle.mdcc_site.specs.SiteState.{Acted, Becomes, CanBeSent}
 use Rattle.mdcc_site.specs.declared.fault.ServeFault.{ServeFault}
-use Rattle.mdcc_site.specs.declared.pending.PendingBytes.{PendingBytes}
 use Rattle.mdcc_site.proofs.site.Site.input_made.Goals as goal
 
 -- the site that hears the end, and tells its client

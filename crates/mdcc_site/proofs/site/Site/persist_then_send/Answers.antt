@@ -9,29 +9,29 @@ use Rattle.mdcc_site.specs.Moments.{outside}
 use Rattle.mdcc_site.specs.Printing.{PrintsFront}
 use Rattle.mdcc_site.specs.SiteState.{Goes, PrintsAll, place}
 use Rattle.mdcc_site.specs.declared.fault.ServeFault.{ServeFault}
-use Rattle.mdcc_site.specs.declared.pending.PendingBytes.{PendingBytes}
+use Rattle.mdcc_site.specs.PendingBytes.{PendingBytes}
 use Rattle.mdcc_site.proofs.site.Site.persist_then_send.Goals as goal
 
 pub log_all-requires-clause-short : goal.log_all-requires-clause-short
 log_all-requires-clause-short g c =
     let stands = c.requires.served.stands in
-    let are = c.as_slice.ensures ∙ (ap (λ (p : PendingBytes). p.payloads) c.take_pending-pending.ensures.taken ∙ ap (λ (p : PendingBytes). p.payloads) stands.itself.waits.pending) in
+    let are = c.payloads.ensures ∙ (ap (λ (p : PendingBytes). p.payloads) c.take_pending-pending.ensures.taken ∙ ap (λ (p : PendingBytes). p.payloads) stands.itself.waits.pending) in
     (c.requires.served.site.pending.facts, are, stands.itself.waits.facts)
 
 pub log_all-requires-clause-stands : goal.log_all-requires-clause-stands
 log_all-requires-clause-stands g c =
-    let w = (outside g.D.Disks.disk g.D.Disks.may_leave g.L.Link.calls g.L.Link.lost g.L.Link.faults g.O.Sink.held g.O.Sink.faults) in
+    let w = (outside c.args.config.now.checkpoint g.D.Disks.disk g.D.Disks.may_leave g.L.Link.calls g.L.Link.lost g.L.Link.faults g.O.Sink.held g.O.Sink.faults) in
     let site = c.requires.served.site in
-    (site.logged, log_there w c.args.config.now.cluster site c.args.disks.now c.args.self.now c.take_pending-pending.new.self c.requires.served.stands c.take_pending-pending.ensures.same)
+    (w.every, site.logged, log_there w c.args.config.now.cluster site c.args.disks.now c.args.self.now c.take_pending-pending.new.self c.requires.served.stands c.take_pending-pending.ensures.same)
 
 pub send_all-requires-clause-few : goal.send_all-requires-clause-few
 send_all-requires-clause-few g c =
-    pending_go c.args.self.now c.requires.served.site c.as_slice-2.result.now c.requires.served.stands.itself.waits
-    (c.as_slice-2.ensures ∙ ap (λ (p : PendingBytes). p.messages) c.take_pending-pending.ensures.taken)
+    pending_go c.args.self.now c.requires.served.site c.messages.result.now c.requires.served.stands.itself.waits
+    (c.messages.ensures ∙ ap (λ (p : PendingBytes). p.messages) c.take_pending-pending.ensures.taken)
 
 pub returns-in_err-log_all-clause-goes : goal.returns-in_err-log_all-clause-goes
 returns-in_err-log_all-clause-goes g c site stands =
-    let w = (outside g.D.Disks.disk g.D.Disks.may_leave g.L.Link.calls g.L.Link.lost g.L.Link.faults g.O.Sink.held g.O.Sink.faults) in
+    let w = (outside c.args.config.now.checkpoint g.D.Disks.disk g.D.Disks.may_leave g.L.Link.calls g.L.Link.lost g.L.Link.faults g.O.Sink.held g.O.Sink.faults) in
     let cluster = c.args.config.now.cluster in
     let config = c.args.config.now in
     let disks = c.args.disks.now in
@@ -40,17 +40,17 @@ returns-in_err-log_all-clause-goes g c site stands =
     let out = c.args.out.now in
     let emptied = c.take_pending-pending.new.self in
     let empties = c.take_pending-pending.ensures.same in
-    let facts_are = c.as_slice.ensures ∙ (ap (λ (p : PendingBytes). p.payloads) c.take_pending-pending.ensures.taken ∙ ap (λ (p : PendingBytes). p.payloads) stands.itself.waits.pending) in
+    let facts_are = c.payloads.ensures ∙ (ap (λ (p : PendingBytes). p.payloads) c.take_pending-pending.ensures.taken ∙ ap (λ (p : PendingBytes). p.payloads) stands.itself.waits.pending) in
     let p = err_from_is_err_and c.from_residual.result c.from_residual.ensures.1 in
     let e : c.from_residual.result ≡ Err c.in_err-log_all.field-0.0 = cc (p.1, p.2) in
     subst (λ (r : Result (Unit {0}) ServeFault). Goes w cluster site (persist_then_send config site) r (place disks held link out) (place c.log_all.new.disks c.log_all.new.self link out)) (sym e)
     (persist_unlogged w cluster config site stands.itself.waits.all
     (log_broken w cluster site disks held emptied stands empties c.log_all.new.disks c.log_all.new.self link out c.log_all.ensures.same _
-    (c.in_err-log_all.ensures.logs site.logged site.pending.facts (log_there w cluster site disks held emptied stands empties) facts_are)))
+    (c.in_err-log_all.ensures.logs w.every site.logged site.pending.facts (log_there w cluster site disks held emptied stands empties) facts_are)))
 
 pub returns-in_err-send_all-clause-goes : goal.returns-in_err-send_all-clause-goes
 returns-in_err-send_all-clause-goes g c site stands =
-    let w = (outside g.D.Disks.disk g.D.Disks.may_leave g.L.Link.calls g.L.Link.lost g.L.Link.faults g.O.Sink.held g.O.Sink.faults) in
+    let w = (outside c.args.config.now.checkpoint g.D.Disks.disk g.D.Disks.may_leave g.L.Link.calls g.L.Link.lost g.L.Link.faults g.O.Sink.held g.O.Sink.faults) in
     let cluster = c.args.config.now.cluster in
     let config = c.args.config.now in
     let disks = c.args.disks.now in
@@ -59,10 +59,10 @@ returns-in_err-send_all-clause-goes g c site stands =
     let out = c.args.out.now in
     let emptied = c.take_pending-pending.new.self in
     let empties = c.take_pending-pending.ensures.same in
-    let facts_are = c.as_slice.ensures ∙ (ap (λ (p : PendingBytes). p.payloads) c.take_pending-pending.ensures.taken ∙ ap (λ (p : PendingBytes). p.payloads) stands.itself.waits.pending) in
+    let facts_are = c.payloads.ensures ∙ (ap (λ (p : PendingBytes). p.payloads) c.take_pending-pending.ensures.taken ∙ ap (λ (p : PendingBytes). p.payloads) stands.itself.waits.pending) in
     let logged = log_done w cluster site disks held emptied stands empties c.log_all.new.disks c.log_all.new.self link out c.log_all.ensures.same
-    (c.in_ok-log_all.ensures.logs site.logged site.pending.facts (log_there w cluster site disks held emptied stands empties) facts_are) in
-    let sends_are = c.as_slice-2.ensures ∙ (ap (λ (p : PendingBytes). p.messages) c.take_pending-pending.ensures.taken ∙ ap (λ (p : PendingBytes). p.messages) stands.itself.waits.pending) in
+    (c.in_ok-log_all.ensures.logs w.every site.logged site.pending.facts (log_there w cluster site disks held emptied stands empties) facts_are) in
+    let sends_are = c.messages.ensures ∙ (ap (λ (p : PendingBytes). p.messages) c.take_pending-pending.ensures.taken ∙ ap (λ (p : PendingBytes). p.messages) stands.itself.waits.pending) in
     let p = err_from_is_err_and c.from_residual-in_err-send_all.result c.from_residual-in_err-send_all.ensures.1 in
     let e : c.from_residual-in_err-send_all.result ≡ Err c.in_err-send_all.field-0.0 = cc (p.1, p.2) in
     subst (λ (r : Result (Unit {0}) ServeFault). Goes w cluster site (persist_then_send config site) r (place disks held link out) (place c.log_all.new.disks c.send_all.new.self c.send_all.new.link out)) (sym e)
@@ -72,7 +72,7 @@ returns-in_err-send_all-clause-goes g c site stands =
 
 pub returns-in_err-print_heard-clause-goes : goal.returns-in_err-print_heard-clause-goes
 returns-in_err-print_heard-clause-goes g c site stands =
-    let w = (outside g.D.Disks.disk g.D.Disks.may_leave g.L.Link.calls g.L.Link.lost g.L.Link.faults g.O.Sink.held g.O.Sink.faults) in
+    let w = (outside c.args.config.now.checkpoint g.D.Disks.disk g.D.Disks.may_leave g.L.Link.calls g.L.Link.lost g.L.Link.faults g.O.Sink.held g.O.Sink.faults) in
     let cluster = c.args.config.now.cluster in
     let config = c.args.config.now in
     let disks = c.args.disks.now in
@@ -81,17 +81,17 @@ returns-in_err-print_heard-clause-goes g c site stands =
     let out = c.args.out.now in
     let emptied = c.take_pending-pending.new.self in
     let empties = c.take_pending-pending.ensures.same in
-    let facts_are = c.as_slice.ensures ∙ (ap (λ (p : PendingBytes). p.payloads) c.take_pending-pending.ensures.taken ∙ ap (λ (p : PendingBytes). p.payloads) stands.itself.waits.pending) in
+    let facts_are = c.payloads.ensures ∙ (ap (λ (p : PendingBytes). p.payloads) c.take_pending-pending.ensures.taken ∙ ap (λ (p : PendingBytes). p.payloads) stands.itself.waits.pending) in
     let logged = log_done w cluster site disks held emptied stands empties c.log_all.new.disks c.log_all.new.self link out c.log_all.ensures.same
-    (c.in_ok-log_all.ensures.logs site.logged site.pending.facts (log_there w cluster site disks held emptied stands empties) facts_are) in
-    let sends_are = c.as_slice-2.ensures ∙ (ap (λ (p : PendingBytes). p.messages) c.take_pending-pending.ensures.taken ∙ ap (λ (p : PendingBytes). p.messages) stands.itself.waits.pending) in
+    (c.in_ok-log_all.ensures.logs w.every site.logged site.pending.facts (log_there w cluster site disks held emptied stands empties) facts_are) in
+    let sends_are = c.messages.ensures ∙ (ap (λ (p : PendingBytes). p.messages) c.take_pending-pending.ensures.taken ∙ ap (λ (p : PendingBytes). p.messages) stands.itself.waits.pending) in
     let all_sent = part_sent w cluster config c.log_all.new.disks c.log_all.new.self c.send_all.new.self (persisted site) link c.send_all.new.link out site.pending.envelopes c.send_all.ensures.same
     logged.stands (c.in_ok-send_all.ensures.sent _ site.pending.envelopes logged.stands.itself.sender sends_are) in
     let last = (messages_sent config (persisted site) site.pending.envelopes).site in
     let centre : c.send_all.new.self.centre ≡ site.centre = all_sent.stands.itself.centre ∙ (messages_only config (persisted site) site.pending.envelopes).centre in
-    let heard_are = c.as_slice-3.ensures ∙ (ap (λ (p : PendingBytes). p.heard) c.take_pending-pending.ensures.taken ∙ ap (λ (p : PendingBytes). p.heard) stands.itself.waits.pending) in
-    let lines_are : heard_printed c.send_all.new.self.centre c.as_slice-3.result.now ≡ heard_printed site.centre site.pending.heard =
-    ap (λ (n : ℕ). heard_printed n c.as_slice-3.result.now) centre ∙ ap (heard_printed site.centre) heard_are in
+    let heard_are = c.heard.ensures ∙ (ap (λ (p : PendingBytes). p.heard) c.take_pending-pending.ensures.taken ∙ ap (λ (p : PendingBytes). p.heard) stands.itself.waits.pending) in
+    let lines_are : heard_printed c.send_all.new.self.centre c.heard.result.now ≡ heard_printed site.centre site.pending.heard =
+    ap (λ (n : ℕ). heard_printed n c.heard.result.now) centre ∙ ap (heard_printed site.centre) heard_are in
     let p = err_from_is_err_and c.from_residual-in_err-print_heard.result c.from_residual-in_err-print_heard.ensures.1 in
     let e : c.from_residual-in_err-print_heard.result ≡ Err c.in_err-print_heard.field-0.0 = cc (p.1, p.2) in
     subst (λ (r : Result (Unit {0}) ServeFault). Goes w cluster site (persist_then_send config site) r (place disks held link out) (place c.log_all.new.disks c.send_all.new.self c.send_all.new.link c.print_heard.new.out)) (sym e)
@@ -102,7 +102,7 @@ returns-in_err-print_heard-clause-goes g c site stands =
 
 pub returns-clause-goes : goal.returns-clause-goes
 returns-clause-goes g c site stands =
-    let w = (outside g.D.Disks.disk g.D.Disks.may_leave g.L.Link.calls g.L.Link.lost g.L.Link.faults g.O.Sink.held g.O.Sink.faults) in
+    let w = (outside c.args.config.now.checkpoint g.D.Disks.disk g.D.Disks.may_leave g.L.Link.calls g.L.Link.lost g.L.Link.faults g.O.Sink.held g.O.Sink.faults) in
     let cluster = c.args.config.now.cluster in
     let config = c.args.config.now in
     let disks = c.args.disks.now in
@@ -111,17 +111,17 @@ returns-clause-goes g c site stands =
     let out = c.args.out.now in
     let emptied = c.take_pending-pending.new.self in
     let empties = c.take_pending-pending.ensures.same in
-    let facts_are = c.as_slice.ensures ∙ (ap (λ (p : PendingBytes). p.payloads) c.take_pending-pending.ensures.taken ∙ ap (λ (p : PendingBytes). p.payloads) stands.itself.waits.pending) in
+    let facts_are = c.payloads.ensures ∙ (ap (λ (p : PendingBytes). p.payloads) c.take_pending-pending.ensures.taken ∙ ap (λ (p : PendingBytes). p.payloads) stands.itself.waits.pending) in
     let logged = log_done w cluster site disks held emptied stands empties c.log_all.new.disks c.log_all.new.self link out c.log_all.ensures.same
-    (c.in_ok-log_all.ensures.logs site.logged site.pending.facts (log_there w cluster site disks held emptied stands empties) facts_are) in
-    let sends_are = c.as_slice-2.ensures ∙ (ap (λ (p : PendingBytes). p.messages) c.take_pending-pending.ensures.taken ∙ ap (λ (p : PendingBytes). p.messages) stands.itself.waits.pending) in
+    (c.in_ok-log_all.ensures.logs w.every site.logged site.pending.facts (log_there w cluster site disks held emptied stands empties) facts_are) in
+    let sends_are = c.messages.ensures ∙ (ap (λ (p : PendingBytes). p.messages) c.take_pending-pending.ensures.taken ∙ ap (λ (p : PendingBytes). p.messages) stands.itself.waits.pending) in
     let all_sent = part_sent w cluster config c.log_all.new.disks c.log_all.new.self c.send_all.new.self (persisted site) link c.send_all.new.link out site.pending.envelopes c.send_all.ensures.same
     logged.stands (c.in_ok-send_all.ensures.sent _ site.pending.envelopes logged.stands.itself.sender sends_are) in
     let last = (messages_sent config (persisted site) site.pending.envelopes).site in
     let centre : c.send_all.new.self.centre ≡ site.centre = all_sent.stands.itself.centre ∙ (messages_only config (persisted site) site.pending.envelopes).centre in
-    let heard_are = c.as_slice-3.ensures ∙ (ap (λ (p : PendingBytes). p.heard) c.take_pending-pending.ensures.taken ∙ ap (λ (p : PendingBytes). p.heard) stands.itself.waits.pending) in
-    let lines_are : heard_printed c.send_all.new.self.centre c.as_slice-3.result.now ≡ heard_printed site.centre site.pending.heard =
-    ap (λ (n : ℕ). heard_printed n c.as_slice-3.result.now) centre ∙ ap (heard_printed site.centre) heard_are in
+    let heard_are = c.heard.ensures ∙ (ap (λ (p : PendingBytes). p.heard) c.take_pending-pending.ensures.taken ∙ ap (λ (p : PendingBytes). p.heard) stands.itself.waits.pending) in
+    let lines_are : heard_printed c.send_all.new.self.centre c.heard.result.now ≡ heard_printed site.centre site.pending.heard =
+    ap (λ (n : ℕ). heard_printed n c.heard.result.now) centre ∙ ap (heard_printed site.centre) heard_are in
     persist_goes w cluster config site stands.itself.waits.all logged all_sent
     (printed_goes w cluster last c.log_all.new.disks c.send_all.new.self c.send_all.new.link out c.print_heard.new.out (heard_printed site.centre site.pending.heard)
     (heard_still site.centre site.pending.heard) all_sent.stands
@@ -129,7 +129,7 @@ returns-clause-goes g c site stands =
 
 pub returns-in_err-log_all-clause-any_moment : goal.returns-in_err-log_all-clause-any_moment
 returns-in_err-log_all-clause-any_moment g c site stands =
-    let w = (outside g.D.Disks.disk g.D.Disks.may_leave g.L.Link.calls g.L.Link.lost g.L.Link.faults g.O.Sink.held g.O.Sink.faults) in
+    let w = (outside c.args.config.now.checkpoint g.D.Disks.disk g.D.Disks.may_leave g.L.Link.calls g.L.Link.lost g.L.Link.faults g.O.Sink.held g.O.Sink.faults) in
     let cluster = c.args.config.now.cluster in
     let emptied = c.take_pending-pending.new.self in
     let empties = c.take_pending-pending.ensures.same in
@@ -139,7 +139,7 @@ returns-in_err-log_all-clause-any_moment g c site stands =
 
 pub returns-in_err-send_all-clause-any_moment : goal.returns-in_err-send_all-clause-any_moment
 returns-in_err-send_all-clause-any_moment g c site stands =
-    let w = (outside g.D.Disks.disk g.D.Disks.may_leave g.L.Link.calls g.L.Link.lost g.L.Link.faults g.O.Sink.held g.O.Sink.faults) in
+    let w = (outside c.args.config.now.checkpoint g.D.Disks.disk g.D.Disks.may_leave g.L.Link.calls g.L.Link.lost g.L.Link.faults g.O.Sink.held g.O.Sink.faults) in
     let cluster = c.args.config.now.cluster in
     let emptied = c.take_pending-pending.new.self in
     let empties = c.take_pending-pending.ensures.same in
@@ -149,7 +149,7 @@ returns-in_err-send_all-clause-any_moment g c site stands =
 
 pub returns-in_err-print_heard-clause-any_moment : goal.returns-in_err-print_heard-clause-any_moment
 returns-in_err-print_heard-clause-any_moment g c site stands =
-    let w = (outside g.D.Disks.disk g.D.Disks.may_leave g.L.Link.calls g.L.Link.lost g.L.Link.faults g.O.Sink.held g.O.Sink.faults) in
+    let w = (outside c.args.config.now.checkpoint g.D.Disks.disk g.D.Disks.may_leave g.L.Link.calls g.L.Link.lost g.L.Link.faults g.O.Sink.held g.O.Sink.faults) in
     let cluster = c.args.config.now.cluster in
     let emptied = c.take_pending-pending.new.self in
     let empties = c.take_pending-pending.ensures.same in
@@ -159,7 +159,7 @@ returns-in_err-print_heard-clause-any_moment g c site stands =
 
 pub returns-clause-any_moment : goal.returns-clause-any_moment
 returns-clause-any_moment g c site stands =
-    let w = (outside g.D.Disks.disk g.D.Disks.may_leave g.L.Link.calls g.L.Link.lost g.L.Link.faults g.O.Sink.held g.O.Sink.faults) in
+    let w = (outside c.args.config.now.checkpoint g.D.Disks.disk g.D.Disks.may_leave g.L.Link.calls g.L.Link.lost g.L.Link.faults g.O.Sink.held g.O.Sink.faults) in
     let cluster = c.args.config.now.cluster in
     let emptied = c.take_pending-pending.new.self in
     let empties = c.take_pending-pending.ensures.same in

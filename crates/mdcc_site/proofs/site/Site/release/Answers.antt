@@ -9,7 +9,7 @@ use Rattle.mdcc_site.proofs.site.Site.release.Goals as goal
 
 pub returns-then-held-clause-goes : goal.returns-then-held-clause-goes
 returns-then-held-clause-goes g c site stands =
-    let w = (outside g.D.Disks.disk g.D.Disks.may_leave g.L.Link.calls g.L.Link.lost g.L.Link.faults g.O.Sink.held g.O.Sink.faults) in
+    let w = (outside c.args.config.now.checkpoint g.D.Disks.disk g.D.Disks.may_leave g.L.Link.calls g.L.Link.lost g.L.Link.faults g.O.Sink.held g.O.Sink.faults) in
     let config = c.args.config.now in
     let at = place c.args.disks.now c.args.self.now c.args.link.now c.args.out.now in
     subst (λ (held : Bool). Finishes w config.cluster site (released config held site) at at) (sym c.if-held.true)
@@ -17,7 +17,7 @@ returns-then-held-clause-goes g c site stands =
 
 pub returns-clause-goes : goal.returns-clause-goes
 returns-clause-goes g c site stands =
-    let w = (outside g.D.Disks.disk g.D.Disks.may_leave g.L.Link.calls g.L.Link.lost g.L.Link.faults g.O.Sink.held g.O.Sink.faults) in
+    let w = (outside c.args.config.now.checkpoint g.D.Disks.disk g.D.Disks.may_leave g.L.Link.calls g.L.Link.lost g.L.Link.faults g.O.Sink.held g.O.Sink.faults) in
     let config = c.args.config.now in
     subst (λ (held : Bool). Goes w config.cluster site (released config held site) c.persist_then_send.result (place c.args.disks.now c.args.self.now c.args.link.now c.args.out.now)
     (place c.persist_then_send.new.disks c.persist_then_send.new.self c.persist_then_send.new.link c.persist_then_send.new.out))

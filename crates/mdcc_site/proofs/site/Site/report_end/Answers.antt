@@ -7,7 +7,7 @@ use Rattle.mdcc_runs.specs.Runs.{listed}
 use Rattle.mdcc_runs.specs.Sending.{answer_to}
 use Rattle.mdcc_runs.specs.Steps.{ends_told}
 use Rattle.mdcc_site.proofs.Noted.{told_end}
-use Rattle.mdcc_site.specs.declared.pending.PendingBytes.{PendingBytes}
+use Rattle.mdcc_site.specs.PendingBytes.{PendingBytes}
 use Rattle.mdcc_site.proofs.site.Site.report_end.Goals as goal
 
 pub returns-clause-told : goal.returns-clause-told

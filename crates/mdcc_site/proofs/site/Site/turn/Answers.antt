@@ -22,7 +22,7 @@ pub receive_asked-requires : goal.receive_asked-requires
 receive_asked-requires g c =
     let site = c.requires.served.site in
     let stands = c.requires.served.stands in
-    let w = (outside g.D.Disks.disk g.D.Disks.may_leave g.L.Link.calls g.L.Link.lost g.L.Link.faults g.O.Sink.held g.O.Sink.faults) in
+    let w = (outside c.args.config.now.checkpoint g.D.Disks.disk g.D.Disks.may_leave g.L.Link.calls g.L.Link.lost g.L.Link.faults g.O.Sink.held g.O.Sink.faults) in
     let config = c.args.config.now in
     let cluster = config.cluster in
     let disks = c.args.disks.now in
@@ -36,7 +36,7 @@ pub tick_if-requires : goal.tick_if-requires
 tick_if-requires g c =
     let site = c.requires.served.site in
     let stands = c.requires.served.stands in
-    let w = (outside g.D.Disks.disk g.D.Disks.may_leave g.L.Link.calls g.L.Link.lost g.L.Link.faults g.O.Sink.held g.O.Sink.faults) in
+    let w = (outside c.args.config.now.checkpoint g.D.Disks.disk g.D.Disks.may_leave g.L.Link.calls g.L.Link.lost g.L.Link.faults g.O.Sink.held g.O.Sink.faults) in
     let config = c.args.config.now in
     let cluster = config.cluster in
     let disks = c.args.disks.now in
@@ -53,7 +53,7 @@ pub release-requires-clause-served : goal.release-requires-clause-served
 release-requires-clause-served g c =
     let site = c.requires.served.site in
     let stands = c.requires.served.stands in
-    let w = (outside g.D.Disks.disk g.D.Disks.may_leave g.L.Link.calls g.L.Link.lost g.L.Link.faults g.O.Sink.held g.O.Sink.faults) in
+    let w = (outside c.args.config.now.checkpoint g.D.Disks.disk g.D.Disks.may_leave g.L.Link.calls g.L.Link.lost g.L.Link.faults g.O.Sink.held g.O.Sink.faults) in
     let config = c.args.config.now in
     let cluster = config.cluster in
     let disks = c.args.disks.now in
@@ -72,7 +72,7 @@ release-requires-clause-served g c =
 
 pub returns-in_err-own : goal.returns-in_err-own
 returns-in_err-own g c site stands =
-    let w = (outside g.D.Disks.disk g.D.Disks.may_leave g.L.Link.calls g.L.Link.lost g.L.Link.faults g.O.Sink.held g.O.Sink.faults) in
+    let w = (outside c.args.config.now.checkpoint g.D.Disks.disk g.D.Disks.may_leave g.L.Link.calls g.L.Link.lost g.L.Link.faults g.O.Sink.held g.O.Sink.faults) in
     let config = c.args.config.now in
     let cluster = config.cluster in
     let disks = c.args.disks.now in
@@ -86,7 +86,7 @@ returns-in_err-own g c site stands =
 
 pub returns-in_err-asked : goal.returns-in_err-asked
 returns-in_err-asked g c site stands =
-    let w = (outside g.D.Disks.disk g.D.Disks.may_leave g.L.Link.calls g.L.Link.lost g.L.Link.faults g.O.Sink.held g.O.Sink.faults) in
+    let w = (outside c.args.config.now.checkpoint g.D.Disks.disk g.D.Disks.may_leave g.L.Link.calls g.L.Link.lost g.L.Link.faults g.O.Sink.held g.O.Sink.faults) in
     let config = c.args.config.now in
     let cluster = config.cluster in
     let disks = c.args.disks.now in
@@ -103,7 +103,7 @@ returns-in_err-asked g c site stands =
 
 pub returns-in_err-tick_if : goal.returns-in_err-tick_if
 returns-in_err-tick_if g c site stands =
-    let w = (outside g.D.Disks.disk g.D.Disks.may_leave g.L.Link.calls g.L.Link.lost g.L.Link.faults g.O.Sink.held g.O.Sink.faults) in
+    let w = (outside c.args.config.now.checkpoint g.D.Disks.disk g.D.Disks.may_leave g.L.Link.calls g.L.Link.lost g.L.Link.faults g.O.Sink.held g.O.Sink.faults) in
     let config = c.args.config.now in
     let cluster = config.cluster in
     let disks = c.args.disks.now in
@@ -129,7 +129,7 @@ returns-in_err-tick_if g c site stands =
 
 pub returns : goal.returns
 returns g c site stands =
-    let w = (outside g.D.Disks.disk g.D.Disks.may_leave g.L.Link.calls g.L.Link.lost g.L.Link.faults g.O.Sink.held g.O.Sink.faults) in
+    let w = (outside c.args.config.now.checkpoint g.D.Disks.disk g.D.Disks.may_leave g.L.Link.calls g.L.Link.lost g.L.Link.faults g.O.Sink.held g.O.Sink.faults) in
     let config = c.args.config.now in
     let cluster = config.cluster in
     let disks = c.args.disks.now in
