@@ -25,6 +25,8 @@ is-config = record {
   port = omega arith;
   some_wait = omega arith;
   wait = omega arith;
+  some_checkpoint = omega arith;
+  checkpoint = omega arith;
   addresses = refl;
 }
 

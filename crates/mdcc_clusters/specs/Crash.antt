@@ -21,6 +21,7 @@ three_centres = record {
       ∷ record { host = 127 ∷ 0 ∷ 0 ∷ 1 ∷ []; port = 7003 } ∷ [];
   port = 7000;
   wait = 20;
+  checkpoint = 1024;
 }
 
 -- ---- datagrams

@@ -25,6 +25,7 @@ config = record {
   addresses = record { host = 127 ∷ 0 ∷ 0 ∷ 1 ∷ []; port = 7001 } ∷ [];
   port = 7000;
   wait = 20;
+  checkpoint = 1024;
 }
 
 abbrev pub item : Item

@@ -74,6 +74,10 @@ default_cells = 1048576
 abbrev pub default_wait : ℕ
 default_wait = 20
 
+-- and after how many frames a checkpoint of a log is due
+abbrev pub default_checkpoint : ℕ
+default_checkpoint = 1024
+
 abbrev pub fields_of : Data → Read Fields
 fields_of d = (do
   centres ← member_as natural Member.Centres d
@@ -86,6 +90,7 @@ fields_of d = (do
   cells ← given_or (Some default_cells) natural Member.Cells (get (name_text Member.Cells) d)
   limit ← given_or (Some FastLimit.Safe) limit Member.Limit (get (name_text Member.Limit) d)
   wait ← given_or (Some default_wait) natural Member.Wait (get (name_text Member.Wait) d)
+  checkpoint ← given_or (Some default_checkpoint) natural Member.Checkpoint (get (name_text Member.Checkpoint) d)
   Ok (record {
     centres = centres;
     classic = classic;
@@ -97,6 +102,7 @@ fields_of d = (do
     cells = cells;
     limit = limit;
     wait = wait;
+    checkpoint = checkpoint;
   }))
 
 -- ---- 4. each member is in its range
@@ -121,6 +127,7 @@ settings_of fields = (do
   cells ← number_in 1 4194304 Member.Cells fields.cells
   limit ← ok_or fields.limit (Fault.Range Member.Limit)
   wait ← number_in 1 60000 Member.Wait fields.wait
+  checkpoint ← number_in 1 4294967295 Member.Checkpoint fields.checkpoint
   Ok (record {
     centres = centres;
     classic = classic;
@@ -132,6 +139,7 @@ settings_of fields = (do
     cells = cells;
     limit = limit;
     wait = wait;
+    checkpoint = checkpoint;
   }))
 
 -- ---- 5. the quorums, and 6. the schema
@@ -171,7 +179,7 @@ abbrev pub config_with : Settings → Read Config
 config_with settings = (do
   cluster ← cluster_of settings
   addresses ← each_address settings.centres settings.port [] settings.hosts
-  Ok (record { cluster = cluster; addresses = addresses; port = settings.port; wait = settings.wait }))
+  Ok (record { cluster = cluster; addresses = addresses; port = settings.port; wait = settings.wait; checkpoint = settings.checkpoint }))
 
 -- the configuration that a JSON value is
 abbrev pub config_in : Data → Read Config

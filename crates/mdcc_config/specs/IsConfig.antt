@@ -16,6 +16,8 @@ pub record AreInRange (settings : Settings) : Type 0 where
   pub port : settings.port ≤ 65000
   pub some_wait : 1 ≤ settings.wait
   pub wait : settings.wait ≤ 60000
+  pub some_checkpoint : 1 ≤ settings.checkpoint
+  pub checkpoint : settings.checkpoint ≤ 4294967295
 
 abbrev pub ports_of : List Address → List ℕ
 ports_of addresses = map (λ address. address.port) addresses
@@ -35,6 +37,8 @@ pub record IsConfig (config : Config) : Type 0 where
   pub port : config.port ≤ 65000
   pub some_wait : 1 ≤ config.wait
   pub wait : config.wait ≤ 60000
+  pub some_checkpoint : 1 ≤ config.checkpoint
+  pub checkpoint : config.checkpoint ≤ 4294967295
   pub addresses : ports_of config.addresses ≡ centre_ports config.port config.cluster.quorums.centres
 
 -- at the host of a centre, on the port that is so far above that of the centre

@@ -6,7 +6,7 @@ use Rattle.std.specs.Cmp.Lexicographic.{slice_cmp}
 use Rattle.serde_json.specs.Data.{Members, no_members, member}
 use Rattle.serde_json.specs.Find.{get_member}
 use Rattle.mdcc_config.specs.declared.faults.MemberName.{MemberName}
-use Rattle.mdcc_config.specs.declared.faults.MemberName.TheVariants.{Centres, Classic, Fast, Gamma, Bounds, Hosts, Port, Cells, Limit, Wait}
+use Rattle.mdcc_config.specs.declared.faults.MemberName.TheVariants.{Centres, Classic, Fast, Gamma, Bounds, Hosts, Port, Cells, Limit, Wait, Checkpoint}
 
 -- how a member is named
 abbrev pub name_text : MemberName → List ℕ
@@ -20,6 +20,7 @@ name_text Port = codes "port"
 name_text Cells = codes "cells"
 name_text Limit = codes "limit"
 name_text Wait = codes "wait"
+name_text Checkpoint = codes "checkpoint"
 
 -- the members that must be there
 abbrev pub required : List MemberName
@@ -27,7 +28,7 @@ required = Centres ∷ Classic ∷ Fast ∷ Gamma ∷ Bounds ∷ Hosts ∷ Port 
 
 -- those that may be there
 abbrev pub known : List MemberName
-known = Centres ∷ Classic ∷ Fast ∷ Gamma ∷ Bounds ∷ Hosts ∷ Port ∷ Cells ∷ Limit ∷ Wait ∷ []
+known = Centres ∷ Classic ∷ Fast ∷ Gamma ∷ Bounds ∷ Hosts ∷ Port ∷ Cells ∷ Limit ∷ Wait ∷ Checkpoint ∷ []
 
 -- whether a member of this name may be there
 abbrev pub is_known : List ℕ → Bool

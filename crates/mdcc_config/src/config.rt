@@ -15,6 +15,8 @@ pub struct Config {
     pub port: u16,
     /// How many milliseconds a receive waits at most.
     pub wait: u16,
+    /// After how many frames a checkpoint of a log is due.
+    pub checkpoint: u32,
 }
 
 // The address in this place of a list.

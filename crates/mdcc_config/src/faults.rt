@@ -22,6 +22,7 @@ pub enum MemberName {
     Cells,
     Limit,
     Wait,
+    Checkpoint,
 }
 
 impl MemberName {
@@ -40,6 +41,7 @@ impl MemberName {
             MemberName::Cells => "cells",
             MemberName::Limit => "limit",
             MemberName::Wait => "wait",
+            MemberName::Checkpoint => "checkpoint",
         }
     }
 }

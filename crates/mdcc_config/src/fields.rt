@@ -23,6 +23,9 @@ const DEFAULT_CELLS: u64 = 1_048_576;
 // How many milliseconds a receive waits at most where no member says it.
 const DEFAULT_WAIT: u64 = 20;
 
+// After how many frames a checkpoint of a log is due where no member says it.
+const DEFAULT_CHECKPOINT: u64 = 1024;
+
 /// What the members are read as; none where a value is outside its range.
 #[derive(Drop)]
 pub struct Fields {
@@ -36,6 +39,7 @@ pub struct Fields {
     pub cells: Option<u64>,
     pub limit: Option<FastLimit>,
     pub wait: Option<u64>,
+    pub checkpoint: Option<u64>,
 }
 
 // The number that a member is.
@@ -108,6 +112,7 @@ pub(crate) fn fields_of(alloc: Global, object: &Value) -> Result<Fields, ConfigF
     let cells = number_or(object, MemberName::Cells, DEFAULT_CELLS)?;
     let limit = limit_in(object)?;
     let wait = number_or(object, MemberName::Wait, DEFAULT_WAIT)?;
+    let checkpoint = number_or(object, MemberName::Checkpoint, DEFAULT_CHECKPOINT)?;
     Ok(Fields {
         centres,
         classic,
@@ -119,5 +124,6 @@ pub(crate) fn fields_of(alloc: Global, object: &Value) -> Result<Fields, ConfigF
         cells,
         limit,
         wait,
+        checkpoint,
     })
 }

@@ -18,7 +18,7 @@ const REQUIRED: [MemberName; 7] = [
 ];
 
 // Those that may be there.
-const KNOWN: [MemberName; 10] = [
+const KNOWN: [MemberName; 11] = [
     MemberName::Centres,
     MemberName::Classic,
     MemberName::Fast,
@@ -29,6 +29,7 @@ const KNOWN: [MemberName; 10] = [
     MemberName::Cells,
     MemberName::Limit,
     MemberName::Wait,
+    MemberName::Checkpoint,
 ];
 
 // Whether a member of this name may be there.

@@ -75,6 +75,7 @@ fn config_with(alloc: Global, settings: &Settings) -> Result<Config, ConfigFault
         addresses,
         port: settings.port,
         wait: settings.wait,
+        checkpoint: settings.checkpoint,
     })
 }
 

@@ -2,7 +2,7 @@
 ghost use Rattle.std.specs.Prelude.{◌≡◌, ◌≤◌, IfOk, ok_or};
 ghost use Rattle.mdcc_base.specs.Unless.{GivesUnless};
 ghost use Rattle.mdcc_config.specs.declared.faults.ConfigFault.TheVariants.{Range};
-ghost use Rattle.mdcc_config.specs.declared.faults.MemberName.TheVariants.{Port, Cells, Wait};
+ghost use Rattle.mdcc_config.specs.declared.faults.MemberName.TheVariants.{Port, Cells, Wait, Checkpoint};
 ghost use Rattle.mdcc_config.specs.Configuration.{is_config_memory, number_in, settings_of};
 ghost use Rattle.mdcc_config.specs.IsConfig.{AreInRange};
 
@@ -26,6 +26,7 @@ pub struct Settings {
     pub cells: u32,
     pub limit: FastLimit,
     pub wait: u16,
+    pub checkpoint: u32,
 }
 
 // The number of a member, where it is from `low` to `high`.
@@ -70,6 +71,14 @@ fn wait_in(number: Option<u64>) -> Result<u16, ConfigFault>
     Ok(number_in(1, 60_000, MemberName::Wait, number)? as u16)
 }
 
+// After how many frames a checkpoint of a log is due.
+fn checkpoint_in(number: Option<u64>) -> Result<u32, ConfigFault>
+    ensures value { result ≡ number_in 1 4294967295 Checkpoint number }
+    ensures within { IfOk result (λ checkpoint. (1 ≤ checkpoint) × (checkpoint ≤ 4294967295)) }
+{
+    Ok(number_in(1, 4_294_967_295, MemberName::Checkpoint, number)? as u32)
+}
+
 /// The members, each in its range.
 pub(crate) fn settings_of(alloc: Global, fields: Fields) -> Result<Settings, ConfigFault>
     ensures value { GivesUnless is_config_memory result (settings_of fields) }
@@ -86,6 +95,7 @@ pub(crate) fn settings_of(alloc: Global, fields: Fields) -> Result<Settings, Con
         cells,
         limit,
         wait,
+        checkpoint,
     } = fields;
     let centres = byte_in(MemberName::Centres, centres)?;
     let classic = byte_in(MemberName::Classic, classic)?;
@@ -96,6 +106,7 @@ pub(crate) fn settings_of(alloc: Global, fields: Fields) -> Result<Settings, Con
     let cells = cells_in(cells)?;
     let limit = limit.ok_or(ConfigFault::Range(MemberName::Limit))?;
     let wait = wait_in(wait)?;
+    let checkpoint = checkpoint_in(checkpoint)?;
     Ok(Settings {
         centres,
         classic,
@@ -107,5 +118,6 @@ pub(crate) fn settings_of(alloc: Global, fields: Fields) -> Result<Settings, Con
         cells,
         limit,
         wait,
+        checkpoint,
     })
 }

@@ -11,7 +11,7 @@ use std::test::Fail;
 
 // Five centres, with all members, in another order and with white space.
 const FIVE_CENTRES: &str = r#"
-{ "wait": 60000, "limit": "paper",
+{ "checkpoint": 4294967295, "wait": 60000, "limit": "paper",
   "cells": 4194304, "port": 65000,
   "hosts": ["127.0.0.1", "10.0.0.2", "0.0.0.0", "255.255.255.255", "192.168.10.100"],
   "bounds": [[0, 0], [-5, 7], [-1000000000000000, 1000000000000000], [1, 1]],
@@ -40,6 +40,7 @@ fn one_centre(rt: HostRuntime) -> Result<(), Fail> {
     assert!(rt; config.cluster.limit == FastLimit::Safe);
     assert!(rt; config.cluster.schema.bounds() == [(0, 1000)].as_slice());
     assert!(rt; config.port == 9000 && config.wait == 20);
+    assert!(rt; config.checkpoint == 1024);
     let address = Address {
         host: [127, 0, 0, 1],
         port: 9001,
@@ -62,6 +63,7 @@ fn five_centres(rt: HostRuntime) -> Result<(), Fail> {
     ];
     assert!(rt; config.cluster.schema.bounds() == bounds.as_slice());
     assert!(rt; config.port == 65_000 && config.wait == 60_000);
+    assert!(rt; config.checkpoint == 4_294_967_295);
     let hosts = [
         [127, 0, 0, 1],
         [10, 0, 0, 2],

@@ -58,6 +58,12 @@ fn kinds_of_numbers(rt: HostRuntime) -> Result<(), Fail> {
         alloc,
         MemberName::Wait,
         &[r#","wait":"20"}"#, r#","wait":20.0}"#],
+    )?;
+    check_kind(
+        &rt,
+        alloc,
+        MemberName::Checkpoint,
+        &[r#","checkpoint":"1024"}"#, r#","checkpoint":1e3}"#],
     )
 }
 
@@ -172,6 +178,16 @@ fn ranges(rt: HostRuntime) -> Result<(), Fail> {
         alloc,
         MemberName::Wait,
         &[r#","wait":0}"#, r#","wait":60001}"#, r#","wait":-20}"#],
+    )?;
+    check_range(
+        &rt,
+        alloc,
+        MemberName::Checkpoint,
+        &[
+            r#","checkpoint":0}"#,
+            r#","checkpoint":4294967296}"#,
+            r#","checkpoint":-1024}"#,
+        ],
     )
 }
 
@@ -184,6 +200,11 @@ fn order_of_refusals(rt: HostRuntime) -> Result<(), Fail> {
         ONE_CENTRE,
         &[
             (r#","limit":1,"centres":256}"#, Kind(MemberName::Limit)),
+            (r#","checkpoint":"x","wait":"x"}"#, Kind(MemberName::Wait)),
+            (
+                r#","checkpoint":"x","centres":256}"#,
+                Kind(MemberName::Checkpoint),
+            ),
             (r#","wait":"x","limit":1}"#, Kind(MemberName::Limit)),
             (r#","wait":"x","centres":256}"#, Kind(MemberName::Wait)),
             (r#","limit":1,"cells":"x"}"#, Kind(MemberName::Cells)),
@@ -196,6 +217,11 @@ fn order_of_refusals(rt: HostRuntime) -> Result<(), Fail> {
             (
                 r#","classic":"x","centres":"x"}"#,
                 Kind(MemberName::Centres),
+            ),
+            (r#","checkpoint":0,"wait":0}"#, Range(MemberName::Wait)),
+            (
+                r#","checkpoint":0,"centres":0}"#,
+                Range(MemberName::Checkpoint),
             ),
             (r#","wait":0,"limit":"x"}"#, Range(MemberName::Limit)),
             (r#","wait":0,"centres":0}"#, Range(MemberName::Wait)),
