@@ -3,7 +3,7 @@ use Rattle.std.proofs.Common.{◌≡◌, inl, inr, ⊎_elim, ℕ, List, [], OnOk
 use Rattle.mdcc_disks.specs.Disks.{Disk, LeavesOnly}
 use Rattle.mdcc_log_file.proofs.Moments.{started}
 use Rattle.mdcc_log.proofs.Dues.{mixed_read}
-use Rattle.mdcc_log.specs.Area.{AreaLog, generation_of}
+use Rattle.mdcc_log_file.specs.Area.{AreaLog, generation_of}
 use Rattle.mdcc_log.specs.AtRest.{IsAtRest, MayBeDue}
 use Rattle.mdcc_log.specs.Crash.{IsCurrent, IsDead, IsIdle, IsOlder, ReadsAsEither, payloads_by}
 use Rattle.mdcc_log.specs.Frames.{IsInUse, IsSpare, OpenAreas, appended, other_of, place_of}

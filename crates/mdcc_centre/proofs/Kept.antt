@@ -2,7 +2,7 @@
 use Rattle.std.proofs.Common.{◌≡◌, inl, inr, ⊎_elim, ℕ, ◌+◌, ◌≤◌, List, [], IfErr, IsErrOf, Result, Err, Ok, refl, sym, ◌∙◌, ap, subst}
 use Rattle.mdcc_disks.specs.Disks.{Disk}
 use Rattle.mdcc_log.proofs.Choice.{current_is_read}
-use Rattle.mdcc_log.specs.Area.{payloads}
+use Rattle.mdcc_log_file.specs.Area.{payloads}
 use Rattle.mdcc_log.specs.AtRest.{IsAtRest}
 use Rattle.mdcc_log.specs.Crash.{IsCurrent, IsIdle, IsOlder, payloads_by}
 use Rattle.mdcc_log.specs.Frames.{OpenAreas, other_of, place_of}

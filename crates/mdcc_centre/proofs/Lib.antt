@@ -7,6 +7,7 @@ pub mod Logged
 pub mod Named
 pub mod Opens
 pub mod Others
+pub mod Persisted
 pub mod Places
 pub mod Roomy
 pub mod Short

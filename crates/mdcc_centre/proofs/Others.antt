@@ -1,7 +1,7 @@
 -- What a start leaves of all other places, and which faults it counts.
 use Rattle.std.proofs.Common.{◌≡◌, inl, inr, ⊎_elim, ℕ, ◌+◌, ◌≤◌, List, ◌∙◌, arith}
 use Rattle.mdcc_disks.specs.Disks.{Disk}
-use Rattle.mdcc_log.specs.Both.{KeepsBut, RoseAtOne}
+use Rattle.mdcc_log_file.specs.Both.{KeepsBut, RoseAtOne}
 use Rattle.mdcc_log.specs.Frames.{other_of, place_of}
 use Rattle.mdcc_centre.proofs.Named.{rose-later}
 use Rattle.mdcc_centre.proofs.Places.{swapped_back}

@@ -1,8 +1,8 @@
 -- Whether the next boot lies within the limit of its log.
-use Rattle.std.proofs.Common.{◌≡◌, ℕ, ◌+◌, ◌<◌, ◌≤◌, List, Ok, Result, length, sym, ◌∙◌, subst}
+use Rattle.std.proofs.Common.{arith, ◌≡◌, ℕ, ◌+◌, ◌<◌, ◌≤◌, List, Ok, Result, length, sym, ◌∙◌, subst}
 use Rattle.mdcc_disks.specs.Disks.{Disk}
 use Rattle.mdcc_log.proofs.Rooms.{full_by_length, roomy_grows}
-use Rattle.mdcc_log.specs.Area.{AreaLog, payloads_of, read_areas}
+use Rattle.mdcc_log_file.specs.Area.{AreaLog, payloads_of, read_areas}
 use Rattle.mdcc_log.specs.Frames.{IsInUse, OpenAreas}
 use Rattle.mdcc_log.specs.Room.{HasGrown, IsFull, IsRoomy, IsRoomyLog}
 use Rattle.mdcc_log_file.specs.Log.{log_bytes, log_limit}
@@ -31,8 +31,8 @@ module _ (frames : OpenAreas) (log : AreaLog) (bytes : List ℕ) (may_leave : Li
       (subst (λ (n : ℕ). IsRoomy frames.generation n (length (payloads_of log))) used.tail
       (subst (λ (n : ℕ). IsRoomy frames.generation frames.tail n) used.count roomy))
 
-  pub roomy_more : (new : OpenAreas) → IsRoomyLog log → 17 ≤ frames.every → HasGrown frames new → IsRoomy new.generation new.tail new.count
-  roomy_more new roomy often grown = roomy_grows frames new (roomy_frames roomy) often grown
+  pub roomy_more : (new : OpenAreas) → IsRoomyLog log → 17 ≤ frames.every → HasGrown 1 frames new → IsRoomy new.generation new.tail new.count
+  roomy_more new roomy often grown = roomy_grows 1 frames new (omega arith) (roomy_frames roomy) often grown
 
   module _ (facts : List Fact) (all : List (List ℕ)) (five : ℕ) (are : all ≡ payloads_of log) (is : all ≡ encodings_of facts) (five_is : five ≡ 5) where
     pub past_limit : IsRoomyLog log → 17 ≤ frames.every → IsFull frames five → log_limit < size_with_boot facts

@@ -4,7 +4,7 @@ use Rattle.std.proofs.lemmas.Bool.{and_parts, leb-false, leb-true}
 use Rattle.mdcc_admission.specs.Loading.{Cells, boot_by, cells_with, fact_read, is_past, past_fault}
 use Rattle.mdcc_base.specs.Counts.{sum_over}
 use Rattle.mdcc_disks.specs.Disks.{Disk}
-use Rattle.mdcc_log.specs.Area.{payloads}
+use Rattle.mdcc_log_file.specs.Area.{payloads}
 use Rattle.mdcc_log.specs.Crash.{ReadsAsEither}
 use Rattle.mdcc_log.specs.Groups.{ReadsAsAllOrNone}
 use Rattle.mdcc_log_file.specs.Log.{log_bytes, log_limit}
@@ -172,7 +172,7 @@ after-crash Q cluster facts fact first second each are told_first told_second ei
     ]
 
 -- facts behind others have their bytes behind those
-group-encoded : (facts more : List Fact) → encodings_of facts ++ map fact_bytes more ≡ encodings_of (with_facts facts more)
+pub group-encoded : (facts more : List Fact) → encodings_of facts ++ map fact_bytes more ≡ encodings_of (with_facts facts more)
 group-encoded facts [] = append-nil (encodings_of facts)
 group-encoded facts (fact ∷ more) = sym (append_assoc (encodings_of facts) (fact_bytes fact ∷ []) (map fact_bytes more)) ∙ group-encoded (fact ∷ facts) more
 

@@ -6,7 +6,7 @@ use Rattle.mdcc_log_file.proofs.Moments.{both}
 use Rattle.mdcc_log.proofs.Choice.{Other, Seen, current_read, current_seen, dead_other, first_taken, older_other, second_taken}
 use Rattle.mdcc_log.proofs.Dues.{mixed_read}
 use Rattle.mdcc_log.proofs.Followed.{then_is_read}
-use Rattle.mdcc_log.specs.Area.{AreaLog, generation_of, payloads, payloads_of, read_area, read_areas, read_taken, taken}
+use Rattle.mdcc_log_file.specs.Area.{AreaLog, generation_of, payloads, payloads_of, read_area, read_areas, read_taken, taken}
 use Rattle.mdcc_log.specs.AtRest.{IsAtRest, MayBeDue}
 use Rattle.mdcc_log.specs.Crash.{IsCurrent, IsDead, IsIdle, IsLog, IsOlder, ReadsAsEither, payloads_by}
 use Rattle.mdcc_log.specs.Frames.{OpenAreas, appended, other_of, place_of}

@@ -2,7 +2,7 @@
 use Rattle.std.proofs.Common.{◌≡◌, ◌∙◌, [], Err, IsErrOf, List, Ok, Result, ap, arith, map, refl, subst, ℕ}
 use Rattle.std.specs.Bool.{OnFalse}
 use Rattle.mdcc_admission.specs.Loading.{Holds, boot_by, fact_read, is_boot_memory}
-use Rattle.mdcc_log.specs.Area.{payloads}
+use Rattle.mdcc_log_file.specs.Area.{payloads}
 use Rattle.mdcc_log_file.specs.declared.fault.LogFault.{LogFault}
 use Rattle.mdcc_centre.specs.Opening.{IsUnbooted, Keeps, MayOpen}
 use Rattle.mdcc_centre.specs.Nodes.{booted, cells_of}

@@ -1,7 +1,7 @@
 -- What a start does where its areas give no log.
 use Rattle.std.proofs.Common.{◌≡◌, ℕ, ◌+◌, List, IsErrOf, Err, Ok, refl}
 use Rattle.mdcc_disks.specs.Disks.{Disk}
-use Rattle.mdcc_log.specs.Area.{payloads}
+use Rattle.mdcc_log_file.specs.Area.{payloads}
 use Rattle.mdcc_log_file.specs.declared.fault.LogFault.{LogFault}
 use Rattle.mdcc_centre.specs.Faults.{of_log}
 use Rattle.mdcc_centre.specs.Starting.{AreasStand, IsUnread}

@@ -2,7 +2,7 @@
 use Rattle.std.specs.List.{AllByRecursion}
 use Rattle.std.specs.Prelude.{Err, IsTrue, List, Ok, Result, is_some, ⊤, ℕ, ◌+◌, ◌≡◌}
 use Rattle.mdcc_admission.specs.Loading.{fact_read}
-use Rattle.mdcc_log.specs.Area.{payloads}
+use Rattle.mdcc_log_file.specs.Area.{payloads}
 use Rattle.mdcc_log.specs.Opening.{OpensOne}
 use Rattle.mdcc_log_file.specs.declared.fault.LogFault.{LogFault}
 use Rattle.mdcc_disks.specs.Disks.{Disk, Only}

@@ -3,7 +3,7 @@ use Rattle.std.specs.List.{AllByRecursion}
 use Rattle.std.specs.Prelude.{Err, IsTrue, List, Ok, Result, ℕ, [], length, map, ⊤, ◌+◌, ◌++◌, ◌∷◌, ◌≡◌}
 use Rattle.mdcc_admission.specs.Loading.{AreShort, Cells, boot_by, fact_read}
 use Rattle.mdcc_disks.specs.Disks.{Disk}
-use Rattle.mdcc_log.specs.Area.{payloads}
+use Rattle.mdcc_log_file.specs.Area.{payloads}
 use Rattle.mdcc_log.specs.AtRest.{IsAtRest}
 use Rattle.mdcc_log.specs.Frames.{OpenAreas}
 use Rattle.mdcc_log.specs.Room.{IsFull}

@@ -3,7 +3,7 @@ use Rattle.std.specs.Prelude.{Err, IsTrue, List, Ok, Result, length, ℕ, ◌+�
 use Rattle.mdcc_admission.specs.Loading.{Cells, boot_by}
 use Rattle.mdcc_base.specs.Counts.{sum_over}
 use Rattle.mdcc_disks.specs.Disks.{Disk}
-use Rattle.mdcc_log.specs.Area.{AreaLog, payloads, read_areas}
+use Rattle.mdcc_log_file.specs.Area.{AreaLog, payloads, read_areas}
 use Rattle.mdcc_log.specs.AtRest.{IsAtRest}
 use Rattle.mdcc_log.specs.Frames.{OpenAreas}
 use Rattle.mdcc_log.specs.Room.{IsRoomy, IsRoomyLog}

@@ -1,6 +1,6 @@
 -- What a crash may leave of the two areas of a centre.
 use Rattle.std.specs.Prelude.{◌≡◌, ◌⊎◌, ◌∷◌, ℕ, ◌≤◌, List}
-use Rattle.mdcc_log.specs.Area.{AreaLog, generation_of, payloads_of}
+use Rattle.mdcc_log_file.specs.Area.{AreaLog, generation_of, payloads_of}
 use Rattle.mdcc_log.specs.AtRest.{MayBeDue}
 use Rattle.mdcc_log.specs.Crash.{IsCurrent, IsDead, IsIdle, IsOlder}
 use Rattle.mdcc_log.specs.Frames.{appended, other_of, place_of}

@@ -8,7 +8,7 @@ pub mod laws;
 pub mod opening;
 pub mod starting;
 
-pub use append::{append_fact, payload_of};
+pub use append::{payload_of, persist};
 pub use fault::StartFault;
 pub use mdcc_log::{Frames, LogFault};
 pub use mdcc_node::{BootFault, Node};

@@ -1,8 +1,8 @@
 //! A look into a log that gives a node.
 ghost use Rattle.std.specs.Prelude.{◌≡◌, ◌+◌, Err, IfErr, IfOk, IsErrAnd, IsErrOf, IsTrue, List, Ok, OnOk, true, ℕ};
 ghost use Rattle.mdcc_admission.specs.Loading.{AreShort};
-ghost use Rattle.mdcc_log.specs.Area.{payloads};
-ghost use Rattle.mdcc_log.specs.Both.{KeepsBut, RoseAtOne};
+ghost use Rattle.mdcc_log_file.specs.Area.{payloads};
+ghost use Rattle.mdcc_log_file.specs.Both.{KeepsBut, RoseAtOne};
 ghost use Rattle.mdcc_log_file.specs.declared.fault.LogFault.{LogFault as ALogFault};
 ghost use Rattle.mdcc_centre.specs.Opening.{AreFacts, HasBooted, IsUnbooted, Keeps, MayOpen, OnlyOpens, StaysAsLog};
 ghost use Rattle.mdcc_protocol.specs.Belongs.{is_centre};

@@ -1,14 +1,18 @@
 //! The start of a centre.
 ghost use Rattle.std.specs.List.{AllByRecursion};
-ghost use Rattle.std.specs.Prelude.{◌≡◌, ◌≤◌, ◌<◌, ◌+◌, ◌⊎◌, ◌∷◌, [], List, Err, IfErr, IfOk, IsErrAnd, IsErrOf, IsTrue, Ok, length, map, true, ℕ};
+ghost use Rattle.std.specs.Prelude.{◌≡◌, ◌≤◌, ◌<◌, ◌+◌, ◌⊎◌, ◌∷◌, ◌++◌, [], List, Err, IfErr, IfOk, IsErrAnd, IsErrOf, IsTrue, OnOk, Ok, length, map, true, ℕ};
 ghost use Rattle.mdcc_admission.specs.Loading.{AreShort, Cells, Holds};
-ghost use Rattle.mdcc_log.specs.Area.{AreaLog, payloads, payloads_of, read_areas};
-ghost use Rattle.mdcc_log.specs.AtRest.{IsAtRest};
-ghost use Rattle.mdcc_log.specs.Both.{KeepsBut, RoseAtOne};
-ghost use Rattle.mdcc_log.specs.Crash.{ReadsAsEither};
+ghost use Rattle.mdcc_log_file.specs.Area.{AreaLog, payloads, payloads_of, read_areas};
+ghost use Rattle.mdcc_log.specs.AtRest.{IsAtRest, MayBeDue};
+ghost use Rattle.mdcc_log_file.specs.Both.{KeepsBut, RoseAtOne};
+ghost use Rattle.mdcc_log.specs.Crash.{IsIdle, ReadsAsEither, payloads_by};
+ghost use Rattle.mdcc_log.specs.Frames.{IsInUse, IsSettled, IsSpare, appended, other_of, place_of};
 ghost use Rattle.mdcc_log.specs.Groups.{ReadsAsAllOrNone};
+ghost use Rattle.mdcc_log.specs.Room.{HasGrown, IsFull};
 ghost use Rattle.mdcc_log.specs.Tails.{tail_after};
-ghost use Rattle.mdcc_disks.specs.Disks.{Only};
+ghost use Rattle.mdcc_log_file.specs.Log.{payload_limit};
+ghost use Rattle.mdcc_disks.specs.Disks.{LeavesOnly, Only};
+ghost use Rattle.mdcc_journal.specs.Counts.{HasCounts};
 ghost use Rattle.mdcc_node.specs.BootEffects.{IsBoot};
 ghost use Rattle.mdcc_protocol.specs.Belongs.{is_centre};
 ghost use Rattle.mdcc_messages.specs.Spelling.{fact_bytes, encodings_of};
@@ -20,7 +24,7 @@ ghost use Rattle.mdcc_centre.specs.Struck.{IsLeft, IsStruck, LeavesFactAndBoot, 
 ghost use Rattle.mdcc_rules.specs.Boot.{next_boot};
 ghost use Rattle.mdcc_spelling.specs.Laws.{AreBytes};
 
-use crate::{StartFault, append_fact};
+use crate::{StartFault, payload_of, persist};
 use mdcc_base::{Centre, HeapList};
 use mdcc_disks::Disks;
 use mdcc_facts::FactStore;
@@ -76,6 +80,68 @@ fn boot_node<S: FactStore + Drop>(
 {
     are_all_bytes(payloads);
     Ok(Node::boot(alloc, cluster, centre, store, payloads)?)
+}
+
+// Makes the fact of a boot durable, as a group of one.
+fn persist_boot<D: Disks>(
+    alloc: Global,
+    log: &mut Frames,
+    disks: &mut D,
+    boot: &Fact,
+) -> Result<(), LogFault>
+    requires counts { HasCounts boot.now }
+    requires short { length (fact_bytes boot.now) ≤ payload_limit }
+    requires settled { let place = place_of log.old.centre log.old.area in IsTrue (D.disk disks.old place).told
+        → IsSettled log.old (D.disk disks.old place).bytes (D.may_leave disks.old place) }
+    requires spare { let place = place_of log.old.centre (other_of log.old.area) in IsTrue (D.disk disks.old place).told
+        → IsSpare log.old (D.disk disks.old place).bytes (D.may_leave disks.old place) }
+
+    ensures acknowledged { let place = place_of log.old.centre log.old.area in let other = place_of log.old.centre (other_of log.old.area) in
+        (all : List (List ℕ)) → IsTrue (D.disk disks.old place).told → IsTrue (D.disk disks.old other).told
+        → IsAtRest D.disk D.may_leave disks.old log.old all
+        → OnOk result (IsAtRest D.disk D.may_leave disks.new log.new (all ++ fact_bytes boot.now ∷ [])) }
+    ensures few { OnOk result (log.new.tail < log.new.every) }
+    ensures grown { OnOk result (HasGrown 1 log.old log.new) }
+    ensures tail { OnOk result (log.new.tail ≡ tail_after log.old.every log.old.tail) }
+    ensures keeps { (log.new.centre ≡ log.old.centre) × (log.new.every ≡ log.old.every) }
+
+    // What a crash at any moment of it leaves of each area.
+    ensures any_moment { let place = place_of log.old.centre log.old.area in let other = place_of log.old.centre (other_of log.old.area) in
+        (area_log : AreaLog) → IsTrue (D.disk disks.old place).told → IsTrue (D.disk disks.old other).told
+        → IsInUse log.old area_log (D.disk disks.old place).bytes (D.may_leave disks.old place)
+        → LeavesOnly D.moment D.left_since disks.old disks.new place (MayBeDue log.old.area area_log (fact_bytes boot.now)) }
+    ensures any_moment_other { let place = place_of log.old.centre log.old.area in let other = place_of log.old.centre (other_of log.old.area) in
+        (area_log : AreaLog) → IsTrue (D.disk disks.old place).told → IsTrue (D.disk disks.old other).told
+        → IsInUse log.old area_log (D.disk disks.old place).bytes (D.may_leave disks.old place)
+        → IsSpare log.old (D.disk disks.old other).bytes (D.may_leave disks.old other)
+        → LeavesOnly D.moment D.left_since disks.old disks.new other (IsIdle (appended area_log (fact_bytes boot.now))) }
+
+    // Opening after a crash at any moment of it gives the payloads from before it, or those and the new boot.
+    ensures any_moment_reads { let place = place_of log.old.centre log.old.area in let other = place_of log.old.centre (other_of log.old.area) in
+        (all : List (List ℕ)) (current spare : List ℕ) → IsTrue (D.disk disks.old place).told → IsTrue (D.disk disks.old other).told
+        → IsAtRest D.disk D.may_leave disks.old log.old all
+        → D.left_since disks.new place (D.moment disks.old) current → D.left_since disks.new other (D.moment disks.old) spare
+        → ReadsAsEither all (fact_bytes boot.now) (payloads_by log.old.area current spare) }
+    ensures others { KeepsBut D.disk D.may_leave D.moment D.left_since disks.old disks.new
+        (place_of log.old.centre log.old.area) (place_of log.old.centre (other_of log.old.area)) }
+
+    ensures disk_fault { let place = place_of log.old.centre log.old.area in let other = place_of log.old.centre (other_of log.old.area) in
+        IsErrOf result LogFault.DiskFault
+        → RoseAtOne (D.disk disks.old place) (D.disk disks.new place) (D.disk disks.old other) (D.disk disks.new other) }
+    // It is full just where the log says so.
+    ensures full { IsErrOf result LogFault.LogFull → IsFull log.old (length (fact_bytes boot.now)) }
+    ensures has_room { OnOk result (IsFull log.old (length (fact_bytes boot.now)) → ⊥) }
+    ensures full_keeps { IsErrOf result LogFault.LogFull → disks.new ≡ disks.old }
+    ensures full_keeps_log { IsErrOf result LogFault.LogFull → log.new ≡ log.old }
+    ensures memory_keeps { IsErrOf result LogFault.Memory → disks.new ≡ disks.old }
+    ensures memory_keeps_log { IsErrOf result LogFault.Memory → log.new ≡ log.old }
+    ensures a_log { (n : ℕ) → IsErrOf result (LogFault.NotALog n) → IsTrue (D.disk disks.old (place_of log.old.centre log.old.area)).told → ⊥ }
+{
+    let Ok(payload) = payload_of(alloc, boot) else {
+        return Err(LogFault::Memory);
+    };
+    let group = [HeapList::from_vec(payload)];
+    persist(log, disks, group.as_slice())
 }
 
 /// Starts a centre over an empty store: opens its log, boots its node from the payloads, and appends
@@ -185,6 +251,6 @@ pub fn start<D: Disks, S: FactStore + Drop>(
     let mut log = log;
     let (node, boot) = boot_node(alloc, cluster, centre, store, payloads.as_slice())?;
     let epoch = node.epoch();
-    append_fact(alloc, &mut log, disks, &boot)?;
+    persist_boot(alloc, &mut log, disks, &boot)?;
     Ok(Running { node, log, epoch })
 }

@@ -7,11 +7,11 @@ use Rattle.std.proofs.lemmas.List.{drop_more, length-take-le, take_at}
 use Rattle.std.specs.Cmp.Lexicographic.{pointwise}
 use Rattle.mdcc_log_file.specs.Log.{is_open}
 use Rattle.mdcc_log_file.specs.Crash.{MayRepair}
-use Rattle.mdcc_log.specs.Area.{AreaLog, area_gate, area_mark, copy_generation, front_of, generation_of, is_copy, is_log, is_second, is_torn, newer, only, payloads, payloads_in, payloads_of, read_area, read_taken, taken}
+use Rattle.mdcc_log_file.specs.Area.{AreaLog, area_gate, area_mark, copy_generation, front_of, generation_of, is_copy, is_log, is_second, is_torn, newer, only, payloads, payloads_in, payloads_of, read_area, read_taken, taken, with_gate}
 use Rattle.mdcc_log.specs.Crash.{IsDead, IsLog, IsOlder}
 use Rattle.mdcc_log.specs.Opening.{MayOpenAs}
 use Rattle.mdcc_log.specs.Reading.{IsReadAs, EndsAtGate}
-use Rattle.mdcc_log.specs.Repair.{MayClose, MaySettle, with_closed_gate, with_gate}
+use Rattle.mdcc_log.specs.Repair.{MayClose, MaySettle, with_closed_gate}
 use Rattle.mdcc_log.proofs.AreaRead.{second_no_log, shut_no_copy}
 use Rattle.mdcc_log.proofs.Choice.{Other, Seen, Short, None, choice, dead_other, decided, either, first_taken, fresh_is_read, front_is_read, front_seen, older_other, second_taken}
 use Rattle.mdcc_log.proofs.Idles.{gate_mark, torn_is_long}

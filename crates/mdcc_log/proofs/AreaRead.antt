@@ -9,10 +9,10 @@ use Rattle.std.specs.List.{flat_map}
 use Rattle.mdcc_log_file.specs.Log.{log_mark, frame_bytes, is_open, frames_from, behind}
 use Rattle.mdcc_log_file.specs.Crash.{AreShort}
 use Rattle.mdcc_log_file.proofs.LogRead.{frames_are_read, frames_are_long}
-use Rattle.mdcc_log.specs.Area.{Head, AreaLog, area_mark, records_bytes, copy_body, head_bytes, front_of, is_first, is_second, area_gate, is_copy, is_log, generation_in, count_in, copy_generation, with_tail, tail_from, log_from, fresh, read_copy, read_area}
-use Rattle.mdcc_log.specs.Area.Head.{Version1, Version2}
+use Rattle.mdcc_log_file.specs.Area.{Head, AreaLog, area_mark, records_bytes, copy_body, head_bytes, front_of, is_first, is_second, area_gate, is_copy, is_log, generation_in, count_in, copy_generation, with_tail, tail_from, log_from, fresh, read_copy, read_area}
+use Rattle.mdcc_log_file.specs.Area.Head.{Version1, Version2}
 use Rattle.mdcc_log.specs.Crash.{IsHead, IsLog}
-use Rattle.mdcc_log.proofs.Records.{records_are_read}
+use Rattle.mdcc_log_file.proofs.Records.{records_are_read}
 
 -- ---- tests
 

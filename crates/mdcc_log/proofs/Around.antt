@@ -6,13 +6,12 @@ use Rattle.std.proofs.lemmas.Bool.{cases_lt, false≢true}
 use Rattle.std.proofs.lemmas.List.{take_at, length-take-le}
 use Rattle.mdcc_disks.specs.Disks.{DiskCall}
 use Rattle.mdcc_disks.specs.Disks.DiskCall.{Write, Cut, Sync}
-use Rattle.mdcc_log.specs.declared.area.Spare.{Spare}
-use Rattle.mdcc_log.specs.declared.area.Spare.TheVariants as spares
-use Rattle.mdcc_log.specs.Area.{area_mark, area_gate, is_second}
-use Rattle.mdcc_log.specs.Copying.{IsShutAs, needs_mark, shut_bytes}
+use Rattle.mdcc_log_file.specs.declared.area.Spare.{Spare}
+use Rattle.mdcc_log_file.specs.declared.area.Spare.TheVariants as spares
+use Rattle.mdcc_log_file.specs.Area.{area_mark, area_gate, is_second, spare_of, with_gate}
+use Rattle.mdcc_log_file.specs.Copying.{IsShutAs, needs_mark, shut_bytes, shut_calls, mark_calls}
 use Rattle.mdcc_log.specs.Checkpoint.{MayBegin, MayOpen, MayCopy, copy_of}
-use Rattle.mdcc_log.specs.Frames.{spare_of, shut_calls, mark_calls, body_calls, checkpoint_calls, laid_calls}
-use Rattle.mdcc_log.specs.Repair.{with_gate}
+use Rattle.mdcc_log.specs.Frames.{body_calls, checkpoint_calls, laid_calls}
 use Rattle.mdcc_log.proofs.AreaRead.{longer_test, short_test}
 
 -- ---- the area gate around a copy

@@ -6,8 +6,8 @@ use Rattle.std.proofs.lemmas.List.{append-nil}
 use Rattle.std.specs.List.{flat_map}
 use Rattle.mdcc_log_file.specs.Log.{log_mark, frame_body, frame_bytes}
 use Rattle.mdcc_log_file.proofs.LogRead.{frames_are_long, none_of, short_more, not_open}
-use Rattle.mdcc_log.specs.Area.{Head, AreaLog, area_mark, generation_of, records_of, payloads_of, records_bytes, copy_body, head_bytes, front_of, is_first, is_second, area_gate, is_copy, is_log, generation_in, copy_generation, newer, only, taken, read_area, read_taken, payloads_in, payloads}
-use Rattle.mdcc_log.specs.Area.Head.{Version1, Version2}
+use Rattle.mdcc_log_file.specs.Area.{Head, AreaLog, area_mark, generation_of, records_of, payloads_of, records_bytes, copy_body, head_bytes, front_of, is_first, is_second, area_gate, is_copy, is_log, generation_in, copy_generation, newer, only, taken, read_area, read_taken, payloads_in, payloads}
+use Rattle.mdcc_log_file.specs.Area.Head.{Version1, Version2}
 use Rattle.mdcc_log.specs.Crash.{IsHead, IsLog, IsCurrent, IsUndecided, IsDead, IsOlder, IsCopy, IsIdle, payloads_by, ReadsAsEither, CurrentIsRead, BetweenIsRead}
 use Rattle.mdcc_log.specs.Frames.{appended, packed}
 use Rattle.mdcc_log.proofs.AreaRead.{shorter_test, is_copy_from, is_log_from, unmarked_no_copy, short_no_copy, short_no_log, second_no_log, shut_no_copy, generation_is, copy_numbered, copy_long, area_is_read, read_is_by}

@@ -1,15 +1,15 @@
 -- A payload is appended, and then all are copied.
-use Rattle.std.proofs.Common.{◌≡◌, ◌≢◌, ◌⊎◌, inl, inr, ℕ, ◌≤◌, ◌==◌, Bool, cond, false, List, [], ◌∷◌, ◌++◌, Ok, Result, sym, ◌∙◌, ap, refl, subst, arith}
+use Rattle.std.proofs.Common.{◌≡◌, ◌≢◌, ◌⊎◌, inl, inr, ℕ, ◌≤◌, ◌==◌, Bool, cond, false, List, [], ◌++◌, Ok, Result, sym, ◌∙◌, ap, refl, subst, arith}
 use Rattle.std.proofs.lemmas.Bool.{cases_eq}
 use Rattle.std.proofs.lemmas.Bool.Decides.{nat_tests}
 use Rattle.mdcc_disks.specs.Disks.{Disk, Within, KeepsOthers, LeavesOnly}
 use Rattle.mdcc_log_file.proofs.Moments.{both, weakened}
-use Rattle.mdcc_log.specs.Area.{AreaLog, generation_of, payloads_in, payloads_of, read_area}
+use Rattle.mdcc_log_file.specs.Area.{AreaLog, generation_of, payloads_in, payloads_of, read_area, spare_of}
 use Rattle.mdcc_log.specs.AtRest.{IsAtRest, MayBeDue}
 use Rattle.mdcc_log.specs.Crash.{IsBetween, IsCurrent, IsDead, IsIdle, IsOlder, ReadsAsEither, payloads_by}
-use Rattle.mdcc_log.specs.Frames.{OpenAreas, IsInUse, IsSpare, appended, packed, other_of, place_of, spare_of}
+use Rattle.mdcc_log.specs.Frames.{OpenAreas, IsInUse, IsSpare, appended, packed, other_of, place_of}
 use Rattle.mdcc_log.proofs.Choice.{appended_payloads, copy_is_taken, current_is_read, current_read, current_taken, idle_other, packed_payloads, undecided_read}
-use Rattle.mdcc_log.proofs.Joined.{moment_beside}
+use Rattle.mdcc_log_file.proofs.Joined.{moment_beside}
 use Rattle.mdcc_log.proofs.OpenStays.{between_seen, by_area}
 
 pub apart_areas : (centre area : ℕ) → place_of centre area ≢ place_of centre (other_of area)
@@ -120,12 +120,6 @@ module _ {D : Type 0} (disk : D → ℕ → Disk) (may_leave : D → ℕ → Lis
         in_use = subst (λ (q : ℕ). IsInUse more later (disk mid q).bytes (may_leave mid q)) (sym here) used;
         spare = subst (λ (q : ℕ). IsSpare more (disk mid q).bytes (may_leave mid q)) (sym there) spare;
       }
-
-  pub rested_more : (old mid : D) (frames more : OpenAreas) (p : List ℕ) (all : List (List ℕ)) (rest : IsAtRest disk may_leave old frames all) → more.centre ≡ frames.centre → more.area ≡ frames.area → more.generation ≡ frames.generation → more.spare ≡ frames.spare
-      → KeepsOthers disk may_leave moment left_since old mid (place_of frames.centre frames.area)
-      → IsInUse more (appended rest.log p) (disk mid (place_of frames.centre frames.area)).bytes (may_leave mid (place_of frames.centre frames.area))
-      → IsAtRest disk may_leave mid more (all ++ p ∷ [])
-  rested_more old mid frames more p all rest = rested_later old mid frames more (p ∷ []) all rest (appended rest.log p) (appended_payloads rest.log p)
 
   pub rested_packed : (mid new : D) (frames more : OpenAreas) (all : List (List ℕ)) (rest : IsAtRest disk may_leave mid frames all) → more.centre ≡ frames.centre → more.area ≡ other_of frames.area
       → IsInUse more (packed rest.log) (disk new (place_of frames.centre (other_of frames.area))).bytes (may_leave new (place_of frames.centre (other_of frames.area)))

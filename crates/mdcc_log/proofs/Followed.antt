@@ -3,8 +3,8 @@ use Rattle.std.proofs.Common.{◌≡◌, ◌⊎◌, inl, inr, ℕ, zero, suc, �
 use Rattle.std.proofs.lemmas.Bool.{and_parts, false≢true}
 use Rattle.std.proofs.lemmas.Bool.Decides.{nat_tests}
 use Rattle.mdcc_log_file.specs.Log.{frames_from}
-use Rattle.mdcc_log.specs.Area.{AreaLog, Head, area_gate, copy_generation, count_in, fresh, generation_of, is_copy, is_first, is_record, is_second, log_from, next_record, payloads_in, payloads_of, read_area, read_copy, read_taken, record_length, record_of, tail_from, taken, with_tail}
-use Rattle.mdcc_log.specs.Area.Head.{Version1, Version2}
+use Rattle.mdcc_log_file.specs.Area.{AreaLog, Head, area_gate, copy_generation, count_in, fresh, generation_of, is_copy, is_first, is_record, is_second, log_from, next_record, payloads_in, payloads_of, read_area, read_copy, read_taken, record_length, record_of, tail_from, taken, with_tail}
+use Rattle.mdcc_log_file.specs.Area.Head.{Version1, Version2}
 use Rattle.mdcc_log.specs.AtRest.{MayBeDue}
 use Rattle.mdcc_log.specs.Crash.{IsHead, IsIdle, IsLog, ReadsAsEither, payloads_by}
 use Rattle.mdcc_log.specs.Frames.{appended}

@@ -1,5 +1,5 @@
 -- Several payloads are appended together.
-use Rattle.std.proofs.Common.{◌≡◌, ◌↔◌, inl, inr, ℕ, ◌+◌, ◌-◌, ◌^◌, ◌<◌, ◌≤◌, min, Bool, false, IsTrue, List, [], ◌∷◌, ◌++◌, length, Result, Ok, sym, ◌∙◌, ap, refl, subst, arith, append_assoc, length-append}
+use Rattle.std.proofs.Common.{◌≡◌, ◌↔◌, ◌⊎◌, inl, inr, ℕ, ◌+◌, ◌-◌, ◌^◌, ◌<◌, ◌≤◌, min, Bool, false, IsTrue, List, [], ◌∷◌, ◌++◌, length, Result, Ok, sym, ◌∙◌, ap, refl, subst, arith, append_assoc, length-append}
 use Rattle.std.proofs.lemmas.Bool.{cases_eq, cases_lt, false≢true}
 use Rattle.std.proofs.lemmas.Bool.Decides.{nat_tests}
 use Rattle.std.proofs.lemmas.List.{append-nil}
@@ -8,13 +8,14 @@ use Rattle.std.specs.List.{flat_map}
 use Rattle.mdcc_disks.specs.Disks.{Disk, KeepsOthers, LeavesOnly}
 use Rattle.mdcc_log_file.specs.Log.{frame_body, frame_bytes, log_limit}
 use Rattle.mdcc_log_file.specs.Crash.{AreShort}
-use Rattle.mdcc_log_file.proofs.Moments.{both, weakened}
+use Rattle.mdcc_log_file.proofs.Moments.{both, started, weakened}
 use Rattle.mdcc_log_file.specs.Append.{IsAtEnd, MayStandBehind, group_body}
-use Rattle.mdcc_log.specs.Area.{AreaLog, generation_of, head_bytes, records_bytes, records_of, payloads_in, payloads_of, front_of, read_area}
-use Rattle.mdcc_log.specs.AtRest.{IsAtRest}
-use Rattle.mdcc_log.specs.Crash.{IsBetween, IsCurrent, IsIdle, IsLog, payloads_by}
-use Rattle.mdcc_log.specs.Frames.{OpenAreas, IsInUse, other_of, place_of}
+use Rattle.mdcc_log_file.specs.Area.{AreaLog, generation_of, head_bytes, records_bytes, records_of, payloads_in, payloads_of, front_of, read_area}
+use Rattle.mdcc_log.specs.AtRest.{IsAtRest, MayBeDue}
+use Rattle.mdcc_log.specs.Crash.{IsBetween, IsCurrent, IsDead, IsIdle, IsLog, IsOlder, payloads_by}
+use Rattle.mdcc_log.specs.Frames.{OpenAreas, IsInUse, IsSpare, other_of, place_of}
 use Rattle.mdcc_log.specs.Groups.{AreFull, IsUndecidedGroup, MayHaveDueGroup, MayHaveGroup, ReadsAsAllOrNone, frames_size, joined, records_size}
+use Rattle.mdcc_log.specs.Room.{IsFull}
 use Rattle.mdcc_log.proofs.Choice.{Seen, copy_is_taken, current_is_read, current_read, current_seen, current_taken, front_is_read, front_seen, idle_other}
 use Rattle.mdcc_log.proofs.Dues.{idle_moment}
 use Rattle.mdcc_log.proofs.Packs.{bodies_both, both_short}
@@ -62,6 +63,26 @@ one_between area log p c (inr u) = inr (record {
   gate = u.gate;
   file = u.file ∙ ap (λ (l : List ℕ). front_of log ++ u.gate ∷ (l ++ 0 ∷ [])) (one_body p);
 })
+
+pub one_due : (area : ℕ) (log : AreaLog) (p c : List ℕ) → MayHaveDueGroup area log (p ∷ []) c → MayBeDue area log p c
+one_due area log p c (inl may) = inl (one_between area log p c may)
+one_due area log p c (inr is) = inr is
+
+pub one_full : (frames : OpenAreas) (p : List ℕ) → AreFull frames (p ∷ []) → IsFull frames (length p)
+one_full frames p (inl past) = inl (omega (arith, one_frame p, past))
+one_full frames p (inr (inl past)) = inr (inl (omega (arith, one_frame p, past)))
+one_full frames p (inr (inr (due, inl last))) = inr (inr (due, inl last))
+one_full frames p (inr (inr (due, inr past))) = inr (inr (due, inr (omega (arith, one_record p, past))))
+
+pub full_one : (frames : OpenAreas) (p : List ℕ) → IsFull frames (length p) → AreFull frames (p ∷ [])
+full_one frames p (inl past) = inl (omega (arith, one_frame p, past))
+full_one frames p (inr (inl past)) = inr (inl (omega (arith, one_frame p, past)))
+full_one frames p (inr (inr (due, inl last))) = inr (inr (due, inl last))
+full_one frames p (inr (inr (due, inr past))) = inr (inr (due, inr (omega (arith, one_record p, past))))
+
+pub none_left : (ps : List (List ℕ)) → length ps ≡ 0 → ps ≡ []
+none_left [] none = refl
+none_left (p ∷ ps) none = absurd (omega (arith, none))
 
 -- so many bytes are counted in 64 bits, where they are no more than a log has
 exact_size : (n m : ℕ) → m ≡ min n (2 ^ 64 - 1) → m ≤ 2 ^ 30 → n ≡ m
@@ -164,6 +185,42 @@ module _ {D : Type 0} (disk : D → ℕ → Disk) (may_leave : D → ℕ → Lis
       (subst (IsIdle rest.log) (sym (rest.spare.durable other (only_now disks (place_of frames.centre (other_of frames.area)) other left_other))) (spare_idle rest.in_use rest.spare))
       ∙ ap (λ (ps : List (List ℕ)). let ok : Result (List (List ℕ)) ℕ = Ok ps in ok) (sym rest.payloads_are)
 
+  -- what a crash leaves of each area then
+  pub unwritten : (old : D) (frames : OpenAreas) (log : AreaLog) (group : List (List ℕ)) → IsInUse frames log (disk old (place_of frames.centre frames.area)).bytes (may_leave old (place_of frames.centre frames.area))
+      → LeavesOnly moment left_since old old (place_of frames.centre frames.area) (MayHaveDueGroup frames.area log group)
+  unwritten old frames log group uses =
+      started moment left_since old (place_of frames.centre frames.area) (MayHaveDueGroup frames.area log group)
+      (λ c left. inl (inl (subst (IsCurrent frames.area log) (sym (uses.durable c (only_now old (place_of frames.centre frames.area) c left))) (is_current uses))))
+
+  pub unwritten_other : (old : D) (frames : OpenAreas) (log : AreaLog) → frames.generation ≡ generation_of log.head
+      → IsSpare frames (disk old (place_of frames.centre (other_of frames.area))).bytes (may_leave old (place_of frames.centre (other_of frames.area)))
+      → LeavesOnly moment left_since old old (place_of frames.centre (other_of frames.area)) (IsIdle log)
+  unwritten_other old frames log is spare =
+      started moment left_since old (place_of frames.centre (other_of frames.area)) (IsIdle log)
+      (λ c left. subst (IsIdle log) (sym (spare.durable c (only_now old (place_of frames.centre (other_of frames.area)) c left))) (of_both spare.idle))
+    where
+      of_both : IsDead (disk old (place_of frames.centre (other_of frames.area))).bytes ⊎ IsOlder frames.generation (disk old (place_of frames.centre (other_of frames.area))).bytes → IsIdle log (disk old (place_of frames.centre (other_of frames.area))).bytes
+      of_both (inl dead) = inl dead
+      of_both (inr older) = inr (inl (subst (λ (n : ℕ). IsOlder n (disk old (place_of frames.centre (other_of frames.area))).bytes) is older))
+
+  -- where all were copied behind the group
+  module _ (old mid new : D) (frames more : OpenAreas) (log : AreaLog) (group : List (List ℕ)) (centre_is : more.centre ≡ frames.centre) (area_is : more.area ≡ frames.area) where
+    here : place_of more.centre more.area ≡ place_of frames.centre frames.area
+    here = ap (λ (n : ℕ). place_of n more.area) centre_is ∙ ap (place_of frames.centre) area_is
+
+    there : place_of more.centre (other_of more.area) ≡ place_of frames.centre (other_of frames.area)
+    there = ap (λ (n : ℕ). place_of n (other_of more.area)) centre_is ∙ ap (λ (n : ℕ). place_of frames.centre (other_of n)) area_is
+
+    pub due_moment : LeavesOnly moment left_since old mid (place_of frames.centre frames.area) (MayHaveGroup frames.area log group) → LeavesOnly moment left_since mid new (place_of more.centre more.area) (IsCurrent more.area (joined log group))
+        → LeavesOnly moment left_since old new (place_of frames.centre frames.area) (MayHaveDueGroup frames.area log group)
+    due_moment first second =
+        let second_here = subst (λ (n : ℕ). LeavesOnly moment left_since mid new (place_of frames.centre frames.area) (IsCurrent n (joined log group))) area_is (subst (λ (q : ℕ). LeavesOnly moment left_since mid new q (IsCurrent more.area (joined log group))) here second) in
+        both (weakened (MayHaveDueGroup frames.area log group) first (λ c has. inl has)) (weakened (MayHaveDueGroup frames.area log group) second_here (λ c has. inr has))
+
+    pub due_moment_other : LeavesOnly moment left_since old mid (place_of frames.centre (other_of frames.area)) (IsIdle (joined log group)) → LeavesOnly moment left_since mid new (place_of more.centre (other_of more.area)) (IsIdle (joined log group))
+        → LeavesOnly moment left_since old new (place_of frames.centre (other_of frames.area)) (IsIdle (joined log group))
+    due_moment_other first second = both first (subst (λ (q : ℕ). LeavesOnly moment left_since mid new q (IsIdle (joined log group))) there second)
+
   module _ (old mid : D) (frames : OpenAreas) (all group : List (List ℕ)) (some : 1 ≤ length group) (rest : IsAtRest disk may_leave old frames all)
       (beside : KeepsOthers disk may_leave moment left_since old mid (place_of frames.centre frames.area))
       (first : LeavesOnly moment left_since old mid (place_of frames.centre frames.area) (MayHaveGroup frames.area rest.log group))
@@ -185,9 +242,6 @@ module _ {D : Type 0} (disk : D → ℕ → Disk) (may_leave : D → ℕ → Lis
           → LeavesOnly moment left_since mid new (place_of more.centre (other_of more.area)) (IsIdle (joined rest.log group)) → (current other : List ℕ)
           → left_since new (place_of frames.centre frames.area) (moment old) current → left_since new (place_of frames.centre (other_of frames.area)) (moment old) other → ReadsAsAllOrNone all group (payloads_by frames.area current other)
       due_group_reads new more centre_is area_is second second_other current other left left_other =
-          let here : place_of more.centre more.area ≡ place_of frames.centre frames.area = ap (λ (n : ℕ). place_of n more.area) centre_is ∙ ap (place_of frames.centre) area_is in
-          let there : place_of more.centre (other_of more.area) ≡ place_of frames.centre (other_of frames.area) = ap (λ (n : ℕ). place_of n (other_of more.area)) centre_is ∙ ap (λ (n : ℕ). place_of frames.centre (other_of n)) area_is in
-          let second_here = subst (λ (n : ℕ). LeavesOnly moment left_since mid new (place_of frames.centre frames.area) (IsCurrent n (joined rest.log group))) area_is (subst (λ (q : ℕ). LeavesOnly moment left_since mid new q (IsCurrent more.area (joined rest.log group))) here second) in
-          let at_place = both (weakened (MayHaveDueGroup frames.area rest.log group) first (λ c has. inl has)) (weakened (MayHaveDueGroup frames.area rest.log group) second_here (λ c has. inr has)) in
-          let at_other = both group_other (subst (λ (q : ℕ). LeavesOnly moment left_since mid new q (IsIdle (joined rest.log group))) there second_other) in
+          let at_place = due_moment old mid new frames more rest.log group centre_is area_is first second in
+          let at_other = due_moment_other old mid new frames more rest.log group centre_is area_is group_other second_other in
           reads_all current other (at_place.each current left) (at_other.each other left_other)

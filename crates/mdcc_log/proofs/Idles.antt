@@ -4,10 +4,10 @@ use Rattle.std.specs.Cmp.Lexicographic.{pointwise}
 use Rattle.std.specs.Int.{w64, from_le_bytes}
 use Rattle.std.proofs.lemmas.Bool.{and_parts, and_right, false≢true}
 use Rattle.std.proofs.lemmas.List.{take_at, drop_at, length-take-le, length-drop}
-use Rattle.mdcc_log.specs.Area.{AreaLog, area_mark, generation_of, area_gate, generation_in, is_second, is_torn}
+use Rattle.mdcc_log_file.specs.Area.{AreaLog, area_mark, generation_of, area_gate, generation_in, is_second, is_torn, with_gate}
 use Rattle.mdcc_log.specs.Crash.{IsDead, IsOlder, IsCopy, IsIdle}
 use Rattle.mdcc_log.specs.Frames.{packed}
-use Rattle.mdcc_log.specs.Repair.{MayClose, with_gate}
+use Rattle.mdcc_log.specs.Repair.{MayClose}
 use Rattle.mdcc_log.specs.Opening.{MayTake}
 use Rattle.mdcc_log.proofs.Stands.{long_is}
 use Rattle.mdcc_log.proofs.Choice.{TakenCopy}

@@ -7,8 +7,8 @@ use Rattle.std.specs.List.{flat_map}
 use Rattle.mdcc_log_file.specs.Log.{frame_body, frame_bytes}
 use Rattle.mdcc_log_file.specs.Crash.{MayRepair}
 use Rattle.mdcc_log_file.proofs.LogRead.{short_more}
-use Rattle.mdcc_log.specs.Area.{Head, AreaLog, head_bytes, front_of, area_gate, is_second, is_torn, read_area}
-use Rattle.mdcc_log.specs.Area.Head.{Version1, Version2}
+use Rattle.mdcc_log_file.specs.Area.{Head, AreaLog, head_bytes, front_of, area_gate, is_second, is_torn, read_area}
+use Rattle.mdcc_log_file.specs.Area.Head.{Version1, Version2}
 use Rattle.mdcc_log.specs.Crash.{IsLog, IsCurrent, IsUndecided, IsBetween}
 use Rattle.mdcc_log.specs.Frames.{appended}
 use Rattle.mdcc_log.specs.Repair.{MaySettle, MayClose}

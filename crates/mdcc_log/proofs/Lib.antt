@@ -2,13 +2,11 @@ mod Again
 mod AreaRead
 pub mod Around
 pub mod Choice
-mod Copies
+mod Closes
 pub mod Dues
 pub mod Followed
-pub mod Gates
 pub mod Groups
 pub mod Idles
-pub mod Joined
 mod Keeps
 mod Loads
 pub mod LogReads
@@ -17,7 +15,6 @@ mod Opened
 mod Opens
 mod Outcomes
 mod Packs
-mod Records
 pub mod Rooms
 mod Settles
 mod Stands

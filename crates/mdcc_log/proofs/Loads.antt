@@ -6,7 +6,7 @@ use Rattle.mdcc_log_file.specs.Calls.{ReadsAll, ReadsSome, read_calls}
 use Rattle.mdcc_log_file.proofs.Moments.{both}
 use Rattle.mdcc_log.specs.Opening.{LoadsOne}
 use Rattle.mdcc_log_file.proofs.ReadCalls.{all_are_some, none_made}
-use Rattle.mdcc_log.proofs.Joined.{moment_beside}
+use Rattle.mdcc_log_file.proofs.Joined.{moment_beside}
 
 abbrev pub load_calls : ℕ → List ℕ → List DiskCall
 load_calls size counts = Sync ∷ Length ∷ read_calls size 0 counts

@@ -2,7 +2,7 @@
 use Rattle.std.proofs.Common.{◌≡◌, ◌≢◌, inl, inr, ℕ, ◌+◌, ◌<◌, ◌==◌, Bool, cond, false, List, [], ◌∷◌, Result, ◌∙◌, ap, refl, subst, arith}
 use Rattle.std.proofs.lemmas.Bool.{cases_eq}
 use Rattle.std.proofs.lemmas.Bool.Decides.{nat_tests}
-use Rattle.mdcc_log.specs.Area.{generation_of, payloads_of, read_area, read_areas, read_taken}
+use Rattle.mdcc_log_file.specs.Area.{generation_of, payloads_of, read_area, read_areas, read_taken}
 use Rattle.mdcc_log.specs.Frames.{packed}
 use Rattle.mdcc_log.specs.Tails.{CopyIsRead, IsPassedOver, LogIsRead, read_by}
 use Rattle.mdcc_log.proofs.AreaRead.{shut_no_copy}

@@ -2,7 +2,7 @@
 use Rattle.std.proofs.Common.{◌≡◌, inl, inr, ⊎_elim, ℕ, zero, suc, ◌+◌, ◌≤◌, IsTrue, List, [], ◌∷◌, ◌++◌, Result, Ok, Err, length, sym, ◌∙◌, subst, arith}
 use Rattle.mdcc_disks.specs.Disks.{Disk, Only, Within, LeavesOnly}
 use Rattle.mdcc_log_file.specs.Log.{frame_body}
-use Rattle.mdcc_log.specs.Area.{AreaLog, generation_of, payloads, taken}
+use Rattle.mdcc_log_file.specs.Area.{AreaLog, generation_of, payloads, taken}
 use Rattle.mdcc_log.specs.AtRest.{MayBeDue}
 use Rattle.mdcc_log.specs.Crash.{IsCurrent, IsBetween, IsIdle}
 use Rattle.mdcc_log.specs.Frames.{appended, open_calls, other_of, place_of}

@@ -5,12 +5,12 @@ use Rattle.std.proofs.lemmas.Bool.Decides.{nat_tests}
 use Rattle.std.specs.List.{flat_map}
 use Rattle.mdcc_disks.specs.Disks.{Disk, Only}
 use Rattle.mdcc_log_file.specs.Log.{frame_body, frame_bytes}
-use Rattle.mdcc_log.specs.declared.area.Spare.{Spare}
-use Rattle.mdcc_log.specs.Area.{Head, generation_of, records_of, payloads_of, records_bytes, head_bytes, front_of, area_bytes, read_area, read_areas, read_taken, taken}
-use Rattle.mdcc_log.specs.Area.Head.{Version1, Version2}
+use Rattle.mdcc_log_file.specs.declared.area.Spare.{Spare}
+use Rattle.mdcc_log_file.specs.Area.{Head, generation_of, records_of, payloads_of, records_bytes, head_bytes, front_of, area_bytes, read_area, read_areas, read_taken, taken, spare_of}
+use Rattle.mdcc_log_file.specs.Area.Head.{Version1, Version2}
 use Rattle.mdcc_log.specs.Checkpoint.{head_size}
 use Rattle.mdcc_log.specs.Crash.{IsHead, IsLog, IsDead, IsOlder}
-use Rattle.mdcc_log.specs.Frames.{OpenAreas, IsInUse, IsSpare, other_of, place_of, spare_of}
+use Rattle.mdcc_log.specs.Frames.{OpenAreas, IsInUse, IsSpare, other_of, place_of}
 use Rattle.mdcc_log.specs.Opening.{IsFound, IsOpened, IsTaken, pick, taken_bytes}
 use Rattle.mdcc_log.specs.Repair.{with_closed_gate}
 use Rattle.mdcc_log.proofs.Opens.{first_bytes, second_bytes, first_bytes_then, second_bytes_then}

@@ -4,10 +4,10 @@ use Rattle.std.proofs.lemmas.Bool.{false≢true}
 use Rattle.mdcc_disks.specs.Disks.{Disk, DiskCall}
 use Rattle.mdcc_log_file.specs.Calls.{MadeSome, with_calls}
 use Rattle.mdcc_log_file.proofs.Moments.{both, weakened}
-use Rattle.mdcc_log.specs.declared.area.Spare.{Spare}
-use Rattle.mdcc_log.specs.Area.{AreaLog, front_of, read_area, read_areas, read_taken, taken}
+use Rattle.mdcc_log_file.specs.declared.area.Spare.{Spare}
+use Rattle.mdcc_log_file.specs.Area.{AreaLog, front_of, read_area, read_areas, read_taken, taken, spare_of}
 use Rattle.mdcc_log.specs.Reading.{AreaIs}
-use Rattle.mdcc_log.specs.Frames.{change_calls, other_calls, settle_calls, spare_calls, spare_of}
+use Rattle.mdcc_log.specs.Frames.{change_calls, other_calls, settle_calls, spare_calls}
 use Rattle.mdcc_log.specs.Repair.{MayClose, with_closed_gate}
 use Rattle.mdcc_log.specs.Opening.{IsTaken, LoadsOne, MayOpenAs, MaySettleAs, OpensOne, opened_bytes, taken_bytes}
 use Rattle.mdcc_log.specs.Settling.{SettlesOne}

@@ -10,12 +10,12 @@ use Rattle.mdcc_disks.specs.Disks.DiskCall.{Write}
 use Rattle.mdcc_log_file.specs.Crash.{AreShort}
 use Rattle.mdcc_log_file.specs.Calls.{MadeSome, with_calls}
 use Rattle.mdcc_log.specs.declared.checkpoint.Whole.{Whole}
-use Rattle.mdcc_log.specs.Area.{Head, AreaLog, generation_of, records_of, payloads_of, records_bytes, counts_bytes, copy_body, head_bytes}
-use Rattle.mdcc_log.specs.Area.Head.{Version1, Version2}
-use Rattle.mdcc_log.specs.Copying.{IsSource}
+use Rattle.mdcc_log_file.specs.Area.{Head, AreaLog, generation_of, records_of, payloads_of, records_bytes, counts_bytes, copy_body, head_bytes}
+use Rattle.mdcc_log_file.specs.Area.Head.{Version1, Version2}
+use Rattle.mdcc_log_file.specs.Copying.{IsSource, record_calls}
 use Rattle.mdcc_log.specs.Crash.{IsHead, IsLog}
 use Rattle.mdcc_log.specs.Checkpoint.{StandsAs}
-use Rattle.mdcc_log.specs.Frames.{record_calls, body_calls}
+use Rattle.mdcc_log.specs.Frames.{body_calls}
 use Rattle.mdcc_log_file.proofs.Calls.{made_both, made_first}
 use Rattle.mdcc_log_file.proofs.ReadCalls.{all_both}
 

@@ -3,8 +3,8 @@ use Rattle.std.proofs.Common.{◌≡◌, ◌⊎◌, inl, inr, ℕ, ◌+◌, ◌-
 use Rattle.std.proofs.lemmas.Bool.Decides.{nat_tests}
 use Rattle.std.specs.List.{flat_map}
 use Rattle.mdcc_log_file.specs.Log.{frame_bytes, log_bytes, log_limit, log_mark}
-use Rattle.mdcc_log.specs.Area.{Head, generation_of, payloads_of, records_bytes, records_of, head_bytes, front_of}
-use Rattle.mdcc_log.specs.Area.Head.{Version1, Version2}
+use Rattle.mdcc_log_file.specs.Area.{Head, generation_of, payloads_of, records_bytes, records_of, head_bytes, front_of}
+use Rattle.mdcc_log_file.specs.Area.Head.{Version1, Version2}
 use Rattle.mdcc_log.specs.Checkpoint.{head_size}
 use Rattle.mdcc_log.specs.Crash.{IsHead}
 use Rattle.mdcc_log.specs.Frames.{OpenAreas}
@@ -68,14 +68,14 @@ full_by_length frames log bytes may_leave more used =
     )
 
 pub roomy_grows : RoomyGrows
-roomy_grows old new roomy often grown = elim grown.tail [
-  | inl more ↦ record {
-    generations = omega (arith, roomy.generations, grown.count, more.0);
-    frames = omega (arith, roomy.frames, grown.count, more.1);
-    records = elim roomy.records [ inl zero_is ↦ inl (more.0 ∙ zero_is) | inr some ↦ inr (omega (arith, some, grown.count, more.1)) ];
+roomy_grows more old new some roomy often grown = elim grown.tail [
+  | inl kept ↦ record {
+    generations = omega (arith, roomy.generations, grown.count, kept.0);
+    frames = omega (arith, roomy.frames, grown.count, kept.1);
+    records = elim roomy.records [ inl zero_is ↦ inl (kept.0 ∙ zero_is) | inr long ↦ inr (omega (arith, long, grown.count, kept.1)) ];
   }
   | inr copied ↦ record {
-    generations = omega (arith, roomy.generations, grown.count, copied.1.0);
+    generations = omega (arith, some, roomy.generations, grown.count, copied.1.0);
     frames = omega (arith, copied.1.1);
     records = inr (omega (arith, roomy.frames, often, copied.0, copied.1.1, grown.count));
   }

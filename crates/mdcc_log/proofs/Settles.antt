@@ -5,7 +5,7 @@ use Rattle.mdcc_disks.specs.Disks.{Disk, DiskCall, Only, Within, KeepsOthers, Le
 use Rattle.mdcc_log_file.specs.Log.{log_bytes}
 use Rattle.mdcc_log_file.specs.Calls.{MadeSome, with_calls, begin_calls, close_calls, cut_calls}
 use Rattle.mdcc_log_file.proofs.Moments.{started, both, weakened}
-use Rattle.mdcc_log.specs.Area.{AreaLog, front_of, area_bytes, read_area}
+use Rattle.mdcc_log_file.specs.Area.{AreaLog, front_of, area_bytes, read_area}
 use Rattle.mdcc_log.specs.Reading.{AreaIs, IsReadAs, EndsAtGate}
 use Rattle.mdcc_log.specs.Repair.{settled, settle_at, MaySettle}
 use Rattle.mdcc_log.specs.Opening.{MaySettleAs, taken_bytes}
@@ -14,7 +14,7 @@ use Rattle.mdcc_log.specs.Settling.{SettlesOne}
 use Rattle.mdcc_log.proofs.AreaRead.{long_test, shorter_test}
 use Rattle.mdcc_log_file.proofs.Calls.{made_none}
 use Rattle.mdcc_log_file.proofs.ReadCalls.{made_all}
-use Rattle.mdcc_log.proofs.Joined.{moment_beside}
+use Rattle.mdcc_log_file.proofs.Joined.{moment_beside}
 
 module _ {g : ℕ} {all : List (List ℕ)} {start tail gate : ℕ} {bytes : List ℕ} (is : AreaIs g all start tail gate bytes) where
   pub settled_is : settled gate bytes ≡ area_bytes is.log

@@ -7,12 +7,13 @@ use Rattle.std.proofs.lemmas.List.{take-append-drop, drop-drop, drop_more, drop_
 use Rattle.std.specs.Int.{w64, to_le_bytes}
 use Rattle.std.specs.List.{flat_map}
 use Rattle.mdcc_log_file.specs.Log.{log_mark, frame_bytes, frames_from}
-use Rattle.mdcc_log.specs.Area.{AreaLog, area_mark, counts_bytes, records_bytes, front_of, is_first, is_second, is_copy, area_gate, copy_generation, count_in, with_tail, tail_from, log_from, fresh, read_copy, read_area}
-use Rattle.mdcc_log.specs.Area.Head.{Version1, Version2}
-use Rattle.mdcc_log.specs.Reading.{AreRecords, AreaIs}
+use Rattle.mdcc_log_file.specs.Area.{AreaLog, area_mark, counts_bytes, records_bytes, front_of, is_first, is_second, is_copy, area_gate, copy_generation, count_in, with_tail, tail_from, log_from, fresh, read_copy, read_area}
+use Rattle.mdcc_log_file.specs.Area.Head.{Version1, Version2}
+use Rattle.mdcc_log.specs.Reading.{AreaIs}
+use Rattle.mdcc_log_file.specs.Records.{AreRecords}
 use Rattle.mdcc_log_file.specs.Frames.{AreFrames}
 use Rattle.mdcc_log.proofs.AreaRead.{long_test, unmarked_no_copy, first_not_second, second_not_first, short_no_copy, area_is_read, read_is_by}
-use Rattle.mdcc_log.proofs.Records.{records_are_read}
+use Rattle.mdcc_log_file.proofs.Records.{records_are_read}
 use Rattle.mdcc_log.proofs.Choice.{fresh_is_read}
 
 some_left : (gate : ℕ) (bytes : List ℕ) → gate < length bytes → 0 < length (drop gate bytes)

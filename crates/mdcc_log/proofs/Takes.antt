@@ -2,9 +2,9 @@
 use Rattle.std.proofs.Common.{◌≡◌, ◌≢◌, ◌⊎◌, inl, inr, ℕ, ◌<◌, ◌≤◌, ◌==◌, ◌&&◌, nat_le, nat_lt, Bool, cond, true, false, List, length, Ok, Err, Result, sym, ◌∙◌, ap, refl, subst, arith}
 use Rattle.std.proofs.lemmas.Bool.{cases_lt, and_parts, and_right}
 use Rattle.std.proofs.lemmas.Bool.Decides.{nat_tests}
-use Rattle.mdcc_log.specs.Area.{area_gate, copy_generation, generation_in, is_copy, is_first, is_log, is_second, is_torn, newer, only, taken}
+use Rattle.mdcc_log_file.specs.Area.{area_gate, copy_generation, generation_in, is_copy, is_first, is_log, is_second, is_torn, newer, only, taken, with_gate}
 use Rattle.mdcc_log.specs.Crash.{IsDead, IsOlder}
-use Rattle.mdcc_log.specs.Repair.{with_gate, with_closed_gate}
+use Rattle.mdcc_log.specs.Repair.{with_closed_gate}
 use Rattle.mdcc_log.proofs.AreaRead.{longer_test, first_not_second}
 use Rattle.mdcc_log.proofs.Around.{gate_shut}
 use Rattle.mdcc_log.proofs.Choice.{choice, decided, either}

@@ -1,6 +1,6 @@
 -- What opening keeps, and what is read after a crash of a checkpoint.
 use Rattle.std.proofs.Common.{inl, inr, ◌+◌, refl}
-use Rattle.mdcc_log.specs.Area.{generation_of}
+use Rattle.mdcc_log_file.specs.Area.{generation_of}
 use Rattle.mdcc_log.specs.Kept.{any_byte, CurrentStays, BetweenStays, IdleStays, OtherIsSpare, CheckpointIsRead}
 use Rattle.mdcc_log.proofs.Choice.{current_is_read}
 use Rattle.mdcc_log.proofs.Idles.{idle_closed_stays}

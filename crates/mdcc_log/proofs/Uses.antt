@@ -7,16 +7,15 @@ use Rattle.std.proofs.lemmas.Bool.Decides.{nat_tests}
 use Rattle.std.proofs.lemmas.List.{append-nil}
 use Rattle.mdcc_disks.specs.Disks.{Only}
 use Rattle.mdcc_log_file.specs.Log.{frame_body, frame_bytes}
-use Rattle.mdcc_log.specs.declared.area.Spare.TheVariants as spares
+use Rattle.mdcc_log_file.specs.declared.area.Spare.TheVariants as spares
 use Rattle.mdcc_log.specs.declared.checkpoint.Whole.{Whole}
 use Rattle.mdcc_log_file.specs.Append.{IsAtEnd, MayAppend}
-use Rattle.mdcc_log.specs.Area.{Head, AreaLog, area_mark, generation_of, payloads_of, records_bytes, copy_body, head_bytes, front_of, area_bytes, area_gate, generation_in, is_second}
-use Rattle.mdcc_log.specs.Area.Head.{Version1, Version2}
+use Rattle.mdcc_log_file.specs.Area.{Head, AreaLog, area_mark, generation_of, payloads_of, records_bytes, copy_body, head_bytes, front_of, area_bytes, area_gate, generation_in, is_second, spare_of, with_gate}
+use Rattle.mdcc_log_file.specs.Area.Head.{Version1, Version2}
 use Rattle.mdcc_log.specs.Checkpoint.{StandsAs, MayBegin, MayCopy, copy_of, left_area}
-use Rattle.mdcc_log.specs.Copying.{MayShut}
+use Rattle.mdcc_log_file.specs.Copying.{MayShut}
 use Rattle.mdcc_log.specs.Crash.{IsHead, IsLog, IsCurrent, IsBetween, IsDead, IsOlder, IsIdle}
-use Rattle.mdcc_log.specs.Frames.{OpenAreas, IsInUse, IsSpare, appended, packed, place_of, other_of, spare_of}
-use Rattle.mdcc_log.specs.Repair.{with_gate}
+use Rattle.mdcc_log.specs.Frames.{OpenAreas, IsInUse, IsSpare, appended, packed, place_of, other_of}
 use Rattle.mdcc_log.proofs.AreaRead.{longer_test, shorter_test, short_test, long_test, copy_numbered, copy_long}
 use Rattle.mdcc_log.proofs.Choice.{appended_front, appended_payloads}
 use Rattle.mdcc_log.proofs.Idles.{older_gate, gate_mark}

@@ -1,7 +1,7 @@
 -- The open log of a centre at rest.
 use Rattle.std.specs.Prelude.{◌≡◌, ◌⊎◌, ℕ, ◌≤◌, List}
 use Rattle.mdcc_disks.specs.Disks.{Disk}
-use Rattle.mdcc_log.specs.Area.{AreaLog, payloads_of}
+use Rattle.mdcc_log_file.specs.Area.{AreaLog, payloads_of}
 use Rattle.mdcc_log.specs.Crash.{IsBetween, IsCurrent}
 use Rattle.mdcc_log.specs.Frames.{OpenAreas, IsInUse, IsSpare, appended, other_of, place_of}
 

@@ -1,13 +1,12 @@
 -- What a checkpoint copies, and what a crash may leave of it.
 use Rattle.std.specs.Prelude.{◌≡◌, ◌⊎◌, ℕ, ◌+◌, ◌^◌, ◌≤◌, ◌<◌, ◌==◌, nat_le, true, false, List, [], ◌∷◌, ◌++◌, length, if◌then◌else◌}
 use Rattle.mdcc_log_file.specs.Log.{log_limit}
-use Rattle.mdcc_log.specs.declared.area.Spare.{Spare}
-use Rattle.mdcc_log.specs.declared.area.Spare.TheVariants as spares
+use Rattle.mdcc_log_file.specs.declared.area.Spare.{Spare}
+use Rattle.mdcc_log_file.specs.declared.area.Spare.TheVariants as spares
 use Rattle.mdcc_log.specs.declared.checkpoint.Whole.{Whole}
-use Rattle.mdcc_log.specs.Area.{AreaLog, generation_of, payloads_of, area_mark, records_bytes, copy_body, head_bytes, front_of, area_bytes}
-use Rattle.mdcc_log.specs.Copying.{IsShut, MayShut}
+use Rattle.mdcc_log_file.specs.Area.{AreaLog, generation_of, payloads_of, area_mark, records_bytes, copy_body, head_bytes, front_of, area_bytes, with_gate}
+use Rattle.mdcc_log_file.specs.Copying.{IsShut, MayShut}
 use Rattle.mdcc_log.specs.Crash.{IsLog}
-use Rattle.mdcc_log.specs.Repair.{with_gate}
 
 -- how many bytes stand before the records
 abbrev pub head_size : ℕ → ℕ

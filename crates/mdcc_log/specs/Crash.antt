@@ -2,8 +2,8 @@
 use Rattle.std.specs.Prelude.{◌≡◌, ◌⊎◌, ℕ, ◌+◌, ◌^◌, ◌≤◌, ◌<◌, true, false, ◌==◌, List, [], ◌∷◌, ◌++◌, length, if◌then◌else◌, Result, Ok}
 use Rattle.mdcc_log_file.specs.Log.{frame_body, payload_limit}
 use Rattle.mdcc_log_file.specs.Crash.{AreShort}
-use Rattle.mdcc_log.specs.Area.{Head, AreaLog, generation_of, payloads_of, copy_body, front_of, area_mark, area_gate, generation_in, is_second, payloads}
-use Rattle.mdcc_log.specs.Area.Head.{Version1, Version2}
+use Rattle.mdcc_log_file.specs.Area.{Head, AreaLog, generation_of, payloads_of, copy_body, front_of, area_mark, area_gate, generation_in, is_second, payloads}
+use Rattle.mdcc_log_file.specs.Area.Head.{Version1, Version2}
 
 -- what may stand before the frames of an area: version 1 in area 0 alone, and version 2 with a generation from 1 on
 abbrev pub IsHead : ℕ → Head → Type 0

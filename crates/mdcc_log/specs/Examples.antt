@@ -1,6 +1,6 @@
 -- Areas byte by byte.
 use Rattle.std.specs.Prelude.{◌≡◌, ℕ, List, [], ◌∷◌, ◌++◌, Ok, Err}
-use Rattle.mdcc_log.specs.Area.{area_mark, payloads}
+use Rattle.mdcc_log_file.specs.Area.{area_mark, payloads}
 use Rattle.mdcc_log.specs.Checkpoint.{copy_of}
 
 -- a payload of five bytes

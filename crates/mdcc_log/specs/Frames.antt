@@ -1,13 +1,12 @@
 -- An open log in two areas.
-use Rattle.std.specs.Prelude.{◌≡◌, ◌⊎◌, ℕ, ◌+◌, ◌*◌, ◌==◌, nat_le, nat_lt, List, [], ◌∷◌, ◌++◌, length, if◌then◌else◌, Result, Ok, Err}
+use Rattle.std.specs.Prelude.{◌≡◌, ◌⊎◌, ℕ, ◌+◌, ◌*◌, ◌==◌, nat_le, List, [], ◌∷◌, ◌++◌, length, if◌then◌else◌, Result, Ok, Err}
 use Rattle.mdcc_disks.specs.Disks.{DiskCall, Only}
 use Rattle.mdcc_disks.specs.Disks.DiskCall.{Length, Write, Cut, Sync}
-use Rattle.mdcc_log_file.specs.Log.{frame_body}
 use Rattle.mdcc_log_file.specs.Calls.{begin_calls, close_calls, cut_calls, read_calls}
-use Rattle.mdcc_log.specs.declared.area.Spare.{Spare}
-use Rattle.mdcc_log.specs.declared.area.Spare.TheVariants as spares
-use Rattle.mdcc_log.specs.Area.{AreaLog, generation_of, payloads_of, counts_bytes, records_bytes, head_bytes, front_of, area_bytes, area_mark, area_gate, is_second, is_torn, taken, read_area, read_areas}
-use Rattle.mdcc_log.specs.Area.Head.{Version2}
+use Rattle.mdcc_log_file.specs.declared.area.Spare.{Spare}
+use Rattle.mdcc_log_file.specs.Area.{AreaLog, generation_of, payloads_of, counts_bytes, records_bytes, head_bytes, front_of, area_bytes, is_torn, spare_of, taken, read_area, read_areas}
+use Rattle.mdcc_log_file.specs.Area.Head.{Version2}
+use Rattle.mdcc_log_file.specs.Copying.{mark_calls, record_calls, shut_calls}
 use Rattle.mdcc_log.specs.Crash.{IsLog, IsDead, IsOlder}
 
 -- area 0 of a centre stands at its own number, area 1 sixteen further on
@@ -16,11 +15,6 @@ place_of centre area = centre + 16 * area
 
 abbrev pub other_of : ℕ → ℕ
 other_of area = if area == 0 then 1 else 0
-
--- what is known of an area that is not in use: whether it has more than a mark and a gate, and then whether its area gate is
--- closed and its mark is that of version 2
-abbrev pub spare_of : List ℕ → Spare
-spare_of bytes = if nat_lt 9 (length bytes) then spares.Long (area_gate bytes == 0) (is_second bytes) else spares.Short
 
 -- The open log of a centre: which area is in use, after how many frames a checkpoint is due, the generation of the area, how
 -- many payloads there are, where the frames begin and how many they are, how many bytes all payloads take as records, how many
@@ -96,21 +90,6 @@ open_calls area first second bytes counts =
     Sync ∷ Length ∷ (read_calls (length bytes) 0 counts ++ change_calls area (taken first second) (read_areas first second) bytes)
 
 -- ---- the calls of a checkpoint
-
--- the area gate is closed, where it is not
-abbrev pub shut_calls : Spare → List DiskCall
-shut_calls spares.Short = Write 0 (area_mark ++ 0 ∷ []) ∷ []
-shut_calls (spares.Long closed marked) = if closed then [] else Write 8 (0 ∷ []) ∷ []
-
--- the mark is written, where it does not stand there
-abbrev pub mark_calls : Spare → List DiskCall
-mark_calls spares.Short = []
-mark_calls (spares.Long closed marked) = if marked then [] else Write 0 area_mark ∷ []
-
--- the records from this offset on, each by one call
-abbrev pub record_calls : ℕ → List (List ℕ) → List DiskCall
-record_calls offset [] = []
-record_calls offset (record' ∷ records) = Write offset (frame_body record') ∷ record_calls (offset + length (frame_body record')) records
 
 -- all behind the area gate
 abbrev pub body_calls : ℕ → List (List ℕ) → List DiskCall

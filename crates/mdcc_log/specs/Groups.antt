@@ -4,7 +4,7 @@ use Rattle.std.specs.List.{flat_map}
 use Rattle.mdcc_log_file.specs.Append.{group_body}
 use Rattle.mdcc_log_file.specs.Log.{frame_body, frame_bytes, log_limit}
 use Rattle.mdcc_log_file.specs.Crash.{AreShort}
-use Rattle.mdcc_log.specs.Area.{AreaLog, front_of}
+use Rattle.mdcc_log_file.specs.Area.{AreaLog, front_of}
 use Rattle.mdcc_log.specs.Crash.{IsCurrent, IsLog}
 use Rattle.mdcc_log.specs.Frames.{OpenAreas}
 

@@ -1,6 +1,6 @@
 -- What opening keeps of what a crash left, and what a checkpoint may leave.
 use Rattle.std.specs.Prelude.{◌≡◌, ◌⊎◌, ℕ, ◌+◌, ◌^◌, ◌<◌, ◌≤◌, List, length, true, Ok}
-use Rattle.mdcc_log.specs.Area.{AreaLog, copy_generation, generation_of, is_copy, payloads_of, read_areas, taken}
+use Rattle.mdcc_log_file.specs.Area.{AreaLog, copy_generation, generation_of, is_copy, payloads_of, read_areas, taken}
 use Rattle.mdcc_log.specs.AtRest.{MayBeDue}
 use Rattle.mdcc_log.specs.Checkpoint.{MayCopy}
 use Rattle.mdcc_log.specs.Crash.{IsCurrent, IsBetween, IsDead, IsLog, IsOlder, IsIdle, ReadsAsEither, payloads_by}

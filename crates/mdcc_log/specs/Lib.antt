@@ -1,8 +1,5 @@
-pub mod Area
 pub mod AtRest
-pub mod Both
 pub mod Checkpoint
-pub mod Copying
 pub mod Crash
 pub mod Examples
 pub mod Frames
@@ -15,3 +12,7 @@ pub mod Repair
 pub mod Room
 pub mod Settling
 pub mod Tails
+-- what areas are, and what calls at two of them leave, is passed on
+pub use Rattle.mdcc_log_file.specs.Area
+pub use Rattle.mdcc_log_file.specs.Both
+pub use Rattle.mdcc_log_file.specs.Copying

@@ -3,10 +3,10 @@ use Rattle.std.specs.Prelude.{◌≡◌, ◌≢◌, ◌⊎◌, ℕ, ◌+◌, ◌
 use Rattle.mdcc_disks.specs.Disks.{Disk, Only, LeavesOnly}
 use Rattle.mdcc_disks.specs.Disks.DiskCall.{Length, Sync}
 use Rattle.mdcc_log_file.specs.Calls.{ReadsAll, ReadsSome, read_calls}
-use Rattle.mdcc_log.specs.declared.area.Spare.{Spare}
-use Rattle.mdcc_log.specs.Area.{AreaLog, generation_of, payloads_of, head_bytes, front_of, area_bytes, read_area, read_areas, taken}
+use Rattle.mdcc_log_file.specs.declared.area.Spare.{Spare}
+use Rattle.mdcc_log_file.specs.Area.{AreaLog, generation_of, payloads_of, head_bytes, front_of, area_bytes, read_area, read_areas, taken, spare_of}
 use Rattle.mdcc_log.specs.Crash.{IsLog, IsDead, IsOlder}
-use Rattle.mdcc_log.specs.Frames.{OpenAreas, IsInUse, IsSpare, open_calls, other_of, place_of, spare_of}
+use Rattle.mdcc_log.specs.Frames.{OpenAreas, IsInUse, IsSpare, open_calls, other_of, place_of}
 use Rattle.mdcc_log.specs.Reading.{IsReadAs}
 use Rattle.mdcc_log.specs.Repair.{MaySettle, MayClose, with_closed_gate}
 

@@ -1,10 +1,10 @@
 -- What settling an area leaves.
-use Rattle.std.specs.Prelude.{◌≡◌, ◌⊎◌, ℕ, ◌≤◌, ◌<◌, nat_le, true, List, [], ◌∷◌, ◌++◌, length, take, drop, if◌then◌else◌}
+use Rattle.std.specs.Prelude.{◌≡◌, ◌⊎◌, ℕ, ◌≤◌, ◌<◌, nat_le, true, List, [], ◌∷◌, ◌++◌, length, take, if◌then◌else◌}
 use Rattle.mdcc_disks.specs.Disks.{DiskCall}
 use Rattle.mdcc_log_file.specs.Log.{log_bytes}
 use Rattle.mdcc_log_file.specs.Crash.{MayRepair}
 use Rattle.mdcc_log_file.specs.Calls.{begin_calls, close_calls, cut_calls}
-use Rattle.mdcc_log.specs.Area.{area_gate, is_torn}
+use Rattle.mdcc_log_file.specs.Area.{area_gate, is_torn, with_gate}
 
 -- a log is begun, or closed behind its last gate
 abbrev pub settled : ℕ → List ℕ → List ℕ
@@ -16,10 +16,6 @@ settle_at gate bytes = if nat_le (length bytes) 9 then begin_calls else close_ca
 -- what a crash may leave meanwhile
 abbrev pub MaySettle : (ℕ → Type 0) → ℕ → List ℕ → List ℕ → Type 0
 MaySettle tears gate bytes c = ((length bytes ≤ 9) × (length c ≤ 9)) ⊎ ((9 < length bytes) × MayRepair tears gate bytes c)
-
--- with another area gate
-abbrev pub with_gate : ℕ → List ℕ → List ℕ
-with_gate gate bytes = take 8 bytes ++ gate ∷ drop 9 bytes
 
 -- with its area gate closed, where it is neither closed nor open
 abbrev pub with_closed_gate : List ℕ → List ℕ

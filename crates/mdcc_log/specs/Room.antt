@@ -1,7 +1,7 @@
 -- Room for one more payload in an open log.
 use Rattle.std.specs.Prelude.{◌≡◌, ◌⊎◌, ℕ, ◌+◌, ◌-◌, ◌^◌, ◌≤◌, ◌<◌, List, length}
 use Rattle.mdcc_log_file.specs.Log.{log_bytes, log_limit}
-use Rattle.mdcc_log.specs.Area.{AreaLog, generation_of, payloads_of}
+use Rattle.mdcc_log_file.specs.Area.{AreaLog, generation_of, payloads_of}
 use Rattle.mdcc_log.specs.Frames.{OpenAreas, IsInUse}
 
 -- The other area has room for a copy of all payloads, and a generation follows.
@@ -20,10 +20,10 @@ IsCopyFull frames more = (frames.every ≤ frames.tail + 1) × ((frames.generati
 abbrev pub IsFull : OpenAreas → ℕ → Type 0
 IsFull frames more = (log_limit < frames.body + frames.count + 9 + (more + 5)) ⊎ ((log_limit < frames.size + (more + 5)) ⊎ IsCopyFull frames more)
 
--- One more payload stands behind the others: in the area in use, or where a checkpoint was due in a copy of all.
-pub record HasGrown (old new : OpenAreas) : Type 0 where
-  pub count : new.count ≡ old.count + 1
-  pub tail : ((new.generation ≡ old.generation) × (new.tail ≡ old.tail + 1)) ⊎ ((old.every ≤ old.tail + 1) × ((new.generation ≡ old.generation + 1) × (new.tail ≡ 0)))
+-- So many more payloads stand behind the others: in the area in use, or where a checkpoint was due in a copy of all.
+pub record HasGrown (more : ℕ) (old new : OpenAreas) : Type 0 where
+  pub count : new.count ≡ old.count + more
+  pub tail : ((new.generation ≡ old.generation) × (new.tail ≡ old.tail + more)) ⊎ ((old.every ≤ old.tail + more) × ((new.generation ≡ old.generation + 1) × (new.tail ≡ 0)))
 
 -- An area that takes no more than one of version 1 would, with generations left: it is of this generation, and has so many frames
 -- and so many payloads.
@@ -42,6 +42,6 @@ FullByLength = (frames : OpenAreas) (log : AreaLog) (bytes : List ℕ) (may_leav
     → (log_limit < length (log_bytes (payloads_of log)) + (more + 5) → IsFull frames more)
     × (IsRoomyLog log → 17 ≤ frames.every → IsFull frames more → log_limit < length (log_bytes (payloads_of log)) + (more + 5))
 
--- with each payload it stays such a log
+-- with one payload or more it stays such a log
 abbrev pub RoomyGrows : Type 0
-RoomyGrows = (old new : OpenAreas) → IsRoomy old.generation old.tail old.count → 17 ≤ old.every → HasGrown old new → IsRoomy new.generation new.tail new.count
+RoomyGrows = (more : ℕ) (old new : OpenAreas) → 1 ≤ more → IsRoomy old.generation old.tail old.count → 17 ≤ old.every → HasGrown more old new → IsRoomy new.generation new.tail new.count

@@ -1,13 +1,16 @@
 -- How many frames stand behind the records, and which log is read.
 use Rattle.std.specs.Prelude.{◌≡◌, ◌≢◌, ◌⊎◌, ℕ, ◌+◌, ◌^◌, ◌<◌, ◌==◌, nat_lt, List, length, if◌then◌else◌, Result, Ok}
-use Rattle.mdcc_log.specs.Area.{AreaLog, area_gate, generation_of, payloads_of, read_areas}
+use Rattle.mdcc_log_file.specs.Area.{AreaLog, area_gate, generation_of, payloads_of, read_areas}
 use Rattle.mdcc_log.specs.Checkpoint.{copy_of}
 use Rattle.mdcc_log.specs.Crash.{IsCurrent, IsDead, IsOlder}
 use Rattle.mdcc_log.specs.Frames.{packed}
 
--- how many frames there are after one more payload, where a checkpoint is made after so many
+-- how many frames there are after so many more payloads, where a checkpoint is made after some number of them; and after one more
+abbrev pub tail_with : ℕ → ℕ → ℕ → ℕ
+tail_with every tail more = if nat_lt (tail + more) every then tail + more else 0
+
 abbrev pub tail_after : ℕ → ℕ → ℕ
-tail_after every tail = if nat_lt (tail + 1) every then tail + 1 else 0
+tail_after every tail = tail_with every tail 1
 
 -- the log that is read of the area in use, by its number, and the other
 abbrev pub read_by : ℕ → List ℕ → List ℕ → Result AreaLog ℕ

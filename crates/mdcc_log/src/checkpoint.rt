@@ -4,18 +4,17 @@ ghost use Rattle.mdcc_base.specs.Causes.{HasCause};
 ghost use Rattle.mdcc_disks.specs.Disks.{Within, Only, KeepsOthers, LeavesOnly};
 ghost use Rattle.mdcc_disks.specs.Disks.DiskCall.{Write, Sync};
 ghost use Rattle.mdcc_log_file.specs.Calls.{MadeSome, with_calls};
-ghost use Rattle.mdcc_log.specs.Area.{AreaLog, payloads_of, counts_bytes, copy_body, records_bytes};
-ghost use Rattle.mdcc_log.specs.Frames.{spare_of, body_calls, record_calls, laid_calls};
-ghost use Rattle.mdcc_log.specs.Copying.{IsShut};
+ghost use Rattle.mdcc_log_file.specs.Area.{AreaLog, payloads_of, counts_bytes, copy_body, records_bytes, spare_of, with_gate};
+ghost use Rattle.mdcc_log.specs.Frames.{body_calls, laid_calls};
+ghost use Rattle.mdcc_log_file.specs.Copying.{record_calls, IsShut};
 ghost use Rattle.mdcc_log.specs.Checkpoint.{StandsAs, IsFilled, MayBegin, MayOpen, copy_of};
-ghost use Rattle.mdcc_log.specs.Repair.{with_gate};
-ghost use Rattle.mdcc_log.specs.Both.{KeepsBut, IsOnlyRead, StaysShut, RoseAtOne};
+ghost use Rattle.mdcc_log_file.specs.Both.{KeepsBut, IsOnlyRead, StaysShut, RoseAtOne};
 
 use crate::LogFault;
-use crate::area::Spare;
-use crate::copying::{Part, clear_area, copy_records, grow, shut_area};
 use mdcc_base::Failed;
 use mdcc_disks::Disks;
+use mdcc_log_file::Spare;
+use mdcc_log_file::copying::{Part, clear_area, copy_records, grow, shut_area};
 use mdcc_log_file::steps::write_through;
 
 /// What is copied: the place of the area, where its records begin, where its frames do, where its last gate stands, how many

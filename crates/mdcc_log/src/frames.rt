@@ -4,24 +4,23 @@ ghost use Rattle.mdcc_base.specs.Causes.{Rose};
 ghost use Rattle.mdcc_disks.specs.Disks.{Only, Within, KeepsOthers, LeavesOnly};
 ghost use Rattle.mdcc_log_file.specs.Log.{log_limit, payload_limit};
 ghost use Rattle.mdcc_log_file.specs.Calls.{MadeSome, with_calls, append_calls};
-ghost use Rattle.mdcc_log.specs.Area.{AreaLog, generation_of, payloads_of, payloads, records_bytes};
+ghost use Rattle.mdcc_log_file.specs.Area.{AreaLog, generation_of, payloads_of, payloads, records_bytes};
 ghost use Rattle.mdcc_log.specs.AtRest.{IsAtRest, MayBeDue};
 ghost use Rattle.mdcc_log_file.specs.Crash.{AreShort};
 ghost use Rattle.mdcc_log.specs.Crash.{IsCurrent, IsBetween, IsIdle, ReadsAsEither, payloads_by};
 ghost use Rattle.mdcc_log.specs.Frames.{OpenAreas, IsInUse, IsSpare, IsSettled, appended, packed, place_of, other_of, checkpoint_calls, laid_calls};
-ghost use Rattle.mdcc_log.specs.Copying.{IsShut};
-ghost use Rattle.mdcc_log.specs.Both.{KeepsBut, IsOnlyRead, RoseAtOne};
+ghost use Rattle.mdcc_log_file.specs.Copying.{IsShut};
+ghost use Rattle.mdcc_log_file.specs.Both.{KeepsBut, IsOnlyRead, RoseAtOne};
 ghost use Rattle.mdcc_log.specs.Room.{HasCopyRoom, IsFull};
 ghost use Rattle.mdcc_log.specs.Opening.{IsOpened, OpensOne};
 ghost use Rattle.mdcc_log.specs.Checkpoint.{MayBegin, copy_of, head_size, left_area};
 
 use crate::LogFault;
-use crate::area::Spare;
 use crate::checkpoint::{Whole, open_area, write_copy};
 use crate::opening::{AreaRead, open_areas};
 use mdcc_base::{Centre, HeapList};
 use mdcc_disks::Disks;
-use mdcc_log_file::{LOG_LIMIT, PAYLOAD_LIMIT};
+use mdcc_log_file::{LOG_LIMIT, PAYLOAD_LIMIT, Spare};
 use std::alloc::Global;
 use std::marker::Model;
 
@@ -116,7 +115,7 @@ impl Frames {
     }
 
     /// Whether the log has no room for one more payload of this length: all payloads with it would pass 2^30 bytes in an area of
-    /// version 1, or `append_due` would answer LogFull.
+    /// version 1, or `append_all` would answer LogFull.
     pub fn is_full(&self, length: u64) -> bool
         ensures { IsTrue result ↔ IsFull self.now length }
     {

@@ -6,12 +6,14 @@ ghost use Rattle.mdcc_log_file.specs.Append.{behind_calls, group_body};
 ghost use Rattle.mdcc_log_file.specs.Calls.{MadeSome, with_calls};
 ghost use Rattle.mdcc_log_file.specs.Crash.{AreShort};
 ghost use Rattle.mdcc_log_file.specs.Log.{log_limit, payload_limit};
-ghost use Rattle.mdcc_log.specs.Area.{AreaLog};
+ghost use Rattle.mdcc_log_file.specs.Area.{AreaLog};
 ghost use Rattle.mdcc_log.specs.AtRest.{IsAtRest};
-ghost use Rattle.mdcc_log.specs.Both.{KeepsBut, RoseAtOne};
-ghost use Rattle.mdcc_log.specs.Crash.{payloads_by};
+ghost use Rattle.mdcc_log_file.specs.Both.{KeepsBut, RoseAtOne};
+ghost use Rattle.mdcc_log.specs.Crash.{IsIdle, payloads_by};
 ghost use Rattle.mdcc_log.specs.Frames.{IsInUse, IsSpare, IsSettled, place_of, other_of};
-ghost use Rattle.mdcc_log.specs.Groups.{AreFull, MayHaveGroup, ReadsAsAllOrNone, frames_size, joined, records_size};
+ghost use Rattle.mdcc_log.specs.Groups.{AreFull, MayHaveDueGroup, MayHaveGroup, ReadsAsAllOrNone, frames_size, joined, records_size};
+ghost use Rattle.mdcc_log.specs.Room.{HasGrown};
+ghost use Rattle.mdcc_log.specs.Tails.{tail_with};
 
 use crate::frames::{passes_limit, place_of};
 use crate::{Frames, LogFault};
@@ -129,8 +131,19 @@ impl Frames {
             → IsAtRest D.disk D.may_leave disks.old self.old all
             → OnOk result (IsAtRest D.disk D.may_leave disks.new self.new (all ++ (first.now ∷ others.now))) }
         ensures few { OnOk result (self.new.tail < self.new.every) }
+        ensures grown { OnOk result (HasGrown (length (first.now ∷ others.now)) self.old self.new) }
+        ensures tail { OnOk result (self.new.tail ≡ tail_with self.old.every self.old.tail (length (first.now ∷ others.now))) }
         ensures keeps { (self.new.centre ≡ self.old.centre) × (self.new.every ≡ self.old.every) }
 
+        ensures any_moment { let place = place_of self.old.centre self.old.area in let other = place_of self.old.centre (other_of self.old.area) in
+            (log : AreaLog) → IsTrue (D.disk disks.old place).told → IsTrue (D.disk disks.old other).told
+            → IsInUse self.old log (D.disk disks.old place).bytes (D.may_leave disks.old place)
+            → LeavesOnly D.moment D.left_since disks.old disks.new place (MayHaveDueGroup self.old.area log (first.now ∷ others.now)) }
+        ensures any_moment_other { let place = place_of self.old.centre self.old.area in let other = place_of self.old.centre (other_of self.old.area) in
+            (log : AreaLog) → IsTrue (D.disk disks.old place).told → IsTrue (D.disk disks.old other).told
+            → IsInUse self.old log (D.disk disks.old place).bytes (D.may_leave disks.old place)
+            → IsSpare self.old (D.disk disks.old other).bytes (D.may_leave disks.old other)
+            → LeavesOnly D.moment D.left_since disks.old disks.new other (IsIdle (joined log (first.now ∷ others.now))) }
         ensures any_moment_reads { let place = place_of self.old.centre self.old.area in let other = place_of self.old.centre (other_of self.old.area) in
             (all : List (List ℕ)) (current spare : List ℕ) → IsTrue (D.disk disks.old place).told → IsTrue (D.disk disks.old other).told
             → IsAtRest D.disk D.may_leave disks.old self.old all
@@ -144,6 +157,7 @@ impl Frames {
             → RoseAtOne (D.disk disks.old place) (D.disk disks.new place) (D.disk disks.old other) (D.disk disks.new other) }
         ensures not_full { IsErrOf result LogFault.LogFull → ⊥ }
         ensures memory_keeps { IsErrOf result LogFault.Memory → disks.new ≡ disks.old }
+        ensures alone { others.now ≡ [] → IsErrOf result LogFault.Memory → ⊥ }
         ensures memory_keeps_log { IsErrOf result LogFault.Memory → self.new ≡ self.old }
         ensures a_log { (n : ℕ) → IsErrOf result (LogFault.NotALog n) → IsTrue (D.disk disks.old (place_of self.old.centre self.old.area)).told → ⊥ }
     {
@@ -157,7 +171,7 @@ impl Frames {
     /// Adds payloads behind the others, all of them or none, and makes a checkpoint at once where one is due then. At `Ok` they
     /// are acknowledged, and no checkpoint is due. After `LogFull` and `Memory` all is as before; after a fault of the disk the
     /// log has to be opened again, and all of them may be there then. They are laid out in the log's own buffer, which grows
-    /// where they need more than the longest payload.
+    /// where they need more than the longest payload; for one alone that is never so.
     pub fn append_all<D: Disks>(
         &mut self,
         disks: &mut D,
@@ -175,7 +189,20 @@ impl Frames {
             → IsAtRest D.disk D.may_leave disks.old self.old all
             → OnOk result (IsAtRest D.disk D.may_leave disks.new self.new (all ++ payloads.now)) }
         ensures few { OnOk result (self.new.tail < self.new.every) }
+        ensures grown { OnOk result (HasGrown (length payloads.now) self.old self.new) }
+        ensures tail { OnOk result (self.new.tail ≡ tail_with self.old.every self.old.tail (length payloads.now)) }
         ensures keeps { (self.new.centre ≡ self.old.centre) × (self.new.every ≡ self.old.every) }
+
+        // What a crash at any moment of it leaves of each area.
+        ensures any_moment { let place = place_of self.old.centre self.old.area in let other = place_of self.old.centre (other_of self.old.area) in
+            (log : AreaLog) → IsTrue (D.disk disks.old place).told → IsTrue (D.disk disks.old other).told
+            → IsInUse self.old log (D.disk disks.old place).bytes (D.may_leave disks.old place)
+            → LeavesOnly D.moment D.left_since disks.old disks.new place (MayHaveDueGroup self.old.area log payloads.now) }
+        ensures any_moment_other { let place = place_of self.old.centre self.old.area in let other = place_of self.old.centre (other_of self.old.area) in
+            (log : AreaLog) → IsTrue (D.disk disks.old place).told → IsTrue (D.disk disks.old other).told
+            → IsInUse self.old log (D.disk disks.old place).bytes (D.may_leave disks.old place)
+            → IsSpare self.old (D.disk disks.old other).bytes (D.may_leave disks.old other)
+            → LeavesOnly D.moment D.left_since disks.old disks.new other (IsIdle (joined log payloads.now)) }
 
         // Opening after a crash at any moment of it gives the payloads from before it, or those and all of these.
         ensures any_moment_reads { let place = place_of self.old.centre self.old.area in let other = place_of self.old.centre (other_of self.old.area) in
@@ -195,6 +222,7 @@ impl Frames {
         ensures full_keeps { IsErrOf result LogFault.LogFull → disks.new ≡ disks.old }
         ensures full_keeps_log { IsErrOf result LogFault.LogFull → self.new ≡ self.old }
         ensures memory_keeps { IsErrOf result LogFault.Memory → disks.new ≡ disks.old }
+        ensures alone { length payloads.now ≡ 1 → IsErrOf result LogFault.Memory → ⊥ }
         ensures memory_keeps_log { IsErrOf result LogFault.Memory → self.new ≡ self.old }
         ensures a_log { (n : ℕ) → IsErrOf result (LogFault.NotALog n) → IsTrue (D.disk disks.old (place_of self.old.centre self.old.area)).told → ⊥ }
     {

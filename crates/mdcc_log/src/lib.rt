@@ -1,17 +1,13 @@
 //! The log of a centre in two areas, of which one is in use, on disks that may crash at any moment.
 #![tactic(auto)]
 
-mod area;
 pub mod checkpoint;
-pub mod copying;
-pub mod due;
 pub mod frames;
 pub mod group;
 pub mod laws;
 mod opening;
 mod repair;
 
-pub use area::Spare;
 pub use frames::Frames;
 pub use laws::{
     between_is_read, between_stays, checkpoint_is_read, copy_is_read, current_is_read,
@@ -19,4 +15,4 @@ pub use laws::{
     other_is_spare, roomy_grows,
 };
 pub use mdcc_disks::{Disks, MemoryDisks};
-pub use mdcc_log_file::{LOG_LIMIT, LogFault, PAYLOAD_LIMIT};
+pub use mdcc_log_file::{LOG_LIMIT, LogFault, PAYLOAD_LIMIT, Spare};

@@ -1,21 +1,22 @@
 //! How a log in two areas is opened.
 ghost use Rattle.std.specs.Prelude.{◌≡◌, ◌≢◌, ◌<◌, ◌-◌, true, ℕ, length, IsTrue, IfOk, IsErr, IsErrOf, Ok, Err};
 ghost use Rattle.mdcc_disks.specs.Disks.{Only};
-ghost use Rattle.mdcc_log.specs.Area.{is_copy, is_first, copy_generation, read_area, read_areas, taken};
-ghost use Rattle.mdcc_log.specs.Reading.{AreaIs, IsNumbered};
-ghost use Rattle.mdcc_log.specs.Frames.{change_calls, other_calls, spare_of, spare_calls, settle_calls};
+ghost use Rattle.mdcc_log_file.specs.Area.{is_copy, is_first, copy_generation, read_area, read_areas, taken, spare_of};
+ghost use Rattle.mdcc_log.specs.Reading.{AreaIs};
+ghost use Rattle.mdcc_log_file.specs.Records.{IsNumbered};
+ghost use Rattle.mdcc_log.specs.Frames.{change_calls, other_calls, spare_calls, settle_calls};
 ghost use Rattle.mdcc_log.specs.Repair.{settled, settle_at, MaySettle, MayClose, with_closed_gate};
 ghost use Rattle.mdcc_log.specs.Settling.{SettlesOne};
 ghost use Rattle.mdcc_log.specs.Opening.{IsFound, IsTaken, LoadsOne, MayOpenAs, MaySettleAs, OpensOne, opened_bytes, taken_bytes};
-ghost use Rattle.mdcc_log.specs.Both.{KeepsBut, RoseAtOne};
+ghost use Rattle.mdcc_log_file.specs.Both.{KeepsBut, RoseAtOne};
 
 use crate::LogFault;
-use crate::area::{
-    Spare, copy_generation, count_in, is_copy, is_first, is_torn, read_records, spare_of, taken,
-};
 use crate::repair::{close_spare, settle};
 use mdcc_base::{Failed, HeapList};
 use mdcc_disks::Disks;
+use mdcc_log_file::area::{
+    Spare, copy_generation, count_in, is_copy, is_first, is_torn, read_records, spare_of, taken,
+};
 use mdcc_log_file::frames::read_tail;
 use mdcc_log_file::reading::load;
 use std::alloc::Global;

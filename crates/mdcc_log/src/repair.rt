@@ -6,9 +6,9 @@ ghost use Rattle.mdcc_log_file.specs.Calls.{MadeSome, with_calls};
 ghost use Rattle.mdcc_log.specs.Frames.{spare_calls};
 ghost use Rattle.mdcc_log.specs.Repair.{settled, settle_at, MaySettle, MayClose, with_closed_gate};
 
-use crate::area::is_torn;
 use mdcc_base::Failed;
 use mdcc_disks::Disks;
+use mdcc_log_file::area::is_torn;
 use mdcc_log_file::repair::repair;
 use mdcc_log_file::steps::{begin, write_through};
 

@@ -1,5 +1,9 @@
 pub mod Append
+pub mod Area
+pub mod Both
 pub mod Calls
+pub mod Copying
 pub mod Crash
 pub mod Frames
 pub mod Log
+pub mod Records

@@ -3,8 +3,9 @@ use Rattle.std.proofs.Common.{◌≡◌, ℕ, ◌<◌, ◌≤◌, nat_lt, Bool, 
 use Rattle.std.proofs.lemmas.Bool.Decides.{nat_tests}
 use Rattle.mdcc_disks.specs.Disks.{DiskCall}
 use Rattle.mdcc_disks.specs.Disks.DiskCall.{Write, Cut, Sync}
-use Rattle.mdcc_log.specs.declared.area.Spare.{Spare}
-use Rattle.mdcc_log.specs.Frames.{shut_calls, laid_calls}
+use Rattle.mdcc_log_file.specs.declared.area.Spare.{Spare}
+use Rattle.mdcc_log.specs.Frames.{laid_calls}
+use Rattle.mdcc_log_file.specs.Copying.{shut_calls}
 use Rattle.mdcc_log_stops.specs.Stops.{stopped_calls}
 
 abbrev by_tests : Spare → ℕ → List (List ℕ) → Bool → Bool → Bool → List DiskCall

@@ -7,10 +7,10 @@ use Rattle.mdcc_base.specs.declared.outside.Image.{Image}
 use Rattle.mdcc_disks.specs.Contents.{Contents, IsImage, image_of}
 use Rattle.mdcc_disks.specs.Disks.{LeavesOnly, Within}
 use Rattle.mdcc_disks.specs.Memory.{AllMemory, at_place, counts_now_of, left_since_of, moment_of, standing}
-use Rattle.mdcc_log.specs.Area.{AreaLog, area_mark, generation_of, is_second, payloads_of}
+use Rattle.mdcc_log_file.specs.Area.{AreaLog, area_mark, generation_of, is_second, payloads_of, spare_of}
 use Rattle.mdcc_log.specs.Checkpoint.{copy_of, MayBegin}
 use Rattle.mdcc_log.specs.Crash.{IsCurrent, IsDead, IsOlder}
-use Rattle.mdcc_log.specs.Frames.{IsInUse, IsSpare, OpenAreas, appended, packed, spare_of}
+use Rattle.mdcc_log.specs.Frames.{IsInUse, IsSpare, OpenAreas, appended, packed}
 use Rattle.mdcc_log.specs.Room.{IsRoomyLog}
 use Rattle.mdcc_log_stops.specs.Stops.{IsStoppedCopy, StoppedIsRead, StoppedIsRoomy, is_copy_kept, opening_copy, stopped_log}
 use Rattle.mdcc_log.specs.Tails.{IsPassedOver, read_by}

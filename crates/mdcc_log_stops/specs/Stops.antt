@@ -4,11 +4,12 @@ use Rattle.mdcc_base.specs.declared.outside.Image.{Image}
 use Rattle.mdcc_disks.specs.Contents.{Contents, image_of}
 use Rattle.mdcc_disks.specs.Disks.{DiskCall}
 use Rattle.mdcc_disks.specs.Disks.DiskCall.{Write, Cut, Sync}
-use Rattle.mdcc_log.specs.declared.area.Spare.{Spare}
-use Rattle.mdcc_log.specs.Area.{AreaLog, generation_of, payloads_of}
+use Rattle.mdcc_log_file.specs.declared.area.Spare.{Spare}
+use Rattle.mdcc_log_file.specs.Area.{AreaLog, generation_of, payloads_of}
 use Rattle.mdcc_log.specs.Checkpoint.{copy_of}
 use Rattle.mdcc_log.specs.Crash.{IsCurrent}
-use Rattle.mdcc_log.specs.Frames.{appended, laid_calls, packed, shut_calls}
+use Rattle.mdcc_log.specs.Frames.{appended, laid_calls, packed}
+use Rattle.mdcc_log_file.specs.Copying.{shut_calls}
 use Rattle.mdcc_log.specs.Room.{IsRoomyLog}
 use Rattle.mdcc_log.specs.Tails.{IsPassedOver, read_by}
 

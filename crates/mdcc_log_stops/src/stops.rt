@@ -6,20 +6,20 @@ ghost use Rattle.mdcc_disks.specs.Disks.DiskCall.{Write, Sync};
 ghost use Rattle.mdcc_disks.specs.Memory.{at_place, disk_of, left_since_of, may_leave_of, moment_of, standing};
 ghost use Rattle.mdcc_log_file.specs.Calls.{with_calls};
 ghost use Rattle.mdcc_log_file.specs.Log.{log_limit, payload_limit};
-ghost use Rattle.mdcc_log.specs.Area.{AreaLog, payloads_of};
+ghost use Rattle.mdcc_log_file.specs.Area.{AreaLog, payloads_of, spare_of};
 ghost use Rattle.mdcc_log.specs.AtRest.{IsAtRest};
-ghost use Rattle.mdcc_log.specs.Both.{KeepsBut, IsOnlyRead, RoseAtOne};
+ghost use Rattle.mdcc_log_file.specs.Both.{KeepsBut, IsOnlyRead, RoseAtOne};
 ghost use Rattle.mdcc_log.specs.Checkpoint.{MayBegin, MayOpen, copy_of};
-ghost use Rattle.mdcc_log.specs.Copying.{IsShut};
+ghost use Rattle.mdcc_log_file.specs.Copying.{IsShut};
 ghost use Rattle.mdcc_log.specs.Crash.{IsIdle, ReadsAsEither, payloads_by};
-ghost use Rattle.mdcc_log.specs.Frames.{IsInUse, IsSettled, IsSpare, appended, other_of, place_of, spare_of};
+ghost use Rattle.mdcc_log.specs.Frames.{IsInUse, IsSettled, IsSpare, appended, other_of, place_of};
 ghost use Rattle.mdcc_log.specs.Room.{IsCopyFull};
 ghost use Rattle.mdcc_log_stops.specs.Stops.{IsStoppedCopy, StoppedIsRead, StoppedIsRoomy, opening_copy, stopped_calls};
 
 use mdcc_base::Failed;
 use mdcc_disks::{Disks, MemoryDisks};
-use mdcc_log::copying::{shut_area, write_shut};
 use mdcc_log::{Frames, LogFault, Spare};
+use mdcc_log_file::copying::{shut_area, write_shut};
 
 /// After a crash in a checkpoint the copy is read exactly where it counts as made, and else the log that was copied.
 pub fn stopped_is_read()

@@ -1,4 +1,8 @@
 //! Openings, appends and checkpoints, each of whose device calls fails and crashes in turn.
+ghost use Rattle.std.specs.Prelude.{◌≤◌, length, IfOk};
+ghost use Rattle.mdcc_log_file.specs.Log.{payload_limit};
+
+use crate::groups::numbered;
 use mdcc_base::{Centre, HeapList, Image};
 use mdcc_disks::{Disks, MemoryDisks};
 use mdcc_log::{Frames, LogFault};
@@ -17,6 +21,17 @@ const COPY: [u8; 35] =
 // How many device calls `run` makes.
 const CALLS: u32 = 121;
 
+// A payload of five bytes.
+fn first_boot(alloc: Global) -> Result<HeapList<u8>, LogFault>
+    ensures short { IfOk result (λ payload. length payload ≤ payload_limit) }
+{
+    let mut payload = HeapList::new(alloc);
+    for byte in [1, 1, 0, 0, 0] {
+        payload.push(byte)?;
+    }
+    Ok(payload)
+}
+
 // Whether a log that is begun, appended to and copied has these bytes.
 fn writes_35_bytes(alloc: Global) -> bool {
     let Ok(mut disks) = MemoryDisks::new(alloc, 17, &[]) else {
@@ -25,9 +40,10 @@ fn writes_35_bytes(alloc: Global) -> bool {
     let Ok((mut log, _payloads)) = Frames::open(alloc, &mut disks, Centre::default(), 1) else {
         return false;
     };
-    let copied = log
-        .append_due(&mut disks, [1, 1, 0, 0, 0].as_slice())
-        .is_ok();
+    let Ok(boot) = first_boot(alloc) else {
+        return false;
+    };
+    let copied = log.append_all(&mut disks, [boot].as_slice()).is_ok();
     let packed = log.area() == 1 && !log.due() && disks.bytes(17) == COPY.as_slice();
     copied && packed && disks.bytes(1) == LOG.as_slice()
 }
@@ -65,7 +81,7 @@ fn are_first(payloads: &[HeapList<u8>], count: usize) -> bool {
 fn run(alloc: Global, disks: &mut MemoryDisks, acknowledged: &mut usize) -> Result<(), LogFault> {
     for turn in 0u8..6 {
         let (mut log, _payloads) = Frames::open(alloc, disks, Centre::default(), 2)?;
-        log.append_due(disks, [turn].as_slice())?;
+        log.append_all(disks, [numbered(alloc, turn)?].as_slice())?;
         *acknowledged = acknowledged.saturating_add(1);
     }
     Ok(())
@@ -115,7 +131,7 @@ fn each_keeps_all(alloc: Global) -> bool {
 fn append_some(alloc: Global, disks: &mut MemoryDisks, turns: u8) -> Result<(), LogFault> {
     for turn in 0..turns {
         let (mut log, _payloads) = Frames::open(alloc, disks, Centre::default(), 1)?;
-        log.append_due(disks, [turn].as_slice())?;
+        log.append_all(disks, [numbered(alloc, turn)?].as_slice())?;
     }
     Ok(())
 }

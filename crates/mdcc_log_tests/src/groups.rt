@@ -14,7 +14,7 @@ const IMAGES: [Image; 3] = [Image::Lost, Image::Kept, Image::Torn];
 const LOG: [u8; 21] = *b"MDCCLOG1\x01\x01\x00\x00\x00\x07\x01\x01\x00\x00\x00\x08\x00";
 
 // A payload that has this number as its one byte.
-fn numbered(alloc: Global, number: u8) -> Result<HeapList<u8>, LogFault>
+pub(crate) fn numbered(alloc: Global, number: u8) -> Result<HeapList<u8>, LogFault>
     ensures short { IfOk result (λ payload. length payload ≤ payload_limit) }
 {
     let mut payload = HeapList::new(alloc);

@@ -5,8 +5,8 @@ use Rattle.std.proofs.lemmas.Bool.Decides.{eqb_tells}
 use Rattle.std.proofs.lemmas.List.{get_or-append_right, get_or_append_left}
 use Rattle.mdcc_base.specs.declared.outside.Image.{Image}
 use Rattle.mdcc_disks.specs.Contents.{durable, struck}
-use Rattle.mdcc_log.specs.Area.{fresh, payloads, read_areas}
-use Rattle.mdcc_log.specs.Both.{KeepsBut}
+use Rattle.mdcc_log_file.specs.Area.{fresh, payloads, read_areas}
+use Rattle.mdcc_log_file.specs.Both.{KeepsBut}
 use Rattle.mdcc_log.specs.Frames.{OpenAreas}
 use Rattle.mdcc_disks.specs.History.{Event, replayed}
 use Rattle.mdcc_disks.specs.Memory.{AllMemory, AreNew, IsNewMemory, Place, at_place, disk_of, left_since_of, may_leave_of, moment_of, is_there, no_place, standing}

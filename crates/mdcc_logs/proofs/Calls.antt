@@ -6,9 +6,9 @@ use Rattle.std.proofs.lemmas.Bool.Decides.{eqb_tells, nat_tests}
 use Rattle.mdcc_base.specs.declared.outside.Image.{Image}
 use Rattle.mdcc_base.specs.declared.outside.Image.TheVariants.{Kept, Lost, Torn}
 use Rattle.mdcc_log.proofs.Rooms.{full_by_length}
-use Rattle.mdcc_log.specs.Area.{payloads, payloads_of, read_areas}
+use Rattle.mdcc_log_file.specs.Area.{payloads, payloads_of, read_areas}
 use Rattle.mdcc_log.specs.AtRest.{IsAtRest}
-use Rattle.mdcc_log.specs.Both.{KeepsBut}
+use Rattle.mdcc_log_file.specs.Both.{KeepsBut}
 use Rattle.mdcc_log.specs.Crash.{ReadsAsEither, payloads_by}
 use Rattle.mdcc_log.specs.Frames.{IsSettled, IsSpare, OpenAreas, other_of, place_of}
 use Rattle.mdcc_log.specs.Room.{HasGrown, IsFull, IsRoomyLog}
@@ -159,7 +159,7 @@ module _ (old new : Logs) (a centres : ℕ) (up : ℕ → Bool) (facts : ℕ →
     beside : (p : ℕ) → p ≢ a → p ≢ a + 16 → IsSame old.disks new.disks p
     beside p first second = both-same old.disks d new.disks p (same p) (elsewhere d new.disks a (a + 16) p keeps-areas first second)
 
-    pub appended : more.centre ≡ log.centre → more.every ≡ log.every → more.tail < more.every → HasGrown log more
+    pub appended : more.centre ≡ log.centre → more.every ≡ log.every → more.tail < more.every → HasGrown 1 log more
         → IsAtRest disk_of may_leave_of new.disks more (encodings_of (facts a) ++ fact_bytes fact ∷ []) → LogsRepresent new centres up (with_fact_at facts a fact)
     appended centre every tail grown rest =
         let every_is : more.every ≡ checkpoint_every = every ∙ every-is in
@@ -173,7 +173,7 @@ module _ (old new : Logs) (a centres : ℕ) (up : ℕ → Bool) (facts : ℕ →
           at_rest = rest;
         })
 
-    pub tail-appended : more.every ≡ log.every → more.tail < more.every → HasGrown log more → LogsRepresent new centres up (with_fact_at facts a fact) → HasTail old new a (tail_after (tail_at old a))
+    pub tail-appended : more.every ≡ log.every → more.tail < more.every → HasGrown 1 log more → LogsRepresent new centres up (with_fact_at facts a fact) → HasTail old new a (tail_after (tail_at old a))
     tail-appended every tail grown stands =
         let here = stands.each a some (omega (few, stand.as_many, arith)) in
         has-tail old new a (tail_after (tail_at old a)) (others-same old.disks new.disks a its.range beside)

@@ -6,9 +6,9 @@ use Rattle.std.proofs.lemmas.List.{length-set}
 use Rattle.mdcc_base.specs.declared.outside.Image.{Image}
 use Rattle.mdcc_base.specs.declared.outside.Image.TheVariants.{Kept, Lost, Torn}
 use Rattle.mdcc_log.proofs.Choice.{appended_payloads, packed_payloads}
-use Rattle.mdcc_log.specs.Area.{AreaLog, area_bytes, payloads_of, read_areas}
+use Rattle.mdcc_log_file.specs.Area.{AreaLog, area_bytes, payloads_of, read_areas}
 use Rattle.mdcc_log.specs.AtRest.{IsAtRest}
-use Rattle.mdcc_log.specs.Both.{KeepsBut}
+use Rattle.mdcc_log_file.specs.Both.{KeepsBut}
 use Rattle.mdcc_log.specs.Crash.{IsCurrent, IsLog}
 use Rattle.mdcc_log.specs.Frames.{IsInUse, OpenAreas, appended, other_of, packed, place_of}
 use Rattle.mdcc_log_stops.specs.Stops.{IsStoppedCopy, StoppedIsRead, StoppedIsRoomy, is_copy_kept, stopped_log}

@@ -1,6 +1,6 @@
 -- What stands of the logs where a fact was perhaps not appended.
 use Rattle.std.proofs.Common.{◌≡◌, ◌≢◌, ◌+◌, ◌≤◌, Bool, List, OnErr, Result, Ok, Err, ap, arith, inl, length, ℕ, ◌∙◌}
-use Rattle.mdcc_log.specs.Area.{AreaLog, payloads, payloads_in, payloads_of, read_areas}
+use Rattle.mdcc_log_file.specs.Area.{AreaLog, payloads, payloads_in, payloads_of, read_areas}
 use Rattle.mdcc_log.specs.Crash.{ReadsAsEither}
 use Rattle.mdcc_disks.specs.Memory.{disk_of, is_there, may_leave_of}
 use Rattle.mdcc_logs.proofs.Standing.{IsSame, log-same, log-stays, others-same}

@@ -9,7 +9,7 @@ use Rattle.mdcc_disks.specs.Disks.{Within}
 use Rattle.mdcc_log_file.proofs.Bytes.{end_written, one_written}
 use Rattle.mdcc_log.proofs.Choice.{appended_front}
 use Rattle.mdcc_log_file.specs.Append.{MayAppend}
-use Rattle.mdcc_log.specs.Area.{AreaLog, front_of}
+use Rattle.mdcc_log_file.specs.Area.{AreaLog, front_of}
 use Rattle.mdcc_log.specs.Frames.{appended}
 use Rattle.mdcc_log_file.specs.Calls.{append_calls}
 use Rattle.mdcc_log_file.specs.Log.{frame_body}

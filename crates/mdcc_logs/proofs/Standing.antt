@@ -2,11 +2,11 @@
 use Rattle.std.proofs.Common.{◌≡◌, ◌≢◌, ◌⊎◌, inl, inr, ◌+◌, ◌-◌, ◌≤◌, ◌<◌, ◌==◌, ◌&&◌, ◌∷◌, Bool, List, ap, arith, cond, get_or, length, nat_le, refl, set, subst, sym, true, ℕ, ◌∙◌}
 use Rattle.std.proofs.lemmas.Bool.Decides.{eqb_tells}
 use Rattle.std.proofs.lemmas.List.{get_or-set_other, get_or-set_same, get_or_read, length-set}
-use Rattle.mdcc_log.specs.Area.{AreaLog, read_areas}
+use Rattle.mdcc_log_file.specs.Area.{AreaLog, read_areas, spare_of}
 use Rattle.mdcc_log.specs.AtRest.{IsAtRest}
-use Rattle.mdcc_log.specs.Both.{KeepsBut}
+use Rattle.mdcc_log_file.specs.Both.{KeepsBut}
 use Rattle.mdcc_log.specs.Crash.{IsDead, IsOlder}
-use Rattle.mdcc_log.specs.Frames.{IsInUse, IsSpare, OpenAreas, other_of, place_of, spare_of}
+use Rattle.mdcc_log.specs.Frames.{IsInUse, IsSpare, OpenAreas, other_of, place_of}
 use Rattle.mdcc_log.specs.Room.{IsRoomy}
 use Rattle.mdcc_disks.specs.Contents.{Contents, IsImage}
 use Rattle.mdcc_disks.specs.Disks.{Only, Within}

@@ -7,8 +7,8 @@ use Rattle.mdcc_admission.proofs.Alike.{counted_boots}
 use Rattle.mdcc_admission.specs.Loading.{Holds}
 use Rattle.mdcc_disks.specs.Contents.{tears_of}
 use Rattle.mdcc_log.specs.AtRest.{IsAtRest}
-use Rattle.mdcc_log.specs.Area.{AreaLog, payloads, read_areas}
-use Rattle.mdcc_log.specs.Both.{KeepsBut}
+use Rattle.mdcc_log_file.specs.Area.{AreaLog, payloads, read_areas}
+use Rattle.mdcc_log_file.specs.Both.{KeepsBut}
 use Rattle.mdcc_log.specs.Frames.{OpenAreas}
 use Rattle.mdcc_log.specs.Crash.{ReadsAsEither}
 use Rattle.mdcc_log_file.specs.declared.fault.LogFault.{LogFault}

@@ -4,7 +4,7 @@ use Rattle.std.proofs.lemmas.Bool.{false≢true}
 use Rattle.mdcc_base.specs.declared.outside.Image.{Image}
 use Rattle.mdcc_log.proofs.Choice.{Other, Seen, appended_payloads, between_is_read, front_is_read, front_seen}
 use Rattle.mdcc_log_file.specs.Append.{MayAppend}
-use Rattle.mdcc_log.specs.Area.{AreaLog, front_of, generation_of, payloads, payloads_of, read_area}
+use Rattle.mdcc_log_file.specs.Area.{AreaLog, front_of, generation_of, payloads, payloads_of, read_area}
 use Rattle.mdcc_log.specs.AtRest.{IsAtRest}
 use Rattle.mdcc_log.specs.Crash.{IsBetween, IsDead, IsIdle, IsLog, IsOlder, ReadsAsEither, payloads_by}
 use Rattle.mdcc_log.specs.Frames.{IsInUse, IsSpare, OpenAreas, appended, other_of, place_of}

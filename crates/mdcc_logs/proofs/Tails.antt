@@ -4,7 +4,7 @@ use Rattle.std.proofs.lemmas.Bool.{cases_Bool, le-leb, leb-true}
 use Rattle.std.proofs.lemmas.Bool.Decides.{nat_tests}
 use Rattle.mdcc_base.specs.declared.outside.Image.{Image}
 use Rattle.mdcc_base.specs.declared.outside.Image.TheVariants.{Kept, Lost, Torn}
-use Rattle.mdcc_log.specs.Area.{AreaLog, read_areas}
+use Rattle.mdcc_log_file.specs.Area.{AreaLog, read_areas}
 use Rattle.mdcc_log.specs.Frames.{OpenAreas}
 use Rattle.mdcc_log.specs.Room.{HasGrown}
 use Rattle.mdcc_log.specs.Tails.{tail_after as area_tail_after}
@@ -45,7 +45,7 @@ due-tail tail due = let yes : nat_le checkpoint_every (tail + 1) ≡ true = le-l
 more-tail : (tail : ℕ) → tail + 1 < checkpoint_every → tail_after tail ≡ tail + 1
 more-tail tail few = let no : nat_le checkpoint_every (tail + 1) ≡ false = grind (arith, nat_tests) in rw no refl
 
-pub tail-grown : (old new : OpenAreas) → HasGrown old new → old.every ≡ checkpoint_every → new.every ≡ old.every → new.tail < new.every → new.tail ≡ tail_after old.tail
+pub tail-grown : (old new : OpenAreas) → HasGrown 1 old new → old.every ≡ checkpoint_every → new.every ≡ old.every → new.tail < new.every → new.tail ≡ tail_after old.tail
 tail-grown old new grown every every_is few = elim grown.tail [
   | inl more ↦ more.1 ∙ sym (more-tail old.tail (omega (more.1, few, every, every_is, arith)))
   | inr due ↦ due.1.1 ∙ sym (due-tail old.tail (omega (due.0, every, arith)))

@@ -1,11 +1,11 @@
 -- Which facts of its centres the logs have.
 use Rattle.std.specs.Prelude.{◌≡◌, ◌≢◌, ◌≤◌, ◌<◌, ◌+◌, ◌-◌, ◌==◌, ◌∷◌, Bool, List, Ok, get_or, if◌then◌else◌, length, true, ℕ}
-use Rattle.mdcc_log.specs.Area.{AreaLog, payloads, payloads_of, read_areas}
+use Rattle.mdcc_log_file.specs.Area.{AreaLog, payloads, payloads_of, read_areas}
 use Rattle.mdcc_log.specs.AtRest.{IsAtRest}
 use Rattle.mdcc_log.specs.Crash.{ReadsAsEither}
 use Rattle.mdcc_log.specs.Frames.{OpenAreas}
 use Rattle.mdcc_log.specs.Room.{IsRoomyLog}
-use Rattle.mdcc_log.specs.declared.area.Spare.TheVariants as spares
+use Rattle.mdcc_log_file.specs.declared.area.Spare.TheVariants as spares
 use Rattle.mdcc_disks.specs.Disks.{Only}
 use Rattle.mdcc_disks.specs.Memory.{AllMemory, at_place, disk_of, is_there, may_leave_of, standing}
 use Rattle.mdcc_messages.specs.Spelling.{fact_bytes, encodings_of}

@@ -1,6 +1,6 @@
 -- How many frames the tails of the logs have.
 use Rattle.std.specs.Prelude.{◌≡◌, ◌≢◌, ◌≤◌, ◌+◌, Err, Ok, Result, length, ℕ, ⊤}
-use Rattle.mdcc_log.specs.Area.{AreaLog, read_areas}
+use Rattle.mdcc_log_file.specs.Area.{AreaLog, read_areas}
 use Rattle.mdcc_base.specs.declared.faults.Memory.{Memory}
 use Rattle.mdcc_disks.specs.Memory.{disk_of}
 use Rattle.mdcc_logs.specs.declared.logs.Logs.{Logs}

@@ -1,8 +1,8 @@
 //! The logs of the centres.
 ghost use Rattle.std.specs.Prelude.{◌≡◌, ◌≤◌, ◌<◌, ◌+◌, ◌-◌, ◌^◌, ◌∷◌, ◌++◌, [], Bool, List, ℕ, false, length, nat_lt, IfOk, IsTrue, OnErr, OnOk, true};
-ghost use Rattle.mdcc_log.specs.Area.{AreaLog};
+ghost use Rattle.mdcc_log_file.specs.Area.{AreaLog};
 ghost use Rattle.mdcc_log.specs.AtRest.{IsAtRest};
-ghost use Rattle.mdcc_log.specs.Both.{KeepsBut};
+ghost use Rattle.mdcc_log_file.specs.Both.{KeepsBut};
 ghost use Rattle.mdcc_log.specs.Crash.{ReadsAsEither, payloads_by};
 ghost use Rattle.mdcc_log.specs.Frames.{IsSettled, IsSpare, other_of, place_of};
 ghost use Rattle.mdcc_log.specs.Room.{HasGrown};
@@ -23,8 +23,8 @@ ghost use Rattle.mdcc_simulation.specs.Checkpoints.{is_due_after, tail_after};
 
 use crate::rooms::{reserve_append, reserve_start};
 use crate::starting::{Attempt, Started, start};
-use mdcc_base::{Centre, Image, Memory};
-use mdcc_centre::{Running, append_fact};
+use mdcc_base::{Centre, HeapList, Image, Memory};
+use mdcc_centre::{Running, payload_of, persist};
 use mdcc_disks::{MemoryDisks, crash_leaves_the_image};
 use mdcc_journal::counts::well_formed_facts_have_counts;
 use mdcc_journal::fact_length;
@@ -59,7 +59,7 @@ fn append(
         → IsAtRest disk_of may_leave_of disks.old log.old all
         → OnOk result (IsAtRest disk_of may_leave_of disks.new log.new (all ++ fact_bytes fact.now ∷ [])) }
     ensures few { OnOk result (log.new.tail < log.new.every) }
-    ensures grown { OnOk result (HasGrown log.old log.new) }
+    ensures grown { OnOk result (HasGrown 1 log.old log.new) }
     ensures keeps { (log.new.centre ≡ log.old.centre) × (log.new.every ≡ log.old.every) }
     ensures any_moment_reads { let place = place_of log.old.centre log.old.area in let other = place_of log.old.centre (other_of log.old.area) in
         (all : List (List ℕ)) (current spare : List ℕ) → IsTrue (disk_of disks.old place).told → IsTrue (disk_of disks.old other).told
@@ -70,7 +70,9 @@ fn append(
         (place_of log.old.centre log.old.area) (place_of log.old.centre (other_of log.old.area)) }
 {
     well_formed_facts_have_counts();
-    match append_fact(alloc, log, disks, fact) {
+    let payload = payload_of(alloc, fact)?;
+    let group = [HeapList::from_vec(payload)];
+    match persist(log, disks, group.as_slice()) {
         Ok(()) => Ok(()),
         Err(_) => Err(Memory),
     }

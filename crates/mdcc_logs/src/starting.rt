@@ -1,7 +1,7 @@
 //! The start of one centre.
 ghost use Rattle.std.specs.Prelude.{◌≡◌, ◌<◌, ◌≤◌, ◌-◌, ◌+◌, ◌^◌, IsTrue, List, Ok, length, true, ℕ};
-ghost use Rattle.mdcc_log.specs.Area.{AreaLog, payloads, read_areas};
-ghost use Rattle.mdcc_log.specs.Both.{KeepsBut};
+ghost use Rattle.mdcc_log_file.specs.Area.{AreaLog, payloads, read_areas};
+ghost use Rattle.mdcc_log_file.specs.Both.{KeepsBut};
 ghost use Rattle.mdcc_log.specs.Crash.{ReadsAsEither};
 ghost use Rattle.mdcc_disks.specs.Disks.{Only};
 ghost use Rattle.mdcc_disks.specs.Memory.{disk_of, may_leave_of, moment_of, left_since_of};

@@ -1,5 +1,5 @@
 -- What logging facts does to the log of a centre.
-use Rattle.std.proofs.Common.{◌≡◌, ℕ, ◌+◌, ◌≤◌, ◌<◌, ◌⊎◌, inl, inr, List, [], ◌∷◌, ◌++◌, length, map, Result, Ok, refl, sym, ◌∙◌, ap, subst, arith, append-nil, append_assoc, true, IsTrue, ◌==◌}
+use Rattle.std.proofs.Common.{◌≡◌, ℕ, ◌+◌, ◌≤◌, ◌<◌, ◌⊎◌, inl, inr, List, [], ◌∷◌, ◌++◌, length, map, Result, Ok, refl, sym, ◌∙◌, ap, subst, arith, true, IsTrue, ◌==◌}
 use Rattle.std.proofs.lemmas.List.{length-map}
 use Rattle.std.proofs.lemmas.Bool.{cases_eq}
 use Rattle.std.proofs.lemmas.Bool.Decides.{nat_tests}
@@ -16,6 +16,7 @@ use Rattle.mdcc_messages.specs.Spelling.{fact_bytes, encodings_of}
 use Rattle.mdcc_messages.specs.declared.facts.Fact.{Fact}
 use Rattle.mdcc_runs.specs.Sending.{facts_logged}
 use Rattle.mdcc_site.specs.AnyMoment.{LeavesEither}
+use Rattle.mdcc_centre.proofs.Starts.{group-encoded}
 use Rattle.mdcc_site.specs.Causes.{IsLogging, next_facts}
 use Rattle.mdcc_site.specs.LogEffects.{AreShortFacts, FailsToLog, HasLogged, log_fault_of}
 use Rattle.mdcc_site.specs.Logs.{MayHaveFacts, with_facts}
@@ -30,13 +31,8 @@ same_is n = grind (arith, nat_tests)
 
 -- ---- facts and their bytes
 
--- facts behind others have their bytes behind those
-pub spelled : (facts more : List Fact) → encodings_of facts ++ map fact_bytes more ≡ encodings_of (with_facts facts more)
-spelled facts [] = append-nil (encodings_of facts)
-spelled facts (fact ∷ more) = sym (append_assoc (encodings_of facts) (fact_bytes fact ∷ []) (map fact_bytes more)) ∙ spelled (fact ∷ facts) more
-
 payloads_more : (facts more : List Fact) → ◌≡◌ {A = Result (List (List ℕ)) ℕ} (Ok (encodings_of facts ++ map fact_bytes more)) (Ok (encodings_of (with_facts facts more)))
-payloads_more facts more = ap (λ (ps : List (List ℕ)). let ok : Result (List (List ℕ)) ℕ = Ok ps in ok) (spelled facts more)
+payloads_more facts more = ap (λ (ps : List (List ℕ)). let ok : Result (List (List ℕ)) ℕ = Ok ps in ok) (group-encoded facts more)
 
 -- they come next
 pub logging_some : (centre : ℕ) (more : List Fact) → 1 ≤ length more → IsLogging centre (facts_logged centre more)
@@ -261,7 +257,7 @@ module _ {D : Type 0} (disk : D → ℕ → Disk) (may_leave : D → ℕ → Lis
               at_rest = λ told.
                   let before = subst IsTrue (told_at _ _ keeps centre) told in
                   let both = told_both old log centre facts stands range before in
-                  subst (λ (all : List (List ℕ)). IsAtRest disk may_leave new new_log all) (spelled facts more) (acknowledged (encodings_of facts) both.0 both.1 (stands.at_rest before));
+                  subst (λ (all : List (List ℕ)). IsAtRest disk may_leave new new_log all) (group-encoded facts more) (acknowledged (encodings_of facts) both.0 both.1 (stands.at_rest before));
               left = λ told first second here there.
                   let before = subst IsTrue (told_at _ _ keeps centre) told in
                   let both = told_both old log centre facts stands range before in

@@ -12,7 +12,7 @@ pub mod site;
 pub mod turning;
 
 pub use fault::ServeFault;
-pub use logging::{log_fault, log_payloads};
+pub use logging::log_fault;
 pub use pending::{PendingBytes, nothing_pending};
 pub use persist::print_line;
 pub use site::Site;

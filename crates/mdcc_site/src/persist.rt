@@ -20,13 +20,15 @@ ghost use Rattle.mdcc_site.specs.Printing.{PrintsInOrder};
 ghost use Rattle.mdcc_site.specs.SiteState.{Goes, HoldsLog, HoldsSite, IsServed, PrintsOut, SendsOut, place};
 
 use crate::ServeFault;
-use crate::logging::log_payloads;
+use crate::logging::log_fault;
 use crate::pending::{PendingBytes, nothing_pending};
 use crate::site::Site;
 use mdcc_base::{Centre, HeapList, Sink, TxId};
+use mdcc_centre::persist;
 use mdcc_config::Config;
 use mdcc_disks::Disks;
 use mdcc_link::Link;
+use mdcc_log::current_is_read;
 use mdcc_outbox::{Outgoing, PrintFault, print};
 use mdcc_runs::ServerLine;
 use std::alloc::Global;
@@ -102,10 +104,12 @@ impl Site {
             → LeavesEither D.disk D.moment D.left_since self.old.centre before (with_facts before facts) disks.old disks.new }
         ensures same { self.new ≡ record self.old { log = self.new.log } }
     {
-        if payloads.is_empty() {
-            return Ok(());
+        current_is_read();
+        let _area = self.log.area();
+        match persist(&mut self.log, disks, payloads) {
+            Ok(()) => Ok(()),
+            Err(fault) => Err(log_fault(self.centre, fault)),
         }
-        log_payloads(&mut self.log, self.centre, disks, payloads)
     }
 
     // Sends messages in order.

@@ -1,13 +1,12 @@
 use Rattle.std.proofs.Common.{◌≡◌, ◌+◌, ◌-◌, ◌++◌, List, ℕ, length, IsTrue, sym, ◌∙◌, ap, subst}
 use Rattle.mdcc_disks.specs.Disks.{DiskCall}
 use Rattle.mdcc_log_file.specs.Calls.{MadeSome, with_calls}
-use Rattle.mdcc_log.specs.Area.{payloads_of, records_of, records_bytes}
-use Rattle.mdcc_log.specs.Copying.{IsSource}
-use Rattle.mdcc_log.specs.Frames.{record_calls}
-use Rattle.mdcc_log.proofs.Copies.{calls_split}
+use Rattle.mdcc_log_file.specs.Area.{payloads_of, records_of, records_bytes}
+use Rattle.mdcc_log_file.specs.Copying.{IsSource, record_calls}
+use Rattle.mdcc_log_file.proofs.Copies.{calls_split}
 use Rattle.mdcc_log_file.proofs.Calls.{made_both, made_first}
 use Rattle.mdcc_log_file.proofs.ReadCalls.{all_where}
-use Rattle.mdcc_log.proofs.Joined.{read_joined, shut_joined, but_joined}
+use Rattle.mdcc_log_file.proofs.Joined.{read_joined, shut_joined, but_joined}
 use Rattle.mdcc_log.proofs.Outcomes.{on_ok, if_ok}
 use Rattle.mdcc_log.proofs.Packs.{records_source, frames_source, size_of_all, copied_both}
 use Rattle.mdcc_log.proofs.checkpoint.copy_all.Goals as goal

@@ -4,10 +4,10 @@ use Rattle.mdcc_disks.specs.Disks.DiskCall.{Write, Sync}
 use Rattle.mdcc_log_file.proofs.Bytes.{one_written}
 use Rattle.mdcc_log_file.proofs.Moments.{one_call, weakened, both}
 use Rattle.mdcc_log.specs.Checkpoint.{MayOpen}
-use Rattle.mdcc_log.specs.Repair.{with_gate}
+use Rattle.mdcc_log_file.specs.Area.{with_gate}
 use Rattle.mdcc_log_file.proofs.Calls.{made_both, made_first}
 use Rattle.mdcc_log_file.proofs.ReadCalls.{made_one, all_where}
-use Rattle.mdcc_log.proofs.Gates.{gate_torn}
+use Rattle.mdcc_log_file.proofs.Gates.{gate_torn}
 use Rattle.mdcc_log.proofs.Outcomes.{on_ok}
 use Rattle.mdcc_log.proofs.checkpoint.open_area.Goals as goal
 

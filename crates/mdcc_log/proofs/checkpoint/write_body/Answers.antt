@@ -1,8 +1,8 @@
 use Rattle.std.proofs.Common.{◌≡◌, ◌∷◌, ◌++◌, [], List, ℕ, length, IsTrue, sym, ◌∙◌, ap, subst, arith, length-append}
-use Rattle.mdcc_log.specs.Area.{payloads_of, counts_bytes}
+use Rattle.mdcc_log_file.specs.Area.{payloads_of, counts_bytes}
 use Rattle.mdcc_log.specs.Checkpoint.{StandsAs}
 use Rattle.mdcc_log_file.proofs.ReadCalls.{made_one}
-use Rattle.mdcc_log.proofs.Joined.{read_joined, read_beside, shut_joined, but_joined, but_two}
+use Rattle.mdcc_log_file.proofs.Joined.{read_joined, read_beside, shut_joined, but_joined, but_two}
 use Rattle.mdcc_log.proofs.Packs.{body_written, body_begun, body_middle, body_ending, body_ended}
 use Rattle.mdcc_log.proofs.checkpoint.write_body.Goals as goal
 

@@ -1,17 +1,17 @@
 use Rattle.std.proofs.Common.{inl, inr, ◌∷◌, ◌++◌, [], List, ℕ, length, IsTrue, sym, ◌∙◌, ap, subst, arith}
 use Rattle.mdcc_disks.specs.Disks.{Within}
 use Rattle.mdcc_log_file.proofs.Moments.{weakened, both}
-use Rattle.mdcc_log.specs.Area.{payloads_of, area_gate, copy_body}
-use Rattle.mdcc_log.specs.Copying.{IsShut}
+use Rattle.mdcc_log_file.specs.Area.{payloads_of, area_gate, copy_body}
+use Rattle.mdcc_log_file.specs.Copying.{IsShut, shut_calls, mark_calls}
 use Rattle.mdcc_log.specs.Checkpoint.{StandsAs, MayBegin}
 use Rattle.mdcc_log.proofs.Around.{shut_as, calls_are}
-use Rattle.mdcc_log.proofs.Joined.{read_joined, read_beside, but_joined, but_two}
+use Rattle.mdcc_log_file.proofs.Joined.{read_joined, read_beside, but_joined, but_two}
 use Rattle.std.proofs.Common.{append_assoc}
 use Rattle.mdcc_disks.specs.Disks.{DiskCall}
 use Rattle.mdcc_disks.specs.Disks.DiskCall.{Cut, Sync}
 use Rattle.mdcc_log_file.specs.Calls.{MadeSome, with_calls}
 use Rattle.mdcc_log_file.proofs.Calls.{made_both, made_first}
-use Rattle.mdcc_log.specs.Frames.{shut_calls, mark_calls, body_calls}
+use Rattle.mdcc_log.specs.Frames.{body_calls}
 use Rattle.mdcc_log_file.proofs.ReadCalls.{all_both}
 use Rattle.mdcc_log.proofs.checkpoint.write_copy.Goals as goal
 

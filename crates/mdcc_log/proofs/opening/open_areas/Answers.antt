@@ -1,6 +1,6 @@
 use Rattle.std.proofs.Common.{ℕ, List, IsTrue, sym, ◌∙◌, ap, subst}
 use Rattle.std.proofs.lemmas.Result.{err_from_is_err_and}
-use Rattle.mdcc_log.specs.Area.{read_areas}
+use Rattle.mdcc_log_file.specs.Area.{read_areas}
 use Rattle.mdcc_log.specs.Opening.{OpensOne}
 use Rattle.mdcc_log.proofs.Opens.{opens_not, opens_with}
 use Rattle.mdcc_log.proofs.Outcomes.{if_ok_four, on_ok_under}

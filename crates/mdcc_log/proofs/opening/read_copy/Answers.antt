@@ -1,5 +1,5 @@
 use Rattle.std.proofs.Common.{◌≡◌, [], ℕ, length, drop, sym, ◌∙◌, ap, arith, rules}
-use Rattle.mdcc_log.specs.Area.{log_from}
+use Rattle.mdcc_log_file.specs.Area.{log_from}
 use Rattle.mdcc_log.proofs.Stands.{copy_stands, copy_broken, tail_broken, gate_missing}
 use Rattle.mdcc_log.proofs.opening.read_copy.Goals as goal
 

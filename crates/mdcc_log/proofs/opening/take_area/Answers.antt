@@ -1,6 +1,6 @@
 use Rattle.std.proofs.Common.{inl, sym, ◌∙◌, refl}
 use Rattle.std.proofs.lemmas.Result.{err_from_is_err_and}
-use Rattle.mdcc_log.specs.Area.{read_area}
+use Rattle.mdcc_log_file.specs.Area.{read_area}
 use Rattle.mdcc_log.specs.Frames.{other_calls, settle_calls}
 use Rattle.mdcc_log.specs.Repair.{MayClose, with_closed_gate}
 use Rattle.mdcc_log.specs.Opening.{MaySettleAs, taken_bytes}

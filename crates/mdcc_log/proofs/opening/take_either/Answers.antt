@@ -1,9 +1,9 @@
 use Rattle.std.proofs.Common.{◌≡◌, inl, ◌^◌, ◌<◌, ℕ, Ok, Result, length, sym, ◌∙◌, ap, refl, arith, rules}
 use Rattle.std.proofs.lemmas.Result.{err_from_is_err_and}
-use Rattle.mdcc_log.specs.Area.{read_areas, taken}
+use Rattle.mdcc_log_file.specs.Area.{read_areas, taken}
 use Rattle.mdcc_log.specs.Frames.{change_calls}
 use Rattle.mdcc_log.specs.Opening.{MayOpenAs, opened_bytes}
-use Rattle.mdcc_log.proofs.Joined.{but_swapped}
+use Rattle.mdcc_log_file.proofs.Joined.{but_swapped}
 use Rattle.mdcc_log.proofs.Opens.{first_bytes, first_bytes_then, first_calls, first_calls_then, first_may, first_may_then, second_bytes, second_bytes_then, second_calls, second_calls_then, second_may, second_may_then, takes_first, takes_second}
 use Rattle.mdcc_log.proofs.Settles.{settles_none, failed_as, done_as}
 use Rattle.mdcc_log.proofs.opening.take_either.Goals as goal

@@ -2,7 +2,7 @@ use Rattle.std.proofs.Common.{◌∷◌, [], sym, subst}
 use Rattle.mdcc_disks.specs.Disks.{IsTorn}
 use Rattle.mdcc_log_file.proofs.Moments.{weakened}
 use Rattle.mdcc_log.specs.Repair.{MayClose}
-use Rattle.mdcc_log.proofs.Gates.{may_close}
+use Rattle.mdcc_log.proofs.Closes.{may_close}
 use Rattle.mdcc_log.proofs.repair.close_spare.Goals as goal
 
 pub returns-then-is_torn-clause-any_moment : goal.returns-then-is_torn-clause-any_moment

@@ -2,15 +2,15 @@ use Rattle.std.proofs.Common.{◌+◌, ◌≡◌, ◌≢◌, ℕ, List, OnOk, Is
 use Rattle.std.proofs.Common.{Option}
 use Rattle.mdcc_disks.specs.Disks.{Disk, DiskCall}
 use Rattle.mdcc_log_file.specs.Calls.{with_calls}
-use Rattle.mdcc_log.specs.Area.{payloads_of}
+use Rattle.mdcc_log_file.specs.Area.{payloads_of}
 use Rattle.mdcc_disks.specs.Memory.{at_place, disk_of, left_since_of, may_leave_of, moment_of, only_now_of, standing}
-use Rattle.mdcc_log.specs.Both.{IsOnlyRead, KeepsBut, RoseAtOne}
+use Rattle.mdcc_log_file.specs.Both.{IsOnlyRead, KeepsBut, RoseAtOne}
 use Rattle.mdcc_log.specs.Crash.{IsCurrent, ReadsAsEither, payloads_by}
 use Rattle.mdcc_log.specs.Frames.{OpenAreas, IsInUse, IsSpare, appended, place_of, other_of}
 use Rattle.mdcc_log_stops.specs.Stops.{IsStoppedCopy, stopped_calls}
 use Rattle.mdcc_log.proofs.Dues.{apart_areas, append_reads, due_reads}
 use Rattle.mdcc_log_file.proofs.Moments.{weakened}
-use Rattle.mdcc_log.proofs.Joined.{but_joined, but_one, fault_later}
+use Rattle.mdcc_log_file.proofs.Joined.{but_joined, but_one, fault_later}
 use Rattle.mdcc_log_stops.proofs.Stopped.{on_always, read_in_use, still_spare}
 use Rattle.mdcc_log.proofs.Uses.{is_current}
 use Rattle.mdcc_log_stops.proofs.stops.append_due_until.Goals as goal

@@ -4,13 +4,13 @@ use Rattle.mdcc_disks.specs.Disks.{KeepsOthers, LeavesOnly, Only}
 use Rattle.mdcc_disks.specs.Memory.{disk_of, left_since_of, may_leave_of, moment_of, only_now_of}
 use Rattle.mdcc_log_file.specs.Calls.{with_calls}
 use Rattle.mdcc_log_file.proofs.Moments.{started, weakened}
-use Rattle.mdcc_log.specs.declared.area.Spare.{Spare}
-use Rattle.mdcc_log.specs.Area.{generation_of, payloads_of}
+use Rattle.mdcc_log_file.specs.declared.area.Spare.{Spare}
+use Rattle.mdcc_log_file.specs.Area.{generation_of, payloads_of, spare_of}
 use Rattle.mdcc_log.specs.Checkpoint.{MayBegin}
 use Rattle.mdcc_log.specs.Crash.{IsDead, IsIdle, IsOlder}
-use Rattle.mdcc_log.specs.Frames.{place_of, other_of, spare_of}
+use Rattle.mdcc_log.specs.Frames.{place_of, other_of}
 use Rattle.mdcc_log.proofs.Dues.{apart_areas}
-use Rattle.mdcc_log.proofs.Joined.{but_two, nothing_read, read_beside}
+use Rattle.mdcc_log_file.proofs.Joined.{but_two, nothing_read, read_beside}
 use Rattle.mdcc_log.proofs.Uses.{beginning_idle, spare_idle}
 use Rattle.mdcc_log_stops.specs.Stops.{stopped_calls}
 use Rattle.mdcc_log_stops.proofs.Stopped.{begun_left}

@@ -6,14 +6,14 @@ use Rattle.mdcc_disks.specs.Memory.{at_place, disk_of, left_since_of, may_leave_
 use Rattle.mdcc_log_file.specs.Calls.{with_calls}
 use Rattle.mdcc_log_file.proofs.Moments.{both, weakened}
 use Rattle.mdcc_log_file.proofs.ReadCalls.{all_both}
-use Rattle.mdcc_log.specs.Area.{generation_of, payloads_of}
+use Rattle.mdcc_log_file.specs.Area.{generation_of, payloads_of}
 use Rattle.mdcc_log.specs.Checkpoint.{MayCopy, MayOpen, copy_of}
-use Rattle.mdcc_log.specs.Copying.{IsShut}
+use Rattle.mdcc_log_file.specs.Copying.{IsShut}
 use Rattle.mdcc_log.specs.Crash.{IsDead, IsIdle, IsOlder}
 use Rattle.mdcc_log.specs.Frames.{laid_calls, place_of, other_of}
 use Rattle.mdcc_log.proofs.Around.{begun_copy, opened_copy}
 use Rattle.mdcc_log.proofs.Dues.{apart_areas}
-use Rattle.mdcc_log.proofs.Joined.{but_joined, but_two, read_beside, read_joined}
+use Rattle.mdcc_log_file.proofs.Joined.{but_joined, but_two, read_beside, read_joined}
 use Rattle.mdcc_log.proofs.Uses.{beginning_idle, copying_idle}
 use Rattle.mdcc_log_stops.specs.Stops.{opening_copy}
 use Rattle.mdcc_log_stops.proofs.StopCalls.{calls_laid, calls_opened}

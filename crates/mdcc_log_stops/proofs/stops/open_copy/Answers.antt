@@ -7,7 +7,7 @@ use Rattle.mdcc_disks.specs.Memory.{disk_of, left_since_of, moment_of, only_now_
 use Rattle.mdcc_disks.specs.Contents.{tears_of}
 use Rattle.mdcc_log_file.proofs.Moments.{one_call, both}
 use Rattle.mdcc_log.specs.Checkpoint.{MayOpen}
-use Rattle.mdcc_log.proofs.Gates.{gate_torn}
+use Rattle.mdcc_log_file.proofs.Gates.{gate_torn}
 use Rattle.mdcc_log_stops.proofs.Memories.{call_made}
 use Rattle.mdcc_log_file.proofs.ReadCalls.{all_where}
 use Rattle.mdcc_log_stops.proofs.stops.open_copy.Goals as goal

@@ -1,14 +1,14 @@
 use Rattle.std.proofs.Common.{arith, inl, inr, IsTrue, sym, ◌∙◌, ap}
 use Rattle.mdcc_log_file.proofs.Moments.{one_call, weakened, both}
-use Rattle.mdcc_log.specs.Area.{area_gate}
+use Rattle.mdcc_log_file.specs.Area.{area_gate}
 use Rattle.mdcc_log.specs.Checkpoint.{MayBegin}
 use Rattle.mdcc_log.proofs.Around.{shut_as}
-use Rattle.mdcc_log.proofs.Gates.{cut_stays_shut}
+use Rattle.mdcc_log_file.proofs.Gates.{cut_stays_shut}
 use Rattle.std.proofs.Common.{◌≡◌, ◌∷◌, ◌++◌, [], List, OnOk, append_assoc, subst}
 use Rattle.mdcc_disks.specs.Disks.{DiskCall}
 use Rattle.mdcc_disks.specs.Disks.DiskCall.{Cut, Sync}
 use Rattle.mdcc_log_file.specs.Calls.{with_calls}
-use Rattle.mdcc_log.specs.Frames.{shut_calls}
+use Rattle.mdcc_log_file.specs.Copying.{shut_calls}
 use Rattle.mdcc_log_file.proofs.ReadCalls.{all_where}
 use Rattle.mdcc_log_stops.proofs.StopCalls.{calls_cut, calls_shut}
 use Rattle.mdcc_log_stops.proofs.stops.shut_until.Goals as goal

@@ -1,7 +1,7 @@
 use Rattle.std.proofs.Common.{◌≡◌, ◌+◌, ◌-◌, ◌≤◌, [], Ok, arith, subst}
 use Rattle.std.specs.Prelude.{nat_le}
 use Rattle.std.proofs.lemmas.Bool.{and_parts, leb-true}
-use Rattle.mdcc_log.specs.Area.{fresh}
+use Rattle.mdcc_log_file.specs.Area.{fresh}
 use Rattle.mdcc_disks.specs.Memory.{disk_of, may_leave_of}
 use Rattle.mdcc_logs.proofs.Begun.{next-begun, none-fresh, none-logged, none-read, none-room}
 use Rattle.mdcc_logs.proofs.Standing.{held-same}

@@ -1,5 +1,5 @@
 use Rattle.std.proofs.Common.{◌≡◌, ◌<◌, ◌+◌, ◌^◌, ◌∙◌, List, ℕ, ap, arith, inl, length, sym, subst}
-use Rattle.mdcc_log.specs.Area.{payloads}
+use Rattle.mdcc_log_file.specs.Area.{payloads}
 use Rattle.mdcc_disks.specs.Memory.{disk_of, may_leave_of, only_now_of}
 use Rattle.mdcc_logs.proofs.Starts.{empty-store, lacking-kept, lacking-over, lacking-tail, no-gate-is-torn-open}
 use Rattle.mdcc_logs.proofs.Tails.{tail-alike}

@@ -3,7 +3,7 @@ use Rattle.mdcc_disks.specs.Disks.{LeavesOnly}
 use Rattle.mdcc_log_file.specs.Append.{IsAtEnd, behind_calls, group_body}
 use Rattle.mdcc_log_file.specs.Calls.{MadeSome, with_calls}
 use Rattle.mdcc_log_file.proofs.Moments.{weakened}
-use Rattle.mdcc_log.specs.Area.{front_of}
+use Rattle.mdcc_log_file.specs.Area.{front_of}
 use Rattle.mdcc_log.specs.Frames.{OpenAreas, IsInUse, place_of}
 use Rattle.mdcc_log.specs.Groups.{MayHaveGroup, frames_size, records_size}
 use Rattle.mdcc_log.proofs.Groups.{counted_to, group_sizes, in_use_joined, laid_size, stands_group}

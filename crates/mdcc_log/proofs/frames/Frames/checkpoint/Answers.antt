@@ -5,16 +5,15 @@ use Rattle.mdcc_log_file.specs.Calls.{MadeSome, with_calls}
 use Rattle.mdcc_log_file.proofs.Calls.{made_both, made_first}
 use Rattle.mdcc_log_file.proofs.Moments.{both, weakened}
 use Rattle.mdcc_log_file.proofs.ReadCalls.{all_both}
-use Rattle.mdcc_log.specs.Area.{generation_of, payloads_of}
+use Rattle.mdcc_log_file.specs.Area.{generation_of, payloads_of, with_gate}
 use Rattle.mdcc_log.specs.Checkpoint.{MayCopy, MayOpen, copy_of}
-use Rattle.mdcc_log.specs.Copying.{IsShut}
+use Rattle.mdcc_log_file.specs.Copying.{IsShut}
 use Rattle.mdcc_log.specs.Crash.{IsCurrent, IsDead, IsIdle, IsOlder}
 use Rattle.mdcc_log.specs.Frames.{OpenAreas, laid_calls, place_of, other_of}
-use Rattle.mdcc_log.specs.Repair.{with_gate}
 use Rattle.mdcc_log.proofs.Around.{begun_copy, calls_laid, opened_copy}
 use Rattle.mdcc_log.proofs.Choice.{current_is_read}
 use Rattle.mdcc_log.proofs.Dues.{apart_areas}
-use Rattle.mdcc_log.proofs.Joined.{but_joined, but_two, read_beside, read_joined}
+use Rattle.mdcc_log_file.proofs.Joined.{but_joined, but_two, read_beside, read_joined}
 use Rattle.mdcc_log.proofs.Uses.{beginning_idle, is_current, packed_in_use, left_idle, left_spare, copying_idle}
 use Rattle.mdcc_log.proofs.frames.Frames.checkpoint.Goals as goal
 

@@ -1,13 +1,13 @@
 use Rattle.std.proofs.Common.{◌≡◌, ◌≤◌, ◌+◌, ◌-◌, ℕ, OnOk, IsTrue, length, sym, ◌∙◌, ap, subst}
 use Rattle.mdcc_disks.specs.Disks.{LeavesOnly, Only, Within}
 use Rattle.mdcc_log_file.specs.Calls.{MadeSome, with_calls}
-use Rattle.mdcc_log.specs.declared.area.Spare.{Spare}
-use Rattle.mdcc_log.specs.Area.{payloads_of}
-use Rattle.mdcc_log.specs.Both.{IsOnlyRead}
+use Rattle.mdcc_log_file.specs.declared.area.Spare.{Spare}
+use Rattle.mdcc_log_file.specs.Area.{payloads_of, spare_of}
+use Rattle.mdcc_log_file.specs.Both.{IsOnlyRead}
 use Rattle.mdcc_log.specs.Checkpoint.{MayBegin, head_size, copy_of}
-use Rattle.mdcc_log.specs.Copying.{IsShut}
-use Rattle.mdcc_log.specs.Frames.{OpenAreas, IsInUse, laid_calls, place_of, other_of, spare_of}
-use Rattle.mdcc_log.proofs.Joined.{nothing_read}
+use Rattle.mdcc_log_file.specs.Copying.{IsShut}
+use Rattle.mdcc_log.specs.Frames.{OpenAreas, IsInUse, laid_calls, place_of, other_of}
+use Rattle.mdcc_log_file.proofs.Joined.{nothing_read}
 use Rattle.mdcc_log.proofs.Uses.{apart_places, stands_as}
 use Rattle.mdcc_log.proofs.frames.Frames.lay_copy.Goals as goal
 

@@ -2,7 +2,7 @@ use Rattle.std.proofs.Common.{◌≡◌, ◌+◌, ◌-◌, ℕ, List, IsTrue, Ok
 use Rattle.std.proofs.lemmas.Result.{err_from_is_err_and}
 use Rattle.mdcc_log_file.specs.Crash.{AreShort}
 use Rattle.mdcc_log_file.proofs.Moments.{started}
-use Rattle.mdcc_log.specs.Area.{payloads_in}
+use Rattle.mdcc_log_file.specs.Area.{payloads_in}
 use Rattle.mdcc_log.specs.Crash.{IsIdle}
 use Rattle.mdcc_log.specs.Frames.{OpenAreas, other_of, place_of}
 use Rattle.mdcc_log.specs.Opening.{IsOpened, OpensOne}

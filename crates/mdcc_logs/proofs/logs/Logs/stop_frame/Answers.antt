@@ -1,6 +1,6 @@
 use Rattle.std.proofs.Common.{◌≡◌, ◌≤◌, ◌+◌, ◌-◌, ◌*◌, ◌++◌, ◌∷◌, [], ap, arith, length, refl, subst, sym, ◌∙◌, ℕ}
 use Rattle.mdcc_log_file.specs.Append.{MayAppend}
-use Rattle.mdcc_log.specs.Area.{front_of}
+use Rattle.mdcc_log_file.specs.Area.{front_of}
 use Rattle.mdcc_log.specs.Frames.{OpenAreas, other_of, place_of}
 use Rattle.mdcc_disks.specs.Contents.{durable, image_of}
 use Rattle.mdcc_disks.specs.Disks.{Within}
