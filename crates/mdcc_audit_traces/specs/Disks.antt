@@ -9,7 +9,7 @@ use Rattle.mdcc_ledger.specs.Ledger.{Entry, facts_of}
 use Rattle.mdcc_agreement.specs.Laws.{IsLedger}
 use Rattle.mdcc_simulation.specs.State.{World}
 use Rattle.mdcc_disks.specs.Memory.{AllMemory, disk_of}
-use Rattle.mdcc_log.specs.Area.{payloads}
+use Rattle.mdcc_log_file.specs.Area.{payloads}
 use Rattle.mdcc_admission.specs.Loading.{fact_read}
 use Rattle.mdcc_worlds.specs.WorldInvariant.{IsWorld}
 use Rattle.mdcc_audit.specs.Logs.{audit_of}

@@ -5,7 +5,7 @@ use Rattle.std.specs.Prelude.{take}
 use Rattle.mdcc_config.specs.declared.config.Config.{Config}
 use Rattle.mdcc_disks.specs.Disks.{Disk}
 use Rattle.mdcc_link.specs.Link.{LinkCall}
-use Rattle.mdcc_log.specs.Area.{payloads}
+use Rattle.mdcc_log_file.specs.Area.{payloads}
 use Rattle.mdcc_messages.specs.Spelling.{encodings_of}
 use Rattle.mdcc_messages.specs.declared.facts.Fact.{Fact}
 use Rattle.mdcc_run_laws.specs.Centres.{given_at}

@@ -3,7 +3,7 @@ ghost use Rattle.std.specs.Prelude.{◌≡◌, ◌↔◌, ◌+◌, [], false, ma
 ghost use Rattle.std.specs.Bool.{OnFalse, OnTrue};
 ghost use Rattle.std.specs.Io.KnownBytes.{Appends, IsAtEnd};
 ghost use Rattle.std.specs.String.{string_bytes};
-ghost use Rattle.mdcc_log.specs.Both.{RoseAtOne};
+ghost use Rattle.mdcc_log_file.specs.Both.{RoseAtOne};
 ghost use Rattle.mdcc_base.specs.Causes.{Rose};
 ghost use Rattle.mdcc_cli.specs.Commands.{IsCommand, command_of};
 ghost use Rattle.mdcc_ask.specs.Commands.{AskCompletes, DoesAsk};

@@ -2,7 +2,7 @@
 use Rattle.std.proofs.Common.{◌≡◌, ◌⊎◌, ◌+◌, ◌-◌, ◌<◌, ◌≤◌, ◌^◌, ◌&&◌, ◌==◌, ◌∙◌, Err, IfSome, IsTrue, List, Ok, Option, Result, ap, arith, inl, inr, refl, subst, ℕ}
 use Rattle.std.specs.Io.KnownBytes.{Appends}
 use Rattle.std.specs.Prelude.{is_err}
-use Rattle.mdcc_log.specs.Both.{RoseAtOne}
+use Rattle.mdcc_log_file.specs.Both.{RoseAtOne}
 use Rattle.mdcc_log_file.specs.declared.fault.LogFault.{LogFault}
 use Rattle.mdcc_base.specs.declared.source.ReadAllFault.{ReadAllFault}
 use Rattle.mdcc_config.specs.declared.config.Config.{Config}

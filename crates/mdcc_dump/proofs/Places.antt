@@ -1,7 +1,7 @@
 -- What a dump does at the disks.
 use Rattle.std.proofs.Common.{◌≡◌, ◌∙◌, ◌+◌, Err, List, Ok, OnOk, Result, ap, arith, inl, length, refl, subst, sym, ℕ}
-use Rattle.mdcc_log.specs.Area.{payloads}
-use Rattle.mdcc_log.specs.Both.{KeepsBut}
+use Rattle.mdcc_log_file.specs.Area.{payloads}
+use Rattle.mdcc_log_file.specs.Both.{KeepsBut}
 use Rattle.mdcc_log.specs.Opening.{OpensOne}
 use Rattle.mdcc_disks.specs.Disks.{Disk, DiskCall}
 use Rattle.mdcc_dump.specs.Commands.{as_done, of_dump}

@@ -1,7 +1,7 @@
 -- Which log a dump refuses.
 use Rattle.std.proofs.Common.{◌≡◌, ◌+◌, ◌∙◌, Err, IsTrue, List, Ok, Option, Result, ap, arith, inl, inr, refl, subst, sym, ℕ}
 use Rattle.std.specs.Prelude.{IsErrAnd, is_ok}
-use Rattle.mdcc_log.specs.Area.{payloads}
+use Rattle.mdcc_log_file.specs.Area.{payloads}
 use Rattle.mdcc_log_file.specs.declared.fault.LogFault.{LogFault}
 use Rattle.mdcc_disks.specs.Disks.{Disk}
 use Rattle.mdcc_dump.specs.Commands.{as_done, of_dump}

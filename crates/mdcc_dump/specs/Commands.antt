@@ -1,7 +1,7 @@
 -- What the command that prints the facts of a log does.
 use Rattle.std.specs.Io.KnownBytes.{Appends}
 use Rattle.std.specs.Prelude.{Err, IfErr, IfSome, IsTrue, List, MatchBool, Ok, Option, Result, Some, true, ℕ, ◌+◌, ◌-◌, ◌<◌, ◌^◌, ◌≡◌, ◌≢◌}
-use Rattle.mdcc_log.specs.Area.{payloads}
+use Rattle.mdcc_log_file.specs.Area.{payloads}
 use Rattle.mdcc_config.specs.declared.config.Config.{Config}
 use Rattle.mdcc_disks.specs.Disks.{Disk}
 use Rattle.mdcc_dump.specs.Dumps.{IsDumped, IsUnopened, KeepsLog, MayFail, dump_text}

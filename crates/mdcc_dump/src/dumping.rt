@@ -3,8 +3,8 @@ ghost use Rattle.std.specs.Prelude.{◌≡◌, ◌≤◌, ◌<◌, ◌+◌, Err,
 ghost use Rattle.std.specs.Io.KnownBytes.{Appends};
 ghost use Rattle.std.specs.String.{string_bytes};
 ghost use Rattle.mdcc_admission.specs.Loading.{fact_read};
-ghost use Rattle.mdcc_log.specs.Area.{payloads};
-ghost use Rattle.mdcc_log.specs.Both.{KeepsBut, RoseAtOne};
+ghost use Rattle.mdcc_log_file.specs.Area.{payloads};
+ghost use Rattle.mdcc_log_file.specs.Both.{KeepsBut, RoseAtOne};
 ghost use Rattle.mdcc_log_file.specs.declared.fault.LogFault.{LogFault as ALogFault};
 ghost use Rattle.mdcc_base.specs.Causes.{Rose};
 ghost use Rattle.mdcc_dump.specs.Dumps.{IsDumped, IsPrinting, IsUnopened, KeepsLog, MayFail, dump_text, payload_lines};

@@ -1,7 +1,7 @@
 -- From which logs a node boots, and what a command that opens logs says of those from which none does.
 use Rattle.std.specs.Prelude.{Err, IfErr, IsErrAnd, IsTrue, List, Ok, Result, is_ok, ⊤, ℕ, ◌<◌, ◌≡◌, ◌≤◌, ◌⊎◌, ◌+◌}
 use Rattle.mdcc_centre.specs.Nodes.{booted}
-use Rattle.mdcc_log.specs.Area.{payloads}
+use Rattle.mdcc_log_file.specs.Area.{payloads}
 use Rattle.mdcc_log_file.specs.declared.fault.LogFault.{LogFault}
 use Rattle.mdcc_endings.specs.Endings.{status_of}
 use Rattle.mdcc_endings.specs.declared.fault.Failure.{Failure}

@@ -1,6 +1,6 @@
 -- What a centre keeps while another acts.
 use Rattle.std.proofs.Common.{◌≡◌, ◌≢◌, ℕ, ◌+◌, ◌≤◌, List, [], sym, ◌∙◌, subst, inl, inr, arith, IsTrue}
-use Rattle.mdcc_log.specs.Area.{AreaLog}
+use Rattle.mdcc_log_file.specs.Area.{AreaLog}
 use Rattle.mdcc_log.specs.AtRest.{IsAtRest}
 use Rattle.mdcc_log.specs.Frames.{IsInUse, IsSpare, OpenAreas, other_of, place_of}
 use Rattle.mdcc_disks.specs.Disks.{Disk, Within}

@@ -1,8 +1,8 @@
 -- The log of a centre before its start, and where nothing was done.
 use Rattle.std.proofs.Common.{◌≡◌, ℕ, ◌+◌, ◌≤◌, List, [], Result, Ok, refl, sym, ◌∙◌, ap, subst, inl, inr, arith, IsTrue}
 use Rattle.std.proofs.lemmas.Bool.{cases_eq}
-use Rattle.mdcc_log.specs.Area.{payloads}
-use Rattle.mdcc_log.specs.Both.{KeepsBut}
+use Rattle.mdcc_log_file.specs.Area.{payloads}
+use Rattle.mdcc_log_file.specs.Both.{KeepsBut}
 use Rattle.mdcc_disks.specs.Disks.{Disk}
 use Rattle.mdcc_endings.specs.Logs.{IsTold}
 use Rattle.mdcc_messages.specs.Spelling.{encodings_of}

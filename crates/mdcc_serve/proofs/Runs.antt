@@ -12,9 +12,9 @@ use Rattle.mdcc_centre.specs.declared.starting.Running.{Running}
 use Rattle.mdcc_disks.specs.Disks.{Disk, Only}
 use Rattle.mdcc_endings.specs.Logs.{IsTold, LogRefusal, node_at, node_from, node_of}
 use Rattle.mdcc_log.proofs.Groups.{one_frame, one_record}
-use Rattle.mdcc_log.specs.Area.{payloads}
+use Rattle.mdcc_log_file.specs.Area.{payloads}
 use Rattle.mdcc_log.specs.AtRest.{IsAtRest}
-use Rattle.mdcc_log.specs.Both.{RoseAtOne}
+use Rattle.mdcc_log_file.specs.Both.{RoseAtOne}
 use Rattle.mdcc_log.specs.Crash.{CurrentIsRead, ReadsAsEither}
 use Rattle.mdcc_log.specs.Frames.{OpenAreas}
 use Rattle.mdcc_log.specs.Groups.{AreFull}

@@ -2,7 +2,7 @@
 use Rattle.std.proofs.Common.{◌≡◌, ◌≢◌, ℕ, ◌+◌, ◌≤◌, ◌<◌, ◌==◌, false, List, [], ◌∷◌, ◌++◌, length, refl, sym, ◌∙◌, ap, subst, inl, inr, arith, IsTrue, append-nil, append_assoc, length-append}
 use Rattle.std.proofs.lemmas.Bool.{cases_Bool, cases_eq, eqb-true}
 use Rattle.std.specs.List.{AllByRecursion}
-use Rattle.mdcc_log.specs.Area.{payloads}
+use Rattle.mdcc_log_file.specs.Area.{payloads}
 use Rattle.mdcc_log_file.specs.declared.fault.LogFault.{LogFault}
 use Rattle.mdcc_disks.specs.Disks.{Disk}
 use Rattle.mdcc_messages.specs.declared.facts.Fact.{Fact}

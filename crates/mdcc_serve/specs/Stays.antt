@@ -5,7 +5,7 @@ use Rattle.mdcc_centre.specs.Starting.{AreasStand}
 use Rattle.mdcc_disks.specs.Disks.{Disk}
 use Rattle.mdcc_endings.specs.Logs.{IsTold}
 use Rattle.mdcc_link.specs.Link.{LinkCall}
-use Rattle.mdcc_log.specs.Area.{payloads}
+use Rattle.mdcc_log_file.specs.Area.{payloads}
 use Rattle.mdcc_log_file.specs.declared.fault.LogFault.{LogFault}
 use Rattle.mdcc_messages.specs.Spelling.{fact_bytes}
 use Rattle.mdcc_messages.specs.declared.facts.Fact.{Fact}

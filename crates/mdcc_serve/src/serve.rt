@@ -1,7 +1,7 @@
 //! The calls that serve one centre or all.
 ghost use Rattle.std.specs.List.{range_with_len};
 ghost use Rattle.std.specs.Prelude.{◌≡◌, ◌≤◌, ◌<◌, ◌+◌, ◌^◌, ◌∷◌, [], IfErr, IsErrOf, List, length, map, ℕ};
-ghost use Rattle.mdcc_log.specs.Both.{RoseAtOne};
+ghost use Rattle.mdcc_log_file.specs.Both.{RoseAtOne};
 ghost use Rattle.mdcc_base.specs.Causes.{Rose};
 ghost use Rattle.mdcc_config.specs.IsConfig.{IsConfig};
 ghost use Rattle.mdcc_endings.specs.Logs.{IsTold};

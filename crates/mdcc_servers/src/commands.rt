@@ -2,7 +2,7 @@
 ghost use Rattle.std.specs.Prelude.{◌≡◌, ◌+◌, [], IsTrue, ℕ};
 ghost use Rattle.std.specs.Bool.{OnTrue};
 ghost use Rattle.std.specs.Io.KnownBytes.{Appends};
-ghost use Rattle.mdcc_log.specs.Both.{RoseAtOne};
+ghost use Rattle.mdcc_log_file.specs.Both.{RoseAtOne};
 ghost use Rattle.mdcc_base.specs.Causes.{Rose};
 ghost use Rattle.mdcc_replay.specs.Runs.{is_own, own_line};
 ghost use Rattle.mdcc_replay.specs.Writing.{Tells};

@@ -1,6 +1,6 @@
 //! A configuration is read, and its centres are served.
 ghost use Rattle.std.specs.Prelude.{◌≡◌, ◌+◌, IfErr, IfSome, IsErrOf, Ok, ℕ};
-ghost use Rattle.mdcc_log.specs.Both.{RoseAtOne};
+ghost use Rattle.mdcc_log_file.specs.Both.{RoseAtOne};
 ghost use Rattle.mdcc_base.specs.Causes.{Rose};
 ghost use Rattle.mdcc_base.specs.declared.source.ReadAllFault.{ReadAllFault as AReadAllFault};
 ghost use Rattle.mdcc_log_file.specs.declared.fault.LogFault.{LogFault as ALogFault};

@@ -4,9 +4,9 @@ use Rattle.std.proofs.lemmas.List.{length-map}
 use Rattle.std.proofs.lemmas.Bool.{cases_eq}
 use Rattle.std.proofs.lemmas.Bool.Decides.{nat_tests}
 use Rattle.std.specs.List.{AllByRecursion}
-use Rattle.mdcc_log.specs.Area.{AreaLog, generation_of, payloads}
+use Rattle.mdcc_log_file.specs.Area.{AreaLog, generation_of, payloads}
 use Rattle.mdcc_log.specs.AtRest.{IsAtRest}
-use Rattle.mdcc_log.specs.Both.{KeepsBut, RoseAtOne}
+use Rattle.mdcc_log_file.specs.Both.{KeepsBut, RoseAtOne}
 use Rattle.mdcc_log.specs.Crash.{CurrentIsRead, IsCurrent, IsDead, IsIdle, IsOlder, payloads_by}
 use Rattle.mdcc_log.specs.Frames.{IsSettled, IsSpare, OpenAreas, other_of, place_of}
 use Rattle.mdcc_log.specs.Groups.{AreFull, ReadsAsAllOrNone}

@@ -1,7 +1,7 @@
 -- What a crash at any moment of a call leaves of the log of a centre.
 use Rattle.std.specs.Prelude.{IsTrue, List, Ok, ℕ, ◌+◌, ◌≡◌, ◌⊎◌}
 use Rattle.mdcc_disks.specs.Disks.{Disk}
-use Rattle.mdcc_log.specs.Area.{payloads}
+use Rattle.mdcc_log_file.specs.Area.{payloads}
 use Rattle.mdcc_messages.specs.Spelling.{encodings_of}
 use Rattle.mdcc_messages.specs.declared.facts.Fact.{Fact}
 

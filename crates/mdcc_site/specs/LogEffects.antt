@@ -1,7 +1,7 @@
 -- What logging facts does.
 use Rattle.std.specs.List.{AllByRecursion}
 use Rattle.std.specs.Prelude.{Err, IsTrue, List, Ok, Result, map, ⊤, ℕ, ◌+◌, ◌≡◌}
-use Rattle.mdcc_log.specs.Both.{RoseAtOne}
+use Rattle.mdcc_log_file.specs.Both.{RoseAtOne}
 use Rattle.mdcc_log.specs.Frames.{OpenAreas}
 use Rattle.mdcc_log_file.specs.declared.fault.LogFault.{LogFault}
 use Rattle.mdcc_disks.specs.Disks.{Disk}

@@ -1,6 +1,6 @@
 -- What the acts of a server leave in the logs.
 use Rattle.std.specs.Prelude.{List, Ok, length, ℕ, ◌+◌, ◌<◌, ◌≡◌, ◌⊎◌}
-use Rattle.mdcc_log.specs.Area.{AreaLog, payloads, payloads_of, read_areas}
+use Rattle.mdcc_log_file.specs.Area.{AreaLog, payloads, payloads_of, read_areas}
 use Rattle.mdcc_disks.specs.Disks.{Disk, Only}
 use Rattle.mdcc_messages.specs.declared.facts.Fact.{Fact}
 use Rattle.mdcc_runs.specs.Acts.{Act, appended}

@@ -1,7 +1,7 @@
 -- What acts leave of the disks, the link, the output and the counts of a server.
 use Rattle.std.specs.Io.KnownBytes.{Appends}
 use Rattle.std.specs.Prelude.{List, Option, [], take, ⊤, ℕ, ◌+◌, ◌++◌, ◌≡◌, ◌≢◌, ◌≤◌}
-use Rattle.mdcc_log.specs.Both.{RoseAtOne}
+use Rattle.mdcc_log_file.specs.Both.{RoseAtOne}
 use Rattle.mdcc_log_file.specs.declared.fault.LogFault.{LogFault}
 use Rattle.mdcc_base.specs.Causes.{Rose}
 use Rattle.mdcc_disks.specs.Disks.{Disk, Within}

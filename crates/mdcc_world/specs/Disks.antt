@@ -1,6 +1,6 @@
 -- What the disks of a world show.
 use Rattle.std.specs.Prelude.{◌≡◌, ◌+◌, ◌<◌, List, Ok, length, true, ℕ}
-use Rattle.mdcc_log.specs.Area.{AreaLog, payloads, read_areas}
+use Rattle.mdcc_log_file.specs.Area.{AreaLog, payloads, read_areas}
 use Rattle.mdcc_disks.specs.Memory.{AllMemory, disk_of}
 use Rattle.mdcc_protocol.specs.Belongs.{is_centre}
 use Rattle.mdcc_ledger.specs.Ledger.{facts_of}
