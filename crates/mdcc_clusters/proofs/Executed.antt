@@ -42,7 +42,7 @@ sent-here a Act.Stepped done bytes h = absurd (cc)
 sent-here a Act.Dropped done bytes h = absurd (cc)
 sent-here a Act.Unsent done bytes h = absurd (cc)
 
-was-sent : (done : List (ℕ × Act)) (bytes : List ℕ) → was_sent done bytes ≡ true → WasSent done bytes
+pub was-sent : (done : List (ℕ × Act)) (bytes : List ℕ) → was_sent done bytes ≡ true → WasSent done bytes
 was-sent [] bytes h = absurd (cc)
 was-sent ((a, act) ∷ done) bytes h =
     elim (cases_Bool (sends_these bytes act)) [
@@ -56,13 +56,13 @@ all-bytes (b ∷ bytes) h =
     let both = and_parts (nat_lt b (2 ^ 8)) (are_bytes bytes) h in
     (ltb-true b (2 ^ 8) both.0, all-bytes bytes both.1)
 
-own-came : (done : List (ℕ × Act)) (gave : Option (List ℕ)) → may_receive_own done gave ≡ true → CameFromCentres done gave × AllByRecursion AreBytes (listed gave)
+pub own-came : (done : List (ℕ × Act)) (gave : Option (List ℕ)) → may_receive_own done gave ≡ true → CameFromCentres done gave × AllByRecursion AreBytes (listed gave)
 own-came done None h = (tt, tt)
 own-came done (Some bytes) h =
     let both = and_parts (was_sent done bytes) (are_bytes bytes) h in
     (was-sent done bytes both.0, (all-bytes bytes both.1, tt))
 
-asked-bytes : (gave : Option (List ℕ)) → may_receive_asked gave ≡ true → AllByRecursion AreBytes (listed gave)
+pub asked-bytes : (gave : Option (List ℕ)) → may_receive_asked gave ≡ true → AllByRecursion AreBytes (listed gave)
 asked-bytes None h = tt
 asked-bytes (Some bytes) h = (all-bytes bytes h, tt)
 

@@ -1,3 +1,4 @@
-pub mod Lives
+pub mod Example
 pub mod Histories
+pub mod Lives
 pub mod Told

@@ -1,7 +1,11 @@
 //! The lives of centres that are served, each one process, and what all of them together make durable, send and print.
 #![tactic(auto)]
 
-ghost use Rattle.mdcc_lives.specs.Histories.{HistoriesAreExecutions};
+ghost use Rattle.std.specs.Prelude.{◌≡◌, ◌∷◌, [], true};
+ghost use Rattle.mdcc_runs.specs.declared.lines.ServerLine.{ServerLine};
+ghost use Rattle.mdcc_clusters.specs.Example.{config, tx};
+ghost use Rattle.mdcc_lives.specs.Example.{lines_of, steps};
+ghost use Rattle.mdcc_lives.specs.Histories.{HistoriesAreExecutions, IsHistory, after_steps, at_first};
 ghost use Rattle.mdcc_lives.specs.Told.{HeadlineOfHistories};
 
 /// Whatever lives the centres of a cluster have, each over the log that the one before it left, whole or broken off at any act, and in
@@ -13,4 +17,10 @@ pub fn histories_are_executions()
 /// So the headline holds of all that was sent and printed in these lives.
 pub fn headline_of_histories()
     ensures { HeadlineOfHistories }
+{}
+
+/// There are such histories: a centre commits what its client began, is started again over the log that it left, and killed.
+pub fn a_centre_commits_and_is_killed()
+    ensures history { IsHistory config at_first steps }
+    ensures lines { lines_of (after_steps at_first steps) ≡ ServerLine.Heard 1 tx true ∷ ServerLine.Booted 1 1 ∷ [] }
 {}
