@@ -1,5 +1,5 @@
 -- A cluster of processes, each one call of `serve_node`: their acts in one order, and the areas that they leave each other.
-use Rattle.std.specs.Prelude.{List, None, Ok, Option, Result, Some, [], if◌then◌else◌, ⊤, ℕ, ◌+◌, ◌==◌, ◌∷◌, ◌≡◌, ◌⊎◌}
+use Rattle.std.specs.Prelude.{List, None, Ok, Option, Result, Some, [], if◌then◌else◌, ⊤, ℕ, ◌+◌, ◌++◌, ◌==◌, ◌∷◌, ◌≡◌, ◌⊎◌}
 use Rattle.mdcc_centre.specs.Logged.{AreLogged}
 use Rattle.mdcc_config.specs.IsConfig.{IsConfig}
 use Rattle.mdcc_config.specs.declared.config.Config.{Config}
@@ -9,7 +9,7 @@ use Rattle.mdcc_link.specs.Link.{LinkCall}
 use Rattle.mdcc_log_file.specs.Area.{payloads}
 use Rattle.mdcc_messages.specs.Spelling.{encodings_of}
 use Rattle.mdcc_messages.specs.declared.facts.Fact.{Fact}
-use Rattle.mdcc_runs.specs.Acts.{Act}
+use Rattle.mdcc_runs.specs.Acts.{Act, appended}
 use Rattle.mdcc_runs.specs.Servers.{Log}
 use Rattle.mdcc_serve.specs.Serving.{IsLogOf}
 use Rattle.mdcc_serve.specs.declared.served.Served.{Served}
@@ -17,18 +17,24 @@ use Rattle.mdcc_site.specs.declared.fault.ServeFault.{ServeFault}
 use Rattle.mdcc_clusters.specs.Clusters.{log_of}
 use Rattle.mdcc_clusters.specs.Headline.{IsToldTruly}
 use Rattle.mdcc_clusters.specs.Traces.{MayDoNext}
-use Rattle.mdcc_lives.specs.Lives.{IsLifeOf, Life, log_before}
+use Rattle.mdcc_lives.specs.Lives.{IsLifeOf, Life, log_before, onto}
 use Rattle.mdcc_cluster_nodes.specs.Areas.{Areas}
 use Rattle.mdcc_cluster_nodes.specs.Calls.{Clause, IsGranted, Setting, acts_done}
 
 -- ---- steps
 
+-- a call that is on: the areas that it found, the acts that it did, and those that are left
+pub record Running : Type 0 where
+  pub found : Areas
+  pub did : List Act
+  pub left : List Act
+
 -- all acts that were done, each with its centre, the newest first; the areas of each centre as its last call left them, or as the call that is on
--- will leave them; and the acts of that call that are left
+-- will leave them; and that call
 pub record Cluster : Type 0 where
   pub done : List (ℕ × Act)
   pub areas : ℕ → Areas
-  pub now : ℕ → Option (List Act)
+  pub now : ℕ → Option Running
 
 abbrev pub no_calls : (ℕ → Areas) → Cluster
 no_calls areas = record { done = []; areas = areas; now = λ a. None }
@@ -41,17 +47,22 @@ pub data Step : Type 0 where
   -- it is over
   Returns : (centre : ℕ) → Step
 
-abbrev pub with_now : List (ℕ × Act) → Cluster → ℕ → Option (List Act) → Cluster
+abbrev pub with_now : List (ℕ × Act) → Cluster → ℕ → Option Running → Cluster
 with_now done cluster a now = record { done = done; areas = cluster.areas; now = λ b. if a == b then now else cluster.now b }
 
-abbrev pub after_act_at : Cluster → ℕ → Option (List Act) → Cluster
+abbrev pub after_left : Cluster → ℕ → Running → List Act → Cluster
+after_left cluster a run [] = cluster
+after_left cluster a run (act ∷ left) =
+    with_now ((a, act) ∷ cluster.done) cluster a (Some (record { found = run.found; did = run.did ++ act ∷ []; left = left }))
+
+abbrev pub after_act_at : Cluster → ℕ → Option Running → Cluster
 after_act_at cluster a None = cluster
-after_act_at cluster a (Some []) = cluster
-after_act_at cluster a (Some (act ∷ acts)) = with_now ((a, act) ∷ cluster.done) cluster a (Some acts)
+after_act_at cluster a (Some run) = after_left cluster a run run.left
 
 abbrev pub after_step : Cluster → Step → Cluster
 after_step cluster (Step.Calls a acts left) =
-    record { done = cluster.done; areas = λ b. if a == b then left else cluster.areas b; now = λ b. if a == b then Some acts else cluster.now b }
+    let run : Running = record { found = cluster.areas a; did = []; left = acts } in
+    record { done = cluster.done; areas = λ b. if a == b then left else cluster.areas b; now = λ b. if a == b then Some run else cluster.now b }
 after_step cluster (Step.Acts a) = after_act_at cluster a (cluster.now a)
 after_step cluster (Step.Returns a) = with_now cluster.done cluster a None
 
@@ -62,9 +73,13 @@ after_steps cluster (step ∷ steps) = after_steps (after_step cluster step) ste
 -- ---- which steps may come
 
 -- a call is over once all its acts are done
-abbrev pub MayReturn : Option (List Act) → Type 0
+abbrev pub MayReturn : Option Running → Type 0
 MayReturn None = ⊤
-MayReturn (Some acts) = acts ≡ []
+MayReturn (Some run) = run.left ≡ []
+
+abbrev pub left_of : Option Running → Option (List Act)
+left_of None = None
+left_of (Some run) = Some run.left
 
 -- ---- a process that was killed, or served others too
 
@@ -93,12 +108,20 @@ pub record LivesFrom (config : Config) (a : ℕ) (found : Areas) (acts : List Ac
 
 -- ---- what is proved of them
 
+-- a log has the facts that a call found, and those that it has appended since
+pub record HasSince (a : ℕ) (log : List Fact) (run : Running) : Type 0 where
+  pub found : List Fact
+  pub read : payloads run.found.first run.found.second ≡ Ok (encodings_of found)
+  pub since : log ≡ onto found (appended a run.did)
+
 -- There is one order of all facts that are in the logs. Where no call is on its log is read from the areas, and has facts that its centre may have
--- added, so that the contract of the next call speaks of it. And the headline holds of that order and of all acts that were done.
+-- added, so that the contract of the next call speaks of it; where one is on it has no fact that was not appended yet. And the headline holds of that
+-- order and of all acts that were done.
 pub record HasHeadline (config : Config) (cluster : Cluster) : Type 0 where
   pub durable : List (ℕ × Fact)
   pub read : (a : ℕ) → cluster.now a ≡ None → payloads (cluster.areas a).first (cluster.areas a).second ≡ Ok (encodings_of (log_of durable a))
   pub allowed : (a : ℕ) → cluster.now a ≡ None → AreLogged config.cluster (log_of durable a)
+  pub on : (a : ℕ) (run : Running) → cluster.now a ≡ Some run → HasSince a (log_of durable a) run
   pub told : IsToldTruly config cluster.done durable
 
 -- ---- calls
@@ -128,12 +151,16 @@ module _ {D L O : Type 0} (disk : D → ℕ → Disk) (may_leave : D → ℕ →
   -- what a receive at a centre's own endpoint gives was sent before by a centre of the cluster
   abbrev pub MayBeNext : Config → Cluster → Step → Type 0
   MayBeNext config cluster (Step.Calls a acts left) = MayCall config cluster a acts left
-  MayBeNext config cluster (Step.Acts a) = MayDoNext cluster.done a (cluster.now a)
+  MayBeNext config cluster (Step.Acts a) = MayDoNext cluster.done a (left_of (cluster.now a))
   MayBeNext config cluster (Step.Returns a) = MayReturn (cluster.now a)
 
   abbrev pub AreCalls : Config → Cluster → List Step → Type 0
   AreCalls config cluster [] = ⊤
   AreCalls config cluster (step ∷ steps) = MayBeNext config cluster step × AreCalls config (after_step cluster step) steps
+
+  -- What was so far of such calls is of such calls: so it is at every moment.
+  abbrev pub FrontsAreCalls : Type 0
+  FrontsAreCalls = (config : Config) (cluster : Cluster) (first more : List Step) → AreCalls config cluster (first ++ more) → AreCalls config cluster first
 
   -- So it is from the first call on, over areas in which no fact stands.
   abbrev pub HeadlineOfCalls : Type 0

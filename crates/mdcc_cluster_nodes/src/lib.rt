@@ -2,7 +2,7 @@
 #![tactic(auto)]
 
 ghost use Rattle.mdcc_cluster_nodes.specs.Calls.{CallsAreLives};
-ghost use Rattle.mdcc_cluster_nodes.specs.Clusters.{HeadlineOfCalls};
+ghost use Rattle.mdcc_cluster_nodes.specs.Clusters.{FrontsAreCalls, HeadlineOfCalls};
 ghost use Rattle.mdcc_cluster_nodes.specs.Refused.{RefusedCallsDoNothing};
 ghost use Rattle.mdcc_cluster_nodes.specs.Several.{AllCentresLive};
 
@@ -34,4 +34,10 @@ pub fn all_centres_live<D: Disks, L: Link, O: Sink>()
 /// before left, in whatever order their acts came, where a centre's own endpoint got only what a centre of the cluster had sent.
 pub fn headline_of_calls<D: Disks, L: Link, O: Sink>()
     ensures { HeadlineOfCalls D.disk D.may_leave D.tears L.calls L.lost O.held }
+{}
+
+/// What was so far of such calls is of such calls. So the headline holds at every moment, with just the facts that were appended until
+/// then: nothing is sent or printed that follows from facts which become durable only later.
+pub fn fronts_are_calls<D: Disks, L: Link, O: Sink>()
+    ensures { FrontsAreCalls D.disk D.may_leave D.tears L.calls L.lost O.held }
 {}
