@@ -58,7 +58,8 @@ MayMove state (Move.Turn a given) = MayDeliver state.done given
 MayMove state (Move.Cut a given few) = AllByRecursion (MayDeliver state.done) (listed given)
 MayMove state move = ⊤
 
--- No centre comes to the last serial of its epoch, and its facts have fewer than 2^32 bytes (a log has at most 2^30).
+-- No centre comes past the last serial of its epoch (a turn in which it would is cut before it), and its facts have fewer than 2^32 bytes, as they have
+-- wherever they lie in the cells that a node may have.
 pub record IsWithinLimits (process : Process) : Type 0 where
   pub serials : process.site_then.sent < 2 ^ 32
   pub room : HasRoom process.site_then.node.facts

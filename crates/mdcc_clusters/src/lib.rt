@@ -93,7 +93,7 @@ pub fn no_vote_comes_unsent()
 
 /// The headline for served nodes: so it is in every execution in which a centre's own endpoint gets nothing but what centres of the cluster
 /// sent in it, each centre is one process at a time over its one log, which is empty at first and loses nothing that was durable, all run
-/// with one configuration, and no centre comes to the last serial of an epoch or to facts of 2^32 bytes.
+/// with one configuration, and no centre comes past the last serial of an epoch, before which its turn is cut, or to facts of 2^32 bytes.
 pub fn headline_of_clusters()
     ensures { HeadlineOfClusters }
 {}
