@@ -1,0 +1,6 @@
+pub mod Ended
+pub mod Facts
+pub mod Places
+pub mod Refusals
+pub mod Stages
+pub mod Totals

@@ -1,0 +1,85 @@
+-- What the command that audits logs does.
+use Rattle.std.specs.List.{list_any}
+use Rattle.std.specs.Prelude.{Bool, Err, IfSome, List, Ok, Option, Result, Some, [], ℕ, ◌+◌, ◌==◌, ◌∷◌, ◌≡◌, ◌⊎◌}
+use Rattle.mdcc_audit.specs.Logs.{audit_of}
+use Rattle.mdcc_audit.specs.declared.audited.AuditCause.{AuditCause}
+use Rattle.mdcc_audit.specs.declared.audited.Place.{Place}
+use Rattle.mdcc_audit_command.specs.Audits.{Answers, AreTold, IsElsewhere, IsOneOf, UnlessDisk, logs_on, some_calls}
+use Rattle.mdcc_audit_command.specs.Texts.{contradiction_text}
+use Rattle.mdcc_audit_command.specs.declared.found.Found.{Found}
+use Rattle.mdcc_centre.specs.Opening.{OnlyOpens}
+use Rattle.mdcc_config.specs.declared.config.Config.{Config}
+use Rattle.mdcc_disks.specs.Disks.{Disk}
+use Rattle.mdcc_dump.specs.Commands.{Untouched}
+use Rattle.mdcc_endings.specs.Endings.{Ends}
+use Rattle.mdcc_endings.specs.Logs.{EndsByLogs, IsTold, SaysLogs, node_at}
+use Rattle.mdcc_endings.specs.Readings.{GivesConfig, IsRead}
+use Rattle.mdcc_endings.specs.declared.fault.Failure.{Failure}
+use Rattle.mdcc_language.specs.Errors.{error_line}
+use Rattle.mdcc_log.specs.Area.{payloads}
+use Rattle.mdcc_replay.specs.Runs.{own_line}
+use Rattle.mdcc_replay.specs.Writing.{Tells}
+
+-- ---- how it ends
+
+-- two facts contradict each other: status 13 with both, or 10 where memory lacked for the line
+abbrev pub EndsContradicted : AuditCause → Place → Place → ℕ → Option (List ℕ) → Option (List ℕ) → ℕ → ℕ → Type 0
+EndsContradicted cause a b status before after faults_before faults_after =
+    ((status ≡ 13) × Tells before after faults_before faults_after (error_line (contradiction_text cause a b)))
+    ⊎ ((status ≡ 10) × Tells before after faults_before faults_after (own_line 10))
+
+-- otherwise as other commands over a configuration do
+abbrev pub AuditEnds : Result Found Failure → ℕ → Option (List ℕ) → Option (List ℕ) → ℕ → ℕ → Type 0
+AuditEnds (Ok (Found.Contradiction cause a b)) status before after faults_before faults_after = EndsContradicted cause a b status before after faults_before faults_after
+AuditEnds (Ok Found.Verdicts) status before after faults_before faults_after =
+    Ends (let done : Result Found Failure = Ok Found.Verdicts in done) status before after faults_before faults_after
+AuditEnds (Err failure) status before after faults_before faults_after =
+    Ends (let done : Result Found Failure = Err failure in done) status before after faults_before faults_after
+
+-- the statuses that there are
+abbrev pub is_audit_status : ℕ → Bool
+is_audit_status status = list_any (λ s. s == status) (0 ∷ 3 ∷ 5 ∷ 6 ∷ 7 ∷ 8 ∷ 9 ∷ 10 ∷ 11 ∷ 12 ∷ 13 ∷ [])
+
+-- ---- what it does
+
+module _ {D O : Type 0} (disk : D → ℕ → Disk) (may_leave : D → ℕ → List ℕ → Type 0) (moment : D → ℕ) (left_since : D → ℕ → ℕ → List ℕ → Type 0) (tears : ℕ → Type 0) (held : O → Option (List ℕ)) (disks_old disks_new : D) (out_old out_new : O) where
+  -- The logs of all centres were opened in their order, up to the first one that is refused, and audited.
+  pub record AuditsLogs (config : Config) (found : Result Found Failure) : Type 0 where
+    -- where both areas of each centre tell their bytes
+    pub logs : AreTold disk disks_old config.cluster.quorums.centres → SaysLogs (node_at disk config.cluster disks_old) 1 config.cluster.quorums.centres found
+    pub answers : AreTold disk disks_old config.cluster.quorums.centres
+        → Answers (audit_of config.cluster.quorums (logs_on disk disks_old config.cluster)) found (held out_old) (held out_new)
+    -- nothing was appended: at the disks of each centre calls of an opening were made and no others, and the same payloads are read again
+    pub opens : (a : ℕ) → IsOneOf config.cluster.quorums.centres a → OnlyOpens disk may_leave moment left_since tears disks_old disks_new a found
+    pub keeps : (a : ℕ) (all : List (List ℕ)) → IsOneOf config.cluster.quorums.centres a → IsTold disk disks_old a
+        → payloads (disk disks_old a).bytes (disk disks_old (a + 16)).bytes ≡ Ok all
+        → UnlessDisk found (payloads (disk disks_new a).bytes (disk disks_new (a + 16)).bytes ≡ Ok all)
+    -- and other disks are as they were
+    pub others : (p : ℕ) → IsElsewhere config.cluster.quorums.centres p → disk disks_new p ≡ disk disks_old p
+
+  -- by what the input was read as
+  abbrev pub Audits : Result Config Failure → Result Found Failure → Type 0
+  Audits (Ok config) found = AuditsLogs config found
+  Audits (Err failure) found = (found ≡ Err failure) × Untouched disks_old disks_new out_old out_new
+
+  pub record RunsAudit (input : List ℕ) (found : Result Found Failure) : Type 0 where
+    pub read : Result Config Failure
+    pub gives : GivesConfig input read
+    pub audits : Audits read found
+
+  -- The command ended as its audit did. Whatever the input is, at the disks of each centre a front of the calls of an opening was made
+  -- and no others, with what a crash meanwhile leaves, and disks of no centre are as they were.
+  pub record DoesAudit (left : Option (List ℕ)) (status : ℕ) (err_before err_after : Option (List ℕ)) (faults_before faults_after : ℕ) : Type 0 where
+    pub found : Result Found Failure
+    pub ends : AuditEnds found status err_before err_after faults_before faults_after
+    pub runs : IfSome left (λ input. RunsAudit input found)
+    pub opens : (a : ℕ) → IsOneOf 9 a → OnlyOpens disk may_leave moment left_since tears disks_old disks_new a some_calls
+    pub others : (p : ℕ) → IsElsewhere 9 p → disk disks_new p ≡ disk disks_old p
+
+-- ---- over an accepted configuration, whose disks tell their bytes
+
+-- the status by the logs
+abbrev pub AuditEndsByLogs : {D : Type 0} → (D → ℕ → Disk) → D → Option (List ℕ) → ℕ → Type 0
+AuditEndsByLogs disk disks left status =
+    (input : List ℕ) (config : Config) → left ≡ Some input → IsRead input (Ok config) → AreTold disk disks config.cluster.quorums.centres
+    → EndsByLogs (node_at disk config.cluster disks) 1 config.cluster.quorums.centres status
