@@ -11,6 +11,14 @@ pub replay_is_taken : fault_of grammar (codes "replay" ∷ []) ≡ []
 unfolding clap_on_literals
 replay_is_taken = refl
 
+pub check_is_taken : fault_of grammar (codes "check" ∷ []) ≡ []
+unfolding clap_on_literals
+check_is_taken = refl
+
+pub audit_is_taken : fault_of grammar (codes "audit" ∷ []) ≡ []
+unfolding clap_on_literals
+audit_is_taken = refl
+
 pub cluster_is_taken : (x : ℕ) (xs : Text) → (x == 45) ≡ false → fault_of grammar (codes "cluster" ∷ (x ∷ xs) ∷ []) ≡ []
 unfolding clap_on_literals
 cluster_is_taken x xs hx = simp hx refl

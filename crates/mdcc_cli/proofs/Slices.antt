@@ -1,10 +1,10 @@
 -- What the words ask for, by how many there are.
 use Rattle.std.proofs.Common.{◌≡◌, ◌<◌, List, [], ◌∷◌, None, drop, length, map, get_or, ℕ, refl, sym, ap, arith}
-use Rattle.mdcc_cli.specs.Commands.{ask_in, node_in, read_words, replay_in, sample_in, two_in}
+use Rattle.mdcc_cli.specs.Commands.{ask_in, node_in, one_in, read_words, sample_in, two_in}
 
-pub one_word : {A : Type 0} (f : A → List ℕ) (xs : List A) (a : A) → length xs ≡ 1 → a ≡ get_or xs 0 a → read_words (map f xs) ≡ replay_in (f a)
+pub one_word : {A : Type 0} (f : A → List ℕ) (xs : List A) (a : A) → length xs ≡ 1 → a ≡ get_or xs 0 a → read_words (map f xs) ≡ one_in (f a)
 one_word f [] a h e = absurd (omega arith)
-one_word f (x ∷ []) a h e = ap (λ y. replay_in (f y)) (sym e)
+one_word f (x ∷ []) a h e = ap (λ y. one_in (f y)) (sym e)
 one_word f (x ∷ y ∷ xs) a h e = absurd (omega arith)
 
 pub two_words : {A : Type 0} (f : A → List ℕ) (xs : List A) (a b : A) → length xs ≡ 2 → a ≡ get_or xs 0 a → b ≡ get_or xs 1 b

@@ -6,12 +6,12 @@ use Rattle.std.specs.Cmp.Lexicographic.{same_text}
 use Rattle.std.specs.List.{list_any}
 use Rattle.clap.specs.Words.{Text, fault_of}
 use Rattle.mdcc_language.specs.Words.{text_eq}
-use Rattle.mdcc_cli.specs.Commands.{ask_by, ask_in, cluster_by, cluster_in, dump_in, is_hyphened, is_refused, node_by, node_in, number_in, read_words, replay_in, sample_by, sample_in, short_number_in, turns_in, two_in}
+use Rattle.mdcc_cli.specs.Commands.{ask_by, ask_in, audit_in, check_in, cluster_by, cluster_in, dump_in, is_hyphened, is_refused, judging_in, node_by, node_in, number_in, one_in, read_words, replay_in, sample_by, sample_in, short_number_in, turns_in, two_in}
 use Rattle.mdcc_cli.specs.Grammar.{grammar}
 use Rattle.mdcc_cli.specs.declared.words.Command.{Command}
-use Rattle.mdcc_cli.specs.declared.words.Command.TheVariants.{Dump, Replay}
+use Rattle.mdcc_cli.specs.declared.words.Command.TheVariants.{Audit, Check, Dump, Replay}
 use Rattle.mdcc_cli.proofs.Asked.{ask_is_taken}
-use Rattle.mdcc_cli.proofs.Shapes.{cluster_is_taken, dump_is_taken, node_is_taken, replay_is_taken, sample_is_taken}
+use Rattle.mdcc_cli.proofs.Shapes.{audit_is_taken, check_is_taken, cluster_is_taken, dump_is_taken, node_is_taken, replay_is_taken, sample_is_taken}
 
 -- an empty word is no number
 no_number : (most : ℕ) → number_in [] most ≡ None
@@ -29,13 +29,6 @@ not_some command e h = impossible _ (sym (ap (λ (c : Option Command). is_some c
 
 -- ---- the words of each command
 
-replay_taken : (w : Text) → is_some (replay_in w) ≡ true → fault_of grammar (w ∷ []) ≡ []
-replay_taken w h = by (text_eq w (codes "replay")) refl h
-  where
-    by : (t : Bool) → text_eq w (codes "replay") ≡ t → is_some (cond t (Some Replay) None) ≡ true → fault_of grammar (w ∷ []) ≡ []
-    by true e k = subst (λ (v : Text). fault_of grammar (v ∷ []) ≡ []) (sym (same_text w (codes "replay") (sym e))) replay_is_taken
-    by false e k = absurd (cc)
-
 -- where the first word is that of a command, and what comes of the numbers is one
 named : (w name : Text) (command : Option Command) → is_some (cond (text_eq w name) command None) ≡ true → (w ≡ name) × (is_some command ≡ true)
 named w name command h = by (text_eq w name) refl h
@@ -43,6 +36,24 @@ named w name command h = by (text_eq w name) refl h
     by : (t : Bool) → text_eq w name ≡ t → is_some (cond t command None) ≡ true → (w ≡ name) × (is_some command ≡ true)
     by true e k = (same_text w name (sym e), k)
     by false e k = absurd (cc)
+
+-- of one word
+word_taken : (w name : Text) (command : Command) → fault_of grammar (name ∷ []) ≡ [] → is_some (cond (text_eq w name) (Some command) None) ≡ true → fault_of grammar (w ∷ []) ≡ []
+word_taken w name command taken h = subst (λ (v : Text). fault_of grammar (v ∷ []) ≡ []) (sym (named w name (Some command) h).0) taken
+
+judging_taken : (w : Text) → is_some (judging_in w) ≡ true → fault_of grammar (w ∷ []) ≡ []
+judging_taken w h = by (check_in w) refl h
+  where
+    by : (o : Option Command) → check_in w ≡ o → is_some (option_or o (audit_in w)) ≡ true → fault_of grammar (w ∷ []) ≡ []
+    by None e k = word_taken w (codes "audit") Audit audit_is_taken k
+    by (Some command) e k = word_taken w (codes "check") Check check_is_taken (ap (λ (o : Option Command). is_some o) e)
+
+one_taken : (w : Text) → is_some (one_in w) ≡ true → fault_of grammar (w ∷ []) ≡ []
+one_taken w h = by (replay_in w) refl h
+  where
+    by : (o : Option Command) → replay_in w ≡ o → is_some (option_or o (judging_in w)) ≡ true → fault_of grammar (w ∷ []) ≡ []
+    by None e k = judging_taken w k
+    by (Some command) e k = word_taken w (codes "replay") Replay replay_is_taken (ap (λ (o : Option Command). is_some o) e)
 
 cluster_taken : (w x : Text) → is_hyphened x ≡ false → is_some (cluster_in w x) ≡ true → fault_of grammar (w ∷ x ∷ []) ≡ []
 cluster_taken w [] hx h = let n = named w (codes "cluster") (cluster_by (short_number_in [])) h in absurd (cc (n.1))
@@ -126,7 +137,7 @@ sample_taken w (x ∷ xs) (y ∷ ys) (z ∷ zs) hx hy hz h =
 
 taken_by : (words : List Text) → list_any is_hyphened words ≡ false → is_some (read_words words) ≡ true → fault_of grammar words ≡ []
 taken_by [] h k = absurd (cc)
-taken_by (w ∷ []) h k = replay_taken w k
+taken_by (w ∷ []) h k = one_taken w k
 taken_by (w ∷ x ∷ []) h k =
     let a = or_false (is_hyphened w) _ h in let b = or_false (is_hyphened x) _ a.1 in two_taken w x b.0 k
 taken_by (w ∷ x ∷ y ∷ []) h k =

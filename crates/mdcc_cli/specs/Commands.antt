@@ -7,7 +7,7 @@ use Rattle.mdcc_language.specs.Words.{natural_of, text_eq}
 use Rattle.mdcc_sample.specs.Shop.{IsShop, is_shop}
 use Rattle.mdcc_cli.specs.Asks.{IsQuestion, question_in}
 use Rattle.mdcc_cli.specs.declared.words.Command.{Command}
-use Rattle.mdcc_cli.specs.declared.words.Command.TheVariants.{Ask, Cluster, Dump, Node, Replay, Sample}
+use Rattle.mdcc_cli.specs.declared.words.Command.TheVariants.{Ask, Audit, Check, Cluster, Dump, Node, Replay, Sample}
 
 -- ---- numbers
 
@@ -24,6 +24,22 @@ short_number_in word = number_in word (2 ^ 32 - 1)
 -- `replay`
 abbrev pub replay_in : List ℕ → Option Command
 replay_in word = if text_eq word (codes "replay") then Some Replay else None
+
+-- `check`
+abbrev pub check_in : List ℕ → Option Command
+check_in word = if text_eq word (codes "check") then Some Check else None
+
+-- `audit`
+abbrev pub audit_in : List ℕ → Option Command
+audit_in word = if text_eq word (codes "audit") then Some Audit else None
+
+-- `check` or `audit`
+abbrev pub judging_in : List ℕ → Option Command
+judging_in word = option_or (check_in word) (audit_in word)
+
+-- `replay`, `check` or `audit`
+abbrev pub one_in : List ℕ → Option Command
+one_in word = option_or (replay_in word) (judging_in word)
 
 abbrev pub cluster_by : Option ℕ → Option Command
 cluster_by turns = option_map (λ t. Cluster t) turns
@@ -73,7 +89,7 @@ ask_in word centre turns serial words =
 
 -- one of them, by how many words there are
 abbrev pub read_words : List (List ℕ) → Option Command
-read_words (word ∷ []) = replay_in word
+read_words (word ∷ []) = one_in word
 read_words (word ∷ number ∷ []) = two_in word number
 read_words (word ∷ centre ∷ turns ∷ []) = node_in word centre turns
 read_words (word ∷ seed ∷ items ∷ orders ∷ []) = sample_in word seed items orders

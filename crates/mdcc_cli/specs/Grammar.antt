@@ -26,6 +26,12 @@ cluster = with_rule (bare (codes "cluster")) (positional (codes "turns"))
 abbrev pub dump : App
 dump = with_rule (bare (codes "dump")) (positional (codes "centre"))
 
+abbrev pub check : App
+check = bare (codes "check")
+
+abbrev pub audit : App
+audit = bare (codes "audit")
+
 -- one to sixteen words
 abbrev pub words_rule : Rule
 words_rule = record (positional (codes "words")) { action = Some Append; range = Some (record { start_inclusive = 1; end_inclusive = 16 }) }
@@ -46,5 +52,5 @@ program = let app = new_app (codes "mdcc") in record app {
 
 abbrev pub grammar : App
 grammar =
-    with_subcommand (with_subcommand (with_subcommand (with_subcommand (with_subcommand (with_subcommand program replay.top) sample.top) node.top) cluster.top)
-    ask.top) dump.top
+    with_subcommand (with_subcommand (with_subcommand (with_subcommand (with_subcommand (with_subcommand (with_subcommand (with_subcommand program replay.top) sample.top) node.top) cluster.top)
+    ask.top) dump.top) check.top) audit.top

@@ -1,7 +1,7 @@
 //! The words that the program takes, as one level of subcommands with positional words.
 ghost use Rattle.std.specs.Prelude.{◌≡◌, IfOk, false};
 ghost use Rattle.clap.specs.Words.{app_of, rule_of, with_rule};
-ghost use Rattle.mdcc_cli.specs.Grammar.{ask, bare, cluster, dump, grammar, node, positional, program, replay, sample, words_rule};
+ghost use Rattle.mdcc_cli.specs.Grammar.{ask, audit, bare, check, cluster, dump, grammar, node, positional, program, replay, sample, words_rule};
 
 use clap::{Arg, ArgAction, Command};
 use std::alloc::{AllocError, Global};
@@ -104,5 +104,7 @@ pub(crate) fn grammar<'a>(alloc: Global) -> Result<Command<'a>, AllocError>
         .subcommand(node(alloc)?)?
         .subcommand(cluster(alloc)?)?
         .subcommand(ask(alloc)?)?
-        .subcommand(dump(alloc)?)
+        .subcommand(dump(alloc)?)?
+        .subcommand(bare(alloc, "check"))?
+        .subcommand(bare(alloc, "audit"))
 }

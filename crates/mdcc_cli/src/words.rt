@@ -3,7 +3,7 @@ ghost use Rattle.std.specs.Prelude.{◌≡◌, ◌≤◌, ◌-◌, ◌<◌, ◌^
 ghost use Rattle.std.specs.List.{list_any};
 ghost use Rattle.std.specs.String.{string_bytes};
 ghost use Rattle.clap.specs.Words.{fault_of, kind_of};
-ghost use Rattle.mdcc_cli.specs.Commands.{IsCommand, ask_by, ask_in, asks_for_help, cluster_in, command_of, dump_in, is_hyphened, is_refused, node_in, number_in, read_words, replay_in, sample_by, sample_in, short_number_in, turns_in, two_in};
+ghost use Rattle.mdcc_cli.specs.Commands.{IsCommand, ask_by, ask_in, asks_for_help, audit_in, check_in, cluster_in, command_of, dump_in, is_hyphened, is_refused, judging_in, node_in, number_in, one_in, read_words, replay_in, sample_by, sample_in, short_number_in, turns_in, two_in};
 ghost use Rattle.mdcc_cli.specs.Grammar.{grammar};
 ghost use Rattle.mdcc_language.specs.Words.{text_eq};
 
@@ -34,6 +34,10 @@ pub enum Command {
     Ask(Question),
     /// The facts of the log of the centre of this number are printed.
     Dump(u32),
+    /// The history in the input is checked.
+    Check,
+    /// The logs of all centres are audited.
+    Audit,
 }
 
 // Whether a word is this one.
@@ -90,6 +94,52 @@ fn replay_in(word: &String) -> Option<Command>
         Some(Command::Replay)
     } else {
         None
+    }
+}
+
+// `check`
+fn check_in(word: &String) -> Option<Command>
+    ensures value { result ≡ check_in (string_bytes word.now) }
+    ensures command { IfSome result IsCommand }
+{
+    if is_word(word, b"check") {
+        Some(Command::Check)
+    } else {
+        None
+    }
+}
+
+// `audit`
+fn audit_in(word: &String) -> Option<Command>
+    ensures value { result ≡ audit_in (string_bytes word.now) }
+    ensures command { IfSome result IsCommand }
+{
+    if is_word(word, b"audit") {
+        Some(Command::Audit)
+    } else {
+        None
+    }
+}
+
+// `check` or `audit`
+fn judging_in(word: &String) -> Option<Command>
+    ensures value { result ≡ judging_in (string_bytes word.now) }
+    ensures command { IfSome result IsCommand }
+{
+    match check_in(word) {
+        Some(command) => Some(command),
+        None => audit_in(word),
+    }
+}
+
+// `replay`, `check` or `audit`
+fn one_in(word: &String) -> Option<Command>
+    ensures value { result ≡ one_in (string_bytes word.now) }
+    ensures command { IfSome result IsCommand }
+{
+    match replay_in(word) {
+        Some(command) => Some(command),
+        None => judging_in(word),
     }
 }
 
@@ -209,7 +259,7 @@ fn read_words(alloc: Global, words: &[String]) -> Result<Option<Command>, Memory
     ensures command { IfOk result (λ command. IfSome command IsCommand) }
 {
     match words {
-        [word] => Ok(replay_in(word)),
+        [word] => Ok(one_in(word)),
         [word, number] => Ok(two_in(word, number)),
         [word, centre, turns] => Ok(node_in(word, centre, turns)),
         [word, seed, items, orders] => Ok(sample_in(word, seed, items, orders)),

@@ -1,7 +1,7 @@
 use Rattle.std.proofs.Common.{◌≡◌, ◌∙◌, ap, ap₂}
 use Rattle.std.proofs.lemmas.Result.{IfOk-weaker}
 use Rattle.clap.specs.Words.{App, Shape, app_of, with_subcommand}
-use Rattle.mdcc_cli.specs.Grammar.{ask, cluster, node, program, replay, sample}
+use Rattle.mdcc_cli.specs.Grammar.{ask, check, cluster, dump, node, program, replay, sample}
 use Rattle.mdcc_cli.proofs.Local.{third_test}
 use Rattle.mdcc_cli.proofs.grammar.grammar.Goals as goal
 
@@ -19,6 +19,12 @@ returns c =
     let five : app_of c.in_ok-subcommand-5.field-0
     ≡ with_subcommand (with_subcommand (with_subcommand (with_subcommand (with_subcommand program replay.top) sample.top) node.top) cluster.top) ask.top =
     c.in_ok-subcommand-5.ensures.shape (third_test _ _ _ _ (ap (λ (a : App). a.top.is_plain) c.in_ok-ask.ensures)) ∙ ap₂ with_subcommand four (ap top c.in_ok-ask.ensures) in
-    IfOk-weaker c.subcommand-6.result _ _
-    (λ r h. h.shape (third_test _ _ _ _ (ap (λ (a : App). a.top.is_plain) c.in_ok-dump.ensures)) ∙ ap₂ with_subcommand five (ap top c.in_ok-dump.ensures))
-    c.subcommand-6.ensures
+    let six : app_of c.in_ok-subcommand-6.field-0
+    ≡ with_subcommand (with_subcommand (with_subcommand (with_subcommand (with_subcommand (with_subcommand program replay.top) sample.top) node.top) cluster.top) ask.top) dump.top =
+    c.in_ok-subcommand-6.ensures.shape (third_test _ _ _ _ (ap (λ (a : App). a.top.is_plain) c.in_ok-dump.ensures)) ∙ ap₂ with_subcommand five (ap top c.in_ok-dump.ensures) in
+    let seven : app_of c.in_ok-subcommand-7.field-0
+    ≡ with_subcommand (with_subcommand (with_subcommand (with_subcommand (with_subcommand (with_subcommand (with_subcommand program replay.top) sample.top) node.top) cluster.top) ask.top) dump.top) check.top =
+    c.in_ok-subcommand-7.ensures.shape (third_test _ _ _ _ (ap (λ (a : App). a.top.is_plain) c.bare-2.ensures)) ∙ ap₂ with_subcommand six (ap top c.bare-2.ensures) in
+    IfOk-weaker c.subcommand-8.result _ _
+    (λ r h. h.shape (third_test _ _ _ _ (ap (λ (a : App). a.top.is_plain) c.bare-3.ensures)) ∙ ap₂ with_subcommand seven (ap top c.bare-3.ensures))
+    c.subcommand-8.ensures
