@@ -11,7 +11,7 @@ use Rattle.mdcc_base.specs.Sizes.{Sizes}
 use Rattle.mdcc_centre.specs.Opening.{AreFacts}
 use Rattle.mdcc_disks.specs.Disks.{Disk}
 use Rattle.mdcc_dump.proofs.Facts.{fact_at}
-use Rattle.mdcc_log.specs.Area.{payloads}
+use Rattle.mdcc_log_file.specs.Area.{payloads}
 use Rattle.mdcc_messages.specs.Reading.{fact_of}
 use Rattle.mdcc_messages.specs.declared.facts.Fact.{Fact}
 use Rattle.mdcc_messages.specs.declared.wire.WireFault.{WireFault}

@@ -3,8 +3,8 @@ use Rattle.std.proofs.Common.{◌≡◌, ◌≢◌, ◌∙◌, ◌+◌, ◌<◌,
 use Rattle.mdcc_audit_command.specs.Audits.{IsElsewhere, KeepsDisks}
 use Rattle.mdcc_centre.specs.Opening.{OnlyOpens}
 use Rattle.mdcc_disks.specs.Disks.{Disk, DiskCall, LeavesOnly}
-use Rattle.mdcc_log.specs.Area.{taken}
-use Rattle.mdcc_log.specs.Both.{KeepsBut}
+use Rattle.mdcc_log_file.specs.Area.{taken}
+use Rattle.mdcc_log_file.specs.Both.{KeepsBut}
 use Rattle.mdcc_log.specs.Frames.{open_calls}
 use Rattle.mdcc_log.specs.Opening.{MayOpenAs, OpensOne}
 use Rattle.mdcc_log_file.proofs.Moments.{both, weakened}

@@ -12,8 +12,8 @@ use Rattle.mdcc_centre.specs.Opening.{OnlyOpens}
 use Rattle.mdcc_disks.specs.Disks.{Disk}
 use Rattle.mdcc_endings.specs.Logs.{IsTold}
 use Rattle.mdcc_endings.specs.declared.fault.Failure.{Failure}
-use Rattle.mdcc_log.specs.Area.{payloads}
-use Rattle.mdcc_log.specs.Both.{KeepsBut, RoseAtOne}
+use Rattle.mdcc_log_file.specs.Area.{payloads}
+use Rattle.mdcc_log_file.specs.Both.{KeepsBut, RoseAtOne}
 use Rattle.mdcc_log_file.specs.declared.fault.LogFault.{LogFault}
 use Rattle.mdcc_messages.specs.declared.facts.Fact.{Fact}
 use Rattle.mdcc_option.specs.declared.cluster.Cluster.{Cluster}

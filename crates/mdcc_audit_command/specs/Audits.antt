@@ -11,7 +11,7 @@ use Rattle.mdcc_centre.specs.declared.fault.StartFault.{StartFault}
 use Rattle.mdcc_disks.specs.Disks.{Disk, Within}
 use Rattle.mdcc_endings.specs.Logs.{IsTold, LogRefusal, node_at}
 use Rattle.mdcc_endings.specs.declared.fault.Failure.{Failure}
-use Rattle.mdcc_log.specs.Area.{payloads}
+use Rattle.mdcc_log_file.specs.Area.{payloads}
 use Rattle.mdcc_log_file.specs.declared.fault.LogFault.{LogFault}
 use Rattle.mdcc_messages.specs.declared.facts.Fact.{Fact}
 use Rattle.mdcc_option.specs.declared.cluster.Cluster.{Cluster}

@@ -16,7 +16,7 @@ use Rattle.mdcc_endings.specs.Logs.{EndsByLogs, IsTold, SaysLogs, node_at}
 use Rattle.mdcc_endings.specs.Readings.{GivesConfig, IsRead}
 use Rattle.mdcc_endings.specs.declared.fault.Failure.{Failure}
 use Rattle.mdcc_language.specs.Errors.{error_line}
-use Rattle.mdcc_log.specs.Area.{payloads}
+use Rattle.mdcc_log_file.specs.Area.{payloads}
 use Rattle.mdcc_replay.specs.Runs.{own_line}
 use Rattle.mdcc_replay.specs.Writing.{Tells}
 

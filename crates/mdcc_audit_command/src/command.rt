@@ -13,7 +13,7 @@ ghost use Rattle.mdcc_centre.specs.Opening.{OnlyOpens};
 ghost use Rattle.mdcc_dump.specs.Commands.{Untouched};
 ghost use Rattle.mdcc_endings.specs.Readings.{IsEarly};
 ghost use Rattle.mdcc_endings.specs.declared.fault.Failure.{Failure as AFailure};
-ghost use Rattle.mdcc_log.specs.Both.{RoseAtOne};
+ghost use Rattle.mdcc_log_file.specs.Both.{RoseAtOne};
 ghost use Rattle.mdcc_log_file.specs.declared.fault.LogFault.{LogFault as ALogFault};
 ghost use Rattle.mdcc_replay.specs.Runs.{is_own, own_line};
 ghost use Rattle.mdcc_replay.specs.Writing.{Front, Tells};

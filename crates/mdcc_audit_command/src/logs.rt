@@ -9,8 +9,8 @@ ghost use Rattle.mdcc_base.specs.Causes.{Rose};
 ghost use Rattle.mdcc_centre.specs.Opening.{AreFacts, OnlyOpens};
 ghost use Rattle.mdcc_endings.specs.Logs.{IsTold, SaysLogs, node_at};
 ghost use Rattle.mdcc_endings.specs.declared.fault.Failure.{Failure as AFailure};
-ghost use Rattle.mdcc_log.specs.Area.{payloads};
-ghost use Rattle.mdcc_log.specs.Both.{KeepsBut, RoseAtOne};
+ghost use Rattle.mdcc_log_file.specs.Area.{payloads};
+ghost use Rattle.mdcc_log_file.specs.Both.{KeepsBut, RoseAtOne};
 ghost use Rattle.mdcc_log_file.specs.declared.fault.LogFault.{LogFault as ALogFault};
 ghost use Rattle.mdcc_protocol.specs.Belongs.{is_centre};
 

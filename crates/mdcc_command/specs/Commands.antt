@@ -1,7 +1,7 @@
 -- What the commands of the program write and answer.
 use Rattle.std.specs.Prelude.{Bool, List, None, Option, Some, false, option_map, true, ℕ, ◌≡◌}
 use Rattle.mdcc_cli.specs.declared.words.Command.{Command}
-use Rattle.mdcc_cli.specs.declared.words.Command.TheVariants.{Ask, Cluster, Dump, Node, Replay, Sample}
+use Rattle.mdcc_cli.specs.declared.words.Command.TheVariants.{Ask, Audit, Cluster, Dump, Node, Replay, Sample}
 use Rattle.mdcc_replay.specs.Samples.{sample_of}
 use Rattle.mdcc_simulation.specs.Replay.{Output, output_of, replay_of}
 
@@ -28,6 +28,7 @@ abbrev pub has_disks : Option Command → Bool
 has_disks (Some (Node centre turns)) = true
 has_disks (Some (Cluster turns)) = true
 has_disks (Some (Dump centre)) = true
+has_disks (Some Audit) = true
 has_disks command = false
 
 -- it uses the link

@@ -4,7 +4,9 @@ ghost use Rattle.std.specs.Bool.{OnFalse, OnTrue};
 ghost use Rattle.std.specs.Io.KnownBytes.{Appends, IsAtEnd};
 ghost use Rattle.std.specs.String.{string_bytes};
 ghost use Rattle.mdcc_log_file.specs.Both.{RoseAtOne};
+ghost use Rattle.mdcc_audit_command.specs.Commands.{AuditEndsByLogs, DoesAudit};
 ghost use Rattle.mdcc_base.specs.Causes.{Rose};
+ghost use Rattle.mdcc_check_command.specs.Checks.{DoesCheck};
 ghost use Rattle.mdcc_cli.specs.Commands.{IsCommand, command_of};
 ghost use Rattle.mdcc_ask.specs.Commands.{AskCompletes, DoesAsk};
 ghost use Rattle.mdcc_cli.specs.declared.question.Question.{Question as AQuestion};
@@ -21,7 +23,9 @@ ghost use Rattle.mdcc_servers.specs.Completions.{ClusterCompletes, ClusterEndsBy
 
 use crate::simulation::Replayed;
 use mdcc_ask::run_ask;
+use mdcc_audit_command::run_audit;
 use mdcc_base::{Sink, Source};
+use mdcc_check_command::run_check;
 use mdcc_cli::{Command, command_of};
 use mdcc_disks::Disks;
 use mdcc_dump::run_dump;
@@ -60,10 +64,19 @@ fn run_command<S: Source, O: Sink, E: Sink, D: Disks, L: Link>(
         → DoesDump D.disk D.may_leave D.moment D.left_since D.tears O.held disks.old disks.new out.old out.new
         (S.left source.old) centre result (E.held err.old) (E.held err.new) (E.faults err.old) (E.faults err.new) }
 
+    ensures check { command ≡ Some Command.Check
+        → IfSome (S.left source.old) (λ input. DoesCheck input result (O.held out.old) (O.held out.new)
+        (E.held err.old) (E.held err.new) (E.faults err.old) (E.faults err.new)) }
+    ensures check_end { command ≡ Some Command.Check → result ≡ 0 → IsAtEnd (S.left source.new) }
+    ensures audit { command ≡ Some Command.Audit
+        → DoesAudit D.disk D.may_leave D.moment D.left_since D.tears O.held disks.old disks.new out.old out.new
+        (S.left source.old) result (E.held err.old) (E.held err.new) (E.faults err.old) (E.faults err.new) }
+
     ensures node_log { (centre turns : ℕ) → command ≡ Some (Command.Node centre turns) → NodeEndsByLog D.disk disks.old (S.left source.old) centre result }
     ensures cluster_logs { (turns : ℕ) → command ≡ Some (Command.Cluster turns) → ClusterEndsByLogs D.disk disks.old (S.left source.old) result }
     ensures dump_log { (centre : ℕ) → command ≡ Some (Command.Dump centre)
         → DumpEndsByLog D.disk O.held disks.old disks.new out.old out.new (S.left source.old) centre result }
+    ensures audit_logs { command ≡ Some Command.Audit → AuditEndsByLogs D.disk disks.old (S.left source.old) result }
 
     ensures node_completes { (centre turns : ℕ) → command ≡ Some (Command.Node centre turns)
         → IsStill (S.faults source.old) (S.faults source.new) → IsStill (O.faults out.old) (O.faults out.new)
@@ -125,6 +138,8 @@ fn run_command<S: Source, O: Sink, E: Sink, D: Disks, L: Link>(
         }
         Some(Command::Ask(question)) => run_ask(alloc, question, source, out, err, link),
         Some(Command::Dump(centre)) => run_dump(alloc, centre, source, out, err, disks),
+        Some(Command::Check) => run_check(alloc, source, out, err),
+        Some(Command::Audit) => run_audit(alloc, source, out, err, disks),
         None => refuse_words(err),
     }
 }
@@ -135,11 +150,13 @@ fn run_command<S: Source, O: Sink, E: Sink, D: Disks, L: Link>(
 /// `sample SEED ITEMS ORDERS` it reads nothing, makes the schedule of a web shop by these numbers,
 /// replays it, and writes two lines to `out`. The others read a configuration: `node K TURNS` serves
 /// centre K of it for so many turns, with its log on the disks K and 16 + K; `cluster TURNS` serves all
-/// centres; `ask K TURNS SERIAL WORD..` is a client of centre K; `dump K` writes the facts in its log.
+/// centres; `ask K TURNS SERIAL WORD..` is a client of centre K; `dump K` writes the facts in its log;
+/// `audit` writes what the logs of all centres decided. `check` reads a history, and writes whether it
+/// is right.
 ///
 /// Where it ends early it writes one line to `err`, that of the status. Status 3 is a header or a
 /// configuration that is refused, 4 a line or its event, 9 a log that is none, 11 a limit, 12 the end
-/// of the epochs; 2 other words, 5 a read that failed, 6 a write to `out`, 7 a disk, 8 the link, 10 out
+/// of the epochs, 13 a history that is not right or logs that contradict each other; 2 other words, 5 a read that failed, 6 a write to `out`, 7 a disk, 8 the link, 10 out
 /// of memory. A write to `err` that fails changes no status.
 pub fn run<S: Source, O: Sink, E: Sink, D: Disks, L: Link>(
     alloc: Global,
@@ -179,6 +196,17 @@ pub fn run<S: Source, O: Sink, E: Sink, D: Disks, L: Link>(
         → DoesDump D.disk D.may_leave D.moment D.left_since D.tears O.held disks.old disks.new out.old out.new
         (S.left source.old) centre result (E.held err.old) (E.held err.new) (E.faults err.old) (E.faults err.new) }
 
+    // What `check` prints is the verdict on the input: with status 0 it is a right history, with 13 a history that is not, and else it is
+    // none. What `audit` prints is what the logs of all centres decided, and at 13 two facts contradict each other. At each status it makes
+    // calls of an opening alone, at the disks of the centres.
+    ensures check { command_of (map string_bytes words.now) ≡ Some Command.Check
+        → IfSome (S.left source.old) (λ input. DoesCheck input result (O.held out.old) (O.held out.new)
+        (E.held err.old) (E.held err.new) (E.faults err.old) (E.faults err.new)) }
+    ensures check_end { command_of (map string_bytes words.now) ≡ Some Command.Check → result ≡ 0 → IsAtEnd (S.left source.new) }
+    ensures audit { command_of (map string_bytes words.now) ≡ Some Command.Audit
+        → DoesAudit D.disk D.may_leave D.moment D.left_since D.tears O.held disks.old disks.new out.old out.new
+        (S.left source.old) result (E.held err.old) (E.held err.new) (E.faults err.old) (E.faults err.new) }
+
     // Over an accepted configuration and disks that tell their bytes the first log is refused from which no node boots, with status 9
     // where it is none or no node's, 11 where its node has too few cells, and 12 where its epoch is the last; and no other log is.
     // Only a failed call, want of memory or, in a cluster, a log before it that is full comes first.
@@ -186,6 +214,7 @@ pub fn run<S: Source, O: Sink, E: Sink, D: Disks, L: Link>(
     ensures cluster_logs { (turns : ℕ) → command_of (map string_bytes words.now) ≡ Some (Command.Cluster turns) → ClusterEndsByLogs D.disk disks.old (S.left source.old) result }
     ensures dump_log { (centre : ℕ) → command_of (map string_bytes words.now) ≡ Some (Command.Dump centre)
         → DumpEndsByLog D.disk O.held disks.old disks.new out.old out.new (S.left source.old) centre result }
+    ensures audit_logs { command_of (map string_bytes words.now) ≡ Some Command.Audit → AuditEndsByLogs D.disk disks.old (S.left source.old) result }
 
     // Where no count of faults rose, over an accepted configuration and allowed logs with epochs below the last, the command does all
     // that it is to do, with status 0, or there was no memory, or it ended at a limit, which is said. A client prints `unanswered`
@@ -240,7 +269,7 @@ pub fn run<S: Source, O: Sink, E: Sink, D: Disks, L: Link>(
     ensures line { IfSome (output_for (command_of (map string_bytes words.now)) (S.left source.old)) (λ output. OnFalse (is_own result)
         (Tells (E.held err.old) (E.held err.new) (E.faults err.old) (E.faults err.new) output.error)) }
 
-    // `sample` reads nothing; no command but those that serve and `dump` uses disks, and none but those that serve and `ask` the link.
+    // `sample` reads nothing; no command but those that serve, `dump` and `audit` uses disks, and none but those that serve and `ask` the link.
     ensures unread { reads (command_of (map string_bytes words.now)) ≡ false → source.new ≡ source.old }
     ensures disks { has_disks (command_of (map string_bytes words.now)) ≡ false → disks.new ≡ disks.old }
     ensures unsent { has_link (command_of (map string_bytes words.now)) ≡ false → link.new ≡ link.old }

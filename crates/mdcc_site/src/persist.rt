@@ -1,6 +1,6 @@
 //! What is pending at a centre goes out.
 ghost use Rattle.std.specs.List.{AllByRecursion};
-ghost use Rattle.std.specs.Prelude.{◌≡◌, ◌∷◌, [], List, map};
+ghost use Rattle.std.specs.Prelude.{◌≡◌, ◌∷◌, [], List, map, ℕ};
 ghost use Rattle.mdcc_config.specs.IsConfig.{IsConfig};
 ghost use Rattle.mdcc_messages.specs.Spelling.{fact_bytes};
 ghost use Rattle.mdcc_messages.specs.declared.facts.Fact.{Fact as AFact};

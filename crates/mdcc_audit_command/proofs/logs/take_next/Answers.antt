@@ -8,7 +8,7 @@ use Rattle.mdcc_audit_command.proofs.Stages.{on_any, unless_so}
 use Rattle.mdcc_audit_command.specs.Audits.{SaysAt}
 use Rattle.mdcc_centre.proofs.Opens.{opens_broke, opens_whole}
 use Rattle.mdcc_endings.specs.declared.fault.Failure.{Failure}
-use Rattle.mdcc_log.specs.Both.{RoseAtOne}
+use Rattle.mdcc_log_file.specs.Both.{RoseAtOne}
 use Rattle.mdcc_log_file.specs.declared.fault.LogFault.{LogFault}
 use Rattle.mdcc_messages.specs.declared.facts.Fact.{Fact}
 use Rattle.mdcc_audit_command.proofs.logs.take_next.Goals as goal

@@ -4,6 +4,9 @@ use Rattle.std.specs.Io.KnownBytes.{Appends}
 use Rattle.std.specs.Bool.{OnFalse}
 use Rattle.std.specs.String.{string_bytes}
 use Rattle.mdcc_base.specs.declared.source.ReadAllFault.{ReadAllFault}
+use Rattle.mdcc_audit_command.specs.Audits.{some_calls}
+use Rattle.mdcc_check_command.proofs.Answered.{does_check, unanswered}
+use Rattle.mdcc_check_command.specs.Checks.{answer_to}
 use Rattle.mdcc_cli.specs.Commands.{command_of}
 use Rattle.mdcc_command.proofs.NoMemory.{ended, known_always, memory_ends, of_others}
 use Rattle.mdcc_command.specs.Commands.{output_for}
@@ -50,6 +53,21 @@ returns-in-Err-clause-dump g c centre = λ is. record {
   others = λ p first second. refl;
 }
 
+pub returns-in-Err-clause-check : goal.returns-in-Err-clause-check
+returns-in-Err-clause-check g c = λ is.
+    known_always (g.S.Source.left c.args.source.now) _
+    (λ input. does_check input c.end.result (g.O.Sink.held c.args.out.now) (g.O.Sink.held c.args.out.now) (g.E.Sink.held c.args.err.now) (g.E.Sink.held c.end.new.err) (g.E.Sink.faults c.args.err.now) (g.E.Sink.faults c.end.new.err)
+    (unanswered (answer_to input) c.end.result 10 (g.O.Sink.held c.args.out.now) (g.E.Sink.held c.args.err.now) (g.E.Sink.held c.end.new.err) (g.E.Sink.faults c.args.err.now) (g.E.Sink.faults c.end.new.err) refl c.end.ensures.status))
+
+pub returns-in-Err-clause-audit : goal.returns-in-Err-clause-audit
+returns-in-Err-clause-audit g c = λ is. record {
+  found = Err (Failure.Input ReadAllFault.Memory);
+  ends = ended c.end.result (g.E.Sink.held c.args.err.now) (g.E.Sink.held c.end.new.err) (g.E.Sink.faults c.args.err.now) (g.E.Sink.faults c.end.new.err) c.end.ensures.status c.end.ensures.told;
+  runs = known_always (g.S.Source.left c.args.source.now) _ (λ input. record { read = Err (Failure.Input ReadAllFault.Memory); gives = tt; audits = (refl, record { disks = refl; output = refl }) });
+  opens = λ a one. opens_none g.D.Disks.disk g.D.Disks.may_leave g.D.Disks.moment g.D.Disks.left_since g.D.Disks.tears g.met.D.Disks.only_now c.args.disks.now a some_calls tt refl;
+  others = λ p is. refl;
+}
+
 pub returns-in-Err-clause-whole : goal.returns-in-Err-clause-whole
 returns-in-Err-clause-whole g c =
     known_always (output_for (command_of (map string_bytes c.args.words.now)) (g.S.Source.left c.args.source.now)) _
@@ -77,6 +95,10 @@ returns-in-Err-clause-cluster_logs g c turns = λ is input config known read tol
 pub returns-in-Err-clause-dump_log : goal.returns-in-Err-clause-dump_log
 returns-in-Err-clause-dump_log g c centre = λ is input config known read there told.
     memory_ends (node_at g.D.Disks.disk config.cluster c.args.disks.now) centre centre c.end.result c.end.ensures.status
+
+pub returns-in-Err-clause-audit_logs : goal.returns-in-Err-clause-audit_logs
+returns-in-Err-clause-audit_logs g c = λ is input config known read told.
+    memory_ends (node_at g.D.Disks.disk config.cluster c.args.disks.now) 1 config.cluster.quorums.centres c.end.result c.end.ensures.status
 
 pub returns-in-Err-clause-node_completes : goal.returns-in-Err-clause-node_completes
 returns-in-Err-clause-node_completes g c centre turns = λ is source output link disks input config log known read there of are below. inr (inl c.end.ensures.status)

@@ -31,3 +31,9 @@ returns-in-Some-Dump-clause-refused_untouched g c = λ at. let un = c.run_dump.e
 
 pub returns-in-Some-Dump-clause-unread_untouched : goal.returns-in-Some-Dump-clause-unread_untouched
 returns-in-Some-Dump-clause-unread_untouched g c = λ at. let un = c.run_dump.ensures.unread at in record { disks = un.disks; link = refl }
+
+pub returns-in-Some-Audit-clause-refused_untouched : goal.returns-in-Some-Audit-clause-refused_untouched
+returns-in-Some-Audit-clause-refused_untouched g c = λ at. let un = c.run_audit.ensures.refused at in record { disks = un.disks; link = refl }
+
+pub returns-in-Some-Audit-clause-unread_untouched : goal.returns-in-Some-Audit-clause-unread_untouched
+returns-in-Some-Audit-clause-unread_untouched g c = λ at. let un = c.run_audit.ensures.unread at in record { disks = un.disks; link = refl }

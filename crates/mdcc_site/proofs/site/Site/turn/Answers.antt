@@ -160,7 +160,7 @@ returns g c site stands =
           (sym (c.release.ensures.untouched waits)) (c.is_held-held.ensures.waits waits)),
       either_from g.D.Disks.disk g.D.Disks.may_leave g.D.Disks.moment g.D.Disks.left_since disks c.release.new.disks c.args.self.now.log c.tick_if.new.self.log site.centre site.logged inputs.site.logged
           (turn_of config site given).site.logged (g.met.D.Disks.as_read disks) stands.log.open_log
-          (subst (λ (n : ℕ). OpenLog g.D.Disks.disk g.D.Disks.may_leave disks c.tick_if.new.self.log n inputs.site.logged) own z.stands.log.open_log)
+          (subst (λ (n : ℕ). OpenLog g.D.Disks.disk g.D.Disks.may_leave c.args.config.now.checkpoint disks c.tick_if.new.self.log n inputs.site.logged) own z.stands.log.open_log)
           (subst (λ (n : ℕ). LeavesEither g.D.Disks.disk g.D.Disks.moment g.D.Disks.left_since n inputs.site.logged (turn_of config site given).site.logged disks c.release.new.disks) own
           (subst (λ (b : Bool). LeavesEither g.D.Disks.disk g.D.Disks.moment g.D.Disks.left_since inputs.site.centre inputs.site.logged (released config b inputs.site).site.logged disks c.release.new.disks) (sym held)
           (c.release.ensures.any_moment inputs.site z.stands))),
