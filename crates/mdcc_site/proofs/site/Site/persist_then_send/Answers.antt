@@ -133,9 +133,9 @@ returns-in_err-log_all-clause-any_moment g c site stands =
     let cluster = c.args.config.now.cluster in
     let emptied = c.take_pending-pending.new.self in
     let empties = c.take_pending-pending.ensures.same in
-    let facts_are = c.as_slice.ensures ∙ (ap (λ (p : PendingBytes). p.payloads) c.take_pending-pending.ensures.taken ∙ ap (λ (p : PendingBytes). p.payloads) stands.itself.waits.pending) in
+    let facts_are = c.payloads.ensures ∙ (ap (λ (p : PendingBytes). p.payloads) c.take_pending-pending.ensures.taken ∙ ap (λ (p : PendingBytes). p.payloads) stands.itself.waits.pending) in
     logged_either w cluster site c.args.disks.now c.args.self.now emptied stands empties c.args.config.now g.D.Disks.moment g.D.Disks.left_since c.log_all.new.disks
-    (c.log_all.ensures.any_moment site.logged site.pending.facts (log_there w cluster site c.args.disks.now c.args.self.now emptied stands empties) facts_are)
+    (c.log_all.ensures.any_moment w.every site.logged site.pending.facts (log_there w cluster site c.args.disks.now c.args.self.now emptied stands empties) facts_are)
 
 pub returns-in_err-send_all-clause-any_moment : goal.returns-in_err-send_all-clause-any_moment
 returns-in_err-send_all-clause-any_moment g c site stands =
@@ -143,9 +143,9 @@ returns-in_err-send_all-clause-any_moment g c site stands =
     let cluster = c.args.config.now.cluster in
     let emptied = c.take_pending-pending.new.self in
     let empties = c.take_pending-pending.ensures.same in
-    let facts_are = c.as_slice.ensures ∙ (ap (λ (p : PendingBytes). p.payloads) c.take_pending-pending.ensures.taken ∙ ap (λ (p : PendingBytes). p.payloads) stands.itself.waits.pending) in
+    let facts_are = c.payloads.ensures ∙ (ap (λ (p : PendingBytes). p.payloads) c.take_pending-pending.ensures.taken ∙ ap (λ (p : PendingBytes). p.payloads) stands.itself.waits.pending) in
     logged_either w cluster site c.args.disks.now c.args.self.now emptied stands empties c.args.config.now g.D.Disks.moment g.D.Disks.left_since c.log_all.new.disks
-    (c.log_all.ensures.any_moment site.logged site.pending.facts (log_there w cluster site c.args.disks.now c.args.self.now emptied stands empties) facts_are)
+    (c.log_all.ensures.any_moment w.every site.logged site.pending.facts (log_there w cluster site c.args.disks.now c.args.self.now emptied stands empties) facts_are)
 
 pub returns-in_err-print_heard-clause-any_moment : goal.returns-in_err-print_heard-clause-any_moment
 returns-in_err-print_heard-clause-any_moment g c site stands =
@@ -153,9 +153,9 @@ returns-in_err-print_heard-clause-any_moment g c site stands =
     let cluster = c.args.config.now.cluster in
     let emptied = c.take_pending-pending.new.self in
     let empties = c.take_pending-pending.ensures.same in
-    let facts_are = c.as_slice.ensures ∙ (ap (λ (p : PendingBytes). p.payloads) c.take_pending-pending.ensures.taken ∙ ap (λ (p : PendingBytes). p.payloads) stands.itself.waits.pending) in
+    let facts_are = c.payloads.ensures ∙ (ap (λ (p : PendingBytes). p.payloads) c.take_pending-pending.ensures.taken ∙ ap (λ (p : PendingBytes). p.payloads) stands.itself.waits.pending) in
     logged_either w cluster site c.args.disks.now c.args.self.now emptied stands empties c.args.config.now g.D.Disks.moment g.D.Disks.left_since c.log_all.new.disks
-    (c.log_all.ensures.any_moment site.logged site.pending.facts (log_there w cluster site c.args.disks.now c.args.self.now emptied stands empties) facts_are)
+    (c.log_all.ensures.any_moment w.every site.logged site.pending.facts (log_there w cluster site c.args.disks.now c.args.self.now emptied stands empties) facts_are)
 
 pub returns-clause-any_moment : goal.returns-clause-any_moment
 returns-clause-any_moment g c site stands =
@@ -163,6 +163,6 @@ returns-clause-any_moment g c site stands =
     let cluster = c.args.config.now.cluster in
     let emptied = c.take_pending-pending.new.self in
     let empties = c.take_pending-pending.ensures.same in
-    let facts_are = c.as_slice.ensures ∙ (ap (λ (p : PendingBytes). p.payloads) c.take_pending-pending.ensures.taken ∙ ap (λ (p : PendingBytes). p.payloads) stands.itself.waits.pending) in
+    let facts_are = c.payloads.ensures ∙ (ap (λ (p : PendingBytes). p.payloads) c.take_pending-pending.ensures.taken ∙ ap (λ (p : PendingBytes). p.payloads) stands.itself.waits.pending) in
     logged_either w cluster site c.args.disks.now c.args.self.now emptied stands empties c.args.config.now g.D.Disks.moment g.D.Disks.left_since c.log_all.new.disks
-    (c.log_all.ensures.any_moment site.logged site.pending.facts (log_there w cluster site c.args.disks.now c.args.self.now emptied stands empties) facts_are)
+    (c.log_all.ensures.any_moment w.every site.logged site.pending.facts (log_there w cluster site c.args.disks.now c.args.self.now emptied stands empties) facts_are)
