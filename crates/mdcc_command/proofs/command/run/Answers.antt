@@ -1,7 +1,6 @@
 -- Without memory for the words nothing is done.
 use Rattle.std.proofs.Common.{◌≡◌, ◌∙◌, Err, Result, inl, inr, map, refl}
 use Rattle.std.specs.Io.KnownBytes.{Appends}
-use Rattle.std.specs.Bool.{OnFalse}
 use Rattle.std.specs.String.{string_bytes}
 use Rattle.mdcc_base.specs.declared.source.ReadAllFault.{ReadAllFault}
 use Rattle.mdcc_audit_command.specs.Audits.{some_calls}
@@ -14,9 +13,7 @@ use Rattle.mdcc_dump.proofs.Places.{opens_none, stays_unchanged}
 use Rattle.mdcc_endings.specs.Logs.{node_at}
 use Rattle.mdcc_endings.specs.declared.fault.Failure.{Failure}
 use Rattle.mdcc_replay.proofs.Fronts.{nothing_written}
-use Rattle.mdcc_replay.specs.Runs.{is_own}
-use Rattle.mdcc_replay.specs.Writing.{Front, Tells}
-use Rattle.mdcc_simulation.specs.Replay.{Output}
+use Rattle.mdcc_replay.specs.Writing.{Tells}
 use Rattle.mdcc_command.proofs.command.run.Goals as goal
 
 pub returns-in-Err-clause-node : goal.returns-in-Err-clause-node
