@@ -57,9 +57,9 @@ module _ {D L O : Type 0} (disk : D → ℕ → Disk) (may_leave : D → ℕ →
       let same : site.node.facts ≡ log_after log.centre log.facts s.run.ran =
       leaves config [] log [] given s.run.each tt tt (appended log.centre s.run.ran) (sym (same-all log.centre s.run.ran) ∙ ap (appended log.centre) s.run.runs) in
       let sites = served-site config log given s.run.each in
-      let keeps : KeepsFacts disk may_leave at.disks_after log.centre site.node.facts =
-      subst (λ (c : ℕ). KeepsFacts disk may_leave at.disks_after c site.node.facts) (last-centre config [] log [] given s.run.each)
-      (subst (AllByRecursion (λ (x : Site). KeepsFacts disk may_leave at.disks_after x.centre x.node.facts)) sites s.kept).0 in
+      let keeps : KeepsFacts disk may_leave config.checkpoint at.disks_after log.centre site.node.facts =
+      subst (λ (c : ℕ). KeepsFacts disk may_leave config.checkpoint at.disks_after c site.node.facts) (last-centre config [] log [] given s.run.each)
+      (subst (AllByRecursion (λ (x : Site). KeepsFacts disk may_leave config.checkpoint at.disks_after x.centre x.node.facts)) sites s.kept).0 in
       record {
         kept = site.node.facts;
         serves = record {

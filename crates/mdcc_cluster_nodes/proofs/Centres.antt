@@ -89,10 +89,10 @@ module _ {D L O : Type 0} (disk : D → ℕ → Disk) (may_leave : D → ℕ →
             let same : site.node.facts ≡ log_after c log.facts own = leaves config among.before log among.after turns counted before after (appended c own) did in
             let there = (stands config among.before log among.after turns counted before after).stands in
             let sites : (served config logs turns).sites ≡ there.before ++ site ∷ there.after = ap (λ (xs : List Log). (served config xs turns).sites) among.are ∙ there.are in
-            let keeps : KeepsFacts disk may_leave at.disks_after c site.node.facts =
-            subst (λ (z : ℕ). KeepsFacts disk may_leave at.disks_after z site.node.facts) (last-centre config among.before log among.after turns counted)
-            (all-at (λ (x : Site). KeepsFacts disk may_leave at.disks_after x.centre x.node.facts) there.before site there.after
-            (subst (AllByRecursion (λ (x : Site). KeepsFacts disk may_leave at.disks_after x.centre x.node.facts)) sites s.kept)) in
+            let keeps : KeepsFacts disk may_leave config.checkpoint at.disks_after c site.node.facts =
+            subst (λ (z : ℕ). KeepsFacts disk may_leave config.checkpoint at.disks_after z site.node.facts) (last-centre config among.before log among.after turns counted)
+            (all-at (λ (x : Site). KeepsFacts disk may_leave config.checkpoint at.disks_after x.centre x.node.facts) there.before site there.after
+            (subst (AllByRecursion (λ (x : Site). KeepsFacts disk may_leave config.checkpoint at.disks_after x.centre x.node.facts)) sites s.kept)) in
             record {
               life = record { centre = c; log = log.facts; acts = own; kept = site.node.facts };
               is = record {

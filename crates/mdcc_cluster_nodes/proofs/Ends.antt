@@ -73,7 +73,7 @@ module _ (config : Config) (before : List Log) (log : Log) (after : List Log) (g
 
 -- ---- what is read
 
-pub kept-read : {D : Type 0} (disk : D → ℕ → Disk) (may_leave : D → ℕ → List ℕ → Type 0) (disks : D) (centre : ℕ) (facts : List Fact) → KeepsFacts disk may_leave disks centre facts
+pub kept-read : {D : Type 0} {every : ℕ} (disk : D → ℕ → Disk) (may_leave : D → ℕ → List ℕ → Type 0) (disks : D) (centre : ℕ) (facts : List Fact) → KeepsFacts disk may_leave every disks centre facts
     → (first second : List ℕ) → may_leave disks centre first → may_leave disks (centre + 16) second → payloads first second ≡ Ok (encodings_of facts)
 kept-read disk may_leave disks centre facts k first second one two =
     ap (λ (bytes : List ℕ). payloads bytes second) (k.durable first one)
