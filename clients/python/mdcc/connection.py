@@ -28,8 +28,9 @@ NO_AMOUNT = 2 ** 62
 class Ending:
     """What became of a request to begin. Where `answer` is None, no end was told in time, and `begun` has the transaction if one was told.
 
-    `is_alone` says that no other transaction can have been begun for the request: it was sent once, or the centre did not start anew
-    between the first sending and the begin."""
+    `is_alone` says that nothing else can come of the request. A transaction that ended is alone where the request was sent once, or the centre
+    did not start anew between the first sending and the begin. A centre that refuses to begin notes nothing, so a later copy of the request may
+    still be begun: a refusal is alone where each copy was refused, or where the centre, not started anew, has passed what was asked for."""
 
     answer: Optional[wire.Answer] = None
     begun: Optional[Tx] = None
@@ -44,11 +45,42 @@ class Waiting:
     datagrams: List[bytes]
     epoch: Optional[int]
     newest: Tuple[int, int]
+    # of a begin, the version that each part rests on
+    versions: Dict[str, int] = field(default_factory=dict)
     sends: int = 0
     begun: Optional[Tx] = None
+    # how many copies were refused, and the last refusal
+    refusals: int = 0
+    refused: Optional[wire.BeginRefused] = None
     told: asyncio.Event = field(default_factory=asyncio.Event)
     # each with the epoch in which the centre gave it
     answers: List[Tuple[int, wire.Answer]] = field(default_factory=list)
+
+    def has_passed(self, refused: wire.BeginRefused) -> bool:
+        """Whether the centre holds a later version than the part rests on. Versions only rise, so no later copy is begun there."""
+        return refused.version is not None and refused.version > self.versions.get(refused.key, refused.version)
+
+    def ending(self, epoch: int, answer: wire.Answer) -> Optional[Ending]:
+        """The end that an answer tells; None where it tells none that stays."""
+        if isinstance(answer, wire.BeginRefused):
+            return self.refusal(epoch, answer)
+        if isinstance(answer, wire.Heard):
+            return Ending(answer, self.begun, self.sends <= 1 or epoch == self.epoch)
+        return Ending(answer, self.begun, True) if isinstance(answer, wire.DraftRefused) else None
+
+    def refusal(self, epoch: int, refused: wire.BeginRefused) -> Optional[Ending]:
+        """What a refusal of one copy tells of all."""
+        self.refusals, self.refused = self.refusals + 1, refused
+        if self.begun is not None:
+            # A centre that was started anew has forgotten what it began; else the refused copy came before the one that was begun.
+            return None if epoch == self.begun.epoch else self.in_doubt()
+        if self.refusals >= self.sends or (epoch == self.epoch and self.has_passed(refused)):
+            return Ending(refused, None, True)
+        return None
+
+    def in_doubt(self) -> Ending:
+        """What is known where no end was told."""
+        return Ending(None if self.begun else self.refused, self.begun, False)
 
 
 class Endpoint(asyncio.DatagramProtocol):
@@ -90,8 +122,9 @@ class Endpoint(asyncio.DatagramProtocol):
         self.serial = (self.serial + 1) & 0xFFFFFFFF
         return self.serial
 
-    def open(self, serial: int, message: bytes) -> Waiting:
-        waiting = Waiting(serial, wire.datagrams(message, 16 + self.centre, serial, 1), self.epoch, self.newest or (0, 0))
+    def open(self, serial: int, message: bytes, parts: Sequence[Part] = ()) -> Waiting:
+        datagrams = wire.datagrams(message, 16 + self.centre, serial, 1)
+        waiting = Waiting(serial, datagrams, self.epoch, self.newest or (0, 0), {part.key: part.version for part in parts})
         self.waiting[serial] = waiting
         return waiting
 
@@ -204,7 +237,7 @@ class Connection:
             serial = await self.free_serial(endpoint, end)
             if serial is None:
                 return Ending()
-            waiting = endpoint.open(serial, wire.begin_request(centre, serial, parts))
+            waiting = endpoint.open(serial, wire.begin_request(centre, serial, parts), parts)
             try:
                 ending = await self.ended(endpoint, waiting, end, may_repeat)
             finally:
@@ -235,13 +268,16 @@ class Connection:
 
     async def ended(self, endpoint: Endpoint, waiting: Waiting, end: float, may_repeat: bool) -> Optional[Ending]:
         """How a request to begin ends; None where its serial was one of another process, and nothing was begun. A centre that does not say that it
-        began is given up before."""
+        began is given up before. Once a copy is refused no more are sent; the answers to those that were sent are waited for, since one of
+        them may be begun."""
         loop = asyncio.get_running_loop()
         silent = min(end, loop.time() + self.wait)
         while loop.time() < (end if waiting.begun else silent):
-            if waiting.sends == 0 or may_repeat:
+            if waiting.sends == 0 or (may_repeat and (waiting.begun or not waiting.refusals)):
                 endpoint.send(waiting)
             if not await told(waiting, min(self.pause(waiting), end - loop.time())):
+                if waiting.refusals and not waiting.begun:
+                    break
                 continue
             for epoch, answer in waiting.answers:
                 if isinstance(answer, (wire.Begun, wire.Heard)):
@@ -250,7 +286,8 @@ class Connection:
                         return None
                     waiting.begun = answer.tx
                     endpoint.newest = max(endpoint.newest or (0, 0), begun)
-                if isinstance(answer, (wire.Heard, wire.BeginRefused, wire.DraftRefused)):
-                    return Ending(answer, waiting.begun, waiting.sends <= 1 or epoch == waiting.epoch)
+                ending = waiting.ending(epoch, answer)
+                if ending is not None:
+                    return ending
             waiting.answers.clear()
-        return Ending(None, waiting.begun, False)
+        return waiting.in_doubt()

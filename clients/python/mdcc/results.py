@@ -46,7 +46,7 @@ class Aborted:
 
 @dataclass(frozen=True)
 class Refused:
-    """Nothing was begun, so nothing happened. It may be tried again, where `why` says that something else may come of it."""
+    """Nothing was begun, and nothing will be, so nothing happened. It may be tried again, where `why` says that something else may come of it."""
 
     why: Why
     key: Optional[str]
@@ -57,8 +57,8 @@ class Refused:
 
 @dataclass(frozen=True)
 class Unknown:
-    """No answer came in time: it happened or may still happen, or it did not. With an order, `look`, the same transaction again, or
-    `cancel` finds out."""
+    """It happened or may still happen, or it did not: no answer came in time, or only the refusal of one sending of several, of which another may
+    still be begun. With an order, `happened`, the same transaction again, or `cancel` finds out."""
 
     order: Optional[str]
     attempts: int

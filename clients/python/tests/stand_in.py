@@ -31,7 +31,10 @@ class StandIn(threading.Thread):
     """One state, asked at the ports of several centres.
 
     `silent` has the centres that take nothing, `mute` those that take and do not answer. `lose` loses every so manieth request. `aborts` is
-    how many transactions abort next. A record takes 64 adds a version."""
+    how many transactions abort next. A record takes 64 adds a version.
+
+    `gather` has the copies of the next begin lie at the centre until so many have come. Then the first `busy` of them are refused as busy, and the
+    others are taken; of all answers to them `told` are sent."""
 
     def __init__(self, centres=3, bounds=((0, 1000),)):
         super().__init__(daemon=True)
@@ -39,6 +42,7 @@ class StandIn(threading.Thread):
                         "classic": centres // 2 + 1, "fast": centres, "gamma": 100, "wait": 20}
         self.items, self.begun, self.taken = {}, {}, 0
         self.silent, self.mute, self.lose, self.aborts = set(), set(), 0, 0
+        self.gather, self.busy, self.told, self.lying = 0, 1, 99, []
         self.epochs, self.sequence, self.sent = {}, {}, 0
         self.sockets, self.ending = {}, threading.Event()
         self.joiner = datagrams.Joiner()
@@ -81,7 +85,7 @@ class StandIn(threading.Thread):
             _, _, kind, (serial, rest) = messages.decode(joined[1])
         except Refused as refused:
             raise AssertionError(f"{joined[1].hex()} is no message: {refused}") from refused
-        answers = [self.shown(rest)] if kind == messages.CLIENT_READ else self.begin(centre, serial, rest)
+        answers = [self.shown(rest)] if kind == messages.CLIENT_READ else self.begins(centre, serial, rest)
         for answer in answers:
             self.sent += 1
             message = messages.encode(centre, 16 + centre, messages.CLIENT_ANSWER, (serial, answer))
@@ -128,6 +132,19 @@ class StandIn(threading.Thread):
             if not low <= base[number - 1] + same + amount <= high:
                 return False
         return len(deltas) < 64
+
+    def begins(self, centre, serial, parts):
+        """The answers to a copy of a begin, or to all that lay at the centre."""
+        if not self.gather or parts[0].key == b"probe":
+            return self.begin(centre, serial, parts)
+        self.lying.append((centre, serial, parts))
+        if len(self.lying) < self.gather:
+            return []
+        lying, self.gather, self.lying = self.lying, 0, []
+        answers = [(messages.BEGIN_REFUSED, parts[0].key, 5)] * self.busy
+        for copy in lying[self.busy:]:
+            answers += self.begin(*copy)
+        return answers[:self.told]
 
     def begin(self, centre, serial, parts):
         if (centre, serial) in self.begun:

@@ -210,6 +210,55 @@ class Trouble(StoreCase):
         self.cluster.mute = set()
         self.assertTrue(self.sell(order="1").is_committed)
 
+    def test_a_later_copy_is_begun(self):
+        """Two copies lie at the centre: the first is refused as busy, the second is begun, and that is what came of it."""
+        t = self.store.transaction(centre=1)
+        t.set(t.read("cup"), 50)
+        self.cluster.gather = 2
+        result = t.commit()
+        self.assertEqual((result.is_committed, str(result.tx), result.attempts, self.value()), (True, "1.1.2", 1, 50))
+
+    def test_a_refusal_of_one_copy_is_no_end(self):
+        """What came of the second copy is not told. With an order its record tells, and without one it stays unknown."""
+        self.hasten()
+        self.store.read("cup", centre=1)
+        for order, happened in ((None, Unknown(None, 1)), ("1", Committed(None, 2))):
+            t = self.store.transaction(order=order, centre=1)
+            t.set(t.read("cup"), 50 if order is None else 40)
+            self.cluster.gather, self.cluster.told = 2, 1
+            result = t.commit()
+            self.assertEqual(result, happened)
+            self.assertEqual(self.value(), 50 if order is None else 40)
+
+    def test_a_refusal_where_a_copy_is_lost(self):
+        """One copy is lost and the other refused, so that nothing is begun. Who can not know that ends the order, or says that it is unknown."""
+        self.hasten()
+        for order in (None, "1"):
+            t = self.store.transaction(order=order, centre=1)
+            t.set(t.read("cup"), 50)
+            self.cluster.gather, self.cluster.busy, self.cluster.told = 2, 2, 1
+            result = t.commit()
+            if order is None:
+                self.assertEqual((result, self.value()), (Unknown(None, 1), 100))
+            else:
+                self.assertEqual((result.is_committed, result.attempts, self.value()), (True, 2, 50))
+
+    def test_all_copies_are_refused(self):
+        """Then nothing is in doubt, and another centre is asked."""
+        t = self.store.transaction(centre=1)
+        t.insert("pot", 5)
+        self.cluster.gather, self.cluster.busy = 3, 3
+        result = t.commit()
+        self.assertEqual((result.is_committed, result.tx.centre, result.attempts, self.value("pot")), (True, 2, 2, 5))
+
+    def test_a_refusal_that_stays(self):
+        """The record is there, so no copy will insert it, also not one that is not answered."""
+        t = self.store.transaction(centre=1)
+        t.insert("cup", 5)
+        self.cluster.gather, self.cluster.busy, self.cluster.told = 2, 0, 1
+        result = t.commit()
+        self.assertEqual((type(result), result.why, self.value()), (Refused, Why.THERE, 100))
+
     def test_serials_of_another_process(self):
         """Wherever a second process begins to count, what it sells is its own."""
         first, sold = self.store.inner.engine.connection.endpoints[1].serial, 0

@@ -1,5 +1,6 @@
 //! Requests to one centre.
 use crate::configuration::Configuration;
+use crate::copies::Copies;
 use crate::wire::{begin_request, datagrams, read_answer, read_request, Answer, Answered, BeginFault, DraftFault, Part, Record, Tx, Update};
 use std::io::{self, ErrorKind};
 use std::net::{SocketAddrV4, UdpSocket};
@@ -32,18 +33,13 @@ pub enum Ending {
     Committed(Tx),
     /// It did not happen, and never will. Where the centre was started anew while the client sent it again, the end is `Unknown` instead.
     Aborted(Tx),
-    /// Nothing was begun, because of this key.
+    /// Nothing was begun, because of this key, and nothing will be: each copy that was sent was refused, or the centre has passed the version
+    /// that was named. Where only some of several copies are known to be refused, the end is `Unknown` instead.
     Refused { key: String, fault: BeginFault },
     /// The parts make no transaction.
     NoTransaction(DraftFault),
-    /// No end was told in time, or only that of a second transaction: it may have happened, or may still.
+    /// No end was told in time, or only that of a second transaction, or of one copy of several: it may have happened, or may still.
     Unknown,
-}
-
-/// What was answered to a request to begin, and whether another transaction can have been begun for it.
-struct Outcome {
-    answer: Option<Answer>,
-    is_alone: bool,
 }
 
 /// The client of one centre. It owns the port at which that centre's answers come, so there is one for each centre.
@@ -170,8 +166,8 @@ impl Client {
             let Some(serial) = self.free_serial(end)? else {
                 return Ok(Ending::Unknown);
             };
-            if let Some(outcome) = self.begin_under(serial, parts, end)? {
-                return Ok(ending_of(outcome));
+            if let Some(ending) = self.begin_under(serial, parts, end)? {
+                return Ok(ending);
             }
         }
     }
@@ -202,17 +198,19 @@ impl Client {
         Ok(Some(self.next_serial()))
     }
 
-    /// What comes of a begin under a serial; None where that was another client's, and nothing was begun.
-    fn begin_under(&mut self, serial: u32, parts: &[Part], end: Instant) -> io::Result<Option<Outcome>> {
+    /// What comes of a begin under a serial; None where that was another client's, and nothing was begun. Once a copy is refused no more are
+    /// sent, but the answers to the others are waited for.
+    fn begin_under(&mut self, serial: u32, parts: &[Part], end: Instant) -> io::Result<Option<Ending>> {
         let message = begin_request(self.centre, serial, parts);
         let may_repeat = parts.iter().any(|part| matches!(part.update, Update::Write { .. }));
-        let (epoch, newest) = (self.epoch, self.newest);
-        let mut sends = 0;
+        let newest = self.newest;
+        let mut copies = Copies::new(parts, self.epoch);
         while Instant::now() < end {
-            if sends == 0 || may_repeat {
+            if copies.sent == 0 || may_repeat && !copies.is_refused() {
                 self.send(serial, &message);
-                sends += 1;
+                copies.sent += 1;
             }
+            let was_refused = copies.is_refused();
             let until = end.min(Instant::now() + self.settings.again);
             while let Some(answered) = self.receive(until)? {
                 if answered.serial != serial {
@@ -224,23 +222,71 @@ impl Client {
                     }
                     self.newest = self.newest.max(Some(*tx));
                 }
-                if !matches!(answered.answer, Answer::Begun(_) | Answer::Shown(_)) {
-                    let is_alone = sends == 1 || Some(answered.epoch) == epoch;
-                    return Ok(Some(Outcome { answer: Some(answered.answer), is_alone }));
+                if let Some(ending) = copies.take(answered) {
+                    return Ok(Some(ending));
                 }
             }
+            if was_refused && copies.is_refused() {
+                break;
+            }
         }
-        Ok(Some(Outcome { answer: None, is_alone: false }))
+        Ok(Some(Ending::Unknown))
     }
 }
 
-fn ending_of(outcome: Outcome) -> Ending {
-    match outcome.answer {
-        Some(Answer::Ended { tx, is_commit: true }) => Ending::Committed(tx),
-        Some(Answer::NoTransaction(fault)) => Ending::NoTransaction(fault),
-        _ if !outcome.is_alone => Ending::Unknown,
-        Some(Answer::Ended { tx, .. }) => Ending::Aborted(tx),
-        Some(Answer::Refused { key, fault }) => Ending::Refused { key, fault },
-        _ => Ending::Unknown,
+#[cfg(test)]
+mod tests {
+    use super::*;
+    use crate::wire::Item;
+    use std::thread::{self, JoinHandle};
+
+    const AGAIN: Duration = Duration::from_millis(50);
+
+    /// An answer of centre 1 in its epoch 1 to the client.
+    fn answer(serial: &[u8], rest: &[u8]) -> Vec<u8> {
+        let message = [&[1, 15, 1, 17], serial, rest].concat();
+        let head = [&[1][..], &[1, 0, 0, 0, 1, 0, 0, 0, message.len() as u8, 0, 0, 0, 0, 0, 1, 0]].concat();
+        [head, message].concat()
+    }
+
+    /// A centre that says of the client's first serial that it is free, waits until two copies of a begin are there, and then sends these answers.
+    fn centre(configuration: &Configuration, answers: &'static [&'static [u8]]) -> JoinHandle<()> {
+        let (socket, to) = (UdpSocket::bind(configuration.asked(1)).unwrap(), configuration.answered(1));
+        thread::spawn(move || {
+            let mut request = [0; LONGEST];
+            socket.recv(&mut request).unwrap();
+            socket.send_to(&answer(&request[21..25], &[5, 6]), to).unwrap();
+            for _ in 0..2 {
+                socket.recv(&mut request).unwrap();
+            }
+            for rest in answers {
+                socket.send_to(&answer(&request[21..25], rest), to).unwrap();
+            }
+        })
+    }
+
+    fn begun_at(port: u16, answers: &'static [&'static [u8]]) -> Ending {
+        let text = format!(r#"{{"centres":1,"bounds":[[0,9]],"hosts":["127.0.0.1"],"port":{port},"wait":20}}"#);
+        let configuration = Configuration::parse(&text).unwrap();
+        let centre = centre(&configuration, answers);
+        let mut client = Client::connect(&configuration, 1, Settings { again: AGAIN, ..Settings::default() }).unwrap();
+        let ending = client.begin(&[Part::insert("cup", Item { body: Vec::new(), numbers: vec![1] })]).unwrap();
+        centre.join().unwrap();
+        ending
+    }
+
+    /// The first copy is refused as busy.
+    const BUSY: &[u8] = &[3, 3, b'c', b'u', b'p', 5];
+    const BEGUN: &[u8] = &[2, 1, 1, 0, 0, 0, 1, 1, 0, 0];
+    const COMMITTED: &[u8] = &[4, 1, 1, 0, 0, 0, 1, 1, 0, 0, 1];
+
+    #[test]
+    fn a_copy_that_comes_after_a_refusal_may_be_begun() {
+        let tx = Tx { centre: 1, epoch: 1, sequence: 257 };
+        let port = 10_000 + (std::process::id() % 5_000) as u16 * 2;
+        assert_eq!(begun_at(port, &[BUSY, BEGUN, COMMITTED]), Ending::Committed(tx));
+        assert_eq!(begun_at(port, &[BUSY]), Ending::Unknown);
+        let refused = Ending::Refused { key: "cup".to_string(), fault: BeginFault::Busy };
+        assert_eq!(begun_at(port, &[BUSY, BUSY]), refused);
     }
 }

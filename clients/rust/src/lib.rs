@@ -6,6 +6,7 @@
 
 mod client;
 mod configuration;
+mod copies;
 mod json;
 mod wire;
 
