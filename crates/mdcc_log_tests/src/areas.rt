@@ -26,9 +26,11 @@ fn first_boot(alloc: Global) -> Result<HeapList<u8>, LogFault>
     ensures short { IfOk result (λ payload. length payload ≤ payload_limit) }
 {
     let mut payload = HeapList::new(alloc);
-    for byte in [1, 1, 0, 0, 0] {
-        payload.push(byte)?;
-    }
+    payload.push(1)?;
+    payload.push(1)?;
+    payload.push(0)?;
+    payload.push(0)?;
+    payload.push(0)?;
     Ok(payload)
 }
 
