@@ -1,5 +1,5 @@
 -- What a dump does, by what opening its log and printing its facts do.
-use Rattle.std.proofs.Common.{◌≡◌, Err, IfErr, IsErrOf, List, Ok, OnErr, OnOk, Option, Result, ap, refl, subst, ℕ}
+use Rattle.std.proofs.Common.{◌≡◌, Err, IfErr, IsErrOf, List, Ok, OnErr, OnOk, Option, Result, ap, inl, inr, refl, subst, ℕ}
 use Rattle.std.specs.Io.KnownBytes.{Appends}
 use Rattle.std.proofs.KnownBytes.{Appends-nil}
 use Rattle.mdcc_log_file.specs.declared.fault.LogFault.{LogFault}
@@ -13,7 +13,6 @@ use Rattle.mdcc_messages.specs.Reading.{fact_of}
 use Rattle.mdcc_messages.specs.declared.facts.Fact.{Fact}
 use Rattle.mdcc_messages.specs.declared.wire.WireFault.{WireFault}
 use Rattle.mdcc_option.specs.declared.cluster.Cluster.{Cluster}
-use Rattle.mdcc_replay.proofs.Fronts.{nothing_written}
 use Rattle.mdcc_replay.specs.Writing.{Front}
 use Rattle.mdcc_replay.specs.declared.writing.Failure.{Failure}
 use Rattle.mdcc_centre.specs.Starting.{IsUnread}
@@ -38,7 +37,7 @@ output_failed Failure.Memory e = absurd (cc)
 pub refused_dump : (cluster : Cluster) (all : List (List ℕ)) (fault : StartFault) (held : Option (List ℕ)) → IsUnbooted cluster all fault → IsDumped cluster all (Err (of_restart fault)) held held
 refused_dump cluster all (StartFault.Log fault) held h = (h, Appends-nil held)
 refused_dump cluster all (StartFault.Boot fault) held h = (h, Appends-nil held)
-refused_dump cluster all StartFault.Memory held h = nothing_written held (dump_text all)
+refused_dump cluster all StartFault.Memory held h = inl (Appends-nil held)
 
 pub may_fail : (fault : StartFault) (held : Option (List ℕ)) → MayOpen fault → MayFail held held (of_restart fault)
 may_fail (StartFault.Log fault) held h = (h, Appends-nil held)
@@ -84,7 +83,7 @@ by_result : (cluster : Cluster) (all : List (List ℕ)) (result : Result (Unit {
 by_result cluster all (Ok done) before after boots whole front printing = (boots, whole)
 by_result cluster all (Err (DumpFault.Log fault)) before after boots whole front printing = absurd printing
 by_result cluster all (Err DumpFault.Output) before after boots whole front printing = (boots, front)
-by_result cluster all (Err DumpFault.Memory) before after boots whole front printing = front
+by_result cluster all (Err DumpFault.Memory) before after boots whole front printing = inr (boots, front)
 
 pub printed_dump : (cluster : Cluster) (found all : List (List ℕ)) (result : Result (Unit {0}) DumpFault) (before after : Option (List ℕ)) → found ≡ all → HasBooted cluster all
     → OnOk result (Appends before after (dump_text found)) → OnErr result (Front before after (dump_text found)) → IfErr result IsPrinting → IsDumped cluster all result before after

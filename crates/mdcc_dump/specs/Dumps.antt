@@ -1,6 +1,6 @@
 -- What is printed of a log.
 use Rattle.std.specs.Io.KnownBytes.{Appends}
-use Rattle.std.specs.Prelude.{Err, IsErrAnd, List, None, Ok, Option, Result, Some, [], ⊤, ℕ, ◌+◌, ◌++◌, ◌∷◌}
+use Rattle.std.specs.Prelude.{Err, IsErrAnd, List, None, Ok, Option, Result, Some, [], ⊤, ℕ, ◌+◌, ◌++◌, ◌∷◌, ◌⊎◌}
 use Rattle.mdcc_admission.specs.Loading.{fact_read}
 use Rattle.mdcc_log_file.specs.declared.fault.LogFault.{LogFault}
 use Rattle.mdcc_disks.specs.Disks.{Disk}
@@ -56,7 +56,7 @@ abbrev pub IsDumped : Cluster → List (List ℕ) → Result (Unit {0}) DumpFaul
 IsDumped cluster payloads (Ok done) before after = HasBooted cluster payloads × Appends before after (dump_text payloads)
 IsDumped cluster payloads (Err (DumpFault.Log fault)) before after = GivesNone cluster payloads fault × Appends before after []
 IsDumped cluster payloads (Err DumpFault.Output) before after = HasBooted cluster payloads × Front before after (dump_text payloads)
-IsDumped cluster payloads (Err DumpFault.Memory) before after = Front before after (dump_text payloads)
+IsDumped cluster payloads (Err DumpFault.Memory) before after = Appends before after [] ⊎ (HasBooted cluster payloads × Front before after (dump_text payloads))
 
 -- why nothing was printed of areas that give no log, for what stands at this offset
 abbrev pub IsUndumped : {D : Type 0} → ℕ → DumpFault → ℕ → (D → ℕ → Disk) → D → D → Type 0
