@@ -1,6 +1,7 @@
 -- What the commands that serve nodes do.
 use Rattle.std.specs.List.{range_with_len}
-use Rattle.std.specs.Prelude.{Err, IfErr, IfSome, List, MatchBool, Ok, Option, Result, [], map, ⊤, ℕ, ◌+◌, ◌≡◌, ◌∷◌, ◌≤◌}
+use Rattle.std.specs.Prelude.{Err, IfErr, IfSome, IsErrOf, List, MatchBool, Ok, Option, Result, [], map, ⊤, ℕ, ◌+◌, ◌≡◌, ◌∷◌, ◌≤◌}
+use Rattle.mdcc_log_file.specs.Both.{RoseAtOne}
 use Rattle.mdcc_log_file.specs.declared.fault.LogFault.{LogFault}
 use Rattle.mdcc_config.specs.declared.config.Config.{Config}
 use Rattle.mdcc_disks.specs.Disks.{Disk}
@@ -54,6 +55,10 @@ as_served (Ok served) = Ok served
 as_served (Err fault) = Err (failure_of fault)
 
 module _ {D L O : Type 0} (disk : D → ℕ → Disk) (may_leave : D → ℕ → List ℕ → Type 0) (tears : ℕ → Type 0) (calls : L → Option (List LinkCall)) (lost : L → ℕ) (held : O → Option (List ℕ)) (disks_old disks_new : D) (link_old link_new : L) (out_old out_new : O) where
+  -- a failed disk is said to be one of this centre only where the count of faults of one of its two rose
+  abbrev pub OnDisk : Result Served Failure → Type 0
+  OnDisk served = (a : ℕ) → IsErrOf served (Failure.Log a LogFault.DiskFault) → RoseAtOne (disk disks_old a) (disk disks_new a) (disk disks_old (a + 16)) (disk disks_new (a + 16))
+
   -- ---- one centre
 
   -- what the server of this centre did over a log of its that tells its bytes
@@ -89,6 +94,7 @@ module _ {D L O : Type 0} (disk : D → ℕ → Disk) (may_leave : D → ℕ →
     pub served : Result Served Failure
     pub ends : Ends served status err_before err_after faults_before faults_after
     pub runs : IfSome left (λ input. RunsNode input centre turns served)
+    pub failed_disk : OnDisk served
     -- the disks of other centres are as they were, whatever the input and the logs are
     pub others : KeepsOthers disk may_leave centre disks_old disks_new
 
@@ -125,5 +131,6 @@ module _ {D L O : Type 0} (disk : D → ℕ → Disk) (may_leave : D → ℕ →
     pub served : Result Served Failure
     pub ends : Ends served status err_before err_after faults_before faults_after
     pub runs : IfSome left (λ input. RunsCluster input turns served)
+    pub failed_disk : OnDisk served
     -- the disks that no cluster has are as they were, whatever the input is
     pub others : KeepsUnserved disk may_leave 1 10 disks_old disks_new

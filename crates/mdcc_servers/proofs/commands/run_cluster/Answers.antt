@@ -11,7 +11,7 @@ use Rattle.mdcc_servers.specs.Commands.{Untouched}
 use Rattle.mdcc_servers.proofs.commands.run_cluster.Goals as goal
 
 pub returns-clause-does : goal.returns-clause-does
-returns-clause-does g c = record { served = c.serve_all-served.result; ends = c.finish.ensures.ends; runs = c.serve_all-served.ensures.runs; others = c.serve_all-served.ensures.others }
+returns-clause-does g c = record { served = c.serve_all-served.result; ends = c.finish.ensures.ends; runs = c.serve_all-served.ensures.runs; failed_disk = c.serve_all-served.ensures.disk; others = c.serve_all-served.ensures.others }
 
 pub returns-clause-refused : goal.returns-clause-refused
 returns-clause-refused g c = λ at.
