@@ -3,6 +3,7 @@ pub mod Bound
 pub mod Copied
 pub mod Doings
 pub mod Ended
+pub mod Full
 pub mod Kept
 pub mod Last
 pub mod Opened

@@ -157,7 +157,7 @@ each_back P (x ∷ xs) ys h = each_back P xs ys h.1
 module _ {D : Type 0} (disk : D → ℕ → Disk) (may_leave : D → ℕ → List ℕ → Type 0) (every : ℕ) where
   -- ---- a log to which nothing was done
 
-  untouched_log : (cluster : Cluster) (old mid : D) (log : Log) (a : ℕ) → log.centre ≡ a → IsUntouched disk may_leave old mid a → IsLogOf disk cluster old log → IsLogOf disk cluster mid log
+  pub untouched_log : (cluster : Cluster) (old mid : D) (log : Log) (a : ℕ) → log.centre ≡ a → IsUntouched disk may_leave old mid a → IsLogOf disk cluster old log → IsLogOf disk cluster mid log
   untouched_log cluster old mid log a of un is =
       let here = subst (λ (n : ℕ). IsUntouched disk may_leave old mid n) (sym of) un in
       record {

@@ -41,6 +41,15 @@ module _ {D : Type 0} (disk : D → ℕ → Disk) (cluster : Cluster) (disks : D
   abbrev pub AreTold : ℕ → ℕ → Type 0
   AreTold first end = (a : ℕ) → first ≤ a → a < end → IsTold disk disks a
 
+  -- From the log of one of them no node boots, and it is known what stands there.
+  pub record LacksNode (first end : ℕ) : Type 0 where
+    pub at : ℕ
+    pub from : first ≤ at
+    pub to : at < end
+    pub told : IsTold disk disks at
+    pub why : LogRefusal
+    pub is : node_at disk cluster disks at ≡ Err why
+
   -- The start of one of them ended with this fault; the ones before were started.
   pub record StartEnds (first end : ℕ) (fault : ServeFault) : Type 0 where
     pub at : ℕ

@@ -10,6 +10,10 @@ use Rattle.mdcc_log_file.specs.declared.fault.LogFault.{LogFault}
 use Rattle.mdcc_messages.specs.Spelling.{fact_bytes}
 use Rattle.mdcc_messages.specs.declared.facts.Fact.{Fact}
 use Rattle.mdcc_option.specs.declared.cluster.Cluster.{Cluster}
+use Rattle.mdcc_rules.specs.Boot.{next_boot}
+use Rattle.mdcc_runs.specs.Servers.{Log}
+use Rattle.mdcc_serve.specs.Serving.{IsLogOf}
+use Rattle.mdcc_site.specs.Room.{HasNoRoom}
 use Rattle.mdcc_site.specs.declared.fault.ServeFault.{ServeFault}
 
 -- a log is refused: areas are none, or their payloads give no node
@@ -46,3 +50,18 @@ pub record HasRefused {D L O : Type 0} (disk : D → ℕ → Disk) (calls : L �
   pub sends : lost link_new ≡ lost link_old
   pub output : out_new ≡ out_old
   pub logs : AllStay disk cluster disks_old disks_new first end
+
+-- the log of a centre, with facts that it may have added, is said to be full only where it has no room for its boot
+abbrev pub OnFullBoot : {D : Type 0} → (D → ℕ → Disk) → (D → ℕ → List ℕ → Type 0) → ℕ → Cluster → D → D → ServeFault → Type 0
+OnFullBoot disk may_leave every cluster old new (ServeFault.Log a LogFault.LogFull) =
+    (log : Log) → log.centre ≡ a → IsLogOf disk cluster old log → HasNoRoom disk may_leave every new log.centre (next_boot log.facts ∷ [])
+OnFullBoot disk may_leave every cluster old new fault = ⊤
+
+-- No call of the link was made and nothing was printed. The logs of all centres that were to be served stand, unless a call of a disk
+-- failed.
+pub record NeverServed {D L O : Type 0} (disk : D → ℕ → Disk) (may_leave : D → ℕ → List ℕ → Type 0) (every : ℕ) (calls : L → Option (List LinkCall)) (lost : L → ℕ) (cluster : Cluster) (first end : ℕ) (disks_old disks_new : D) (link_old link_new : L) (out_old out_new : O) (fault : ServeFault) : Type 0 where
+  pub link : calls link_new ≡ calls link_old
+  pub sends : lost link_new ≡ lost link_old
+  pub output : out_new ≡ out_old
+  pub logs : UnlessDisk fault (AllStay disk cluster disks_old disks_new first end)
+  pub full : OnFullBoot disk may_leave every cluster disks_old disks_new fault

@@ -1,12 +1,12 @@
 //! Endpoints are bound and boots told, once the centres run.
 ghost use Rattle.std.specs.List.{AllByRecursion};
-ghost use Rattle.std.specs.Prelude.{◌≡◌, ◌≤◌, ◌+◌, ◌∷◌, [], IfErr, IfOk, ℕ};
+ghost use Rattle.std.specs.Prelude.{◌≡◌, ◌≤◌, ◌+◌, ◌∷◌, [], IfErr, IfOk, IsErrAnd, ℕ};
 ghost use Rattle.mdcc_config.specs.IsConfig.{IsConfig};
 ghost use Rattle.mdcc_runs.specs.Acts.{Act};
 ghost use Rattle.mdcc_serve.specs.Centres.{places};
 ghost use Rattle.mdcc_serve.specs.Openings.{Binds, FailsToOpen, HasOpened, Lines, binds_of, binds_of_all, boots_told};
-ghost use Rattle.mdcc_serve.specs.Refusals.{SaysOfLogs};
-ghost use Rattle.mdcc_serve.specs.Stays.{HasRefused, IsLogRefused};
+ghost use Rattle.mdcc_serve.specs.Refusals.{LacksNode, SaysOfLogs};
+ghost use Rattle.mdcc_serve.specs.Stays.{HasRefused, IsLogRefused, NeverServed};
 ghost use Rattle.mdcc_site.specs.Moments.{outside};
 
 use crate::starting::start_all;
@@ -84,6 +84,8 @@ pub(crate) fn open<D: Disks, L: Link, O: Sink>(
     ensures logs { SaysOfLogs D.disk config.now.cluster disks.old first (last + 1) result }
     ensures refused { IfErr result (λ fault. IsLogRefused fault
         → HasRefused D.disk L.calls L.lost config.now.cluster first (last + 1) disks.old disks.new link.old link.new out.old out.new) }
+    ensures unserved { LacksNode D.disk config.now.cluster disks.old first (last + 1)
+        → IsErrAnd result (NeverServed D.disk D.may_leave config.now.checkpoint L.calls L.lost config.now.cluster first (last + 1) disks.old disks.new link.old link.new out.old out.new) }
 {
     let sites = start_all(alloc, config, first, last, disks)?;
     bind_all(config, sites.as_slice(), link)?;

@@ -1,6 +1,6 @@
 //! The calls that serve one centre or all.
 ghost use Rattle.std.specs.List.{range_with_len};
-ghost use Rattle.std.specs.Prelude.{◌≡◌, ◌≤◌, ◌<◌, ◌+◌, ◌^◌, ◌∷◌, [], IfErr, IsErrOf, List, length, map, ℕ};
+ghost use Rattle.std.specs.Prelude.{◌≡◌, ◌≤◌, ◌<◌, ◌+◌, ◌^◌, ◌∷◌, [], IfErr, IsErrAnd, IsErrOf, List, length, map, ℕ};
 ghost use Rattle.mdcc_log_file.specs.Both.{RoseAtOne};
 ghost use Rattle.mdcc_base.specs.Causes.{Rose};
 ghost use Rattle.mdcc_config.specs.IsConfig.{IsConfig};
@@ -11,10 +11,10 @@ ghost use Rattle.mdcc_runs.specs.Sites.{Site as ASite};
 ghost use Rattle.mdcc_serve.specs.Centres.{AllServed, Ascend, HoldSites, all_seen, places};
 ghost use Rattle.mdcc_serve.specs.Ends.{AllEnd, SerialsFit};
 ghost use Rattle.mdcc_serve.specs.Others.{KeepsUnserved};
-ghost use Rattle.mdcc_serve.specs.Refusals.{AreTold, MayServe, SaysOfLogs};
+ghost use Rattle.mdcc_serve.specs.Refusals.{AreTold, LacksNode, MayServe, SaysOfLogs};
 ghost use Rattle.mdcc_serve.specs.Serving.{AreLogsOf, IsLogOf, ServesOrBreaksOff};
 ghost use Rattle.mdcc_serve.specs.Starts.{Follow};
-ghost use Rattle.mdcc_serve.specs.Stays.{HasRefused, IsLogRefused};
+ghost use Rattle.mdcc_serve.specs.Stays.{HasRefused, IsLogRefused, NeverServed};
 ghost use Rattle.mdcc_serve.specs.Totals.{counts_of, done_of, with_counts};
 ghost use Rattle.mdcc_site.specs.Moments.{Caused, KeepsOthers, outside};
 ghost use Rattle.mdcc_site.specs.SiteState.{PrintsOut};
@@ -137,6 +137,8 @@ fn serve<D: Disks, L: Link, O: Sink>(
     ensures others { KeepsUnserved D.disk D.may_leave first (last + 1) disks.old disks.new }
     ensures refused { IfErr result (λ fault. IsLogRefused fault → AreTold D.disk config.now.cluster disks.old first (last + 1)
         → HasRefused D.disk L.calls L.lost config.now.cluster first (last + 1) disks.old disks.new link.old link.new out.old out.new) }
+    ensures unserved { LacksNode D.disk config.now.cluster disks.old first (last + 1)
+        → IsErrAnd result (NeverServed D.disk D.may_leave config.now.checkpoint L.calls L.lost config.now.cluster first (last + 1) disks.old disks.new link.old link.new out.old out.new) }
 {
     let mut sites = open(alloc, config, first, last, disks, link, out)?;
     serve_sites(alloc, config, &mut sites, turns, disks, link, out)
@@ -169,6 +171,10 @@ pub fn serve_node<D: Disks, L: Link, O: Sink>(
     // A log that is refused stands as it was, perhaps with its own new boot, and nothing was bound, sent or printed.
     ensures refused { IfErr result (λ fault. IsLogRefused fault → IsTold D.disk disks.old centre
         → HasRefused D.disk L.calls L.lost config.now.cluster centre (centre + 1) disks.old disks.new link.old link.new out.old out.new) }
+
+    // Where no node boots from its log nothing is bound, sent or printed, however it ends, and the log stands but where a disk fails.
+    ensures unserved { LacksNode D.disk config.now.cluster disks.old centre (centre + 1)
+        → IsErrAnd result (NeverServed D.disk D.may_leave config.now.checkpoint L.calls L.lost config.now.cluster centre (centre + 1) disks.old disks.new link.old link.new out.old out.new) }
 
     // Whatever the logs are, and however it ends, the disks of other centres are as they were.
     ensures others { KeepsOthers D.disk D.may_leave centre disks.old disks.new }
@@ -208,6 +214,10 @@ pub fn serve_cluster<D: Disks, L: Link, O: Sink>(
     // Where a log is refused all logs stand as they were, each perhaps with its own new boot, and nothing was bound, sent or printed.
     ensures refused { IfErr result (λ fault. IsLogRefused fault → AreTold D.disk config.now.cluster disks.old 1 (config.now.cluster.quorums.centres + 1)
         → HasRefused D.disk L.calls L.lost config.now.cluster 1 (config.now.cluster.quorums.centres + 1) disks.old disks.new link.old link.new out.old out.new) }
+
+    // Where no node boots from a log nothing is bound, sent or printed, however it ends, and all logs stand but where a disk fails.
+    ensures unserved { LacksNode D.disk config.now.cluster disks.old 1 (config.now.cluster.quorums.centres + 1)
+        → IsErrAnd result (NeverServed D.disk D.may_leave config.now.checkpoint L.calls L.lost config.now.cluster 1 (config.now.cluster.quorums.centres + 1) disks.old disks.new link.old link.new out.old out.new) }
 
     // Whatever the logs are, and however it ends, the disks of other centres are as they were.
     ensures others { KeepsUnserved D.disk D.may_leave 1 (config.now.cluster.quorums.centres + 1) disks.old disks.new }

@@ -3,7 +3,7 @@ ghost use Rattle.std.specs.Prelude.{◌≡◌, ◌≤◌, ◌+◌, ◌++◌, ◌
 ghost use Rattle.mdcc_config.specs.IsConfig.{IsConfig};
 ghost use Rattle.mdcc_serve.specs.Refusals.{AllBoot, BootsAt, SaysAt, StartEnds};
 ghost use Rattle.mdcc_serve.specs.Starts.{FailToStart, FailsToStart, HasStarted, HaveStarted, IsRunning, boot_fault_of, start_fault_of};
-ghost use Rattle.mdcc_serve.specs.Stays.{AllStay, UnlessDisk};
+ghost use Rattle.mdcc_serve.specs.Stays.{AllStay, OnFullBoot, UnlessDisk};
 ghost use Rattle.mdcc_site.specs.declared.fault.ServeFault.{ServeFault as AServeFault};
 ghost use Rattle.mdcc_site.specs.declared.site.Site.{Site as ASite};
 
@@ -151,6 +151,7 @@ pub(crate) fn start_all<D: Disks>(
     ensures nodes { OnOk result (AllBoot D.disk config.now.cluster disks.old first (last + 1)) }
     ensures ends { IfErr result (StartEnds D.disk config.now.cluster disks.old first (last + 1)) }
     ensures stay { IfErr result (λ fault. UnlessDisk fault (AllStay D.disk config.now.cluster disks.old disks.new first (last + 1))) }
+    ensures full { IfErr result (OnFullBoot D.disk D.may_leave config.now.checkpoint config.now.cluster disks.old disks.new) }
 {
     let mut sites = Vec::new(alloc);
     for number in first..last + 1 {

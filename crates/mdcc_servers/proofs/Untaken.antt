@@ -1,13 +1,13 @@
 -- Where a log is refused nothing else was done.
 use Rattle.std.proofs.Common.{◌≡◌, ◌∙◌, ◌+◌, Err, Ok, Option, List, Result, arith, subst, sym, ℕ}
-use Rattle.std.specs.Prelude.{IfErr}
+use Rattle.std.specs.Prelude.{IfErr, IsErrAnd}
 use Rattle.mdcc_disks.specs.Disks.{Disk}
 use Rattle.mdcc_endings.specs.declared.fault.Failure.{Failure}
 use Rattle.mdcc_link.specs.Link.{LinkCall}
 use Rattle.mdcc_log_file.specs.declared.fault.LogFault.{LogFault}
 use Rattle.mdcc_option.specs.declared.cluster.Cluster.{Cluster}
 use Rattle.mdcc_serve.specs.Refusals.{AreTold}
-use Rattle.mdcc_serve.specs.Stays.{HasRefused, IsLogRefused}
+use Rattle.mdcc_serve.specs.Stays.{HasRefused, IsLogRefused, NeverServed}
 use Rattle.mdcc_serve.specs.declared.served.Served.{Served}
 use Rattle.mdcc_servers.specs.Commands.{AllAreTold, IsRefusal, as_served, failure_of}
 use Rattle.mdcc_site.specs.declared.fault.ServeFault.{ServeFault}
@@ -47,6 +47,16 @@ module _ {D L O : Type 0} (disk : D → ℕ → Disk) (calls : L → Option (Lis
         subst (λ (r : Result Served Failure). IfErr r (λ failure. IsRefusal failure → Other → HasRefused disk calls lost cluster first end disks_old disks_new link new out out_new)) (sym is)
         (by_result Other (HasRefused disk calls lost cluster first end disks_old disks_new link new out out_new) result
         (weaker Told Other (HasRefused disk calls lost cluster first end disks_old disks_new mid new out out_new) (HasRefused disk calls lost cluster first end disks_old disks_new link new out out_new) result known since_then h))
+
+    -- so it does where nothing was served
+    never_since : (may_leave : D → ℕ → List ℕ → Type 0) (every : ℕ) (fault : ServeFault) → NeverServed disk may_leave every calls lost cluster first end disks_old disks_new mid new out out_new fault
+        → NeverServed disk may_leave every calls lost cluster first end disks_old disks_new link new out out_new fault
+    never_since may_leave every fault never = record { link = never.link ∙ called; sends = never.sends ∙ sent; output = never.output; logs = never.logs; full = never.full }
+
+    pub unserved_since : (may_leave : D → ℕ → List ℕ → Type 0) (every : ℕ) (result : Result Served ServeFault) → IsErrAnd result (NeverServed disk may_leave every calls lost cluster first end disks_old disks_new mid new out out_new)
+        → IsErrAnd result (NeverServed disk may_leave every calls lost cluster first end disks_old disks_new link new out out_new)
+    unserved_since may_leave every (Ok done) never = never
+    unserved_since may_leave every (Err fault) never = never_since may_leave every fault never
 
 -- all centres of a cluster are those from 1 on
 pub all_told : {D : Type 0} (disk : D → ℕ → Disk) (cluster : Cluster) (disks : D) → AllAreTold disk cluster disks → AreTold disk cluster disks 1 (cluster.quorums.centres + 1)

@@ -1,6 +1,6 @@
 -- What the commands that serve nodes do.
 use Rattle.std.specs.List.{range_with_len}
-use Rattle.std.specs.Prelude.{Err, IfErr, IfSome, IsErrOf, List, MatchBool, Ok, Option, Result, [], map, ⊤, ℕ, ◌+◌, ◌≡◌, ◌∷◌, ◌≤◌}
+use Rattle.std.specs.Prelude.{Err, IfErr, IfSome, IsErrAnd, IsErrOf, List, MatchBool, Ok, Option, Result, [], map, ⊤, ℕ, ◌+◌, ◌≡◌, ◌∷◌, ◌≤◌}
 use Rattle.mdcc_log_file.specs.Both.{RoseAtOne}
 use Rattle.mdcc_log_file.specs.declared.fault.LogFault.{LogFault}
 use Rattle.mdcc_config.specs.declared.config.Config.{Config}
@@ -9,9 +9,10 @@ use Rattle.mdcc_link.specs.Link.{LinkCall}
 use Rattle.mdcc_protocol.specs.Belongs.{is_centre}
 use Rattle.mdcc_runs.specs.Servers.{Log}
 use Rattle.mdcc_serve.specs.Others.{KeepsUnserved}
+use Rattle.mdcc_serve.specs.Refusals.{LacksNode}
 use Rattle.mdcc_serve.specs.Serving.{AreLogsOf, IsLogOf, ServesOrBreaksOff}
 use Rattle.mdcc_site.specs.Moments.{KeepsOthers}
-use Rattle.mdcc_serve.specs.Stays.{HasRefused}
+use Rattle.mdcc_serve.specs.Stays.{HasRefused, NeverServed}
 use Rattle.mdcc_site.specs.declared.fault.ServeFault.{ServeFault}
 use Rattle.mdcc_serve.specs.declared.served.Served.{Served}
 use Rattle.mdcc_endings.specs.Endings.{Ends}
@@ -72,6 +73,9 @@ module _ {D L O : Type 0} (disk : D → ℕ → Disk) (may_leave : D → ℕ →
     -- Then nothing was bound, sent or printed, and the log stands as it was, perhaps with its own new boot.
     pub refused : IfErr served (λ failure. IsRefusal failure → IsTold disk disks_old centre
         → HasRefused disk calls lost config.cluster centre (centre + 1) disks_old disks_new link_old link_new out_old out_new)
+    -- Where no node boots from its log so it is however it ended, but that a log stands only where no call of a disk failed.
+    pub unserved : LacksNode disk config.cluster disks_old centre (centre + 1)
+        → IsErrAnd result (NeverServed disk may_leave config.checkpoint calls lost config.cluster centre (centre + 1) disks_old disks_new link_old link_new out_old out_new)
 
   -- it ended before anything was done
   abbrev pub IsEarlyAt : Failure → Result Served Failure → Type 0
@@ -112,6 +116,10 @@ module _ {D L O : Type 0} (disk : D → ℕ → Disk) (may_leave : D → ℕ →
     -- Then nothing was bound, sent or printed, and all logs stand as they were, each perhaps with its own new boot.
     pub refused : IfErr served (λ failure. IsRefusal failure → AllAreTold disk config.cluster disks_old
         → HasRefused disk calls lost config.cluster 1 (config.cluster.quorums.centres + 1) disks_old disks_new link_old link_new out_old out_new)
+    -- Where no node boots from one of the logs so it is however it ended, but that the logs stand only where no call of a disk failed; a
+    -- log is said to be full then only where it has no room for its boot.
+    pub unserved : LacksNode disk config.cluster disks_old 1 (config.cluster.quorums.centres + 1)
+        → IsErrAnd result (NeverServed disk may_leave config.checkpoint calls lost config.cluster 1 (config.cluster.quorums.centres + 1) disks_old disks_new link_old link_new out_old out_new)
     -- and whatever the logs are, disks of no centre of the configuration are as they were
     pub others : KeepsUnserved disk may_leave 1 (config.cluster.quorums.centres + 1) disks_old disks_new
 

@@ -1,4 +1,4 @@
-use Rattle.std.proofs.Common.{◌≡◌, ◌+◌, ◌≤◌, List, Err, arith, length, rules, subst, sym, inl, inr}
+use Rattle.std.proofs.Common.{◌≡◌, ◌+◌, ◌≤◌, List, Err, arith, length, refl, rules, subst, sym, inl, inr}
 use Rattle.std.specs.List.{AllByRecursion}
 use Rattle.mdcc_serve.proofs.Ready.{bind_fails, held_among, opens_all, start_fails, tell_fails}
 use Rattle.mdcc_serve.specs.Openings.{BindsAll, BindsSome, LinesSome, binds_of_all, boots_told}
@@ -6,6 +6,7 @@ use Rattle.mdcc_site.specs.Moments.{outside}
 use Rattle.mdcc_site.specs.SiteState.{PrintsAll}
 use Rattle.mdcc_site.specs.declared.site.Site.{Site}
 use Rattle.mdcc_serve.proofs.Refused.{binding_ends, telling_ends}
+use Rattle.mdcc_serve.proofs.Full.{lacks_none}
 use Rattle.mdcc_serve.proofs.Untaken.{bind_refuses, line_refuses, start_refuses}
 use Rattle.mdcc_serve.proofs.opening.open.Goals as goal
 
@@ -97,3 +98,22 @@ pub returns-in_err-tell_boots-clause-refused : goal.returns-in_err-tell_boots-cl
 returns-in_err-tell_boots-clause-refused g c =
     let e : c.from_residual-in_err-tell_boots.result ≡ Err c.in_err-tell_boots.field-0.0 = search rules in
     rw e (λ refused. absurd (line_refuses g.O.Sink.held g.O.Sink.faults (boots_told c.as_slice-2.result.now) c.in_err-tell_boots.field-0.0 c.args.out.now c.tell_boots.new.out c.in_err-tell_boots.ensures refused))
+
+-- ---- where no node boots from one of them
+
+pub returns-in_err-sites-clause-unserved : goal.returns-in_err-sites-clause-unserved
+returns-in_err-sites-clause-unserved g c = λ lacks.
+    let e : c.from_residual.result ≡ Err c.in_err-sites.field-0.0 = search rules in
+    rw e (record { link = refl; sends = refl; output = refl; logs = c.in_err-sites.ensures.stay; full = c.in_err-sites.ensures.full })
+
+pub returns-in_err-bind_all-clause-unserved : goal.returns-in_err-bind_all-clause-unserved
+returns-in_err-bind_all-clause-unserved g c = λ lacks.
+    absurd (lacks_none g.D.Disks.disk c.args.config.now.cluster c.args.disks.now c.args.first (c.args.last + 1) lacks c.in_ok-sites.ensures.nodes)
+
+pub returns-in_err-tell_boots-clause-unserved : goal.returns-in_err-tell_boots-clause-unserved
+returns-in_err-tell_boots-clause-unserved g c = λ lacks.
+    absurd (lacks_none g.D.Disks.disk c.args.config.now.cluster c.args.disks.now c.args.first (c.args.last + 1) lacks c.in_ok-sites.ensures.nodes)
+
+pub returns-clause-unserved : goal.returns-clause-unserved
+returns-clause-unserved g c = λ lacks.
+    absurd (lacks_none g.D.Disks.disk c.args.config.now.cluster c.args.disks.now c.args.first (c.args.last + 1) lacks c.in_ok-sites.ensures.nodes)

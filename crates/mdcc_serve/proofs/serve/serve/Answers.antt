@@ -5,6 +5,7 @@ use Rattle.mdcc_serve.specs.Centres.{AllServed, places}
 use Rattle.mdcc_site.specs.Moments.{outside}
 use Rattle.mdcc_site.specs.declared.site.Site.{Site as TheSite}
 use Rattle.mdcc_serve.proofs.Refused.{turns_end}
+use Rattle.mdcc_serve.proofs.Full.{lacks_none}
 use Rattle.mdcc_serve.proofs.Untaken.{none_refuses}
 use Rattle.mdcc_serve.proofs.serve.serve.Goals as goal
 
@@ -86,3 +87,14 @@ returns-in_err-sites-clause-refused g c =
 pub returns-clause-refused : goal.returns-clause-refused
 returns-clause-refused g c =
     none_refuses g.D.Disks.disk c.args.config.now.cluster c.args.disks.now c.args.first (c.args.last + 1) c.serve_sites.result _ c.in_ok-sites.ensures.logs (returns-clause-logs g c)
+
+-- ---- where no node boots from one of them
+
+pub returns-in_err-sites-clause-unserved : goal.returns-in_err-sites-clause-unserved
+returns-in_err-sites-clause-unserved g c = λ lacks.
+    let e : c.from_residual.result ≡ Err c.in_err-sites.field-0.0 = search rules in
+    rw e (c.in_err-sites.ensures.unserved lacks)
+
+pub returns-clause-unserved : goal.returns-clause-unserved
+returns-clause-unserved g c = λ lacks.
+    absurd (lacks_none g.D.Disks.disk c.args.config.now.cluster c.args.disks.now c.args.first (c.args.last + 1) lacks c.in_ok-sites.ensures.logs)

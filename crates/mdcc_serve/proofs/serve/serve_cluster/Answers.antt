@@ -6,7 +6,9 @@ use Rattle.mdcc_site.specs.Moments.{Caused, outside}
 use Rattle.mdcc_site.specs.declared.fault.ServeFault.{ServeFault}
 use Rattle.mdcc_serve.proofs.Refused.{logs_may}
 use Rattle.mdcc_serve.specs.Others.{KeepsUnserved}
-use Rattle.mdcc_serve.specs.Refusals.{SaysOfLogs}
+use Rattle.mdcc_serve.specs.Refusals.{AreTold, LacksNode, SaysOfLogs}
+use Rattle.mdcc_serve.specs.Stays.{HasRefused, IsLogRefused, NeverServed}
+use Rattle.std.specs.Prelude.{IfErr, IsErrAnd}
 use Rattle.mdcc_serve.proofs.serve.serve_cluster.Goals as goal
 
 pub serve-requires-clause-order : goal.serve-requires-clause-order
@@ -47,3 +49,19 @@ returns-clause-may g c =
 
 pub returns-clause-others : goal.returns-clause-others
 returns-clause-others g c = subst (λ (n : ℕ). KeepsUnserved g.D.Disks.disk g.D.Disks.may_leave 1 (n + 1) c.args.disks.now c.serve.new.disks) c.centres-last.ensures.value c.serve.ensures.others
+
+-- ---- where no node boots from one of the logs
+
+pub returns-clause-unserved : goal.returns-clause-unserved
+returns-clause-unserved g c =
+    subst (λ (n : ℕ). LacksNode g.D.Disks.disk c.args.config.now.cluster c.args.disks.now 1 (n + 1)
+    → IsErrAnd c.serve.result (NeverServed g.D.Disks.disk g.D.Disks.may_leave c.args.config.now.checkpoint g.L.Link.calls g.L.Link.lost c.args.config.now.cluster 1 (n + 1) c.args.disks.now c.serve.new.disks c.args.link.now c.serve.new.link c.args.out.now c.serve.new.out))
+    c.centres-last.ensures.value c.serve.ensures.unserved
+
+-- ---- where a log is refused
+
+pub returns-clause-refused : goal.returns-clause-refused
+returns-clause-refused g c =
+    subst (λ (n : ℕ). IfErr c.serve.result (λ fault. IsLogRefused fault → AreTold g.D.Disks.disk c.args.config.now.cluster c.args.disks.now 1 (n + 1)
+    → HasRefused g.D.Disks.disk g.L.Link.calls g.L.Link.lost c.args.config.now.cluster 1 (n + 1) c.args.disks.now c.serve.new.disks c.args.link.now c.serve.new.link c.args.out.now c.serve.new.out))
+    c.centres-last.ensures.value c.serve.ensures.refused

@@ -7,7 +7,9 @@ use Rattle.mdcc_serve.proofs.Others.{keeps_but}
 use Rattle.mdcc_serve.proofs.Refused.{logs_may}
 use Rattle.mdcc_serve.proofs.Untaken.{one_refuses}
 use Rattle.mdcc_serve.specs.Others.{KeepsUnserved}
-use Rattle.mdcc_serve.specs.Refusals.{SaysOfLogs}
+use Rattle.mdcc_serve.specs.Refusals.{LacksNode, SaysOfLogs}
+use Rattle.mdcc_serve.specs.Stays.{NeverServed}
+use Rattle.std.specs.Prelude.{IsErrAnd}
 use Rattle.mdcc_serve.proofs.serve.serve_node.Goals as goal
 
 pub serve-requires-clause-alike : goal.serve-requires-clause-alike
@@ -55,3 +57,11 @@ pub returns-clause-others : goal.returns-clause-others
 returns-clause-others g c =
     keeps_but g.D.Disks.disk g.D.Disks.may_leave c.args.centre c.args.disks.now c.serve.new.disks
     (subst (λ (n : ℕ). KeepsUnserved g.D.Disks.disk g.D.Disks.may_leave n (n + 1) c.args.disks.now c.serve.new.disks) c.number-first.ensures.value c.serve.ensures.others)
+
+-- ---- where no node boots from its log
+
+pub returns-clause-unserved : goal.returns-clause-unserved
+returns-clause-unserved g c =
+    subst (λ (n : ℕ). LacksNode g.D.Disks.disk c.args.config.now.cluster c.args.disks.now n (n + 1)
+    → IsErrAnd c.serve.result (NeverServed g.D.Disks.disk g.D.Disks.may_leave c.args.config.now.checkpoint g.L.Link.calls g.L.Link.lost c.args.config.now.cluster n (n + 1) c.args.disks.now c.serve.new.disks c.args.link.now c.serve.new.link c.args.out.now c.serve.new.out))
+    c.number-first.ensures.value c.serve.ensures.unserved

@@ -1,8 +1,9 @@
 use Rattle.std.proofs.Common.{◌≡◌, ◌+◌, ◌-◌, ◌≤◌, ◌∷◌, ◌++◌, [], List, Err, arith, inl, inr, length, length-append, rules, subst, sym, ℕ}
 use Rattle.mdcc_serve.proofs.Together.{keep_stops, none_started, one_started, start_stops}
 use Rattle.mdcc_serve.proofs.Standing.{one_stays, rest_stay, unless_so}
+use Rattle.mdcc_serve.proofs.Full.{full_boots}
 use Rattle.mdcc_serve.specs.Starts.{FailToStart, HaveStarted}
-use Rattle.mdcc_serve.specs.Stays.{AllStay, UnlessDisk}
+use Rattle.mdcc_serve.specs.Stays.{AllStay, OnFullBoot, UnlessDisk}
 use Rattle.mdcc_site.specs.declared.fault.ServeFault.{ServeFault}
 use Rattle.mdcc_site.specs.declared.site.Site.{Site}
 use Rattle.mdcc_serve.proofs.Refused.{boots_still, none_boot, one_boots, says_still}
@@ -101,4 +102,19 @@ returns-in_err-start_next-clause-stay g c =
     rw e (elim c.in_err-start_next.ensures.fails [
       | inl fails ↦ unless_so fault fails.stays (rest fails.others)
       | inr lacks ↦ subst (λ (f : ServeFault). UnlessDisk f (AllStay g.D.Disks.disk c.args.config.now.cluster c.args.disks.now c.start_next.new.disks c.args.first (c.args.last + 1))) (sym lacks.0) (rest lacks.2.others lacks.2.stays)
+    ])
+
+pub returns-in_err-start_next-clause-full : goal.returns-in_err-start_next-clause-full
+returns-in_err-start_next-clause-full g c =
+    let before = c.loop-number.invariant in
+    let many : c.args.first + length c.loop-number.sites.items ≡ c.loop-number.number = before.many in
+    let nine : c.args.config.now.cluster.quorums.centres ≤ 9 = c.requires.config.quorums.nine_centres in
+    let among : c.args.last ≤ c.args.config.now.cluster.quorums.centres = c.requires.among in
+    let fault = c.in_err-start_next.field-0.0 in
+    let e : c.from_residual.result ≡ Err fault = search rules in
+    rw e (elim c.in_err-start_next.ensures.fails [
+      | inl fails ↦
+          full_boots g.D.Disks.disk g.D.Disks.may_leave c.args.config.now.checkpoint c.args.config.now.cluster c.args.disks.now c.loop-number.disks c.start_next.new.disks c.loop-number.number g.D.Disks.tears fault
+          (before.started.later c.loop-number.number (omega (many, arith)) (omega (nine, among, arith))) c.in_err-start_next.ensures.says fails
+      | inr lacks ↦ subst (OnFullBoot g.D.Disks.disk g.D.Disks.may_leave c.args.config.now.checkpoint c.args.config.now.cluster c.args.disks.now c.start_next.new.disks) (sym lacks.0) tt
     ])

@@ -4,7 +4,7 @@ use Rattle.mdcc_serve.proofs.Others.{keeps_fewer, unserved_fewer}
 use Rattle.mdcc_serve.specs.Others.{IsUnserved}
 use Rattle.mdcc_servers.proofs.Refused.{says_served}
 use Rattle.mdcc_servers.proofs.Served.{disk_served, link_served, no_input, none_early, output_served}
-use Rattle.mdcc_servers.proofs.Untaken.{all_told, refused_served}
+use Rattle.mdcc_servers.proofs.Untaken.{all_told, refused_served, unserved_since}
 use Rattle.mdcc_servers.proofs.Waiting.{serves_there}
 use Rattle.mdcc_servers.specs.Commands.{Untouched}
 use Rattle.mdcc_servers.proofs.serving.serve_centres.Goals as goal
@@ -18,6 +18,8 @@ returns-clause-serves g c = record {
   logs = λ told. says_served g.D.Disks.disk c.args.config.now.cluster c.args.disks.now 1 c.args.config.now.cluster.quorums.centres told c.serve_cluster.result c.as_served.result c.as_served.ensures c.serve_cluster.ensures.logs;
   refused = refused_served g.D.Disks.disk g.L.Link.calls g.L.Link.lost c.args.config.now.cluster 1 (c.args.config.now.cluster.quorums.centres + 1) c.args.disks.now c.serve_cluster.new.disks c.args.link.now c.set_wait.new.self c.serve_cluster.new.link c.args.out.now c.serve_cluster.new.out
       c.set_wait.ensures.calls c.set_wait.ensures.sends _ _ c.serve_cluster.result c.as_served.result c.as_served.ensures (all_told g.D.Disks.disk c.args.config.now.cluster c.args.disks.now) c.serve_cluster.ensures.refused;
+  unserved = λ lacks. unserved_since g.D.Disks.disk g.L.Link.calls g.L.Link.lost c.args.config.now.cluster 1 (c.args.config.now.cluster.quorums.centres + 1) c.args.disks.now c.serve_cluster.new.disks c.args.link.now c.set_wait.new.self c.serve_cluster.new.link c.args.out.now c.serve_cluster.new.out
+      c.set_wait.ensures.calls c.set_wait.ensures.sends g.D.Disks.may_leave c.args.config.now.checkpoint c.serve_cluster.result (c.serve_cluster.ensures.unserved lacks);
   others = c.serve_cluster.ensures.others;
 }
 

@@ -3,7 +3,7 @@ use Rattle.mdcc_base.specs.Causes.{Rose}
 use Rattle.mdcc_protocol.specs.Belongs.{is_centre}
 use Rattle.mdcc_servers.proofs.Refused.{says_served, told_alone}
 use Rattle.mdcc_servers.proofs.Served.{at_false, at_true, disk_served, link_served, no_input, none_early, output_served}
-use Rattle.mdcc_servers.proofs.Untaken.{refused_served}
+use Rattle.mdcc_servers.proofs.Untaken.{refused_served, unserved_since}
 use Rattle.mdcc_servers.proofs.Waiting.{serves_there}
 use Rattle.mdcc_servers.specs.Commands.{ServesOne, Untouched}
 use Rattle.mdcc_site.specs.Moments.{KeepsOthers}
@@ -27,6 +27,8 @@ returns-clause-serves g c =
           c.serve_node.result c.as_served.result c.as_served.ensures c.serve_node.ensures.logs;
       refused = refused_served g.D.Disks.disk g.L.Link.calls g.L.Link.lost c.args.config.now.cluster c.in-Some.centre (c.in-Some.centre + 1) c.args.disks.now c.serve_node.new.disks c.args.link.now c.set_wait.new.self c.serve_node.new.link c.args.out.now c.serve_node.new.out
           c.set_wait.ensures.calls c.set_wait.ensures.sends _ _ c.serve_node.result c.as_served.result c.as_served.ensures (λ told. told) c.serve_node.ensures.refused;
+      unserved = λ lacks. unserved_since g.D.Disks.disk g.L.Link.calls g.L.Link.lost c.args.config.now.cluster c.in-Some.centre (c.in-Some.centre + 1) c.args.disks.now c.serve_node.new.disks c.args.link.now c.set_wait.new.self c.serve_node.new.link c.args.out.now c.serve_node.new.out
+          c.set_wait.ensures.calls c.set_wait.ensures.sends g.D.Disks.may_leave c.args.config.now.checkpoint c.serve_node.result (c.serve_node.ensures.unserved lacks);
     }))
 
 pub returns-clause-early : goal.returns-clause-early
