@@ -6,6 +6,7 @@ use Rattle.mdcc_endings.proofs.LogEnds.{ends_unlucky}
 use Rattle.mdcc_endings.specs.Endings.{Ends}
 use Rattle.mdcc_endings.specs.Logs.{EndsByLogs, LogRefusal}
 use Rattle.mdcc_endings.specs.declared.fault.Failure.{Failure}
+use Rattle.mdcc_log_file.specs.declared.fault.LogFault.{LogFault}
 use Rattle.mdcc_messages.specs.declared.facts.Fact.{Fact}
 use Rattle.mdcc_replay.specs.Runs.{is_own, own_line}
 use Rattle.mdcc_replay.specs.Writing.{Tells}
@@ -26,3 +27,7 @@ ended {T} status before after faults_before faults_after e told =
 pub memory_ends : (node : ℕ → Result (List Fact) LogRefusal) (first last status : ℕ) → status ≡ 10 → EndsByLogs node first last status
 memory_ends node first last status e =
     ends_unlucky node first last {T = Unit {0}} (Err (Failure.Input ReadAllFault.Memory)) (Failure.Input ReadAllFault.Memory) status refl (inl e) (record { why = inr refl })
+
+-- no disk failed
+pub names_no_disk : {T : Type 0} (a : ℕ) → ◌≡◌ {A = Result T Failure} (Err (Failure.Input ReadAllFault.Memory)) (Err (Failure.Log a LogFault.DiskFault)) → ⊥
+names_no_disk a is = absurd (cc)

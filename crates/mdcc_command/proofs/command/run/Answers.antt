@@ -7,7 +7,7 @@ use Rattle.mdcc_audit_command.specs.Audits.{some_calls}
 use Rattle.mdcc_check_command.proofs.Answered.{does_check, unanswered}
 use Rattle.mdcc_check_command.specs.Checks.{answer_to}
 use Rattle.mdcc_cli.specs.Commands.{command_of}
-use Rattle.mdcc_command.proofs.NoMemory.{ended, known_always, memory_ends, of_others}
+use Rattle.mdcc_command.proofs.NoMemory.{ended, known_always, memory_ends, names_no_disk, of_others}
 use Rattle.mdcc_command.specs.Commands.{output_for}
 use Rattle.mdcc_dump.proofs.Places.{opens_none, stays_unchanged}
 use Rattle.mdcc_endings.specs.Logs.{node_at}
@@ -21,6 +21,7 @@ returns-in-Err-clause-node g c centre turns = λ is. record {
   served = Err (Failure.Input ReadAllFault.Memory);
   ends = ended c.end.result (g.E.Sink.held c.args.err.now) (g.E.Sink.held c.end.new.err) (g.E.Sink.faults c.args.err.now) (g.E.Sink.faults c.end.new.err) c.end.ensures.status c.end.ensures.told;
   runs = known_always (g.S.Source.left c.args.source.now) _ (λ input. record { read = Err (Failure.Input ReadAllFault.Memory); gives = tt; serves = (refl, record { disks = refl; link = refl; output = refl }) });
+  failed_disk = λ a names. absurd (names_no_disk a names);
   others = record { others = λ p here there. refl; crash = λ p here there bytes left. left };
 }
 
@@ -29,6 +30,7 @@ returns-in-Err-clause-cluster g c turns = λ is. record {
   served = Err (Failure.Input ReadAllFault.Memory);
   ends = ended c.end.result (g.E.Sink.held c.args.err.now) (g.E.Sink.held c.end.new.err) (g.E.Sink.faults c.args.err.now) (g.E.Sink.faults c.end.new.err) c.end.ensures.status c.end.ensures.told;
   runs = known_always (g.S.Source.left c.args.source.now) _ (λ input. record { read = Err (Failure.Input ReadAllFault.Memory); gives = tt; serves = (refl, record { disks = refl; link = refl; output = refl }) });
+  failed_disk = λ a names. absurd (names_no_disk a names);
   others = record { others = λ p is. refl; crash = λ p is bytes left. left };
 }
 
