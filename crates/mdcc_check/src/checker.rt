@@ -5,6 +5,7 @@ ghost use Rattle.mdcc_check.specs.declared.history.HistoryCause.{HistoryCause as
 ghost use Rattle.mdcc_check.specs.declared.history.HistoryLine.{HistoryLine as ALine};
 ghost use Rattle.mdcc_check.specs.Verdicts.{Progress, Represents, after_commit, after_line, apply_cause, commit_cause, first_progress, line_cause, read_cause};
 
+use crate::choices::choices_of;
 use crate::reads::read_cause;
 use crate::versions::{VersionTable, keep_all};
 use crate::{HistoryCause, HistoryLine};
@@ -86,7 +87,7 @@ impl Checker {
         ensures kept { (p : Progress) → Represents self.old p
             → IfOk result (λ cause. (fault : ACause) → cause ≡ Some fault → Represents self.new p) }
     {
-        let choices = transaction.choices(*tx);
+        let choices = choices_of(self.alloc, tx, transaction.parts())?;
         self.commit_choices(schema, tx, choices.as_slice())
     }
 

@@ -3,9 +3,9 @@ ghost use Rattle.std.specs.Prelude.{◌≡◌, ◌+◌, ◌≤◌, IfErr, length
 ghost use Rattle.mdcc_language.specs.Lines.{bytes_of_line};
 ghost use Rattle.mdcc_histories.specs.Grammar.{drafted, first_known, first_read, later_read, line_in, parse_commit, parse_read, parse_spelled, spelled_in, spelled_or_none};
 ghost use Rattle.mdcc_histories.specs.Slots.{spelled_as, spelled_by, spelled_by_any};
-ghost use Rattle.mdcc_histories.specs.declared.lines.Spelled.{Spelled as ASpelled};
+ghost use Rattle.mdcc_histories.specs.declared.lines.Slot.{Slot as ASlot};
 
-use crate::parts::{FirstParts, first_parts};
+use crate::parts::{FirstParts, read_parts};
 use crate::places::{begins_with, bytes_of_line, line_end_of, word_after, word_at, word_end};
 use crate::words::{seen_in, tx_of, version_in};
 use mdcc_base::{BoundedList, Key, TxId};
@@ -26,13 +26,22 @@ pub enum Spelled {
     Read(Known),
 }
 
-/// What a line is of which the large part was put into a slot, so that a line without one costs none.
+/// Where the large part of a line is put, so that no line makes room for one of its own: the parts of the last commit, and the last read.
+#[derive(Drop)]
+pub(crate) struct Slot {
+    pub(crate) parts: FirstParts,
+    pub(crate) known: Known,
+}
+
+/// What a line is of which the large part was put into a slot.
 #[derive(Drop)]
 pub(crate) enum LineKind {
+    /// A commit of this transaction, of the parts in the slot.
+    Commit(TxId),
     /// A read of the first state of this key.
     First(Key),
-    /// What is in the slot.
-    Kept,
+    /// The read in the slot.
+    Read,
 }
 
 /// Why a line is refused.
@@ -59,7 +68,7 @@ fn first_known(key: Key) -> Known
 }
 
 // `commit T UPDATE ..`
-fn read_commit(line: &[u8], slot: &mut Spelled) -> Result<LineKind, TextFault>
+fn read_commit(line: &[u8], slot: &mut Slot) -> Result<LineKind, TextFault>
     requires { 6 ≤ length line.now }
     ensures value { spelled_by result slot.new ≡ parse_commit line.now }
     ensures column { IfErr result (λ fault. fault.column ≤ length line.now + 1) }
@@ -67,15 +76,14 @@ fn read_commit(line: &[u8], slot: &mut Spelled) -> Result<LineKind, TextFault>
     let start = word_after(6, line)?;
     let tx = tx_of(word_at(start, line), start + 1)?;
     let next = word_after(word_end(start, line), line)?;
-    let parts = first_parts(next, line)?;
-    *slot = Spelled::Commit(tx, parts);
-    Ok(LineKind::Kept)
+    read_parts(next, line, &mut slot.parts)?;
+    Ok(LineKind::Commit(tx))
 }
 
 // A read of the first state of a key, which ends the line at this place.
 fn read_first(key: Key, at: usize, line: &[u8]) -> Result<LineKind, TextFault>
     requires { at ≤ length line.now }
-    ensures value { (slot : ASpelled) → spelled_by result slot ≡ first_read key at line.now }
+    ensures value { (slot : ASlot) → spelled_by result slot ≡ first_read key at line.now }
     ensures column { IfErr result (λ fault. fault.column ≤ length line.now + 1) }
 {
     end_at(at, line, 1)?;
@@ -88,7 +96,7 @@ fn read_later(
     version: u64,
     at: usize,
     line: &[u8],
-    slot: &mut Spelled,
+    slot: &mut Slot,
 ) -> Result<LineKind, TextFault>
     requires { at ≤ length line.now }
     ensures value { spelled_by result slot.new ≡ later_read key version at line.now }
@@ -101,16 +109,16 @@ fn read_later(
     let third = word_after(word_end(second, line), line)?;
     let values = values_of(word_at(third, line), third + 1)?;
     end_at(word_end(third, line), line, 1)?;
-    *slot = Spelled::Read(Known {
+    slot.known = Known {
         key,
         token: Token { version, seen },
         item: Some(Item { body, values }),
-    });
-    Ok(LineKind::Kept)
+    };
+    Ok(LineKind::Read)
 }
 
 // `read KEY 0`, or `read KEY VERSION SEEN BODY VALUES`
-fn read_read(line: &[u8], slot: &mut Spelled) -> Result<LineKind, TextFault>
+fn read_read(line: &[u8], slot: &mut Slot) -> Result<LineKind, TextFault>
     requires { 4 ≤ length line.now }
     ensures value { spelled_by result slot.new ≡ parse_read line.now }
     ensures column { IfErr result (λ fault. fault.column ≤ length line.now + 1) }
@@ -127,7 +135,7 @@ fn read_read(line: &[u8], slot: &mut Spelled) -> Result<LineKind, TextFault>
 }
 
 // A line that is not skipped.
-fn read_spelled(line: &[u8], slot: &mut Spelled) -> Result<LineKind, TextFault>
+fn read_spelled(line: &[u8], slot: &mut Slot) -> Result<LineKind, TextFault>
     ensures value { spelled_by result slot.new ≡ parse_spelled line.now }
     ensures column { IfErr result (λ fault. fault.column ≤ length line.now + 1) }
 {
@@ -141,7 +149,7 @@ fn read_spelled(line: &[u8], slot: &mut Spelled) -> Result<LineKind, TextFault>
 }
 
 // A line; an empty one and one that begins with `#` are skipped.
-fn read_text(line: &[u8], slot: &mut Spelled) -> Result<Option<LineKind>, TextFault>
+fn read_text(line: &[u8], slot: &mut Slot) -> Result<Option<LineKind>, TextFault>
     ensures value { spelled_by_any result slot.new ≡ spelled_or_none line.now }
     ensures column { IfErr result (λ fault. fault.column ≤ length line.now + 1) }
 {
@@ -156,7 +164,7 @@ fn read_text(line: &[u8], slot: &mut Spelled) -> Result<Option<LineKind>, TextFa
 }
 
 /// Reads a line of any length, with its line end, which is asked last.
-pub(crate) fn read_line(line: &[u8], slot: &mut Spelled) -> Result<Option<LineKind>, TextFault>
+pub(crate) fn read_line(line: &[u8], slot: &mut Slot) -> Result<Option<LineKind>, TextFault>
     ensures value { spelled_by_any result slot.new ≡ spelled_in line.now }
     ensures column { IfErr result (λ fault. fault.column ≤ length (bytes_of_line line.now) + 2) }
 {
@@ -167,17 +175,21 @@ pub(crate) fn read_line(line: &[u8], slot: &mut Spelled) -> Result<Option<LineKi
 }
 
 /// A slot in which there is no line yet.
-pub(crate) fn empty_slot() -> Spelled {
-    Spelled::Read(first_known(Key::default()))
+pub(crate) fn empty_slot() -> Slot {
+    Slot {
+        parts: FirstParts::new(),
+        known: first_known(Key::default()),
+    }
 }
 
 // What a line is.
-fn spelled_as(kind: &LineKind, slot: Spelled) -> Spelled
+fn spelled_as(kind: &LineKind, slot: Slot) -> Spelled
     ensures { result ≡ spelled_as kind.now slot }
 {
     match kind {
+        LineKind::Commit(tx) => Spelled::Commit(*tx, slot.parts),
         LineKind::First(key) => Spelled::Read(first_known(*key)),
-        LineKind::Kept => slot,
+        LineKind::Read => Spelled::Read(slot.known),
     }
 }
 

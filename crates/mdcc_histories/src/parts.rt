@@ -3,10 +3,11 @@ ghost use Rattle.std.specs.Prelude.{◌≡◌, ◌+◌, ◌++◌, ◌<◌, ◌�
 ghost use Rattle.mdcc_language.specs.Updates.{begins_update, parse_item};
 ghost use Rattle.mdcc_language.specs.Words.{parts_from};
 ghost use Rattle.mdcc_histories.specs.Grammar.{first_parts, parse_add, parse_write, part_of};
+ghost use Rattle.mdcc_histories.specs.Slots.{parts_by};
 
 use crate::places::word_at;
 use crate::words::{seen_in, version_in};
-use mdcc_base::BoundedList;
+use arrayvec::ArrayVec;
 use mdcc_language::SchedCause;
 use mdcc_option::{Item, Part, Update};
 use mdcc_words::TextFault;
@@ -16,9 +17,57 @@ use mdcc_words::faults::refused;
 use mdcc_words::keys::key_of;
 use mdcc_words::places::{end_at, part_at, part_end, start_after, text_eq};
 use mdcc_words::values::values_of;
+use std::marker::Model;
 
 /// The first nine parts of a commit; nine are too many for a transaction.
-pub type FirstParts = BoundedList<Part, 9>;
+#[derive(Drop)]
+pub struct FirstParts {
+    parts: ArrayVec<Part, 9>,
+}
+
+impl Model for FirstParts {
+    ghost use Rattle.std.specs.Prelude.{List};
+    ghost use Rattle.mdcc_option.specs.declared.items.Part.{Part};
+
+    ghost Value = { List Part };
+
+    ghost view = { λ first. first.parts.items };
+}
+
+impl FirstParts {
+    /// No part.
+    pub(crate) fn new() -> FirstParts
+        ensures { result ≡ [] }
+    {
+        FirstParts {
+            parts: ArrayVec::new(),
+        }
+    }
+
+    /// The parts in their order.
+    pub fn as_slice(&self) -> &[Part]
+        ensures { result.now ≡ self.now }
+    {
+        self.parts.as_slice()
+    }
+
+    // Takes all parts away.
+    fn clear(&mut self)
+        ensures { self.new ≡ [] }
+    {
+        self.parts.clear();
+    }
+
+    // One more part, where there are not nine.
+    fn keep(&mut self, part: Part)
+        ensures value { self.new ≡ take 9 (self.old ++ part ∷ []) }
+        ensures few { length self.new ≤ 9 }
+    {
+        if !self.parts.is_full() {
+            self.parts.push(part);
+        }
+    }
+}
 
 // The item whose two parts stand behind a place and end the word.
 fn parse_item(at: usize, word: &[u8], column: usize) -> Result<Item, TextFault>
@@ -100,29 +149,19 @@ pub fn part_of(word: &[u8], column: usize) -> Result<Part, TextFault>
     }
 }
 
-// One more part, where there are not nine.
-fn keep(parts: &mut FirstParts, part: Part)
-    ensures value { parts.new ≡ take 9 (parts.old ++ part ∷ []) }
-    ensures few { length parts.new ≤ 9 }
-{
-    if !parts.is_full() {
-        parts.push(part);
-    }
-}
-
-/// The parts from a place of a line to its end, of which the first nine are kept.
-pub fn first_parts(at: usize, line: &[u8]) -> Result<FirstParts, TextFault>
+/// Reads the parts from a place of a line to its end, of which the first nine are kept.
+pub(crate) fn read_parts(at: usize, line: &[u8], parts: &mut FirstParts) -> Result<(), TextFault>
     requires { at ≤ length line.now }
-    ensures value { result ≡ first_parts (at + 1) (parts_from 32 at line.now) }
+    ensures value { parts_by result parts.new ≡ first_parts (at + 1) (parts_from 32 at line.now) }
     ensures column { IfErr result (λ fault. fault.column ≤ length line.now + 1) }
 {
-    let mut parts: FirstParts = BoundedList::new();
+    parts.clear();
     let mut place = at;
     while place <= line.len() {
         let word = word_at(place, line);
         let part = part_of(word, place + 1)?;
-        keep(&mut parts, part);
+        parts.keep(part);
         place += word.len() + 1;
     }
-    Ok(parts)
+    Ok(())
 }

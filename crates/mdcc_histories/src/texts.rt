@@ -4,12 +4,14 @@ ghost use Rattle.mdcc_base.specs.Unless.{GivesUnless};
 ghost use Rattle.mdcc_language.specs.Lines.{lines_in};
 ghost use Rattle.mdcc_check.specs.declared.history.HistoryLine.{HistoryLine as ALine};
 ghost use Rattle.mdcc_histories.specs.Grammar.{first_known};
+ghost use Rattle.mdcc_histories.specs.declared.lines.Spelled.{Spelled as ASpelled};
 ghost use Rattle.mdcc_histories.specs.Slots.{spelled_as, spelled_in_slot};
 ghost use Rattle.mdcc_histories.specs.Tallies.{Takes, Tallies, Tally, first_tally, found_first, is_memory, tallied, tally_any, tally_line, tally_spelled, verdict_in, verdict_on, with_line};
 ghost use Rattle.mdcc_histories.specs.Texts.{text_verdict_of};
 
 use crate::header::parse_header;
-use crate::lines::{LineFault, LineKind, Spelled, empty_slot, read_line};
+use crate::lines::{LineFault, LineKind, Slot, empty_slot, read_line};
+use crate::parts::FirstParts;
 use crate::places::split_line;
 use mdcc_base::{Memory, TxId};
 use mdcc_check::{Checker, HistoryCause};
@@ -146,23 +148,22 @@ impl Tallier {
         self.reads += 1;
     }
 
-    // Takes a line as it is spelled.
-    fn take_spelled(&mut self, schema: &Schema, spelled: &Spelled) -> Result<(), HistoryFault>
+    // Takes a transaction of these parts that committed, where they make one.
+    fn commit_parts(
+        &mut self,
+        schema: &Schema,
+        tx: &TxId,
+        parts: &FirstParts,
+    ) -> Result<(), HistoryFault>
         requires { self.old.commits + self.old.reads < 2 ^ 64 - 1 }
         ensures taken { (t : Tally) → Tallies self.old t
-            → Takes (Tallies self.new) result (tally_spelled schema.now t spelled.now) }
+            → Takes (Tallies self.new) result (tally_spelled schema.now t (ASpelled.Commit tx.now parts.now)) }
         ensures number { OnOk result (self.new.number ≡ self.old.number) }
         ensures counts { OnOk result (self.new.commits + self.new.reads ≡ self.old.commits + self.old.reads + 1) }
     {
-        match spelled {
-            Spelled::Commit(tx, parts) => match Transaction::new(schema, parts.as_slice()) {
-                Ok(transaction) => Ok(self.commit(schema, tx, &transaction)?),
-                Err(fault) => Err(HistoryFault::Line(self.number, LineFault::Begin(fault))),
-            },
-            Spelled::Read(known) => {
-                self.read(known);
-                Ok(())
-            }
+        match Transaction::new(schema, parts.as_slice()) {
+            Ok(transaction) => Ok(self.commit(schema, tx, &transaction)?),
+            Err(fault) => Err(HistoryFault::Line(self.number, LineFault::Begin(fault))),
         }
     }
 
@@ -171,7 +172,7 @@ impl Tallier {
         &mut self,
         schema: &Schema,
         kind: &LineKind,
-        slot: &Spelled,
+        slot: &Slot,
     ) -> Result<(), HistoryFault>
         requires { self.old.commits + self.old.reads < 2 ^ 64 - 1 }
         ensures taken { (t : Tally) → Tallies self.old t → Takes (Tallies self.new) result (tally_any schema.now t (Some (spelled_as kind.now slot.now))) }
@@ -179,11 +180,15 @@ impl Tallier {
         ensures counts { OnOk result (self.new.commits + self.new.reads ≡ self.old.commits + self.old.reads + 1) }
     {
         match kind {
+            LineKind::Commit(tx) => self.commit_parts(schema, tx, &slot.parts),
             LineKind::First(_) => {
                 self.first_read();
                 Ok(())
             }
-            LineKind::Kept => self.take_spelled(schema, slot),
+            LineKind::Read => {
+                self.read(&slot.known);
+                Ok(())
+            }
         }
     }
 
@@ -192,7 +197,7 @@ impl Tallier {
         &mut self,
         schema: &Schema,
         kind: &Option<LineKind>,
-        slot: &Spelled,
+        slot: &Slot,
     ) -> Result<(), HistoryFault>
         requires { self.old.commits + self.old.reads < 2 ^ 64 - 1 }
         ensures taken { (t : Tally) → Tallies self.old t → Takes (Tallies self.new) result (tally_any schema.now t (spelled_in_slot kind.now slot.now)) }
@@ -206,7 +211,7 @@ impl Tallier {
     }
 
     // Takes the next line.
-    fn take(&mut self, schema: &Schema, line: &[u8], slot: &mut Spelled) -> Result<(), HistoryFault>
+    fn take(&mut self, schema: &Schema, line: &[u8], slot: &mut Slot) -> Result<(), HistoryFault>
         requires number { self.old.number < 2 ^ 32 - 1 }
         requires counts { self.old.commits + self.old.reads < 2 ^ 64 - 1 }
         ensures taken { (t : Tally) → Tallies self.old t → Takes (Tallies self.new) result (tally_line schema.now t line.now) }
